@@ -3,7 +3,7 @@ use Rattle.std.proofs.Common.{List, Option, ℕ}
 use Rattle.std.specs.Prelude.{Err}
 use Rattle.j39_cli.specs.Answer.{Answer, IsValueChecked}
 use Rattle.j39_cli.specs.Asked.{IsAddressList, IsMoment, IsPgnList, IsSenderList}
-use Rattle.j39_cli.specs.ReportCommand.{IsFirstWrong, the_destinations, the_first, the_groups, the_last, the_senders}
+use Rattle.j39_cli.specs.FilterWords.{IsFirstWrong, the_destinations, the_first, the_groups, the_last, the_senders}
 use Rattle.j39_cli.specs.declared.asked.Asked.{Asked}
 use Rattle.j39_cli.specs.declared.task.Argument.TheVariants as argument
 use Rattle.j39_cli.specs.declared.task.ParseFault.{ParseFault}

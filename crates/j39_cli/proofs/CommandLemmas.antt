@@ -26,12 +26,14 @@ is_parsed program (report bus table spn from to pgn since until csv json file) =
     (record { step = refl; passes = refl; found = refl; checks = refl }) refl refl refl
     (memory_of_bus bus _ (memory_of_value _ _ spn _ (memory_of_value _ _ from _ (memory_of_value _ _ to _
     (memory_of_value _ _ pgn _ (memory_of_value _ _ since _ (memory_of_value _ _ until _ (memory_checked _ _ _ tt))))))))
-is_parsed program (summary bus table csv file) = parsed program summary_app (summary bus table csv file) [] _
-    (record { step = refl; passes = refl; found = refl; checks = refl }) refl refl refl (memory_of_bus bus _ tt)
-is_parsed program (faults bus table conversion all changes now csv file) = parsed program faults_app (faults bus table conversion all changes now csv file) [] _
-    (record { step = refl; passes = refl; found = refl; checks = refl }) refl refl refl (memory_of_bus bus _ (memory_of_value _ _ conversion _ (memory_checked _ _ _ tt)))
-is_parsed program (nodes bus csv file) = parsed program nodes_app (nodes bus csv file) [] _
-    (record { step = refl; passes = refl; found = refl; checks = refl }) refl refl refl (memory_of_bus bus _ tt)
+is_parsed program (summary bus table from to pgn since until csv json file) = parsed program summary_app (summary bus table from to pgn since until csv json file) [] _
+    (record { step = refl; passes = refl; found = refl; checks = refl }) refl refl refl
+    (memory_of_bus bus _ (memory_of_value _ _ from _ (memory_of_value _ _ to _
+    (memory_of_value _ _ pgn _ (memory_of_value _ _ since _ (memory_of_value _ _ until _ (memory_checked _ _ _ tt)))))))
+is_parsed program (faults bus table conversion all changes now csv json file) = parsed program faults_app (faults bus table conversion all changes now csv json file) [] _
+    (record { step = refl; passes = refl; found = refl; checks = refl }) refl refl refl (memory_of_bus bus _ (memory_of_value _ _ conversion _ (memory_checked _ _ _ (memory_checked _ _ _ tt))))
+is_parsed program (nodes bus from csv json file) = parsed program nodes_app (nodes bus from csv json file) [] _
+    (record { step = refl; passes = refl; found = refl; checks = refl }) refl refl refl (memory_of_bus bus _ (memory_of_value _ _ from _ (memory_checked _ _ _ tt)))
 is_parsed program (answer node address bus file) = parsed program answer_app (answer node address bus file)
     (option (codes "name") (Some node) ∷ option (codes "address") (Some address) ∷ []) _
     (record { step = refl; passes = refl; found = refl; checks = refl }) refl refl refl

@@ -24,9 +24,10 @@ use Rattle.j39_cli.specs.declared.task.ParseFault.TheVariants.{Memory}
 pub data CommandWords : Type 0 where
   report : Option Text → Option Text → Option Text → Option Text → Option Text → Option Text → Option Text → Option Text → Bool → Bool
       → Option Text → CommandWords
-  summary : Option Text → Option Text → Bool → Option Text → CommandWords
-  faults : Option Text → Option Text → Option Text → Bool → Bool → Bool → Bool → Option Text → CommandWords
-  nodes : Option Text → Bool → Option Text → CommandWords
+  summary : Option Text → Option Text → Option Text → Option Text → Option Text → Option Text → Option Text → Bool → Bool → Option Text
+      → CommandWords
+  faults : Option Text → Option Text → Option Text → Bool → Bool → Bool → Bool → Bool → Option Text → CommandWords
+  nodes : Option Text → Option Text → Bool → Bool → Option Text → CommandWords
   answer : Text → Text → Option Text → Option Text → CommandWords
   id : Text → CommandWords
   name : Text → CommandWords
@@ -36,9 +37,9 @@ pub data CommandWords : Type 0 where
 
 abbrev pub form_of : CommandWords → Form
 form_of (report bus table spn from to pgn since until csv json file) = report_form bus table spn from to pgn since until csv json file
-form_of (summary bus table csv file) = summary_form bus table csv file
-form_of (faults bus table conversion all changes now csv file) = faults_form bus table conversion all changes now csv file
-form_of (nodes bus csv file) = nodes_form bus csv file
+form_of (summary bus table from to pgn since until csv json file) = summary_form bus table from to pgn since until csv json file
+form_of (faults bus table conversion all changes now csv json file) = faults_form bus table conversion all changes now csv json file
+form_of (nodes bus from csv json file) = nodes_form bus from csv json file
 form_of (answer node address bus file) = answer_form node address bus file
 form_of (id hex) = id_form hex
 form_of (name hex) = name_form hex
@@ -67,15 +68,20 @@ command_found called found =
     let bus = first_value found (codes "bus") in
     let table = first_value found (codes "table") in
     let csv = is_given (first_value found (codes "csv")) in
+    let json = is_given (first_value found (codes "json")) in
     let file = first_value found (codes "file") in
+    let from = first_value found (codes "from") in
+    let to = first_value found (codes "to") in
+    let pgn = first_value found (codes "pgn") in
+    let since = first_value found (codes "since") in
+    let until = first_value found (codes "until") in
     if bytes_eq called (codes "report") then
-    report bus table (first_value found (codes "spn")) (first_value found (codes "from")) (first_value found (codes "to"))
-    (first_value found (codes "pgn")) (first_value found (codes "since")) (first_value found (codes "until")) csv (is_given (first_value found (codes "json"))) file
-    else if bytes_eq called (codes "summary") then summary bus table csv file
+    report bus table (first_value found (codes "spn")) from to pgn since until csv json file
+    else if bytes_eq called (codes "summary") then summary bus table from to pgn since until csv json file
     else if bytes_eq called (codes "faults") then
     faults bus table (first_value found (codes "conversion")) (is_given (first_value found (codes "all")))
-    (is_given (first_value found (codes "changes"))) (is_given (first_value found (codes "now"))) csv file
-    else if bytes_eq called (codes "nodes") then nodes bus csv file
+    (is_given (first_value found (codes "changes"))) (is_given (first_value found (codes "now"))) csv json file
+    else if bytes_eq called (codes "nodes") then nodes bus from csv json file
     else if bytes_eq called (codes "answer") then
     answer (text_found found (codes "name")) (text_found found (codes "address")) bus file
     else if bytes_eq called (codes "id") then id (text_found found (codes "hex"))

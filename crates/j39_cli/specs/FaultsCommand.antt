@@ -1,4 +1,4 @@
--- The command `faults [--bus B] [--table T] [--conversion C] [--all | --changes | --now] [--csv] [FILE]`.
+-- The command `faults [--bus B] [--table T] [--conversion C] [--all | --changes | --now] [--csv | --json] [FILE]`.
 use Rattle.std.specs.Prelude.{◌≡◌, ◌≢◌, ◌⊎◌, ◌∷◌, [], ℕ, Bool, true, false, List, Option, Some, None, Result, Ok, Err, codes, option_map, unwrap_or}
 use Rattle.std.specs.Option.{ForSome}
 use Rattle.j39_io.specs.Turn.{Turn, Writes}
@@ -19,7 +19,7 @@ use Rattle.j39_cli.specs.Answer.{IsBusChecked, IsChecked, IsTask, IsValueChecked
 use Rattle.j39_cli.specs.Conversions.{IsConversionList, conversions_in}
 use Rattle.j39_cli.specs.declared.task.Argument.TheVariants as argument
 use Rattle.j39_cli.specs.Form.{Form, Meaning, flag, option, value}
-use Rattle.j39_cli.specs.LogCommand.{fault_text, format_of, log_limit, opened_of, with_log}
+use Rattle.j39_cli.specs.LogCommand.{fault_text, log_limit, opened_of, with_forms, with_log, written_by}
 use Rattle.j39_cli.specs.Counted.{fault_counts_text}
 use Rattle.j39_cli.specs.Refusal.{error_line}
 use Rattle.j39_cli.specs.Rules.{flag_rule, option_rule, with_table}
@@ -32,8 +32,8 @@ use Rattle.j39_cli.specs.declared.task.Task.TheVariants.{Faults}
 
 abbrev pub faults_app : App
 faults_app =
-    with_log (with_rule (with_rule (with_rule (with_rule (with_rule (with_table (new_app (codes "faults"))) (option_rule (codes "conversion") false))
-    (flag_rule (codes "all"))) (flag_rule (codes "changes"))) (flag_rule (codes "now"))) (flag_rule (codes "csv")))
+    with_log (with_forms (with_rule (with_rule (with_rule (with_rule (with_table (new_app (codes "faults"))) (option_rule (codes "conversion") false))
+    (flag_rule (codes "all"))) (flag_rule (codes "changes"))) (flag_rule (codes "now"))))
 
 -- no two of --all, --changes and --now go together
 abbrev pub told_by : Bool → Bool → Bool → Option FaultsTold
@@ -45,20 +45,22 @@ told_by true true now = None
 told_by true false true = None
 told_by false true true = None
 
-abbrev pub IsFaultsTask : Option (List ℕ) → Option (List ℕ) → Option (List ℕ) → Bool → Bool → Bool → Bool → Option (List ℕ) → Task → Type 0
-IsFaultsTask bus table conversion all changes now csv file (Faults input table' conversions told format) =
+abbrev pub IsFaultsTask : Option (List ℕ) → Option (List ℕ) → Option (List ℕ) → Bool → Bool → Bool → Bool → Bool → Option (List ℕ) → Task → Type 0
+IsFaultsTask bus table conversion all changes now csv json file (Faults input table' conversions told format) =
     (input.bus ≡ bus) × (table' ≡ table) × (conversions ≡ option_map conversions_in conversion)
-    × (told_by all changes now ≡ Some told) × (format ≡ format_of csv) × (input.file ≡ file)
-IsFaultsTask bus table conversion all changes now csv file t = ⊥
+    × (told_by all changes now ≡ Some told) × (written_by csv json ≡ Some format) × (input.file ≡ file)
+IsFaultsTask bus table conversion all changes now csv json file t = ⊥
 
-abbrev pub faults_form : Option Text → Option Text → Option Text → Bool → Bool → Bool → Bool → Option Text → Form
-faults_form bus table conversion all changes now csv file = record {
+abbrev pub faults_form : Option Text → Option Text → Option Text → Bool → Bool → Bool → Bool → Bool → Option Text → Form
+faults_form bus table conversion all changes now csv json file = record {
   called = codes "faults";
   arguments = option (codes "bus") bus ∷ option (codes "table") table ∷ option (codes "conversion") conversion
-      ∷ flag (codes "all") all ∷ flag (codes "changes") changes ∷ flag (codes "now") now ∷ flag (codes "csv") csv ∷ value (codes "file") file ∷ [];
+      ∷ flag (codes "all") all ∷ flag (codes "changes") changes ∷ flag (codes "now") now ∷ flag (codes "csv") csv ∷ flag (codes "json") json
+      ∷ value (codes "file") file ∷ [];
   Answers = IsBusChecked bus (IsValueChecked IsConversionList argument.Conversion conversion
       (IsChecked (told_by all changes now ≢ None) argument.Together
-      (IsTask (IsFaultsTask bus table conversion all changes now csv file))));
+      (IsChecked (written_by csv json ≢ None) argument.Forms
+      (IsTask (IsFaultsTask bus table conversion all changes now csv json file)))));
 }
 
 -- no version is known where none is given

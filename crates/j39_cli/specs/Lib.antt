@@ -15,6 +15,7 @@ pub mod Refusal
 pub mod Refused
 -- the commands, each with its words, its task and what it writes
 pub mod LogCommand
+pub mod FilterWords
 pub mod ReportCommand
 pub mod SummaryCommand
 pub mod FaultsCommand

@@ -14,20 +14,27 @@ use Rattle.j39_listen.specs.declared.counts.Counts.{Counts}
 use Rattle.j39_listen.specs.declared.running.RunFault.{RunFault}
 use Rattle.j39_listen.specs.declared.running.RunFault.TheVariants.{Memory, Read, Write, TooLong}
 use Rattle.j39_cli.specs.Form.{Meaning}
-use Rattle.j39_cli.specs.Rules.{option_rule, value_rule}
+use Rattle.j39_cli.specs.Rules.{flag_rule, option_rule, value_rule}
 use Rattle.j39_cli.specs.Counted.{counts_text}
 use Rattle.j39_cli.specs.Refusal.{error_line}
 use Rattle.j39_listen.specs.declared.format.Format.{Format}
-use Rattle.j39_listen.specs.declared.format.Format.TheVariants.{Line, Record}
+use Rattle.j39_listen.specs.declared.format.Format.TheVariants.{Line, Object, Record}
 use Rattle.j39_cli.specs.declared.task.LogInput.{LogInput}
 
 -- a command that reads a log takes `--bus` and FILE
 abbrev pub with_log : App → App
 with_log command = with_rule (with_rule command (option_rule (codes "bus") false)) (value_rule (codes "file") false)
 
--- how what the log has is written: `--csv` asks for comma-separated values
-abbrev pub format_of : Bool → Format
-format_of csv = if csv then Record else Line
+-- a command that writes in each form takes `--csv` and `--json`
+abbrev pub with_forms : App → App
+with_forms command = with_rule (with_rule command (flag_rule (codes "csv"))) (flag_rule (codes "json"))
+
+-- how what the log has is written: `--csv` asks for comma-separated values, `--json` for objects; not both
+abbrev pub written_by : Bool → Bool → Option Format
+written_by false false = Some Line
+written_by true false = Some Record
+written_by false true = Some Object
+written_by true true = None
 
 -- the file that FILE names: none where it isn't given, or is `-`, which stands for standard input
 abbrev pub opened_of : Option (List ℕ) → Option (List ℕ)

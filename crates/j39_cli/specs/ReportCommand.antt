@@ -1,5 +1,5 @@
 -- The command `report [--bus B] [--table T] [--spn SPN,..] [--from A,..] [--to A,..] [--pgn PGN,..] [--since T] [--until T] [--csv | --json] [FILE]`.
-use Rattle.std.specs.Prelude.{◌≡◌, ◌≢◌, ◌⊎◌, ◌∷◌, ℕ, Bool, true, false, List, [], Option, None, Some, Result, Ok, Err, codes, option_map}
+use Rattle.std.specs.Prelude.{◌≡◌, ◌≢◌, ◌⊎◌, ◌∷◌, ℕ, Bool, true, false, List, [], Option, None, Some, codes, option_map}
 use Rattle.std.specs.Option.{ForSome}
 use Rattle.j39_io.specs.Turn.{Turn, Writes}
 use Rattle.clap.specs.Words.{App, Text, new_app, with_rule}
@@ -14,41 +14,27 @@ use Rattle.j39_log.specs.Bus.{IsBusName}
 use Rattle.j39_reports.specs.ReportObjects.{MakesFilteredObjects}
 use Rattle.j39_reports.specs.ReportRecords.{MakesFilteredRecords}
 use Rattle.j39_reports.specs.EntryText.{header_text}
-use Rattle.j39_cli.specs.Answer.{IsBusChecked, IsChecked, IsTask, IsValueChecked, IsValueRead}
-use Rattle.j39_cli.specs.Asked.{IsAddressList, IsAsked, IsMoment, IsPgnList, IsSenderList, addresses_in, filter_in, moment_in, pgns_in, senders_in}
+use Rattle.j39_cli.specs.Answer.{IsBusChecked, IsChecked, IsTask, IsValueChecked}
+use Rattle.j39_cli.specs.Asked.{IsAddressList, IsAsked, IsMoment, IsPgnList, IsSenderList, filter_in}
+use Rattle.j39_cli.specs.FilterWords.{with_filter}
 use Rattle.j39_cli.specs.Form.{Form, Meaning, flag, option, value}
-use Rattle.j39_cli.specs.LogCommand.{IsRun, fault_text, opened_of, with_log}
+use Rattle.j39_cli.specs.LogCommand.{IsRun, fault_text, opened_of, with_forms, with_log, written_by}
 use Rattle.j39_cli.specs.Refusal.{error_line}
-use Rattle.j39_cli.specs.Rules.{flag_rule, option_rule, with_table}
+use Rattle.j39_cli.specs.Rules.{option_rule, with_table}
 use Rattle.j39_cli.specs.Spns.{IsSpnList, spns_in}
 use Rattle.j39_cli.specs.declared.task.Argument.TheVariants as argument
 use Rattle.j39_cli.specs.declared.asked.Asked.{Asked}
 use Rattle.j39_cli.specs.declared.task.LogInput.{LogInput}
-use Rattle.j39_cli.specs.declared.task.ParseFault.{ParseFault}
-use Rattle.j39_cli.specs.declared.task.ReportFormat.{ReportFormat}
-use Rattle.j39_cli.specs.declared.task.ReportFormat.TheVariants.{Line, Object, Record}
+use Rattle.j39_listen.specs.declared.format.Format.{Format}
+use Rattle.j39_listen.specs.declared.format.Format.TheVariants.{Line, Object, Record}
 use Rattle.j39_cli.specs.declared.task.Task.{Task}
 use Rattle.j39_cli.specs.declared.task.Task.TheVariants.{Report}
 
 -- ---- its words
 
-abbrev pub with_filter : App → App
-with_filter command =
-    with_rule (with_rule (with_rule (with_rule (with_rule command (option_rule (codes "from") false))
-    (option_rule (codes "to") false)) (option_rule (codes "pgn") false)) (option_rule (codes "since") false))
-    (option_rule (codes "until") false)
-
 abbrev pub report_app : App
 report_app =
-    with_log (with_rule (with_rule (with_filter (with_rule (with_table (new_app (codes "report"))) (option_rule (codes "spn") false)))
-    (flag_rule (codes "csv"))) (flag_rule (codes "json")))
-
--- `--csv` asks for comma-separated values, `--json` for objects; not both
-abbrev pub written_by : Bool → Bool → Option ReportFormat
-written_by false false = Some Line
-written_by true false = Some Record
-written_by false true = Some Object
-written_by true true = None
+    with_log (with_forms (with_filter (with_rule (with_table (new_app (codes "report"))) (option_rule (codes "spn") false))))
 
 abbrev pub IsReportTask : Option (List ℕ) → Option (List ℕ) → Option (List ℕ) → Option (List ℕ) → Option (List ℕ) → Option (List ℕ)
     → Option (List ℕ) → Option (List ℕ) → Bool → Bool → Option (List ℕ) → Task → Type 0
@@ -71,43 +57,10 @@ report_form bus table spn from to pgn since until csv json file = record {
       (IsTask (IsReportTask bus table spn from to pgn since until csv json file)))))))));
 }
 
--- ---- what is read of the options of its filter
-
--- each text that is given is in range
-pub record AreRead (from to pgn since until : Option (List ℕ)) (asked : Asked) : Type 0 where
-  pub from_is : IsValueRead IsSenderList senders_in argument.From from (Ok asked.from)
-  pub to_is : IsValueRead IsAddressList addresses_in argument.To to (Ok asked.to)
-  pub pgns_are : IsValueRead IsPgnList pgns_in argument.Pgn pgn (Ok asked.pgns)
-  pub since_is : IsValueRead IsMoment moment_in argument.Since since (Ok asked.since)
-  pub until_is : IsValueRead IsMoment moment_in argument.Until until (Ok asked.until)
-
--- the fault is that of the first that isn't
-pub data IsFirstWrong (from to pgn since until : Option (List ℕ)) (asked : Asked) (e : ParseFault) : Type 0 where
-  the_senders : IsValueRead IsSenderList senders_in argument.From from (Err e) → IsFirstWrong from to pgn since until asked e
-  the_destinations : IsValueRead IsSenderList senders_in argument.From from (Ok asked.from)
-      → IsValueRead IsAddressList addresses_in argument.To to (Err e) → IsFirstWrong from to pgn since until asked e
-  the_groups : IsValueRead IsSenderList senders_in argument.From from (Ok asked.from)
-      → IsValueRead IsAddressList addresses_in argument.To to (Ok asked.to)
-      → IsValueRead IsPgnList pgns_in argument.Pgn pgn (Err e) → IsFirstWrong from to pgn since until asked e
-  the_first : IsValueRead IsSenderList senders_in argument.From from (Ok asked.from)
-      → IsValueRead IsAddressList addresses_in argument.To to (Ok asked.to)
-      → IsValueRead IsPgnList pgns_in argument.Pgn pgn (Ok asked.pgns)
-      → IsValueRead IsMoment moment_in argument.Since since (Err e) → IsFirstWrong from to pgn since until asked e
-  the_last : IsValueRead IsSenderList senders_in argument.From from (Ok asked.from)
-      → IsValueRead IsAddressList addresses_in argument.To to (Ok asked.to)
-      → IsValueRead IsPgnList pgns_in argument.Pgn pgn (Ok asked.pgns)
-      → IsValueRead IsMoment moment_in argument.Since since (Ok asked.since)
-      → IsValueRead IsMoment moment_in argument.Until until (Err e) → IsFirstWrong from to pgn since until asked e
-
-abbrev pub IsAskedRead : Option (List ℕ) → Option (List ℕ) → Option (List ℕ) → Option (List ℕ) → Option (List ℕ)
-    → Result Asked ParseFault → Type 0
-IsAskedRead from to pgn since until (Ok asked) = AreRead from to pgn since until asked
-IsAskedRead from to pgn since until (Err e) = (asked : Asked) × IsFirstWrong from to pgn since until asked e
-
 -- ---- its run
 
 -- what it makes of the frames by a table: the entries of the report that are asked for
-abbrev pub makes_in : ReportFormat → FilterRecord → List RowRecord → Making
+abbrev pub makes_in : Format → FilterRecord → List RowRecord → Making
 makes_in Line which rows = MakesFiltered rows which
 makes_in Record which rows = Headed header_text (MakesFilteredRecords rows which)
 makes_in Object which rows = MakesFilteredObjects rows which
@@ -120,7 +73,7 @@ pub record IsNotBegun (status : ℕ) (log out err : Turn) : Type 0 where
   pub told : Writes err (error_line (fault_text Memory) [])
 
 -- by the whole table, or by its rows of the parameters that are asked for
-abbrev pub IsReportRun : Option (List ℕ) → FilterRecord → ReportFormat → List RowRecord → Option (List ℕ) → ℕ → Turn → Turn → Turn
+abbrev pub IsReportRun : Option (List ℕ) → FilterRecord → Format → List RowRecord → Option (List ℕ) → ℕ → Turn → Turn → Turn
     → Type 0
 IsReportRun None which format rows bus status log out err =
     IsRun AsksForBoxes (makes_in format which rows) bus status log out err
@@ -128,7 +81,7 @@ IsReportRun (Some spns) which format rows bus status log out err =
     ((kept : List RowRecord) × HaveSameGroups kept (rows_of_spns spns rows)
     × IsRun AsksForBoxes (makes_in format which kept) bus status log out err) ⊎ IsNotBegun status log out err
 
-abbrev pub report_meaning : LogInput → Option (List ℕ) → Option (List ℕ) → Asked → ReportFormat → Meaning
+abbrev pub report_meaning : LogInput → Option (List ℕ) → Option (List ℕ) → Asked → Format → Meaning
 report_meaning input table spns asked format = record {
   file = opened_of input.file;
   table = table;

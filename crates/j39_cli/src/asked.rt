@@ -3,6 +3,7 @@ ghost use Rattle.std.specs.Prelude.{◌≡◌, ◌<◌, ◌≤◌, ◌-◌, ◌^
 ghost use Rattle.std.specs.List.{prefix_len};
 ghost use Rattle.std.specs.Option.{SomeIff};
 ghost use Rattle.std.specs.Str.Parse.{AllDigits, digits_value};
+ghost use Rattle.j39_listen.specs.Chooses.{which_of};
 ghost use Rattle.j39_listen.specs.Filter.{filter_of, no_filter};
 ghost use Rattle.j39_cli.specs.Asked.{AreSeconds, IsAddressList, IsAddressWord, IsMoment, IsPgnList, IsSender, IsSenderList, addresses_in, filter_in, is_before_point, moment_in, pgns_in, scaled, seconds_value, sender_in, senders_in};
 
@@ -42,6 +43,17 @@ impl Asked {
             && self.pgns.is_none()
             && self.since.is_none()
             && self.until.is_none()
+    }
+
+    /// The filter that takes these; none where all are asked for.
+    pub(crate) fn filter_given(&self) -> Option<Filter<'_>>
+        ensures { which_of result ≡ filter_in self.now }
+    {
+        if self.is_everything() {
+            None
+        } else {
+            Some(self.filter())
+        }
     }
 
     /// The filter that takes these.

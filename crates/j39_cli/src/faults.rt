@@ -12,7 +12,7 @@ ghost use Rattle.j39_cli.specs.Rules.{IsMade};
 
 use crate::command::{new_command, with_flag, with_option, with_table};
 use crate::fields::fault_counts_line;
-use crate::log::{LOG_LIMIT, copy_of, tell_fault, with_csv, with_log};
+use crate::log::{LOG_LIMIT, copy_of, tell_fault, with_forms, with_log};
 use crate::refusal::show;
 use crate::words::{conversions_value, format_given, is_set, log_input};
 use crate::{Argument, Conversions, FaultsTold, ParseFault, Task, WordText};
@@ -77,7 +77,7 @@ pub(crate) fn command<'a>(alloc: Global) -> Result<Command<'a>, AllocError>
     let command = with_flag(alloc, command, "changes", help);
     let help = "What the last DM1 of each controller names, since when, in how many messages";
     let command = with_flag(alloc, command, "now", help);
-    with_log(alloc, with_csv(alloc, command))
+    with_log(alloc, with_forms(alloc, command))
 }
 
 /// The task that its words ask for.
@@ -99,15 +99,19 @@ pub(crate) fn task<'a>(given: &ArgMatches<'a>) -> Result<Task<'a>, ParseFault>
         Ok(conversions) => conversions,
         Err(fault) => return Err(fault),
     };
-    match told {
-        Some(told) => Ok(Task::Faults {
+    let told = match told {
+        Some(told) => told,
+        None => return Err(ParseFault::BadValue(Argument::Together)),
+    };
+    match format {
+        Some(format) => Ok(Task::Faults {
             input,
             table,
             conversions,
             told,
             format,
         }),
-        None => Err(ParseFault::BadValue(Argument::Together)),
+        None => Err(ParseFault::BadValue(Argument::Forms)),
     }
 }
 

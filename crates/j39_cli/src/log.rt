@@ -1,10 +1,10 @@
 //! What the commands that read a log have in common.
-ghost use Rattle.std.specs.Prelude.{◌≡◌, [], codes, false, true};
+ghost use Rattle.std.specs.Prelude.{◌≡◌, [], false, true};
 ghost use Rattle.j39_io.specs.Turn.{Writes, turn};
-ghost use Rattle.clap.specs.Words.{App, with_rule};
-ghost use Rattle.j39_cli.specs.LogCommand.{IsTold, fault_text, with_log};
+ghost use Rattle.clap.specs.Words.{App};
+ghost use Rattle.j39_cli.specs.LogCommand.{IsTold, fault_text, with_forms, with_log};
 ghost use Rattle.j39_cli.specs.Refusal.{error_line};
-ghost use Rattle.j39_cli.specs.Rules.{IsMade, flag_rule};
+ghost use Rattle.j39_cli.specs.Rules.{IsMade};
 
 use crate::command::{with_flag, with_option, with_value};
 use crate::fields::{counts_line, push_field};
@@ -20,15 +20,17 @@ use std::alloc::{AllocError, Global};
 /// The most bytes of a log that the program reads.
 pub(crate) const LOG_LIMIT: u64 = 17_179_869_184;
 
-/// The command with `--csv`, which each takes that writes comma-separated values too.
-pub(crate) fn with_csv<'a>(
+/// The command with `--csv` and `--json`, which each takes that writes these forms too.
+pub(crate) fn with_forms<'a>(
     alloc: Global,
     command: Result<Command<'a>, AllocError>,
 ) -> Result<Command<'a>, AllocError>
-    ensures { (told : App) → IsMade command.entry told → IsMade result (with_rule told (flag_rule (codes "csv"))) }
+    ensures { (told : App) → IsMade command.entry told → IsMade result (with_forms told) }
 {
     let help = "As comma-separated values (RFC 4180), below the names of the columns";
-    with_flag(alloc, command, "csv", help)
+    let command = with_flag(alloc, command, "csv", help);
+    let help = "As objects of JSON (RFC 8259), one a line";
+    with_flag(alloc, command, "json", help)
 }
 
 /// The command with the arguments of a log.

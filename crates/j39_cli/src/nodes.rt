@@ -1,22 +1,22 @@
 //! The command `nodes`: its words, and how it is performed.
-ghost use Rattle.std.specs.Prelude.{◌≡◌, OnOk, codes, true, false};
+ghost use Rattle.std.specs.Prelude.{codes};
 ghost use Rattle.j39_io.specs.Turn.{turn};
 ghost use Rattle.clap.specs.Words.{found_of};
 ghost use Rattle.j39_listen.specs.Asking.{AsksNowhere};
-ghost use Rattle.j39_listen.specs.Headed.{MakesNodes};
-ghost use Rattle.j39_listen.specs.Ran.{Ran};
+ghost use Rattle.j39_listen.specs.Headed.{MakesNodes, begins_flushed};
+ghost use Rattle.j39_listen.specs.Ran.{PassesOn, Ran};
 ghost use Rattle.j39_cli.specs.CommandWords.{IsAnswered, command_found};
 ghost use Rattle.j39_cli.specs.LogCommand.{log_limit};
 ghost use Rattle.j39_cli.specs.NodesCommand.{nodes_app};
 ghost use Rattle.j39_cli.specs.Rules.{IsMade};
 
-use crate::command::new_command;
-use crate::log::{LOG_LIMIT, copy_of, with_csv, with_log};
-use crate::words::{format_given, log_input};
-use crate::{ParseFault, Task};
+use crate::command::{new_command, with_option};
+use crate::log::{LOG_LIMIT, copy_of, with_forms, with_log};
+use crate::words::{format_given, log_input, senders_value};
+use crate::{Argument, ParseFault, Senders, Task};
 use clap::{ArgMatches, Command};
 use j39_io::{Sink, Source};
-use j39_listen::{Counts, Format, RunFault, nodes_csv};
+use j39_listen::{Counts, Format, RunFault};
 use j39_log::Bus;
 use std::alloc::{AllocError, Global};
 
@@ -45,7 +45,9 @@ pub(crate) fn command<'a>(alloc: Global) -> Result<Command<'a>, AllocError>
 {
     let about = "Writes who holds which address after a log";
     let command = new_command(alloc, "nodes", about, ABOUT, HELP);
-    with_log(alloc, with_csv(alloc, command))
+    let help = "These addresses (hex), or those of these NAMEs (16 hex digits), alone";
+    let command = with_option(alloc, command, "from", "A,..", false, help);
+    with_log(alloc, with_forms(alloc, command))
 }
 
 /// The task that its words ask for.
@@ -53,26 +55,39 @@ pub(crate) fn task<'a>(given: &ArgMatches<'a>) -> Result<Task<'a>, ParseFault>
     ensures { IsAnswered (command_found (codes "nodes") (found_of given.now)) result }
 {
     let format = format_given(given);
-    match log_input(given) {
-        Ok(input) => Ok(Task::Nodes { input, format }),
-        Err(fault) => Err(fault),
+    let input = match log_input(given) {
+        Ok(input) => input,
+        Err(fault) => return Err(fault),
+    };
+    let from = match senders_value(given) {
+        Ok(from) => from,
+        Err(fault) => return Err(fault),
+    };
+    match format {
+        Some(format) => Ok(Task::Nodes {
+            input,
+            from,
+            format,
+        }),
+        None => Err(ParseFault::BadValue(Argument::Forms)),
     }
 }
 
-/// Reads a log, and writes who holds which address after it.
+/// Reads a log, and writes who is at which address after it, of those that are asked for.
 pub(crate) fn run<R: Source, W: Sink>(
     format: Format,
+    from: &Option<Senders>,
     bus: &Option<Bus>,
     source: &mut R,
     sink: &mut W,
 ) -> Result<Counts, RunFault>
-    ensures ran { Ran (MakesNodes format) AsksNowhere bus.now log_limit result
+    ensures ran { Ran (MakesNodes format from.now) AsksNowhere bus.now log_limit result
         (turn R.remaining R.has_failed source.old source.new) (turn W.written W.has_failed sink.old sink.new) }
-    ensures flushed { OnOk result (W.is_flushed sink.new ≡ true) }
-    ensures passed_out { W.is_flushed sink.old ≡ true → W.has_failed sink.new ≡ false → W.is_flushed sink.new ≡ true }
+    ensures flushed { PassesOn result (begins_flushed format (W.is_flushed sink.old)) (W.is_flushed sink.new) }
 {
-    match format {
-        Format::Line => j39_listen::nodes(source, sink, copy_of(bus), LOG_LIMIT),
-        Format::Record => nodes_csv(source, sink, copy_of(bus), LOG_LIMIT),
-    }
+    let from = match from {
+        Some(senders) => Some(senders.as_slice()),
+        None => None,
+    };
+    j39_listen::nodes(format, from, source, sink, copy_of(bus), LOG_LIMIT)
 }

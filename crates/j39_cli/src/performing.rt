@@ -6,13 +6,12 @@ ghost use Rattle.j39_cli.specs.Task.{IsPerformed, reads_log};
 
 use crate::faults::versions_in;
 use crate::id::id_line;
-use crate::log::{LOG_LIMIT, copy_of, tell_end};
+use crate::log::tell_end;
 use crate::name::name_lines;
 use crate::shown::show_text;
-use crate::{Task, answer, faults, groups, nodes, report, survey};
+use crate::{Task, answer, faults, groups, nodes, report, summary, survey};
 use j39_groups::Groups;
 use j39_io::{Sink, Source};
-use j39_reports::summary;
 use std::alloc::Global;
 
 /// Performs a task by the built-in table of parameters.
@@ -87,9 +86,13 @@ pub fn perform_with<R: Source, W: Sink, E: Sink>(
                 alloc, groups, &input.bus, spns, asked, *format, source, sink, err,
             )
         }
-        Task::Summary { input, format, .. } => {
-            let bus = copy_of(&input.bus);
-            let end = summary(alloc, groups, *format, source, sink, bus, LOG_LIMIT);
+        Task::Summary {
+            input,
+            asked,
+            format,
+            ..
+        } => {
+            let end = summary::run(alloc, groups, asked, *format, &input.bus, source, sink);
             tell_end(end, err)
         }
         Task::Faults {
@@ -104,9 +107,11 @@ pub fn perform_with<R: Source, W: Sink, E: Sink>(
                 alloc, groups, &input.bus, versions, *told, *format, source, sink, err,
             )
         }
-        Task::Nodes { input, format } => {
-            tell_end(nodes::run(*format, &input.bus, source, sink), err)
-        }
+        Task::Nodes {
+            input,
+            from,
+            format,
+        } => tell_end(nodes::run(*format, from, &input.bus, source, sink), err),
         Task::Answer {
             name,
             address,

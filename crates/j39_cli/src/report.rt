@@ -1,26 +1,25 @@
 //! The command `report`: its words, and how it is performed.
 ghost use Rattle.std.specs.Prelude.{◌≡◌, ◌⊎◌, OnOk, codes, false, true};
 ghost use Rattle.j39_io.specs.Turn.{turn};
-ghost use Rattle.clap.specs.Words.{App, first_value, found_of, with_rule};
+ghost use Rattle.clap.specs.Words.{found_of};
 ghost use Rattle.j39_listen.specs.Asking.{AsksForBoxes};
 ghost use Rattle.j39_listen.specs.Filter.{no_filter};
 ghost use Rattle.j39_listen.specs.Ran.{Ran};
 ghost use Rattle.j39_cli.specs.Asked.{filter_in};
 ghost use Rattle.j39_cli.specs.CommandWords.{IsAnswered, command_found};
 ghost use Rattle.j39_cli.specs.LogCommand.{log_limit};
-ghost use Rattle.j39_cli.specs.ReportCommand.{IsAskedRead, IsReportRun, makes_in, report_app, with_filter, written_by};
+ghost use Rattle.j39_cli.specs.ReportCommand.{IsReportRun, makes_in, report_app};
 ghost use Rattle.j39_cli.specs.Rules.{IsMade};
 
-use crate::command::{new_command, with_flag, with_option, with_table};
-use crate::log::{LOG_LIMIT, copy_of, tell_end, tell_fault, with_csv, with_log};
-use crate::words::{
-    addresses_value, is_set, log_input, moment_value, pgns_value, senders_value, spns_value,
-};
-use crate::{Argument, Asked, ParseFault, ReportFormat, Spns, Task, WordText};
+use crate::command::{new_command, with_option, with_table};
+use crate::filter_words::{asked_value, with_filter};
+use crate::log::{LOG_LIMIT, copy_of, tell_end, tell_fault, with_forms, with_log};
+use crate::words::{format_given, log_input, spns_value};
+use crate::{Argument, Asked, ParseFault, Spns, Task, WordText};
 use clap::{ArgMatches, Command};
 use j39_groups::Groups;
 use j39_io::{Sink, Source};
-use j39_listen::{Counts, RunFault, run_filtered, run_with};
+use j39_listen::{Counts, Format, RunFault, run_filtered, run_with};
 use j39_log::Bus;
 use j39_reports::{report_csv, report_csv_filtered, report_json, report_json_filtered};
 use std::alloc::{AllocError, Global};
@@ -59,29 +58,7 @@ pub(crate) fn command<'a>(alloc: Global) -> Result<Command<'a>, AllocError>
     let help = "The parameters to write alone: 1 to 32 SPNs, with commas between them";
     let command = with_option(alloc, command, "spn", "SPN,..", false, help);
     let command = with_filter(alloc, command);
-    let command = with_csv(alloc, command);
-    let help = "As objects of JSON (RFC 8259), one a line";
-    let command = with_flag(alloc, command, "json", help);
-    with_log(alloc, command)
-}
-
-/// The command with the options of a filter.
-fn with_filter<'a>(
-    alloc: Global,
-    command: Result<Command<'a>, AllocError>,
-) -> Result<Command<'a>, AllocError>
-    ensures { (told : App) → IsMade command.entry told → IsMade result (with_filter told) }
-{
-    let help = "From these addresses (hex) or NAMEs (16 hex digits) alone";
-    let command = with_option(alloc, command, "from", "A,..", false, help);
-    let help = "To these addresses (hex) alone; FF is what goes to all";
-    let command = with_option(alloc, command, "to", "A,..", false, help);
-    let help = "Of these PGNs alone";
-    let command = with_option(alloc, command, "pgn", "PGN,..", false, help);
-    let help = "From this stamp on, or as many seconds behind the first frame: 1700000000.5 or +90";
-    let command = with_option(alloc, command, "since", "T", false, help);
-    let help = "Up to this stamp, as --since";
-    with_option(alloc, command, "until", "T", false, help)
+    with_log(alloc, with_forms(alloc, command))
 }
 
 /// The task that its words ask for.
@@ -89,7 +66,7 @@ pub(crate) fn task<'a>(given: &ArgMatches<'a>) -> Result<Task<'a>, ParseFault>
     ensures { IsAnswered (command_found (codes "report") (found_of given.now)) result }
 {
     let table = given.get_str("table").map(WordText::new);
-    let format = written_by(is_set(given, "csv"), is_set(given, "json"));
+    let format = format_given(given);
     let input = match log_input(given) {
         Ok(input) => input,
         Err(fault) => return Err(fault),
@@ -114,18 +91,6 @@ pub(crate) fn task<'a>(given: &ArgMatches<'a>) -> Result<Task<'a>, ParseFault>
     }
 }
 
-/// How a report is written by `--csv` and `--json`, which don't go together.
-fn written_by(csv: bool, json: bool) -> Option<ReportFormat>
-    ensures { result ≡ written_by csv json }
-{
-    match (csv, json) {
-        (false, false) => Some(ReportFormat::Line),
-        (true, false) => Some(ReportFormat::Record),
-        (false, true) => Some(ReportFormat::Object),
-        (true, true) => None,
-    }
-}
-
 /// Performs it by a table of parameters, or by its rows of those that are asked for: the report goes to `sink`, the counts
 /// or what failed to `err`.
 pub(crate) fn perform<R: Source, W: Sink, E: Sink>(
@@ -134,7 +99,7 @@ pub(crate) fn perform<R: Source, W: Sink, E: Sink>(
     bus: &Option<Bus>,
     spns: &Option<Spns>,
     asked: &Asked,
-    format: ReportFormat,
+    format: Format,
     source: &mut R,
     sink: &mut W,
     err: &mut E,
@@ -162,7 +127,7 @@ fn run<R: Source, W: Sink>(
     alloc: Global,
     groups: &Groups<'_>,
     asked: &Asked,
-    format: ReportFormat,
+    format: Format,
     bus: &Option<Bus>,
     source: &mut R,
     sink: &mut W,
@@ -178,11 +143,11 @@ fn run<R: Source, W: Sink>(
     let filter = asked.filter();
     let bus = copy_of(bus);
     match format {
-        ReportFormat::Line => run_filtered(alloc, groups, filter, source, sink, bus, LOG_LIMIT),
-        ReportFormat::Record => {
+        Format::Line => run_filtered(alloc, groups, filter, source, sink, bus, LOG_LIMIT),
+        Format::Record => {
             report_csv_filtered(alloc, groups, filter, source, sink, bus, LOG_LIMIT)
         }
-        ReportFormat::Object => {
+        Format::Object => {
             report_json_filtered(alloc, groups, filter, source, sink, bus, LOG_LIMIT)
         }
     }
@@ -192,7 +157,7 @@ fn run<R: Source, W: Sink>(
 fn run_whole<R: Source, W: Sink>(
     alloc: Global,
     groups: &Groups<'_>,
-    format: ReportFormat,
+    format: Format,
     bus: &Option<Bus>,
     source: &mut R,
     sink: &mut W,
@@ -203,42 +168,8 @@ fn run_whole<R: Source, W: Sink>(
     ensures passed_out { W.is_flushed sink.old ≡ true → W.has_failed sink.new ≡ false → W.is_flushed sink.new ≡ true }
 {
     match format {
-        ReportFormat::Line => run_with(alloc, groups, source, sink, copy_of(bus), LOG_LIMIT),
-        ReportFormat::Record => report_csv(alloc, groups, source, sink, copy_of(bus), LOG_LIMIT),
-        ReportFormat::Object => report_json(alloc, groups, source, sink, copy_of(bus), LOG_LIMIT),
-    }
-}
-
-/// Which entries are asked for.
-fn asked_value(given: &ArgMatches<'_>) -> Result<Asked, ParseFault>
-    ensures { IsAskedRead (first_value (found_of given.now) (codes "from")) (first_value (found_of given.now) (codes "to"))
-        (first_value (found_of given.now) (codes "pgn")) (first_value (found_of given.now) (codes "since"))
-        (first_value (found_of given.now) (codes "until")) result }
-{
-    let from = match senders_value(given) {
-        Ok(from) => from,
-        Err(fault) => return Err(fault),
-    };
-    let to = match addresses_value(given) {
-        Ok(to) => to,
-        Err(fault) => return Err(fault),
-    };
-    let pgns = match pgns_value(given) {
-        Ok(pgns) => pgns,
-        Err(fault) => return Err(fault),
-    };
-    let since = match moment_value(given, "since", Argument::Since) {
-        Ok(since) => since,
-        Err(fault) => return Err(fault),
-    };
-    match moment_value(given, "until", Argument::Until) {
-        Ok(until) => Ok(Asked {
-            from,
-            to,
-            pgns,
-            since,
-            until,
-        }),
-        Err(fault) => Err(fault),
+        Format::Line => run_with(alloc, groups, source, sink, copy_of(bus), LOG_LIMIT),
+        Format::Record => report_csv(alloc, groups, source, sink, copy_of(bus), LOG_LIMIT),
+        Format::Object => report_json(alloc, groups, source, sink, copy_of(bus), LOG_LIMIT),
     }
 }

@@ -1,15 +1,26 @@
 //! The command `summary`: its words.
 ghost use Rattle.std.specs.Prelude.{codes};
 ghost use Rattle.clap.specs.Words.{found_of};
+ghost use Rattle.j39_io.specs.Turn.{turn};
+ghost use Rattle.j39_listen.specs.Headed.{begins_flushed};
+ghost use Rattle.j39_listen.specs.Ran.{PassesOn, Ran};
+ghost use Rattle.j39_reports.specs.SummaryRun.{AsksForRows, MakesSummary};
+ghost use Rattle.j39_cli.specs.Asked.{filter_in};
+ghost use Rattle.j39_cli.specs.LogCommand.{log_limit};
 ghost use Rattle.j39_cli.specs.CommandWords.{IsAnswered, command_found};
 ghost use Rattle.j39_cli.specs.SummaryCommand.{summary_app};
 ghost use Rattle.j39_cli.specs.Rules.{IsMade};
 
 use crate::command::{new_command, with_table};
-use crate::log::{with_csv, with_log};
+use crate::filter_words::{asked_value, with_filter};
+use crate::log::{LOG_LIMIT, copy_of, with_forms, with_log};
 use crate::words::{format_given, log_input};
-use crate::{ParseFault, Task, WordText};
+use crate::{Argument, Asked, ParseFault, Task, WordText};
 use clap::{ArgMatches, Command};
+use j39_groups::Groups;
+use j39_io::{Sink, Source};
+use j39_listen::{Counts, Format, RunFault};
+use j39_log::Bus;
 use std::alloc::{AllocError, Global};
 
 const ABOUT: &str = "\
@@ -37,7 +48,8 @@ pub(crate) fn command<'a>(alloc: Global) -> Result<Command<'a>, AllocError>
 {
     let about = "Writes what each parameter in a log did";
     let command = with_table(alloc, new_command(alloc, "summary", about, ABOUT, HELP));
-    with_log(alloc, with_csv(alloc, command))
+    let command = with_filter(alloc, command);
+    with_log(alloc, with_forms(alloc, command))
 }
 
 /// The task that its words ask for.
@@ -46,12 +58,41 @@ pub(crate) fn task<'a>(given: &ArgMatches<'a>) -> Result<Task<'a>, ParseFault>
 {
     let table = given.get_str("table").map(WordText::new);
     let format = format_given(given);
-    match log_input(given) {
-        Ok(input) => Ok(Task::Summary {
+    let input = match log_input(given) {
+        Ok(input) => input,
+        Err(fault) => return Err(fault),
+    };
+    let asked = match asked_value(given) {
+        Ok(asked) => asked,
+        Err(fault) => return Err(fault),
+    };
+    match format {
+        Some(format) => Ok(Task::Summary {
             input,
             table,
+            asked,
             format,
         }),
-        Err(fault) => Err(fault),
+        None => Err(ParseFault::BadValue(Argument::Forms)),
     }
+}
+
+/// Reads a log, and writes the summary of what is asked for of its report by a table of parameters.
+pub(crate) fn run<R: Source, W: Sink>(
+    alloc: Global,
+    groups: &Groups<'_>,
+    asked: &Asked,
+    format: Format,
+    bus: &Option<Bus>,
+    source: &mut R,
+    sink: &mut W,
+) -> Result<Counts, RunFault>
+    ensures ran { Ran (MakesSummary format (filter_in asked.now) groups.now) (AsksForRows (filter_in asked.now) groups.now)
+        bus.now log_limit result
+        (turn R.remaining R.has_failed source.old source.new) (turn W.written W.has_failed sink.old sink.new) }
+    ensures flushed { PassesOn result (begins_flushed format (W.is_flushed sink.old)) (W.is_flushed sink.new) }
+{
+    let filter = asked.filter_given();
+    let bus = copy_of(bus);
+    j39_reports::summary(alloc, groups, filter, format, source, sink, bus, LOG_LIMIT)
 }

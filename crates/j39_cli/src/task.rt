@@ -5,7 +5,7 @@ ghost use Rattle.j39_cli.specs.Answer.{argument_text};
 ghost use Rattle.j39_cli.specs.LogCommand.{opened_of};
 ghost use Rattle.j39_cli.specs.Task.{file_of, table_of};
 
-use crate::{Asked, Conversions, Outgoing, Spns};
+use crate::{Asked, Conversions, Outgoing, Senders, Spns};
 use j39_address::Name;
 use j39_frame::{Id, is_address};
 use j39_listen::Format;
@@ -93,17 +93,6 @@ pub struct LogInput<'a> {
     pub file: Option<WordText<'a>>,
 }
 
-/// How a report is written.
-#[derive(Clone, Copy, Debug, PartialEq, Eq)]
-pub enum ReportFormat {
-    /// In lines, with a space between fields.
-    Line,
-    /// In records of comma-separated values (RFC 4180), below the names of the columns.
-    Record,
-    /// In objects of JSON (RFC 8259), one a line.
-    Object,
-}
-
 /// What is told of faults.
 #[derive(Clone, Copy, Debug, PartialEq, Eq)]
 pub enum FaultsTold {
@@ -127,7 +116,7 @@ pub enum Task<'a> {
         /// Which entries are asked for.
         asked: Asked,
         /// How it is written.
-        format: ReportFormat,
+        format: Format,
     },
     /// The summary of a log.
     Summary {
@@ -135,6 +124,8 @@ pub enum Task<'a> {
         input: LogInput<'a>,
         /// The file of the table, as of a report.
         table: Option<WordText<'a>>,
+        /// Which entries are asked for.
+        asked: Asked,
         /// How it is written.
         format: Format,
     },
@@ -155,6 +146,8 @@ pub enum Task<'a> {
     Nodes {
         /// The log to read.
         input: LogInput<'a>,
+        /// The senders that are asked for; `None` for all.
+        from: Option<Senders>,
         /// How they are written.
         format: Format,
     },

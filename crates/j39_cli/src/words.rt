@@ -9,7 +9,7 @@ ghost use Rattle.j39_cli.specs.Answer.{IsInput, IsValueRead};
 ghost use Rattle.j39_cli.specs.Asked.{IsAddressList, IsMoment, IsPgnList, IsSenderList, addresses_in, moment_in, pgns_in, senders_in};
 ghost use Rattle.j39_cli.specs.Conversions.{IsConversionList, conversions_in};
 ghost use Rattle.j39_cli.specs.Spns.{IsSpnList, spns_in};
-ghost use Rattle.j39_cli.specs.LogCommand.{format_of};
+ghost use Rattle.j39_cli.specs.LogCommand.{written_by};
 ghost use Rattle.j39_cli.specs.Refused.{IsRefusal, IsSaid};
 ghost use Rattle.j39_cli.specs.Rules.{is_given};
 ghost use Rattle.j39_cli.specs.Task.{IsInRange};
@@ -143,14 +143,22 @@ pub(crate) fn log_input<'a>(given: &ArgMatches<'a>) -> Result<LogInput<'a>, Pars
     }
 }
 
-/// How what the log has is written: `--csv` asks for comma-separated values.
-pub(crate) fn format_given(given: &ArgMatches<'_>) -> Format
-    ensures { result ≡ format_of (is_given (first_value (found_of given.now) (codes "csv"))) }
+/// How what the log has is written by `--csv` and `--json`, which don't go together.
+pub(crate) fn format_given(given: &ArgMatches<'_>) -> Option<Format>
+    ensures { result ≡ written_by (is_given (first_value (found_of given.now) (codes "csv")))
+        (is_given (first_value (found_of given.now) (codes "json"))) }
 {
-    if is_set(given, "csv") {
-        Format::Record
-    } else {
-        Format::Line
+    written_by(is_set(given, "csv"), is_set(given, "json"))
+}
+
+fn written_by(csv: bool, json: bool) -> Option<Format>
+    ensures { result ≡ written_by csv json }
+{
+    match (csv, json) {
+        (false, false) => Some(Format::Line),
+        (true, false) => Some(Format::Record),
+        (false, true) => Some(Format::Object),
+        (true, true) => None,
     }
 }
 

@@ -18,6 +18,7 @@ pub mod ReportAccount
 pub mod FilteredAccount
 pub mod FilterLemmas
 pub mod SeenLemmas
+mod SecondsLemmas
 pub mod NodeLemmas
 pub mod AnswerLemmas
 pub mod AnswerAccount

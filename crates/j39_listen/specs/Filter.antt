@@ -68,14 +68,26 @@ abbrev pub is_until : ℕ → ℕ → Option Moment → Bool
 is_until first stamp None = true
 is_until first stamp (Some moment) = nat_le stamp (moment_micros first moment)
 
--- where the first frame has this stamp, the entry is asked for: by its sender, its destination, its group, and its stamp, of
--- which both moments take their own
+-- where the first frame has this stamp, what was sent so is asked for: by its stamp, of which both moments take their own, its
+-- sender, its destination and its group
+abbrev pub asks_for : FilterRecord → ℕ → ℕ → ℕ → Option ℕ → Option ℕ → ℕ → Bool
+asks_for f first stamp address name destination pgn =
+    is_asked (is_sender address name) f.from
+    && (is_asked (λ asked. asked == goes_to destination) f.to
+    && (is_asked (λ asked. asked == pgn) f.pgns
+    && (is_since first stamp f.since && is_until first stamp f.until)))
+
+-- so is the entry
 abbrev pub takes : FilterRecord → ℕ → Entry → Bool
-takes f first e =
-    is_asked (is_sender e.address e.name) f.from
-    && (is_asked (λ asked. asked == goes_to e.destination) f.to
-    && (is_asked (λ asked. asked == e.pgn) f.pgns
-    && (is_since first e.stamp f.since && is_until first e.stamp f.until)))
+takes f first e = asks_for f first e.stamp e.address e.name e.destination e.pgn
+
+-- or the message, with all of its entries
+abbrev pub takes_message : FilterRecord → ℕ → Hearing → Bool
+takes_message f first h = asks_for f first h.stamp h.message.source h.name h.destination h.message.pgn
+
+-- the messages that are asked for, in order
+abbrev pub messages_taken : FilterRecord → ℕ → List Hearing → List Hearing
+messages_taken f first heard = filter (takes_message f first) heard
 
 -- the stamp of the first frame, where there is one
 abbrev pub first_of : List FrameRecord → Option ℕ

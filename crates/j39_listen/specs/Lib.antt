@@ -5,6 +5,7 @@ pub mod Report
 pub mod Nodes
 pub mod Answers
 pub mod Output
+pub mod Members
 pub mod Headed
 pub mod Filter
 -- what was published, and what a report tells of it
@@ -24,6 +25,7 @@ pub mod Fault
 -- what the code's values show
 pub mod Listening
 pub mod HeardModel
+pub mod Chooses
 -- the code's steps, below the rules
 pub mod OneFrameMore
 pub mod AccountCalls

@@ -10,9 +10,10 @@ use Rattle.j39_frame.specs.Frame.{FrameRecord}
 use Rattle.j39_log.specs.StampText.{seconds_text, stamp_text}
 use Rattle.j39_address.specs.Claim.{Claim, claim_of, claims_of}
 use Rattle.j39_address.specs.Holder.{IsHolderAfter}
+use Rattle.j39_listen.specs.Members.{address_string, name_string, or_null, seconds_number}
 use Rattle.j39_listen.specs.Report.{name_field, name_text}
 use Rattle.j39_listen.specs.declared.format.Format.{Format}
-use Rattle.j39_listen.specs.declared.format.Format.TheVariants.{Line, Record}
+use Rattle.j39_listen.specs.declared.format.Format.TheVariants.{Line, Object, Record}
 
 -- who is at an address: the NAME that holds it and the stamp of its last claim of it, or neither; and the stamp of the last
 -- frame from there
@@ -87,10 +88,19 @@ node_record node =
 abbrev pub node_columns : List ℕ
 node_columns = codes "address,name,claimed,heard\r\n"
 
--- in either form
+-- the same as an object
+unfoldable pub node_object : Presence → List ℕ
+node_object node =
+    codes "{\"address\":" ++ address_string node.address
+    ++ codes ",\"name\":" ++ or_null (option_map name_string node.name)
+    ++ codes ",\"claimed\":" ++ or_null (option_map seconds_number node.claimed)
+    ++ codes ",\"heard\":" ++ or_null (option_map seconds_number node.heard) ++ codes "}\n"
+
+-- in each form
 abbrev pub node_in : Format → Presence → List ℕ
 node_in Line node = node_text node
 node_in Record node = node_record node
+node_in Object node = node_object node
 
 unfoldable pub nodes_text : Format → List Presence → List ℕ
 nodes_text form nodes = flat_map (node_in form) nodes

@@ -7,8 +7,6 @@ use Rattle.j39_frame.specs.Frame.{FrameRecord}
 use Rattle.j39_address.specs.Node.{Node}
 use Rattle.j39_listen.specs.Answers.{AreAnswers, sent_text}
 use Rattle.j39_listen.specs.Heard.{AreHeard, Hearing}
-use Rattle.j39_listen.specs.Nodes.{AreNodes, Presence, nodes_text}
-use Rattle.j39_listen.specs.declared.format.Format.{Format}
 use Rattle.j39_listen.specs.Report.{Form, entries_of, entry_text, report_text}
 
 -- a text, for so many messages, in so many lines
@@ -45,14 +43,6 @@ MakesReportIn form groups bus F output =
 -- a line for each entry
 abbrev pub MakesReport : List RowRecord → Making
 MakesReport = MakesReportIn (λ groups. entry_text)
-
--- no message counts
-abbrev pub nodes_of : Format → List Presence → Output
-nodes_of form nodes = record { text = nodes_text form nodes; messages = 0; lines = length nodes }
-
--- who is at an address after the frames, whatever their bus is called, in either form
-abbrev pub MakesNodesIn : Format → Making
-MakesNodesIn form bus F output = (nodes : List Presence) × AreNodes F nodes × (output ≡ nodes_of form nodes)
 
 -- a line for each frame that is sent
 abbrev pub answers_of : List ℕ → List Hearing → List FrameRecord → Output

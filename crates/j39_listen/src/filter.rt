@@ -4,10 +4,8 @@ ghost use Rattle.std.specs.List.{list_any};
 ghost use Rattle.std.specs.Option.{option_map};
 ghost use Rattle.j39_address.specs.Name.{name_raw};
 ghost use Rattle.j39_frame.specs.Stamp.{stamp_micros};
-ghost use Rattle.j39_groups.specs.Value.{ReadingRecord};
-ghost use Rattle.j39_listen.specs.Filter.{filter_of, goes_to, is_asked, is_name, is_sender, is_since, is_until, moment_micros, takes};
+ghost use Rattle.j39_listen.specs.Filter.{asks_for, filter_of, goes_to, is_asked, is_name, is_sender, is_since, is_until, moment_micros, takes_message};
 ghost use Rattle.j39_listen.specs.HeardModel.{hearing_of};
-ghost use Rattle.j39_listen.specs.Report.{entry_of};
 
 use crate::Heard;
 use j39_address::Name;
@@ -54,23 +52,46 @@ pub struct Filter<'f> {
 }
 
 impl<'f> Filter<'f> {
-    /// Whether the entries of a message are taken, where the first frame of the bus has this stamp.
+    /// Whether a message is taken, where the first frame of the bus has this stamp.
     #[inline(always)]
     pub(crate) fn takes(&self, first: Stamp, heard: &Heard<'_>) -> bool
-        ensures { (reading : ReadingRecord)
-            → result ≡ takes (filter_of self.now) (stamp_micros first) (entry_of (hearing_of heard.now) reading) }
+        ensures { result ≡ takes_message (filter_of self.now) (stamp_micros first) (hearing_of heard.now) }
     {
-        is_from(self.from, heard.message.source, heard.name)
-            && is_to(self.to, heard.destination)
-            && is_of(self.pgns, heard.message.pgn.raw())
-            && is_since(self.since, first, heard.message.stamp)
-            && is_until(self.until, first, heard.message.stamp)
+        self.asks_for(
+            first,
+            heard.message.stamp,
+            heard.message.source,
+            heard.name,
+            heard.destination,
+            heard.message.pgn.raw(),
+        )
+    }
+
+    /// Whether what was sent so is taken, where the first frame of the bus has this stamp.
+    #[inline(always)]
+    pub(crate) fn asks_for(
+        &self,
+        first: Stamp,
+        stamp: Stamp,
+        address: u8,
+        name: Option<Name>,
+        destination: Option<u8>,
+        pgn: u32,
+    ) -> bool
+        ensures { result ≡ asks_for (filter_of self.now) (stamp_micros first) (stamp_micros stamp) address
+            (option_map name_raw name) destination pgn }
+    {
+        is_from(self.from, address, name)
+            && is_to(self.to, destination)
+            && is_of(self.pgns, pgn)
+            && is_since(self.since, first, stamp)
+            && is_until(self.until, first, stamp)
     }
 }
 
 /// Whether this sender is asked for.
 #[inline(always)]
-fn is_from(from: Option<&[Sender]>, address: u8, holder: Option<Name>) -> bool
+pub(crate) fn is_from(from: Option<&[Sender]>, address: u8, holder: Option<Name>) -> bool
     ensures { result ≡ is_asked (is_sender address (option_map name_raw holder))
         (option_map (λ senders. senders.now) from.entry) }
 {

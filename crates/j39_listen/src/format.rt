@@ -7,4 +7,6 @@ pub enum Format {
     Line,
     /// In records of comma-separated values (RFC 4180), below the names of the columns.
     Record,
+    /// In objects of JSON (RFC 8259), one a line.
+    Object,
 }

@@ -3,6 +3,7 @@
 
 mod account;
 mod answers;
+mod chooser;
 mod counts;
 mod entry_form;
 mod filter;
@@ -14,6 +15,7 @@ mod heard;
 pub mod laws;
 mod lines;
 mod listener;
+mod members;
 mod names;
 mod node_list;
 mod pieces;
@@ -23,6 +25,7 @@ mod running;
 
 pub use account::{Account, LineFault};
 pub use answers::answer;
+pub use chooser::Chooser;
 pub use counts::{Counts, Made};
 pub use entry_form::EntryForm;
 pub use filter::{Filter, Moment, Sender};
@@ -31,7 +34,11 @@ pub use format::Format;
 pub use headed::{run_headed, run_headed_keeping};
 pub use heard::Heard;
 pub use listener::Listener;
+pub use members::{
+    push_address_or_null, push_address_string, push_name_or_null, push_seconds_number,
+    push_seconds_or_null,
+};
 pub use names::{push_name, push_name_or_dashes};
-pub use node_list::{nodes, nodes_csv};
+pub use node_list::nodes;
 pub use report::{Report, run, run_with};
 pub use running::{RunFault, run_keeping, run_over};

@@ -10,23 +10,24 @@ ghost use Rattle.j39_address.specs.Holder.{IsHolderAfter};
 ghost use Rattle.j39_frame.specs.Identifier.{source_of};
 ghost use Rattle.j39_frame.specs.Stamp.{stamp_micros};
 ghost use Rattle.j39_address.specs.Claims.{Knows};
-ghost use Rattle.j39_listen.specs.NodesSoFar.{HasNoted, HasSeen, nodes_shown, presence, presence_in, presence_of, seen_at};
-ghost use Rattle.j39_listen.specs.Nodes.{AreNodes, Presence, moment_field, moment_or_dash, node_in, node_record, node_text, nodes_text};
-ghost use Rattle.j39_listen.specs.Headed.{MakesNodes};
-ghost use Rattle.j39_listen.specs.Output.{Output, nodes_of};
+ghost use Rattle.j39_listen.specs.NodesSoFar.{HasNoted, HasSeen, from_in, nodes_shown, presence, presence_in, presence_of, seen_at};
+ghost use Rattle.j39_listen.specs.Nodes.{AreNodes, Presence, moment_field, moment_or_dash, node_in, node_object, node_record, node_text, nodes_text};
+ghost use Rattle.j39_listen.specs.Headed.{MakesNodes, begins_flushed, nodes_from, nodes_of};
+ghost use Rattle.j39_listen.specs.Output.{Output};
 ghost use Rattle.arrayvec.specs.ArrayVec.{array_vec_len};
 ghost use Rattle.std.specs.Option.{option_map};
 ghost use Rattle.j39_io.specs.Puts.{Puts};
 ghost use Rattle.j39_listen.specs.Asking.{AsksNowhere};
 ghost use Rattle.j39_listen.specs.Ran.{PassesOn, Ran};
-ghost use Rattle.j39_listen.specs.declared.format.Format.TheVariants.{Line, Record};
 ghost use Rattle.j39_listen.specs.declared.running.RunFault.TheVariants.{Memory};
 
 use crate::Counts;
 use crate::account::{Account, LineFault};
 use crate::counts::Made;
+use crate::filter::{Sender, is_from};
 use crate::format::Format;
 use crate::headed::run_headed;
+use crate::members::{push_address_string, push_name_or_null, push_seconds_or_null};
 use crate::names::{push_name, push_name_or_dashes};
 use crate::running::{RunFault, run_over};
 use arrayvec::ArrayVec;
@@ -37,9 +38,13 @@ use j39_io::{DeviceFault, Sink, Source, put_all};
 use j39_log::{Bus, push_seconds, push_stamp};
 
 /// Writes, after the whole log, a line for each address that is held, or from which frames came that are no claims, rising:
-/// the address, the NAME that holds it, when it claimed it last, and when a frame last came from there. The log has at most `limit` bytes; without a bus it is that of the first frame in it.
-/// It takes no memory; no message counts.
+/// the address, the NAME that holds it, when it claimed it last, and when a frame last came from there; or a record of
+/// comma-separated values (RFC 4180), or an object of JSON (RFC 8259). With senders, of these alone: an address, or the one
+/// that a NAME holds. The names of the columns of records are written before the log is read. The log has at most `limit`
+/// bytes; without a bus it is that of the first frame in it. It takes no memory; no message counts.
 pub fn nodes<R: Source, W: Sink>(
+    format: Format,
+    from: Option<&[Sender]>,
     source: &mut R,
     sink: &mut W,
     bus: Option<Bus>,
@@ -48,45 +53,24 @@ pub fn nodes<R: Source, W: Sink>(
     // Memory is wanted nowhere.
     ensures memory { result ≢ Err Memory }
 
-    // What the run promises is `Ran`: what is written is who is at an address after the frames of the log, and nothing
-    // else.
-    ensures ran { Ran (MakesNodes Line) AsksNowhere bus limit result
-        (turn R.remaining R.has_failed source.old source.new) (turn W.written W.has_failed sink.old sink.new) }
-
-    // What was written is passed on at the end, and before each read.
-    ensures flushed { PassesOn result (W.is_flushed sink.old) (W.is_flushed sink.new) }
-{
-    run_over(NodeList::new(Format::Line), source, sink, bus, limit)
-}
-
-/// Writes the same as comma-separated values (RFC 4180): the names of the columns, before the log is read, and after the
-/// whole log a record for each such address.
-pub fn nodes_csv<R: Source, W: Sink>(
-    source: &mut R,
-    sink: &mut W,
-    bus: Option<Bus>,
-    limit: u64,
-) -> Result<Counts, RunFault>
-    // Memory is wanted nowhere.
-    ensures memory { result ≢ Err Memory }
-
-    // What the run promises is `Ran`: what is written is the names of the columns and who is at an address after the
-    // frames of the log, and nothing else.
-    ensures ran { Ran (MakesNodes Record) AsksNowhere bus limit result
+    // What the run promises is `Ran`: what is written is who is at an address after the frames of the log, and is asked for,
+    // and nothing else.
+    ensures ran { Ran (MakesNodes format (option_map (λ senders. senders.now) from.entry)) AsksNowhere bus limit result
         (turn R.remaining R.has_failed source.old source.new) (turn W.written W.has_failed sink.old sink.new) }
 
     // What was written is passed on at the end, and before each read, the names of the columns before the first.
-    ensures flushed { PassesOn result true (W.is_flushed sink.new) }
+    ensures flushed { PassesOn result (begins_flushed format (W.is_flushed sink.old)) (W.is_flushed sink.new) }
 {
-    run_headed(
-        COLUMNS,
-        NodeList::new(Format::Record),
-        source,
-        sink,
-        bus,
-        limit,
-    )
+    let list = NodeList::new(format, from);
+    match format {
+        Format::Line => run_over(list, source, sink, bus, limit),
+        Format::Record => run_headed(COLUMNS, list, source, sink, bus, limit),
+        Format::Object => run_over(list, source, sink, bus, limit),
+    }
 }
+
+/// The text of a node.
+type NodeText = ArrayVec<u8, 160>;
 
 /// The names of the columns of such records.
 const COLUMNS: &[u8] = b"address,name,claimed,heard\r\n";
@@ -149,7 +133,7 @@ impl Seen {
 #[derive(Clone, Copy)]
 struct Node {
     address: u8,
-    name: Option<u64>,
+    name: Option<Name>,
     claimed: Option<Stamp>,
     heard: Option<Stamp>,
 }
@@ -172,16 +156,17 @@ fn last_claim(
 
 /// The claims of the frames so far, what was seen of each address, and how they are to be written.
 #[derive(Drop)]
-pub(crate) struct NodeList {
+pub(crate) struct NodeList<'f> {
     claims: Claims,
     seen: [Seen; NULL_ADDRESS as usize],
     form: Format,
+    from: Option<&'f [Sender]>,
 }
 
-impl NodeList {
+impl<'f> NodeList<'f> {
     /// The nodes of no frames.
-    fn new(form: Format) -> NodeList
-        ensures { HasNoted form result [] (nodes_of form []) }
+    fn new(form: Format, from: Option<&'f [Sender]>) -> NodeList<'f>
+        ensures { HasNoted form (option_map (λ senders. senders.now) from.entry) result [] (nodes_of form []) }
     {
         let unseen = Seen {
             talks: false,
@@ -192,6 +177,7 @@ impl NodeList {
             claims: Claims::new(),
             seen: [unseen; NULL_ADDRESS as usize],
             form,
+            from,
         }
     }
 
@@ -204,7 +190,7 @@ impl NodeList {
         match self.claims.holder(address) {
             Some(name) => Some(Node {
                 address,
-                name: Some(name.raw()),
+                name: Some(name),
                 claimed: seen.claimed,
                 heard: seen.heard,
             }),
@@ -212,10 +198,26 @@ impl NodeList {
         }
     }
 
+    /// Who is at an address and is asked for, if anybody is.
+    fn asked_at(&self, address: u8) -> Option<Node>
+        requires { address < 254 }
+        ensures { nodes_from (from_in self.now) (presence_in self.now address) ≡ nodes_shown result }
+    {
+        let Some(node) = self.node_at(address) else {
+            return None;
+        };
+        if is_from(self.from, node.address, node.name) {
+            Some(node)
+        } else {
+            None
+        }
+    }
+
     /// Sees a frame, behind the claims up to it.
     fn see(&mut self, frame: &Frame)
         ensures claims { self.new.claims ≡ self.old.claims }
         ensures form { self.new.form ≡ self.old.form }
+        ensures from { self.new.from ≡ self.old.from }
         ensures sees { (F : List FrameRecord) → Knows self.old.claims (F ++ frame.now ∷ [])
             → ((a : ℕ) → a < 254 → HasSeen F a (seen_at self.old a))
             → (a : ℕ) → a < 254 → HasSeen (F ++ frame.now ∷ []) a (seen_at self.new a) }
@@ -229,17 +231,20 @@ impl NodeList {
     }
 }
 
-impl Account for NodeList {
+impl<'f> Account for NodeList<'f> {
+    ghost use Rattle.std.specs.Prelude.{List, Option};
+    ghost use Rattle.j39_listen.specs.AccountCalls.{Begins, MakesOne};
     ghost use Rattle.j39_listen.specs.Asking.{AsksNowhere};
+    ghost use Rattle.j39_listen.specs.Headed.{MakesNodesIn};
     ghost use Rattle.j39_listen.specs.NodesSoFar.{HasNoted};
-    ghost use Rattle.j39_listen.specs.Output.{MakesNodesIn};
+    ghost use Rattle.j39_listen.specs.declared.filter.Sender.{Sender};
     ghost use Rattle.j39_listen.specs.declared.format.Format.{Format};
 
-    ghost Subject = { Format };
+    ghost Subject = { Format × Option (List Sender) };
 
-    ghost has_met = { λ form bus. HasNoted form };
+    ghost has_met = { λ subject bus. HasNoted subject.0 subject.1 };
 
-    ghost makes = { MakesNodesIn };
+    ghost makes = { λ subject. MakesNodesIn subject.0 subject.1 };
 
     ghost asks = { λ subject. AsksNowhere };
 
@@ -254,16 +259,22 @@ impl Account for NodeList {
         Ok(Made { messages: 0, lines })
     }
 
-    fn laws() {}
+    fn laws()
+        ensures begins { (subject : Format × Option (List Sender))
+            → Begins (λ bus. HasNoted subject.0 subject.1) (MakesNodesIn subject.0 subject.1) }
+        ensures one { (subject : Format × Option (List Sender)) → MakesOne (MakesNodesIn subject.0 subject.1) }
+    {}
 }
 
-/// Writes a line for each address where somebody is, and answers how many.
-fn put_nodes<W: Sink>(list: &NodeList, sink: &mut W) -> Result<u64, DeviceFault>
-    ensures nodes { IfOk result (λ n. (F : List FrameRecord) (before : Output) → HasNoted list.now.form list.now F before
-        → (nodes : List Presence) × AreNodes F nodes × (n ≡ length nodes)
-        × Appends (W.written sink.old) (W.written sink.new) (nodes_text list.now.form nodes)) }
-    ensures front { OnErr result ((F : List FrameRecord) (before : Output) (nodes : List Presence) → HasNoted list.now.form list.now F before
-        → AreNodes F nodes → AppendsFront (W.written sink.old) (W.written sink.new) (nodes_text list.now.form nodes)) }
+/// Writes a line for each address where somebody is who is asked for, and answers how many.
+fn put_nodes<W: Sink>(list: &NodeList<'_>, sink: &mut W) -> Result<u64, DeviceFault>
+    ensures nodes { IfOk result (λ n. (F : List FrameRecord) (before : Output)
+        → HasNoted list.now.form (from_in list.now) list.now F before
+        → (nodes : List Presence) × AreNodes F nodes × (n ≡ length (nodes_from (from_in list.now) nodes))
+        × Appends (W.written sink.old) (W.written sink.new) (nodes_text list.now.form (nodes_from (from_in list.now) nodes))) }
+    ensures front { OnErr result ((F : List FrameRecord) (before : Output) (nodes : List Presence)
+        → HasNoted list.now.form (from_in list.now) list.now F before → AreNodes F nodes
+        → AppendsFront (W.written sink.old) (W.written sink.new) (nodes_text list.now.form (nodes_from (from_in list.now) nodes))) }
     ensures mark { Marks result (W.has_failed sink.old) (W.has_failed sink.new) }
 {
     let mut lines = 0;
@@ -273,14 +284,14 @@ fn put_nodes<W: Sink>(list: &NodeList, sink: &mut W) -> Result<u64, DeviceFault>
     Ok(lines)
 }
 
-/// Writes a line where somebody is at the address, and answers how many lines that is.
-fn put_node<W: Sink>(list: &NodeList, address: u8, sink: &mut W) -> Result<u64, DeviceFault>
+/// Writes a line where somebody is at the address who is asked for, and answers how many lines that is.
+fn put_node<W: Sink>(list: &NodeList<'_>, address: u8, sink: &mut W) -> Result<u64, DeviceFault>
     requires { address < 254 }
-    ensures lines { IfOk result (λ n. n ≡ length (presence_in list.now address)) }
-    ensures puts { Puts (nodes_text list.now.form (presence_in list.now address))
+    ensures lines { IfOk result (λ n. n ≡ length (nodes_from (from_in list.now) (presence_in list.now address))) }
+    ensures puts { Puts (nodes_text list.now.form (nodes_from (from_in list.now) (presence_in list.now address)))
         result (turn W.written W.has_failed sink.old sink.new) }
 {
-    match list.node_at(address) {
+    match list.asked_at(address) {
         None => Ok(0),
         Some(node) => {
             put_all(sink, text_of(list.form, node).as_slice())?;
@@ -289,24 +300,25 @@ fn put_node<W: Sink>(list: &NodeList, address: u8, sink: &mut W) -> Result<u64, 
     }
 }
 
-/// The line of a node, or its record.
-fn text_of(form: Format, node: Node) -> ArrayVec<u8, 64>
+/// The line of a node, its record, or its object.
+fn text_of(form: Format, node: Node) -> NodeText
     ensures { result.items ≡ node_in form (presence_of node) }
 {
     match form {
         Format::Line => line_of(node),
         Format::Record => record_of(node),
+        Format::Object => object_of(node),
     }
 }
 
 #[tactic(auto, unfolding(crate::specs::Nodes::node_text))]
-fn line_of(node: Node) -> ArrayVec<u8, 64>
+fn line_of(node: Node) -> NodeText
     ensures { result.items ≡ node_text (presence_of node) }
 {
     let mut line = ArrayVec::new();
     push_hex(&mut line, &[node.address]);
     line.push(b' ');
-    push_name_or_dashes(&mut line, node.name);
+    push_name_or_dashes(&mut line, node.name.map(Name::raw));
     line.push(b' ');
     push_moment_or_dash(&mut line, node.claimed);
     line.push(b' ');
@@ -316,13 +328,13 @@ fn line_of(node: Node) -> ArrayVec<u8, 64>
 }
 
 #[tactic(auto, unfolding(crate::specs::Nodes::node_record))]
-fn record_of(node: Node) -> ArrayVec<u8, 64>
+fn record_of(node: Node) -> NodeText
     ensures { result.items ≡ node_record (presence_of node) }
 {
     let mut fields = ArrayVec::new();
     push_hex(&mut fields, &[node.address]);
     fields.push(b',');
-    push_name(&mut fields, node.name);
+    push_name(&mut fields, node.name.map(Name::raw));
     fields.push(b',');
     push_moment(&mut fields, node.claimed);
     fields.push(b',');
@@ -331,9 +343,26 @@ fn record_of(node: Node) -> ArrayVec<u8, 64>
     fields
 }
 
+#[tactic(auto, unfolding(crate::specs::Nodes::node_object))]
+fn object_of(node: Node) -> NodeText
+    ensures { result.items ≡ node_object (presence_of node) }
+{
+    let mut members = ArrayVec::new();
+    push_bytes(&mut members, b"{\"address\":");
+    push_address_string(&mut members, node.address);
+    push_bytes(&mut members, b",\"name\":");
+    push_name_or_null(&mut members, node.name.map(Name::raw));
+    push_bytes(&mut members, b",\"claimed\":");
+    push_seconds_or_null(&mut members, node.claimed);
+    push_bytes(&mut members, b",\"heard\":");
+    push_seconds_or_null(&mut members, node.heard);
+    push_bytes(&mut members, b"}\n");
+    members
+}
+
 /// Appends a stamp, or a dash, as lines have it.
-fn push_moment_or_dash(line: &mut ArrayVec<u8, 64>, moment: Option<Stamp>)
-    requires { array_vec_len line.old + 19 ≤ 64 }
+fn push_moment_or_dash(line: &mut NodeText, moment: Option<Stamp>)
+    requires { array_vec_len line.old + 19 ≤ 160 }
     ensures items { line.new.items ≡ line.old.items ++ moment_or_dash (option_map stamp_micros moment) }
     ensures len { array_vec_len line.new ≤ array_vec_len line.old + 19 }
 {
@@ -344,8 +373,8 @@ fn push_moment_or_dash(line: &mut ArrayVec<u8, 64>, moment: Option<Stamp>)
 }
 
 /// Appends a stamp without its parentheses, or nothing, as records have it.
-fn push_moment(fields: &mut ArrayVec<u8, 64>, moment: Option<Stamp>)
-    requires { array_vec_len fields.old + 17 ≤ 64 }
+fn push_moment(fields: &mut NodeText, moment: Option<Stamp>)
+    requires { array_vec_len fields.old + 17 ≤ 160 }
     ensures items { fields.new.items ≡ fields.old.items ++ moment_field (option_map stamp_micros moment) }
     ensures len { array_vec_len fields.new ≤ array_vec_len fields.old + 17 }
 {

@@ -19,9 +19,9 @@ use Rattle.j39_faults.specs.declared.text.State.TheVariants.{Became}
 use Rattle.j39_groups.specs.Row.{RowRecord}
 use Rattle.j39_listen.specs.Heard.{Hearing}
 use Rattle.j39_listen.specs.declared.format.Format.{Format}
-use Rattle.j39_listen.specs.declared.format.Format.TheVariants.{Line, Record}
+use Rattle.j39_listen.specs.declared.format.Format.TheVariants.{Line, Object, Record}
 use Rattle.j39_reports.specs.FaultChanges.{became, is_active}
-use Rattle.j39_reports.specs.FaultRecords.{fault_record, faults_text}
+use Rattle.j39_reports.specs.FaultRecords.{fault_object, fault_record, faults_text}
 use Rattle.j39_reports.specs.Faults.{Fault, fault_line}
 use Rattle.j39_reports.specs.FaultsSoFar.{change_by, changed, head_in, line_of}
 use Rattle.j39_reports.specs.declared.fault_news.changes.Side.{Side}
@@ -31,9 +31,10 @@ use Rattle.j39_reports.proofs.FaultLineLemmas.{few_codes}
 -- the line of a code that changed
 pub change_text : (form : Format) (rows : List RowRecord) (m : Hearing) (lamps : Lamps) (code : Code) (change : Change)
     → line_of form (head_in form m.stamp m.message.source m.destination m.name) rows (Became change) lamps (Some code) ≡ faults_text form rows (became m lamps code (Some change))
-unfolding faults_text fault_line fault_record
+unfolding faults_text fault_line fault_object fault_record
 change_text Line rows m lamps code change = sym (append-nil _)
 change_text Record rows m lamps code change = sym (append-nil _)
+change_text Object rows m lamps code change = sym (append-nil _)
 
 pub change_put : {T E : Type 0} (form : Format) (rows : List RowRecord) (m : Hearing) (lamps : Lamps) (code : Code) (change : Change) (head : List ℕ) (r : Result T E) (sink : Turn)
     → head ≡ head_in form m.stamp m.message.source m.destination m.name → Puts (line_of form head rows (Became change) lamps (Some code)) r sink

@@ -20,10 +20,10 @@ use Rattle.j39_faults.specs.declared.text.State.{State}
 use Rattle.j39_groups.specs.Row.{RowRecord}
 use Rattle.j39_listen.specs.Heard.{Hearing}
 use Rattle.j39_reports.specs.Faults.{clearing_of, codes_or_none, fault_line, fault_of}
-use Rattle.j39_reports.specs.FaultRecords.{fault_in, fault_record, faults_text}
+use Rattle.j39_reports.specs.FaultRecords.{fault_in, fault_object, fault_record, faults_text}
 use Rattle.j39_reports.specs.FaultsSoFar.{clearing_in, head_in, line_of}
 use Rattle.j39_listen.specs.declared.format.Format.{Format}
-use Rattle.j39_listen.specs.declared.format.Format.TheVariants.{Line, Record}
+use Rattle.j39_listen.specs.declared.format.Format.TheVariants.{Line, Object, Record}
 
 abbrev pub lines_of : Format → List ℕ → List RowRecord → State → Lamps → List Code → List ℕ
 lines_of form head rows how lamps cs = flat_map (λ code. line_of form head rows how lamps (Some code)) cs
@@ -105,9 +105,10 @@ few_put form head rows version how lamps payload left count sink h =
 -- of what stands before them
 text_by : (form : Format) (rows : List RowRecord) (m : Hearing) (how : State) (lamps : Lamps) (cs : List (Option Code))
     → faults_text form rows (map (fault_of m how lamps) cs) ≡ flat_map (λ code. line_of form (head_in form m.stamp m.message.source m.destination m.name) rows how lamps code) cs
-unfolding faults_text fault_line fault_record
+unfolding faults_text fault_line fault_object fault_record
 text_by Line rows m how lamps cs = flat_map-map (fault_in Line rows) (fault_of m how lamps) cs
 text_by Record rows m how lamps cs = flat_map-map (fault_in Record rows) (fault_of m how lamps) cs
+text_by Object rows m how lamps cs = flat_map-map (fault_in Object rows) (fault_of m how lamps) cs
 
 module _ (form : Format) (rows : List RowRecord) (m : Hearing) (how : State) (lamps : Lamps) (head : List ℕ) (is : head ≡ head_in form m.stamp m.message.source m.destination m.name) where
   abbrev text : List (Option Code) → List ℕ
@@ -156,6 +157,7 @@ module _ (m : Hearing) (how : State) (lamps : Lamps) where
 -- that codes are to be cleared
 pub clearing_text : (form : Format) (rows : List RowRecord) (m : Hearing) (kind : Kind)
     → head_in form m.stamp m.message.source m.destination m.name ++ clearing_in form kind ≡ faults_text form rows (clearing_of m kind ∷ [])
-unfolding faults_text fault_line fault_record
+unfolding faults_text fault_line fault_object fault_record
 clearing_text Line rows m kind = sym (append-nil _)
 clearing_text Record rows m kind = sym (append-nil _)
+clearing_text Object rows m kind = sym (append-nil _)

@@ -1,4 +1,5 @@
 -- Strings of JSON.
+use Rattle.j39_listen.specs.Members.{in_marks}
 use Rattle.std.proofs.Common.{◌≡◌, ◌<◌, ◌≤◌, ◌∙◌, ◌++◌, ◌∷◌, [], ℕ, zero, suc, Bool, false, List, Result, Ok, Err, ap, ap₂, arith, drop, eq-zero-or-pos, inl, inr, length, map, refl, sym, take, take-append-drop, ◌-◌}
 use Rattle.std.specs.Prelude.{◌==◌, ◌||◌, IsErr, nat_lt, if◌then◌else◌, codes}
 use Rattle.std.specs.List.{flat_map, list_any}
@@ -17,7 +18,7 @@ use Rattle.j39_io.specs.Puts.{Puts}
 use Rattle.j39_io.specs.Turn.{Device}
 use Rattle.j39_io.proofs.PutsLemmas.{puts_as, puts_done, puts_first, puts_then}
 use Rattle.j39_reports.proofs.QuoteLemmas.{unset}
-use Rattle.j39_reports.specs.Json.{character_text, in_marks, is_marked, string_text}
+use Rattle.j39_reports.specs.Json.{character_text, is_marked, string_text}
 
 -- a byte that isn't marked is printable
 printable : (b : ℕ) → is_marked b ≡ false → b ≤ 0x7E

@@ -10,7 +10,7 @@ use Rattle.j39_groups.proofs.VisitLemmas.{flat_map-next}
 use Rattle.j39_groups.specs.Row.{RowRecord}
 use Rattle.j39_listen.specs.Counting.{capped}
 use Rattle.j39_listen.specs.declared.format.Format.{Format}
-use Rattle.j39_listen.specs.declared.format.Format.TheVariants.{Line, Record}
+use Rattle.j39_listen.specs.declared.format.Format.TheVariants.{Line, Object, Record}
 use Rattle.j39_faults.specs.declared.kind.Kind.TheVariants.{Active}
 use Rattle.j39_faults.specs.declared.text.State.TheVariants.{Is}
 use Rattle.j39_reports.specs.CurrentPlaces.{LastRecord, Places, at, standing_record}
@@ -26,6 +26,7 @@ pub one_text : (form : Format) (rows : List RowRecord) (n : Now) → line_of for
 unfolding now_text
 one_text Line rows n = sym (append-nil _)
 one_text Record rows n = sym (append-nil _)
+one_text Object rows n = sym (append-nil _)
 
 pub no_text : (form : Format) (rows : List RowRecord) → now_text form rows [] ≡ []
 unfolding now_text

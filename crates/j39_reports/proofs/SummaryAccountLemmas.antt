@@ -1,12 +1,12 @@
 -- The summary as an account: what is heard at one frame more, and its end.
-use Rattle.std.proofs.Common.{Bor, ◌≡◌, ◌<◌, ◌+◌, ◌^◌, ℕ, List, [], ◌∷◌, ◌++◌, Option, Some, None, length, map, sym, ap, ◌∙◌, subst, arith, append-nil, length-append, inl, inr, refl}
+use Rattle.std.proofs.Common.{Bor, ◌≡◌, ◌<◌, ◌+◌, ◌^◌, ℕ, List, [], ◌∷◌, ◌++◌, Option, Some, None, true, false, length, map, sym, ap, ◌∙◌, subst, arith, append-nil, length-append, inl, inr, refl}
 use Rattle.std.specs.Prelude.{◌⊎◌}
 use Rattle.std.specs.List.{flat_map}
 use Rattle.std.specs.Io.KnownBytes.{Appends}
 use Rattle.std.proofs.KnownBytes.{Appends-nil}
 use Rattle.std.proofs.lemmas.Grind.{flat_map-append}
 use Rattle.std.proofs.lemmas.List.{length-map, map-append}
-use Rattle.std.proofs.lemmas.List.Elements.{filter_map-append}
+use Rattle.std.proofs.lemmas.List.Elements.{filter-append, filter_map-append}
 use Rattle.j39_memory.specs.ByOrigin.{pairs_of}
 use Rattle.j39_io.specs.Device.{AppendsFront}
 use Rattle.j39_frame.specs.Frame.{FrameRecord}
@@ -17,10 +17,13 @@ use Rattle.j39_groups.specs.Visits.{Stops, Takes}
 use Rattle.j39_groups.proofs.SightingLemmas.{absent_are, told_are}
 use Rattle.j39_listen.specs.AccountCalls.{Begins, Closes, MakesOne, Meets, StopsAtEnd}
 use Rattle.j39_listen.specs.Counting.{capped}
+use Rattle.j39_listen.specs.Chooses.{Chooses}
+use Rattle.j39_listen.specs.Filter.{FilterRecord, first_stamp, messages_taken, takes_message}
 use Rattle.j39_listen.specs.Heard.{AreHeard, HeardAt, Hearing, or_none}
 use Rattle.j39_listen.specs.Listening.{Hears}
 use Rattle.j39_listen.specs.Output.{Output}
 use Rattle.j39_listen.specs.Report.{Entry, entries_of, entry_of}
+use Rattle.j39_listen.specs.declared.chooser.Chooser.{Chooser}
 use Rattle.j39_listen.specs.declared.listener.Listener.{Listener}
 use Rattle.j39_listen.proofs.Causal.{heard_more}
 use Rattle.j39_listen.proofs.LineLemmas.{capped-fits}
@@ -40,27 +43,41 @@ use Rattle.j39_reports.specs.declared.summaries.rows.Rows.{Rows}
 
 -- ---- laws
 
-pub summary_begins : (form : Format) (groups : List RowRecord) → Begins (λ bus. HasSummed form groups) (MakesSummaryIn form groups)
-summary_begins form groups = λ bus a F G before all has made.
+pub summary_begins : (form : Format) (which : FilterRecord) (groups : List RowRecord) → Begins (λ bus. HasSummed form which groups) (MakesSummaryIn form which groups)
+summary_begins form which groups = λ bus a F G before all has made.
     (all.text, ap (λ t. t ++ all.text) (sym (ap (λ (o : Output). o.text) has.nothing_yet)))
 
-pub summary_one : (form : Format) (groups : List RowRecord) → MakesOne (MakesSummaryIn form groups)
-summary_one form groups = λ bus F x y (hs, are_x, is_x) (ks, are_y, is_y).
-    ap (λ (o : Output). o.text) is_x ∙ ap (λ (heard : List Hearing). (output_of form groups heard).text) (heard_below_unique (is_reported_in groups) (reported_leaves groups) F (length F) hs ks are_x are_y)
+pub summary_one : (form : Format) (which : FilterRecord) (groups : List RowRecord) → MakesOne (MakesSummaryIn form which groups)
+summary_one form which groups = λ bus F x y (hs, are_x, is_x) (ks, are_y, is_y).
+    ap (λ (o : Output). o.text) is_x
+    ∙ ap (λ (heard : List Hearing). (output_of form groups heard (messages_taken which (first_stamp F) heard)).text) (heard_below_unique (is_reported_in groups) (reported_leaves groups) F (length F) hs ks are_x are_y)
     ∙ sym (ap (λ (o : Output). o.text) is_y)
 
 -- and behind the names of the columns
-pub records_one : (groups : List RowRecord) → MakesOne (MakesSummary Record groups)
-records_one groups = λ bus F x y (a, made_a, is_a) (b, made_b, is_b).
-    ap (λ (o : Output). o.text) is_a ∙ ap (λ t. summary_columns ++ t) (summary_one Record groups bus F a b made_a made_b)
+pub records_one : (which : FilterRecord) (groups : List RowRecord) → MakesOne (MakesSummary Record which groups)
+records_one which groups = λ bus F x y (a, made_a, is_a) (b, made_b, is_b).
+    ap (λ (o : Output). o.text) is_a ∙ ap (λ t. summary_columns ++ t) (summary_one Record which groups bus F a b made_a made_b)
     ∙ sym (ap (λ (o : Output). o.text) is_b)
+
+-- ---- what is taken
+
+same_first : (which : FilterRecord) (groups : List RowRecord) (F G : List FrameRecord) (heard : List Hearing) → AreHeard groups F heard
+    → messages_taken which (first_stamp F) heard ≡ messages_taken which (first_stamp (F ++ G)) heard
+same_first which groups [] G heard are = ap (messages_taken which 0) are ∙ sym (ap (messages_taken which (first_stamp G)) are)
+same_first which groups (f ∷ F) G heard are = refl
+
+pub one_taken : (which : FilterRecord) (first : ℕ) (h : Hearing) → takes_message which first h ≡ true → messages_taken which first (h ∷ []) ≡ h ∷ []
+one_taken which first h is = rw is refl
+
+pub none_taken : (which : FilterRecord) (first : ℕ) (h : Hearing) → takes_message which first h ≡ false → messages_taken which first (h ∷ []) ≡ []
+none_taken which first h is = rw is refl
 
 -- ---- one frame
 
-pub notes_silent : (groups : List RowRecord) (l' : Listener) (F : List FrameRecord) (f : FrameRecord) (rows : Rows) (before : List Entry) (gone : List Origin)
+pub notes_silent : (which : FilterRecord) (groups : List RowRecord) (l' : Listener) (F : List FrameRecord) (f : FrameRecord) (rows : Rows) (before : List Entry) (gone : List Origin)
     → HeardAt groups (F ++ f ∷ []) (length F) None → Hears l' (F ++ f ∷ []) → AreRowsOf (pairs_of rows.rows) before → AreCounted (pairs_of rows.absences.counts) gone
-    → NotesFrame groups F f l' rows before gone 0
-notes_silent groups l' F f rows before gone silent hears are counts = record {
+    → NotesFrame which groups F f l' rows before gone 0
+notes_silent which groups l' F f rows before gone silent hears are counts = record {
   heard = None;
   heard_at = silent;
   hears = hears;
@@ -69,42 +86,65 @@ notes_silent groups l' F f rows before gone silent hears are counts = record {
   messages_are = refl;
 }
 
-pub notes_heard : (groups : List RowRecord) (l' : Listener) (F : List FrameRecord) (f : FrameRecord) (h : Hearing) (begun rows : Rows) (before : List Entry) (gone : List Origin)
-    → HeardAt groups (F ++ f ∷ []) (length F) (Some h) → Hears l' (F ++ f ∷ []) → HasTaken (record { before = before; absent = gone; hearing = h }) begun []
-    → Takes {M = Unit {0}} (λ message rows medium. HasTaken message rows) begun tt rows tt (sightings_in groups h.message.pgn h.message.bytes) → NotesFrame groups F f l' rows before gone 1
-notes_heard groups l' F f h begun rows before gone at hears begins takes =
+-- a message that the filter leaves
+pub notes_left : (which : FilterRecord) (groups : List RowRecord) (l' : Listener) (F : List FrameRecord) (f : FrameRecord) (h : Hearing) (rows : Rows) (before : List Entry) (gone : List Origin)
+    → HeardAt groups (F ++ f ∷ []) (length F) (Some h) → Hears l' (F ++ f ∷ []) → takes_message which (first_stamp (F ++ f ∷ [])) h ≡ false
+    → AreRowsOf (pairs_of rows.rows) before → AreCounted (pairs_of rows.absences.counts) gone
+    → NotesFrame which groups F f l' rows before gone 1
+notes_left which groups l' F f h rows before gone at hears is are counts =
+    let none = none_taken which (first_stamp (F ++ f ∷ [])) h is in
+    record {
+      heard = Some h;
+      heard_at = at;
+      hears = hears;
+      are_rows = subst (λ (hs : List Hearing). AreRowsOf (pairs_of rows.rows) (before ++ flat_map (entries_of groups) hs)) (sym none)
+          (subst (AreRowsOf (pairs_of rows.rows)) (sym (append-nil before)) are);
+      are_counted = subst (λ (hs : List Hearing). AreCounted (pairs_of rows.absences.counts) (gone ++ flat_map (absences_of groups) hs)) (sym none)
+          (subst (AreCounted (pairs_of rows.absences.counts)) (sym (append-nil gone)) counts);
+      messages_are = refl;
+    }
+
+pub notes_heard : (which : FilterRecord) (groups : List RowRecord) (l' : Listener) (F : List FrameRecord) (f : FrameRecord) (h : Hearing) (begun rows : Rows) (before : List Entry) (gone : List Origin)
+    → HeardAt groups (F ++ f ∷ []) (length F) (Some h) → Hears l' (F ++ f ∷ []) → takes_message which (first_stamp (F ++ f ∷ [])) h ≡ true
+    → HasTaken (record { before = before; absent = gone; hearing = h }) begun []
+    → Takes {M = Unit {0}} (λ message rows medium. HasTaken message rows) begun tt rows tt (sightings_in groups h.message.pgn h.message.bytes) → NotesFrame which groups F f l' rows before gone 1
+notes_heard which groups l' F f h begun rows before gone at hears is begins takes =
     let message : Message = record { before = before; absent = gone; hearing = h } in
     let taken = takes message [] begins in
+    let one = one_taken which (first_stamp (F ++ f ∷ [])) h is in
     let told = ap (map (entry_of h)) (told_are groups h.message.pgn h.message.bytes) in
     let not_there = ap (map (absence_of h)) (absent_are groups h.message.pgn h.message.bytes) in
     record {
       heard = Some h;
       heard_at = at;
       hears = hears;
-      are_rows = subst (λ es. AreRowsOf (pairs_of rows.rows) (before ++ es)) (told ∙ sym (append-nil (entries_of groups h))) taken.are_rows;
-      are_counted = subst (λ os. AreCounted (pairs_of rows.absences.counts) (gone ++ os)) (not_there ∙ sym (append-nil (absences_of groups h))) taken.are_counted;
+      are_rows = subst (λ es. AreRowsOf (pairs_of rows.rows) (before ++ es))
+          (told ∙ sym (ap (flat_map (entries_of groups)) one ∙ append-nil (entries_of groups h))) taken.are_rows;
+      are_counted = subst (λ os. AreCounted (pairs_of rows.absences.counts) (gone ++ os))
+          (not_there ∙ sym (ap (flat_map (absences_of groups)) one ∙ append-nil (absences_of groups h))) taken.are_counted;
       messages_are = refl;
     }
 
-pub asks_heard : (groups : List RowRecord) (F : List FrameRecord) (f : FrameRecord) (h : Hearing) (heard : List Hearing) (begun rows : Rows)
-    → HeardAt groups (F ++ f ∷ []) (length F) (Some h) → AreHeard groups F heard
-    → HasTaken (record { before = flat_map (entries_of groups) heard; absent = flat_map (absences_of groups) heard; hearing = h }) begun []
-    → Stops {M = Unit {0}} (λ message rows medium. HasTaken message rows) (λ message before at rows medium. WantsAt message before at) begun tt rows tt (sightings_in groups h.message.pgn h.message.bytes) → AsksForRows groups F f
-asks_heard groups F f h heard begun rows at are_heard begins stops =
+pub asks_heard : (which : FilterRecord) (groups : List RowRecord) (F : List FrameRecord) (f : FrameRecord) (h : Hearing) (heard : List Hearing) (begun rows : Rows)
+    → HeardAt groups (F ++ f ∷ []) (length F) (Some h) → AreHeard groups F heard → takes_message which (first_stamp (F ++ f ∷ [])) h ≡ true
+    → HasTaken (record { before = flat_map (entries_of groups) (messages_taken which (first_stamp F) heard); absent = flat_map (absences_of groups) (messages_taken which (first_stamp F) heard); hearing = h }) begun []
+    → Stops {M = Unit {0}} (λ message rows medium. HasTaken message rows) (λ message before at rows medium. WantsAt message before at) begun tt rows tt (sightings_in groups h.message.pgn h.message.bytes) → AsksForRows which groups F f
+asks_heard which groups F f h heard begun rows at are_heard is begins stops =
     let w = stops message [] begins in
     inr (by w.taken w.at w.rest w.sightings_are w.stopped)
   where
     message : Message
-    message = record { before = flat_map (entries_of groups) heard; absent = flat_map (absences_of groups) heard; hearing = h }
+    message = record { before = flat_map (entries_of groups) (messages_taken which (first_stamp F) heard); absent = flat_map (absences_of groups) (messages_taken which (first_stamp F) heard); hearing = h }
 
     by : (taken : List SightingRecord) (s : SightingRecord) (rest : List SightingRecord)
         → sightings_in groups h.message.pgn h.message.bytes ≡ taken ++ (s ∷ rest) → WantsAt message taken s
-        → AsksForRow groups F f ⊎ AsksForAbsence groups F f
+        → AsksForRow which groups F f ⊎ AsksForAbsence which groups F f
     by taken (told r) rest cut wanted = inl (record {
       heard = heard;
       are_heard = are_heard;
       now_heard = h;
       heard_now = at;
+      asked_now = is;
       taken = map (entry_of h) (told_in taken);
       entry = entry_of h r;
       rest = map (entry_of h) (told_in rest);
@@ -117,6 +157,7 @@ asks_heard groups F f h heard begun rows at are_heard begins stops =
       are_heard = are_heard;
       now_heard = h;
       heard_now = at;
+      asked_now = is;
       taken = map (absence_of h) (absent_in taken);
       origin = absence_of h spn;
       rest = map (absence_of h) (absent_in rest);
@@ -125,16 +166,24 @@ asks_heard groups F f h heard begun rows at are_heard begins stops =
       wanted = wanted;
     })
 
-pub summary_meets : (form : Format) (groups : List RowRecord) (a a' : SummaryAccount) → a'.groups ≡ a.groups → a'.form ≡ a.form → (f : FrameRecord) (messages : ℕ) (old : Option (List ℕ))
-    → ((F : List FrameRecord) (before : List Entry) → Hears a.listener F → AreRowsOf (pairs_of a.rows.rows) before → (gone : List Origin)
-    → AreCounted (pairs_of a.rows.absences.counts) gone → NotesFrame a.groups.now F f a'.listener a'.rows before gone messages)
-    → a'.messages ≡ capped (a.messages + messages) → Meets (HasSummed form groups) a a' (f ∷ []) old old
-summary_meets form groups a a' kept same f messages old notes sum = λ F before has.
-    let entries = flat_map (entries_of groups) has.heard in
-    let gone = flat_map (absences_of groups) has.heard in
-    let n = subst (λ (table : List RowRecord). NotesFrame table F f a'.listener a'.rows entries gone messages) has.by
-    (notes F entries has.hears has.are_rows gone has.are_counted) in
+pub summary_meets : (form : Format) (which : FilterRecord) (groups : List RowRecord) (a a' : SummaryAccount) → a'.groups ≡ a.groups → a'.form ≡ a.form → (f : FrameRecord) (messages : ℕ) (old : Option (List ℕ))
+    → ((asked : FilterRecord) (F : List FrameRecord) → Chooses asked a.chooser F → Chooses asked a'.chooser (F ++ f ∷ []))
+    → ((asked : FilterRecord) (F : List FrameRecord) (before : List Entry) → Hears a.listener F → Chooses asked a'.chooser (F ++ f ∷ []) → AreRowsOf (pairs_of a.rows.rows) before → (gone : List Origin)
+    → AreCounted (pairs_of a.rows.absences.counts) gone → NotesFrame asked a.groups.now F f a'.listener a'.rows before gone messages)
+    → a'.messages ≡ capped (a.messages + messages) → Meets (HasSummed form which groups) a a' (f ∷ []) old old
+summary_meets form which groups a a' kept same f messages old chooses notes sum = λ F before has.
+    let first = first_stamp (F ++ f ∷ []) in
+    let mine = messages_taken which first has.heard in
+    let stays = same_first which groups F (f ∷ []) has.heard has.are_heard in
+    let entries = flat_map (entries_of groups) mine in
+    let gone = flat_map (absences_of groups) mine in
+    let chosen = chooses which F has.chooses in
+    let n = subst (λ (table : List RowRecord). NotesFrame which table F f a'.listener a'.rows entries gone messages) has.by
+    (notes which F entries has.hears chosen (subst (λ (hs : List Hearing). AreRowsOf (pairs_of a.rows.rows) (flat_map (entries_of groups) hs)) stays has.are_rows) gone
+    (subst (λ (hs : List Hearing). AreCounted (pairs_of a.rows.absences.counts) (flat_map (absences_of groups) hs)) stays has.are_counted)) in
     let more = or_none n.heard in
+    let taken = messages_taken which first more in
+    let both = filter-append (takes_message which first) has.heard more in
     let count : a'.messages ≡ capped (length (has.heard ++ more)) =
     sum ∙ (let len = length-append has.heard more in let m = n.messages_are in let b = has.messages_are in omega (arith, len, m, b)) in
     record {
@@ -142,11 +191,12 @@ summary_meets form groups a a' kept same f messages old notes sum = λ F before 
       met = record {
         by = ap (λ (x : Bor (List RowRecord)). x.now) kept ∙ has.by;
         form_is = same ∙ has.form_is;
+        chooses = chosen;
         heard = has.heard ++ more;
         are_heard = heard_more (is_reported_in groups) F f has.heard n.heard has.are_heard n.heard_at;
         hears = n.hears;
-        are_rows = subst (AreRowsOf (pairs_of a'.rows.rows)) (sym (flat_map-append (entries_of groups) has.heard more)) n.are_rows;
-        are_counted = subst (AreCounted (pairs_of a'.rows.absences.counts)) (sym (flat_map-append (absences_of groups) has.heard more)) n.are_counted;
+        are_rows = subst (AreRowsOf (pairs_of a'.rows.rows)) (sym (ap (flat_map (entries_of groups)) both ∙ flat_map-append (entries_of groups) mine taken)) n.are_rows;
+        are_counted = subst (AreCounted (pairs_of a'.rows.absences.counts)) (sym (ap (flat_map (absences_of groups)) both ∙ flat_map-append (absences_of groups) mine taken)) n.are_counted;
         messages_are = count;
         nothing_yet = has.nothing_yet;
       };
@@ -155,24 +205,40 @@ summary_meets form groups a a' kept same f messages old notes sum = λ F before 
       written = Appends-nil old;
     }
 
+-- a frame asks for memory
+pub summary_asks : (form : Format) (which : FilterRecord) (groups : List RowRecord) (a : SummaryAccount) (chooser : Chooser) (f : FrameRecord)
+    → ((asked : FilterRecord) (F : List FrameRecord) (heard : List Hearing) → Hears a.listener F → Chooses asked chooser (F ++ f ∷ []) → AreHeard a.groups.now F heard
+    → AreRowsOf (pairs_of a.rows.rows) (flat_map (entries_of a.groups.now) (messages_taken asked (first_stamp F) heard))
+    → AreCounted (pairs_of a.rows.absences.counts) (flat_map (absences_of a.groups.now) (messages_taken asked (first_stamp F) heard)) → AsksForRows asked a.groups.now F f)
+    → ((asked : FilterRecord) (F : List FrameRecord) → Chooses asked a.chooser F → Chooses asked chooser (F ++ f ∷ []))
+    → (F : List FrameRecord) (output : Output) → HasSummed form which groups a F output → AsksForRows which groups F f
+summary_asks form which groups a chooser f asks chooses F output has =
+    subst (λ (table : List RowRecord). (heard : List Hearing) → Hears a.listener F → Chooses which chooser (F ++ f ∷ []) → AreHeard table F heard
+    → AreRowsOf (pairs_of a.rows.rows) (flat_map (entries_of table) (messages_taken which (first_stamp F) heard))
+    → AreCounted (pairs_of a.rows.absences.counts) (flat_map (absences_of table) (messages_taken which (first_stamp F) heard)) → AsksForRows which table F f) has.by (asks which F)
+    has.heard has.hears (chooses which F has.chooses) has.are_heard has.are_rows has.are_counted
+
 -- ---- the end
 
 abbrev written_by : Format → List RowRecord → SummaryAccount → List ℕ
 written_by form groups a = summary_text form groups (counted (pairs_of a.rows.absences.counts)) (map row_shown (pairs_of a.rows.rows))
 
-all_text : (form : Format) (groups : List RowRecord) (a : SummaryAccount) (F : List FrameRecord) (before : Output) (has : HasSummed form groups a F before)
-    → written_by a.form a.groups.now a ≡ (output_of form groups has.heard).text
-all_text form groups a F before has =
+abbrev summed : Format → FilterRecord → List RowRecord → List FrameRecord → List Hearing → Output
+summed form which groups F heard = output_of form groups heard (messages_taken which (first_stamp F) heard)
+
+all_text : (form : Format) (which : FilterRecord) (groups : List RowRecord) (a : SummaryAccount) (F : List FrameRecord) (before : Output) (has : HasSummed form which groups a F before)
+    → written_by a.form a.groups.now a ≡ (summed form which groups F has.heard).text
+all_text form which groups a F before has =
     ap (λ (f : Format). written_by f a.groups.now a) has.form_is
     ∙ ap (λ (table : List RowRecord). written_by form table a) has.by
     ∙ ap (λ (often : Origin → ℕ). summary_text form groups often (map row_shown (pairs_of a.rows.rows))) (λ i o. has.are_counted o i)
-    ∙ ap (summary_text form groups (how_often (flat_map (absences_of groups) has.heard))) has.are_rows
+    ∙ ap (summary_text form groups (how_often (flat_map (absences_of groups) (messages_taken which (first_stamp F) has.heard)))) has.are_rows
 
-pub summary_closes : (form : Format) (groups : List RowRecord) (a : SummaryAccount) (lines : ℕ) (old new : Option (List ℕ)) → lines ≡ length (pairs_of a.rows.rows) → lines < 2 ^ 64
+pub summary_closes : (form : Format) (which : FilterRecord) (groups : List RowRecord) (a : SummaryAccount) (lines : ℕ) (old new : Option (List ℕ)) → lines ≡ length (pairs_of a.rows.rows) → lines < 2 ^ 64
     → Appends old new (written_by a.form a.groups.now a)
-    → Closes (λ bus. HasSummed form groups) (MakesSummaryIn form groups) a (record { messages = a.messages; lines = lines }) old new
-summary_closes form groups a lines old new count fits written = λ bus F before has.
-    let out = output_of form groups has.heard in
+    → Closes (λ bus. HasSummed form which groups) (MakesSummaryIn form which groups) a (record { messages = a.messages; lines = lines }) old new
+summary_closes form which groups a lines old new count fits written = λ bus F before has.
+    let out = summed form which groups F has.heard in
     let rows : lines ≡ out.lines = count ∙ sym (length-map (pairs_of a.rows.rows) row_shown) ∙ ap length has.are_rows in
     record {
       after = out;
@@ -181,16 +247,16 @@ summary_closes form groups a lines old new count fits written = λ bus F before 
       lines_are = sym (ap capped (sym rows) ∙ capped-fits lines fits);
       more = out.text;
       text_is = ap (λ t. t ++ out.text) (sym (ap (λ (o : Output). o.text) has.nothing_yet));
-      written = subst (Appends old new) (all_text form groups a F before has) written;
+      written = subst (Appends old new) (all_text form which groups a F before has) written;
     }
 
-pub summary_stops : (form : Format) (groups : List RowRecord) (a : SummaryAccount) (old new : Option (List ℕ))
-    → AppendsFront old new (written_by a.form a.groups.now a) → StopsAtEnd (λ bus. HasSummed form groups) (MakesSummaryIn form groups) a old new
-summary_stops form groups a old new front = λ bus F before all has made.
-    let is : all.text ≡ (output_of form groups has.heard).text =
-    summary_one form groups bus F all (output_of form groups has.heard) made (has.heard, has.are_heard, refl) in
+pub summary_stops : (form : Format) (which : FilterRecord) (groups : List RowRecord) (a : SummaryAccount) (old new : Option (List ℕ))
+    → AppendsFront old new (written_by a.form a.groups.now a) → StopsAtEnd (λ bus. HasSummed form which groups) (MakesSummaryIn form which groups) a old new
+summary_stops form which groups a old new front = λ bus F before all has made.
+    let is : all.text ≡ (summed form which groups F has.heard).text =
+    summary_one form which groups bus F all (summed form which groups F has.heard) made (has.heard, has.are_heard, refl) in
     record {
       rest = all.text;
       all_is = ap (λ t. t ++ all.text) (sym (ap (λ (o : Output). o.text) has.nothing_yet));
-      front = subst (AppendsFront old new) (all_text form groups a F before has ∙ sym is) front;
+      front = subst (AppendsFront old new) (all_text form which groups a F before has ∙ sym is) front;
     }

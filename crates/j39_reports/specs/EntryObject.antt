@@ -6,15 +6,10 @@ use Rattle.j39_groups.specs.Names.{group_name_in, name_in, state_in}
 use Rattle.j39_groups.specs.Row.{RowRecord}
 use Rattle.j39_groups.specs.Value.{ValueRecord, number, on, off, error, reserved, indicator, text}
 use Rattle.j39_groups.specs.ValueText.{magnitude_text, scaled_text}
+use Rattle.j39_listen.specs.Members.{address_string, in_marks, name_string, or_null}
 use Rattle.j39_listen.specs.Report.{Entry}
-use Rattle.j39_reports.specs.Json.{bytes_member, in_marks, or_null, string_or_null, string_text}
+use Rattle.j39_reports.specs.Json.{bytes_member, string_or_null, string_text}
 use Rattle.j39_reports.specs.Utc.{utc_text}
-
-abbrev pub address_string : ℕ → List ℕ
-address_string address = in_marks (encode_upper (address ∷ []))
-
-abbrev pub name_string : ℕ → List ℕ
-name_string name = in_marks (encode_upper (to_be_bytes w64 name))
 
 -- a moment: the seconds of a stamp, a number, which has no zeros before it; and the same in UTC
 unfoldable pub moment_members : ℕ → List ℕ

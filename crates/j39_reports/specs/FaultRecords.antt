@@ -1,6 +1,6 @@
--- The record of a fault (RFC 4180; own).
+-- The record of a fault (RFC 4180; own), and its object (RFC 8259).
 use Rattle.std.specs.Prelude.{◌++◌, ◌∷◌, ℕ, List, [], Option, Some, None, codes, decimal, unwrap_or}
-use Rattle.std.specs.List.{flat_map}
+use Rattle.std.specs.List.{concat, flat_map}
 use Rattle.j39_reports.specs.Columns.{heard_fields}
 use Rattle.j39_io.specs.Records.{record_text}
 use Rattle.j39_faults.specs.Text.{clear_text, lamps_told, parameter_words, state_text}
@@ -8,13 +8,18 @@ use Rattle.j39_faults.specs.Words.{fmi_words}
 use Rattle.j39_faults.specs.declared.code.Code.{Code}
 use Rattle.j39_faults.specs.declared.code.Parameter.{Parameter}
 use Rattle.j39_faults.specs.declared.code.Parameter.TheVariants.{Known, OneOf}
+use Rattle.j39_faults.specs.declared.kind.Kind.{Kind}
 use Rattle.j39_faults.specs.declared.lamps.Lamps.{Lamps}
+use Rattle.j39_faults.specs.declared.text.State.{State}
+use Rattle.j39_faults.specs.declared.text.State.TheVariants.{Is, Became}
 use Rattle.j39_groups.specs.Row.{RowRecord}
+use Rattle.j39_reports.specs.EntryObject.{moment_members, sender_members}
+use Rattle.j39_reports.specs.Json.{number_or_null, text_or_null}
 use Rattle.j39_reports.specs.Faults.{Fault, Saying, clears, fault_line, name_in, says}
 use Rattle.j39_reports.specs.declared.fault_news.telling.Telling.{Telling}
 use Rattle.j39_reports.specs.declared.fault_news.telling.Telling.TheVariants.{News, All, Changes}
 use Rattle.j39_listen.specs.declared.format.Format.{Format}
-use Rattle.j39_listen.specs.declared.format.Format.TheVariants.{Line, Record}
+use Rattle.j39_listen.specs.declared.format.Format.TheVariants.{Line, Object, Record}
 
 -- the names of the columns
 abbrev pub fault_columns : Telling → List ℕ
@@ -79,11 +84,56 @@ saying_record rows (clears kind) = record_text (clear_text kind) clearing_fields
 unfoldable pub fault_record : List RowRecord → Fault → List ℕ
 fault_record rows f = head_fields f.stamp f.address f.destination f.name ++ saying_record rows f.saying
 
--- ---- in either form
+-- ---- its object: the same fields, and null for an empty one
+
+-- the word for the kind, or for what became of a code
+abbrev pub word_member : State → List ℕ
+word_member (Is kind) = codes ",\"state\":\"" ++ state_text (Is kind) ++ codes "\""
+word_member (Became change) = codes ",\"change\":\"" ++ state_text (Became change) ++ codes "\""
+
+unfoldable pub number_members : List ℕ → List ℕ → List ℕ → List ℕ
+number_members spn fmi count =
+    concat (codes ",\"spn\":" ∷ number_or_null spn ∷ codes ",\"fmi\":" ∷ number_or_null fmi
+    ∷ codes ",\"count\":" ∷ number_or_null count ∷ [])
+
+abbrev pub text_member : List ℕ → List ℕ → List ℕ
+text_member key text = key ++ text_or_null text
+
+unfoldable pub text_members : List ℕ → List ℕ → List ℕ → List ℕ
+text_members lamps parameter meaning =
+    text_member (codes ",\"lamps\":") lamps ++ (text_member (codes ",\"parameter\":") parameter
+    ++ (text_member (codes ",\"meaning\":") meaning ++ codes "}\n"))
+
+abbrev pub object_with : State → Lamps → List ℕ → Option Code → List ℕ
+object_with how lamps parameter code =
+    word_member how ++ (number_members (spn_field code) (fmi_field code) (count_field code)
+    ++ text_members (lamps_told lamps) parameter (meaning_field code))
+
+abbrev pub said_object : List RowRecord → State → Lamps → Option Code → List ℕ
+said_object rows how lamps code = object_with how lamps (parameter_field rows code) code
+
+abbrev pub clearing_object : Kind → List ℕ
+clearing_object kind =
+    (codes ",\"state\":\"" ++ clear_text kind ++ codes "\"")
+    ++ (number_members [] [] [] ++ text_members [] [] (codes "all codes"))
+
+abbrev pub saying_object : List RowRecord → Saying → List ℕ
+saying_object rows (says how lamps code) = said_object rows how lamps code
+saying_object rows (clears kind) = clearing_object kind
+
+-- the moment, the address, the destination and the NAME
+abbrev pub head_members : ℕ → ℕ → Option ℕ → Option ℕ → List ℕ
+head_members stamp address destination name = moment_members stamp ++ sender_members address destination name
+
+unfoldable pub fault_object : List RowRecord → Fault → List ℕ
+fault_object rows f = head_members f.stamp f.address f.destination f.name ++ saying_object rows f.saying
+
+-- ---- in each form
 
 abbrev pub fault_in : Format → List RowRecord → Fault → List ℕ
 fault_in Line rows f = fault_line rows f
 fault_in Record rows f = fault_record rows f
+fault_in Object rows f = fault_object rows f
 
 unfoldable pub faults_text : Format → List RowRecord → List Fault → List ℕ
 faults_text form rows faults = flat_map (fault_in form rows) faults

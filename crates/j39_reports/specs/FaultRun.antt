@@ -2,13 +2,12 @@
 use Rattle.std.specs.Prelude.{◌≡◌, List, length}
 use Rattle.j39_groups.specs.Row.{RowRecord}
 use Rattle.j39_listen.specs.Heard.{AreHeardWith, Hearing}
-use Rattle.j39_listen.specs.Headed.{Headed}
+use Rattle.j39_listen.specs.Headed.{Columned}
 use Rattle.j39_listen.specs.Output.{Making, Output}
 use Rattle.j39_reports.specs.News.{Chosen, faults_among, is_fault_group}
 use Rattle.j39_reports.specs.Told.{told}
 use Rattle.j39_reports.specs.FaultRecords.{fault_columns, faults_text}
 use Rattle.j39_listen.specs.declared.format.Format.{Format}
-use Rattle.j39_listen.specs.declared.format.Format.TheVariants.{Line, Record}
 
 -- the text of each fault that is told of the messages of faults; each message of faults counts
 abbrev pub faults_of : Format → List RowRecord → Chosen → List Hearing → Output
@@ -24,7 +23,6 @@ MakesFaultsIn form rows which bus F output =
     (heard : List Hearing) × AreHeardWith is_fault_group F heard
     × (output ≡ faults_of form rows which (faults_among heard))
 
--- a line for each, or the names of the columns and a record for each
+-- a line, a record or an object for each
 abbrev pub MakesFaults : Format → List RowRecord → Chosen → Making
-MakesFaults Line rows which = MakesFaultsIn Line rows which
-MakesFaults Record rows which = Headed (fault_columns which.telling) (MakesFaultsIn Record rows which)
+MakesFaults form rows which = Columned (fault_columns which.telling) form (MakesFaultsIn form rows which)

@@ -5,15 +5,13 @@ use Rattle.std.specs.Str.Lossy.{utf8_lossy}
 use Rattle.std.specs.List.{flat_map}
 use Rattle.hex.specs.Hex.{encode_upper}
 use Rattle.j39_io.specs.Chars.{backslash, quote, space}
+use Rattle.j39_listen.specs.Members.{in_marks, or_null}
 
 -- a quote and a backslash stand behind a backslash, what is below the space as `\u00` and two hex digits
 abbrev pub character_text : ℕ → List ℕ
 character_text byte =
     if byte == quote then codes "\\\"" else (if byte == backslash then codes "\\\\"
     else (if nat_lt byte space then codes "\\u00" ++ encode_upper (byte ∷ []) else byte ∷ []))
-
-abbrev pub in_marks : List ℕ → List ℕ
-in_marks text = codes "\"" ++ text ++ codes "\""
 
 -- bytes as a text, with U+FFFD for each sequence that is no UTF-8
 unfoldable pub string_text : List ℕ → List ℕ
@@ -30,14 +28,24 @@ hex_of byte = encode_upper (byte ∷ [])
 abbrev pub hex_text : List ℕ → List ℕ
 hex_text bytes = flat_map hex_of bytes
 
--- the bytes of a text that isn't all UTF-8 stand beside it
+-- the bytes of a text that isn't all UTF-8 stand beside it, under this key
+abbrev pub bytes_under : List ℕ → List ℕ → List ℕ
+bytes_under key bytes = if is_utf8 bytes then [] else key ++ in_marks (hex_text bytes)
+
 abbrev pub bytes_member : List ℕ → List ℕ
-bytes_member bytes = if is_utf8 bytes then [] else codes ",\"bytes\":" ++ in_marks (hex_text bytes)
+bytes_member bytes = bytes_under (codes ",\"bytes\":") bytes
 
 -- `null` where there is none
-abbrev pub or_null : Option (List ℕ) → List ℕ
-or_null None = codes "null"
-or_null (Some text) = text
-
 abbrev pub string_or_null : Option (List ℕ) → List ℕ
 string_or_null text = or_null (option_map string_text text)
+
+-- ---- of fields as records have them
+
+-- an empty one is `null`
+abbrev pub number_or_null : List ℕ → List ℕ
+number_or_null [] = codes "null"
+number_or_null (digit ∷ digits) = digit ∷ digits
+
+abbrev pub text_or_null : List ℕ → List ℕ
+text_or_null [] = codes "null"
+text_or_null (byte ∷ bytes) = string_text (byte ∷ bytes)

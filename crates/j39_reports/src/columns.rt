@@ -1,8 +1,11 @@
-//! What several lines and records have (own).
+//! What several lines, records and objects have (own).
 ghost use Rattle.std.specs.Prelude.{◌≡◌, ◌+◌, ◌≤◌, ◌++◌, ◌∷◌, [], decimal, option_map};
 ghost use Rattle.arrayvec.specs.ArrayVec.{array_vec_len};
 ghost use Rattle.j39_io.specs.Puts.{Puts};
 ghost use Rattle.j39_io.specs.Turn.{turn};
+ghost use Rattle.j39_listen.specs.Members.{in_marks};
+ghost use Rattle.j39_reports.specs.EntryObject.{moment_members, sender_members};
+ghost use Rattle.j39_reports.specs.Utc.{utc_text};
 ghost use Rattle.j39_reports.specs.Columns.{destination_field, heard_fields, last_field, moment_fields, sender_fields};
 ghost use Rattle.j39_address.specs.Name.{name_raw};
 ghost use Rattle.j39_frame.specs.Stamp.{stamp_micros};
@@ -13,7 +16,10 @@ use j39_address::Name;
 use j39_frame::Stamp;
 use j39_io::printing::{push_bytes, push_hex, push_number};
 use j39_io::{DeviceFault, Sink, put_all, put_behind_comma};
-use j39_listen::{Heard, push_name};
+use j39_listen::{
+    Heard, push_address_or_null, push_address_string, push_name, push_name_or_null,
+    push_seconds_number,
+};
 use j39_log::push_seconds;
 
 /// Appends the seconds of a stamp, a comma, and the same moment in UTC.
@@ -29,7 +35,7 @@ pub fn push_moment<const N: usize>(fields: &mut ArrayVec<u8, N>, stamp: Stamp)
 
 /// What the records of a message begin with: the moment, the address, the destination and the NAME.
 #[tactic(auto, unfolding(crate::specs::Columns::heard_fields))]
-pub fn heard_fields(heard: &Heard<'_>) -> ArrayVec<u8, 88>
+pub fn heard_fields(heard: &Heard<'_>) -> ArrayVec<u8, 128>
     ensures items { result.items ≡ heard_fields (stamp_micros heard.now.message.stamp) heard.now.message.source
         heard.now.destination (option_map name_raw heard.now.name) }
     ensures len { array_vec_len result ≤ 68 }
@@ -93,4 +99,48 @@ pub fn push_behind<const N: usize>(text: &mut ArrayVec<u8, N>, separator: u8, nu
 {
     text.push(separator);
     push_number(text, number);
+}
+
+/// Appends a moment in UTC as a string.
+pub fn push_utc_string<const N: usize>(text: &mut ArrayVec<u8, N>, stamp: Stamp)
+    requires { array_vec_len text.old + 29 ≤ N }
+    ensures items { text.new.items ≡ text.old.items ++ in_marks (utc_text (stamp_micros stamp)) }
+    ensures len { array_vec_len text.new ≤ array_vec_len text.old + 29 }
+{
+    text.push(b'"');
+    push_bytes(text, utc_text(stamp).as_slice());
+    text.push(b'"');
+}
+
+/// Appends the members of a moment, the first of an object.
+#[tactic(auto, unfolding(crate::specs::EntryObject::moment_members))]
+pub fn push_moment_members<const N: usize>(text: &mut ArrayVec<u8, N>, stamp: Stamp)
+    requires { array_vec_len text.old + 62 ≤ N }
+    ensures items { text.new.items ≡ text.old.items ++ moment_members (stamp_micros stamp) }
+    ensures len { array_vec_len text.new ≤ array_vec_len text.old + 62 }
+{
+    push_bytes(text, b"{\"stamp\":");
+    push_seconds_number(text, stamp);
+    push_bytes(text, b",\"utc\":");
+    push_utc_string(text, stamp);
+}
+
+/// Appends the members of a sender: the address, the destination and the NAME.
+#[tactic(auto, unfolding(crate::specs::EntryObject::sender_members))]
+pub fn push_sender_members<const N: usize>(
+    text: &mut ArrayVec<u8, N>,
+    address: u8,
+    destination: Option<u8>,
+    name: Option<u64>,
+)
+    requires { array_vec_len text.old + 60 ≤ N }
+    ensures items { text.new.items ≡ text.old.items ++ sender_members address destination name }
+    ensures len { array_vec_len text.new ≤ array_vec_len text.old + 60 }
+{
+    push_bytes(text, b",\"address\":");
+    push_address_string(text, address);
+    push_bytes(text, b",\"destination\":");
+    push_address_or_null(text, destination);
+    push_bytes(text, b",\"name\":");
+    push_name_or_null(text, name);
 }

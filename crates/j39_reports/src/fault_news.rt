@@ -10,6 +10,7 @@ mod last_messages;
 pub mod laws;
 pub(crate) mod lines;
 mod names;
+mod objects;
 mod records;
 pub(crate) mod run;
 mod since;

@@ -1,4 +1,5 @@
 //! Strings of JSON (RFC 8259, 7).
+ghost use Rattle.j39_listen.specs.Members.{in_marks};
 ghost use Rattle.std.specs.Prelude.{◌≡◌, ◌∷◌, ◌++◌, [], ◌+◌, ◌≤◌, IfSome, codes, false, length, map, nat_lt, true};
 ghost use Rattle.std.specs.List.{flat_map, list_any};
 ghost use Rattle.std.specs.Option.{option_map};
@@ -9,7 +10,7 @@ ghost use Rattle.hex.specs.Hex.{encode_upper};
 ghost use Rattle.j39_io.specs.Backwards.{WritesBefore};
 ghost use Rattle.j39_io.specs.Puts.{Puts};
 ghost use Rattle.j39_io.specs.Turn.{turn};
-ghost use Rattle.j39_reports.specs.Json.{bytes_member, character_text, hex_text, in_marks, is_marked, string_or_null, string_text};
+ghost use Rattle.j39_reports.specs.Json.{bytes_under, character_text, hex_text, is_marked, number_or_null, string_or_null, string_text, text_or_null};
 
 use crate::report_records::bits_of;
 use arrayvec::ArrayVec;
@@ -86,14 +87,19 @@ fn character(byte: u8) -> ArrayVec<u8, 6>
     out
 }
 
-/// Writes the bytes of a text that isn't all UTF-8 beside it; nothing of any other. After a fault a front of that was written.
-pub(crate) fn put_bytes_member<W: Sink>(text: &[u8], sink: &mut W) -> Result<(), DeviceFault>
-    ensures { Puts (bytes_member text.now) result (turn W.written W.has_failed sink.old sink.new) }
+/// Writes the bytes of a text that isn't all UTF-8 under this key; nothing of any other. After a fault a front of that was
+/// written.
+pub(crate) fn put_bytes_under<W: Sink>(
+    key: &[u8],
+    text: &[u8],
+    sink: &mut W,
+) -> Result<(), DeviceFault>
+    ensures { Puts (bytes_under key.now text.now) result (turn W.written W.has_failed sink.old sink.new) }
 {
     if is_utf8(text) {
         Ok(())
     } else {
-        put_in_hex(text, sink)
+        put_in_hex(key, text, sink)
     }
 }
 
@@ -104,10 +110,18 @@ fn is_utf8(text: &[u8]) -> bool
 }
 
 /// Writes the key of the bytes, and the bytes.
-fn put_in_hex<W: Sink>(text: &[u8], sink: &mut W) -> Result<(), DeviceFault>
-    ensures { Puts (codes ",\"bytes\":" ++ in_marks (hex_text text.now)) result (turn W.written W.has_failed sink.old sink.new) }
+fn put_in_hex<W: Sink>(key: &[u8], text: &[u8], sink: &mut W) -> Result<(), DeviceFault>
+    ensures { Puts (key.now ++ in_marks (hex_text text.now)) result (turn W.written W.has_failed sink.old sink.new) }
 {
-    put_all(sink, b",\"bytes\":\"")?;
+    put_all(sink, key)?;
+    put_hex_string(text, sink)
+}
+
+/// Writes bytes in hex, as a string.
+fn put_hex_string<W: Sink>(text: &[u8], sink: &mut W) -> Result<(), DeviceFault>
+    ensures { Puts (in_marks (hex_text text.now)) result (turn W.written W.has_failed sink.old sink.new) }
+{
+    put_all(sink, b"\"")?;
     put_hex(text, sink)?;
     put_all(sink, b"\"")
 }
@@ -128,6 +142,24 @@ fn hex_pair(byte: u8) -> ArrayVec<u8, 2>
     let mut pair = ArrayVec::new();
     push_hex(&mut pair, &[byte]);
     pair
+}
+
+/// Writes a field as a string; `null` for an empty one.
+pub(crate) fn put_text_or_null<W: Sink>(field: &[u8], sink: &mut W) -> Result<(), DeviceFault>
+    ensures { Puts (text_or_null field.now) result (turn W.written W.has_failed sink.old sink.new) }
+{
+    if field.is_empty() {
+        put_all(sink, b"null")
+    } else {
+        put_string(field, sink)
+    }
+}
+
+/// The digits of a number; `null` where there are none.
+pub(crate) fn number_or_null<'f>(field: &'f [u8]) -> &'f [u8]
+    ensures { result.now ≡ number_or_null field.now }
+{
+    if field.is_empty() { b"null" } else { field }
 }
 
 /// Writes a text as a string before `end`, or `null`. `None`, and nothing of use is written, where it is long, or has a byte that

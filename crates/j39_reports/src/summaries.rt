@@ -7,6 +7,7 @@ pub(crate) mod guesses;
 pub(crate) mod kept;
 pub mod laws;
 pub(crate) mod lines;
+mod objects;
 mod records;
 mod rows;
 

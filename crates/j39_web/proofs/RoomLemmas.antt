@@ -8,6 +8,7 @@ use Rattle.j39_io.specs.Device.{AppendsFront}
 use Rattle.j39_io.specs.declared.device.DeviceFault.{DeviceFault}
 use Rattle.j39_log.specs.Log.{frames_of}
 use Rattle.j39_log.proofs.LogLemmas.{same_log}
+use Rattle.j39_listen.specs.Filter.{no_filter}
 use Rattle.j39_listen.specs.AccountCalls.{MakesOne}
 use Rattle.j39_listen.specs.Output.{Making, Output}
 use Rattle.j39_listen.specs.Run.{Writes, WritesFront, run_bus}
@@ -35,7 +36,7 @@ pub makes_one : (writing : Writing) (rows : List RowRecord) → MakesOne (makes 
 makes_one Report rows = report_one rows
 makes_one Records rows = λ bus F x y (a, made_a, is_a) (b, made_b, is_b).
     ap (λ (o : Output). o.text) is_a ∙ ap (λ t. header_text ++ t) (report_one_in entry_record rows bus F a b made_a made_b) ∙ sym (ap (λ (o : Output). o.text) is_b)
-makes_one Summary rows = records_one rows
+makes_one Summary rows = records_one no_filter rows
 makes_one Faults rows = news_one (record { rows = rows; which = news })
 makes_one (Series of) rows = report_one_in (series_form of) rows
 

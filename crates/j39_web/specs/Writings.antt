@@ -2,6 +2,7 @@
 use Rattle.j39_groups.specs.Row.{RowRecord}
 use Rattle.std.specs.Prelude.{List}
 use Rattle.j39_listen.specs.Asking.{AsksForBoxes, Wanting}
+use Rattle.j39_listen.specs.Filter.{no_filter}
 use Rattle.j39_listen.specs.Headed.{Headed}
 use Rattle.j39_listen.specs.Output.{Making, MakesReport}
 use Rattle.j39_listen.specs.declared.format.Format.TheVariants.{Line, Record}
@@ -23,7 +24,7 @@ MakesTable rows = Headed header_text (MakesRecords rows)
 abbrev pub makes : Writing → List RowRecord → Making
 makes Report = MakesReport
 makes Records = MakesTable
-makes Summary = MakesSummary Record
+makes Summary = MakesSummary Record no_filter
 makes Faults = λ rows. MakesFaults Line rows news
 makes (Series of) = MakesSeries of
 
@@ -31,6 +32,6 @@ makes (Series of) = MakesSeries of
 abbrev pub asks : Writing → List RowRecord → Wanting
 asks Report = λ rows. AsksForBoxes
 asks Records = λ rows. AsksForBoxes
-asks Summary = AsksForRows
+asks Summary = AsksForRows no_filter
 asks Faults = λ rows. AsksForFaults
 asks (Series of) = λ rows. AsksForBoxes

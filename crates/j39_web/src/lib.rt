@@ -1,13 +1,14 @@
 //! What a web page calls: each call makes a text of a log, in room that the page lends.
 #![tactic(auto)]
 
-ghost use Rattle.std.specs.Prelude.{◌≡◌, ◌≢◌, ◌<◌, ◌≤◌, ◌↔◌, ◌⊎◌, ◌∷◌, [], ⊤, length, take};
+ghost use Rattle.std.specs.Prelude.{◌≡◌, ◌≢◌, ◌<◌, ◌≤◌, ◌↔◌, ◌⊎◌, ◌∷◌, [], None, ⊤, length, take};
 ghost use Rattle.j39_address.specs.Name.{fields_of};
 ghost use Rattle.j39_reports.specs.FaultAsking.{AsksForFaults};
 ghost use Rattle.j39_reports.specs.FaultRun.{MakesFaults};
 ghost use Rattle.j39_reports.specs.News.{news};
 ghost use Rattle.j39_groups.specs.Printed.{rows_text};
 ghost use Rattle.j39_listen.specs.Asking.{AsksForBoxes};
+ghost use Rattle.j39_listen.specs.Filter.{no_filter};
 ghost use Rattle.j39_listen.specs.Headed.{MakesNodes};
 ghost use Rattle.j39_listen.specs.Output.{MakesReport};
 ghost use Rattle.j39_listen.specs.declared.format.Format.TheVariants.{Line, Record};
@@ -129,8 +130,8 @@ pub extern "C" fn j39_summary(
 ) -> u32
     // What is written is the summary of the log's report. Memory is wanted at a frame that announces a message, and
     // where a value is the first of its parameter, or a text.
-    ensures { Tells (ByTable table.now) (MakesSummary Record)
-        (λ rows. AsksSomewhere (AsksForRows rows) (given_bus bus.now) log.now)
+    ensures { Tells (ByTable table.now) (MakesSummary Record no_filter)
+        (λ rows. AsksSomewhere (AsksForRows no_filter rows) (given_bus bus.now) log.now)
         log.now bus.now table.now room.old room.new text.old text.new result }
 {
     tell(alloc, Writing::Summary, log, bus, table, room, text)
@@ -161,11 +162,11 @@ pub extern "C" fn j39_faults(
 #[unsafe(no_mangle)]
 pub extern "C" fn j39_nodes(log: &[u8], bus: &[u8], room: &mut [u8], text: &mut LogText) -> u32
     // What stands at the front of the room is who holds an address after the log's frames, and nothing else.
-    ensures nodes { result ≡ done → IsMade (MakesNodes Line) (given_bus bus.now) log.now text.new room.new }
+    ensures nodes { result ≡ done → IsMade (MakesNodes Line None) (given_bus bus.now) log.now text.new room.new }
 
     // The room is too small exactly where that text has as many bytes, or more.
     ensures fits { result ≡ done → text.new.bytes < length room.new }
-    ensures too_small { result ≡ too_small → Overflows (MakesNodes Line) (given_bus bus.now) log.now room.new }
+    ensures too_small { result ≡ too_small → Overflows (MakesNodes Line None) (given_bus bus.now) log.now room.new }
 
     ensures bus { (result ≡ wrong_bus) ↔ IsWrongBus bus.now }
     ensures answers { result ≤ wrong_bus }

@@ -1,5 +1,5 @@
 //! What is made of a log, in the room of a page.
-ghost use Rattle.std.specs.Prelude.{◌≡◌, ◌≢◌, ◌<◌, length, take, IfErr, IfOk, OnErr, OnOk, Ok, Err};
+ghost use Rattle.std.specs.Prelude.{◌≡◌, ◌≢◌, ◌<◌, length, take, IfErr, IfOk, None, OnErr, OnOk, Ok, Err};
 ghost use Rattle.j39_groups.specs.Printed.{rows_text};
 ghost use Rattle.j39_listen.specs.Headed.{MakesNodes};
 ghost use Rattle.j39_listen.specs.declared.format.Format.TheVariants.{Line};
@@ -15,7 +15,7 @@ use crate::room::{LogBytes, Room};
 use crate::writing::Writing;
 use j39_groups::Groups;
 use j39_io::{DeviceFault, put_all};
-use j39_listen::{Counts, RunFault};
+use j39_listen::{Counts, Format, RunFault};
 use j39_log::Bus;
 use j39_table::TableFault;
 use std::alloc::{AllocError, Global};
@@ -97,14 +97,15 @@ pub fn values(
 
 /// Writes who holds which address at the end of a log.
 pub fn nodes(log: &[u8], bus: Option<Bus>, room: &mut [u8]) -> Result<LogText, Refusal>
-    ensures nodes { IfOk result (λ text. IsMade (MakesNodes Line) bus log.now text room.new) }
+    ensures nodes { IfOk result (λ text. IsMade (MakesNodes Line None) bus log.now text room.new) }
     ensures fits { IfOk result (λ text. text.bytes < length room.new) }
-    ensures too_small { result ≡ Err TooSmall → Overflows (MakesNodes Line) bus log.now room.new }
+    ensures too_small { result ≡ Err TooSmall → Overflows (MakesNodes Line None) bus log.now room.new }
     ensures memory { result ≢ Err Memory }
 {
     let mut source = LogBytes::new(log);
     let mut sink = Room::new(room);
-    let ran = j39_listen::nodes(&mut source, &mut sink, bus, log.len() as u64);
+    let limit = log.len() as u64;
+    let ran = j39_listen::nodes(Format::Line, None, &mut source, &mut sink, bus, limit);
     told(ran, &sink)
 }
 

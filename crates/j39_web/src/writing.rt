@@ -46,7 +46,16 @@ impl Writing {
         match self {
             Writing::Report => run_with(alloc, groups, source, sink, bus, limit),
             Writing::Records => report_csv(alloc, groups, source, sink, bus, limit),
-            Writing::Summary => summary(alloc, groups, Format::Record, source, sink, bus, limit),
+            Writing::Summary => summary(
+                alloc,
+                groups,
+                None,
+                Format::Record,
+                source,
+                sink,
+                bus,
+                limit,
+            ),
             Writing::Faults => {
                 let choice = Choice {
                     telling: Telling::News,

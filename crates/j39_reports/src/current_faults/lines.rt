@@ -1,14 +1,16 @@
-//! The lines of the faults that are there now, or the records.
-ghost use Rattle.std.specs.Prelude.{◌≡◌, ◌<◌, ◌∷◌, [], IfOk, Some, length};
+//! The lines of the faults that are there now, the records, or the objects.
+ghost use Rattle.std.specs.Prelude.{◌≡◌, ◌<◌, ◌≤◌, ◌+◌, ◌++◌, ◌∷◌, [], IfOk, Some, length};
+ghost use Rattle.arrayvec.specs.ArrayVec.{array_vec_len};
+ghost use Rattle.j39_frame.specs.Stamp.{stamp_micros};
 ghost use Rattle.j39_io.specs.Puts.{Puts};
 ghost use Rattle.j39_io.specs.Turn.{turn};
 ghost use Rattle.j39_listen.specs.Counting.{capped};
-ghost use Rattle.j39_listen.specs.declared.format.Format.TheVariants.{Line, Record};
-ghost use Rattle.j39_reports.specs.FaultsNowRun.{now_head, now_text};
+ghost use Rattle.j39_listen.specs.declared.format.Format.TheVariants.{Line, Object, Record};
+ghost use Rattle.j39_reports.specs.FaultsNowRun.{controller_members, first_members, last_members, now_head, now_text};
 ghost use Rattle.j39_reports.specs.CurrentPlaces.{at, standing_record};
 ghost use Rattle.j39_reports.specs.CurrentSoFar.{now_shown, nows_shown, shown_below};
 
-use crate::columns::{push_behind, push_moment};
+use crate::columns::{push_behind, push_moment, push_utc_string};
 use crate::current_faults::last_active::LastActive;
 use crate::current_faults::places::{Places, SOURCES};
 use crate::current_faults::standing::Standing;
@@ -17,13 +19,17 @@ use crate::fault_news::lines::put_fault;
 use arrayvec::ArrayVec;
 use j39_address::Name;
 use j39_faults::{Kind, State};
-use j39_io::printing::{push_bytes, push_hex};
+use j39_frame::Stamp;
+use j39_io::printing::{push_bytes, push_hex, push_number};
 use j39_io::{DeviceFault, Sink};
-use j39_listen::{Format, push_name, push_name_or_dashes};
+use j39_listen::{
+    Format, push_address_string, push_name, push_name_or_dashes, push_name_or_null,
+    push_seconds_number,
+};
 use j39_log::push_stamp;
 
 /// What a line begins with, or a record.
-type Head = ArrayVec<u8, 160>;
+type Head = ArrayVec<u8, 256>;
 
 /// Writes what stands at each address, in their order, and answers how many lines that is.
 pub(crate) fn put_places<W: Sink>(
@@ -105,6 +111,7 @@ fn head_of(form: Format, address: u8, last: &LastActive, standing: Standing) -> 
     match form {
         Format::Line => line_head(address, last, standing),
         Format::Record => record_head(address, last, standing),
+        Format::Object => object_head(address, last, standing),
     }
 }
 
@@ -138,4 +145,53 @@ fn record_head(address: u8, last: &LastActive, standing: Standing) -> Head
     push_behind(&mut head, b',', standing.often);
     head.push(b',');
     head
+}
+
+#[tactic(auto, using(crate::proofs::NumberLemmas::short_decimal))]
+fn object_head(address: u8, last: &LastActive, standing: Standing) -> Head
+    ensures { result.items ≡ now_head Object (now_shown address last.now (standing_record standing)) }
+{
+    let mut head = ArrayVec::new();
+    push_first_members(&mut head, standing.since);
+    push_controller_members(&mut head, address, last.name.map(Name::raw));
+    push_last_members(&mut head, last.stamp);
+    push_bytes(&mut head, b",\"messages\":");
+    push_number(&mut head, standing.often);
+    head
+}
+
+/// Appends since when a code stands.
+fn push_first_members(head: &mut Head, stamp: Stamp)
+    requires { array_vec_len head.old + 80 ≤ 256 }
+    ensures items { head.new.items ≡ head.old.items ++ first_members (stamp_micros stamp) }
+    ensures len { array_vec_len head.new ≤ array_vec_len head.old + 80 }
+{
+    push_bytes(head, b"{\"first_stamp\":");
+    push_seconds_number(head, stamp);
+    push_bytes(head, b",\"first_utc\":");
+    push_utc_string(head, stamp);
+}
+
+/// Appends the address and the NAME.
+fn push_controller_members(head: &mut Head, address: u8, name: Option<u64>)
+    requires { array_vec_len head.old + 48 ≤ 256 }
+    ensures items { head.new.items ≡ head.old.items ++ controller_members address name }
+    ensures len { array_vec_len head.new ≤ array_vec_len head.old + 48 }
+{
+    push_bytes(head, b",\"address\":");
+    push_address_string(head, address);
+    push_bytes(head, b",\"name\":");
+    push_name_or_null(head, name);
+}
+
+/// Appends when the last message came.
+fn push_last_members(head: &mut Head, stamp: Stamp)
+    requires { array_vec_len head.old + 80 ≤ 256 }
+    ensures items { head.new.items ≡ head.old.items ++ last_members (stamp_micros stamp) }
+    ensures len { array_vec_len head.new ≤ array_vec_len head.old + 80 }
+{
+    push_bytes(head, b",\"last_stamp\":");
+    push_seconds_number(head, stamp);
+    push_bytes(head, b",\"last_utc\":");
+    push_utc_string(head, stamp);
 }

@@ -20,8 +20,8 @@ use std::alloc::Global;
 const COLUMNS: &[u8] =
     b"first_stamp,first_utc,address,name,last_stamp,last_utc,messages,state,spn,fmi,count,lamps,parameter,meaning\r\n";
 
-/// Writes which faults are there at the end of a log of at most `limit` bytes: a line, or a record of comma-separated
-/// values (RFC 4180), for each code that the last message of DM1 of each controller names, or one that it names none, in
+/// Writes which faults are there at the end of a log of at most `limit` bytes: a line, a record of comma-separated
+/// values (RFC 4180), or an object (RFC 8259), for each code that the last message of DM1 of each controller names, or one that it names none, in
 /// the order of their addresses; since when, and in how many messages one behind the other. The names of the columns of
 /// records are written before the log is read. Without a bus it is that of the first frame in the log.
 pub fn faults_now<R: Source, W: Sink>(
@@ -52,6 +52,10 @@ pub fn faults_now<R: Source, W: Sink>(
         }
         Format::Record => {
             let (ran, account) = run_headed_keeping(COLUMNS, account, source, sink, bus, limit);
+            counted(ran, account.broken())
+        }
+        Format::Object => {
+            let (ran, account) = run_keeping(account, source, sink, bus, limit);
             counted(ran, account.broken())
         }
     }

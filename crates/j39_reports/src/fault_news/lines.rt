@@ -1,4 +1,4 @@
-//! The lines of a message of faults, or its records.
+//! The lines of a message of faults, its records, or its objects.
 ghost use Rattle.std.specs.Prelude.{◌≡◌, ◌++◌, IfOk, Some, length, option_map};
 ghost use Rattle.std.specs.List.{flat_map};
 ghost use Rattle.j39_io.specs.Puts.{Puts};
@@ -9,13 +9,14 @@ ghost use Rattle.j39_faults.specs.declared.text.State.TheVariants.{Is};
 ghost use Rattle.j39_frame.specs.Stamp.{stamp_micros};
 ghost use Rattle.j39_listen.specs.HeardModel.{hearing_of};
 ghost use Rattle.j39_reports.specs.Faults.{faults_by, head_text, said_text};
-ghost use Rattle.j39_reports.specs.FaultRecords.{faults_text, head_fields};
+ghost use Rattle.j39_reports.specs.FaultRecords.{faults_text, head_fields, head_members};
 ghost use Rattle.j39_reports.specs.FaultsSoFar.{clearing_in, head_in, line_of, said_in};
 ghost use Rattle.j39_listen.specs.declared.format.Format.TheVariants.{Line, Record};
 
-use crate::columns::heard_fields;
+use crate::columns::{heard_fields, push_moment_members, push_sender_members};
 use crate::fault_news::form::{Said, Writing};
 use crate::fault_news::names::name_in;
+use crate::fault_news::objects::{put_clearing_object, put_members};
 use crate::fault_news::records::put_fields;
 use crate::summaries::lines::push_destination;
 use arrayvec::ArrayVec;
@@ -30,7 +31,7 @@ use j39_listen::{Format, Heard, push_name_or_dashes};
 use j39_log::push_stamp;
 
 /// What the lines of a message begin with, or its records.
-type Head = ArrayVec<u8, 88>;
+type Head = ArrayVec<u8, 128>;
 
 /// Writes a line for each code of a message, by this version of the conversion, or one that says that it has none, and
 /// answers how many.
@@ -105,6 +106,7 @@ pub(crate) fn put_fault<W: Sink>(
     match writing.form {
         Format::Line => put_words(writing.groups, said, sink),
         Format::Record => put_fields(writing.groups, said, sink),
+        Format::Object => put_members(writing.groups, said, sink),
     }
 }
 
@@ -148,6 +150,7 @@ pub(crate) fn put_clearing<W: Sink>(
     match form {
         Format::Line => put_clearing_line(kind, sink),
         Format::Record => put_clearing_record(kind, sink),
+        Format::Object => put_clearing_object(kind, sink),
     }
 }
 
@@ -173,6 +176,7 @@ pub(crate) fn head_of(form: Format, heard: &Heard<'_>) -> Head
     match form {
         Format::Line => line_head(heard),
         Format::Record => record_head(heard),
+        Format::Object => object_head(heard),
     }
 }
 
@@ -199,5 +203,21 @@ fn record_head(heard: &Heard<'_>) -> Head
 {
     let mut head = heard_fields(heard);
     head.push(b',');
+    head
+}
+
+/// The moment, the address, the destination and the NAME.
+fn object_head(heard: &Heard<'_>) -> Head
+    ensures { result.items ≡ head_members (stamp_micros heard.now.message.stamp) heard.now.message.source
+        heard.now.destination (option_map name_raw heard.now.name) }
+{
+    let mut head = ArrayVec::new();
+    push_moment_members(&mut head, heard.message.stamp);
+    push_sender_members(
+        &mut head,
+        heard.message.source,
+        heard.destination,
+        heard.name.map(Name::raw),
+    );
     head
 }

@@ -54,7 +54,7 @@ fn put_fields_with<W: Sink>(said: Said, parameter: &[u8], sink: &mut W) -> Resul
 }
 
 /// The parameter's number, where it is known.
-fn spn_field(code: Option<Code>) -> Field
+pub(crate) fn spn_field(code: Option<Code>) -> Field
     ensures { result.items ≡ spn_field code }
 {
     match code {
@@ -73,7 +73,7 @@ fn spn_of(parameter: Parameter) -> Field
 }
 
 /// What is wrong, by its number.
-fn fmi_field(code: Option<Code>) -> Field
+pub(crate) fn fmi_field(code: Option<Code>) -> Field
     ensures { result.items ≡ fmi_field code }
 {
     match code {
@@ -83,7 +83,7 @@ fn fmi_field(code: Option<Code>) -> Field
 }
 
 /// How often it came, where that is available.
-fn count_field(code: Option<Code>) -> Field
+pub(crate) fn count_field(code: Option<Code>) -> Field
     ensures { result.items ≡ count_field code }
 {
     match code {
@@ -102,7 +102,11 @@ fn number_or_none(number: Option<u8>) -> Field
 }
 
 /// What the table calls the parameter, or else the words for it.
-fn parameter_field<'r>(groups: &'r Groups<'_>, code: Option<Code>, words: &'r [u8]) -> &'r [u8]
+pub(crate) fn parameter_field<'r>(
+    groups: &'r Groups<'_>,
+    code: Option<Code>,
+    words: &'r [u8],
+) -> &'r [u8]
     requires { words.now ≡ unnamed code }
     ensures { result.now ≡ parameter_field groups.now code }
 {
@@ -116,7 +120,7 @@ fn parameter_field<'r>(groups: &'r Groups<'_>, code: Option<Code>, words: &'r [u
 }
 
 /// What stands for a name: a word and the parameter's number, or its candidates.
-fn unnamed(code: Option<Code>) -> ParameterWords
+pub(crate) fn unnamed(code: Option<Code>) -> ParameterWords
     ensures { result.items ≡ unnamed code }
 {
     match code {
@@ -126,7 +130,7 @@ fn unnamed(code: Option<Code>) -> ParameterWords
 }
 
 /// What it means, or that there is none.
-fn meaning_field(code: &Option<Code>) -> &[u8]
+pub(crate) fn meaning_field(code: &Option<Code>) -> &[u8]
     ensures { result.now ≡ meaning_field code.now }
 {
     match code {

@@ -36,8 +36,8 @@ pub struct FaultCounts {
     pub broken: u64,
 }
 
-/// Writes the fault codes in a log of at most `limit` bytes: a line, or a record of comma-separated values (RFC 4180),
-/// for each code that is told of a message of faults, with the name that a table of parameters has for its parameter; one
+/// Writes the fault codes in a log of at most `limit` bytes: a line, a record of comma-separated values (RFC 4180),
+/// or an object (RFC 8259), for each code that is told of a message of faults, with the name that a table of parameters has for its parameter; one
 /// too for a message whose codes are told, and that has none. The names of the columns of records are written before the
 /// log is read. Without a bus it is that of the first frame in the log.
 pub fn faults<R: Source, W: Sink>(
@@ -69,6 +69,10 @@ pub fn faults<R: Source, W: Sink>(
         Format::Record => {
             let columns = columns_of(choice.telling);
             let (ran, news) = run_headed_keeping(columns, account, source, sink, bus, limit);
+            counted(ran, news.broken())
+        }
+        Format::Object => {
+            let (ran, news) = run_keeping(account, source, sink, bus, limit);
             counted(ran, news.broken())
         }
     }

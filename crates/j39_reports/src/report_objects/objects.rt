@@ -12,7 +12,7 @@ ghost use Rattle.j39_reports.specs.EntryObject.{group_member, opening_text, para
 ghost use Rattle.j39_reports.specs.MessageObjects.{opened};
 ghost use Rattle.j39_reports.specs.Json.{bytes_member, string_or_null, string_text};
 
-use crate::json::{put_bytes_member, put_string, put_string_or_null};
+use crate::json::{put_bytes_under, put_string, put_string_or_null};
 use crate::report_objects::opening::{HEAD, Opening, group_before, moment_before, sender_before};
 use crate::report_objects::quick_object::{OBJECT, object_before, unit_in};
 use crate::report_records::digits_before;
@@ -252,7 +252,11 @@ fn put_value_members<W: Sink>(
 }
 
 /// Writes a key and a text.
-fn put_member<W: Sink>(key: &[u8], text: Option<&[u8]>, sink: &mut W) -> Result<(), DeviceFault>
+pub(crate) fn put_member<W: Sink>(
+    key: &[u8],
+    text: Option<&[u8]>,
+    sink: &mut W,
+) -> Result<(), DeviceFault>
     ensures { Puts (key.now ++ string_or_null (option_map (λ bytes. bytes.now) text.entry)) result
         (turn W.written W.has_failed sink.old sink.new) }
 {
@@ -290,7 +294,7 @@ fn put_text<W: Sink>(text: &[u8], sink: &mut W) -> Result<(), DeviceFault>
     ensures { Puts (string_text text.now ++ bytes_member text.now) result (turn W.written W.has_failed sink.old sink.new) }
 {
     put_string(text, sink)?;
-    put_bytes_member(text, sink)
+    put_bytes_under(b",\"bytes\":", text, sink)
 }
 
 /// The key and the number of a parameter.

@@ -1,11 +1,11 @@
 //! What the objects of a message begin with, written backwards.
+ghost use Rattle.j39_listen.specs.Members.{address_string, name_string, or_null};
 ghost use Rattle.std.specs.Prelude.{◌≡◌, ◌+◌, ◌≤◌, IfSome, drop, length};
 ghost use Rattle.std.specs.Option.{option_map};
 ghost use Rattle.j39_address.specs.Name.{name_raw};
 ghost use Rattle.j39_io.specs.Backwards.{WritesBefore};
 ghost use Rattle.j39_frame.specs.Stamp.{stamp_micros};
-ghost use Rattle.j39_reports.specs.EntryObject.{address_string, group_member, moment_members, name_string, sender_members};
-ghost use Rattle.j39_reports.specs.Json.{or_null};
+ghost use Rattle.j39_reports.specs.EntryObject.{group_member, moment_members, sender_members};
 
 use crate::json::string_or_null_before;
 use crate::second::Second;

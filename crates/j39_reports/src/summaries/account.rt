@@ -1,5 +1,5 @@
 //! The summary of the report of a log: the run that writes it, and the account of frames that it writes.
-ghost use Rattle.std.specs.Prelude.{◌≡◌, ◌<◌, [], List};
+ghost use Rattle.std.specs.Prelude.{◌≡◌, ◌<◌, ◌++◌, ◌∷◌, [], List};
 ghost use Rattle.std.specs.Prelude.{IfOk, OnErr, Err};
 ghost use Rattle.j39_memory.specs.ByOrigin.{pairs_of};
 ghost use Rattle.j39_frame.specs.Frame.{FrameRecord};
@@ -7,6 +7,8 @@ ghost use Rattle.j39_frame.specs.Identifier.{pgn_of};
 ghost use Rattle.j39_groups.specs.Readings.{is_reported_in};
 ghost use Rattle.std.specs.List.{flat_map};
 ghost use Rattle.j39_io.specs.Turn.{turn};
+ghost use Rattle.j39_listen.specs.Chooses.{Chooses, which_of};
+ghost use Rattle.j39_listen.specs.Filter.{FilterRecord, first_stamp, messages_taken};
 ghost use Rattle.j39_listen.specs.Headed.{begins_flushed};
 ghost use Rattle.j39_listen.specs.Heard.{AreHeard, Hearing};
 ghost use Rattle.j39_listen.specs.Listening.{Hears};
@@ -25,37 +27,41 @@ use j39_frame::Frame;
 use j39_groups::{Groups, is_network_group};
 use j39_io::{DeviceFault, Sink, Source};
 use j39_listen::{
-    Account, Counts, Format, LineFault, Listener, Made, RunFault, run_headed, run_over,
+    Account, Chooser, Counts, Filter, Format, LineFault, Listener, Made, RunFault, run_headed,
+    run_over,
 };
 use j39_log::Bus;
 use std::alloc::{AllocError, Global};
 
-/// Writes the summary of a log of at most `limit` bytes by a table of parameters: a line, or a record of
-/// comma-separated values (RFC 4180), for each parameter that a controller on the bus reported, in the order of their
+/// Writes the summary of a log of at most `limit` bytes by a table of parameters: a line, a record of
+/// comma-separated values (RFC 4180), or an object (RFC 8259), for each parameter that a controller on the bus reported, in the order of their
 /// first values. The names of the columns of records are written before the log is read. Without a bus it is that of
 /// the first frame in the log.
 pub fn summary<R: Source, W: Sink>(
     alloc: Global,
     groups: &Groups<'_>,
+    filter: Option<Filter<'_>>,
     format: Format,
     source: &mut R,
     sink: &mut W,
     bus: Option<Bus>,
     limit: u64,
 ) -> Result<Counts, RunFault>
-    // What the run promises is `Ran`: what is written is the summary of the log's report, and nothing else. Memory is
+    // What the run promises is `Ran`: what is written is the summary of what the filter takes of the log's report, of all of it
+    // without one, and nothing else. Memory is
     // wanted only at a frame that announces a message, and at one where a message is heard that has a value of a
     // parameter without a row, or a text, or a parameter that is not available for the first time.
-    ensures ran { Ran (MakesSummary format groups.now) (AsksForRows groups.now) bus limit result
+    ensures ran { Ran (MakesSummary format (which_of filter.entry) groups.now) (AsksForRows (which_of filter.entry) groups.now) bus limit result
         (turn R.remaining R.has_failed source.old source.new) (turn W.written W.has_failed sink.old sink.new) }
 
     // What was written is passed on at the end, and before each read, the names of the columns before the first.
     ensures flushed { PassesOn result (begins_flushed format (W.is_flushed sink.old)) (W.is_flushed sink.new) }
 {
-    let account = SummaryAccount::new(alloc, groups, format);
+    let account = SummaryAccount::new(alloc, groups, filter, format);
     match format {
         Format::Line => run_over(account, source, sink, bus, limit),
         Format::Record => run_headed(COLUMNS, account, source, sink, bus, limit),
+        Format::Object => run_over(account, source, sink, bus, limit),
     }
 }
 
@@ -68,6 +74,7 @@ const COLUMNS: &[u8] =
 pub(crate) struct SummaryAccount<'g, 't> {
     groups: &'g Groups<'t>,
     form: Format,
+    chooser: Chooser<'g>,
     listener: Listener,
     rows: Rows<'t>,
     messages: u64,
@@ -75,12 +82,18 @@ pub(crate) struct SummaryAccount<'g, 't> {
 
 impl<'g, 't> SummaryAccount<'g, 't> {
     /// The summary of no frames.
-    pub fn new(alloc: Global, groups: &'g Groups<'t>, form: Format) -> SummaryAccount<'g, 't>
-        ensures { HasSummed form groups.entry.now result [] nothing }
+    pub fn new(
+        alloc: Global,
+        groups: &'g Groups<'t>,
+        filter: Option<Filter<'g>>,
+        form: Format,
+    ) -> SummaryAccount<'g, 't>
+        ensures { HasSummed form (which_of filter.entry) groups.entry.now result [] nothing }
     {
         SummaryAccount {
             groups,
             form,
+            chooser: Chooser::new(filter),
             listener: Listener::new(alloc),
             rows: Rows::new(alloc),
             messages: 0,
@@ -89,23 +102,21 @@ impl<'g, 't> SummaryAccount<'g, 't> {
 }
 
 impl<'g, 't> Account for SummaryAccount<'g, 't> {
-    ghost use Rattle.std.specs.Prelude.{List};
-    ghost use Rattle.j39_groups.specs.Row.{RowRecord};
-    ghost use Rattle.j39_reports.specs.SummarySoFar.{HasSummed};
+    ghost use Rattle.j39_reports.specs.SummarySoFar.{HasSummed, SummaryAsked};
     ghost use Rattle.j39_reports.specs.SummaryRun.{AsksForRows, MakesSummaryIn};
-    ghost use Rattle.j39_listen.specs.declared.format.Format.{Format};
 
-    ghost Subject = { Format × List RowRecord };
+    ghost Subject = { SummaryAsked };
 
-    ghost has_met = { λ subject bus. HasSummed subject.0 subject.1 };
+    ghost has_met = { λ subject bus. HasSummed subject.form subject.which subject.rows };
 
-    ghost makes = { λ subject. MakesSummaryIn subject.0 subject.1 };
+    ghost makes = { λ subject. MakesSummaryIn subject.form subject.which subject.rows };
 
-    ghost asks = { λ subject. AsksForRows subject.1 };
+    ghost asks = { λ subject. AsksForRows subject.which subject.rows };
 
     /// Most frames are of groups that nobody hears: those are done with here, and leave all as it was.
     #[inline(always)]
     fn feed<W: Sink>(&mut self, _: &Bus, frame: &Frame, _: &mut W) -> Result<(), LineFault> {
+        self.chooser.note(frame);
         let is_single = self.groups.is_reported(frame.id.pgn());
         if !is_single && !is_network_group(frame.id.pgn()) {
             self.messages = self.messages.saturating_add(0);
@@ -114,6 +125,7 @@ impl<'g, 't> Account for SummaryAccount<'g, 't> {
         match note(
             &mut self.listener,
             self.groups,
+            &self.chooser,
             &mut self.rows,
             is_single,
             frame,
@@ -143,24 +155,32 @@ impl<'g, 't> Account for SummaryAccount<'g, 't> {
 fn note<'t>(
     listener: &mut Listener,
     groups: &Groups<'t>,
+    chooser: &Chooser<'_>,
     rows: &mut Rows<'t>,
     is_single: bool,
     frame: &Frame,
 ) -> Result<u64, AllocError>
     requires { is_single ≡ is_reported_in groups.now (pgn_of frame.now.id) }
-    ensures noted { IfOk result (λ messages. (F : List FrameRecord) (before : List Entry) → Hears listener.old F
+    ensures noted { IfOk result (λ messages. (which : FilterRecord) (F : List FrameRecord) (before : List Entry)
+        → Hears listener.old F → Chooses which chooser.now (F ++ frame.now ∷ [])
         → AreRowsOf (pairs_of rows.old.rows) before → (absent : List Origin)
         → AreCounted (pairs_of rows.old.absences.counts) absent
-        → NotesFrame groups.now F frame.now listener.new rows.new before absent messages) }
-    ensures asked { OnErr result ((F : List FrameRecord) (heard : List Hearing) → Hears listener.old F
-        → AreHeard groups.now F heard → AreRowsOf (pairs_of rows.old.rows) (flat_map (entries_of groups.now) heard)
-        → AreCounted (pairs_of rows.old.absences.counts) (flat_map (absences_of groups.now) heard)
-        → AsksForRows groups.now F frame.now) }
+        → NotesFrame which groups.now F frame.now listener.new rows.new before absent messages) }
+    ensures asked { OnErr result ((which : FilterRecord) (F : List FrameRecord) (heard : List Hearing)
+        → Hears listener.old F → Chooses which chooser.now (F ++ frame.now ∷ []) → AreHeard groups.now F heard
+        → AreRowsOf (pairs_of rows.old.rows)
+        (flat_map (entries_of groups.now) (messages_taken which (first_stamp F) heard))
+        → AreCounted (pairs_of rows.old.absences.counts)
+        (flat_map (absences_of groups.now) (messages_taken which (first_stamp F) heard))
+        → AsksForRows which groups.now F frame.now) }
 {
     match listener.feed_as(is_single, frame) {
         Err(AllocError) => Err(AllocError),
         Ok(None) => Ok(0),
         Ok(Some(heard)) => {
+            if !chooser.takes(&heard) {
+                return Ok(1);
+            }
             rows.begin(&heard);
             match groups.visit(heard.message.pgn, heard.message.payload, rows, &mut ()) {
                 Ok(()) => Ok(1),

@@ -3,6 +3,7 @@ ghost use Rattle.std.specs.Prelude.{◌≡◌, ◌∷◌, ℕ, ℤ, List, IfSome
 ghost use Rattle.std.specs.List.{list_any};
 ghost use Rattle.j39_frame.specs.Frame.{FrameRecord};
 ghost use Rattle.j39_groups.specs.Row.{RowRecord};
+ghost use Rattle.j39_listen.specs.Filter.{FilterRecord};
 ghost use Rattle.j39_listen.specs.Output.{Output};
 ghost use Rattle.j39_listen.specs.Report.{Entry};
 ghost use Rattle.j39_listen.specs.declared.format.Format.TheVariants.{Line};
@@ -12,12 +13,12 @@ ghost use Rattle.j39_reports.specs.Summary.{AreApart, Number, comparable_with, f
 
 use j39_listen::laws::{one_report, some_report};
 
-/// By each table a list of frames has one summary in lines: at most one, and at least one.
+/// By each table and filter a list of frames has one summary in lines: at most one, and at least one.
 pub fn one_summary()
-    ensures at_most { (groups : List RowRecord) (bus : List ℕ) (F : List FrameRecord) (x y : Output)
-        → MakesSummary Line groups bus F x → MakesSummary Line groups bus F y → x ≡ y }
-    ensures at_least { (groups : List RowRecord) (bus : List ℕ) (F : List FrameRecord)
-        → (x : Output) × MakesSummary Line groups bus F x }
+    ensures at_most { (which : FilterRecord) (groups : List RowRecord) (bus : List ℕ) (F : List FrameRecord) (x y : Output)
+        → MakesSummary Line which groups bus F x → MakesSummary Line which groups bus F y → x ≡ y }
+    ensures at_least { (which : FilterRecord) (groups : List RowRecord) (bus : List ℕ) (F : List FrameRecord)
+        → (x : Output) × MakesSummary Line which groups bus F x }
 {
     one_report();
     some_report();

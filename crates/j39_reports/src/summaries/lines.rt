@@ -1,4 +1,4 @@
-//! The rows of a summary, as lines or as records.
+//! The rows of a summary, as lines, as records or as objects.
 ghost use Rattle.std.specs.Prelude.{◌≡◌, ◌+◌, ◌≤◌, ◌++◌, ◌∷◌, [], Some, codes, map};
 ghost use Rattle.arrayvec.specs.ArrayVec.{array_vec_len};
 ghost use Rattle.std.specs.Option.{option_map};
@@ -7,7 +7,7 @@ ghost use Rattle.j39_io.specs.Turn.{turn};
 ghost use Rattle.j39_memory.specs.ByOrigin.{pairs_of};
 ghost use Rattle.j39_io.specs.Chars.{newline};
 ghost use Rattle.j39_groups.specs.Names.{state_in};
-ghost use Rattle.j39_reports.specs.RowText.{bounds_in, called_in, destination_text, end_in, head_in, line_head, no_range, range_in, row_in, separator_of, state_behind, summary_text, text_as, unit_in, value_as, value_in, values_in};
+ghost use Rattle.j39_reports.specs.RowText.{bounds_in, called_in, destination_text, end_in, head_in, line_head, no_range, range_in, row_in, separator_of, state_behind, summary_text, text_as, unit_in, value_as, value_in, values_in, word_as};
 ghost use Rattle.j39_reports.specs.RowsSoFar.{counted};
 ghost use Rattle.j39_reports.specs.RowModels.{kept_value, range_of_span, row_shown};
 
@@ -15,6 +15,9 @@ use crate::columns::{push_behind, put_last_field};
 use crate::parts::put_parts;
 use crate::summaries::deeds::{Deeds, Span};
 use crate::summaries::kept::Kept;
+use crate::summaries::objects::{
+    put_object_head, put_state_member, put_text_member, put_unit_member,
+};
 use crate::summaries::records::put_record_head;
 use crate::summaries::rows::Rows;
 use arrayvec::ArrayVec;
@@ -77,6 +80,7 @@ fn put_head<W: Sink>(
     match form {
         Format::Line => put_all(sink, line_head_of(origin, deeds, absent).as_slice()),
         Format::Record => put_record_head(origin, deeds, absent, groups, sink),
+        Format::Object => put_object_head(origin, deeds, absent, groups, sink),
     }
 }
 
@@ -123,9 +127,10 @@ fn put_values<W: Sink>(form: Format, deeds: &Deeds<'_>, sink: &mut W) -> Result<
     ensures { Puts (values_in form (option_map range_of_span deeds.now.range) (kept_value deeds.now.first.value) (kept_value deeds.now.last.value))
         result (turn W.written W.has_failed sink.old sink.new) }
 {
+    let (first, last) = (&deeds.first.value, &deeds.last.value);
     put_range(form, &deeds.range, sink)?;
-    put_column(form, &deeds.first.value, sink)?;
-    put_column(form, &deeds.last.value, sink)
+    put_column(form, b",\"first\":", b",\"first_bytes\":", first, sink)?;
+    put_column(form, b",\"last\":", b",\"last_bytes\":", last, sink)
 }
 
 /// Writes the least number, the most and their unit, or what stands where there is no number.
@@ -152,6 +157,7 @@ fn no_range(form: Format) -> &'static [u8]
     match form {
         Format::Line => b" - - -",
         Format::Record => b",,,",
+        Format::Object => b",\"least\":null,\"most\":null,\"unit\":null",
     }
 }
 
@@ -168,10 +174,11 @@ fn put_span<W: Sink>(form: Format, span: &Span<'_>, sink: &mut W) -> Result<(), 
 fn put_bounds<W: Sink>(form: Format, span: &Span<'_>, sink: &mut W) -> Result<(), DeviceFault>
     ensures { Puts (bounds_in form (range_of_span span.now)) result (turn W.written W.has_failed sink.old sink.new) }
 {
-    let between = separator(form);
+    let first = separator(form, b",\"least\":");
     let least = scaled_text(span.least, span.scale.places);
+    let second = separator(form, b",\"most\":");
     let most = scaled_text(span.most, span.scale.places);
-    let parts: [&[u8]; 4] = [between, least.as_slice(), between, most.as_slice()];
+    let parts: [&[u8]; 4] = [first, least.as_slice(), second, most.as_slice()];
     put_parts(&parts, sink)
 }
 
@@ -186,55 +193,90 @@ fn put_unit<W: Sink>(form: Format, unit: &[u8], sink: &mut W) -> Result<(), Devi
             put_parts(&parts, sink)
         }
         Format::Record => put_behind_comma(unit, sink),
+        Format::Object => put_unit_member(unit, sink),
     }
 }
 
 /// Writes a value, behind what stands before a column.
 #[tactic(auto, unfolding(crate::specs::RowText::value_in))]
-fn put_column<W: Sink>(form: Format, kept: &Kept<'_>, sink: &mut W) -> Result<(), DeviceFault>
-    ensures { Puts (value_in form (kept_value kept.now)) result (turn W.written W.has_failed sink.old sink.new) }
+fn put_column<W: Sink>(
+    form: Format,
+    key: &[u8],
+    bytes_key: &[u8],
+    kept: &Kept<'_>,
+    sink: &mut W,
+) -> Result<(), DeviceFault>
+    ensures { Puts (value_in form key.now bytes_key.now (kept_value kept.now))
+        result (turn W.written W.has_failed sink.old sink.new) }
 {
-    put_all(sink, separator(form))?;
-    put_kept(form, kept, sink)
+    put_all(sink, separator(form, key))?;
+    put_kept(form, bytes_key, kept, sink)
 }
 
-/// What stands before a column.
+/// What stands before a column; in an object its key.
 #[tactic(auto, unfolding(crate::specs::RowText::separator_of))]
-fn separator(form: Format) -> &'static [u8]
-    ensures { result.now ≡ separator_of form }
+fn separator<'k>(form: Format, key: &'k [u8]) -> &'k [u8]
+    ensures { result.now ≡ separator_of form key.now }
 {
     match form {
         Format::Line => b" ",
         Format::Record => b",",
+        Format::Object => key,
     }
 }
 
 /// Writes a value: a number without its unit.
-#[tactic(auto, unfolding(j39_groups::specs::ValueText::bare_text, crate::specs::RowText::value_as))]
-fn put_kept<W: Sink>(form: Format, kept: &Kept<'_>, sink: &mut W) -> Result<(), DeviceFault>
-    ensures { Puts (value_as form (kept_value kept.now)) result (turn W.written W.has_failed sink.old sink.new) }
+#[tactic(auto, unfolding(crate::specs::RowText::value_as))]
+fn put_kept<W: Sink>(
+    form: Format,
+    bytes_key: &[u8],
+    kept: &Kept<'_>,
+    sink: &mut W,
+) -> Result<(), DeviceFault>
+    ensures { Puts (value_as form bytes_key.now (kept_value kept.now))
+        result (turn W.written W.has_failed sink.old sink.new) }
 {
     match kept {
         Kept::Number(number, scale) => {
             put_all(sink, scaled_text(*number, scale.places).as_slice())
         }
-        Kept::On => put_value(&Value::On, sink),
-        Kept::Off => put_value(&Value::Off, sink),
-        Kept::Error => put_value(&Value::Error, sink),
-        Kept::Reserved => put_value(&Value::Reserved, sink),
-        Kept::Indicator => put_value(&Value::Indicator, sink),
-        Kept::Text(text) => put_text(form, text.as_slice(), sink),
+        Kept::On => put_word(form, b"on", sink),
+        Kept::Off => put_word(form, b"off", sink),
+        Kept::Error => put_word(form, b"error", sink),
+        Kept::Reserved => put_word(form, b"reserved", sink),
+        Kept::Indicator => put_word(form, b"indicator", sink),
+        Kept::Text(text) => put_text(form, bytes_key, text.as_slice(), sink),
+    }
+}
+
+/// Writes a word that stands for a value.
+fn put_word<W: Sink>(form: Format, word: &[u8], sink: &mut W) -> Result<(), DeviceFault>
+    ensures { Puts (word_as form word.now) result (turn W.written W.has_failed sink.old sink.new) }
+{
+    match form {
+        Format::Line => put_all(sink, word),
+        Format::Record => put_all(sink, word),
+        Format::Object => {
+            let parts: [&[u8]; 3] = [b"\"", word, b"\""];
+            put_parts(&parts, sink)
+        }
     }
 }
 
 /// Writes a text, in a record as a field.
 #[tactic(auto, unfolding(j39_groups::specs::ValueText::value_text, j39_groups::specs::ValueText::value_field))]
-fn put_text<W: Sink>(form: Format, text: &[u8], sink: &mut W) -> Result<(), DeviceFault>
-    ensures { Puts (text_as form text.now) result (turn W.written W.has_failed sink.old sink.new) }
+fn put_text<W: Sink>(
+    form: Format,
+    bytes_key: &[u8],
+    text: &[u8],
+    sink: &mut W,
+) -> Result<(), DeviceFault>
+    ensures { Puts (text_as form bytes_key.now text.now) result (turn W.written W.has_failed sink.old sink.new) }
 {
     match form {
         Format::Line => put_value(&Value::Text(text), sink),
         Format::Record => Value::Text(text).put_field(sink),
+        Format::Object => put_text_member(bytes_key, text, sink),
     }
 }
 
@@ -253,6 +295,7 @@ fn put_end<W: Sink>(
     match form {
         Format::Line => put_name(name_of(groups, origin.pgn, origin.spn), state, sink),
         Format::Record => put_last_field(state.unwrap_or(b""), sink),
+        Format::Object => put_state_member(state, sink),
     }
 }
 

@@ -15,14 +15,18 @@ returns-in-Err-conversions_value c =
       in_range = tt;
     }
 
-pub returns-in-Some : goal.returns-in-Some
-returns-in-Some c =
+pub returns-in-Some-format : goal.returns-in-Some-format
+returns-in-Some-format c =
     let found = found_of c.args.given.now in
     let told = (λ i. told_by (sym c.is_set.ensures i) (sym c.is_set-2.ensures i) (sym c.is_set-3.ensures i)) ∙ sym c.told_by-told.ensures ∙ c.in-Some.is in
+    let written = sym c.format_given-format.ensures ∙ c.in-Some-format.is in
     record {
       answer = input_read (first_value found (codes "bus")) _ _ _ _ c.in-Ok.ensures (λ is_bus is_file.
           value_read _ _ _ (first_value found (codes "conversion")) _ _ _ c.in-Ok-conversions_value.ensures (λ is_versions. record {
-            in_range = λ _. (is_bus, search rules, is_versions, told, c.format_given-format.ensures, is_file);
+            in_range = λ _. record {
+              in_range = λ _. (is_bus, search rules, is_versions, told, written, is_file);
+              wrong = λ none. absurd (none (λ is. (let no : Some c.in-Some-format.format ≡ None = sym written ∙ is in cc)));
+            };
             wrong = λ none. absurd (none (λ is. (let no : Some c.in-Some.told ≡ None = sym told ∙ is in cc)));
           }));
       memory = search rules;
@@ -34,6 +38,24 @@ returns-in-Err c =
     let found = found_of c.args.given.now in
     record {
       answer = input_wrong (first_value found (codes "bus")) _ _ _ c.in-Err.ensures;
+      memory = search rules;
+      in_range = tt;
+    }
+
+pub returns-in-None-format : goal.returns-in-None-format
+returns-in-None-format c =
+    let found = found_of c.args.given.now in
+    let told = (λ i. told_by (sym c.is_set.ensures i) (sym c.is_set-2.ensures i) (sym c.is_set-3.ensures i)) ∙ sym c.told_by-told.ensures ∙ c.in-Some.is in
+    let none = sym c.format_given-format.ensures ∙ c.in-None-format.is in
+    record {
+      answer = input_read (first_value found (codes "bus")) _ _ _ _ c.in-Ok.ensures (λ is_bus is_file.
+          value_read _ _ _ (first_value found (codes "conversion")) _ _ _ c.in-Ok-conversions_value.ensures (λ is_versions. record {
+            in_range = λ _. record {
+              in_range = λ some. absurd (some none);
+              wrong = λ _. search rules;
+            };
+            wrong = λ none_told. absurd (none_told (λ is. (let no : Some c.in-Some.told ≡ None = sym told ∙ is in cc)));
+          }));
       memory = search rules;
       in_range = tt;
     }

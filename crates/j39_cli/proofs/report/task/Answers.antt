@@ -1,7 +1,6 @@
 -- The bus is checked, then the parameters, what is asked for, and how it is written.
 use Rattle.std.proofs.Common.{◌≡◌, ◌∙◌, Some, None, codes, rules, sym}
 use Rattle.clap.specs.Words.{first_value, found_of}
-use Rattle.j39_cli.specs.ReportCommand.{written_by}
 use Rattle.j39_cli.proofs.AskedLemmas.{asked_wrong}
 use Rattle.j39_cli.proofs.TakenLemmas.{input_read, input_wrong, value_read, value_wrong}
 use Rattle.j39_cli.proofs.report.task.Goals as goal
@@ -10,7 +9,7 @@ pub returns-in-Some : goal.returns-in-Some
 returns-in-Some c =
     let found = found_of c.args.given.now in
     let read = c.in-Ok-asked_value.ensures in
-    let written = (λ i. written_by (sym c.is_set.ensures i) (sym c.is_set-2.ensures i)) ∙ sym c.written_by-format.ensures ∙ c.in-Some.is in
+    let written = sym c.format_given-format.ensures ∙ c.in-Some.is in
     record {
       answer = input_read (first_value found (codes "bus")) _ _ _ _ c.in-Ok.ensures (λ is_bus is_file.
           value_read _ _ _ (first_value found (codes "spn")) _ _ _ c.in-Ok-spns_value.ensures (λ is_spns.
@@ -37,7 +36,7 @@ pub returns-in-None : goal.returns-in-None
 returns-in-None c =
     let found = found_of c.args.given.now in
     let read = c.in-Ok-asked_value.ensures in
-    let none = (λ i. written_by (sym c.is_set.ensures i) (sym c.is_set-2.ensures i)) ∙ sym c.written_by-format.ensures ∙ c.in-None.is in
+    let none = sym c.format_given-format.ensures ∙ c.in-None.is in
     record {
       answer = input_read (first_value found (codes "bus")) _ _ _ _ c.in-Ok.ensures (λ is_bus is_file.
           value_read _ _ _ (first_value found (codes "spn")) _ _ _ c.in-Ok-spns_value.ensures (λ is_spns.

@@ -10,19 +10,19 @@ use Rattle.j39_listen.proofs.filtered.put_taken.Goals as goal
 pub returns-then-takes-clause-lines : goal.returns-then-takes-clause-lines
 returns-then-takes-clause-lines g c =
     rw (sym (all_taken (filter_of c.args.filter.now) (stamp_micros c.args.first) c.args.groups.now (hearing_of c.args.heard.now)
-    (λ r. sym c.if-takes.true ∙ c.takes.ensures r))) c.put_heard.ensures.lines
+    (λ r. sym c.if-takes.true ∙ c.takes.ensures))) c.put_heard.ensures.lines
 
 pub returns-then-takes-clause-puts : goal.returns-then-takes-clause-puts
 returns-then-takes-clause-puts g c =
     rw (sym (all_taken (filter_of c.args.filter.now) (stamp_micros c.args.first) c.args.groups.now (hearing_of c.args.heard.now)
-    (λ r. sym c.if-takes.true ∙ c.takes.ensures r))) c.put_heard.ensures.puts
+    (λ r. sym c.if-takes.true ∙ c.takes.ensures))) c.put_heard.ensures.puts
 
 pub returns-else-takes-clause-lines : goal.returns-else-takes-clause-lines
 returns-else-takes-clause-lines g c =
     rw (sym (none_taken (filter_of c.args.filter.now) (stamp_micros c.args.first) c.args.groups.now (hearing_of c.args.heard.now)
-    (λ r. sym c.if-takes.false ∙ c.takes.ensures r))) refl
+    (λ r. sym c.if-takes.false ∙ c.takes.ensures))) refl
 
 pub returns-else-takes-clause-puts : goal.returns-else-takes-clause-puts
 returns-else-takes-clause-puts g c =
     rw (sym (none_taken (filter_of c.args.filter.now) (stamp_micros c.args.first) c.args.groups.now (hearing_of c.args.heard.now)
-    (λ r. sym c.if-takes.false ∙ c.takes.ensures r))) (puts_nothing _ _)
+    (λ r. sym c.if-takes.false ∙ c.takes.ensures))) (puts_nothing _ _)

@@ -1,5 +1,6 @@
 use Rattle.j39_listen.specs.Filter.{takes}
-use Rattle.j39_listen.proofs.FilterLemmas.{among, both, either_order, whole}
+use Rattle.j39_listen.proofs.FilterLemmas.{among, both, either_order, no_message, of_messages, whole}
+use Rattle.j39_listen.proofs.NodeLemmas.{from_none}
 use Rattle.j39_listen.proofs.laws.filters.Goals as goal
 
 pub returns : goal.returns
@@ -8,4 +9,7 @@ returns c = record {
   meet = λ f g first entries. both (takes f first) (takes g first) entries;
   either_order = λ f g first entries. either_order (takes f first) (takes g first) entries;
   none = whole;
+  no_message = no_message;
+  no_sender = from_none;
+  messages = of_messages;
 }

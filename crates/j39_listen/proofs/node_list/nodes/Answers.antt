@@ -1,11 +1,28 @@
-use Rattle.std.proofs.Common.{[]}
-use Rattle.j39_listen.specs.Output.{nodes_of}
-use Rattle.j39_listen.specs.declared.format.Format.TheVariants.{Line}
+use Rattle.std.proofs.Common.{◌≡◌, [], Bor, List, Option}
+use Rattle.std.specs.Option.{option_map}
+use Rattle.j39_listen.specs.Headed.{nodes_of}
+use Rattle.j39_listen.specs.declared.filter.Sender.{Sender}
+use Rattle.j39_listen.specs.declared.format.Format.TheVariants.{Line, Object, Record}
 use Rattle.j39_listen.proofs.NodeLemmas.{nodes_text-none}
 use Rattle.j39_listen.proofs.node_list.nodes.Goals as goal
 
-pub returns-clause-ran : goal.returns-clause-ran
-returns-clause-ran g c = c.run_over.ensures.ran Line (nodes_of Line []) (λ name. c.new.ensures) (nodes_text-none Line)
+abbrev asked : Option (Bor (List Sender)) → Option (List Sender)
+asked from = option_map (λ senders. senders.now) from
 
-pub returns-clause-memory : goal.returns-clause-memory
-returns-clause-memory g c = λ fails. ((returns-clause-ran g c).memory fails).among.asked
+pub returns-in-Line-clause-ran : goal.returns-in-Line-clause-ran
+returns-in-Line-clause-ran g c = rw c.in-Line.is (c.run_over.ensures.ran (Line, asked c.args.from) (nodes_of Line []) (λ name. rw c.in-Line.is at c.new-list.ensures) (nodes_text-none Line))
+
+pub returns-in-Line-clause-memory : goal.returns-in-Line-clause-memory
+returns-in-Line-clause-memory g c = λ fails. ((returns-in-Line-clause-ran g c).memory fails).among.asked
+
+pub returns-in-Record-clause-ran : goal.returns-in-Record-clause-ran
+returns-in-Record-clause-ran g c = rw c.in-Record.is (c.run_headed.ensures.ran (Record, asked c.args.from) (nodes_of Record []) (λ name. rw c.in-Record.is at c.new-list.ensures) (nodes_text-none Record))
+
+pub returns-in-Record-clause-memory : goal.returns-in-Record-clause-memory
+returns-in-Record-clause-memory g c = λ fails. ((returns-in-Record-clause-ran g c).memory fails).among.asked
+
+pub returns-in-Object-clause-ran : goal.returns-in-Object-clause-ran
+returns-in-Object-clause-ran g c = rw c.in-Object.is (c.run_over-in-Object.ensures.ran (Object, asked c.args.from) (nodes_of Object []) (λ name. rw c.in-Object.is at c.new-list.ensures) (nodes_text-none Object))
+
+pub returns-in-Object-clause-memory : goal.returns-in-Object-clause-memory
+returns-in-Object-clause-memory g c = λ fails. ((returns-in-Object-clause-ran g c).memory fails).among.asked

@@ -5,11 +5,11 @@ use Rattle.j39_listen.proofs.NodeLemmas.{front_in_nodes, puts_all, puts_more, pu
 use Rattle.j39_listen.proofs.node_list.put_nodes.Goals as goal
 
 pub loop-address-init : goal.loop-address-init
-loop-address-init g c = (puts_none c.args.list.now.form c.args.list.now _, refl)
+loop-address-init g c = (puts_none c.args.list.now _, refl)
 
 pub loop-address-preserved : goal.loop-address-preserved
 loop-address-preserved g c = (
-  puts_more c.args.list.now.form c.args.list.now c.loop-address.address c.loop-address.lines c.in_ok-lines.field-0 _ _ _ c.loop-address.invariant.0 c.in_ok-lines.ensures.lines c.in_ok-lines.ensures.puts.written,
+  puts_more c.args.list.now c.loop-address.address c.loop-address.lines c.in_ok-lines.field-0 _ _ _ c.loop-address.invariant.0 c.in_ok-lines.ensures.lines c.in_ok-lines.ensures.puts.written,
   c.in_ok-lines.ensures.puts.mark ∙ c.loop-address.invariant.1,
 )
 

@@ -1,18 +1,11 @@
--- The key, the digits, and the mark behind them.
-use Rattle.std.proofs.Common.{codes}
+-- The key and the string.
 use Rattle.j39_reports.specs.Json.{hex_text}
-use Rattle.j39_reports.proofs.PartLemmas.{first_of_three, second_of_three, third_of_three}
+use Rattle.j39_listen.specs.Members.{in_marks}
+use Rattle.j39_io.proofs.PutsLemmas.{puts_first, puts_then}
 use Rattle.j39_reports.proofs.json.put_in_hex.Goals as goal
 
 pub returns-in_err-put_all : goal.returns-in_err-put_all
-returns-in_err-put_all g c =
-    first_of_three (codes ",\"bytes\":\"") (hex_text c.args.text.now) (codes "\"") _ _ _ c.from_residual.ensures.0 c.in_err-put_all.ensures.puts
-
-pub returns-in_err-put_hex : goal.returns-in_err-put_hex
-returns-in_err-put_hex g c =
-    second_of_three (codes ",\"bytes\":\"") (hex_text c.args.text.now) (codes "\"") _ _ _ _ _ _ c.from_residual-in_err-put_hex.ensures.0
-    c.in_ok-put_all.ensures.puts c.in_err-put_hex.ensures
+returns-in_err-put_all g c = puts_first _ (in_marks (hex_text c.args.text.now)) _ _ _ c.from_residual.ensures.0 c.in_err-put_all.ensures.puts
 
 pub returns : goal.returns
-returns g c =
-    third_of_three (codes ",\"bytes\":\"") (hex_text c.args.text.now) (codes "\"") _ _ _ _ _ _ _ c.in_ok-put_all.ensures.puts c.in_ok-put_hex.ensures c.put_all-2.ensures.puts
+returns g c = puts_then _ (in_marks (hex_text c.args.text.now)) _ _ _ _ _ c.in_ok-put_all.ensures.puts c.put_hex_string.ensures

@@ -4,7 +4,7 @@ use Rattle.j39_listen.proofs.NodeLemmas.{nodes_close, nodes_stop}
 use Rattle.j39_listen.proofs.node_list.NodeListAccount.close.Goals as goal
 
 pub returns-in_err-lines-clause-stops : goal.returns-in_err-lines-clause-stops
-returns-in_err-lines-clause-stops g c = on_err c.from_residual.result _ (λ form. nodes_stop form c.args.self.now _ _ c.in_err-lines.ensures.front)
+returns-in_err-lines-clause-stops g c = on_err c.from_residual.result _ (λ subject. nodes_stop subject.0 subject.1 c.args.self.now _ _ c.in_err-lines.ensures.front)
 
 pub returns-clause-closes : goal.returns-clause-closes
-returns-clause-closes g c = λ form. nodes_close form c.args.self.now c.in_ok-lines.lines _ _ (omega arith) c.in_ok-lines.ensures.nodes
+returns-clause-closes g c = λ subject. nodes_close subject.0 subject.1 c.args.self.now c.in_ok-lines.lines _ _ (omega arith) c.in_ok-lines.ensures.nodes

@@ -13,3 +13,6 @@ returns-in-Line g c = rw (← (c.as_slice.ensures.value ∙ c.head_of.ensures), 
 
 pub returns-in-Record : goal.returns-in-Record
 returns-in-Record g c = rw (← (c.as_slice.ensures.value ∙ c.head_of.ensures), c.in-Record.is) (puts_then _ _ _ _ _ _ _ c.in_ok-put_all.ensures.puts c.put_clearing_record.ensures)
+
+pub returns-in-Object : goal.returns-in-Object
+returns-in-Object g c = rw (← (c.as_slice.ensures.value ∙ c.head_of.ensures), c.in-Object.is) (puts_then _ _ _ _ _ _ _ c.in_ok-put_all.ensures.puts c.put_clearing_object.ensures)

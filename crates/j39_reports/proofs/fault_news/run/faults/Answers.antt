@@ -25,3 +25,12 @@ returns-in-Record-clause-told g c =
     rw (c.in-Record.is, ← c.columns_of-columns.ensures) (told_faults (λ bus. HasTold c.args.format subject) c.args.bus c.run_headed_keeping-ran.result.1 _ (λ bus. c.broken-in-Record.ensures c.args.format subject) _ _ c.args.limit c.counted-in-Record.result c.run_headed_keeping-ran.result.0 _ _ c.counted-in-Record.ensures.counts
     (rw c.in-Record.is at run) c.counted-in-Record.ensures.broken
     (on_ok_from c.run_headed_keeping-ran.result.0 _ _ (λ met. met (c.args.format, subject) _ (λ name. c.new-account.ensures) none) c.run_headed_keeping-ran.ensures.met))
+
+pub returns-in-Object-clause-told : goal.returns-in-Object-clause-told
+returns-in-Object-clause-told g c =
+    let subject : Subject = record { rows = c.args.groups.now; which = chosen_of c.args.choice } in
+    let none = none_told c.args.format c.args.groups.now (chosen_of c.args.choice) in
+    let run = c.run_keeping-ran-in-Object.ensures.ran (c.args.format, subject) (faults_of c.args.format c.args.groups.now (chosen_of c.args.choice) []) (λ name. c.new-account.ensures) none in
+    rw c.in-Object.is (told_faults (λ bus. HasTold c.args.format subject) c.args.bus c.run_keeping-ran-in-Object.result.1 _ (λ bus. c.broken-in-Object.ensures c.args.format subject) _ _ c.args.limit c.counted-in-Object.result c.run_keeping-ran-in-Object.result.0 _ _ c.counted-in-Object.ensures.counts
+    (rw c.in-Object.is at run) c.counted-in-Object.ensures.broken
+    (on_ok_from c.run_keeping-ran-in-Object.result.0 _ _ (λ met. met (c.args.format, subject) _ (λ name. c.new-account.ensures) none) c.run_keeping-ran-in-Object.ensures.met))

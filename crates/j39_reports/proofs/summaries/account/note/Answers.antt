@@ -1,5 +1,6 @@
 -- A message is heard at the frame or none.
-use Rattle.std.proofs.Common.{◌∙◌, sym}
+use Rattle.std.proofs.Common.{◌∙◌, ◌++◌, ◌∷◌, [], sym}
+use Rattle.j39_listen.specs.Filter.{first_stamp, messages_taken}
 use Rattle.std.specs.List.{flat_map}
 use Rattle.j39_groups.specs.Readings.{is_reported_in}
 use Rattle.j39_listen.specs.Report.{entries_of}
@@ -7,25 +8,33 @@ use Rattle.j39_listen.specs.HeardModel.{hearing_of}
 use Rattle.j39_listen.proofs.ListenerLemmas.{on_ok}
 use Rattle.j39_listen.proofs.Reported.{reported_free, reported_leaves}
 use Rattle.j39_reports.specs.Summary.{absences_of}
-use Rattle.j39_reports.proofs.SummaryAccountLemmas.{asks_heard, notes_heard, notes_silent}
+use Rattle.j39_reports.proofs.SummaryAccountLemmas.{asks_heard, notes_heard, notes_left, notes_silent}
 use Rattle.j39_reports.proofs.summaries.account.note.Goals as goal
 
 pub feed_as-requires : goal.feed_as-requires
 feed_as-requires c = λ single. reported_free c.args.groups.now _ (sym c.requires ∙ single)
 
 pub returns-in-Ok-None-clause-noted : goal.returns-in-Ok-None-clause-noted
-returns-in-Ok-None-clause-noted c = λ F before h are absent counts.
-    notes_silent c.args.groups.now _ F c.args.frame.now c.args.rows.now before absent (rw c.in-Ok-None.field-0-is at (c.in-Ok-None.ensures.heard (is_reported_in c.args.groups.now) (reported_leaves c.args.groups.now) (sym c.requires) F h))
+returns-in-Ok-None-clause-noted c = λ which F before h chosen are absent counts.
+    notes_silent which c.args.groups.now _ F c.args.frame.now c.args.rows.now before absent (rw c.in-Ok-None.field-0-is at (c.in-Ok-None.ensures.heard (is_reported_in c.args.groups.now) (reported_leaves c.args.groups.now) (sym c.requires) F h))
     (on_ok _ _ _ _ c.in-Ok-None.is c.feed_as.follows.holds-at-none F h) are counts
 
-pub returns-in-Ok-clause-noted : goal.returns-in-Ok-clause-noted
-returns-in-Ok-clause-noted c = λ F before h are absent counts.
-    notes_heard c.args.groups.now _ F c.args.frame.now (hearing_of c.in-Ok-Some.heard) c.begin.new.self c.visit.new.visitor before absent
+pub returns-then-not-takes-clause-noted : goal.returns-then-not-takes-clause-noted
+returns-then-not-takes-clause-noted c = λ which F before h chosen are absent counts.
+    notes_left which c.args.groups.now _ F c.args.frame.now (hearing_of c.in-Ok-Some.heard) c.args.rows.now before absent
     (rw c.in-Ok-Some.field-0-is at (c.in-Ok-Some.ensures.heard (is_reported_in c.args.groups.now) (reported_leaves c.args.groups.now) (sym c.requires) F h)) (on_ok _ _ _ _ c.in-Ok-Some.is c.feed_as.follows.holds-at-none F h)
-    (c.begin.ensures before absent are counts) c.in-Ok.ensures.taken
+    (sym (c.takes.ensures which (F ++ c.args.frame.now ∷ []) chosen) ∙ c.if-not-takes.true) are counts
+
+pub returns-in-Ok-clause-noted : goal.returns-in-Ok-clause-noted
+returns-in-Ok-clause-noted c = λ which F before h chosen are absent counts.
+    notes_heard which c.args.groups.now _ F c.args.frame.now (hearing_of c.in-Ok-Some.heard) c.begin.new.self c.visit.new.visitor before absent
+    (rw c.in-Ok-Some.field-0-is at (c.in-Ok-Some.ensures.heard (is_reported_in c.args.groups.now) (reported_leaves c.args.groups.now) (sym c.requires) F h)) (on_ok _ _ _ _ c.in-Ok-Some.is c.feed_as.follows.holds-at-none F h)
+    (sym (c.takes.ensures which (F ++ c.args.frame.now ∷ []) chosen) ∙ c.if-not-takes.false) (c.begin.ensures before absent are counts) c.in-Ok.ensures.taken
 
 pub returns-in-Err-visit-clause-asked : goal.returns-in-Err-visit-clause-asked
-returns-in-Err-visit-clause-asked c = λ F heard h are_heard are counts.
-    asks_heard c.args.groups.now F c.args.frame.now (hearing_of c.in-Ok-Some.heard) heard c.begin.new.self c.visit.new.visitor
-    (rw c.in-Ok-Some.field-0-is at (c.in-Ok-Some.ensures.heard (is_reported_in c.args.groups.now) (reported_leaves c.args.groups.now) (sym c.requires) F h)) are_heard (c.begin.ensures (flat_map (entries_of c.args.groups.now) heard) (flat_map (absences_of c.args.groups.now) heard) are counts)
+returns-in-Err-visit-clause-asked c = λ which F heard h chosen are_heard are counts.
+    asks_heard which c.args.groups.now F c.args.frame.now (hearing_of c.in-Ok-Some.heard) heard c.begin.new.self c.visit.new.visitor
+    (rw c.in-Ok-Some.field-0-is at (c.in-Ok-Some.ensures.heard (is_reported_in c.args.groups.now) (reported_leaves c.args.groups.now) (sym c.requires) F h)) are_heard
+    (sym (c.takes.ensures which (F ++ c.args.frame.now ∷ []) chosen) ∙ c.if-not-takes.false)
+    (c.begin.ensures (flat_map (entries_of c.args.groups.now) (messages_taken which (first_stamp F) heard)) (flat_map (absences_of c.args.groups.now) (messages_taken which (first_stamp F) heard)) are counts)
     c.in-Err-visit.ensures.stopped

@@ -4,7 +4,7 @@ use Rattle.j39_reports.proofs.SummaryAccountLemmas.{summary_closes, summary_stop
 use Rattle.j39_reports.proofs.summaries.account.SummaryAccountAccount.close.Goals as goal
 
 pub returns-in_err-put_rows-clause-stops : goal.returns-in_err-put_rows-clause-stops
-returns-in_err-put_rows-clause-stops g c = on_err c.from_residual.result _ (λ subject. summary_stops subject.0 subject.1 c.args.self.now _ _ c.in_err-put_rows.ensures.front)
+returns-in_err-put_rows-clause-stops g c = on_err c.from_residual.result _ (λ subject. summary_stops subject.form subject.which subject.rows c.args.self.now _ _ c.in_err-put_rows.ensures.front)
 
 pub returns-clause-closes : goal.returns-clause-closes
-returns-clause-closes g c = λ subject. summary_closes subject.0 subject.1 c.args.self.now c.len.result _ _ c.len.ensures (omega arith) c.in_ok-put_rows.ensures.written
+returns-clause-closes g c = λ subject. summary_closes subject.form subject.which subject.rows c.args.self.now c.len.result _ _ c.len.ensures (omega arith) c.in_ok-put_rows.ensures.written

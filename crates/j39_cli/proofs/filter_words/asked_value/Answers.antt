@@ -1,7 +1,7 @@
 -- The first value that is wrong is told.
 use Rattle.std.specs.Prelude.{None}
-use Rattle.j39_cli.specs.ReportCommand.{the_destinations, the_first, the_groups, the_last, the_senders}
-use Rattle.j39_cli.proofs.report.asked_value.Goals as goal
+use Rattle.j39_cli.specs.FilterWords.{the_destinations, the_first, the_groups, the_last, the_senders}
+use Rattle.j39_cli.proofs.filter_words.asked_value.Goals as goal
 
 pub returns-in-Err : goal.returns-in-Err
 returns-in-Err c =

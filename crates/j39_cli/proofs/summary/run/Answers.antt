@@ -1,0 +1,6 @@
+-- The filter is that of what is asked for.
+use Rattle.std.proofs.Common.{sym}
+use Rattle.j39_cli.proofs.summary.run.Goals as goal
+
+pub returns-clause-ran : goal.returns-clause-ran
+returns-clause-ran g c = rw (sym c.filter_given-filter.ensures, sym c.copy_of-bus.ensures) c.summary.ensures.ran

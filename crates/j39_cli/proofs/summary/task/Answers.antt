@@ -1,0 +1,71 @@
+-- The bus is checked, then what is asked for, and how it is written.
+use Rattle.std.proofs.Common.{◌≡◌, ◌∙◌, Some, None, codes, rules, sym}
+use Rattle.clap.specs.Words.{first_value, found_of}
+use Rattle.j39_cli.proofs.AskedLemmas.{asked_wrong}
+use Rattle.j39_cli.proofs.TakenLemmas.{input_read, input_wrong, value_read}
+use Rattle.j39_cli.proofs.summary.task.Goals as goal
+
+pub returns-in-Some : goal.returns-in-Some
+returns-in-Some c =
+    let found = found_of c.args.given.now in
+    let read = c.in-Ok-asked_value.ensures in
+    let written = sym c.format_given-format.ensures ∙ c.in-Some.is in
+    record {
+      answer = input_read (first_value found (codes "bus")) _ _ _ _ c.in-Ok.ensures (λ is_bus is_file.
+          value_read _ _ _ (first_value found (codes "from")) _ _ _ read.from_is (λ from_is.
+          value_read _ _ _ (first_value found (codes "to")) _ _ _ read.to_is (λ to_is.
+          value_read _ _ _ (first_value found (codes "pgn")) _ _ _ read.pgns_are (λ pgns_are.
+          value_read _ _ _ (first_value found (codes "since")) _ _ _ read.since_is (λ since_is.
+          value_read _ _ _ (first_value found (codes "until")) _ _ _ read.until_is (λ until_is. record {
+            in_range = λ _. (
+              is_bus,
+              search rules,
+              record { from_is = from_is; to_is = to_is; pgns_are = pgns_are; since_is = since_is; until_is = until_is },
+              written,
+              is_file,
+            );
+            wrong = λ none. absurd (none (λ is. (let no : Some c.in-Some.format ≡ None = sym written ∙ is in cc)));
+          }))))));
+      memory = search rules;
+      in_range = search rules;
+    }
+
+pub returns-in-None : goal.returns-in-None
+returns-in-None c =
+    let found = found_of c.args.given.now in
+    let read = c.in-Ok-asked_value.ensures in
+    let none = sym c.format_given-format.ensures ∙ c.in-None.is in
+    record {
+      answer = input_read (first_value found (codes "bus")) _ _ _ _ c.in-Ok.ensures (λ is_bus is_file.
+          value_read _ _ _ (first_value found (codes "from")) _ _ _ read.from_is (λ from_is.
+          value_read _ _ _ (first_value found (codes "to")) _ _ _ read.to_is (λ to_is.
+          value_read _ _ _ (first_value found (codes "pgn")) _ _ _ read.pgns_are (λ pgns_are.
+          value_read _ _ _ (first_value found (codes "since")) _ _ _ read.since_is (λ since_is.
+          value_read _ _ _ (first_value found (codes "until")) _ _ _ read.until_is (λ until_is. record {
+            in_range = λ some. absurd (some none);
+            wrong = λ _. search rules;
+          }))))));
+      memory = search rules;
+      in_range = tt;
+    }
+
+pub returns-in-Err-asked_value : goal.returns-in-Err-asked_value
+returns-in-Err-asked_value c =
+    let found = found_of c.args.given.now in
+    let wrong = c.in-Err-asked_value.ensures in
+    record {
+      answer = input_read (first_value found (codes "bus")) _ _ _ _ c.in-Ok.ensures (λ _ _.
+          asked_wrong (first_value found (codes "from")) (first_value found (codes "to")) (first_value found (codes "pgn")) (first_value found (codes "since"))
+          (first_value found (codes "until")) wrong.0 _ _ wrong.1);
+      memory = search rules;
+      in_range = tt;
+    }
+
+pub returns-in-Err : goal.returns-in-Err
+returns-in-Err c =
+    let found = found_of c.args.given.now in
+    record {
+      answer = input_wrong (first_value found (codes "bus")) _ _ _ c.in-Err.ensures;
+      memory = search rules;
+      in_range = tt;
+    }
