@@ -1,10 +1,10 @@
--- The command `nodes [--bus B] [--csv] [FILE]`.
+-- The command `nodes [--bus B] [--csv] [FILE]..`.
 use Rattle.std.specs.Prelude.{◌≡◌, ◌∷◌, [], ℕ, Bool, List, Option, codes}
 use Rattle.clap.specs.Words.{App, Text, new_app, with_rule}
 use Rattle.j39_listen.specs.Asking.{AsksNowhere}
 use Rattle.j39_listen.specs.Headed.{MakesNodes}
 use Rattle.j39_cli.specs.Answer.{IsBusChecked, IsTask}
-use Rattle.j39_cli.specs.Form.{Form, Meaning, flag, option, value}
+use Rattle.j39_cli.specs.Form.{Form, Meaning, flag, option, values}
 use Rattle.j39_cli.specs.LogCommand.{format_of, runs, with_log}
 use Rattle.j39_cli.specs.Rules.{flag_rule}
 use Rattle.j39_listen.specs.declared.format.Format.{Format}
@@ -15,14 +15,14 @@ use Rattle.j39_cli.specs.declared.task.Task.TheVariants.{Nodes}
 abbrev pub nodes_app : App
 nodes_app = with_log (with_rule (new_app (codes "nodes")) (flag_rule (codes "csv")))
 
-abbrev pub IsNodesTask : Option (List ℕ) → Bool → Option (List ℕ) → Task → Type 0
+abbrev pub IsNodesTask : Option (List ℕ) → Bool → List (List ℕ) → Task → Type 0
 IsNodesTask bus csv file (Nodes input format) = (input.bus ≡ bus) × (format ≡ format_of csv) × (input.file ≡ file)
 IsNodesTask bus csv file t = ⊥
 
-abbrev pub nodes_form : Option Text → Bool → Option Text → Form
+abbrev pub nodes_form : Option Text → Bool → List Text → Form
 nodes_form bus csv file = record {
   called = codes "nodes";
-  arguments = option (codes "bus") bus ∷ flag (codes "csv") csv ∷ value (codes "file") file ∷ [];
+  arguments = option (codes "bus") bus ∷ flag (codes "csv") csv ∷ values (codes "file") file ∷ [];
   Answers = IsBusChecked bus (IsTask (IsNodesTask bus csv file));
 }
 

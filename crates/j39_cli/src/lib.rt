@@ -11,6 +11,7 @@ mod faults;
 mod fields;
 mod groups;
 mod id;
+mod joined;
 mod log;
 mod name;
 mod nodes;
@@ -29,11 +30,14 @@ mod words;
 
 pub use asked::{Addresses, Asked, Pgns, Senders};
 pub use conversions::Conversions;
+pub use joined::Joined;
 pub use outgoing::Outgoing;
 pub use own_table::{folder_for_table, wrong_table};
-pub use performing::{perform, perform_with};
+pub use performing::{perform, perform_over, perform_with};
 pub use refusal::{refuse, unopened};
 pub use spns::Spns;
-pub use task::{Address, Argument, FaultsTold, LogInput, ParseFault, ReportFormat, Task, WordText};
-pub use unknown::asks_for_unknown;
+pub use task::{
+    Address, Argument, FaultsTold, Files, LogInput, ParseFault, ReportFormat, Task, WordText,
+};
+pub use unknown::{asks_for_unknown, asks_input_twice};
 pub use words::parse;

@@ -14,7 +14,8 @@ ghost use Rattle.j39_cli.specs.Rules.{IsMade};
 use crate::command::{new_command, with_flag, with_option, with_table};
 use crate::log::{LOG_LIMIT, copy_of, tell_end, tell_fault, with_csv, with_log};
 use crate::words::{
-    addresses_value, is_set, log_input, moment_value, pgns_value, senders_value, spns_value,
+    addresses_value, bus_value, is_set, log_input, moment_value, pgns_value, senders_value,
+    spns_value,
 };
 use crate::{Argument, Asked, ParseFault, ReportFormat, Spns, Task, WordText};
 use clap::{ArgMatches, Command};
@@ -85,13 +86,13 @@ fn with_filter<'a>(
 }
 
 /// The task that its words ask for.
-pub(crate) fn task<'a>(given: &ArgMatches<'a>) -> Result<Task<'a>, ParseFault>
+pub(crate) fn task<'a>(alloc: Global, given: &ArgMatches<'a>) -> Result<Task<'a>, ParseFault>
     ensures { IsAnswered (command_found (codes "report") (found_of given.now)) result }
 {
     let table = given.get_str("table").map(WordText::new);
     let format = written_by(is_set(given, "csv"), is_set(given, "json"));
-    let input = match log_input(given) {
-        Ok(input) => input,
+    let bus = match bus_value(given) {
+        Ok(bus) => bus,
         Err(fault) => return Err(fault),
     };
     let spns = match spns_value(given) {
@@ -102,15 +103,18 @@ pub(crate) fn task<'a>(given: &ArgMatches<'a>) -> Result<Task<'a>, ParseFault>
         Ok(asked) => asked,
         Err(fault) => return Err(fault),
     };
-    match format {
-        Some(format) => Ok(Task::Report {
+    let Some(format) = format else {
+        return Err(ParseFault::BadValue(Argument::Forms));
+    };
+    match log_input(alloc, bus, given) {
+        Ok(input) => Ok(Task::Report {
             input,
             table,
             spns,
             asked,
             format,
         }),
-        None => Err(ParseFault::BadValue(Argument::Forms)),
+        Err(fault) => Err(fault),
     }
 }
 

@@ -7,7 +7,7 @@ ghost use Rattle.j39_cli.specs.Rules.{IsMade};
 
 use crate::command::{new_command, with_table};
 use crate::log::{with_csv, with_log};
-use crate::words::{format_given, log_input};
+use crate::words::{bus_value, format_given, log_input};
 use crate::{ParseFault, Task, WordText};
 use clap::{ArgMatches, Command};
 use std::alloc::{AllocError, Global};
@@ -41,12 +41,16 @@ pub(crate) fn command<'a>(alloc: Global) -> Result<Command<'a>, AllocError>
 }
 
 /// The task that its words ask for.
-pub(crate) fn task<'a>(given: &ArgMatches<'a>) -> Result<Task<'a>, ParseFault>
+pub(crate) fn task<'a>(alloc: Global, given: &ArgMatches<'a>) -> Result<Task<'a>, ParseFault>
     ensures { IsAnswered (command_found (codes "summary") (found_of given.now)) result }
 {
     let table = given.get_str("table").map(WordText::new);
     let format = format_given(given);
-    match log_input(given) {
+    let bus = match bus_value(given) {
+        Ok(bus) => bus,
+        Err(fault) => return Err(fault),
+    };
+    match log_input(alloc, bus, given) {
         Ok(input) => Ok(Task::Summary {
             input,
             table,
