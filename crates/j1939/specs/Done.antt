@@ -1,5 +1,6 @@
 -- What the program does for its words: a task over its log and by its table, or what is told in its place.
-use Rattle.std.specs.Prelude.{◌≡◌, ◌⊎◌, ◌↔◌, ◌∷◌, ℕ, false, true, IfOk, List, MatchOption, MatchResult, Some, codes}
+use Rattle.std.specs.Prelude.{◌≡◌, ◌⊎◌, ◌↔◌, ◌∷◌, ℕ, false, true, IfOk, List, [], MatchOption, MatchResult, Option, codes, length}
+use Rattle.std.specs.List.{Contains}
 use Rattle.j39_io.specs.Turn.{Device, Turn, Writes}
 use Rattle.j39_groups.specs.Row.{RowRecord}
 use Rattle.j39_groups.specs.Table.{the_table}
@@ -8,10 +9,11 @@ use Rattle.j39_table.specs.declared.fault.TableFault.{TableFault}
 use Rattle.j39_table.specs.declared.fault.TableFault.TheVariants.{Memory}
 use Rattle.j39_cli.specs.Answer.{Answer}
 use Rattle.j39_cli.specs.CommandWords.{CommandWords, HasValues, IsAnswer, words_of}
+use Rattle.j39_cli.specs.LogCommand.{inputs_of}
 use Rattle.j39_cli.specs.OwnTable.{folder_line, table_line}
 use Rattle.j39_cli.specs.Refusal.{IsHelp, IsWrongLine, error_line, error_words, out_words}
 use Rattle.j39_cli.specs.Spelling.{IsSpelled}
-use Rattle.j39_cli.specs.Task.{IsPerformed, file_of, table_of}
+use Rattle.j39_cli.specs.Task.{IsPerformedOver, asks_input_twice, files_of, table_of}
 use Rattle.j39_cli.specs.Unknown.{asks_for_unknown, unknown_text}
 use Rattle.j39_cli.specs.declared.task.ParseFault.{ParseFault}
 use Rattle.j39_cli.specs.declared.task.ParseFault.TheVariants as refused
@@ -31,17 +33,18 @@ TellsUnopened file status out err = TellsLine (error_line (codes "cannot open ")
 abbrev pub TellsFault : List ℕ → TableFault → ℕ → Turn → Turn → Type 0
 TellsFault name fault status out err = TellsLine (table_line name fault) status out err
 
--- the task was performed by these rows over a log that was sound before
+-- the task was performed by these rows over what each of its FILEs holds, one behind the other
 pub record IsDoneOver (rows : List RowRecord) (task : Task) (status : ℕ) (out err : Turn) : Type 0 where
-  pub log : Turn
-  pub sound : log.old.has_failed ≡ false
-  pub performed : IsPerformed rows task status log out err
+  pub held : List (Option (List ℕ))
+  pub each : length held ≡ length (inputs_of (files_of task))
+  pub performed : IsPerformedOver rows task held status out err
 
--- so it was, or its FILE can't be opened
+-- so it was; or one of its FILEs can't be opened, or memory for all of them was refused, and nothing is written
 abbrev pub IsDoneOnce : List RowRecord → Task → ℕ → Turn → Turn → Type 0
 IsDoneOnce rows task status out err =
     IsDoneOver rows task status out err
-    ⊎ ((file : List ℕ) × (file_of task ≡ Some file) × TellsUnopened file status out err)
+    ⊎ (((file : List ℕ) × Contains (files_of task) file × TellsUnopened file status out err)
+    ⊎ TellsLine (error_line (codes "out of memory") []) status out err)
 
 -- no row has any of the parameters that are asked for: that is told, and no log is opened
 pub record FindsNone (rows : List RowRecord) (task : Task) (status : ℕ) (out err : Turn) : Type 0 where
@@ -79,6 +82,13 @@ IsDone task status out err =
     MatchOption (table_of task) (IsDoneBy the_table task status out err)
     (λ name. IsDoneByName name task status out err)
 
+-- standard input is asked for twice: that is told, and nothing is opened
+pub record AsksInputTwice (task : Task) (status : ℕ) (out err : Turn) : Type 0 where
+  pub status_is : status ≡ 2
+  pub is_twice : asks_input_twice task ≡ true
+  pub silent : out.new ≡ out.old
+  pub told : Writes err (error_line (codes "standard input (-) twice among FILE") [])
+
 -- ---- the words
 
 -- what `parse` may answer to the words, of which the first is the program's name
@@ -100,4 +110,4 @@ pub record TellsWhy (fault : ParseFault) (status : ℕ) (out err : Turn) : Type 
 pub record Follows (words : List (List ℕ)) (status : ℕ) (out err : Turn) : Type 0 where
   pub answer : Answer
   pub parsed : IsParsed words answer
-  pub ends : MatchResult answer (λ task. IsDone task status out err) (λ fault. TellsWhy fault status out err)
+  pub ends : MatchResult answer (λ task. AsksInputTwice task status out err ⊎ ((asks_input_twice task ≡ false) × IsDone task status out err)) (λ fault. TellsWhy fault status out err)

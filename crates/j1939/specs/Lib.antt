@@ -1,2 +1,3 @@
 -- what the program does for its words
 pub mod Done
+pub mod Opened

@@ -9,11 +9,13 @@ ghost use Rattle.j39_cli.specs.OwnTable.{folder_line, table_line};
 ghost use Rattle.j39_cli.specs.Refusal.{IsWrongLine, error_line};
 ghost use Rattle.j1939.specs.Done.{Follows, IsDone, IsDoneBy, IsDoneByText, IsDoneOnce};
 
+mod input;
 mod table;
 
+use input::{Unopened, opened};
 use j39_cli::{
-    ParseFault, Task, asks_for_unknown, folder_for_table, parse, perform_with, refuse, unopened,
-    wrong_table,
+    ParseFault, Task, asks_for_unknown, asks_input_twice, folder_for_table, parse, perform_over,
+    refuse, unopened, wrong_table,
 };
 use j39_groups::Groups;
 use j39_io::{Sink, Told};
@@ -71,7 +73,7 @@ fn answer<E: Sink>(rt: &HostRuntime, err: &mut E) -> io::Result<u8>
 }
 
 /// Does what these words ask for, and answers the exit status: 2 for wrong words, and where no row has a parameter that they
-/// ask for.
+/// ask for, or they ask for standard input twice.
 fn follow<S: AsStr, W: Sink, E: Sink>(rt: &HostRuntime, words: &[S], out: &mut W, err: &mut E) -> u8
     ensures status { result ≤ 2 }
     ensures followed { Follows (map S.text words.now) result
@@ -82,7 +84,13 @@ fn follow<S: AsStr, W: Sink, E: Sink>(rt: &HostRuntime, words: &[S], out: &mut W
     ensures passed_on { (result ≡ 0 → ⊥) → E.has_failed err.new ≡ false → E.is_flushed err.new ≡ true }
 {
     match parse(rt.alloc(), words) {
-        Ok(task) => done(rt, &task, out, err),
+        Ok(task) => {
+            if asks_input_twice(&task, err) {
+                2
+            } else {
+                done(rt, &task, out, err)
+            }
+        }
         Err(fault) => refuse(&fault, out, err),
     }
 }
@@ -169,7 +177,7 @@ fn by_rows<W: Sink, E: Sink>(
     }
 }
 
-/// Performs a task by this table, over its FILE or over standard input.
+/// Performs a task by this table, over its FILEs or over standard input.
 fn over<W: Sink, E: Sink>(
     rt: &HostRuntime,
     task: &Task<'_>,
@@ -183,12 +191,9 @@ fn over<W: Sink, E: Sink>(
     ensures flushed { result ≡ 0 → W.is_flushed out.new ≡ true }
     ensures passed_on { result ≡ 1 → E.has_failed err.new ≡ false → E.is_flushed err.new ≡ true }
 {
-    let alloc = rt.alloc();
-    let Some(file) = task.file() else {
-        return perform_with(alloc, groups, task, &mut Told::new(rt.stdin()), out, err);
-    };
-    match fs::open(rt, file) {
-        Ok(log) => perform_with(alloc, groups, task, &mut Told::new(log), out, err),
-        Err(_) => unopened(file, err),
+    match opened(rt, task.files()) {
+        Ok(logs) => perform_over(rt.alloc(), groups, task, logs.first, logs.later, out, err),
+        Err(Unopened::File(file)) => unopened(file, err),
+        Err(Unopened::Memory) => refuse(&ParseFault::Memory, out, err),
     }
 }

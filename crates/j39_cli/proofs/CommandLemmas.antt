@@ -1,9 +1,11 @@
 -- What is proved of each command.
-use Rattle.std.proofs.Common.{◌∷◌, [], Some, codes, refl}
-use Rattle.clap.specs.Words.{Text}
+use Rattle.std.proofs.Common.{◌≡◌, ◌∷◌, [], Some, codes, refl}
+use Rattle.clap.specs.Words.{Rule, Shape, Text}
+use Rattle.clap.specs.Simple.{filled, with_index}
+use Rattle.clap.specs.Walk.{arg_by_id}
 use Rattle.clap.proofs.OnLiterals.{clap_on_literals}
 use Rattle.j39_cli.specs.Command.{line_app}
-use Rattle.j39_cli.specs.CommandWords.{CommandWords, answer, cut, faults, groups, id, name, nodes, report, summary, survey}
+use Rattle.j39_cli.specs.CommandWords.{CommandWords, answer, cut, faults, form_of, groups, id, name, nodes, report, summary, survey}
 use Rattle.j39_cli.specs.AnswerCommand.{answer_app}
 use Rattle.j39_cli.specs.CutCommand.{cut_app}
 use Rattle.j39_cli.specs.FaultsCommand.{faults_app}
@@ -15,40 +17,61 @@ use Rattle.j39_cli.specs.ReportCommand.{report_app}
 use Rattle.j39_cli.specs.SummaryCommand.{summary_app}
 use Rattle.j39_cli.specs.SurveyCommand.{survey_app}
 use Rattle.j39_cli.specs.Form.{option, value}
-use Rattle.j39_cli.proofs.ArgumentLemmas.{parsed}
+use Rattle.j39_cli.specs.Rules.{values_rule}
+use Rattle.j39_cli.proofs.ArgumentLemmas.{before_each, parsed, parsed_each}
+use Rattle.j39_cli.proofs.EachLemmas.{TakesEach}
 use Rattle.j39_cli.proofs.PartLemmas.{parts_pass}
 use Rattle.j39_cli.proofs.TakenLemmas.{IsParsed, memory_checked, memory_of_bus, memory_of_value}
+
+-- FILE, as clap builds it
+abbrev file_rule : Rule
+file_rule = with_index 1 (filled (values_rule (codes "file")))
+
+takes_file : {s : Shape} → arg_by_id s.rules (codes "file") ≡ Some file_rule → TakesEach s file_rule
+takes_file known = record {
+  appends = refl;
+  is_multiple = refl;
+  is_single = refl;
+  is_met = refl;
+  known = known;
+  named = refl;
+  passes = λ text rows. refl;
+}
 
 pub is_parsed : (program : Text) (s : CommandWords) → IsParsed program s
 unfolding clap_on_literals line_app parts_pass
 is_parsed program (report bus table spn from to pgn since until csv json file) =
-    parsed program report_app (report bus table spn from to pgn since until csv json file) [] _
-    (record { step = refl; passes = refl; found = refl; checks = refl }) refl refl refl
+    parsed_each program report_app (report bus table spn from to pgn since until csv json file) [] (before_each (form_of (report bus table spn from to pgn since until csv json file)).arguments) file_rule file (takes_file refl) refl refl (λ text more. refl)
+    (record { step = refl; passes = refl; found = refl; checks = refl }) refl refl
     (memory_of_bus bus _ (memory_of_value _ _ spn _ (memory_of_value _ _ from _ (memory_of_value _ _ to _
     (memory_of_value _ _ pgn _ (memory_of_value _ _ since _ (memory_of_value _ _ until _ (memory_checked _ _ _ tt))))))))
-is_parsed program (summary bus table from to pgn since until csv json file) = parsed program summary_app (summary bus table from to pgn since until csv json file) [] _
-    (record { step = refl; passes = refl; found = refl; checks = refl }) refl refl refl
+is_parsed program (summary bus table from to pgn since until csv json file) =
+    parsed_each program summary_app (summary bus table from to pgn since until csv json file) [] (before_each (form_of (summary bus table from to pgn since until csv json file)).arguments) file_rule file (takes_file refl) refl refl (λ text more. refl)
+    (record { step = refl; passes = refl; found = refl; checks = refl }) refl refl
     (memory_of_bus bus _ (memory_of_value _ _ from _ (memory_of_value _ _ to _
     (memory_of_value _ _ pgn _ (memory_of_value _ _ since _ (memory_of_value _ _ until _ (memory_checked _ _ _ tt)))))))
-is_parsed program (faults bus table conversion all changes now csv json file) = parsed program faults_app (faults bus table conversion all changes now csv json file) [] _
-    (record { step = refl; passes = refl; found = refl; checks = refl }) refl refl refl (memory_of_bus bus _ (memory_of_value _ _ conversion _ (memory_checked _ _ _ (memory_checked _ _ _ tt))))
-is_parsed program (nodes bus from csv json file) = parsed program nodes_app (nodes bus from csv json file) [] _
-    (record { step = refl; passes = refl; found = refl; checks = refl }) refl refl refl (memory_of_bus bus _ (memory_of_value _ _ from _ (memory_checked _ _ _ tt)))
-is_parsed program (answer node address bus file) = parsed program answer_app (answer node address bus file)
-    (option (codes "name") (Some node) ∷ option (codes "address") (Some address) ∷ []) _
-    (record { step = refl; passes = refl; found = refl; checks = refl }) refl refl refl
+is_parsed program (faults bus table conversion all changes now csv json file) =
+    parsed_each program faults_app (faults bus table conversion all changes now csv json file) [] (before_each (form_of (faults bus table conversion all changes now csv json file)).arguments) file_rule file (takes_file refl) refl refl (λ text more. refl)
+    (record { step = refl; passes = refl; found = refl; checks = refl }) refl refl (memory_of_bus bus _ (memory_of_value _ _ conversion _ (memory_checked _ _ _ (memory_checked _ _ _ tt))))
+is_parsed program (nodes bus from csv json file) =
+    parsed_each program nodes_app (nodes bus from csv json file) [] (before_each (form_of (nodes bus from csv json file)).arguments) file_rule file (takes_file refl) refl refl (λ text more. refl)
+    (record { step = refl; passes = refl; found = refl; checks = refl }) refl refl (memory_of_bus bus _ (memory_of_value _ _ from _ (memory_checked _ _ _ tt)))
+is_parsed program (answer node address bus file) = parsed_each program answer_app (answer node address bus file)
+    (option (codes "name") (Some node) ∷ option (codes "address") (Some address) ∷ []) (option (codes "bus") bus ∷ []) file_rule file (takes_file refl)
+    refl refl (λ text more. refl) (record { step = refl; passes = refl; found = refl; checks = refl }) refl refl
     (memory_checked _ _ _ (memory_checked _ _ _ (memory_of_bus bus _ tt)))
-is_parsed program (id hex) = parsed program id_app (id hex) (value (codes "hex") (Some hex) ∷ []) _
-    (record { step = refl; passes = refl; found = refl; checks = refl }) refl refl refl (memory_checked _ _ _ tt)
-is_parsed program (name hex) = parsed program name_app (name hex) (value (codes "hex") (Some hex) ∷ []) _
-    (record { step = refl; passes = refl; found = refl; checks = refl }) refl refl refl (memory_checked _ _ _ tt)
+is_parsed program (id hex) = parsed program id_app (id hex) (value (codes "hex") (Some hex) ∷ []) [] refl
+    (record { step = refl; passes = refl; found = refl; checks = refl }) refl refl (memory_checked _ _ _ tt)
+is_parsed program (name hex) = parsed program name_app (name hex) (value (codes "hex") (Some hex) ∷ []) [] refl
+    (record { step = refl; passes = refl; found = refl; checks = refl }) refl refl (memory_checked _ _ _ tt)
 is_parsed program (cut source pgn moment bus hex) = parsed program cut_app (cut source pgn moment bus hex)
     (option (codes "source") (Some source) ∷ option (codes "pgn") (Some pgn) ∷ option (codes "at") (Some moment)
-    ∷ option (codes "bus") (Some bus) ∷ value (codes "hex") (Some hex) ∷ []) _
-    (record { step = refl; passes = refl; found = refl; checks = refl }) refl refl refl
+    ∷ option (codes "bus") (Some bus) ∷ value (codes "hex") (Some hex) ∷ []) [] refl
+    (record { step = refl; passes = refl; found = refl; checks = refl }) refl refl
     (memory_checked _ _ _ (memory_checked _ _ _ (memory_checked _ _ _ (memory_checked _ _ _
     (memory_checked _ _ _ (memory_checked _ _ _ tt))))))
-is_parsed program (groups table) = parsed program groups_app (groups table) [] _
-    (record { step = refl; passes = refl; found = refl; checks = refl }) refl refl refl tt
-is_parsed program (survey bus table file) = parsed program survey_app (survey bus table file) [] _
-    (record { step = refl; passes = refl; found = refl; checks = refl }) refl refl refl (memory_of_bus bus _ tt)
+is_parsed program (groups table) = parsed program groups_app (groups table) [] (form_of (groups table)).arguments refl
+    (record { step = refl; passes = refl; found = refl; checks = refl }) refl refl tt
+is_parsed program (survey bus table file) =
+    parsed_each program survey_app (survey bus table file) [] (before_each (form_of (survey bus table file)).arguments) file_rule file (takes_file refl) refl refl (λ text more. refl)
+    (record { step = refl; passes = refl; found = refl; checks = refl }) refl refl (memory_of_bus bus _ tt)

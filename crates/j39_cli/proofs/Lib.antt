@@ -3,6 +3,7 @@ pub mod FieldLemmas
 pub mod DigitLemmas
 -- clap, from words to the command that it met: for `parse`
 pub mod PartLemmas
+pub mod EachLemmas
 pub mod TakenLemmas
 pub mod AskedLemmas
 pub mod ArgumentLemmas
@@ -10,5 +11,7 @@ pub mod CommandLemmas
 pub mod MetLemmas
 -- lists in one word: for `parse`
 pub mod ListLemmas
+-- logs one behind the other
+pub mod JoinedLemmas
 -- a run's faults: for `perform`
 pub mod RunLemmas

@@ -1,6 +1,6 @@
 -- From the command that clap met to the command that was spelled.
 use Rattle.std.proofs.Common.{◌≡◌, ◌∙◌, ◌∷◌, [], ap, codes, sym, subst, List, refl, Some, None, Option}
-use Rattle.std.specs.Prelude.{Result, Ok, Err, IfOk, Box, option_map}
+use Rattle.std.specs.Prelude.{Result, Ok, Err, IfOk, Box, option_map, unwrap_or}
 use Rattle.std.specs.Box.{box_value}
 use Rattle.std.specs.Result.{IsErr}
 use Rattle.clap.specs.Words.{Row, Text, first_value, rows_of, subcommand_name_of, subcommand_rows, subcommand_rows_of}
@@ -8,11 +8,11 @@ use Rattle.clap.specs.declared.parser.matches.ArgMatches.{ArgMatches}
 use Rattle.clap.specs.declared.parser.matches.ArgMatches.TheViews.{out-ArgMatches, out-SubCommand}
 use Rattle.clap.specs.declared.parser.matches.Found.{Found}
 use Rattle.clap.specs.declared.parser.matches.SubCommand.{SubCommand}
-use Rattle.clap.proofs.WalkLemmas.{first_value-rows}
+use Rattle.clap.proofs.WalkLemmas.{first_value-rows, raw_values-rows}
 use Rattle.j39_cli.specs.Answer.{Answer}
 use Rattle.j39_cli.specs.CommandWords as command
-use Rattle.j39_cli.specs.CommandWords.{CommandWords, HasTexts, IsAnswer, Tells, command_found, form_of, text_found}
-use Rattle.j39_cli.specs.Form.{ArgumentText, HasText, HaveTexts, flag, option, value}
+use Rattle.j39_cli.specs.CommandWords.{CommandWords, HasTexts, IsAnswer, Tells, command_found, form_of, text_found, texts_found}
+use Rattle.j39_cli.specs.Form.{ArgumentText, HasText, HaveTexts, flag, option, texts_of, value, values}
 use Rattle.j39_cli.specs.Rules.{is_given}
 
 name_of_met : (m : ArgMatches) → option_map (λ met. met.0) (subcommand_rows_of m) ≡ subcommand_name_of m
@@ -49,20 +49,26 @@ abbrev IsFound : Found → ArgumentText → Type 0
 IsFound found (option id text) = first_value found id ≡ text
 IsFound found (flag id is_set) = is_given (first_value found id) ≡ is_set
 IsFound found (value id text) = first_value found id ≡ text
+IsFound found (values id texts) = texts_found found id ≡ texts
+
+-- all texts of an argument, and of its row
+pub texts_found-rows : (found : Found) (id : Text) → texts_found found id ≡ texts_of id (rows_of found)
+texts_found-rows found id = ap (λ (texts : Option (List Text)). unwrap_or texts []) (raw_values-rows found id)
 
 -- these are the texts that were found
 abbrev pub AreFound : Found → List ArgumentText → Type 0
 AreFound found [] = Unit {0}
 AreFound found (x ∷ xs) = IsFound found x × AreFound found xs
 
-texts_found : (found : Found) (xs : List ArgumentText) → AreFound found xs → HaveTexts (rows_of found) xs
-texts_found found [] are = tt
-texts_found found (x ∷ xs) are = (of x are.0, texts_found found xs are.1)
+have_texts : (found : Found) (xs : List ArgumentText) → AreFound found xs → HaveTexts (rows_of found) xs
+have_texts found [] are = tt
+have_texts found (x ∷ xs) are = (of x are.0, have_texts found xs are.1)
   where
     of : (x : ArgumentText) → IsFound found x → HasText (rows_of found) x
     of (option id text) is = sym (first_value-rows found id) ∙ is
     of (flag id is_set) is = ap is_given (sym (first_value-rows found id)) ∙ is
     of (value id text) is = sym (first_value-rows found id) ∙ is
+    of (values id texts) is = sym (texts_found-rows found id) ∙ is
 
 found_texts : (found : Found) (xs : List ArgumentText) → HaveTexts (rows_of found) xs → AreFound found xs
 found_texts found [] have = tt
@@ -72,6 +78,7 @@ found_texts found (x ∷ xs) have = (of x have.0, found_texts found xs have.1)
     of (option id text) is = first_value-rows found id ∙ is
     of (flag id is_set) is = ap is_given (first_value-rows found id) ∙ is
     of (value id text) is = first_value-rows found id ∙ is
+    of (values id texts) is = texts_found-rows found id ∙ is
 
 is_text_found : (found : Found) (id text : Text) → first_value found id ≡ Some text → text ≡ text_found found id
 is_text_found found id text is = rw is
@@ -112,7 +119,7 @@ if_ok_any (Err e) P p = tt
 pub tells : (called : Text) (found : Found) (r : Answer) (s : CommandWords) → called ≡ (form_of s).called
     → AreFound found (form_of s).arguments → IsAnswer s r → Tells called found r
 tells called found r s named are answers =
-    let texts : HasTexts s (called, rows_of found) = (named, texts_found found (form_of s).arguments are) in
+    let texts : HasTexts s (called, rows_of found) = (named, have_texts found (form_of s).arguments are) in
     let is = is_met s called found texts in
     record {
       answer = λ other theirs.

@@ -45,7 +45,7 @@ value_walked rules None w word =
     let met = value_met rules w.is_trailing w.waiting word w.held in
     after_step rules word w met.0 met.1
 
-abbrev part_walked : List Rule → Walk → Part → Walk
+abbrev pub part_walked : List Rule → Walk → Part → Walk
 part_walked rules w (written word) = walked rules [] w word
 part_walked rules w (given word) = value_walked rules w.stopped w word
 
@@ -93,7 +93,7 @@ walked-part rules w (given word) is_part = go w.stopped is_part
         (word_met-value rules w.is_trailing w.waiting w.position word w.held is_value)
 
 -- whether clap takes the part
-abbrev part_passes : Shape → Walk → Part → Bool
+abbrev pub part_passes : Shape → Walk → Part → Bool
 part_passes s w (written word) = turn_passes s [] w word
 part_passes s w (given word) =
     let met = value_met s.rules w.is_trailing w.waiting word w.held in
@@ -107,7 +107,7 @@ turn_passes-part s w (given word) is_part = ap₂ (λ (b : Bool) (met : Held × 
 
 -- ---- the whole walk at a level with no subcommands
 
-abbrev parts_walk : List Rule → Walk → List Part → Walk
+abbrev pub parts_walk : List Rule → Walk → List Part → Walk
 parts_walk rules w xs = fold (part_walked rules) w xs
 
 walk-parts : (rules : List Rule) (w : Walk) (xs : List Part) → AreParts xs → fold (walked rules []) w (map text_of xs) ≡ parts_walk rules w xs

@@ -6,12 +6,11 @@ use Rattle.clap.specs.Simple.{built_leaf}
 use Rattle.clap.specs.Walk.{finished}
 use Rattle.clap.proofs.OnLiterals.{clap_on_literals}
 use Rattle.j39_log.specs.Bus.{IsBusName}
-use Rattle.j39_cli.specs.Answer.{Answer, IsBusChecked, IsChecked, IsInput, IsValueChecked, IsValueRead, IsWrong}
+use Rattle.j39_cli.specs.Answer.{Answer, IsBusChecked, IsBusRead, IsChecked, IsValueChecked, IsValueRead, IsWrong}
 use Rattle.j39_cli.specs.Command.{line_app}
 use Rattle.j39_cli.specs.CommandWords.{CommandWords, HasTexts, HasValues, IsAnswer, words_of}
 use Rattle.j39_cli.specs.declared.task.Argument.{Argument}
 use Rattle.j39_cli.specs.declared.task.Argument.TheVariants.{Bus}
-use Rattle.j39_cli.specs.declared.task.LogInput.{LogInput}
 use Rattle.j39_cli.specs.declared.task.ParseFault.{ParseFault}
 use Rattle.j39_cli.specs.declared.task.ParseFault.TheVariants.{Memory}
 use Rattle.j39_cli.proofs.PartLemmas.{AreParts, Enters, Part, built_takes-enters, entered-enters, held_after}
@@ -74,17 +73,14 @@ memory_of_value InRange a (Some text) Next next = memory_checked (InRange text) 
 
 -- ---- values that were read
 
-pub input_read : (text file : Option Text) (input : LogInput) (Next : Answer → Type 0) (r : Answer) → IsInput text file (Ok input)
-    → (input.bus ≡ text → input.file ≡ file → Next r) → IsBusChecked text Next r
-input_read None file input Next r is next = next is.0 is.1
-input_read (Some name) file input Next r is next = record {
-  in_range = λ _. next is.1 is.2;
-  wrong = λ other. absurd (other is.0);
-}
+pub bus_read : (text read : Option Text) (Next : Answer → Type 0) (r : Answer) → IsBusRead text (Ok read)
+    → (read ≡ text → Next r) → IsBusChecked text Next r
+bus_read None read Next r is next = next (cc)
+bus_read (Some name) read Next r is next = record { in_range = λ _. next is.1; wrong = λ other. absurd (other is.0) }
 
-pub input_wrong : (text file : Option Text) (e : ParseFault) (Next : Answer → Type 0) → IsInput text file (Err e) → IsBusChecked text Next (Err e)
-input_wrong None file e Next is = absurd is
-input_wrong (Some name) file e Next is = record {
+pub bus_wrong : (text : Option Text) (e : ParseFault) (Next : Answer → Type 0) → IsBusRead text (Err e) → IsBusChecked text Next (Err e)
+bus_wrong None e Next is = absurd (cc)
+bus_wrong (Some name) e Next is = record {
   in_range = λ right. absurd (is.0 right);
   wrong = λ _. subst (λ (f : ParseFault). IsWrong Bus (let r : Answer = Err f in r)) (sym is.1) refl;
 }

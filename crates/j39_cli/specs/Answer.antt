@@ -1,5 +1,5 @@
 -- What answers a command: its task, or why there is none.
-use Rattle.std.specs.Prelude.{◌≡◌, ℕ, List, Option, Some, None, Result, Ok, Err, codes}
+use Rattle.std.specs.Prelude.{◌≡◌, ◌≢◌, ℕ, List, [], Option, Some, None, Result, Ok, Err, codes}
 use Rattle.clap.specs.Words.{Text}
 use Rattle.j39_log.specs.Bus.{IsBusName}
 use Rattle.j39_cli.specs.declared.task.Argument.{Argument}
@@ -63,14 +63,7 @@ abbrev pub IsValueChecked : (Text → Type 0) → Argument → Option Text → (
 IsValueChecked InRange a None Next r = Next r
 IsValueChecked InRange a (Some text) Next r = IsChecked (InRange text) a Next r
 
--- ---- what is read of `--bus` and FILE, and of a value that may be left out
-
--- the name of the bus, where it is in range, and FILE; else that the name is wrong
-abbrev pub IsInput : Option Text → Option Text → Result LogInput ParseFault → Type 0
-IsInput None file (Ok input) = (input.bus ≡ None) × (input.file ≡ file)
-IsInput None file (Err e) = ⊥
-IsInput (Some text) file (Ok input) = IsBusName text × (input.bus ≡ Some text) × (input.file ≡ file)
-IsInput (Some text) file (Err e) = (¬ IsBusName text) × (e ≡ fault.BadValue argument.Bus)
+-- ---- what is read of a value that may be left out, and of FILE
 
 -- what the text stands for, where it is in range; else that it is wrong
 abbrev pub IsValueRead : {T : Type 0} → (Text → Type 0) → (Text → T) → Argument → Option Text → Result (Option T) ParseFault
@@ -78,3 +71,12 @@ abbrev pub IsValueRead : {T : Type 0} → (Text → Type 0) → (Text → T) →
 IsValueRead InRange value a None r = r ≡ Ok None
 IsValueRead InRange value a (Some text) (Ok read) = InRange text × (read ≡ Some (value text))
 IsValueRead InRange value a (Some text) (Err e) = (¬ InRange text) × (e ≡ fault.BadValue a)
+
+-- the same of `--bus`, which stands for itself
+abbrev pub IsBusRead : Option Text → Result (Option (List ℕ)) ParseFault → Type 0
+IsBusRead text r = IsValueRead IsBusName (λ name. name) argument.Bus text r
+
+-- the log of the bus, and of each FILE; else memory to keep them was refused
+abbrev pub IsInput : Option Text → List Text → Result LogInput ParseFault → Type 0
+IsInput bus file (Ok input) = (input.bus ≡ bus) × (input.file ≡ file)
+IsInput bus file (Err e) = (e ≡ fault.Memory) × (file ≢ [])

@@ -1,4 +1,4 @@
--- The command `answer --name H --address N [--bus B] [FILE]`.
+-- The command `answer --name H --address N [--bus B] [FILE]..`.
 use Rattle.std.specs.Prelude.{◌≡◌, ◌<◌, ◌^◌, ◌∷◌, [], ℕ, true, List, Option, Some, codes}
 use Rattle.std.specs.Option.{ForSome}
 use Rattle.std.specs.Str.Parse.{digits_value}
@@ -11,7 +11,7 @@ use Rattle.j39_listen.specs.Asking.{AsksForBoxes}
 use Rattle.j39_listen.specs.Output.{MakesAnswers}
 use Rattle.j39_cli.specs.Answer.{IsBusChecked, IsChecked, IsTask}
 use Rattle.j39_cli.specs.Numbers.{IsNumberBelow}
-use Rattle.j39_cli.specs.Form.{Form, Meaning, option, value}
+use Rattle.j39_cli.specs.Form.{Form, Meaning, option, values}
 use Rattle.j39_cli.specs.LogCommand.{runs, with_log}
 use Rattle.j39_cli.specs.NameCommand.{IsNameText}
 use Rattle.j39_cli.specs.Rules.{option_rule}
@@ -24,16 +24,16 @@ abbrev pub answer_app : App
 answer_app = with_log (with_rule (with_rule (new_app (codes "answer")) (option_rule (codes "name") true))
     (option_rule (codes "address") true))
 
-abbrev pub IsNodeTask : ℕ → ℕ → Option (List ℕ) → Option (List ℕ) → Task → Type 0
+abbrev pub IsNodeTask : ℕ → ℕ → Option (List ℕ) → List (List ℕ) → Task → Type 0
 IsNodeTask node address bus file (Answer node' address' input) =
     (name_raw node' ≡ node) × (address' ≡ address) × (input.bus ≡ bus) × (input.file ≡ file)
 IsNodeTask node address bus file t = ⊥
 
-abbrev pub answer_form : Text → Text → Option Text → Option Text → Form
+abbrev pub answer_form : Text → Text → Option Text → List Text → Form
 answer_form node address bus file = record {
   called = codes "answer";
   arguments = option (codes "name") (Some node) ∷ option (codes "address") (Some address) ∷ option (codes "bus") bus
-      ∷ value (codes "file") file ∷ [];
+      ∷ values (codes "file") file ∷ [];
   Answers = IsChecked (IsNameText node) argument.Name (IsChecked (IsNumberBelow 254 address) argument.Address
       (IsBusChecked bus (IsTask (IsNodeTask (digits_value 16 node) (digits_value 10 address) bus file))));
 }

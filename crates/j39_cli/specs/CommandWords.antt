@@ -1,11 +1,11 @@
 -- The commands, each with the texts of its values.
-use Rattle.std.specs.Prelude.{◌≡◌, ◌≢◌, ◌∷◌, [], Bool, List, Option, Err, IfOk, codes, if◌then◌else◌}
+use Rattle.std.specs.Prelude.{◌≡◌, ◌∷◌, [], Bool, List, Option, Err, IfOk, codes, if◌then◌else◌, option_map, unwrap_or}
 use Rattle.std.specs.Option.{option_map_or}
 use Rattle.std.specs.Str.{bytes_eq}
-use Rattle.clap.specs.Words.{Row, Text, first_value, rows_of}
+use Rattle.clap.specs.Words.{Row, Text, first_value, matched_of, raw_values, rows_of}
 use Rattle.clap.specs.declared.parser.matches.Found.{Found}
 use Rattle.j39_cli.specs.Answer.{Answer}
-use Rattle.j39_cli.specs.Form.{Form, HaveTexts, HaveValues, words_in}
+use Rattle.j39_cli.specs.Form.{Form, HaveTexts, HaveValues, WantsMemory, words_in}
 use Rattle.j39_cli.specs.AnswerCommand.{answer_form}
 use Rattle.j39_cli.specs.CutCommand.{cut_form}
 use Rattle.j39_cli.specs.FaultsCommand.{faults_form}
@@ -23,17 +23,17 @@ use Rattle.j39_cli.specs.declared.task.ParseFault.TheVariants.{Memory}
 -- a command with the texts of its values, in the order of its spelling
 pub data CommandWords : Type 0 where
   report : Option Text → Option Text → Option Text → Option Text → Option Text → Option Text → Option Text → Option Text → Bool → Bool
-      → Option Text → CommandWords
-  summary : Option Text → Option Text → Option Text → Option Text → Option Text → Option Text → Option Text → Bool → Bool → Option Text
+      → List Text → CommandWords
+  summary : Option Text → Option Text → Option Text → Option Text → Option Text → Option Text → Option Text → Bool → Bool → List Text
       → CommandWords
-  faults : Option Text → Option Text → Option Text → Bool → Bool → Bool → Bool → Bool → Option Text → CommandWords
-  nodes : Option Text → Option Text → Bool → Bool → Option Text → CommandWords
-  answer : Text → Text → Option Text → Option Text → CommandWords
+  faults : Option Text → Option Text → Option Text → Bool → Bool → Bool → Bool → Bool → List Text → CommandWords
+  nodes : Option Text → Option Text → Bool → Bool → List Text → CommandWords
+  answer : Text → Text → Option Text → List Text → CommandWords
   id : Text → CommandWords
   name : Text → CommandWords
   cut : Text → Text → Text → Text → Text → CommandWords
   groups : Option Text → CommandWords
-  survey : Option Text → Option Text → Option Text → CommandWords
+  survey : Option Text → Option Text → List Text → CommandWords
 
 abbrev pub form_of : CommandWords → Form
 form_of (report bus table spn from to pgn since until csv json file) = report_form bus table spn from to pgn since until csv json file
@@ -62,6 +62,10 @@ HasTexts s met = (met.0 ≡ (form_of s).called) × HaveTexts met.1 (form_of s).a
 abbrev pub text_found : Found → Text → Text
 text_found found argument = option_map_or (λ text. text) (first_value found argument) []
 
+-- the texts of an argument that takes as many as there are
+abbrev pub texts_found : Found → Text → List Text
+texts_found found argument = unwrap_or (option_map raw_values (matched_of found argument)) []
+
 -- the command of this name, which clap knows, with the texts that are found
 abbrev pub command_found : Text → Found → CommandWords
 command_found called found =
@@ -69,7 +73,7 @@ command_found called found =
     let table = first_value found (codes "table") in
     let csv = is_given (first_value found (codes "csv")) in
     let json = is_given (first_value found (codes "json")) in
-    let file = first_value found (codes "file") in
+    let file = texts_found found (codes "file") in
     let from = first_value found (codes "from") in
     let to = first_value found (codes "to") in
     let pgn = first_value found (codes "pgn") in
@@ -95,10 +99,10 @@ command_found called found =
 abbrev pub IsAnswer : CommandWords → Answer → Type 0
 IsAnswer s r = (form_of s).Answers r
 
--- what is answered at once: no memory is wanted, and a task is in range
+-- what is answered: memory is wanted for FILE alone, where it is given, and a task is in range
 pub record IsAnswered (s : CommandWords) (r : Answer) : Type 0 where
   pub answer : IsAnswer s r
-  pub memory : r ≢ Err Memory
+  pub memory : r ≡ Err Memory → WantsMemory (form_of s).arguments
   pub in_range : IfOk r IsInRange
 
 -- each command of this name that has these texts is answered, and each task is that of one

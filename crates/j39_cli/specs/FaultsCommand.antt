@@ -1,4 +1,4 @@
--- The command `faults [--bus B] [--table T] [--conversion C] [--all | --changes | --now] [--csv | --json] [FILE]`.
+-- The command `faults [--bus B] [--table T] [--conversion C] [--all | --changes | --now] [--csv | --json] [FILE]..`.
 use Rattle.std.specs.Prelude.{◌≡◌, ◌≢◌, ◌⊎◌, ◌∷◌, [], ℕ, Bool, true, false, List, Option, Some, None, Result, Ok, Err, codes, option_map, unwrap_or}
 use Rattle.std.specs.Option.{ForSome}
 use Rattle.j39_io.specs.Turn.{Turn, Writes}
@@ -18,8 +18,8 @@ use Rattle.j39_reports.specs.declared.fault_news.telling.Telling.TheVariants.{Ne
 use Rattle.j39_cli.specs.Answer.{IsBusChecked, IsChecked, IsTask, IsValueChecked}
 use Rattle.j39_cli.specs.Conversions.{IsConversionList, conversions_in}
 use Rattle.j39_cli.specs.declared.task.Argument.TheVariants as argument
-use Rattle.j39_cli.specs.Form.{Form, Meaning, flag, option, value}
-use Rattle.j39_cli.specs.LogCommand.{fault_text, log_limit, opened_of, with_forms, with_log, written_by}
+use Rattle.j39_cli.specs.Form.{Form, Meaning, flag, option, values}
+use Rattle.j39_cli.specs.LogCommand.{fault_text, log_limit, with_forms, with_log, written_by}
 use Rattle.j39_cli.specs.Counted.{fault_counts_text}
 use Rattle.j39_cli.specs.Refusal.{error_line}
 use Rattle.j39_cli.specs.Rules.{flag_rule, option_rule, with_table}
@@ -45,18 +45,18 @@ told_by true true now = None
 told_by true false true = None
 told_by false true true = None
 
-abbrev pub IsFaultsTask : Option (List ℕ) → Option (List ℕ) → Option (List ℕ) → Bool → Bool → Bool → Bool → Bool → Option (List ℕ) → Task → Type 0
+abbrev pub IsFaultsTask : Option (List ℕ) → Option (List ℕ) → Option (List ℕ) → Bool → Bool → Bool → Bool → Bool → List (List ℕ) → Task → Type 0
 IsFaultsTask bus table conversion all changes now csv json file (Faults input table' conversions told format) =
     (input.bus ≡ bus) × (table' ≡ table) × (conversions ≡ option_map conversions_in conversion)
     × (told_by all changes now ≡ Some told) × (written_by csv json ≡ Some format) × (input.file ≡ file)
 IsFaultsTask bus table conversion all changes now csv json file t = ⊥
 
-abbrev pub faults_form : Option Text → Option Text → Option Text → Bool → Bool → Bool → Bool → Bool → Option Text → Form
+abbrev pub faults_form : Option Text → Option Text → Option Text → Bool → Bool → Bool → Bool → Bool → List Text → Form
 faults_form bus table conversion all changes now csv json file = record {
   called = codes "faults";
   arguments = option (codes "bus") bus ∷ option (codes "table") table ∷ option (codes "conversion") conversion
       ∷ flag (codes "all") all ∷ flag (codes "changes") changes ∷ flag (codes "now") now ∷ flag (codes "csv") csv ∷ flag (codes "json") json
-      ∷ value (codes "file") file ∷ [];
+      ∷ values (codes "file") file ∷ [];
   Answers = IsBusChecked bus (IsValueChecked IsConversionList argument.Conversion conversion
       (IsChecked (told_by all changes now ≢ None) argument.Together
       (IsChecked (written_by csv json ≢ None) argument.Forms
@@ -91,7 +91,7 @@ pub record IsFaultsRun (makes : Making) (asks : Wanting) (bus : Option (List ℕ
 
 abbrev pub faults_meaning : LogInput → Option (List ℕ) → Option (List Conversion) → FaultsTold → Format → Meaning
 faults_meaning input table conversions told format = record {
-  file = opened_of input.file;
+  file = input.file;
   table = table;
   InRange = ForSome input.bus IsBusName;
   reads_log = true;

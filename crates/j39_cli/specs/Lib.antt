@@ -16,6 +16,8 @@ pub mod Refused
 -- the commands, each with its words, its task and what it writes
 pub mod LogCommand
 pub mod FilterWords
+pub mod Joined
+pub mod JoinedSoFar
 pub mod ReportCommand
 pub mod SummaryCommand
 pub mod FaultsCommand

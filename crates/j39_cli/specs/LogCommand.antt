@@ -1,5 +1,5 @@
 -- What the commands that read a log have in common.
-use Rattle.std.specs.Prelude.{◌≡◌, ◌⊎◌, ℕ, Bool, true, false, ◌++◌, List, [], Option, None, Some, Result, Ok, Err, if◌then◌else◌, codes, decimal}
+use Rattle.std.specs.Prelude.{◌≡◌, ◌⊎◌, ℕ, Bool, true, false, ◌++◌, ◌∷◌, List, [], Option, None, Result, Ok, Err, if◌then◌else◌, codes, decimal}
 use Rattle.std.specs.Str.{bytes_eq}
 use Rattle.std.specs.Option.{ForSome}
 use Rattle.j39_io.specs.Turn.{Turn, Writes}
@@ -14,16 +14,16 @@ use Rattle.j39_listen.specs.declared.counts.Counts.{Counts}
 use Rattle.j39_listen.specs.declared.running.RunFault.{RunFault}
 use Rattle.j39_listen.specs.declared.running.RunFault.TheVariants.{Memory, Read, Write, TooLong}
 use Rattle.j39_cli.specs.Form.{Meaning}
-use Rattle.j39_cli.specs.Rules.{flag_rule, option_rule, value_rule}
+use Rattle.j39_cli.specs.Rules.{flag_rule, option_rule, values_rule}
 use Rattle.j39_cli.specs.Counted.{counts_text}
 use Rattle.j39_cli.specs.Refusal.{error_line}
 use Rattle.j39_listen.specs.declared.format.Format.{Format}
 use Rattle.j39_listen.specs.declared.format.Format.TheVariants.{Line, Object, Record}
 use Rattle.j39_cli.specs.declared.task.LogInput.{LogInput}
 
--- a command that reads a log takes `--bus` and FILE
+-- a command that reads a log takes `--bus`, and as many FILEs as there are
 abbrev pub with_log : App → App
-with_log command = with_rule (with_rule command (option_rule (codes "bus") false)) (value_rule (codes "file") false)
+with_log command = with_rule (with_rule command (option_rule (codes "bus") false)) (values_rule (codes "file"))
 
 -- a command that writes in each form takes `--csv` and `--json`
 abbrev pub with_forms : App → App
@@ -36,10 +36,14 @@ written_by true false = Some Record
 written_by false true = Some Object
 written_by true true = None
 
--- the file that FILE names: none where it isn't given, or is `-`, which stands for standard input
-abbrev pub opened_of : Option (List ℕ) → Option (List ℕ)
-opened_of None = None
-opened_of (Some file) = if bytes_eq file (codes "-") then None else Some file
+-- FILE may stand for standard input
+abbrev pub is_input : List ℕ → Bool
+is_input file = bytes_eq file (codes "-")
+
+-- what is read, one behind the other: where no FILE is given, standard input
+abbrev pub inputs_of : List (List ℕ) → List (List ℕ)
+inputs_of [] = codes "-" ∷ []
+inputs_of (file ∷ files) = file ∷ files
 
 -- the most bytes of a log that the program reads, 16 GiB
 abbrev pub log_limit : ℕ
@@ -67,7 +71,7 @@ pub record IsRun (asks : Wanting) (makes : Making) (bus : Option (List ℕ)) (st
 -- the task of a run: what it asks and makes may go by a table of parameters
 abbrev pub runs : (List RowRecord → Wanting) → (List RowRecord → Making) → LogInput → Meaning
 runs asks makes input = record {
-  file = opened_of input.file;
+  file = input.file;
   table = None;
   InRange = ForSome input.bus IsBusName;
   reads_log = true;

@@ -1,4 +1,4 @@
--- The command `report [--bus B] [--table T] [--spn SPN,..] [--from A,..] [--to A,..] [--pgn PGN,..] [--since T] [--until T] [--csv | --json] [FILE]`.
+-- The command `report [--bus B] [--table T] [--spn SPN,..] [--from A,..] [--to A,..] [--pgn PGN,..] [--since T] [--until T] [--csv | --json] [FILE]..`.
 use Rattle.std.specs.Prelude.{◌≡◌, ◌≢◌, ◌⊎◌, ◌∷◌, ℕ, Bool, true, false, List, [], Option, None, Some, codes, option_map}
 use Rattle.std.specs.Option.{ForSome}
 use Rattle.j39_io.specs.Turn.{Turn, Writes}
@@ -17,8 +17,8 @@ use Rattle.j39_reports.specs.EntryText.{header_text}
 use Rattle.j39_cli.specs.Answer.{IsBusChecked, IsChecked, IsTask, IsValueChecked}
 use Rattle.j39_cli.specs.Asked.{IsAddressList, IsAsked, IsMoment, IsPgnList, IsSenderList, filter_in}
 use Rattle.j39_cli.specs.FilterWords.{with_filter}
-use Rattle.j39_cli.specs.Form.{Form, Meaning, flag, option, value}
-use Rattle.j39_cli.specs.LogCommand.{IsRun, fault_text, opened_of, with_forms, with_log, written_by}
+use Rattle.j39_cli.specs.Form.{Form, Meaning, flag, option, values}
+use Rattle.j39_cli.specs.LogCommand.{IsRun, fault_text, with_forms, with_log, written_by}
 use Rattle.j39_cli.specs.Refusal.{error_line}
 use Rattle.j39_cli.specs.Rules.{option_rule, with_table}
 use Rattle.j39_cli.specs.Spns.{IsSpnList, spns_in}
@@ -37,19 +37,19 @@ report_app =
     with_log (with_forms (with_filter (with_rule (with_table (new_app (codes "report"))) (option_rule (codes "spn") false))))
 
 abbrev pub IsReportTask : Option (List ℕ) → Option (List ℕ) → Option (List ℕ) → Option (List ℕ) → Option (List ℕ) → Option (List ℕ)
-    → Option (List ℕ) → Option (List ℕ) → Bool → Bool → Option (List ℕ) → Task → Type 0
+    → Option (List ℕ) → Option (List ℕ) → Bool → Bool → List (List ℕ) → Task → Type 0
 IsReportTask bus table spn from to pgn since until csv json file (Report input table' spns asked format) =
     (input.bus ≡ bus) × (table' ≡ table) × (spns ≡ option_map spns_in spn) × IsAsked from to pgn since until asked
     × (written_by csv json ≡ Some format) × (input.file ≡ file)
 IsReportTask bus table spn from to pgn since until csv json file t = ⊥
 
 abbrev pub report_form : Option Text → Option Text → Option Text → Option Text → Option Text → Option Text → Option Text → Option Text
-    → Bool → Bool → Option Text → Form
+    → Bool → Bool → List Text → Form
 report_form bus table spn from to pgn since until csv json file = record {
   called = codes "report";
   arguments = option (codes "bus") bus ∷ option (codes "table") table ∷ option (codes "spn") spn
       ∷ option (codes "from") from ∷ option (codes "to") to ∷ option (codes "pgn") pgn ∷ option (codes "since") since
-      ∷ option (codes "until") until ∷ flag (codes "csv") csv ∷ flag (codes "json") json ∷ value (codes "file") file ∷ [];
+      ∷ option (codes "until") until ∷ flag (codes "csv") csv ∷ flag (codes "json") json ∷ values (codes "file") file ∷ [];
   Answers = IsBusChecked bus (IsValueChecked IsSpnList argument.Spn spn (IsValueChecked IsSenderList argument.From from
       (IsValueChecked IsAddressList argument.To to (IsValueChecked IsPgnList argument.Pgn pgn
       (IsValueChecked IsMoment argument.Since since (IsValueChecked IsMoment argument.Until until
@@ -83,7 +83,7 @@ IsReportRun (Some spns) which format rows bus status log out err =
 
 abbrev pub report_meaning : LogInput → Option (List ℕ) → Option (List ℕ) → Asked → Format → Meaning
 report_meaning input table spns asked format = record {
-  file = opened_of input.file;
+  file = input.file;
   table = table;
   InRange = ForSome input.bus IsBusName;
   reads_log = true;

@@ -3,7 +3,7 @@ use Rattle.std.specs.Prelude.{◌≡◌, Bool, false, IfOk, Option, None, Result
 use Rattle.clap.specs.Words.{App, Rule, Text, app_of, new_rule, with_rule}
 use Rattle.clap.specs.declared.builder.command.Command.{Command}
 use Rattle.clap.specs.declared.builder.command.Command.TheViews.{out-Command as settings_of}
-use Rattle.clap.specs.declared.builder.action.ArgAction.TheVariants.{SetTrue}
+use Rattle.clap.specs.declared.builder.action.ArgAction.TheVariants.{Append, SetTrue}
 
 -- `--name VALUE`
 abbrev pub option_rule : Text → Bool → Rule
@@ -12,6 +12,10 @@ option_rule name is_required = record (new_rule name) { long = Some name; value_
 -- a value that stands alone
 abbrev pub value_rule : Text → Bool → Rule
 value_rule name is_required = record (new_rule name) { value_names = 1; required = is_required }
+
+-- as many values as there are, each of which stands alone
+abbrev pub values_rule : Text → Rule
+values_rule name = record (new_rule name) { value_names = 1; action = Some Append }
 
 -- `--name`, a flag
 abbrev pub flag_rule : Text → Rule

@@ -1,11 +1,11 @@
--- The command `summary [--bus B] [--table T] [--from A,..] [--to A,..] [--pgn PGN,..] [--since T] [--until T] [--csv | --json] [FILE]`.
+-- The command `summary [--bus B] [--table T] [--from A,..] [--to A,..] [--pgn PGN,..] [--since T] [--until T] [--csv | --json] [FILE]..`.
 use Rattle.std.specs.Prelude.{◌≡◌, ◌≢◌, ◌∷◌, [], ℕ, Bool, List, None, Option, Some, codes}
 use Rattle.clap.specs.Words.{App, Text, new_app}
 use Rattle.j39_reports.specs.SummaryRun.{AsksForRows, MakesSummary}
 use Rattle.j39_cli.specs.Answer.{IsBusChecked, IsChecked, IsTask, IsValueChecked}
 use Rattle.j39_cli.specs.Asked.{IsAddressList, IsAsked, IsMoment, IsPgnList, IsSenderList, filter_in}
 use Rattle.j39_cli.specs.FilterWords.{with_filter}
-use Rattle.j39_cli.specs.Form.{Form, Meaning, flag, option, value}
+use Rattle.j39_cli.specs.Form.{Form, Meaning, flag, option, values}
 use Rattle.j39_cli.specs.LogCommand.{runs, with_forms, with_log, written_by}
 use Rattle.j39_cli.specs.Rules.{with_table}
 use Rattle.j39_listen.specs.declared.format.Format.{Format}
@@ -19,19 +19,19 @@ abbrev pub summary_app : App
 summary_app = with_log (with_forms (with_filter (with_table (new_app (codes "summary")))))
 
 abbrev pub IsSummaryTask : Option (List ℕ) → Option (List ℕ) → Option (List ℕ) → Option (List ℕ) → Option (List ℕ) → Option (List ℕ)
-    → Option (List ℕ) → Bool → Bool → Option (List ℕ) → Task → Type 0
+    → Option (List ℕ) → Bool → Bool → List (List ℕ) → Task → Type 0
 IsSummaryTask bus table from to pgn since until csv json file (Summary input table' asked format) =
     (input.bus ≡ bus) × (table' ≡ table) × IsAsked from to pgn since until asked × (written_by csv json ≡ Some format)
     × (input.file ≡ file)
 IsSummaryTask bus table from to pgn since until csv json file t = ⊥
 
 abbrev pub summary_form : Option Text → Option Text → Option Text → Option Text → Option Text → Option Text → Option Text → Bool → Bool
-    → Option Text → Form
+    → List Text → Form
 summary_form bus table from to pgn since until csv json file = record {
   called = codes "summary";
   arguments = option (codes "bus") bus ∷ option (codes "table") table ∷ option (codes "from") from ∷ option (codes "to") to
       ∷ option (codes "pgn") pgn ∷ option (codes "since") since ∷ option (codes "until") until ∷ flag (codes "csv") csv
-      ∷ flag (codes "json") json ∷ value (codes "file") file ∷ [];
+      ∷ flag (codes "json") json ∷ values (codes "file") file ∷ [];
   Answers = IsBusChecked bus (IsValueChecked IsSenderList argument.From from (IsValueChecked IsAddressList argument.To to
       (IsValueChecked IsPgnList argument.Pgn pgn (IsValueChecked IsMoment argument.Since since
       (IsValueChecked IsMoment argument.Until until (IsChecked (written_by csv json ≢ None) argument.Forms

@@ -1,4 +1,4 @@
--- The command `survey [--bus B] [--table T] [FILE]`.
+-- The command `survey [--bus B] [--table T] [FILE]..`.
 use Rattle.std.specs.Prelude.{◌≡◌, ◌⊎◌, ◌∷◌, ℕ, List, [], Option, Result, Ok, Err, codes, true}
 use Rattle.j39_io.specs.Turn.{Turn, Writes}
 use Rattle.std.specs.Option.{ForSome}
@@ -8,8 +8,8 @@ use Rattle.j39_groups.specs.Row.{RowRecord}
 use Rattle.j39_listen.specs.declared.running.RunFault.{RunFault}
 use Rattle.j39_reports.specs.SurveyRun.{Surveyed}
 use Rattle.j39_cli.specs.Answer.{IsBusChecked, IsTask}
-use Rattle.j39_cli.specs.Form.{Form, Meaning, option, value}
-use Rattle.j39_cli.specs.LogCommand.{fault_text, log_limit, opened_of, with_log}
+use Rattle.j39_cli.specs.Form.{Form, Meaning, option, values}
+use Rattle.j39_cli.specs.LogCommand.{fault_text, log_limit, with_log}
 use Rattle.j39_cli.specs.Refusal.{error_line}
 use Rattle.j39_cli.specs.Rules.{with_table}
 use Rattle.j39_cli.specs.declared.task.LogInput.{LogInput}
@@ -19,14 +19,14 @@ use Rattle.j39_cli.specs.declared.task.Task.TheVariants.{Survey}
 abbrev pub survey_app : App
 survey_app = with_log (with_table (new_app (codes "survey")))
 
-abbrev pub IsSurveyTask : Option (List ℕ) → Option (List ℕ) → Option (List ℕ) → Task → Type 0
+abbrev pub IsSurveyTask : Option (List ℕ) → Option (List ℕ) → List (List ℕ) → Task → Type 0
 IsSurveyTask bus table file (Survey input table') = (input.bus ≡ bus) × (table' ≡ table) × (input.file ≡ file)
 IsSurveyTask bus table file t = ⊥
 
-abbrev pub survey_form : Option Text → Option Text → Option Text → Form
+abbrev pub survey_form : Option Text → Option Text → List Text → Form
 survey_form bus table file = record {
   called = codes "survey";
-  arguments = option (codes "bus") bus ∷ option (codes "table") table ∷ value (codes "file") file ∷ [];
+  arguments = option (codes "bus") bus ∷ option (codes "table") table ∷ values (codes "file") file ∷ [];
   Answers = IsBusChecked bus (IsTask (IsSurveyTask bus table file));
 }
 
@@ -44,7 +44,7 @@ pub record IsSurvey (bus : Option (List ℕ)) (rows : List RowRecord) (status : 
 
 abbrev pub survey_meaning : LogInput → Option (List ℕ) → Meaning
 survey_meaning input table = record {
-  file = opened_of input.file;
+  file = input.file;
   table = table;
   InRange = ForSome input.bus IsBusName;
   reads_log = true;

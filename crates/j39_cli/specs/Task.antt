@@ -1,10 +1,12 @@
 -- What a task comes to.
-use Rattle.std.specs.Prelude.{ℕ, Bool, List, Option}
+use Rattle.std.specs.Prelude.{◌≡◌, ℕ, Bool, false, List, Option, count_by, nat_lt}
 use Rattle.j39_io.specs.Turn.{Turn}
 use Rattle.j39_address.specs.Name.{name_raw}
 use Rattle.j39_frame.specs.Identifier.{id_raw}
 use Rattle.j39_groups.specs.Row.{RowRecord}
 use Rattle.j39_cli.specs.Form.{Meaning}
+use Rattle.j39_cli.specs.Joined.{joined_known}
+use Rattle.j39_cli.specs.LogCommand.{is_input}
 use Rattle.j39_cli.specs.AnswerCommand.{answer_meaning}
 use Rattle.j39_cli.specs.CutCommand.{cut_meaning}
 use Rattle.j39_cli.specs.FaultsCommand.{faults_meaning}
@@ -30,9 +32,13 @@ meaning_of (Cut outgoing) = cut_meaning outgoing
 meaning_of (Groups table) = groups_meaning table
 meaning_of (Survey input table) = survey_meaning input table
 
--- the log that the task opens, where it opens one
-abbrev pub file_of : Task → Option (List ℕ)
-file_of t = (meaning_of t).file
+-- each FILE of the task
+abbrev pub files_of : Task → List (List ℕ)
+files_of t = (meaning_of t).file
+
+-- standard input is asked for twice among them, and it can be read once
+abbrev pub asks_input_twice : Task → Bool
+asks_input_twice t = nat_lt 1 (count_by is_input (files_of t))
 
 -- the table of parameters that the task names, where it may name one
 abbrev pub table_of : Task → Option (List ℕ)
@@ -46,6 +52,13 @@ IsInRange t = (meaning_of t).InRange
 -- writer
 abbrev pub IsPerformed : List RowRecord → Task → ℕ → Turn → Turn → Turn → Type 0
 IsPerformed table t status log out err = (meaning_of t).Performs table status log out err
+
+-- the same over what these hold, one behind the other, as one log that no fault has come to
+pub record IsPerformedOver (table : List RowRecord) (t : Task) (held : List (Option (List ℕ))) (status : ℕ) (out err : Turn) : Type 0 where
+  pub log : Turn
+  pub joined : log.old.bytes ≡ joined_known held
+  pub sound : log.old.has_failed ≡ false
+  pub performed : IsPerformed table t status log out err
 
 abbrev pub reads_log : Task → Bool
 reads_log t = (meaning_of t).reads_log

@@ -1,5 +1,5 @@
 //! The command `answer`: its words, and how it is performed.
-ghost use Rattle.std.specs.Prelude.{◌≡◌, ◌≢◌, ◌↔◌, IfOk, IfSome, IsSome, codes, false, true, Err};
+ghost use Rattle.std.specs.Prelude.{◌≡◌, ◌≢◌, ◌↔◌, [], IfOk, IfSome, IsSome, codes, false, true, Err};
 ghost use Rattle.std.specs.Str.Parse.{digits_value};
 ghost use Rattle.j39_io.specs.Turn.{turn};
 ghost use Rattle.clap.specs.Words.{first_value, found_of};
@@ -9,7 +9,7 @@ ghost use Rattle.j39_listen.specs.Asking.{AsksForBoxes};
 ghost use Rattle.j39_listen.specs.Output.{MakesAnswers};
 ghost use Rattle.j39_cli.specs.AnswerCommand.{answer_app};
 ghost use Rattle.j39_cli.specs.CommandWords as written;
-ghost use Rattle.j39_cli.specs.CommandWords.{IsAnswered, Tells};
+ghost use Rattle.j39_cli.specs.CommandWords.{IsAnswered, Tells, texts_found};
 ghost use Rattle.j39_cli.specs.Numbers.{IsNumberBelow};
 ghost use Rattle.j39_cli.specs.LogCommand.{IsRun};
 ghost use Rattle.j39_cli.specs.Task.{IsInRange};
@@ -19,7 +19,7 @@ use crate::command::{new_command, with_option};
 use crate::cut_values::source_of;
 use crate::log::{LOG_LIMIT, copy_of, tell_end, with_log};
 use crate::name::name_of;
-use crate::words::{log_input, required};
+use crate::words::{bus_value, log_input, required};
 use crate::{Address, Argument, ParseFault, Task};
 use clap::{ArgMatches, Command};
 use j39_address::Name;
@@ -67,18 +67,23 @@ pub(crate) fn command<'a>(alloc: Global) -> Result<Command<'a>, AllocError>
 /// The task that its words ask for.
 pub(crate) fn task<'a>(alloc: Global, given: &ArgMatches<'a>) -> Result<Task<'a>, ParseFault>
     ensures tells { Tells (codes "answer") (found_of given.now) result }
-    ensures memory { result ≢ Err ParseFault.Memory }
+    ensures memory { result ≡ Err ParseFault.Memory → texts_found (found_of given.now) (codes "file") ≢ [] }
     ensures in_range { IfOk result IsInRange }
 {
     let name = required(alloc, given, "name")?;
     let address = required(alloc, given, "address")?;
-    task_of(name, address, given)
+    task_of(alloc, name, address, given)
 }
 
 /// The task of these texts: the values are checked in their order.
-fn task_of<'a>(name: &str, address: &str, given: &ArgMatches<'a>) -> Result<Task<'a>, ParseFault>
+fn task_of<'a>(
+    alloc: Global,
+    name: &str,
+    address: &str,
+    given: &ArgMatches<'a>,
+) -> Result<Task<'a>, ParseFault>
     ensures { IsAnswered (written.answer name.now address.now (first_value (found_of given.now) (codes "bus"))
-        (first_value (found_of given.now) (codes "file"))) result }
+        (texts_found (found_of given.now) (codes "file"))) result }
 {
     let Some(name) = name_of(name) else {
         return Err(ParseFault::BadValue(Argument::Name));
@@ -86,7 +91,11 @@ fn task_of<'a>(name: &str, address: &str, given: &ArgMatches<'a>) -> Result<Task
     let Some(address) = address_of(address) else {
         return Err(ParseFault::BadValue(Argument::Address));
     };
-    match log_input(given) {
+    let bus = match bus_value(given) {
+        Ok(bus) => bus,
+        Err(fault) => return Err(fault),
+    };
+    match log_input(alloc, bus, given) {
         Ok(input) => Ok(Task::Answer {
             name,
             address,

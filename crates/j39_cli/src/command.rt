@@ -3,7 +3,7 @@ ghost use Rattle.std.specs.Prelude.{◌≡◌, IfOk, false};
 ghost use Rattle.clap.specs.Words.{App, app_of, new_app, rule_of, with_rule, with_subcommand};
 ghost use Rattle.j39_cli.specs.Command.{bare_app, line_app};
 ghost use Rattle.j39_cli.specs.HexCommand.{hex_app};
-ghost use Rattle.j39_cli.specs.Rules.{IsMade, flag_rule, option_rule, value_rule, with_table};
+ghost use Rattle.j39_cli.specs.Rules.{IsMade, flag_rule, option_rule, value_rule, values_rule, with_table};
 
 use crate::{answer, cut, faults, groups, id, name, nodes, report, summary, survey};
 use clap::{Arg, ArgAction, Command};
@@ -159,6 +159,23 @@ pub(crate) fn with_value<'a>(
     let arg = Arg::new(alloc, name)
         .value_name(value)
         .required(is_required)
+        .help(help);
+    with_arg(command, arg)
+}
+
+/// The command with as many values more as there are, each of which stands alone.
+pub(crate) fn with_values<'a>(
+    alloc: Global,
+    command: Result<Command<'a>, AllocError>,
+    name: &'a str,
+    value: &'a str,
+    help: &'a str,
+) -> Result<Command<'a>, AllocError>
+    ensures { (told : App) → IsMade command.entry told → IsMade result (with_rule told (values_rule name.entry.now)) }
+{
+    let arg = Arg::new(alloc, name)
+        .value_name(value)
+        .action(ArgAction::Append)
         .help(help);
     with_arg(command, arg)
 }

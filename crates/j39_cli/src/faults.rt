@@ -14,7 +14,7 @@ use crate::command::{new_command, with_flag, with_option, with_table};
 use crate::fields::fault_counts_line;
 use crate::log::{LOG_LIMIT, copy_of, tell_fault, with_forms, with_log};
 use crate::refusal::show;
-use crate::words::{conversions_value, format_given, is_set, log_input};
+use crate::words::{bus_value, conversions_value, format_given, is_set, log_input};
 use crate::{Argument, Conversions, FaultsTold, ParseFault, Task, WordText};
 use clap::{ArgMatches, Command};
 use j39_faults::Conversion;
@@ -81,7 +81,7 @@ pub(crate) fn command<'a>(alloc: Global) -> Result<Command<'a>, AllocError>
 }
 
 /// The task that its words ask for.
-pub(crate) fn task<'a>(given: &ArgMatches<'a>) -> Result<Task<'a>, ParseFault>
+pub(crate) fn task<'a>(alloc: Global, given: &ArgMatches<'a>) -> Result<Task<'a>, ParseFault>
     ensures { IsAnswered (command_found (codes "faults") (found_of given.now)) result }
 {
     let table = given.get_str("table").map(WordText::new);
@@ -91,27 +91,29 @@ pub(crate) fn task<'a>(given: &ArgMatches<'a>) -> Result<Task<'a>, ParseFault>
         is_set(given, "now"),
     );
     let format = format_given(given);
-    let input = match log_input(given) {
-        Ok(input) => input,
+    let bus = match bus_value(given) {
+        Ok(bus) => bus,
         Err(fault) => return Err(fault),
     };
     let conversions = match conversions_value(given) {
         Ok(conversions) => conversions,
         Err(fault) => return Err(fault),
     };
-    let told = match told {
-        Some(told) => told,
-        None => return Err(ParseFault::BadValue(Argument::Together)),
+    let Some(told) = told else {
+        return Err(ParseFault::BadValue(Argument::Together));
     };
-    match format {
-        Some(format) => Ok(Task::Faults {
+    let Some(format) = format else {
+        return Err(ParseFault::BadValue(Argument::Forms));
+    };
+    match log_input(alloc, bus, given) {
+        Ok(input) => Ok(Task::Faults {
             input,
             table,
             conversions,
             told,
             format,
         }),
-        None => Err(ParseFault::BadValue(Argument::Forms)),
+        Err(fault) => Err(fault),
     }
 }
 

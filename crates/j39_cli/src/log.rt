@@ -6,7 +6,7 @@ ghost use Rattle.j39_cli.specs.LogCommand.{IsTold, fault_text, with_forms, with_
 ghost use Rattle.j39_cli.specs.Refusal.{error_line};
 ghost use Rattle.j39_cli.specs.Rules.{IsMade};
 
-use crate::command::{with_flag, with_option, with_value};
+use crate::command::{with_flag, with_option, with_values};
 use crate::fields::{counts_line, push_field};
 use crate::refusal::{complain, show};
 use arrayvec::ArrayVec;
@@ -42,8 +42,9 @@ pub(crate) fn with_log<'a>(
 {
     let help = "The interface to read, as can0; without it, that of the first frame in the log";
     let command = with_option(alloc, command, "bus", "B", false, help);
-    let help = "The log to read; without it, or where it is -, standard input";
-    with_value(alloc, command, "file", "FILE", false, help)
+    let help =
+        "The log to read, or several, as one log; without it, or where it is -, standard input";
+    with_values(alloc, command, "file", "FILE", help)
 }
 
 pub(crate) fn copy_of(bus: &Option<Bus>) -> Option<Bus>

@@ -12,7 +12,7 @@ ghost use Rattle.j39_cli.specs.Rules.{IsMade};
 
 use crate::command::{new_command, with_option};
 use crate::log::{LOG_LIMIT, copy_of, with_forms, with_log};
-use crate::words::{format_given, log_input, senders_value};
+use crate::words::{bus_value, format_given, log_input, senders_value};
 use crate::{Argument, ParseFault, Senders, Task};
 use clap::{ArgMatches, Command};
 use j39_io::{Sink, Source};
@@ -51,25 +51,28 @@ pub(crate) fn command<'a>(alloc: Global) -> Result<Command<'a>, AllocError>
 }
 
 /// The task that its words ask for.
-pub(crate) fn task<'a>(given: &ArgMatches<'a>) -> Result<Task<'a>, ParseFault>
+pub(crate) fn task<'a>(alloc: Global, given: &ArgMatches<'a>) -> Result<Task<'a>, ParseFault>
     ensures { IsAnswered (command_found (codes "nodes") (found_of given.now)) result }
 {
     let format = format_given(given);
-    let input = match log_input(given) {
-        Ok(input) => input,
+    let bus = match bus_value(given) {
+        Ok(bus) => bus,
         Err(fault) => return Err(fault),
     };
     let from = match senders_value(given) {
         Ok(from) => from,
         Err(fault) => return Err(fault),
     };
-    match format {
-        Some(format) => Ok(Task::Nodes {
+    let Some(format) = format else {
+        return Err(ParseFault::BadValue(Argument::Forms));
+    };
+    match log_input(alloc, bus, given) {
+        Ok(input) => Ok(Task::Nodes {
             input,
             from,
             format,
         }),
-        None => Err(ParseFault::BadValue(Argument::Forms)),
+        Err(fault) => Err(fault),
     }
 }
 

@@ -14,7 +14,7 @@ ghost use Rattle.j39_cli.specs.Rules.{IsMade};
 use crate::command::{new_command, with_option, with_table};
 use crate::filter_words::{asked_value, with_filter};
 use crate::log::{LOG_LIMIT, copy_of, tell_end, tell_fault, with_forms, with_log};
-use crate::words::{format_given, log_input, spns_value};
+use crate::words::{bus_value, format_given, log_input, spns_value};
 use crate::{Argument, Asked, ParseFault, Spns, Task, WordText};
 use clap::{ArgMatches, Command};
 use j39_groups::Groups;
@@ -62,13 +62,13 @@ pub(crate) fn command<'a>(alloc: Global) -> Result<Command<'a>, AllocError>
 }
 
 /// The task that its words ask for.
-pub(crate) fn task<'a>(given: &ArgMatches<'a>) -> Result<Task<'a>, ParseFault>
+pub(crate) fn task<'a>(alloc: Global, given: &ArgMatches<'a>) -> Result<Task<'a>, ParseFault>
     ensures { IsAnswered (command_found (codes "report") (found_of given.now)) result }
 {
     let table = given.get_str("table").map(WordText::new);
     let format = format_given(given);
-    let input = match log_input(given) {
-        Ok(input) => input,
+    let bus = match bus_value(given) {
+        Ok(bus) => bus,
         Err(fault) => return Err(fault),
     };
     let spns = match spns_value(given) {
@@ -79,15 +79,18 @@ pub(crate) fn task<'a>(given: &ArgMatches<'a>) -> Result<Task<'a>, ParseFault>
         Ok(asked) => asked,
         Err(fault) => return Err(fault),
     };
-    match format {
-        Some(format) => Ok(Task::Report {
+    let Some(format) = format else {
+        return Err(ParseFault::BadValue(Argument::Forms));
+    };
+    match log_input(alloc, bus, given) {
+        Ok(input) => Ok(Task::Report {
             input,
             table,
             spns,
             asked,
             format,
         }),
-        None => Err(ParseFault::BadValue(Argument::Forms)),
+        Err(fault) => Err(fault),
     }
 }
 

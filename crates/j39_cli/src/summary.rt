@@ -14,7 +14,7 @@ ghost use Rattle.j39_cli.specs.Rules.{IsMade};
 use crate::command::{new_command, with_table};
 use crate::filter_words::{asked_value, with_filter};
 use crate::log::{LOG_LIMIT, copy_of, with_forms, with_log};
-use crate::words::{format_given, log_input};
+use crate::words::{bus_value, format_given, log_input};
 use crate::{Argument, Asked, ParseFault, Task, WordText};
 use clap::{ArgMatches, Command};
 use j39_groups::Groups;
@@ -53,21 +53,24 @@ pub(crate) fn command<'a>(alloc: Global) -> Result<Command<'a>, AllocError>
 }
 
 /// The task that its words ask for.
-pub(crate) fn task<'a>(given: &ArgMatches<'a>) -> Result<Task<'a>, ParseFault>
+pub(crate) fn task<'a>(alloc: Global, given: &ArgMatches<'a>) -> Result<Task<'a>, ParseFault>
     ensures { IsAnswered (command_found (codes "summary") (found_of given.now)) result }
 {
     let table = given.get_str("table").map(WordText::new);
     let format = format_given(given);
-    let input = match log_input(given) {
-        Ok(input) => input,
+    let bus = match bus_value(given) {
+        Ok(bus) => bus,
         Err(fault) => return Err(fault),
     };
     let asked = match asked_value(given) {
         Ok(asked) => asked,
         Err(fault) => return Err(fault),
     };
-    match format {
-        Some(format) => Ok(Task::Summary {
+    let Some(format) = format else {
+        return Err(ParseFault::BadValue(Argument::Forms));
+    };
+    match log_input(alloc, bus, given) {
+        Ok(input) => Ok(Task::Summary {
             input,
             table,
             asked,

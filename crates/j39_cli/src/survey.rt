@@ -8,7 +8,7 @@ ghost use Rattle.j39_cli.specs.Rules.{IsMade};
 
 use crate::command::{new_command, with_table};
 use crate::log::{LOG_LIMIT, copy_of, tell_fault, with_log};
-use crate::words::log_input;
+use crate::words::{bus_value, log_input};
 use crate::{ParseFault, Task, WordText};
 use clap::{ArgMatches, Command};
 use j39_groups::Groups;
@@ -47,11 +47,15 @@ pub(crate) fn command<'a>(alloc: Global) -> Result<Command<'a>, AllocError>
 }
 
 /// The task that its words ask for.
-pub(crate) fn task<'a>(given: &ArgMatches<'a>) -> Result<Task<'a>, ParseFault>
+pub(crate) fn task<'a>(alloc: Global, given: &ArgMatches<'a>) -> Result<Task<'a>, ParseFault>
     ensures { IsAnswered (command_found (codes "survey") (found_of given.now)) result }
 {
     let table = given.get_str("table").map(WordText::new);
-    match log_input(given) {
+    let bus = match bus_value(given) {
+        Ok(bus) => bus,
+        Err(fault) => return Err(fault),
+    };
+    match log_input(alloc, bus, given) {
         Ok(input) => Ok(Task::Survey { input, table }),
         Err(fault) => Err(fault),
     }

@@ -1,9 +1,8 @@
 //! What a command line asks for, and why it may ask for nothing.
-ghost use Rattle.std.specs.Prelude.{◌≡◌, ◌↔◌, IfSome, IsSome, Some, option_map};
+ghost use Rattle.std.specs.Prelude.{◌≡◌, ◌≢◌, ◌↔◌, [], IfOk, IfSome, IsSome, OnErr, Some, map, option_map};
 ghost use Rattle.j39_frame.specs.Address.{IsAddress};
 ghost use Rattle.j39_cli.specs.Answer.{argument_text};
-ghost use Rattle.j39_cli.specs.LogCommand.{opened_of};
-ghost use Rattle.j39_cli.specs.Task.{file_of, table_of};
+ghost use Rattle.j39_cli.specs.Task.{files_of, table_of};
 
 use crate::{Asked, Conversions, Outgoing, Senders, Spns};
 use j39_address::Name;
@@ -11,6 +10,7 @@ use j39_frame::{Id, is_address};
 use j39_listen::Format;
 use j39_log::Bus;
 use j39_reports::Telling;
+use std::alloc::{AllocError, Global};
 use std::fmt;
 use std::marker::Model;
 use thiserror::Error;
@@ -84,13 +84,50 @@ impl Address {
     }
 }
 
+/// Names of files that stand among the words, in their order.
+#[derive(Drop)]
+pub struct Files<'a> {
+    names: Vec<&'a str>,
+}
+
+impl<'a> Model for Files<'a> {
+    ghost use Rattle.std.specs.Prelude.{ℕ, List, map};
+
+    ghost Value = { List (List ℕ) };
+
+    ghost view = { λ files. map (λ name. name.now) files.names.items };
+}
+
+impl<'a> Files<'a> {
+    /// These names, which stay where they are.
+    pub fn new(alloc: Global, names: &[&'a str]) -> Result<Files<'a>, AllocError>
+        ensures names { IfOk result (λ files. files ≡ map (λ name. name.now) names.now) }
+        ensures memory { OnErr result (names.now ≢ []) }
+    {
+        if names.is_empty() {
+            return Ok(Files {
+                names: Vec::new(alloc),
+            });
+        }
+        let names = Vec::from_slice(alloc, names)?;
+        Ok(Files { names })
+    }
+
+    /// The names themselves.
+    pub fn as_slice(&self) -> &[&'a str]
+        ensures { map (λ name. name.now) result.now ≡ self.now }
+    {
+        self.names.as_slice()
+    }
+}
+
 /// The log that a command reads.
 #[derive(Drop)]
 pub struct LogInput<'a> {
     /// The bus to read; `None` for that of the first frame.
     pub bus: Option<Bus>,
-    /// FILE, where it is given.
-    pub file: Option<WordText<'a>>,
+    /// Each FILE that is given, `-` for standard input; none for that alone.
+    pub file: Files<'a>,
 }
 
 /// What is told of faults.
@@ -178,18 +215,18 @@ pub enum Task<'a> {
 }
 
 impl<'a> Task<'a> {
-    /// FILE, the log to open; `None` where it isn't given or is `-`, for standard input, or the command reads none.
-    pub fn file(&self) -> Option<&'a str>
-        ensures { option_map (λ text. text.now) result ≡ file_of self.now }
+    /// Each FILE; none where it isn't given, or the command reads no log.
+    pub fn files(&self) -> &[&'a str]
+        ensures { map (λ name. name.now) result.now ≡ files_of self.now }
     {
         match self {
-            Task::Report { input, .. } => opened_of(&input.file),
-            Task::Summary { input, .. } => opened_of(&input.file),
-            Task::Faults { input, .. } => opened_of(&input.file),
-            Task::Nodes { input, .. } => opened_of(&input.file),
-            Task::Answer { input, .. } => opened_of(&input.file),
-            Task::Survey { input, .. } => opened_of(&input.file),
-            _ => None,
+            Task::Report { input, .. } => input.file.as_slice(),
+            Task::Summary { input, .. } => input.file.as_slice(),
+            Task::Faults { input, .. } => input.file.as_slice(),
+            Task::Nodes { input, .. } => input.file.as_slice(),
+            Task::Answer { input, .. } => input.file.as_slice(),
+            Task::Survey { input, .. } => input.file.as_slice(),
+            _ => &[],
         }
     }
 
@@ -205,16 +242,6 @@ impl<'a> Task<'a> {
             Task::Groups(table) => text_of(table),
             _ => None,
         }
-    }
-}
-
-/// What FILE names: nothing where it is `-`, which stands for standard input.
-fn opened_of<'a>(file: &Option<WordText<'a>>) -> Option<&'a str>
-    ensures { option_map (λ text. text.now) result ≡ opened_of file.now }
-{
-    match text_of(file) {
-        Some("-") => None,
-        named => named,
     }
 }
 

@@ -1,12 +1,15 @@
-//! Parameters that are asked for, and that no row of the table has.
-ghost use Rattle.std.specs.Prelude.{◌≡◌, ◌<◌, [], false, length, not, true};
+//! What a task asks for and can't have: parameters that no row of the table has, and standard input twice.
+ghost use Rattle.std.specs.Prelude.{◌≡◌, ◌<◌, [], codes, count_by, false, length, map, not, true};
 ghost use Rattle.std.specs.List.{flat_map, list_any};
 ghost use Rattle.j39_io.specs.Puts.{Puts};
 ghost use Rattle.j39_io.specs.Turn.{Writes, turn};
+ghost use Rattle.j39_cli.specs.LogCommand.{is_input};
+ghost use Rattle.j39_cli.specs.Refusal.{error_line};
+ghost use Rattle.j39_cli.specs.Task.{asks_input_twice};
 ghost use Rattle.j39_cli.specs.Unknown.{asks_for_unknown, has_row, unknown_line, unknown_text, unknown_words};
 
 use crate::Task;
-use crate::refusal::put_line;
+use crate::refusal::{complain, put_line};
 use j39_groups::{Groups, decimal_of};
 use j39_io::{DeviceFault, Sink};
 
@@ -26,6 +29,28 @@ pub fn asks_for_unknown<E: Sink>(groups: &Groups<'_>, task: &Task<'_>, err: &mut
         } => tell_unknown(groups, spns.as_slice(), err),
         _ => false,
     }
+}
+
+/// Says that standard input is asked for twice, and answers whether it is. A fault of the writer is passed over.
+pub fn asks_input_twice<E: Sink>(task: &Task<'_>, err: &mut E) -> bool
+    ensures answer { result ≡ asks_input_twice task.now }
+    ensures told { result ≡ true
+        → Writes (turn E.written E.has_failed err.old err.new) (error_line (codes "standard input (-) twice among FILE") []) }
+    ensures silent { result ≡ false → err.new ≡ err.old }
+    ensures passed_on { result ≡ true → E.has_failed err.new ≡ false → E.is_flushed err.new ≡ true }
+{
+    let is_twice = inputs_among(task.files()) > 1;
+    if is_twice {
+        complain(err, b"standard input (-) twice among FILE", b"");
+    }
+    is_twice
+}
+
+/// How many of these stand for standard input.
+fn inputs_among(files: &[&str]) -> usize
+    ensures { result ≡ count_by is_input (map (λ file. file.now) files.now) }
+{
+    files.iter().filter(|file| **file == "-").count()
 }
 
 /// Says which of these no row has, and answers whether that is all of them.

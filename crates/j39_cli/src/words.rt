@@ -1,14 +1,15 @@
 //! From words to a task.
-ghost use Rattle.std.specs.Prelude.{◌≡◌, ◌≢◌, ◌∷◌, [], Err, IfErr, IfOk, IsErrAnd, List, None, OnOk, Some, codes, map, true};
+ghost use Rattle.std.specs.Prelude.{◌≡◌, ◌≢◌, ◌⊎◌, ◌∷◌, [], Err, IfErr, IfOk, IsErrAnd, List, None, OnErr, OnOk, Some, codes, map, true};
 ghost use Rattle.clap.specs.Words.{HasMatchesOf, Row, Text, first_value, found_of, kind_of};
 ghost use Rattle.clap.specs.Words.{fault_of, subcommand_name_of, subcommand_of, subcommand_rows_of, takes};
 ghost use Rattle.j39_cli.specs.Command.{line_app};
-ghost use Rattle.j39_cli.specs.CommandWords.{CommandWords, HasTexts, HasValues, IsAnswer, Tells, words_of};
+ghost use Rattle.j39_cli.specs.CommandWords.{CommandWords, HasTexts, HasValues, IsAnswer, Tells, texts_found, words_of};
 ghost use Rattle.j39_cli.specs.Spelling.{IsEntered, IsSpelled};
-ghost use Rattle.j39_cli.specs.Answer.{IsInput, IsValueRead};
+ghost use Rattle.j39_cli.specs.Answer.{IsBusRead, IsInput, IsValueRead};
 ghost use Rattle.j39_cli.specs.Asked.{IsAddressList, IsMoment, IsPgnList, IsSenderList, addresses_in, moment_in, pgns_in, senders_in};
 ghost use Rattle.j39_cli.specs.Conversions.{IsConversionList, conversions_in};
 ghost use Rattle.j39_cli.specs.Spns.{IsSpnList, spns_in};
+ghost use Rattle.j39_cli.specs.Form.{texts_of};
 ghost use Rattle.j39_cli.specs.LogCommand.{written_by};
 ghost use Rattle.j39_cli.specs.Refused.{IsRefusal, IsSaid};
 ghost use Rattle.j39_cli.specs.Rules.{is_given};
@@ -19,14 +20,14 @@ use crate::command::line;
 use crate::conversions::{Conversions, conversions_of};
 use crate::spns::{Spns, spns_of};
 use crate::{
-    Addresses, Argument, LogInput, ParseFault, Pgns, Senders, Task, WordText, answer, cut, faults,
-    groups, id, name, nodes, report, summary, survey,
+    Addresses, Argument, Files, LogInput, ParseFault, Pgns, Senders, Task, WordText, answer, cut,
+    faults, groups, id, name, nodes, report, summary, survey,
 };
 use clap::error::ErrorKind;
 use clap::{ArgMatches, Error};
 use j39_listen::{Format, Moment};
 use j39_log::Bus;
-use std::alloc::Global;
+use std::alloc::{AllocError, Global};
 use std::convert::AsStr;
 
 /// The task that the words ask for. They begin with the program's name. They spell a command as the help
@@ -91,7 +92,8 @@ fn fault_of(alloc: Global, error: &Error) -> ParseFault
 fn task_of<'a>(alloc: Global, matches: &ArgMatches<'a>) -> Result<Task<'a>, ParseFault>
     ensures answer { (s : CommandWords) (met : Text × List Row) → subcommand_rows_of matches.now ≡ Some met
         → HasTexts s met → IsAnswer s result }
-    ensures memory { result ≡ Err ParseFault.Memory → subcommand_name_of matches.now ≡ Some (codes "cut") }
+    ensures memory { result ≡ Err ParseFault.Memory → (subcommand_name_of matches.now ≡ Some (codes "cut"))
+        ⊎ ((met : Text × List Row) × (subcommand_rows_of matches.now ≡ Some met) × (texts_of (codes "file") met.1 ≢ [])) }
     ensures met { IfOk result (λ _. (s : CommandWords)
         × IsEntered (subcommand_rows_of matches.now) s × IsAnswer s result) }
     ensures in_range { IfOk result IsInRange }
@@ -106,40 +108,61 @@ fn task_of<'a>(alloc: Global, matches: &ArgMatches<'a>) -> Result<Task<'a>, Pars
 /// The task of the command of this name, with the values that clap met.
 fn task_named<'a>(alloc: Global, name: &str, given: &ArgMatches<'a>) -> Result<Task<'a>, ParseFault>
     ensures tells { Tells name.now (found_of given.now) result }
-    ensures memory { result ≡ Err ParseFault.Memory → name.now ≡ codes "cut" }
+    ensures memory { result ≡ Err ParseFault.Memory → (name.now ≡ codes "cut")
+        ⊎ (texts_found (found_of given.now) (codes "file") ≢ []) }
     ensures in_range { IfOk result IsInRange }
 {
     match name {
-        "report" => report::task(given),
-        "summary" => summary::task(given),
+        "report" => report::task(alloc, given),
+        "summary" => summary::task(alloc, given),
         "id" => id::task(required(alloc, given, "hex")?),
         "name" => name::task(required(alloc, given, "hex")?),
         "cut" => cut::task(alloc, given),
-        "nodes" => nodes::task(given),
+        "nodes" => nodes::task(alloc, given),
         "answer" => answer::task(alloc, given),
         "groups" => groups::task(given),
-        "faults" => faults::task(given),
-        "survey" => survey::task(given),
+        "faults" => faults::task(alloc, given),
+        "survey" => survey::task(alloc, given),
         // clap knows no other, so that nothing comes here.
         _ => Err(ParseFault::Usage(String::new(alloc))),
     }
 }
 
-/// The log that is named by `--bus` and FILE, where they are given.
-pub(crate) fn log_input<'a>(given: &ArgMatches<'a>) -> Result<LogInput<'a>, ParseFault>
-    ensures { IsInput (first_value (found_of given.now) (codes "bus")) (first_value (found_of given.now) (codes "file"))
-        result }
+/// The value of `--bus`, where it is given.
+pub(crate) fn bus_value(given: &ArgMatches<'_>) -> Result<Option<Bus>, ParseFault>
+    ensures { IsBusRead (first_value (found_of given.now) (codes "bus")) result }
 {
-    let file = given.get_str("file").map(WordText::new);
     match given.get_str("bus") {
-        None => Ok(LogInput { bus: None, file }),
+        None => Ok(None),
         Some(name) => match Bus::new(name.as_bytes()) {
-            Some(bus) => Ok(LogInput {
-                bus: Some(bus),
-                file,
-            }),
+            Some(bus) => Ok(Some(bus)),
             None => Err(ParseFault::BadValue(Argument::Bus)),
         },
+    }
+}
+
+/// The log of this bus that is named by each FILE, where it is given. It is asked for last, since it holds memory.
+pub(crate) fn log_input<'a>(
+    alloc: Global,
+    bus: Option<Bus>,
+    given: &ArgMatches<'a>,
+) -> Result<LogInput<'a>, ParseFault>
+    ensures { IsInput bus (texts_found (found_of given.now) (codes "file")) result }
+{
+    match files_given(alloc, given) {
+        Ok(file) => Ok(LogInput { bus, file }),
+        Err(AllocError) => Err(ParseFault::Memory),
+    }
+}
+
+/// Each FILE that is given.
+fn files_given<'a>(alloc: Global, given: &ArgMatches<'a>) -> Result<Files<'a>, AllocError>
+    ensures names { IfOk result (λ files. files ≡ texts_found (found_of given.now) (codes "file")) }
+    ensures memory { OnErr result (texts_found (found_of given.now) (codes "file") ≢ []) }
+{
+    match given.get_strs("file") {
+        Some(names) => Files::new(alloc, names),
+        None => Files::new(alloc, &[]),
     }
 }
 

@@ -1,29 +1,45 @@
 -- The bus is checked, then the senders, then how it is written.
-use Rattle.std.proofs.Common.{◌≡◌, ◌∙◌, Some, None, codes, rules, sym}
+use Rattle.std.proofs.Common.{◌≡◌, ◌∙◌, Some, None, codes, inl, rules, sym}
 use Rattle.clap.specs.Words.{first_value, found_of}
-use Rattle.j39_cli.proofs.TakenLemmas.{input_read, input_wrong, value_read, value_wrong}
+use Rattle.j39_cli.proofs.TakenLemmas.{bus_read, bus_wrong, value_read, value_wrong}
 use Rattle.j39_cli.proofs.nodes.task.Goals as goal
 
-pub returns-in-Some : goal.returns-in-Some
-returns-in-Some c =
+pub returns-in-Ok-log_input : goal.returns-in-Ok-log_input
+returns-in-Ok-log_input c =
     let found = found_of c.args.given.now in
     let written = sym c.format_given-format.ensures ∙ c.in-Some.is in
+    let input = c.in-Ok-log_input.ensures in
     record {
-      answer = input_read (first_value found (codes "bus")) _ _ _ _ c.in-Ok.ensures (λ is_bus is_file.
+      answer = bus_read (first_value found (codes "bus")) _ _ _ c.in-Ok.ensures (λ is_bus.
           value_read _ _ _ (first_value found (codes "from")) _ _ _ c.in-Ok-senders_value.ensures (λ from_is. record {
-            in_range = λ _. (is_bus, from_is, written, is_file);
+            in_range = λ _. (input.0 ∙ is_bus, from_is, written, input.1);
             wrong = λ none. absurd (none (λ is. (let no : Some c.in-Some.format ≡ None = sym written ∙ is in cc)));
           }));
       memory = search rules;
       in_range = search rules;
     }
 
-pub returns-in-None : goal.returns-in-None
-returns-in-None c =
+pub returns-in-Err-log_input : goal.returns-in-Err-log_input
+returns-in-Err-log_input c =
     let found = found_of c.args.given.now in
-    let none = sym c.format_given-format.ensures ∙ c.in-None.is in
+    let written = sym c.format_given-format.ensures ∙ c.in-Some.is in
+    let kept = c.in-Err-log_input.ensures in
     record {
-      answer = input_read (first_value found (codes "bus")) _ _ _ _ c.in-Ok.ensures (λ is_bus is_file.
+      answer = bus_read (first_value found (codes "bus")) _ _ _ c.in-Ok.ensures (λ is_bus.
+          value_read _ _ _ (first_value found (codes "from")) _ _ _ c.in-Ok-senders_value.ensures (λ from_is. record {
+            in_range = λ _. rw kept.0 tt;
+            wrong = λ none. absurd (none (λ is. (let no : Some c.in-Some.format ≡ None = sym written ∙ is in cc)));
+          }));
+      memory = λ _. inl kept.1;
+      in_range = tt;
+    }
+
+pub returns-in_default : goal.returns-in_default
+returns-in_default c =
+    let found = found_of c.args.given.now in
+    let none = sym c.format_given-format.ensures ∙ c.in_default.is in
+    record {
+      answer = bus_read (first_value found (codes "bus")) _ _ _ c.in-Ok.ensures (λ is_bus.
           value_read _ _ _ (first_value found (codes "from")) _ _ _ c.in-Ok-senders_value.ensures (λ from_is. record {
             in_range = λ some. absurd (some none);
             wrong = λ _. search rules;
@@ -36,7 +52,7 @@ pub returns-in-Err-senders_value : goal.returns-in-Err-senders_value
 returns-in-Err-senders_value c =
     let found = found_of c.args.given.now in
     record {
-      answer = input_read (first_value found (codes "bus")) _ _ _ _ c.in-Ok.ensures (λ _ _.
+      answer = bus_read (first_value found (codes "bus")) _ _ _ c.in-Ok.ensures (λ _.
           value_wrong _ _ _ (first_value found (codes "from")) _ _ c.in-Err-senders_value.ensures);
       memory = search rules;
       in_range = tt;
@@ -46,7 +62,7 @@ pub returns-in-Err : goal.returns-in-Err
 returns-in-Err c =
     let found = found_of c.args.given.now in
     record {
-      answer = input_wrong (first_value found (codes "bus")) _ _ _ c.in-Err.ensures;
+      answer = bus_wrong (first_value found (codes "bus")) _ _ c.in-Err.ensures;
       memory = search rules;
       in_range = tt;
     }

@@ -1,9 +1,9 @@
 -- The command that clap met is the one that was spelled.
-use Rattle.std.proofs.Common.{◌≡◌, ◌∙◌, List, Some, subst, sym}
+use Rattle.std.proofs.Common.{◌≡◌, ◌∙◌, List, Some, ap, codes, inl, inr, subst, sym}
 use Rattle.std.proofs.lemmas.Result.{IfOk-weaker}
 use Rattle.clap.specs.Words.{Row, Text, found_of, rows_of}
 use Rattle.j39_cli.specs.CommandWords.{HasTexts}
-use Rattle.j39_cli.proofs.MetLemmas.{met_is}
+use Rattle.j39_cli.proofs.MetLemmas.{met_is, texts_found-rows}
 use Rattle.j39_cli.proofs.words.task_of.Goals as goal
 
 pub returns-in-Some-clause-answer : goal.returns-in-Some-clause-answer
@@ -28,3 +28,16 @@ returns-in-Some-clause-met c =
       },
       c.task_named.ensures.tells.answer s texts,
     )) c.task_named.ensures.tells.met
+
+pub returns-in-Some-clause-memory : goal.returns-in-Some-clause-memory
+returns-in-Some-clause-memory c = λ is. (
+    let called = c.in-Some.name.now in
+    let found = found_of c.in-Some.given.now in
+    elim (c.task_named.ensures.memory is) [
+      | inl named ↦ inl (sym c.in-Some.ensures.name ∙ ap (λ (name : Text). Some name) named)
+      | inr some ↦ inr (
+        (called, rows_of found),
+        met_is c.args.matches.now called (rows_of found) (sym c.in-Some.ensures.name) (sym c.in-Some.ensures.rows),
+        λ none. some (texts_found-rows found (codes "file") ∙ none),
+      )
+    ])

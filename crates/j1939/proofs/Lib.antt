@@ -1,0 +1,2 @@
+-- why a log isn't opened
+pub mod OpenedLemmas
