@@ -1,5 +1,7 @@
 -- How large the numbers are that digits write.
-use Rattle.std.proofs.Common.{◌≡◌, ◌<◌, ◌≤◌, ◌-◌, ◌^◌, ℕ, List, length, subst, arith}
+use Rattle.std.proofs.Common.{◌≡◌, ◌<◌, ◌≤◌, ◌-◌, ◌^◌, ℕ, List, None, Option, Some, length, subst, arith}
+use Rattle.std.specs.Prelude.{IfSome}
+use Rattle.std.specs.Option.{SomeIff}
 use Rattle.std.specs.Str.Parse.{AllDigits, digits_value}
 use Rattle.std.proofs.Math.Nat.{pow-le-pow_right}
 use Rattle.std.proofs.lemmas.Int.Digits.{digits_value-lt}
@@ -37,3 +39,9 @@ moment_fits text is_moment =
     let seconds : digits_value 10 (seconds_of text) < 10 ^ 10 = decimal_below (seconds_of text) 10 is_moment.seconds (omega arith) in
     let micros : digits_value 10 (micros_of text) < 10 ^ 6 = decimal_below (micros_of text) 6 is_moment.micros (omega arith) in
     omega arith
+
+-- a number of at most so many digits
+pub short_below : (r : Option ℕ) (text : List ℕ) (most : ℕ) → SomeIff r (AllDigits 10 text) (digits_value 10 text) → length text ≤ most
+    → IfSome r (λ n. n < 10 ^ most)
+short_below None text most is is_short = tt
+short_below (Some n) text most is is_short = rw is.1 (decimal_below text most is.0 is_short)

@@ -1,6 +1,7 @@
 -- numbers in words
 pub mod FieldLemmas
 pub mod DigitLemmas
+pub mod DayLemmas
 -- clap, from words to the command that it met: for `parse`
 pub mod PartLemmas
 pub mod EachLemmas

@@ -1,6 +1,5 @@
 -- Which entries of a report are asked for: `--from`, `--to`, `--pgn`, `--since` and `--until`.
-use Rattle.std.specs.Prelude.{◌≡◌, ◌==◌, true, false, ◌≤◌, ◌⊎◌, ◌+◌, ◌-◌, ◌*◌, ◌^◌, ℕ, Bool, List, Option, codes, drop, if◌then◌else◌, length, nat_le, not, option_map, take}
-use Rattle.std.specs.List.{prefix_len}
+use Rattle.std.specs.Prelude.{◌≡◌, true, false, ◌≤◌, ◌⊎◌, ◌^◌, ℕ, Bool, List, Option, codes, drop, if◌then◌else◌, length, nat_le, option_map, take}
 use Rattle.std.specs.Str.{bytes_eq}
 use Rattle.std.specs.Str.Parse.{AllDigits, digits_value}
 use Rattle.j39_listen.specs.Filter.{FilterRecord}
@@ -10,6 +9,8 @@ use Rattle.j39_listen.specs.declared.filter.Sender.{Sender}
 use Rattle.j39_listen.specs.declared.filter.Sender.TheVariants.{Address, Named}
 use Rattle.j39_cli.specs.Lists.{IsListOf, values_in}
 use Rattle.j39_cli.specs.Numbers.{IsNumberBelow}
+use Rattle.j39_cli.specs.Seconds.{AreSeconds, seconds_value}
+use Rattle.j39_cli.specs.UtcMoment.{IsUtc, is_utc, utc_value}
 use Rattle.j39_cli.specs.declared.asked.Asked.{Asked}
 
 -- ---- senders
@@ -56,34 +57,13 @@ pgns_in = values_in (digits_value 10)
 
 -- ---- moments
 
-abbrev pub point : ℕ
-point = 0x2E
+-- a stamp, in seconds or as a date and time in UTC
+pub record IsStamp (text : List ℕ) : Type 0 where
+  pub utc : is_utc text ≡ true → IsUtc text
+  pub seconds : is_utc text ≡ false → AreSeconds text
 
-abbrev pub is_before_point : ℕ → Bool
-is_before_point byte = not (byte == point)
-
--- the digits before the point, and those behind it, if there is one
-abbrev pub whole_of : List ℕ → List ℕ
-whole_of text = take (prefix_len is_before_point text) text
-
-abbrev pub decimals_of : List ℕ → List ℕ
-decimals_of text = drop 1 (drop (prefix_len is_before_point text) text)
-
--- seconds of one to ten digits, and at most six decimals
-pub record AreSeconds (text : List ℕ) : Type 0 where
-  pub whole : AllDigits 10 (whole_of text)
-  pub some : 1 ≤ length (whole_of text)
-  pub fits : length (whole_of text) ≤ 10
-  pub decimals : AllDigits 10 (decimals_of text)
-  pub few : length (decimals_of text) ≤ 6
-
--- decimals in microseconds
-abbrev pub scaled : List ℕ → ℕ
-scaled digits = digits_value 10 digits * 10 ^ (6 - length digits)
-
--- seconds in microseconds
-abbrev pub seconds_value : List ℕ → ℕ
-seconds_value text = digits_value 10 (whole_of text) * 10 ^ 6 + scaled (decimals_of text)
+abbrev pub stamp_in : List ℕ → ℕ
+stamp_in text = if is_utc text then utc_value text else seconds_value text
 
 -- a stamp; or behind `+` so long behind the first frame
 abbrev pub is_behind : List ℕ → Bool
@@ -91,10 +71,10 @@ is_behind text = bytes_eq (take 1 text) (codes "+")
 
 pub record IsMoment (text : List ℕ) : Type 0 where
   pub behind : is_behind text ≡ true → AreSeconds (drop 1 text)
-  pub at : is_behind text ≡ false → AreSeconds text
+  pub at : is_behind text ≡ false → IsStamp text
 
 abbrev pub moment_in : List ℕ → Moment
-moment_in text = if is_behind text then Behind (seconds_value (drop 1 text)) else At (seconds_value text)
+moment_in text = if is_behind text then Behind (seconds_value (drop 1 text)) else At (stamp_in text)
 
 -- ---- all of them
 

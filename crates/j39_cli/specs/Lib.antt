@@ -3,6 +3,8 @@ pub mod Rules
 pub mod Numbers
 pub mod Lists
 pub mod Spns
+pub mod Seconds
+pub mod UtcMoment
 pub mod Asked
 pub mod Form
 pub mod Command

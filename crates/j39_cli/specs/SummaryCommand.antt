@@ -1,4 +1,4 @@
--- The command `summary [--bus B] [--table T] [--from A,..] [--to A,..] [--pgn PGN,..] [--since T] [--until T] [--csv | --json] [FILE]..`.
+-- The command `summary [--bus B] [--table T] [--from A,..] [--to A,..] [--pgn PGN,..] [--since S] [--until S] [--csv | --json] [FILE]..`.
 use Rattle.std.specs.Prelude.{◌≡◌, ◌≢◌, ◌∷◌, [], ℕ, Bool, List, None, Option, Some, codes}
 use Rattle.clap.specs.Words.{App, Text, new_app}
 use Rattle.j39_reports.specs.SummaryRun.{AsksForRows, MakesSummary}

@@ -1,14 +1,14 @@
 //! Which entries of a report are asked for.
-ghost use Rattle.std.specs.Prelude.{◌≡◌, ◌<◌, ◌≤◌, ◌-◌, ◌^◌, IfSome, drop, length, true};
-ghost use Rattle.std.specs.List.{prefix_len};
+ghost use Rattle.std.specs.Prelude.{◌≡◌, true};
 ghost use Rattle.std.specs.Option.{SomeIff};
-ghost use Rattle.std.specs.Str.Parse.{AllDigits, digits_value};
+ghost use Rattle.std.specs.Str.Parse.{digits_value};
 ghost use Rattle.j39_listen.specs.Chooses.{which_of};
 ghost use Rattle.j39_listen.specs.Filter.{filter_of, no_filter};
-ghost use Rattle.j39_cli.specs.Asked.{AreSeconds, IsAddressList, IsAddressWord, IsMoment, IsPgnList, IsSender, IsSenderList, addresses_in, filter_in, is_before_point, moment_in, pgns_in, scaled, seconds_value, sender_in, senders_in};
+ghost use Rattle.j39_cli.specs.Asked.{IsAddressList, IsAddressWord, IsMoment, IsPgnList, IsSender, IsSenderList, IsStamp, addresses_in, filter_in, moment_in, pgns_in, sender_in, senders_in, stamp_in};
 
-use crate::cut_values::short_number;
+use crate::seconds::{behind_first, micros_of};
 use crate::spns::numbers_of;
+use crate::utc::{is_utc, utc_of};
 use arrayvec::ArrayVec;
 use j39_address::Name;
 use j39_io::number;
@@ -223,77 +223,26 @@ pub(crate) fn pgns_of(text: &[u8]) -> Option<Pgns>
     }
 }
 
-/// The moment of seconds with at most six decimals; behind `+` so long behind the first frame.
+/// The moment of a stamp; behind `+` so many seconds behind the first frame.
 pub(crate) fn moment_of(text: &[u8]) -> Option<Moment>
     ensures { SomeIff result (IsMoment text.now) (moment_in text.now) }
 {
     if text.starts_with(b"+") {
-        let (_, text) = text.split_at(1);
-        let span = micros_of(text)?;
+        let span = micros_of(behind_first(text))?;
         Some(Moment::Behind(span))
     } else {
-        let micros = micros_of(text)?;
+        let micros = stamp_of(text)?;
         Some(Moment::At(micros))
     }
 }
 
-/// The microseconds of seconds with at most six decimals.
-fn micros_of(text: &[u8]) -> Option<u64>
-    ensures { SomeIff result (AreSeconds text.now) (seconds_value text.now) }
+/// The microseconds of a stamp, in seconds or as a date and time in UTC.
+fn stamp_of(text: &[u8]) -> Option<u64>
+    ensures { SomeIff result (IsStamp text.now) (stamp_in text.now) }
 {
-    let (whole, behind) = text.split_at(point_place(text));
-    if whole.is_empty() || whole.len() > 10 {
-        return None;
-    }
-    let seconds = short_number(whole)?;
-    let decimals = scaled(behind_point(behind))?;
-    Some(seconds * 1_000_000 + decimals)
-}
-
-/// How many bytes come before the point.
-fn point_place(text: &[u8]) -> usize
-    ensures value { result ≡ prefix_len is_before_point text.now }
-    ensures fits { result ≤ length text.now }
-{
-    text.iter().take_while(|b| **b != b'.').count()
-}
-
-/// What stands behind the point, where there is one.
-fn behind_point(behind: &[u8]) -> &[u8]
-    ensures { result.now ≡ drop 1 behind.now }
-{
-    if behind.is_empty() {
-        return behind;
-    }
-    let (_, digits) = behind.split_at(1);
-    digits
-}
-
-/// The microseconds of at most six decimals.
-fn scaled(digits: &[u8]) -> Option<u64>
-    ensures value { SomeIff result (AllDigits 10 digits.now × (length digits.now ≤ 6)) (scaled digits.now) }
-    ensures fits { IfSome result (λ n. n < 10 ^ 17) }
-{
-    if digits.len() > 6 {
-        return None;
-    }
-    let value = short_number(digits)?;
-    Some(value * scale_of(digits.len()))
-}
-
-/// How many microseconds the last of so many decimals stands for.
-fn scale_of(decimals: usize) -> u64
-    requires { decimals ≤ 6 }
-    ensures value { result ≡ 10 ^ (6 - decimals) }
-    ensures fits { result ≤ 10 ^ 6 }
-{
-    match decimals {
-        0 => 1_000_000,
-        1 => 100_000,
-        2 => 10_000,
-        3 => 1_000,
-        4 => 100,
-        5 => 10,
-        _ => 1,
+    if is_utc(text) {
+        utc_of(text)
+    } else {
+        micros_of(text)
     }
 }

@@ -23,10 +23,11 @@ pub(crate) fn with_filter<'a>(
     let command = with_option(alloc, command, "to", "A,..", false, help);
     let help = "Of these PGNs alone";
     let command = with_option(alloc, command, "pgn", "PGN,..", false, help);
-    let help = "From this stamp on, or as many seconds behind the first frame: 1700000000.5 or +90";
-    let command = with_option(alloc, command, "since", "T", false, help);
-    let help = "Up to this stamp, as --since";
-    with_option(alloc, command, "until", "T", false, help)
+    let help =
+        "From this time on: 1700000000.5, 2023-11-14T22:13:20.5Z, or +90 behind the first frame";
+    let command = with_option(alloc, command, "since", "S", false, help);
+    let help = "Up to this time, as --since";
+    with_option(alloc, command, "until", "S", false, help)
 }
 
 /// Which entries are asked for.

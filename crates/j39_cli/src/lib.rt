@@ -21,12 +21,14 @@ mod own_table;
 mod performing;
 mod refusal;
 mod report;
+mod seconds;
 mod shown;
 mod spns;
 mod summary;
 mod survey;
 mod task;
 mod unknown;
+mod utc;
 mod words;
 
 pub use asked::{Addresses, Asked, Pgns, Senders};

@@ -1,0 +1,18 @@
+-- One year more.
+use Rattle.std.proofs.Common.{arith, refl}
+use Rattle.j39_cli.specs.UtcMoment.{days_of_years}
+use Rattle.j39_cli.proofs.DayLemmas.{year_more}
+use Rattle.j39_cli.proofs.utc.days_of_years.Goals as goal
+
+pub loop-n-init : goal.loop-n-init
+unfolding days_of_years
+loop-n-init c = (refl, omega arith)
+
+pub loop-n-preserved : goal.loop-n-preserved
+loop-n-preserved c =
+    let so_far = c.loop-n.invariant.0 in
+    let below = c.loop-n.invariant.1 in
+    let more = year_more c.loop-n.n in
+    let long = c.year_length-days.ensures.value in
+    let fits = c.year_length-days.ensures.fits in
+    (omega (arith, so_far, more, long), omega (arith, below, fits))
