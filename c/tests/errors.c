@@ -72,6 +72,9 @@ static void null_pointers(void) {
     EXPECT(j1939_sender_close(NULL) == J1939_NULL);
     EXPECT(j1939_controller_new(NULL, 0, 0, NULL, 0) == J1939_NULL);
     EXPECT(j1939_controller_new(&controller, 0, 0, NULL, 1) == J1939_NULL);
+    EXPECT(j1939_controller_new_subscribed(NULL, 0, 0, NULL, 0, NULL, 0) == J1939_NULL);
+    EXPECT(j1939_controller_new_subscribed(&controller, 0, 0, NULL, 1, NULL, 0) == J1939_NULL);
+    EXPECT(j1939_controller_new_subscribed(&controller, 0, 0, NULL, 0, NULL, 1) == J1939_NULL);
     EXPECT(j1939_controller_hear(&controller, NULL) == J1939_NULL);
     EXPECT(j1939_controller_tick(NULL, 0) == J1939_NULL);
     EXPECT(j1939_controller_next_tick(&controller, NULL) == J1939_NULL);
@@ -641,6 +644,24 @@ static void controllers(void) {
     no_controller(&controller);
 }
 
+/* Of two groups it subscribes one. */
+static void subscribed(void) {
+    static const uint32_t wanted[65] = {65262}, no_group[1] = {1u << 18};
+    j1939_controller controller = J1939_EMPTY;
+    j1939_frame heard = {.micros = 1, .id = 0x18FEEF81, .len = 8};
+    uint8_t priority;
+    EXPECT(j1939_controller_new_subscribed(&controller, 1, 0x80, NULL, 0, wanted, 65) == J1939_BAD_VALUE);
+    EXPECT(j1939_controller_new_subscribed(&controller, 1, 0x80, NULL, 0, no_group, 1) == J1939_BAD_VALUE);
+    EXPECT(j1939_controller_new_subscribed(&controller, 1, 0x80, NULL, 0, wanted, 64) == 0);
+    EXPECT(j1939_controller_new_subscribed(&controller, 1, 0x80, NULL, 0, wanted, 64) == J1939_IN_USE);
+    EXPECT(j1939_controller_hear(&controller, &heard) == 0);
+    EXPECT(j1939_controller_take_received(&controller, &message, &priority) == 0);
+    heard.id = 0x18FEEE81;
+    EXPECT(j1939_controller_hear(&controller, &heard) == 0);
+    EXPECT(j1939_controller_take_received(&controller, &message, &priority) == J1939_RECEIVED_FRAME);
+    EXPECT(message.pgn == 65262 && j1939_controller_close(&controller) == 0);
+}
+
 int main(void) {
     null_pointers();
     fields();
@@ -652,5 +673,6 @@ int main(void) {
     transfers();
     broadcasts();
     controllers();
+    subscribed();
     return 0;
 }

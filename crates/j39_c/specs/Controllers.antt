@@ -50,21 +50,38 @@ Says fact c = (w : Who) (H : List Call) → Is w H c → fact w H
 
 -- ---- opened
 
--- 16 groups at most
-pub record CanRead (served : List ℕ) : Type 0 where
-  pub most : length served ≤ 16
-  pub groups : list_all (λ group. nat_lt group 262144) served ≡ true
+-- groups, so many at most
+pub record CanRead (room : ℕ) (numbers : List ℕ) : Type 0 where
+  pub most : length numbers ≤ room
+  pub groups : list_all (λ group. nat_lt group 262144) numbers ≡ true
 
--- an address, and the groups that the program serves
-pub record CanServe (address : ℕ) (served : List ℕ) : Type 0 where
+-- all are subscribed, or 64 at most
+abbrev pub CanSubscribe : Option (List ℕ) → Type 0
+CanSubscribe None = Unit {0}
+CanSubscribe (Some groups) = CanRead 64 groups
+
+-- an address, the groups that the program serves, 16 at most, and those that it subscribes
+pub record CanServe (address : ℕ) (served : List ℕ) (subscribed : Option (List ℕ)) : Type 0 where
   pub is_address : IsAddress address
-  pub can_read : CanRead served
+  pub can_read : CanRead 16 served
+  pub can_subscribe : CanSubscribe subscribed
+
+-- a controller that begins so
+abbrev pub IsNew : ℕ → ℕ → List ℕ → Option (List ℕ) → Controller → Type 0
+IsNew name address served subscribed c = Is (record
+    { name = name; address = address; served = served; subscribed = subscribed; known = [] }) [] c
 
 -- why there is no controller of them
-abbrev pub IsMakeRefusal : ℕ → List ℕ → Refusal → Type 0
-IsMakeRefusal address served refusal.BadValue = CanServe address served → ⊥
-IsMakeRefusal address served refusal.NoMemory = CanServe address served
-IsMakeRefusal address served other = ⊥
+abbrev pub IsMakeRefusal : ℕ → List ℕ → Option (List ℕ) → Refusal → Type 0
+IsMakeRefusal address served subscribed refusal.BadValue = CanServe address served subscribed → ⊥
+IsMakeRefusal address served subscribed refusal.NoMemory = CanServe address served subscribed
+IsMakeRefusal address served subscribed other = ⊥
+
+-- the same, of groups that are in range
+abbrev pub IsBeginRefusal : Type 0 → Refusal → Type 0
+IsBeginRefusal fits refusal.BadValue = fits → ⊥
+IsBeginRefusal fits refusal.NoMemory = fits
+IsBeginRefusal fits other = ⊥
 
 -- ---- what its history says
 

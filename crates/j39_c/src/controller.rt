@@ -1,19 +1,20 @@
 //! A controller: it claims an address, and sends and receives (J1939-21, J1939-81).
-ghost use Rattle.std.specs.Prelude.{◌≡◌, ◌<◌, ◌^◌, ◌∷◌, [], ⊤, Some, IfOk, IfErr, pos, true, ◌↔◌, length, map, take};
+ghost use Rattle.std.specs.Prelude.{◌≡◌, ◌<◌, ◌≤◌, ◌^◌, ◌∷◌, [], ⊤, None, Some, IfOk, IfErr, pos, true, ◌↔◌, length, map, take};
 ghost use Rattle.std.specs.Option.{option_map};
 ghost use Rattle.j39_address.specs.Claim.{claims_of};
 ghost use Rattle.j39_address.specs.Claimer.{status_of};
 ghost use Rattle.j39_address.specs.Holder.{IsHolderAfter};
+ghost use Rattle.j39_frame.specs.Address.{IsAddress};
 ghost use Rattle.j39_frame.specs.Pgn.{pgn_raw};
-ghost use Rattle.j39_node.specs.History.{told_claims};
+ghost use Rattle.j39_node.specs.History.{AreFew, told_claims};
 ghost use Rattle.j39_node.specs.History.Call.{Hear, TakeFrame, TakeNews, Tick};
-ghost use Rattle.j39_node.specs.Is.{Is, next_frame, stamped, status_after};
+ghost use Rattle.j39_node.specs.Is.{next_frame, stamped, status_after};
 ghost use Rattle.j39_node.specs.Reception.{next_tick};
 ghost use Rattle.j39_node.specs.Transfers.{next_due};
 ghost use Rattle.j39_c.specs.Calls.{Answers, Asks, Fills, Never, Opens};
 ghost use Rattle.j39_c.specs.Can.{Fits, frame_of};
 ghost use Rattle.j39_c.specs.Codes.{IsDone, IsRefused, bad_value, in_use, no_memory, no_part, sent, told};
-ghost use Rattle.j39_c.specs.Controllers.{CanRead, CanServe, Continues, IsAddressOf, IsFree, IsMakeRefusal, Moves, Says, count_missed, news_in};
+ghost use Rattle.j39_c.specs.Controllers.{CanRead, CanServe, Continues, IsAddressOf, IsBeginRefusal, IsFree, IsMakeRefusal, IsNew, Moves, Says, count_missed, news_in};
 ghost use Rattle.j39_c.specs.Nodes.{IsStatus};
 ghost use Rattle.j39_c.specs.Parts.{controller_in};
 
@@ -31,7 +32,10 @@ use std::alloc::Global;
 /// The most groups that a program serves.
 const MOST_SERVED: usize = 16;
 
-/// Opens a controller of this NAME, that will claim this address, and whose program serves these groups: 0; -1 for an
+/// The most groups that a program subscribes, unless it does all.
+const MOST_SUBSCRIBED: usize = 64;
+
+/// Opens a controller of this NAME, that will claim this address, and whose program serves these groups and subscribes all: 0; -1 for an
 /// address above 253, more than 16 groups, or one of 2^18 and above, -3 where memory is refused, -4 where the handle is
 /// open.
 #[unsafe(no_mangle)]
@@ -42,14 +46,37 @@ pub extern "C" fn j39_controller_new(
     address: u8,
     served: &[u32],
 ) -> i32
-    ensures opens { Opens controller_in (CanServe address served.now) controller.old.part result controller.new.part
-        (λ made. Is (record { name = name; address = address; served = served.now; known = [] }) [] made) }
+    ensures opens { Opens controller_in (CanServe address served.now None) controller.old.part result controller.new.part
+        (IsNew name address served.now None) }
     ensures answers { Answers 0 (bad_value ∷ no_memory ∷ in_use ∷ []) result }
 {
     if controller.is_open(alloc) {
         return Refusal::InUse.code();
     }
-    match make(alloc, name, address, served) {
+    match make(alloc, name, address, served, None) {
+        Ok(made) => put_controller(alloc, controller, made),
+        Err(refusal) => refusal.code(),
+    }
+}
+
+/// The same, but it subscribes these groups alone: -1 also for more than 64, or one of 2^18 and above.
+#[unsafe(no_mangle)]
+pub extern "C" fn j39_controller_new_subscribed(
+    alloc: Global,
+    controller: &mut Handle,
+    name: u64,
+    address: u8,
+    served: &[u32],
+    subscribed: &[u32],
+) -> i32
+    ensures opens { Opens controller_in (CanServe address served.now (Some subscribed.now)) controller.old.part result
+        controller.new.part (IsNew name address served.now (Some subscribed.now)) }
+    ensures answers { Answers 0 (bad_value ∷ no_memory ∷ in_use ∷ []) result }
+{
+    if controller.is_open(alloc) {
+        return Refusal::InUse.code();
+    }
+    match make(alloc, name, address, served, Some(subscribed)) {
         Ok(made) => put_controller(alloc, controller, made),
         Err(refusal) => refusal.code(),
     }
@@ -294,32 +321,70 @@ fn put_controller(alloc: Global, handle: &mut Handle, made: Controller) -> i32
 }
 
 /// A controller of these values, or why there is none.
-fn make(alloc: Global, name: u64, address: u8, served: &[u32]) -> Result<Controller, Refusal>
-    ensures made { IfOk result (λ made. CanServe address served.now
-        × Is (record { name = name; address = address; served = served.now; known = [] }) [] made) }
-    ensures refused { IfErr result (λ refusal. IsMakeRefusal address served.now refusal) }
+fn make(
+    alloc: Global,
+    name: u64,
+    address: u8,
+    served: &[u32],
+    subscribed: Option<&[u32]>,
+) -> Result<Controller, Refusal>
+    ensures made { IfOk result (λ made. CanServe address served.now (option_map (λ g. g.now) subscribed.entry)
+        × IsNew name address served.now (option_map (λ g. g.now) subscribed.entry) made) }
+    ensures refused { IfErr result (λ refusal. IsMakeRefusal address served.now (option_map (λ g. g.now) subscribed.entry) refusal) }
 {
-    let mut groups = [Pgn::new(0).unwrap(); MOST_SERVED];
-    if !read_groups(served, &mut groups) {
+    let mut groups = [Pgn::new(0).unwrap(); MOST_SUBSCRIBED];
+    if !read_groups(served, MOST_SERVED, &mut groups) {
         return Err(Refusal::BadValue);
     }
-    match Controller::new(alloc, Name::new(name), address, &groups[..served.len()]) {
+    match subscribed {
+        Some(numbers) => {
+            let mut wanted = [Pgn::new(0).unwrap(); MOST_SUBSCRIBED];
+            if !read_groups(numbers, MOST_SUBSCRIBED, &mut wanted) {
+                return Err(Refusal::BadValue);
+            }
+            begin(
+                alloc,
+                name,
+                address,
+                &groups[..served.len()],
+                Some(&wanted[..numbers.len()]),
+            )
+        }
+        None => begin(alloc, name, address, &groups[..served.len()], None),
+    }
+}
+
+/// A controller of these groups, or why there is none.
+fn begin(
+    alloc: Global,
+    name: u64,
+    address: u8,
+    served: &[Pgn],
+    subscribed: Option<&[Pgn]>,
+) -> Result<Controller, Refusal>
+    ensures made { IfOk result (λ made. (IsAddress address × (length served.now ≤ 16) × AreFew (option_map (λ g. map pgn_raw g.now) subscribed.entry))
+        × IsNew name address (map pgn_raw served.now) (option_map (λ g. map pgn_raw g.now) subscribed.entry) made) }
+    ensures refused { IfErr result (λ refusal. IsBeginRefusal
+        (IsAddress address × (length served.now ≤ 16) × AreFew (option_map (λ g. map pgn_raw g.now) subscribed.entry)) refusal) }
+{
+    match Controller::new(alloc, Name::new(name), address, served, subscribed) {
         Ok(Some(made)) => Ok(made),
         Ok(None) => Err(Refusal::BadValue),
         Err(_) => Err(Refusal::NoMemory),
     }
 }
 
-/// Reads the groups of these numbers into the front of an array: whether all are groups, and there is room.
-fn read_groups(served: &[u32], groups: &mut [Pgn; MOST_SERVED]) -> bool
-    ensures known { (result ≡ true) ↔ CanRead served.now }
-    ensures read { result ≡ true → map pgn_raw (take (length served.now) groups.new) ≡ served.now }
+/// Reads the groups of these numbers, so many at most, into the front of an array: whether all are groups, and there is room.
+fn read_groups(numbers: &[u32], most: usize, groups: &mut [Pgn; MOST_SUBSCRIBED]) -> bool
+    requires { most ≤ 64 }
+    ensures known { (result ≡ true) ↔ CanRead most numbers.now }
+    ensures read { result ≡ true → map pgn_raw (take (length numbers.now) groups.new) ≡ numbers.now }
 {
-    if served.len() > MOST_SERVED {
+    if numbers.len() > most {
         return false;
     }
-    for place in 0..served.len() {
-        let Some(group) = Pgn::new(served[place]) else {
+    for place in 0..numbers.len() {
+        let Some(group) = Pgn::new(numbers[place]) else {
             return false;
         };
         groups[place] = group;

@@ -670,9 +670,9 @@ pub heard_more : (w : Who) (H : List Call) (old new : Controller) (f : FrameReco
     → (left_by : Bool) (p1 p2 : Option ℕ) (m : HearingRecord) → IfSome (hearing_of old.hearing).current (λ z. p1 ≡ holder_in old.holders z.source)
     → IfSome (hearing_of old.hearing).current (λ z. p2 ≡ holder_in new.holders z.source) → left_by ≡ not (is_same p1 p2)
     → m.current ≡ leaves_it left_by (hearing_of old.hearing).current → m.missed ≡ old.hearing.missed
-    → unheard ≡ is_unheard (stamp_micros new.incoming.clock) f m.current
+    → unheard ≡ is_unheard (who_of w.known old.own) (stamp_micros new.incoming.clock) f m.current
     → new.hearing.missed ≡ (if unheard then min (m.missed + 1) 18446744073709551615 else m.missed)
-    → (IsFit m.current → (hearing_of new.hearing).current ≡ hears_it (stamp_micros new.incoming.clock) f m.current) → Is w (Hear f ∷ H) new
+    → (IsFit m.current → (hearing_of new.hearing).current ≡ hears_it (who_of w.known old.own) (stamp_micros new.incoming.clock) f m.current) → Is w (Hear f ∷ H) new
 heard_more w H old new f mid held wanted away gone calls replaced unheard o h p e1 e2 e3 e4 e5 e6 e7 q1 q2 q3 q4 q5 e8 s1 s2 s3 s4 s5 s9 s6 s7 s8 s10 whole_now m1 a1 left_by p1 p2 m t1 t2 t3 t4 t5 t6 t7 t8 =
     let s = sound w H h.answered in
     let wants : wanted ≡ is_for_program w (holds w H f.stamp) f =
@@ -697,7 +697,9 @@ heard_more w H old new f mid held wanted away gone calls replaced unheard o h p 
     let hears_in : incoming_of new.incoming ≡ incoming_after w (Hear f ∷ H) =
     incoming_heard w H old f new.holders new.incoming gone held h (q4 (told_claims w H) h.holders) goes (holds_is w H f.stamp mid held p e1) s9 in
     let on = heard_on w H f old.holders new.holders left_by unheard (stamp_micros new.incoming.clock) p1 p2 (hearing_of old.hearing) m (hearing_of new.hearing) h.hearing
-    h.holders (q4 (told_claims w H) h.holders) (ap (λ (x : IncomingRecord). x.clock) hears_in) t1 t2 t3 t4 t5 t6 t7 t8 in
+    h.holders (q4 (told_claims w H) h.holders) (ap (λ (x : IncomingRecord). x.clock) hears_in) t1 t2 t3 t4 t5
+    (t6 ∙ ap (λ (v : Who). is_unheard v (stamp_micros new.incoming.clock) f m.current) h.who) t7
+    (λ fits. t8 fits ∙ ap (λ (v : Who). hears_it v (stamp_micros new.incoming.clock) f m.current) h.who) in
     let made_now : whole_now ≡ made w H f =
     m1 ∙ (ap (λ (x : IncomingRecord). made_by (has_place x.reception.waits) (incoming_of new.incoming).reception.waits) h.incoming
     ∙ (ap (λ (x : IncomingRecord). made_by (has_place (reception w H).waits) x.reception.waits) hears_in ∙ made_is w H f)) in

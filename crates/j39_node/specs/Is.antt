@@ -188,7 +188,13 @@ status_after w H = status_of w (address_after w H)
 
 -- what it knew before is no part of the code's state
 abbrev pub who_of : List FrameRecord → Own → Who
-who_of known own = record { name = name_raw own.name; address = own.address; served = own.served.items; known = known }
+who_of known own = record {
+  name = name_raw own.name;
+  address = own.address;
+  served = own.served.items;
+  subscribed = option_map (λ groups. groups.items) own.subscribed;
+  known = known;
+}
 
 abbrev pub hold_after : Who → List Call → Hold
 hold_after w H = record {

@@ -28,7 +28,7 @@ use crate::incoming::{Incoming, is_same};
 use crate::lane::{Lane, Open};
 use crate::news::Untold;
 use crate::outgoing::Outgoing;
-use crate::own::{Own, numbers};
+use crate::own::{Own, numbers, subscriptions};
 use crate::received::Inbox;
 use crate::requests::{Desk, Due, asked};
 use crate::transfers::{self, Transfers};
@@ -67,25 +67,37 @@ pub struct Controller {
 impl Controller {
     ghost use Rattle.std.specs.Prelude.{◌≡◌, ◌<◌, ℕ, List, [], ◌∷◌, ◌↔◌, ◌≤◌, length, map, min, IfOk, OnErr, IsSome, IfSome, Some, None};
     ghost use Rattle.j39_node.specs.Is.{Is};
-    ghost use Rattle.j39_node.specs.History.{Who, Call};
+    ghost use Rattle.j39_node.specs.History.{Who, Call, AreFew};
 
-    /// A controller of this NAME that will claim this address, and whose program serves these groups; `None` for an address
-    /// above 253, or more than 16 groups, where no memory is taken. An error where memory is refused.
+    /// A controller of this NAME that will claim this address, whose program serves these groups, and subscribes these, or all
+    /// where there are none: of others it receives neither frames nor broadcasts in packets, and misses none. `None` for an address
+    /// above 253, more than 16 groups served, or more than 64 subscribed, where no memory is taken. An error where memory is refused.
     pub fn new(
         alloc: Global,
         name: Name,
         address: u8,
         served: &[Pgn],
+        subscribed: Option<&[Pgn]>,
     ) -> Result<Option<Controller>, AllocError>
-        ensures known { IfOk result (λ found. IsSome found ↔ (IsAddress address × (length served.now ≤ 16))) }
-        ensures is { IfOk result (λ found. IfSome found (λ c. Is (record
-            { name = name_raw name; address = address; served = map pgn_raw served.now; known = [] }) [] c)) }
-        ensures refused { OnErr result (IsAddress address × (length served.now ≤ 16)) }
+        ensures known { IfOk result (λ found. IsSome found ↔ (IsAddress address × (length served.now ≤ 16)
+            × AreFew (option_map (λ g. map pgn_raw g.now) subscribed.entry))) }
+        ensures is { IfOk result (λ found. IfSome found (λ c. Is (record {
+          name = name_raw name;
+          address = address;
+          served = map pgn_raw served.now;
+          subscribed = option_map (λ g. map pgn_raw g.now) subscribed.entry;
+          known = [];
+        }) [] c)) }
+        ensures refused { OnErr result (IsAddress address × (length served.now ≤ 16)
+            × AreFew (option_map (λ g. map pgn_raw g.now) subscribed.entry)) }
     {
         if !is_address(address) {
             return Ok(None);
         }
         let Some(served) = numbers(served) else {
+            return Ok(None);
+        };
+        let Some(subscribed) = subscriptions(subscribed) else {
             return Ok(None);
         };
         let Some(incoming) = Incoming::new(alloc, address)? else {
@@ -96,6 +108,7 @@ impl Controller {
                 name,
                 address,
                 served,
+                subscribed,
             },
             hold: Hold::new(),
             outgoing: ArrayVec::new(),
@@ -169,7 +182,7 @@ impl Controller {
         None
     }
 
-    /// Begins anew at another address, which it will claim: with the same NAME and served groups, with what it knows of who holds
+    /// Begins anew at another address, which it will claim: with the same NAME and groups, with what it knows of who holds
     /// which address, and with nothing else, as a controller that `new` gives. What was due is dropped, a session too, without a
     /// frame. False, where nothing changes, for an address above 253, or as long as something that was accepted isn't told to have
     /// ended, or something received or news wasn't taken.
@@ -251,7 +264,7 @@ impl Controller {
         let is_replaced = is_replaced(before, self.peer());
         let is_left = !is_same(speaker, self.speaker());
         self.hearing.leave(is_left);
-        let unheard = self.hearing.hear(frame, self.incoming.clock);
+        let unheard = self.hearing.hear(&self.own, frame, self.incoming.clock);
         let is_lost = self.hold.is_lost();
         let calls = self.own.calls_for_claim(is_lost, frame);
         let another = self.own.is_another(is_held, frame);

@@ -63,9 +63,9 @@ impl Station {
     pub fn new(alloc: Global, name: Name, address: u8) -> Result<Option<Station>, AllocError>
         ensures known { IfOk result (λ found. IsSome found ↔ IsAddress address) }
         ensures fresh { IfOk result (λ found. IfSome found (λ station. Is (record
-            { name = name_raw name; address = address; served = []; known = [] }) [] station.controller)) }
+            { name = name_raw name; address = address; served = []; subscribed = None; known = [] }) [] station.controller)) }
     {
-        let Some(controller) = Controller::new(alloc, name, address, &[])? else {
+        let Some(controller) = Controller::new(alloc, name, address, &[], None)? else {
             return Ok(None);
         };
         Ok(Some(Station {
