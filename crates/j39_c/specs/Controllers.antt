@@ -206,10 +206,6 @@ short_in m priority = (
 abbrev pub long_in : WholeMessage → ℕ × MessageRecord
 long_in m = (m.micros, (hearing_in m).message)
 
--- its bytes: a message has 1,785 at most (J1939-21, 5.10.1)
-abbrev pub first_bytes : ℕ × MessageRecord → ℕ × MessageRecord
-first_bytes x = (x.0, record { source = x.1.source; pgn = x.1.pgn; bytes = take 1785 x.1.bytes })
-
 abbrev pub long_if : Bool → WholeMessage → Option (ℕ × MessageRecord)
 long_if true m = Some (long_in m)
 long_if false m = None
@@ -226,9 +222,9 @@ received_by (negsuc n) m priority = []
 abbrev pub Waited : ℤ → WholeMessage → Who → List Call → Type 0
 Waited (pos zero) m w H = ((reception w H).waits ≡ None) × (waiting w H ≡ None)
 Waited (pos (suc zero)) m w H = Unit {0}
-Waited (pos (suc (suc zero))) m w H = option_map first_bytes (reception w H).waits ≡ Some (long_in m)
+Waited (pos (suc (suc zero))) m w H = (reception w H).waits ≡ Some (long_in m)
 Waited (pos (suc (suc (suc n)))) m w H =
-    ((reception w H).waits ≡ None) × (option_map first_bytes (waiting w H) ≡ Some (long_in m))
+    ((reception w H).waits ≡ None) × (waiting w H ≡ Some (long_in m))
 Waited (negsuc n) m w H = Unit {0}
 
 -- ---- news: 1 the address was lost, 2 another sends from it, 3 messages were missed

@@ -20,7 +20,6 @@ use Rattle.j39_node.specs.declared.requests.Due.{Due}
 use Rattle.j39_node.specs.declared.requests.Request.{Request}
 use Rattle.j39_node.specs.declared.kinds.Answer.{Answer}
 use Rattle.j39_node.specs.declared.kinds.Answer.TheVariants.{Nack, Busy}
-use Rattle.j39_node.specs.declared.kinds.Ending.{Ending}
 use Rattle.j39_node.specs.declared.kinds.Ending.TheVariants.{Done, Withdrawn}
 use Rattle.j39_node.specs.declared.kinds.Refused.{Refused}
 use Rattle.j39_node.specs.declared.kinds.Refused.TheVariants.{NoAddress, BadValue, Full}
@@ -29,7 +28,7 @@ use Rattle.j39_node.proofs.AskLemmas.{ask_heard, ask_more, ask_same, takes, wait
 use Rattle.j39_node.specs.Is.{AskRecord, made_by, asking_of, hears_with}
 use Rattle.j39_node.specs.Hold.{rested, asked as hold_asked, standing_of, less, passed, heard, claims, paused, stands, lost, left_at}
 use Rattle.j39_node.specs.History.{Who, Message, Draft, Call, Address, message_of, older, claimed, address_after, holds, is_lost, is_held, is_smaller, claim_address, claim_from, owes_claim, calls_for_claim, can_send, message_from, accepted, sent, told, is_full, step, moment, is_for_program, kept, got, missed, Asked, asked, acknowledgment, acknowledged, due, handed, requests, is_served, with_request, with_refusal, stamp_at, held_at, told_claims, is_another, is_acknowledgment, is_claim, lost_news, another_news, missed_news, broadcasts, broadcast_from, can_broadcast, has_packets, is_busy, is_left, is_open, is_packet, open_broadcast, packets, pause}
-use Rattle.j39_node.specs.History.Call.{Hear, TakeFrame, Send, TakeEnded, TakeRequest, Acknowledge, Broadcast, TakeBroadcastEnded, Transfer, TakeTransferEnded}
+use Rattle.j39_node.specs.History.Call.{Hear, TakeFrame, Send, TakeEnded, TakeRequest, Acknowledge, Broadcast, Transfer, TakeTransferEnded}
 use Rattle.j39_node.proofs.ReceptionLaws.{made_is}
 use Rattle.j39_node.specs.Reception.{has_place, IsApart, heard_at, heard_by, holder, is_same, is_waiting, leaves, left, reception, time_heard}
 use Rattle.j39_node.specs.declared.incoming.Incoming.{Incoming}
@@ -1135,50 +1134,6 @@ ended_is w H c b h e =
     ap (λ (l : LaneRecord). broadcast_end l.current l.count b) h.lane
     ∙ ap (broadcast_end (open_broadcast w H) (length (packets H))) (e ∙ (ap (λ (k : Hold). lost k.standing) h.hold ∙ lost_is (address_after w H)))
 
-pub ends : (w : Who) (H : List Call) (old new : Controller) (x : ℕ × Ending) → Is w H old → Some x ≡ next_broadcast_ended w H
-    → new ≡ record old { lane = new.lane } → new.lane ≡ record old.lane { current = None } → Is w (TakeBroadcastEnded (Some x) ∷ H) new
-ends w H old new x h answer e e0 = record {
-  who = ap (λ c. who_of w.known c.own) e ∙ h.who;
-  answered = (h.answered, answer);
-  hold = ap (λ c. c.hold) e ∙ h.hold;
-  outgoing = ap (λ c. map posted c.outgoing.items) e ∙ h.outgoing;
-  taken = ap (λ c. c.taken) e ∙ h.taken;
-  token = ap (λ c. c.next_token) e ∙ h.token;
-  asking = ap (λ c. asking_of c.asking) e ∙ h.asking;
-  unread = ap (λ c. map received_by c.inbox.unread.items) e ∙ h.unread;
-  requests = ap (λ c. map request_by c.desk.waiting.items) e ∙ h.requests;
-  acknowledgments = ap (λ c. map (refusal_by w) c.desk.due.items) e ∙ h.acknowledgments;
-  holders = subst (λ t. Knows t (told_claims w H)) (sym (ap (λ c. c.holders) e)) h.holders;
-  news = ap (λ c. c.news) e ∙ h.news;
-  missed = ap (λ c. c.inbox.missed) e ∙ h.missed;
-  lane = ap (lane_of w) e0 ∙ ap (λ (l : LaneRecord). record l { current = None }) h.lane;
-  incoming = ap (λ c. incoming_of c.incoming) e ∙ h.incoming;
-  hearing = ap (λ c. hearing_of c.hearing) e ∙ h.hearing;
-  port = ap (λ c. port_of c.transfers) e ∙ h.port;
-}
-
-pub none_ends : (w : Who) (H : List Call) (c : Controller) → Is w H c → (let none : Option (ℕ × Ending) = None in none) ≡ next_broadcast_ended w H
-    → Is w (TakeBroadcastEnded None ∷ H) c
-none_ends w H c h answer = record {
-  who = h.who;
-  answered = (h.answered, answer);
-  hold = h.hold;
-  outgoing = h.outgoing;
-  taken = h.taken;
-  token = h.token;
-  asking = h.asking;
-  unread = h.unread;
-  requests = h.requests;
-  acknowledgments = h.acknowledgments;
-  holders = h.holders;
-  news = h.news;
-  missed = h.missed;
-  lane = h.lane;
-  incoming = h.incoming;
-  hearing = h.hearing;
-  port = h.port;
-}
-
 -- ---- transfers
 
 pub engaged_is : (w : Who) (H : List Call) (c : Controller) (now group to : ℕ) (mid : Hold) → Is w H c → Passed w H now mid
@@ -1276,26 +1231,4 @@ transfer_ends w H old new x b h answer rests e e0 e1 = record {
   port = e1 ∙ (ap (closed b old.hold.rest) h.port
       ∙ (ap (λ (n : ℕ). closed b n (port_after w H)) (ap (λ (k : Hold). k.rest) h.hold) ∙ ap (λ (y : Bool). closed y (rest H) (port_after w H)) rests));
   incoming = ap (λ c. incoming_of c.incoming) e ∙ h.incoming;
-}
-
-pub no_transfer_ends : (w : Who) (H : List Call) (c : Controller) → Is w H c → (let none : Option (ℕ × TransferEnding) = None in none) ≡ next_transfer_ended w H
-    → Is w (TakeTransferEnded None ∷ H) c
-no_transfer_ends w H c h answer = record {
-  who = h.who;
-  answered = (h.answered, answer);
-  hold = h.hold;
-  outgoing = h.outgoing;
-  taken = h.taken;
-  token = h.token;
-  asking = h.asking;
-  unread = h.unread;
-  requests = h.requests;
-  acknowledgments = h.acknowledgments;
-  holders = h.holders;
-  news = h.news;
-  missed = h.missed;
-  lane = h.lane;
-  hearing = h.hearing;
-  port = h.port;
-  incoming = h.incoming;
 }

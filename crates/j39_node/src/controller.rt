@@ -486,7 +486,7 @@ impl Controller {
 
     /// Asks an address, or all (255), for a group, by a message of priority 6; answers its token, one of those of `send`, to which
     /// `take_ended` tells that its frame was taken. `Full` while one is accepted and not told by `take_ask_ended`, or sixteen
-    /// messages are.
+    /// messages are. The answer itself is received like any message: subscribe its group, unless it comes by a transfer.
     pub fn ask(&mut self, now: Stamp, group: Pgn, to: u8) -> Result<u64, Refused>
         ensures { (w : Who) (H : List Call) → Is w H self.old
             → Is w (Ask (stamp_micros now) (pgn_raw group) to result ∷ H) self.new }
@@ -535,8 +535,9 @@ impl Controller {
     /// The message of 9 to 1,785 bytes that came in packets to its address, until `release_transfer` is called. Till then another
     /// is refused (abort 2), so what was acknowledged lies here.
     pub fn received_transfer(&self) -> Option<Message<'_>>
-        ensures { (w : Who) (H : List Call) → Is w H self.now
+        ensures value { (w : Who) (H : List Call) → Is w H self.now
             → option_map (λ m. (stamp_micros m.stamp, message_shown m)) result ≡ (reception w H).waits }
+        ensures most { IfSome result (λ m. length m.payload.now ≤ 1785) }
     {
         self.incoming.message()
     }
@@ -553,8 +554,9 @@ impl Controller {
     /// The message of 9 to 1,785 bytes that came in packets to all, until `release_broadcast` is called. Till then no other is
     /// heard; such are counted in `missed`.
     pub fn received_broadcast(&self) -> Option<Message<'_>>
-        ensures { (w : Who) (H : List Call) → Is w H self.now
+        ensures value { (w : Who) (H : List Call) → Is w H self.now
             → option_map (λ m. (stamp_micros m.stamp, message_shown m)) result ≡ waiting w H }
+        ensures most { IfSome result (λ m. length m.payload.now ≤ 1785) }
     {
         self.hearing.message()
     }

@@ -173,7 +173,8 @@ impl Hearing {
 
     /// The broadcast that waits for the program.
     pub(crate) fn message(&self) -> Option<Message<'_>>
-        ensures { option_map (λ m. (stamp_micros m.stamp, message_shown m)) result ≡ whole_of (hearing_of self.now).current }
+        ensures value { option_map (λ m. (stamp_micros m.stamp, message_shown m)) result ≡ whole_of (hearing_of self.now).current }
+        ensures most { IfSome result (λ m. length m.payload.now ≤ 1785) }
     {
         match &self.current {
             Some(heard) => {
