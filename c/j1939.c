@@ -49,6 +49,7 @@ int32_t j39_controller_tick(j1939_handle *controller, uint64_t micros);
 int32_t j39_controller_next_tick(j1939_handle *controller, uint64_t *due);
 int32_t j39_controller_take_frame(j1939_handle *controller, uint64_t micros, j1939_frame *out);
 int32_t j39_controller_peek_frame(j1939_handle *controller, uint64_t micros, j1939_frame *out);
+int32_t j39_controller_claims_request(j1939_handle *controller, uint64_t micros, uint8_t to, j1939_frame *out);
 int32_t j39_controller_next_due(j1939_handle *controller, uint64_t *due);
 int32_t j39_controller_status(j1939_handle *controller, uint8_t *address);
 int32_t j39_controller_holder(j1939_handle *controller, uint8_t address, uint64_t *name);
@@ -273,6 +274,10 @@ int32_t j1939_controller_take_frame(j1939_controller *controller, uint64_t micro
 
 int32_t j1939_controller_peek_frame(j1939_controller *controller, uint64_t micros, j1939_frame *out) {
     return controller && out ? j39_controller_peek_frame(&controller->handle, micros, out) : J1939_NULL;
+}
+
+int32_t j1939_controller_claims_request(j1939_controller *controller, uint64_t micros, uint8_t to, j1939_frame *out) {
+    return controller && out ? j39_controller_claims_request(&controller->handle, micros, to, out) : J1939_NULL;
 }
 
 int32_t j1939_controller_next_due(j1939_controller *controller, uint64_t *due) {

@@ -431,6 +431,12 @@ int32_t j1939_controller_take_frame(j1939_controller *controller, uint64_t micro
  * @return 0, 1, J1939_BAD_VALUE, J1939_NO_PART */
 int32_t j1939_controller_peek_frame(j1939_controller *controller, uint64_t micros, j1939_frame *out);
 
+/** A request for the claims of all (255), or of an address, from the null address: 1 where *out may go at once, else 0:
+ * where an address is held, and for 254. It may go at any moment, before the first claim too. What answers it is shown by
+ * .._hear like any claim; then .._free_address tells where to move.
+ * @return 0, 1, J1939_BAD_VALUE, J1939_NO_PART */
+int32_t j1939_controller_claims_request(j1939_controller *controller, uint64_t micros, uint8_t to, j1939_frame *out);
+
 /** Before which moment .._take_frame answers 0, if nothing is heard or handed in till then: 1 and the moment, which is
  * that of the last call where a frame can be taken already; or 0. No time passes by .._peek_frame.
  * @return 0, 1, J1939_NO_PART */

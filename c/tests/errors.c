@@ -80,6 +80,7 @@ static void null_pointers(void) {
     EXPECT(j1939_controller_next_tick(&controller, NULL) == J1939_NULL);
     EXPECT(j1939_controller_take_frame(&controller, 0, NULL) == J1939_NULL);
     EXPECT(j1939_controller_peek_frame(NULL, 0, &out) == J1939_NULL);
+    EXPECT(j1939_controller_claims_request(&controller, 0, 255, NULL) == J1939_NULL);
     EXPECT(j1939_controller_next_due(&controller, NULL) == J1939_NULL);
     EXPECT(j1939_controller_status(&controller, NULL) == J1939_NULL);
     EXPECT(j1939_controller_holder(&controller, 0, NULL) == J1939_NULL);
@@ -366,6 +367,7 @@ static void no_controller(j1939_controller *controller) {
     EXPECT(j1939_controller_next_tick(controller, &number) == J1939_NO_PART);
     EXPECT(j1939_controller_take_frame(controller, 0, &out) == J1939_NO_PART);
     EXPECT(j1939_controller_peek_frame(controller, 0, &out) == J1939_NO_PART);
+    EXPECT(j1939_controller_claims_request(controller, 0, 255, &out) == J1939_NO_PART);
     EXPECT(j1939_controller_next_due(controller, &number) == J1939_NO_PART);
     EXPECT(j1939_controller_status(controller, &byte) == J1939_NO_PART);
     EXPECT(j1939_controller_holder(controller, 0x80, &number) == J1939_NO_PART);
@@ -393,6 +395,7 @@ static void controller_in_range(j1939_controller *controller) {
     EXPECT(j1939_controller_tick(controller, LATE) == J1939_BAD_VALUE);
     EXPECT(j1939_controller_take_frame(controller, LATE, &out) == J1939_BAD_VALUE);
     EXPECT(j1939_controller_peek_frame(controller, LATE, &out) == J1939_BAD_VALUE);
+    EXPECT(j1939_controller_claims_request(controller, LATE, 255, &out) == J1939_BAD_VALUE);
     EXPECT(j1939_controller_send(controller, LATE, 6, 65262, 255, payload, 8, &token) == J1939_BAD_VALUE);
     EXPECT(j1939_controller_send(controller, 0, 6, 1u << 18, 255, payload, 8, &token) == J1939_BAD_VALUE);
     EXPECT(j1939_controller_broadcast(controller, LATE, 65260, payload, 9, &token) == J1939_BAD_VALUE);
@@ -426,6 +429,9 @@ static void claim_of(j1939_controller *controller) {
     EXPECT(j1939_controller_next_due(controller, &due) == 1 && due == 0);
     EXPECT(taken(controller, 1000000) == 0x18EEFF80 && taken(controller, 1000000) == 0);
     EXPECT(j1939_controller_status(controller, &own) == J1939_CLAIMING && own == 0x80);
+    EXPECT(j1939_controller_claims_request(controller, 1000000, 255, &out) == 1 && out.id == 0x18EAFFFE);
+    EXPECT(out.micros == 1000000 && out.len == 3 && !memcmp(out.data, "\x00\xEE", 3));
+    EXPECT(j1939_controller_claims_request(controller, 1000000, 254, &out) == 0);
     EXPECT(j1939_controller_next_due(controller, &due) == 1 && due == 1250000);
     EXPECT(j1939_controller_broadcast(controller, 1249999, 65260, payload, 9, &token) == J1939_NO_ADDRESS);
     EXPECT(j1939_controller_holder(controller, 0x80, &token) == 1 && token == 1);
@@ -434,6 +440,7 @@ static void claim_of(j1939_controller *controller) {
     EXPECT(j1939_controller_address_of(controller, 2, &own) == 0);
     EXPECT(j1939_controller_tick(controller, 1250000) == 0);
     EXPECT(j1939_controller_status(controller, &own) == J1939_HOLDING && own == 0x80);
+    EXPECT(j1939_controller_claims_request(controller, 1250000, 255, &out) == 0);
     EXPECT(j1939_controller_next_due(controller, &due) == 0 && due == 1250000);
     EXPECT(j1939_controller_next_tick(controller, &due) == 0);
 }

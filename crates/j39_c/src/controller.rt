@@ -8,7 +8,7 @@ ghost use Rattle.j39_frame.specs.Address.{IsAddress};
 ghost use Rattle.j39_frame.specs.Pgn.{pgn_raw};
 ghost use Rattle.j39_node.specs.History.{AreFew, told_claims};
 ghost use Rattle.j39_node.specs.History.Call.{Hear, TakeFrame, TakeNews, Tick};
-ghost use Rattle.j39_node.specs.Is.{next_frame, stamped, status_after};
+ghost use Rattle.j39_node.specs.Is.{next_claims_request, next_frame, stamped, status_after};
 ghost use Rattle.j39_node.specs.Reception.{next_tick};
 ghost use Rattle.j39_node.specs.Transfers.{next_due};
 ghost use Rattle.j39_c.specs.Calls.{Answers, Asks, Fills, Never, Opens};
@@ -160,6 +160,29 @@ pub extern "C" fn j39_controller_peek_frame(
         return Refusal::BadValue.code();
     };
     ask!(alloc, controller, Controlling(held) => put_frame(held.peek_frame(now), out))
+}
+
+/// A request for the claims of all (255), or of an address, from the null address: 1 where `out` is, and may go at once,
+/// else 0: where an address is held, and for 254. -1 for a moment of 10^16 microseconds and above, -2 where the handle holds no
+/// controller.
+#[unsafe(no_mangle)]
+pub extern "C" fn j39_controller_claims_request(
+    alloc: Global,
+    controller: &mut Handle,
+    micros: u64,
+    to: u8,
+    out: &mut CanFrame,
+) -> i32
+    ensures asks { Asks controller_in (micros < 10 ^ 16) controller.old.part result controller.new.part
+        (λ old _. Says (λ w H. option_map stamped (sent result out.new) ≡ next_claims_request w H micros to) old) Never }
+    ensures same { controller.new.part ≡ controller.old.part }
+    ensures answers { Answers 1 (bad_value ∷ no_part ∷ []) result }
+    ensures fills { Fills (pos 1 ∷ []) result (out.new ≡ out.old) }
+{
+    let Some(now) = Stamp::new(micros) else {
+        return Refusal::BadValue.code();
+    };
+    ask!(alloc, controller, Controlling(held) => put_frame(held.claims_request(now, to), out))
 }
 
 /// The moment before which no frame goes out, if nothing is heard or handed in till then: 1 and the moment, or 0 where

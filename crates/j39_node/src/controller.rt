@@ -19,7 +19,7 @@ ghost use Rattle.j39_node.specs.Hold.{lost, stands};
 ghost use Rattle.j39_node.specs.Moving.{IsSettled, has_given, has_told, moved};
 ghost use Rattle.j39_node.specs.History.Call.{Ask, TakeAskEnded, Hear, Tick, TakeFrame, Send, TakeEnded, TakeReceived, TakeRequest, TakeNews, Acknowledge, Broadcast, TakeBroadcastEnded, ReleaseTransfer, Transfer, TakeTransferEnded, ReleaseBroadcast};
 ghost use Rattle.j39_node.specs.Asking.{is_asking};
-ghost use Rattle.j39_node.specs.Is.{asking_of, Is, first_of, lane_of, next_frame, packet_by, posted, received_by, request_by, stamped, status_after, who_of, long_by, port_of, hearing_of};
+ghost use Rattle.j39_node.specs.Is.{asking_of, Is, next_claims_request, first_of, lane_of, next_frame, packet_by, posted, received_by, request_by, stamped, status_after, who_of, long_by, port_of, hearing_of};
 
 use crate::asking::{self, Asking};
 use crate::hearing::Hearing;
@@ -35,7 +35,7 @@ use crate::transfers::{self, Transfers};
 use crate::{Answer, AskEnding, Ending, News, Received, Refused, Request, TransferEnding};
 use arrayvec::ArrayVec;
 use j39_address::{Claims, Name, Status};
-use j39_frame::{Frame, NULL_ADDRESS, Pgn, Stamp, is_address};
+use j39_frame::{Frame, GLOBAL_ADDRESS, NULL_ADDRESS, Pgn, Stamp, is_address};
 use j39_transport::Message;
 use std::alloc::{AllocError, Global};
 
@@ -352,6 +352,21 @@ impl Controller {
                     Some(frame)
                 }
             },
+        }
+    }
+
+    /// A request for the claims of all (255), or of an address, from the null address: where no address is held, it may go at any
+    /// moment, before the first claim too (J1939-81, 4.2.1). `None` where one is held, or for 254. What answers it is heard as any
+    /// claim is; then `free_address` tells where to move.
+    pub fn claims_request(&self, now: Stamp, to: u8) -> Option<Frame>
+        ensures { (w : Who) (H : List Call) → Is w H self.now
+            → option_map stamped result ≡ next_claims_request w H (stamp_micros now) to }
+    {
+        let is_held = self.hold.passed(now).is_held();
+        if !is_held && (to == GLOBAL_ADDRESS || to < NULL_ADDRESS) {
+            asking::claims_request(to, now)
+        } else {
+            None
         }
     }
 
