@@ -1,5 +1,5 @@
 -- What a controller answers to C, by the histories of its calls.
-use Rattle.std.specs.Prelude.{◌≡◌, ◌<◌, ◌≤◌, ◌^◌, ◌+◌, min, ◌∷◌, ◌++◌, [], ℕ, zero, suc, ℤ, pos, negsuc, nat_eq, nat_lt, Bool, true, false, Option, Some, None, IfSome, IsSomeAnd, Result, Ok, Err, List, length, take, if◌then◌else◌}
+use Rattle.std.specs.Prelude.{◌≡◌, ◌<◌, ◌≤◌, ◌^◌, ◌+◌, min, ◌∷◌, ◌++◌, [], ℕ, zero, suc, ℤ, pos, negsuc, nat_eq, nat_lt, Bool, true, false, Option, Some, None, IfSome, IsSomeAnd, Result, Ok, Err, List, length, if◌then◌else◌}
 use Rattle.std.specs.Option.{option_map}
 use Rattle.std.specs.List.{list_all}
 use Rattle.j39_address.specs.Claim.{claims_of}
@@ -76,12 +76,6 @@ abbrev pub IsMakeRefusal : ℕ → List ℕ → Option (List ℕ) → Refusal �
 IsMakeRefusal address served subscribed refusal.BadValue = CanServe address served subscribed → ⊥
 IsMakeRefusal address served subscribed refusal.NoMemory = CanServe address served subscribed
 IsMakeRefusal address served subscribed other = ⊥
-
--- the same, of groups that are in range
-abbrev pub IsBeginRefusal : Type 0 → Refusal → Type 0
-IsBeginRefusal fits refusal.BadValue = fits → ⊥
-IsBeginRefusal fits refusal.NoMemory = fits
-IsBeginRefusal fits other = ⊥
 
 -- ---- what its history says
 

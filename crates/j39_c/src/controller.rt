@@ -1,12 +1,11 @@
 //! A controller: it claims an address, and sends and receives (J1939-21, J1939-81).
-ghost use Rattle.std.specs.Prelude.{◌≡◌, ◌<◌, ◌≤◌, ◌^◌, ◌∷◌, [], ⊤, None, Some, IfOk, IfErr, pos, true, ◌↔◌, length, map, take};
+ghost use Rattle.std.specs.Prelude.{◌≡◌, ◌<◌, ◌≤◌, ◌^◌, ◌∷◌, [], ⊤, None, Some, IfSome, IsSome, IfOk, IfErr, pos, true, ◌↔◌, length, map, take};
 ghost use Rattle.std.specs.Option.{option_map};
 ghost use Rattle.j39_address.specs.Claim.{claims_of};
 ghost use Rattle.j39_address.specs.Claimer.{status_of};
 ghost use Rattle.j39_address.specs.Holder.{IsHolderAfter};
-ghost use Rattle.j39_frame.specs.Address.{IsAddress};
 ghost use Rattle.j39_frame.specs.Pgn.{pgn_raw};
-ghost use Rattle.j39_node.specs.History.{AreFew, told_claims};
+ghost use Rattle.j39_node.specs.History.{told_claims};
 ghost use Rattle.j39_node.specs.History.Call.{Hear, TakeFrame, TakeNews, Tick};
 ghost use Rattle.j39_node.specs.Is.{next_claims_request, next_frame, stamped, status_after};
 ghost use Rattle.j39_node.specs.Reception.{next_tick};
@@ -14,7 +13,7 @@ ghost use Rattle.j39_node.specs.Transfers.{next_due};
 ghost use Rattle.j39_c.specs.Calls.{Answers, Asks, Fills, Never, Opens};
 ghost use Rattle.j39_c.specs.Can.{Fits, frame_of};
 ghost use Rattle.j39_c.specs.Codes.{IsDone, IsRefused, bad_value, in_use, no_memory, no_part, sent, told};
-ghost use Rattle.j39_c.specs.Controllers.{CanRead, CanServe, Continues, IsAddressOf, IsBeginRefusal, IsFree, IsMakeRefusal, IsNew, Moves, Says, count_missed, news_in};
+ghost use Rattle.j39_c.specs.Controllers.{CanRead, CanServe, Continues, IsAddressOf, IsFree, IsMakeRefusal, IsNew, CanSubscribe, Moves, Says, count_missed, news_in};
 ghost use Rattle.j39_c.specs.Nodes.{IsStatus};
 ghost use Rattle.j39_c.specs.Parts.{controller_in};
 
@@ -359,41 +358,39 @@ fn make(
     if !read_groups(served, MOST_SERVED, &mut groups) {
         return Err(Refusal::BadValue);
     }
-    match subscribed {
-        Some(numbers) => {
-            let mut wanted = [Pgn::new(0).unwrap(); MOST_SUBSCRIBED];
-            if !read_groups(numbers, MOST_SUBSCRIBED, &mut wanted) {
-                return Err(Refusal::BadValue);
-            }
-            begin(
-                alloc,
-                name,
-                address,
-                &groups[..served.len()],
-                Some(&wanted[..numbers.len()]),
-            )
-        }
-        None => begin(alloc, name, address, &groups[..served.len()], None),
-    }
-}
-
-/// A controller of these groups, or why there is none.
-fn begin(
-    alloc: Global,
-    name: u64,
-    address: u8,
-    served: &[Pgn],
-    subscribed: Option<&[Pgn]>,
-) -> Result<Controller, Refusal>
-    ensures made { IfOk result (λ made. (IsAddress address × (length served.now ≤ 16) × AreFew (option_map (λ g. map pgn_raw g.now) subscribed.entry))
-        × IsNew name address (map pgn_raw served.now) (option_map (λ g. map pgn_raw g.now) subscribed.entry) made) }
-    ensures refused { IfErr result (λ refusal. IsBeginRefusal
-        (IsAddress address × (length served.now ≤ 16) × AreFew (option_map (λ g. map pgn_raw g.now) subscribed.entry)) refusal) }
-{
-    match Controller::new(alloc, Name::new(name), address, served, subscribed) {
+    let mut wanted = [Pgn::new(0).unwrap(); MOST_SUBSCRIBED];
+    let Some(subscribed) = read_wanted(subscribed, &mut wanted) else {
+        return Err(Refusal::BadValue);
+    };
+    match Controller::new(
+        alloc,
+        Name::new(name),
+        address,
+        &groups[..served.len()],
+        subscribed,
+    ) {
         Ok(Some(made)) => Ok(made),
         Ok(None) => Err(Refusal::BadValue),
         Err(_) => Err(Refusal::NoMemory),
+    }
+}
+
+/// Reads the groups that are subscribed into an array, if not all are; `None` where they can't be.
+fn read_wanted<'a>(
+    numbers: Option<&[u32]>,
+    groups: &'a mut [Pgn; MOST_SUBSCRIBED],
+) -> Option<Option<&'a [Pgn]>>
+    ensures known { IsSome result ↔ CanSubscribe (option_map (λ n. n.now) numbers.entry) }
+    ensures read { IfSome result (λ found. option_map (λ g. map pgn_raw g.now) found ≡ option_map (λ n. n.now) numbers.entry) }
+{
+    match numbers {
+        Some(numbers) => {
+            if !read_groups(numbers, MOST_SUBSCRIBED, groups) {
+                return None;
+            }
+            Some(Some(&groups[..numbers.len()]))
+        }
+        None => Some(None),
     }
 }
 
