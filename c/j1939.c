@@ -42,11 +42,14 @@ int32_t j39_sender_on(j1939_handle *sender, const j1939_frame *frame);
 int32_t j39_sender_state(j1939_handle *sender, uint8_t *reason);
 int32_t j39_controller_new(j1939_handle *controller, uint64_t name, uint8_t address, const uint32_t *served,
                            size_t count);
+int32_t j39_controller_new_subscribed(j1939_handle *controller, uint64_t name, uint8_t address, const uint32_t *served,
+                                      size_t count, const uint32_t *wanted, size_t wanted_count);
 int32_t j39_controller_hear(j1939_handle *controller, const j1939_frame *frame);
 int32_t j39_controller_tick(j1939_handle *controller, uint64_t micros);
 int32_t j39_controller_next_tick(j1939_handle *controller, uint64_t *due);
 int32_t j39_controller_take_frame(j1939_handle *controller, uint64_t micros, j1939_frame *out);
 int32_t j39_controller_peek_frame(j1939_handle *controller, uint64_t micros, j1939_frame *out);
+int32_t j39_controller_claims_request(j1939_handle *controller, uint64_t micros, uint8_t to, j1939_frame *out);
 int32_t j39_controller_next_due(j1939_handle *controller, uint64_t *due);
 int32_t j39_controller_status(j1939_handle *controller, uint8_t *address);
 int32_t j39_controller_holder(j1939_handle *controller, uint8_t address, uint64_t *name);
@@ -244,6 +247,15 @@ int32_t j1939_controller_new(j1939_controller *controller, uint64_t name, uint8_
     return j39_controller_new(&controller->handle, name, address, served ? served : none, count);
 }
 
+int32_t j1939_controller_new_subscribed(j1939_controller *controller, uint64_t name, uint8_t address,
+                                        const uint32_t *served, size_t count, const uint32_t *wanted,
+                                        size_t wanted_count) {
+    static const uint32_t none[1] = {0};
+    if (!controller || (!served && count) || (!wanted && wanted_count)) return J1939_NULL;
+    return j39_controller_new_subscribed(&controller->handle, name, address, served ? served : none, count,
+                                         wanted ? wanted : none, wanted_count);
+}
+
 int32_t j1939_controller_hear(j1939_controller *controller, const j1939_frame *frame) {
     return controller && frame ? j39_controller_hear(&controller->handle, frame) : J1939_NULL;
 }
@@ -262,6 +274,10 @@ int32_t j1939_controller_take_frame(j1939_controller *controller, uint64_t micro
 
 int32_t j1939_controller_peek_frame(j1939_controller *controller, uint64_t micros, j1939_frame *out) {
     return controller && out ? j39_controller_peek_frame(&controller->handle, micros, out) : J1939_NULL;
+}
+
+int32_t j1939_controller_claims_request(j1939_controller *controller, uint64_t micros, uint8_t to, j1939_frame *out) {
+    return controller && out ? j39_controller_claims_request(&controller->handle, micros, to, out) : J1939_NULL;
 }
 
 int32_t j1939_controller_next_due(j1939_controller *controller, uint64_t *due) {

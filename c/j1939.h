@@ -399,6 +399,14 @@ int32_t j1939_sender_close(j1939_sender *sender);
 int32_t j1939_controller_new(j1939_controller *controller, uint64_t name, uint8_t address, const uint32_t *served,
                              size_t count);
 
+/** The same, but its program subscribes these groups alone: messages of others, of one frame or broadcast in packets, are
+ * neither handed out nor missed. What comes in packets to its address is handed out in any case, and .._ask hears its
+ * answer of any group. J1939_BAD_VALUE also for more than 64. Where wanted_count is 0, wanted may be NULL.
+ * @return 0, J1939_BAD_VALUE, J1939_NO_MEMORY, J1939_IN_USE */
+int32_t j1939_controller_new_subscribed(j1939_controller *controller, uint64_t name, uint8_t address,
+                                        const uint32_t *served, size_t count, const uint32_t *wanted,
+                                        size_t wanted_count);
+
 /** Shows it a frame that another controller sent, of any group, at the frame's own moment.
  * @return 0, J1939_BAD_VALUE, J1939_NO_PART */
 int32_t j1939_controller_hear(j1939_controller *controller, const j1939_frame *frame);
@@ -422,6 +430,12 @@ int32_t j1939_controller_take_frame(j1939_controller *controller, uint64_t micro
  * once it lies there.
  * @return 0, 1, J1939_BAD_VALUE, J1939_NO_PART */
 int32_t j1939_controller_peek_frame(j1939_controller *controller, uint64_t micros, j1939_frame *out);
+
+/** A request for the claims of all (255), or of an address, from the null address: 1 where *out may go at once, else 0:
+ * where an address is held, and for 254. It may go at any moment, before the first claim too. What answers it is shown by
+ * .._hear like any claim; then .._free_address tells where to move.
+ * @return 0, 1, J1939_BAD_VALUE, J1939_NO_PART */
+int32_t j1939_controller_claims_request(j1939_controller *controller, uint64_t micros, uint8_t to, j1939_frame *out);
 
 /** Before which moment .._take_frame answers 0, if nothing is heard or handed in till then: 1 and the moment, which is
  * that of the last call where a frame can be taken already; or 0. No time passes by .._peek_frame.

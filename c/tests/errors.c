@@ -72,11 +72,15 @@ static void null_pointers(void) {
     EXPECT(j1939_sender_close(NULL) == J1939_NULL);
     EXPECT(j1939_controller_new(NULL, 0, 0, NULL, 0) == J1939_NULL);
     EXPECT(j1939_controller_new(&controller, 0, 0, NULL, 1) == J1939_NULL);
+    EXPECT(j1939_controller_new_subscribed(NULL, 0, 0, NULL, 0, NULL, 0) == J1939_NULL);
+    EXPECT(j1939_controller_new_subscribed(&controller, 0, 0, NULL, 1, NULL, 0) == J1939_NULL);
+    EXPECT(j1939_controller_new_subscribed(&controller, 0, 0, NULL, 0, NULL, 1) == J1939_NULL);
     EXPECT(j1939_controller_hear(&controller, NULL) == J1939_NULL);
     EXPECT(j1939_controller_tick(NULL, 0) == J1939_NULL);
     EXPECT(j1939_controller_next_tick(&controller, NULL) == J1939_NULL);
     EXPECT(j1939_controller_take_frame(&controller, 0, NULL) == J1939_NULL);
     EXPECT(j1939_controller_peek_frame(NULL, 0, &out) == J1939_NULL);
+    EXPECT(j1939_controller_claims_request(&controller, 0, 255, NULL) == J1939_NULL);
     EXPECT(j1939_controller_next_due(&controller, NULL) == J1939_NULL);
     EXPECT(j1939_controller_status(&controller, NULL) == J1939_NULL);
     EXPECT(j1939_controller_holder(&controller, 0, NULL) == J1939_NULL);
@@ -363,6 +367,7 @@ static void no_controller(j1939_controller *controller) {
     EXPECT(j1939_controller_next_tick(controller, &number) == J1939_NO_PART);
     EXPECT(j1939_controller_take_frame(controller, 0, &out) == J1939_NO_PART);
     EXPECT(j1939_controller_peek_frame(controller, 0, &out) == J1939_NO_PART);
+    EXPECT(j1939_controller_claims_request(controller, 0, 255, &out) == J1939_NO_PART);
     EXPECT(j1939_controller_next_due(controller, &number) == J1939_NO_PART);
     EXPECT(j1939_controller_status(controller, &byte) == J1939_NO_PART);
     EXPECT(j1939_controller_holder(controller, 0x80, &number) == J1939_NO_PART);
@@ -390,6 +395,7 @@ static void controller_in_range(j1939_controller *controller) {
     EXPECT(j1939_controller_tick(controller, LATE) == J1939_BAD_VALUE);
     EXPECT(j1939_controller_take_frame(controller, LATE, &out) == J1939_BAD_VALUE);
     EXPECT(j1939_controller_peek_frame(controller, LATE, &out) == J1939_BAD_VALUE);
+    EXPECT(j1939_controller_claims_request(controller, LATE, 255, &out) == J1939_BAD_VALUE);
     EXPECT(j1939_controller_send(controller, LATE, 6, 65262, 255, payload, 8, &token) == J1939_BAD_VALUE);
     EXPECT(j1939_controller_send(controller, 0, 6, 1u << 18, 255, payload, 8, &token) == J1939_BAD_VALUE);
     EXPECT(j1939_controller_broadcast(controller, LATE, 65260, payload, 9, &token) == J1939_BAD_VALUE);
@@ -423,6 +429,9 @@ static void claim_of(j1939_controller *controller) {
     EXPECT(j1939_controller_next_due(controller, &due) == 1 && due == 0);
     EXPECT(taken(controller, 1000000) == 0x18EEFF80 && taken(controller, 1000000) == 0);
     EXPECT(j1939_controller_status(controller, &own) == J1939_CLAIMING && own == 0x80);
+    EXPECT(j1939_controller_claims_request(controller, 1000000, 255, &out) == 1 && out.id == 0x18EAFFFE);
+    EXPECT(out.micros == 1000000 && out.len == 3 && !memcmp(out.data, "\x00\xEE", 3));
+    EXPECT(j1939_controller_claims_request(controller, 1000000, 254, &out) == 0);
     EXPECT(j1939_controller_next_due(controller, &due) == 1 && due == 1250000);
     EXPECT(j1939_controller_broadcast(controller, 1249999, 65260, payload, 9, &token) == J1939_NO_ADDRESS);
     EXPECT(j1939_controller_holder(controller, 0x80, &token) == 1 && token == 1);
@@ -431,6 +440,7 @@ static void claim_of(j1939_controller *controller) {
     EXPECT(j1939_controller_address_of(controller, 2, &own) == 0);
     EXPECT(j1939_controller_tick(controller, 1250000) == 0);
     EXPECT(j1939_controller_status(controller, &own) == J1939_HOLDING && own == 0x80);
+    EXPECT(j1939_controller_claims_request(controller, 1250000, 255, &out) == 0);
     EXPECT(j1939_controller_next_due(controller, &due) == 0 && due == 1250000);
     EXPECT(j1939_controller_next_tick(controller, &due) == 0);
 }
@@ -641,6 +651,24 @@ static void controllers(void) {
     no_controller(&controller);
 }
 
+/* Of two groups it subscribes one. */
+static void subscribed(void) {
+    static const uint32_t wanted[65] = {65262}, no_group[1] = {1u << 18};
+    j1939_controller controller = J1939_EMPTY;
+    j1939_frame heard = {.micros = 1, .id = 0x18FEEF81, .len = 8};
+    uint8_t priority;
+    EXPECT(j1939_controller_new_subscribed(&controller, 1, 0x80, NULL, 0, wanted, 65) == J1939_BAD_VALUE);
+    EXPECT(j1939_controller_new_subscribed(&controller, 1, 0x80, NULL, 0, no_group, 1) == J1939_BAD_VALUE);
+    EXPECT(j1939_controller_new_subscribed(&controller, 1, 0x80, NULL, 0, wanted, 64) == 0);
+    EXPECT(j1939_controller_new_subscribed(&controller, 1, 0x80, NULL, 0, wanted, 64) == J1939_IN_USE);
+    EXPECT(j1939_controller_hear(&controller, &heard) == 0);
+    EXPECT(j1939_controller_take_received(&controller, &message, &priority) == 0);
+    heard.id = 0x18FEEE81;
+    EXPECT(j1939_controller_hear(&controller, &heard) == 0);
+    EXPECT(j1939_controller_take_received(&controller, &message, &priority) == J1939_RECEIVED_FRAME);
+    EXPECT(message.pgn == 65262 && j1939_controller_close(&controller) == 0);
+}
+
 int main(void) {
     null_pointers();
     fields();
@@ -652,5 +680,6 @@ int main(void) {
     transfers();
     broadcasts();
     controllers();
+    subscribed();
     return 0;
 }

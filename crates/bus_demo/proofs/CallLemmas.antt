@@ -1,10 +1,9 @@
 -- Calls of a kind, one after another.
-use Rattle.std.proofs.Common.{◌≡◌, ◌++◌, ◌∷◌, ◌∙◌, ◌&&◌, [], Bool, List, ap, refl, subst, sym, true}
+use Rattle.std.proofs.Common.{◌≡◌, ◌++◌, ◌∷◌, ◌∙◌, ◌&&◌, [], Bool, List, refl, subst, sym, true}
 use Rattle.std.proofs.lemmas.List.{append_assoc}
-use Rattle.std.specs.List.{list_all}
 use Rattle.std.proofs.lemmas.List.Folds.{list_all-append}
 use Rattle.j39_node.specs.declared.controller.Controller.{Controller}
-use Rattle.j39_node.specs.History.{Who, Call}
+use Rattle.j39_node.specs.History.{Call}
 use Rattle.j39_node.specs.Is.{Is}
 use Rattle.bus_demo.specs.Calls.{Calls, Continues}
 

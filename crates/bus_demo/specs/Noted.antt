@@ -9,7 +9,7 @@ use Rattle.j39_node.specs.History.Call.{Hear}
 use Rattle.j39_node.specs.Reception.{reception}
 use Rattle.j39_node.specs.Transfers.{next_transfer_ended}
 use Rattle.j39_node.specs.declared.kinds.TransferEnding.{TransferEnding}
-use Rattle.j39_node.specs.declared.kinds.TransferEnding.TheVariants.{Done, Withdrawn, Failed, Gone}
+use Rattle.j39_node.specs.declared.kinds.TransferEnding.TheVariants.{Done}
 use Rattle.bus_demo.specs.declared.bus.book.Book.{Book}
 use Rattle.bus_demo.specs.declared.bus.book.Delivery.{Delivery}
 

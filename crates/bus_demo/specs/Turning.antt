@@ -1,5 +1,5 @@
 -- What the players of a bus wish to send, once each had its turn.
-use Rattle.std.specs.Prelude.{◌≡◌, ◌<◌, ◌≤◌, ◌++◌, ◌∷◌, [], ℕ, List, None, Option, Some, length, slice_get, slice_set}
+use Rattle.std.specs.Prelude.{◌≡◌, ◌<◌, ◌≤◌, ◌++◌, ◌∷◌, [], ℕ, List, None, Option, Some, slice_get, slice_set}
 use Rattle.std.specs.Option.{option_map}
 use Rattle.j39_frame.specs.Identifier.{id_raw}
 use Rattle.j39_frame.specs.declared.identifier.Id.{Id}

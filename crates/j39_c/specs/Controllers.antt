@@ -1,5 +1,5 @@
 -- What a controller answers to C, by the histories of its calls.
-use Rattle.std.specs.Prelude.{◌≡◌, ◌<◌, ◌≤◌, ◌^◌, ◌+◌, min, ◌∷◌, ◌++◌, [], ℕ, zero, suc, ℤ, pos, negsuc, nat_eq, nat_lt, Bool, true, false, Option, Some, None, IfSome, IsSomeAnd, Result, Ok, Err, List, length, take, if◌then◌else◌}
+use Rattle.std.specs.Prelude.{◌≡◌, ◌<◌, ◌≤◌, ◌^◌, ◌+◌, min, ◌∷◌, ◌++◌, [], ℕ, zero, suc, ℤ, pos, negsuc, nat_eq, nat_lt, Bool, true, false, Option, Some, None, IfSome, IsSomeAnd, Result, Ok, Err, List, length, if◌then◌else◌}
 use Rattle.std.specs.Option.{option_map}
 use Rattle.std.specs.List.{list_all}
 use Rattle.j39_address.specs.Claim.{claims_of}
@@ -50,21 +50,32 @@ Says fact c = (w : Who) (H : List Call) → Is w H c → fact w H
 
 -- ---- opened
 
--- 16 groups at most
-pub record CanRead (served : List ℕ) : Type 0 where
-  pub most : length served ≤ 16
-  pub groups : list_all (λ group. nat_lt group 262144) served ≡ true
+-- groups, so many at most
+pub record CanRead (room : ℕ) (numbers : List ℕ) : Type 0 where
+  pub most : length numbers ≤ room
+  pub groups : list_all (λ group. nat_lt group 262144) numbers ≡ true
 
--- an address, and the groups that the program serves
-pub record CanServe (address : ℕ) (served : List ℕ) : Type 0 where
+-- all are subscribed, or 64 at most
+abbrev pub CanSubscribe : Option (List ℕ) → Type 0
+CanSubscribe None = Unit {0}
+CanSubscribe (Some groups) = CanRead 64 groups
+
+-- an address, the groups that the program serves, 16 at most, and those that it subscribes
+pub record CanServe (address : ℕ) (served : List ℕ) (subscribed : Option (List ℕ)) : Type 0 where
   pub is_address : IsAddress address
-  pub can_read : CanRead served
+  pub can_read : CanRead 16 served
+  pub can_subscribe : CanSubscribe subscribed
+
+-- a controller that begins so
+abbrev pub IsNew : ℕ → ℕ → List ℕ → Option (List ℕ) → Controller → Type 0
+IsNew name address served subscribed c = Is (record
+    { name = name; address = address; served = served; subscribed = subscribed; known = [] }) [] c
 
 -- why there is no controller of them
-abbrev pub IsMakeRefusal : ℕ → List ℕ → Refusal → Type 0
-IsMakeRefusal address served refusal.BadValue = CanServe address served → ⊥
-IsMakeRefusal address served refusal.NoMemory = CanServe address served
-IsMakeRefusal address served other = ⊥
+abbrev pub IsMakeRefusal : ℕ → List ℕ → Option (List ℕ) → Refusal → Type 0
+IsMakeRefusal address served subscribed refusal.BadValue = CanServe address served subscribed → ⊥
+IsMakeRefusal address served subscribed refusal.NoMemory = CanServe address served subscribed
+IsMakeRefusal address served subscribed other = ⊥
 
 -- ---- what its history says
 
@@ -189,10 +200,6 @@ short_in m priority = (
 abbrev pub long_in : WholeMessage → ℕ × MessageRecord
 long_in m = (m.micros, (hearing_in m).message)
 
--- its bytes: a message has 1,785 at most (J1939-21, 5.10.1)
-abbrev pub first_bytes : ℕ × MessageRecord → ℕ × MessageRecord
-first_bytes x = (x.0, record { source = x.1.source; pgn = x.1.pgn; bytes = take 1785 x.1.bytes })
-
 abbrev pub long_if : Bool → WholeMessage → Option (ℕ × MessageRecord)
 long_if true m = Some (long_in m)
 long_if false m = None
@@ -209,9 +216,9 @@ received_by (negsuc n) m priority = []
 abbrev pub Waited : ℤ → WholeMessage → Who → List Call → Type 0
 Waited (pos zero) m w H = ((reception w H).waits ≡ None) × (waiting w H ≡ None)
 Waited (pos (suc zero)) m w H = Unit {0}
-Waited (pos (suc (suc zero))) m w H = option_map first_bytes (reception w H).waits ≡ Some (long_in m)
+Waited (pos (suc (suc zero))) m w H = (reception w H).waits ≡ Some (long_in m)
 Waited (pos (suc (suc (suc n)))) m w H =
-    ((reception w H).waits ≡ None) × (option_map first_bytes (waiting w H) ≡ Some (long_in m))
+    ((reception w H).waits ≡ None) × (waiting w H ≡ Some (long_in m))
 Waited (negsuc n) m w H = Unit {0}
 
 -- ---- news: 1 the address was lost, 2 another sends from it, 3 messages were missed

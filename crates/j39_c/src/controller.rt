@@ -1,5 +1,5 @@
 //! A controller: it claims an address, and sends and receives (J1939-21, J1939-81).
-ghost use Rattle.std.specs.Prelude.{◌≡◌, ◌<◌, ◌^◌, ◌∷◌, [], ⊤, Some, IfOk, IfErr, pos, true, ◌↔◌, length, map, take};
+ghost use Rattle.std.specs.Prelude.{◌≡◌, ◌<◌, ◌≤◌, ◌^◌, ◌∷◌, [], ⊤, None, Some, IfSome, IsSome, IfOk, IfErr, pos, true, ◌↔◌, length, map, take};
 ghost use Rattle.std.specs.Option.{option_map};
 ghost use Rattle.j39_address.specs.Claim.{claims_of};
 ghost use Rattle.j39_address.specs.Claimer.{status_of};
@@ -7,13 +7,13 @@ ghost use Rattle.j39_address.specs.Holder.{IsHolderAfter};
 ghost use Rattle.j39_frame.specs.Pgn.{pgn_raw};
 ghost use Rattle.j39_node.specs.History.{told_claims};
 ghost use Rattle.j39_node.specs.History.Call.{Hear, TakeFrame, TakeNews, Tick};
-ghost use Rattle.j39_node.specs.Is.{Is, next_frame, stamped, status_after};
+ghost use Rattle.j39_node.specs.Is.{next_claims_request, next_frame, stamped, status_after};
 ghost use Rattle.j39_node.specs.Reception.{next_tick};
 ghost use Rattle.j39_node.specs.Transfers.{next_due};
 ghost use Rattle.j39_c.specs.Calls.{Answers, Asks, Fills, Never, Opens};
 ghost use Rattle.j39_c.specs.Can.{Fits, frame_of};
 ghost use Rattle.j39_c.specs.Codes.{IsDone, IsRefused, bad_value, in_use, no_memory, no_part, sent, told};
-ghost use Rattle.j39_c.specs.Controllers.{CanRead, CanServe, Continues, IsAddressOf, IsFree, IsMakeRefusal, Moves, Says, count_missed, news_in};
+ghost use Rattle.j39_c.specs.Controllers.{CanRead, CanServe, Continues, IsAddressOf, IsFree, IsMakeRefusal, IsNew, CanSubscribe, Moves, Says, count_missed, news_in};
 ghost use Rattle.j39_c.specs.Nodes.{IsStatus};
 ghost use Rattle.j39_c.specs.Parts.{controller_in};
 
@@ -31,7 +31,10 @@ use std::alloc::Global;
 /// The most groups that a program serves.
 const MOST_SERVED: usize = 16;
 
-/// Opens a controller of this NAME, that will claim this address, and whose program serves these groups: 0; -1 for an
+/// The most groups that a program subscribes, unless it does all.
+const MOST_SUBSCRIBED: usize = 64;
+
+/// Opens a controller of this NAME, that will claim this address, and whose program serves these groups and subscribes all: 0; -1 for an
 /// address above 253, more than 16 groups, or one of 2^18 and above, -3 where memory is refused, -4 where the handle is
 /// open.
 #[unsafe(no_mangle)]
@@ -42,14 +45,37 @@ pub extern "C" fn j39_controller_new(
     address: u8,
     served: &[u32],
 ) -> i32
-    ensures opens { Opens controller_in (CanServe address served.now) controller.old.part result controller.new.part
-        (λ made. Is (record { name = name; address = address; served = served.now; known = [] }) [] made) }
+    ensures opens { Opens controller_in (CanServe address served.now None) controller.old.part result controller.new.part
+        (IsNew name address served.now None) }
     ensures answers { Answers 0 (bad_value ∷ no_memory ∷ in_use ∷ []) result }
 {
     if controller.is_open(alloc) {
         return Refusal::InUse.code();
     }
-    match make(alloc, name, address, served) {
+    match make(alloc, name, address, served, None) {
+        Ok(made) => put_controller(alloc, controller, made),
+        Err(refusal) => refusal.code(),
+    }
+}
+
+/// The same, but it subscribes these groups alone: -1 also for more than 64, or one of 2^18 and above.
+#[unsafe(no_mangle)]
+pub extern "C" fn j39_controller_new_subscribed(
+    alloc: Global,
+    controller: &mut Handle,
+    name: u64,
+    address: u8,
+    served: &[u32],
+    subscribed: &[u32],
+) -> i32
+    ensures opens { Opens controller_in (CanServe address served.now (Some subscribed.now)) controller.old.part result
+        controller.new.part (IsNew name address served.now (Some subscribed.now)) }
+    ensures answers { Answers 0 (bad_value ∷ no_memory ∷ in_use ∷ []) result }
+{
+    if controller.is_open(alloc) {
+        return Refusal::InUse.code();
+    }
+    match make(alloc, name, address, served, Some(subscribed)) {
         Ok(made) => put_controller(alloc, controller, made),
         Err(refusal) => refusal.code(),
     }
@@ -133,6 +159,29 @@ pub extern "C" fn j39_controller_peek_frame(
         return Refusal::BadValue.code();
     };
     ask!(alloc, controller, Controlling(held) => put_frame(held.peek_frame(now), out))
+}
+
+/// A request for the claims of all (255), or of an address, from the null address: 1 where `out` is, and may go at once,
+/// else 0: where an address is held, and for 254. -1 for a moment of 10^16 microseconds and above, -2 where the handle holds no
+/// controller.
+#[unsafe(no_mangle)]
+pub extern "C" fn j39_controller_claims_request(
+    alloc: Global,
+    controller: &mut Handle,
+    micros: u64,
+    to: u8,
+    out: &mut CanFrame,
+) -> i32
+    ensures asks { Asks controller_in (micros < 10 ^ 16) controller.old.part result controller.new.part
+        (λ old _. Says (λ w H. option_map stamped (sent result out.new) ≡ next_claims_request w H micros to) old) Never }
+    ensures same { controller.new.part ≡ controller.old.part }
+    ensures answers { Answers 1 (bad_value ∷ no_part ∷ []) result }
+    ensures fills { Fills (pos 1 ∷ []) result (out.new ≡ out.old) }
+{
+    let Some(now) = Stamp::new(micros) else {
+        return Refusal::BadValue.code();
+    };
+    ask!(alloc, controller, Controlling(held) => put_frame(held.claims_request(now, to), out))
 }
 
 /// The moment before which no frame goes out, if nothing is heard or handed in till then: 1 and the moment, or 0 where
@@ -294,32 +343,68 @@ fn put_controller(alloc: Global, handle: &mut Handle, made: Controller) -> i32
 }
 
 /// A controller of these values, or why there is none.
-fn make(alloc: Global, name: u64, address: u8, served: &[u32]) -> Result<Controller, Refusal>
-    ensures made { IfOk result (λ made. CanServe address served.now
-        × Is (record { name = name; address = address; served = served.now; known = [] }) [] made) }
-    ensures refused { IfErr result (λ refusal. IsMakeRefusal address served.now refusal) }
+fn make(
+    alloc: Global,
+    name: u64,
+    address: u8,
+    served: &[u32],
+    subscribed: Option<&[u32]>,
+) -> Result<Controller, Refusal>
+    ensures made { IfOk result (λ made. CanServe address served.now (option_map (λ g. g.now) subscribed.entry)
+        × IsNew name address served.now (option_map (λ g. g.now) subscribed.entry) made) }
+    ensures refused { IfErr result (λ refusal. IsMakeRefusal address served.now (option_map (λ g. g.now) subscribed.entry) refusal) }
 {
-    let mut groups = [Pgn::new(0).unwrap(); MOST_SERVED];
-    if !read_groups(served, &mut groups) {
+    let mut groups = [Pgn::new(0).unwrap(); MOST_SUBSCRIBED];
+    if !read_groups(served, MOST_SERVED, &mut groups) {
         return Err(Refusal::BadValue);
     }
-    match Controller::new(alloc, Name::new(name), address, &groups[..served.len()]) {
+    let mut wanted = [Pgn::new(0).unwrap(); MOST_SUBSCRIBED];
+    let Some(subscribed) = read_wanted(subscribed, &mut wanted) else {
+        return Err(Refusal::BadValue);
+    };
+    match Controller::new(
+        alloc,
+        Name::new(name),
+        address,
+        &groups[..served.len()],
+        subscribed,
+    ) {
         Ok(Some(made)) => Ok(made),
         Ok(None) => Err(Refusal::BadValue),
         Err(_) => Err(Refusal::NoMemory),
     }
 }
 
-/// Reads the groups of these numbers into the front of an array: whether all are groups, and there is room.
-fn read_groups(served: &[u32], groups: &mut [Pgn; MOST_SERVED]) -> bool
-    ensures known { (result ≡ true) ↔ CanRead served.now }
-    ensures read { result ≡ true → map pgn_raw (take (length served.now) groups.new) ≡ served.now }
+/// Reads the groups that are subscribed into an array, if not all are; `None` where they can't be.
+fn read_wanted<'a>(
+    numbers: Option<&[u32]>,
+    groups: &'a mut [Pgn; MOST_SUBSCRIBED],
+) -> Option<Option<&'a [Pgn]>>
+    ensures known { IsSome result ↔ CanSubscribe (option_map (λ n. n.now) numbers.entry) }
+    ensures read { IfSome result (λ found. option_map (λ g. map pgn_raw g.now) found ≡ option_map (λ n. n.now) numbers.entry) }
 {
-    if served.len() > MOST_SERVED {
+    match numbers {
+        Some(numbers) => {
+            if !read_groups(numbers, MOST_SUBSCRIBED, groups) {
+                return None;
+            }
+            Some(Some(&groups[..numbers.len()]))
+        }
+        None => Some(None),
+    }
+}
+
+/// Reads the groups of these numbers, so many at most, into the front of an array: whether all are groups, and there is room.
+fn read_groups(numbers: &[u32], most: usize, groups: &mut [Pgn; MOST_SUBSCRIBED]) -> bool
+    requires { most ≤ 64 }
+    ensures known { (result ≡ true) ↔ CanRead most numbers.now }
+    ensures read { result ≡ true → map pgn_raw (take (length numbers.now) groups.new) ≡ numbers.now }
+{
+    if numbers.len() > most {
         return false;
     }
-    for place in 0..served.len() {
-        let Some(group) = Pgn::new(served[place]) else {
+    for place in 0..numbers.len() {
+        let Some(group) = Pgn::new(numbers[place]) else {
             return false;
         };
         groups[place] = group;

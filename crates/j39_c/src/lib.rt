@@ -27,11 +27,11 @@ pub use broadcast::{j39_broadcast_init, j39_broadcast_poll};
 pub use can::CanFrame;
 pub use claims::{j39_claims_holder, j39_claims_init, j39_claims_note};
 pub use controller::{
-    j39_controller_address_of, j39_controller_free_address, j39_controller_hear,
-    j39_controller_holder, j39_controller_missed, j39_controller_move_to, j39_controller_new,
-    j39_controller_next_due, j39_controller_next_tick, j39_controller_peek_frame,
-    j39_controller_status, j39_controller_take_frame, j39_controller_take_news,
-    j39_controller_tick,
+    j39_controller_address_of, j39_controller_claims_request, j39_controller_free_address,
+    j39_controller_hear, j39_controller_holder, j39_controller_missed, j39_controller_move_to,
+    j39_controller_new, j39_controller_new_subscribed, j39_controller_next_due,
+    j39_controller_next_tick, j39_controller_peek_frame, j39_controller_status,
+    j39_controller_take_frame, j39_controller_take_news, j39_controller_tick,
 };
 pub use cut::j39_cut_frame;
 pub use fields::{

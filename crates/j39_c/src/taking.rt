@@ -8,7 +8,7 @@ ghost use Rattle.j39_node.specs.History.Call.{ReleaseBroadcast, ReleaseTransfer,
 ghost use Rattle.j39_node.specs.Reception.{reception};
 ghost use Rattle.j39_c.specs.Calls.{Answers, Asks, Fills, Never};
 ghost use Rattle.j39_c.specs.Codes.{IsDone, IsRefused, no_part, told};
-ghost use Rattle.j39_c.specs.Controllers.{Continues, Goes, Says, Waited, ended_by, first_bytes, long_if, long_in, received_by, request_in};
+ghost use Rattle.j39_c.specs.Controllers.{Continues, Goes, Says, Waited, ended_by, long_if, long_in, received_by, request_in};
 ghost use Rattle.j39_c.specs.Messages.{hearing_in};
 ghost use Rattle.j39_c.specs.Parts.{controller_in};
 
@@ -18,7 +18,7 @@ use crate::message::WholeMessage;
 use crate::part::ask;
 use crate::refusal::Refusal;
 use j39_node::Controller;
-use j39_transport::{LONGEST, Message};
+use j39_transport::Message;
 use std::alloc::Global;
 
 /// Takes how something ended that was accepted, each once: 0 where nothing did; else it is in `out`: 1 a message of one
@@ -127,7 +127,7 @@ fn put_message(controller: &mut Controller, out: &mut WholeMessage, priority: &m
 
 /// Takes the message in packets to its address, where one waits.
 fn put_transfer(controller: &mut Controller, out: &mut WholeMessage) -> bool
-    ensures waits { Says (λ w H. option_map first_bytes (reception w H).waits ≡ long_if result out.new) controller.old }
+    ensures waits { Says (λ w H. (reception w H).waits ≡ long_if result out.new) controller.old }
     ensures goes { result ≡ true → Continues (ReleaseTransfer true) controller.old controller.new }
     ensures unnamed { result ≡ true → (hearing_in out.new).name ≡ None }
     ensures kept { result ≡ false → (controller.new ≡ controller.old) × (out.new ≡ out.old) }
@@ -135,14 +135,14 @@ fn put_transfer(controller: &mut Controller, out: &mut WholeMessage) -> bool
     let Some(message) = controller.received_transfer() else {
         return false;
     };
-    put_first(&message, out);
+    put_long(&message, out);
     controller.release_transfer();
     true
 }
 
 /// Takes the message in packets to all, where one waits.
 fn put_broadcast(controller: &mut Controller, out: &mut WholeMessage) -> bool
-    ensures waits { Says (λ w H. option_map first_bytes (waiting w H) ≡ long_if result out.new) controller.old }
+    ensures waits { Says (λ w H. waiting w H ≡ long_if result out.new) controller.old }
     ensures goes { result ≡ true → Continues (ReleaseBroadcast true) controller.old controller.new }
     ensures unnamed { result ≡ true → (hearing_in out.new).name ≡ None }
     ensures kept { result ≡ false → (controller.new ≡ controller.old) × (out.new ≡ out.old) }
@@ -150,31 +150,16 @@ fn put_broadcast(controller: &mut Controller, out: &mut WholeMessage) -> bool
     let Some(message) = controller.received_broadcast() else {
         return false;
     };
-    put_first(&message, out);
+    put_long(&message, out);
     controller.release_broadcast();
     true
 }
 
-/// Writes out a message in packets: 1,785 bytes of it at most, which is as many as one can have.
-fn put_first(message: &Message<'_>, out: &mut WholeMessage)
-    ensures value { long_in out.new ≡ first_bytes (stamp_micros message.now.stamp, message_shown message.now) }
+/// Writes out a message in packets.
+fn put_long(message: &Message<'_>, out: &mut WholeMessage)
+    requires { length message.now.payload.now ≤ 1785 }
+    ensures value { long_in out.new ≡ (stamp_micros message.now.stamp, message_shown message.now) }
     ensures unnamed { (hearing_in out.new).name ≡ None }
 {
-    let first = Message {
-        source: message.source,
-        pgn: message.pgn,
-        payload: first_part(message.payload),
-        stamp: message.stamp,
-    };
-    out.put_message(&first, None);
-}
-
-fn first_part(payload: &[u8]) -> &[u8]
-    ensures value { result.now ≡ take 1785 payload.now }
-    ensures fits { length result.now ≤ 1785 }
-{
-    match payload.get(..LONGEST) {
-        Some(first) => first,
-        None => payload,
-    }
+    out.put_message(message, None);
 }

@@ -20,7 +20,6 @@ use Rattle.j39_node.specs.declared.requests.Due.{Due}
 use Rattle.j39_node.specs.declared.requests.Request.{Request}
 use Rattle.j39_node.specs.declared.kinds.Answer.{Answer}
 use Rattle.j39_node.specs.declared.kinds.Answer.TheVariants.{Nack, Busy}
-use Rattle.j39_node.specs.declared.kinds.Ending.{Ending}
 use Rattle.j39_node.specs.declared.kinds.Ending.TheVariants.{Done, Withdrawn}
 use Rattle.j39_node.specs.declared.kinds.Refused.{Refused}
 use Rattle.j39_node.specs.declared.kinds.Refused.TheVariants.{NoAddress, BadValue, Full}
@@ -29,7 +28,7 @@ use Rattle.j39_node.proofs.AskLemmas.{ask_heard, ask_more, ask_same, takes, wait
 use Rattle.j39_node.specs.Is.{AskRecord, made_by, asking_of, hears_with}
 use Rattle.j39_node.specs.Hold.{rested, asked as hold_asked, standing_of, less, passed, heard, claims, paused, stands, lost, left_at}
 use Rattle.j39_node.specs.History.{Who, Message, Draft, Call, Address, message_of, older, claimed, address_after, holds, is_lost, is_held, is_smaller, claim_address, claim_from, owes_claim, calls_for_claim, can_send, message_from, accepted, sent, told, is_full, step, moment, is_for_program, kept, got, missed, Asked, asked, acknowledgment, acknowledged, due, handed, requests, is_served, with_request, with_refusal, stamp_at, held_at, told_claims, is_another, is_acknowledgment, is_claim, lost_news, another_news, missed_news, broadcasts, broadcast_from, can_broadcast, has_packets, is_busy, is_left, is_open, is_packet, open_broadcast, packets, pause}
-use Rattle.j39_node.specs.History.Call.{Hear, TakeFrame, Send, TakeEnded, TakeRequest, Acknowledge, Broadcast, TakeBroadcastEnded, Transfer, TakeTransferEnded}
+use Rattle.j39_node.specs.History.Call.{Hear, TakeFrame, Send, TakeEnded, TakeRequest, Acknowledge, Broadcast, Transfer, TakeTransferEnded}
 use Rattle.j39_node.proofs.ReceptionLaws.{made_is}
 use Rattle.j39_node.specs.Reception.{has_place, IsApart, heard_at, heard_by, holder, is_same, is_waiting, leaves, left, reception, time_heard}
 use Rattle.j39_node.specs.declared.incoming.Incoming.{Incoming}
@@ -670,9 +669,9 @@ pub heard_more : (w : Who) (H : List Call) (old new : Controller) (f : FrameReco
     → (left_by : Bool) (p1 p2 : Option ℕ) (m : HearingRecord) → IfSome (hearing_of old.hearing).current (λ z. p1 ≡ holder_in old.holders z.source)
     → IfSome (hearing_of old.hearing).current (λ z. p2 ≡ holder_in new.holders z.source) → left_by ≡ not (is_same p1 p2)
     → m.current ≡ leaves_it left_by (hearing_of old.hearing).current → m.missed ≡ old.hearing.missed
-    → unheard ≡ is_unheard (stamp_micros new.incoming.clock) f m.current
+    → unheard ≡ is_unheard (who_of w.known old.own) (stamp_micros new.incoming.clock) f m.current
     → new.hearing.missed ≡ (if unheard then min (m.missed + 1) 18446744073709551615 else m.missed)
-    → (IsFit m.current → (hearing_of new.hearing).current ≡ hears_it (stamp_micros new.incoming.clock) f m.current) → Is w (Hear f ∷ H) new
+    → (IsFit m.current → (hearing_of new.hearing).current ≡ hears_it (who_of w.known old.own) (stamp_micros new.incoming.clock) f m.current) → Is w (Hear f ∷ H) new
 heard_more w H old new f mid held wanted away gone calls replaced unheard o h p e1 e2 e3 e4 e5 e6 e7 q1 q2 q3 q4 q5 e8 s1 s2 s3 s4 s5 s9 s6 s7 s8 s10 whole_now m1 a1 left_by p1 p2 m t1 t2 t3 t4 t5 t6 t7 t8 =
     let s = sound w H h.answered in
     let wants : wanted ≡ is_for_program w (holds w H f.stamp) f =
@@ -697,7 +696,9 @@ heard_more w H old new f mid held wanted away gone calls replaced unheard o h p 
     let hears_in : incoming_of new.incoming ≡ incoming_after w (Hear f ∷ H) =
     incoming_heard w H old f new.holders new.incoming gone held h (q4 (told_claims w H) h.holders) goes (holds_is w H f.stamp mid held p e1) s9 in
     let on = heard_on w H f old.holders new.holders left_by unheard (stamp_micros new.incoming.clock) p1 p2 (hearing_of old.hearing) m (hearing_of new.hearing) h.hearing
-    h.holders (q4 (told_claims w H) h.holders) (ap (λ (x : IncomingRecord). x.clock) hears_in) t1 t2 t3 t4 t5 t6 t7 t8 in
+    h.holders (q4 (told_claims w H) h.holders) (ap (λ (x : IncomingRecord). x.clock) hears_in) t1 t2 t3 t4 t5
+    (t6 ∙ ap (λ (v : Who). is_unheard v (stamp_micros new.incoming.clock) f m.current) h.who) t7
+    (λ fits. t8 fits ∙ ap (λ (v : Who). hears_it v (stamp_micros new.incoming.clock) f m.current) h.who) in
     let made_now : whole_now ≡ made w H f =
     m1 ∙ (ap (λ (x : IncomingRecord). made_by (has_place x.reception.waits) (incoming_of new.incoming).reception.waits) h.incoming
     ∙ (ap (λ (x : IncomingRecord). made_by (has_place (reception w H).waits) x.reception.waits) hears_in ∙ made_is w H f)) in
@@ -1133,50 +1134,6 @@ ended_is w H c b h e =
     ap (λ (l : LaneRecord). broadcast_end l.current l.count b) h.lane
     ∙ ap (broadcast_end (open_broadcast w H) (length (packets H))) (e ∙ (ap (λ (k : Hold). lost k.standing) h.hold ∙ lost_is (address_after w H)))
 
-pub ends : (w : Who) (H : List Call) (old new : Controller) (x : ℕ × Ending) → Is w H old → Some x ≡ next_broadcast_ended w H
-    → new ≡ record old { lane = new.lane } → new.lane ≡ record old.lane { current = None } → Is w (TakeBroadcastEnded (Some x) ∷ H) new
-ends w H old new x h answer e e0 = record {
-  who = ap (λ c. who_of w.known c.own) e ∙ h.who;
-  answered = (h.answered, answer);
-  hold = ap (λ c. c.hold) e ∙ h.hold;
-  outgoing = ap (λ c. map posted c.outgoing.items) e ∙ h.outgoing;
-  taken = ap (λ c. c.taken) e ∙ h.taken;
-  token = ap (λ c. c.next_token) e ∙ h.token;
-  asking = ap (λ c. asking_of c.asking) e ∙ h.asking;
-  unread = ap (λ c. map received_by c.inbox.unread.items) e ∙ h.unread;
-  requests = ap (λ c. map request_by c.desk.waiting.items) e ∙ h.requests;
-  acknowledgments = ap (λ c. map (refusal_by w) c.desk.due.items) e ∙ h.acknowledgments;
-  holders = subst (λ t. Knows t (told_claims w H)) (sym (ap (λ c. c.holders) e)) h.holders;
-  news = ap (λ c. c.news) e ∙ h.news;
-  missed = ap (λ c. c.inbox.missed) e ∙ h.missed;
-  lane = ap (lane_of w) e0 ∙ ap (λ (l : LaneRecord). record l { current = None }) h.lane;
-  incoming = ap (λ c. incoming_of c.incoming) e ∙ h.incoming;
-  hearing = ap (λ c. hearing_of c.hearing) e ∙ h.hearing;
-  port = ap (λ c. port_of c.transfers) e ∙ h.port;
-}
-
-pub none_ends : (w : Who) (H : List Call) (c : Controller) → Is w H c → (let none : Option (ℕ × Ending) = None in none) ≡ next_broadcast_ended w H
-    → Is w (TakeBroadcastEnded None ∷ H) c
-none_ends w H c h answer = record {
-  who = h.who;
-  answered = (h.answered, answer);
-  hold = h.hold;
-  outgoing = h.outgoing;
-  taken = h.taken;
-  token = h.token;
-  asking = h.asking;
-  unread = h.unread;
-  requests = h.requests;
-  acknowledgments = h.acknowledgments;
-  holders = h.holders;
-  news = h.news;
-  missed = h.missed;
-  lane = h.lane;
-  incoming = h.incoming;
-  hearing = h.hearing;
-  port = h.port;
-}
-
 -- ---- transfers
 
 pub engaged_is : (w : Who) (H : List Call) (c : Controller) (now group to : ℕ) (mid : Hold) → Is w H c → Passed w H now mid
@@ -1274,26 +1231,4 @@ transfer_ends w H old new x b h answer rests e e0 e1 = record {
   port = e1 ∙ (ap (closed b old.hold.rest) h.port
       ∙ (ap (λ (n : ℕ). closed b n (port_after w H)) (ap (λ (k : Hold). k.rest) h.hold) ∙ ap (λ (y : Bool). closed y (rest H) (port_after w H)) rests));
   incoming = ap (λ c. incoming_of c.incoming) e ∙ h.incoming;
-}
-
-pub no_transfer_ends : (w : Who) (H : List Call) (c : Controller) → Is w H c → (let none : Option (ℕ × TransferEnding) = None in none) ≡ next_transfer_ended w H
-    → Is w (TakeTransferEnded None ∷ H) c
-no_transfer_ends w H c h answer = record {
-  who = h.who;
-  answered = (h.answered, answer);
-  hold = h.hold;
-  outgoing = h.outgoing;
-  taken = h.taken;
-  token = h.token;
-  asking = h.asking;
-  unread = h.unread;
-  requests = h.requests;
-  acknowledgments = h.acknowledgments;
-  holders = h.holders;
-  news = h.news;
-  missed = h.missed;
-  lane = h.lane;
-  hearing = h.hearing;
-  port = h.port;
-  incoming = h.incoming;
 }

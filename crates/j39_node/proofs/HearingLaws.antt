@@ -12,9 +12,9 @@ use Rattle.j39_transport.specs.Message.{MessageRecord}
 use Rattle.j39_transport.proofs.FrameFacts.{announcement_facts}
 use Rattle.j39_node.specs.declared.controller.Controller.{Controller}
 use Rattle.j39_node.specs.declared.kinds.News.TheVariants.{AddressLost, AnotherAtAddress, MessagesMissed}
-use Rattle.j39_node.specs.History.{Who, Call, is_claim, is_own_group}
+use Rattle.j39_node.specs.History.{Who, Call, is_claim, is_own_group, is_subscribed}
 use Rattle.j39_node.specs.History.Call.{Ask, TakeAskEnded, Hear, Tick, TakeFrame, Send, TakeEnded, TakeReceived, TakeRequest, TakeNews, Acknowledge, Broadcast, TakeBroadcastEnded, ReleaseTransfer, Transfer, TakeTransferEnded, ReleaseBroadcast}
-use Rattle.j39_node.specs.Hearing.{IsFit, IsPartOf, ended, passed, chosen, OpenBroadcast, WasBroadcast, announces, begun, changes, found, goes_on, got_broadcasts, grown, has_room, hearing, hears, is_late, is_unheard, is_whole, left, made_whole, message_by, newly, opens, packed, packs, touched, unheard, unheard_news, waiting, whole_broadcasts, whole_of}
+use Rattle.j39_node.specs.Hearing.{IsFit, IsPartOf, ended, passed, chosen, OpenBroadcast, WasBroadcast, announces, begun, changes, found, goes_on, got_broadcasts, grown, has_room, hearing, hears, is_ignored, is_late, is_unheard, is_whole, left, made_whole, message_by, newly, opens, packed, packs, touched, unheard, unheard_news, waiting, whole_broadcasts, whole_of}
 use Rattle.j39_node.specs.Is.{HearingRecord, Is}
 use Rattle.j39_node.specs.Reception.{KeepsHolder, frames_heard, has_place, held_then, holder, is_same, listed, time_heard}
 use Rattle.j39_node.proofs.QueueLemmas.{length_drop}
@@ -27,9 +27,9 @@ left_whole : (b : Bool) (x : OpenBroadcast) → is_whole x ≡ true → left b (
 left_whole true x e = ap (λ (w : Bool). if not w then None else Some x) e
 left_whole false x e = refl
 
-hears_whole : (now : ℕ) (f : FrameRecord) (x : OpenBroadcast) → is_whole x ≡ true → hears now f (Some x) ≡ Some x
-hears_whole now f x e =
-    ap (λ (w : Bool). if announces f then (if not w && (nat_eq (source_of f.id) x.source || is_late now x) then opens now f else Some x) else if packs f
+hears_whole : (who : Who) (now : ℕ) (f : FrameRecord) (x : OpenBroadcast) → is_whole x ≡ true → hears who now f (Some x) ≡ Some x
+hears_whole who now f x e =
+    ap (λ (w : Bool). if announces f then (if not w && (nat_eq (source_of f.id) x.source || is_late now x) then opens who now f else Some x) else if packs f
     then (if w || not (nat_eq (source_of f.id) x.source) then Some x else if is_late now x then None else Some (goes_on now f x)) else Some x) e
     ∙ go (announces f) (packs f)
   where
@@ -55,10 +55,10 @@ whole_is (Some x) p e = (x, refl, go (is_whole x) e)
     go true i = refl
     go false i = absurd (cc)
 
-whole_stays : (b : Bool) (now : ℕ) (f : FrameRecord) (o : Option OpenBroadcast) (p : ℕ × MessageRecord) → whole_of o ≡ Some p → hears now f (left b o) ≡ o
-whole_stays b now f o p e =
+whole_stays : (who : Who) (b : Bool) (now : ℕ) (f : FrameRecord) (o : Option OpenBroadcast) (p : ℕ × MessageRecord) → whole_of o ≡ Some p → hears who now f (left b o) ≡ o
+whole_stays who b now f o p e =
     let x = whole_is o p e in
-    ap (λ (z : Option OpenBroadcast). hears now f (left b z)) x.1 ∙ (ap (hears now f) (left_whole b x.0 x.2) ∙ (hears_whole now f x.0 x.2 ∙ sym x.1))
+    ap (λ (z : Option OpenBroadcast). hears who now f (left b z)) x.1 ∙ (ap (hears who now f) (left_whole b x.0 x.2) ∙ (hears_whole who now f x.0 x.2 ∙ sym x.1))
 
 list_more : (a b : Option (ℕ × MessageRecord)) (W G : List (ℕ × MessageRecord)) → W ≡ G ++ listed a → ((p : ℕ × MessageRecord) → a ≡ Some p → b ≡ a)
     → W ++ listed (newly a b) ≡ G ++ listed b
@@ -69,7 +69,7 @@ pub in_order : (who : Who) (H : List Call) → whole_broadcasts who H ≡ got_br
 in_order who [] = refl
 in_order who (Hear f ∷ H) =
     list_more (waiting who H) (waiting who (Hear f ∷ H)) (whole_broadcasts who H) (got_broadcasts who H) (in_order who H)
-    (λ p e. ap whole_of (whole_stays (changes (holder who H) (holder who (Hear f ∷ H)) (hearing who H)) (time_heard (Hear f ∷ H)) f (hearing who H) p e))
+    (λ p e. ap whole_of (whole_stays who (changes (holder who H) (holder who (Hear f ∷ H)) (hearing who H)) (time_heard (Hear f ∷ H)) f (hearing who H) p e))
 in_order who (TakeFrame now None ∷ H) = in_order who H
 in_order who (TakeFrame now (Some f) ∷ H) =
     in_order who H ∙ ap (λ z. got_broadcasts who H ++ listed z) (sym (whole_of_left (changes (holder who H) (holder who (TakeFrame now (Some f) ∷ H)) (hearing who H)) (hearing who H)))
@@ -101,10 +101,21 @@ released who H c answer is = go (waiting who H) answer refl is.answered.1
 
 -- ---- what isn't heard
 
-pub heard_or_counted : (who : Who) (H : List Call) (f : FrameRecord) → announces f ≡ true → is_own_group (pgn_named f) ≡ false
-    → (hearing who (Hear f ∷ H) ≡ Some (begun (time_heard (Hear f ∷ H)) f)) ⊎ (unheard who (Hear f ∷ H) ≡ suc (unheard who H))
-heard_or_counted who H f e g = by (has_room (time_heard (Hear f ∷ H)) (source_of f.id) (found who H f)) refl
+not_ignored : (who : Who) (group : ℕ) → is_ignored who group ≡ false → IsTrue (is_subscribed who group) × (is_own_group group ≡ false)
+not_ignored who group e = go (is_own_group group) (is_subscribed who group) e
   where
+    go : (a b : Bool) → (a || not b) ≡ false → IsTrue b × (a ≡ false)
+    go true b e = absurd (cc)
+    go false true e = (refl, refl)
+    go false false e = absurd (cc)
+
+pub heard_or_counted : (who : Who) (H : List Call) (f : FrameRecord) → announces f ≡ true → is_own_group (pgn_named f) ≡ false → IsTrue (is_subscribed who (pgn_named f))
+    → (hearing who (Hear f ∷ H) ≡ Some (begun (time_heard (Hear f ∷ H)) f)) ⊎ (unheard who (Hear f ∷ H) ≡ suc (unheard who H))
+heard_or_counted who H f e own listed = by (has_room (time_heard (Hear f ∷ H)) (source_of f.id) (found who H f)) refl
+  where
+    g : is_ignored who (pgn_named f) ≡ false
+    g = λ i. own i || not (listed i)
+
     hears_by : Bool → Bool → Bool → Option OpenBroadcast
     hears_by a r o =
         if a then (if r then (if o then None else Some (begun (time_heard (Hear f ∷ H)) f)) else found who H f) else if packs f
@@ -119,9 +130,10 @@ heard_or_counted who H f e g = by (has_room (time_heard (Hear f ∷ H)) (source_
     by false k = inr (λ i. counts_by (e i) (k i) (g i))
 
 pub counted_only : (who : Who) (H : List Call) (f : FrameRecord) → unheard who (Hear f ∷ H) ≢ unheard who H
-    → IsTrue (announces f) × ((x : OpenBroadcast) × (found who H f ≡ Some x)
+    → IsTrue (announces f) × IsTrue (is_subscribed who (pgn_named f)) × (is_own_group (pgn_named f) ≡ false)
+    × ((x : OpenBroadcast) × (found who H f ≡ Some x)
     × (IsTrue (is_whole x) ⊎ ((source_of f.id ≢ x.source) × (is_late (time_heard (Hear f ∷ H)) x ≡ false))))
-counted_only who H f n = go (announces f) (is_own_group (pgn_named f)) refl (found who H f) refl n
+counted_only who H f n = go (announces f) (is_ignored who (pgn_named f)) refl refl (found who H f) refl n
   where
     no_room : (x : OpenBroadcast) (a b c : Bool) → is_whole x ≡ a → nat_eq (source_of f.id) x.source ≡ b → is_late (time_heard (Hear f ∷ H)) x ≡ c
         → (not a && (b || c)) ≡ false → IsTrue (is_whole x) ⊎ ((source_of f.id ≢ x.source) × (is_late (time_heard (Hear f ∷ H)) x ≡ false))
@@ -130,14 +142,15 @@ counted_only who H f n = go (announces f) (is_own_group (pgn_named f)) refl (fou
     no_room x false false true e g k i = absurd (cc)
     no_room x false false false e g k i = inr (λ s. (let z : false ≡ true = sym g ∙ eq-eqb _ _ s in absurd (cc)), k)
 
-    go : (a o : Bool) → announces f ≡ a → (z : Option OpenBroadcast) → found who H f ≡ z
+    go : (a o : Bool) → announces f ≡ a → is_ignored who (pgn_named f) ≡ o → (z : Option OpenBroadcast) → found who H f ≡ z
         → ((if a && (not o && not (has_room (time_heard (Hear f ∷ H)) (source_of f.id) z)) then suc (unheard who H) else unheard who H) ≢ unheard who H)
-        → IsTrue (announces f) × ((x : OpenBroadcast) × (found who H f ≡ Some x)
+        → IsTrue (announces f) × IsTrue (is_subscribed who (pgn_named f)) × (is_own_group (pgn_named f) ≡ false)
+        × ((x : OpenBroadcast) × (found who H f ≡ Some x)
         × (IsTrue (is_whole x) ⊎ ((source_of f.id ≢ x.source) × (is_late (time_heard (Hear f ∷ H)) x ≡ false))))
-    go false o e z g m = absurd (m refl)
-    go true true e z g m = absurd (m refl)
-    go true false e None g m = absurd (m refl)
-    go true false e (Some x) g m = (e, (x, g, no_room x _ _ _ refl refl refl (not_room (has_room (time_heard (Hear f ∷ H)) (source_of f.id) (Some x)) m)))
+    go false o e i z g m = absurd (m refl)
+    go true true e i z g m = absurd (m refl)
+    go true false e i None g m = absurd (m refl)
+    go true false e i (Some x) g m = (e, (not_ignored who (pgn_named f) i).0, (not_ignored who (pgn_named f) i).1, (x, g, no_room x _ _ _ refl refl refl (not_room (has_room (time_heard (Hear f ∷ H)) (source_of f.id) (Some x)) m)))
       where
         not_room : (r : Bool) → ((if not r then suc (unheard who H) else unheard who H) ≢ unheard who H) → r ≡ false
         not_room true q = absurd (q refl)
@@ -158,8 +171,8 @@ one_more false m e = absurd (cc)
 pub some_unheard : (who : Who) (H : List Call) → IsTrue (unheard_news who H) → 0 < unheard who H
 some_unheard who [] e = absurd (cc)
 some_unheard who (Hear f ∷ H) e =
-    elim (either (unheard_news who H) (is_unheard (time_heard (Hear f ∷ H)) f (found who H f)) e) [
-      | inl z ↦ still (is_unheard (time_heard (Hear f ∷ H)) f (found who H f)) (unheard who H) (some_unheard who H z)
+    elim (either (unheard_news who H) (is_unheard who (time_heard (Hear f ∷ H)) f (found who H f)) e) [
+      | inl z ↦ still (is_unheard who (time_heard (Hear f ∷ H)) f (found who H f)) (unheard who H) (some_unheard who H z)
       | inr z ↦ one_more _ (unheard who H) z
     ]
 some_unheard who (Tick now ∷ H) e = some_unheard who H e
@@ -182,6 +195,81 @@ some_unheard who (Ask now group to answer ∷ H) e = some_unheard who H e
 some_unheard who (TakeAskEnded answer ∷ H) e = some_unheard who H e
 some_unheard who (ReleaseBroadcast answer ∷ H) e = some_unheard who H e
 
+-- ---- what is heard is for the program
+
+abbrev IsWanted : Who → Option OpenBroadcast → Type 0
+IsWanted who None = Unit {0}
+IsWanted who (Some x) = is_ignored who x.group ≡ false
+
+wanted_left : (who : Who) (b : Bool) (o : Option OpenBroadcast) → IsWanted who o → IsWanted who (left b o)
+wanted_left who b None h = tt
+wanted_left who b (Some x) h = go (b && not (is_whole x))
+  where
+    go : (c : Bool) → IsWanted who (if c then None else Some x)
+    go true = tt
+    go false = h
+
+wanted_hears : (who : Who) (now : ℕ) (f : FrameRecord) (o : Option OpenBroadcast) → IsWanted who o → IsWanted who (hears who now f o)
+wanted_hears who now f o h = go (announces f) (packs f) (has_room now (source_of f.id) o)
+  where
+    opened : (b : Bool) → is_ignored who (pgn_named f) ≡ b → IsWanted who (if b then None else Some (begun now f))
+    opened true e = tt
+    opened false e = e
+
+    grows : (z : Option OpenBroadcast) → IsWanted who z → IsWanted who (packed now f z)
+    grows None k = tt
+    grows (Some x) k = by (is_whole x || not (nat_eq (source_of f.id) x.source)) (is_late now x) (nat_eq (slice_index f.bytes 0) (suc x.count))
+      where
+        by : (a b c : Bool) → IsWanted who (if a then Some x else if b then None else Some (if c then grown now f x else touched now f x))
+        by true b c = k
+        by false true c = tt
+        by false false true = k
+        by false false false = k
+
+    go : (a b c : Bool) → IsWanted who (if a then (if c then opens who now f else o) else if b then packed now f o else o)
+    go true b true = opened (is_ignored who (pgn_named f)) refl
+    go true b false = h
+    go false true c = grows o h
+    go false false c = h
+
+wanted : (w : Who) (H : List Call) → IsWanted w (hearing w H)
+wanted w [] = tt
+wanted w (Hear f ∷ H) = wanted_hears w (time_heard (Hear f ∷ H)) f (found w H f) (wanted_left w (changes (holder w H) (holder w (Hear f ∷ H)) (hearing w H)) (hearing w H) (wanted w H))
+wanted w (TakeFrame now None ∷ H) = wanted w H
+wanted w (TakeFrame now (Some f) ∷ H) = wanted_left w (changes (holder w H) (holder w (TakeFrame now (Some f) ∷ H)) (hearing w H)) (hearing w H) (wanted w H)
+wanted w (Tick now ∷ H) = wanted w H
+wanted w (Send now d answer ∷ H) = wanted w H
+wanted w (TakeEnded answer ∷ H) = wanted w H
+wanted w (TakeReceived answer ∷ H) = wanted w H
+wanted w (TakeRequest answer ∷ H) = wanted w H
+wanted w (TakeNews answer ∷ H) = wanted w H
+wanted w (Acknowledge now r answer result ∷ H) = wanted w H
+wanted w (Broadcast now group bytes answer ∷ H) = wanted w H
+wanted w (TakeBroadcastEnded answer ∷ H) = wanted w H
+wanted w (ReleaseTransfer answer ∷ H) = wanted w H
+wanted w (Transfer now group to bytes answer ∷ H) = wanted w H
+wanted w (TakeTransferEnded answer ∷ H) = wanted w H
+wanted w (Ask now group to answer ∷ H) = wanted w H
+wanted w (TakeAskEnded answer ∷ H) = wanted w H
+wanted w (ReleaseBroadcast true ∷ H) = tt
+wanted w (ReleaseBroadcast false ∷ H) = wanted w H
+
+pub is_wanted : (who : Who) (H : List Call) (f : FrameRecord) (p : ℕ × MessageRecord) → made_whole who H f ≡ Some p
+    → IsTrue (is_subscribed who p.1.pgn) × (is_own_group p.1.pgn ≡ false)
+is_wanted who H f p e = not_ignored who p.1.pgn (go (waiting who H) e)
+  where
+    by : (o : Option OpenBroadcast) → IsWanted who o → whole_of o ≡ Some p → is_ignored who p.1.pgn ≡ false
+    by None h i = absurd (cc)
+    by (Some x) h i = all (is_whole x) i
+      where
+        all : (v : Bool) → (if v then Some (message_by x) else None) ≡ Some p → is_ignored who p.1.pgn ≡ false
+        all true j = let q : message_by x ≡ p = cc in subst (λ (r : ℕ × MessageRecord). is_ignored who r.1.pgn ≡ false) q h
+        all false j = absurd (cc)
+
+    go : (o : Option (ℕ × MessageRecord)) → newly o (waiting who (Hear f ∷ H)) ≡ Some p → is_ignored who p.1.pgn ≡ false
+    go None i = by (hearing who (Hear f ∷ H)) (wanted who (Hear f ∷ H)) i
+    go (Some q) i = absurd (cc)
+
 -- ---- packets
 
 -- what is no claim leaves who holds an address
@@ -189,38 +277,38 @@ unclaimed : (who : Who) (H : List Call) (f : FrameRecord) → claim_of f ≡ Non
 unclaimed who H f e = left_same (holder who H) (holder who (Hear f ∷ H)) (hearing who H) (λ a. ap (λ (o : Option Claim). held_then a o (holder who H a)) e)
 
 hears_found : (who : Who) (H : List Call) (f : FrameRecord) (o : Option OpenBroadcast) → claim_of f ≡ None → hearing who H ≡ o
-    → hearing who (Hear f ∷ H) ≡ hears (time_heard (Hear f ∷ H)) f o
-hears_found who H f o e g = ap (hears (time_heard (Hear f ∷ H)) f) (unclaimed who H f e ∙ g)
+    → hearing who (Hear f ∷ H) ≡ hears who (time_heard (Hear f ∷ H)) f o
+hears_found who H f o e g = ap (hears who (time_heard (Hear f ∷ H)) f) (unclaimed who H f e ∙ g)
 
-packed_by : (now : ℕ) (f : FrameRecord) (x : OpenBroadcast) (a b c d : Bool) → announces f ≡ false → packs f ≡ true → is_whole x ≡ a
+packed_by : (who : Who) (now : ℕ) (f : FrameRecord) (x : OpenBroadcast) (a b c d : Bool) → announces f ≡ false → packs f ≡ true → is_whole x ≡ a
     → nat_eq (source_of f.id) x.source ≡ b → is_late now x ≡ c → nat_eq (slice_index f.bytes 0) (suc x.count) ≡ d
-    → hears now f (Some x) ≡ (if a || not b then Some x else if c then None else Some (if d then grown now f x else touched now f x))
-packed_by now f x a b c d e g k l m n =
+    → hears who now f (Some x) ≡ (if a || not b then Some x else if c then None else Some (if d then grown now f x else touched now f x))
+packed_by who now f x a b c d e g k l m n =
     λ i. all (e i) (g i) (k i) (l i) (m i) (n i)
   where
     all : Bool → Bool → Bool → Bool → Bool → Bool → Option OpenBroadcast
     all e g k l m n =
-        if e then (if has_room now (source_of f.id) (Some x) then opens now f else Some x) else if g
+        if e then (if has_room now (source_of f.id) (Some x) then opens who now f else Some x) else if g
         then (if k || not l then Some x else if m then None else Some (if n then grown now f x else touched now f x)) else Some x
 
 pub next_appended : (who : Who) (H : List Call) (f : FrameRecord) (x : OpenBroadcast) → claim_of f ≡ None → announces f ≡ false → IsTrue (packs f)
     → hearing who H ≡ Some x → is_whole x ≡ false → source_of f.id ≡ x.source → is_late (time_heard (Hear f ∷ H)) x ≡ false
     → slice_index f.bytes 0 ≡ suc x.count → hearing who (Hear f ∷ H) ≡ Some (grown (time_heard (Hear f ∷ H)) f x)
 next_appended who H f x e g k l m n o p =
-    hears_found who H f (Some x) e l ∙ packed_by (time_heard (Hear f ∷ H)) f x false true false true g k m (eq-eqb _ _ n) o (eq-eqb _ _ p)
+    hears_found who H f (Some x) e l ∙ packed_by who (time_heard (Hear f ∷ H)) f x false true false true g k m (eq-eqb _ _ n) o (eq-eqb _ _ p)
 
 pub late_ends : (who : Who) (H : List Call) (f : FrameRecord) (x : OpenBroadcast) → claim_of f ≡ None → announces f ≡ false → IsTrue (packs f)
     → hearing who H ≡ Some x → is_whole x ≡ false → source_of f.id ≡ x.source → IsTrue (is_late (time_heard (Hear f ∷ H)) x)
     → hearing who (Hear f ∷ H) ≡ None
 late_ends who H f x e g k l m n o =
-    hears_found who H f (Some x) e l ∙ packed_by (time_heard (Hear f ∷ H)) f x false true true _ g k m (eq-eqb _ _ n) o refl
+    hears_found who H f (Some x) e l ∙ packed_by who (time_heard (Hear f ∷ H)) f x false true true _ g k m (eq-eqb _ _ n) o refl
 
 pub strangers : (who : Who) (H : List Call) (f : FrameRecord) → claim_of f ≡ None → announces f ≡ false
     → (packs f ≡ false) ⊎ ((x : OpenBroadcast) → hearing who H ≡ Some x → source_of f.id ≢ x.source)
     → hearing who (Hear f ∷ H) ≡ hearing who H
 strangers who H f e g (inl k) =
     hears_found who H f (hearing who H) e refl
-    ∙ λ i. if g i then (if has_room (time_heard (Hear f ∷ H)) (source_of f.id) (hearing who H) then opens (time_heard (Hear f ∷ H)) f else hearing who H) else if k i
+    ∙ λ i. if g i then (if has_room (time_heard (Hear f ∷ H)) (source_of f.id) (hearing who H) then opens who (time_heard (Hear f ∷ H)) f else hearing who H) else if k i
     then packed (time_heard (Hear f ∷ H)) f (hearing who H) else hearing who H
 strangers who H f e g (inr k) = go (hearing who H) refl
   where
@@ -231,22 +319,22 @@ strangers who H f e g (inr k) = go (hearing who H) refl
     go : (o : Option OpenBroadcast) → hearing who H ≡ o → hearing who (Hear f ∷ H) ≡ o
     go None l = hears_found who H f None e l ∙ none (announces f) (packs f) g
       where
-        none : (a b : Bool) → a ≡ false → (if a then opens (time_heard (Hear f ∷ H)) f else if b then None else None) ≡ None
+        none : (a b : Bool) → a ≡ false → (if a then opens who (time_heard (Hear f ∷ H)) f else if b then None else None) ≡ None
         none true b i = absurd (cc)
         none false true i = refl
         none false false i = refl
     go (Some x) l = hears_found who H f (Some x) e l ∙ some (packs f) refl
       where
-        some : (p : Bool) → packs f ≡ p → hears (time_heard (Hear f ∷ H)) f (Some x) ≡ Some x
+        some : (p : Bool) → packs f ≡ p → hears who (time_heard (Hear f ∷ H)) f (Some x) ≡ Some x
         some true q =
-            packed_by (time_heard (Hear f ∷ H)) f x _ false _ _ g q refl (let z : nat_eq (source_of f.id) x.source ≡ false = other x (k x l) _ refl in z) refl refl
+            packed_by who (time_heard (Hear f ∷ H)) f x _ false _ _ g q refl (let z : nat_eq (source_of f.id) x.source ≡ false = other x (k x l) _ refl in z) refl refl
             ∙ stays (is_whole x)
           where
             stays : (w : Bool) → (if w || true then Some x else if is_late (time_heard (Hear f ∷ H)) x then None else Some (goes_on (time_heard (Hear f ∷ H)) f x)) ≡ Some x
             stays true = refl
             stays false = refl
         some false q =
-            λ i. if g i then (if has_room (time_heard (Hear f ∷ H)) (source_of f.id) (Some x) then opens (time_heard (Hear f ∷ H)) f else Some x) else if q i
+            λ i. if g i then (if has_room (time_heard (Hear f ∷ H)) (source_of f.id) (Some x) then opens who (time_heard (Hear f ∷ H)) f else Some x) else if q i
             then packed (time_heard (Hear f ∷ H)) f (Some x) else Some x
 
 pub own_frames : (who : Who) (H : List Call) (now : ℕ) (f : FrameRecord) → is_claim f ≡ false → hearing who (TakeFrame now (Some f) ∷ H) ≡ hearing who H
@@ -393,8 +481,8 @@ same_is (Some m) (Some n) e = ap Some (sym (eqb-true m n e))
 
 -- a frame is heard where none waits
 heard_open : (who : Who) (H : List Call) (now : ℕ) (f : FrameRecord) (o : Option OpenBroadcast) → AllBegun who H o → whole_of o ≡ None
-    → AllBegun who (Hear f ∷ H) (hears now f (left (changes (holder who H) (holder who (Hear f ∷ H)) o) o))
-heard_open who H now f None h n = go (announces f) (packs f) (is_own_group (pgn_named f)) refl
+    → AllBegun who (Hear f ∷ H) (hears who now f (left (changes (holder who H) (holder who (Hear f ∷ H)) o) o))
+heard_open who H now f None h n = go (announces f) (packs f) (is_ignored who (pgn_named f)) refl
   where
     go : (a b c : Bool) → announces f ≡ a → AllBegun who (Hear f ∷ H) (if a then (if c then None else Some (begun now f)) else if b then None else None)
     go true b true e = tt
@@ -428,16 +516,16 @@ heard_open who H now f (Some x) h n = by (is_same (holder who H x.source) (holde
 
     hears_by : Bool → Option OpenBroadcast
     hears_by w =
-        if announces f then (if has_room now (source_of f.id) (Some x) then opens now f else Some x) else if packs f
+        if announces f then (if has_room now (source_of f.id) (Some x) then opens who now f else Some x) else if packs f
         then (if w || not (nat_eq (source_of f.id) x.source) then Some x else if is_late now x then None else Some (goes_on now f x)) else Some x
 
     by : (b : Bool) → is_same (holder who H x.source) (holder who (Hear f ∷ H) x.source) ≡ b → (w : Bool) → is_whole x ≡ w
-        → AllBegun who (Hear f ∷ H) (hears now f (if not b && not w then None else Some x))
+        → AllBegun who (Hear f ∷ H) (hears who now f (if not b && not w then None else Some x))
     by b e true i = absurd (let z : true ≡ false = open_one true i n in cc)
-    by false e false i = gone (announces f) (packs f) (is_own_group (pgn_named f)) refl
+    by false e false i = gone (announces f) (packs f) (is_ignored who (pgn_named f)) refl
     by true e false i =
         subst (λ (v : Bool). AllBegun who (Hear f ∷ H) (hears_by v)) (sym i)
-        (stays (same_is _ _ e) i (announces f) (packs f) (is_own_group (pgn_named f)) (nat_eq (source_of f.id) x.source)
+        (stays (same_is _ _ e) i (announces f) (packs f) (is_ignored who (pgn_named f)) (nat_eq (source_of f.id) x.source)
         (has_room now (source_of f.id) (Some x)) (is_late now x) (nat_eq (slice_index f.bytes 0) (suc x.count)) refl refl refl refl)
 
 open_ones : (who : Who) (H : List Call) (o : Option OpenBroadcast) → AreBegun who H o → whole_of o ≡ None → AllBegun who H o
@@ -450,7 +538,7 @@ become who H None h = tt
 become who H (Some x) h = inr h
 
 heard_more : (who : Who) (H : List Call) (now : ℕ) (f : FrameRecord) (o : Option OpenBroadcast) → AreBegun who H o
-    → AreBegun who (Hear f ∷ H) (hears now f (left (changes (holder who H) (holder who (Hear f ∷ H)) o) o))
+    → AreBegun who (Hear f ∷ H) (hears who now f (left (changes (holder who H) (holder who (Hear f ∷ H)) o) o))
 heard_more who H now f o h = go (whole_of o) refl
   where
     kept : (z : Option OpenBroadcast) (p : ℕ × MessageRecord) → whole_of z ≡ Some p → AreBegun who (Hear f ∷ H) z
@@ -461,9 +549,9 @@ heard_more who H now f o h = go (whole_of o) refl
         w true i = refl
         w false i = absurd (cc)
 
-    go : (p : Option (ℕ × MessageRecord)) → whole_of o ≡ p → AreBegun who (Hear f ∷ H) (hears now f (left (changes (holder who H) (holder who (Hear f ∷ H)) o) o))
+    go : (p : Option (ℕ × MessageRecord)) → whole_of o ≡ p → AreBegun who (Hear f ∷ H) (hears who now f (left (changes (holder who H) (holder who (Hear f ∷ H)) o) o))
     go None e = become who (Hear f ∷ H) _ (heard_open who H now f o (open_ones who H o h e) e)
-    go (Some p) e = subst (AreBegun who (Hear f ∷ H)) (sym (whole_stays (changes (holder who H) (holder who (Hear f ∷ H)) o) now f o p e)) (kept o p e)
+    go (Some p) e = subst (AreBegun who (Hear f ∷ H)) (sym (whole_stays who (changes (holder who H) (holder who (Hear f ∷ H)) o) now f o p e)) (kept o p e)
 
 quiet_more : (who : Who) (call : Call) (H : List Call) (o : Option OpenBroadcast) → ((G : List Call) → frames_heard (call ∷ G) ≡ frames_heard G)
     → ((a : ℕ) → holder who (call ∷ H) a ≡ holder who H a) → AreBegun who H o → AreBegun who (call ∷ H) o
@@ -586,7 +674,7 @@ pub other_adds_none : (who : Who) (H : List Call) (f : FrameRecord) (x : OpenBro
     → hearing who H ≡ Some x → is_whole x ≡ false → source_of f.id ≡ x.source → is_late (time_heard (Hear f ∷ H)) x ≡ false
     → (slice_index f.bytes 0 ≢ suc x.count) → hearing who (Hear f ∷ H) ≡ Some (touched (time_heard (Hear f ∷ H)) f x)
 other_adds_none who H f x e g k l m n o p =
-    hears_found who H f (Some x) e l ∙ packed_by (time_heard (Hear f ∷ H)) f x false true false false g k m (eq-eqb _ _ n) o (unequal _ _ p)
+    hears_found who H f (Some x) e l ∙ packed_by who (time_heard (Hear f ∷ H)) f x false true false false g k m (eq-eqb _ _ n) o (unequal _ _ p)
 
 pub left_ends : (who : Who) (H : List Call) (f : FrameRecord) (x : OpenBroadcast) → hearing who H ≡ Some x → is_whole x ≡ false
     → (holder who (Hear f ∷ H) x.source ≢ holder who H x.source) → found who H f ≡ None

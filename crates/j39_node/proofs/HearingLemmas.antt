@@ -9,9 +9,9 @@ use Rattle.j39_transport.specs.Frames.{goes, is_packet, pgn_named}
 use Rattle.j39_transport.specs.Key.{Broadcast as by, is_key}
 use Rattle.j39_frame.specs.Network.{transport_data_group}
 use Rattle.j39_transport.proofs.FrameFacts.{announcement_facts}
-use Rattle.j39_node.specs.History.{Who, Call, is_claim, is_own_group, told_claims}
+use Rattle.j39_node.specs.History.{Who, Call, is_claim, told_claims}
 use Rattle.j39_node.specs.History.Call.{Ask, TakeAskEnded, Hear, Tick, TakeFrame, Send, TakeEnded, TakeReceived, TakeRequest, TakeNews, Acknowledge, Broadcast, TakeBroadcastEnded, ReleaseTransfer, Transfer, TakeTransferEnded, ReleaseBroadcast}
-use Rattle.j39_node.specs.Hearing.{IsFit, OpenBroadcast, announces, begun, changes, found, grown, has_room, hearing, hears, is_late, is_unheard, is_whole, left, opens, packed, packs, touched, unheard}
+use Rattle.j39_node.specs.Hearing.{IsFit, OpenBroadcast, announces, begun, changes, found, grown, has_room, hearing, hears, is_ignored, is_late, is_unheard, is_whole, left, opens, packed, packs, touched, unheard}
 use Rattle.j39_node.specs.Reception.{holder, is_same, time_heard}
 use Rattle.j39_node.specs.Is.{HearingRecord, hearing_after}
 use Rattle.j39_node.proofs.ReceptionLemmas.{table_is}
@@ -94,22 +94,22 @@ fit_packed now f (Some x) e h = go (is_whole x || not (nat_eq (source_of f.id) x
     go false false true = ((let l = length_two x.bytes (drop 1 f.bytes) in let k = drop_one f.bytes e in let m = h.0 in omega (arith, l, k, m)), h.1)
     go false false false = h
 
-pub fit_hears : (now : ℕ) (f : FrameRecord) (o : Option OpenBroadcast) → IsFit o → IsFit (hears now f o)
-fit_hears now f o h = go (announces f) (packs f) (has_room now (source_of f.id) o) refl refl
+pub fit_hears : (w : Who) (now : ℕ) (f : FrameRecord) (o : Option OpenBroadcast) → IsFit o → IsFit (hears w now f o)
+fit_hears w now f o h = go (announces f) (packs f) (has_room now (source_of f.id) o) refl refl
   where
     opened : (b : Bool) → announces f ≡ true → IsFit (if b then None else Some (begun now f))
     opened true e = tt
     opened false e = (refl, (announcement_facts (by (source_of f.id)) f e).small)
 
-    go : (a b c : Bool) → announces f ≡ a → packs f ≡ b → IsFit (if a then (if c then opens now f else o) else if b then packed now f o else o)
-    go true b true e g = opened (is_own_group (pgn_named f)) e
+    go : (a b c : Bool) → announces f ≡ a → packs f ≡ b → IsFit (if a then (if c then opens w now f else o) else if b then packed now f o else o)
+    go true b true e g = opened (is_ignored w (pgn_named f)) e
     go true b false e g = h
     go false true c e g = fit_packed now f o (packs_eight f g) h
     go false false c e g = h
 
 pub fit : (w : Who) (H : List Call) → IsFit (hearing w H)
 fit w [] = tt
-fit w (Hear f ∷ H) = fit_hears (time_heard (Hear f ∷ H)) f (found w H f) (fit_left (changes (holder w H) (holder w (Hear f ∷ H)) (hearing w H)) (hearing w H) (fit w H))
+fit w (Hear f ∷ H) = fit_hears w (time_heard (Hear f ∷ H)) f (found w H f) (fit_left (changes (holder w H) (holder w (Hear f ∷ H)) (hearing w H)) (hearing w H) (fit w H))
 fit w (TakeFrame now None ∷ H) = fit w H
 fit w (TakeFrame now (Some f) ∷ H) = fit_left (changes (holder w H) (holder w (TakeFrame now (Some f) ∷ H)) (hearing w H)) (hearing w H) (fit w H)
 fit w (Tick now ∷ H) = fit w H
@@ -130,11 +130,11 @@ fit w (ReleaseBroadcast true ∷ H) = tt
 fit w (ReleaseBroadcast false ∷ H) = fit w H
 
 -- by what it is
-pub hears_is : (now : ℕ) (f : FrameRecord) (o : Option OpenBroadcast) (a b : Bool) → announces f ≡ a → packs f ≡ b
-    → hears now f o ≡ (if a then (if has_room now (source_of f.id) o then opens now f else o) else if b then packed now f o else o)
-hears_is now f o a b e g =
-    ap (λ (x : Bool). if x then (if has_room now (source_of f.id) o then opens now f else o) else if packs f then packed now f o else o) e
-    ∙ ap (λ (x : Bool). if a then (if has_room now (source_of f.id) o then opens now f else o) else if x then packed now f o else o) g
+pub hears_is : (w : Who) (now : ℕ) (f : FrameRecord) (o : Option OpenBroadcast) (a b : Bool) → announces f ≡ a → packs f ≡ b
+    → hears w now f o ≡ (if a then (if has_room now (source_of f.id) o then opens w now f else o) else if b then packed now f o else o)
+hears_is w now f o a b e g =
+    ap (λ (x : Bool). if x then (if has_room now (source_of f.id) o then opens w now f else o) else if packs f then packed now f o else o) e
+    ∙ ap (λ (x : Bool). if a then (if has_room now (source_of f.id) o then opens w now f else o) else if x then packed now f o else o) g
 
 pub no_announcement : (b : Bool) → (b ≡ true → false ≡ true) → b ≡ false
 no_announcement true f = absurd (let z : false ≡ true = f refl in cc)
@@ -153,25 +153,25 @@ missed_more false c m e = e
 
 -- what a frame makes of it
 pub record HeardOn (w : Who) (H : List Call) (f : FrameRecord) (u : Bool) (y : HearingRecord) : Type 0 where
-  pub unheard : u ≡ is_unheard (time_heard (Hear f ∷ H)) f (found w H f)
+  pub unheard : u ≡ is_unheard w (time_heard (Hear f ∷ H)) f (found w H f)
   pub hearing : y ≡ hearing_after w (Hear f ∷ H)
 
 pub heard_on : (w : Who) (H : List Call) (f : FrameRecord) (old new : Claims) (b u : Bool) (now : ℕ) (p q : Option ℕ) (x m y : HearingRecord) → x ≡ hearing_after w H
     → Knows old (told_claims w H) → Knows new (told_claims w (Hear f ∷ H)) → now ≡ time_heard (Hear f ∷ H)
     → IfSome x.current (λ z. p ≡ holder_in old z.source) → IfSome x.current (λ z. q ≡ holder_in new z.source) → b ≡ not (is_same p q)
-    → m.current ≡ left b x.current → m.missed ≡ x.missed → u ≡ is_unheard now f m.current
-    → y.missed ≡ (if u then min (m.missed + 1) 18446744073709551615 else m.missed) → (IsFit m.current → y.current ≡ hears now f m.current)
+    → m.current ≡ left b x.current → m.missed ≡ x.missed → u ≡ is_unheard w now f m.current
+    → y.missed ≡ (if u then min (m.missed + 1) 18446744073709551615 else m.missed) → (IsFit m.current → y.current ≡ hears w now f m.current)
     → HeardOn w H f u y
 heard_on w H f old new b u now p q x m y h k l t e1 e2 e3 e4 e5 e6 e7 e8 =
     let G = Hear f ∷ H in
     let o : x.current ≡ hearing w H = ap (λ (r : HearingRecord). r.current) h in
     let mid : m.current ≡ found w H f =
     e4 ∙ (left_is w H G old new b p q x.current k l e1 e2 e3 ∙ ap (λ (z : Option OpenBroadcast). left (changes (holder w H) (holder w G) z) z) o) in
-    let says : u ≡ is_unheard (time_heard G) f (found w H f) = e6 ∙ (ap (λ (n : ℕ). is_unheard n f m.current) t ∙ ap (is_unheard (time_heard G) f) mid) in
+    let says : u ≡ is_unheard w (time_heard G) f (found w H f) = e6 ∙ (ap (λ (n : ℕ). is_unheard w n f m.current) t ∙ ap (is_unheard w (time_heard G) f) mid) in
     let fits : IsFit m.current = subst IsFit (sym mid) (fit_left (changes (holder w H) (holder w G) (hearing w H)) (hearing w H) (fit w H)) in
     record {
       unheard = says;
-      hearing = is_hearing _ _ (e8 fits ∙ (ap (λ (n : ℕ). hears n f m.current) t ∙ ap (hears (time_heard G) f) mid))
+      hearing = is_hearing _ _ (e8 fits ∙ (ap (λ (n : ℕ). hears w n f m.current) t ∙ ap (hears w (time_heard G) f) mid))
           (e7 ∙ (missed_more u m.missed (unheard w H) (e5 ∙ ap (λ (r : HearingRecord). r.missed) h)
           ∙ ap (λ (c : Bool). min (if c then suc (unheard w H) else unheard w H) 18446744073709551615) says));
     }

@@ -3,8 +3,9 @@ use Rattle.std.proofs.Common.{◌≡◌, ◌≢◌, ◌⊎◌, ◌↔◌, ℕ, z
 use Rattle.std.specs.List.{slice_get}
 use Rattle.std.proofs.lemmas.Option.{slice_get_past}
 use Rattle.j39_frame.specs.Frame.{FrameRecord}
-use Rattle.j39_frame.specs.Identifier.{source_of, pgn_of}
-use Rattle.j39_frame.specs.Network.{address_claimed_group}
+use Rattle.j39_frame.specs.Address.{global_address, null_address}
+use Rattle.j39_frame.specs.Identifier.{destination_of, source_of, pgn_of}
+use Rattle.j39_frame.specs.Network.{address_claimed_group, request_group}
 use Rattle.j39_address.specs.Claim.{claim_of}
 use Rattle.j39_address.specs.declared.status.Status.TheVariants as status
 use Rattle.j39_node.specs.declared.controller.Controller.{Controller}
@@ -16,7 +17,7 @@ use Rattle.j39_node.specs.declared.kinds.News.{News}
 use Rattle.j39_node.specs.declared.kinds.News.TheVariants.{AddressLost, AnotherAtAddress, MessagesMissed}
 use Rattle.j39_node.specs.declared.kinds.Refused.{Refused}
 use Rattle.j39_node.specs.declared.kinds.Refused.TheVariants.{NoAddress, BadValue, Full}
-use Rattle.j39_node.specs.History.{Who, Message, Draft, Call, Address, IsFront, accepted, address_after, calls_for_claim, can_send, claim_address, claim_from, content, frames, got, heard, holds, is_claim, is_smaller, claimed, is_for_program, is_held, is_lost, kept, message_of, missed, moment, older, owes_claim, sent, step, told, Asked, asked, acknowledgment, acknowledgment_group, acknowledged, due, handed, requests, is_served, with_request, with_refusal, stamp_at, held_at, lost_news, another_news, missed_news, open_broadcast, packets, pause}
+use Rattle.j39_node.specs.History.{Who, Message, Draft, Call, Address, IsFront, accepted, address_after, calls_for_claim, can_send, claim_address, claim_from, content, frames, got, heard, holds, is_claim, is_smaller, claimed, is_for_program, is_held, is_lost, is_none, is_own_group, is_some, is_subscribed, kept, message_of, missed, moment, older, owes_claim, sent, step, told, Asked, asked, acknowledgment, acknowledgment_group, acknowledged, due, handed, requests, is_served, with_request, with_refusal, stamp_at, held_at, lost_news, another_news, missed_news, open_broadcast, packets, pause}
 use Rattle.j39_node.specs.History.Call.{Ask, TakeAskEnded, Hear, Tick, TakeFrame, Send, TakeEnded, TakeReceived, TakeRequest, TakeNews, Acknowledge, Broadcast, TakeBroadcastEnded, ReleaseTransfer, Transfer, TakeTransferEnded, ReleaseBroadcast}
 use Rattle.j39_node.specs.Reception.{is_waiting, reception}
 use Rattle.j39_node.proofs.ReceptionLemmas.{replied_get, tidy}
@@ -308,6 +309,23 @@ counted w (ReleaseTransfer answer ∷ H) = counted w H
 counted w (ReleaseBroadcast answer ∷ H) = counted w H
 counted w (Transfer now group to bytes answer ∷ H) = counted w H
 counted w (TakeTransferEnded answer ∷ H) = counted w H
+
+pub not_subscribed : (w : Who) (H : List Call) (f : FrameRecord) → is_subscribed w (pgn_of f.id) ≡ false
+    → (kept w (Hear f ∷ H) ≡ kept w H) × (missed w (Hear f ∷ H) ≡ missed w H)
+not_subscribed w H f e = (
+  ap (λ (b : Bool). if b && nat_lt (length (kept w H) - length (got H)) 16 then kept w H ++ (f.stamp, message_of f) ∷ [] else kept w H) none,
+  ap (λ (b : Bool). if b && not (nat_lt (length (kept w H) - length (got H)) 16) then suc (missed w H) else missed w H) none,
+)
+  where
+    nothing : (a : Bool) → (a && false) ≡ false
+    nothing true = refl
+    nothing false = refl
+
+    none : is_for_program w (holds w H f.stamp) f ≡ false
+    none =
+        ap (λ (s : Bool). nat_lt (source_of f.id) null_address && ((s && not (is_own_group (pgn_of f.id) || nat_eq (pgn_of f.id) request_group))
+        && (is_none (destination_of f.id) || (is_some (destination_of f.id) global_address || (is_some (destination_of f.id) w.address && holds w H f.stamp))))) e
+        ∙ nothing (nat_lt (source_of f.id) null_address)
 
 pub missed_full : (w : Who) (H : List Call) (f : FrameRecord) → missed w (Hear f ∷ H) ≢ missed w H → length (got H) + 16 ≤ length (kept w H)
 missed_full w H f n = go (is_for_program w (holds w H f.stamp) f) (nat_lt (length (kept w H) - length (got H)) 16) refl n

@@ -166,7 +166,7 @@ none_untold u e = go u.lost u.another u.missed refl refl refl e
     go false false false i j k e = λ l. untold (i l) (j l) (k l)
 
 pub begins_anew : (w : Who) (H : List Call) (old new : Controller) (a : ℕ) → Is w H old → (has_told old && has_given old) ≡ true
-    → new.own.name ≡ old.own.name → new.own.address ≡ a → new.own.served.items ≡ old.own.served.items
+    → new.own.name ≡ old.own.name → new.own.address ≡ a → new.own.served.items ≡ old.own.served.items → new.own.subscribed ≡ old.own.subscribed
     → new.hold ≡ record { moment = 0; standing = standing.Idle; owes_claim = true; pause = 0; age = 0; wait = 0; rest = 0 }
     → new.outgoing ≡ old.outgoing → new.taken ≡ 0 → new.next_token ≡ 0 → new.asking ≡ old.asking → new.inbox.unread ≡ old.inbox.unread → new.inbox.missed ≡ 0
     → new.desk.waiting ≡ old.desk.waiting → new.desk.due.items ≡ [] → new.news ≡ old.news → new.holders ≡ old.holders
@@ -174,7 +174,7 @@ pub begins_anew : (w : Who) (H : List Call) (old new : Controller) (a : ℕ) →
     → incoming_of new.incoming ≡ record { moment = 0; clock = 0; own = a; has_box = true; reception = no_reception }
     → port_of new.transfers ≡ record { current = None; next_token = 0; resting = NoneRests } → hearing_of new.hearing ≡ record { current = None; missed = 0 }
     → Is (moved w H a) [] new
-begins_anew w H old new a h e o1 o2 o3 q1 q2 q3 q4 q5 q6 q7 q8 q9 q10 q11 q12 q15 q16 q18 =
+begins_anew w H old new a h e o1 o2 o3 o4 q1 q2 q3 q4 q5 q6 q7 q8 q9 q10 q11 q12 q15 q16 q18 =
     let p = and_parts _ _ e in
     let t = and_parts _ _ p.0 in
     let t3 = and_parts _ _ (and_parts _ _ t.1).1 in
@@ -183,8 +183,8 @@ begins_anew w H old new a h e o1 o2 o3 q1 q2 q3 q4 q5 q6 q7 q8 q9 q10 q11 q12 q1
     let g3 = and_parts _ _ g2.1 in
     let g4 = and_parts _ _ g3.1 in
     record {
-      who = (λ i. let v : Who = record { name = name_raw (o1 i); address = o2 i; served = o3 i; known = told_claims w H } in v)
-          ∙ ap (λ (v : Who). (let u : Who = record { name = v.name; address = a; served = v.served; known = told_claims w H } in u)) h.who;
+      who = (λ i. let v : Who = record { name = name_raw (o1 i); address = o2 i; served = o3 i; subscribed = option_map (λ g. g.items) (o4 i); known = told_claims w H } in v)
+          ∙ ap (λ (v : Who). (let u : Who = record { name = v.name; address = a; served = v.served; subscribed = v.subscribed; known = told_claims w H } in u)) h.who;
       answered = tt;
       hold = q1;
       outgoing = ap (λ x. map posted x.items) q2 ∙ nothing posted old.outgoing.items t.0;

@@ -9,9 +9,9 @@ use Rattle.j39_node.specs.declared.kinds.Refused.TheVariants.{NoAddress, BadValu
 use Rattle.j39_node.specs.History.{Who, Asked, Draft, Call, message_of}
 use Rattle.j39_node.specs.History.Call.{Acknowledge, Broadcast, TakeBroadcastEnded, Hear, Tick, TakeFrame, TakeRequest, Send, TakeEnded, TakeNews, TakeReceived, ReleaseBroadcast, ReleaseTransfer, Transfer, TakeTransferEnded}
 
--- NAME 2 at address 128, whose program serves group 65259
+-- NAME 2 at address 128, whose program serves group 65259 and subscribes 0 and 65226
 abbrev pub two : Who
-two = record { name = 2; address = 128; served = 65259 ∷ []; known = [] }
+two = record { name = 2; address = 128; served = 65259 ∷ []; subscribed = Some (0 ∷ 65226 ∷ []); known = [] }
 
 -- its claim, and 'cannot claim'
 abbrev pub own_claim : ℕ → FrameRecord

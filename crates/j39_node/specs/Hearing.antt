@@ -8,7 +8,7 @@ use Rattle.j39_transport.specs.Key.{Broadcast as by}
 use Rattle.j39_transport.specs.Message.{MessageRecord}
 use Rattle.j39_transport.specs.Protocol.{broadcast_limit}
 use Rattle.j39_node.specs.declared.kinds.News.TheVariants.{MessagesMissed}
-use Rattle.j39_node.specs.History.{Who, Call, is_own_group}
+use Rattle.j39_node.specs.History.{Who, Call, is_own_group, is_subscribed}
 use Rattle.j39_node.specs.History.Call.{Hear, TakeFrame, TakeNews, ReleaseBroadcast}
 use Rattle.j39_node.specs.Reception.{KeepsHolder, frames_heard, holder, is_same, listed, time_heard}
 
@@ -55,9 +55,13 @@ abbrev pub has_room : ℕ → ℕ → Option OpenBroadcast → Bool
 has_room now source None = true
 has_room now source (Some x) = not (is_whole x) && (nat_eq source x.source || is_late now x)
 
--- one of a group of the stack's own opens nothing
-abbrev pub opens : ℕ → FrameRecord → Option OpenBroadcast
-opens now f = if is_own_group (pgn_named f) then None else Some (begun now f)
+-- a message of this group isn't for the program: the group is the stack's own, or isn't subscribed
+abbrev pub is_ignored : Who → ℕ → Bool
+is_ignored w group = is_own_group group || not (is_subscribed w group)
+
+-- one that isn't for the program opens nothing
+abbrev pub opens : Who → ℕ → FrameRecord → Option OpenBroadcast
+opens w now f = if is_ignored w (pgn_named f) then None else Some (begun now f)
 
 -- the packet of the next number is appended, any other is ignored
 abbrev pub grown : ℕ → FrameRecord → OpenBroadcast → OpenBroadcast
@@ -75,13 +79,13 @@ packed now f None = None
 packed now f (Some x) =
     if is_whole x || not (nat_eq (source_of f.id) x.source) then Some x else if is_late now x then None else Some (goes_on now f x)
 
-abbrev pub hears : ℕ → FrameRecord → Option OpenBroadcast → Option OpenBroadcast
-hears now f o =
-    if announces f then (if has_room now (source_of f.id) o then opens now f else o) else if packs f then packed now f o else o
+abbrev pub hears : Who → ℕ → FrameRecord → Option OpenBroadcast → Option OpenBroadcast
+hears w now f o =
+    if announces f then (if has_room now (source_of f.id) o then opens w now f else o) else if packs f then packed now f o else o
 
 -- a message for the program is announced, and isn't heard
-abbrev pub is_unheard : ℕ → FrameRecord → Option OpenBroadcast → Bool
-is_unheard now f o = announces f && (not (is_own_group (pgn_named f)) && not (has_room now (source_of f.id) o))
+abbrev pub is_unheard : Who → ℕ → FrameRecord → Option OpenBroadcast → Bool
+is_unheard w now f o = announces f && (not (is_ignored w (pgn_named f)) && not (has_room now (source_of f.id) o))
 
 -- another NAME holds its source, or none does: it ends, unless it is whole
 abbrev pub changes : (ℕ → Option ℕ) → (ℕ → Option ℕ) → Option OpenBroadcast → Bool
@@ -97,7 +101,7 @@ left b (Some x) = if b && not (is_whole x) then None else Some x
 abbrev pub hearing : Who → List Call → Option OpenBroadcast
 hearing w [] = None
 hearing w (Hear f ∷ H) =
-    hears (time_heard (Hear f ∷ H)) f (left (changes (holder w H) (holder w (Hear f ∷ H)) (hearing w H)) (hearing w H))
+    hears w (time_heard (Hear f ∷ H)) f (left (changes (holder w H) (holder w (Hear f ∷ H)) (hearing w H)) (hearing w H))
 hearing w (TakeFrame now (Some f) ∷ H) = left (changes (holder w H) (holder w (TakeFrame now (Some f) ∷ H)) (hearing w H)) (hearing w H)
 hearing w (ReleaseBroadcast true ∷ H) = None
 hearing w (call ∷ H) = hearing w H
@@ -109,12 +113,12 @@ found w H f = left (changes (holder w H) (holder w (Hear f ∷ H)) (hearing w H)
 -- how many announcements weren't heard, and whether that is news
 abbrev pub unheard : Who → List Call → ℕ
 unheard w [] = 0
-unheard w (Hear f ∷ H) = if is_unheard (time_heard (Hear f ∷ H)) f (found w H f) then suc (unheard w H) else unheard w H
+unheard w (Hear f ∷ H) = if is_unheard w (time_heard (Hear f ∷ H)) f (found w H f) then suc (unheard w H) else unheard w H
 unheard w (call ∷ H) = unheard w H
 
 abbrev pub unheard_news : Who → List Call → Bool
 unheard_news w [] = false
-unheard_news w (Hear f ∷ H) = unheard_news w H || is_unheard (time_heard (Hear f ∷ H)) f (found w H f)
+unheard_news w (Hear f ∷ H) = unheard_news w H || is_unheard w (time_heard (Hear f ∷ H)) f (found w H f)
 unheard_news w (TakeNews (Some MessagesMissed) ∷ H) = false
 unheard_news w (call ∷ H) = unheard_news w H
 

@@ -1,6 +1,6 @@
 -- Histories of a controller's calls, each with its arguments, its moment and its answer, the newest first; and what a
 -- history says. All lists of messages have the oldest first.
-use Rattle.std.specs.Prelude.{◌≡◌, ℕ, zero, suc, ◌+◌, ◌-◌, ◌%◌, ◌/◌, ◌++◌, ◌&&◌, ◌||◌, ◌==◌, nat_lt, nat_le, nat_eq, not, Bool, true, false, List, [], ◌∷◌, length, Option, Some, None, Result, Ok, if◌then◌else◌}
+use Rattle.std.specs.Prelude.{◌≡◌, ◌≤◌, ℕ, zero, suc, ◌+◌, ◌-◌, ◌%◌, ◌/◌, ◌++◌, ◌&&◌, ◌||◌, ◌==◌, nat_lt, nat_le, nat_eq, not, Bool, true, false, List, [], ◌∷◌, length, Option, Some, None, Result, Ok, if◌then◌else◌}
 use Rattle.byteorder.specs.Endian.{little_bytes, little_number}
 use Rattle.j39_frame.specs.Address.{null_address, global_address}
 use Rattle.j39_frame.specs.Frame.{FrameRecord}
@@ -20,12 +20,13 @@ use Rattle.j39_node.specs.declared.kinds.Answer.{Answer}
 use Rattle.j39_node.specs.declared.kinds.Answer.TheVariants.{Ack, Nack, Denied, Busy}
 use Rattle.std.specs.List.{list_any}
 
--- the NAME of a controller, the address that it claims, the groups that its program serves, and the frames by which it knew
--- before its history who holds which address: none, unless it moved
+-- the NAME of a controller, the address that it claims, the groups that its program serves, those that it subscribed (none told:
+-- all), and the frames by which it knew before its history who holds which address: none, unless it moved
 pub record Who : Type 0 where
   pub name : ℕ
   pub address : ℕ
   pub served : List ℕ
+  pub subscribed : Option (List ℕ)
   pub known : List FrameRecord
 
 -- what a frame carries: who sends it, to whom (none for a group of PF 240 and up), and what
@@ -392,11 +393,25 @@ has_packets w H = is_left (open_broadcast w H) (length (packets H))
 
 -- ---- messages in
 
--- the frame is one for the program: from an address, of no group of the stack's and no request, to all or to the address
--- that is held
+-- a list of groups has this one, where there is a list
+abbrev pub has_group : Option (List ℕ) → ℕ → Bool
+has_group None group = true
+has_group (Some groups) group = list_any (λ g. g == group) groups
+
+abbrev pub is_subscribed : Who → ℕ → Bool
+is_subscribed w group = has_group w.subscribed group
+
+-- at most 64 groups may be subscribed
+abbrev pub AreFew : Option (List ℕ) → Type 0
+AreFew None = Unit {0}
+AreFew (Some groups) = length groups ≤ 64
+
+-- the frame is one for the program: from an address, of a group that is subscribed, none of the stack's and no request, to all or
+-- to the address that is held
 abbrev pub is_for_program : Who → Bool → FrameRecord → Bool
 is_for_program w held f =
-    nat_lt (source_of f.id) null_address && (not (is_own_group (pgn_of f.id) || nat_eq (pgn_of f.id) request_group)
+    nat_lt (source_of f.id) null_address && ((is_subscribed w (pgn_of f.id)
+    && not (is_own_group (pgn_of f.id) || nat_eq (pgn_of f.id) request_group))
     && (is_none (destination_of f.id) || (is_some (destination_of f.id) global_address
     || (is_some (destination_of f.id) w.address && held))))
 

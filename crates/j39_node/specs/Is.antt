@@ -2,8 +2,10 @@
 use Rattle.std.specs.Prelude.{◌≡◌, ℕ, ◌-◌, nat_eq, nat_lt, nat_le, not, ◌&&◌, ◌||◌, ◌++◌, ◌+◌, Bool, true, false, List, [], ◌∷◌, length, drop, map, min, Option, Some, None, Result, Ok, Err, if◌then◌else◌}
 use Rattle.std.specs.List.{slice_get}
 use Rattle.std.specs.Option.{option_map}
+use Rattle.j39_frame.specs.Address.{global_address, null_address}
 use Rattle.j39_frame.specs.Frame.{FrameRecord}
 use Rattle.j39_frame.specs.Identifier.{id_raw}
+use Rattle.j39_frame.specs.Network.{request_group}
 use Rattle.j39_frame.specs.Pgn.{pgn_raw}
 use Rattle.j39_frame.specs.Stamp.{stamp_micros}
 use Rattle.j39_address.specs.Name.{name_raw}
@@ -94,6 +96,20 @@ next_frame w H now =
     then option_map (λ m. (now, m)) (first_of (next_control w H) (slice_get (accepted w H) (length (sent H)))
     (next_long w H now))
     else None
+
+-- a request for the claims of all, or of an address, from the null address: it goes where no address is held (J1939-81, 4.2.1)
+abbrev pub claims_request : ℕ → Message
+claims_request to = record {
+  source = null_address;
+  destination = Some to;
+  priority = 6;
+  group = request_group;
+  bytes = 0 ∷ 238 ∷ 0 ∷ [];
+}
+
+abbrev pub next_claims_request : Who → List Call → ℕ → ℕ → Option (ℕ × Message)
+next_claims_request w H now to =
+    if not (holds w H now) && (nat_eq to global_address || nat_lt to null_address) then Some (now, claims_request to) else None
 
 abbrev pub answer_to_send : Who → List Call → ℕ → Draft → Result ℕ Refused
 answer_to_send w H now d =
@@ -188,7 +204,13 @@ status_after w H = status_of w (address_after w H)
 
 -- what it knew before is no part of the code's state
 abbrev pub who_of : List FrameRecord → Own → Who
-who_of known own = record { name = name_raw own.name; address = own.address; served = own.served.items; known = known }
+who_of known own = record {
+  name = name_raw own.name;
+  address = own.address;
+  served = own.served.items;
+  subscribed = option_map (λ groups. groups.items) own.subscribed;
+  known = known;
+}
 
 abbrev pub hold_after : Who → List Call → Hold
 hold_after w H = record {

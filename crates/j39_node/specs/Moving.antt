@@ -23,7 +23,8 @@ pub record IsSettled (w : Who) (H : List Call) : Type 0 where
 
 -- the same controller at another address: it knows the claims told so far
 abbrev pub moved : Who → List Call → ℕ → Who
-moved w H address = record { name = w.name; address = address; served = w.served; known = told_claims w H }
+moved w H address = record
+    { name = w.name; address = address; served = w.served; subscribed = w.subscribed; known = told_claims w H }
 
 -- ---- by what the code has
 

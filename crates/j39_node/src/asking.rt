@@ -1,17 +1,19 @@
 //! Asking others for groups (J1939-21, 5.4.2 and 5.4.4).
-ghost use Rattle.std.specs.Prelude.{◌≡◌, ◌&&◌, ◌||◌, ◌%◌, ◌/◌, ℕ, List, [], ◌∷◌, nat_lt, nat_eq, not, None, Some, Option, IsSome, IfSome, Bool, true, false, ◌↔◌, if◌then◌else◌};
+ghost use Rattle.std.specs.Prelude.{◌≡◌, ◌&&◌, ◌||◌, ◌%◌, ◌/◌, ℕ, List, [], ◌∷◌, nat_lt, nat_eq, not, None, Some, Option, IsSome, IfSome, Bool, IsSomeAnd, true, false, ◌↔◌, if◌then◌else◌};
 ghost use Rattle.std.specs.List.{slice_get};
 ghost use Rattle.std.specs.Option.{option_map};
 ghost use Rattle.j39_frame.specs.Identifier.{source_of};
 ghost use Rattle.j39_frame.specs.Pgn.{pgn_raw};
-ghost use Rattle.j39_node.specs.History.{is_some, message_from, request_for};
-ghost use Rattle.j39_node.specs.Is.{posted, who_of};
+ghost use Rattle.j39_node.specs.History.{carried, is_some, message_from, request_for};
+ghost use Rattle.j39_frame.specs.Identifier.{id_raw};
+ghost use Rattle.j39_frame.specs.Stamp.{stamp_micros};
+ghost use Rattle.j39_node.specs.Is.{claims_request, posted, stamped, who_of};
 ghost use Rattle.j39_node.specs.Asking.{can_ask, first, is_answer, is_of, is_reply, is_whole, question, reaches, said_by, says_to, silent_end};
 
 use crate::outgoing::{Outgoing, is_sendable};
 use crate::own::{ACKNOWLEDGMENT, Own, REQUEST, is_to, is_undirected};
 use crate::{Answer, AskEnding};
-use j39_frame::{Frame, GLOBAL_ADDRESS, NULL_ADDRESS, Pgn};
+use j39_frame::{Frame, GLOBAL_ADDRESS, Id, NULL_ADDRESS, Pgn, Stamp};
 
 /// A request that is not told to have ended.
 #[derive(Drop)]
@@ -194,6 +196,22 @@ pub(crate) fn request(token: u64, own: &Own, group: Pgn, to: u8) -> Option<Outgo
     let asked = Pgn::new(REQUEST)?;
     let [low, middle, high, _top] = group.raw().to_le_bytes();
     Outgoing::new(token, own, 6, asked, to, &[low, middle, high])
+}
+
+/// A request for claims from the null address.
+pub(crate) fn claims_request(to: u8, now: Stamp) -> Option<Frame>
+    ensures { option_map stamped result ≡ Some (stamp_micros now, claims_request to) }
+{
+    let id = request_id(to)?;
+    Frame::new(now, id, &[0x00, 0xEE, 0x00])
+}
+
+fn request_id(to: u8) -> Option<Id>
+    ensures { IsSomeAnd result (λ id. (bytes : List ℕ) → carried (id_raw id) bytes ≡ record
+        { source = 254; destination = Some to; priority = 6; group = 59904; bytes = bytes }) }
+{
+    let group = Pgn::new(REQUEST)?;
+    Id::compose(6, group, to, NULL_ADDRESS)
 }
 
 fn first(one: Option<AskEnding>, later: Option<AskEnding>) -> Option<AskEnding>

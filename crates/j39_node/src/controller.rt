@@ -19,7 +19,7 @@ ghost use Rattle.j39_node.specs.Hold.{lost, stands};
 ghost use Rattle.j39_node.specs.Moving.{IsSettled, has_given, has_told, moved};
 ghost use Rattle.j39_node.specs.History.Call.{Ask, TakeAskEnded, Hear, Tick, TakeFrame, Send, TakeEnded, TakeReceived, TakeRequest, TakeNews, Acknowledge, Broadcast, TakeBroadcastEnded, ReleaseTransfer, Transfer, TakeTransferEnded, ReleaseBroadcast};
 ghost use Rattle.j39_node.specs.Asking.{is_asking};
-ghost use Rattle.j39_node.specs.Is.{asking_of, Is, first_of, lane_of, next_frame, packet_by, posted, received_by, request_by, stamped, status_after, who_of, long_by, port_of, hearing_of};
+ghost use Rattle.j39_node.specs.Is.{asking_of, Is, next_claims_request, first_of, lane_of, next_frame, packet_by, posted, received_by, request_by, stamped, status_after, who_of, long_by, port_of, hearing_of};
 
 use crate::asking::{self, Asking};
 use crate::hearing::Hearing;
@@ -28,14 +28,14 @@ use crate::incoming::{Incoming, is_same};
 use crate::lane::{Lane, Open};
 use crate::news::Untold;
 use crate::outgoing::Outgoing;
-use crate::own::{Own, numbers};
+use crate::own::{Own, numbers, subscriptions};
 use crate::received::Inbox;
 use crate::requests::{Desk, Due, asked};
 use crate::transfers::{self, Transfers};
 use crate::{Answer, AskEnding, Ending, News, Received, Refused, Request, TransferEnding};
 use arrayvec::ArrayVec;
 use j39_address::{Claims, Name, Status};
-use j39_frame::{Frame, NULL_ADDRESS, Pgn, Stamp, is_address};
+use j39_frame::{Frame, GLOBAL_ADDRESS, NULL_ADDRESS, Pgn, Stamp, is_address};
 use j39_transport::Message;
 use std::alloc::{AllocError, Global};
 
@@ -67,25 +67,37 @@ pub struct Controller {
 impl Controller {
     ghost use Rattle.std.specs.Prelude.{◌≡◌, ◌<◌, ℕ, List, [], ◌∷◌, ◌↔◌, ◌≤◌, length, map, min, IfOk, OnErr, IsSome, IfSome, Some, None};
     ghost use Rattle.j39_node.specs.Is.{Is};
-    ghost use Rattle.j39_node.specs.History.{Who, Call};
+    ghost use Rattle.j39_node.specs.History.{Who, Call, AreFew};
 
-    /// A controller of this NAME that will claim this address, and whose program serves these groups; `None` for an address
-    /// above 253, or more than 16 groups, where no memory is taken. An error where memory is refused.
+    /// A controller of this NAME that will claim this address, whose program serves these groups, and subscribes these, or all
+    /// where there are none: of others it receives neither frames nor broadcasts in packets, and misses none. `None` for an address
+    /// above 253, more than 16 groups served, or more than 64 subscribed, where no memory is taken. An error where memory is refused.
     pub fn new(
         alloc: Global,
         name: Name,
         address: u8,
         served: &[Pgn],
+        subscribed: Option<&[Pgn]>,
     ) -> Result<Option<Controller>, AllocError>
-        ensures known { IfOk result (λ found. IsSome found ↔ (IsAddress address × (length served.now ≤ 16))) }
-        ensures is { IfOk result (λ found. IfSome found (λ c. Is (record
-            { name = name_raw name; address = address; served = map pgn_raw served.now; known = [] }) [] c)) }
-        ensures refused { OnErr result (IsAddress address × (length served.now ≤ 16)) }
+        ensures known { IfOk result (λ found. IsSome found ↔ (IsAddress address × (length served.now ≤ 16)
+            × AreFew (option_map (λ g. map pgn_raw g.now) subscribed.entry))) }
+        ensures is { IfOk result (λ found. IfSome found (λ c. Is (record {
+          name = name_raw name;
+          address = address;
+          served = map pgn_raw served.now;
+          subscribed = option_map (λ g. map pgn_raw g.now) subscribed.entry;
+          known = [];
+        }) [] c)) }
+        ensures refused { OnErr result (IsAddress address × (length served.now ≤ 16)
+            × AreFew (option_map (λ g. map pgn_raw g.now) subscribed.entry)) }
     {
         if !is_address(address) {
             return Ok(None);
         }
         let Some(served) = numbers(served) else {
+            return Ok(None);
+        };
+        let Some(subscribed) = subscriptions(subscribed) else {
             return Ok(None);
         };
         let Some(incoming) = Incoming::new(alloc, address)? else {
@@ -96,6 +108,7 @@ impl Controller {
                 name,
                 address,
                 served,
+                subscribed,
             },
             hold: Hold::new(),
             outgoing: ArrayVec::new(),
@@ -169,7 +182,7 @@ impl Controller {
         None
     }
 
-    /// Begins anew at another address, which it will claim: with the same NAME and served groups, with what it knows of who holds
+    /// Begins anew at another address, which it will claim: with the same NAME and groups, with what it knows of who holds
     /// which address, and with nothing else, as a controller that `new` gives. What was due is dropped, a session too, without a
     /// frame. False, where nothing changes, for an address above 253, or as long as something that was accepted isn't told to have
     /// ended, or something received or news wasn't taken.
@@ -251,7 +264,7 @@ impl Controller {
         let is_replaced = is_replaced(before, self.peer());
         let is_left = !is_same(speaker, self.speaker());
         self.hearing.leave(is_left);
-        let unheard = self.hearing.hear(frame, self.incoming.clock);
+        let unheard = self.hearing.hear(&self.own, frame, self.incoming.clock);
         let is_lost = self.hold.is_lost();
         let calls = self.own.calls_for_claim(is_lost, frame);
         let another = self.own.is_another(is_held, frame);
@@ -339,6 +352,21 @@ impl Controller {
                     Some(frame)
                 }
             },
+        }
+    }
+
+    /// A request for the claims of all (255), or of an address, from the null address: where no address is held, it may go at any
+    /// moment, before the first claim too (J1939-81, 4.2.1). `None` where one is held, or for 254. What answers it is heard as any
+    /// claim is; then `free_address` tells where to move.
+    pub fn claims_request(&self, now: Stamp, to: u8) -> Option<Frame>
+        ensures { (w : Who) (H : List Call) → Is w H self.now
+            → option_map stamped result ≡ next_claims_request w H (stamp_micros now) to }
+    {
+        let is_held = self.hold.passed(now).is_held();
+        if !is_held && (to == GLOBAL_ADDRESS || to < NULL_ADDRESS) {
+            asking::claims_request(to, now)
+        } else {
+            None
         }
     }
 
@@ -473,7 +501,7 @@ impl Controller {
 
     /// Asks an address, or all (255), for a group, by a message of priority 6; answers its token, one of those of `send`, to which
     /// `take_ended` tells that its frame was taken. `Full` while one is accepted and not told by `take_ask_ended`, or sixteen
-    /// messages are.
+    /// messages are. The answer itself is received like any message: subscribe its group, unless it comes by a transfer.
     pub fn ask(&mut self, now: Stamp, group: Pgn, to: u8) -> Result<u64, Refused>
         ensures { (w : Who) (H : List Call) → Is w H self.old
             → Is w (Ask (stamp_micros now) (pgn_raw group) to result ∷ H) self.new }
@@ -522,8 +550,9 @@ impl Controller {
     /// The message of 9 to 1,785 bytes that came in packets to its address, until `release_transfer` is called. Till then another
     /// is refused (abort 2), so what was acknowledged lies here.
     pub fn received_transfer(&self) -> Option<Message<'_>>
-        ensures { (w : Who) (H : List Call) → Is w H self.now
+        ensures value { (w : Who) (H : List Call) → Is w H self.now
             → option_map (λ m. (stamp_micros m.stamp, message_shown m)) result ≡ (reception w H).waits }
+        ensures most { IfSome result (λ m. length m.payload.now ≤ 1785) }
     {
         self.incoming.message()
     }
@@ -540,8 +569,9 @@ impl Controller {
     /// The message of 9 to 1,785 bytes that came in packets to all, until `release_broadcast` is called. Till then no other is
     /// heard; such are counted in `missed`.
     pub fn received_broadcast(&self) -> Option<Message<'_>>
-        ensures { (w : Who) (H : List Call) → Is w H self.now
+        ensures value { (w : Who) (H : List Call) → Is w H self.now
             → option_map (λ m. (stamp_micros m.stamp, message_shown m)) result ≡ waiting w H }
+        ensures most { IfSome result (λ m. length m.payload.now ≤ 1785) }
     {
         self.hearing.message()
     }

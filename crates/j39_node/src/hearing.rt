@@ -1,5 +1,5 @@
 //! Broadcasts in packets that are heard, one at a time (J1939-21, 5.10.3.5 and 5.13.3).
-ghost use Rattle.std.specs.Prelude.{◌≡◌, ◌&&◌, ◌||◌, not, true, false, ◌+◌, ◌*◌, ◌≤◌, ◌<◌, ◌^◌, length, min, nat_eq, slice_index, None, Some, if◌then◌else◌, IsSome, IfSome, ◌↔◌};
+ghost use Rattle.std.specs.Prelude.{◌≡◌, [], ◌&&◌, ◌||◌, not, true, false, ◌+◌, ◌*◌, ◌≤◌, ◌<◌, ◌^◌, length, min, nat_eq, slice_index, None, Some, if◌then◌else◌, IsSome, IfSome, ◌↔◌};
 ghost use Rattle.std.specs.Option.{option_map};
 ghost use Rattle.j39_frame.specs.Identifier.{source_of};
 ghost use Rattle.j39_frame.specs.Pgn.{pgn_raw};
@@ -7,12 +7,11 @@ ghost use Rattle.j39_frame.specs.Stamp.{stamp_micros};
 ghost use Rattle.j39_transport.specs.Frames.{agree, goes, pgn_named, size_named};
 ghost use Rattle.j39_transport.specs.Key.{Broadcast, is_key};
 ghost use Rattle.j39_transport.specs.ReceiverModel.{message_shown};
-ghost use Rattle.j39_node.specs.History.{is_own_group};
 ghost use Rattle.j39_node.specs.Reception.{has_place};
-ghost use Rattle.j39_node.specs.Hearing.{IsFit, announces, goes_on, has_room, begun, hears, is_late, is_unheard, is_whole, left, opens, packed, packs, whole_of};
-ghost use Rattle.j39_node.specs.Is.{broadcast_by, hearing_of, is_out};
+ghost use Rattle.j39_node.specs.Hearing.{IsFit, announces, goes_on, has_room, begun, hears, is_late, is_ignored, is_unheard, is_whole, left, opens, packed, packs, whole_of};
+ghost use Rattle.j39_node.specs.Is.{broadcast_by, hearing_of, is_out, who_of};
 
-use crate::own::{TRANSPORT_CONTROL, TRANSPORT_DATA, is_own_group};
+use crate::own::{Own, TRANSPORT_CONTROL, TRANSPORT_DATA, is_own_group};
 use arrayvec::ArrayVec;
 use j39_frame::{Frame, GLOBAL_ADDRESS, NULL_ADDRESS, Pgn, Stamp};
 use j39_transport::{LONGEST, Message, SHORTEST};
@@ -154,15 +153,15 @@ impl Hearing {
     }
 
     /// A frame was heard at this time; whether it announces a message for the program that isn't heard.
-    pub(crate) fn hear(&mut self, frame: &Frame, time: Stamp) -> bool
-        ensures unheard { result ≡ is_unheard (stamp_micros time) frame.now (hearing_of self.old).current }
+    pub(crate) fn hear(&mut self, own: &Own, frame: &Frame, time: Stamp) -> bool
+        ensures unheard { result ≡ is_unheard (who_of [] own.now) (stamp_micros time) frame.now (hearing_of self.old).current }
         ensures missed { self.new.missed
             ≡ (if result then min (self.old.missed + 1) 18446744073709551615 else self.old.missed) }
         ensures current { IsFit (hearing_of self.old).current → (hearing_of self.new).current
-            ≡ hears (stamp_micros time) frame.now (hearing_of self.old).current }
+            ≡ hears (who_of [] own.now) (stamp_micros time) frame.now (hearing_of self.old).current }
     {
         match Announcement::of(frame) {
-            Some(announcement) => self.announce(announcement, frame, time),
+            Some(announcement) => self.announce(own, announcement, frame, time),
             None => {
                 if is_to_all(frame, TRANSPORT_DATA) {
                     self.pack(frame, time);
@@ -174,7 +173,8 @@ impl Hearing {
 
     /// The broadcast that waits for the program.
     pub(crate) fn message(&self) -> Option<Message<'_>>
-        ensures { option_map (λ m. (stamp_micros m.stamp, message_shown m)) result ≡ whole_of (hearing_of self.now).current }
+        ensures value { option_map (λ m. (stamp_micros m.stamp, message_shown m)) result ≡ whole_of (hearing_of self.now).current }
+        ensures most { IfSome result (λ m. length m.payload.now ≤ 1785) }
     {
         match &self.current {
             Some(heard) => {
@@ -226,27 +226,33 @@ impl Hearing {
     }
 
     /// A message is announced.
-    fn announce(&mut self, announcement: Announcement, frame: &Frame, time: Stamp) -> bool
+    fn announce(
+        &mut self,
+        own: &Own,
+        announcement: Announcement,
+        frame: &Frame,
+        time: Stamp,
+    ) -> bool
         requires group { pgn_raw announcement.group ≡ pgn_named frame.now }
         requires size { announcement.size ≡ size_named frame.now }
-        ensures unheard { result ≡ (not (is_own_group (pgn_named frame.now))
+        ensures unheard { result ≡ (not (is_ignored (who_of [] own.now) (pgn_named frame.now))
             && not (has_room (stamp_micros time) (source_of frame.now.id) (hearing_of self.old).current)) }
         ensures missed { self.new.missed
             ≡ (if result then min (self.old.missed + 1) 18446744073709551615 else self.old.missed) }
         ensures current { (hearing_of self.new).current
             ≡ (if has_room (stamp_micros time) (source_of frame.now.id) (hearing_of self.old).current
-            then opens (stamp_micros time) frame.now else (hearing_of self.old).current) }
+            then opens (who_of [] own.now) (stamp_micros time) frame.now else (hearing_of self.old).current) }
     {
-        let is_own = is_own_group(announcement.group);
+        let is_ignored = is_own_group(announcement.group) || !own.is_subscribed(announcement.group);
         if self.has_room(frame.id.source(), time) {
-            self.current = if is_own {
+            self.current = if is_ignored {
                 None
             } else {
                 Some(Heard::new(announcement, frame, time))
             };
             return false;
         }
-        if is_own {
+        if is_ignored {
             return false;
         }
         self.missed = self.missed.saturating_add(1);

@@ -6,7 +6,7 @@ ghost use Rattle.j39_address.specs.Claim.{claim_of};
 ghost use Rattle.j39_transport.specs.Frames.{pgn_named};
 ghost use Rattle.j39_transport.specs.Message.{MessageRecord};
 ghost use Rattle.j39_node.specs.declared.controller.Controller.{Controller};
-ghost use Rattle.j39_node.specs.History.{Who, Call, is_claim, is_own_group};
+ghost use Rattle.j39_node.specs.History.{Who, Call, is_claim, is_own_group, is_subscribed};
 ghost use Rattle.j39_node.specs.History.Call.{Hear, ReleaseBroadcast, TakeFrame};
 ghost use Rattle.j39_node.specs.Hearing.{OpenBroadcast, WasBroadcast, announces, begun, found, got_broadcasts, grown, hearing, is_late, is_whole, made_whole, packs, touched, unheard, unheard_news, waiting, whole_broadcasts};
 ghost use Rattle.j39_node.specs.Is.{Is};
@@ -22,14 +22,18 @@ pub fn broadcasts_received()
         → WasBroadcast w (Hear f ∷ H) x.1 }
 {}
 
-/// An announcement of a message for the program is heard or counted. It is counted only where one waits, or one of another source is open
-/// and in time.
+/// An announcement of a message for the program, of a group that is subscribed, is heard or counted. It is counted only where one waits, or
+/// one of another source is open and in time. What isn't for the program is never counted, nor whole.
 pub fn announcements_heard()
     ensures heard { (w : Who) (H : List Call) (f : FrameRecord) → announces f ≡ true → is_own_group (pgn_named f) ≡ false
+        → IsTrue (is_subscribed w (pgn_named f))
         → (hearing w (Hear f ∷ H) ≡ Some (begun (time_heard (Hear f ∷ H)) f)) ⊎ (unheard w (Hear f ∷ H) ≡ suc (unheard w H)) }
     ensures counted { (w : Who) (H : List Call) (f : FrameRecord) → unheard w (Hear f ∷ H) ≢ unheard w H
-        → IsTrue (announces f) × ((x : OpenBroadcast) × (found w H f ≡ Some x)
+        → IsTrue (announces f) × IsTrue (is_subscribed w (pgn_named f)) × (is_own_group (pgn_named f) ≡ false)
+        × ((x : OpenBroadcast) × (found w H f ≡ Some x)
         × (IsTrue (is_whole x) ⊎ ((source_of f.id ≢ x.source) × (is_late (time_heard (Hear f ∷ H)) x ≡ false)))) }
+    ensures subscribed { (w : Who) (H : List Call) (f : FrameRecord) (x : ℕ × MessageRecord) → made_whole w H f ≡ Some x
+        → IsTrue (is_subscribed w x.1.pgn) × (is_own_group x.1.pgn ≡ false) }
     ensures news { (w : Who) (H : List Call) → IsTrue (unheard_news w H) → 0 < unheard w H }
 {}
 

@@ -228,7 +228,8 @@ impl Incoming {
 
     /// The message that waits.
     pub(crate) fn message(&self) -> Option<Message<'_>>
-        ensures { option_map (λ m. (stamp_micros m.stamp, message_shown m)) result ≡ (incoming_of self.now).reception.waits }
+        ensures value { option_map (λ m. (stamp_micros m.stamp, message_shown m)) result ≡ (incoming_of self.now).reception.waits }
+        ensures most { IfSome result (λ m. length m.payload.now ≤ 1785) }
     {
         match &self.place {
             Some(kept) => Some(Message {

@@ -18,7 +18,7 @@ ghost use Rattle.j39_node.specs.declared.kinds.News.{News};
 ghost use Rattle.j39_node.specs.declared.kinds.News.TheVariants as news;
 ghost use Rattle.j39_node.specs.declared.kinds.Refused.{Refused};
 ghost use Rattle.j39_node.specs.declared.kinds.Refused.TheVariants as refused;
-ghost use Rattle.j39_node.specs.History.{Who, is_smaller, Asked, Call, Message, Draft, IsFront, accepted, acknowledgment, acknowledgment_group, asked, handed, is_served, requests, lost_news, another_news, missed_news, address_after, calls_for_claim, can_send, claim_address, claim_from, content, acknowledged, due, frames, got, heard, holds, is_held, is_lost, kept, message_of, missed, moment, owes_claim, sent, step, told, all_frames, broadcasts, can_broadcast, first_frames, frame_of, has_packets, is_acknowledgment, is_claim, is_packet, is_transfer, open_broadcast, packets, told_broadcasts};
+ghost use Rattle.j39_node.specs.History.{Who, is_smaller, Asked, Call, Message, Draft, IsFront, accepted, acknowledgment, acknowledgment_group, asked, handed, is_served, requests, lost_news, another_news, missed_news, address_after, calls_for_claim, can_send, claim_address, claim_from, content, acknowledged, due, frames, got, heard, holds, is_held, is_lost, is_subscribed, kept, message_of, missed, moment, owes_claim, sent, step, told, all_frames, broadcasts, can_broadcast, first_frames, frame_of, has_packets, is_acknowledgment, is_claim, is_packet, is_transfer, open_broadcast, packets, told_broadcasts};
 ghost use Rattle.j39_node.specs.History.Call.{Acknowledge, Broadcast, TakeBroadcastEnded, ReleaseTransfer, Hear, TakeNews, Tick, TakeFrame, TakeRequest, Send, TakeEnded, TakeReceived, Transfer, TakeTransferEnded};
 ghost use Rattle.j39_node.specs.Reception.{CameFromOne, delivered, got_transfers, heard_at, holder, is_move, listed, next_tick, reception, replied, reply_from, says, time_heard, whole, without};
 ghost use Rattle.j39_transport.specs.Cutting.{ToSend};
@@ -98,13 +98,16 @@ pub fn refused_means()
 {}
 
 /// What was heard for the program and kept is got in order, each once, and nothing else; where none is got, all that was kept
-/// is got. All but what was kept is missed, and one is missed only where sixteen lie unread.
+/// is got. All but what was kept is missed, and one is missed only where sixteen lie unread. What is of a group that isn't subscribed is
+/// neither kept nor missed.
 pub fn received()
     ensures in_order { (w : Who) (H : List Call) (c : Controller) → Is w H c → IsFront (got H) (kept w H) }
     ensures all { (w : Who) (H : List Call) (c : Controller) → Is w (TakeReceived None ∷ H) c → got H ≡ kept w H }
     ensures counted { (w : Who) (H : List Call) → length (kept w H) + missed w H ≡ length (heard w H) }
     ensures room { (w : Who) (H : List Call) (f : FrameRecord) → missed w (Hear f ∷ H) ≢ missed w H
         → length (got H) + 16 ≤ length (kept w H) }
+    ensures subscribed { (w : Who) (H : List Call) (f : FrameRecord) → is_subscribed w (pgn_of f.id) ≡ false
+        → (kept w (Hear f ∷ H) ≡ kept w H) × (missed w (Hear f ∷ H) ≡ missed w H) }
 {}
 
 /// After a frame was heard that a claim answers (another's claim of the address, or a request for claims), the next frame taken

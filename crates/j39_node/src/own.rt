@@ -6,7 +6,7 @@ ghost use Rattle.j39_frame.specs.Identifier.{pgn_of, id_raw, destination_of};
 ghost use Rattle.j39_frame.specs.Pgn.{pgn_raw};
 ghost use Rattle.j39_frame.specs.Stamp.{stamp_micros};
 ghost use Rattle.j39_address.specs.Claim.{claim_of};
-ghost use Rattle.j39_node.specs.History.{is_smaller, is_larger, asked_group, is_some, is_none, is_asked, calls_for_claim, is_for_program, is_own_group, claim_from, claim_with, carried, is_another, is_served};
+ghost use Rattle.j39_node.specs.History.{is_smaller, is_larger, asked_group, is_some, is_none, is_asked, calls_for_claim, is_for_program, is_own_group, is_subscribed, has_group, AreFew, claim_from, claim_with, carried, is_another, is_served};
 ghost use Rattle.j39_frame.specs.Address.{IsAddress};
 
 use crate::requests::Due;
@@ -29,12 +29,14 @@ pub(crate) const TRANSPORT_CONTROL: u32 = 60_416;
 
 pub(crate) const TRANSPORT_DATA: u32 = 60_160;
 
-/// The NAME of a controller, the address that it claims, and the groups that its program serves.
+/// The NAME of a controller, the address that it claims, and the groups that its program serves and subscribed.
 #[derive(Drop)]
 pub(crate) struct Own {
     pub(crate) name: Name,
     pub(crate) address: u8,
     pub(crate) served: ArrayVec<u32, 16>,
+    /// All where there is none.
+    pub(crate) subscribed: Option<ArrayVec<u32, 64>>,
     pub ghost fits: { IsAddress address },
 }
 
@@ -82,7 +84,8 @@ impl Own {
         ensures { result ≡ is_for_program (who_of [] self.now) is_held frame.now }
     {
         frame.id.source() < NULL_ADDRESS
-            && !(is_own_group(frame.id.pgn()) || frame.id.is_request())
+            && (self.is_subscribed(frame.id.pgn())
+                && !(is_own_group(frame.id.pgn()) || frame.id.is_request()))
             && (is_undirected(frame)
                 || is_to(frame, GLOBAL_ADDRESS)
                 || (is_to(frame, self.address) && is_held))
@@ -100,6 +103,16 @@ impl Own {
         ensures { result ≡ is_served (who_of [] self.now) (pgn_raw group) }
     {
         is_among(self.served.as_slice(), group.raw())
+    }
+
+    /// Whether its program subscribed the group.
+    pub(crate) fn is_subscribed(&self, group: Pgn) -> bool
+        ensures { result ≡ is_subscribed (who_of [] self.now) (pgn_raw group) }
+    {
+        match &self.subscribed {
+            Some(groups) => is_among(groups.as_slice(), group.raw()),
+            None => true,
+        }
     }
 
     /// The acknowledgment of a request.
@@ -120,15 +133,40 @@ impl Own {
     }
 }
 
-fn is_among(served: &[u32], group: u32) -> bool
-    ensures { result ≡ list_any (λ g. g == group) served.now }
+fn is_among(groups: &[u32], group: u32) -> bool
+    ensures { result ≡ list_any (λ g. g == group) groups.now }
 {
-    served.iter().any(|listed| *listed == group)
+    groups.iter().any(|listed| *listed == group)
 }
 
 /// The numbers of these groups; `None` for more than 16.
 pub(crate) fn numbers(groups: &[Pgn]) -> Option<ArrayVec<u32, 16>>
     ensures known { IsSome result ↔ (length groups.now ≤ 16) }
+    ensures value { IfSome result (λ numbers. numbers.items ≡ map pgn_raw groups.now) }
+{
+    let mut numbers = ArrayVec::new();
+    for group in groups {
+        numbers.try_push(group.raw()).ok()?;
+    }
+    Some(numbers)
+}
+
+/// The numbers of the groups that are subscribed, or all; `None` for more than 64.
+pub(crate) fn subscriptions(groups: Option<&[Pgn]>) -> Option<Option<ArrayVec<u32, 64>>>
+    ensures known { IsSome result ↔ AreFew (option_map (λ g. map pgn_raw g.now) groups.entry) }
+    ensures value { IfSome result (λ numbers. option_map (λ n. n.items) numbers ≡ option_map (λ g. map pgn_raw g.now) groups.entry) }
+{
+    match groups {
+        Some(groups) => {
+            let numbers = few(groups)?;
+            Some(Some(numbers))
+        }
+        None => Some(None),
+    }
+}
+
+fn few(groups: &[Pgn]) -> Option<ArrayVec<u32, 64>>
+    ensures known { IsSome result ↔ (length (map pgn_raw groups.now) ≤ 64) }
     ensures value { IfSome result (λ numbers. numbers.items ≡ map pgn_raw groups.now) }
 {
     let mut numbers = ArrayVec::new();

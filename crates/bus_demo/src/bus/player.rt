@@ -1,11 +1,12 @@
 //! A controller of the demo: the stack's own, with what it sends of its own accord.
 ghost use Rattle.std.specs.Prelude.{◌≡◌, ◌↔◌, ◌⊎◌, ◌+◌, ◌<◌, ◌≤◌, ◌^◌, [], IfOk, IfSome, IsOk, IsSome, IsTrue, List, None, OnOk, length};
-ghost use Rattle.std.specs.Option.{option_map};
+ghost use Rattle.std.specs.Option.{is_some, option_map};
 ghost use Rattle.j39_frame.specs.Address.{IsAddress};
 ghost use Rattle.j39_frame.specs.Stamp.{stamp_micros};
 ghost use Rattle.j39_address.specs.Name.{name_raw};
 ghost use Rattle.j39_node.specs.History.{Who, Call};
 ghost use Rattle.j39_node.specs.Is.{Is};
+ghost use Rattle.j39_node.specs.Reception.{next_tick};
 ghost use Rattle.bus_demo.specs.Calls.{Calls, Takes, held_after, is_handing};
 ghost use Rattle.bus_demo.specs.Fates.{IsOf};
 ghost use Rattle.bus_demo.specs.Moving.{Moves};
@@ -78,8 +79,10 @@ impl Player {
         self.name
     }
 
-    /// Whether a message comes to it in packets.
-    pub fn is_receiving(&self) -> bool {
+    /// Whether a message comes to it in packets: it waits for the next.
+    pub fn is_receiving(&self) -> bool
+        ensures { (w : Who) (H : List Call) → Is w H (controller_of self.now) → result ≡ is_some (next_tick w H) }
+    {
         self.station.is_receiving()
     }
 

@@ -1,6 +1,6 @@
 //! A controller, and the numbers that the book has for what it was handed.
 ghost use Rattle.std.specs.Prelude.{◌≡◌, ◌↔◌, ◌++◌, ℕ, [], Bool, IfOk, IfSome, IsSome, IsTrue, List, OnOk, Option, false, length, slice_get, true};
-ghost use Rattle.std.specs.Option.{option_map};
+ghost use Rattle.std.specs.Option.{is_some, option_map};
 ghost use Rattle.j39_node.specs.declared.kinds.TransferEnding.{TransferEnding};
 ghost use Rattle.j39_frame.specs.Address.{IsAddress};
 ghost use Rattle.j39_frame.specs.Stamp.{stamp_micros};
@@ -10,7 +10,7 @@ ghost use Rattle.j39_node.specs.History.Call.{ReleaseTransfer, TakeTransferEnded
 ghost use Rattle.j39_node.specs.Hearing.{waiting};
 ghost use Rattle.j39_node.specs.Is.{Is, next_frame, stamped};
 ghost use Rattle.j39_node.specs.Moving.{IsSettled};
-ghost use Rattle.j39_node.specs.Reception.{reception};
+ghost use Rattle.j39_node.specs.Reception.{next_tick, reception};
 ghost use Rattle.j39_node.specs.Transfers.{next_transfer_ended};
 ghost use Rattle.bus_demo.specs.Calls.{Calls, Continues, Heard, Takes, Ticked, command_to, held_after, is_handing, is_taking};
 ghost use Rattle.bus_demo.specs.Moving.{MovesIfLost, MovesTo};
@@ -23,10 +23,6 @@ use j39_address::{Name, Status, commanded_of};
 use j39_frame::{Frame, GLOBAL_ADDRESS, Pgn, Stamp};
 use j39_node::{Controller, Refused, TransferEnding};
 use std::alloc::{AllocError, Global};
-
-/// How long a destination rests after a transfer to it that wasn't acknowledged, in microseconds: till then its receiver may
-/// still ask for packets of that one (docs/RULES.md).
-const REST: u64 = 4_000_000;
 
 /// A message that is to be sent.
 #[derive(Drop)]
@@ -54,8 +50,6 @@ pub struct Station {
     singles: ArrayVec<usize, 16>,
     broadcast: Option<usize>,
     transfer: Option<usize>,
-    /// Before this moment no transfer begins.
-    rests: u64,
 }
 
 impl Station {
@@ -63,9 +57,9 @@ impl Station {
     pub fn new(alloc: Global, name: Name, address: u8) -> Result<Option<Station>, AllocError>
         ensures known { IfOk result (λ found. IsSome found ↔ IsAddress address) }
         ensures fresh { IfOk result (λ found. IfSome found (λ station. Is (record
-            { name = name_raw name; address = address; served = []; known = [] }) [] station.controller)) }
+            { name = name_raw name; address = address; served = []; subscribed = None; known = [] }) [] station.controller)) }
     {
-        let Some(controller) = Controller::new(alloc, name, address, &[])? else {
+        let Some(controller) = Controller::new(alloc, name, address, &[], None)? else {
             return Ok(None);
         };
         Ok(Some(Station {
@@ -73,7 +67,6 @@ impl Station {
             singles: ArrayVec::new(),
             broadcast: None,
             transfer: None,
-            rests: 0,
         }))
     }
 
@@ -89,9 +82,14 @@ impl Station {
         }
     }
 
-    /// Whether a message comes to it in packets.
-    pub fn is_receiving(&self) -> bool {
-        self.controller.next_tick().is_some()
+    /// Whether a message comes to it in packets: it waits for the next.
+    pub fn is_receiving(&self) -> bool
+        ensures { (w : Who) (H : List Call) → Is w H self.now.controller → result ≡ is_some (next_tick w H) }
+    {
+        match self.controller.next_tick() {
+            Some(_due) => true,
+            None => false,
+        }
     }
 
     /// The frame that it would send now.
@@ -200,9 +198,6 @@ impl Station {
     fn transfer(&mut self, draft: &Draft<'_>, to: u8, number: usize, now: Stamp) -> bool
         ensures { Calls (is_handing (stamp_micros now)) self.old.controller self.new.controller }
     {
-        if now.micros() < self.rests {
-            return false;
-        }
         let answer = self.controller.transfer(now, draft.pgn, to, draft.payload);
         self.transfer = numbered(&answer, number, self.transfer);
         answer.is_ok()
@@ -214,7 +209,7 @@ impl Station {
         ensures count { length book.new.handed.items ≡ length book.old.handed.items }
     {
         self.controller.tick(now);
-        self.settle(now, book)?;
+        self.settle(book)?;
         self.withdraw(book);
         Ok(())
     }
@@ -227,7 +222,7 @@ impl Station {
         ensures count { length book.new.handed.items ≡ length book.old.handed.items }
     {
         self.controller.hear(frame);
-        self.settle(frame.stamp, book)?;
+        self.settle(book)?;
         self.deliver(book)?;
         self.withdraw(book);
         self.clear();
@@ -277,7 +272,7 @@ impl Station {
     }
 
     /// Notes how a transfer ended.
-    fn settle(&mut self, now: Stamp, book: &mut Book) -> Result<(), AllocError>
+    fn settle(&mut self, book: &mut Book) -> Result<(), AllocError>
         ensures done { OnOk result ((w : Who) (H : List Call) → Is w H self.old.controller
             → book.new.done.items ≡ book.old.done.items ++ done_by (next_transfer_ended w H) self.old.transfer) }
         ensures calls { (answer : Option (ℕ × TransferEnding))
@@ -298,7 +293,6 @@ impl Station {
             TransferEnding::Failed(_) => book.settle(number, Fate::Lost),
             TransferEnding::Gone => book.settle(number, Fate::Lost),
         }
-        self.rests = now.micros().saturating_add(REST);
         Ok(())
     }
 

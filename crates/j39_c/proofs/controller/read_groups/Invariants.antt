@@ -7,5 +7,5 @@ use Rattle.j39_c.proofs.controller.read_groups.Given as goal
 -- the groups so far
 abbrev pub invariant-loop-place : goal.invariant-loop-place
 invariant-loop-place l =
-    (list_all (λ group. nat_lt group 262144) (take l.place l.served) ≡ true)
-    × ((map pgn_raw (take l.place l.groups) ≡ take l.place l.served) × (length l.groups ≡ 16))
+    (list_all (λ group. nat_lt group 262144) (take l.place l.numbers) ≡ true)
+    × ((map pgn_raw (take l.place l.groups) ≡ take l.place l.numbers) × (length l.groups ≡ 64))

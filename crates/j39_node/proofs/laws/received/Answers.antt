@@ -10,5 +10,8 @@ returns-clause-all c = law.all_got
 pub returns-clause-counted : goal.returns-clause-counted
 returns-clause-counted c = law.counted
 
+pub returns-clause-subscribed : goal.returns-clause-subscribed
+returns-clause-subscribed c = law.not_subscribed
+
 pub returns-clause-room : goal.returns-clause-room
 returns-clause-room c = law.missed_full

@@ -1,5 +1,5 @@
 -- Before its loop turned first it has none.
-use Rattle.std.proofs.Common.{◌≡◌, ◌<◌, arith, refl}
+use Rattle.std.proofs.Common.{◌<◌, arith, refl}
 use Rattle.j39_frame.specs.Stamp.{stamp_micros}
 use Rattle.bus_demo.proofs.bus.player.Player.wish.Goals as goal
 

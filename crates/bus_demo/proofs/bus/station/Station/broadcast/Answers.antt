@@ -4,7 +4,7 @@ use Rattle.j39_frame.specs.Pgn.{pgn_raw}
 use Rattle.j39_frame.specs.Stamp.{stamp_micros}
 use Rattle.j39_node.specs.History.Call.{Broadcast}
 use Rattle.bus_demo.specs.Calls.{is_handing}
-use Rattle.bus_demo.proofs.CallLemmas.{calls_none, calls_one}
+use Rattle.bus_demo.proofs.CallLemmas.{calls_one}
 use Rattle.bus_demo.proofs.bus.station.Station.broadcast.Goals as goal
 
 pub returns : goal.returns

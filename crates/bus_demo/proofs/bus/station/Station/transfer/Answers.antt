@@ -4,7 +4,7 @@ use Rattle.j39_frame.specs.Pgn.{pgn_raw}
 use Rattle.j39_frame.specs.Stamp.{stamp_micros}
 use Rattle.j39_node.specs.History.Call.{Transfer}
 use Rattle.bus_demo.specs.Calls.{is_handing}
-use Rattle.bus_demo.proofs.CallLemmas.{calls_none, calls_one}
+use Rattle.bus_demo.proofs.CallLemmas.{calls_one}
 use Rattle.bus_demo.proofs.bus.station.Station.transfer.Goals as goal
 
 pub returns : goal.returns
@@ -12,6 +12,3 @@ returns c =
     let now = stamp_micros c.args.now in
     let call = Transfer now (pgn_raw c.args.draft.now.pgn) c.args.to c.args.draft.now.payload.now c.transfer-answer.result in
     calls_one (is_handing now) call _ _ (eq-eqb now now refl) c.transfer-answer.ensures
-
-pub returns-then-micros-self : goal.returns-then-micros-self
-returns-then-micros-self c = calls_none (is_handing (stamp_micros c.args.now)) c.args.self.now.controller
