@@ -1,7 +1,5 @@
 -- The object of an entry of a report (RFC 8259; own): a line for each, its members in this order.
-use Rattle.std.specs.Prelude.{◌∷◌, ◌++◌, ℕ, List, [], Option, None, Some, codes, decimal, option_map}
-use Rattle.std.specs.Int.{to_be_bytes, w64}
-use Rattle.hex.specs.Hex.{encode_upper}
+use Rattle.std.specs.Prelude.{◌++◌, ℕ, List, Option, None, Some, codes, decimal, option_map}
 use Rattle.j39_groups.specs.Names.{group_name_in, name_in, state_in}
 use Rattle.j39_groups.specs.Row.{RowRecord}
 use Rattle.j39_groups.specs.Value.{ValueRecord, number, on, off, error, reserved, indicator, text}

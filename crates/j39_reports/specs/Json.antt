@@ -1,5 +1,5 @@
 -- Strings of JSON (RFC 8259, 7; own).
-use Rattle.std.specs.Prelude.{◌==◌, ◌||◌, ◌∷◌, ◌++◌, ℕ, Bool, List, [], Option, None, Some, codes, if◌then◌else◌, nat_lt, option_map}
+use Rattle.std.specs.Prelude.{◌==◌, ◌||◌, ◌∷◌, ◌++◌, ℕ, Bool, List, [], Option, codes, if◌then◌else◌, nat_lt, option_map}
 use Rattle.std.specs.Str.{is_utf8}
 use Rattle.std.specs.Str.Lossy.{utf8_lossy}
 use Rattle.std.specs.List.{flat_map}

@@ -2,7 +2,7 @@
 use Rattle.std.proofs.Common.{◌∙◌, ap}
 use Rattle.j39_faults.specs.Text.{lamps_told}
 use Rattle.j39_io.proofs.PutsLemmas.{puts_as, puts_first, puts_then}
-use Rattle.j39_reports.specs.FaultRecords.{meaning_field, text_members}
+use Rattle.j39_reports.specs.FaultRecords.{text_members}
 use Rattle.j39_reports.proofs.fault_news.objects.put_members_with.Goals as goal
 
 pub returns-in_err-put_word : goal.returns-in_err-put_word
