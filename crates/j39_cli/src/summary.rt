@@ -76,7 +76,7 @@ pub(crate) fn task<'a>(alloc: Global, given: &ArgMatches<'a>) -> Result<Task<'a>
             asked,
             format,
         }),
-        None => Err(ParseFault::BadValue(Argument::Forms)),
+        Err(fault) => Err(fault),
     }
 }
 

@@ -14,7 +14,7 @@ use Rattle.j39_groups.specs.Row.{RowRecord}
 use Rattle.j39_groups.specs.ValueText.{value_text}
 use Rattle.j39_listen.specs.Asking.{AsksForBoxes, Wanting}
 use Rattle.j39_listen.specs.Counting.{capped}
-use Rattle.j39_listen.specs.Heard.{AreHeard, AreHeardWith, Hearing}
+use Rattle.j39_listen.specs.Heard.{AreHeard, AreHeardWith, HeardAt, Hearing}
 use Rattle.j39_listen.specs.Output.{Making}
 use Rattle.j39_listen.specs.Report.{Entry, entries_of, name_text}
 use Rattle.j39_log.specs.StampText.{stamp_text}
@@ -24,7 +24,7 @@ use Rattle.j39_reports.specs.FaultsNowRun.{IsFirstActive}
 use Rattle.j39_reports.specs.News.{is_fault_group}
 use Rattle.j39_reports.specs.RowText.{called_in, destination_text, state_behind}
 use Rattle.j39_reports.specs.Summary.{firsts, last_of, values_like}
-use Rattle.j39_reports.specs.SummaryRun.{AsksForRow}
+use Rattle.j39_reports.specs.SummaryRun.{WantsRow}
 
 -- ---- who is there
 
@@ -205,6 +205,18 @@ MakesWatch groups size bus F output =
     (before : List ℕ) × (last : List ℕ) × AreDrawn groups size F (length F) before
     × IsScreen groups size F last output.messages output.lines × (output.text ≡ before ++ last)
 
--- where it may want memory: for a message in packets, for a row of a value or its text, and for the first DM1 of an address
+-- behind the frames F a message is heard at this frame, and one of its entries is the first of its origin, or a text
+pub record AsksForValue (groups : List RowRecord) (F : List FrameRecord) (frame : FrameRecord) : Type 0 where
+  pub heard : List Hearing
+  pub are_heard : AreHeard groups F heard
+  pub now_heard : Hearing
+  pub heard_now : HeardAt groups (F ++ frame ∷ []) (length F) (Some now_heard)
+  pub taken : List Entry
+  pub entry : Entry
+  pub rest : List Entry
+  pub entries_are : entries_of groups now_heard ≡ taken ++ (entry ∷ rest)
+  pub wanted : WantsRow (flat_map (entries_of groups) heard ++ taken) entry
+
+-- where it may want memory: for a message in packets, for such a value, and for the first DM1 of an address
 abbrev pub AsksForWatch : List RowRecord → Wanting
-AsksForWatch groups F frame = AsksForBoxes F frame ⊎ (AsksForRow groups F frame ⊎ IsFirstActive F frame)
+AsksForWatch groups F frame = AsksForBoxes F frame ⊎ (AsksForValue groups F frame ⊎ IsFirstActive F frame)
