@@ -62,11 +62,11 @@ returns-in-Err c =
       in_range = tt;
     }
 
-pub returns-in_default-2 : goal.returns-in_default-2
-returns-in_default-2 c =
+pub returns-in_default-format : goal.returns-in_default-format
+returns-in_default-format c =
     let found = found_of c.args.given.now in
     let told = (λ i. told_by (sym c.is_set.ensures i) (sym c.is_set-2.ensures i) (sym c.is_set-3.ensures i)) ∙ sym c.told_by-told.ensures ∙ c.in-Some.is in
-    let none = sym c.format_given-format.ensures ∙ c.in_default-2.is in
+    let none = sym c.format_given-format.ensures ∙ c.in_default-format.is in
     record {
       answer = bus_read (first_value found (codes "bus")) _ _ _ c.in-Ok.ensures (λ is_bus.
           value_read _ _ _ (first_value found (codes "conversion")) _ _ _ c.in-Ok-conversions_value.ensures (λ is_versions. record {
