@@ -18,12 +18,13 @@ _j1939_options() {
     cut) echo --source --pgn --at --bus --help -h ;;
     groups) echo --table --help -h ;;
     survey) echo --bus --table --help -h ;;
+    watch) echo --bus --table --rows --width --help -h ;;
     id | name) echo --help -h ;;
   esac
 }
 
 _j1939() {
-  local commands='report faults summary nodes answer groups survey id name cut help'
+  local commands='report faults summary nodes answer groups survey watch id name cut help'
   local word=${COMP_WORDS[COMP_CWORD]} before=${COMP_WORDS[COMP_CWORD - 1]} command='' offered=''
   if [ "$COMP_CWORD" -gt 1 ]; then
     command=${COMP_WORDS[1]}
@@ -38,10 +39,10 @@ _j1939() {
     *:--bus:*) offered=$(_j1939_buses) ;;
     *:--table:*) compopt -o default 2>/dev/null ;;
     *:--name:* | *:--address:* | *:--source:* | *:--pgn:* | *:--at:* | *:--spn:* | *:--conversion:* | \
-      *:--from:* | *:--to:* | *:--since:* | *:--until:*) ;;
+      *:--from:* | *:--to:* | *:--since:* | *:--until:* | *:--rows:* | *:--width:*) ;;
     *:-*) offered=$(_j1939_options "$command") ;;
     :* | help:*) offered=$commands ;;
-    report:* | faults:* | summary:* | nodes:* | answer:* | survey:*) compopt -o default 2>/dev/null ;;
+    report:* | faults:* | summary:* | nodes:* | answer:* | survey:* | watch:*) compopt -o default 2>/dev/null ;;
   esac
   mapfile -t COMPREPLY < <(compgen -W "$offered" -- "$word")
 }

@@ -5,7 +5,7 @@ use Rattle.clap.specs.Simple.{filled, with_index}
 use Rattle.clap.specs.Walk.{arg_by_id}
 use Rattle.clap.proofs.OnLiterals.{clap_on_literals}
 use Rattle.j39_cli.specs.Command.{line_app}
-use Rattle.j39_cli.specs.CommandWords.{CommandWords, answer, cut, faults, form_of, groups, id, name, nodes, report, summary, survey}
+use Rattle.j39_cli.specs.CommandWords.{CommandWords, answer, cut, faults, form_of, groups, id, name, nodes, report, summary, survey, watch}
 use Rattle.j39_cli.specs.AnswerCommand.{answer_app}
 use Rattle.j39_cli.specs.CutCommand.{cut_app}
 use Rattle.j39_cli.specs.FaultsCommand.{faults_app}
@@ -16,6 +16,7 @@ use Rattle.j39_cli.specs.NodesCommand.{nodes_app}
 use Rattle.j39_cli.specs.ReportCommand.{report_app}
 use Rattle.j39_cli.specs.SummaryCommand.{summary_app}
 use Rattle.j39_cli.specs.SurveyCommand.{survey_app}
+use Rattle.j39_cli.specs.WatchCommand.{watch_app}
 use Rattle.j39_cli.specs.Form.{option, value}
 use Rattle.j39_cli.specs.Rules.{values_rule}
 use Rattle.j39_cli.proofs.ArgumentLemmas.{before_each, parsed, parsed_each}
@@ -75,3 +76,7 @@ is_parsed program (groups table) = parsed program groups_app (groups table) [] (
 is_parsed program (survey bus table file) =
     parsed_each program survey_app (survey bus table file) [] (before_each (form_of (survey bus table file)).arguments) file_rule file (takes_file refl) refl refl (λ text more. refl)
     (record { step = refl; passes = refl; found = refl; checks = refl }) refl refl (memory_of_bus bus _ tt)
+is_parsed program (watch bus table rows width file) =
+    parsed_each program watch_app (watch bus table rows width file) [] (before_each (form_of (watch bus table rows width file)).arguments) file_rule file (takes_file refl) refl refl (λ text more. refl)
+    (record { step = refl; passes = refl; found = refl; checks = refl }) refl refl
+    (memory_of_bus bus _ (memory_of_value _ _ rows _ (memory_of_value _ _ width _ tt)))

@@ -24,6 +24,8 @@ argument_text argument.To = codes "--to"
 argument_text argument.Since = codes "--since"
 argument_text argument.Until = codes "--until"
 argument_text argument.Conversion = codes "--conversion"
+argument_text argument.Rows = codes "--rows"
+argument_text argument.Width = codes "--width"
 argument_text argument.Together = codes "--all, --changes, --now together"
 argument_text argument.Forms = codes "--csv, --json together"
 

@@ -12,6 +12,7 @@ use Rattle.j39_cli.specs.NodesCommand.{nodes_app}
 use Rattle.j39_cli.specs.ReportCommand.{report_app}
 use Rattle.j39_cli.specs.SummaryCommand.{summary_app}
 use Rattle.j39_cli.specs.SurveyCommand.{survey_app}
+use Rattle.j39_cli.specs.WatchCommand.{watch_app}
 
 -- the program with no command, of which it asks for one; it tells its version
 abbrev pub bare_app : App
@@ -30,6 +31,7 @@ command_apps =
     ∷ groups_app
     ∷ faults_app
     ∷ survey_app
+    ∷ watch_app
     ∷ []
 
 unfoldable pub line_app : App

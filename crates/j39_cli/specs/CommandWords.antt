@@ -16,6 +16,7 @@ use Rattle.j39_cli.specs.NodesCommand.{nodes_form}
 use Rattle.j39_cli.specs.ReportCommand.{report_form}
 use Rattle.j39_cli.specs.SummaryCommand.{summary_form}
 use Rattle.j39_cli.specs.SurveyCommand.{survey_form}
+use Rattle.j39_cli.specs.WatchCommand.{watch_form}
 use Rattle.j39_cli.specs.Rules.{is_given}
 use Rattle.j39_cli.specs.Task.{IsInRange}
 use Rattle.j39_cli.specs.declared.task.ParseFault.TheVariants.{Memory}
@@ -34,6 +35,7 @@ pub data CommandWords : Type 0 where
   cut : Text → Text → Text → Text → Text → CommandWords
   groups : Option Text → CommandWords
   survey : Option Text → Option Text → List Text → CommandWords
+  watch : Option Text → Option Text → Option Text → Option Text → List Text → CommandWords
 
 abbrev pub form_of : CommandWords → Form
 form_of (report bus table spn from to pgn since until csv json file) = report_form bus table spn from to pgn since until csv json file
@@ -46,6 +48,7 @@ form_of (name hex) = name_form hex
 form_of (cut source pgn at bus hex) = cut_form source pgn at bus hex
 form_of (groups table) = groups_form table
 form_of (survey bus table file) = survey_form bus table file
+form_of (watch bus table rows width file) = watch_form bus table rows width file
 
 -- the words after the program's name
 abbrev pub words_of : CommandWords → List Text
@@ -92,6 +95,8 @@ command_found called found =
     else if bytes_eq called (codes "name") then name (text_found found (codes "hex"))
     else if bytes_eq called (codes "groups") then groups table
     else if bytes_eq called (codes "survey") then survey bus table file
+    else if bytes_eq called (codes "watch") then
+    watch bus table (first_value found (codes "rows")) (first_value found (codes "width")) file
     else cut (text_found found (codes "source")) (text_found found (codes "pgn")) (text_found found (codes "at"))
     (text_found found (codes "bus")) (text_found found (codes "hex"))
 

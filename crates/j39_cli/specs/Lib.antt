@@ -25,6 +25,7 @@ pub mod SummaryCommand
 pub mod FaultsCommand
 pub mod NodesCommand
 pub mod SurveyCommand
+pub mod WatchCommand
 pub mod AnswerCommand
 pub mod HexCommand
 pub mod IdCommand

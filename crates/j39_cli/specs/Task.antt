@@ -17,8 +17,9 @@ use Rattle.j39_cli.specs.NodesCommand.{nodes_meaning}
 use Rattle.j39_cli.specs.ReportCommand.{report_meaning}
 use Rattle.j39_cli.specs.SummaryCommand.{summary_meaning}
 use Rattle.j39_cli.specs.SurveyCommand.{survey_meaning}
+use Rattle.j39_cli.specs.WatchCommand.{watch_meaning}
 use Rattle.j39_cli.specs.declared.task.Task.{Task}
-use Rattle.j39_cli.specs.declared.task.Task.TheVariants.{Report, Summary, Faults, Nodes, Answer, Id, Name, Cut, Groups, Survey}
+use Rattle.j39_cli.specs.declared.task.Task.TheVariants.{Report, Summary, Faults, Nodes, Answer, Id, Name, Cut, Groups, Survey, Watch}
 
 abbrev pub meaning_of : Task → Meaning
 meaning_of (Report input table spns asked format) = report_meaning input table spns asked format
@@ -31,6 +32,7 @@ meaning_of (Name name) = name_meaning (name_raw name)
 meaning_of (Cut outgoing) = cut_meaning outgoing
 meaning_of (Groups table) = groups_meaning table
 meaning_of (Survey input table) = survey_meaning input table
+meaning_of (Watch input table size) = watch_meaning input table size
 
 -- each FILE of the task
 abbrev pub files_of : Task → List (List ℕ)

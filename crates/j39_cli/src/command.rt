@@ -5,7 +5,7 @@ ghost use Rattle.j39_cli.specs.Command.{bare_app, line_app};
 ghost use Rattle.j39_cli.specs.HexCommand.{hex_app};
 ghost use Rattle.j39_cli.specs.Rules.{IsMade, flag_rule, option_rule, value_rule, values_rule, with_table};
 
-use crate::{answer, cut, faults, groups, id, name, nodes, report, summary, survey};
+use crate::{answer, cut, faults, groups, id, name, nodes, report, summary, survey, watch};
 use clap::{Arg, ArgAction, Command};
 use std::alloc::{AllocError, Global};
 
@@ -28,6 +28,7 @@ Examples:
     3146554A4136435631324C4B31323334352A
   j1939 groups
   j1939 survey trip.log
+  candump -L can0 | j1939 watch
 
 Exit status:
   0  done, or help was asked for
@@ -51,7 +52,8 @@ pub(crate) fn line<'a>(alloc: Global) -> Result<Command<'a>, AllocError>
     let line = with_command(line, answer::command(alloc));
     let line = with_command(line, groups::command(alloc));
     let line = with_command(line, faults::command(alloc));
-    with_command(line, survey::command(alloc))
+    let line = with_command(line, survey::command(alloc));
+    with_command(line, watch::command(alloc))
 }
 
 fn bare<'a>(alloc: Global) -> Result<Command<'a>, AllocError>

@@ -29,6 +29,7 @@ mod survey;
 mod task;
 mod unknown;
 mod utc;
+mod watch;
 mod words;
 
 pub use asked::{Addresses, Asked, Pgns, Senders};

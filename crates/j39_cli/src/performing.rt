@@ -9,7 +9,7 @@ use crate::id::id_line;
 use crate::log::tell_end;
 use crate::name::name_lines;
 use crate::shown::show_text;
-use crate::{Joined, Task, answer, faults, groups, nodes, report, summary, survey};
+use crate::{Joined, Task, answer, faults, groups, nodes, report, summary, survey, watch};
 use j39_groups::Groups;
 use j39_io::{Sink, Source};
 use std::alloc::Global;
@@ -123,6 +123,10 @@ pub fn perform_with<R: Source, W: Sink, E: Sink>(
         Task::Groups(_) => groups::perform(groups, sink, err),
         Task::Survey { input, .. } => {
             survey::perform(alloc, groups, &input.bus, source, sink, err)
+        }
+        Task::Watch { input, size, .. } => {
+            let end = watch::run(alloc, groups, *size, &input.bus, source, sink);
+            tell_end(end, err)
         }
     }
 }

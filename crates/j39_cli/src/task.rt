@@ -9,7 +9,7 @@ use j39_address::Name;
 use j39_frame::{Id, is_address};
 use j39_listen::Format;
 use j39_log::Bus;
-use j39_reports::Telling;
+use j39_reports::{ScreenSize, Telling};
 use std::alloc::{AllocError, Global};
 use std::fmt;
 use std::marker::Model;
@@ -204,6 +204,15 @@ pub enum Task<'a> {
         /// The file of the table, as of a report.
         table: Option<WordText<'a>>,
     },
+    /// What a log is, at each half second.
+    Watch {
+        /// The log to read.
+        input: LogInput<'a>,
+        /// The file of the table, as of a report.
+        table: Option<WordText<'a>>,
+        /// How many lines a screen has, and how long they are.
+        size: ScreenSize,
+    },
     /// The fields of an identifier.
     Id(Id),
     /// The fields of a NAME.
@@ -226,6 +235,7 @@ impl<'a> Task<'a> {
             Task::Nodes { input, .. } => input.file.as_slice(),
             Task::Answer { input, .. } => input.file.as_slice(),
             Task::Survey { input, .. } => input.file.as_slice(),
+            Task::Watch { input, .. } => input.file.as_slice(),
             _ => &[],
         }
     }
@@ -239,6 +249,7 @@ impl<'a> Task<'a> {
             Task::Summary { table, .. } => text_of(table),
             Task::Faults { table, .. } => text_of(table),
             Task::Survey { table, .. } => text_of(table),
+            Task::Watch { table, .. } => text_of(table),
             Task::Groups(table) => text_of(table),
             _ => None,
         }
@@ -283,6 +294,10 @@ pub enum Argument {
     Until,
     /// `--conversion`, the versions by which SPNs are read.
     Conversion,
+    /// `--rows`, how many rows the terminal has.
+    Rows,
+    /// `--width`, how many columns.
+    Width,
     /// Two of `--all`, `--changes` and `--now`, which don't go together.
     Together,
     /// `--csv` and `--json`, which don't.
@@ -308,6 +323,8 @@ impl Argument {
             Argument::Since => "--since",
             Argument::Until => "--until",
             Argument::Conversion => "--conversion",
+            Argument::Rows => "--rows",
+            Argument::Width => "--width",
             Argument::Together => "--all, --changes, --now together",
             Argument::Forms => "--csv, --json together",
         }

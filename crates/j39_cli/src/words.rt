@@ -21,7 +21,7 @@ use crate::conversions::{Conversions, conversions_of};
 use crate::spns::{Spns, spns_of};
 use crate::{
     Addresses, Argument, Files, LogInput, ParseFault, Pgns, Senders, Task, WordText, answer, cut,
-    faults, groups, id, name, nodes, report, summary, survey,
+    faults, groups, id, name, nodes, report, summary, survey, watch,
 };
 use clap::error::ErrorKind;
 use clap::{ArgMatches, Error};
@@ -123,6 +123,7 @@ fn task_named<'a>(alloc: Global, name: &str, given: &ArgMatches<'a>) -> Result<T
         "groups" => groups::task(given),
         "faults" => faults::task(alloc, given),
         "survey" => survey::task(alloc, given),
+        "watch" => watch::task(alloc, given),
         // clap knows no other, so that nothing comes here.
         _ => Err(ParseFault::Usage(String::new(alloc))),
     }

@@ -23,4 +23,5 @@ returns c =
     let line7 = c.with_command-line-7.ensures _ _ line6 c.command-7.ensures in
     let line8 = c.with_command-line-8.ensures _ _ line7 c.command-8.ensures in
     let line9 = c.with_command-line-9.ensures _ _ line8 c.command-9.ensures in
-    told _ line_app (c.with_command.ensures _ _ line9 c.command-10.ensures)
+    let line10 = c.with_command-line-10.ensures _ _ line9 c.command-10.ensures in
+    told _ line_app (c.with_command.ensures _ _ line10 c.command-11.ensures)

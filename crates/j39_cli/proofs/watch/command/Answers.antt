@@ -1,0 +1,5 @@
+-- Each step adds what it says.
+use Rattle.j39_cli.proofs.watch.command.Goals as goal
+
+pub returns : goal.returns
+returns c = c.with_log.ensures _ (c.with_option.ensures _ (c.with_option-command.ensures _ (c.with_table-command.ensures _ c.new_command.ensures)))

@@ -1,0 +1,6 @@
+-- The bus is that of the task.
+use Rattle.std.proofs.Common.{sym}
+use Rattle.j39_cli.proofs.watch.run.Goals as goal
+
+pub returns-clause-ran : goal.returns-clause-ran
+returns-clause-ran g c = rw (sym c.copy_of.ensures) c.watch.ensures.ran

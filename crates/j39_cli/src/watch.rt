@@ -1,0 +1,150 @@
+//! The command `watch`: its words.
+ghost use Rattle.std.specs.Prelude.{◌≡◌, ◌≤◌, ◌-◌, ◌↔◌, IfOk, IfSome, IsSome, codes, unwrap_or};
+ghost use Rattle.std.specs.Str.Parse.{digits_value};
+ghost use Rattle.clap.specs.Words.{first_value, found_of};
+ghost use Rattle.j39_io.specs.Turn.{turn};
+ghost use Rattle.j39_listen.specs.Ran.{PassesOn, Ran};
+ghost use Rattle.j39_reports.specs.NotesSoFar.{size_of};
+ghost use Rattle.j39_reports.specs.Watch.{AsksForWatch, MakesWatch};
+ghost use Rattle.j39_cli.specs.Answer.{IsValueRead};
+ghost use Rattle.j39_cli.specs.CommandWords.{IsAnswered, command_found};
+ghost use Rattle.j39_cli.specs.LogCommand.{log_limit};
+ghost use Rattle.j39_cli.specs.Numbers.{IsNumberIn};
+ghost use Rattle.j39_cli.specs.Rules.{IsMade};
+ghost use Rattle.j39_cli.specs.WatchCommand.{IsRows, IsScreenSize, IsWidth, watch_app};
+
+use crate::command::{new_command, with_option, with_table};
+use crate::cut_values::number_below;
+use crate::log::{LOG_LIMIT, copy_of, with_log};
+use crate::words::{bus_value, log_input};
+use crate::{Argument, ParseFault, Task, WordText};
+use clap::{ArgMatches, Command};
+use j39_groups::Groups;
+use j39_io::{Sink, Source};
+use j39_listen::{Counts, RunFault};
+use j39_log::Bus;
+use j39_reports::ScreenSize;
+use std::alloc::{AllocError, Global};
+
+const ABOUT: &str = "\
+Draws a screen at the first frame of each half second of the log's stamps, and one
+at the end, each over the one before: the stamp of the last frame, the active faults
+and the last value of each parameter of the controllers that are on the bus. The
+line of a value has the source address (hex, with >destination), the NAME, the PGN,
+the SPN, the value, its age by the stamps, how many came in the second before, and
+what the parameter is called. Lines are cut at --width.";
+
+const HELP: &str = "\
+At the end the counts go to standard error, as those of `j1939 report`; lines are
+those of the last screen.
+
+Example:
+  candump -L can0 | j1939 watch
+draws lines such as
+  00    8000000001401234 61444  190    1500.125 rpm   0.0s   50/s  engine speed";
+
+/// What clap is told of it.
+pub(crate) fn command<'a>(alloc: Global) -> Result<Command<'a>, AllocError>
+    ensures { IsMade result watch_app }
+{
+    let about = "Shows what a bus says now: faults and last values, in place";
+    let command = with_table(alloc, new_command(alloc, "watch", about, ABOUT, HELP));
+    let help = "How many rows the terminal has, 2 to 1000; without it, 24";
+    let command = with_option(alloc, command, "rows", "N", false, help);
+    let help = "How many columns it has, 20 to 512; without it, 80";
+    with_log(
+        alloc,
+        with_option(alloc, command, "width", "N", false, help),
+    )
+}
+
+/// The task that its words ask for.
+pub(crate) fn task<'a>(alloc: Global, given: &ArgMatches<'a>) -> Result<Task<'a>, ParseFault>
+    ensures { IsAnswered (command_found (codes "watch") (found_of given.now)) result }
+{
+    let table = given.get_str("table").map(WordText::new);
+    let bus = match bus_value(given) {
+        Ok(bus) => bus,
+        Err(fault) => return Err(fault),
+    };
+    let rows = match rows_value(given) {
+        Ok(rows) => rows,
+        Err(fault) => return Err(fault),
+    };
+    let width = match width_value(given) {
+        Ok(width) => width,
+        Err(fault) => return Err(fault),
+    };
+    let size = size_for(rows, width);
+    match log_input(alloc, bus, given) {
+        Ok(input) => Ok(Task::Watch { input, table, size }),
+        Err(fault) => Err(fault),
+    }
+}
+
+/// The value of `--rows`, where it is given.
+fn rows_value(given: &ArgMatches<'_>) -> Result<Option<u16>, ParseFault>
+    ensures read { IsValueRead IsRows (digits_value 10) Argument.Rows (first_value (found_of given.now) (codes "rows")) result }
+    ensures in_range { IfOk result (λ rows. IfSome rows (λ n. (2 ≤ n) × (n ≤ 1000))) }
+{
+    match given.get_str("rows") {
+        None => Ok(None),
+        Some(text) => match number_in(text, 2, 1000) {
+            Some(rows) => Ok(Some(rows)),
+            None => Err(ParseFault::BadValue(Argument::Rows)),
+        },
+    }
+}
+
+/// The value of `--width`, where it is given.
+fn width_value(given: &ArgMatches<'_>) -> Result<Option<u16>, ParseFault>
+    ensures read { IsValueRead IsWidth (digits_value 10) Argument.Width (first_value (found_of given.now) (codes "width")) result }
+    ensures in_range { IfOk result (λ width. IfSome width (λ n. (20 ≤ n) × (n ≤ 512))) }
+{
+    match given.get_str("width") {
+        None => Ok(None),
+        Some(text) => match number_in(text, 20, 512) {
+            Some(width) => Ok(Some(width)),
+            None => Err(ParseFault::BadValue(Argument::Width)),
+        },
+    }
+}
+
+/// The number of decimal digits from the least to the most; `None` for other text.
+fn number_in(text: &str, least: u16, most: u16) -> Option<u16>
+    ensures known { IsSome result ↔ IsNumberIn least most text.now }
+    ensures value { IfSome result (λ n. n ≡ digits_value 10 text.now) }
+    ensures in_range { IfSome result (λ n. (least ≤ n) × (n ≤ most)) }
+{
+    let number = number_below(text.as_bytes(), u64::from(most) + 1)? as u16;
+    if least <= number { Some(number) } else { None }
+}
+
+/// The screen of a terminal of so many rows and columns: the last row is left to the cursor, so that nothing scrolls.
+fn size_for(rows: Option<u16>, width: Option<u16>) -> ScreenSize
+    requires rows { IfSome rows (λ n. (2 ≤ n) × (n ≤ 1000)) }
+    requires width { IfSome width (λ n. (20 ≤ n) × (n ≤ 512)) }
+    ensures rows { result.rows ≡ unwrap_or rows 24 - 1 }
+    ensures width { result.width ≡ unwrap_or width 80 }
+    ensures in_range { IsScreenSize (size_of result) }
+{
+    let rows = rows.unwrap_or(24);
+    let width = width.unwrap_or(80);
+    ScreenSize::new(rows - 1, width).unwrap()
+}
+
+/// Reads a log, and draws what it is at each half second, by a table of parameters.
+pub(crate) fn run<R: Source, W: Sink>(
+    alloc: Global,
+    groups: &Groups<'_>,
+    size: ScreenSize,
+    bus: &Option<Bus>,
+    source: &mut R,
+    sink: &mut W,
+) -> Result<Counts, RunFault>
+    ensures ran { Ran (MakesWatch groups.now (size_of size)) (AsksForWatch groups.now) bus.now log_limit result
+        (turn R.remaining R.has_failed source.old source.new) (turn W.written W.has_failed sink.old sink.new) }
+    ensures flushed { PassesOn result (W.is_flushed sink.old) (W.is_flushed sink.new) }
+{
+    j39_reports::watch(alloc, groups, size, source, sink, copy_of(bus), LOG_LIMIT)
+}
