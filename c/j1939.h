@@ -401,7 +401,8 @@ int32_t j1939_controller_new(j1939_controller *controller, uint64_t name, uint8_
 
 /** The same, but its program subscribes these groups alone: messages of others, of one frame or broadcast in packets, are
  * neither handed out nor missed. What comes in packets to its address is handed out in any case, and .._ask hears its
- * answer of any group. J1939_BAD_VALUE also for more than 64. Where wanted_count is 0, wanted may be NULL.
+ * answer of any group, unless that is broadcast in packets. J1939_BAD_VALUE also for more than 64. Where wanted_count is
+ * 0, wanted may be NULL.
  * @return 0, J1939_BAD_VALUE, J1939_NO_MEMORY, J1939_IN_USE */
 int32_t j1939_controller_new_subscribed(j1939_controller *controller, uint64_t name, uint8_t address,
                                         const uint32_t *served, size_t count, const uint32_t *wanted,
@@ -489,9 +490,10 @@ int32_t j1939_controller_broadcast(j1939_controller *controller, uint64_t micros
 int32_t j1939_controller_transfer(j1939_controller *controller, uint64_t micros, uint32_t pgn, uint8_t to,
                                   const uint8_t *payload, size_t size, uint64_t *token);
 
-/** Asks an address, or all (255), for a group (J1939-21, 5.4.2): 1 and its token, one of the count of .._send. That its
- * frame went out is told as of a message, and how it ended as of a request. What is sent in answer is received like any
- * message. J1939_FULL while one is accepted and not told, or 16 messages are.
+/** Asks an address, or all (255), for a group (J1939-21, 5.4.2), also for claims (60928): 1 and its token, one of the
+ * count of .._send. That its frame went out is told as of a message, and how it ended as of a request. What is sent in
+ * answer is received like any message; claims tell .._holder. J1939_FULL while one is accepted and not told, or 16
+ * messages are.
  * @return 0, 1, J1939_BAD_VALUE, J1939_NO_PART, J1939_NO_ADDRESS, J1939_FULL */
 int32_t j1939_controller_ask(j1939_controller *controller, uint64_t micros, uint32_t pgn, uint8_t to, uint64_t *token);
 

@@ -22,6 +22,11 @@ describe() {
   esac
 }
 
+# The version, which stands in the program's source.
+version_here() {
+  sed -n 's/^const VERSION: &str = "\(.*\)";$/\1/p' "$top/crates/j39_cli/src/command.rt"
+}
+
 # Prints the crate and all crates of ours below it, as crates.txt has them, each behind those that it stands on.
 crates_of() {
   awk -F: -v crate="$1" '

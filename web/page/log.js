@@ -19,7 +19,7 @@ function canRead() {
 // Ends the worker that there is, whatever it does, and starts another.
 function startWorker() {
   if (worker) worker.terminate();
-  workerPlace ||= URL.createObjectURL(new Blob([$('worker').textContent], { type: 'text/javascript' }));
+  workerPlace = workerPlace || URL.createObjectURL(new Blob([$('worker').textContent], { type: 'text/javascript' }));
   const it = new Worker(workerPlace);
   it.onmessage = ({ data }) => {
     if (it === worker) hear(data);

@@ -8,7 +8,7 @@ let place = null; // the instance in whose memory it lies, as `given`; another o
 
 // Lays the log into an instance's memory, with its interface's name and its table; once more where need be.
 async function layLog(tell) {
-  const it = place ||= instance();
+  const it = place = place || instance();
   if (it.given) return;
   const log = { at: it.free, size: asked.file.size };
   it.free += (log.size + 7) & ~7;
@@ -19,7 +19,7 @@ async function layLog(tell) {
 
 // The groups' names by the table, 'PGN SPN' -> name; and the words for a table that is none.
 function groupNames(given) {
-  const it = place ||= instance(), { free } = it;
+  const it = place = place || instance(), { free } = it;
   const table = put(it, given.bytes);
   const { answer, bytes } = textOf(it, 'j39_groups', [table], ROOM, WRONG_TABLE);
   it.free = free;

@@ -23,7 +23,7 @@ function pointsIn(bytes) {
   let isWide = false;
   for (let k = 0, i = 0; k < n; k++, i += 6) {
     const high = words[i + 3] | 0;
-    isWide ||= high >= WIDE || high < -WIDE;
+    isWide = isWide || high >= WIDE || high < -WIDE;
     it.at[k] = (words[i + 1] * HIGH + words[i]) / 1000;
     it.places[k] = words[i + 4];
     it.kind[k] = WORDS[words[i + 5]];

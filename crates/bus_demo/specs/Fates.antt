@@ -5,7 +5,7 @@ use Rattle.bus_demo.specs.declared.bus.book.Book.{Book}
 use Rattle.bus_demo.specs.declared.bus.book.Fate.{Fate}
 use Rattle.bus_demo.specs.declared.bus.book.Fate.TheVariants.{Open, Whole, Lost, Withdrawn}
 use Rattle.bus_demo.specs.declared.bus.book.Handed.{Handed}
-use Rattle.bus_demo.specs.declared.bus.book.Part.{Part}
+use Rattle.bus_demo.specs.declared.bus.book.MessageFrame.{MessageFrame}
 use Rattle.bus_demo.specs.declared.bus.station.Station.{Station}
 
 abbrev pub is_whole_fate : Fate → Bool
@@ -30,13 +30,13 @@ pub record IsSettled (number : ℕ) (fate : Fate) (old new : Book) : Type 0 wher
 
 -- what a frame of a message makes of the book, where it was lost, and where it was seen at a moment: a message is whole
 -- once its last frame is seen
-abbrev pub IsFated : Option Part → Bool → Stamp → Book → Book → Type 0
+abbrev pub IsFated : Option MessageFrame → Bool → Stamp → Book → Book → Type 0
 IsFated None is_lost now old new = new ≡ old
 IsFated (Some part) true now old new = IsSettled part.number Lost old new
 IsFated (Some part) false now old new =
     (part.is_last ≡ true → IsSettled part.number (Whole now) old new) × (part.is_last ≡ false → new ≡ old)
 
 -- the part is the oldest message of one frame that was handed in, or one of the broadcast
-abbrev pub IsOf : Station → Part → Type 0
+abbrev pub IsOf : Station → MessageFrame → Type 0
 IsOf station part =
     ((slice_get station.singles.items 0 ≡ Some part.number) × (part.is_last ≡ true)) ⊎ (station.broadcast ≡ Some part.number)

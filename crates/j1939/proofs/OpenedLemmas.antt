@@ -1,8 +1,12 @@
 -- One of the logs isn't opened.
-use Rattle.std.proofs.Common.{◌≡◌, ◌<◌, ℕ, zero, suc, List, [], ◌∷◌, arith, length, map, slice_index_or, subst}
-use Rattle.std.proofs.lemmas.List.{get_or-map, length-map}
-use Rattle.std.specs.List.{Contains}
+use Rattle.std.proofs.Common.{◌≡◌, ◌<◌, ◌++◌, ℕ, zero, suc, List, [], ◌∷◌, arith, length, map, slice_index_or, subst}
+use Rattle.std.proofs.lemmas.List.{get_or-map, length-map, map-append}
+use Rattle.std.proofs.lemmas.List.Elements.{All-append}
+use Rattle.std.specs.List.{All, Contains}
 use Rattle.std.specs.Borrow.{Bor}
+use Rattle.j39_cli.specs.FileSpans.{span_record}
+use Rattle.j39_cli.specs.Order.{IsSpanOfSome}
+use Rattle.j39_cli.specs.declared.file_span.FileSpan.{FileSpan}
 use Rattle.j1939.specs.Opened.{IsUnopened}
 use Rattle.j1939.specs.declared.input.Unopened.{Unopened}
 use Rattle.j1939.specs.declared.input.Unopened.TheVariants.{File, Memory}
@@ -27,3 +31,13 @@ unopened_later files behind first d k why is fits one =
     among xs i lt =
         let long = length-map xs (λ (file : Bor (List ℕ)). file.now) in
         (suc i, omega (arith, lt, long), get_or-map (λ (file : Bor (List ℕ)). file.now) xs i d _ lt)
+
+-- one more whose ends were seen
+pub seen_more : (spans new : List FileSpan) (span : FileSpan) → All IsSpanOfSome (map span_record spans) → IsSpanOfSome (span_record span) → new ≡ spans ++ span ∷ []
+    → All IsSpanOfSome (map span_record new)
+seen_more spans new span all one is =
+    rw (is, map-append span_record spans (span ∷ [])) (All-append IsSpanOfSome (map span_record spans) (span_record span ∷ []) all alone)
+  where
+    alone : All IsSpanOfSome (span_record span ∷ [])
+    alone zero d fits = one
+    alone (suc k) d fits = absurd (omega (arith, fits))

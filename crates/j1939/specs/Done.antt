@@ -1,6 +1,6 @@
 -- What the program does for its words: a task over its log and by its table, or what is told in its place.
 use Rattle.std.specs.Prelude.{◌≡◌, ◌⊎◌, ◌↔◌, ◌∷◌, ℕ, false, true, IfOk, List, [], MatchOption, MatchResult, Option, codes, length}
-use Rattle.std.specs.List.{Contains}
+use Rattle.std.specs.List.{All, Contains}
 use Rattle.j39_io.specs.Turn.{Device, Turn, Writes}
 use Rattle.j39_groups.specs.Row.{RowRecord}
 use Rattle.j39_groups.specs.Table.{the_table}
@@ -10,6 +10,7 @@ use Rattle.j39_table.specs.declared.fault.TableFault.TheVariants.{Memory}
 use Rattle.j39_cli.specs.Answer.{Answer}
 use Rattle.j39_cli.specs.CommandWords.{CommandWords, HasValues, IsAnswer, words_of}
 use Rattle.j39_cli.specs.LogCommand.{inputs_of}
+use Rattle.j39_cli.specs.Order.{IsSpanOfSome, Span, order_text}
 use Rattle.j39_cli.specs.OwnTable.{folder_line, table_line}
 use Rattle.j39_cli.specs.Refusal.{IsHelp, IsWrongLine, error_line, error_words, out_words}
 use Rattle.j39_cli.specs.Spelling.{IsSpelled}
@@ -33,11 +34,17 @@ TellsUnopened file status out err = TellsLine (error_line (codes "cannot open ")
 abbrev pub TellsFault : List ℕ → TableFault → ℕ → Turn → Turn → Type 0
 TellsFault name fault status out err = TellsLine (table_line name fault) status out err
 
--- the task was performed by these rows over what each of its FILEs holds, one behind the other
+-- the task was performed by these rows over what each of its FILEs holds, one behind the other; before that it was told which
+-- of them begins before the one before it ends, by what was seen at both ends of each
 pub record IsDoneOver (rows : List RowRecord) (task : Task) (status : ℕ) (out err : Turn) : Type 0 where
+  pub spans : List Span
+  pub each_span : length spans ≡ length (files_of task)
+  pub seen : All IsSpanOfSome spans
+  pub between : Device
+  pub told : Writes (record { old = err.old; new = between }) (order_text (files_of task) spans)
   pub held : List (Option (List ℕ))
   pub each : length held ≡ length (inputs_of (files_of task))
-  pub performed : IsPerformedOver rows task held status out err
+  pub performed : IsPerformedOver rows task held status out (record { old = between; new = err.new })
 
 -- so it was; or one of its FILEs can't be opened, or memory for all of them was refused, and nothing is written
 abbrev pub IsDoneOnce : List RowRecord → Task → ℕ → Turn → Turn → Type 0

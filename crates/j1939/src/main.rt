@@ -15,7 +15,7 @@ mod table;
 use input::{Unopened, opened};
 use j39_cli::{
     ParseFault, Task, asks_for_unknown, asks_input_twice, folder_for_table, parse, perform_over,
-    refuse, unopened, wrong_table,
+    refuse, tell_order, unopened, wrong_table,
 };
 use j39_groups::Groups;
 use j39_io::{Sink, Told};
@@ -192,7 +192,10 @@ fn over<W: Sink, E: Sink>(
     ensures passed_on { result ≡ 1 → E.has_failed err.new ≡ false → E.is_flushed err.new ≡ true }
 {
     match opened(rt, task.files()) {
-        Ok(logs) => perform_over(rt.alloc(), groups, task, logs.first, logs.later, out, err),
+        Ok(logs) => {
+            tell_order(task.files(), logs.spans.as_slice(), err);
+            perform_over(rt.alloc(), groups, task, logs.first, logs.later, out, err)
+        }
         Err(Unopened::File(file)) => unopened(file, err),
         Err(Unopened::Memory) => refuse(&ParseFault::Memory, out, err),
     }

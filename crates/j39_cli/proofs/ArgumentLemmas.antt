@@ -80,7 +80,7 @@ words-parts (x ∷ xs) = ap₂ (λ (a b : List Text). a ++ b) (of x) (words-part
 abbrev pub Met : Type 0
 Met = Option (List Text)
 
-abbrev met_first : Option Text → Met
+abbrev pub met_first : Option Text → Met
 met_first text = option_map (λ t. t ∷ []) text
 
 -- what clap meets of an argument
@@ -214,10 +214,10 @@ parsed program a s must may computed = of_parts program a s (must ++ may)
 -- ---- a last argument that takes as many texts as there are
 
 -- where clap stands behind a word of it
-abbrev Place : Type 0
+abbrev pub Place : Type 0
 Place = Option (Text × List Text) × Waiting × ℕ × Bool × Option (Text × List Text)
 
-abbrev place_of : Walk → Place
+abbrev pub place_of : Walk → Place
 place_of w = (w.held.pending, w.waiting, w.position, w.is_trailing, w.stopped)
 
 -- the same of the parts, the first text and the others: as far as it computes
@@ -280,10 +280,12 @@ module _ (program : Text) (a : App) (s : CommandWords) (must may : List Argument
       outcome (taken_and_met leaf (with_each [])) (λ mets. (true, mets ++ Some [] ∷ [])) (parts_in must) may
       ≡ wanted (taken_and_met leaf (with_each [])) (λ mets. (true, mets ++ Some [] ∷ [])) (map wanted_of must) may
 
-  none_met : ComesOfNone → taken_and_met leaf (with_each []) (parts_in (with_each [])) ≡ all_taken (map wanted_of (with_each []))
-  none_met computed = ap (taken_and_met leaf (with_each [])) (parts_with [] ∙ append-nil options)
-      ∙ chosen (taken_and_met leaf (with_each [])) (λ mets. (true, mets ++ Some [] ∷ [])) (parts_in must) (map wanted_of must) may computed
-      ∙ ap all_taken (sym (wanted_with []))
+  -- what clap takes and meets then
+  abbrev pub TakesNone : Type 0
+  TakesNone = taken_and_met leaf (with_each []) options ≡ (true, (map wanted_of must ++ map wanted_of may) ++ Some [] ∷ [])
+
+  none_met : TakesNone → taken_and_met leaf (with_each []) (parts_in (with_each [])) ≡ all_taken (map wanted_of (with_each []))
+  none_met met = ap (taken_and_met leaf (with_each [])) (parts_with [] ∙ append-nil options) ∙ met ∙ ap all_taken (sym (wanted_with []))
 
   -- where some are
   abbrev pub ComesOfSome : Text → List Text → Type 0
@@ -291,13 +293,17 @@ module _ (program : Text) (a : App) (s : CommandWords) (must may : List Argument
       outcome (each_taken_and_met leaf rule (with_each (text ∷ texts)) text texts) (each_taken rule text texts) (parts_in must) may
       ≡ wanted (each_taken_and_met leaf rule (with_each (text ∷ texts)) text texts) (each_taken rule text texts) (map wanted_of must) may
 
-  some_met : (text : Text) (texts : List Text) → TakesEach leaf rule → arg_by_index leaf.rules 1 ≡ Some rule → ComesOfSome text texts
+  -- what clap takes and meets of the first, and where it stands
+  abbrev pub TakesSome : Text → List Text → Type 0
+  TakesSome text texts =
+      each_taken_and_met leaf rule (with_each (text ∷ texts)) text texts options ≡ each_taken rule text texts (map wanted_of must ++ map wanted_of may)
+
+  some_met : (text : Text) (texts : List Text) → TakesEach leaf rule → arg_by_index leaf.rules 1 ≡ Some rule → TakesSome text texts
       → taken_and_met leaf (with_each (text ∷ texts)) (parts_in (with_each (text ∷ texts)))
       ≡ all_taken (map wanted_of (with_each (text ∷ texts)))
-  some_met text texts takes here computed =
+  some_met text texts takes here met =
       let all = with_each (text ∷ texts) in
       let first = options ++ given text ∷ [] in
-      let met = chosen (each_taken_and_met leaf rule all text texts) (each_taken rule text texts) (parts_in must) (map wanted_of must) may computed in
       let ends : EndsWith leaf rule first text = record {
         takes = takes;
         position = 1;
@@ -312,8 +318,14 @@ module _ (program : Text) (a : App) (s : CommandWords) (must may : List Argument
 
   -- clap takes a command of which the first arguments must be given, others may be left out, and the last takes as many
   -- texts as there are
+  pub taken_with : (texts : List Text) → TakesEach leaf rule → arg_by_index leaf.rules 1 ≡ Some rule → TakesNone
+      → ((text : Text) (more : List Text) → TakesSome text more) → IsOf program a s (with_each texts)
+  taken_with [] takes here none some = of_parts program a s (with_each []) (none_met none)
+  taken_with (text ∷ texts) takes here none some =
+      of_parts program a s (with_each (text ∷ texts)) (some_met text texts takes here (some text texts))
+
   pub parsed_each : (texts : List Text) → TakesEach leaf rule → arg_by_index leaf.rules 1 ≡ Some rule → ComesOfNone
       → ((text : Text) (more : List Text) → ComesOfSome text more) → IsOf program a s (with_each texts)
-  parsed_each [] takes here none some = of_parts program a s (with_each []) (none_met none)
-  parsed_each (text ∷ texts) takes here none some =
-      of_parts program a s (with_each (text ∷ texts)) (some_met text texts takes here (some text texts))
+  parsed_each texts takes here none some = taken_with texts takes here
+      (chosen (taken_and_met leaf (with_each [])) (λ mets. (true, mets ++ Some [] ∷ [])) (parts_in must) (map wanted_of must) may none)
+      (λ text more. chosen (each_taken_and_met leaf rule (with_each (text ∷ more)) text more) (each_taken rule text more) (parts_in must) (map wanted_of must) may (some text more))

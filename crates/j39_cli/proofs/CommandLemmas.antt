@@ -20,6 +20,7 @@ use Rattle.j39_cli.specs.WatchCommand.{watch_app}
 use Rattle.j39_cli.specs.Form.{option, value}
 use Rattle.j39_cli.specs.Rules.{values_rule}
 use Rattle.j39_cli.proofs.ArgumentLemmas.{before_each, parsed, parsed_each}
+use Rattle.j39_cli.proofs.ChoiceLemmas.{parsed_choices}
 use Rattle.j39_cli.proofs.EachLemmas.{TakesEach}
 use Rattle.j39_cli.proofs.PartLemmas.{parts_pass}
 use Rattle.j39_cli.proofs.TakenLemmas.{IsParsed, memory_checked, memory_of_bus, memory_of_value}
@@ -42,20 +43,26 @@ takes_file known = record {
 pub is_parsed : (program : Text) (s : CommandWords) → IsParsed program s
 unfolding clap_on_literals line_app parts_pass
 is_parsed program (report bus table spn from to pgn since until csv json file) =
-    parsed_each program report_app (report bus table spn from to pgn since until csv json file) [] (before_each (form_of (report bus table spn from to pgn since until csv json file)).arguments) file_rule file (takes_file refl) refl refl (λ text more. refl)
+    parsed_choices program report_app (report bus table spn from to pgn since until csv json file) (before_each (form_of (report bus table spn from to pgn since until csv json file)).arguments) file_rule file (takes_file refl)
+    (record { choices = tt; known = refl; apart = refl; defaults = refl; none_by_default = refl; first = refl; valid = λ rows. refl })
     (record { step = refl; passes = refl; found = refl; checks = refl }) refl refl
     (memory_of_bus bus _ (memory_of_value _ _ spn _ (memory_of_value _ _ from _ (memory_of_value _ _ to _
     (memory_of_value _ _ pgn _ (memory_of_value _ _ since _ (memory_of_value _ _ until _ (memory_checked _ _ _ tt))))))))
-is_parsed program (summary bus table from to pgn since until csv json file) =
-    parsed_each program summary_app (summary bus table from to pgn since until csv json file) [] (before_each (form_of (summary bus table from to pgn since until csv json file)).arguments) file_rule file (takes_file refl) refl refl (λ text more. refl)
+is_parsed program (summary bus table spn from to pgn since until csv json file) =
+    parsed_choices program summary_app (summary bus table spn from to pgn since until csv json file) (before_each (form_of (summary bus table spn from to pgn since until csv json file)).arguments) file_rule file (takes_file refl)
+    (record { choices = tt; known = refl; apart = refl; defaults = refl; none_by_default = refl; first = refl; valid = λ rows. refl })
     (record { step = refl; passes = refl; found = refl; checks = refl }) refl refl
-    (memory_of_bus bus _ (memory_of_value _ _ from _ (memory_of_value _ _ to _
-    (memory_of_value _ _ pgn _ (memory_of_value _ _ since _ (memory_of_value _ _ until _ (memory_checked _ _ _ tt)))))))
-is_parsed program (faults bus table conversion all changes now csv json file) =
-    parsed_each program faults_app (faults bus table conversion all changes now csv json file) [] (before_each (form_of (faults bus table conversion all changes now csv json file)).arguments) file_rule file (takes_file refl) refl refl (λ text more. refl)
-    (record { step = refl; passes = refl; found = refl; checks = refl }) refl refl (memory_of_bus bus _ (memory_of_value _ _ conversion _ (memory_checked _ _ _ (memory_checked _ _ _ tt))))
+    (memory_of_bus bus _ (memory_of_value _ _ spn _ (memory_of_value _ _ from _ (memory_of_value _ _ to _
+    (memory_of_value _ _ pgn _ (memory_of_value _ _ since _ (memory_of_value _ _ until _ (memory_checked _ _ _ tt))))))))
+is_parsed program (faults bus table conversion spn from to pgn since until all changes now csv json file) =
+    parsed_choices program faults_app (faults bus table conversion spn from to pgn since until all changes now csv json file) (before_each (form_of (faults bus table conversion spn from to pgn since until all changes now csv json file)).arguments) file_rule file (takes_file refl)
+    (record { choices = tt; known = refl; apart = refl; defaults = refl; none_by_default = refl; first = refl; valid = λ rows. refl })
+    (record { step = refl; passes = refl; found = refl; checks = refl }) refl refl
+    (memory_of_bus bus _ (memory_of_value _ _ conversion _ (memory_of_value _ _ spn _ (memory_of_value _ _ from _ (memory_of_value _ _ to _
+    (memory_of_value _ _ pgn _ (memory_of_value _ _ since _ (memory_of_value _ _ until _ (memory_checked _ _ _ (memory_checked _ _ _ tt))))))))))
 is_parsed program (nodes bus from csv json file) =
-    parsed_each program nodes_app (nodes bus from csv json file) [] (before_each (form_of (nodes bus from csv json file)).arguments) file_rule file (takes_file refl) refl refl (λ text more. refl)
+    parsed_choices program nodes_app (nodes bus from csv json file) (before_each (form_of (nodes bus from csv json file)).arguments) file_rule file (takes_file refl)
+    (record { choices = tt; known = refl; apart = refl; defaults = refl; none_by_default = refl; first = refl; valid = λ rows. refl })
     (record { step = refl; passes = refl; found = refl; checks = refl }) refl refl (memory_of_bus bus _ (memory_of_value _ _ from _ (memory_checked _ _ _ tt)))
 is_parsed program (answer node address bus file) = parsed_each program answer_app (answer node address bus file)
     (option (codes "name") (Some node) ∷ option (codes "address") (Some address) ∷ []) (option (codes "bus") bus ∷ []) file_rule file (takes_file refl)
@@ -74,9 +81,11 @@ is_parsed program (cut source pgn moment bus hex) = parsed program cut_app (cut 
 is_parsed program (groups table) = parsed program groups_app (groups table) [] (form_of (groups table)).arguments refl
     (record { step = refl; passes = refl; found = refl; checks = refl }) refl refl tt
 is_parsed program (survey bus table file) =
-    parsed_each program survey_app (survey bus table file) [] (before_each (form_of (survey bus table file)).arguments) file_rule file (takes_file refl) refl refl (λ text more. refl)
+    parsed_choices program survey_app (survey bus table file) (before_each (form_of (survey bus table file)).arguments) file_rule file (takes_file refl)
+    (record { choices = tt; known = refl; apart = refl; defaults = refl; none_by_default = refl; first = refl; valid = λ rows. refl })
     (record { step = refl; passes = refl; found = refl; checks = refl }) refl refl (memory_of_bus bus _ tt)
 is_parsed program (watch bus table rows width file) =
-    parsed_each program watch_app (watch bus table rows width file) [] (before_each (form_of (watch bus table rows width file)).arguments) file_rule file (takes_file refl) refl refl (λ text more. refl)
+    parsed_choices program watch_app (watch bus table rows width file) (before_each (form_of (watch bus table rows width file)).arguments) file_rule file (takes_file refl)
+    (record { choices = tt; known = refl; apart = refl; defaults = refl; none_by_default = refl; first = refl; valid = λ rows. refl })
     (record { step = refl; passes = refl; found = refl; checks = refl }) refl refl
     (memory_of_bus bus _ (memory_of_value _ _ rows _ (memory_of_value _ _ width _ tt)))

@@ -16,7 +16,7 @@ use Rattle.j39_cli.proofs.PartLemmas.{Part, given, held_after, part_passes, part
 
 -- ---- values of one row
 
-abbrev added : Text → Reading → List Text → List Row → List Row
+abbrev pub added : Text → Reading → List Text → List Row → List Row
 added id how values rows = with_values id how CommandLine values rows
 
 -- a row that came of words is one that came of words
@@ -29,7 +29,7 @@ abbrev with_row : Bool → List Row → Row → List Row → List Row
 with_row b changed r others = if b then changed ++ [] else r ∷ others
 
 -- first some values, then more
-added_twice : (id : Text) (how : Reading) (xs ys : List Text) (rows : List Row) → bytes_eq id id ≡ true
+pub added_twice : (id : Text) (how : Reading) (xs ys : List Text) (rows : List Row) → bytes_eq id id ≡ true
     → added id how ys (added id how xs rows) ≡ added id how (xs ++ ys) rows
 added_twice id how xs ys [] same = rw same refl
 added_twice id how xs ys (r ∷ rows) same = go (bytes_eq r.id id) refl (added_twice id how xs ys rows same)
@@ -69,7 +69,7 @@ module _ (s : Shape) (a : Rule) (takes : TakesEach s a) (skip position : ℕ) (h
   abbrev with_text : Text → List Row → List Row
   with_text text rows = added a.id (reading_by a) (text ∷ []) rows
 
-  settles : (text : Text) (rows : List Row) → settled s.rules (behind_word a text rows skip position).held
+  pub settles : (text : Text) (rows : List Row) → settled s.rules (behind_word a text rows skip position).held
       ≡ record { rows = with_text text rows; pending = None; skip = skip }
   settles text rows = rw (takes.known, takes.appends) refl
 
@@ -132,11 +132,11 @@ pub record EndsWith (s : Shape) (a : Rule) (ps : List Part) (text : Text) : Type
   pub here : arg_by_index s.rules position ≡ Some a
   pub is : parts_walk s.rules (walk_from nothing_held) ps ≡ behind_word a text (held_after s ps).rows (held_after s ps).skip position
 
-parts_walk-append : (rules : List Rule) (w : Walk) (ps qs : List Part) → parts_walk rules w (ps ++ qs) ≡ parts_walk rules (parts_walk rules w ps) qs
+pub parts_walk-append : (rules : List Rule) (w : Walk) (ps qs : List Part) → parts_walk rules w (ps ++ qs) ≡ parts_walk rules (parts_walk rules w ps) qs
 parts_walk-append rules w [] qs = refl
 parts_walk-append rules w (p ∷ ps) qs = parts_walk-append rules (part_walked rules w p) ps qs
 
-parts_pass-append : (s : Shape) (w : Walk) (ps qs : List Part) → parts_pass s w (ps ++ qs) ≡ parts_pass s w ps && parts_pass s (parts_walk s.rules w ps) qs
+pub parts_pass-append : (s : Shape) (w : Walk) (ps qs : List Part) → parts_pass s w (ps ++ qs) ≡ parts_pass s w ps && parts_pass s (parts_walk s.rules w ps) qs
 unfolding parts_pass
 parts_pass-append s w [] qs = refl
 parts_pass-append s w (p ∷ ps) qs = ap (λ (b : Bool). part_passes s w p && b) (parts_pass-append s (part_walked s.rules w p) ps qs)

@@ -8,6 +8,7 @@ pub mod EachLemmas
 pub mod TakenLemmas
 pub mod AskedLemmas
 pub mod ArgumentLemmas
+pub mod ChoiceLemmas
 pub mod CommandLemmas
 pub mod MetLemmas
 -- lists in one word: for `parse`
@@ -16,3 +17,5 @@ pub mod ListLemmas
 pub mod JoinedLemmas
 -- a run's faults: for `perform`
 pub mod RunLemmas
+-- the order of FILEs
+pub mod OrderLemmas

@@ -87,8 +87,8 @@ is_text_found found id text is = rw is
 is_command_found : (s : CommandWords) (found : Found) → AreFound found (form_of s).arguments
     → s ≡ command_found (form_of s).called found
 is_command_found (command.report bus table spn from to pgn since until csv json file) found are = cc
-is_command_found (command.summary bus table from to pgn since until csv json file) found are = cc
-is_command_found (command.faults bus table conversion all changes now csv json file) found are = cc
+is_command_found (command.summary bus table spn from to pgn since until csv json file) found are = cc
+is_command_found (command.faults bus table conversion spn from to pgn since until all changes now csv json file) found are = cc
 is_command_found (command.nodes bus from csv json file) found are = cc
 is_command_found (command.answer node address bus file) found are =
     cc (is_text_found found (codes "name") node are.0, is_text_found found (codes "address") address are.1.0)

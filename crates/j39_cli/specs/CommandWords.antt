@@ -25,9 +25,10 @@ use Rattle.j39_cli.specs.declared.task.ParseFault.TheVariants.{Memory}
 pub data CommandWords : Type 0 where
   report : Option Text → Option Text → Option Text → Option Text → Option Text → Option Text → Option Text → Option Text → Bool → Bool
       → List Text → CommandWords
-  summary : Option Text → Option Text → Option Text → Option Text → Option Text → Option Text → Option Text → Bool → Bool → List Text
-      → CommandWords
-  faults : Option Text → Option Text → Option Text → Bool → Bool → Bool → Bool → Bool → List Text → CommandWords
+  summary : Option Text → Option Text → Option Text → Option Text → Option Text → Option Text → Option Text → Option Text → Bool → Bool
+      → List Text → CommandWords
+  faults : Option Text → Option Text → Option Text → Option Text → Option Text → Option Text → Option Text → Option Text → Option Text → Bool → Bool
+      → Bool → Bool → Bool → List Text → CommandWords
   nodes : Option Text → Option Text → Bool → Bool → List Text → CommandWords
   answer : Text → Text → Option Text → List Text → CommandWords
   id : Text → CommandWords
@@ -39,8 +40,9 @@ pub data CommandWords : Type 0 where
 
 abbrev pub form_of : CommandWords → Form
 form_of (report bus table spn from to pgn since until csv json file) = report_form bus table spn from to pgn since until csv json file
-form_of (summary bus table from to pgn since until csv json file) = summary_form bus table from to pgn since until csv json file
-form_of (faults bus table conversion all changes now csv json file) = faults_form bus table conversion all changes now csv json file
+form_of (summary bus table spn from to pgn since until csv json file) = summary_form bus table spn from to pgn since until csv json file
+form_of (faults bus table conversion spn from to pgn since until all changes now csv json file) =
+    faults_form bus table conversion spn from to pgn since until all changes now csv json file
 form_of (nodes bus from csv json file) = nodes_form bus from csv json file
 form_of (answer node address bus file) = answer_form node address bus file
 form_of (id hex) = id_form hex
@@ -82,11 +84,11 @@ command_found called found =
     let pgn = first_value found (codes "pgn") in
     let since = first_value found (codes "since") in
     let until = first_value found (codes "until") in
-    if bytes_eq called (codes "report") then
-    report bus table (first_value found (codes "spn")) from to pgn since until csv json file
-    else if bytes_eq called (codes "summary") then summary bus table from to pgn since until csv json file
+    let spn = first_value found (codes "spn") in
+    if bytes_eq called (codes "report") then report bus table spn from to pgn since until csv json file
+    else if bytes_eq called (codes "summary") then summary bus table spn from to pgn since until csv json file
     else if bytes_eq called (codes "faults") then
-    faults bus table (first_value found (codes "conversion")) (is_given (first_value found (codes "all")))
+    faults bus table (first_value found (codes "conversion")) spn from to pgn since until (is_given (first_value found (codes "all")))
     (is_given (first_value found (codes "changes"))) (is_given (first_value found (codes "now"))) csv json file
     else if bytes_eq called (codes "nodes") then nodes bus from csv json file
     else if bytes_eq called (codes "answer") then

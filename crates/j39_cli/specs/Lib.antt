@@ -20,6 +20,7 @@ pub mod LogCommand
 pub mod FilterWords
 pub mod Joined
 pub mod JoinedSoFar
+pub mod RowsRun
 pub mod ReportCommand
 pub mod SummaryCommand
 pub mod FaultsCommand
@@ -39,3 +40,5 @@ pub mod WholeText
 pub mod Counted
 pub mod OwnTable
 pub mod Unknown
+pub mod Order
+pub mod FileSpans

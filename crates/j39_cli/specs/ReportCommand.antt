@@ -1,25 +1,23 @@
 -- The command `report [--bus B] [--table T] [--spn SPN,..] [--from A,..] [--to A,..] [--pgn PGN,..] [--since S] [--until S] [--csv | --json] [FILE]..`.
-use Rattle.std.specs.Prelude.{◌≡◌, ◌≢◌, ◌⊎◌, ◌∷◌, ℕ, Bool, true, false, List, [], Option, None, Some, codes, option_map}
+use Rattle.std.specs.Prelude.{◌≡◌, ◌≢◌, ◌∷◌, ℕ, Bool, true, false, List, [], Option, None, Some, codes, option_map}
 use Rattle.std.specs.Option.{ForSome}
-use Rattle.j39_io.specs.Turn.{Turn, Writes}
+use Rattle.j39_io.specs.Turn.{Turn}
 use Rattle.clap.specs.Words.{App, Text, new_app, with_rule}
-use Rattle.j39_groups.specs.Readings.{HaveSameGroups, rows_of_spns}
 use Rattle.j39_groups.specs.Row.{RowRecord}
 use Rattle.j39_listen.specs.Asking.{AsksForBoxes}
 use Rattle.j39_listen.specs.Headed.{Headed}
 use Rattle.j39_listen.specs.Filter.{FilterRecord, MakesFiltered}
 use Rattle.j39_listen.specs.Output.{Making}
-use Rattle.j39_listen.specs.declared.running.RunFault.TheVariants.{Memory}
 use Rattle.j39_log.specs.Bus.{IsBusName}
-use Rattle.j39_reports.specs.ReportObjects.{MakesFilteredObjects}
-use Rattle.j39_reports.specs.ReportRecords.{MakesFilteredRecords}
+use Rattle.j39_reports.specs.ReportObjects.{MakesObjects}
+use Rattle.j39_reports.specs.ReportRecords.{MakesRecords}
 use Rattle.j39_reports.specs.EntryText.{header_text}
 use Rattle.j39_cli.specs.Answer.{IsBusChecked, IsChecked, IsTask, IsValueChecked}
 use Rattle.j39_cli.specs.Asked.{IsAddressList, IsAsked, IsMoment, IsPgnList, IsSenderList, filter_in}
 use Rattle.j39_cli.specs.FilterWords.{with_filter}
 use Rattle.j39_cli.specs.Form.{Form, Meaning, flag, option, values}
-use Rattle.j39_cli.specs.LogCommand.{IsRun, fault_text, with_forms, with_log, written_by}
-use Rattle.j39_cli.specs.Refusal.{error_line}
+use Rattle.j39_cli.specs.LogCommand.{with_forms, with_log, written_by}
+use Rattle.j39_cli.specs.RowsRun.{IsRowsRun}
 use Rattle.j39_cli.specs.Rules.{option_rule, with_table}
 use Rattle.j39_cli.specs.Spns.{IsSpnList, spns_in}
 use Rattle.j39_cli.specs.declared.task.Argument.TheVariants as argument
@@ -62,24 +60,12 @@ report_form bus table spn from to pgn since until csv json file = record {
 -- what it makes of the frames by a table: the entries of the report that are asked for
 abbrev pub makes_in : Format → FilterRecord → List RowRecord → Making
 makes_in Line which rows = MakesFiltered rows which
-makes_in Record which rows = Headed header_text (MakesFilteredRecords rows which)
-makes_in Object which rows = MakesFilteredObjects rows which
+makes_in Record which rows = Headed header_text (MakesRecords rows which)
+makes_in Object which rows = MakesObjects rows which
 
--- memory was refused before the log was read: that is told, and nothing is written
-pub record IsNotBegun (status : ℕ) (log out err : Turn) : Type 0 where
-  pub status_is : status ≡ 1
-  pub unread : log.new ≡ log.old
-  pub unwritten : out.new ≡ out.old
-  pub told : Writes err (error_line (fault_text Memory) [])
-
--- by the whole table, or by its rows of the parameters that are asked for
 abbrev pub IsReportRun : Option (List ℕ) → FilterRecord → Format → List RowRecord → Option (List ℕ) → ℕ → Turn → Turn → Turn
     → Type 0
-IsReportRun None which format rows bus status log out err =
-    IsRun AsksForBoxes (makes_in format which rows) bus status log out err
-IsReportRun (Some spns) which format rows bus status log out err =
-    ((kept : List RowRecord) × HaveSameGroups kept (rows_of_spns spns rows)
-    × IsRun AsksForBoxes (makes_in format which kept) bus status log out err) ⊎ IsNotBegun status log out err
+IsReportRun spns which format = IsRowsRun (λ rows. AsksForBoxes) (makes_in format which) spns
 
 abbrev pub report_meaning : LogInput → Option (List ℕ) → Option (List ℕ) → Asked → Format → Meaning
 report_meaning input table spns asked format = record {

@@ -23,8 +23,8 @@ use Rattle.j39_cli.specs.declared.task.Task.TheVariants.{Report, Summary, Faults
 
 abbrev pub meaning_of : Task → Meaning
 meaning_of (Report input table spns asked format) = report_meaning input table spns asked format
-meaning_of (Summary input table asked format) = summary_meaning input table asked format
-meaning_of (Faults input table conversions told format) = faults_meaning input table conversions told format
+meaning_of (Summary input table spns asked format) = summary_meaning input table spns asked format
+meaning_of (Faults input table conversions spns asked told format) = faults_meaning input table conversions spns asked told format
 meaning_of (Nodes input from format) = nodes_meaning input from format
 meaning_of (Answer name address input) = answer_meaning (name_raw name) address input
 meaning_of (Id id) = id_meaning (id_raw id)

@@ -5,7 +5,7 @@ use Rattle.j39_groups.specs.Names.{parameter_name}
 use Rattle.j39_groups.specs.Row.{RowRecord}
 use Rattle.j39_cli.specs.Refusal.{error_line}
 use Rattle.j39_cli.specs.declared.task.Task.{Task}
-use Rattle.j39_cli.specs.declared.task.Task.TheVariants.{Report}
+use Rattle.j39_cli.specs.declared.task.Task.TheVariants.{Report, Summary}
 
 -- a row that has the parameter gives it a name
 abbrev pub has_row : List RowRecord → ℕ → Bool
@@ -18,9 +18,10 @@ unknown_line rows spn = if has_row rows spn then [] else error_line (codes "no r
 abbrev pub unknown_words : List RowRecord → List ℕ → List ℕ
 unknown_words rows spns = flat_map (unknown_line rows) spns
 
--- the parameters that a report is asked for
+-- the parameters that a report or a summary is asked for
 abbrev pub spns_of : Task → Option (List ℕ)
 spns_of (Report input table spns asked format) = spns
+spns_of (Summary input table spns asked format) = spns
 spns_of task = None
 
 -- what is said of those that a task asks for

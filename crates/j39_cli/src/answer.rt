@@ -28,14 +28,14 @@ use j39_log::Bus;
 use std::alloc::{AllocError, Global};
 
 const ABOUT: &str = "\
-Writes the frames that a device with this NAME would have sent to get and keep an
-address, had it been on the bus of a log, as lines of a log. It claims its address
+Writes the frames that a controller with this NAME would have sent to get and keep
+an address, had it been on the bus of a log, as lines of a log. It claims its address
 at the first frame. It answers a claim of the same address, takes another address
 or gives up, answers requests for address claims, and obeys a commanded address
 that is broadcast. `j1939 name` explains a NAME.";
 
 const HELP: &str = "\
-A frame whose identifier ends with FE says that the device has no address.
+A frame whose identifier ends with FE says that the controller has no address.
 
 At the end the counts go to standard error:
   frames    frames of the bus that is read
@@ -53,11 +53,11 @@ writes lines such as
 pub(crate) fn command<'a>(alloc: Global) -> Result<Command<'a>, AllocError>
     ensures { IsMade result answer_app }
 {
-    let about = "Writes what a device of a NAME would have sent to get and keep an address";
+    let about = "Writes what a controller would have sent to get and keep an address";
     let command = new_command(alloc, "answer", about, ABOUT, HELP);
-    let help = "The NAME of the device, 16 hex digits (of either case, no 0x), the top bits first";
+    let help = "Its NAME, 16 hex digits (of either case, no 0x), the top bits first";
     let command = with_option(alloc, command, "name", "H", true, help);
-    let help = "The address that the device claims first, 0 to 253, in decimal";
+    let help = "The address that it claims first, 0 to 253, in decimal";
     with_log(
         alloc,
         with_option(alloc, command, "address", "N", true, help),

@@ -1,5 +1,5 @@
 //! Which entries of a report are asked for.
-ghost use Rattle.std.specs.Prelude.{◌≡◌, true};
+ghost use Rattle.std.specs.Prelude.{◌≡◌, ◌↔◌, true};
 ghost use Rattle.std.specs.Option.{SomeIff};
 ghost use Rattle.std.specs.Str.Parse.{digits_value};
 ghost use Rattle.j39_listen.specs.Chooses.{which_of};
@@ -36,7 +36,7 @@ pub struct Asked {
 impl Asked {
     /// Whether all are.
     pub(crate) fn is_everything(&self) -> bool
-        ensures { result ≡ true → filter_in self.now ≡ no_filter }
+        ensures { (result ≡ true) ↔ (filter_in self.now ≡ no_filter) }
     {
         self.from.is_none()
             && self.to.is_none()
@@ -223,7 +223,7 @@ pub(crate) fn pgns_of(text: &[u8]) -> Option<Pgns>
     }
 }
 
-/// The moment of a stamp; behind `+` so many seconds behind the first frame.
+/// The moment of a stamp; behind `+` so many seconds behind the first frame. `None` for any other text.
 pub(crate) fn moment_of(text: &[u8]) -> Option<Moment>
     ensures { SomeIff result (IsMoment text.now) (moment_in text.now) }
 {
@@ -236,7 +236,7 @@ pub(crate) fn moment_of(text: &[u8]) -> Option<Moment>
     }
 }
 
-/// The microseconds of a stamp, in seconds or as a date and time in UTC.
+/// The microseconds of a stamp, in seconds or as a date and time in UTC; `None` for any other text.
 fn stamp_of(text: &[u8]) -> Option<u64>
     ensures { SomeIff result (IsStamp text.now) (stamp_in text.now) }
 {

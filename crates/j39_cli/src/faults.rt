@@ -1,26 +1,30 @@
 //! The command `faults`: its words, and how it is performed.
 ghost use Rattle.std.specs.Prelude.{◌≡◌, codes, true, false};
 ghost use Rattle.j39_io.specs.Turn.{turn};
+ghost use Rattle.j39_listen.specs.Chooses.{which_of};
 ghost use Rattle.j39_listen.specs.Headed.{begins_flushed};
+ghost use Rattle.j39_cli.specs.Asked.{filter_in};
 ghost use Rattle.j39_listen.specs.Ran.{PassesOn};
 ghost use Rattle.j39_cli.specs.LogCommand.{log_limit};
-ghost use Rattle.clap.specs.Words.{found_of};
+ghost use Rattle.clap.specs.Words.{first_value, found_of};
 ghost use Rattle.j39_cli.specs.CommandWords.{IsAnswered, command_found};
 ghost use Rattle.j39_cli.specs.FaultsCommand.{IsFaultsRun, asks_by, faults_app, makes_by, told_by, versions_in};
 ghost use Rattle.j39_reports.specs.Broken.{ToldFaults};
-ghost use Rattle.j39_cli.specs.Rules.{IsMade};
+ghost use Rattle.j39_reports.specs.FaultsSoFar.{spns_now};
+ghost use Rattle.j39_cli.specs.Rules.{IsMade, is_given};
 
 use crate::command::{new_command, with_flag, with_option, with_table};
 use crate::fields::fault_counts_line;
+use crate::filter_words::{asked_value, with_filter};
 use crate::log::{LOG_LIMIT, copy_of, tell_fault, with_forms, with_log};
 use crate::refusal::show;
-use crate::words::{bus_value, conversions_value, format_given, is_set, log_input};
-use crate::{Argument, Conversions, FaultsTold, ParseFault, Task, WordText};
+use crate::words::{bus_value, conversions_value, format_given, is_set, log_input, spns_value};
+use crate::{Argument, Asked, Conversions, FaultsTold, ParseFault, Spns, Task, WordText};
 use clap::{ArgMatches, Command};
 use j39_faults::Conversion;
 use j39_groups::Groups;
 use j39_io::{Sink, Source};
-use j39_listen::{Format, RunFault};
+use j39_listen::{Filter, Format, RunFault};
 use j39_log::Bus;
 use j39_reports::{Choice, FaultCounts, Telling, faults, faults_now};
 use std::alloc::{AllocError, Global};
@@ -38,13 +42,13 @@ none. With --now instead, at the end of the log, each code that the last DM1 of 
 controller names, or that it names none. Then the line's time is that of the first
 DM1 since which the controller names the code; behind the NAME stand the time of the
 last DM1, and how many there are. Who fell silent still stands there. The line has
-the time, the source address (hex), the NAME of the device at that address (hex, or
-dashes where no claim before tells it), the state, or what
-became of the code, the SPN, the FMI, how often it came (or -), the lamps of the
-device (a flashing one with *, or - where all are off), what the table calls the
-parameter, and what the FMI means. A message with no code writes none. Who asks to
-clear codes is told too, but for --changes and --now: the previously active ones
-(DM3), or the active ones (DM11), of all (FF) or of one.";
+the time, the source address (hex), the NAME that holds it (hex, or dashes if no
+claim before tells it), the state, or what became of the code, the SPN, the FMI, how
+often it came (or -), the lamps of the controller (a flashing one with *, or - if all
+are off), what the table calls the parameter, and what the FMI means. A message with
+no code writes none. Who asks to clear codes is told too, but for --changes and
+--now: the previously active ones (DM3), or the active ones (DM11), of all (FF) or of
+one.";
 
 const HELP: &str = "\
 At the end the counts go to standard error:
@@ -71,6 +75,9 @@ pub(crate) fn command<'a>(alloc: Global) -> Result<Command<'a>, AllocError>
     let help =
         "By which version of their conversion older SPNs are read: 1, 2 or 3, of all; or NAME=1,..";
     let command = with_option(alloc, command, "conversion", "C", false, help);
+    let help = "The codes of these parameters alone: 1 to 32 SPNs, with commas between them";
+    let command = with_option(alloc, command, "spn", "SPN,..", false, help);
+    let command = with_filter(alloc, command);
     let help = "Each message of faults, whether it is news or not";
     let command = with_flag(alloc, command, "all", help);
     let help = "What became of active codes: set, again (its count rose) or cleared";
@@ -85,11 +92,7 @@ pub(crate) fn task<'a>(alloc: Global, given: &ArgMatches<'a>) -> Result<Task<'a>
     ensures { IsAnswered (command_found (codes "faults") (found_of given.now)) result }
 {
     let table = given.get_str("table").map(WordText::new);
-    let told = told_by(
-        is_set(given, "all"),
-        is_set(given, "changes"),
-        is_set(given, "now"),
-    );
+    let told = told_value(given);
     let format = format_given(given);
     let bus = match bus_value(given) {
         Ok(bus) => bus,
@@ -97,6 +100,14 @@ pub(crate) fn task<'a>(alloc: Global, given: &ArgMatches<'a>) -> Result<Task<'a>
     };
     let conversions = match conversions_value(given) {
         Ok(conversions) => conversions,
+        Err(fault) => return Err(fault),
+    };
+    let spns = match spns_value(given) {
+        Ok(spns) => spns,
+        Err(fault) => return Err(fault),
+    };
+    let asked = match asked_value(given) {
+        Ok(asked) => asked,
         Err(fault) => return Err(fault),
     };
     let Some(told) = told else {
@@ -110,11 +121,25 @@ pub(crate) fn task<'a>(alloc: Global, given: &ArgMatches<'a>) -> Result<Task<'a>
             input,
             table,
             conversions,
+            spns,
+            asked,
             told,
             format,
         }),
         Err(fault) => Err(fault),
     }
+}
+
+/// What is told by its words.
+fn told_value(given: &ArgMatches<'_>) -> Option<FaultsTold>
+    ensures { result ≡ told_by (is_given (first_value (found_of given.now) (codes "all")))
+        (is_given (first_value (found_of given.now) (codes "changes"))) (is_given (first_value (found_of given.now) (codes "now"))) }
+{
+    told_by(
+        is_set(given, "all"),
+        is_set(given, "changes"),
+        is_set(given, "now"),
+    )
 }
 
 /// What is told by `--all`, `--changes` and `--now`, of which no two go together.
@@ -142,19 +167,31 @@ pub(crate) fn versions_in(conversions: &Option<Conversions>) -> &[Conversion]
     }
 }
 
+/// The numbers of the parameters that are asked for.
+fn numbers_in(spns: &Option<Spns>) -> Option<&[u32]>
+    ensures { spns_now result ≡ spns.now }
+{
+    match spns {
+        Some(spns) => Some(spns.as_slice()),
+        None => None,
+    }
+}
+
 /// Performs it by a table of parameters: the faults go to `sink`, the counts or what failed to `err`.
 pub(crate) fn perform<R: Source, W: Sink, E: Sink>(
     alloc: Global,
     groups: &Groups<'_>,
     bus: &Option<Bus>,
     conversions: &[Conversion],
+    spns: &Option<Spns>,
+    asked: &Asked,
     told: FaultsTold,
     format: Format,
     source: &mut R,
     sink: &mut W,
     err: &mut E,
 ) -> u8
-    ensures run { IsFaultsRun (makes_by conversions.now told format groups.now) (asks_by told) bus.now result
+    ensures run { IsFaultsRun (makes_by conversions.now spns.now (filter_in asked.now) told format groups.now) (asks_by told) bus.now result
         (turn R.remaining R.has_failed source.old source.new)
         (turn W.written W.has_failed sink.old sink.new)
         (turn E.written E.has_failed err.old err.new) }
@@ -163,7 +200,20 @@ pub(crate) fn perform<R: Source, W: Sink, E: Sink>(
     ensures passed_on { E.has_failed err.new ≡ false → E.is_flushed err.new ≡ true }
 {
     let bus = copy_of(bus);
-    match run(alloc, groups, conversions, told, format, source, sink, bus) {
+    let filter = asked.filter_given();
+    let numbers = numbers_in(spns);
+    match run(
+        alloc,
+        groups,
+        conversions,
+        numbers,
+        filter,
+        told,
+        format,
+        source,
+        sink,
+        bus,
+    ) {
         Ok(told) => {
             show(err, fault_counts_line(told).as_slice());
             0
@@ -177,13 +227,15 @@ fn run<R: Source, W: Sink>(
     alloc: Global,
     groups: &Groups<'_>,
     conversions: &[Conversion],
+    spns: Option<&[u32]>,
+    filter: Option<Filter<'_>>,
     told: FaultsTold,
     format: Format,
     source: &mut R,
     sink: &mut W,
     bus: Option<Bus>,
 ) -> Result<FaultCounts, RunFault>
-    ensures told { ToldFaults (makes_by conversions.now told format groups.now) (asks_by told) bus log_limit result
+    ensures told { ToldFaults (makes_by conversions.now (spns_now spns.entry) (which_of filter.entry) told format groups.now) (asks_by told) bus log_limit result
         (turn R.remaining R.has_failed source.old source.new) (turn W.written W.has_failed sink.old sink.new) }
     ensures flushed { PassesOn result (begins_flushed format (W.is_flushed sink.old)) (W.is_flushed sink.new) }
 {
@@ -192,6 +244,8 @@ fn run<R: Source, W: Sink>(
             let choice = Choice {
                 telling,
                 conversions,
+                filter,
+                spns,
             };
             faults(alloc, groups, format, choice, source, sink, bus, LOG_LIMIT)
         }
@@ -200,6 +254,8 @@ fn run<R: Source, W: Sink>(
             groups,
             format,
             conversions,
+            filter,
+            spns,
             source,
             sink,
             bus,

@@ -20,7 +20,7 @@ use std::alloc::{AllocError, Global};
 
 const ABOUT: &str = "\
 Writes the fields of a 29-bit identifier in decimal: the priority, the PGN, the
-destination address (255 for all, - where the group has none) and the source
+destination address (255 for all, - if the group has none) and the source
 address.";
 
 const HELP: &str = "\

@@ -1,7 +1,7 @@
 //! Logs that are read one behind the other, as one.
-ghost use Rattle.std.specs.Prelude.{◌≡◌, ◌∷◌, ◌<◌, IfSome, MatchOption, MatchResult, false, length, map, take};
+ghost use Rattle.std.specs.Prelude.{◌≡◌, ◌∷◌, ◌<◌, IfSome, MatchOption, MatchResult, None, false, length, map, take, true};
 ghost use Rattle.std.specs.Io.{ReadsAtMost};
-ghost use Rattle.std.specs.Io.KnownBytes.{Consumes, IsAtEnd, Keeps};
+ghost use Rattle.std.specs.Io.KnownBytes.{Consumes, IsAtEnd, Keeps, ReadConsumes};
 ghost use Rattle.j39_io.specs.Device.{Marks};
 ghost use Rattle.j39_cli.specs.Joined.{joined_known};
 ghost use Rattle.j39_cli.specs.JoinedSoFar.{GoesOn, current_of, has_fault, later_of, left_in};
@@ -46,6 +46,7 @@ impl<R: Source + Drop> Joined<R> {
             (λ _. Keeps (left_in R.remaining self.old) (left_in R.remaining self.new)) }
         ensures mark { Marks result (has_fault self.old) (has_fault self.new) }
         ensures later { later_of self.new ≡ later_of self.old }
+        ensures device { Marks result (R.has_failed (current_of self.old)) (R.has_failed (current_of self.new)) }
     {
         match self.current.pull(buf) {
             Ok(n) => {
@@ -67,6 +68,7 @@ impl<R: Source + Drop> Joined<R> {
             (IsAtEnd (left_in R.remaining self.new) × Keeps (left_in R.remaining self.old) (left_in R.remaining self.new))
             (λ is_open. GoesOn is_open (left_in R.remaining self.old) (left_in R.remaining self.new)) }
         ensures mark { has_fault self.new ≡ has_fault self.old }
+        ensures kept { result ≡ None → (current_of self.new ≡ current_of self.old) × (later_of self.new ≡ later_of self.old) }
         ensures fewer { IfSome result (λ _. length (later_of self.new) < length (later_of self.old)) }
     {
         let next = self.later.pop()?;
@@ -84,7 +86,13 @@ impl<R: Source + Drop> Source for Joined<R> {
 
     ghost has_failed = { λ joined. has_fault joined };
 
-    fn pull(&mut self, buf: &mut [u8]) -> Result<usize, DeviceFault> {
+    fn pull(&mut self, buf: &mut [u8]) -> Result<usize, DeviceFault>
+        ensures bound { ReadsAtMost result buf.new }
+        ensures bytes { ReadConsumes (left_in R.remaining self.old) (left_in R.remaining self.new) result buf.new }
+        ensures mark { Marks result (has_fault self.old) (has_fault self.new) }
+        ensures device { MatchResult result (λ _. later_of self.new ≡ later_of self.old
+            → R.has_failed (current_of self.new) ≡ R.has_failed (current_of self.old)) (λ _. R.has_failed (current_of self.new) ≡ true) }
+    {
         let mut n = self.read(buf)?;
         while n == 0 && !buf.is_empty() {
             match self.go_on() {

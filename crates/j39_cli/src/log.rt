@@ -42,8 +42,7 @@ pub(crate) fn with_log<'a>(
 {
     let help = "The interface to read, as can0; without it, that of the first frame in the log";
     let command = with_option(alloc, command, "bus", "B", false, help);
-    let help =
-        "The log to read, or several, as one log; without it, or where it is -, standard input";
+    let help = "The log to read, or several, as one log; without it, or for -, standard input";
     with_values(alloc, command, "file", "FILE", help)
 }
 

@@ -20,7 +20,7 @@ use std::alloc::{AllocError, Global};
 
 const ABOUT: &str = "\
 Writes the ten fields of a 64-bit NAME in decimal, one on a line, from the top
-bits on. A device claims its address with its NAME; of two that claim one
+bits on. A controller claims its address with its NAME; of two that claim one
 address, the smaller NAME wins.";
 
 const HELP: &str = "\

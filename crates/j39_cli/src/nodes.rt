@@ -21,10 +21,12 @@ use j39_log::Bus;
 use std::alloc::{AllocError, Global};
 
 const ABOUT: &str = "\
-Writes who holds an address at the end of a log: one line for each address that is
-held, rising, with the source address (hex) and the NAME of the device (hex), by
-the address claims in the log. A device whose claim was lost to a smaller NAME, or
-that gave its address up, has none. `j1939 name` explains a NAME.";
+Writes who is at which address at the end of a log: one line for each address that
+is held, or that sent other frames than claims, rising. It has the source address
+(hex), the NAME that holds it (hex, or dashes if none does), the time of that NAME's
+last claim of it (or -), and the time of the last frame from there. A controller
+whose claim was lost to a smaller NAME, or that gave its address up, holds none.
+`j1939 name` explains a NAME.";
 
 const HELP: &str = "\
 At the end the counts go to standard error:
@@ -37,7 +39,7 @@ At the end the counts go to standard error:
 Example:
   j1939 nodes --bus can0 trip.log
 writes lines such as
-  00 8000000001401234";
+  00 8000000001401234 (1700000000.000000) (1700000060.250000)";
 
 /// What clap is told of it.
 pub(crate) fn command<'a>(alloc: Global) -> Result<Command<'a>, AllocError>

@@ -88,23 +88,27 @@ pub fn perform_with<R: Source, W: Sink, E: Sink>(
         }
         Task::Summary {
             input,
+            spns,
             asked,
             format,
             ..
         } => {
-            let end = summary::run(alloc, groups, asked, *format, &input.bus, source, sink);
-            tell_end(end, err)
+            summary::perform(
+                alloc, groups, &input.bus, spns, asked, *format, source, sink, err,
+            )
         }
         Task::Faults {
             input,
             conversions,
+            spns,
+            asked,
             told,
             format,
             ..
         } => {
             let versions = versions_in(conversions);
             faults::perform(
-                alloc, groups, &input.bus, versions, *told, *format, source, sink, err,
+                alloc, groups, &input.bus, versions, spns, asked, *told, *format, source, sink, err,
             )
         }
         Task::Nodes {

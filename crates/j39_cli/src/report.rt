@@ -3,7 +3,6 @@ ghost use Rattle.std.specs.Prelude.{◌≡◌, ◌⊎◌, OnOk, codes, false, tr
 ghost use Rattle.j39_io.specs.Turn.{turn};
 ghost use Rattle.clap.specs.Words.{found_of};
 ghost use Rattle.j39_listen.specs.Asking.{AsksForBoxes};
-ghost use Rattle.j39_listen.specs.Filter.{no_filter};
 ghost use Rattle.j39_listen.specs.Ran.{Ran};
 ghost use Rattle.j39_cli.specs.Asked.{filter_in};
 ghost use Rattle.j39_cli.specs.CommandWords.{IsAnswered, command_found};
@@ -19,20 +18,20 @@ use crate::{Argument, Asked, ParseFault, Spns, Task, WordText};
 use clap::{ArgMatches, Command};
 use j39_groups::Groups;
 use j39_io::{Sink, Source};
-use j39_listen::{Counts, Format, RunFault, run_filtered, run_with};
+use j39_listen::{Counts, Format, RunFault, run_filtered};
 use j39_log::Bus;
-use j39_reports::{report_csv, report_csv_filtered, report_json, report_json_filtered};
+use j39_reports::{report_csv, report_json};
 use std::alloc::{AllocError, Global};
 
 const ABOUT: &str = "\
 Writes one line for each parameter value in a log: the time, the source address
-(hex), the NAME of the device at that address (hex, or dashes where no claim
-before tells it), the PGN, the SPN, and the value with its unit. A value is a
-number, on or off, a text in quotes, or what the sender says in its place: error
-(it has a fault), indicator (a code of the parameter's own) or reserved (a code
-that means nothing yet). What it marks as not available has no line. Messages in
-packets are put together, broadcast or sent to one controller. `j1939 groups` says
-what the PGNs and SPNs are.";
+(hex), the NAME that holds this address (hex, or dashes if no claim before tells
+it), the PGN, the SPN, and the value with its unit. A value is a number, on or off,
+a text in quotes, or what the sender says in its place: error (it has a fault),
+indicator (a code of the parameter's own) or reserved (a code that means nothing
+yet). What it marks as not available has no line. Messages in packets are put
+together, broadcast or sent to one controller. `j1939 groups` says what the PGNs
+and SPNs are.";
 
 const HELP: &str = "\
 At the end the counts go to standard error:
@@ -140,39 +139,11 @@ fn run<R: Source, W: Sink>(
     ensures flushed { OnOk result (W.is_flushed sink.new ≡ true) }
     ensures passed_out { W.is_flushed sink.old ≡ true → W.has_failed sink.new ≡ false → W.is_flushed sink.new ≡ true }
 {
-    if asked.is_everything() {
-        return run_whole(alloc, groups, format, bus, source, sink);
-    }
-    let filter = asked.filter();
+    let filter = asked.filter_given();
     let bus = copy_of(bus);
     match format {
         Format::Line => run_filtered(alloc, groups, filter, source, sink, bus, LOG_LIMIT),
-        Format::Record => {
-            report_csv_filtered(alloc, groups, filter, source, sink, bus, LOG_LIMIT)
-        }
-        Format::Object => {
-            report_json_filtered(alloc, groups, filter, source, sink, bus, LOG_LIMIT)
-        }
-    }
-}
-
-/// Reads a log, and writes its whole report by a table of parameters.
-fn run_whole<R: Source, W: Sink>(
-    alloc: Global,
-    groups: &Groups<'_>,
-    format: Format,
-    bus: &Option<Bus>,
-    source: &mut R,
-    sink: &mut W,
-) -> Result<Counts, RunFault>
-    ensures ran { Ran (makes_in format no_filter groups.now) AsksForBoxes bus.now log_limit result
-        (turn R.remaining R.has_failed source.old source.new) (turn W.written W.has_failed sink.old sink.new) }
-    ensures flushed { OnOk result (W.is_flushed sink.new ≡ true) }
-    ensures passed_out { W.is_flushed sink.old ≡ true → W.has_failed sink.new ≡ false → W.is_flushed sink.new ≡ true }
-{
-    match format {
-        Format::Line => run_with(alloc, groups, source, sink, copy_of(bus), LOG_LIMIT),
-        Format::Record => report_csv(alloc, groups, source, sink, copy_of(bus), LOG_LIMIT),
-        Format::Object => report_json(alloc, groups, source, sink, copy_of(bus), LOG_LIMIT),
+        Format::Record => report_csv(alloc, groups, filter, source, sink, bus, LOG_LIMIT),
+        Format::Object => report_json(alloc, groups, filter, source, sink, bus, LOG_LIMIT),
     }
 }

@@ -161,6 +161,8 @@ pub enum Task<'a> {
         input: LogInput<'a>,
         /// The file of the table, as of a report.
         table: Option<WordText<'a>>,
+        /// The parameters that are asked for; `None` for all.
+        spns: Option<Spns>,
         /// Which entries are asked for.
         asked: Asked,
         /// How it is written.
@@ -174,6 +176,10 @@ pub enum Task<'a> {
         table: Option<WordText<'a>>,
         /// By which versions of their conversion SPNs are read; `None` for none.
         conversions: Option<Conversions>,
+        /// The parameters whose codes are asked for; `None` for all.
+        spns: Option<Spns>,
+        /// Which messages are told.
+        asked: Asked,
         /// What is told of them.
         told: FaultsTold,
         /// How they are written.

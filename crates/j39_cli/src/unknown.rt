@@ -27,6 +27,10 @@ pub fn asks_for_unknown<E: Sink>(groups: &Groups<'_>, task: &Task<'_>, err: &mut
             spns: Some(spns),
             ..
         } => tell_unknown(groups, spns.as_slice(), err),
+        Task::Summary {
+            spns: Some(spns),
+            ..
+        } => tell_unknown(groups, spns.as_slice(), err),
         _ => false,
     }
 }

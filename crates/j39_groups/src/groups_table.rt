@@ -196,6 +196,7 @@ impl<'t> Groups<'t> {
     }
 
     /// What a parameter of a group is called, and the state of a value of it: as `parameter_name_in` and `state_in` say.
+    #[inline(always)]
     pub fn called_in(
         &self,
         pgn: u32,

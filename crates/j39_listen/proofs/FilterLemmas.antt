@@ -65,7 +65,7 @@ no_message first (h ∷ hs) = ap (λ (xs : List Hearing). h ∷ xs) (no_message 
 
 -- ---- the entries of messages
 
-of_message : (f : FilterRecord) (first : ℕ) (h : Hearing) (rs : List ReadingRecord) (b : Bool) → takes_message f first h ≡ b
+pub of_message : (f : FilterRecord) (first : ℕ) (h : Hearing) (rs : List ReadingRecord) (b : Bool) → takes_message f first h ≡ b
     → taken f first (map (entry_of h) rs) ≡ (if b then map (entry_of h) rs else [])
 of_message f first h [] true is = refl
 of_message f first h [] false is = refl
@@ -84,7 +84,7 @@ of_messages f groups first (h ∷ hs) = elim (cases_Bool (takes_message f first 
 
 -- ---- by a NAME
 
-alone : (b : Bool) → ((b || false) && (true && (true && (true && true)))) ≡ b
+alone : (b : Bool) → ((true && true) && ((b || false) && (true && true))) ≡ b
 alone true = refl
 alone false = refl
 

@@ -1,4 +1,4 @@
--- The laws on what a report tells of publishers: one for loss and repeats at once, and from it the other two.
+-- What a report tells of publishers: the law `repeated`, for loss and repeats at once, and from it `thinned` and `published`.
 use Rattle.std.proofs.Common.{◌≡◌, ℕ, zero, suc, ◌≤◌, Bool, false, List, [], ◌++◌, length, flat_map, Option, refl, sym, ap, ◌∙◌, inl, inr, arith, append-nil}
 use Rattle.std.proofs.lemmas.Bool.{cases_lt, cases_eq, cases_Bool, both_ways}
 use Rattle.std.proofs.lemmas.Grind.{flat_map-append}

@@ -15,7 +15,6 @@ pub mod Existing
 pub mod ListenerLemmas
 -- the accounts: for those of `report`, `nodes` and `answer`
 pub mod ReportAccount
-pub mod FilteredAccount
 pub mod FilterLemmas
 pub mod SeenLemmas
 mod SecondsLemmas

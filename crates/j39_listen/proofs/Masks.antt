@@ -1,4 +1,4 @@
--- A list without the elements at some places.
+-- A list without the elements at some places: for lost packets and copies in the law `repeated`.
 use Rattle.std.proofs.Common.{◌≡◌, ℕ, zero, suc, ◌<◌, ◌≤◌, Bool, true, false, if◌then◌else◌, List, [], ◌∷◌, map, length, get_or, refl, sym, ap, ◌∙◌, subst, inl, inr, arith}
 use Rattle.std.proofs.lemmas.Bool.{cases_lt, cases_order, cases_Bool, cond-true, cond-false}
 use Rattle.j39_listen.specs.Loss.{later, without}

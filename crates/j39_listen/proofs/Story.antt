@@ -1,4 +1,4 @@
--- What publishers sent, and what was heard of it: which frame is which.
+-- What publishers sent, and what was heard of it: which frame is which. For the law `repeated`, by `Headline`.
 use Rattle.std.proofs.Common.{◌≡◌, ◌⊎◌, ℕ, ◌<◌, ◌≤◌, Bool, true, false, List, [], ◌∷◌, length, slice_index, refl, sym, ap, ◌∙◌, subst, inl, inr, arith}
 use Rattle.std.proofs.lemmas.Bool.{cases_lt, cases_eq, cases_Bool, both_ways, false_from_ne_true}
 use Rattle.j39_frame.specs.Frame.{FrameRecord}

@@ -68,14 +68,17 @@ abbrev pub is_until : ℕ → ℕ → Option Moment → Bool
 is_until first stamp None = true
 is_until first stamp (Some moment) = nat_le stamp (moment_micros first moment)
 
--- where the first frame has this stamp, what was sent so is asked for: by its stamp, of which both moments take their own, its
--- sender, its destination and its group
+-- so are its sender, its destination and its group
+abbrev pub is_listed : FilterRecord → ℕ → Option ℕ → Option ℕ → ℕ → Bool
+is_listed f address name destination pgn =
+    is_asked (is_sender address name) f.from
+    && (is_asked (λ asked. asked == goes_to destination) f.to && is_asked (λ asked. asked == pgn) f.pgns)
+
+-- where the first frame has this stamp, what was sent so is asked for: by its stamp, of which both moments take their own, and by
+-- its sender, its destination and its group
 abbrev pub asks_for : FilterRecord → ℕ → ℕ → ℕ → Option ℕ → Option ℕ → ℕ → Bool
 asks_for f first stamp address name destination pgn =
-    is_asked (is_sender address name) f.from
-    && (is_asked (λ asked. asked == goes_to destination) f.to
-    && (is_asked (λ asked. asked == pgn) f.pgns
-    && (is_since first stamp f.since && is_until first stamp f.until)))
+    (is_since first stamp f.since && is_until first stamp f.until) && is_listed f address name destination pgn
 
 -- so is the entry
 abbrev pub takes : FilterRecord → ℕ → Entry → Bool

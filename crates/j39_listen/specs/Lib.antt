@@ -30,7 +30,6 @@ pub mod Chooses
 pub mod OneFrameMore
 pub mod AccountCalls
 pub mod ReportSoFar
-pub mod FilteredSoFar
 pub mod NodesSoFar
 pub mod AnswersSoFar
 pub mod LinesSoFar

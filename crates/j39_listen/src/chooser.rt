@@ -1,5 +1,5 @@
 //! A filter that chooses among what is heard.
-ghost use Rattle.std.specs.Prelude.{◌≡◌, ◌++◌, ◌∷◌, [], List, unwrap_or};
+ghost use Rattle.std.specs.Prelude.{◌≡◌, ◌&&◌, ◌++◌, ◌∷◌, [], List, nat_le};
 ghost use Rattle.std.specs.Option.{option_map};
 ghost use Rattle.j39_address.specs.Name.{name_raw};
 ghost use Rattle.j39_frame.specs.Frame.{FrameRecord};
@@ -9,25 +9,33 @@ ghost use Rattle.j39_listen.specs.Filter.{FilterRecord, asks_for, first_stamp, t
 ghost use Rattle.j39_listen.specs.HeardModel.{hearing_of};
 
 use crate::Heard;
-use crate::filter::Filter;
+use crate::filter::{Filter, first_asked, last_asked};
 use j39_address::Name;
 use j39_frame::{Frame, Stamp};
 
-/// A filter, where one is given, and the stamp of the first frame, behind which its moments may be.
+/// A filter, and the stamps that it asks for: they may lie behind that of the first frame, so that they are known from there on.
 #[derive(Clone, Copy, Debug)]
 pub struct Chooser<'f> {
-    filter: Option<Filter<'f>>,
-    first: Option<Stamp>,
+    filter: Filter<'f>,
+    has_lists: bool,
+    is_begun: bool,
+    since: u64,
+    until: u64,
 }
 
 impl<'f> Chooser<'f> {
-    /// Before the first frame.
+    /// Before the first frame. Where no filter is given, all is taken.
     pub fn new(filter: Option<Filter<'f>>) -> Chooser<'f>
         ensures { Chooses (which_of filter.entry) result [] }
     {
+        let filter = filter.unwrap_or(Filter::ALL);
+        let zero = Stamp::new(0).unwrap();
         Chooser {
             filter,
-            first: None,
+            has_lists: filter.has_lists(),
+            is_begun: false,
+            since: first_asked(filter.since, zero),
+            until: last_asked(filter.until, zero),
         }
     }
 
@@ -37,9 +45,20 @@ impl<'f> Chooser<'f> {
         ensures { (which : FilterRecord) (F : List FrameRecord) → Chooses which self.old F
             → Chooses which self.new (F ++ frame.now ∷ []) }
     {
-        if self.first.is_none() {
-            self.first = Some(frame.stamp);
+        if !self.is_begun {
+            self.begin(frame.stamp);
         }
+    }
+
+    /// The first frame has this stamp.
+    #[inline(never)]
+    fn begin(&mut self, first: Stamp)
+        ensures { (which : FilterRecord) (f : FrameRecord) → f.stamp ≡ stamp_micros first → Chooses which self.old []
+            → Chooses which self.new (f ∷ []) }
+    {
+        self.is_begun = true;
+        self.since = first_asked(self.filter.since, first);
+        self.until = last_asked(self.filter.until, first);
     }
 
     /// Whether a message is taken.
@@ -48,13 +67,17 @@ impl<'f> Chooser<'f> {
         ensures { (which : FilterRecord) (F : List FrameRecord) → Chooses which self.now F
             → result ≡ takes_message which (first_stamp F) (hearing_of heard.now) }
     {
-        match self.filter {
-            None => true,
-            Some(filter) => filter.takes(self.first_stamp(), heard),
-        }
+        self.asks_for(
+            heard.message.stamp,
+            heard.message.source,
+            heard.name,
+            heard.destination,
+            heard.message.pgn.raw(),
+        )
     }
 
     /// Whether what was sent so is taken.
+    #[inline(always)]
     pub fn asks_for(
         &self,
         stamp: Stamp,
@@ -66,22 +89,15 @@ impl<'f> Chooser<'f> {
         ensures { (which : FilterRecord) (F : List FrameRecord) → Chooses which self.now F
             → result ≡ asks_for which (first_stamp F) (stamp_micros stamp) address (option_map name_raw name) destination pgn }
     {
-        match self.filter {
-            None => true,
-            Some(filter) => {
-                filter.asks_for(self.first_stamp(), stamp, address, name, destination, pgn)
-            }
-        }
+        let is_in_time = self.is_in_time(stamp);
+        is_in_time && (!self.has_lists || self.filter.is_listed(address, name, destination, pgn))
     }
 
-    /// The stamp of the first frame; 0 before it.
+    /// Whether both moments take the stamp.
     #[inline(always)]
-    fn first_stamp(&self) -> Stamp
-        ensures { stamp_micros result ≡ unwrap_or (option_map stamp_micros self.now.first) 0 }
+    fn is_in_time(&self, stamp: Stamp) -> bool
+        ensures { result ≡ (nat_le self.now.since (stamp_micros stamp) && nat_le (stamp_micros stamp) self.now.until) }
     {
-        match self.first {
-            Some(stamp) => stamp,
-            None => Stamp::new(0).unwrap(),
-        }
+        self.since <= stamp.micros() && stamp.micros() <= self.until
     }
 }

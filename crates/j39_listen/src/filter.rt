@@ -1,13 +1,13 @@
 //! Which entries of a report are asked for.
-ghost use Rattle.std.specs.Prelude.{◌≡◌, ◌==◌, ◌-◌, ◌^◌, Option, min};
+ghost use Rattle.std.specs.Prelude.{◌≡◌, ◌==◌, ◌-◌, ◌^◌, Option, min, nat_le};
 ghost use Rattle.std.specs.List.{list_any};
 ghost use Rattle.std.specs.Option.{option_map};
 ghost use Rattle.j39_address.specs.Name.{name_raw};
 ghost use Rattle.j39_frame.specs.Stamp.{stamp_micros};
-ghost use Rattle.j39_listen.specs.Filter.{asks_for, filter_of, goes_to, is_asked, is_name, is_sender, is_since, is_until, moment_micros, takes_message};
-ghost use Rattle.j39_listen.specs.HeardModel.{hearing_of};
+ghost use Rattle.j39_frame.specs.declared.stamp.Stamp.{Stamp};
+ghost use Rattle.j39_listen.specs.Chooses.{has_lists};
+ghost use Rattle.j39_listen.specs.Filter.{filter_of, goes_to, is_asked, is_listed, is_name, is_sender, is_since, is_until, moment_micros};
 
-use crate::Heard;
 use j39_address::Name;
 use j39_frame::Stamp;
 
@@ -21,8 +21,13 @@ pub enum Sender {
 }
 
 impl Default for Sender {
+    ghost use Rattle.std.specs.Prelude.{◌≡◌};
+    ghost use Rattle.j39_listen.specs.declared.filter.Sender.TheVariants.{Address};
+
     /// The address 0.
-    fn default() -> Sender {
+    fn default() -> Sender
+        ensures { result ≡ Address 0 }
+    {
         Sender::Address(0)
     }
 }
@@ -52,40 +57,34 @@ pub struct Filter<'f> {
 }
 
 impl<'f> Filter<'f> {
-    /// Whether a message is taken, where the first frame of the bus has this stamp.
-    #[inline(always)]
-    pub(crate) fn takes(&self, first: Stamp, heard: &Heard<'_>) -> bool
-        ensures { result ≡ takes_message (filter_of self.now) (stamp_micros first) (hearing_of heard.now) }
+    /// Takes all.
+    pub const ALL: Filter<'static> = Filter {
+        from: None,
+        to: None,
+        pgns: None,
+        since: None,
+        until: None,
+    };
+
+    /// Whether senders, destinations or groups are asked for.
+    pub(crate) fn has_lists(&self) -> bool
+        ensures { result ≡ has_lists (filter_of self.now) }
     {
-        self.asks_for(
-            first,
-            heard.message.stamp,
-            heard.message.source,
-            heard.name,
-            heard.destination,
-            heard.message.pgn.raw(),
-        )
+        self.from.is_some() || self.to.is_some() || self.pgns.is_some()
     }
 
-    /// Whether what was sent so is taken, where the first frame of the bus has this stamp.
+    /// Whether this sender, destination and group are asked for.
     #[inline(always)]
-    pub(crate) fn asks_for(
+    pub(crate) fn is_listed(
         &self,
-        first: Stamp,
-        stamp: Stamp,
         address: u8,
         name: Option<Name>,
         destination: Option<u8>,
         pgn: u32,
     ) -> bool
-        ensures { result ≡ asks_for (filter_of self.now) (stamp_micros first) (stamp_micros stamp) address
-            (option_map name_raw name) destination pgn }
+        ensures { result ≡ is_listed (filter_of self.now) address (option_map name_raw name) destination pgn }
     {
-        is_from(self.from, address, name)
-            && is_to(self.to, destination)
-            && is_of(self.pgns, pgn)
-            && is_since(self.since, first, stamp)
-            && is_until(self.until, first, stamp)
+        is_from(self.from, address, name) && is_to(self.to, destination) && is_of(self.pgns, pgn)
     }
 }
 
@@ -166,30 +165,27 @@ fn is_group_among(pgns: &[u32], pgn: u32) -> bool
     pgns.iter().any(|asked| *asked == pgn)
 }
 
-/// Whether a stamp is at this moment or later.
-#[inline(always)]
-fn is_since(since: Option<Moment>, first: Stamp, stamp: Stamp) -> bool
-    ensures { result ≡ is_since (stamp_micros first) (stamp_micros stamp) since }
+/// The first stamp that is asked for, in microseconds, where the first frame of the bus has this stamp.
+pub(crate) fn first_asked(since: Option<Moment>, first: Stamp) -> u64
+    ensures { (stamp : Stamp) → nat_le result (stamp_micros stamp) ≡ is_since (stamp_micros first) (stamp_micros stamp) since }
 {
     match since {
-        None => true,
-        Some(moment) => micros_of(moment, first) <= stamp.micros(),
+        None => 0,
+        Some(moment) => micros_of(moment, first),
     }
 }
 
-/// Whether a stamp is at this moment or before.
-#[inline(always)]
-fn is_until(until: Option<Moment>, first: Stamp, stamp: Stamp) -> bool
-    ensures { result ≡ is_until (stamp_micros first) (stamp_micros stamp) until }
+/// The last stamp that is asked for, in microseconds, where the first frame of the bus has this stamp.
+pub(crate) fn last_asked(until: Option<Moment>, first: Stamp) -> u64
+    ensures { (stamp : Stamp) → nat_le (stamp_micros stamp) result ≡ is_until (stamp_micros first) (stamp_micros stamp) until }
 {
     match until {
-        None => true,
-        Some(moment) => stamp.micros() <= micros_of(moment, first),
+        None => u64::MAX,
+        Some(moment) => micros_of(moment, first),
     }
 }
 
-/// The moment in microseconds, where the first frame of the bus has this stamp; one that no stamp reaches is the last.
-#[inline(always)]
+/// The moment in microseconds, if the first frame of the bus has this stamp; one from 2^64 on, which no stamp reaches, is 2^64 - 1.
 fn micros_of(moment: Moment, first: Stamp) -> u64
     ensures { result ≡ min (moment_micros (stamp_micros first) moment) (2 ^ 64 - 1) }
 {

@@ -33,7 +33,7 @@ ask_is w H now group to a b f e g k =
 
 -- a request is a message that may be sent
 pub sendable : (w : Who) (group to : ℕ) → can_ask w group to ≡ true → can_send w (request_for group to) ≡ true
-sendable w group to e = go (is_sendable group) (nat_eq to 255 || (nat_lt to 254 && not (nat_eq to w.address))) e
+sendable w group to e = go (is_sendable group || nat_eq group 60928) (nat_eq to 255 || (nat_lt to 254 && not (nat_eq to w.address))) e
   where
     go : (a b : Bool) → (a && b) ≡ true → (b && true) ≡ true
     go true true f = refl

@@ -501,6 +501,9 @@ stays w (call ∷ later) H q e n o z = go call (view call) n.0 (stays w later H 
     go _ (takes_one now f) x h = h
     go _ (quiet call s) x h = (s.current (later ++ H) ∙ h.0, s.ended w (later ++ H) ∙ h.1)
 
+some_left : (a b : ℕ) → b < a → nat_eq (a - b) 0 ≡ false
+some_left a b g = grind arith
+
 pub first_stands : (w : Who) (H later : List Call) (c : Controller) (f : FrameRecord) (q : Question) (e : AskEnding) (answer : Option (ℕ × AskEnding))
     → Is w (TakeAskEnded answer ∷ later ++ Hear f ∷ H) c → NoneEnds later → open_ask H ≡ Some q → IsTrue (is_taken q H) → ended w H ≡ None
     → step H f.stamp < wait H → is_lost (address_after w (Hear f ∷ H)) ≡ false → says_to w q f (made w H f) ≡ Some e → answer ≡ Some (q.token, e)
@@ -516,9 +519,6 @@ first_stands w H later c f q e answer is n o t none l kept says =
     is.answered.1
     ∙ (ap (λ (x : Option Question). ask_end x (length (sent G)) (ended w G) (wait G) (is_lost (address_after w G))) s.0
     ∙ ap (λ (x : Option AskEnding). ask_end (Some q) (length (sent G)) x (wait G) (is_lost (address_after w G))) s.1)
-  where
-    some_left : (a b : ℕ) → b < a → nat_eq (a - b) 0 ≡ false
-    some_left a b g = grind arith
 
 -- ---- where none is told
 

@@ -1,7 +1,7 @@
 -- A call more.
 use Rattle.std.proofs.Common.{◌≡◌, ℕ, suc, ◌+◌, ◌-◌, ◌<◌, ◌≤◌, List, [], ◌∷◌, ◌++◌, length, map, drop, min, Option, Some, None, IfSome, Result, Ok, Err, Bool, true, false, not, ◌&&◌, ◌||◌, if◌then◌else◌, nat_eq, nat_lt, nat_le, refl, sym, ap, ◌∙◌, subst, arith, lt-ltb}
 use Rattle.std.specs.List.{slice_get}
-use Rattle.std.specs.Option.{option_map}
+use Rattle.std.specs.Option.{option_map, option_or}
 use Rattle.j39_frame.specs.Frame.{FrameRecord}
 use Rattle.j39_address.specs.Claim.{claim_of}
 use Rattle.j39_address.specs.Claims.{Knows, holder_in}
@@ -23,14 +23,14 @@ use Rattle.j39_node.specs.declared.kinds.Answer.TheVariants.{Nack, Busy}
 use Rattle.j39_node.specs.declared.kinds.Ending.TheVariants.{Done, Withdrawn}
 use Rattle.j39_node.specs.declared.kinds.Refused.{Refused}
 use Rattle.j39_node.specs.declared.kinds.Refused.TheVariants.{NoAddress, BadValue, Full}
-use Rattle.j39_node.specs.Asking.{made, ended, has_token, open_ask, wait}
+use Rattle.j39_node.specs.Asking.{made, made_of, ended, has_token, open_ask, wait}
 use Rattle.j39_node.proofs.AskLemmas.{ask_heard, ask_more, ask_same, takes, wait_more, wait_same}
 use Rattle.j39_node.specs.Is.{AskRecord, made_by, asking_of, hears_with}
 use Rattle.j39_node.specs.Hold.{rested, asked as hold_asked, standing_of, less, passed, heard, claims, paused, stands, lost, left_at}
 use Rattle.j39_node.specs.History.{Who, Message, Draft, Call, Address, message_of, older, claimed, address_after, holds, is_lost, is_held, is_smaller, claim_address, claim_from, owes_claim, calls_for_claim, can_send, message_from, accepted, sent, told, is_full, step, moment, is_for_program, kept, got, missed, Asked, asked, acknowledgment, acknowledged, due, handed, requests, is_served, with_request, with_refusal, stamp_at, held_at, told_claims, is_another, is_acknowledgment, is_claim, lost_news, another_news, missed_news, broadcasts, broadcast_from, can_broadcast, has_packets, is_busy, is_left, is_open, is_packet, open_broadcast, packets, pause}
 use Rattle.j39_node.specs.History.Call.{Hear, TakeFrame, Send, TakeEnded, TakeRequest, Acknowledge, Broadcast, Transfer, TakeTransferEnded}
 use Rattle.j39_node.proofs.ReceptionLaws.{made_is}
-use Rattle.j39_node.specs.Reception.{has_place, IsApart, heard_at, heard_by, holder, is_same, is_waiting, leaves, left, reception, time_heard}
+use Rattle.j39_node.specs.Reception.{has_place, IsApart, heard_at, heard_by, holder, is_same, is_waiting, leaves, left, reception, time_heard, whole}
 use Rattle.j39_node.specs.declared.incoming.Incoming.{Incoming}
 use Rattle.j39_node.specs.declared.incoming.Said.{Said}
 use Rattle.j39_address.specs.declared.claims.Claims.{Claims}
@@ -39,7 +39,7 @@ use Rattle.j39_node.specs.Transfers.{holds_back, is_resting, rest, resting, rest
 use Rattle.j39_node.specs.History.Address.{NotClaimed, Claimed, Lost}
 use Rattle.j39_node.specs.Is.{Is, stamped, next_frame, end_of, answer_to_send, answer_to_acknowledge, hold_after, who_of, posted, received_by, request_by, refusal_by, first_of, offered, counted, LaneRecord, opened, lane_of, lane_after, packet_by, next_control, control_of, next_packet, IncomingRecord, incoming_of, incoming_after, said_by, with_reception, with_replies, hears, answer_to_broadcast, broadcast_end, next_broadcast_ended, long_by, next_long, PortRecord, closed, port_after, port_of, resting_by, running, HearingRecord, hearing_of}
 use Rattle.j39_frame.specs.Stamp.{stamp_micros}
-use Rattle.j39_node.specs.Hearing.{IsFit, hears as hears_it, is_unheard, left as leaves_it, unheard_news}
+use Rattle.j39_node.specs.Hearing.{IsFit, hears as hears_it, is_unheard, left as leaves_it, made_whole, newly, unheard_news, waiting, whole_of}
 use Rattle.j39_node.proofs.HearingLemmas.{claimed_on, either_news, hearing_same, heard_on}
 use Rattle.j39_node.proofs.QueueLemmas.{length_one_more, length_map, map_append, length_rest, in_rest, not_in_rest, First, drop_append, length_drop}
 use Rattle.j39_node.proofs.SoundLemmas.{sound, own_get, due_get, due_taken, claim_taken, message_taken, plain_taken, sent_is, acknowledged_is, address_is, frame_by, front_length, held_not_lost, holding_not_lost, lost_older, read, single_taken, claim_single, no_packet, packet_session, reply_taken, packet_taken, packets_is, pause_is, no_packet, no_transfer, transfer_taken, no_move, reply_no_move, is_moved, none_steers}
@@ -640,6 +640,14 @@ news_heard u v l a b m n o e f g =
     e ∙ (ap (λ (x : Bool). record u { lost = l; another = u.another || x; missed = u.missed || (m || o) }) f
     ∙ ap (λ (x : Bool). record u { lost = l; another = u.another || b; missed = u.missed || (x || o) }) g)
 
+-- a broadcast that waits now, where none did, was made whole
+cast_by : (before after : Option (ℕ × MessageRecord))
+    → made_by (not (not (has_place before))) after ≡ made_of (option_map (λ (x : ℕ × MessageRecord). x.1) (newly before after))
+cast_by None None = refl
+cast_by None (Some x) = refl
+cast_by (Some y) None = refl
+cast_by (Some y) (Some x) = refl
+
 pub heard_more : (w : Who) (H : List Call) (old new : Controller) (f : FrameRecord) (mid : Hold) (held wanted away gone calls replaced unheard : Bool) (o : Option Asked) → Is w H old
     → Passed w H f.stamp mid → held ≡ stands mid.standing → wanted ≡ is_for_program (who_of w.known old.own) held f
     → map received_by new.inbox.unread.items ≡ offered wanted (stamped f) (map received_by old.inbox.unread.items)
@@ -665,14 +673,16 @@ pub heard_more : (w : Who) (H : List Call) (old new : Controller) (f : FrameReco
     → (port_of new.transfers).current ≡ hears_if (lost new.hold.standing) r f (min new.hold.age 9999999999999999) (port_of old.transfers).current)
     → new.transfers.next_token ≡ old.transfers.next_token → new.transfers.resting ≡ old.transfers.resting
     → (whole_now : Option (ℕ × ℕ)) → whole_now ≡ made_by (has_place (incoming_of old.incoming).reception.waits) (incoming_of new.incoming).reception.waits
-    → asking_of new.asking ≡ option_map (hears_with (who_of w.known old.own) (lost new.hold.standing) new.hold.wait f whole_now) (asking_of old.asking)
+    → (cast_now : Option (ℕ × ℕ))
+    → cast_now ≡ made_by (not (not (has_place (whole_of (hearing_of old.hearing).current)))) (whole_of (hearing_of new.hearing).current)
+    → asking_of new.asking ≡ option_map (hears_with (who_of w.known old.own) (lost new.hold.standing) new.hold.wait f (option_or whole_now cast_now)) (asking_of old.asking)
     → (left_by : Bool) (p1 p2 : Option ℕ) (m : HearingRecord) → IfSome (hearing_of old.hearing).current (λ z. p1 ≡ holder_in old.holders z.source)
     → IfSome (hearing_of old.hearing).current (λ z. p2 ≡ holder_in new.holders z.source) → left_by ≡ not (is_same p1 p2)
     → m.current ≡ leaves_it left_by (hearing_of old.hearing).current → m.missed ≡ old.hearing.missed
     → unheard ≡ is_unheard (who_of w.known old.own) (stamp_micros new.incoming.clock) f m.current
     → new.hearing.missed ≡ (if unheard then min (m.missed + 1) 18446744073709551615 else m.missed)
     → (IsFit m.current → (hearing_of new.hearing).current ≡ hears_it (who_of w.known old.own) (stamp_micros new.incoming.clock) f m.current) → Is w (Hear f ∷ H) new
-heard_more w H old new f mid held wanted away gone calls replaced unheard o h p e1 e2 e3 e4 e5 e6 e7 q1 q2 q3 q4 q5 e8 s1 s2 s3 s4 s5 s9 s6 s7 s8 s10 whole_now m1 a1 left_by p1 p2 m t1 t2 t3 t4 t5 t6 t7 t8 =
+heard_more w H old new f mid held wanted away gone calls replaced unheard o h p e1 e2 e3 e4 e5 e6 e7 q1 q2 q3 q4 q5 e8 s1 s2 s3 s4 s5 s9 s6 s7 s8 s10 whole_now m1 cast_now m2 a1 left_by p1 p2 m t1 t2 t3 t4 t5 t6 t7 t8 =
     let s = sound w H h.answered in
     let wants : wanted ≡ is_for_program w (holds w H f.stamp) f =
     e2 ∙ (ap (λ (v : Who). is_for_program v held f) h.who ∙ ap (λ (b : Bool). is_for_program w b f) (holds_is w H f.stamp mid held p e1)) in
@@ -699,9 +709,15 @@ heard_more w H old new f mid held wanted away gone calls replaced unheard o h p 
     h.holders (q4 (told_claims w H) h.holders) (ap (λ (x : IncomingRecord). x.clock) hears_in) t1 t2 t3 t4 t5
     (t6 ∙ ap (λ (v : Who). is_unheard v (stamp_micros new.incoming.clock) f m.current) h.who) t7
     (λ fits. t8 fits ∙ ap (λ (v : Who). hears_it v (stamp_micros new.incoming.clock) f m.current) h.who) in
-    let made_now : whole_now ≡ made w H f =
+    let whole_is : whole_now ≡ made_of (whole w H f) =
     m1 ∙ (ap (λ (x : IncomingRecord). made_by (has_place x.reception.waits) (incoming_of new.incoming).reception.waits) h.incoming
     ∙ (ap (λ (x : IncomingRecord). made_by (has_place (reception w H).waits) x.reception.waits) hears_in ∙ made_is w H f)) in
+    let cast_is : cast_now ≡ made_of (option_map (λ (x : ℕ × MessageRecord). x.1) (made_whole w H f)) =
+    m2 ∙ (ap (λ (x : HearingRecord). made_by (not (not (has_place (whole_of x.current)))) (whole_of (hearing_of new.hearing).current)) h.hearing
+    ∙ (ap (λ (x : HearingRecord). made_by (not (not (has_place (waiting w H)))) (whole_of x.current)) on.hearing
+    ∙ cast_by (waiting w H) (waiting w (Hear f ∷ H)))) in
+    let made_now : option_or whole_now cast_now ≡ made w H f =
+    ap (λ (o : Option (ℕ × ℕ)). option_or o cast_now) whole_is ∙ ap (option_or (made_of (whole w H f))) cast_is in
     record {
       who = ap (who_of w.known) s1 ∙ h.who;
       answered = (h.answered, tt);
@@ -711,9 +727,9 @@ heard_more w H old new f mid held wanted away gone calls replaced unheard o h p 
       outgoing = ap (λ o. map posted o.items) s2 ∙ h.outgoing;
       taken = s3 ∙ h.taken;
       token = s4 ∙ h.token;
-      asking = a1 ∙ (ap (λ (v : Who). option_map (hears_with v (lost new.hold.standing) new.hold.wait f whole_now) (asking_of old.asking)) h.who
-          ∙ (ap (λ (b : Bool). option_map (hears_with w b new.hold.wait f whole_now) (asking_of old.asking)) (ap lost stands_now ∙ lost_is (address_after w (Hear f ∷ H)))
-          ∙ (ap (λ (n : ℕ). option_map (hears_with w (is_lost (address_after w (Hear f ∷ H))) n f whole_now) (asking_of old.asking)) (ap (λ (k : Hold). k.wait) e8 ∙ p.wait)
+      asking = a1 ∙ (ap (λ (v : Who). option_map (hears_with v (lost new.hold.standing) new.hold.wait f (option_or whole_now cast_now)) (asking_of old.asking)) h.who
+          ∙ (ap (λ (b : Bool). option_map (hears_with w b new.hold.wait f (option_or whole_now cast_now)) (asking_of old.asking)) (ap lost stands_now ∙ lost_is (address_after w (Hear f ∷ H)))
+          ∙ (ap (λ (n : ℕ). option_map (hears_with w (is_lost (address_after w (Hear f ∷ H))) n f (option_or whole_now cast_now)) (asking_of old.asking)) (ap (λ (k : Hold). k.wait) e8 ∙ p.wait)
           ∙ (ap (λ (o : Option (ℕ × ℕ)). option_map (hears_with w (is_lost (address_after w (Hear f ∷ H))) (wait H - step H f.stamp) f o) (asking_of old.asking)) made_now
           ∙ (ap (option_map (hears_with w (is_lost (address_after w (Hear f ∷ H))) (wait H - step H f.stamp) f (made w H f))) h.asking
           ∙ ask_heard w (open_ask H) (length (sent H)) (wait H - step H f.stamp) (ended w H) (is_lost (address_after w (Hear f ∷ H))) f (made w H f))))));

@@ -18,7 +18,7 @@ use Rattle.j39_node.specs.Hearing.{IsFit, IsPartOf, ended, passed, chosen, OpenB
 use Rattle.j39_node.specs.Is.{HearingRecord, Is}
 use Rattle.j39_node.specs.Reception.{KeepsHolder, frames_heard, has_place, held_then, holder, is_same, listed, time_heard}
 use Rattle.j39_node.proofs.QueueLemmas.{length_drop}
-use Rattle.j39_node.proofs.HearingLemmas.{fit, hearing_same, left_same, length_two, packs_eight, drop_one}
+use Rattle.j39_node.proofs.HearingLemmas.{fit, hearing_same, left_same, same_same, length_two, packs_eight, drop_one}
 
 -- ---- each once, in order
 
@@ -38,7 +38,7 @@ hears_whole who now f x e =
     go false true = refl
     go false false = refl
 
-whole_of_left : (b : Bool) (o : Option OpenBroadcast) → whole_of (left b o) ≡ whole_of o
+pub whole_of_left : (b : Bool) (o : Option OpenBroadcast) → whole_of (left b o) ≡ whole_of o
 whole_of_left b None = refl
 whole_of_left b (Some x) = go b (is_whole x) refl
   where
@@ -336,6 +336,38 @@ strangers who H f e g (inr k) = go (hearing who H) refl
         some false q =
             λ i. if g i then (if has_room (time_heard (Hear f ∷ H)) (source_of f.id) (Some x) then opens who (time_heard (Hear f ∷ H)) f else Some x) else if q i
             then packed (time_heard (Hear f ∷ H)) f (Some x) else Some x
+
+-- in time, a frame of another source
+pub others_leave : (who : Who) (H : List Call) (f : FrameRecord) (x : OpenBroadcast) → hearing who H ≡ Some x
+    → holder who (Hear f ∷ H) x.source ≡ holder who H x.source → source_of f.id ≢ x.source → is_late (time_heard (Hear f ∷ H)) x ≡ false
+    → hearing who (Hear f ∷ H) ≡ Some x
+others_leave who H f x e held n late =
+    ap (λ (o : Option OpenBroadcast). hears who now f (left (changes (holder who H) (holder who (Hear f ∷ H)) o) o)) e
+    ∙ (ap (λ (b : Bool). hears who now f (if not b && not (is_whole x) then None else Some x)) (ap (is_same (holder who H x.source)) held ∙ same_same (holder who H x.source))
+    ∙ ((λ i. all (other i) (late i)) ∙ go (announces f) (packs f) (is_whole x)))
+  where
+    now : ℕ
+    now = time_heard (Hear f ∷ H)
+
+    other : nat_eq (source_of f.id) x.source ≡ false
+    other = by (nat_eq (source_of f.id) x.source) refl
+      where
+        by : (b : Bool) → nat_eq (source_of f.id) x.source ≡ b → b ≡ false
+        by true i = absurd (n (eqb-true _ _ i))
+        by false i = refl
+
+    all : Bool → Bool → Option OpenBroadcast
+    all own l =
+        if announces f then (if not (is_whole x) && (own || l) then opens who now f else Some x) else if packs f
+        then (if is_whole x || not own then Some x else if l then None else Some (goes_on now f x)) else Some x
+
+    go : (a b c : Bool) → (if a then (if not c && false then opens who now f else Some x) else if b
+        then (if c || true then Some x else Some (goes_on now f x)) else Some x) ≡ Some x
+    go true b true = refl
+    go true b false = refl
+    go false true true = refl
+    go false true false = refl
+    go false false c = refl
 
 pub own_frames : (who : Who) (H : List Call) (now : ℕ) (f : FrameRecord) → is_claim f ≡ false → hearing who (TakeFrame now (Some f) ∷ H) ≡ hearing who H
 own_frames who H now f e = sym (ap (λ (r : HearingRecord). r.current) (hearing_same who H now f e))

@@ -18,7 +18,7 @@ use Rattle.j39_node.proofs.ReceptionLemmas.{table_is}
 
 -- ---- who holds its source
 
-same_same : (o : Option ℕ) → is_same o o ≡ true
+pub same_same : (o : Option ℕ) → is_same o o ≡ true
 same_same None = refl
 same_same (Some n) = eq-eqb n n refl
 

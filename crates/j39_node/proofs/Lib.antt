@@ -43,6 +43,12 @@ pub mod MoveLemmas
 pub mod TransferLaws
 -- the laws of broadcasts in packets that are heard
 pub mod HearingLaws
+-- what is made whole in packets answers a request
+pub mod PacketsAnswer
+-- frames of strangers
+pub mod StrangerLaws
+pub mod RequestStrangers
+pub mod AsideLaws
 pub mod MovingLemmas
 -- the laws of a driver that is prompt
 pub mod PromptView

@@ -22,7 +22,7 @@ use Rattle.j39_node.specs.History.{Who, Message, Call, Address, acknowledged, ad
 use Rattle.j39_node.specs.History.Address.{NotClaimed, Claimed, Lost}
 use Rattle.j39_node.specs.History.Call.{Ask, TakeAskEnded, Hear, Tick, TakeFrame, Send, TakeEnded, TakeReceived, TakeRequest, TakeNews, Acknowledge, Broadcast, TakeBroadcastEnded, ReleaseTransfer, Transfer, TakeTransferEnded, ReleaseBroadcast}
 use Rattle.j39_node.specs.Is.{Is}
-use Rattle.j39_node.specs.Asking.{made, made_of}
+use Rattle.j39_node.specs.Asking.{made_of}
 use Rattle.j39_node.specs.Is.{made_by}
 use Rattle.j39_node.specs.Reception.{CameFromOne, IsApart, KeepsHolder, Reception, time_heard, delivered, frames_heard, got_transfers, has_place, heard_at, heard_by, is_move, held_then, holder, is_same, keeps, later, leaves, left, listed, next_tick, receiver_at, reception, released_by, replied, reply_from, says, says_by, step_at, taken_by, takes, tick_at, ticked, whole, whole_by, without}
 use Rattle.j39_node.proofs.SoundLemmas.{FrameCase, frame_case, sound, own_get, due_get, due_taken, single_taken, packet_taken, claim_taken, is_moved, none_steers, lost_older, lost_claimed}
@@ -72,7 +72,7 @@ in_order_heard own lost held b f now r done got t e =
     ∙ ap listed (sym (waits_after own lost held f now q)))))
 
 -- what waits after a frame, where nothing waited, is what it makes whole
-pub made_is : (w : Who) (H : List Call) (f : FrameRecord) → made_by (has_place (reception w H).waits) (reception w (Hear f ∷ H)).waits ≡ made w H f
+pub made_is : (w : Who) (H : List Call) (f : FrameRecord) → made_by (has_place (reception w H).waits) (reception w (Hear f ∷ H)).waits ≡ made_of (whole w H f)
 made_is w H f = go (reception w H).waits refl
   where
     left_one : Reception
@@ -82,7 +82,7 @@ made_is w H f = go (reception w H).waits refl
     kept_one None = refl
     kept_one (Some m) = refl
 
-    go : (x : Option (ℕ × MessageRecord)) → (reception w H).waits ≡ x → made_by (has_place (reception w H).waits) (reception w (Hear f ∷ H)).waits ≡ made w H f
+    go : (x : Option (ℕ × MessageRecord)) → (reception w H).waits ≡ x → made_by (has_place (reception w H).waits) (reception w (Hear f ∷ H)).waits ≡ made_of (whole w H f)
     go None e =
         ap (λ (y : Option (ℕ × MessageRecord)). made_by (has_place y) (reception w (Hear f ∷ H)).waits) e
         ∙ (ap (made_by true) (waits_after w.address (is_smaller w (claim_of f)) (holds w H f.stamp) f (time_heard (Hear f ∷ H)) left_one)
@@ -212,7 +212,7 @@ stands_heard E r f now found h =
     new : BoxedReceiver
     new = record { state = (recv_step r (Heard f) now found).after; has_box = has_some (recv_step r (Heard f) now found).after.session || false }
 
-is_of : (x : ReceptionRecord) (source : ℕ) → is_taken source (Some x) ≡ false → source ≡ x.message.source
+pub is_of : (x : ReceptionRecord) (source : ℕ) → is_taken source (Some x) ≡ false → source ≡ x.message.source
 is_of x source e = eqb-true _ _ (flip (source == x.message.source) e)
   where
     flip : (c : Bool) → not c ≡ false → c ≡ true
@@ -220,11 +220,11 @@ is_of x source e = eqb-true _ _ (flip (source == x.message.source) e)
     flip false i = absurd (cc)
 
 -- it keeps the source of a session that stays, and what it delivers is of that source
-record Kept (x : ReceptionRecord) (y : RecvResult) : Type 0 where
+pub record Kept (x : ReceptionRecord) (y : RecvResult) : Type 0 where
   pub fits : Fits (λ a. a ≡ x.message.source) y.after.session
   pub gives : Gives (λ a. a ≡ x.message.source) y.delivers
 
-heard_kept : (own : ℕ) (x : ReceptionRecord) (f : FrameRecord) (now : ℕ) (found : Bool) → Kept x (recv_step (record { own = own; session = Some x }) (Heard f) now found)
+pub heard_kept : (own : ℕ) (x : ReceptionRecord) (f : FrameRecord) (now : ℕ) (found : Bool) → Kept x (recv_step (record { own = own; session = Some x }) (Heard f) now found)
 unfolding recv_step
 heard_kept own x f now found =
     let t = tame_signal (λ a. a ≡ x.message.source) (frames.source_of f.id) own (said_to own f) now found (Some x) (is_of x (frames.source_of f.id)) refl in
@@ -243,7 +243,7 @@ unfolding recv_step
 own_kept r now = refl
 
 -- with no session none is delivered
-none_delivered : (r : ReceiverRecord) (f : FrameRecord) (now : ℕ) (found : Bool) → r.session ≡ None → (recv_step r (Heard f) now found).delivers ≡ None
+pub none_delivered : (r : ReceiverRecord) (f : FrameRecord) (now : ℕ) (found : Bool) → r.session ≡ None → (recv_step r (Heard f) now found).delivers ≡ None
 unfolding recv_step takes_signal takes_data takes_abort takes_request grants
 none_delivered r f now found e = ap (λ o. (takes_signal (Directed (frames.source_of f.id) r.own) (said_to r.own f) now found o).delivers) e ∙ go (said_to r.own f) found
   where
@@ -531,14 +531,14 @@ never_left before after None h = refl
 never_left before after (Some r) h =
     ap (λ (x : Option ℕ). not (is_same (before r.message.source) x)) (h r.message.source) ∙ ap not (same_self (before r.message.source))
 
-not_left_by : (w : Who) (H : List Call) (f : FrameRecord) → claim_of f ≡ None → leaves (holder w H) (holder w (Hear f ∷ H)) (reception w H).session ≡ false
+pub not_left_by : (w : Who) (H : List Call) (f : FrameRecord) → claim_of f ≡ None → leaves (holder w H) (holder w (Hear f ∷ H)) (reception w H).session ≡ false
 not_left_by w H f e = never_left (holder w H) (holder w (Hear f ∷ H)) (reception w H).session (λ a. ap (λ (c : Option Claim). held_then a c (holder w H a)) e)
 
 not_driven : (w : Who) (f : FrameRecord) → claim_of f ≡ None → is_smaller w (claim_of f) ≡ false
 not_driven w f e = ap (is_smaller w) e
 
 -- a frame of a session goes to one address
-goes_there : (f : FrameRecord) (group : ℕ) → group / 256 % 256 < 240 → pgn_of f.id ≡ group → destination_of f.id ≡ Some (ps_of f.id)
+pub goes_there : (f : FrameRecord) (group : ℕ) → group / 256 % 256 < 240 → pgn_of f.id ≡ group → destination_of f.id ≡ Some (ps_of f.id)
 goes_there f group l e = go (nat_lt (pf_of f.id) 240) refl
   where
     go : (b : Bool) → nat_lt (pf_of f.id) 240 ≡ b → (if b then Some (ps_of f.id) else None) ≡ Some (ps_of f.id)
@@ -552,7 +552,7 @@ goes_there f group l e = go (nat_lt (pf_of f.id) 240) refl
         far : (id g : ℕ) → (if nat_lt (pf_of id) 240 then 0 else ps_of id) ≡ ps_of id → 240 ≤ pf_of id → g / 256 % 256 < 240 → pgn_of id ≡ g → ⊥
         far id g i k m n = absurd (omega (arith, i, k, m, n))
 
-not_said : (own : ℕ) (f : FrameRecord) → (destination_of f.id ≡ Some own → ⊥) → said_to own f ≡ None
+pub not_said : (own : ℕ) (f : FrameRecord) → (destination_of f.id ≡ Some own → ⊥) → said_to own f ≡ None
 unfolding said_to said_between said_by frames.source_of frames.destination_of frames.group_of
 not_said own f n =
     cond_both (nat_lt (source_of f.id) 254) _ _ (λ (x : Option Signal). x ≡ None)
@@ -566,7 +566,7 @@ not_said own f n =
     (λ b. refl))
     (λ a. refl)
 
-quiet_step : (r : ReceiverRecord) (f : FrameRecord) (now : ℕ) (found : Bool) → said_to r.own f ≡ None
+pub quiet_step : (r : ReceiverRecord) (f : FrameRecord) (now : ℕ) (found : Bool) → said_to r.own f ≡ None
     → recv_step r (Heard f) now found ≡ record { after = r; sends = None; delivers = None }
 unfolding recv_step takes_signal
 quiet_step r f now found e = ap (λ s. result_of r.own (frames.source_of f.id) (takes_signal (Directed (frames.source_of f.id) r.own) s now found r.session)) e
@@ -579,7 +579,7 @@ aside own false false false f now r e g n = refl
 aside own false true false f now r e g n =
     ap (λ (x : RecvResult). takes f.stamp (source_of f.id) x r) (quiet_step (receiver_at own r) f now (has_place r.waits) n)
 
-stays_with : (before after : ℕ → Option ℕ) (o : Option ReceptionRecord)
+pub stays_with : (before after : ℕ → Option ℕ) (o : Option ReceptionRecord)
     → ((r : ReceptionRecord) → o ≡ Some r → after r.message.source ≡ before r.message.source) → leaves before after o ≡ false
 stays_with before after None h = refl
 stays_with before after (Some r) h =

@@ -6,7 +6,7 @@ use Rattle.j39_node.specs.declared.kinds.AskEnding.TheVariants.{Answered, Acknow
 use Rattle.j39_node.specs.declared.kinds.Refused.TheVariants.{NoAddress, BadValue, Full}
 use Rattle.j39_node.specs.History.{Call}
 use Rattle.j39_node.specs.History.Call.{Ask, Hear, TakeAskEnded, TakeFrame, Tick}
-use Rattle.j39_node.specs.Example.{own_claim}
+use Rattle.j39_node.specs.Example.{announced_by, first_to_all, last_to_all, own_claim}
 
 -- address 128 asks 11 for group 65226; it answers; or it refuses
 abbrev pub asking : ℕ → FrameRecord
@@ -18,11 +18,18 @@ answering now = record { stamp = now; id = 419351051; bytes = 1 ∷ 2 ∷ [] }
 abbrev pub refusing : ℕ → FrameRecord
 refusing now = record { stamp = now; id = 417922827; bytes = 1 ∷ 255 ∷ 255 ∷ 255 ∷ 128 ∷ 202 ∷ 254 ∷ 0 ∷ [] }
 
--- an answer before the request's frame is taken doesn't count, one after it does; then one is refused, and one hears nothing; the
--- newest call first
+-- an answer before the request's frame is taken doesn't count, one after it does; then one is refused, one hears nothing, and one is
+-- answered in packets to all; the newest call first
 abbrev pub ask_example : List Call
 ask_example =
-    TakeAskEnded None
+    TakeAskEnded (Some (3, Answered))
+    ∷ Hear (last_to_all 1720000)
+    ∷ TakeAskEnded None
+    ∷ Hear (first_to_all 1660000)
+    ∷ Hear (announced_by 11 1600000)
+    ∷ TakeFrame 1590000 (Some (asking 1590000))
+    ∷ Ask 1580000 65226 11 (Ok 3)
+    ∷ TakeAskEnded None
     ∷ TakeAskEnded (Some (2, TimedOut))
     ∷ Tick 1550000
     ∷ TakeAskEnded None

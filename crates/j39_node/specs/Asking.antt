@@ -1,10 +1,11 @@
 -- Asking others for groups (J1939-21, 5.4.2 and 5.4.4): what a history says of it.
 use Rattle.std.specs.Prelude.{◌≡◌, ◌<◌, ℕ, ◌+◌, ◌-◌, ◌%◌, ◌/◌, ◌++◌, ◌&&◌, ◌||◌, nat_lt, nat_eq, not, Bool, true, false, IsTrue, List, [], ◌∷◌, length, Option, Some, None, Result, Ok, Err, if◌then◌else◌}
 use Rattle.std.specs.List.{slice_get}
-use Rattle.std.specs.Option.{option_map}
+use Rattle.std.specs.Option.{option_map, option_or}
 use Rattle.j39_frame.specs.Address.{null_address, global_address}
 use Rattle.j39_frame.specs.Frame.{FrameRecord}
 use Rattle.j39_frame.specs.Identifier.{source_of, destination_of, pgn_of}
+use Rattle.j39_frame.specs.Network.{address_claimed_group}
 use Rattle.j39_node.specs.declared.kinds.Answer.TheVariants.{Ack, Nack, Denied, Busy}
 use Rattle.j39_node.specs.declared.kinds.AskEnding.{AskEnding}
 use Rattle.j39_node.specs.declared.kinds.AskEnding.TheVariants.{Answered, Acknowledged, TimedOut, Withdrawn}
@@ -14,12 +15,13 @@ use Rattle.j39_node.specs.History.{Who, Call, accepted, address_after, holds, is
 use Rattle.j39_node.specs.History.Call.{Ask, Hear, Tick, TakeFrame, Send, Acknowledge, Broadcast, Transfer, TakeAskEnded}
 use Rattle.j39_node.specs.Since.{passed_in}
 use Rattle.j39_node.specs.Reception.{whole}
+use Rattle.j39_node.specs.Hearing.{made_whole}
 use Rattle.j39_transport.specs.Message.{MessageRecord}
 
--- a group that may be sent, of all or of the address of another
+-- a group that may be sent, or that of claims (J1939-81, 4.2.1), of all or of the address of another
 abbrev pub can_ask : Who → ℕ → ℕ → Bool
 can_ask w group to =
-    is_sendable group && (nat_eq to global_address || (nat_lt to null_address && not (nat_eq to w.address)))
+    (is_sendable group || nat_eq group address_claimed_group) && (nat_eq to global_address || (nat_lt to null_address && not (nat_eq to w.address)))
 
 -- a request that was accepted: its token, for which group, and whom (255 is all)
 pub record Question : Type 0 where
@@ -106,13 +108,13 @@ said_by (Some c) =
 abbrev pub is_reply : Who → Question → FrameRecord → Bool
 is_reply w q f = is_acknowledgment f && (nat_eq (source_of f.id) q.to && is_of w.address q.group f.bytes)
 
--- the source and the group of the message in packets that the frame makes whole
+-- the source and the group of the message in packets that the frame makes whole: to this address, or a broadcast that is heard
 abbrev pub made_of : Option MessageRecord → Option (ℕ × ℕ)
 made_of None = None
 made_of (Some m) = Some (m.source, m.pgn)
 
 abbrev pub made : Who → List Call → FrameRecord → Option (ℕ × ℕ)
-made w H f = made_of (whole w H f)
+made w H f = option_or (made_of (whole w H f)) (made_of (option_map (λ x. x.1) (made_whole w H f)))
 
 abbrev pub is_whole : Question → Option (ℕ × ℕ) → Bool
 is_whole q None = false

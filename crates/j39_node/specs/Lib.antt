@@ -19,6 +19,8 @@ pub mod Prompt
 pub mod Moving
 -- the code's steps, below the definitions
 pub mod Hold
+-- frames that others exchange
+pub mod Aside
 -- a history
 pub mod Example
 pub mod AskExample

@@ -1,16 +1,22 @@
 //! Laws of requests over histories, as those of `laws`.
-ghost use Rattle.std.specs.Prelude.{◌≡◌, ◌⊎◌, ◌+◌, ◌-◌, ◌%◌, ◌/◌, ◌<◌, ◌≤◌, ◌↔◌, ◌++◌, ℕ, List, [], ◌∷◌, length, Some, None, Option, Result, Ok, Err, IsTrue, false};
+ghost use Rattle.std.specs.Prelude.{◌≡◌, ◌≢◌, ◌⊎◌, ◌+◌, ◌-◌, ◌%◌, ◌/◌, ◌<◌, ◌≤◌, ◌↔◌, ◌++◌, ℕ, List, [], ◌∷◌, length, Some, None, Option, Result, Ok, Err, IsTrue, false};
 ghost use Rattle.std.specs.List.{slice_get};
+ghost use Rattle.j39_frame.specs.Address.{IsAddress, global_address};
 ghost use Rattle.j39_frame.specs.Frame.{FrameRecord};
+ghost use Rattle.j39_frame.specs.Identifier.{destination_of, source_of};
+ghost use Rattle.j39_address.specs.Claim.{claim_of};
+ghost use Rattle.j39_transport.specs.Message.{MessageRecord};
 ghost use Rattle.j39_node.specs.declared.controller.Controller.{Controller};
 ghost use Rattle.j39_node.specs.declared.kinds.Answer.{Answer};
 ghost use Rattle.j39_node.specs.declared.kinds.AskEnding.{AskEnding};
 ghost use Rattle.j39_node.specs.declared.kinds.AskEnding.TheVariants as ending;
 ghost use Rattle.j39_node.specs.declared.kinds.Refused.{Refused};
 ghost use Rattle.j39_node.specs.declared.kinds.Refused.TheVariants as refused;
-ghost use Rattle.j39_node.specs.History.{Who, Call, accepted, address_after, holds, is_lost, message_of, sent, step, told};
-ghost use Rattle.j39_node.specs.History.Call.{Ask, Hear, TakeAskEnded, TakeFrame};
-ghost use Rattle.j39_node.specs.Asking.{AskedSince, HeardFirst, NoneEnds, Question, asks, can_ask, ended, is_request, is_taken, made, open_ask, says_to, told_asks, wait};
+ghost use Rattle.j39_node.specs.History.{Who, Call, accepted, address_after, holds, is_lost, is_smaller, message_of, sent, step, told};
+ghost use Rattle.j39_node.specs.History.Call.{Ask, Hear, TakeAskEnded, TakeFrame, Tick};
+ghost use Rattle.j39_node.specs.Reception.{whole};
+ghost use Rattle.j39_node.specs.Hearing.{made_whole};
+ghost use Rattle.j39_node.specs.Asking.{AskedSince, HeardFirst, NoneEnds, Question, asks, can_ask, ended, is_request, is_taken, made, next_ask_ended, open_ask, says_to, told_asks, wait};
 ghost use Rattle.j39_node.specs.AskExample.{ask_example};
 ghost use Rattle.j39_node.specs.Example.{two};
 ghost use Rattle.j39_node.specs.Is.{AreAnswered, Is};
@@ -89,8 +95,30 @@ pub fn ask_done_means()
         × (IsTrue (is_lost (address_after w H)) → ⊥)) }
 {}
 
-/// All answers of this history are those that a controller gives: a request is answered, one refused, and one hears nothing.
-#[tactic(auto, unfolding(j39_transport::specs::Cutting::cut_frame, j39_transport::specs::Cutting::announcement_of, j39_transport::specs::Cutting::packet_of, j39_transport::specs::Cutting::packet_data, j39_transport::specs::Sending::new_sender, j39_transport::specs::Sending::send_step, j39_transport::specs::Sending::ticks_in, j39_transport::specs::Sending::sends_packet, j39_transport::specs::Sending::hears, j39_transport::specs::Sending::cleared, j39_transport::specs::Sending::acknowledged, j39_transport::specs::Sending::aborted, j39_transport::specs::Signals::said_between, j39_transport::specs::Signals::said_by, j39_transport::specs::Signals::control_in, j39_transport::specs::Signals::packet_in, j39_transport::specs::Frames::group_of, j39_transport::specs::Frames::source_of, j39_transport::specs::Frames::destination_of, j39_transport::specs::Reception::takes_request, j39_transport::specs::Reception::begun, j39_transport::specs::Reception::grants, j39_transport::specs::Reception::granted_at, j39_transport::specs::Reception::takes_data, j39_transport::specs::Reception::takes_packet, j39_transport::specs::Reception::goes_on, j39_transport::specs::Reception::delivers_message, j39_transport::specs::Signals::request_in, j39_transport::specs::Signals::written, j39_transport::specs::Frames::names_message, j39_transport::specs::Key::key_between, j39_transport::specs::Receiving::recv_step, j39_transport::specs::Receiving::said_to, j39_transport::specs::Reception::takes_signal, j39_transport::specs::Reception::takes_tick))]
+/// A message in packets, of the group and from whom was asked (from anybody where all were), answers a request by the frame that makes
+/// it whole: one to this address, or a broadcast that is heard, which `announcements_heard` tells.
+pub fn packets_answer()
+    ensures transfer { (w : Who) (H : List Call) (f : FrameRecord) (m : MessageRecord) (q : Question) → whole w H f ≡ Some m
+        → m.pgn ≡ q.group → (q.to ≡ global_address) ⊎ (m.source ≡ q.to) → says_to w q f (made w H f) ≡ Some ending.Answered }
+    ensures broadcast { (w : Who) (H : List Call) (f : FrameRecord) (x : ℕ × MessageRecord) (q : Question) → IsAddress w.address
+        → made_whole w H f ≡ Some x → x.1.pgn ≡ q.group → (q.to ≡ global_address) ⊎ (x.1.source ≡ q.to)
+        → says_to w q f (made w H f) ≡ Some ending.Answered }
+{}
+
+/// A frame of who wasn't asked, unless all were, says nothing to a request, and neither does one that goes to another address. What says
+/// nothing tells no end but that of a tick at the same moment, unless by it the address is lost.
+pub fn strangers_and_requests()
+    ensures of_another { (w : Who) (H : List Call) (f : FrameRecord) (q : Question) → q.to ≢ global_address → source_of f.id ≢ q.to
+        → says_to w q f (made w H f) ≡ None }
+    ensures to_another { (w : Who) (H : List Call) (f : FrameRecord) (q : Question) (a : ℕ) → destination_of f.id ≡ Some a
+        → a ≢ global_address → a ≢ w.address → says_to w q f (made w H f) ≡ None }
+    ensures ends { (w : Who) (H : List Call) (f : FrameRecord) (q : Question) → open_ask H ≡ Some q → says_to w q f (made w H f) ≡ None
+        → is_smaller w (claim_of f) ≡ false → next_ask_ended w (Hear f ∷ H) ≡ next_ask_ended w (Tick f.stamp ∷ H) }
+{}
+
+/// All answers of this history are those that a controller gives: requests are answered, one in packets to all; one is refused, and one
+/// hears nothing.
+#[tactic(auto, unfolding(j39_transport::specs::Cutting::cut_frame, j39_transport::specs::Cutting::announcement_of, j39_transport::specs::Cutting::packet_of, j39_transport::specs::Cutting::packet_data, j39_transport::specs::Sending::new_sender, j39_transport::specs::Sending::send_step, j39_transport::specs::Sending::ticks_in, j39_transport::specs::Sending::sends_packet, j39_transport::specs::Sending::hears, j39_transport::specs::Sending::cleared, j39_transport::specs::Sending::acknowledged, j39_transport::specs::Sending::aborted, j39_transport::specs::Signals::said_between, j39_transport::specs::Signals::said_by, j39_transport::specs::Signals::control_in, j39_transport::specs::Signals::packet_in, j39_transport::specs::Frames::is_announcement, j39_transport::specs::Frames::is_packet, j39_transport::specs::Frames::goes, j39_transport::specs::Frames::group_of, j39_transport::specs::Frames::source_of, j39_transport::specs::Frames::destination_of, j39_transport::specs::Reception::takes_request, j39_transport::specs::Reception::begun, j39_transport::specs::Reception::grants, j39_transport::specs::Reception::granted_at, j39_transport::specs::Reception::takes_data, j39_transport::specs::Reception::takes_packet, j39_transport::specs::Reception::goes_on, j39_transport::specs::Reception::delivers_message, j39_transport::specs::Signals::request_in, j39_transport::specs::Signals::written, j39_transport::specs::Frames::names_message, j39_transport::specs::Key::key_between, j39_transport::specs::Receiving::recv_step, j39_transport::specs::Receiving::said_to, j39_transport::specs::Reception::takes_signal, j39_transport::specs::Reception::takes_tick))]
 pub fn an_example_of_requests()
     ensures { AreAnswered two ask_example }
 {}

@@ -11,7 +11,7 @@ ghost use Rattle.j39_node.specs.Is.{claims_request, posted, stamped, who_of};
 ghost use Rattle.j39_node.specs.Asking.{can_ask, first, is_answer, is_of, is_reply, is_whole, question, reaches, said_by, says_to, silent_end};
 
 use crate::outgoing::{Outgoing, is_sendable};
-use crate::own::{ACKNOWLEDGMENT, Own, REQUEST, is_to, is_undirected};
+use crate::own::{ACKNOWLEDGMENT, ADDRESS_CLAIMED, Own, REQUEST, is_to, is_undirected};
 use crate::{Answer, AskEnding};
 use j39_frame::{Frame, GLOBAL_ADDRESS, Id, NULL_ADDRESS, Pgn, Stamp};
 
@@ -190,7 +190,7 @@ pub(crate) fn request(token: u64, own: &Own, group: Pgn, to: u8) -> Option<Outgo
     ensures value { IfSome result (λ x. posted x
         ≡ (token, message_from (who_of [] own.now) (request_for (pgn_raw group) to))) }
 {
-    if !is_sendable(group) {
+    if !(is_sendable(group) || group.raw() == ADDRESS_CLAIMED) {
         return None;
     }
     let asked = Pgn::new(REQUEST)?;

@@ -257,14 +257,17 @@ impl Controller {
         let before = self.peer();
         let speaker = self.speaker();
         let has_place = self.incoming.has_place();
+        let waited = self.hearing.is_waiting();
         let drives_away = self.own.is_driven_away(frame);
         self.incoming
             .hear(&mut self.holders, drives_away, is_held, frame);
-        let made = self.incoming.made(has_place);
+        let transferred = self.incoming.made(has_place);
         let is_replaced = is_replaced(before, self.peer());
         let is_left = !is_same(speaker, self.speaker());
         self.hearing.leave(is_left);
         let unheard = self.hearing.hear(&self.own, frame, self.incoming.clock);
+        let broadcast = self.hearing.made(waited);
+        let made = transferred.or(broadcast);
         let is_lost = self.hold.is_lost();
         let calls = self.own.calls_for_claim(is_lost, frame);
         let another = self.own.is_another(is_held, frame);
@@ -499,9 +502,10 @@ impl Controller {
         Some(ended)
     }
 
-    /// Asks an address, or all (255), for a group, by a message of priority 6; answers its token, one of those of `send`, to which
+    /// Asks an address, or all (255), for a group, also for claims, by a message of priority 6; answers its token, one of those of `send`, to which
     /// `take_ended` tells that its frame was taken. `Full` while one is accepted and not told by `take_ask_ended`, or sixteen
-    /// messages are. The answer itself is received like any message: subscribe its group, unless it comes by a transfer.
+    /// messages are. The answer itself is received like any message: subscribe its group, unless it comes by a transfer. One
+    /// that is broadcast in packets counts if it is heard: if its group is subscribed, and no other broadcast lies there or is open.
     pub fn ask(&mut self, now: Stamp, group: Pgn, to: u8) -> Result<u64, Refused>
         ensures { (w : Who) (H : List Call) → Is w H self.old
             → Is w (Ask (stamp_micros now) (pgn_raw group) to result ∷ H) self.new }

@@ -5,6 +5,7 @@ ghost use Rattle.j39_transport.specs.Protocol.{gap, timer_t3};
 ghost use Rattle.j39_node.specs.declared.controller.Controller.{Controller};
 ghost use Rattle.j39_node.specs.declared.kinds.Ending.{Ending};
 ghost use Rattle.j39_node.specs.declared.kinds.TransferEnding.{TransferEnding};
+ghost use Rattle.j39_node.specs.declared.kinds.TransferEnding.TheVariants as ending;
 ghost use Rattle.j39_node.specs.History.{Who, Call, Draft, address_after, broadcast_from, is_lost, sent, told};
 ghost use Rattle.j39_node.specs.History.Call.{Ask, Broadcast, Send, Transfer};
 ghost use Rattle.j39_node.specs.Is.{AreAnswered, Is, next_broadcast_ended, next_ended};
@@ -12,7 +13,7 @@ ghost use Rattle.j39_node.specs.Transfers.{next_transfer_ended};
 ghost use Rattle.j39_node.specs.Prompt.{IsPrompt, NoneTold, tells_broadcast, tells_transfer};
 ghost use Rattle.j39_node.specs.Since.{passed_in};
 ghost use Rattle.j39_node.specs.Example.{nine, two};
-ghost use Rattle.j39_node.specs.PromptExample.{prompt_example, prompt_start};
+ghost use Rattle.j39_node.specs.PromptExample.{prompt_example, prompt_start, transfer_example, transfer_start};
 
 /// A broadcast of n packets ends: where the driver is prompt by g microseconds since its acceptance, and more than
 /// (n + 1) * (50 ms + g) passed, `take_broadcast_ended` would tell its end, unless it told it before. Nothing else that is
@@ -71,4 +72,16 @@ pub fn an_example_of_promptness()
     ensures prompt { IsPrompt 100000 prompt_example prompt_start }
     ensures not_told { NoneTold tells_broadcast prompt_example }
     ensures long { (packets_of (broadcast_from two 65226 nine) + 1) * (gap + 100000) < passed_in prompt_example prompt_start }
+{}
+
+/// All answers of this history are those that a controller gives, its driver is prompt by a second, and a transfer of two packets has
+/// ended in time, acknowledged: so `transfer_ends` speaks of something.
+#[tactic(auto, unfolding(j39_transport::specs::Cutting::cut_frame, j39_transport::specs::Cutting::announcement_of, j39_transport::specs::Cutting::packet_of, j39_transport::specs::Cutting::packet_data, j39_transport::specs::Sending::new_sender, j39_transport::specs::Sending::send_step, j39_transport::specs::Sending::ticks_in, j39_transport::specs::Sending::sends_packet, j39_transport::specs::Sending::hears, j39_transport::specs::Sending::cleared, j39_transport::specs::Sending::acknowledged, j39_transport::specs::Sending::aborted, j39_transport::specs::Signals::said_between, j39_transport::specs::Signals::said_by, j39_transport::specs::Signals::control_in, j39_transport::specs::Signals::packet_in, j39_transport::specs::Frames::is_announcement, j39_transport::specs::Frames::is_packet, j39_transport::specs::Frames::goes, j39_transport::specs::Frames::group_of, j39_transport::specs::Frames::source_of, j39_transport::specs::Frames::destination_of, j39_transport::specs::Reception::takes_request, j39_transport::specs::Reception::begun, j39_transport::specs::Reception::grants, j39_transport::specs::Reception::granted_at, j39_transport::specs::Reception::takes_data, j39_transport::specs::Reception::takes_packet, j39_transport::specs::Reception::goes_on, j39_transport::specs::Reception::delivers_message, j39_transport::specs::Signals::request_in, j39_transport::specs::Signals::written, j39_transport::specs::Frames::names_message, j39_transport::specs::Key::key_between, j39_transport::specs::Receiving::recv_step, j39_transport::specs::Receiving::said_to, j39_transport::specs::Reception::takes_signal, j39_transport::specs::Reception::takes_tick))]
+pub fn an_example_of_a_transfer()
+    ensures answered { AreAnswered two (transfer_example ++ transfer_start) }
+    ensures prompt { IsPrompt 1000000 transfer_example transfer_start }
+    ensures not_told { NoneTold tells_transfer transfer_example }
+    ensures long { (packets_of (broadcast_from two 65226 nine) + 65) * (timer_t3 + 1000000) + 1000000
+        < passed_in transfer_example transfer_start }
+    ensures ended { next_transfer_ended two (transfer_example ++ transfer_start) ≡ Some (0, ending.Done) }
 {}

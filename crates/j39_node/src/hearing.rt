@@ -9,7 +9,7 @@ ghost use Rattle.j39_transport.specs.Key.{Broadcast, is_key};
 ghost use Rattle.j39_transport.specs.ReceiverModel.{message_shown};
 ghost use Rattle.j39_node.specs.Reception.{has_place};
 ghost use Rattle.j39_node.specs.Hearing.{IsFit, announces, goes_on, has_room, begun, hears, is_late, is_ignored, is_unheard, is_whole, left, opens, packed, packs, whole_of};
-ghost use Rattle.j39_node.specs.Is.{broadcast_by, hearing_of, is_out, who_of};
+ghost use Rattle.j39_node.specs.Is.{broadcast_by, hearing_of, is_out, made_by, who_of};
 
 use crate::own::{Own, TRANSPORT_CONTROL, TRANSPORT_DATA, is_own_group};
 use arrayvec::ArrayVec;
@@ -213,6 +213,22 @@ impl Hearing {
         match &self.current {
             Some(heard) => heard.is_whole(),
             None => false,
+        }
+    }
+
+    /// The source and the group of the one that waits, where none did.
+    pub(crate) fn made(&self, waited: bool) -> Option<(u8, u32)>
+        ensures { result ≡ made_by (not waited) (whole_of (hearing_of self.now).current) }
+    {
+        match &self.current {
+            Some(heard) => {
+                if heard.is_whole() && !waited {
+                    Some((heard.source, heard.group.raw()))
+                } else {
+                    None
+                }
+            }
+            None => None,
         }
     }
 

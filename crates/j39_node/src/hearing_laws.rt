@@ -39,7 +39,8 @@ pub fn announcements_heard()
 
 /// The next packet of the broadcast that is open is appended, in time, and the last makes it whole; another of its source adds no byte, a
 /// late one ends it, and so does a claim by which its source has another holder, or none. What is no claim, no announcement and no packet
-/// of its source changes nothing, and neither does a frame taken that is no claim.
+/// of its source changes nothing; neither does, in time, any frame of another source, unless by it the source has another holder; nor a
+/// frame taken that is no claim.
 pub fn packets_heard()
     ensures next { (w : Who) (H : List Call) (f : FrameRecord) (x : OpenBroadcast) → claim_of f ≡ None → announces f ≡ false → IsTrue (packs f)
         → hearing w H ≡ Some x → is_whole x ≡ false → source_of f.id ≡ x.source → is_late (time_heard (Hear f ∷ H)) x ≡ false
@@ -63,6 +64,9 @@ pub fn packets_heard()
     ensures strangers { (w : Who) (H : List Call) (f : FrameRecord) → claim_of f ≡ None → announces f ≡ false
         → (packs f ≡ false) ⊎ ((x : OpenBroadcast) → hearing w H ≡ Some x → source_of f.id ≢ x.source)
         → hearing w (Hear f ∷ H) ≡ hearing w H }
+    ensures others { (w : Who) (H : List Call) (f : FrameRecord) (x : OpenBroadcast) → hearing w H ≡ Some x
+        → holder w (Hear f ∷ H) x.source ≡ holder w H x.source → source_of f.id ≢ x.source
+        → is_late (time_heard (Hear f ∷ H)) x ≡ false → hearing w (Hear f ∷ H) ≡ Some x }
     ensures own { (w : Who) (H : List Call) (now : ℕ) (f : FrameRecord) → is_claim f ≡ false
         → hearing w (TakeFrame now (Some f) ∷ H) ≡ hearing w H }
 {}

@@ -43,7 +43,7 @@ impl TransferEnding {
 /// How a request that was accepted ended (J1939-21, 5.4.2 and 5.4.4).
 #[derive(Clone, Copy, Debug, PartialEq, Eq)]
 pub enum AskEnding {
-    /// Whom was asked sent the group.
+    /// Whom was asked sent the group, in one frame or in packets.
     Answered,
     /// Whom was asked acknowledged it: `Ack` is positive, all others refuse.
     Acknowledged(Answer),

@@ -18,7 +18,7 @@ ghost use Rattle.j39_node.specs.declared.kinds.News.{News};
 ghost use Rattle.j39_node.specs.declared.kinds.News.TheVariants as news;
 ghost use Rattle.j39_node.specs.declared.kinds.Refused.{Refused};
 ghost use Rattle.j39_node.specs.declared.kinds.Refused.TheVariants as refused;
-ghost use Rattle.j39_node.specs.History.{Who, is_smaller, Asked, Call, Message, Draft, IsFront, accepted, acknowledgment, acknowledgment_group, asked, handed, is_served, requests, lost_news, another_news, missed_news, address_after, calls_for_claim, can_send, claim_address, claim_from, content, acknowledged, due, frames, got, heard, holds, is_held, is_lost, is_subscribed, kept, message_of, missed, moment, owes_claim, sent, step, told, all_frames, broadcasts, can_broadcast, first_frames, frame_of, has_packets, is_acknowledgment, is_claim, is_packet, is_transfer, open_broadcast, packets, told_broadcasts};
+ghost use Rattle.j39_node.specs.History.{Who, is_smaller, Asked, Call, Message, Draft, IsFront, accepted, acknowledgment, acknowledgment_group, asked, asked_group, handed, is_served, requests, lost_news, another_news, missed_news, address_after, calls_for_claim, can_send, claim_address, claim_from, content, acknowledged, due, frames, got, heard, holds, is_held, is_lost, is_subscribed, kept, message_of, missed, moment, owes_claim, sent, step, told, all_frames, broadcasts, can_broadcast, first_frames, frame_of, has_packets, is_acknowledgment, is_claim, is_packet, is_transfer, open_broadcast, packets, told_broadcasts};
 ghost use Rattle.j39_node.specs.History.Call.{Acknowledge, Broadcast, TakeBroadcastEnded, ReleaseTransfer, Hear, TakeNews, Tick, TakeFrame, TakeRequest, Send, TakeEnded, TakeReceived, Transfer, TakeTransferEnded};
 ghost use Rattle.j39_node.specs.Reception.{CameFromOne, delivered, got_transfers, heard_at, holder, is_move, listed, next_tick, reception, replied, reply_from, says, time_heard, whole, without};
 ghost use Rattle.j39_transport.specs.Cutting.{ToSend};
@@ -26,10 +26,13 @@ ghost use Rattle.j39_transport.specs.Receiving.{said_to};
 ghost use Rattle.j39_transport.specs.Signals.{RequestToSend};
 ghost use Rattle.byteorder.specs.Endian.{little_bytes};
 ghost use Rattle.j39_node.specs.Hearing.{unheard_news};
-ghost use Rattle.j39_node.specs.Transfers.{age, next_due};
+ghost use Rattle.j39_node.specs.Transfers.{age, next_due, told_transfers, transfers};
+ghost use Rattle.j39_node.specs.Moves.{moves};
+ghost use Rattle.j39_node.specs.Asking.{asks, ended, told_asks};
+ghost use Rattle.j39_node.specs.Aside.{IsAside};
 ghost use Rattle.j39_node.specs.Since.{ClaimedSince, PacketSince, passed_in};
 ghost use Rattle.j39_node.specs.Example.{example, two};
-ghost use Rattle.j39_node.specs.Is.{AreAnswered, Is, status_after};
+ghost use Rattle.j39_node.specs.Is.{AreAnswered, Is, next_frame, status_after};
 
 /// Each frame that is taken has the moment of its taking, and is the claim of its NAME, or comes from its address, which it
 /// holds at that moment, and is no claim.
@@ -312,7 +315,8 @@ pub fn replies_mean()
 {}
 
 /// A frame that doesn't go to its address changes nothing of what is received, and one of another source nothing of the session,
-/// unless by it the address is lost or the session's source gets another holder.
+/// unless by it the address is lost or the session's source gets another holder; nor of the message that waits. What is said to others
+/// than its source stays, unless it is a claim.
 pub fn strangers()
     ensures to_others { (w : Who) (H : List Call) (f : FrameRecord) → is_smaller w (claim_of f) ≡ false
         → ((r : ReceptionRecord) → (reception w H).session ≡ Some r
@@ -321,6 +325,36 @@ pub fn strangers()
     ensures from_others { (w : Who) (H : List Call) (f : FrameRecord) (r : ReceptionRecord)
         → is_lost (address_after w (Hear f ∷ H)) ≡ false → holder w (Hear f ∷ H) r.message.source ≡ holder w H r.message.source
         → (reception w H).session ≡ Some r → source_of f.id ≢ r.message.source → (reception w (Hear f ∷ H)).session ≡ Some r }
+    ensures waits { (w : Who) (H : List Call) (f : FrameRecord)
+        → ((r : ReceptionRecord) → (reception w H).session ≡ Some r → source_of f.id ≢ r.message.source)
+        → (reception w (Hear f ∷ H)).waits ≡ (reception w H).waits }
+    ensures replies { (w : Who) (H : List Call) (f : FrameRecord) → claim_of f ≡ None
+        → without (source_of f.id) (reception w (Hear f ∷ H)).replies ≡ without (source_of f.id) (reception w H).replies }
+{}
+
+/// What is heard accepts nothing, sends nothing and tells no end. A frame that doesn't go to its address, and is neither a claim nor a
+/// request, changes nothing of what is sent: at any moment the next frame is the one where time alone passed, and none was taken.
+pub fn strangers_and_sending()
+    ensures accepted { (w : Who) (H : List Call) (f : FrameRecord) → (accepted w (Hear f ∷ H) ≡ accepted w H)
+        × (broadcasts w (Hear f ∷ H) ≡ broadcasts w H) × (transfers w (Hear f ∷ H) ≡ transfers w H) × (asks (Hear f ∷ H) ≡ asks H) }
+    ensures sent { (w : Who) (H : List Call) (f : FrameRecord) → (sent (Hear f ∷ H) ≡ sent H) × (packets (Hear f ∷ H) ≡ packets H)
+        × (moves w (Hear f ∷ H) ≡ moves w H) × (acknowledged (Hear f ∷ H) ≡ acknowledged H) }
+    ensures told { (H : List Call) (f : FrameRecord) → (told (Hear f ∷ H) ≡ told H) × (told_broadcasts (Hear f ∷ H) ≡ told_broadcasts H)
+        × (told_transfers (Hear f ∷ H) ≡ told_transfers H) × (told_asks (Hear f ∷ H) ≡ told_asks H) }
+    ensures broadcast { (w : Who) (H : List Call) (f : FrameRecord) → open_broadcast w (Hear f ∷ H) ≡ open_broadcast w H }
+    ensures next { (w : Who) (H : List Call) (c : Controller) (f : FrameRecord) (now : ℕ) → Is w H c → claim_of f ≡ None
+        → asked_group f ≡ None → destination_of f.id ≢ Some w.address
+        → next_frame w (Hear f ∷ H) now ≡ next_frame w (TakeFrame f.stamp None ∷ H) now }
+{}
+
+/// Which frame others exchange, no claim, makes no difference to any answer, whatever comes later. Neither does it whether a tick stands
+/// in its place, unless a session (`ticks_wait`) or a request is out of time by it.
+pub fn strangers_unheard()
+    ensures alike { (w : Who) (later H : List Call) (f g : FrameRecord) → IsAside w f → IsAside w g → f.stamp ≡ g.stamp
+        → AreAnswered w (later ++ Hear f ∷ H) → AreAnswered w (later ++ Hear g ∷ H) }
+    ensures time { (w : Who) (later H : List Call) (f : FrameRecord) → IsAside w f
+        → reception w (Tick f.stamp ∷ H) ≡ reception w H → ended w (Hear f ∷ H) ≡ ended w H
+        → (AreAnswered w (later ++ Hear f ∷ H) ↔ AreAnswered w (later ++ Tick f.stamp ∷ H)) }
 {}
 
 /// While a message waits for the program, an RTS to its address is answered by abort 2, and none begins.

@@ -1,8 +1,9 @@
 //! Laws of transfers over histories, as those of `laws`.
-ghost use Rattle.std.specs.Prelude.{◌≡◌, ◌⊎◌, ◌+◌, ◌<◌, ◌≤◌, ◌↔◌, ◌++◌, ℕ, List, [], ◌∷◌, length, Some, None, Option, Result, Ok, Err, IsTrue, true, false};
+ghost use Rattle.std.specs.Prelude.{◌≡◌, ◌≢◌, ◌⊎◌, ◌+◌, ◌<◌, ◌≤◌, ◌↔◌, ◌++◌, ℕ, List, [], ◌∷◌, length, Some, None, Option, Result, Ok, Err, IsTrue, true, false};
 ghost use Rattle.std.specs.List.{slice_get};
 ghost use Rattle.j39_frame.specs.Frame.{FrameRecord};
-ghost use Rattle.j39_address.specs.Claim.{claims_of};
+ghost use Rattle.j39_frame.specs.Identifier.{destination_of, source_of};
+ghost use Rattle.j39_address.specs.Claim.{claim_of, claims_of};
 ghost use Rattle.j39_address.specs.Holder.{IsHolderAfter};
 ghost use Rattle.j39_transport.specs.Message.{MessageRecord, packets_of};
 ghost use Rattle.j39_transport.specs.Sending.{Heard, Tick, is_waiting, send_step};
@@ -12,13 +13,13 @@ ghost use Rattle.j39_node.specs.declared.kinds.TransferEnding.{TransferEnding};
 ghost use Rattle.j39_node.specs.declared.kinds.TransferEnding.TheVariants as ending;
 ghost use Rattle.j39_node.specs.declared.kinds.Refused.{Refused};
 ghost use Rattle.j39_node.specs.declared.kinds.Refused.TheVariants as refused;
-ghost use Rattle.j39_node.specs.History.{Who, Call, accepted, acknowledged, address_after, due, has_packets, holds, is_lost, message_of, sent, step, told_claims};
-ghost use Rattle.j39_node.specs.History.Call.{Hear, TakeFrame, TakeTransferEnded, Transfer};
+ghost use Rattle.j39_node.specs.History.{Who, Call, accepted, acknowledged, address_after, due, has_packets, holds, is_lost, is_smaller, message_of, sent, step, told_claims};
+ghost use Rattle.j39_node.specs.History.Call.{Hear, TakeFrame, TakeTransferEnded, Tick as Ticks, Transfer};
 ghost use Rattle.j39_node.specs.Since.{PacketSince, ToldSince, passed_in};
 ghost use Rattle.j39_node.specs.Reception.{holder, is_move};
-ghost use Rattle.j39_node.specs.Transfers.{Running, can_transfer, clock_at, gives_up, is_over, is_replaced, is_resting, is_spent, next_transfer, open_transfer, rests_after, said_to, told_transfers, transfers};
+ghost use Rattle.j39_node.specs.Transfers.{Running, can_transfer, clock_at, gives_up, is_over, is_replaced, is_resting, is_spent, next_transfer, next_transfer_ended, open_transfer, rests_after, said_to, told_transfers, transfers};
 ghost use Rattle.j39_node.specs.Moves.{Aborts, Acknowledges, Happened, IsMove, NoneEnds, Replaces, abort_move, clears, moves};
-ghost use Rattle.j39_node.specs.Is.{Is};
+ghost use Rattle.j39_node.specs.Is.{Is, next_long};
 
 /// What `transfer` answers: `NoAddress` where no address is held, `BadValue` where the message can't be sent so, `Full` where one is
 /// accepted and not told (or as many as there are tokens were accepted) or where it rests, and else the next token.
@@ -116,6 +117,24 @@ pub fn transfer_done_means()
         → (length (told_transfers H) ≡ length (transfers w H))
         ⊎ ((t : Running) × (open_transfer w H ≡ Some t) × (is_over t ≡ false) × (IsTrue (is_lost (address_after w H)) → ⊥)) }
     ensures holder { (w : Who) (H : List Call) (a : ℕ) → IsHolderAfter (claims_of (told_claims w H)) a (holder w H a) }
+{}
+
+/// A frame that doesn't come from the open transfer's destination, or not to its address, leaves that transfer, unless by it the
+/// destination's address is left or lost by its holder. So what is sent next in packets is what a tick at the same moment leaves, and the
+/// end too, unless by the frame the address is lost.
+pub fn strangers_and_transfers()
+    ensures transfer { (w : Who) (H : List Call) (c : Controller) (f : FrameRecord) (t : Running) → Is w H c → open_transfer w H ≡ Some t
+        → (source_of f.id ≢ t.sender.destination) ⊎ (destination_of f.id ≢ Some w.address)
+        → is_replaced (holder w H t.sender.destination) (holder w (Hear f ∷ H) t.sender.destination) ≡ false
+        → open_transfer w (Hear f ∷ H) ≡ Some t }
+    ensures next { (w : Who) (H : List Call) (c : Controller) (f : FrameRecord) (t : Running) (now : ℕ) → Is w H c
+        → open_transfer w H ≡ Some t → (source_of f.id ≢ t.sender.destination) ⊎ (destination_of f.id ≢ Some w.address)
+        → is_replaced (holder w H t.sender.destination) (holder w (Hear f ∷ H) t.sender.destination) ≡ false
+        → next_long w (Hear f ∷ H) now ≡ next_long w (Ticks f.stamp ∷ H) now }
+    ensures ends { (w : Who) (H : List Call) (c : Controller) (f : FrameRecord) (t : Running) → Is w H c → open_transfer w H ≡ Some t
+        → (source_of f.id ≢ t.sender.destination) ⊎ (destination_of f.id ≢ Some w.address)
+        → is_replaced (holder w H t.sender.destination) (holder w (Hear f ∷ H) t.sender.destination) ≡ false
+        → is_smaller w (claim_of f) ≡ false → next_transfer_ended w (Hear f ∷ H) ≡ next_transfer_ended w (Ticks f.stamp ∷ H) }
 {}
 
 /// A transfer rests for 4 seconds after the end of one of its group to its destination was told that wasn't acknowledged, whatever

@@ -1,5 +1,12 @@
 -- What a run that tells faults counts, by the account that it leaves.
-use Rattle.std.proofs.Common.{◌≡◌, ℕ, List, Option, subst, sym}
+use Rattle.std.proofs.Common.{◌≡◌, ◌==◌, ◌&&◌, ℕ, Bool, true, false, List, Option, Some, None, drop, if◌then◌else◌, length, refl, subst, sym}
+use Rattle.std.specs.Prelude.{slice_index}
+use Rattle.j39_frame.specs.Identifier.{pgn_of}
+use Rattle.j39_frame.specs.Network.{transport_control_group, transport_data_group}
+use Rattle.j39_transport.specs.Announced.{announced_in}
+use Rattle.j39_transport.specs.Frames.{destination_of, group_of, source_of}
+use Rattle.j39_transport.specs.Key.{is_key, key_between}
+use Rattle.j39_transport.specs.Signals.{Packet, packet_in, said_by}
 use Rattle.std.proofs.lemmas.Option.{IfSome_then}
 use Rattle.std.specs.Prelude.{Err, IfOk, IfSome, Ok, OnOk, Result}
 use Rattle.j39_io.specs.Turn.{Turn}
@@ -10,9 +17,19 @@ use Rattle.j39_listen.specs.Ran.{Ran}
 use Rattle.j39_listen.specs.Run.{HasMetLog}
 use Rattle.j39_listen.specs.declared.counts.Counts.{Counts}
 use Rattle.j39_listen.specs.declared.running.RunFault.{RunFault}
-use Rattle.j39_reports.specs.Broken.{AreBroken, ToldFaults, counts_in}
+use Rattle.j39_reports.specs.Broken.{AreBroken, ToldFaults, announces_codes, counts_in, is_code_group}
 use Rattle.j39_reports.specs.FaultsSoFar.{IsBroken}
 use Rattle.j39_reports.specs.declared.fault_news.run.FaultCounts.{FaultCounts}
+
+-- a frame of another group than that of announcements announces nothing
+pub announces_none : (f : FrameRecord) → (pgn_of f.id == transport_control_group) ≡ false → announces_codes f ≡ false
+unfolding said_by packet_in group_of
+announces_none f other = rw other (by (group_of f.id == transport_data_group && length f.bytes == 8) (is_key (key_between (source_of f.id) (destination_of f.id))))
+  where
+    by : (d p : Bool) → is_code_group (announced_in (if d then (if p then Some (Packet (slice_index f.bytes 0) (drop 1 f.bytes)) else None) else None)) ≡ false
+    by true true = refl
+    by true false = refl
+    by false p = refl
 
 -- the account, and how many it knows to be broken
 module _ {A : Type 0} (has_met : Meeting A) (given : Option (List ℕ)) (account : A) (n : ℕ)

@@ -4,6 +4,7 @@ use Rattle.std.proofs.Common.{append-nil, append_assoc, arith, length, length-ap
 use Rattle.std.specs.Prelude.{IsErr}
 use Rattle.std.proofs.lemmas.Grind.{flat_map-append}
 use Rattle.std.proofs.lemmas.List.{length-map}
+use Rattle.std.proofs.lemmas.List.Sums.{count_by-le-length}
 use Rattle.j39_io.specs.Puts.{Puts}
 use Rattle.j39_io.specs.Turn.{Device, Turn}
 use Rattle.j39_io.proofs.PutsLemmas.{puts_as, puts_done, puts_first, puts_then}
@@ -16,47 +17,47 @@ use Rattle.j39_faults.specs.declared.kind.Kind.{Kind}
 use Rattle.j39_faults.specs.declared.kind.Kind.TheVariants.{Active, Previous, EmissionPending, EmissionActive, EmissionPrevious, Pending, Permanent}
 use Rattle.j39_faults.specs.declared.lamps.Lamps.{Lamps}
 use Rattle.j39_faults.specs.declared.text.State.TheVariants.{Became}
-use Rattle.j39_groups.specs.Row.{RowRecord}
 use Rattle.j39_listen.specs.Heard.{Hearing}
 use Rattle.j39_listen.specs.declared.format.Format.{Format}
 use Rattle.j39_listen.specs.declared.format.Format.TheVariants.{Line, Object, Record}
 use Rattle.j39_reports.specs.FaultChanges.{became, is_active}
 use Rattle.j39_reports.specs.FaultRecords.{fault_object, fault_record, faults_text}
-use Rattle.j39_reports.specs.Faults.{Fault, fault_line}
+use Rattle.j39_reports.specs.Faults.{Fault, Manner, fault_line, lines_in, says_asked}
 use Rattle.j39_reports.specs.FaultsSoFar.{change_by, changed, head_in, line_of}
 use Rattle.j39_reports.specs.declared.fault_news.changes.Side.{Side}
+use Rattle.j39_reports.proofs.CountLemmas.{count_by-append}
 use Rattle.j39_reports.proofs.FaultAccountLemmas.{faults_text-append}
 use Rattle.j39_reports.proofs.FaultLineLemmas.{few_codes}
 
 -- the line of a code that changed
-pub change_text : (form : Format) (rows : List RowRecord) (m : Hearing) (lamps : Lamps) (code : Code) (change : Change)
+pub change_text : (form : Format) (rows : Manner) (m : Hearing) (lamps : Lamps) (code : Code) (change : Change)
     → line_of form (head_in form m.stamp m.message.source m.destination m.name) rows (Became change) lamps (Some code) ≡ faults_text form rows (became m lamps code (Some change))
 unfolding faults_text fault_line fault_object fault_record
 change_text Line rows m lamps code change = sym (append-nil _)
 change_text Record rows m lamps code change = sym (append-nil _)
 change_text Object rows m lamps code change = sym (append-nil _)
 
-pub change_put : {T E : Type 0} (form : Format) (rows : List RowRecord) (m : Hearing) (lamps : Lamps) (code : Code) (change : Change) (head : List ℕ) (r : Result T E) (sink : Turn)
+pub change_put : {T E : Type 0} (form : Format) (rows : Manner) (m : Hearing) (lamps : Lamps) (code : Code) (change : Change) (head : List ℕ) (r : Result T E) (sink : Turn)
     → head ≡ head_in form m.stamp m.message.source m.destination m.name → Puts (line_of form head rows (Became change) lamps (Some code)) r sink
     → Puts (faults_text form rows (became m lamps code (Some change))) r sink
 change_put form rows m lamps code change head r sink is put =
     puts_as _ _ _ _ (ap (λ h. line_of form h rows (Became change) lamps (Some code)) is ∙ change_text form rows m lamps code change) put
 
-pub one_at_most : (m : Hearing) (lamps : Lamps) (code : Code) (change : Option Change) → length (became m lamps code change) ≤ 1
-one_at_most m lamps code None = omega arith
-one_at_most m lamps code (Some change) = omega arith
+pub one_at_most : (rows : Manner) (m : Hearing) (lamps : Lamps) (code : Code) (change : Option Change) → lines_in rows (became m lamps code change) ≤ 1
+one_at_most rows m lamps code None = omega arith
+one_at_most rows m lamps code (Some change) = count_by-le-length (says_asked rows.spns) (became m lamps code (Some change))
 
 -- of the codes before these, the last of a payload by a version of the conversion, was written what became of them, and no
 -- fault came
-pub record HasChanged (form : Format) (rows : List RowRecord) (m : Hearing) (lamps : Lamps) (side : Side) (others : List Code) (version : Option Version) (payload : List ℕ)
+pub record HasChanged (form : Format) (rows : Manner) (m : Hearing) (lamps : Lamps) (side : Side) (others : List Code) (version : Option Version) (payload : List ℕ)
     (left : List Code) (count : ℕ) (sink : Turn) : Type 0 where
   pub before : List Code
   pub all_are : codes_by version payload ≡ before ++ map (code_by version) left
-  pub count_is : count ≡ length (changed side m lamps others before)
+  pub count_is : count ≡ lines_in rows (changed side m lamps others before)
   pub few : count ≤ length before
   pub written : Puts {T = Unit} {E = Unit} (faults_text form rows (changed side m lamps others before)) (Ok tt) sink
 
-module _ (form : Format) (rows : List RowRecord) (m : Hearing) (lamps : Lamps) (side : Side) (others : List Code) (version : Option Version) (payload : List ℕ) where
+module _ (form : Format) (rows : Manner) (m : Hearing) (lamps : Lamps) (side : Side) (others : List Code) (version : Option Version) (payload : List ℕ) where
   abbrev by : Code → Code
   by code = code_by version code
 
@@ -74,15 +75,15 @@ module _ (form : Format) (rows : List RowRecord) (m : Hearing) (lamps : Lamps) (
 
   pub change_more : {E : Type 0} (code : Code) (left more : List Code) (count n : ℕ) (old mid new : Device)
       → HasChanged form rows m lamps side others version payload left count (record { old = old; new = mid }) → left ≡ code ∷ more
-      → n ≡ length (here (by code)) → Puts {T = ℕ} {E = E} (faults_text form rows (here (by code))) (Ok n) (record { old = mid; new = new })
+      → n ≡ lines_in rows (here (by code)) → Puts {T = ℕ} {E = E} (faults_text form rows (here (by code))) (Ok n) (record { old = mid; new = new })
       → HasChanged form rows m lamps side others version payload more (count + n) (record { old = old; new = new })
   change_more code left more count n old mid new h is counts put = record {
     before = h.before ++ by code ∷ [];
     all_are = h.all_are ∙ ap (λ x. h.before ++ x) (next_is left more code is) ∙ sym (append_assoc h.before (by code ∷ []) (map by more));
-    count_is = (let c = h.count_is in let l : length (of (h.before ++ by code ∷ [])) ≡ length (of h.before) + length (here (by code)) =
-        ap length (of_one_more h.before (by code)) ∙ length-append (of h.before) (here (by code)) in omega arith);
-    few = (let f = h.few in let one = one_at_most m lamps (by code) (change_by side others (by code)) in
-        let l : length (h.before ++ by code ∷ []) ≡ length h.before + 1 = length-append h.before (by code ∷ []) in omega arith);
+    count_is = (let c = h.count_is in let l : lines_in rows (of (h.before ++ by code ∷ [])) ≡ lines_in rows (of h.before) + lines_in rows (here (by code)) =
+        ap (lines_in rows) (of_one_more h.before (by code)) ∙ count_by-append (says_asked rows.spns) (of h.before) (here (by code)) in omega (arith, c, l, counts));
+    few = (let f = h.few in let one = one_at_most rows m lamps (by code) (change_by side others (by code)) in
+        let l : length (h.before ++ by code ∷ []) ≡ length h.before + 1 = length-append h.before (by code ∷ []) in omega (arith, f, one, l, counts));
     written = puts_as _ _ _ _ (sym (ap (faults_text form rows) (of_one_more h.before (by code)) ∙ faults_text-append form rows (of h.before) (here (by code))))
         (puts_then (faults_text form rows (of h.before)) (faults_text form rows (here (by code))) tt (Ok tt) old mid new h.written (puts_done _ n tt _ put));
   }
@@ -112,8 +113,8 @@ module _ (form : Format) (rows : List RowRecord) (m : Hearing) (lamps : Lamps) (
       puts_done _ tt x sink (puts_as _ _ _ _ (ap (λ cs. faults_text form rows (of cs)) (sym (all_before left count sink h none))) h.written)
 
   pub changes_count : (left : List Code) (count : ℕ) (sink : Turn) → HasChanged form rows m lamps side others version payload left count sink → left ≡ []
-      → count ≡ length (of (codes_by version payload))
-  changes_count left count sink h none = h.count_is ∙ ap (λ cs. length (of cs)) (sym (all_before left count sink h none))
+      → count ≡ lines_in rows (of (codes_by version payload))
+  changes_count left count sink h none = h.count_is ∙ ap (λ cs. lines_in rows (of cs)) (sym (all_before left count sink h none))
 
   -- no more than bytes
   pub few_changed : (left : List Code) (count : ℕ) (sink : Turn) → HasChanged form rows m lamps side others version payload left count sink → count ≤ length payload

@@ -7,7 +7,9 @@ use Rattle.j39_io.specs.Device.{AppendsFront}
 use Rattle.j39_faults.specs.declared.conversion.Conversion.{Conversion}
 use Rattle.j39_frame.specs.Frame.{FrameRecord}
 use Rattle.j39_listen.specs.AccountCalls.{Begins, Closes, MakesOne, Meets, StopsAtEnd}
+use Rattle.j39_listen.specs.Chooses.{Chooses}
 use Rattle.j39_listen.specs.Counting.{capped}
+use Rattle.j39_listen.specs.Filter.{FilterRecord, first_stamp}
 use Rattle.j39_listen.specs.Heard.{AreHeardWith, HeardAtWith, Hearing, or_none}
 use Rattle.j39_listen.specs.Listening.{Hears}
 use Rattle.j39_listen.specs.Output.{Output}
@@ -16,10 +18,10 @@ use Rattle.j39_listen.specs.declared.listener.Listener.{Listener}
 use Rattle.j39_listen.proofs.Causal.{heard_more}
 use Rattle.j39_listen.proofs.Unique.{heard_below_unique}
 use Rattle.j39_reports.specs.CurrentPlaces.{Places}
-use Rattle.j39_reports.specs.CurrentSoFar.{AreKept, HasKept, NowSubject, TakesFrame, shown_below}
-use Rattle.j39_reports.specs.FaultsNow.{active_among, faults_now, is_active_message}
-use Rattle.j39_reports.specs.FaultsNowRun.{AsksForFaultsNow, MakesFaultsNowIn, faults_now_of, now_text}
-use Rattle.j39_reports.specs.FaultsSoFar.{with_either, with_frame}
+use Rattle.j39_reports.specs.CurrentSoFar.{AreKept, HasKept, NowSubject, TakesFrame, taken_below}
+use Rattle.j39_reports.specs.FaultsNow.{active_among, faults_now, is_active_message, now_taken}
+use Rattle.j39_reports.specs.FaultsNowRun.{AsksForFaultsNow, MakesFaultsNowIn, faults_now_of, now_lines, now_text}
+use Rattle.j39_reports.specs.FaultsSoFar.{manner_of, with_either, with_frame}
 use Rattle.j39_reports.specs.News.{is_fault_group}
 use Rattle.j39_reports.specs.declared.fault_news.announced.Announced.{Announced}
 use Rattle.j39_reports.specs.declared.current_faults.account.FaultsNow.{FaultsNow}
@@ -29,14 +31,14 @@ use Rattle.j39_reports.proofs.FaultAccountLemmas.{announced_more, faults_leave}
 
 -- ---- laws
 
-pub now_begins : (form : Format) (s : NowSubject) → Begins (λ bus. HasKept form s) (MakesFaultsNowIn form s.rows s.conversions)
+pub now_begins : (form : Format) (s : NowSubject) → Begins (λ bus. HasKept form s) (MakesFaultsNowIn form s.manner s.conversions s.which)
 now_begins form s = λ bus a F G before all has made.
     (all.text, ap (λ t. t ++ all.text) (sym (ap (λ (o : Output). o.text) has.nothing_yet)))
 
-pub now_one : (form : Format) (s : NowSubject) → MakesOne (MakesFaultsNowIn form s.rows s.conversions)
+pub now_one : (form : Format) (s : NowSubject) → MakesOne (MakesFaultsNowIn form s.manner s.conversions s.which)
 now_one form s = λ bus F x y (hs, are_x, is_x) (ks, are_y, is_y).
     ap (λ (o : Output). o.text) is_x
-    ∙ ap (λ (ms : List Hearing). (faults_now_of form s.rows s.conversions (active_among ms)).text) (heard_below_unique is_fault_group faults_leave F (length F) hs ks are_x are_y)
+    ∙ ap (λ (ms : List Hearing). (faults_now_of form s.manner s.conversions s.which (first_stamp F) (active_among ms)).text) (heard_below_unique is_fault_group faults_leave F (length F) hs ks are_x are_y)
     ∙ sym (ap (λ (o : Output). o.text) is_y)
 
 -- ---- one frame
@@ -56,9 +58,10 @@ takes_silent cs F f l' places a a' ms announced at hears kept = record {
 }
 
 pub now_meets : (form : Format) (s : NowSubject) (a a' : FaultsNow) → a'.writing ≡ a.writing → a'.conversions ≡ a.conversions → (f : FrameRecord) (messages : ℕ) (old : Option (List ℕ))
+    → ((which : FilterRecord) (F : List FrameRecord) → Chooses which a.chooser F → Chooses which a'.chooser (F ++ f ∷ []))
     → ((F : List FrameRecord) (ms : List Hearing) → Hears a.listener F → AreKept a.conversions.now a.places ms → TakesFrame a.conversions.now F f a'.listener a'.places a.announced a'.announced ms messages)
     → a'.messages ≡ capped (a.messages + messages) → Meets (HasKept form s) a a' (f ∷ []) old old
-now_meets form s a a' writing conversions f messages old takes sum = λ F before has.
+now_meets form s a a' writing conversions f messages old notes takes sum = λ F before has.
     let ms = active_among has.heard in
     let t = subst (λ (cs : List Conversion). TakesFrame cs F f a'.listener a'.places a.announced a'.announced ms messages) has.conversions_are
     (takes F ms has.hears (subst (λ (cs : List Conversion). AreKept cs a.places ms) (sym has.conversions_are) has.are_kept)) in
@@ -70,8 +73,9 @@ now_meets form s a a' writing conversions f messages old takes sum = λ F before
       after = before;
       met = record {
         form_is = ap (λ (w : Writing). w.form) writing ∙ has.form_is;
-        by = ap (λ (w : Writing). w.groups.now) writing ∙ has.by;
+        by = ap manner_of writing ∙ has.by;
         conversions_are = (λ i. (conversions i).now) ∙ has.conversions_are;
+        chooses = notes s.which F has.chooses;
         heard = has.heard ++ more;
         are_heard = heard_more is_fault_group F f has.heard t.heard has.are_heard t.heard_at;
         hears = t.hears;
@@ -93,39 +97,43 @@ now_asks form s a F f output asked has =
 
 -- ---- the end
 
-abbrev pub written_by : FaultsNow → List ℕ
-written_by a = now_text a.writing.form a.writing.groups.now (shown_below a.places 256)
+-- what is written of what is asked for
+abbrev pub written_by : FaultsNow → FilterRecord → List FrameRecord → List ℕ
+written_by a which F = now_text a.writing.form (manner_of a.writing) (taken_below which (first_stamp F) a.places 256)
 
-all_shown : (form : Format) (s : NowSubject) (a : FaultsNow) (F : List FrameRecord) (before : Output) → (has : HasKept form s a F before)
-    → shown_below a.places 256 ≡ faults_now s.conversions (active_among has.heard)
-all_shown form s a F before has = shown_all s.conversions (active_among has.heard) a.places has.are_kept 256 (omega arith)
+all_taken : (form : Format) (s : NowSubject) (a : FaultsNow) (F : List FrameRecord) (before : Output) → (has : HasKept form s a F before)
+    → taken_below s.which (first_stamp F) a.places 256 ≡ now_taken s.which (first_stamp F) (faults_now s.conversions (active_among has.heard))
+all_taken form s a F before has =
+    ap (now_taken s.which (first_stamp F)) (shown_all s.conversions (active_among has.heard) a.places has.are_kept 256 (omega arith))
 
 all_text : (form : Format) (s : NowSubject) (a : FaultsNow) (F : List FrameRecord) (before : Output) → (has : HasKept form s a F before)
-    → written_by a ≡ (faults_now_of form s.rows s.conversions (active_among has.heard)).text
-all_text form s a F before has = λ i. now_text (has.form_is i) (has.by i) (all_shown form s a F before has i)
+    → written_by a s.which F ≡ (faults_now_of form s.manner s.conversions s.which (first_stamp F) (active_among has.heard)).text
+all_text form s a F before has = λ i. now_text (has.form_is i) (has.by i) (all_taken form s a F before has i)
 
-pub now_closes : (form : Format) (s : NowSubject) (a : FaultsNow) (lines : ℕ) (old new : Option (List ℕ)) → lines ≡ capped (length (shown_below a.places 256))
-    → Appends old new (written_by a)
-    → Closes (λ bus. HasKept form s) (MakesFaultsNowIn form s.rows s.conversions) a (record { messages = a.messages; lines = lines }) old new
+pub now_closes : (form : Format) (s : NowSubject) (a : FaultsNow) (lines : ℕ) (old new : Option (List ℕ))
+    → ((which : FilterRecord) (F : List FrameRecord) → Chooses which a.chooser F → lines ≡ capped (now_lines (manner_of a.writing) (taken_below which (first_stamp F) a.places 256)))
+    → ((which : FilterRecord) (F : List FrameRecord) → Chooses which a.chooser F → Appends old new (written_by a which F))
+    → Closes (λ bus. HasKept form s) (MakesFaultsNowIn form s.manner s.conversions s.which) a (record { messages = a.messages; lines = lines }) old new
 now_closes form s a lines old new count written = λ bus F before has.
-    let out = faults_now_of form s.rows s.conversions (active_among has.heard) in
+    let out = faults_now_of form s.manner s.conversions s.which (first_stamp F) (active_among has.heard) in
     record {
       after = out;
       is_made = (has.heard, has.are_heard, refl);
       messages_are = has.messages_are;
-      lines_are = count ∙ (λ i. capped (length (all_shown form s a F before has i)));
+      lines_are = count s.which F has.chooses ∙ (λ i. capped (now_lines (has.by i) (all_taken form s a F before has i)));
       more = out.text;
       text_is = ap (λ t. t ++ out.text) (sym (ap (λ (o : Output). o.text) has.nothing_yet));
-      written = subst (Appends old new) (all_text form s a F before has) written;
+      written = subst (Appends old new) (all_text form s a F before has) (written s.which F has.chooses);
     }
 
 pub now_stops : (form : Format) (s : NowSubject) (a : FaultsNow) (old new : Option (List ℕ))
-    → AppendsFront old new (written_by a) → StopsAtEnd (λ bus. HasKept form s) (MakesFaultsNowIn form s.rows s.conversions) a old new
+    → ((which : FilterRecord) (F : List FrameRecord) → Chooses which a.chooser F → AppendsFront old new (written_by a which F))
+    → StopsAtEnd (λ bus. HasKept form s) (MakesFaultsNowIn form s.manner s.conversions s.which) a old new
 now_stops form s a old new front = λ bus F before all has made.
-    let out = faults_now_of form s.rows s.conversions (active_among has.heard) in
+    let out = faults_now_of form s.manner s.conversions s.which (first_stamp F) (active_among has.heard) in
     let is : all.text ≡ out.text = now_one form s bus F all out made (has.heard, has.are_heard, refl) in
     record {
       rest = all.text;
       all_is = ap (λ t. t ++ all.text) (sym (ap (λ (o : Output). o.text) has.nothing_yet));
-      front = subst (AppendsFront old new) (all_text form s a F before has ∙ sym is) front;
+      front = subst (AppendsFront old new) (all_text form s a F before has ∙ sym is) (front s.which F has.chooses);
     }

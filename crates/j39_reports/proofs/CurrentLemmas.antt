@@ -162,6 +162,8 @@ module _ (cs : List Conversion) (ms : List Hearing) (m : Hearing) (lamps : Lamps
     here = refl;
     name_is = refl;
     stamp_is = refl;
+    destination_is = refl;
+    pgn_is = refl;
     lamps_are = lamps_is;
     standings_are = all_standing before kept (codes_or_none (codes_in cs m)) named;
     untold = λ name code isnt. telling_ends cs ms m s name code (about_here s name m refl) isnt;
@@ -235,6 +237,8 @@ module _ (cs : List Conversion) (ms : List Hearing) (m : Hearing) (a : ℕ) (oth
     here = kept.here;
     name_is = kept.name_is;
     stamp_is = kept.stamp_is;
+    destination_is = kept.destination_is;
+    pgn_is = kept.pgn_is;
     lamps_are = kept.lamps_are;
     standings_are = kept.standings_are ∙ (λ i. map (λ code. record {
       code = code;
@@ -311,7 +315,9 @@ shown_at cs ms a (Some last) kept =
       last = kept.stamp_is i;
       often = capped (length (telling cs ms x.message.source x.name code));
       address = sym kept.here i;
+      destination = kept.destination_is i;
       name = kept.name_is i;
+      pgn = kept.pgn_is i;
       lamps = last.lamps;
       code = code;
     }) os)

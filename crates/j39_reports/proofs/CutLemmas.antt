@@ -1,6 +1,7 @@
 -- Lines that are cut at a width.
-use Rattle.std.proofs.Common.{◌≡◌, ◌≤◌, ◌<◌, ◌-◌, ◌++◌, [], ◌∷◌, ℕ, zero, suc, Bool, true, false, List, Some, Result, Ok, Err, codes, drop, get_or, length, length-append, append_assoc, take, refl, sym, ap, ◌∙◌, arith, nat_le}
+use Rattle.std.proofs.Common.{◌≡◌, ◌≤◌, ◌<◌, ◌+◌, ◌-◌, ◌++◌, [], ◌∷◌, ℕ, zero, suc, Bool, true, false, List, Some, Result, Ok, Err, codes, drop, get_or, length, length-append, append_assoc, append-nil, take, refl, sym, ap, ◌∙◌, arith, nat_le}
 use Rattle.std.proofs.lemmas.List.{take-append-le, take_all, take_at}
+use Rattle.j39_io.specs.Backwards.{WritesBefore}
 use Rattle.j39_io.specs.Puts.{Puts}
 use Rattle.j39_reports.specs.Watch.{column, spaces}
 
@@ -59,6 +60,36 @@ pub first_spaces : (m n : ℕ) → m ≤ n → take m (spaces n) ≡ spaces m
 first_spaces zero n h = refl
 first_spaces (suc m) zero h = absurd (omega (arith, h))
 first_spaces (suc m) (suc n) h = ap (λ t. 0x20 ∷ t) (first_spaces m n (omega (arith, h)))
+
+-- ---- a column that is written in a block of spaces
+
+take_past : (xs ys : List ℕ) (n : ℕ) → take (length xs + n) (xs ++ ys) ≡ xs ++ take n ys
+take_past [] ys n = ap (λ m. take m ys) (let none : 0 + n ≡ n = omega arith in none)
+take_past (x ∷ xs) ys n =
+    let more : length (x ∷ xs) + n ≡ suc (length xs + n) = omega arith in
+    ap (λ m. take m (x ∷ (xs ++ ys))) more ∙ ap (λ t. x ∷ t) (take_past xs ys n)
+
+spaces_more : (n : ℕ) → spaces (suc n) ≡ spaces n ++ codes " "
+spaces_more zero = refl
+spaces_more (suc n) = ap (λ t. 0x20 ∷ t) (spaces_more n)
+
+-- its text and the spaces behind it
+pub column_block : (start width missing : ℕ) (block text : List ℕ) → width ≤ 16 → missing ≡ width - (63 - start) → WritesBefore (spaces 80) block 63 start text
+    → take (64 + missing - start) (drop start block) ≡ column width text
+column_block start width missing block text narrow left before =
+    let len = before.starts in
+    let count : 64 + missing - start ≡ length text + suc (width - length text) = omega (arith, len, left) in
+    ap (λ n. take n (drop start block)) count
+    ∙ ap (take (length text + suc (width - length text))) before.written
+    ∙ take_past text (spaces 17) (suc (width - length text))
+    ∙ ap (λ t. text ++ t) (first_spaces (suc (width - length text)) 17 (omega (arith, narrow)) ∙ spaces_more (width - length text))
+
+-- an address without a destination, and a NAME
+pub sender_columns : (address name : List ℕ) → length address ≡ 2 → length name ≡ 16
+    → column 0 (address ++ (codes "    " ++ name)) ≡ column 5 (address ++ []) ++ column 16 name
+sender_columns address name two sixteen =
+    let none : 0 - length (address ++ (codes "    " ++ name)) ≡ 0 = omega arith in
+    rw (none, append-nil address, two, sixteen) (simp append_assoc refl)
 
 -- ---- what a call wrote to a line
 

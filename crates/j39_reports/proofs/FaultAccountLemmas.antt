@@ -9,9 +9,11 @@ use Rattle.std.proofs.lemmas.List.Elements.{filter-append}
 use Rattle.std.specs.Io.KnownBytes.{Appends}
 use Rattle.std.proofs.KnownBytes.{Appends-nil}
 use Rattle.j39_frame.specs.Frame.{FrameRecord}
-use Rattle.j39_groups.specs.Row.{RowRecord}
 use Rattle.j39_listen.specs.AccountCalls.{Begins, MakesOne, Meets, Stops}
 use Rattle.j39_listen.specs.Counting.{capped}
+use Rattle.j39_listen.specs.Chooses.{Chooses}
+use Rattle.j39_listen.specs.Filter.{FilterRecord, first_stamp}
+use Rattle.j39_listen.specs.declared.chooser.Chooser.{Chooser}
 use Rattle.j39_listen.specs.Heard.{AreHeardWith, Hearing, LeavesNetwork, or_none}
 use Rattle.j39_listen.specs.Listening.{Hears}
 use Rattle.j39_listen.specs.Output.{Output}
@@ -21,13 +23,13 @@ use Rattle.j39_listen.proofs.Causal.{heard_more}
 use Rattle.j39_listen.proofs.LineLemmas.{capped-sum}
 use Rattle.j39_listen.proofs.ReportAccount.{same_made}
 use Rattle.j39_listen.proofs.Unique.{heard_below_unique, heard_first}
-use Rattle.j39_reports.specs.Faults.{Fault}
+use Rattle.j39_reports.specs.Faults.{Fault, Manner, asks_fault, faults_taken, lines_in, says_asked}
 use Rattle.j39_reports.specs.Told.{told, told_below, told_here}
 use Rattle.j39_reports.specs.News.{Chosen, chosen_of, faults_among, is_fault_group, is_of_faults}
 use Rattle.j39_reports.specs.FaultRun.{MakesFaults, MakesFaultsIn, faults_of}
 use Rattle.j39_reports.specs.FaultRecords.{fault_in, faults_text}
 use Rattle.j39_reports.specs.Remembered.{Remembers}
-use Rattle.j39_reports.specs.FaultsSoFar.{HasTold, MeetsFrame, StopsFrame, Subject, Tells, added, announced_in, told_next, with_either, with_frame}
+use Rattle.j39_reports.specs.FaultsSoFar.{HasTold, MeetsFrame, StopsFrame, Subject, Tells, added, announced_in, manner_of, told_next, with_either, with_frame}
 use Rattle.j39_reports.specs.Broken.{announces_codes, is_whole}
 use Rattle.j39_reports.specs.Interfaces.{one_if}
 use Rattle.j39_reports.specs.declared.fault_news.announced.Announced.{Announced}
@@ -41,11 +43,11 @@ use Rattle.j39_reports.specs.declared.fault_news.last_faults.LastFaults.{LastFau
 
 -- ---- the texts
 
-pub faults_text-append : (form : Format) (rows : List RowRecord) (xs ys : List Fault) → faults_text form rows (xs ++ ys) ≡ faults_text form rows xs ++ faults_text form rows ys
+pub faults_text-append : (form : Format) (rows : Manner) (xs ys : List Fault) → faults_text form rows (xs ++ ys) ≡ faults_text form rows xs ++ faults_text form rows ys
 unfolding faults_text
 faults_text-append form rows xs ys = flat_map-append (fault_in form rows) xs ys
 
-pub faults_text-none : (form : Format) (rows : List RowRecord) → faults_text form rows [] ≡ []
+pub faults_text-none : (form : Format) (rows : Manner) → faults_text form rows [] ≡ []
 unfolding faults_text
 faults_text-none form rows = refl
 
@@ -53,11 +55,28 @@ told_none : (which : Chosen) → told which [] ≡ []
 unfolding told_below
 told_none which = refl
 
-pub none_told : (form : Format) (rows : List RowRecord) (which : Chosen) → (faults_of form rows which []).text ≡ []
-none_told form rows which = ap (faults_text form rows) (told_none which) ∙ faults_text-none form rows
+none_taken : (which : Chosen) (first : ℕ) → faults_taken which.asked first (told which []) ≡ []
+none_taken which first = ap (faults_taken which.asked first) (told_none which)
 
-pub none_made : (form : Format) (rows : List RowRecord) (which : Chosen) → (record { messages = 0; lines = 0 }) ≡ made_of (faults_of form rows which [])
-none_made form rows which = same_made _ _ refl (sym (ap (λ (fs : List Fault). capped (length fs)) (told_none which)))
+pub none_told : (form : Format) (rows : Manner) (which : Chosen) → (faults_of form rows which 0 []).text ≡ []
+none_told form rows which = ap (faults_text form rows) (none_taken which 0) ∙ faults_text-none form rows
+
+pub none_made : (form : Format) (rows : Manner) (which : Chosen) → (record { messages = 0; lines = 0 }) ≡ made_of (faults_of form rows which 0 [])
+none_made form rows which = same_made _ _ refl (sym (ap (λ (fs : List Fault). capped (lines_in rows fs)) (none_taken which 0)))
+
+-- of no messages nothing is told, whatever the stamp of the first frame
+same_none : (form : Format) (rows : Manner) (which : Chosen) (a b : ℕ) → faults_of form rows which a [] ≡ faults_of form rows which b []
+same_none form rows which a b =
+    let same = none_taken which a ∙ sym (none_taken which b) in
+    λ i. record { text = faults_text form rows (same i); messages = 0; lines = lines_in rows (same i) }
+
+-- with more frames the first is the same
+same_first : (form : Format) (rows : Manner) (which : Chosen) (F G : List FrameRecord) (heard : List Hearing) → AreHeardWith is_fault_group F heard
+    → faults_of form rows which (first_stamp F) (faults_among heard) ≡ faults_of form rows which (first_stamp (F ++ G)) (faults_among heard)
+same_first form rows which [] G heard are =
+    ap (λ (hs : List Hearing). faults_of form rows which 0 (faults_among hs)) are ∙ same_none form rows which 0 (first_stamp G)
+    ∙ sym (ap (λ (hs : List Hearing). faults_of form rows which (first_stamp G) (faults_among hs)) are)
+same_first form rows which (f ∷ F) G heard are = refl
 
 -- ---- what is told: of the first messages first
 
@@ -130,24 +149,31 @@ told_more which ms (Some h) = elim (cases_Bool (is_of_faults h)) [
       ∙ ap (λ x. told which ms ++ x) (sym (next_no which ms h isnt))
 ]
 
-module _ (form : Format) (rows : List RowRecord) (which : Chosen) (ms : List Hearing) (o : Option Hearing) where
-  text_more : (faults_of form rows which (ms ++ faults_among (or_none o))).text ≡ (faults_of form rows which ms).text ++ (added form rows which ms o).text
-  text_more = ap (faults_text form rows) (told_more which ms o) ∙ faults_text-append form rows (told which ms) (told_next which ms o)
+taken_append : (which : FilterRecord) (first : ℕ) (xs ys : List Fault) → faults_taken which first (xs ++ ys) ≡ faults_taken which first xs ++ faults_taken which first ys
+taken_append which first xs ys = filter-append (asks_fault which first) xs ys
 
-  made_more : made_of (faults_of form rows which (ms ++ faults_among (or_none o))) ≡ made_sum (made_of (faults_of form rows which ms)) (made_of (added form rows which ms o))
+module _ (form : Format) (rows : Manner) (which : Chosen) (first : ℕ) (ms : List Hearing) (o : Option Hearing) where
+  taken_more : faults_taken which.asked first (told which (ms ++ faults_among (or_none o)))
+      ≡ faults_taken which.asked first (told which ms) ++ faults_taken which.asked first (told_next which ms o)
+  taken_more = ap (faults_taken which.asked first) (told_more which ms o) ∙ taken_append which.asked first (told which ms) (told_next which ms o)
+
+  text_more : (faults_of form rows which first (ms ++ faults_among (or_none o))).text ≡ (faults_of form rows which first ms).text ++ (added form rows which first ms o).text
+  text_more = ap (faults_text form rows) taken_more ∙ faults_text-append form rows (faults_taken which.asked first (told which ms)) (faults_taken which.asked first (told_next which ms o))
+
+  made_more : made_of (faults_of form rows which first (ms ++ faults_among (or_none o))) ≡ made_sum (made_of (faults_of form rows which first ms)) (made_of (added form rows which first ms o))
   made_more = same_made _ _
       (capped-sum _ _ _ (length-append ms (faults_among (or_none o))))
-      (capped-sum _ _ _ (ap length (told_more which ms o) ∙ length-append (told which ms) (told_next which ms o)))
+      (capped-sum _ _ _ (ap (lines_in rows) taken_more ∙ count_by-append (says_asked rows.spns) (faults_taken which.asked first (told which ms)) (faults_taken which.asked first (told_next which ms o))))
 
 -- ---- nothing is told
 
-pub tells_nothing : (form : Format) (rows : List RowRecord) (which : Chosen) (last : LastFaults) (ms : List Hearing) (o : Option Hearing) (made : Made) (held : Option (List ℕ))
+pub tells_nothing : (form : Format) (rows : Manner) (which : Chosen) (first : ℕ) (last : LastFaults) (ms : List Hearing) (o : Option Hearing) (made : Made) (held : Option (List ℕ))
     → faults_among (or_none o) ≡ [] → told_next which ms o ≡ [] → Remembers last ms → made.messages ≡ 0 → made.lines ≡ 0
-    → Tells form rows which last ms o made held held
-tells_nothing form rows which last ms o made held none untold remembers m l = record {
+    → Tells form rows which first last ms o made held held
+tells_nothing form rows which first last ms o made held none untold remembers m l = record {
   remembers = subst (Remembers last) (sym (ap (λ x. ms ++ x) none ∙ append-nil ms)) remembers;
-  made_is = same_made _ _ (m ∙ sym (ap (λ (x : List Hearing). capped (length x)) none)) (l ∙ sym (ap (λ (x : List Fault). capped (length x)) untold));
-  written = subst (Appends held held) (sym (ap (faults_text form rows) untold ∙ faults_text-none form rows)) (Appends-nil held);
+  made_is = same_made _ _ (m ∙ sym (ap (λ (x : List Hearing). capped (length x)) none)) (l ∙ sym (ap (λ (x : List Fault). capped (lines_in rows (faults_taken which.asked first x))) untold));
+  written = subst (Appends held held) (sym (ap (λ (x : List Fault). faults_text form rows (faults_taken which.asked first x)) untold ∙ faults_text-none form rows)) (Appends-nil held);
 }
 
 -- ---- the groups of faults aren't the network's
@@ -175,77 +201,91 @@ sound : (F : List FrameRecord) (heard : List Hearing) (more : List Hearing) → 
 sound F heard more = filter-append is_of_faults heard more
 
 pub news_meets : (form : Format) (s : Subject) (a a' : FaultNews) → a'.writing ≡ a.writing → a'.choice ≡ a.choice → (f : FrameRecord) (made : Made) (old new : Option (List ℕ))
-    → ((F : List FrameRecord) (ms : List Hearing) → Hears a.listener F → Remembers a.last ms → MeetsFrame a.writing.form a.writing.groups.now (chosen_of a.choice) a'.listener a'.last a.announced a'.announced F f ms made old new)
+    → ((which : FilterRecord) (F : List FrameRecord) → Chooses which a.chooser F → Chooses which a'.chooser (F ++ f ∷ []))
+    → ((F : List FrameRecord) (ms : List Hearing) → Hears a.listener F → Chooses (chosen_of a.choice).asked a'.chooser (F ++ f ∷ []) → Remembers a.last ms
+    → MeetsFrame a.writing.form (manner_of a.writing) (chosen_of a.choice) a'.listener a'.last a.announced a'.announced F f ms made old new)
     → a'.made ≡ made_sum a.made made → Meets (HasTold form s) a a' (f ∷ []) old new
-news_meets form s a a' writing choice f made old new meets sum = λ F before has.
+news_meets form s a a' writing choice f made old new notes meets sum = λ F before has.
     let ms = faults_among has.heard in
-    let met = subst (λ (t : Chosen). MeetsFrame form s.rows t a'.listener a'.last a.announced a'.announced F f ms made old new) has.chosen_is
-    (subst (λ (rows : List RowRecord). MeetsFrame form rows (chosen_of a.choice) a'.listener a'.last a.announced a'.announced F f ms made old new) has.by
-    (subst (λ (form : Format). MeetsFrame form a.writing.groups.now (chosen_of a.choice) a'.listener a'.last a.announced a'.announced F f ms made old new) has.form_is (meets F ms has.hears has.remembers))) in
+    let first = first_stamp (F ++ f ∷ []) in
+    let noted = notes s.which.asked F has.chooses in
+    let before_is : before ≡ faults_of form s.manner s.which first ms = has.output_is ∙ same_first form s.manner s.which F (f ∷ []) has.heard has.are_heard in
+    let noted_here = subst (λ (t : Chosen). Chooses t.asked a'.chooser (F ++ f ∷ [])) (sym has.chosen_is) noted in
+    let met = subst (λ (t : Chosen). MeetsFrame form s.manner t a'.listener a'.last a.announced a'.announced F f ms made old new) has.chosen_is
+    (subst (λ (rows : Manner). MeetsFrame form rows (chosen_of a.choice) a'.listener a'.last a.announced a'.announced F f ms made old new) has.by
+    (subst (λ (form : Format). MeetsFrame form (manner_of a.writing) (chosen_of a.choice) a'.listener a'.last a.announced a'.announced F f ms made old new) has.form_is (meets F ms has.hears noted_here has.remembers))) in
     let heard = has.heard ++ or_none met.heard in
     let are = sound F has.heard (or_none met.heard) in
     record {
-      after = faults_of form s.rows s.which (faults_among heard);
+      after = faults_of form s.manner s.which first (faults_among heard);
       met = record {
         form_is = ap (λ (x : Writing). x.form) writing ∙ has.form_is;
-        by = ap (λ (x : Writing). x.groups.now) writing ∙ has.by;
+        by = ap manner_of writing ∙ has.by;
         chosen_is = ap chosen_of choice ∙ has.chosen_is;
+        chooses = noted;
         heard = heard;
         are_heard = heard_more is_fault_group F f has.heard met.heard has.are_heard met.heard_at;
         output_is = refl;
         hears = met.hears;
         remembers = subst (Remembers a'.last) (sym are) met.tells.remembers;
-        made_is = sum ∙ ap (λ (x : Made). made_sum x made) (has.made_is ∙ ap made_of has.output_is) ∙ ap (made_sum (made_of (faults_of form s.rows s.which ms))) met.tells.made_is
-            ∙ sym (made_more form s.rows s.which ms met.heard) ∙ sym (ap (λ (x : List Hearing). made_of (faults_of form s.rows s.which x)) are);
+        made_is = sum ∙ ap (λ (x : Made). made_sum x made) (has.made_is ∙ ap made_of before_is) ∙ ap (made_sum (made_of (faults_of form s.manner s.which first ms))) met.tells.made_is
+            ∙ sym (made_more form s.manner s.which first ms met.heard) ∙ sym (ap (λ (x : List Hearing). made_of (faults_of form s.manner s.which first x)) are);
         announced_is = met.announced_is ∙ ap (λ (x : Announced). with_either (with_frame x f) met.heard) has.announced_is ∙ announced_more F has.heard f met.heard;
       };
-      more = (added form s.rows s.which ms met.heard).text;
-      text_is = ap (λ (x : List Hearing). (faults_of form s.rows s.which x).text) are ∙ text_more form s.rows s.which ms met.heard
-          ∙ ap (λ t. t ++ (added form s.rows s.which ms met.heard).text) (sym (ap (λ (o : Output). o.text) has.output_is));
+      more = (added form s.manner s.which first ms met.heard).text;
+      text_is = ap (λ (x : List Hearing). (faults_of form s.manner s.which first x).text) are ∙ text_more form s.manner s.which first ms met.heard
+          ∙ ap (λ t. t ++ (added form s.manner s.which first ms met.heard).text) (sym (ap (λ (o : Output). o.text) before_is));
       written = met.tells.written;
     }
 
 -- ---- what is told of the first frames comes first
 
-texts : (form : Format) (rows : List RowRecord) (which : Chosen) (bus : List ℕ) (F G : List FrameRecord) (first : List Hearing) (before all : Output) → AreHeardWith is_fault_group F first
-    → before ≡ faults_of form rows which (faults_among first) → MakesFaultsIn form rows which bus (F ++ G) all → (rest : List ℕ) × (all.text ≡ before.text ++ rest)
+texts : (form : Format) (rows : Manner) (which : Chosen) (bus : List ℕ) (F G : List FrameRecord) (first : List Hearing) (before all : Output) → AreHeardWith is_fault_group F first
+    → before ≡ faults_of form rows which (first_stamp F) (faults_among first) → MakesFaultsIn form rows which bus (F ++ G) all → (rest : List ℕ) × (all.text ≡ before.text ++ rest)
 texts form rows which bus F G first before all are is (heard, are_all, all_is) =
     let split = heard_first is_fault_group faults_leave F G heard first are_all are in
     let among = ap faults_among split.1 ∙ sound F first split.0 in
-    let t = told_begins which (faults_among first) (faults_among split.0) in (
-      faults_text form rows t.0,
-      ap (λ (o : Output). o.text) all_is ∙ ap (λ (x : List Hearing). faults_text form rows (told which x)) among
-          ∙ ap (faults_text form rows) t.1
-          ∙ faults_text-append form rows (told which (faults_among first)) t.0
-          ∙ ap (λ x. x ++ faults_text form rows t.0) (sym (ap (λ (o : Output). o.text) is)),
+    let t = told_begins which (faults_among first) (faults_among split.0) in
+    let stamp = first_stamp (F ++ G) in
+    let rest = faults_taken which.asked stamp t.0 in (
+      faults_text form rows rest,
+      ap (λ (o : Output). o.text) all_is ∙ ap (λ (x : List Hearing). faults_text form rows (faults_taken which.asked stamp (told which x))) among
+          ∙ ap (λ (x : List Fault). faults_text form rows (faults_taken which.asked stamp x)) t.1
+          ∙ ap (faults_text form rows) (taken_append which.asked stamp (told which (faults_among first)) t.0)
+          ∙ faults_text-append form rows (faults_taken which.asked stamp (told which (faults_among first))) rest
+          ∙ ap (λ x. x ++ faults_text form rows rest) (sym (ap (λ (o : Output). o.text) (is ∙ same_first form rows which F G first are))),
     )
 
-pub news_begins : (form : Format) (s : Subject) → Begins (λ bus. HasTold form s) (MakesFaultsIn form s.rows s.which)
-news_begins form s = λ bus a F G before all has made. texts form s.rows s.which bus F G has.heard before all has.are_heard has.output_is made
+pub news_begins : (form : Format) (s : Subject) → Begins (λ bus. HasTold form s) (MakesFaultsIn form s.manner s.which)
+news_begins form s = λ bus a F G before all has made. texts form s.manner s.which bus F G has.heard before all has.are_heard has.output_is made
 
-pub news_one_in : (form : Format) (s : Subject) → MakesOne (MakesFaultsIn form s.rows s.which)
+pub news_one_in : (form : Format) (s : Subject) → MakesOne (MakesFaultsIn form s.manner s.which)
 news_one_in form s = λ bus F x y (hs, are_x, is_x) (ks, are_y, is_y).
-    ap (λ (o : Output). o.text) is_x ∙ ap (λ (ms : List Hearing). (faults_of form s.rows s.which (faults_among ms)).text) (heard_below_unique is_fault_group faults_leave F (length F) hs ks are_x are_y)
+    ap (λ (o : Output). o.text) is_x ∙ ap (λ (ms : List Hearing). (faults_of form s.manner s.which (first_stamp F) (faults_among ms)).text) (heard_below_unique is_fault_group faults_leave F (length F) hs ks are_x are_y)
     ∙ sym (ap (λ (o : Output). o.text) is_y)
 
-pub news_one : (s : Subject) → MakesOne (MakesFaults Line s.rows s.which)
+pub news_one : (s : Subject) → MakesOne (MakesFaults Line s.manner s.which)
 news_one s = news_one_in Line s
 
 -- a fault of the writer at a frame
-pub news_stops : (form : Format) (s : Subject) (a : FaultNews) (f : FrameRecord) (old new : Option (List ℕ))
-    → ((F : List FrameRecord) (ms : List Hearing) → Hears a.listener F → Remembers a.last ms → StopsFrame a.writing.form a.writing.groups.now (chosen_of a.choice) F f ms old new)
-    → (bus : List ℕ) → Stops (HasTold form s) (MakesFaultsIn form s.rows s.which bus) a (f ∷ []) old new
-news_stops form s a f old new stops bus = λ F G before all has made.
+pub news_stops : (form : Format) (s : Subject) (a : FaultNews) (chooser : Chooser) (f : FrameRecord) (old new : Option (List ℕ))
+    → ((which : FilterRecord) (F : List FrameRecord) → Chooses which a.chooser F → Chooses which chooser (F ++ f ∷ []))
+    → ((F : List FrameRecord) (ms : List Hearing) → Hears a.listener F → Chooses (chosen_of a.choice).asked chooser (F ++ f ∷ []) → Remembers a.last ms → StopsFrame a.writing.form (manner_of a.writing) (chosen_of a.choice) F f ms old new)
+    → (bus : List ℕ) → Stops (HasTold form s) (MakesFaultsIn form s.manner s.which bus) a (f ∷ []) old new
+news_stops form s a chooser f old new notes stops bus = λ F G before all has made.
     let ms = faults_among has.heard in
-    let stop = subst (λ (t : Chosen). StopsFrame form s.rows t F f ms old new) has.chosen_is
-    (subst (λ (rows : List RowRecord). StopsFrame form rows (chosen_of a.choice) F f ms old new) has.by
-    (subst (λ (form : Format). StopsFrame form a.writing.groups.now (chosen_of a.choice) F f ms old new) has.form_is (stops F ms has.hears has.remembers))) in
-    let here = (added form s.rows s.which ms stop.heard).text in
+    let stamp = first_stamp (F ++ f ∷ []) in
+    let before_is : before ≡ faults_of form s.manner s.which stamp ms = has.output_is ∙ same_first form s.manner s.which F (f ∷ []) has.heard has.are_heard in
+    let noted_here = subst (λ (t : Chosen). Chooses t.asked chooser (F ++ f ∷ [])) (sym has.chosen_is) (notes s.which.asked F has.chooses) in
+    let stop = subst (λ (t : Chosen). StopsFrame form s.manner t F f ms old new) has.chosen_is
+    (subst (λ (rows : Manner). StopsFrame form rows (chosen_of a.choice) F f ms old new) has.by
+    (subst (λ (form : Format). StopsFrame form (manner_of a.writing) (chosen_of a.choice) F f ms old new) has.form_is (stops F ms has.hears noted_here has.remembers))) in
+    let here = (added form s.manner s.which stamp ms stop.heard).text in
     let first = has.heard ++ or_none stop.heard in
-    let t = texts form s.rows s.which bus (F ++ f ∷ []) G first (faults_of form s.rows s.which (faults_among first)) all (heard_more is_fault_group F f has.heard stop.heard has.are_heard stop.heard_at) refl made in
+    let t = texts form s.manner s.which bus (F ++ f ∷ []) G first (faults_of form s.manner s.which stamp (faults_among first)) all (heard_more is_fault_group F f has.heard stop.heard has.are_heard stop.heard_at) refl made in
     let is : all.text ≡ before.text ++ (here ++ t.0) =
-    t.1 ∙ ap (λ x. x ++ t.0) (ap (λ (x : List Hearing). (faults_of form s.rows s.which x).text) (sound F has.heard (or_none stop.heard)) ∙ text_more form s.rows s.which ms stop.heard)
-    ∙ append_assoc (faults_of form s.rows s.which ms).text here t.0 ∙ ap (λ x. x ++ (here ++ t.0)) (sym (ap (λ (o : Output). o.text) has.output_is)) in
+    t.1 ∙ ap (λ x. x ++ t.0) (ap (λ (x : List Hearing). (faults_of form s.manner s.which stamp x).text) (sound F has.heard (or_none stop.heard)) ∙ text_more form s.manner s.which stamp ms stop.heard)
+    ∙ append_assoc (faults_of form s.manner s.which stamp ms).text here t.0 ∙ ap (λ x. x ++ (here ++ t.0)) (sym (ap (λ (o : Output). o.text) before_is)) in
     record {
       rest = here ++ t.0;
       all_is = is;

@@ -29,6 +29,7 @@ pub mod FaultLineLemmas
 pub mod HeardLemmas
 pub mod FaultAccountLemmas
 pub mod ChangeLemmas
+pub mod AskedLemmas
 pub mod PutLemmas
 pub mod BrokenLemmas
 pub mod WholeLemmas

@@ -16,7 +16,7 @@ use Rattle.j39_listen.specs.Heard.{HeardAt, HeardAtWith, Hearing, LeavesNetwork,
 use Rattle.j39_listen.specs.Listening.{Hears}
 use Rattle.j39_listen.specs.Report.{Entry, entries_of, entry_of}
 use Rattle.j39_listen.specs.declared.listener.Listener.{Listener}
-use Rattle.j39_listen.proofs.ListenerLemmas.{silent_outside}
+use Rattle.j39_listen.proofs.ListenerLemmas.{hears_single, outside_claims, silent_outside}
 use Rattle.j39_listen.proofs.Reported.{reported_leaves}
 use Rattle.j39_memory.specs.ByOrigin.{pairs_of}
 use Rattle.j39_reports.proofs.FaultAccountLemmas.{faults_leave}
@@ -137,6 +137,19 @@ notes_silent groups F f l' values places before ms at fault_at hears are kept = 
   are_kept = subst (AreKept [] places) (sym (append-nil ms)) kept;
   messages_are = refl;
 }
+
+both_false : (a b : Bool) → (a || b) ≡ false → (a ≡ false) × (b ≡ false)
+both_false true b none = absurd (cc none)
+both_false false b none = (refl, none)
+
+-- nor can it be at a frame of a group that is neither the network's nor heard in one frame
+pub notes_other : (groups : List RowRecord) (F : List FrameRecord) (f : FrameRecord) (l : Listener) (values : Values) (places : Places) (before : List Entry) (ms : List Hearing)
+    → (is_reported_in groups (pgn_of f.id) || is_fault_group (pgn_of f.id)) ≡ false → is_network_group (pgn_of f.id) ≡ false → Hears l F
+    → AreLatest (pairs_of values.rows) before → AreKept [] places ms → Notes groups F f l values places before ms 0
+notes_other groups F f l values places before ms other free h are kept =
+    let neither = both_false _ _ other in
+    notes_silent groups F f l values places before ms (silent_outside (is_reported_in groups) (reported_leaves groups) l F f free neither.0 h)
+    (silent_outside is_fault_group faults_leave l F f free neither.1 h) (hears_single l F f free (outside_claims f free) h) are kept
 
 -- a message was, and counts as one of values, or of faults
 pub notes_heard : (groups : List RowRecord) (F : List FrameRecord) (f : FrameRecord) (l' : Listener) (values : Values) (places : Places) (before : List Entry) (ms : List Hearing)

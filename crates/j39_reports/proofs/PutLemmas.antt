@@ -13,16 +13,16 @@ use Rattle.j39_faults.specs.FaultGroups.{cleared_in, kind_of}
 use Rattle.j39_faults.specs.LampBits.{lamps_of}
 use Rattle.j39_faults.specs.declared.kind.Kind.{Kind}
 use Rattle.j39_faults.specs.declared.lamps.Lamps.{Lamps}
-use Rattle.j39_groups.specs.Row.{RowRecord}
 use Rattle.j39_listen.specs.AccountCalls.{LeavesWriter}
 use Rattle.j39_listen.specs.Counting.{capped}
 use Rattle.j39_listen.specs.declared.account.LineFault.{LineFault}
 use Rattle.j39_listen.specs.declared.account.LineFault.TheVariants.{Memory, Write}
+use Rattle.j39_listen.specs.Filter.{takes_message}
 use Rattle.j39_listen.specs.Heard.{Hearing}
 use Rattle.j39_listen.specs.declared.counts.Made.{Made}
 use Rattle.j39_listen.proofs.LineLemmas.{capped-fits}
 use Rattle.j39_listen.proofs.ReportAccount.{same_made}
-use Rattle.j39_reports.specs.Faults.{Fault, clearing_of, faults_by, faults_in, faults_or_clearing}
+use Rattle.j39_reports.specs.Faults.{Fault, Manner, clearing_of, faults_by, faults_in, faults_or_clearing, faults_taken, lines_in, names_asked}
 use Rattle.j39_faults.specs.Conversions.{version_for}
 use Rattle.j39_faults.specs.declared.conversion.Version.{Version}
 use Rattle.j39_reports.specs.News.{Chosen, is_clearing, is_news, is_of_codes, is_of_faults, last_from, says_other}
@@ -37,6 +37,7 @@ use Rattle.j39_reports.specs.declared.fault_news.last_faults.LastFaults.{LastFau
 use Rattle.j39_reports.specs.declared.fault_news.telling.Telling.{Telling}
 use Rattle.j39_reports.specs.declared.fault_news.telling.Telling.TheVariants.{News, All, Changes}
 use Rattle.j39_reports.proofs.FaultAccountLemmas.{among_no, among_yes, faults_text-none, next_no, next_yes, tells_nothing}
+use Rattle.j39_reports.proofs.AskedLemmas.{taken_next, told_both}
 use Rattle.j39_reports.proofs.TellLemmas.{before_is, by_request, news_is, remembers_asked, remembers_more}
 
 -- ---- which messages are of faults
@@ -76,10 +77,10 @@ asks_to h kind asks = ap (λ (o : Option Kind). is_some o || is_of_codes h) asks
 
 -- ---- no message of faults
 
-pub tells_other : (form : Format) (rows : List RowRecord) (which : Chosen) (last : LastFaults) (ms : List Hearing) (h : Hearing) (made : Made) (held : Option (List ℕ))
-    → is_of_faults h ≡ false → Remembers last ms → made.messages ≡ 0 → made.lines ≡ 0 → Tells form rows which last ms (Some h) made held held
-tells_other form rows which last ms h made held other remembers m l =
-    tells_nothing form rows which last ms (Some h) made held (among_no h other) (next_no which ms h other) remembers m l
+pub tells_other : (form : Format) (rows : Manner) (which : Chosen) (first : ℕ) (last : LastFaults) (ms : List Hearing) (h : Hearing) (made : Made) (held : Option (List ℕ))
+    → is_of_faults h ≡ false → Remembers last ms → made.messages ≡ 0 → made.lines ≡ 0 → Tells form rows which first last ms (Some h) made held held
+tells_other form rows which first last ms h made held other remembers m l =
+    tells_nothing form rows which first last ms (Some h) made held (among_no h other) (next_no which ms h other) remembers m l
 
 -- ---- what is left of the writer
 
@@ -89,8 +90,8 @@ leaves_writer text (Err Write) sink puts never = record { write = λ is. puts.ma
 leaves_writer text (Err Memory) sink puts never = absurd (never refl)
 
 -- what was written
-pub tells_faults : (form : Format) (rows : List RowRecord) (faults : List Fault) (r : Result Made LineFault) (sink : Turn)
-    → IfOk r (λ made. (made.messages ≡ 1) × (made.lines ≡ length faults) × (made.lines < 2 ^ 64)) → Puts (faults_text form rows faults) r sink → r ≢ Err Memory
+pub tells_faults : (form : Format) (rows : Manner) (faults : List Fault) (r : Result Made LineFault) (sink : Turn)
+    → IfOk r (λ made. (made.messages ≡ 1) × (made.lines ≡ lines_in rows faults) × (made.lines < 2 ^ 64)) → Puts (faults_text form rows faults) r sink → r ≢ Err Memory
     → TellsFaults form rows faults r sink
 tells_faults form rows faults (Ok made) sink counts puts never =
     record { made = counts; written = puts.written; stops = λ is. absurd (cc is); writer = leaves_writer _ (Ok made) sink puts never }
@@ -102,7 +103,7 @@ pub on_any : {T E : Type 0} {P : Type 0} (r : Result T E) → P → OnOk r P
 on_any (Ok x) p = p
 on_any (Err e) p = tt
 
-pub refused : (form : Format) (rows : List RowRecord) (faults : List Fault) (d : Device) → TellsFaults form rows faults (Err Memory) (record { old = d; new = d })
+pub refused : (form : Format) (rows : Manner) (faults : List Fault) (d : Device) → TellsFaults form rows faults (Err Memory) (record { old = d; new = d })
 refused form rows faults d = record {
   made = tt;
   written = tt;
@@ -111,15 +112,27 @@ refused form rows faults d = record {
 }
 
 -- nothing is told
-pub tells_none : (form : Format) (rows : List RowRecord) (made : Made) (d : Device) → made.messages ≡ 1 → made.lines ≡ 0
+pub tells_none : (form : Format) (rows : Manner) (made : Made) (d : Device) → made.messages ≡ 1 → made.lines ≡ 0
     → TellsFaults form rows [] (Ok made) (record { old = d; new = d })
 tells_none form rows made d m l =
     tells_faults form rows [] (Ok made) _ (m, l, omega arith) (puts_as _ _ _ _ (sym (faults_text-none form rows)) (puts_nothing made d)) (λ is. cc)
 
+pub lines_of_clearing : (rows : Manner) (m : Hearing) (kind : Kind) → names_asked rows.spns None ≡ true → lines_in rows (clearing_of m kind ∷ []) ≡ 1
+lines_of_clearing rows m kind named = rw named refl
+
+-- that codes are to be cleared isn't told where codes are asked for by their numbers
+pub tells_unnamed : (form : Format) (rows : Manner) (m : Hearing) (kind : Kind) (made : Made) (d : Device) → names_asked rows.spns None ≡ false
+    → made.messages ≡ 1 → made.lines ≡ 0 → TellsFaults form rows (clearing_of m kind ∷ []) (Ok made) (record { old = d; new = d })
+unfolding faults_text
+tells_unnamed form rows m kind made d unnamed messages l =
+    let text : [] ≡ faults_text form rows (clearing_of m kind ∷ []) = rw unnamed refl in
+    let none : lines_in rows (clearing_of m kind ∷ []) ≡ 0 = rw unnamed refl in
+    tells_faults form rows (clearing_of m kind ∷ []) (Ok made) _ (messages, l ∙ sym none, omega (arith, l)) (puts_as _ _ _ _ text (puts_nothing made d)) (λ is. cc)
+
 -- ---- one of codes
 
-module _ (form : Format) (rows : List RowRecord) (which : Chosen) (last : LastFaults) (ms : List Hearing) (h : Hearing) (kind : Kind) (lamps : Lamps)
-    (version : Option Version) (version_is : version ≡ version_for which.conversions h.name) (asks : cleared_in h.message.pgn h.message.bytes ≡ None) (k : kind_of h.message.pgn ≡ Some kind) (l : lamps_of h.message.bytes ≡ Some lamps) (below : h.message.source < 256) (remembers : Remembers last ms) where
+module _ (form : Format) (rows : Manner) (which : Chosen) (first : ℕ) (last : LastFaults) (ms : List Hearing) (h : Hearing) (kind : Kind) (lamps : Lamps)
+    (is_asked : Bool) (asked_is : is_asked ≡ takes_message which.asked first h) (version : Option Version) (version_is : version ≡ version_for which.conversions h.name) (asks : cleared_in h.message.pgn h.message.bytes ≡ None) (k : kind_of h.message.pgn ≡ Some kind) (l : lamps_of h.message.bytes ≡ Some lamps) (below : h.message.source < 256) (remembers : Remembers last ms) where
   faults_are : faults_in which.conversions h ≡ faults_by version h (Some kind) (Some lamps)
   faults_are = ap (faults_or_clearing which.conversions h) asks
       ∙ ap (λ (v : Option Version). faults_by v h (kind_of h.message.pgn) (lamps_of h.message.bytes)) (sym version_is) ∙ ap (λ (o : Option Kind). faults_by version h o (lamps_of h.message.bytes)) k ∙ ap (λ (o : Option Lamps). faults_by version h (Some kind) o) l
@@ -144,30 +157,33 @@ module _ (form : Format) (rows : List RowRecord) (which : Chosen) (last : LastFa
   told_are All = faults_are
   told_are Changes = changes_are
 
-  -- what is added is what is told of it
-  next_faults : told_next which ms (Some h) ≡ told_since which.telling version (said_at last kind h.message.source) h kind lamps
-  next_faults = next_yes which ms h (of_faults h kind lamps k l) ∙ told_are which.telling
+  abbrev taken_since : List Fault
+  taken_since = told_faults is_asked (told_since which.telling version (said_at last kind h.message.source) h kind lamps)
+
+  -- what is added is what is told of it, if it is asked for
+  next_faults : faults_taken which.asked first (told_next which ms (Some h)) ≡ taken_since
+  next_faults = taken_next which first ms h ∙ (λ i. told_faults (sym asked_is i) ((next_yes which ms h (of_faults h kind lamps k l) ∙ told_are which.telling) i))
 
   pub tells_message : (last' : LastFaults) (made : Made) (old new : Option (List ℕ)) → length h.message.bytes ≤ 1785 → last' ≡ noted last kind h.message.source (said_in h)
-      → made.messages ≡ 1 → made.lines ≡ length (told_since which.telling version (said_at last kind h.message.source) h kind lamps) → made.lines < 2 ^ 64
-      → Appends old new (faults_text form rows (told_since which.telling version (said_at last kind h.message.source) h kind lamps)) → Tells form rows which last' ms (Some h) made old new
+      → made.messages ≡ 1 → made.lines ≡ lines_in rows taken_since → made.lines < 2 ^ 64
+      → Appends old new (faults_text form rows taken_since) → Tells form rows which first last' ms (Some h) made old new
   tells_message last' made old new short notes messages lines fits written =
       let among = among_yes h (of_faults h kind lamps k l) in
       record {
         remembers = subst (λ (x : List Hearing). Remembers last' (ms ++ x)) (sym among) (remembers_more last last' ms h kind k notes remembers short);
         made_is = same_made _ _ (messages ∙ sym (ap (λ (x : List Hearing). capped (length x)) among))
-            (sym (ap (λ (x : List Fault). capped (length x)) next_faults ∙ ap capped (sym lines) ∙ capped-fits made.lines fits));
+            (sym (ap (λ (x : List Fault). capped (lines_in rows x)) next_faults ∙ ap capped (sym lines) ∙ capped-fits made.lines fits));
         written = subst (Appends old new) (sym (ap (faults_text form rows) next_faults)) written;
       }
 
-  pub tells_front : (old new : Option (List ℕ)) → AppendsFront old new (faults_text form rows (told_since which.telling version (said_at last kind h.message.source) h kind lamps))
-      → TellsFront form rows which ms (Some h) old new
+  pub tells_front : (old new : Option (List ℕ)) → AppendsFront old new (faults_text form rows taken_since)
+      → TellsFront form rows which first ms (Some h) old new
   tells_front old new front = subst (AppendsFront old new) (sym (ap (faults_text form rows) next_faults)) front
 
 -- ---- one that asks to clear codes
 
-module _ (form : Format) (rows : List RowRecord) (which : Chosen) (last : LastFaults) (ms : List Hearing) (h : Hearing) (kind : Kind)
-    (asks : cleared_in h.message.pgn h.message.bytes ≡ Some kind) where
+module _ (form : Format) (rows : Manner) (which : Chosen) (first : ℕ) (last : LastFaults) (ms : List Hearing) (h : Hearing) (kind : Kind)
+    (is_asked : Bool) (asked_is : is_asked ≡ takes_message which.asked first h) (asks : cleared_in h.message.pgn h.message.bytes ≡ Some kind) where
   clearing_is : faults_in which.conversions h ≡ clearing_of h kind ∷ []
   clearing_is = ap (faults_or_clearing which.conversions h) asks
 
@@ -181,22 +197,26 @@ module _ (form : Format) (rows : List RowRecord) (which : Chosen) (last : LastFa
       ap (λ (o : Option Kind). changes_of (version_for which.conversions h.name) (bytes_before (last_from h.message.pgn h.message.source ms) h.name) h o (lamps_of h.message.bytes))
       (ap kind_of (by_request h.message.pgn h.message.bytes kind asks))
 
-  -- what is added is that, where it is told
-  clears_next : told_next which ms (Some h) ≡ told_faults (tells_clearing which.telling) (clearing_of h kind ∷ [])
-  clears_next = next_yes which ms h (asks_to h kind asks) ∙ clearing_told which.telling
+  abbrev taken_clearing : List Fault
+  taken_clearing = told_faults (tells_clearing which.telling && is_asked) (clearing_of h kind ∷ [])
+
+  -- what is added is that, where it is told and asked for
+  clears_next : faults_taken which.asked first (told_next which ms (Some h)) ≡ taken_clearing
+  clears_next = taken_next which first ms h ∙ (λ i. told_faults (sym asked_is i) ((next_yes which ms h (asks_to h kind asks) ∙ clearing_told which.telling) i))
+      ∙ told_both (tells_clearing which.telling) is_asked (clearing_of h kind ∷ [])
 
   pub tells_asking : (made : Made) (old new : Option (List ℕ)) → Remembers last ms → length h.message.bytes ≤ 1785 → made.messages ≡ 1
-      → made.lines ≡ length (told_faults (tells_clearing which.telling) (clearing_of h kind ∷ [])) → made.lines < 2 ^ 64
-      → Appends old new (faults_text form rows (told_faults (tells_clearing which.telling) (clearing_of h kind ∷ []))) → Tells form rows which last ms (Some h) made old new
+      → made.lines ≡ lines_in rows taken_clearing → made.lines < 2 ^ 64
+      → Appends old new (faults_text form rows taken_clearing) → Tells form rows which first last ms (Some h) made old new
   tells_asking made old new remembers short messages lines fits written =
       let among = among_yes h (asks_to h kind asks) in
       record {
         remembers = subst (λ (x : List Hearing). Remembers last (ms ++ x)) (sym among) (remembers_asked last ms h kind asks remembers short);
         made_is = same_made _ _ (messages ∙ sym (ap (λ (x : List Hearing). capped (length x)) among))
-            (sym (ap (λ (x : List Fault). capped (length x)) clears_next ∙ ap capped (sym lines) ∙ capped-fits made.lines fits));
+            (sym (ap (λ (x : List Fault). capped (lines_in rows x)) clears_next ∙ ap capped (sym lines) ∙ capped-fits made.lines fits));
         written = subst (Appends old new) (sym (ap (faults_text form rows) clears_next)) written;
       }
 
-  pub clearing_front : (old new : Option (List ℕ)) → AppendsFront old new (faults_text form rows (told_faults (tells_clearing which.telling) (clearing_of h kind ∷ [])))
-      → TellsFront form rows which ms (Some h) old new
+  pub clearing_front : (old new : Option (List ℕ)) → AppendsFront old new (faults_text form rows taken_clearing)
+      → TellsFront form rows which first ms (Some h) old new
   clearing_front old new front = subst (AppendsFront old new) (sym (ap (faults_text form rows) clears_next)) front

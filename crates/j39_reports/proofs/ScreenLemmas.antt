@@ -8,7 +8,6 @@ use Rattle.j39_io.specs.Puts.{Puts}
 use Rattle.j39_io.specs.Turn.{Device}
 use Rattle.j39_io.proofs.PutsLemmas.{puts_as, puts_done, puts_first, puts_then}
 use Rattle.j39_groups.specs.Row.{RowRecord}
-use Rattle.j39_listen.specs.declared.format.Format.TheVariants.{Line}
 use Rattle.j39_reports.proofs.NowLineLemmas.{shown_next, shown_rest}
 use Rattle.j39_reports.specs.CurrentPlaces.{Places, at}
 use Rattle.j39_reports.specs.CurrentSoFar.{nows_shown, shown_below}
@@ -107,7 +106,7 @@ module _ (width room : ℕ) (groups : List RowRecord) (holder : ℕ → Option �
   below_place n = faults_of_places groups holder places n
 
   next_place : (n : ℕ) → below_place (n + 1) ≡ below_place n ++ at_place n
-  next_place n = ap (flat_map (fault_lines groups holder)) (shown_next Line groups places n) ∙ flat_map-append (fault_lines groups holder) (shown_below places n) (nows_shown n (at places n))
+  next_place n = ap (flat_map (fault_lines groups holder)) (shown_next places n) ∙ flat_map-append (fault_lines groups holder) (shown_below places n) (nows_shown n (at places n))
 
   pub none_below : [] ≡ below_place 0
   unfolding shown_below
@@ -129,7 +128,7 @@ module _ (width room : ℕ) (groups : List RowRecord) (holder : ℕ → Option �
       → Puts {T = T} (limited width m (at_place n)) (Err e) (record { old = mid; new = new })
       → Puts (limited width room (below_place 256)) last (record { old = old; new = new })
   stops_at_place {T = T} n m e last old mid new below is failed before here =
-      let r = shown_rest Line groups places (n + 1) (255 - n) in
+      let r = shown_rest places (n + 1) (255 - n) in
       let all : 256 ≡ 255 - n + (n + 1) = omega (arith, below) in
       let split : below_place 256 ≡ (below_place n ++ at_place n) ++ flat_map (fault_lines groups holder) r.0 =
       ap below_place all ∙ ap (flat_map (fault_lines groups holder)) r.1 ∙ flat_map-append (fault_lines groups holder) (shown_below places (n + 1)) r.0

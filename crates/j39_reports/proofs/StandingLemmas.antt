@@ -1,5 +1,5 @@
 -- What stands by the codes of a payload, one code after the other.
-use Rattle.std.proofs.Common.{◌≡◌, ◌∙◌, ◌≤◌, ◌<◌, ◌+◌, ℕ, List, [], ◌∷◌, ◌++◌, Option, Some, None, append-nil, append_assoc, ap, arith, length, length-append, map, refl, sym}
+use Rattle.std.proofs.Common.{◌≡◌, ◌∙◌, ◌≤◌, ◌<◌, ◌+◌, ◌*◌, ℕ, List, [], ◌∷◌, ◌++◌, Option, Some, None, append-nil, append_assoc, ap, arith, length, length-append, map, refl, sym}
 use Rattle.std.proofs.lemmas.List.{length-map, map-append}
 use Rattle.std.proofs.lemmas.List.FromFn.{length-range_with_len}
 use Rattle.std.proofs.lemmas.Simd.{map-map}
@@ -21,15 +21,15 @@ pub record HaveStood (before : List StandingRecord) (stamp : ℕ) (version : Opt
   pub all_are : codes_by version payload ≡ first ++ map (code_by version) left
   pub stand : map standing_record standings ≡ by_codes before stamp first
 
--- 1,785 bytes have 445 codes at most
-pub few_codes : (payload : List ℕ) (version : Option Version) → length payload ≤ 1785 → length (codes_by version payload) ≤ 445
+-- how many codes so many bytes have at most
+pub few_codes : (n : ℕ) (payload : List ℕ) (version : Option Version) → length payload < 4 * n + 6 → length (codes_by version payload) ≤ n
 unfolding codes_of
-few_codes payload version short =
+few_codes n payload version short =
     let l = few_found (code_at payload) (range_with_len 0 (places_of payload)) in
-    let n = length-range_with_len 0 (places_of payload) in
+    let r = length-range_with_len 0 (places_of payload) in
     let c = length-map (codes_of payload) (code_by version) in
-    let p : places_of payload ≤ 445 = omega (arith, short) in
-    omega (arith, l, n, c, p)
+    let p : places_of payload ≤ n = omega (arith, short) in
+    omega (arith, l, r, c, p)
 
 module _ (before : List StandingRecord) (stamp : ℕ) (version : Option Version) (payload : List ℕ) where
   pub none_stood : (left : List Code) → left ≡ codes_of payload → HaveStood before stamp version payload left []
@@ -45,10 +45,10 @@ module _ (before : List StandingRecord) (stamp : ℕ) (version : Option Version)
         ∙ sym (map-append (λ (c : Code). continued before stamp (Some c)) h.first (code_by version code ∷ []));
   }
 
-  pub room_more : (code : Code) (left more : List Code) (standings : List Standing) → HaveStood before stamp version payload left standings → left ≡ code ∷ more
-      → length payload ≤ 1785 → length standings < 445
-  room_more code left more standings h is short =
-      let few = few_codes payload version short in
+  pub room_more : (n : ℕ) (code : Code) (left more : List Code) (standings : List Standing) → HaveStood before stamp version payload left standings → left ≡ code ∷ more
+      → length payload < 4 * n + 6 → length standings < n
+  room_more n code left more standings h is short =
+      let few = few_codes n payload version short in
       let all : length (codes_by version payload) ≡ length h.first + length (map (code_by version) left) = ap length h.all_are ∙ length-append h.first (map (code_by version) left) in
       let some : length (map (code_by version) left) ≡ length more + 1 = length-map left (code_by version) ∙ ap length is ∙ omega arith in
       let stood : length standings ≡ length h.first = sym (length-map standings standing_record) ∙ ap length h.stand ∙ length-map h.first (λ (c : Code). continued before stamp (Some c)) in

@@ -12,35 +12,35 @@ use Rattle.j39_groups.specs.Row.{RowRecord}
 use Rattle.j39_reports.specs.RowText.{row_in, summary_text}
 use Rattle.j39_reports.specs.Summary.{origin_of}
 use Rattle.j39_reports.specs.RowModels.{row_shown}
-use Rattle.j39_reports.specs.declared.summaries.deeds.Deeds.{Deeds}
+use Rattle.j39_reports.specs.declared.summaries.statistics.Statistics.{Statistics}
 use Rattle.j39_frame.specs.declared.origin.Origin.{Origin}
 use Rattle.j39_listen.specs.declared.format.Format.{Format}
 
-abbrev line : Format → List RowRecord → (Origin → ℕ) → Origin × Deeds → List ℕ
+abbrev line : Format → List RowRecord → (Origin → ℕ) → Origin × Statistics → List ℕ
 line form groups absent row = row_in form groups (absent row.0) (row_shown row)
 
 module _ (form : Format) (groups : List RowRecord) (absent : Origin → ℕ) where
-  abbrev pub lines : List (Origin × Deeds) → List ℕ
+  abbrev pub lines : List (Origin × Statistics) → List ℕ
   lines rows = summary_text form groups absent (map row_shown rows)
 
-  lines_are : (rows : List (Origin × Deeds)) → lines rows ≡ flat_map (line form groups absent) rows
+  lines_are : (rows : List (Origin × Statistics)) → lines rows ≡ flat_map (line form groups absent) rows
   lines_are rows = flat_map-map (λ row. row_in form groups (absent (origin_of row.first)) row) row_shown rows
 
-  lines_next : (rows : List (Origin × Deeds)) (i : ℕ) (row : Origin × Deeds) → i < length rows → slice_get rows i ≡ Some row
+  lines_next : (rows : List (Origin × Statistics)) (i : ℕ) (row : Origin × Statistics) → i < length rows → slice_get rows i ≡ Some row
       → lines (take (i + 1) rows) ≡ lines (take i rows) ++ line form groups absent row
   lines_next rows i row below is =
       lines_are (take (i + 1) rows) ∙ flat_map-next (line form groups absent) rows i row below
       ∙ ap (λ r. flat_map (line form groups absent) (take i rows) ++ line form groups absent r) (get_or_from_slice_get rows i row row is)
       ∙ ap (λ t. t ++ line form groups absent row) (sym (lines_are (take i rows)))
 
-  pub row_more : {E F G : Type 0} (rows : List (Origin × Deeds)) (i : ℕ) (row : Origin × Deeds) (old mid new : Device) → i < length rows → slice_get rows i ≡ Some row
+  pub row_more : {E F G : Type 0} (rows : List (Origin × Statistics)) (i : ℕ) (row : Origin × Statistics) (old mid new : Device) → i < length rows → slice_get rows i ≡ Some row
       → Puts {T = Unit} {E = E} (lines (take i rows)) (Ok tt) (record { old = old; new = mid })
       → Puts {T = Unit} {E = F} (line form groups absent row) (Ok tt) (record { old = mid; new = new })
       → Puts {T = Unit} {E = G} (lines (take (i + 1) rows)) (Ok tt) (record { old = old; new = new })
   row_more rows i row old mid new below is before here =
       puts_as _ _ _ _ (sym (lines_next rows i row below is)) (puts_then _ _ tt (Ok tt) old mid new before (puts_done _ tt tt _ here))
 
-  pub row_stops : {T U E F G : Type 0} (rows : List (Origin × Deeds)) (i : ℕ) (row : Origin × Deeds) (e : E) (last : Result U F) (old mid new : Device)
+  pub row_stops : {T U E F G : Type 0} (rows : List (Origin × Statistics)) (i : ℕ) (row : Origin × Statistics) (e : E) (last : Result U F) (old mid new : Device)
       → i < length rows → slice_get rows i ≡ Some row → IsErr last
       → Puts {T = Unit} {E = G} (lines (take i rows)) (Ok tt) (record { old = old; new = mid })
       → Puts {T = T} (line form groups absent row) (Err e) (record { old = mid; new = new }) → Puts (lines rows) last (record { old = old; new = new })

@@ -8,7 +8,7 @@ use Rattle.j39_groups.specs.Value.{ReadingRecord}
 use Rattle.j39_listen.specs.Report.{Entry, entry_of}
 use Rattle.j39_reports.specs.RowsSoFar.{AreCounted, AreRowsOf, Message}
 use Rattle.j39_reports.specs.Summary.{absence_of}
-use Rattle.j39_reports.specs.declared.summaries.deeds.Deeds.{Deeds}
+use Rattle.j39_reports.specs.declared.summaries.statistics.Statistics.{Statistics}
 
 module _ (message : Message) (before : List SightingRecord) where
   abbrev entries : List SightingRecord → List Entry
@@ -17,7 +17,7 @@ module _ (message : Message) (before : List SightingRecord) where
   abbrev absences : List SightingRecord → List Origin
   absences sightings = message.absent ++ map (absence_of message.hearing) (absent_in sightings)
 
-  pub rows_take : (rows : List (Origin × Deeds)) (r : ReadingRecord) (e : Entry) → e ≡ entry_of message.hearing r
+  pub rows_take : (rows : List (Origin × Statistics)) (r : ReadingRecord) (e : Entry) → e ≡ entry_of message.hearing r
       → AreRowsOf rows (entries before ++ e ∷ []) → AreRowsOf rows (entries (before ++ told r ∷ []))
   rows_take rows r e is are =
       let more = ap (map (entry_of message.hearing)) (filter_map-append told_by before (told r ∷ [])) ∙ map-append (entry_of message.hearing) (told_in before) (r ∷ []) in
@@ -29,7 +29,7 @@ module _ (message : Message) (before : List SightingRecord) where
       let same = filter_map-append absent_by before (told r ∷ []) ∙ append-nil (absent_in before) in
       subst (λ xs. AreCounted pairs (message.absent ++ map (absence_of message.hearing) xs)) (sym same) are
 
-  pub rows_keep : (rows : List (Origin × Deeds)) (spn : ℕ) → AreRowsOf rows (entries before) → AreRowsOf rows (entries (before ++ absent spn ∷ []))
+  pub rows_keep : (rows : List (Origin × Statistics)) (spn : ℕ) → AreRowsOf rows (entries before) → AreRowsOf rows (entries (before ++ absent spn ∷ []))
   rows_keep rows spn are =
       let same = filter_map-append told_by before (absent spn ∷ []) ∙ append-nil (told_in before) in
       subst (λ xs. AreRowsOf rows (message.before ++ map (entry_of message.hearing) xs)) (sym same) are

@@ -176,7 +176,7 @@ module _ (groups : List RowRecord) (size : Size) where
   -- ---- one frame
 
   keeps_more : (a a' : Screens) (f : FrameRecord) (messages : ℕ) (F : List FrameRecord) → a'.groups ≡ a.groups → a'.size ≡ a.size
-      → option_map stamp_micros a'.last ≡ Some f.stamp → a'.messages ≡ capped (a.messages + messages)
+      → option_map stamp_micros a'.moment.last ≡ Some f.stamp → a'.messages ≡ capped (a.messages + messages)
       → (has : Keeps groups size a F) → Notes groups F f a'.listener a'.values a'.places (flat_map (entries_of groups) has.heard) (active_among has.faults) messages
       → Keeps groups size a' (F ++ f ∷ [])
   keeps_more a a' f messages F table same last sum has n = record {
@@ -205,13 +205,13 @@ module _ (groups : List RowRecord) (size : Size) where
   due F f last is = ap is_due_at (reverse-append F (f ∷ [])) ∙ ap (λ o. is_due o f.stamp) (sym is)
 
   met_more : (a a' : Screens) (f : FrameRecord) (messages : ℕ) (draws : Bool) (F : List FrameRecord) (before : Output) → a'.groups ≡ a.groups → a'.size ≡ a.size
-      → option_map stamp_micros a'.last ≡ Some f.stamp → a'.messages ≡ capped (a.messages + messages) → draws ≡ is_due (option_map stamp_micros a.last) f.stamp
+      → option_map stamp_micros a'.moment.last ≡ Some f.stamp → a'.messages ≡ capped (a.messages + messages) → draws ≡ is_due (option_map stamp_micros a.moment.last) f.stamp
       → (has : HasWatched groups size a F before)
       → Notes groups F f a'.listener a'.values a'.places (flat_map (entries_of groups) has.keeps.heard) (active_among has.keeps.faults) messages
       → HasWatched groups size a' (F ++ f ∷ []) (record { text = before.text ++ text_if draws a'; messages = 0; lines = 0 })
   met_more a a' f messages draws F before table same last sum is has n =
       let keeps = keeps_more a a' f messages F table same last sum has.keeps n in
-      let here = subst (λ b. IsDrawn groups size b (F ++ f ∷ []) (text_if draws a')) (is ∙ sym (due F f (option_map stamp_micros a.last) has.keeps.last_is)) (drawn_if draws a' (F ++ f ∷ []) keeps) in
+      let here = subst (λ b. IsDrawn groups size b (F ++ f ∷ []) (text_if draws a')) (is ∙ sym (due F f (option_map stamp_micros a.moment.last) has.keeps.last_is)) (drawn_if draws a' (F ++ f ∷ []) keeps) in
       record { keeps = keeps; drawn = drawn_more F f before.text (text_if draws a') has.drawn here }
 
   -- by this table, whatever it was
@@ -226,7 +226,7 @@ module _ (groups : List RowRecord) (size : Size) where
       (notes F (flat_map (entries_of groups) has.heard) (active_among has.faults) has.hears has.are_latest has.are_kept)
 
   pub watch_meets : (a a' : Screens) (f : FrameRecord) (messages : ℕ) (draws : Bool) (old new : Option (List ℕ)) → a'.groups ≡ a.groups → a'.size ≡ a.size
-      → option_map stamp_micros a'.last ≡ Some f.stamp → a'.messages ≡ capped (a.messages + messages) → draws ≡ is_due (option_map stamp_micros a.last) f.stamp
+      → option_map stamp_micros a'.moment.last ≡ Some f.stamp → a'.messages ≡ capped (a.messages + messages) → draws ≡ is_due (option_map stamp_micros a.moment.last) f.stamp
       → NotesAll a a' f messages → Appends old new (text_if draws a') → Meets (HasWatched groups size) a a' (f ∷ []) old new
   watch_meets a a' f messages draws old new table same last sum is notes written = λ F before has. record {
     after = record { text = before.text ++ text_if draws a'; messages = 0; lines = 0 };
@@ -237,7 +237,7 @@ module _ (groups : List RowRecord) (size : Size) where
   }
 
   pub watch_stops : (a a' : Screens) (f : FrameRecord) (messages : ℕ) (draws : Bool) (bus : List ℕ) (old new : Option (List ℕ)) → a'.groups ≡ a.groups → a'.size ≡ a.size
-      → option_map stamp_micros a'.last ≡ Some f.stamp → a'.messages ≡ capped (a.messages + messages) → draws ≡ is_due (option_map stamp_micros a.last) f.stamp
+      → option_map stamp_micros a'.moment.last ≡ Some f.stamp → a'.messages ≡ capped (a.messages + messages) → draws ≡ is_due (option_map stamp_micros a.moment.last) f.stamp
       → NotesAll a a' f messages → AppendsFront old new (text_if draws a') → Stops (HasWatched groups size) (MakesWatch groups size bus) a (f ∷ []) old new
   watch_stops a a' f messages draws bus old new table same last sum is notes (front, back, cut, appended) = λ F G before all has made.
       let has' = met_more a a' f messages draws F before table same last sum is has (notes_by a a' f messages F notes has.keeps) in

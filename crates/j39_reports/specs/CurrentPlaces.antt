@@ -23,10 +23,12 @@ pub record StandingRecord : Type 0 where
 abbrev pub standing_record : Standing → StandingRecord
 standing_record s = record { code = s.code; since = stamp_micros s.since; often = s.often }
 
--- what the last message of a controller says
+-- what the last message of a controller says, to whom, and of which group it is
 pub record LastRecord : Type 0 where
   pub name : Option ℕ
   pub stamp : ℕ
+  pub destination : Option ℕ
+  pub pgn : ℕ
   pub lamps : Lamps
   pub standings : List StandingRecord
 
@@ -75,6 +77,8 @@ abbrev pub last_by : List Conversion → Option LastRecord → Hearing → Lamps
 last_by conversions before m lamps = record {
   name = m.name;
   stamp = m.stamp;
+  destination = m.destination;
+  pgn = m.message.pgn;
   lamps = lamps;
   standings = next_standings (standings_under before m.name) m.stamp (codes_in conversions m);
 }

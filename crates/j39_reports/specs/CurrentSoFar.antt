@@ -4,17 +4,18 @@ use Rattle.j39_frame.specs.Frame.{FrameRecord}
 use Rattle.j39_faults.specs.LampBits.{lamps_of}
 use Rattle.j39_faults.specs.declared.code.Code.{Code}
 use Rattle.j39_faults.specs.declared.conversion.Conversion.{Conversion}
-use Rattle.j39_groups.specs.Row.{RowRecord}
 use Rattle.j39_listen.specs.Counting.{capped}
+use Rattle.j39_listen.specs.Chooses.{Chooses}
+use Rattle.j39_listen.specs.Filter.{FilterRecord}
 use Rattle.j39_listen.specs.Heard.{AreHeardWith, Hearing, HeardAtWith, or_none}
 use Rattle.j39_listen.specs.Listening.{Hears}
 use Rattle.j39_listen.specs.Output.{Output, nothing}
 use Rattle.j39_listen.specs.declared.format.Format.{Format}
 use Rattle.j39_listen.specs.declared.listener.Listener.{Listener}
-use Rattle.j39_reports.specs.Faults.{codes_or_none}
+use Rattle.j39_reports.specs.Faults.{Manner, codes_or_none}
 use Rattle.j39_reports.specs.CurrentPlaces.{LastRecord, Places, StandingRecord, at}
-use Rattle.j39_reports.specs.FaultsNow.{Now, active_among, codes_in, first_stamp, is_at, lasts, telling, tells}
-use Rattle.j39_reports.specs.FaultsSoFar.{IsBroken, announced_in, with_either, with_frame}
+use Rattle.j39_reports.specs.FaultsNow.{Now, active_among, codes_in, first_stamp, is_at, lasts, now_taken, telling, tells}
+use Rattle.j39_reports.specs.FaultsSoFar.{IsBroken, announced_in, manner_of, with_either, with_frame}
 use Rattle.j39_reports.specs.News.{is_fault_group}
 use Rattle.j39_reports.specs.declared.fault_news.announced.Announced.{Announced}
 use Rattle.j39_reports.specs.declared.current_faults.account.FaultsNow.{FaultsNow}
@@ -40,6 +41,8 @@ pub record IsLastAt (conversions : List Conversion) (ms : List Hearing) (a : ℕ
   pub here : message.message.source ≡ a
   pub name_is : last.name ≡ message.name
   pub stamp_is : last.stamp ≡ message.stamp
+  pub destination_is : last.destination ≡ message.destination
+  pub pgn_is : last.pgn ≡ message.message.pgn
   pub lamps_are : lamps_of message.message.bytes ≡ Some last.lamps
   pub standings_are : last.standings ≡ map (standing_of conversions ms message) (codes_or_none (codes_in conversions message))
   pub untold : (name : Option ℕ) (code : Option Code) → tells conversions a name code message ≡ false
@@ -64,7 +67,9 @@ now_shown a last s = record {
   last = last.stamp;
   often = s.often;
   address = a;
+  destination = last.destination;
   name = last.name;
+  pgn = last.pgn;
   lamps = last.lamps;
   code = s.code;
 }
@@ -78,6 +83,10 @@ unfoldable pub shown_below : Places → ℕ → List Now
 shown_below places zero = []
 shown_below places (suc n) = shown_below places n ++ nows_shown n (at places n)
 
+-- those that are asked for
+abbrev pub taken_below : FilterRecord → ℕ → Places → ℕ → List Now
+taken_below which first places n = now_taken which first (shown_below places n)
+
 -- ---- one frame more
 
 -- behind the frames F this is heard at the frame f, and taken to the messages before
@@ -90,16 +99,18 @@ pub record TakesFrame (conversions : List Conversion) (F : List FrameRecord) (f 
   pub are_kept : AreKept conversions places (ms ++ active_among (or_none heard))
   pub messages_are : messages ≡ length (active_among (or_none heard))
 
--- the table of parameters, and the versions of the conversion
+-- the table of parameters and those that are asked for, the versions of the conversion, and what is asked for
 pub record NowSubject : Type 0 where
-  pub rows : List RowRecord
+  pub manner : Manner
   pub conversions : List Conversion
+  pub which : FilterRecord
 
 -- the faults in F were kept, to be told in this form, by this table
 pub record HasKept (form : Format) (s : NowSubject) (account : FaultsNow) (F : List FrameRecord) (output : Output) : Type 0 where
   pub form_is : account.writing.form ≡ form
-  pub by : account.writing.groups.now ≡ s.rows
+  pub by : manner_of account.writing ≡ s.manner
   pub conversions_are : account.conversions.now ≡ s.conversions
+  pub chooses : Chooses s.which account.chooser F
   pub heard : List Hearing
   pub are_heard : AreHeardWith is_fault_group F heard
   pub hears : Hears account.listener F

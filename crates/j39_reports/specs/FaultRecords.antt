@@ -1,5 +1,5 @@
 -- The record of a fault (RFC 4180; own), and its object (RFC 8259).
-use Rattle.std.specs.Prelude.{◌++◌, ◌∷◌, ℕ, List, [], Option, Some, None, codes, decimal, unwrap_or}
+use Rattle.std.specs.Prelude.{◌++◌, ◌∷◌, ℕ, List, [], Option, Some, None, codes, decimal, if◌then◌else◌, unwrap_or}
 use Rattle.std.specs.List.{concat, flat_map}
 use Rattle.j39_reports.specs.Columns.{heard_fields}
 use Rattle.j39_io.specs.Records.{record_text}
@@ -15,7 +15,7 @@ use Rattle.j39_faults.specs.declared.text.State.TheVariants.{Is, Became}
 use Rattle.j39_groups.specs.Row.{RowRecord}
 use Rattle.j39_reports.specs.EntryObject.{moment_members, sender_members}
 use Rattle.j39_reports.specs.Json.{number_or_null, text_or_null}
-use Rattle.j39_reports.specs.Faults.{Fault, Saying, clears, fault_line, name_in, says}
+use Rattle.j39_reports.specs.Faults.{Fault, Manner, Saying, clears, fault_line, name_in, says, says_asked}
 use Rattle.j39_reports.specs.declared.fault_news.telling.Telling.{Telling}
 use Rattle.j39_reports.specs.declared.fault_news.telling.Telling.TheVariants.{News, All, Changes}
 use Rattle.j39_listen.specs.declared.format.Format.{Format}
@@ -130,10 +130,14 @@ fault_object rows f = head_members f.stamp f.address f.destination f.name ++ say
 
 -- ---- in each form
 
-abbrev pub fault_in : Format → List RowRecord → Fault → List ℕ
-fault_in Line rows f = fault_line rows f
-fault_in Record rows f = fault_record rows f
-fault_in Object rows f = fault_object rows f
+abbrev pub fault_shown : Format → List RowRecord → Fault → List ℕ
+fault_shown Line rows f = fault_line rows f
+fault_shown Record rows f = fault_record rows f
+fault_shown Object rows f = fault_object rows f
 
-unfoldable pub faults_text : Format → List RowRecord → List Fault → List ℕ
-faults_text form rows faults = flat_map (fault_in form rows) faults
+-- if its code is asked for
+abbrev pub fault_in : Format → Manner → Fault → List ℕ
+fault_in form manner f = if says_asked manner.spns f then fault_shown form manner.rows f else []
+
+unfoldable pub faults_text : Format → Manner → List Fault → List ℕ
+faults_text form manner faults = flat_map (fault_in form manner) faults

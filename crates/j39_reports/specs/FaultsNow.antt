@@ -11,6 +11,7 @@ use Rattle.j39_faults.specs.declared.conversion.Conversion.{Conversion}
 use Rattle.j39_faults.specs.declared.kind.Kind.{Kind}
 use Rattle.j39_faults.specs.declared.lamps.Lamps.{Lamps}
 use Rattle.j39_listen.specs.Counting.{capped}
+use Rattle.j39_listen.specs.Filter.{FilterRecord, asks_for}
 use Rattle.j39_listen.specs.Heard.{Hearing}
 use Rattle.j39_reports.specs.FaultChanges.{is_active}
 use Rattle.j39_reports.specs.Faults.{codes_or_none}
@@ -75,13 +76,16 @@ telling conversions ms address name code =
 
 -- ---- what is told
 
--- since when, and how often (a count that would pass 2^64 - 1 stays there), up to which message
+-- since when, and how often (a count that would pass 2^64 - 1 stays there), up to which message; who sent that, to whom, of which
+-- group
 pub record Now : Type 0 where
   pub since : ℕ
   pub last : ℕ
   pub often : ℕ
   pub address : ℕ
+  pub destination : Option ℕ
   pub name : Option ℕ
+  pub pgn : ℕ
   pub lamps : Lamps
   pub code : Option Code
 
@@ -97,7 +101,9 @@ now_of conversions ms m lamps code = record {
   last = m.stamp;
   often = capped (length (telling conversions ms m.message.source m.name code));
   address = m.message.source;
+  destination = m.destination;
   name = m.name;
+  pgn = m.message.pgn;
   lamps = lamps;
   code = code;
 }
@@ -121,3 +127,13 @@ now_below conversions ms (suc n) = now_below conversions ms n ++ now_at conversi
 -- at all
 abbrev pub faults_now : List Conversion → List Hearing → List Now
 faults_now conversions ms = now_below conversions ms 256
+
+-- ---- what is asked for
+
+-- the message by which it was told last is asked for
+abbrev pub asks_now : FilterRecord → ℕ → Now → Bool
+asks_now which first n = asks_for which first n.last n.address n.name n.destination n.pgn
+
+-- those that are asked for, in order
+abbrev pub now_taken : FilterRecord → ℕ → List Now → List Now
+now_taken which first ns = filter (asks_now which first) ns

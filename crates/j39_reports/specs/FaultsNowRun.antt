@@ -1,5 +1,5 @@
 -- The text of what the last messages of active codes name, what a run makes of the frames, and where it may want memory.
-use Rattle.std.specs.Prelude.{◌≡◌, ◌⊎◌, ◌++◌, ◌∷◌, [], true, ℕ, List, Option, codes, decimal, filter, length, option_map}
+use Rattle.std.specs.Prelude.{◌≡◌, ◌⊎◌, ◌++◌, ◌∷◌, [], true, ℕ, List, Option, codes, count_by, decimal, filter, if◌then◌else◌, length, option_map}
 use Rattle.std.specs.List.{flat_map}
 use Rattle.hex.specs.Hex.{encode_upper}
 use Rattle.j39_frame.specs.Frame.{FrameRecord}
@@ -11,6 +11,7 @@ use Rattle.j39_groups.specs.Row.{RowRecord}
 use Rattle.j39_io.specs.Chars.{newline}
 use Rattle.j39_io.specs.Records.{record_text}
 use Rattle.j39_listen.specs.Asking.{AsksForBoxes, Wanting}
+use Rattle.j39_listen.specs.Filter.{FilterRecord, first_stamp}
 use Rattle.j39_listen.specs.Headed.{Columned}
 use Rattle.j39_listen.specs.Members.{address_string, in_marks, name_string, or_null, seconds_number}
 use Rattle.j39_listen.specs.Heard.{AreHeardWith, Hearing, IsHeardWith}
@@ -21,8 +22,8 @@ use Rattle.j39_listen.specs.declared.format.Format.TheVariants.{Line, Object, Re
 use Rattle.j39_log.specs.StampText.{stamp_text}
 use Rattle.j39_reports.specs.Columns.{moment_fields}
 use Rattle.j39_reports.specs.FaultRecords.{said_fields, said_object}
-use Rattle.j39_reports.specs.Faults.{said_text}
-use Rattle.j39_reports.specs.FaultsNow.{Now, active_among, faults_now, is_active_message, is_at, lasts}
+use Rattle.j39_reports.specs.Faults.{Manner, names_asked, said_text}
+use Rattle.j39_reports.specs.FaultsNow.{Now, active_among, faults_now, is_active_message, is_at, lasts, now_taken}
 use Rattle.j39_reports.specs.News.{is_fault_group}
 use Rattle.j39_reports.specs.Utc.{utc_text}
 
@@ -59,26 +60,33 @@ now_said Line rows n = said_text rows (Is Active) n.lamps n.code ++ (newline ∷
 now_said Record rows n = record_text (state_text (Is Active)) (said_fields rows n.lamps n.code)
 now_said Object rows n = said_object rows (Is Active) n.lamps n.code
 
-unfoldable pub now_text : Format → List RowRecord → List Now → List ℕ
-now_text form rows ns = flat_map (λ n. now_head form n ++ now_said form rows n) ns
+-- if its code is asked for
+abbrev pub now_line : Format → Manner → Now → List ℕ
+now_line form manner n = if names_asked manner.spns n.code then now_head form n ++ now_said form manner.rows n else []
 
--- each message of active codes counts
-abbrev pub faults_now_of : Format → List RowRecord → List Conversion → List Hearing → Output
-faults_now_of form rows conversions ms = record {
-  text = now_text form rows (faults_now conversions ms);
+unfoldable pub now_text : Format → Manner → List Now → List ℕ
+now_text form manner ns = flat_map (now_line form manner) ns
+
+abbrev pub now_lines : Manner → List Now → ℕ
+now_lines manner ns = count_by (λ n. names_asked manner.spns n.code) ns
+
+-- of those that are asked for; each message of active codes counts
+abbrev pub faults_now_of : Format → Manner → List Conversion → FilterRecord → ℕ → List Hearing → Output
+faults_now_of form manner conversions which first ms = record {
+  text = now_text form manner (now_taken which first (faults_now conversions ms));
   messages = length ms;
-  lines = length (faults_now conversions ms);
+  lines = now_lines manner (now_taken which first (faults_now conversions ms));
 }
 
 -- of the frames, whatever their bus is called, in either form
-abbrev pub MakesFaultsNowIn : Format → List RowRecord → List Conversion → Making
-MakesFaultsNowIn form rows conversions bus F output =
+abbrev pub MakesFaultsNowIn : Format → Manner → List Conversion → FilterRecord → Making
+MakesFaultsNowIn form manner conversions which bus F output =
     (heard : List Hearing) × AreHeardWith is_fault_group F heard
-    × (output ≡ faults_now_of form rows conversions (active_among heard))
+    × (output ≡ faults_now_of form manner conversions which (first_stamp F) (active_among heard))
 
 -- a line, a record or an object for each
-abbrev pub MakesFaultsNow : Format → List RowRecord → List Conversion → Making
-MakesFaultsNow form rows conversions = Columned now_columns form (MakesFaultsNowIn form rows conversions)
+abbrev pub MakesFaultsNow : Format → Manner → List Conversion → FilterRecord → Making
+MakesFaultsNow form manner conversions which = Columned now_columns form (MakesFaultsNowIn form manner conversions which)
 
 -- behind the frames F a message of active codes is heard at the frame, and none is the last of a controller at its address
 pub record IsFirstActive (F : List FrameRecord) (frame : FrameRecord) : Type 0 where

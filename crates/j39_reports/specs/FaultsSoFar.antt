@@ -1,5 +1,5 @@
 -- The steps of a run that tells faults, frame by frame.
-use Rattle.std.specs.Prelude.{◌≡◌, ◌++◌, ◌∷◌, [], ℕ, Bool, true, false, List, Option, codes, if◌then◌else◌, length, None, Some, Err, IfOk, OnOk, Result, ◌<◌, ◌^◌, ◌+◌, count_by}
+use Rattle.std.specs.Prelude.{◌≡◌, ◌++◌, ◌∷◌, [], ℕ, Bool, true, false, List, Option, codes, if◌then◌else◌, length, option_map, None, Some, Err, IfOk, OnOk, Result, ◌<◌, ◌^◌, ◌+◌, count_by}
 use Rattle.std.specs.Io.KnownBytes.{Appends}
 use Rattle.j39_io.specs.Device.{AppendsFront}
 use Rattle.j39_io.specs.Turn.{Turn}
@@ -16,6 +16,8 @@ use Rattle.j39_faults.specs.declared.kind.Kind.{Kind}
 use Rattle.j39_faults.specs.declared.lamps.Lamps.{Lamps}
 use Rattle.j39_frame.specs.Frame.{FrameRecord}
 use Rattle.j39_groups.specs.Row.{RowRecord}
+use Rattle.j39_listen.specs.Chooses.{Chooses}
+use Rattle.j39_listen.specs.Filter.{first_stamp}
 use Rattle.j39_listen.specs.Heard.{AreHeardWith, Hearing, HeardAtWith, or_none}
 use Rattle.j39_listen.specs.Listening.{Hears}
 use Rattle.j39_listen.specs.Output.{Output}
@@ -26,7 +28,9 @@ use Rattle.j39_io.specs.Records.{record_text}
 use Rattle.j39_faults.specs.Text.{clear_text, state_text}
 use Rattle.j39_faults.specs.declared.text.State.{State}
 use Rattle.j39_io.specs.Chars.{newline}
-use Rattle.j39_reports.specs.Faults.{Fault, faults_by, head_text, said_text}
+use Rattle.j39_reports.specs.Faults.{Fault, Manner, faults_by, faults_taken, head_text, lines_in, names_asked, said_text}
+use Rattle.std.specs.Borrow.{Bor}
+use Rattle.j39_reports.specs.declared.fault_news.form.Writing.{Writing}
 use Rattle.j39_reports.specs.FaultChanges.{became, changes_by, is_active}
 use Rattle.j39_reports.specs.Told.{told_here}
 use Rattle.j39_reports.specs.News.{Chosen, chosen_of, faults_among, is_fault_group, is_of_faults}
@@ -46,6 +50,13 @@ use Rattle.j39_listen.specs.declared.format.Format.{Format}
 use Rattle.j39_listen.specs.declared.format.Format.TheVariants.{Line, Object, Record}
 use Rattle.j39_reports.specs.declared.fault_news.last_faults.LastFaults.{LastFaults}
 
+-- the SPNs that are asked for, where some are
+abbrev pub spns_now : Option (Bor (List ℕ)) → Option (List ℕ)
+spns_now = option_map (λ spns. spns.now)
+
+abbrev pub manner_of : Writing → Manner
+manner_of w = record { rows = w.groups.now; spns = spns_now w.spns }
+
 -- what stands before what is said
 abbrev pub head_in : Format → ℕ → ℕ → Option ℕ → Option ℕ → List ℕ
 head_in Line stamp address destination name = head_text stamp address destination name
@@ -59,8 +70,12 @@ said_in Record rows how lamps code = record_text (state_text how) (said_fields r
 said_in Object rows how lamps code = said_object rows how lamps code
 
 -- a line or a record, of what stands before what is said in it
-abbrev pub line_of : Format → List ℕ → List RowRecord → State → Lamps → Option Code → List ℕ
-line_of form head rows how lamps code = head ++ said_in form rows how lamps code
+abbrev pub shown_line : Format → List ℕ → List RowRecord → State → Lamps → Option Code → List ℕ
+shown_line form head rows how lamps code = head ++ said_in form rows how lamps code
+
+-- if the code is asked for
+abbrev pub line_of : Format → List ℕ → Manner → State → Lamps → Option Code → List ℕ
+line_of form head manner how lamps code = if names_asked manner.spns code then shown_line form head manner.rows how lamps code else []
 
 -- that codes are to be cleared, as a line or a record ends with it
 abbrev pub clearing_in : Format → Kind → List ℕ
@@ -111,31 +126,31 @@ told_next which ms None = []
 told_next which ms (Some h) = if is_of_faults h then told_here which ms (Some h) else []
 
 -- what it adds
-abbrev pub added : Format → List RowRecord → Chosen → List Hearing → Option Hearing → Output
-added form rows which ms heard = record {
-  text = faults_text form rows (told_next which ms heard);
+abbrev pub added : Format → Manner → Chosen → ℕ → List Hearing → Option Hearing → Output
+added form manner which first ms heard = record {
+  text = faults_text form manner (faults_taken which.asked first (told_next which ms heard));
   messages = length (faults_among (or_none heard));
-  lines = length (told_next which ms heard);
+  lines = lines_in manner (faults_taken which.asked first (told_next which ms heard));
 }
 
 -- a message is told so: these faults were written, or a front of them, or memory was refused before
-pub record TellsFaults (form : Format) (rows : List RowRecord) (faults : List Fault) (result : Result Made LineFault)
+pub record TellsFaults (form : Format) (manner : Manner) (faults : List Fault) (result : Result Made LineFault)
     (sink : Turn) : Type 0 where
-  pub made : IfOk result (λ made. (made.messages ≡ 1) × (made.lines ≡ length faults) × (made.lines < 2 ^ 64))
-  pub written : OnOk result (Appends sink.old.bytes sink.new.bytes (faults_text form rows faults))
-  pub stops : result ≡ Err Write → AppendsFront sink.old.bytes sink.new.bytes (faults_text form rows faults)
+  pub made : IfOk result (λ made. (made.messages ≡ 1) × (made.lines ≡ lines_in manner faults) × (made.lines < 2 ^ 64))
+  pub written : OnOk result (Appends sink.old.bytes sink.new.bytes (faults_text form manner faults))
+  pub stops : result ≡ Err Write → AppendsFront sink.old.bytes sink.new.bytes (faults_text form manner faults)
   pub writer : LeavesWriter result sink
 
 -- behind these messages this was heard, and what is told of it was written
-pub record Tells (form : Format) (rows : List RowRecord) (which : Chosen) (last' : LastFaults) (ms : List Hearing)
+pub record Tells (form : Format) (manner : Manner) (which : Chosen) (first : ℕ) (last' : LastFaults) (ms : List Hearing)
     (heard : Option Hearing) (made : Made) (old new : Option (List ℕ)) : Type 0 where
   pub remembers : Remembers last' (ms ++ faults_among (or_none heard))
-  pub made_is : made ≡ made_of (added form rows which ms heard)
-  pub written : Appends old new (added form rows which ms heard).text
+  pub made_is : made ≡ made_of (added form manner which first ms heard)
+  pub written : Appends old new (added form manner which first ms heard).text
 
-abbrev pub TellsFront : Format → List RowRecord → Chosen → List Hearing → Option Hearing → Option (List ℕ)
+abbrev pub TellsFront : Format → Manner → Chosen → ℕ → List Hearing → Option Hearing → Option (List ℕ)
     → Option (List ℕ) → Type 0
-TellsFront form rows which ms heard old new = AppendsFront old new (added form rows which ms heard).text
+TellsFront form manner which first ms heard old new = AppendsFront old new (added form manner which first ms heard).text
 
 -- so many messages of codes were announced in the frames, and so many were heard in packets
 abbrev pub announced_in : List FrameRecord → List Hearing → Announced
@@ -161,35 +176,36 @@ pub record IsBroken (F : List FrameRecord) (n : ℕ) : Type 0 where
   pub broken_is : n ≡ broken_in F heard
 
 -- behind the frames F, of which these messages were heard, this is heard at the frame f, and was told
-pub record MeetsFrame (form : Format) (rows : List RowRecord) (which : Chosen) (l' : Listener) (last' : LastFaults)
+pub record MeetsFrame (form : Format) (manner : Manner) (which : Chosen) (l' : Listener) (last' : LastFaults)
     (a a' : Announced) (F : List FrameRecord) (f : FrameRecord) (ms : List Hearing) (made : Made)
     (old new : Option (List ℕ)) : Type 0 where
   pub heard : Option Hearing
   pub announced_is : a' ≡ with_either (with_frame a f) heard
   pub heard_at : HeardAtWith is_fault_group (F ++ f ∷ []) (length F) heard
   pub hears : Hears l' (F ++ f ∷ [])
-  pub tells : Tells form rows which last' ms heard made old new
+  pub tells : Tells form manner which (first_stamp (F ++ f ∷ [])) last' ms heard made old new
 
-pub record StopsFrame (form : Format) (rows : List RowRecord) (which : Chosen) (F : List FrameRecord)
+pub record StopsFrame (form : Format) (manner : Manner) (which : Chosen) (F : List FrameRecord)
     (f : FrameRecord) (ms : List Hearing) (old new : Option (List ℕ)) : Type 0 where
   pub heard : Option Hearing
   pub heard_at : HeardAtWith is_fault_group (F ++ f ∷ []) (length F) heard
-  pub front : TellsFront form rows which ms heard old new
+  pub front : TellsFront form manner which (first_stamp (F ++ f ∷ [])) ms heard old new
 
--- the table of parameters, and what is chosen
+-- the table of parameters and those that are asked for, and what is chosen
 pub record Subject : Type 0 where
-  pub rows : List RowRecord
+  pub manner : Manner
   pub which : Chosen
 
 -- the faults in F were told in this form, by this table
 pub record HasTold (form : Format) (s : Subject) (news : FaultNews) (F : List FrameRecord) (output : Output)
     : Type 0 where
   pub form_is : news.writing.form ≡ form
-  pub by : news.writing.groups.now ≡ s.rows
+  pub by : manner_of news.writing ≡ s.manner
   pub chosen_is : chosen_of news.choice ≡ s.which
+  pub chooses : Chooses s.which.asked news.chooser F
   pub heard : List Hearing
   pub are_heard : AreHeardWith is_fault_group F heard
-  pub output_is : output ≡ faults_of form s.rows s.which (faults_among heard)
+  pub output_is : output ≡ faults_of form s.manner s.which (first_stamp F) (faults_among heard)
   pub hears : Hears news.listener F
   pub remembers : Remembers news.last (faults_among heard)
   pub made_is : news.made ≡ made_of output

@@ -9,22 +9,25 @@ use Rattle.j39_faults.specs.Sameness.{tells_same}
 use Rattle.j39_faults.specs.declared.conversion.Conversion.{Conversion}
 use Rattle.j39_faults.specs.declared.conversion.Version.{Version}
 use Rattle.j39_frame.specs.Origin.{is_same_or_none}
+use Rattle.j39_listen.specs.Chooses.{which_of}
+use Rattle.j39_listen.specs.Filter.{FilterRecord, no_filter}
 use Rattle.j39_listen.specs.Heard.{Hearing}
 use Rattle.j39_reports.specs.declared.fault_news.telling.Choice.{Choice}
 use Rattle.j39_reports.specs.declared.fault_news.telling.Telling.{Telling}
 use Rattle.j39_reports.specs.declared.fault_news.telling.Telling.TheVariants.{News}
 
--- what is told of messages, and by which versions of the conversion the SPNs of controllers are read
+-- what is told of messages, by which versions of the conversion the SPNs of controllers are read, and of which messages it is told
 pub record Chosen : Type 0 where
   pub telling : Telling
   pub conversions : List Conversion
+  pub asked : FilterRecord
 
 abbrev pub chosen_of : Choice → Chosen
-chosen_of choice = record { telling = choice.telling; conversions = choice.conversions.now }
+chosen_of choice = record { telling = choice.telling; conversions = choice.conversions.now; asked = which_of choice.filter }
 
 -- those that are news, no version of the conversion known
 abbrev pub news : Chosen
-news = record { telling = News; conversions = [] }
+news = record { telling = News; conversions = []; asked = no_filter }
 
 -- the groups of faults are heard in one frame, too, and so are requests
 abbrev pub is_fault_group : ℕ → Bool

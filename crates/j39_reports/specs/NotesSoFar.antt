@@ -53,7 +53,7 @@ size_of size = record { rows = size.rows; width = size.width }
 
 -- the moment of its screen
 abbrev pub moment_of : Screens → ℕ
-moment_of watch = unwrap_or (option_map stamp_micros watch.last) 0
+moment_of watch = unwrap_or (option_map stamp_micros watch.moment.last) 0
 
 -- the lines of its screen, and the screen
 abbrev pub lines_of_watch : Screens → List (List ℕ)
@@ -66,7 +66,7 @@ screen_of_watch watch = home ++ (limited watch.size.width watch.size.rows (lines
 pub record Keeps (groups : List RowRecord) (size : Size) (watch : Screens) (F : List FrameRecord) : Type 0 where
   pub by : watch.groups.now ≡ groups
   pub size_is : size_of watch.size ≡ size
-  pub last_is : option_map stamp_micros watch.last ≡ newest (reverse F)
+  pub last_is : option_map stamp_micros watch.moment.last ≡ newest (reverse F)
   pub hears : Hears watch.listener F
   pub heard : List Hearing
   pub are_heard : AreHeard groups F heard

@@ -2,13 +2,9 @@
 use Rattle.std.specs.Prelude.{List}
 use Rattle.j39_groups.specs.Row.{RowRecord}
 use Rattle.j39_listen.specs.Filter.{FilterRecord, MakesFilteredIn}
-use Rattle.j39_listen.specs.Output.{Making, MakesReportIn}
+use Rattle.j39_listen.specs.Output.{Making}
 use Rattle.j39_reports.specs.EntryText.{entry_record}
 
--- a record for each entry
-abbrev pub MakesRecords : List RowRecord → Making
-MakesRecords = MakesReportIn entry_record
-
--- a record for each that a filter takes
-abbrev pub MakesFilteredRecords : List RowRecord → FilterRecord → Making
-MakesFilteredRecords = MakesFilteredIn entry_record
+-- a record for each entry that a filter takes
+abbrev pub MakesRecords : List RowRecord → FilterRecord → Making
+MakesRecords = MakesFilteredIn entry_record

@@ -7,15 +7,15 @@ use Rattle.j39_groups.specs.Value.{ValueRecord, number, on, off, error, reserved
 use Rattle.j39_memory.specs.Stored.{value_of}
 use Rattle.j39_listen.specs.Report.{Entry}
 use Rattle.j39_reports.specs.Summary.{Range, Row}
-use Rattle.j39_reports.specs.declared.summaries.deeds.Deeds.{Deeds}
-use Rattle.j39_reports.specs.declared.summaries.deeds.Seen.{Seen}
-use Rattle.j39_reports.specs.declared.summaries.deeds.Span.{Span}
-use Rattle.j39_reports.specs.declared.summaries.kept.Kept.{Kept}
-use Rattle.j39_reports.specs.declared.summaries.kept.Kept.TheVariants as kept
-use Rattle.j39_reports.specs.declared.summaries.kept.Kept.TheVariants.{On, Off, Error, Reserved, Indicator, Text}
+use Rattle.j39_reports.specs.declared.summaries.statistics.Statistics.{Statistics}
+use Rattle.j39_reports.specs.declared.summaries.statistics.Sample.{Sample}
+use Rattle.j39_reports.specs.declared.summaries.statistics.NumberRange.{NumberRange}
+use Rattle.j39_reports.specs.declared.summaries.stored_value.StoredValue.{StoredValue}
+use Rattle.j39_reports.specs.declared.summaries.stored_value.StoredValue.TheVariants as kept
+use Rattle.j39_reports.specs.declared.summaries.stored_value.StoredValue.TheVariants.{On, Off, Error, Reserved, Indicator, Text}
 use Rattle.j39_frame.specs.declared.origin.Origin.{Origin}
 
-abbrev pub kept_value : Kept → ValueRecord
+abbrev pub kept_value : StoredValue → ValueRecord
 kept_value (kept.Number n scale) = number n (scale_record scale)
 kept_value On = on
 kept_value Off = off
@@ -35,18 +35,18 @@ entry_at origin stamp value = record {
   value = value;
 }
 
-abbrev pub entry_seen : Origin → Seen → Entry
+abbrev pub entry_seen : Origin → Sample → Entry
 entry_seen origin seen = entry_at origin (stamp_micros seen.stamp) (kept_value seen.value)
 
-abbrev pub range_of_span : Span → Range
+abbrev pub range_of_span : NumberRange → Range
 range_of_span span = record { slot = scale_record span.scale; least = span.least; most = span.most }
 
 -- the row of what was seen of an origin
-abbrev pub row_shown : Origin × Deeds → Row
-row_shown (origin, deeds) = record {
-  first = entry_seen origin deeds.first;
-  last = entry_seen origin deeds.last;
-  count = deeds.count;
-  words = deeds.words;
-  range = option_map range_of_span deeds.range;
+abbrev pub row_shown : Origin × Statistics → Row
+row_shown (origin, statistics) = record {
+  first = entry_seen origin statistics.first;
+  last = entry_seen origin statistics.last;
+  count = statistics.count;
+  words = statistics.words;
+  range = option_map range_of_span statistics.range;
 }

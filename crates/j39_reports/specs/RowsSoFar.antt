@@ -13,7 +13,7 @@ use Rattle.j39_listen.specs.Report.{Entry, entry_of}
 use Rattle.j39_reports.specs.RowModels.{entry_at, row_shown}
 use Rattle.j39_reports.specs.SummaryRun.{WantsRow}
 use Rattle.j39_reports.specs.Summary.{absence_of, how_often, Number, Range, Row, are_comparable, is_word, number_of, summary_of}
-use Rattle.j39_reports.specs.declared.summaries.deeds.Deeds.{Deeds}
+use Rattle.j39_reports.specs.declared.summaries.statistics.Statistics.{Statistics}
 use Rattle.j39_frame.specs.declared.origin.Origin.{Origin}
 use Rattle.j39_reports.specs.declared.summaries.rows.Rows.{Rows}
 
@@ -49,13 +49,13 @@ begun e = record {
   range = widened None (number_of e);
 }
 
--- the row of these deeds has one value more, whatever its origin
-abbrev pub HasGrown : Deeds → ℕ → ValueRecord → Deeds → Type 0
+-- the row of these statistics has one value more, whatever its origin
+abbrev pub HasGrown : Statistics → ℕ → ValueRecord → Statistics → Type 0
 HasGrown old stamp value new =
     (origin : Origin) → row_shown (origin, new) ≡ grown (row_shown (origin, old)) (entry_at origin stamp value)
 
 -- the rows are the summary of these entries
-abbrev pub AreRowsOf : List (Origin × Deeds) → List Entry → Type 0
+abbrev pub AreRowsOf : List (Origin × Statistics) → List Entry → Type 0
 AreRowsOf rows entries = map row_shown rows ≡ summary_of entries
 
 -- the count of an origin, if it has one

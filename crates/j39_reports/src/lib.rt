@@ -16,8 +16,8 @@ mod watching;
 
 pub use current_faults::faults_now;
 pub use fault_news::{Choice, FaultCounts, Telling, faults};
-pub use report_objects::{report_json, report_json_filtered};
-pub use report_records::{report_csv, report_csv_filtered};
+pub use report_objects::report_json;
+pub use report_records::report_csv;
 pub use summaries::summary;
 pub use surveys::survey;
 pub use watching::{ScreenSize, watch};

@@ -6,4 +6,4 @@ mod quick_object;
 mod run;
 
 pub(crate) use objects::put_member;
-pub use run::{report_json, report_json_filtered};
+pub use run::report_json;

@@ -7,4 +7,4 @@ mod run;
 
 pub(crate) use begin::digits_before;
 pub(crate) use quick_record::{bits_of, scaled_before};
-pub use run::{report_csv, report_csv_filtered};
+pub use run::report_csv;

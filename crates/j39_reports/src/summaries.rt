@@ -2,13 +2,13 @@
 
 mod absences;
 mod account;
-pub(crate) mod deeds;
 pub(crate) mod guesses;
-pub(crate) mod kept;
 pub mod laws;
 pub(crate) mod lines;
 mod objects;
 mod records;
 mod rows;
+pub(crate) mod statistics;
+pub(crate) mod stored_value;
 
 pub use account::summary;

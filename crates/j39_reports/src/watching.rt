@@ -3,6 +3,7 @@ mod account;
 mod cut_line;
 mod latest;
 mod lines;
+mod moment;
 mod note;
 mod screen;
 mod size;

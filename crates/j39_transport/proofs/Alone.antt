@@ -1,4 +1,4 @@
--- Where no third sends, all sessions and messages are of the one source.
+-- Where no third sends, all sessions and messages are of the one source: law `transfers`, without a third.
 use Rattle.std.proofs.Common.{◌≡◌, ℕ, ◌<◌, not, Bool, true, false, ◌&&◌, List, [], ◌∷◌, Option, Some, None, refl, sym, ap, ◌∙◌, subst}
 use Rattle.std.proofs.lemmas.Bool.{cond_both}
 use Rattle.j39_transport.specs.Key.{Directed}

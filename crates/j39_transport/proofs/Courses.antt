@@ -1,4 +1,4 @@
--- The chains of a message some of whose packets are missing.
+-- The chains of a message some of whose packets are missing: laws `goes`, `reaches`, `runs`.
 use Rattle.std.proofs.Common.{◌≡◌, ℕ, zero, suc, ◌+◌, ◌<◌, ◌≤◌, Bool, true, List, [], ◌∷◌, length, refl, sym, ap, ◌∙◌, subst, inl, inr, arith}
 use Rattle.std.proofs.lemmas.Bool.{cases_lt, cases_eq, both_ways, false_from_ne_true}
 use Rattle.j39_transport.specs.Key.{Key, limit}

@@ -1,4 +1,4 @@
--- With each frame a message is whole, or none is.
+-- With each frame a message is whole, or none is: law `whole_or_none`.
 use Rattle.std.proofs.Common.{◌⊎◌, List, [], ◌∷◌, ◌++◌, sym, subst, inl, inr, append_assoc, append-nil}
 use Rattle.j39_frame.specs.Frame.{FrameRecord}
 use Rattle.j39_transport.proofs.AllKeys.{table_new}

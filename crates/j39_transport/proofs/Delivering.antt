@@ -1,4 +1,4 @@
--- An open session is the present sender's or a third's, and a sender sends one RTS.
+-- An open session is the present sender's or a third's, and a sender sends one RTS: law `transfers`, with a third.
 use Rattle.std.proofs.Common.{◌≡◌, ℕ, ◌<◌, ◌==◌, Bool, true, false, not, ◌&&◌, List, [], ◌∷◌, Option, Some, None, refl, sym, ap, ◌∙◌, subst, inl, inr, arith, eq-eqb}
 use Rattle.std.proofs.lemmas.Bool.{cond_both, both_ways, and_parts}
 use Rattle.std.specs.Option.{option_map}

@@ -1,4 +1,4 @@
--- On a bus that loses nothing a message is delivered in as many ticks as it has frames.
+-- On a bus that loses nothing a message is delivered in as many ticks as it has frames: law `completes`.
 use Rattle.std.proofs.Common.{◌≡◌, ◌⊎◌, ℕ, ◌+◌, ◌-◌, ◌<◌, ◌≤◌, ◌==◌, nat_lt, nat_le, min, max, Bool, true, false, ◌&&◌, cond, List, [], ◌∷◌, length, Option, Some, None, refl, sym, ap, ◌∙◌, subst, inl, inr, arith, eq-eqb, ne_eqb, le-leb}
 use Rattle.std.proofs.lemmas.Bool.{cond_both, cases_eq, both_ways, le-ltb}
 use Rattle.std.specs.Option.{option_map}

@@ -1,4 +1,5 @@
--- A broadcast that is polled when it asks to be sends its frames 50 ms apart, and with the last one its message is whole.
+-- A broadcast that is polled when it asks to be sends its frames 50 ms apart, and with the last one its message is whole: law
+-- `broadcasts`.
 use Rattle.std.proofs.Common.{◌≡◌, ℕ, zero, suc, ◌+◌, ◌-◌, ◌*◌, ◌<◌, ◌≤◌, ◌==◌, nat_lt, Bool, true, false, ◌&&◌, ◌||◌, cond, List, [], ◌∷◌, ◌++◌, length, drop, take, map, get_or, replicate, Some, refl, sym, ap, ◌∙◌, subst, arith, append_assoc, eq-eqb, ne_eqb, lt-ltb, eqb-true}
 use Rattle.std.proofs.lemmas.Bool.{and_parts, and_from, or_from, or_left, or_right, and_right, both_ways, false_from_ne_true, le-ltb, cond-true, cond-false}
 use Rattle.std.proofs.lemmas.List.{append-nil, take-take, take_at}

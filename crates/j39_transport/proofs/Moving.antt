@@ -1,4 +1,4 @@
--- What a session stands for after one event more.
+-- What a session stands for after one event more: for the contract of `Assembler`.
 use Rattle.std.proofs.Common.{◌≡◌, ℕ, suc, if◌then◌else◌, ◌+◌, ◌<◌, ◌≤◌, true, false, ◌||◌, List, [], ◌∷◌, ◌++◌, length, Option, Some, None, refl, sym, ap, ◌∙◌, subst, inl, inr, arith, nat_lt, ◌==◌, eqb-true, ltb-true, ltb-false}
 use Rattle.std.proofs.lemmas.Bool.{cond_both, cond-true, cond-false, eqb-false, cases_lt, cases_order, cases_Bool, and_parts, or_parts, or_from, or_left, false_from_ne_true, both_ways, and_from}
 use Rattle.j39_transport.specs.Key.{Key, limit}

@@ -1,4 +1,4 @@
--- A packet that a session takes without being whole: it ends a chain that is not full.
+-- A packet that a session takes without being whole: it ends a chain that is not full. For `Unique` and the answers of `Assembler`.
 use Rattle.std.proofs.Common.{◌≡◌, ◌≢◌, ◌↔◌, ℕ, suc, ◌<◌, ◌≤◌, true, List, [], ◌∷◌, ◌++◌, length, Option, Some, None, refl, sym, ap, ◌∙◌, subst, arith}
 use Rattle.j39_transport.specs.Key.{Key}
 use Rattle.j39_transport.specs.Frames.{is_packet}

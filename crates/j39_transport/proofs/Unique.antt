@@ -1,4 +1,4 @@
--- At most one message is whole at a place.
+-- At most one message is whole at a place: laws `one_message`, `at_a_packet`, `counts`.
 use Rattle.std.proofs.Common.{◌≡◌, ℕ, suc, ◌<◌, true, List, length, take, refl, sym, ap, ◌∙◌, subst, arith}
 use Rattle.std.proofs.lemmas.Bool.{both_ways}
 use Rattle.j39_transport.specs.Key.{Key}

@@ -12,7 +12,7 @@ ghost use Rattle.j39_transport.specs.AssemblerModel.{outcome_by, CanLend};
 
 use crate::control::{finish, grant};
 use crate::opening::{announce_broadcast, announce_directed};
-use crate::packet::{Accepted, pack, pack_directed};
+use crate::packet::{Accepted, take_directed_packet, take_packet};
 use crate::protocol::BROADCAST_LIMIT;
 use crate::signal::{self, Pair, Signal};
 use crate::table::{PAIRS, SOURCES, SessionBox, Table};
@@ -100,14 +100,14 @@ impl OpenMessages {
                 Ok(Accepted::Ignored)
             }
             Some(Signal::Packet(number, part)) => {
-                let accepted = self.pack(lent, pair, number, &part, stamp);
+                let accepted = self.take_packet(lent, pair, number, &part, stamp);
                 Ok(accepted)
             }
         }
     }
 
     #[tactic(auto, unfolding(crate::specs::Key::key_between))]
-    fn pack(
+    fn take_packet(
         &mut self,
         lent: &mut SessionBox,
         pair: Pair,
@@ -130,7 +130,7 @@ impl OpenMessages {
     {
         if pair.to == GLOBAL_ADDRESS {
             let place = usize::from(pair.from);
-            pack(
+            take_packet(
                 &mut self.broadcasts,
                 place,
                 lent,
@@ -140,7 +140,7 @@ impl OpenMessages {
                 stamp,
             )
         } else {
-            pack_directed(&mut self.directed, pair, lent, number, bytes, stamp)
+            take_directed_packet(&mut self.directed, pair, lent, number, bytes, stamp)
         }
     }
 

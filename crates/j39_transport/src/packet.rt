@@ -66,7 +66,7 @@ fn after_packet(
 
 /// Hands a packet to the session at a place. A message that is whole stands in `lent` then.
 #[tactic(auto, using(crate::proofs::TableLemmas::set_again, crate::proofs::TableLemmas::set_same))]
-pub(crate) fn pack<const N: usize>(
+pub(crate) fn take_packet<const N: usize>(
     table: &mut Table<N>,
     place: usize,
     lent: &mut SessionBox,
@@ -109,7 +109,7 @@ pub(crate) fn pack<const N: usize>(
 }
 
 /// Hands a packet to the session from one address to another.
-pub(crate) fn pack_directed(
+pub(crate) fn take_directed_packet(
     table: &mut Table<PAIRS>,
     pair: Pair,
     lent: &mut SessionBox,
@@ -130,7 +130,7 @@ pub(crate) fn pack_directed(
         (told 0 directed_limit number bytes.now (stamp_micros stamp)) table.old) || is_some (stored_in lent.old) }
 {
     match table.find(pair.from, pair.to) {
-        Some(place) => pack(table, place, lent, DIRECTED_LIMIT, number, bytes, stamp),
+        Some(place) => take_packet(table, place, lent, DIRECTED_LIMIT, number, bytes, stamp),
         None => Accepted::Ignored,
     }
 }

@@ -2,3 +2,4 @@
 pub mod RoomLemmas
 -- the readings of one parameter
 pub mod SeriesLemmas
+pub mod SeriesAccountLemmas

@@ -1,7 +1,7 @@
 -- A text that has no room.
 use Rattle.std.proofs.Common.{◌≡◌, ◌≢◌, ℕ, List, [], ◌∷◌, ◌++◌, Some, Option, refl, ap, sym, ◌∙◌, subst, append-nil, take, take_all, length, arith}
 use Rattle.std.proofs.lemmas.Bool.{false≢true}
-use Rattle.std.specs.Prelude.{IfErr, IfOk, MatchResult, OnErr, OnOk, Ok, Err, Result}
+use Rattle.std.specs.Prelude.{IfErr, IfOk, MatchResult, None, OnErr, OnOk, Ok, Err, Result}
 use Rattle.std.specs.Io.KnownBytes.{Appends}
 use Rattle.std.specs.Result.{is_ok}
 use Rattle.j39_io.specs.Device.{AppendsFront}
@@ -11,6 +11,7 @@ use Rattle.j39_log.proofs.LogLemmas.{same_log}
 use Rattle.j39_listen.specs.Filter.{no_filter}
 use Rattle.j39_listen.specs.AccountCalls.{MakesOne}
 use Rattle.j39_listen.specs.Output.{Making, Output}
+use Rattle.j39_listen.specs.Report.{entry_text}
 use Rattle.j39_listen.specs.Run.{Writes, WritesFront, run_bus}
 use Rattle.j39_listen.specs.declared.counts.Counts.{Counts}
 use Rattle.j39_listen.specs.declared.running.RunFault.{RunFault}
@@ -21,11 +22,12 @@ use Rattle.j39_reports.specs.SurveyRun.{Asked, WritesSurvey}
 use Rattle.j39_reports.specs.SurveyRun.{WritesFront as WritesSurveyFront}
 use Rattle.j39_reports.specs.SurveyText.{survey_text}
 use Rattle.j39_reports.proofs.SurveyLemmas.{same_survey}
-use Rattle.j39_listen.proofs.ReportAccount.{report_one, report_one_in}
+use Rattle.j39_listen.proofs.ReportAccount.{report_one}
 use Rattle.j39_reports.proofs.FaultAccountLemmas.{news_one}
 use Rattle.j39_reports.proofs.SummaryAccountLemmas.{records_one}
 use Rattle.j39_reports.specs.News.{news}
 use Rattle.j39_web.specs.SeriesSoFar.{series_form}
+use Rattle.j39_web.proofs.SeriesAccountLemmas.{whole_one}
 use Rattle.j39_web.specs.Text.{IsFullOf, Overflows, SurveyOverflows, no_counts}
 use Rattle.j39_web.specs.Writings.{makes}
 use Rattle.j39_web.specs.declared.writing.Writing.{Writing}
@@ -33,12 +35,12 @@ use Rattle.j39_web.specs.declared.writing.Writing.TheVariants.{Report, Records, 
 
 -- of the frames of a log one text is made
 pub makes_one : (writing : Writing) (rows : List RowRecord) → MakesOne (makes writing rows)
-makes_one Report rows = report_one rows
+makes_one Report rows = whole_one (λ table. entry_text) rows
 makes_one Records rows = λ bus F x y (a, made_a, is_a) (b, made_b, is_b).
-    ap (λ (o : Output). o.text) is_a ∙ ap (λ t. header_text ++ t) (report_one_in entry_record rows bus F a b made_a made_b) ∙ sym (ap (λ (o : Output). o.text) is_b)
+    ap (λ (o : Output). o.text) is_a ∙ ap (λ t. header_text ++ t) (report_one entry_record (record { rows = rows; which = no_filter }) bus F a b made_a made_b) ∙ sym (ap (λ (o : Output). o.text) is_b)
 makes_one Summary rows = records_one no_filter rows
-makes_one Faults rows = news_one (record { rows = rows; which = news })
-makes_one (Series of) rows = report_one_in (series_form of) rows
+makes_one Faults rows = news_one (record { manner = record { rows = rows; spns = None }; which = news })
+makes_one (Series of) rows = whole_one (series_form of) rows
 
 first : ℕ → List ℕ → ℕ
 first d [] = d

@@ -1,52 +1,22 @@
--- The readings of one parameter of one controller, frame by frame and reading by reading.
+-- The readings of one parameter of one controller in a message, reading by reading.
 use Rattle.std.proofs.Common.{◌+◌, Ok, arith, length-append, ◌≡◌, ◌∙◌, ◌&&◌, ◌==◌, ◌++◌, ◌∷◌, ℕ, Bool, List, [], Option, Result, Err, if◌then◌else◌, append_assoc, append-nil, map, ap, refl, subst, sym}
 use Rattle.std.specs.List.{flat_map}
 use Rattle.std.proofs.lemmas.Grind.{flat_map-append}
 use Rattle.std.proofs.lemmas.List.{map-append}
 use Rattle.std.proofs.lemmas.List.Elements.{filter_map-append}
-use Rattle.j39_frame.specs.Frame.{FrameRecord}
 use Rattle.j39_io.specs.Puts.{Puts}
 use Rattle.j39_io.specs.Turn.{Device}
 use Rattle.j39_io.proofs.PutsLemmas.{puts_as, puts_done, puts_failed, puts_first, puts_nothing, puts_then}
 use Rattle.j39_groups.specs.Sightings.{SightingRecord, told_by, told_in}
 use Rattle.j39_groups.specs.Value.{ReadingRecord, ValueRecord}
 use Rattle.j39_groups.specs.Visits.{Stops, Takes}
-use Rattle.j39_listen.specs.AccountCalls.{Begins, Meets}
-use Rattle.j39_listen.specs.AccountCalls.{Stops as StopsFrames}
 use Rattle.j39_listen.specs.Counting.{capped}
 use Rattle.j39_listen.specs.Heard.{Hearing}
-use Rattle.j39_listen.specs.Listening.{Hears}
 use Rattle.j39_listen.specs.Report.{entry_of}
-use Rattle.j39_listen.specs.ReportSoFar.{MeetsFrame, StopsFrame, made_sum}
-use Rattle.j39_listen.specs.declared.counts.Made.{Made}
-use Rattle.j39_listen.proofs.ReportAccount.{report_begins, report_meets, report_stops}
-use Rattle.j39_web.specs.Series.{MakesSeries, point_bytes, series_text}
-use Rattle.j39_web.specs.SeriesSoFar.{Begun, HasGathered, HasStopped, HasWritten, IsBegun, PutsReadings, Subject, as_report, readings_text, series_form}
+use Rattle.j39_web.specs.Series.{point_bytes, series_text}
+use Rattle.j39_web.specs.SeriesSoFar.{Begun, HasStopped, HasWritten, IsBegun, PutsReadings, readings_text}
 use Rattle.j39_web.specs.declared.points.Points.{Points}
 use Rattle.j39_web.specs.declared.points.SeriesOrigin.{SeriesOrigin}
-use Rattle.j39_web.specs.declared.series.SeriesAccount.{SeriesAccount}
-
--- ---- frame by frame
-
--- a frame goes to the account
-pub series_meets : (subject : Subject) (a a' : SeriesAccount) → a'.of ≡ a.of → a'.groups ≡ a.groups → (f : FrameRecord) (made : Made) (old new : Option (List ℕ))
-    → ((F : List FrameRecord) → Hears a.listener F → MeetsFrame (series_form a.of) a.groups.now a'.listener F f made old new)
-    → a'.made ≡ made_sum a.made made → Meets (HasGathered subject) a a' (f ∷ []) old new
-series_meets subject a a' of kept f made old new meets sum = λ F before has.
-    let m = report_meets (series_form subject.of) subject.rows (as_report a) (as_report a') kept f made old new
-    (λ G hears. subst (λ (o : SeriesOrigin). MeetsFrame (series_form o) a.groups.now a'.listener G f made old new) has.of_is (meets G hears)) sum F before has.reported in
-    record { after = m.after; met = record { of_is = of ∙ has.of_is; reported = m.met }; more = m.more; text_is = m.text_is; written = m.written }
-
-pub series_begins : (subject : Subject) → Begins (λ bus. HasGathered subject) (MakesSeries subject.of subject.rows)
-series_begins subject = λ bus a F G before all has made. report_begins (series_form subject.of) subject.rows Unit bus (as_report a) F G before all has.reported made
-
--- a fault of the writer at a frame
-pub series_stops : (subject : Subject) (a : SeriesAccount) (f : FrameRecord) (old new : Option (List ℕ))
-    → ((F : List FrameRecord) → Hears a.listener F → StopsFrame (series_form a.of) a.groups.now F f old new)
-    → (bus : List ℕ) → StopsFrames (HasGathered subject) (MakesSeries subject.of subject.rows bus) a (f ∷ []) old new
-series_stops subject a f old new stops bus = λ F G before all has made.
-    report_stops (series_form subject.of) subject.rows (as_report a) f old new
-    (λ H hears. subst (λ (o : SeriesOrigin). StopsFrame (series_form o) a.groups.now H f old new) has.of_is (stops H hears)) bus F G before all has.reported made
 
 -- ---- reading by reading
 

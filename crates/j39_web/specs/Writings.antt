@@ -1,6 +1,6 @@
 -- What is written of a log by a table.
 use Rattle.j39_groups.specs.Row.{RowRecord}
-use Rattle.std.specs.Prelude.{List}
+use Rattle.std.specs.Prelude.{List, None}
 use Rattle.j39_listen.specs.Asking.{AsksForBoxes, Wanting}
 use Rattle.j39_listen.specs.Filter.{no_filter}
 use Rattle.j39_listen.specs.Headed.{Headed}
@@ -18,14 +18,14 @@ use Rattle.j39_web.specs.declared.writing.Writing.TheVariants.{Report, Records, 
 
 -- the names of the columns, and a record for each value of the report
 abbrev pub MakesTable : List RowRecord → Making
-MakesTable rows = Headed header_text (MakesRecords rows)
+MakesTable rows = Headed header_text (MakesRecords rows no_filter)
 
 -- which outputs are made of the frames of a bus
 abbrev pub makes : Writing → List RowRecord → Making
 makes Report = MakesReport
 makes Records = MakesTable
 makes Summary = MakesSummary Record no_filter
-makes Faults = λ rows. MakesFaults Line rows news
+makes Faults = λ rows. MakesFaults Line (record { rows = rows; spns = None }) news
 makes (Series of) = MakesSeries of
 
 -- at which frames memory is wanted

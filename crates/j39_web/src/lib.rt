@@ -150,7 +150,7 @@ pub extern "C" fn j39_faults(
 ) -> u32
     // What is written is the faults that are told in the log's frames. Memory is wanted at a frame that announces a
     // message, and at one at which an address says its codes for the first time.
-    ensures { Tells (ByTable table.now) (λ rows. MakesFaults Line rows news)
+    ensures { Tells (ByTable table.now) (λ rows. MakesFaults Line (record { rows = rows; spns = None }) news)
         (λ _. AsksSomewhere AsksForFaults (given_bus bus.now) log.now)
         log.now bus.now table.now room.old room.new text.old text.new result }
 {

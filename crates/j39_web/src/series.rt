@@ -9,13 +9,11 @@ ghost use Rattle.j39_listen.specs.Asking.{AsksForBoxes};
 ghost use Rattle.j39_listen.specs.Counting.{capped};
 ghost use Rattle.j39_listen.specs.HeardModel.{hearing_of};
 ghost use Rattle.j39_listen.specs.Listening.{Hears};
-ghost use Rattle.j39_listen.specs.Output.{report_of};
 ghost use Rattle.j39_listen.specs.Ran.{Ran};
 ghost use Rattle.j39_listen.specs.Report.{entries_of};
-ghost use Rattle.j39_listen.specs.ReportSoFar.{MeetsFrame, StopsFrame};
 ghost use Rattle.j39_listen.specs.declared.account.LineFault.TheVariants as line_fault;
 ghost use Rattle.j39_web.specs.Series.{MakesSeries, series_text};
-ghost use Rattle.j39_web.specs.SeriesSoFar.{HasGathered, series_form};
+ghost use Rattle.j39_web.specs.SeriesSoFar.{HasGathered, MeetsFrame, StopsFrame, gathered};
 
 use crate::points::{Points, SeriesOrigin};
 use j39_frame::Frame;
@@ -61,7 +59,7 @@ impl<'g, 't> SeriesAccount<'g, 't> {
     /// The readings in no frames.
     fn new(alloc: Global, groups: &'g Groups<'t>, of: SeriesOrigin) -> SeriesAccount<'g, 't>
         ensures { HasGathered (record { of = of; rows = groups.entry.now }) result []
-            (report_of (series_form of) groups.entry.now []) }
+            (gathered (record { of = of; rows = groups.entry.now }) []) }
     {
         SeriesAccount {
             groups,
@@ -113,11 +111,11 @@ fn put_frame<W: Sink>(
     sink: &mut W,
 ) -> Result<Made, LineFault>
     ensures met { IfOk result (λ more. (F : List FrameRecord) → Hears listener.old F
-        → MeetsFrame (series_form of.now) groups.now listener.new F frame.now more
+        → MeetsFrame (record { of = of.now; rows = groups.now }) listener.new F frame.now more
         (W.written sink.old) (W.written sink.new)) }
     ensures writer { LeavesWriter result (turn W.written W.has_failed sink.old sink.new) }
     ensures stops { result ≡ Err line_fault.Write → (F : List FrameRecord) → Hears listener.old F
-        → StopsFrame (series_form of.now) groups.now F frame.now (W.written sink.old) (W.written sink.new) }
+        → StopsFrame (record { of = of.now; rows = groups.now }) F frame.now (W.written sink.old) (W.written sink.new) }
     ensures asked { result ≡ Err line_fault.Memory → (F : List FrameRecord) → Hears listener.old F
         → AsksForBoxes F frame.now }
 {

@@ -45,7 +45,7 @@ impl Writing {
     {
         match self {
             Writing::Report => run_with(alloc, groups, source, sink, bus, limit),
-            Writing::Records => report_csv(alloc, groups, source, sink, bus, limit),
+            Writing::Records => report_csv(alloc, groups, None, source, sink, bus, limit),
             Writing::Summary => summary(
                 alloc,
                 groups,
@@ -60,6 +60,8 @@ impl Writing {
                 let choice = Choice {
                     telling: Telling::News,
                     conversions: &[],
+                    filter: None,
+                    spns: None,
                 };
                 let format = Format::Line;
                 counts_of(faults(alloc, groups, format, choice, source, sink, bus, limit))

@@ -14,12 +14,11 @@ ghost use Rattle.j39_transport.specs.Events.Event.{Frame as Came};
 ghost use Rattle.j39_transport.specs.Sending.{SendStep, Tick};
 ghost use Rattle.j39_transport.specs.Stands.{Stands};
 
-use j39_address::{Claims, Name, Status};
+use j39_address::{Claims, Name};
 use j39_faults::{State, codes_of, fault_group, lamps_of, put_code};
-use j39_frame::{Frame, GLOBAL_ADDRESS, Id, Pgn, Stamp};
+use j39_frame::{Frame, Id, Pgn, Stamp};
 use j39_groups::{Field, Groups, Row, Value, is_heard_group, is_network_group, raw_of, readings};
 use j39_io::{DeviceFault, Sink, put_all};
-use j39_node::Controller;
 use j39_table::{TableFault, read};
 use j39_transport::{Assembler, Fed, SendEvent, Sender};
 use std::alloc::{AllocError, Global};
@@ -112,45 +111,4 @@ pub fn next_frame(sender: &mut Sender<'_>, now: Stamp) -> Option<(Id, [u8; 8])>
     ensures { SendStep sender.old Tick (stamp_micros now) (option_map to_send result) sender.new }
 {
     sender.on(SendEvent::Tick, now)
-}
-
-/// An engine's controller, what it measures and shows, and when it sends next.
-#[derive(Drop)]
-pub struct Engine {
-    controller: Controller,
-    /// In thousandths of an rpm: its own, and that of another engine.
-    speed: i64,
-    other_speed: Option<i64>,
-    /// In microseconds.
-    due: u64,
-    has_identified: bool,
-}
-
-/// A turn, with a frame that came or none: the frame that goes out, or none. Turn again until it is none.
-pub fn turn(engine: &mut Engine, heard: Option<&Frame>, now: Stamp) -> Option<Frame> {
-    let controller = &mut engine.controller;
-    match heard {
-        Some(frame) => controller.hear(frame),
-        None => controller.tick(now),
-    }
-    if let Status::Holding(_) = controller.status() {
-        if engine.due <= now.micros() {
-            engine.due = now.micros().saturating_add(100_000);
-            let [low, high, _, _] = raw_of(190, engine.speed).unwrap_or(0xFFFF).to_le_bytes();
-            let bytes = [0xFF, 0xFF, 0xFF, low, high, 0xFF, 0xFF, 0xFF];
-            let _token = controller.send(now, 3, Pgn::new(61_444)?, GLOBAL_ADDRESS, &bytes);
-        }
-        if !engine.has_identified {
-            let token = controller.broadcast(now, Pgn::new(65_260)?, b"1FUJA6CV12LK12345*");
-            engine.has_identified = token.is_ok();
-        }
-    }
-    controller.take_ended();
-    controller.take_broadcast_ended();
-    if let Some(message) = controller.take_received() {
-        if message.group.raw() == 61_444 {
-            engine.other_speed = engine_speed(message.bytes.as_slice());
-        }
-    }
-    controller.take_frame(now)
 }

@@ -6,6 +6,9 @@
 mod broadcasts;
 #[cfg(test)]
 mod claimer;
+pub mod engine;
+#[cfg(test)]
+mod engine_answers;
 pub mod examples;
 #[cfg(test)]
 mod fault_messages;

@@ -15,6 +15,8 @@ enum Step {
     Asks(u64, u32, u8, Result<u64, Refused>),
     /// It tells this end of a request.
     Ends(Option<(u64, AskEnding)>),
+    /// It makes room for a broadcast, and one lay there.
+    Releases(bool),
     /// It tells this end of a message.
     IsSent(Option<(u64, Ending)>),
     /// Time passes till this moment.
@@ -24,7 +26,7 @@ enum Step {
 }
 
 use AskEnding::{Acknowledged, Answered, TimedOut, Withdrawn};
-use Step::{Asks, Ends, Gives, Hears, IsDue, IsSent, Ticks};
+use Step::{Asks, Ends, Gives, Hears, IsDue, IsSent, Releases, Ticks};
 
 static STEPS: &[Step] = &[
     Gives(
@@ -115,8 +117,40 @@ static STEPS: &[Step] = &[
     Ends(None),
     Hears("(0.970000) can0 18E8FF0B#01FFFFFF80ECFE00"),
     Ends(Some((8, Acknowledged(Answer::Nack)))),
+    // So is a broadcast in packets: of whom was asked, or of anyone where all were.
+    Asks(980_000, 65_260, 11, Ok(9)),
+    Gives(980_000, Some("(0000000000.980000) can0 18EA0B80#ECFE00")),
+    Hears("(0.981000) can0 1CECFF0C#20110003FFECFE00"),
+    Hears("(0.982000) can0 1CEBFF0C#013146554A413643"),
+    Hears("(0.983000) can0 1CEBFF0C#025631324C4B3132"),
+    Hears("(0.984000) can0 1CEBFF0C#03333435FFFFFFFF"),
+    Ends(None),
+    Releases(true),
+    Hears("(0.985000) can0 1CECFF0B#20110003FFEBFE00"),
+    Hears("(0.986000) can0 1CEBFF0B#013146554A413643"),
+    Hears("(0.987000) can0 1CEBFF0B#025631324C4B3132"),
+    Hears("(0.988000) can0 1CEBFF0B#03333435FFFFFFFF"),
+    Ends(None),
+    Releases(true),
+    Hears("(0.989000) can0 1CECFF0B#20110003FFECFE00"),
+    Hears("(0.990000) can0 1CEBFF0B#013146554A413643"),
+    Hears("(0.991000) can0 1CEBFF0B#025631324C4B3132"),
+    Ends(None),
+    Hears("(0.992000) can0 1CEBFF0B#03333435FFFFFFFF"),
+    Ends(Some((9, Answered))),
+    Asks(993_000, 65_260, 255, Ok(10)),
+    // One that lies there is none.
+    Gives(993_000, Some("(0000000000.993000) can0 18EAFF80#ECFE00")),
+    Hears("(0.994000) can0 1CEBFF0B#03333435FFFFFFFF"),
+    Ends(None),
+    Releases(true),
+    Hears("(0.995000) can0 1CECFF21#20110003FFECFE00"),
+    Hears("(0.996000) can0 1CEBFF21#013146554A413643"),
+    Hears("(0.997000) can0 1CEBFF21#025631324C4B3132"),
+    Hears("(0.998000) can0 1CEBFF21#03333435FFFFFFFF"),
+    Ends(Some((10, Answered))),
     // Silence: time that goes back is no time.
-    Asks(1_000_000, 65_226, 11, Ok(9)),
+    Asks(1_000_000, 65_226, 11, Ok(11)),
     Ticks(9_000_000),
     Ticks(1_000_000),
     Ends(None),
@@ -126,13 +160,20 @@ static STEPS: &[Step] = &[
     Ticks(1_000_000),
     Ends(None),
     Hears("(1.000001) can0 18FECA0B#0102030405060708"),
-    Ends(Some((9, TimedOut))),
+    Ends(Some((11, TimedOut))),
+    // Who is at an address: a claim from there is the answer.
+    Asks(2_300_000, 60_928, 11, Ok(12)),
+    Gives(2_300_000, Some("(0000000002.300000) can0 18EA0B80#00EE00")),
+    Hears("(2.310000) can0 18EEFF0C#0300000000000080"),
+    Ends(None),
+    Hears("(2.320000) can0 18EEFF0B#0400000000000080"),
+    Ends(Some((12, Answered))),
     // Its address is lost.
-    Asks(3_000_000, 65_226, 11, Ok(10)),
+    Asks(3_000_000, 65_226, 11, Ok(13)),
     Gives(3_000_000, Some("(0000000003.000000) can0 18EA0B80#CAFE00")),
     Hears("(3.100000) can0 18EEFF80#0100000000000000"),
     Hears("(3.200000) can0 18FECA0B#0102030405060708"),
-    Ends(Some((10, Withdrawn))),
+    Ends(Some((13, Withdrawn))),
     Ends(None),
     Asks(3_300_000, 65_226, 11, Err(Refused::NoAddress)),
 ];
@@ -154,6 +195,7 @@ fn does(node: &mut Controller, step: &Step) -> Option<bool> {
             Some(answer == *wanted)
         }
         Ends(wanted) => Some(node.take_ask_ended() == *wanted),
+        Releases(wanted) => Some(node.release_broadcast() == *wanted),
         IsSent(wanted) => Some(node.take_ended() == *wanted),
         Ticks(micros) => {
             node.tick(Stamp::new(*micros)?);

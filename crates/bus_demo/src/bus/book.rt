@@ -15,7 +15,7 @@ use std::alloc::{AllocError, Global};
 
 /// A frame of a message that goes to all: the message's number, and whether it is the last one.
 #[derive(Clone, Copy)]
-pub struct Part {
+pub struct MessageFrame {
     pub number: usize,
     pub is_last: bool,
 }
@@ -123,7 +123,7 @@ impl Book {
     }
 
     /// Notes that a frame was seen on the bus.
-    pub fn seen(&mut self, part: Part, now: Stamp)
+    pub fn seen(&mut self, part: MessageFrame, now: Stamp)
         ensures open { part.is_last ≡ false → self.new ≡ self.old }
         ensures last { (message : Handed) → part.is_last ≡ true
             → slice_get self.old.handed.items part.number ≡ Some message → message.fate ≡ Open
@@ -141,7 +141,7 @@ impl Book {
     }
 
     /// Notes that a frame, which may be one of a message, was lost, or seen at this moment.
-    pub fn note(&mut self, part: Option<Part>, is_lost: bool, now: Stamp)
+    pub fn note(&mut self, part: Option<MessageFrame>, is_lost: bool, now: Stamp)
         ensures { IsFated part is_lost now self.old self.new }
     {
         match part {

@@ -17,7 +17,7 @@ ghost use Rattle.bus_demo.specs.Moving.{MovesIfLost, MovesTo};
 ghost use Rattle.bus_demo.specs.Noted.{IsNoted, delivered_in, done_by, listed};
 ghost use Rattle.bus_demo.specs.Fates.{IsOf};
 
-use crate::bus::book::{Book, Fate, Part};
+use crate::bus::book::{Book, Fate, MessageFrame};
 use arrayvec::ArrayVec;
 use j39_address::{Name, Status, commanded_of};
 use j39_frame::{Frame, GLOBAL_ADDRESS, Pgn, Stamp};
@@ -39,7 +39,7 @@ pub struct Draft<'a> {
 #[derive(Drop)]
 pub struct Sent {
     pub frame: Frame,
-    pub part: Option<Part>,
+    pub part: Option<MessageFrame>,
 }
 
 /// A controller, and the numbers that the book has for what it was handed and has not told to have ended.
@@ -112,7 +112,7 @@ impl Station {
     }
 
     /// The message to all of which the frame that was taken last is one.
-    fn part_of(&mut self, frame: &Frame) -> Option<Part>
+    fn part_of(&mut self, frame: &Frame) -> Option<MessageFrame>
         ensures calls { Calls is_taking self.old.controller self.new.controller }
         ensures part { IfSome result (IsOf self.old) }
     {
@@ -124,19 +124,19 @@ impl Station {
     }
 
     /// The frame is that of the oldest message of one frame, which is over.
-    fn take_single(&mut self) -> Option<Part>
+    fn take_single(&mut self) -> Option<MessageFrame>
         ensures part { IfSome result (IsOf self.old) }
         ensures rest { self.new ≡ record self.old { singles = self.new.singles } }
     {
         let number = self.first_single()?;
-        Some(Part {
+        Some(MessageFrame {
             number,
             is_last: true,
         })
     }
 
     /// The frame is one of the broadcast, if of any, and its last one or not.
-    fn take_packet(&mut self, frame: &Frame, is_last: bool) -> Option<Part>
+    fn take_packet(&mut self, frame: &Frame, is_last: bool) -> Option<MessageFrame>
         ensures part { IfSome result (IsOf self.old) }
         ensures rest { self.new ≡ record self.old { broadcast = self.new.broadcast } }
     {
@@ -145,7 +145,7 @@ impl Station {
             self.broadcast = None;
         }
         if is_packet_to_all(frame) {
-            Some(Part { number, is_last })
+            Some(MessageFrame { number, is_last })
         } else {
             None
         }

@@ -2,6 +2,7 @@
 ghost use Rattle.std.specs.Prelude.{◌≡◌, ◌<◌, ◌≤◌, ◌++◌, ◌∷◌, [], List, None, IfOk, OnErr, length, true};
 ghost use Rattle.j39_frame.specs.Frame.{FrameRecord};
 ghost use Rattle.j39_frame.specs.Identifier.{id_raw, pgn_of};
+ghost use Rattle.j39_listen.specs.Chooses.{which_of};
 ghost use Rattle.j39_listen.specs.Heard.{AreHeardWith, Hearing};
 ghost use Rattle.j39_listen.specs.HeardModel.{hearing_of};
 ghost use Rattle.j39_listen.specs.Listening.{Hears};
@@ -10,6 +11,7 @@ ghost use Rattle.j39_reports.specs.FaultsNow.{active_among, is_active_message, i
 ghost use Rattle.j39_reports.specs.FaultsNowRun.{AsksForFaultsNow};
 ghost use Rattle.j39_reports.specs.CurrentSoFar.{AreKept, HasKept, KnowsBrokenNow, TakesFrame};
 ghost use Rattle.j39_reports.specs.CurrentPlaces.{at};
+ghost use Rattle.j39_reports.specs.FaultsSoFar.{manner_of};
 ghost use Rattle.j39_reports.specs.News.{is_fault_group};
 
 use crate::current_faults::lines::put_places;
@@ -20,7 +22,7 @@ use crate::fault_news::form::Writing;
 use j39_faults::{Conversion, Kind, fault_group, lamps_of};
 use j39_frame::Frame;
 use j39_io::{DeviceFault, Sink};
-use j39_listen::{Account, Heard, LineFault, Listener, Made};
+use j39_listen::{Account, Chooser, Filter, Heard, LineFault, Listener, Made};
 use j39_log::Bus;
 use std::alloc::{AllocError, Global};
 
@@ -30,6 +32,7 @@ pub(crate) struct FaultsNow<'g, 't, 'c> {
     alloc: Global,
     writing: Writing<'g, 't>,
     conversions: &'c [Conversion],
+    chooser: Chooser<'c>,
     listener: Listener,
     places: Places,
     messages: u64,
@@ -42,13 +45,16 @@ impl<'g, 't, 'c> FaultsNow<'g, 't, 'c> {
         alloc: Global,
         writing: Writing<'g, 't>,
         conversions: &'c [Conversion],
+        filter: Option<Filter<'c>>,
     ) -> FaultsNow<'g, 't, 'c>
-        ensures { HasKept writing.entry.form (record { rows = writing.entry.groups.now; conversions = conversions.now }) result [] nothing }
+        ensures { HasKept writing.entry.form (record { manner = manner_of writing.entry; conversions = conversions.now; which = which_of filter.entry })
+            result [] nothing }
     {
         FaultsNow {
             alloc,
             writing,
             conversions,
+            chooser: Chooser::new(filter),
             listener: Listener::new(alloc),
             places: Places::new(),
             messages: 0,
@@ -74,11 +80,12 @@ impl<'g, 't, 'c> Account for FaultsNow<'g, 't, 'c> {
 
     ghost has_met = { λ subject bus. HasKept subject.0 subject.1 };
 
-    ghost makes = { λ subject. MakesFaultsNowIn subject.0 subject.1.rows subject.1.conversions };
+    ghost makes = { λ subject. MakesFaultsNowIn subject.0 subject.1.manner subject.1.conversions subject.1.which };
 
     ghost asks = { λ subject. AsksForFaultsNow };
 
     fn feed<W: Sink>(&mut self, _: &Bus, frame: &Frame, _: &mut W) -> Result<(), LineFault> {
+        self.chooser.note(frame);
         match take_frame(
             self.alloc,
             &mut self.listener,
@@ -96,7 +103,7 @@ impl<'g, 't, 'c> Account for FaultsNow<'g, 't, 'c> {
     }
 
     fn close<W: Sink>(&self, sink: &mut W) -> Result<Made, DeviceFault> {
-        let lines = put_places(&self.places, self.writing, sink)?;
+        let lines = put_places(&self.places, self.writing, &self.chooser, sink)?;
         Ok(Made {
             messages: self.messages,
             lines,
@@ -105,9 +112,10 @@ impl<'g, 't, 'c> Account for FaultsNow<'g, 't, 'c> {
 
     fn laws()
         ensures begins { (subject : Format × NowSubject)
-            → Begins (λ bus. HasKept subject.0 subject.1) (MakesFaultsNowIn subject.0 subject.1.rows subject.1.conversions) }
+            → Begins (λ bus. HasKept subject.0 subject.1)
+            (MakesFaultsNowIn subject.0 subject.1.manner subject.1.conversions subject.1.which) }
         ensures one { (subject : Format × NowSubject)
-            → MakesOne (MakesFaultsNowIn subject.0 subject.1.rows subject.1.conversions) }
+            → MakesOne (MakesFaultsNowIn subject.0 subject.1.manner subject.1.conversions subject.1.which) }
     {}
 }
 

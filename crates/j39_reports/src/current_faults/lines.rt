@@ -1,14 +1,22 @@
 //! The lines of the faults that are there now, the records, or the objects.
-ghost use Rattle.std.specs.Prelude.{◌≡◌, ◌<◌, ◌≤◌, ◌+◌, ◌++◌, ◌∷◌, [], IfOk, Some, length};
+ghost use Rattle.std.specs.Prelude.{◌≡◌, ◌<◌, ◌≤◌, ◌+◌, ◌++◌, ◌∷◌, [], IfOk, List, Some, length};
 ghost use Rattle.arrayvec.specs.ArrayVec.{array_vec_len};
 ghost use Rattle.j39_frame.specs.Stamp.{stamp_micros};
+ghost use Rattle.j39_io.specs.Device.{Marks};
 ghost use Rattle.j39_io.specs.Puts.{Puts};
 ghost use Rattle.j39_io.specs.Turn.{turn};
+ghost use Rattle.j39_frame.specs.Frame.{FrameRecord};
+ghost use Rattle.j39_listen.specs.Chooses.{Chooses};
+ghost use Rattle.j39_listen.specs.Filter.{FilterRecord, first_stamp};
+ghost use Rattle.j39_reports.specs.FaultsNow.{now_taken};
 ghost use Rattle.j39_listen.specs.Counting.{capped};
 ghost use Rattle.j39_listen.specs.declared.format.Format.TheVariants.{Line, Object, Record};
-ghost use Rattle.j39_reports.specs.FaultsNowRun.{controller_members, first_members, last_members, now_head, now_text};
+ghost use Rattle.j39_reports.specs.FaultsNowRun.{controller_members, first_members, last_members, now_head, now_lines, now_text};
+ghost use Rattle.j39_reports.specs.Faults.{names_asked};
+ghost use Rattle.j39_reports.specs.FaultsSoFar.{manner_of, spns_now};
+ghost use Rattle.j39_reports.specs.Interfaces.{one_if};
 ghost use Rattle.j39_reports.specs.CurrentPlaces.{at, standing_record};
-ghost use Rattle.j39_reports.specs.CurrentSoFar.{now_shown, nows_shown, shown_below};
+ghost use Rattle.j39_reports.specs.CurrentSoFar.{now_shown, nows_shown, taken_below};
 
 use crate::columns::{push_behind, push_moment, push_utc_string};
 use crate::current_faults::last_active::LastActive;
@@ -23,7 +31,7 @@ use j39_frame::Stamp;
 use j39_io::printing::{push_bytes, push_hex, push_number};
 use j39_io::{DeviceFault, Sink};
 use j39_listen::{
-    Format, push_address_string, push_name, push_name_or_dashes, push_name_or_null,
+    Chooser, Format, push_address_string, push_name, push_name_or_dashes, push_name_or_null,
     push_seconds_number,
 };
 use j39_log::push_stamp;
@@ -31,38 +39,71 @@ use j39_log::push_stamp;
 /// What a line begins with, or a record.
 type Head = ArrayVec<u8, 256>;
 
-/// Writes what stands at each address, in their order, and answers how many lines that is.
+/// Writes what stands at each address and is asked for, in their order, and answers how many lines that is.
 pub(crate) fn put_places<W: Sink>(
     places: &Places,
     writing: Writing<'_, '_>,
+    chooser: &Chooser<'_>,
     sink: &mut W,
 ) -> Result<u64, DeviceFault>
-    ensures lines { IfOk result (λ n. n ≡ capped (length (shown_below places.now 256))) }
-    ensures puts { Puts (now_text writing.entry.form writing.entry.groups.now (shown_below places.now 256))
+    ensures lines { IfOk result (λ n. (which : FilterRecord) (F : List FrameRecord) → Chooses which chooser.now F
+        → n ≡ capped (now_lines (manner_of writing.entry) (taken_below which (first_stamp F) places.now 256))) }
+    ensures puts { (which : FilterRecord) (F : List FrameRecord) → Chooses which chooser.now F
+        → Puts (now_text writing.entry.form (manner_of writing.entry) (taken_below which (first_stamp F) places.now 256))
         result (turn W.written W.has_failed sink.old sink.new) }
+    ensures mark { Marks result (W.has_failed sink.old) (W.has_failed sink.new) }
 {
     let mut lines: u64 = 0;
     for address in 0..SOURCES {
-        lines = lines.saturating_add(put_place(writing, address, places, sink)?);
+        lines = lines.saturating_add(put_place(writing, chooser, address, places, sink)?);
     }
     Ok(lines)
 }
 
-/// Writes what stands at an address, and answers how many lines that is.
+/// Writes what stands at an address and is asked for, and answers how many lines that is.
 fn put_place<W: Sink>(
     writing: Writing<'_, '_>,
+    chooser: &Chooser<'_>,
     address: usize,
     places: &Places,
     sink: &mut W,
 ) -> Result<u64, DeviceFault>
     requires { address < 256 }
-    ensures lines { IfOk result (λ n. n ≡ length (nows_shown address (at places.now address))) }
-    ensures puts { Puts (now_text writing.entry.form writing.entry.groups.now (nows_shown address (at places.now address)))
+    ensures lines { IfOk result (λ n. (which : FilterRecord) (F : List FrameRecord) → Chooses which chooser.now F
+        → n ≡ now_lines (manner_of writing.entry) (now_taken which (first_stamp F) (nows_shown address (at places.now address)))) }
+    ensures puts { (which : FilterRecord) (F : List FrameRecord) → Chooses which chooser.now F
+        → Puts (now_text writing.entry.form (manner_of writing.entry)
+        (now_taken which (first_stamp F) (nows_shown address (at places.now address))))
         result (turn W.written W.has_failed sink.old sink.new) }
+    ensures mark { Marks result (W.has_failed sink.old) (W.has_failed sink.new) }
 {
     match places.get(address) {
-        Some(last) => put_last(writing, address as u8, last, sink),
+        Some(last) => put_asked(writing, chooser, address as u8, last, sink),
         None => Ok(0),
+    }
+}
+
+/// Writes what the last message of an address says, if it is asked for, and answers how many lines that is.
+fn put_asked<W: Sink>(
+    writing: Writing<'_, '_>,
+    chooser: &Chooser<'_>,
+    address: u8,
+    last: &LastActive,
+    sink: &mut W,
+) -> Result<u64, DeviceFault>
+    ensures lines { IfOk result (λ n. (which : FilterRecord) (F : List FrameRecord) → Chooses which chooser.now F
+        → n ≡ now_lines (manner_of writing.entry) (now_taken which (first_stamp F) (nows_shown address (Some last.now)))) }
+    ensures puts { (which : FilterRecord) (F : List FrameRecord) → Chooses which chooser.now F
+        → Puts (now_text writing.entry.form (manner_of writing.entry)
+        (now_taken which (first_stamp F) (nows_shown address (Some last.now))))
+        result (turn W.written W.has_failed sink.old sink.new) }
+    ensures mark { Marks result (W.has_failed sink.old) (W.has_failed sink.new) }
+{
+    let pgn = last.pgn.raw();
+    if chooser.asks_for(last.stamp, address, last.name, last.destination, pgn) {
+        put_last(writing, address, last, sink)
+    } else {
+        Ok(0)
     }
 }
 
@@ -73,26 +114,28 @@ fn put_last<W: Sink>(
     last: &LastActive,
     sink: &mut W,
 ) -> Result<u64, DeviceFault>
-    ensures lines { IfOk result (λ n. n ≡ length (nows_shown address (Some last.now))) }
-    ensures puts { Puts (now_text writing.entry.form writing.entry.groups.now (nows_shown address (Some last.now)))
+    ensures lines { IfOk result (λ n. n ≡ now_lines (manner_of writing.entry) (nows_shown address (Some last.now))) }
+    ensures puts { Puts (now_text writing.entry.form (manner_of writing.entry) (nows_shown address (Some last.now)))
         result (turn W.written W.has_failed sink.old sink.new) }
 {
+    let mut lines: u64 = 0;
     let standings = last.standings.as_slice();
     for standing in standings {
-        put_standing(writing, address, last, *standing, sink)?;
+        lines += put_standing(writing, address, last, *standing, sink)?;
     }
-    Ok(standings.len() as u64)
+    Ok(lines)
 }
 
-/// Writes a line for a code, or that there is none.
+/// Writes a line for a code, or that there is none, if it is asked for, and answers how many that is.
 fn put_standing<W: Sink>(
     writing: Writing<'_, '_>,
     address: u8,
     last: &LastActive,
     standing: Standing,
     sink: &mut W,
-) -> Result<(), DeviceFault>
-    ensures { Puts (now_text writing.entry.form writing.entry.groups.now (now_shown address last.now (standing_record standing) ∷ []))
+) -> Result<u64, DeviceFault>
+    ensures lines { IfOk result (λ n. n ≡ one_if (names_asked (spns_now writing.entry.spns) standing.code)) }
+    ensures puts { Puts (now_text writing.entry.form (manner_of writing.entry) (now_shown address last.now (standing_record standing) ∷ []))
         result (turn W.written W.has_failed sink.old sink.new) }
 {
     let head = head_of(writing.form, address, last, standing);

@@ -148,6 +148,20 @@ fn next(
             last.go_on(conversions, heard, lamps);
             Ok(last)
         }
-        None => Stored::new(alloc, LastActive::first(conversions, heard, lamps)),
+        None => first(alloc, conversions, heard, lamps),
     }
+}
+
+/// What the first message of an address says, in a box.
+#[inline(never)]
+fn first(
+    alloc: Global,
+    conversions: &[Conversion],
+    heard: &Heard<'_>,
+    lamps: Lamps,
+) -> Result<Stored<LastActive>, AllocError>
+    requires { length heard.now.message.payload.now ≤ 1785 }
+    ensures { IfOk result (λ last. value_of last ≡ last_by conversions.now None (hearing_of heard.now) lamps) }
+{
+    Stored::new(alloc, LastActive::first(conversions, heard, lamps))
 }

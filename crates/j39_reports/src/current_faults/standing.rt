@@ -1,5 +1,5 @@
 //! A code that stands, and since when.
-ghost use Rattle.std.specs.Prelude.{◌≡◌, ◌≤◌, length, map, option_map};
+ghost use Rattle.std.specs.Prelude.{◌≡◌, ◌<◌, ◌+◌, ◌*◌, length, map, option_map};
 ghost use Rattle.j39_faults.specs.Conversions.{codes_by};
 ghost use Rattle.j39_frame.specs.Stamp.{stamp_micros};
 ghost use Rattle.j39_reports.specs.CurrentPlaces.{continued, found_in, is_same_code, next_standings, standing_record};
@@ -10,6 +10,9 @@ use j39_frame::Stamp;
 
 /// As many as the codes that 1,785 bytes hold, four bytes each behind the two of the lamps.
 const MOST: usize = 445;
+
+/// As many as most messages hold.
+pub(crate) const FEW: usize = 8;
 
 /// What stands by one message.
 pub(crate) type Standings = ArrayVec<Standing, MOST>;
@@ -33,14 +36,15 @@ impl Default for Standing {
     }
 }
 
-/// What stands by a payload at this moment, where this stood before.
-pub(crate) fn next_standings(
+/// What stands by a payload of at most N codes at this moment, where this stood before.
+pub(crate) fn next_standings<const N: usize>(
     before: &[Standing],
     version: Option<Version>,
     payload: &[u8],
     stamp: Stamp,
-) -> Standings
-    requires { length payload.now ≤ 1785 }
+) -> ArrayVec<Standing, N>
+    requires some { 0 < N }
+    requires few { length payload.now < 4 * N + 6 }
     ensures { map standing_record result.items
         ≡ next_standings (map standing_record before.now) (stamp_micros stamp) (codes_by version payload.now) }
 {
@@ -52,13 +56,13 @@ pub(crate) fn next_standings(
 }
 
 /// Those of codes.
-fn of_codes(
+fn of_codes<const N: usize>(
     before: &[Standing],
     version: Option<Version>,
     payload: &[u8],
     stamp: Stamp,
-) -> Standings
-    requires { length payload.now ≤ 1785 }
+) -> ArrayVec<Standing, N>
+    requires { length payload.now < 4 * N + 6 }
     ensures { map standing_record result.items
         ≡ map (λ code. continued (map standing_record before.now) (stamp_micros stamp) (Some code)) (codes_by version payload.now) }
 {

@@ -1,5 +1,5 @@
 //! The faults of a bus, as an account of its frames (J1939-73, 5.7).
-ghost use Rattle.std.specs.Prelude.{◌≡◌, ◌≢◌, ◌<◌, ◌≤◌, ◌∷◌, [], List, None, length, option_map, true, Err, IfOk, Some};
+ghost use Rattle.std.specs.Prelude.{◌≡◌, ◌≢◌, ◌<◌, ◌≤◌, ◌&&◌, ◌++◌, ◌∷◌, [], ℕ, List, None, length, option_map, true, Err, IfOk, Some};
 ghost use Rattle.j39_io.specs.Turn.{turn};
 ghost use Rattle.j39_frame.specs.Frame.{FrameRecord};
 ghost use Rattle.j39_frame.specs.Identifier.{id_raw, pgn_of};
@@ -7,6 +7,8 @@ ghost use Rattle.j39_frame.specs.Pgn.{pgn_raw};
 ghost use Rattle.j39_address.specs.Name.{name_raw};
 ghost use Rattle.j39_faults.specs.Conversions.{version_for};
 ghost use Rattle.j39_listen.specs.AccountCalls.{LeavesWriter};
+ghost use Rattle.j39_listen.specs.Chooses.{Chooses};
+ghost use Rattle.j39_listen.specs.Filter.{takes_message};
 ghost use Rattle.j39_listen.specs.Heard.{AreHeardWith, Hearing};
 ghost use Rattle.j39_listen.specs.Listening.{Hears};
 ghost use Rattle.j39_listen.specs.HeardModel.{hearing_of};
@@ -16,10 +18,10 @@ ghost use Rattle.j39_reports.specs.Faults.{clearing_of};
 ghost use Rattle.j39_reports.specs.News.{chosen_of, faults_among, is_fault_group, is_of_faults, last_from};
 ghost use Rattle.j39_reports.specs.FaultRun.{faults_of};
 ghost use Rattle.j39_reports.specs.Remembered.{Remembers};
-ghost use Rattle.j39_reports.specs.FaultsSoFar.{HasTold, KnowsBroken, MeetsFrame, StopsFrame, Tells, TellsFaults, TellsFront, tells_clearing, told_faults};
+ghost use Rattle.j39_reports.specs.FaultsSoFar.{HasTold, KnowsBroken, MeetsFrame, StopsFrame, Tells, TellsFaults, TellsFront, manner_of, tells_clearing, told_faults};
 
 use crate::fault_news::announced::Announced;
-use crate::fault_news::form::Writing;
+use crate::fault_news::form::{Writing, names_asked};
 use crate::fault_news::last_faults::LastFaults;
 use crate::fault_news::lines::put_clearing;
 use crate::fault_news::since::put_since;
@@ -28,7 +30,7 @@ use j39_address::Name;
 use j39_faults::{Conversion, Kind, Version, cleared_in, fault_group, lamps_of, version_for};
 use j39_frame::{Frame, Id};
 use j39_io::{DeviceFault, Sink};
-use j39_listen::{Account, Heard, LineFault, Listener, Made};
+use j39_listen::{Account, Chooser, Heard, LineFault, Listener, Made};
 use j39_log::Bus;
 use std::alloc::{AllocError, Global};
 
@@ -38,6 +40,7 @@ pub(crate) struct FaultNews<'g, 't, 'c> {
     alloc: Global,
     writing: Writing<'g, 't>,
     choice: Choice<'c>,
+    chooser: Chooser<'c>,
     listener: Listener,
     last: LastFaults,
     made: Made,
@@ -51,13 +54,14 @@ impl<'g, 't, 'c> FaultNews<'g, 't, 'c> {
         writing: Writing<'g, 't>,
         choice: Choice<'c>,
     ) -> FaultNews<'g, 't, 'c>
-        ensures { HasTold writing.entry.form (record { rows = writing.entry.groups.now; which = chosen_of choice.entry }) result []
-            (faults_of writing.entry.form writing.entry.groups.now (chosen_of choice.entry) []) }
+        ensures { HasTold writing.entry.form (record { manner = manner_of writing.entry; which = chosen_of choice.entry }) result []
+            (faults_of writing.entry.form (manner_of writing.entry) (chosen_of choice.entry) 0 []) }
     {
         FaultNews {
             alloc,
             writing,
             choice,
+            chooser: Chooser::new(choice.filter),
             listener: Listener::new(alloc),
             last: LastFaults::new(),
             made: Made::default(),
@@ -84,16 +88,18 @@ impl<'g, 't, 'c> Account for FaultNews<'g, 't, 'c> {
 
     ghost has_met = { λ subject bus. HasTold subject.0 subject.1 };
 
-    ghost makes = { λ subject. MakesFaultsIn subject.0 subject.1.rows subject.1.which };
+    ghost makes = { λ subject. MakesFaultsIn subject.0 subject.1.manner subject.1.which };
 
     ghost asks = { λ subject. AsksForFaults };
 
     fn feed<W: Sink>(&mut self, _: &Bus, frame: &Frame, sink: &mut W) -> Result<(), LineFault> {
+        self.chooser.note(frame);
         match put_frame(
             self.alloc,
             &mut self.listener,
             self.writing,
             self.choice,
+            &self.chooser,
             &mut self.last,
             &mut self.announced,
             frame,
@@ -113,9 +119,9 @@ impl<'g, 't, 'c> Account for FaultNews<'g, 't, 'c> {
 
     fn laws()
         ensures begins { (subject : Format × Subject)
-            → Begins (λ bus. HasTold subject.0 subject.1) (MakesFaultsIn subject.0 subject.1.rows subject.1.which) }
+            → Begins (λ bus. HasTold subject.0 subject.1) (MakesFaultsIn subject.0 subject.1.manner subject.1.which) }
         ensures one { (subject : Format × Subject)
-            → MakesOne (MakesFaultsIn subject.0 subject.1.rows subject.1.which) }
+            → MakesOne (MakesFaultsIn subject.0 subject.1.manner subject.1.which) }
     {}
 }
 
@@ -125,17 +131,18 @@ fn put_frame<W: Sink>(
     listener: &mut Listener,
     writing: Writing<'_, '_>,
     choice: Choice<'_>,
+    chooser: &Chooser<'_>,
     last: &mut LastFaults,
     announced: &mut Announced,
     frame: &Frame,
     sink: &mut W,
 ) -> Result<Made, LineFault>
     ensures met { IfOk result (λ made. (F : List FrameRecord) (ms : List Hearing) → Hears listener.old F
-        → Remembers last.old ms → MeetsFrame writing.entry.form writing.entry.groups.now (chosen_of choice.entry) listener.new last.new
+        → Chooses (chosen_of choice.entry).asked chooser.now (F ++ frame.now ∷ []) → Remembers last.old ms → MeetsFrame writing.entry.form (manner_of writing.entry) (chosen_of choice.entry) listener.new last.new
         announced.old announced.new F frame.now ms made (W.written sink.old) (W.written sink.new)) }
     ensures writer { LeavesWriter result (turn W.written W.has_failed sink.old sink.new) }
     ensures stops { result ≡ Err line_fault.Write → (F : List FrameRecord) (ms : List Hearing) → Hears listener.old F
-        → Remembers last.old ms → StopsFrame writing.entry.form writing.entry.groups.now (chosen_of choice.entry) F frame.now ms
+        → Chooses (chosen_of choice.entry).asked chooser.now (F ++ frame.now ∷ []) → Remembers last.old ms → StopsFrame writing.entry.form (manner_of writing.entry) (chosen_of choice.entry) F frame.now ms
         (W.written sink.old) (W.written sink.new) }
     ensures asked { result ≡ Err line_fault.Memory → (F : List FrameRecord) (heard : List Hearing)
         → Hears listener.old F → AreHeardWith is_fault_group F heard → Remembers last.old (faults_among heard)
@@ -148,35 +155,39 @@ fn put_frame<W: Sink>(
         Ok(None) => Ok(Made::default()),
         Ok(Some(heard)) => {
             announced.add_heard(&heard);
-            put_heard(alloc, &heard, writing, choice, last, sink)
+            let is_asked = chooser.takes(&heard);
+            put_heard(alloc, &heard, writing, choice, is_asked, last, sink)
         }
     }
 }
 
-/// Tells the faults of a message, where it is one of faults and is told, and answers its numbers.
+/// Tells the faults of a message, where it is one of faults, is told and is asked for, and answers its numbers.
 fn put_heard<W: Sink>(
     alloc: Global,
     heard: &Heard<'_>,
     writing: Writing<'_, '_>,
     choice: Choice<'_>,
+    is_asked: bool,
     last: &mut LastFaults,
     sink: &mut W,
 ) -> Result<Made, LineFault>
-    ensures met { IfOk result (λ made. (ms : List Hearing) → Remembers last.old ms
-        → length heard.now.message.payload.now ≤ 1785
-        → Tells writing.entry.form writing.entry.groups.now (chosen_of choice.entry) last.new ms (Some (hearing_of heard.now)) made
+    ensures met { IfOk result (λ made. (first : ℕ) (ms : List Hearing)
+        → is_asked ≡ takes_message (chosen_of choice.entry).asked first (hearing_of heard.now)
+        → Remembers last.old ms → length heard.now.message.payload.now ≤ 1785
+        → Tells writing.entry.form (manner_of writing.entry) (chosen_of choice.entry) first last.new ms (Some (hearing_of heard.now)) made
         (W.written sink.old) (W.written sink.new)) }
     ensures writer { LeavesWriter result (turn W.written W.has_failed sink.old sink.new) }
-    ensures stops { result ≡ Err line_fault.Write → (ms : List Hearing) → Remembers last.old ms
-        → length heard.now.message.payload.now ≤ 1785
-        → TellsFront writing.entry.form writing.entry.groups.now (chosen_of choice.entry) ms (Some (hearing_of heard.now))
+    ensures stops { result ≡ Err line_fault.Write → (first : ℕ) (ms : List Hearing)
+        → is_asked ≡ takes_message (chosen_of choice.entry).asked first (hearing_of heard.now)
+        → Remembers last.old ms → length heard.now.message.payload.now ≤ 1785
+        → TellsFront writing.entry.form (manner_of writing.entry) (chosen_of choice.entry) first ms (Some (hearing_of heard.now))
         (W.written sink.old) (W.written sink.new) }
     ensures of_faults { result ≡ Err line_fault.Memory → is_of_faults (hearing_of heard.now) ≡ true }
     ensures first { result ≡ Err line_fault.Memory → (ms : List Hearing) → Remembers last.old ms
         → last_from (pgn_raw heard.now.message.pgn) heard.now.message.source ms ≡ None }
 {
     if let Some(kind) = cleared_in(heard.message.pgn, heard.message.payload) {
-        let is_told = tells_clearing(choice.telling);
+        let is_told = tells_clearing(choice.telling, is_asked);
         return put_asked(heard, writing, is_told, kind, sink);
     }
     let Some(kind) = fault_group(heard.message.pgn) else {
@@ -192,6 +203,7 @@ fn put_heard<W: Sink>(
         heard,
         writing,
         choice.telling,
+        is_asked,
         version,
         kind,
         lamps,
@@ -208,12 +220,18 @@ fn put_asked<W: Sink>(
     kind: Kind,
     sink: &mut W,
 ) -> Result<Made, LineFault>
-    ensures tells { TellsFaults writing.entry.form writing.entry.groups.now
+    ensures tells { TellsFaults writing.entry.form (manner_of writing.entry)
         (told_faults is_told (clearing_of (hearing_of heard.now) kind ∷ []))
         result (turn W.written W.has_failed sink.old sink.new) }
     ensures not_memory { result ≢ Err line_fault.Memory }
 {
     if !is_told {
+        return Ok(Made {
+            messages: 1,
+            lines: 0,
+        });
+    }
+    if !names_asked(writing.spns, None) {
         return Ok(Made {
             messages: 1,
             lines: 0,
@@ -247,13 +265,13 @@ fn version_of(conversions: &[Conversion], name: Option<Name>) -> Option<Version>
     version_for(conversions, name.map(Name::raw))
 }
 
-/// Whether one that asks to clear codes is told.
-fn tells_clearing(telling: Telling) -> bool
-    ensures { result ≡ tells_clearing telling }
+/// Whether one that asks to clear codes is told, if it is asked for.
+fn tells_clearing(telling: Telling, is_asked: bool) -> bool
+    ensures { result ≡ (tells_clearing telling && is_asked) }
 {
     match telling {
-        Telling::News => true,
-        Telling::All => true,
+        Telling::News => is_asked,
+        Telling::All => is_asked,
         Telling::Changes => false,
     }
 }

@@ -49,10 +49,13 @@ impl Announced {
     }
 }
 
-/// Whether a frame announces a message of codes.
+/// Whether a frame announces a message of codes. One of another group costs its identifier alone.
 fn announces(frame: &Frame) -> bool
     ensures { result ≡ announces_codes frame.now }
 {
+    if !frame.id.is_transport_control() {
+        return false;
+    }
     match announced_group(frame) {
         Some(pgn) => fault_group(pgn).is_some(),
         None => false,

@@ -8,7 +8,8 @@ ghost use Rattle.j39_frame.specs.Stamp.{stamp_micros};
 ghost use Rattle.j39_listen.specs.HeardModel.{hearing_of};
 ghost use Rattle.j39_reports.specs.FaultChanges.{became, changes_by};
 ghost use Rattle.j39_reports.specs.FaultRecords.{faults_text};
-ghost use Rattle.j39_reports.specs.FaultsSoFar.{change_by, changed, head_in};
+ghost use Rattle.j39_reports.specs.FaultsSoFar.{change_by, changed, head_in, manner_of};
+ghost use Rattle.j39_reports.specs.Faults.{lines_in};
 
 use crate::fault_news::form::{Said, Writing};
 use crate::fault_news::lines::{head_of, put_fault};
@@ -34,8 +35,8 @@ pub(crate) fn put_changes<W: Sink>(
     before: &[u8],
     sink: &mut W,
 ) -> Result<u64, DeviceFault>
-    ensures lines { IfOk result (λ n. n ≡ length (changes_by version before.now (hearing_of heard.now) lamps)) }
-    ensures puts { Puts (faults_text writing.entry.form writing.entry.groups.now (changes_by version before.now (hearing_of heard.now) lamps))
+    ensures lines { IfOk result (λ n. n ≡ lines_in (manner_of writing.entry) (changes_by version before.now (hearing_of heard.now) lamps)) }
+    ensures puts { Puts (faults_text writing.entry.form (manner_of writing.entry) (changes_by version before.now (hearing_of heard.now) lamps))
         result (turn W.written W.has_failed sink.old sink.new) }
 {
     let head = head_of(writing.form, heard);
@@ -81,9 +82,9 @@ fn put_changed<W: Sink>(
     requires { head.now ≡ head_in writing.form (stamp_micros heard.now.message.stamp) heard.now.message.source
         heard.now.destination (option_map name_raw heard.now.name) }
     ensures lines { IfOk result (λ n. n
-        ≡ length (changed side (hearing_of heard.now) lamps (codes_by version others.now) (codes_by version payload.now))) }
+        ≡ lines_in (manner_of writing.entry) (changed side (hearing_of heard.now) lamps (codes_by version others.now) (codes_by version payload.now))) }
     ensures few { IfOk result (λ n. n ≤ length payload.now) }
-    ensures puts { Puts (faults_text writing.entry.form writing.entry.groups.now
+    ensures puts { Puts (faults_text writing.entry.form (manner_of writing.entry)
         (changed side (hearing_of heard.now) lamps (codes_by version others.now) (codes_by version payload.now)))
         result (turn W.written W.has_failed sink.old sink.new) }
 {
@@ -118,8 +119,8 @@ fn put_change<W: Sink>(
 ) -> Result<u64, DeviceFault>
     requires { head.now ≡ head_in writing.form (stamp_micros heard.now.message.stamp) heard.now.message.source
         heard.now.destination (option_map name_raw heard.now.name) }
-    ensures lines { IfOk result (λ n. n ≡ length (became (hearing_of heard.now) lamps code change)) }
-    ensures puts { Puts (faults_text writing.entry.form writing.entry.groups.now (became (hearing_of heard.now) lamps code change))
+    ensures lines { IfOk result (λ n. n ≡ lines_in (manner_of writing.entry) (became (hearing_of heard.now) lamps code change)) }
+    ensures puts { Puts (faults_text writing.entry.form (manner_of writing.entry) (became (hearing_of heard.now) lamps code change))
         result (turn W.written W.has_failed sink.old sink.new) }
 {
     let Some(change) = change else {
@@ -130,6 +131,5 @@ fn put_change<W: Sink>(
         lamps,
         code: Some(code),
     };
-    put_fault(head, writing, said, sink)?;
-    Ok(1)
+    put_fault(head, writing, said, sink)
 }

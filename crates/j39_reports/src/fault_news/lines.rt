@@ -1,5 +1,5 @@
 //! The lines of a message of faults, its records, or its objects.
-ghost use Rattle.std.specs.Prelude.{◌≡◌, ◌++◌, IfOk, Some, length, option_map};
+ghost use Rattle.std.specs.Prelude.{◌≡◌, ◌++◌, IfOk, Some, count_by, option_map};
 ghost use Rattle.std.specs.List.{flat_map};
 ghost use Rattle.j39_io.specs.Puts.{Puts};
 ghost use Rattle.j39_io.specs.Turn.{turn};
@@ -8,13 +8,14 @@ ghost use Rattle.j39_faults.specs.Conversions.{codes_by};
 ghost use Rattle.j39_faults.specs.declared.text.State.TheVariants.{Is};
 ghost use Rattle.j39_frame.specs.Stamp.{stamp_micros};
 ghost use Rattle.j39_listen.specs.HeardModel.{hearing_of};
-ghost use Rattle.j39_reports.specs.Faults.{faults_by, head_text, said_text};
+ghost use Rattle.j39_reports.specs.Faults.{faults_by, head_text, lines_in, names_asked, said_text};
 ghost use Rattle.j39_reports.specs.FaultRecords.{faults_text, head_fields, head_members};
-ghost use Rattle.j39_reports.specs.FaultsSoFar.{clearing_in, head_in, line_of, said_in};
+ghost use Rattle.j39_reports.specs.FaultsSoFar.{clearing_in, head_in, line_of, manner_of, said_in, shown_line, spns_now};
+ghost use Rattle.j39_reports.specs.Interfaces.{one_if};
 ghost use Rattle.j39_listen.specs.declared.format.Format.TheVariants.{Line, Record};
 
 use crate::columns::{heard_fields, push_moment_members, push_sender_members};
-use crate::fault_news::form::{Said, Writing};
+use crate::fault_news::form::{Said, Writing, names_asked};
 use crate::fault_news::names::name_in;
 use crate::fault_news::objects::{put_clearing_object, put_members};
 use crate::fault_news::records::put_fields;
@@ -43,8 +44,9 @@ pub(crate) fn put_message<W: Sink>(
     lamps: Lamps,
     sink: &mut W,
 ) -> Result<u64, DeviceFault>
-    ensures lines { IfOk result (λ n. n ≡ length (faults_by version (hearing_of heard.now) (Some kind) (Some lamps))) }
-    ensures puts { Puts (faults_text writing.entry.form writing.entry.groups.now
+    ensures lines { IfOk result (λ n. n ≡ lines_in (manner_of writing.entry)
+        (faults_by version (hearing_of heard.now) (Some kind) (Some lamps))) }
+    ensures puts { Puts (faults_text writing.entry.form (manner_of writing.entry)
         (faults_by version (hearing_of heard.now) (Some kind) (Some lamps)))
         result (turn W.written W.has_failed sink.old sink.new) }
 {
@@ -64,11 +66,10 @@ pub(crate) fn put_message<W: Sink>(
     }
     let state = State::Is(kind);
     let code = None;
-    put_fault(head, writing, Said { state, lamps, code }, sink)?;
-    Ok(1)
+    put_fault(head, writing, Said { state, lamps, code }, sink)
 }
 
-/// Writes a line for each code, and answers how many.
+/// Writes a line for each code that is asked for, and answers how many.
 fn put_codes<W: Sink>(
     head: &[u8],
     writing: Writing<'_, '_>,
@@ -78,28 +79,47 @@ fn put_codes<W: Sink>(
     payload: &[u8],
     sink: &mut W,
 ) -> Result<u64, DeviceFault>
-    ensures lines { IfOk result (λ n. n ≡ length (codes_by version payload.now)) }
-    ensures puts { Puts (flat_map (λ code. line_of writing.entry.form head.now writing.entry.groups.now (Is kind) lamps (Some code))
+    ensures lines { IfOk result (λ n. n ≡ count_by (λ code. names_asked (spns_now writing.entry.spns) (Some code)) (codes_by version payload.now)) }
+    ensures puts { Puts (flat_map (λ code. line_of writing.entry.form head.now (manner_of writing.entry) (Is kind) lamps (Some code))
         (codes_by version payload.now)) result (turn W.written W.has_failed sink.old sink.new) }
 {
     let mut lines = 0;
     for code in codes_of(payload) {
         let state = State::Is(kind);
         let code = Some(code_by(version, code));
-        put_fault(head, writing, Said { state, lamps, code }, sink)?;
-        lines += 1;
+        lines += put_fault(head, writing, Said { state, lamps, code }, sink)?;
     }
     Ok(lines)
 }
 
-/// Writes what stands before what is said, and then that, as a line or a record.
+/// Writes what is said behind what stands before it, if its code is asked for, and answers how many lines that is.
 pub(crate) fn put_fault<W: Sink>(
     head: &[u8],
     writing: Writing<'_, '_>,
     said: Said,
     sink: &mut W,
+) -> Result<u64, DeviceFault>
+    ensures lines { IfOk result (λ n. n ≡ one_if (names_asked (spns_now writing.entry.spns) said.code)) }
+    ensures puts { Puts (line_of writing.entry.form head.now (manner_of writing.entry) said.state said.lamps said.code)
+        result (turn W.written W.has_failed sink.old sink.new) }
+{
+    if !names_asked(writing.spns, said.code) {
+        return Ok(0);
+    }
+    match put_shown(head, writing, said, sink) {
+        Ok(()) => Ok(1),
+        Err(DeviceFault) => Err(DeviceFault),
+    }
+}
+
+/// Writes what stands before what is said, and then that, as a line or a record.
+fn put_shown<W: Sink>(
+    head: &[u8],
+    writing: Writing<'_, '_>,
+    said: Said,
+    sink: &mut W,
 ) -> Result<(), DeviceFault>
-    ensures { Puts (line_of writing.entry.form head.now writing.entry.groups.now said.state said.lamps said.code)
+    ensures { Puts (shown_line writing.entry.form head.now writing.entry.groups.now said.state said.lamps said.code)
         result (turn W.written W.has_failed sink.old sink.new) }
 {
     put_all(sink, head)?;

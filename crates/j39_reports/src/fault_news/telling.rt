@@ -1,5 +1,6 @@
 //! What is told of messages of faults.
 use j39_faults::Conversion;
+use j39_listen::Filter;
 
 /// What is told of messages of faults.
 #[derive(Clone, Copy, Debug, PartialEq, Eq)]
@@ -14,10 +15,15 @@ pub enum Telling {
     Changes,
 }
 
-/// What is told of messages of faults, and by which versions of the conversion the SPNs of controllers are read.
+/// What is told of messages of faults, by which versions of the conversion the SPNs of controllers are read, of which messages
+/// and of which parameters it is told.
 #[derive(Clone, Copy, Debug)]
 pub struct Choice<'c> {
     pub telling: Telling,
     /// The first that is for a controller counts.
     pub conversions: &'c [Conversion],
+    /// Which messages are told; what was told before, all of them say. `None` for all.
+    pub filter: Option<Filter<'c>>,
+    /// Of which parameters (SPN) alone codes are told; one whose number isn't known by any that it may have. `None` for all.
+    pub spns: Option<&'c [u32]>,
 }

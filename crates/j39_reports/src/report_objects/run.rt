@@ -1,63 +1,38 @@
 //! The run that writes the report as objects of JSON.
 ghost use Rattle.j39_io.specs.Turn.{turn};
 ghost use Rattle.j39_listen.specs.Asking.{AsksForBoxes};
-ghost use Rattle.j39_listen.specs.Filter.{filter_of};
+ghost use Rattle.j39_listen.specs.Chooses.{which_of};
 ghost use Rattle.j39_listen.specs.Ran.{PassesOn, Ran};
-ghost use Rattle.j39_reports.specs.ReportObjects.{MakesFilteredObjects, MakesObjects};
+ghost use Rattle.j39_reports.specs.ReportObjects.{MakesObjects};
 
 use crate::report_objects::objects::ObjectForm;
 use j39_groups::Groups;
 use j39_io::{Sink, Source};
-use j39_listen::{Counts, Filter, Filtered, Report, RunFault, run_over};
+use j39_listen::{Counts, Filter, Report, RunFault, run_over};
 use j39_log::Bus;
 use std::alloc::Global;
 
 /// Writes the report of a log of at most `limit` bytes by a table of parameters as objects of JSON (RFC 8259): one for each
-/// value, in a line of its own. Without a bus it is that of the first frame in the log.
+/// value that a filter takes, in a line of its own; for each if none is given. Without a bus it is that of the first frame in
+/// the log.
 pub fn report_json<R: Source, W: Sink>(
     alloc: Global,
     groups: &Groups<'_>,
+    filter: Option<Filter<'_>>,
     source: &mut R,
     sink: &mut W,
     bus: Option<Bus>,
     limit: u64,
 ) -> Result<Counts, RunFault>
-    // What the run promises is `Ran`: what is written is the objects of the log's report, and nothing else. Memory is wanted
-    // only at a frame of the log that announces a message.
-    ensures ran { Ran (MakesObjects groups.now) AsksForBoxes bus limit result
+    // What the run promises is `Ran`: what is written is the objects of what the filter takes of the log's report, and nothing
+    // else. Memory is wanted only at a frame of the log that announces a message.
+    ensures ran { Ran (MakesObjects groups.now (which_of filter.entry)) AsksForBoxes bus limit result
         (turn R.remaining R.has_failed source.old source.new) (turn W.written W.has_failed sink.old sink.new) }
 
     // What was written is passed on at the end, and before each read.
     ensures flushed { PassesOn result (W.is_flushed sink.old) (W.is_flushed sink.new) }
 {
     let form = ObjectForm::new();
-    run_over(Report::new(alloc, groups, form), source, sink, bus, limit)
-}
-
-/// Writes the report as objects of JSON as `report_json` does, kept to the entries that a filter takes.
-pub fn report_json_filtered<R: Source, W: Sink>(
-    alloc: Global,
-    groups: &Groups<'_>,
-    filter: Filter<'_>,
-    source: &mut R,
-    sink: &mut W,
-    bus: Option<Bus>,
-    limit: u64,
-) -> Result<Counts, RunFault>
-    // What the run promises is `Ran`: what is written is the objects of what the filter takes, and nothing else. Memory is
-    // wanted only at a frame of the log that announces a message.
-    ensures ran { Ran (MakesFilteredObjects groups.now (filter_of filter.entry)) AsksForBoxes bus limit result
-        (turn R.remaining R.has_failed source.old source.new) (turn W.written W.has_failed sink.old sink.new) }
-
-    // What was written is passed on at the end, and before each read.
-    ensures flushed { PassesOn result (W.is_flushed sink.old) (W.is_flushed sink.new) }
-{
-    let form = ObjectForm::new();
-    run_over(
-        Filtered::new(alloc, groups, filter, form),
-        source,
-        sink,
-        bus,
-        limit,
-    )
+    let report = Report::new(alloc, groups, filter, form);
+    run_over(report, source, sink, bus, limit)
 }

@@ -2,16 +2,16 @@
 ghost use Rattle.std.specs.Prelude.{true};
 ghost use Rattle.j39_io.specs.Turn.{turn};
 ghost use Rattle.j39_listen.specs.Asking.{AsksForBoxes};
-ghost use Rattle.j39_listen.specs.Filter.{filter_of};
+ghost use Rattle.j39_listen.specs.Chooses.{which_of};
 ghost use Rattle.j39_listen.specs.Headed.{Headed};
 ghost use Rattle.j39_listen.specs.Ran.{PassesOn, Ran};
 ghost use Rattle.j39_reports.specs.EntryText.{header_text};
-ghost use Rattle.j39_reports.specs.ReportRecords.{MakesFilteredRecords, MakesRecords};
+ghost use Rattle.j39_reports.specs.ReportRecords.{MakesRecords};
 
 use crate::report_records::records::RecordForm;
 use j39_groups::Groups;
 use j39_io::{Sink, Source};
-use j39_listen::{Counts, Filter, Filtered, Report, RunFault, run_headed};
+use j39_listen::{Counts, Filter, Report, RunFault, run_headed};
 use j39_log::Bus;
 use std::alloc::Global;
 
@@ -20,60 +20,26 @@ const HEADER: &[u8] =
     b"stamp,utc,address,destination,name,pgn,group,spn,parameter,value,unit,state\r\n";
 
 /// Writes the report of a log of at most `limit` bytes by a table of parameters as comma-separated values (RFC 4180):
-/// the names of the columns, and a record for each value. Without a bus it is that of the first frame in the log.
+/// the names of the columns, and a record for each value that a filter takes; for each if none is given. Without a bus it is
+/// that of the first frame in the log.
 pub fn report_csv<R: Source, W: Sink>(
     alloc: Global,
     groups: &Groups<'_>,
+    filter: Option<Filter<'_>>,
     source: &mut R,
     sink: &mut W,
     bus: Option<Bus>,
     limit: u64,
 ) -> Result<Counts, RunFault>
-    // What the run promises is `Ran`: what is written is the header and the records of the log's report, and nothing
-    // else. Memory is wanted only at a frame of the log that announces a message.
-    ensures ran { Ran (Headed header_text (MakesRecords groups.now)) AsksForBoxes bus limit result
+    // What the run promises is `Ran`: what is written is the header and the records of what the filter takes of the log's
+    // report, and nothing else. Memory is wanted only at a frame of the log that announces a message.
+    ensures ran { Ran (Headed header_text (MakesRecords groups.now (which_of filter.entry))) AsksForBoxes bus limit result
         (turn R.remaining R.has_failed source.old source.new) (turn W.written W.has_failed sink.old sink.new) }
 
     // What was written is passed on at the end, and before each read, the header before the first.
     ensures flushed { PassesOn result true (W.is_flushed sink.new) }
 {
     let form = RecordForm::new();
-    run_headed(
-        HEADER,
-        Report::new(alloc, groups, form),
-        source,
-        sink,
-        bus,
-        limit,
-    )
-}
-
-/// Writes the report as comma-separated values as `report_csv` does, kept to the entries that a filter takes.
-pub fn report_csv_filtered<R: Source, W: Sink>(
-    alloc: Global,
-    groups: &Groups<'_>,
-    filter: Filter<'_>,
-    source: &mut R,
-    sink: &mut W,
-    bus: Option<Bus>,
-    limit: u64,
-) -> Result<Counts, RunFault>
-    // What the run promises is `Ran`: what is written is the header and the records of what the filter takes, and nothing
-    // else. Memory is wanted only at a frame of the log that announces a message.
-    ensures ran { Ran (Headed header_text (MakesFilteredRecords groups.now (filter_of filter.entry))) AsksForBoxes bus
-        limit result (turn R.remaining R.has_failed source.old source.new)
-        (turn W.written W.has_failed sink.old sink.new) }
-
-    // What was written is passed on at the end, and before each read, the header before the first.
-    ensures flushed { PassesOn result true (W.is_flushed sink.new) }
-{
-    let form = RecordForm::new();
-    run_headed(
-        HEADER,
-        Filtered::new(alloc, groups, filter, form),
-        source,
-        sink,
-        bus,
-        limit,
-    )
+    let report = Report::new(alloc, groups, filter, form);
+    run_headed(HEADER, report, source, sink, bus, limit)
 }

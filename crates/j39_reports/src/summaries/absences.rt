@@ -39,7 +39,7 @@ impl Absences {
     {
         let place = self.guesses.place_of(&self.counts, origin);
         match place {
-            Some(at) => self.counts.change(at, OneMore {}),
+            Some(at) => self.counts.change(at, AddedAbsence {}),
             None => self.counts.add(again(origin), 1),
         }
     }
@@ -60,9 +60,9 @@ impl Absences {
 
 /// Once more.
 #[derive(Clone, Copy)]
-struct OneMore {}
+struct AddedAbsence {}
 
-impl OriginChange<u64> for OneMore {
+impl OriginChange<u64> for AddedAbsence {
     ghost use Rattle.std.specs.Prelude.{◌≡◌, ◌+◌, IsOk};
     ghost use Rattle.j39_listen.specs.Counting.{capped};
 

@@ -13,13 +13,13 @@ ghost use Rattle.j39_reports.specs.RowModels.{kept_value, range_of_span, row_sho
 
 use crate::columns::{push_behind, put_last_field};
 use crate::parts::put_parts;
-use crate::summaries::deeds::{Deeds, Span};
-use crate::summaries::kept::Kept;
 use crate::summaries::objects::{
     put_object_head, put_state_member, put_text_member, put_unit_member,
 };
 use crate::summaries::records::put_record_head;
 use crate::summaries::rows::Rows;
+use crate::summaries::statistics::{NumberRange, Statistics};
+use crate::summaries::stored_value::StoredValue;
 use arrayvec::ArrayVec;
 use j39_frame::Origin;
 use j39_groups::{Groups, Value, put_value, scaled_text};
@@ -40,8 +40,15 @@ pub(crate) fn put_rows<W: Sink>(
         result (turn W.written W.has_failed sink.old sink.new) }
 {
     for at in 0..rows.rows.len() {
-        let (origin, deeds) = rows.rows.pair_at(at);
-        put_row(form, origin, deeds, rows.absences.of(origin), groups, sink)?;
+        let (origin, statistics) = rows.rows.pair_at(at);
+        put_row(
+            form,
+            origin,
+            statistics,
+            rows.absences.of(origin),
+            groups,
+            sink,
+        )?;
     }
     Ok(())
 }
@@ -51,17 +58,17 @@ pub(crate) fn put_rows<W: Sink>(
 fn put_row<W: Sink>(
     form: Format,
     origin: Origin,
-    deeds: &Deeds<'_>,
+    statistics: &Statistics<'_>,
     absent: u64,
     groups: &Groups<'_>,
     sink: &mut W,
 ) -> Result<(), DeviceFault>
-    ensures { Puts (row_in form groups.now absent (row_shown (origin, deeds.now)))
+    ensures { Puts (row_in form groups.now absent (row_shown (origin, statistics.now)))
         result (turn W.written W.has_failed sink.old sink.new) }
 {
-    put_head(form, origin, deeds, absent, groups, sink)?;
-    put_values(form, deeds, sink)?;
-    put_end(form, groups, origin, &deeds.last.value, sink)
+    put_head(form, origin, statistics, absent, groups, sink)?;
+    put_values(form, statistics, sink)?;
+    put_end(form, groups, origin, &statistics.last.value, sink)
 }
 
 /// Writes what a row begins with.
@@ -69,25 +76,25 @@ fn put_row<W: Sink>(
 fn put_head<W: Sink>(
     form: Format,
     origin: Origin,
-    deeds: &Deeds<'_>,
+    statistics: &Statistics<'_>,
     absent: u64,
     groups: &Groups<'_>,
     sink: &mut W,
 ) -> Result<(), DeviceFault>
-    ensures { Puts (head_in form groups.now absent (row_shown (origin, deeds.now)))
+    ensures { Puts (head_in form groups.now absent (row_shown (origin, statistics.now)))
         result (turn W.written W.has_failed sink.old sink.new) }
 {
     match form {
-        Format::Line => put_all(sink, line_head_of(origin, deeds, absent).as_slice()),
-        Format::Record => put_record_head(origin, deeds, absent, groups, sink),
-        Format::Object => put_object_head(origin, deeds, absent, groups, sink),
+        Format::Line => put_all(sink, line_head_of(origin, statistics, absent).as_slice()),
+        Format::Record => put_record_head(origin, statistics, absent, groups, sink),
+        Format::Object => put_object_head(origin, statistics, absent, groups, sink),
     }
 }
 
 /// What the line of a row begins with.
 #[tactic(auto, unfolding(crate::specs::RowText::line_head))]
-fn line_head_of(origin: Origin, deeds: &Deeds<'_>, absent: u64) -> ArrayVec<u8, 192>
-    ensures { result.items ≡ line_head absent (row_shown (origin, deeds.now)) }
+fn line_head_of(origin: Origin, statistics: &Statistics<'_>, absent: u64) -> ArrayVec<u8, 192>
+    ensures { result.items ≡ line_head absent (row_shown (origin, statistics.now)) }
 {
     let mut head = ArrayVec::new();
     push_hex(&mut head, &[origin.address]);
@@ -96,13 +103,13 @@ fn line_head_of(origin: Origin, deeds: &Deeds<'_>, absent: u64) -> ArrayVec<u8, 
     push_name_or_dashes(&mut head, origin.name);
     push_behind(&mut head, b' ', u64::from(origin.pgn));
     push_behind(&mut head, b' ', u64::from(origin.spn));
-    push_behind(&mut head, b' ', deeds.count);
-    push_behind(&mut head, b' ', deeds.words);
+    push_behind(&mut head, b' ', statistics.count);
+    push_behind(&mut head, b' ', statistics.words);
     push_behind(&mut head, b' ', absent);
     head.push(b' ');
-    push_stamp(&mut head, deeds.first.stamp);
+    push_stamp(&mut head, statistics.first.stamp);
     head.push(b' ');
-    push_stamp(&mut head, deeds.last.stamp);
+    push_stamp(&mut head, statistics.last.stamp);
     head
 }
 
@@ -123,12 +130,16 @@ pub(crate) fn push_destination<const N: usize>(head: &mut ArrayVec<u8, N>, desti
 
 /// Writes the least number, the most and their unit, the first value and the last.
 #[tactic(auto, unfolding(crate::specs::RowText::values_in))]
-fn put_values<W: Sink>(form: Format, deeds: &Deeds<'_>, sink: &mut W) -> Result<(), DeviceFault>
-    ensures { Puts (values_in form (option_map range_of_span deeds.now.range) (kept_value deeds.now.first.value) (kept_value deeds.now.last.value))
+fn put_values<W: Sink>(
+    form: Format,
+    statistics: &Statistics<'_>,
+    sink: &mut W,
+) -> Result<(), DeviceFault>
+    ensures { Puts (values_in form (option_map range_of_span statistics.now.range) (kept_value statistics.now.first.value) (kept_value statistics.now.last.value))
         result (turn W.written W.has_failed sink.old sink.new) }
 {
-    let (first, last) = (&deeds.first.value, &deeds.last.value);
-    put_range(form, &deeds.range, sink)?;
+    let (first, last) = (&statistics.first.value, &statistics.last.value);
+    put_range(form, &statistics.range, sink)?;
     put_column(form, b",\"first\":", b",\"first_bytes\":", first, sink)?;
     put_column(form, b",\"last\":", b",\"last_bytes\":", last, sink)
 }
@@ -137,7 +148,7 @@ fn put_values<W: Sink>(form: Format, deeds: &Deeds<'_>, sink: &mut W) -> Result<
 #[tactic(auto, unfolding(crate::specs::RowText::range_in))]
 fn put_range<W: Sink>(
     form: Format,
-    range: &Option<Span<'_>>,
+    range: &Option<NumberRange<'_>>,
     sink: &mut W,
 ) -> Result<(), DeviceFault>
     ensures { Puts (range_in form (option_map range_of_span range.now))
@@ -162,7 +173,7 @@ fn no_range(form: Format) -> &'static [u8]
 }
 
 #[tactic(auto, unfolding(crate::specs::RowText::range_in))]
-fn put_span<W: Sink>(form: Format, span: &Span<'_>, sink: &mut W) -> Result<(), DeviceFault>
+fn put_span<W: Sink>(form: Format, span: &NumberRange<'_>, sink: &mut W) -> Result<(), DeviceFault>
     ensures { Puts (range_in form (Some (range_of_span span.now))) result (turn W.written W.has_failed sink.old sink.new) }
 {
     put_bounds(form, span, sink)?;
@@ -171,7 +182,11 @@ fn put_span<W: Sink>(form: Format, span: &Span<'_>, sink: &mut W) -> Result<(), 
 
 /// Writes the least number and the most.
 #[tactic(auto, unfolding(crate::specs::RowText::bounds_in))]
-fn put_bounds<W: Sink>(form: Format, span: &Span<'_>, sink: &mut W) -> Result<(), DeviceFault>
+fn put_bounds<W: Sink>(
+    form: Format,
+    span: &NumberRange<'_>,
+    sink: &mut W,
+) -> Result<(), DeviceFault>
     ensures { Puts (bounds_in form (range_of_span span.now)) result (turn W.written W.has_failed sink.old sink.new) }
 {
     let first = separator(form, b",\"least\":");
@@ -203,7 +218,7 @@ fn put_column<W: Sink>(
     form: Format,
     key: &[u8],
     bytes_key: &[u8],
-    kept: &Kept<'_>,
+    kept: &StoredValue<'_>,
     sink: &mut W,
 ) -> Result<(), DeviceFault>
     ensures { Puts (value_in form key.now bytes_key.now (kept_value kept.now))
@@ -230,22 +245,22 @@ fn separator<'k>(form: Format, key: &'k [u8]) -> &'k [u8]
 fn put_kept<W: Sink>(
     form: Format,
     bytes_key: &[u8],
-    kept: &Kept<'_>,
+    kept: &StoredValue<'_>,
     sink: &mut W,
 ) -> Result<(), DeviceFault>
     ensures { Puts (value_as form bytes_key.now (kept_value kept.now))
         result (turn W.written W.has_failed sink.old sink.new) }
 {
     match kept {
-        Kept::Number(number, scale) => {
+        StoredValue::Number(number, scale) => {
             put_all(sink, scaled_text(*number, scale.places).as_slice())
         }
-        Kept::On => put_word(form, b"on", sink),
-        Kept::Off => put_word(form, b"off", sink),
-        Kept::Error => put_word(form, b"error", sink),
-        Kept::Reserved => put_word(form, b"reserved", sink),
-        Kept::Indicator => put_word(form, b"indicator", sink),
-        Kept::Text(text) => put_text(form, bytes_key, text.as_slice(), sink),
+        StoredValue::On => put_word(form, b"on", sink),
+        StoredValue::Off => put_word(form, b"off", sink),
+        StoredValue::Error => put_word(form, b"error", sink),
+        StoredValue::Reserved => put_word(form, b"reserved", sink),
+        StoredValue::Indicator => put_word(form, b"indicator", sink),
+        StoredValue::Text(text) => put_text(form, bytes_key, text.as_slice(), sink),
     }
 }
 
@@ -286,7 +301,7 @@ fn put_end<W: Sink>(
     form: Format,
     groups: &Groups<'_>,
     origin: Origin,
-    last: &Kept<'_>,
+    last: &StoredValue<'_>,
     sink: &mut W,
 ) -> Result<(), DeviceFault>
     ensures { Puts (end_in form groups.now origin.pgn origin.spn (kept_value last.now)) result (turn W.written W.has_failed sink.old sink.new) }
@@ -324,20 +339,20 @@ fn put_name<'x, W: Sink>(
 pub(crate) fn state_of<'r>(
     groups: &'r Groups<'_>,
     origin: Origin,
-    kept: &Kept<'_>,
+    kept: &StoredValue<'_>,
 ) -> Option<&'r [u8]>
     ensures { option_map (λ words. words.now) result ≡ state_in groups.now origin.pgn origin.spn (kept_value kept.now) }
 {
     match kept {
-        Kept::Number(number, scale) => {
+        StoredValue::Number(number, scale) => {
             groups.state_in(origin.pgn, origin.spn, Value::Number(*number, *scale))
         }
-        Kept::On => groups.state_in(origin.pgn, origin.spn, Value::On),
-        Kept::Off => groups.state_in(origin.pgn, origin.spn, Value::Off),
-        Kept::Error => groups.state_in(origin.pgn, origin.spn, Value::Error),
-        Kept::Reserved => groups.state_in(origin.pgn, origin.spn, Value::Reserved),
-        Kept::Indicator => groups.state_in(origin.pgn, origin.spn, Value::Indicator),
-        Kept::Text(text) => {
+        StoredValue::On => groups.state_in(origin.pgn, origin.spn, Value::On),
+        StoredValue::Off => groups.state_in(origin.pgn, origin.spn, Value::Off),
+        StoredValue::Error => groups.state_in(origin.pgn, origin.spn, Value::Error),
+        StoredValue::Reserved => groups.state_in(origin.pgn, origin.spn, Value::Reserved),
+        StoredValue::Indicator => groups.state_in(origin.pgn, origin.spn, Value::Indicator),
+        StoredValue::Text(text) => {
             groups.state_in(origin.pgn, origin.spn, Value::Text(text.as_slice()))
         }
     }

@@ -11,7 +11,7 @@ ghost use Rattle.j39_reports.specs.RowModels.{row_shown};
 use crate::columns::push_utc_string;
 use crate::json::{put_bytes_under, put_string};
 use crate::report_objects::put_member;
-use crate::summaries::deeds::Deeds;
+use crate::summaries::statistics::Statistics;
 use arrayvec::ArrayVec;
 use j39_frame::Origin;
 use j39_groups::Groups;
@@ -25,17 +25,17 @@ use j39_listen::{
 #[tactic(auto, unfolding(crate::specs::RowText::object_head))]
 pub(crate) fn put_object_head<W: Sink>(
     origin: Origin,
-    deeds: &Deeds<'_>,
+    statistics: &Statistics<'_>,
     absent: u64,
     groups: &Groups<'_>,
     sink: &mut W,
 ) -> Result<(), DeviceFault>
-    ensures { Puts (object_head groups.now absent (row_shown (origin, deeds.now)))
+    ensures { Puts (object_head groups.now absent (row_shown (origin, statistics.now)))
         result (turn W.written W.has_failed sink.old sink.new) }
 {
-    put_all(sink, origin_of(origin, deeds).as_slice())?;
+    put_all(sink, origin_of(origin, statistics).as_slice())?;
     put_parameter(groups, origin, sink)?;
-    put_all(sink, counts_of(origin, deeds, absent).as_slice())
+    put_all(sink, counts_of(origin, statistics, absent).as_slice())
 }
 
 /// Writes what the table calls the parameter.
@@ -53,8 +53,8 @@ fn put_parameter<W: Sink>(
 
 /// What the object of a row begins with.
 #[tactic(auto, unfolding(crate::specs::RowText::origin_members), using(crate::proofs::NumberLemmas::short_decimal))]
-fn origin_of(origin: Origin, deeds: &Deeds<'_>) -> ArrayVec<u8, 192>
-    ensures { result.items ≡ origin_members (row_shown (origin, deeds.now)) }
+fn origin_of(origin: Origin, statistics: &Statistics<'_>) -> ArrayVec<u8, 192>
+    ensures { result.items ≡ origin_members (row_shown (origin, statistics.now)) }
 {
     let mut members = ArrayVec::new();
     push_bytes(&mut members, b"{\"address\":");
@@ -72,24 +72,24 @@ fn origin_of(origin: Origin, deeds: &Deeds<'_>) -> ArrayVec<u8, 192>
 
 /// The counts and the moments.
 #[tactic(auto, unfolding(crate::specs::RowText::count_members), using(crate::proofs::NumberLemmas::short_decimal))]
-fn counts_of(origin: Origin, deeds: &Deeds<'_>, absent: u64) -> ArrayVec<u8, 320>
-    ensures { result.items ≡ count_members absent (row_shown (origin, deeds.now)) }
+fn counts_of(origin: Origin, statistics: &Statistics<'_>, absent: u64) -> ArrayVec<u8, 320>
+    ensures { result.items ≡ count_members absent (row_shown (origin, statistics.now)) }
 {
     let mut members = ArrayVec::new();
     push_bytes(&mut members, b",\"values\":");
-    push_number(&mut members, deeds.count);
+    push_number(&mut members, statistics.count);
     push_bytes(&mut members, b",\"words\":");
-    push_number(&mut members, deeds.words);
+    push_number(&mut members, statistics.words);
     push_bytes(&mut members, b",\"absent\":");
     push_number(&mut members, absent);
     push_bytes(&mut members, b",\"first_stamp\":");
-    push_seconds_number(&mut members, deeds.first.stamp);
+    push_seconds_number(&mut members, statistics.first.stamp);
     push_bytes(&mut members, b",\"first_utc\":");
-    push_utc_string(&mut members, deeds.first.stamp);
+    push_utc_string(&mut members, statistics.first.stamp);
     push_bytes(&mut members, b",\"last_stamp\":");
-    push_seconds_number(&mut members, deeds.last.stamp);
+    push_seconds_number(&mut members, statistics.last.stamp);
     push_bytes(&mut members, b",\"last_utc\":");
-    push_utc_string(&mut members, deeds.last.stamp);
+    push_utc_string(&mut members, statistics.last.stamp);
     members
 }
 

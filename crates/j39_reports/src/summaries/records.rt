@@ -7,7 +7,7 @@ ghost use Rattle.j39_reports.specs.RowText.{count_fields, origin_fields, record_
 ghost use Rattle.j39_reports.specs.RowModels.{row_shown};
 
 use crate::columns::{push_behind, push_moment, push_sender};
-use crate::summaries::deeds::Deeds;
+use crate::summaries::statistics::Statistics;
 use arrayvec::ArrayVec;
 use j39_frame::Origin;
 use j39_groups::Groups;
@@ -17,17 +17,17 @@ use j39_io::{DeviceFault, Sink, put_all, put_behind_comma};
 #[tactic(auto, unfolding(crate::specs::RowText::record_head))]
 pub(crate) fn put_record_head<W: Sink>(
     origin: Origin,
-    deeds: &Deeds<'_>,
+    statistics: &Statistics<'_>,
     absent: u64,
     groups: &Groups<'_>,
     sink: &mut W,
 ) -> Result<(), DeviceFault>
-    ensures { Puts (record_head groups.now absent (row_shown (origin, deeds.now)))
+    ensures { Puts (record_head groups.now absent (row_shown (origin, statistics.now)))
         result (turn W.written W.has_failed sink.old sink.new) }
 {
-    put_all(sink, origin_of(origin, deeds).as_slice())?;
+    put_all(sink, origin_of(origin, statistics).as_slice())?;
     put_behind_comma(parameter_of(groups, origin.pgn, origin.spn), sink)?;
-    put_all(sink, counts_of(origin, deeds, absent).as_slice())
+    put_all(sink, counts_of(origin, statistics, absent).as_slice())
 }
 
 /// What the table calls a parameter of a group; nothing where it lists none.
@@ -42,8 +42,8 @@ fn parameter_of<'r>(groups: &'r Groups<'_>, pgn: u32, spn: u32) -> &'r [u8]
 
 /// What the record of a row begins with.
 #[tactic(auto, unfolding(crate::specs::RowText::origin_fields))]
-fn origin_of(origin: Origin, deeds: &Deeds<'_>) -> ArrayVec<u8, 64>
-    ensures { result.items ≡ origin_fields (row_shown (origin, deeds.now)) }
+fn origin_of(origin: Origin, statistics: &Statistics<'_>) -> ArrayVec<u8, 64>
+    ensures { result.items ≡ origin_fields (row_shown (origin, statistics.now)) }
 {
     let mut fields = ArrayVec::new();
     push_sender(&mut fields, origin.address, origin.destination, origin.name);
@@ -54,16 +54,16 @@ fn origin_of(origin: Origin, deeds: &Deeds<'_>) -> ArrayVec<u8, 64>
 
 /// The counts and the moments.
 #[tactic(auto, unfolding(crate::specs::RowText::count_fields))]
-fn counts_of(origin: Origin, deeds: &Deeds<'_>, absent: u64) -> ArrayVec<u8, 184>
-    ensures { result.items ≡ count_fields absent (row_shown (origin, deeds.now)) }
+fn counts_of(origin: Origin, statistics: &Statistics<'_>, absent: u64) -> ArrayVec<u8, 184>
+    ensures { result.items ≡ count_fields absent (row_shown (origin, statistics.now)) }
 {
     let mut fields = ArrayVec::new();
-    push_behind(&mut fields, b',', deeds.count);
-    push_behind(&mut fields, b',', deeds.words);
+    push_behind(&mut fields, b',', statistics.count);
+    push_behind(&mut fields, b',', statistics.words);
     push_behind(&mut fields, b',', absent);
     fields.push(b',');
-    push_moment(&mut fields, deeds.first.stamp);
+    push_moment(&mut fields, statistics.first.stamp);
     fields.push(b',');
-    push_moment(&mut fields, deeds.last.stamp);
+    push_moment(&mut fields, statistics.last.stamp);
     fields
 }

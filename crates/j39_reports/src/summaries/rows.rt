@@ -12,8 +12,8 @@ ghost use Rattle.j39_reports.specs.RowModels.{entry_at};
 ghost use Rattle.j39_reports.specs.SummaryRun.{WantsRow};
 
 use crate::summaries::absences::Absences;
-use crate::summaries::deeds::{Deeds, OneMore};
 use crate::summaries::guesses::{Guesses, again};
+use crate::summaries::statistics::{AddedValue, Statistics};
 use j39_address::Name;
 use j39_frame::{Origin, Pgn, Stamp};
 use j39_groups::{ReadingVisitor, Value};
@@ -25,7 +25,7 @@ use std::alloc::{AllocError, Global};
 /// often parameters were not available; and what the readings of a message have in common.
 #[derive(Drop)]
 pub(crate) struct Rows<'t> {
-    pub rows: ByOrigin<Deeds<'t>>,
+    pub rows: ByOrigin<Statistics<'t>>,
     guesses: Guesses,
     pub absences: Absences,
     alloc: Global,
@@ -93,7 +93,7 @@ impl<'t> Rows<'t> {
 /// Takes a value to its row, which stands at this place where there is one.
 #[inline(always)]
 fn take<'t>(
-    rows: &mut ByOrigin<Deeds<'t>>,
+    rows: &mut ByOrigin<Statistics<'t>>,
     alloc: Global,
     place: Option<usize>,
     origin: Origin,
@@ -110,7 +110,7 @@ fn take<'t>(
     match place {
         Some(at) => rows.change(
             at,
-            OneMore {
+            AddedValue {
                 alloc,
                 stamp,
                 value,
@@ -123,7 +123,7 @@ fn take<'t>(
 /// Begins a row, off the quick path: what the call is handed is put in place only here.
 #[inline(always)]
 fn begin_row<'t>(
-    rows: &mut ByOrigin<Deeds<'t>>,
+    rows: &mut ByOrigin<Statistics<'t>>,
     alloc: Global,
     origin: Origin,
     stamp: Stamp,
@@ -140,7 +140,7 @@ fn begin_row<'t>(
 /// Begins a row.
 #[inline(never)]
 fn add<'t>(
-    rows: &mut ByOrigin<Deeds<'t>>,
+    rows: &mut ByOrigin<Statistics<'t>>,
     alloc: Global,
     origin: Origin,
     stamp: Stamp,
@@ -151,8 +151,8 @@ fn add<'t>(
         → AreRowsOf (pairs_of rows.new)
         (before ++ entry_at origin (stamp_micros stamp) (value_of value.entry) ∷ [])) }
 {
-    let deeds = Deeds::begin(alloc, stamp, value)?;
-    rows.add(origin, deeds)
+    let statistics = Statistics::begin(alloc, stamp, value)?;
+    rows.add(origin, statistics)
 }
 
 impl<'t> ReadingVisitor<'t, ()> for Rows<'t> {

@@ -7,9 +7,10 @@ ghost use Rattle.j39_listen.specs.Output.{nothing};
 ghost use Rattle.j39_listen.specs.Ran.{PassesOn, Ran};
 ghost use Rattle.j39_listen.specs.declared.account.LineFault.TheVariants.{Write};
 ghost use Rattle.j39_reports.specs.NotesSoFar.{HasWatched, lines_of_watch, screen_of_watch, size_of};
-ghost use Rattle.j39_reports.specs.Watch.{AsksForWatch, MakesWatch, is_due};
+ghost use Rattle.j39_reports.specs.Watch.{AsksForWatch, MakesWatch};
 
 use crate::current_faults::places::Places;
+use crate::watching::moment::Moment;
 use crate::watching::note::note;
 use crate::watching::screen::put_screen;
 use crate::watching::size::ScreenSize;
@@ -21,9 +22,6 @@ use j39_io::{DeviceFault, Sink, Source};
 use j39_listen::{Account, Counts, LineFault, Listener, Made, RunFault, run_over};
 use j39_log::Bus;
 use std::alloc::{AllocError, Global};
-
-/// Half a second, in microseconds.
-const HALF: u64 = 500_000;
 
 /// Writes, for a log of at most `limit` bytes, a screen at the first frame of each half second of its stamps, and one at the
 /// end: the stamp of the last frame, the faults of the controllers that are on the bus, and by a table of parameters their
@@ -59,7 +57,7 @@ pub(crate) struct Screens<'g, 't> {
     places: Places,
     values: Values<'t>,
     messages: u64,
-    last: Option<Stamp>,
+    moment: Moment,
 }
 
 impl<'g, 't> Screens<'g, 't> {
@@ -75,11 +73,12 @@ impl<'g, 't> Screens<'g, 't> {
             places: Places::new(),
             values: Values::new(alloc),
             messages: 0,
-            last: None,
+            moment: Moment::new(),
         }
     }
 
     /// Writes its screen, and answers how many lines that has.
+    #[inline(never)]
     fn draw<W: Sink>(&self, sink: &mut W) -> Result<u16, DeviceFault>
         ensures lines { IfOk result (λ n. n ≡ length (take self.now.size.rows (lines_of_watch self.now))) }
         ensures puts { Puts (screen_of_watch self.now) result (turn W.written W.has_failed sink.old sink.new) }
@@ -87,7 +86,7 @@ impl<'g, 't> Screens<'g, 't> {
         let view = View {
             groups: self.groups,
             listener: &self.listener,
-            now: moment_of(self.last),
+            now: moment_of(self.moment.last),
             width: self.size.width(),
         };
         put_screen(view, self.size.rows(), &self.places, &self.values, sink)
@@ -101,16 +100,6 @@ fn moment_of(last: Option<Stamp>) -> Stamp
     match last {
         Some(last) => last,
         None => Stamp::new(0).unwrap(),
-    }
-}
-
-/// Whether a frame of this stamp begins another half second than the last one, or is the first.
-fn is_due(last: Option<Stamp>, stamp: Stamp) -> bool
-    ensures { result ≡ is_due (option_map stamp_micros last) (stamp_micros stamp) }
-{
-    match last {
-        None => true,
-        Some(last) => last.micros() / HALF != stamp.micros() / HALF,
     }
 }
 
@@ -128,6 +117,7 @@ impl<'g, 't> Account for Screens<'g, 't> {
 
     ghost asks = { λ subject. AsksForWatch subject.1 };
 
+    #[inline(always)]
     fn feed<W: Sink>(&mut self, _: &Bus, frame: &Frame, sink: &mut W) -> Result<(), LineFault> {
         match note(
             self.alloc,
@@ -138,9 +128,8 @@ impl<'g, 't> Account for Screens<'g, 't> {
             frame,
         ) {
             Ok(messages) => {
-                let draws = is_due(self.last, frame.stamp);
+                let draws = self.moment.go_on(frame.stamp);
                 self.messages = self.messages.saturating_add(messages);
-                self.last = Some(frame.stamp);
                 draw_if(self, draws, sink)
             }
             Err(AllocError) => Err(LineFault::Memory),
@@ -159,6 +148,7 @@ impl<'g, 't> Account for Screens<'g, 't> {
 }
 
 /// Writes a screen if it is due.
+#[inline(always)]
 fn draw_if<W: Sink>(watch: &Screens<'_, '_>, draws: bool, sink: &mut W) -> Result<(), LineFault>
     ensures puts { Puts (if draws then screen_of_watch watch.now else []) result (turn W.written W.has_failed sink.old sink.new) }
     ensures write { OnErr result (result ≡ Err Write) }

@@ -1,5 +1,6 @@
 //! A line that is cut at a width.
-ghost use Rattle.std.specs.Prelude.{◌≡◌, ◌≤◌, ◌-◌, ◌++◌, [], codes, length, take, true};
+ghost use Rattle.std.specs.Prelude.{◌≡◌, ◌≤◌, ◌-◌, ◌++◌, [], ℕ, List, codes, length, take, true};
+ghost use Rattle.j39_io.specs.Backwards.{WritesBefore};
 ghost use Rattle.j39_reports.specs.Watch.{column, spaces};
 
 use arrayvec::ArrayVec;
@@ -11,6 +12,15 @@ pub(crate) const WIDEST: usize = 512;
 
 /// As many spaces as the widest column has.
 const SPACES: &[u8] = b"                ";
+
+/// Spaces, in which the text of a column is written before `END`: as many stand behind it as the widest column ends in.
+pub(crate) type Block = [u8; 80];
+
+/// The spaces of a block.
+pub(crate) const BLANK: Block = [b' '; 80];
+
+/// Where the text of a column ends in its block.
+pub(crate) const END: usize = 63;
 
 /// A line, of which no byte behind its width is kept.
 #[derive(Drop)]
@@ -37,6 +47,15 @@ impl CutLine {
             is_full: false,
             is_flushed: true,
         }
+    }
+
+    /// Begins anew, with no byte.
+    pub fn clear(&mut self)
+        ensures empty { self.new.bytes.items ≡ [] }
+        ensures width { self.new.width ≡ self.old.width }
+    {
+        self.bytes.clear();
+        self.is_full = false;
     }
 
     /// What is kept.
@@ -77,16 +96,17 @@ impl CutLine {
         self.push(b" ");
     }
 
-    /// Appends a text in a column of this width.
-    #[tactic(auto, using(crate::proofs::CutLemmas::column_cut))]
-    pub fn push_column(&mut self, width: usize, text: &[u8])
-        requires { width ≤ 16 }
-        ensures cut { self.new.bytes.items ≡ take self.old.width (self.old.bytes.items ++ column width text.now) }
+    /// Appends a column of this width, whose text stands in a block from `start` to `END`: all at once, as it is followed by
+    /// its spaces there.
+    pub fn push_column(&mut self, width: usize, block: &Block, start: usize)
+        requires narrow { width ≤ 16 }
+        requires written { (text : List ℕ) × WritesBefore (spaces 80) block.now 63 start text }
+        ensures cut { (text : List ℕ) → WritesBefore (spaces 80) block.now 63 start text
+            → self.new.bytes.items ≡ take self.old.width (self.old.bytes.items ++ column width text) }
         ensures width { self.new.width ≡ self.old.width }
     {
-        let start = self.bytes.len();
-        self.push(text);
-        self.end_column(start, width);
+        let missing = width.saturating_sub(END - start);
+        self.push(&block[start..END + 1 + missing]);
     }
 }
 

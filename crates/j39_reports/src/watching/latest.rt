@@ -8,8 +8,8 @@ ghost use Rattle.j39_reports.specs.RowModels.{entry_at};
 ghost use Rattle.j39_reports.specs.SummaryRun.{IsText};
 ghost use Rattle.j39_reports.specs.Watch.{second};
 
-use crate::summaries::deeds::Seen;
-use crate::summaries::kept::Kept;
+use crate::summaries::statistics::Sample;
+use crate::summaries::stored_value::StoredValue;
 use j39_frame::Stamp;
 use j39_groups::Value;
 use j39_memory::OriginChange;
@@ -22,7 +22,7 @@ const SECOND: u64 = 1_000_000;
 /// 2^64 - 1 stays there (own).
 #[derive(Drop)]
 pub(crate) struct Latest<'t> {
-    pub seen: Seen<'t>,
+    pub seen: Sample<'t>,
     pub within: u64,
     pub before: u64,
 }
@@ -38,9 +38,9 @@ impl<'t> Latest<'t> {
             → latest_row (origin, latest) ≡ latest_begun (entry_at origin (stamp_micros stamp) (value_of value.entry))) }
         ensures wanted { OnErr result (IsText (value_of value.entry)) }
     {
-        let value = Kept::of(alloc, value)?;
+        let value = StoredValue::of(alloc, value)?;
         Ok(Latest {
-            seen: Seen { stamp, value },
+            seen: Sample { stamp, value },
             within: 1,
             before: 0,
         })
@@ -58,7 +58,7 @@ impl<'t> Latest<'t> {
             ≡ latest_grown (latest_row (origin, self.old)) (entry_at origin (stamp_micros stamp) (value_of value.entry))) }
         ensures wanted { OnErr result (IsText (value_of value.entry)) }
     {
-        let value = Kept::of(alloc, value)?;
+        let value = StoredValue::of(alloc, value)?;
         let now = second_of(stamp);
         let then = second_of(self.seen.stamp);
         if now == then {
@@ -67,7 +67,7 @@ impl<'t> Latest<'t> {
             self.before = if now == then + 1 { self.within } else { 0 };
             self.within = 1;
         }
-        self.seen = Seen { stamp, value };
+        self.seen = Sample { stamp, value };
         Ok(())
     }
 

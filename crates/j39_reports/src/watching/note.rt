@@ -2,6 +2,8 @@
 ghost use Rattle.std.specs.Prelude.{◌≡◌, ◌≤◌, ◌<◌, ◌||◌, ◌++◌, [], not, List, None, IfOk, OnErr, OnOk, length, true};
 ghost use Rattle.std.specs.List.{flat_map};
 ghost use Rattle.j39_frame.specs.Frame.{FrameRecord};
+ghost use Rattle.j39_frame.specs.Identifier.{pgn_of};
+ghost use Rattle.j39_groups.specs.Readings.{is_reported_in};
 ghost use Rattle.j39_listen.specs.Heard.{AreHeard, AreHeardWith, Hearing};
 ghost use Rattle.j39_listen.specs.HeardModel.{hearing_of};
 ghost use Rattle.j39_listen.specs.Listening.{Hears};
@@ -20,11 +22,14 @@ use crate::current_faults::places::Places;
 use crate::fault_news::account::is_of_fault_group;
 use crate::watching::values::Values;
 use j39_frame::Frame;
-use j39_groups::Groups;
+use j39_groups::{Groups, is_network_group};
 use j39_listen::{Heard, Listener};
+use j39_transport::Message;
 use std::alloc::{AllocError, Global};
 
-/// Notes what is heard at a frame, and answers how many messages that is whose values may be shown.
+/// Notes what is heard at a frame, and answers how many messages that is whose values may be shown. Most frames are of
+/// groups that nobody hears: those are done with here, and leave all as it was.
+#[inline(always)]
 pub(crate) fn note<'t>(
     alloc: Global,
     listener: &mut Listener,
@@ -43,6 +48,43 @@ pub(crate) fn note<'t>(
 {
     let is_reported = groups.is_reported(frame.id.pgn());
     let is_fault = is_of_fault_group(frame.id);
+    if !is_either(is_reported, is_fault) && !is_network_group(frame.id.pgn()) {
+        return Ok(0);
+    }
+    note_heard(
+        alloc,
+        listener,
+        places,
+        values,
+        groups,
+        is_reported,
+        is_fault,
+        frame,
+    )
+}
+
+/// The same of a frame at which a message may be heard: of which of both kinds its group is, the caller says.
+#[inline(never)]
+fn note_heard<'t>(
+    alloc: Global,
+    listener: &mut Listener,
+    places: &mut Places,
+    values: &mut Values<'t>,
+    groups: &Groups<'t>,
+    is_reported: bool,
+    is_fault: bool,
+    frame: &Frame,
+) -> Result<u64, AllocError>
+    requires reported { is_reported ≡ is_reported_in groups.now (pgn_of frame.now.id) }
+    requires fault { is_fault ≡ is_fault_group (pgn_of frame.now.id) }
+    ensures noted { IfOk result (λ messages. (F : List FrameRecord) (before : List Entry) (ms : List Hearing) → Hears listener.old F
+        → AreLatest (pairs_of values.old.rows) before → AreKept [] places.old ms
+        → Notes groups.now F frame.now listener.new values.new places.new before ms messages) }
+    ensures asked { OnErr result ((F : List FrameRecord) (heard faults : List Hearing) → Hears listener.old F
+        → AreHeard groups.now F heard → AreLatest (pairs_of values.old.rows) (flat_map (entries_of groups.now) heard)
+        → AreHeardWith is_fault_group F faults → AreKept [] places.old (active_among faults)
+        → AsksForWatch groups.now F frame.now) }
+{
     match listener.feed_as(is_either(is_reported, is_fault), frame) {
         Err(AllocError) => Err(AllocError),
         Ok(None) => Ok(0),
@@ -64,6 +106,7 @@ fn is_either(one: bool, other: bool) -> bool
 }
 
 /// Notes a message of faults, if it counts as one.
+#[inline(always)]
 fn note_fault(
     alloc: Global,
     counts: bool,
@@ -80,9 +123,27 @@ fn note_fault(
     if !counts {
         return Ok(());
     }
-    match take_heard(alloc, heard, &[], places) {
+    match take_heard(alloc, &again(heard), &[], places) {
         Ok(_) => Ok(()),
         Err(AllocError) => Err(AllocError),
+    }
+}
+
+/// The same message, in a place of its own: what a slow call is handed lies in memory, and what is read on the quick path
+/// need not.
+#[inline(always)]
+fn again<'h>(heard: &Heard<'h>) -> Heard<'h>
+    ensures { result ≡ heard.now }
+{
+    Heard {
+        message: Message {
+            source: heard.message.source,
+            pgn: heard.message.pgn,
+            payload: heard.message.payload,
+            stamp: heard.message.stamp,
+        },
+        destination: heard.destination,
+        name: heard.name,
     }
 }
 

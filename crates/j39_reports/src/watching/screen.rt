@@ -17,8 +17,9 @@ ghost use Rattle.j39_reports.specs.ScreenSoFar.{lines_of_code};
 use crate::current_faults::last_active::LastActive;
 use crate::current_faults::places::{Places, SOURCES};
 use crate::current_faults::standing::Standing;
+use crate::watching::cut_line::CutLine;
 use crate::watching::latest::Latest;
-use crate::watching::lines::{fault_line, moment_line, put_line, value_line};
+use crate::watching::lines::{fault_line, make_value_line, moment_line, put_line};
 use crate::watching::values::Values;
 use crate::watching::view::View;
 use j39_address::Name;
@@ -73,7 +74,8 @@ fn put_moment<W: Sink>(view: View<'_, '_>, left: u16, sink: &mut W) -> Result<u1
     Ok(left - 1)
 }
 
-/// Writes the lines of the faults that are there, while there is room for them.
+/// Writes the lines of the faults that are there, while there is room for them. Most addresses have none.
+#[inline(never)]
 fn put_faults<W: Sink>(
     view: View<'_, '_>,
     room: u16,
@@ -86,33 +88,15 @@ fn put_faults<W: Sink>(
 {
     let mut left = room;
     for address in 0..SOURCES {
-        left = put_place(view, left, address, places, sink)?;
+        if let Some(last) = places.get(address) {
+            left = put_standings(view, left, address as u8, last, sink)?;
+        }
     }
     Ok(left)
 }
 
-/// Writes those of an address.
-fn put_place<W: Sink>(
-    view: View<'_, '_>,
-    left: u16,
-    address: usize,
-    places: &Places,
-    sink: &mut W,
-) -> Result<u16, DeviceFault>
-    requires { address < 256 }
-    ensures left { IfOk result (λ n. n ≡ left
-        - length (flat_map (fault_lines view.entry.groups.now (holder_of view.entry.listener.now)) (nows_shown address (at places.now address)))) }
-    ensures puts { Puts (limited view.entry.width left
-        (flat_map (fault_lines view.entry.groups.now (holder_of view.entry.listener.now)) (nows_shown address (at places.now address))))
-        result (turn W.written W.has_failed sink.old sink.new) }
-{
-    match places.get(address) {
-        Some(last) => put_standings(view, left, address as u8, last, sink),
-        None => Ok(left),
-    }
-}
-
 /// Writes those of its last message.
+#[inline(never)]
 fn put_standings<W: Sink>(
     view: View<'_, '_>,
     room: u16,
@@ -176,22 +160,26 @@ fn put_values<W: Sink>(
         (flat_map (value_lines view.entry.groups.now (holder_of view.entry.listener.now) (stamp_micros view.entry.now)) (pairs_of values.now.rows)))
         result (turn W.written W.has_failed sink.old sink.new) }
 {
+    let mut line = CutLine::new(usize::from(view.width));
     let mut left = room;
     for at in 0..values.rows.len() {
         let (origin, latest) = values.rows.pair_at(at);
-        left = put_value(view, left, origin, latest, sink)?;
+        left = put_value(view, left, origin, latest, &mut line, sink)?;
     }
     Ok(left)
 }
 
-/// Writes the line of a value, if its controller is there and there is room.
+/// Writes the line of a value, if its controller is there and there is room. What stood in the line is of no use.
 fn put_value<W: Sink>(
     view: View<'_, '_>,
     left: u16,
     origin: Origin,
     latest: &Latest<'_>,
+    line: &mut CutLine,
     sink: &mut W,
 ) -> Result<u16, DeviceFault>
+    requires { line.old.width ≡ view.width }
+    ensures width { line.new.width ≡ line.old.width }
     ensures left { IfOk result (λ n. n ≡ left
         - length (value_lines view.entry.groups.now (holder_of view.entry.listener.now) (stamp_micros view.entry.now) (origin, latest.now))) }
     ensures puts { Puts (limited view.entry.width left
@@ -201,10 +189,7 @@ fn put_value<W: Sink>(
     if left == 0 || !view.has(origin.address, origin.name) {
         return Ok(left);
     }
-    let width = usize::from(view.width);
-    put_line(
-        &value_line(width, view.groups, view.now, origin, latest),
-        sink,
-    )?;
+    make_value_line(line, view.groups, view.now, origin, latest);
+    put_line(line, sink)?;
     Ok(left - 1)
 }

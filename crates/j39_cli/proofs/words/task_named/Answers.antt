@@ -9,10 +9,10 @@ pub returns-in-report-clause-tells : goal.returns-in-report-clause-tells
 returns-in-report-clause-tells c = tells _ (found_of c.args.given.now) c.task.result (report _ _ _ _ _ _ _ _ _ _ _) c.in-report.is (refl, (refl, (refl, (refl, (refl, (refl, (refl, (refl, (refl, (refl, (refl, tt))))))))))) c.task.ensures.answer
 
 pub returns-in-summary-clause-tells : goal.returns-in-summary-clause-tells
-returns-in-summary-clause-tells c = tells _ (found_of c.args.given.now) c.task-in-summary.result (summary _ _ _ _ _ _ _ _ _ _) c.in-summary.is (refl, (refl, (refl, (refl, (refl, (refl, (refl, (refl, (refl, (refl, tt)))))))))) c.task-in-summary.ensures.answer
+returns-in-summary-clause-tells c = tells _ (found_of c.args.given.now) c.task-in-summary.result (summary _ _ _ _ _ _ _ _ _ _ _) c.in-summary.is (refl, (refl, (refl, (refl, (refl, (refl, (refl, (refl, (refl, (refl, (refl, tt))))))))))) c.task-in-summary.ensures.answer
 
 pub returns-in-faults-clause-tells : goal.returns-in-faults-clause-tells
-returns-in-faults-clause-tells c = tells _ (found_of c.args.given.now) c.task-in-faults.result (faults _ _ _ _ _ _ _ _ _) c.in-faults.is (refl, (refl, (refl, (refl, (refl, (refl, (refl, (refl, (refl, tt))))))))) c.task-in-faults.ensures.answer
+returns-in-faults-clause-tells c = tells _ (found_of c.args.given.now) c.task-in-faults.result (faults _ _ _ _ _ _ _ _ _ _ _ _ _ _ _) c.in-faults.is (refl, (refl, (refl, (refl, (refl, (refl, (refl, (refl, (refl, (refl, (refl, (refl, (refl, (refl, (refl, tt))))))))))))))) c.task-in-faults.ensures.answer
 
 pub returns-in-nodes-clause-tells : goal.returns-in-nodes-clause-tells
 returns-in-nodes-clause-tells c = tells _ (found_of c.args.given.now) c.task-in-nodes.result (nodes _ _ _ _ _) c.in-nodes.is (refl, (refl, (refl, (refl, (refl, tt))))) c.task-in-nodes.ensures.answer

@@ -1,4 +1,4 @@
-use Rattle.std.proofs.Common.{◌≡◌, [], Bor, List, Option}
+use Rattle.std.proofs.Common.{[], Bor, List, Option}
 use Rattle.std.specs.Option.{option_map}
 use Rattle.j39_listen.specs.Headed.{nodes_of}
 use Rattle.j39_listen.specs.declared.filter.Sender.{Sender}

@@ -1,4 +1,4 @@
--- A message is heard at the frame or none.
+-- A message is heard at the frame or none, and its entries are taken or not.
 use Rattle.std.proofs.Common.{◌∙◌, None, Some, sym}
 use Rattle.j39_groups.specs.Readings.{is_reported_in}
 use Rattle.j39_listen.specs.HeardModel.{hearing_of}
@@ -16,8 +16,8 @@ returns-in-Ok-None-clause-met g c =
     let groups = c.args.groups.now in (
       made_by None,
       c.and.ensures,
-      λ F h.
-          meets_silent g.E.EntryForm.text_by groups _ F c.args.frame.now _
+      λ which F h chosen.
+          meets_silent g.E.EntryForm.text_by (record { rows = groups; which = which }) _ F c.args.frame.now _
           (rw c.in-Ok-None.field-0-is at (c.in-Ok-None.ensures.heard (is_reported_in groups) (reported_leaves groups) (sym c.requires) F h))
           (on_ok _ _ _ _ c.in-Ok-None.is c.feed_as.follows.holds-at-none F h),
     )
@@ -27,14 +27,16 @@ returns-in-Ok-clause-met g c =
     let groups = c.args.groups.now in (
       made_by (Some c.in-Ok.lines),
       c.and-in-Ok.ensures,
-      λ F h.
-          meets_heard g.E.EntryForm.text_by groups _ F c.args.frame.now (hearing_of c.in-Ok-Some.heard) c.in-Ok.lines _ _
-          (rw c.in-Ok-Some.field-0-is at (c.in-Ok-Some.ensures.heard (is_reported_in groups) (reported_leaves groups) (sym c.requires) F h))
-          (on_ok _ _ _ _ c.in-Ok-Some.is c.feed_as.follows.holds-at-none F h) c.in-Ok.ensures.lines c.in-Ok.ensures.puts.written,
+      λ which F h chosen.
+          meets_heard g.E.EntryForm.text_by (record { rows = groups; which = which }) _ F c.args.frame.now (hearing_of c.in-Ok-Some.heard) c.takes-is_taken.result
+          c.in-Ok.lines _ _ (rw c.in-Ok-Some.field-0-is at (c.in-Ok-Some.ensures.heard (is_reported_in groups) (reported_leaves groups) (sym c.requires) F h))
+          (on_ok _ _ _ _ c.in-Ok-Some.is c.feed_as.follows.holds-at-none F h) (c.takes-is_taken.ensures which _ chosen)
+          c.in-Ok.ensures.lines c.in-Ok.ensures.puts.written,
     )
 
-pub returns-in-Err-put_heard-clause-stops : goal.returns-in-Err-put_heard-clause-stops
-returns-in-Err-put_heard-clause-stops g c = λ e F h.
+pub returns-in-Err-put_taken-clause-stops : goal.returns-in-Err-put_taken-clause-stops
+returns-in-Err-put_taken-clause-stops g c = λ e which F h chosen.
     let groups = c.args.groups.now in
-    stops_heard g.E.EntryForm.text_by groups F c.args.frame.now (hearing_of c.in-Ok-Some.heard) _ _
-    (rw c.in-Ok-Some.field-0-is at (c.in-Ok-Some.ensures.heard (is_reported_in groups) (reported_leaves groups) (sym c.requires) F h)) c.in-Err-put_heard.ensures.puts.front
+    stops_heard g.E.EntryForm.text_by (record { rows = groups; which = which }) F c.args.frame.now (hearing_of c.in-Ok-Some.heard) c.takes-is_taken.result _ _
+    (rw c.in-Ok-Some.field-0-is at (c.in-Ok-Some.ensures.heard (is_reported_in groups) (reported_leaves groups) (sym c.requires) F h))
+    (c.takes-is_taken.ensures which _ chosen) c.in-Err-put_taken.ensures.puts.front

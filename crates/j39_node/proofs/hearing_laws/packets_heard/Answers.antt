@@ -21,3 +21,6 @@ returns-clause-other c = law.other_adds_none
 
 pub returns-clause-left : goal.returns-clause-left
 returns-clause-left c = law.left_ends
+
+pub returns-clause-others : goal.returns-clause-others
+returns-clause-others c = law.others_leave

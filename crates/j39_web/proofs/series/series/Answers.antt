@@ -1,7 +1,6 @@
 use Rattle.std.proofs.Common.{[], refl}
-use Rattle.j39_listen.specs.Output.{report_of}
-use Rattle.j39_web.specs.SeriesSoFar.{series_form}
+use Rattle.j39_web.specs.SeriesSoFar.{gathered}
 use Rattle.j39_web.proofs.series.series.Goals as goal
 
 pub returns : goal.returns
-returns g c = c.run_over.ensures.ran (record { of = c.args.of; rows = c.args.groups.now }) (report_of (series_form c.args.of) c.args.groups.now []) (λ name. c.new.ensures) refl
+returns g c = c.run_over.ensures.ran (record { of = c.args.of; rows = c.args.groups.now }) (gathered (record { of = c.args.of; rows = c.args.groups.now }) []) (λ name. c.new.ensures) refl

@@ -20,25 +20,29 @@ returns-then-not-is_network_group-clause-met g c =
     let self = c.args.self.now in
     let groups = self.groups.now in
     let frame = c.args.frame.now in
-    let report : Report g.row.E.Denot = record { groups = self.groups; listener = self.listener; made = c.and-self.result; form = self.form } in
+    let report : Report g.row.E.Denot =
+    record { groups = self.groups; chooser = c.note.new.self; listener = self.listener; made = c.and-self.result; form = self.form } in
     let other : is_reported_in groups (pgn_of frame.id) ≡ false =
     ap (is_reported_in groups) (sym (c.pgn.ensures ∙ ap (λ (x : FrameRecord). pgn_of x.id) c.frame.view_is)) ∙ (sym c.is_reported-is_single.ensures ∙ c.if-not-is_single.true) in
     let free : is_network_group (pgn_of frame.id) ≡ false =
     ap is_network_group (sym (c.pgn-then-not-is_single.ensures ∙ ap (λ (x : FrameRecord). pgn_of x.id) c.frame.view_is)) ∙ (sym c.is_network_group.ensures ∙ c.if-not-is_network_group.true) in
-    λ subject. report_meets g.E.EntryForm.text_by subject self report refl frame (made_by None) _ _ (λ F h.
-    meets_silent g.E.EntryForm.text_by groups self.listener F frame _
+    λ subject. report_meets g.E.EntryForm.text_by subject self report refl frame c.note.ensures (made_by None) _ _ (λ which F h chosen.
+    meets_silent g.E.EntryForm.text_by (record { rows = groups; which = which }) self.listener F frame _
     (silent_outside (is_reported_in groups) (reported_leaves groups) self.listener F frame free other h)
     (hears_single self.listener F frame free (outside_claims frame free) h)) c.and-self.ensures
 
 pub returns-in-Ok-clause-met : goal.returns-in-Ok-clause-met
 returns-in-Ok-clause-met g c =
+    let self = c.args.self.now in
     let met = c.in-Ok.ensures.met in
-    let report : Report g.row.E.Denot = record { groups = c.args.self.now.groups; listener = c.put_frame.new.listener; made = c.put_frame.new.made; form = c.put_frame.new.form } in
-    λ subject. report_meets g.E.EntryForm.text_by subject c.args.self.now report refl c.args.frame.now met.0 _ _ met.2 met.1
+    let report : Report g.row.E.Denot =
+    record { groups = self.groups; chooser = c.note.new.self; listener = c.put_frame.new.listener; made = c.put_frame.new.made; form = c.put_frame.new.form } in
+    λ subject. report_meets g.E.EntryForm.text_by subject self report refl c.args.frame.now c.note.ensures met.0 _ _ (λ which F h chosen. met.2 which F h chosen) met.1
 
 pub returns-in-Err-clause-stops : goal.returns-in-Err-clause-stops
 returns-in-Err-clause-stops g c = λ fails subject.
-    report_stops g.E.EntryForm.text_by subject c.args.self.now c.args.frame.now _ _ (c.in-Err.ensures.stops (ap Err (same_fault _ _ fails))) c.args.arg2.now
+    report_stops g.E.EntryForm.text_by subject c.args.self.now c.args.frame.now _ _
+    (λ F h chosen. c.in-Err.ensures.stops (ap Err (same_fault _ _ fails)) subject.which F h (c.note.ensures subject.which F chosen)) c.args.arg2.now
 
 pub returns-in-Err-clause-asked : goal.returns-in-Err-clause-asked
 returns-in-Err-clause-asked g c = λ fails subject F output met. c.in-Err.ensures.asked (ap Err (same_fault _ _ fails)) F met.hears

@@ -1,9 +1,10 @@
-use Rattle.std.proofs.Common.{◌∙◌, ap, refl, not, Bool, ℕ}
+use Rattle.std.proofs.Common.{◌∙◌, ap, refl, not, Bool, ℕ, Option}
 use Rattle.j39_frame.specs.Frame.{FrameRecord}
 use Rattle.j39_frame.specs.Stamp.{stamp_micros}
 use Rattle.j39_node.specs.Is.{asking_of, hears_with, port_of, request_by, who_of, hearing_of, incoming_of, made_by}
+use Rattle.j39_node.specs.Hearing.{whole_of}
 use Rattle.j39_node.specs.Transfers.{hears_if}
-use Rattle.std.specs.Option.{option_map}
+use Rattle.std.specs.Option.{option_map, option_or}
 use Rattle.j39_node.specs.Hold.{lost, passed}
 use Rattle.j39_address.specs.Name.{name_raw}
 use Rattle.j39_address.specs.Claim.{claim_of}
@@ -29,9 +30,12 @@ returns c = λ w H h.
     ∙ (ap (λ (b : Bool). hears_if b r f (stamp_micros c.clock.result) (port_of c.args.self.now.transfers).current) c.is_lost.ensures
     ∙ ap (λ (n : ℕ). hears_if (lost c.heard-self-2.result.standing) r f n (port_of c.args.self.now.transfers).current) c.clock.ensures))
     c.hear-3.ensures.token c.hear-3.ensures.resting
-    c.made-made.result
-    (c.made-made.ensures ∙ ap (λ (b : Bool). made_by b (incoming_of c.hear-2.new.self).reception.waits) c.has_place-has_place.ensures)
-    (c.hear-4.ensures ∙ ap (λ (b : Bool). option_map (hears_with (who_of w.known c.args.self.now.own) b c.heard-self-2.result.wait f c.made-made.result) (asking_of c.args.self.now.asking)) c.is_lost-2.ensures)
+    c.made-transferred.result
+    (c.made-transferred.ensures ∙ ap (λ (b : Bool). made_by b (incoming_of c.hear-2.new.self).reception.waits) c.has_place-has_place.ensures)
+    c.made-broadcast.result
+    (c.made-broadcast.ensures ∙ ap (λ (b : Bool). made_by (not b) (whole_of (hearing_of c.hear-unheard.new.self).current)) c.is_waiting-waited.ensures)
+    (c.hear-4.ensures ∙ (ap (λ (o : Option (ℕ × ℕ)). option_map (hears_with (who_of w.known c.args.self.now.own) c.is_lost-2.result c.heard-self-2.result.wait f o) (asking_of c.args.self.now.asking)) c.or-made.ensures
+    ∙ ap (λ (b : Bool). option_map (hears_with (who_of w.known c.args.self.now.own) b c.heard-self-2.result.wait f (option_or c.made-transferred.result c.made-broadcast.result)) (asking_of c.args.self.now.asking)) c.is_lost-2.ensures))
     (not c.is_same-is_left.result) (option_map name_raw c.speaker-speaker.result) (option_map name_raw c.speaker.result) (hearing_of c.leave.new.self)
     c.speaker-speaker.ensures c.speaker.ensures (ap not c.is_same-is_left.ensures) c.leave.ensures.current c.leave.ensures.missed
     c.hear-unheard.ensures.unheard c.hear-unheard.ensures.missed c.hear-unheard.ensures.current

@@ -1,11 +1,13 @@
-use Rattle.std.proofs.Common.{take, Ok}
+use Rattle.std.proofs.Common.{◌≡◌, take, Ok}
 use Rattle.j39_io.specs.Puts.{Puts}
 use Rattle.j39_io.specs.Turn.{turn}
-use Rattle.j39_reports.proofs.NowLineLemmas.{lines}
+use Rattle.j39_reports.proofs.NowLineLemmas.{counted, lines}
+use Rattle.j39_reports.specs.FaultsSoFar.{manner_of}
 use Rattle.j39_reports.proofs.current_faults.lines.put_last.Given as goal
 
--- the lines so far are written, and no fault came
+-- the lines so far are written and counted, and no fault came
 abbrev pub invariant-loop-standing : goal.invariant-loop-standing
 invariant-loop-standing g l =
-    Puts {T = Unit} {E = Unit} (lines l.writing.form l.writing.groups.now l.address l.last (take l.standing-index l.standings)) (Ok tt)
+    (l.lines ≡ counted l.writing.form (manner_of l.writing) l.address l.last (take l.standing-index l.standings))
+    × Puts {T = Unit} {E = Unit} (lines l.writing.form (manner_of l.writing) l.address l.last (take l.standing-index l.standings)) (Ok tt)
     (turn g.W.Sink.written g.W.Sink.has_failed l.initial.sink l.sink)

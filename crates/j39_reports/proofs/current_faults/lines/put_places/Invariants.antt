@@ -1,14 +1,21 @@
-use Rattle.std.proofs.Common.{◌≡◌, Ok, length}
+use Rattle.std.proofs.Common.{◌≡◌, List, Ok}
+use Rattle.j39_frame.specs.Frame.{FrameRecord}
 use Rattle.j39_io.specs.Puts.{Puts}
 use Rattle.j39_io.specs.Turn.{turn}
+use Rattle.j39_listen.specs.Chooses.{Chooses}
 use Rattle.j39_listen.specs.Counting.{capped}
-use Rattle.j39_reports.specs.CurrentSoFar.{shown_below}
+use Rattle.j39_listen.specs.Filter.{FilterRecord, first_stamp}
+use Rattle.j39_reports.specs.CurrentSoFar.{taken_below}
+use Rattle.j39_reports.specs.FaultsNowRun.{now_lines}
 use Rattle.j39_reports.proofs.NowLineLemmas.{text}
+use Rattle.j39_reports.specs.FaultsSoFar.{manner_of}
 use Rattle.j39_reports.proofs.current_faults.lines.put_places.Given as goal
 
--- what stands at the addresses so far is written and counted, and no fault came
+-- what stands at the addresses so far and is asked for is written and counted, and no fault came
 abbrev pub invariant-loop-address : goal.invariant-loop-address
 invariant-loop-address g l =
-    (l.lines ≡ capped (length (shown_below l.places l.address)))
-    × Puts {T = Unit} {E = Unit} (text l.writing.form l.writing.groups.now l.places l.address) (Ok tt)
-    (turn g.W.Sink.written g.W.Sink.has_failed l.initial.sink l.sink)
+    (g.W.Sink.has_failed l.sink ≡ g.W.Sink.has_failed l.initial.sink)
+    × ((which : FilterRecord) (F : List FrameRecord) → Chooses which l.chooser F
+    → (l.lines ≡ capped (now_lines (manner_of l.writing) (taken_below which (first_stamp F) l.places l.address)))
+    × Puts {T = Unit} {E = Unit} (text l.writing.form (manner_of l.writing) which (first_stamp F) l.places l.address) (Ok tt)
+    (turn g.W.Sink.written g.W.Sink.has_failed l.initial.sink l.sink))

@@ -8,6 +8,6 @@ use Rattle.j39_reports.proofs.StandingLemmas.{by_some}
 use Rattle.j39_reports.proofs.current_faults.standing.next_standings.Goals as goal
 
 pub returns-else-is_empty : goal.returns-else-is_empty
-returns-else-is_empty c =
+returns-else-is_empty g c =
     by_some (map standing_record c.args.before.now) (stamp_micros c.args.stamp) c.args.version c.args.payload.now (codes_by c.args.version c.args.payload.now) _
     (λ none. (let no : true ≡ false = sym (c.is_empty.ensures ∙ eq-eqb _ 0 none) ∙ c.if-is_empty.false in cc)) c.of_codes-standings.ensures

@@ -7,5 +7,5 @@ use Rattle.j39_reports.proofs.current_faults.standing.of_codes.Given as goal
 
 -- those of the codes before those that are left
 abbrev pub invariant-loop-code : goal.invariant-loop-code
-invariant-loop-code l =
+invariant-loop-code g l =
     HaveStood (map standing_record l.before) (stamp_micros l.stamp) l.version l.payload (codes_left l.code-iterator) l.standings.items

@@ -3,6 +3,7 @@ use Rattle.std.proofs.Common.{◌≤◌, ◌∙◌, ◌++◌, ◌∷◌, List, [
 use Rattle.std.proofs.Common.{subst, sym}
 use Rattle.j39_frame.specs.Frame.{FrameRecord}
 use Rattle.j39_frame.specs.Identifier.{pgn_of}
+use Rattle.j39_listen.specs.Filter.{first_stamp}
 use Rattle.j39_listen.specs.Heard.{HeardAtWith}
 use Rattle.j39_listen.specs.HeardModel.{hearing_of}
 use Rattle.j39_listen.proofs.ListenerLemmas.{on_ok}
@@ -13,18 +14,19 @@ use Rattle.j39_reports.proofs.HeardLemmas.{short_heard}
 use Rattle.j39_reports.specs.FaultsSoFar.{with_heard}
 use Rattle.j39_reports.specs.declared.fault_news.announced.Announced.{Announced}
 use Rattle.j39_listen.specs.Listening.{Hears}
+use Rattle.j39_reports.specs.FaultsSoFar.{manner_of}
 use Rattle.j39_reports.proofs.fault_news.account.put_frame.Given.{Over}
 use Rattle.j39_reports.proofs.fault_news.account.put_frame.Goals as goal
 
 pub returns-in-Ok-None-clause-met : goal.returns-in-Ok-None-clause-met
-returns-in-Ok-None-clause-met g c = λ F ms h remembers.
+returns-in-Ok-None-clause-met g c = λ F ms h chosen remembers.
     let single = ap is_fault_group (sym (ap (λ (x : FrameRecord). pgn_of x.id) c.frame.view_is)) ∙ sym c.is_of_fault_group-is_single.ensures in
     record {
       heard = None;
       announced_is = c.add_frame.ensures;
       heard_at = rw c.in-Ok-None.field-0-is at (c.in-Ok-None.ensures.heard is_fault_group faults_leave single F h);
       hears = on_ok _ _ _ _ c.in-Ok-None.is c.feed_as.follows.holds-at-none F h;
-      tells = tells_nothing c.args.writing.form c.args.writing.groups.now (chosen_of c.args.choice) c.args.last.now ms None c.default.result _ refl refl remembers c.default.ensures.0 c.default.ensures.1;
+      tells = tells_nothing c.args.writing.form (manner_of c.args.writing) (chosen_of c.args.choice) (first_stamp (F ++ c.args.frame.now ∷ [])) c.args.last.now ms None c.default.result _ refl refl remembers c.default.ensures.0 c.default.ensures.1;
     }
 
 -- a message is heard there, and it is short
@@ -40,20 +42,20 @@ short_here g c F h =
     short_heard is_fault_group F c.args.frame.now (hearing_of c.in-Ok-Some.heard) few (heard_here g c F h)
 
 pub returns-in-Ok-Some-clause-met : goal.returns-in-Ok-Some-clause-met
-returns-in-Ok-Some-clause-met g c = if_ok c.put_heard.result _ _ (λ made met F ms h remembers. record {
+returns-in-Ok-Some-clause-met g c = if_ok c.put_heard.result _ _ (λ made met F ms h chosen remembers. record {
   heard = Some (hearing_of c.in-Ok-Some.heard);
   announced_is = c.add_heard.ensures ∙ ap (λ (x : Announced). with_heard x (hearing_of c.in-Ok-Some.heard)) c.add_frame.ensures;
   heard_at = heard_here g c F h;
   hears = on_ok _ _ _ _ c.in-Ok-Some.is c.feed_as.follows.holds-at-none F h;
-  tells = met ms remembers (short_here g c F h);
+  tells = met (first_stamp (F ++ c.args.frame.now ∷ [])) ms (c.takes-is_asked.ensures (chosen_of c.args.choice).asked (F ++ c.args.frame.now ∷ []) chosen) remembers (short_here g c F h);
 })
     c.put_heard.ensures.met
 
 pub returns-in-Ok-Some-clause-stops : goal.returns-in-Ok-Some-clause-stops
-returns-in-Ok-Some-clause-stops g c = λ fails F ms h remembers. record {
+returns-in-Ok-Some-clause-stops g c = λ fails F ms h chosen remembers. record {
   heard = Some (hearing_of c.in-Ok-Some.heard);
   heard_at = heard_here g c F h;
-  front = c.put_heard.ensures.stops fails ms remembers (short_here g c F h);
+  front = c.put_heard.ensures.stops fails (first_stamp (F ++ c.args.frame.now ∷ [])) ms (c.takes-is_asked.ensures (chosen_of c.args.choice).asked (F ++ c.args.frame.now ∷ []) chosen) remembers (short_here g c F h);
 }
 
 pub returns-in-Ok-Some-clause-asked : goal.returns-in-Ok-Some-clause-asked

@@ -1,7 +1,8 @@
 -- A message of another kind, or one of faults that is told or not.
-use Rattle.std.proofs.Common.{◌≡◌, ◌∙◌, ◌<◌, ◌≤◌, ◌∷◌, [], List, Result, Ok, Err, Some, length, sym}
+use Rattle.std.proofs.Common.{◌≡◌, ◌∙◌, ◌<◌, ◌≤◌, ◌&&◌, ◌∷◌, [], ℕ, List, Result, Ok, Err, Some, length, sym}
 use Rattle.std.specs.Prelude.{IfOk, OnOk}
 use Rattle.j39_io.specs.Turn.{Turn}
+use Rattle.j39_listen.specs.Filter.{takes_message}
 use Rattle.j39_listen.specs.Heard.{Hearing}
 use Rattle.j39_listen.specs.HeardModel.{hearing_of}
 use Rattle.j39_listen.specs.declared.account.LineFault.{LineFault}
@@ -12,17 +13,18 @@ use Rattle.j39_reports.specs.Remembered.{Remembers, noted, said_at, said_in}
 use Rattle.j39_reports.specs.FaultsSoFar.{Tells, TellsFaults, tells_clearing, told_faults, told_since}
 use Rattle.j39_reports.proofs.PutLemmas.{clearing_front, no_group, no_lamps, of_faults, tells_asking, tells_front, tells_message, tells_other}
 use Rattle.j39_reports.proofs.TellLemmas.{first_is}
+use Rattle.j39_reports.specs.FaultsSoFar.{manner_of}
 use Rattle.j39_reports.proofs.fault_news.account.put_heard.Given.{Over}
 use Rattle.j39_reports.proofs.fault_news.account.put_heard.Goals as goal
 
 pub returns-in_default-fault_group-clause-met : goal.returns-in_default-fault_group-clause-met
-returns-in_default-fault_group-clause-met g c = λ ms h short.
-    tells_other c.args.writing.form c.args.writing.groups.now (chosen_of c.args.choice) c.args.last.now ms (hearing_of c.args.heard.now) c.default.result _ (no_group (hearing_of c.args.heard.now) (sym c.cleared_in.ensures ∙ c.in_default.is) (sym c.fault_group.ensures ∙ c.in_default-fault_group.is)) h
+returns-in_default-fault_group-clause-met g c = λ first ms asked h short.
+    tells_other c.args.writing.form (manner_of c.args.writing) (chosen_of c.args.choice) first c.args.last.now ms (hearing_of c.args.heard.now) c.default.result _ (no_group (hearing_of c.args.heard.now) (sym c.cleared_in.ensures ∙ c.in_default.is) (sym c.fault_group.ensures ∙ c.in_default-fault_group.is)) h
     c.default.ensures.0 c.default.ensures.1
 
 pub returns-in_default-lamps_of-clause-met : goal.returns-in_default-lamps_of-clause-met
-returns-in_default-lamps_of-clause-met g c = λ ms h short.
-    tells_other c.args.writing.form c.args.writing.groups.now (chosen_of c.args.choice) c.args.last.now ms (hearing_of c.args.heard.now) c.default-in_default-lamps_of.result _
+returns-in_default-lamps_of-clause-met g c = λ first ms asked h short.
+    tells_other c.args.writing.form (manner_of c.args.writing) (chosen_of c.args.choice) first c.args.last.now ms (hearing_of c.args.heard.now) c.default-in_default-lamps_of.result _
     (no_lamps (hearing_of c.args.heard.now) c.in-Some-fault_group.kind (sym c.cleared_in.ensures ∙ c.in_default.is) (sym c.fault_group.ensures ∙ c.in-Some-fault_group.is) (sym c.lamps_of.ensures ∙ c.in_default-lamps_of.is)) h c.default-in_default-lamps_of.ensures.0 c.default-in_default-lamps_of.ensures.1
 
 -- ---- one of codes
@@ -34,20 +36,20 @@ pub returns-clause-met : goal.returns-clause-met
 returns-clause-met g c = met c.put_since.result _ c.put_since.ensures.tells c.put_since.ensures.after
   where
     met : (r : Result Made LineFault) (sink : Turn)
-        → TellsFaults c.args.writing.form c.args.writing.groups.now (told_since c.args.choice.telling c.version_of-version.result (said_at c.args.last.now c.in-Some-fault_group.kind c.args.heard.now.message.source)
-        (hearing_of c.args.heard.now) c.in-Some-fault_group.kind c.in-Some-lamps_of.lamps) r sink
+        → TellsFaults c.args.writing.form (manner_of c.args.writing) (told_faults c.args.is_asked (told_since c.args.choice.telling c.version_of-version.result (said_at c.args.last.now c.in-Some-fault_group.kind c.args.heard.now.message.source)
+        (hearing_of c.args.heard.now) c.in-Some-fault_group.kind c.in-Some-lamps_of.lamps)) r sink
         → OnOk r (c.put_since.new.last ≡ noted c.args.last.now c.in-Some-fault_group.kind c.args.heard.now.message.source (said_in (hearing_of c.args.heard.now)))
-        → IfOk r (λ made. (ms : List Hearing) → Remembers c.args.last.now ms → length c.args.heard.now.message.payload.now ≤ 1785
-        → Tells c.args.writing.form c.args.writing.groups.now (chosen_of c.args.choice) c.put_since.new.last ms (Some (hearing_of c.args.heard.now)) made sink.old.bytes sink.new.bytes)
+        → IfOk r (λ made. (first : ℕ) (ms : List Hearing) → c.args.is_asked ≡ takes_message (chosen_of c.args.choice).asked first (hearing_of c.args.heard.now) → Remembers c.args.last.now ms → length c.args.heard.now.message.payload.now ≤ 1785
+        → Tells c.args.writing.form (manner_of c.args.writing) (chosen_of c.args.choice) first c.put_since.new.last ms (Some (hearing_of c.args.heard.now)) made sink.old.bytes sink.new.bytes)
     met (Err e) sink tells after = tt
-    met (Ok made) sink tells after = λ ms h short.
-        tells_message c.args.writing.form c.args.writing.groups.now (chosen_of c.args.choice) c.args.last.now ms (hearing_of c.args.heard.now) c.in-Some-fault_group.kind c.in-Some-lamps_of.lamps _
+    met (Ok made) sink tells after = λ first ms asked h short.
+        tells_message c.args.writing.form (manner_of c.args.writing) (chosen_of c.args.choice) first c.args.last.now ms (hearing_of c.args.heard.now) c.in-Some-fault_group.kind c.in-Some-lamps_of.lamps c.args.is_asked asked _
         c.version_of-version.ensures (sym c.cleared_in.ensures ∙ c.in_default.is) (sym c.fault_group.ensures ∙ c.in-Some-fault_group.is)
         (sym c.lamps_of.ensures ∙ c.in-Some-lamps_of.is) (below g c) h c.put_since.new.last made _ _ short after tells.made.0 tells.made.1 tells.made.2 tells.written
 
 pub returns-clause-stops : goal.returns-clause-stops
-returns-clause-stops g c = λ fails ms h short.
-    tells_front c.args.writing.form c.args.writing.groups.now (chosen_of c.args.choice) c.args.last.now ms (hearing_of c.args.heard.now) c.in-Some-fault_group.kind c.in-Some-lamps_of.lamps _
+returns-clause-stops g c = λ fails first ms asked h short.
+    tells_front c.args.writing.form (manner_of c.args.writing) (chosen_of c.args.choice) first c.args.last.now ms (hearing_of c.args.heard.now) c.in-Some-fault_group.kind c.in-Some-lamps_of.lamps c.args.is_asked asked _
     c.version_of-version.ensures (sym c.cleared_in.ensures ∙ c.in_default.is) (sym c.fault_group.ensures ∙ c.in-Some-fault_group.is)
     (sym c.lamps_of.ensures ∙ c.in-Some-lamps_of.is) (below g c) h _ _ (c.put_since.ensures.tells.stops fails)
 
@@ -68,19 +70,19 @@ pub returns-in-Some-clause-met : goal.returns-in-Some-clause-met
 returns-in-Some-clause-met g c = met c.put_asked.result _ (rw c.tells_clearing-is_told.ensures at c.put_asked.ensures.tells)
   where
     met : (r : Result Made LineFault) (sink : Turn)
-        → TellsFaults c.args.writing.form c.args.writing.groups.now (told_faults (tells_clearing c.args.choice.telling) (clearing_of (hearing_of c.args.heard.now) c.in-Some.kind ∷ [])) r sink
-        → IfOk r (λ made. (ms : List Hearing) → Remembers c.args.last.now ms → length c.args.heard.now.message.payload.now ≤ 1785
-        → Tells c.args.writing.form c.args.writing.groups.now (chosen_of c.args.choice) c.args.last.now ms (Some (hearing_of c.args.heard.now)) made sink.old.bytes sink.new.bytes)
+        → TellsFaults c.args.writing.form (manner_of c.args.writing) (told_faults (tells_clearing c.args.choice.telling && c.args.is_asked) (clearing_of (hearing_of c.args.heard.now) c.in-Some.kind ∷ [])) r sink
+        → IfOk r (λ made. (first : ℕ) (ms : List Hearing) → c.args.is_asked ≡ takes_message (chosen_of c.args.choice).asked first (hearing_of c.args.heard.now) → Remembers c.args.last.now ms → length c.args.heard.now.message.payload.now ≤ 1785
+        → Tells c.args.writing.form (manner_of c.args.writing) (chosen_of c.args.choice) first c.args.last.now ms (Some (hearing_of c.args.heard.now)) made sink.old.bytes sink.new.bytes)
     met (Err e) sink tells = tt
-    met (Ok made) sink tells = λ ms h short.
-        tells_asking c.args.writing.form c.args.writing.groups.now (chosen_of c.args.choice) c.args.last.now ms (hearing_of c.args.heard.now) c.in-Some.kind
+    met (Ok made) sink tells = λ first ms asked h short.
+        tells_asking c.args.writing.form (manner_of c.args.writing) (chosen_of c.args.choice) first c.args.last.now ms (hearing_of c.args.heard.now) c.in-Some.kind c.args.is_asked asked
         (sym c.cleared_in.ensures ∙ c.in-Some.is) made _ _ h short tells.made.0 tells.made.1 tells.made.2 tells.written
 
 pub returns-in-Some-clause-stops : goal.returns-in-Some-clause-stops
-returns-in-Some-clause-stops g c = λ fails ms h short.
-    let tells : TellsFaults c.args.writing.form c.args.writing.groups.now (told_faults (tells_clearing c.args.choice.telling) (clearing_of (hearing_of c.args.heard.now) c.in-Some.kind ∷ [])) c.put_asked.result _ =
+returns-in-Some-clause-stops g c = λ fails first ms asked h short.
+    let tells : TellsFaults c.args.writing.form (manner_of c.args.writing) (told_faults (tells_clearing c.args.choice.telling && c.args.is_asked) (clearing_of (hearing_of c.args.heard.now) c.in-Some.kind ∷ [])) c.put_asked.result _ =
     rw c.tells_clearing-is_told.ensures at c.put_asked.ensures.tells in
-    clearing_front c.args.writing.form c.args.writing.groups.now (chosen_of c.args.choice) c.args.last.now ms (hearing_of c.args.heard.now) c.in-Some.kind
+    clearing_front c.args.writing.form (manner_of c.args.writing) (chosen_of c.args.choice) first c.args.last.now ms (hearing_of c.args.heard.now) c.in-Some.kind c.args.is_asked asked
     (sym c.cleared_in.ensures ∙ c.in-Some.is) _ _ (tells.stops fails)
 
 pub returns-in-Some-clause-writer : goal.returns-in-Some-clause-writer

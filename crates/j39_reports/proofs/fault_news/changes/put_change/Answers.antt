@@ -1,21 +1,25 @@
 -- Nothing, or the line of the change.
-use Rattle.std.proofs.Common.{sym}
-use Rattle.j39_io.proofs.PutsLemmas.{puts_as, puts_done, puts_failed, puts_nothing}
+use Rattle.std.proofs.Common.{◌∙◌, Some, sym}
+use Rattle.j39_io.proofs.PutsLemmas.{puts_as, puts_nothing}
+use Rattle.j39_faults.specs.declared.text.State.TheVariants.{Became}
+use Rattle.j39_listen.proofs.PieceLemmas.{if_ok}
+use Rattle.j39_reports.specs.Faults.{fault_of, says_asked}
+use Rattle.j39_reports.proofs.CountLemmas.{count_here}
 use Rattle.j39_listen.specs.HeardModel.{hearing_of}
 use Rattle.j39_reports.proofs.FaultAccountLemmas.{faults_text-none}
 use Rattle.j39_reports.proofs.ChangeLemmas.{change_put}
+use Rattle.j39_reports.specs.FaultsSoFar.{manner_of}
 use Rattle.j39_reports.proofs.fault_news.changes.put_change.Goals as goal
 
 pub returns-in_default-clause-puts : goal.returns-in_default-clause-puts
 returns-in_default-clause-puts g c =
-    rw c.in_default.is (puts_as _ _ _ _ (sym (faults_text-none c.args.writing.form c.args.writing.groups.now)) (puts_nothing _ _))
-
-pub returns-in_err-put_fault-clause-puts : goal.returns-in_err-put_fault-clause-puts
-returns-in_err-put_fault-clause-puts g c =
-    rw c.in-Some.is (puts_failed _ _ _ _ c.from_residual.ensures.0
-    (change_put c.args.writing.form c.args.writing.groups.now (hearing_of c.args.heard.now) c.args.lamps c.args.code c.in-Some.change _ _ _ c.requires c.in_err-put_fault.ensures))
+    rw c.in_default.is (puts_as _ _ _ _ (sym (faults_text-none c.args.writing.form (manner_of c.args.writing))) (puts_nothing _ _))
 
 pub returns-clause-puts : goal.returns-clause-puts
 returns-clause-puts g c =
-    rw c.in-Some.is (puts_done _ _ _ _
-    (change_put c.args.writing.form c.args.writing.groups.now (hearing_of c.args.heard.now) c.args.lamps c.args.code c.in-Some.change _ _ _ c.requires c.in_ok-put_fault.ensures))
+    rw c.in-Some.is (change_put c.args.writing.form (manner_of c.args.writing) (hearing_of c.args.heard.now) c.args.lamps c.args.code c.in-Some.change _ _ _ c.requires c.put_fault.ensures.puts)
+
+pub returns-clause-lines : goal.returns-clause-lines
+returns-clause-lines g c =
+    let m = hearing_of c.args.heard.now in
+    rw c.in-Some.is (if_ok c.put_fault.result _ _ (λ n is. is ∙ count_here (says_asked (manner_of c.args.writing).spns) (fault_of m (Became c.in-Some.change) c.args.lamps (Some c.args.code))) c.put_fault.ensures.lines)

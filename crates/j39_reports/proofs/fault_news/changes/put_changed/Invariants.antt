@@ -3,10 +3,11 @@ use Rattle.j39_faults.specs.CodesLeft.{codes_left}
 use Rattle.j39_faults.specs.Conversions.{codes_by}
 use Rattle.j39_listen.specs.HeardModel.{hearing_of}
 use Rattle.j39_reports.proofs.ChangeLemmas.{HasChanged}
+use Rattle.j39_reports.specs.FaultsSoFar.{manner_of}
 use Rattle.j39_reports.proofs.fault_news.changes.put_changed.Given as goal
 
 -- what became of the codes before those that are left was written, and no fault came
 abbrev pub invariant-loop-code : goal.invariant-loop-code
 invariant-loop-code g l =
-    HasChanged l.writing.form l.writing.groups.now (hearing_of l.heard) l.lamps l.side (codes_by l.version l.others) l.version l.payload (codes_left l.code-iterator) l.lines
+    HasChanged l.writing.form (manner_of l.writing) (hearing_of l.heard) l.lamps l.side (codes_by l.version l.others) l.version l.payload (codes_left l.code-iterator) l.lines
     (turn g.W.Sink.written g.W.Sink.has_failed l.initial.sink l.sink)

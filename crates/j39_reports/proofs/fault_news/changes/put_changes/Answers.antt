@@ -7,6 +7,7 @@ use Rattle.j39_reports.specs.FaultRecords.{faults_text}
 use Rattle.j39_reports.specs.FaultsSoFar.{changed}
 use Rattle.j39_reports.specs.declared.fault_news.changes.Side.TheVariants.{Earlier, Later}
 use Rattle.j39_reports.proofs.FaultAccountLemmas.{faults_text-append}
+use Rattle.j39_reports.specs.FaultsSoFar.{manner_of}
 use Rattle.j39_reports.proofs.fault_news.changes.put_changes.Goals as goal
 
 pub returns-in_err-later-clause-puts : goal.returns-in_err-later-clause-puts
@@ -15,8 +16,8 @@ returns-in_err-later-clause-puts g c =
     let before = codes_by c.args.version c.args.before.now in
     let later = changed Later (hearing_of c.args.heard.now) c.args.lamps before now in
     let earlier = changed Earlier (hearing_of c.args.heard.now) c.args.lamps now before in
-    puts_as _ _ _ _ (sym (faults_text-append c.args.writing.form c.args.writing.groups.now later earlier))
-    (puts_first _ (faults_text c.args.writing.form c.args.writing.groups.now earlier) _ _ _ c.from_residual.ensures.0 c.in_err-later.ensures.puts)
+    puts_as _ _ _ _ (sym (faults_text-append c.args.writing.form (manner_of c.args.writing) later earlier))
+    (puts_first _ (faults_text c.args.writing.form (manner_of c.args.writing) earlier) _ _ _ c.from_residual.ensures.0 c.in_err-later.ensures.puts)
 
 pub returns-in_err-earlier-clause-puts : goal.returns-in_err-earlier-clause-puts
 returns-in_err-earlier-clause-puts g c =
@@ -24,7 +25,7 @@ returns-in_err-earlier-clause-puts g c =
     let before = codes_by c.args.version c.args.before.now in
     let later = changed Later (hearing_of c.args.heard.now) c.args.lamps before now in
     let earlier = changed Earlier (hearing_of c.args.heard.now) c.args.lamps now before in
-    puts_as _ _ _ _ (sym (faults_text-append c.args.writing.form c.args.writing.groups.now later earlier))
+    puts_as _ _ _ _ (sym (faults_text-append c.args.writing.form (manner_of c.args.writing) later earlier))
     (puts_then _ _ _ _ _ _ _ c.in_ok-later.ensures.puts (puts_failed _ _ _ _ c.from_residual-in_err-earlier.ensures.0 c.in_err-earlier.ensures.puts))
 
 pub returns-clause-puts : goal.returns-clause-puts
@@ -33,5 +34,5 @@ returns-clause-puts g c =
     let before = codes_by c.args.version c.args.before.now in
     let later = changed Later (hearing_of c.args.heard.now) c.args.lamps before now in
     let earlier = changed Earlier (hearing_of c.args.heard.now) c.args.lamps now before in
-    puts_as _ _ _ _ (sym (faults_text-append c.args.writing.form c.args.writing.groups.now later earlier))
+    puts_as _ _ _ _ (sym (faults_text-append c.args.writing.form (manner_of c.args.writing) later earlier))
     (puts_then _ _ _ _ _ _ _ c.in_ok-later.ensures.puts (puts_done _ _ _ _ c.in_ok-earlier.ensures.puts))

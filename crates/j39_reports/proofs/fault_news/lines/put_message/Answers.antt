@@ -2,21 +2,22 @@
 use Rattle.std.proofs.Common.{◌∙◌, arith, sym}
 use Rattle.j39_faults.specs.Conversions.{codes_by}
 use Rattle.j39_faults.specs.declared.text.State.TheVariants.{Is}
-use Rattle.j39_io.proofs.PutsLemmas.{puts_done, puts_failed}
+use Rattle.j39_listen.proofs.PieceLemmas.{if_ok}
 use Rattle.j39_listen.specs.HeardModel.{hearing_of}
 use Rattle.j39_reports.proofs.FaultLineLemmas.{codes_put, codes_stop, count_none, count_some, none_put}
+use Rattle.j39_reports.specs.FaultsSoFar.{manner_of}
 use Rattle.j39_reports.proofs.fault_news.lines.put_message.Goals as goal
 
 pub returns-in_err-lines-clause-puts : goal.returns-in_err-lines-clause-puts
 returns-in_err-lines-clause-puts g c =
-    codes_stop c.args.writing.form c.args.writing.groups.now (hearing_of c.args.heard.now) (Is c.args.kind) c.args.lamps _ (c.as_slice-head.ensures.value ∙ c.head_of-head.ensures)
+    codes_stop c.args.writing.form (manner_of c.args.writing) (hearing_of c.args.heard.now) (Is c.args.kind) c.args.lamps _ (c.as_slice-head.ensures.value ∙ c.head_of-head.ensures)
     (codes_by c.args.version c.args.heard.now.message.payload.now) _ _ _ c.from_residual.ensures.0 c.in_err-lines.ensures.puts
 
 pub returns-then-lines-gt0-clause-puts : goal.returns-then-lines-gt0-clause-puts
 returns-then-lines-gt0-clause-puts g c =
     let count = c.in_ok-lines.ensures.lines in
     let some = c.if-lines-gt0.true in
-    codes_put c.args.writing.form c.args.writing.groups.now (hearing_of c.args.heard.now) (Is c.args.kind) c.args.lamps _ (c.as_slice-head.ensures.value ∙ c.head_of-head.ensures)
+    codes_put c.args.writing.form (manner_of c.args.writing) (hearing_of c.args.heard.now) (Is c.args.kind) c.args.lamps _ (c.as_slice-head.ensures.value ∙ c.head_of-head.ensures)
     (codes_by c.args.version c.args.heard.now.message.payload.now) _ _ _ (omega arith) c.in_ok-lines.ensures.puts
 
 pub returns-then-lines-gt0-clause-lines : goal.returns-then-lines-gt0-clause-lines
@@ -24,27 +25,18 @@ returns-then-lines-gt0-clause-lines g c =
     let cs = codes_by c.args.version c.args.heard.now.message.payload.now in
     let count = c.in_ok-lines.ensures.lines in
     let some = c.if-lines-gt0.true in
-    count ∙ sym (count_some (hearing_of c.args.heard.now) (Is c.args.kind) c.args.lamps cs (omega arith))
-
-pub returns-in_err-put_fault-clause-puts : goal.returns-in_err-put_fault-clause-puts
-returns-in_err-put_fault-clause-puts g c =
-    let count = c.in_ok-lines.ensures.lines in
-    let none = c.if-lines-gt0.false in
-    puts_failed _ _ _ _ c.from_residual-in_err-put_fault.ensures.0
-    (none_put c.args.writing.form c.args.writing.groups.now (hearing_of c.args.heard.now) (Is c.args.kind) c.args.lamps _ (c.as_slice-head.ensures.value ∙ c.head_of-head.ensures)
-    (codes_by c.args.version c.args.heard.now.message.payload.now) _ _ _ _ _ (omega arith) c.in_ok-lines.ensures.puts c.in_err-put_fault.ensures)
+    count ∙ sym (count_some (manner_of c.args.writing) (hearing_of c.args.heard.now) (Is c.args.kind) c.args.lamps cs (omega arith))
 
 pub returns-clause-puts : goal.returns-clause-puts
 returns-clause-puts g c =
     let count = c.in_ok-lines.ensures.lines in
     let none = c.if-lines-gt0.false in
-    puts_done _ _ _ _
-    (none_put c.args.writing.form c.args.writing.groups.now (hearing_of c.args.heard.now) (Is c.args.kind) c.args.lamps _ (c.as_slice-head.ensures.value ∙ c.head_of-head.ensures)
-    (codes_by c.args.version c.args.heard.now.message.payload.now) _ _ _ _ _ (omega arith) c.in_ok-lines.ensures.puts c.in_ok-put_fault.ensures)
+    none_put c.args.writing.form (manner_of c.args.writing) (hearing_of c.args.heard.now) (Is c.args.kind) c.args.lamps _ (c.as_slice-head.ensures.value ∙ c.head_of-head.ensures)
+    (codes_by c.args.version c.args.heard.now.message.payload.now) _ _ _ _ _ (omega arith) c.in_ok-lines.ensures.puts c.put_fault.ensures.puts
 
 pub returns-clause-lines : goal.returns-clause-lines
 returns-clause-lines g c =
     let cs = codes_by c.args.version c.args.heard.now.message.payload.now in
     let count = c.in_ok-lines.ensures.lines in
     let none = c.if-lines-gt0.false in
-    sym (count_none (hearing_of c.args.heard.now) (Is c.args.kind) c.args.lamps cs (omega arith))
+    if_ok c.put_fault.result _ _ (λ n is. count_none (manner_of c.args.writing) (hearing_of c.args.heard.now) (Is c.args.kind) c.args.lamps cs n (omega arith) is) c.put_fault.ensures.lines

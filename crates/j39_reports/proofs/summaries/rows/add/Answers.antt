@@ -8,5 +8,5 @@ use Rattle.j39_reports.proofs.summaries.rows.add.Goals as goal
 
 pub returns : goal.returns
 returns c = on_ok_from c.add.result _ _ (λ added before are.
-    begins c.args.origin c.in_ok-deeds.deeds (stamp_micros c.args.stamp) (value_of c.args.value) (pairs_of c.args.rows.now) _ before
-    (c.in_ok-deeds.ensures.begun c.args.origin) c.requires added are) c.add.ensures.added
+    begins c.args.origin c.in_ok-statistics.statistics (stamp_micros c.args.stamp) (value_of c.args.value) (pairs_of c.args.rows.now) _ before
+    (c.in_ok-statistics.ensures.begun c.args.origin) c.requires added are) c.add.ensures.added

@@ -1,5 +1,5 @@
 -- A row more; after a fault a front of the rows that are left was written.
-use Rattle.std.proofs.Common.{◌≡◌, ◌<◌, arith, get_or, length, sym}
+use Rattle.std.proofs.Common.{◌≡◌, ◌<◌, ◌∙◌, arith, get_or, length, sym}
 use Rattle.std.proofs.lemmas.Option.{get_or_from_slice_get}
 use Rattle.j39_frame.specs.Stamp.{stamp_micros}
 use Rattle.j39_frame.specs.declared.origin.Origin.{Origin}
@@ -12,7 +12,8 @@ use Rattle.j39_reports.specs.declared.watching.latest.Latest.{Latest}
 use Rattle.j39_reports.proofs.watching.screen.put_values.Goals as goal
 
 pub loop-at-init : goal.loop-at-init
-loop-at-init g c = (omega arith, puts_as _ _ _ _ (sym (limited_none c.args.view.width c.args.room)) (puts_nothing _ _))
+loop-at-init g c =
+    (omega arith, puts_as _ _ _ _ (sym (limited_none c.args.view.width c.args.room)) (puts_nothing _ _), c.new-line.ensures.width ∙ c.from.ensures)
 
 pub loop-at-preserved : goal.loop-at-preserved
 loop-at-preserved g c =
@@ -24,6 +25,7 @@ loop-at-preserved g c =
     let is : x ≡ get_or pairs c.loop-at.at x = sym (get_or_from_slice_get pairs c.loop-at.at x x c.pair_at.ensures) in (
       each_left view.width c.args.room f pairs c.loop-at.at _ _ x below is c.loop-at.invariant.0 c.in_ok-left.ensures.left,
       each_more view.width c.args.room f pairs c.loop-at.at _ x _ _ _ _ below is c.loop-at.invariant.0 c.loop-at.invariant.1 c.in_ok-left.ensures.puts,
+      c.in_ok-left.ensures.width ∙ c.loop-at.invariant.2,
     )
 
 pub returns-in_err-left-clause-puts : goal.returns-in_err-left-clause-puts

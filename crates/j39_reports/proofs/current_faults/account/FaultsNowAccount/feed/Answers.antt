@@ -9,12 +9,13 @@ returns-in-Ok-clause-met g c =
       alloc = c.args.self.now.alloc;
       writing = c.args.self.now.writing;
       conversions = c.args.self.now.conversions;
+      chooser = c.note.new.self;
       listener = c.take_frame.new.listener;
       places = c.take_frame.new.places;
       messages = c.saturating_add-self.result;
       announced = c.take_frame.new.announced;
     } in
-    λ (form, subject). now_meets form subject c.args.self.now after refl refl c.args.frame.now c.in-Ok.messages _ c.in-Ok.ensures.taken c.saturating_add-self.ensures
+    λ (form, subject). now_meets form subject c.args.self.now after refl refl c.args.frame.now c.in-Ok.messages _ c.note.ensures c.in-Ok.ensures.taken c.saturating_add-self.ensures
 
 pub returns-in-Err-clause-asked : goal.returns-in-Err-clause-asked
 returns-in-Err-clause-asked g c = λ fails (form, subject) F output has.

@@ -2,6 +2,7 @@ use Rattle.std.proofs.Common.{◌∙◌, [], refl}
 use Rattle.j39_listen.proofs.ReportAccount.{same_made}
 use Rattle.j39_reports.specs.News.{chosen_of}
 use Rattle.j39_reports.proofs.FaultAccountLemmas.{none_made, same_announced}
+use Rattle.j39_reports.specs.FaultsSoFar.{manner_of}
 use Rattle.j39_reports.proofs.fault_news.account.FaultNews.new.Goals as goal
 
 pub returns : goal.returns
@@ -9,11 +10,12 @@ returns c = record {
   form_is = refl;
   by = refl;
   chosen_is = refl;
+  chooses = c.new.ensures;
   heard = [];
   are_heard = refl;
   output_is = refl;
-  hears = c.new.ensures;
-  remembers = c.new-2.ensures;
-  made_is = same_made _ _ c.default.ensures.0 c.default.ensures.1 ∙ none_made c.args.writing.form c.args.writing.groups.now (chosen_of c.args.choice);
+  hears = c.new-2.ensures;
+  remembers = c.new-3.ensures;
+  made_is = same_made _ _ c.default.ensures.0 c.default.ensures.1 ∙ none_made c.args.writing.form (manner_of c.args.writing) (chosen_of c.args.choice);
   announced_is = same_announced _ _ c.default-2.ensures.0 c.default-2.ensures.1;
 }

@@ -11,13 +11,14 @@ returns-in-Ok-clause-met g c =
       alloc = c.args.self.now.alloc;
       writing = c.args.self.now.writing;
       choice = c.args.self.now.choice;
+      chooser = c.note.new.self;
       listener = c.put_frame.new.listener;
       last = c.put_frame.new.last;
       made = c.and-self.result;
       announced = c.put_frame.new.announced;
     } in
-    λ (form, subject). news_meets form subject c.args.self.now news refl refl c.args.frame.now c.in-Ok.made _ _ c.in-Ok.ensures.met c.and-self.ensures
+    λ (form, subject). news_meets form subject c.args.self.now news refl refl c.args.frame.now c.in-Ok.made _ _ c.note.ensures c.in-Ok.ensures.met c.and-self.ensures
 
 pub returns-in-Err-clause-stops : goal.returns-in-Err-clause-stops
 returns-in-Err-clause-stops g c = λ fails (form, subject).
-    news_stops form subject c.args.self.now c.args.frame.now _ _ (c.in-Err.ensures.stops (ap Err (same_fault _ _ fails))) c.args.arg2.now
+    news_stops form subject c.args.self.now c.note.new.self c.args.frame.now _ _ c.note.ensures (c.in-Err.ensures.stops (ap Err (same_fault _ _ fails))) c.args.arg2.now

@@ -1,5 +1,6 @@
 -- Nothing was heard.
-use Rattle.std.proofs.Common.{[], refl}
+use Rattle.std.proofs.Common.{[], ap, option_map, refl}
+use Rattle.j39_frame.specs.Stamp.{stamp_micros}
 use Rattle.j39_reports.proofs.CurrentLemmas.{kept_none}
 use Rattle.j39_reports.proofs.watching.account.Screens.new.Goals as goal
 
@@ -8,7 +9,7 @@ returns c = record {
   keeps = record {
     by = refl;
     size_is = refl;
-    last_is = refl;
+    last_is = ap (option_map stamp_micros) c.new-4.ensures;
     hears = c.new.ensures;
     heard = [];
     are_heard = refl;

@@ -1,5 +1,6 @@
 -- What is heard is noted, and a screen is written if it is due.
-use Rattle.std.proofs.Common.{◌∙◌, Some, ap, refl}
+use Rattle.std.proofs.Common.{◌∙◌, Some, ap, option_map, refl}
+use Rattle.j39_frame.specs.Stamp.{stamp_micros}
 use Rattle.j39_frame.specs.Frame.{FrameRecord}
 use Rattle.j39_groups.proofs.ReadLemmas.{on_ok_from}
 use Rattle.j39_reports.proofs.NoteLemmas.{written_front}
@@ -19,11 +20,11 @@ returns-in-Ok-clause-met g c = on_ok_from c.draw_if.result _ _ (λ written subje
       places = c.note.new.places;
       values = c.note.new.values;
       messages = c.saturating_add-self.result;
-      last = Some c.frame.inside.stamp;
+      moment = c.go_on-draws.new.self;
     } in
     let stamp = ap (λ (f : FrameRecord). f.stamp) c.frame.view_is in
-    watch_meets subject.1 subject.0 self after c.args.frame.now c.in-Ok.messages c.is_due-draws.result _ _ refl refl (ap Some stamp)
-    c.saturating_add-self.ensures (c.is_due-draws.ensures ∙ ap (is_due _) stamp) c.in-Ok.ensures.noted written) c.draw_if.ensures.puts.written
+    watch_meets subject.1 subject.0 self after c.args.frame.now c.in-Ok.messages c.go_on-draws.result _ _ refl refl (ap (option_map stamp_micros) c.go_on-draws.ensures.last ∙ ap Some stamp)
+    c.saturating_add-self.ensures (c.go_on-draws.ensures.due ∙ ap (is_due _) stamp) c.in-Ok.ensures.noted written) c.draw_if.ensures.puts.written
 
 pub returns-in-Ok-clause-stops : goal.returns-in-Ok-clause-stops
 returns-in-Ok-clause-stops g c = λ failed subject.
@@ -36,8 +37,8 @@ returns-in-Ok-clause-stops g c = λ failed subject.
       places = c.note.new.places;
       values = c.note.new.values;
       messages = c.saturating_add-self.result;
-      last = Some c.frame.inside.stamp;
+      moment = c.go_on-draws.new.self;
     } in
     let stamp = ap (λ (f : FrameRecord). f.stamp) c.frame.view_is in
-    watch_stops subject.1 subject.0 self after c.args.frame.now c.in-Ok.messages c.is_due-draws.result c.args.arg2.now _ _ refl refl (ap Some stamp)
-    c.saturating_add-self.ensures (c.is_due-draws.ensures ∙ ap (is_due _) stamp) c.in-Ok.ensures.noted (written_front c.draw_if.result _ _ failed c.draw_if.ensures.puts.front)
+    watch_stops subject.1 subject.0 self after c.args.frame.now c.in-Ok.messages c.go_on-draws.result c.args.arg2.now _ _ refl refl (ap (option_map stamp_micros) c.go_on-draws.ensures.last ∙ ap Some stamp)
+    c.saturating_add-self.ensures (c.go_on-draws.ensures.due ∙ ap (is_due _) stamp) c.in-Ok.ensures.noted (written_front c.draw_if.result _ _ failed c.draw_if.ensures.puts.front)

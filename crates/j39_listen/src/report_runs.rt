@@ -1,0 +1,100 @@
+//! The runs that write the report of what is heard on a bus, whole or kept to what a filter takes.
+ghost use Rattle.std.specs.Prelude.{IfSome, OnOk};
+ghost use Rattle.j39_io.specs.Turn.{turn};
+ghost use Rattle.j39_groups.specs.Table.{the_table};
+ghost use Rattle.j39_listen.specs.Asking.{AsksForBoxes};
+ghost use Rattle.j39_listen.specs.Chooses.{which_of};
+ghost use Rattle.j39_listen.specs.Filter.{MakesFiltered};
+ghost use Rattle.j39_listen.specs.Output.{MakesReport};
+ghost use Rattle.j39_listen.specs.Ran.{PassesOn, Ran};
+ghost use Rattle.j39_listen.specs.Run.{WritesPublished};
+
+use crate::Counts;
+use crate::filter::Filter;
+use crate::report::Report;
+use crate::report_lines::Pen;
+use crate::running::{RunFault, run_over};
+use j39_groups::Groups;
+use j39_io::{Sink, Source};
+use j39_log::Bus;
+use std::alloc::Global;
+
+/// Writes the report of a log of at most `limit` bytes by the built-in table: a line for each value that a
+/// controller on the bus reported. Without a bus it is that of the first frame in the log.
+pub fn run<R: Source, W: Sink>(
+    alloc: Global,
+    source: &mut R,
+    sink: &mut W,
+    bus: Option<Bus>,
+    limit: u64,
+) -> Result<Counts, RunFault>
+    // What the run promises is `Ran`. The report promise: what is written is the report of the log, and nothing else.
+    // Memory is wanted only at a frame of the log that announces a message.
+    ensures ran { Ran (MakesReport the_table) AsksForBoxes bus limit result
+        (turn R.remaining R.has_failed source.old source.new) (turn W.written W.has_failed sink.old sink.new) }
+
+    // The headline: of what publishers sent, its lines under their addresses are exactly the values
+    // published, but for the messages that lost a packet.
+    ensures published { OnOk result (IfSome (R.remaining source.old)
+        (λ log. WritesPublished the_table bus log (W.written sink.old) (W.written sink.new))) }
+
+    // What was written is passed on at the end, and before each read.
+    ensures flushed { PassesOn result (W.is_flushed sink.old) (W.is_flushed sink.new) }
+{
+    let groups = Groups::built_in();
+    // Named, so that its proof is one whether a table that was read would own memory or not.
+    let ran = run_with(alloc, &groups, source, sink, bus, limit);
+    ran
+}
+
+/// Writes the report of a log of at most `limit` bytes by a table of parameters: a line for each value of it that
+/// a controller on the bus reported. Without a bus it is that of the first frame in the log.
+pub fn run_with<R: Source, W: Sink>(
+    alloc: Global,
+    groups: &Groups<'_>,
+    source: &mut R,
+    sink: &mut W,
+    bus: Option<Bus>,
+    limit: u64,
+) -> Result<Counts, RunFault>
+    // What the run promises is `Ran`. The report promise: what is written is the report of the log, and nothing else.
+    // Memory is wanted only at a frame of the log that announces a message.
+    ensures ran { Ran (MakesReport groups.now) AsksForBoxes bus limit result
+        (turn R.remaining R.has_failed source.old source.new) (turn W.written W.has_failed sink.old sink.new) }
+
+    // The headline: of what publishers sent, its lines under their addresses are exactly the values
+    // published, but for the messages that lost a packet.
+    ensures published { OnOk result (IfSome (R.remaining source.old)
+        (λ log. WritesPublished groups.now bus log (W.written sink.old) (W.written sink.new))) }
+
+    // What was written is passed on at the end, and before each read.
+    ensures flushed { PassesOn result (W.is_flushed sink.old) (W.is_flushed sink.new) }
+{
+    let pen = Pen::new();
+    let report = Report::new(alloc, groups, None, pen);
+    run_over(report, source, sink, bus, limit)
+}
+
+/// Writes the report of a log of at most `limit` bytes by a table of parameters, kept to the entries that a filter takes; whole
+/// if none is given. Without a bus it is that of the first frame in the log.
+pub fn run_filtered<R: Source, W: Sink>(
+    alloc: Global,
+    groups: &Groups<'_>,
+    filter: Option<Filter<'_>>,
+    source: &mut R,
+    sink: &mut W,
+    bus: Option<Bus>,
+    limit: u64,
+) -> Result<Counts, RunFault>
+    // What the run promises is `Ran`: what is written is what the filter takes of the report of the log, and nothing else.
+    // Memory is wanted only at a frame of the log that announces a message.
+    ensures ran { Ran (MakesFiltered groups.now (which_of filter.entry)) AsksForBoxes bus limit result
+        (turn R.remaining R.has_failed source.old source.new) (turn W.written W.has_failed sink.old sink.new) }
+
+    // What was written is passed on at the end, and before each read.
+    ensures flushed { PassesOn result (W.is_flushed sink.old) (W.is_flushed sink.new) }
+{
+    let pen = Pen::new();
+    let report = Report::new(alloc, groups, filter, pen);
+    run_over(report, source, sink, bus, limit)
+}

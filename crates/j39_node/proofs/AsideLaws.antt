@@ -1,0 +1,541 @@
+-- Which frame others exchange makes no difference to any answer, whatever comes later.
+use Rattle.std.proofs.Common.{◌≡◌, ◌≢◌, ◌↔◌, ℕ, ◌+◌, ◌-◌, List, [], ◌∷◌, ◌++◌, length, Option, Some, None, Ok, Err, Bool, true, false, not, ◌&&◌, ◌||◌, if◌then◌else◌, nat_eq, nat_lt, refl, sym, ap, ◌∙◌, subst, inl, eqb-true, arith}
+use Rattle.std.specs.List.{slice_get}
+use Rattle.std.specs.Option.{option_map, option_or}
+use Rattle.j39_frame.specs.Frame.{FrameRecord}
+use Rattle.j39_frame.specs.Identifier.{destination_of, pgn_of, ps_of, source_of}
+use Rattle.j39_address.specs.Claim.{claim_of}
+use Rattle.j39_transport.specs.Message.{MessageRecord}
+use Rattle.j39_transport.specs.Protocol.{gap}
+use Rattle.j39_node.specs.declared.kinds.AskEnding.{AskEnding}
+use Rattle.j39_node.specs.declared.kinds.Ending.{Ending}
+use Rattle.j39_node.specs.declared.kinds.News.TheVariants.{AddressLost, AnotherAtAddress, MessagesMissed}
+use Rattle.j39_node.specs.declared.kinds.Refused.TheVariants.{NoAddress, BadValue, Full}
+use Rattle.j39_node.specs.Aside.{IsAside}
+use Rattle.j39_node.specs.History.{Who, Message, Call, Address, Asked, accepted, acknowledged, acknowledgment, address_after, another_news, asked, asked_group, asked_with, broadcast_from, broadcasts, calls_for_claim, is_larger, is_own_group, is_subscribed, can_broadcast, can_send, claim_address, claim_from, claimed, due, got, handed, holds, is_acknowledgment, is_another, is_claim, is_for_program, is_held, is_lost, is_none, is_open, is_packet, is_session, is_smaller, is_some, is_transfer, kept, lost_news, message_from, message_of, missed_news, moment, older, open_broadcast, owes_claim, packets, pause, request_for, requests, sent, step, told, with_refusal, with_request}
+use Rattle.j39_node.specs.History.Address.{Lost}
+use Rattle.j39_node.specs.History.Call.{Ask, TakeAskEnded, Hear, Tick, TakeFrame, Send, TakeEnded, TakeReceived, TakeRequest, TakeNews, Acknowledge, Broadcast, TakeBroadcastEnded, ReleaseTransfer, Transfer, TakeTransferEnded, ReleaseBroadcast}
+use Rattle.j39_node.specs.Reception.{Reception, has_place, heard_at, heard_by, held_then, holder, later, leaves, left, none_waits, reception, released_by, taken_by, ticked, time_heard, whole_by}
+use Rattle.j39_node.specs.Hearing.{OpenBroadcast, announces, changes, found, has_room, hearing, is_ignored, hears as hears_it, is_unheard, left as leaves_it, newly, packs, unheard_news, whole_of}
+use Rattle.j39_node.specs.Transfers.{Resting, Running, age, begun, can_transfer, clock, hears_if, holds_back, is_engaged, is_replaced, joined, open_transfer, rest, resting, rests_after, sends_if, transfer_by, transfer_end, transfers}
+use Rattle.j39_node.specs.Asking.{Question, ask_end, can_ask, end_at, ended, first, has_token, made, is_asking, is_message, made_of, open_ask, question, silent_end, wait}
+use Rattle.j39_transport.specs.Frames as frames
+use Rattle.j39_transport.specs.Key.{Broadcast as by}
+use Rattle.j39_frame.specs.Network.{transport_control_group}
+use Rattle.j39_transport.proofs.FrameFacts.{announcement_facts}
+use Rattle.j39_node.proofs.HearingLaws as hearing_laws
+use Rattle.j39_node.proofs.PacketsAnswer.{packs_to_all}
+use Rattle.j39_node.proofs.ReceptionLaws.{goes_there, to_others}
+use Rattle.j39_node.proofs.RequestStrangers.{to_another}
+use Rattle.j39_node.proofs.StrangerLaws.{open_stays, unclaimed}
+use Rattle.j39_node.specs.Is.{AreAnswered, IsAnswered, broadcast_end, control_of, end_of, first_of, long_by, news_of, packet_by, stamped}
+
+-- ---- all that an answer hangs on
+
+record State : Type 0 where
+  pub moment : ℕ
+  pub address : Address
+  pub owes : Bool
+  pub accepted : List (ℕ × Message)
+  pub sent : List Message
+  pub told : List (ℕ × Ending)
+  pub broadcasts : List MessageRecord
+  pub broadcast : Option (ℕ × MessageRecord)
+  pub packets : List Message
+  pub pause : ℕ
+  pub kept : List (ℕ × Message)
+  pub got : List (ℕ × Message)
+  pub requests : List Asked
+  pub handed : List Asked
+  pub due : List Message
+  pub acknowledged : List Message
+  pub lost : Bool
+  pub another : Bool
+  pub missed : Bool
+  pub unheard : Bool
+  pub heard_at : ℕ
+  pub time : ℕ
+  pub holder : ℕ → Option ℕ
+  pub reception : Reception
+  pub hearing : Option OpenBroadcast
+  pub ask : Option Question
+  pub wait : ℕ
+  pub ended : Option AskEnding
+  pub age : ℕ
+  pub rest : ℕ
+  pub resting : Resting
+  pub transfer : Option Running
+  pub transfers : List (ℕ × MessageRecord)
+
+abbrev state : Who → List Call → State
+state w H = record {
+  moment = moment H;
+  address = address_after w H;
+  owes = owes_claim w H;
+  accepted = accepted w H;
+  sent = sent H;
+  told = told H;
+  broadcasts = broadcasts w H;
+  broadcast = open_broadcast w H;
+  packets = packets H;
+  pause = pause H;
+  kept = kept w H;
+  got = got H;
+  requests = requests w H;
+  handed = handed H;
+  due = due w H;
+  acknowledged = acknowledged H;
+  lost = lost_news w H;
+  another = another_news w H;
+  missed = missed_news w H;
+  unheard = unheard_news w H;
+  heard_at = heard_at H;
+  time = time_heard H;
+  holder = holder w H;
+  reception = reception w H;
+  hearing = hearing w H;
+  ask = open_ask H;
+  wait = wait H;
+  ended = ended w H;
+  age = age H;
+  rest = rest H;
+  resting = resting w H;
+  transfer = open_transfer w H;
+  transfers = transfers w H;
+}
+
+-- ---- what a call makes of it
+
+abbrev passes : ℕ → State → State
+passes now s = record s {
+  moment = now;
+  address = older (now - s.moment) s.address;
+  pause = s.pause - (now - s.moment);
+  wait = s.wait - (now - s.moment);
+  age = s.age + (now - s.moment);
+  rest = s.rest - (now - s.moment);
+}
+
+-- the address is lost or held, the time, who holds what, and the broadcast that is found
+abbrev hears_with : Who → FrameRecord → Address → Bool → ℕ → (ℕ → Option ℕ) → Option OpenBroadcast → Reception → State → State
+hears_with w f a held time holds found r s = record (passes f.stamp s) {
+  address = a;
+  owes = s.owes || calls_for_claim w (is_lost s.address) f;
+  kept = if is_for_program w held f && nat_lt (length s.kept - length s.got) 16 then s.kept ++ (f.stamp, message_of f) ∷ [] else s.kept;
+  requests = with_request w (nat_lt (length s.requests - length s.handed) 16) (asked w held f) s.requests;
+  due = with_refusal w (nat_lt (length s.requests - length s.handed) 16) (nat_lt (length s.due - length s.acknowledged) 16) (asked w held f) s.due;
+  lost = s.lost || (is_smaller w (claim_of f) && not (is_lost s.address));
+  another = s.another || is_another w held f;
+  missed = s.missed || (is_for_program w held f && not (nat_lt (length s.kept - length s.got) 16));
+  unheard = s.unheard || is_unheard w time f found;
+  heard_at = f.stamp;
+  time = time;
+  holder = holds;
+  reception = heard_by w.address (is_smaller w (claim_of f)) held f time r;
+  hearing = hears_it w time f found;
+  ended =
+      first s.ended
+      (end_at w s.ask (length s.sent) (s.wait - (f.stamp - s.moment)) (is_lost a) f
+      (option_or (made_of (whole_by w.address (is_smaller w (claim_of f)) held f time r))
+      (made_of (option_map (λ (x : ℕ × MessageRecord). x.1) (newly (whole_of s.hearing) (whole_of (hears_it w time f found)))))));
+  transfer = hears_if (is_lost a) (λ b. is_replaced (s.holder b) (holds b)) f (clock (s.age + (f.stamp - s.moment))) s.transfer;
+}
+
+abbrev heard : Who → FrameRecord → State → State
+heard w f s =
+    let holds : ℕ → Option ℕ = λ b. held_then b (claim_of f) (s.holder b) in
+    hears_with w f (if is_smaller w (claim_of f) then Lost else older (f.stamp - s.moment) s.address) (is_held (older (f.stamp - s.moment) s.address))
+    (later s.time (f.stamp - s.heard_at)) holds (leaves_it (changes s.holder holds s.hearing) s.hearing)
+    (left (leaves s.holder holds s.reception.session) s.reception) s
+
+abbrev takes_with : ℕ → FrameRecord → (ℕ → Option ℕ) → State → State
+takes_with now f holds s = record (passes now s) {
+  address = if is_claim f then claimed (older (now - s.moment) s.address) else older (now - s.moment) s.address;
+  owes = false;
+  sent = if is_claim f || (is_acknowledgment f || is_session f) then s.sent else s.sent ++ message_of f ∷ [];
+  packets = if is_packet f then s.packets ++ message_of f ∷ [] else s.packets;
+  pause = if is_packet f then gap else s.pause - (now - s.moment);
+  acknowledged = if is_claim f || not (is_acknowledgment f) then s.acknowledged else s.acknowledged ++ message_of f ∷ [];
+  wait = if is_message f && has_token s.ask (length s.sent) then 1250000 else s.wait - (now - s.moment);
+  holder = holds;
+  reception = taken_by (is_claim f) (is_acknowledgment f) (leaves s.holder holds s.reception.session) s.reception;
+  hearing = leaves_it (changes s.holder holds s.hearing) s.hearing;
+  transfer = sends_if (is_transfer f && none_waits s.reception.replies) (clock (s.age + (now - s.moment))) s.transfer;
+}
+
+abbrev next : Who → Call → State → State
+next w (Hear f) s = heard w f s
+next w (Tick now) s = record (passes now s) {
+  heard_at = now;
+  time = later s.time (now - s.heard_at);
+  reception = ticked w.address now (later s.time (now - s.heard_at)) s.reception;
+}
+next w (TakeFrame now None) s = passes now s
+next w (TakeFrame now (Some f)) s = takes_with now f (λ b. if is_claim f then held_then b (claim_of f) (s.holder b) else s.holder b) s
+next w (Send now d (Ok k)) s = record (passes now s) { accepted = s.accepted ++ (k, message_from w d) ∷ [] }
+next w (Send now d (Err r)) s = passes now s
+next w (Ask now group to (Ok k)) s = record (passes now s) {
+  accepted = s.accepted ++ (k, message_from w (request_for group to)) ∷ [];
+  ask = Some (question k group to);
+  ended = None;
+}
+next w (Ask now group to (Err r)) s = passes now s
+next w (Acknowledge now r a (Ok x)) s = record (passes now s) { due = s.due ++ acknowledgment w a r ∷ [] }
+next w (Acknowledge now r a (Err x)) s = passes now s
+next w (Broadcast now group bytes (Ok k)) s = record (passes now s) {
+  broadcasts = s.broadcasts ++ broadcast_from w group bytes ∷ [];
+  broadcast = Some (k, broadcast_from w group bytes);
+  packets = [];
+}
+next w (Broadcast now group bytes (Err r)) s = passes now s
+next w (Transfer now group to bytes (Ok k)) s = record (passes now s) {
+  transfers = s.transfers ++ (to, broadcast_from w group bytes) ∷ [];
+  transfer = Some (begun k (broadcast_from w group bytes) to);
+  age = 0;
+}
+next w (Transfer now group to bytes (Err r)) s = passes now s
+next w (TakeEnded None) s = s
+next w (TakeEnded (Some x)) s = record s { told = s.told ++ x ∷ [] }
+next w (TakeReceived None) s = s
+next w (TakeReceived (Some x)) s = record s { got = s.got ++ x ∷ [] }
+next w (TakeRequest None) s = s
+next w (TakeRequest (Some r)) s = record s { handed = s.handed ++ r ∷ [] }
+next w (TakeNews None) s = s
+next w (TakeNews (Some AddressLost)) s = record s { lost = false }
+next w (TakeNews (Some AnotherAtAddress)) s = record s { another = false }
+next w (TakeNews (Some MessagesMissed)) s = record s { missed = false; unheard = false }
+next w (TakeBroadcastEnded None) s = s
+next w (TakeBroadcastEnded (Some x)) s = record s { broadcast = None }
+next w (TakeTransferEnded None) s = s
+next w (TakeTransferEnded (Some x)) s = record s {
+  transfer = None;
+  rest = if rests_after x.1 then 4000000 else s.rest;
+  resting = if rests_after x.1 then joined s.rest s.resting s.transfer else s.resting;
+}
+next w (TakeAskEnded None) s = s
+next w (TakeAskEnded (Some x)) s = record s { ask = None }
+next w (ReleaseTransfer b) s = record s { reception = released_by b s.reception }
+next w (ReleaseBroadcast false) s = s
+next w (ReleaseBroadcast true) s = record s { hearing = None }
+
+state_is : (w : Who) (call : Call) (H : List Call) → state w (call ∷ H) ≡ next w call (state w H)
+state_is w (Hear f) H = refl
+state_is w (Tick now) H = refl
+state_is w (TakeFrame now None) H = refl
+state_is w (TakeFrame now (Some f)) H = refl
+state_is w (Send now d (Ok k)) H = refl
+state_is w (Send now d (Err r)) H = refl
+state_is w (Ask now group to (Ok k)) H = refl
+state_is w (Ask now group to (Err r)) H = refl
+state_is w (Acknowledge now r a (Ok x)) H = refl
+state_is w (Acknowledge now r a (Err x)) H = refl
+state_is w (Broadcast now group bytes (Ok k)) H = refl
+state_is w (Broadcast now group bytes (Err r)) H = refl
+state_is w (Transfer now group to bytes (Ok k)) H = refl
+state_is w (Transfer now group to bytes (Err r)) H = refl
+state_is w (TakeEnded None) H = refl
+state_is w (TakeEnded (Some x)) H = refl
+state_is w (TakeReceived None) H = refl
+state_is w (TakeReceived (Some x)) H = refl
+state_is w (TakeRequest None) H = refl
+state_is w (TakeRequest (Some r)) H = refl
+state_is w (TakeNews None) H = refl
+state_is w (TakeNews (Some AddressLost)) H = refl
+state_is w (TakeNews (Some AnotherAtAddress)) H = refl
+state_is w (TakeNews (Some MessagesMissed)) H = refl
+state_is w (TakeBroadcastEnded None) H = refl
+state_is w (TakeBroadcastEnded (Some x)) H = refl
+state_is w (TakeTransferEnded None) H = refl
+state_is w (TakeTransferEnded (Some x)) H = refl
+state_is w (TakeAskEnded None) H = refl
+state_is w (TakeAskEnded (Some x)) H = refl
+state_is w (ReleaseTransfer b) H = refl
+state_is w (ReleaseBroadcast false) H = refl
+state_is w (ReleaseBroadcast true) H = refl
+
+-- ---- the answers hang on nothing else
+
+abbrev holds_at : State → ℕ → Bool
+holds_at s now = is_held (older (now - s.moment) s.address)
+
+abbrev frame_by : Who → State → ℕ → Option (ℕ × Message)
+frame_by w s now =
+    if s.owes then Some (now, claim_from w (claim_address w s.address))
+    else if holds_at s now
+    then option_map (λ m. (now, m)) (first_of (control_of (slice_get s.due (length s.acknowledged)) (slice_get s.reception.replies 0))
+    (slice_get s.accepted (length s.sent)) (long_by (packet_by s.broadcast (length s.packets) (s.pause - (now - s.moment)))
+    (transfer_by s.transfer (clock (s.age + (now - s.moment))))))
+    else None
+
+abbrev full_by : State → Bool
+full_by s = nat_eq (length s.accepted - length s.told) 16 || nat_eq (length s.accepted) 18446744073709551615
+
+abbrev Answers : Who → State → Call → Type 0
+Answers w s (TakeFrame now answer) = option_map stamped answer ≡ frame_by w s now
+Answers w s (Send now d answer) =
+    answer ≡ (if holds_at s now then (if can_send w d then (if full_by s then Err Full else Ok (length s.accepted)) else Err BadValue) else Err NoAddress)
+Answers w s (TakeEnded answer) = answer ≡ end_of (nat_lt (length s.told) (length s.sent)) (is_lost s.address) (slice_get s.accepted (length s.told))
+Answers w s (TakeReceived answer) = answer ≡ slice_get s.kept (length s.got)
+Answers w s (TakeRequest answer) = answer ≡ slice_get s.requests (length s.handed)
+Answers w s (TakeNews answer) = answer ≡ news_of s.lost s.another (s.missed || s.unheard)
+Answers w s (Acknowledge now r answer result) =
+    result
+    ≡ (if holds_at s now
+    then (if nat_eq r.destination w.address then (if nat_eq (length s.due - length s.acknowledged) 16 then Err Full else Ok tt) else Err BadValue)
+    else Err NoAddress)
+Answers w s (Broadcast now group bytes answer) =
+    answer
+    ≡ (if holds_at s now
+    then (if can_broadcast group bytes
+    then (if is_open s.broadcast || nat_eq (length s.broadcasts) 18446744073709551615 then Err Full else Ok (length s.broadcasts))
+    else Err BadValue)
+    else Err NoAddress)
+Answers w s (TakeBroadcastEnded answer) = answer ≡ broadcast_end s.broadcast (length s.packets) (is_lost s.address)
+Answers w s (ReleaseTransfer answer) = answer ≡ not (has_place s.reception.waits)
+Answers w s (Transfer now group to bytes answer) =
+    answer
+    ≡ (if holds_at s now
+    then (if can_transfer w group to bytes
+    then (if is_engaged s.transfer (length s.transfers) || (nat_lt 0 (s.rest - (now - s.moment)) && holds_back s.resting group to) then Err Full
+    else Ok (length s.transfers))
+    else Err BadValue)
+    else Err NoAddress)
+Answers w s (TakeTransferEnded answer) = answer ≡ transfer_end s.transfer (is_lost s.address)
+Answers w s (Ask now group to answer) =
+    answer
+    ≡ (if holds_at s now
+    then (if can_ask w group to then (if full_by s || is_asking s.ask then Err Full else Ok (length s.accepted)) else Err BadValue)
+    else Err NoAddress)
+Answers w s (TakeAskEnded answer) = answer ≡ ask_end s.ask (length s.sent) s.ended s.wait (is_lost s.address)
+Answers w s (ReleaseBroadcast answer) = answer ≡ not (has_place (whole_of s.hearing))
+Answers w s (Hear f) = Unit {0}
+Answers w s (Tick now) = Unit {0}
+
+answered : (w : Who) (H : List Call) (call : Call) → IsAnswered w H call → Answers w (state w H) call
+answered w H (TakeFrame now a) h = h
+answered w H (Send now d a) h = h
+answered w H (TakeEnded a) h = h
+answered w H (TakeReceived a) h = h
+answered w H (TakeRequest a) h = h
+answered w H (TakeNews a) h = h
+answered w H (Acknowledge now r a b) h = h
+answered w H (Broadcast now group bytes a) h = h
+answered w H (TakeBroadcastEnded a) h = h
+answered w H (ReleaseTransfer a) h = h
+answered w H (Transfer now group to bytes a) h = h
+answered w H (TakeTransferEnded a) h = h
+answered w H (Ask now group to a) h = h
+answered w H (TakeAskEnded a) h = h
+answered w H (ReleaseBroadcast a) h = h
+answered w H (Hear f) h = h
+answered w H (Tick now) h = h
+
+answers : (w : Who) (H : List Call) (call : Call) → Answers w (state w H) call → IsAnswered w H call
+answers w H (TakeFrame now a) h = h
+answers w H (Send now d a) h = h
+answers w H (TakeEnded a) h = h
+answers w H (TakeReceived a) h = h
+answers w H (TakeRequest a) h = h
+answers w H (TakeNews a) h = h
+answers w H (Acknowledge now r a b) h = h
+answers w H (Broadcast now group bytes a) h = h
+answers w H (TakeBroadcastEnded a) h = h
+answers w H (ReleaseTransfer a) h = h
+answers w H (Transfer now group to bytes a) h = h
+answers w H (TakeTransferEnded a) h = h
+answers w H (Ask now group to a) h = h
+answers w H (TakeAskEnded a) h = h
+answers w H (ReleaseBroadcast a) h = h
+answers w H (Hear f) h = h
+answers w H (Tick now) h = h
+
+-- ---- so what is the same now stays the same
+
+same_on : (w : Who) (later A B : List Call) → state w A ≡ state w B → state w (later ++ A) ≡ state w (later ++ B)
+same_on w [] A B e = e
+same_on w (call ∷ later) A B e = state_is w call (later ++ A) ∙ (ap (next w call) (same_on w later A B e) ∙ sym (state_is w call (later ++ B)))
+
+same_answers : (w : Who) (later A B : List Call) → state w A ≡ state w B → (AreAnswered w A → AreAnswered w B) → AreAnswered w (later ++ A)
+    → AreAnswered w (later ++ B)
+same_answers w [] A B e first h = first h
+same_answers w (call ∷ later) A B e first h = (
+  same_answers w later A B e first h.0,
+  answers w (later ++ B) call (subst (λ (s : State). Answers w s call) (same_on w later A B e) (answered w (later ++ A) call h.1)),
+)
+
+before : (w : Who) (later A : List Call) → AreAnswered w (later ++ A) → AreAnswered w A
+before w [] A h = h
+before w (call ∷ later) A h = before w later A h.0
+
+-- ---- a frame that others exchange
+
+-- time passes, by which a request may end
+abbrev silence_of : Option Question → ℕ → ℕ → Bool → Option AskEnding
+silence_of None n left lost = None
+silence_of (Some q) n left lost = silent_end (nat_lt q.token n) left lost
+
+abbrev aside : Who → ℕ → State → State
+aside w now s = record (passes now s) {
+  heard_at = now;
+  time = later s.time (now - s.heard_at);
+  ended = first s.ended (silence_of s.ask (length s.sent) (s.wait - (now - s.moment)) (is_lost (older (now - s.moment) s.address)));
+}
+
+unequal : (m n : ℕ) → m ≢ n → nat_eq m n ≡ false
+unequal m n h = go (nat_eq m n) refl
+  where
+    go : (b : Bool) → nat_eq m n ≡ b → b ≡ false
+    go true e = absurd (h (eqb-true m n e))
+    go false e = refl
+
+no_more : (b : Bool) → (b || false) ≡ b
+no_more true = refl
+no_more false = refl
+
+never : (b : Bool) → (b && false) ≡ false
+never true = refl
+never false = refl
+
+-- no announcement and no packet to all
+announced_to_all : (f : FrameRecord) → announces f ≡ true → destination_of f.id ≡ Some 255
+unfolding frames.group_of frames.destination_of
+announced_to_all f e =
+    let facts = announcement_facts (by (source_of f.id)) f e in
+    let group : pgn_of f.id ≡ transport_control_group = facts.pgn in
+    let to : ps_of f.id ≡ 255 = facts.destination in
+    goes_there f transport_control_group (omega arith) group ∙ ap Some to
+
+not_so : (b : Bool) → (b ≡ true → ⊥) → b ≡ false
+not_so true h = absurd (h refl)
+not_so false h = refl
+
+module _ (w : Who) (f : FrameRecord) (a : IsAside w f) where
+  elsewhere : (b : ℕ) → a.to ≢ b → destination_of f.id ≢ Some b
+  elsewhere b n e = n (let z : Some a.to ≡ Some b = sym a.goes ∙ e in cc)
+
+  here : nat_eq a.to w.address ≡ false
+  here = unequal a.to w.address a.not_here
+
+  all : nat_eq a.to 255 ≡ false
+  all = unequal a.to 255 a.not_all
+
+  unannounced : announces f ≡ false
+  unannounced = not_so (announces f) (λ e. elsewhere 255 a.not_all (announced_to_all f e))
+
+  unpacked : packs f ≡ false
+  unpacked = not_so (packs f) (λ e. elsewhere 255 a.not_all (packs_to_all f e))
+
+  uncalled : (lost : Bool) → calls_for_claim w lost f ≡ false
+  uncalled lost =
+      (λ i. ((is_smaller w (a.claims i) || is_larger w (a.claims i)) && not lost)
+      || (is_some (asked_group f) 60928 && (is_some (a.goes i) 255 || (is_some (a.goes i) w.address && not lost))))
+      ∙ ((λ i. is_some (asked_group f) 60928 && (all i || (here i && not lost))) ∙ never (is_some (asked_group f) 60928))
+
+  unwanted : (held : Bool) → is_for_program w held f ≡ false
+  unwanted held =
+      (λ i. nat_lt (source_of f.id) 254 && ((is_subscribed w (pgn_of f.id) && not (is_own_group (pgn_of f.id) || nat_eq (pgn_of f.id) 59904))
+      && (is_none (a.goes i) || (is_some (a.goes i) 255 || (is_some (a.goes i) w.address && held)))))
+      ∙ ((λ i. nat_lt (source_of f.id) 254 && ((is_subscribed w (pgn_of f.id) && not (is_own_group (pgn_of f.id) || nat_eq (pgn_of f.id) 59904)) && (all i || (here i && held))))
+      ∙ (ap (λ (b : Bool). nat_lt (source_of f.id) 254 && b) (never (is_subscribed w (pgn_of f.id) && not (is_own_group (pgn_of f.id) || nat_eq (pgn_of f.id) 59904)))
+      ∙ never (nat_lt (source_of f.id) 254)))
+
+  unasked : (held : Bool) → asked w held f ≡ None
+  unasked held = ap (λ (d : Option ℕ). asked_with w held f d (asked_group f)) a.goes ∙ go (asked_group f)
+    where
+      go : (o : Option ℕ) → asked_with w held f (Some a.to) o ≡ None
+      go None = refl
+      go (Some group) =
+          ap (λ (b : Bool). if b then Some (record { source = source_of f.id; destination = a.to; group = group }) else None)
+          ((λ i. (held && nat_lt (source_of f.id) 254) && ((nat_lt group 262144 && not (nat_eq group 60928)) && (all i || here i)))
+          ∙ (ap (λ (b : Bool). (held && nat_lt (source_of f.id) 254) && b) (never (nat_lt group 262144 && not (nat_eq group 60928)))
+          ∙ never (held && nat_lt (source_of f.id) 254)))
+
+  not_mine : (held : Bool) → is_another w held f ≡ false
+  not_mine held = ap (λ (b : Bool). held && (b && not (is_claim f))) (unequal (source_of f.id) w.address a.source) ∙ never held
+
+  mine : is_smaller w (claim_of f) ≡ false
+  mine = ap (is_smaller w) a.claims
+
+  pub aside_is : (H : List Call) → AreAnswered w H → state w (Hear f ∷ H) ≡ aside w f.stamp (state w H)
+  aside_is H right =
+      λ i. record (state w (Hear f ∷ H)) {
+        address = lives i;
+        owes = owes i;
+        kept = keeps i;
+        requests = with_request w (nat_lt (length (requests w H) - length (handed H)) 16) (unasked held i) (requests w H);
+        due = with_refusal w (nat_lt (length (requests w H) - length (handed H)) 16) (nat_lt (length (due w H) - length (acknowledged H)) 16) (unasked held i) (due w H);
+        lost = loses i;
+        another = others i;
+        missed = misses i;
+        unheard = unheard i;
+        holder = λ b. held_then b (a.claims i) (holder w H b);
+        reception = receives i;
+        hearing = hearing_laws.strangers w H f a.claims unannounced (inl unpacked) i;
+        ended = ends i;
+        transfer = open_stays w H f right a.claims (elsewhere w.address a.not_here) i;
+      }
+    where
+      held : Bool
+      held = holds w H f.stamp
+
+      lives : address_after w (Hear f ∷ H) ≡ older (step H f.stamp) (address_after w H)
+      lives = ap (λ (b : Bool). if b then Lost else older (step H f.stamp) (address_after w H)) mine
+
+      owes : owes_claim w (Hear f ∷ H) ≡ owes_claim w H
+      owes = ap (λ (b : Bool). owes_claim w H || b) (uncalled (is_lost (address_after w H))) ∙ no_more (owes_claim w H)
+
+      keeps : kept w (Hear f ∷ H) ≡ kept w H
+      keeps = ap (λ (b : Bool). if b && nat_lt (length (kept w H) - length (got H)) 16 then kept w H ++ (f.stamp, message_of f) ∷ [] else kept w H) (unwanted held)
+
+      loses : lost_news w (Hear f ∷ H) ≡ lost_news w H
+      loses = ap (λ (b : Bool). lost_news w H || (b && not (is_lost (address_after w H)))) mine ∙ no_more (lost_news w H)
+
+      others : another_news w (Hear f ∷ H) ≡ another_news w H
+      others = ap (λ (b : Bool). another_news w H || b) (not_mine held) ∙ no_more (another_news w H)
+
+      misses : missed_news w (Hear f ∷ H) ≡ missed_news w H
+      misses = ap (λ (b : Bool). missed_news w H || (b && not (nat_lt (length (kept w H) - length (got H)) 16))) (unwanted held) ∙ no_more (missed_news w H)
+
+      unheard : unheard_news w (Hear f ∷ H) ≡ unheard_news w H
+      unheard = ap (λ (b : Bool). unheard_news w H || (b && (not (is_ignored w (frames.pgn_named f)) && not (has_room (time_heard (Hear f ∷ H)) (source_of f.id) (found w H f))))) unannounced
+          ∙ no_more (unheard_news w H)
+
+      receives : reception w (Hear f ∷ H) ≡ reception w H
+      receives = to_others w H f mine (λ r z. unclaimed w H f r.message.source a.claims) (elsewhere w.address a.not_here)
+
+      silent : (o : Option Question) (n left : ℕ) (lost : Bool) → end_at w o n left lost f (made w H f) ≡ silence_of o n left lost
+      silent None n left lost = refl
+      silent (Some q) n left lost =
+          ap (λ (x : Option AskEnding). first (silent_end (nat_lt q.token n) left lost) (if nat_lt q.token n then x else None))
+          (to_another w H f q a.to a.goes a.not_all a.not_here) ∙ go (silent_end (nat_lt q.token n) left lost) (nat_lt q.token n)
+        where
+          go : (x : Option AskEnding) (t : Bool) → first x (if t then None else None) ≡ x
+          go (Some e) t = refl
+          go None true = refl
+          go None false = refl
+
+      ends : ended w (Hear f ∷ H) ≡ first (ended w H) (silence_of (open_ask H) (length (sent H)) (wait H - step H f.stamp) (is_lost (older (step H f.stamp) (address_after w H))))
+      ends =
+          ap (λ (x : Address). first (ended w H) (end_at w (open_ask H) (length (sent H)) (wait H - step H f.stamp) (is_lost x) f (made w H f))) lives
+          ∙ ap (first (ended w H)) (silent (open_ask H) (length (sent H)) (wait H - step H f.stamp) (is_lost (older (step H f.stamp) (address_after w H))))
+
+-- ---- so no answer tells which it was
+
+pub alike : (w : Who) (later H : List Call) (f g : FrameRecord) → IsAside w f → IsAside w g → f.stamp ≡ g.stamp → AreAnswered w (later ++ Hear f ∷ H)
+    → AreAnswered w (later ++ Hear g ∷ H)
+alike w later H f g a b e h =
+    let right = (before w later (Hear f ∷ H) h).0 in
+    same_answers w later (Hear f ∷ H) (Hear g ∷ H)
+    (aside_is w f a H right ∙ (ap (λ (n : ℕ). aside w n (state w H)) e ∙ sym (aside_is w g b H right))) (λ r. r) h
+
+pub timely : (w : Who) (later H : List Call) (f : FrameRecord) → IsAside w f → reception w (Tick f.stamp ∷ H) ≡ reception w H → ended w (Hear f ∷ H) ≡ ended w H
+    → (AreAnswered w (later ++ Hear f ∷ H) ↔ AreAnswered w (later ++ Tick f.stamp ∷ H))
+timely w later H f a quiet none = (
+  λ h. same_answers w later (Hear f ∷ H) (Tick f.stamp ∷ H) (same (before w later (Hear f ∷ H) h).0) (λ r. r) h,
+  λ h. same_answers w later (Tick f.stamp ∷ H) (Hear f ∷ H) (sym (same (before w later (Tick f.stamp ∷ H) h).0)) (λ r. r) h,
+)
+  where
+    same : AreAnswered w H → state w (Hear f ∷ H) ≡ state w (Tick f.stamp ∷ H)
+    same right =
+        (λ i. record (aside_is w f a H right i) { ended = none i })
+        ∙ λ i. record (state w (Tick f.stamp ∷ H)) { reception = sym quiet i }

@@ -1,0 +1,111 @@
+-- A message in packets answers a request by the frame that makes it whole, be it to this address or to all.
+use Rattle.std.proofs.Common.{◌≡◌, ◌⊎◌, ℕ, ◌<◌, ◌≤◌, ◌==◌, List, ◌∷◌, length, Option, Some, None, Bool, true, false, ◌&&◌, ◌||◌, if◌then◌else◌, nat_eq, nat_le, refl, sym, ap, ◌∙◌, inl, inr, arith, eq-eqb, eqb-true}
+use Rattle.std.proofs.lemmas.Bool.{and_parts}
+use Rattle.std.specs.Option.{option_map, option_or}
+use Rattle.j39_frame.specs.Frame.{FrameRecord}
+use Rattle.j39_frame.specs.Identifier.{destination_of, pgn_of, ps_of, source_of}
+use Rattle.j39_frame.specs.Network.{transport_data_group}
+use Rattle.j39_address.specs.Claim.{claim_of}
+use Rattle.j39_transport.specs.Frames as frames
+use Rattle.j39_transport.specs.Key.{Broadcast as by, is_key}
+use Rattle.j39_transport.specs.Message.{MessageRecord}
+use Rattle.j39_transport.specs.Receiving.{RecvResult, said_to}
+use Rattle.j39_transport.proofs.FrameFacts.{announcement_facts}
+use Rattle.j39_node.specs.declared.kinds.AskEnding.{AskEnding}
+use Rattle.j39_node.specs.declared.kinds.AskEnding.TheVariants.{Answered}
+use Rattle.j39_node.specs.History.{Who, Call, holds, is_smaller}
+use Rattle.j39_node.specs.History.Call.{Hear}
+use Rattle.j39_node.specs.Reception.{Reception, has_place, holder, leaves, left, receiver_at, reception, time_heard, whole, whole_by}
+use Rattle.j39_node.specs.Hearing.{OpenBroadcast, announces, begun, changes, has_room, hearing, hears, is_ignored, left as leaves_it, made_whole, newly, packed, packs, waiting, whole_of}
+use Rattle.j39_node.specs.Asking.{Question, made, made_of, says_to}
+use Rattle.j39_node.proofs.HearingLaws.{whole_of_left}
+use Rattle.j39_node.proofs.ReceptionLaws.{goes_there, not_said, quiet_step}
+
+-- ---- a message of the group, from whom was asked, answers
+
+answers_by : (w : Who) (q : Question) (f : FrameRecord) (m : MessageRecord) (o : Option (ℕ × ℕ)) → o ≡ Some (m.source, m.pgn) → m.pgn ≡ q.group
+    → (q.to ≡ 255) ⊎ (m.source ≡ q.to) → says_to w q f o ≡ Some Answered
+answers_by w q f m o e g (inl a) =
+    ap (says_to w q f) e
+    ∙ (ap (λ (b : Bool). says_by (b && (nat_eq q.to 255 || nat_eq m.source q.to))) (eq-eqb _ _ g)
+    ∙ ap (λ (b : Bool). says_by (b || nat_eq m.source q.to)) (eq-eqb _ _ a))
+  where
+    says_by : Bool → Option AskEnding
+    says_by b = if b then Some Answered else says_to w q f None
+answers_by w q f m o e g (inr a) =
+    ap (says_to w q f) e
+    ∙ (ap (λ (b : Bool). says_by (b && (nat_eq q.to 255 || nat_eq m.source q.to))) (eq-eqb _ _ g)
+    ∙ (ap (λ (b : Bool). says_by (nat_eq q.to 255 || b)) (eq-eqb _ _ a) ∙ either (nat_eq q.to 255)))
+  where
+    says_by : Bool → Option AskEnding
+    says_by b = if b then Some Answered else says_to w q f None
+
+    either : (b : Bool) → says_by (b || true) ≡ Some Answered
+    either true = refl
+    either false = refl
+
+pub transfer_answers : (w : Who) (H : List Call) (f : FrameRecord) (m : MessageRecord) (q : Question) → whole w H f ≡ Some m → m.pgn ≡ q.group
+    → (q.to ≡ 255) ⊎ (m.source ≡ q.to) → says_to w q f (made w H f) ≡ Some Answered
+transfer_answers w H f m q e g a =
+    answers_by w q f m (made w H f)
+    (ap (λ (o : Option MessageRecord). option_or (made_of o) (made_of (option_map (λ (x : ℕ × MessageRecord). x.1) (made_whole w H f)))) e) g a
+
+-- ---- a broadcast is made whole by a packet to all
+
+some_bytes : (n : ℕ) → 9 ≤ n → nat_le n 0 ≡ false
+some_bytes n l = grind arith
+
+pub whole_by_packet : (who : Who) (now : ℕ) (f : FrameRecord) (o : Option OpenBroadcast) (p : ℕ × MessageRecord) → whole_of o ≡ None
+    → whole_of (hears who now f o) ≡ Some p → packs f ≡ true
+whole_by_packet who now f o p none e = go (announces f) (packs f) (has_room now (source_of f.id) o) (is_ignored who (frames.pgn_named f)) refl refl e
+  where
+    go : (a b c d : Bool) → announces f ≡ a → packs f ≡ b
+        → whole_of (if a then (if c then (if d then None else Some (begun now f)) else o) else if b then packed now f o else o) ≡ Some p → packs f ≡ true
+    go true b true true i k z = absurd (cc)
+    go true b true false i k z =
+        let big = (announcement_facts (by (source_of f.id)) f i).large in
+        absurd (let y : None ≡ Some p = sym (ap (λ (v : Bool). whole_if v) (some_bytes _ big)) ∙ z in cc)
+      where
+        whole_if : Bool → Option (ℕ × MessageRecord)
+        whole_if v = if v then Some (Rattle.j39_node.specs.Hearing.message_by (begun now f)) else None
+    go true b false d i k z = absurd (let y : None ≡ Some p = sym none ∙ z in cc)
+    go false true c d i k z = k
+    go false false c d i k z = absurd (let y : None ≡ Some p = sym none ∙ z in cc)
+
+pub made_by_packet : (who : Who) (H : List Call) (f : FrameRecord) (p : ℕ × MessageRecord) → made_whole who H f ≡ Some p → packs f ≡ true
+made_by_packet who H f p e = go (waiting who H) refl e
+  where
+    b : Bool
+    b = changes (holder who H) (holder who (Hear f ∷ H)) (hearing who H)
+
+    go : (o : Option (ℕ × MessageRecord)) → waiting who H ≡ o → newly o (waiting who (Hear f ∷ H)) ≡ Some p → packs f ≡ true
+    go None i z = whole_by_packet who (time_heard (Hear f ∷ H)) f (leaves_it b (hearing who H)) p (whole_of_left b (hearing who H) ∙ i) z
+    go (Some x) i z = absurd (cc)
+
+pub packs_to_all : (f : FrameRecord) → packs f ≡ true → destination_of f.id ≡ Some 255
+unfolding frames.is_packet frames.goes frames.group_of frames.source_of frames.destination_of
+packs_to_all f e =
+    let a = and_parts (pgn_of f.id == transport_data_group && ps_of f.id == 255 && source_of f.id == source_of f.id) (length f.bytes == 8) (and_parts (is_key (by (source_of f.id))) _ e).1 in
+    let b = and_parts (pgn_of f.id == transport_data_group && ps_of f.id == 255) (source_of f.id == source_of f.id) a.0 in
+    let c = and_parts (pgn_of f.id == transport_data_group) (ps_of f.id == 255) b.0 in
+    goes_there f transport_data_group (omega arith) (eqb-true _ _ c.0) ∙ ap Some (eqb-true (ps_of f.id) 255 c.1)
+
+-- ---- so it isn't one to this address
+
+pub none_whole : (own : ℕ) (lost held : Bool) (f : FrameRecord) (now : ℕ) (r : Reception) → said_to own f ≡ None → whole_by own lost held f now r ≡ None
+none_whole own true held f now r e = refl
+none_whole own false false f now r e = refl
+none_whole own false true f now r e = ap (λ (x : RecvResult). x.delivers) (quiet_step (receiver_at own r) f now (has_place r.waits) e)
+
+to_another : (own : ℕ) (d : Option ℕ) → own < 254 → d ≡ Some 255 → d ≡ Some own → ⊥
+to_another own d l e g = absurd (let z : Some 255 ≡ Some own = sym e ∙ g in let y : 255 ≡ own = cc in omega (arith, y, l))
+
+pub broadcast_answers : (w : Who) (H : List Call) (f : FrameRecord) (x : ℕ × MessageRecord) (q : Question) → w.address < 254 → made_whole w H f ≡ Some x
+    → x.1.pgn ≡ q.group → (q.to ≡ 255) ⊎ (x.1.source ≡ q.to) → says_to w q f (made w H f) ≡ Some Answered
+broadcast_answers w H f x q l e g a =
+    let to_all = packs_to_all f (made_by_packet w H f x e) in
+    let none : whole w H f ≡ None =
+    none_whole w.address (is_smaller w (claim_of f)) (holds w H f.stamp) f (time_heard (Hear f ∷ H))
+    (left (leaves (holder w H) (holder w (Hear f ∷ H)) (reception w H).session) (reception w H))
+    (not_said w.address f (to_another w.address (destination_of f.id) l to_all)) in
+    answers_by w q f x.1 (made w H f) (λ i. option_or (made_of (none i)) (made_of (option_map (λ (y : ℕ × MessageRecord). y.1) (e i)))) g a

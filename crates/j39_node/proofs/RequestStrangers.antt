@@ -1,0 +1,201 @@
+-- A frame of who wasn't asked, or to another address, says nothing to a request, and ends none.
+use Rattle.std.proofs.Common.{◌≡◌, ◌≢◌, ℕ, suc, ◌-◌, List, ◌∷◌, length, Option, Some, None, Bool, true, false, not, ◌&&◌, ◌||◌, if◌then◌else◌, nat_eq, nat_lt, slice_index, refl, sym, ap, ◌∙◌, eqb-true}
+use Rattle.std.specs.List.{slice_get}
+use Rattle.std.specs.Option.{option_map, option_or}
+use Rattle.j39_frame.specs.Frame.{FrameRecord}
+use Rattle.j39_frame.specs.Identifier.{destination_of, pgn_of, source_of}
+use Rattle.j39_address.specs.Claim.{claim_of}
+use Rattle.j39_transport.specs.Frames.{pgn_named}
+use Rattle.j39_transport.specs.Message.{MessageRecord}
+use Rattle.j39_transport.specs.Reception.{ReceptionRecord}
+use Rattle.j39_transport.specs.Receiving.{Heard, recv_step}
+use Rattle.j39_node.specs.declared.kinds.AskEnding.{AskEnding}
+use Rattle.j39_node.specs.declared.kinds.AskEnding.TheVariants.{Answered}
+use Rattle.j39_node.specs.History.{Who, Call, address_after, holds, is_acknowledgment, is_lost, is_none, is_some, is_smaller, older, sent, step}
+use Rattle.j39_node.specs.History.Address.{Lost}
+use Rattle.j39_node.specs.History.Call.{Hear, Tick}
+use Rattle.j39_node.specs.Reception.{Reception, has_place, holder, leaves, left, reception, time_heard, whole, whole_by}
+use Rattle.j39_node.specs.Hearing.{OpenBroadcast, announces, begun, changes, grown, has_room, hearing, hears, is_ignored, is_late, is_whole as is_full, left as leaves_it, made_whole, message_by, newly, packed, packs, touched, waiting, whole_of}
+use Rattle.j39_node.specs.Asking.{Question, ask_end, end_at, ended, first, is_answer, is_of, is_reply, is_whole, made, made_of, next_ask_ended, open_ask, reaches, said_by, says_to, silent_end, wait}
+use Rattle.j39_node.proofs.HearingLaws.{whole_of_left}
+use Rattle.j39_node.proofs.PacketsAnswer.{made_by_packet, none_whole, packs_to_all, whole_by_packet}
+use Rattle.j39_node.proofs.ReceptionLaws.{heard_kept, none_delivered, not_said}
+use Rattle.j39_node.proofs.ReceptionLemmas.{Gives}
+use Rattle.j39_node.proofs.StrangerLaws.{other_whole}
+
+-- ---- what a frame makes whole is of its source
+
+gives_source : (a : ℕ) (d : Option MessageRecord) (m : MessageRecord) → d ≡ Some m → Gives (λ b. b ≡ a) d → m.source ≡ a
+gives_source a None m e g = absurd (cc)
+gives_source a (Some y) m e g = let z : y ≡ m = cc in ap (λ (u : MessageRecord). u.source) (sym z) ∙ g
+
+delivered_source : (own : ℕ) (f : FrameRecord) (now : ℕ) (found : Bool) (o : Option ReceptionRecord) (m : MessageRecord)
+    → (recv_step (record { own = own; session = o }) (Heard f) now found).delivers ≡ Some m → m.source ≡ source_of f.id
+delivered_source own f now found None m e =
+    absurd (let z : None ≡ Some m = sym (none_delivered (record { own = own; session = None }) f now found refl) ∙ e in cc)
+delivered_source own f now found (Some x) m e = go (nat_eq (source_of f.id) x.message.source) refl
+  where
+    go : (b : Bool) → nat_eq (source_of f.id) x.message.source ≡ b → m.source ≡ source_of f.id
+    go true i =
+        gives_source x.message.source (recv_step (record { own = own; session = Some x }) (Heard f) now found).delivers m e (heard_kept own x f now found).gives
+        ∙ sym (eqb-true _ _ i)
+    go false i = absurd (let z : None ≡ Some m = sym (other_whole own f now found x i) ∙ e in cc)
+
+whole_source : (own : ℕ) (lost held : Bool) (f : FrameRecord) (now : ℕ) (r : Reception) (m : MessageRecord) → whole_by own lost held f now r ≡ Some m → m.source ≡ source_of f.id
+whole_source own true held f now r m e = absurd (cc)
+whole_source own false false f now r m e = absurd (cc)
+whole_source own false true f now r m e = delivered_source own f now (has_place r.waits) r.session m e
+
+packed_source : (now : ℕ) (f : FrameRecord) (o : Option OpenBroadcast) (p : ℕ × MessageRecord) → whole_of o ≡ None → whole_of (packed now f o) ≡ Some p
+    → p.1.source ≡ source_of f.id
+packed_source now f None p none e = absurd (cc)
+packed_source now f (Some x) p none e =
+    go (is_full x) (nat_eq (source_of f.id) x.source) (is_late now x) (nat_eq (slice_index f.bytes 0) (suc x.count)) refl refl e
+  where
+    one : (y : OpenBroadcast) → y.source ≡ x.source → nat_eq (source_of f.id) x.source ≡ true → whole_of (Some y) ≡ Some p → p.1.source ≡ source_of f.id
+    one y s i z = by (is_full y) z
+      where
+        by : (v : Bool) → (if v then Some (message_by y) else None) ≡ Some p → p.1.source ≡ source_of f.id
+        by true k = let q : message_by y ≡ p = cc in ap (λ (u : ℕ × MessageRecord). u.1.source) (sym q) ∙ (s ∙ sym (eqb-true _ _ i))
+        by false k = absurd (cc)
+
+    go : (a b c d : Bool) → is_full x ≡ a → nat_eq (source_of f.id) x.source ≡ b
+        → whole_of (if a || not b then Some x else if c then None else Some (if d then grown now f x else touched now f x)) ≡ Some p → p.1.source ≡ source_of f.id
+    go true b c d i k z = absurd (let y : None ≡ Some p = sym none ∙ z in cc)
+    go false false c d i k z = absurd (let y : None ≡ Some p = sym none ∙ z in cc)
+    go false true true d i k z = absurd (cc)
+    go false true false true i k z = one (grown now f x) refl k z
+    go false true false false i k z = one (touched now f x) refl k z
+
+cast_source : (who : Who) (now : ℕ) (f : FrameRecord) (o : Option OpenBroadcast) (p : ℕ × MessageRecord) → whole_of o ≡ None
+    → whole_of (hears who now f o) ≡ Some p → p.1.source ≡ source_of f.id
+cast_source who now f o p none e = go (announces f) (has_room now (source_of f.id) o) (is_ignored who (pgn_named f)) (packs f) (whole_by_packet who now f o p none e) e
+  where
+    go : (a c d b : Bool) → b ≡ true
+        → whole_of (if a then (if c then (if d then None else Some (begun now f)) else o) else if b then packed now f o else o) ≡ Some p → p.1.source ≡ source_of f.id
+    go true true true b i z = absurd (cc)
+    go true true false b i z = by (is_full (begun now f)) z
+      where
+        by : (v : Bool) → (if v then Some (message_by (begun now f)) else None) ≡ Some p → p.1.source ≡ source_of f.id
+        by true k = let q : message_by (begun now f) ≡ p = cc in ap (λ (u : ℕ × MessageRecord). u.1.source) (sym q)
+        by false k = absurd (cc)
+    go true false d b i z = absurd (let y : None ≡ Some p = sym none ∙ z in cc)
+    go false c d true i z = packed_source now f o p none z
+    go false c d false i z = absurd (cc)
+
+broadcast_source : (who : Who) (H : List Call) (f : FrameRecord) (p : ℕ × MessageRecord) → made_whole who H f ≡ Some p → p.1.source ≡ source_of f.id
+broadcast_source who H f p e = go (waiting who H) refl e
+  where
+    b : Bool
+    b = changes (holder who H) (holder who (Hear f ∷ H)) (hearing who H)
+
+    go : (o : Option (ℕ × MessageRecord)) → waiting who H ≡ o → newly o (waiting who (Hear f ∷ H)) ≡ Some p → p.1.source ≡ source_of f.id
+    go None i z = cast_source who (time_heard (Hear f ∷ H)) f (leaves_it b (hearing who H)) p (whole_of_left b (hearing who H) ∙ i) z
+    go (Some x) i z = absurd (cc)
+
+made_source : (w : Who) (H : List Call) (f : FrameRecord) (x : ℕ × ℕ) → made w H f ≡ Some x → x.0 ≡ source_of f.id
+made_source w H f x e = go (whole w H f) (made_whole w H f) refl refl e
+  where
+    go : (a : Option MessageRecord) (b : Option (ℕ × MessageRecord)) → whole w H f ≡ a → made_whole w H f ≡ b
+        → option_or (made_of a) (made_of (option_map (λ (y : ℕ × MessageRecord). y.1) b)) ≡ Some x → x.0 ≡ source_of f.id
+    go (Some m) b i k z =
+        let y : (m.source, m.pgn) ≡ x = cc in
+        ap (λ (u : ℕ × ℕ). u.0) (sym y) ∙ whole_source w.address (is_smaller w (claim_of f)) (holds w H f.stamp) f (time_heard (Hear f ∷ H)) (left (leaves (holder w H) (holder w (Hear f ∷ H)) (reception w H).session) (reception w H)) m i
+    go None (Some p) i k z = let y : (p.1.source, p.1.pgn) ≡ x = cc in ap (λ (u : ℕ × ℕ). u.0) (sym y) ∙ broadcast_source w H f p k
+    go None None i k z = absurd (cc)
+
+-- ---- another says nothing
+
+unequal : (m n : ℕ) → m ≢ n → nat_eq m n ≡ false
+unequal m n h = go (nat_eq m n) refl
+  where
+    go : (b : Bool) → nat_eq m n ≡ b → b ≡ false
+    go true e = absurd (h (eqb-true m n e))
+    go false e = refl
+
+and_false : (b : Bool) → (b && false) ≡ false
+and_false true = refl
+and_false false = refl
+
+silent_by : (w : Who) (q : Question) (f : FrameRecord) (o : Option (ℕ × ℕ)) → is_whole q o ≡ false → is_answer q f ≡ false → is_reply w q f ≡ false
+    → says_to w q f o ≡ None
+silent_by w q f o a b c = (λ i. by (a i) (b i) (c i)) ∙ none (reaches w f)
+  where
+    by : Bool → Bool → Bool → Option AskEnding
+    by x y z =
+        if x then Some Answered else if reaches w f then (if y then Some Answered else if z then said_by (slice_get f.bytes 0) else None) else None
+
+    none : (r : Bool) → (let n : Option AskEnding = None in if r then n else n) ≡ None
+    none true = refl
+    none false = refl
+
+pub of_another : (w : Who) (H : List Call) (f : FrameRecord) (q : Question) → q.to ≢ 255 → source_of f.id ≢ q.to → says_to w q f (made w H f) ≡ None
+of_another w H f q n m =
+    silent_by w q f (made w H f) (whole_one (made w H f) refl)
+    ((λ i. nat_eq (pgn_of f.id) q.group && (unequal q.to 255 n i || unequal (source_of f.id) q.to m i)) ∙ and_false (nat_eq (pgn_of f.id) q.group))
+    (ap (λ (b : Bool). is_acknowledgment f && (b && is_of w.address q.group f.bytes)) (unequal (source_of f.id) q.to m) ∙ and_false (is_acknowledgment f))
+  where
+    whole_one : (o : Option (ℕ × ℕ)) → made w H f ≡ o → is_whole q o ≡ false
+    whole_one None e = refl
+    whole_one (Some x) e =
+        (λ i. nat_eq x.1 q.group && (unequal q.to 255 n i || (ap (λ (a : ℕ). nat_eq a q.to) (made_source w H f x e) ∙ unequal (source_of f.id) q.to m) i))
+        ∙ and_false (nat_eq x.1 q.group)
+
+pub to_another : (w : Who) (H : List Call) (f : FrameRecord) (q : Question) (a : ℕ) → destination_of f.id ≡ Some a → a ≢ 255 → a ≢ w.address
+    → says_to w q f (made w H f) ≡ None
+to_another w H f q a d n m =
+    ap (says_to w q f) none_made ∙ ap (λ (b : Bool). if b then (if is_answer q f then Some Answered else if is_reply w q f then said_by (slice_get f.bytes 0) else None) else None) unreached
+  where
+    elsewhere : (b : ℕ) → a ≢ b → destination_of f.id ≢ Some b
+    elsewhere b k e = k (let z : Some a ≡ Some b = sym d ∙ e in cc)
+
+    unreached : reaches w f ≡ false
+    unreached = (λ i. nat_lt (source_of f.id) 254 && (is_none (d i) || (is_some (d i) 255 || is_some (d i) w.address)))
+        ∙ ((λ i. nat_lt (source_of f.id) 254 && (unequal a 255 n i || unequal a w.address m i)) ∙ and_false (nat_lt (source_of f.id) 254))
+
+    none_to : whole w H f ≡ None
+    none_to =
+        none_whole w.address (is_smaller w (claim_of f)) (holds w H f.stamp) f (time_heard (Hear f ∷ H))
+        (left (leaves (holder w H) (holder w (Hear f ∷ H)) (reception w H).session) (reception w H))
+        (not_said w.address f (elsewhere w.address m))
+
+    none_cast : made_whole w H f ≡ None
+    none_cast = go (made_whole w H f) refl
+      where
+        go : (o : Option (ℕ × MessageRecord)) → made_whole w H f ≡ o → o ≡ None
+        go None e = refl
+        go (Some p) e = absurd (elsewhere 255 n (packs_to_all f (made_by_packet w H f p e)))
+
+    none_made : made w H f ≡ None
+    none_made = λ i. option_or (made_of (none_to i)) (made_of (option_map (λ (y : ℕ × MessageRecord). y.1) (none_cast i)))
+
+-- ---- what says nothing ends nothing
+
+pub ends : (w : Who) (H : List Call) (f : FrameRecord) (q : Question) → open_ask H ≡ Some q → says_to w q f (made w H f) ≡ None
+    → is_smaller w (claim_of f) ≡ false → next_ask_ended w (Hear f ∷ H) ≡ next_ask_ended w (Tick f.stamp ∷ H)
+ends w H f q o none mine =
+    (λ i. ask_end (o i) (length (sent H)) (first (ended w H) (end_at w (o i) (length (sent H)) left_over (lost i) f (made w H f))) left_over (lost i))
+    ∙ (ap (λ (x : Option AskEnding). option_map (λ e. (q.token, e)) (first (first (ended w H) (first silence (if taken then x else None))) silence)) none
+    ∙ (ap (λ (x : Option AskEnding). option_map (λ e. (q.token, e)) x) (once (ended w H) silence taken)
+    ∙ λ i. ask_end (sym o i) (length (sent H)) (ended w H) left_over lost_now))
+  where
+    left_over : ℕ
+    left_over = wait H - step H f.stamp
+
+    lost_now : Bool
+    lost_now = is_lost (older (step H f.stamp) (address_after w H))
+
+    lost : is_lost (address_after w (Hear f ∷ H)) ≡ lost_now
+    lost = ap (λ (b : Bool). is_lost (if b then Lost else older (step H f.stamp) (address_after w H))) mine
+
+    taken : Bool
+    taken = nat_lt q.token (length (sent H))
+
+    silence : Option AskEnding
+    silence = silent_end taken left_over lost_now
+
+    once : (a b : Option AskEnding) (t : Bool) → first (first a (first b (if t then None else None))) b ≡ first a b
+    once (Some x) b t = refl
+    once None (Some y) t = refl
+    once None None true = refl
+    once None None false = refl

@@ -1,0 +1,252 @@
+-- A frame of a stranger changes nothing of what is sent to others, received from others, or told to have ended.
+use Rattle.std.proofs.Common.{◌≡◌, ◌≢◌, ◌⊎◌, ℕ, ◌-◌, List, [], ◌∷◌, ◌++◌, length, Option, Some, None, Bool, true, false, not, ◌&&◌, ◌||◌, if◌then◌else◌, nat_eq, nat_lt, ◌==◌, refl, sym, ap, ◌∙◌, subst, inl, inr, arith, eqb-true, eq-eqb}
+use Rattle.std.proofs.lemmas.Bool.{cond_both, and_parts}
+use Rattle.std.specs.List.{slice_get}
+use Rattle.std.specs.Option.{option_map}
+use Rattle.j39_frame.specs.Frame.{FrameRecord}
+use Rattle.j39_frame.specs.Identifier.{destination_of, pgn_of, ps_of, source_of}
+use Rattle.j39_frame.specs.Network.{transport_control_group, transport_data_group}
+use Rattle.j39_address.specs.Claim.{Claim, claim_of}
+use Rattle.j39_transport.specs.Cutting.{ToSend}
+use Rattle.j39_transport.specs.Frames as frames
+use Rattle.j39_transport.specs.Key.{Directed}
+use Rattle.j39_transport.specs.Message.{MessageRecord}
+use Rattle.j39_transport.specs.Reception.{ReceptionRecord, Reaction, grants, takes_abort, takes_data, takes_request, takes_signal}
+use Rattle.j39_transport.specs.Receiving.{Heard as Received, recv_step, said_to}
+use Rattle.j39_transport.specs.Sending.{hears as listens_to, send_step}
+use Rattle.j39_transport.specs.SenderNext.{granted_by}
+use Rattle.j39_transport.specs.Signals.{Signal, BroadcastAnnounce, RequestToSend, ClearToSend, Acknowledgment, Abort, Packet, said_between, said_by}
+use Rattle.j39_node.specs.declared.controller.Controller.{Controller}
+use Rattle.j39_node.specs.History.{Who, Message, Call, Address, Asked, accepted, acknowledged, address_after, asked_group, asked_with, calls_for_claim, claim_address, claim_from, due, handed, holds, is_held, is_larger, is_lost, is_some, is_smaller, older, owes_claim, requests, sent, step, with_refusal}
+use Rattle.j39_node.specs.History.Address.{Lost}
+use Rattle.j39_node.specs.History.Call.{Hear, Tick, TakeFrame}
+use Rattle.j39_node.specs.Reception.{Reception, goes_to, has_place, heard_by, held_then, holder, keeps, leaves, left, reception, replied, reply_from, says, time_heard, whole_by, without}
+use Rattle.j39_node.specs.Transfers.{Running, clock_at, granted_after, hears_if, is_replaced, is_spent, listens, next_transfer_ended, open_transfer, spent_after, transfer_by, transfer_end}
+use Rattle.j39_node.specs.Is.{AreAnswered, Is, control_of, first_of, long_by, next_frame, next_long, next_packet}
+use Rattle.j39_node.proofs.PortLemmas.{Ported, ported}
+use Rattle.j39_node.proofs.ReceptionLaws.{goes_there, left_waits, none_delivered, not_left_by, says_it, to_others, waits_after}
+
+-- ---- a transfer
+
+-- a frame of another, or to another, says nothing to its sender
+not_between : (d own : ℕ) (f : FrameRecord) → (source_of f.id ≢ d) ⊎ (destination_of f.id ≢ Some own) → said_between d own f ≡ None
+unfolding said_between said_by frames.source_of frames.destination_of frames.group_of
+not_between d own f (inl n) =
+    cond_both (source_of f.id == d && ps_of f.id == own) _ _ (λ (x : Option Signal). x ≡ None)
+    (λ b. absurd (n (eqb-true (source_of f.id) d (and_parts (source_of f.id == d) (ps_of f.id == own) b).0))) (λ b. refl)
+not_between d own f (inr n) =
+    cond_both (source_of f.id == d && ps_of f.id == own) _ _ (λ (x : Option Signal). x ≡ None)
+    (λ b. let to = eqb-true (ps_of f.id) own (and_parts (source_of f.id == d) (ps_of f.id == own) b).1 in
+    cond_both (pgn_of f.id == transport_data_group && length f.bytes == 8) _ _ (λ (x : Option Signal). x ≡ None)
+    (λ c. absurd (n (goes_there f transport_data_group (omega arith) (eqb-true (pgn_of f.id) transport_data_group (and_parts (pgn_of f.id == transport_data_group) (length f.bytes == 8) c).0) ∙ ap Some to)))
+    (λ c. cond_both (pgn_of f.id == transport_control_group && length f.bytes == 8) _ _ (λ (x : Option Signal). x ≡ None)
+    (λ e. absurd (n (goes_there f transport_control_group (omega arith) (eqb-true (pgn_of f.id) transport_control_group (and_parts (pgn_of f.id == transport_control_group) (length f.bytes == 8) e).0) ∙ ap Some to)))
+    (λ e. refl)))
+    (λ b. refl)
+
+listens_same : (f : FrameRecord) (now : ℕ) (t : Running) → said_between t.sender.destination t.sender.message.source f ≡ None → listens f now t ≡ t
+unfolding send_step listens_to
+listens_same f now t e =
+    λ i. (let x : Running = record {
+      token = t.token;
+      sender = listens_to (e i) now t.sender;
+      granted = granted_after (granted_by t.sender (e i)) t.granted;
+      spent = spent_after (granted_by t.sender (e i)) t.granted t.spent;
+      gone = t.gone;
+    } in x)
+
+open_same : (w : Who) (lost : Bool) (replaced : ℕ → Bool) (f : FrameRecord) (now : ℕ) (t : Running) → t.sender.message.source ≡ w.address
+    → (source_of f.id ≢ t.sender.destination) ⊎ (destination_of f.id ≢ Some w.address) → replaced t.sender.destination ≡ false
+    → hears_if lost replaced f now (Some t) ≡ Some t
+open_same w lost replaced f now t own other kept = ap Some (go lost (replaced t.sender.destination) kept (t.gone || is_spent t))
+  where
+    still : listens f now t ≡ t
+    still = listens_same f now t (ap (λ (a : ℕ). said_between t.sender.destination a f) own ∙ not_between t.sender.destination w.address f other)
+
+    go : (a b : Bool) → b ≡ false → (g : Bool) → (if a then t else if b then record t { gone = true } else if g then t else listens f now t) ≡ t
+    go true b e g = refl
+    go false true e g = absurd (cc)
+    go false false e true = refl
+    go false false e false = still
+
+own_source : (w : Who) (H : List Call) (t : Running) → AreAnswered w H → open_transfer w H ≡ Some t → t.sender.message.source ≡ w.address
+own_source w H t right e = (subst (Ported w) e (ported w H right)).source
+
+transfer_left : (w : Who) (H : List Call) (f : FrameRecord) (t : Running) → AreAnswered w H → open_transfer w H ≡ Some t
+    → (source_of f.id ≢ t.sender.destination) ⊎ (destination_of f.id ≢ Some w.address)
+    → is_replaced (holder w H t.sender.destination) (holder w (Hear f ∷ H) t.sender.destination) ≡ false → open_transfer w (Hear f ∷ H) ≡ Some t
+transfer_left w H f t right e other kept =
+    ap (hears_if (is_lost (address_after w (Hear f ∷ H))) (λ a. is_replaced (holder w H a) (holder w (Hear f ∷ H) a)) f (clock_at H f.stamp)) e
+    ∙ open_same w (is_lost (address_after w (Hear f ∷ H))) (λ a. is_replaced (holder w H a) (holder w (Hear f ∷ H) a)) f (clock_at H f.stamp) t
+    (own_source w H t right e) other kept
+
+pub transfer_stays : (w : Who) (H : List Call) (c : Controller) (f : FrameRecord) (t : Running) → Is w H c → open_transfer w H ≡ Some t
+    → (source_of f.id ≢ t.sender.destination) ⊎ (destination_of f.id ≢ Some w.address)
+    → is_replaced (holder w H t.sender.destination) (holder w (Hear f ∷ H) t.sender.destination) ≡ false → open_transfer w (Hear f ∷ H) ≡ Some t
+transfer_stays w H c f t is e other kept = transfer_left w H f t is.answered e other kept
+
+pub next_stays : (w : Who) (H : List Call) (c : Controller) (f : FrameRecord) (t : Running) (now : ℕ) → Is w H c → open_transfer w H ≡ Some t
+    → (source_of f.id ≢ t.sender.destination) ⊎ (destination_of f.id ≢ Some w.address)
+    → is_replaced (holder w H t.sender.destination) (holder w (Hear f ∷ H) t.sender.destination) ≡ false
+    → next_long w (Hear f ∷ H) now ≡ next_long w (Tick f.stamp ∷ H) now
+next_stays w H c f t now is e other kept =
+    ap (λ (o : Option Running). long_by (next_packet w (Hear f ∷ H) now) (transfer_by o (clock_at (Hear f ∷ H) now)))
+    (transfer_stays w H c f t is e other kept ∙ sym e)
+
+pub end_stays : (w : Who) (H : List Call) (c : Controller) (f : FrameRecord) (t : Running) → Is w H c → open_transfer w H ≡ Some t
+    → (source_of f.id ≢ t.sender.destination) ⊎ (destination_of f.id ≢ Some w.address)
+    → is_replaced (holder w H t.sender.destination) (holder w (Hear f ∷ H) t.sender.destination) ≡ false → is_smaller w (claim_of f) ≡ false
+    → next_transfer_ended w (Hear f ∷ H) ≡ next_transfer_ended w (Tick f.stamp ∷ H)
+end_stays w H c f t is e other kept mine =
+    ap (λ (o : Option Running). transfer_end o (is_lost (address_after w (Hear f ∷ H)))) (transfer_stays w H c f t is e other kept ∙ sym e)
+    ∙ ap (λ (b : Bool). transfer_end (open_transfer w H) (is_lost (if b then Lost else older (step H f.stamp) (address_after w H)))) mine
+
+-- ---- the next frame
+
+same_held : (o : Option ℕ) → is_replaced o o ≡ false
+same_held None = refl
+same_held (Some n) = ap not (eq-eqb n n refl)
+
+-- what is no claim leaves who holds an address
+pub unclaimed : (w : Who) (H : List Call) (f : FrameRecord) (a : ℕ) → claim_of f ≡ None → holder w (Hear f ∷ H) a ≡ holder w H a
+unclaimed w H f a e = ap (λ (o : Option Claim). held_then a o (holder w H a)) e
+
+pub open_stays : (w : Who) (H : List Call) (f : FrameRecord) → AreAnswered w H → claim_of f ≡ None → destination_of f.id ≢ Some w.address
+    → open_transfer w (Hear f ∷ H) ≡ open_transfer w H
+open_stays w H f right e n = go (open_transfer w H) refl
+  where
+    go : (o : Option Running) → open_transfer w H ≡ o → open_transfer w (Hear f ∷ H) ≡ o
+    go None i =
+        ap (hears_if (is_lost (address_after w (Hear f ∷ H))) (λ a. is_replaced (holder w H a) (holder w (Hear f ∷ H) a)) f (clock_at H f.stamp)) i
+    go (Some t) i =
+        transfer_left w H f t right i (inr n)
+        (ap (is_replaced (holder w H t.sender.destination)) (unclaimed w H f t.sender.destination e) ∙ same_held (holder w H t.sender.destination))
+
+no_more : (b : Bool) → (b || false) ≡ b
+no_more true = refl
+no_more false = refl
+
+none_asked : (w : Who) (held : Bool) (f : FrameRecord) (d : Option ℕ) → asked_with w held f d None ≡ None
+none_asked w held f None = refl
+none_asked w held f (Some to) = refl
+
+pub frame_stays : (w : Who) (H : List Call) (c : Controller) (f : FrameRecord) (now : ℕ) → Is w H c → claim_of f ≡ None → asked_group f ≡ None
+    → destination_of f.id ≢ Some w.address → next_frame w (Hear f ∷ H) now ≡ next_frame w (TakeFrame f.stamp None ∷ H) now
+frame_stays w H c f now is e g n =
+    λ i. by (owes i) (lives i) (owed i) (said i) (moved i)
+  where
+    by : Bool → Address → List Message → List Message → Option Running → Option (ℕ × Message)
+    by b a acks replies t =
+        if b then Some (now, claim_from w (claim_address w a))
+        else if is_held (older (step (Hear f ∷ H) now) a)
+        then option_map (λ m. (now, m)) (first_of (control_of (slice_get acks (length (acknowledged H))) (slice_get replies 0))
+        (slice_get (accepted w H) (length (sent H))) (long_by (next_packet w (Hear f ∷ H) now) (transfer_by t (clock_at (Hear f ∷ H) now)))) else None
+
+    calls : calls_for_claim w (is_lost (address_after w H)) f ≡ false
+    calls = λ i. ((is_smaller w (e i) || is_larger w (e i)) && not (is_lost (address_after w H)))
+        || (is_some (g i) 60928 && (is_some (destination_of f.id) 255 || (is_some (destination_of f.id) w.address && not (is_lost (address_after w H)))))
+
+    owes : owes_claim w (Hear f ∷ H) ≡ owes_claim w H
+    owes = ap (λ (b : Bool). owes_claim w H || b) calls ∙ no_more (owes_claim w H)
+
+    mine : is_smaller w (claim_of f) ≡ false
+    mine = ap (is_smaller w) e
+
+    lives : address_after w (Hear f ∷ H) ≡ older (step H f.stamp) (address_after w H)
+    lives = ap (λ (b : Bool). if b then Lost else older (step H f.stamp) (address_after w H)) mine
+
+    owed : due w (Hear f ∷ H) ≡ due w H
+    owed = ap (λ (o : Option Asked). with_refusal w (nat_lt (length (requests w H) - length (handed H)) 16) (nat_lt (length (due w H) - length (acknowledged H)) 16) o (due w H))
+        (ap (asked_with w (holds w H f.stamp) f (destination_of f.id)) g ∙ none_asked w (holds w H f.stamp) f (destination_of f.id))
+
+    said : (reception w (Hear f ∷ H)).replies ≡ (reception w H).replies
+    said = ap (λ (r : Reception). r.replies) (to_others w H f mine (λ r z. unclaimed w H f r.message.source e) n)
+
+    moved : open_transfer w (Hear f ∷ H) ≡ open_transfer w H
+    moved = open_stays w H f is.answered e n
+
+-- ---- what is received
+
+-- another's frame makes nothing whole
+other_quiet : (source own : ℕ) (s : Option Signal) (now : ℕ) (found : Bool) (x : ReceptionRecord) → (source ≡ x.message.source → ⊥)
+    → (takes_signal (Directed source own) s now found (Some x)).delivers ≡ None
+unfolding takes_signal takes_data takes_abort takes_request grants
+other_quiet source own None now found x n = refl
+other_quiet source own (Some (BroadcastAnnounce size count pgn)) now found x n = refl
+other_quiet source own (Some (RequestToSend size count most pgn)) now found x n =
+    cond_both (not (source == x.message.source)) _ _ (λ (y : Reaction). y.delivers ≡ None) (λ t. refl) (λ t. cond_both found _ _ (λ (y : Reaction). y.delivers ≡ None) (λ u. refl) (λ u. refl))
+other_quiet source own (Some (ClearToSend count next pgn)) now found x n = refl
+other_quiet source own (Some (Acknowledgment size count pgn)) now found x n = refl
+other_quiet source own (Some (Abort reason pgn)) now found x n =
+    cond_both (source == x.message.source && pgn == x.message.group) _ _ (λ (y : Reaction). y.delivers ≡ None) (λ t. refl) (λ t. refl)
+other_quiet source own (Some (Packet k part)) now found x n =
+    cond_both (source == x.message.source) _ _ (λ (y : Reaction). y.delivers ≡ None) (λ t. absurd (n (eqb-true _ _ t))) (λ t. refl)
+
+none_whole : (own : ℕ) (f : FrameRecord) (now : ℕ) (found : Bool) (o : Option ReceptionRecord)
+    → ((x : ReceptionRecord) → o ≡ Some x → source_of f.id ≢ x.message.source)
+    → (recv_step (record { own = own; session = o }) (Received f) now found).delivers ≡ None
+unfolding recv_step frames.source_of
+none_whole own f now found None n = none_delivered (record { own = own; session = None }) f now found refl
+none_whole own f now found (Some x) n = other_quiet (source_of f.id) own (said_to own f) now found x (n x refl)
+
+pub other_whole : (own : ℕ) (f : FrameRecord) (now : ℕ) (found : Bool) (x : ReceptionRecord) → nat_eq (source_of f.id) x.message.source ≡ false
+    → (recv_step (record { own = own; session = Some x }) (Received f) now found).delivers ≡ None
+other_whole own f now found x e = none_whole own f now found (Some x) (λ y i s. other y i s)
+  where
+    other : (y : ReceptionRecord) → Some x ≡ Some y → source_of f.id ≡ y.message.source → ⊥
+    other y i s = let z : x ≡ y = cc in absurd (let k : false ≡ true = sym e ∙ eq-eqb _ _ (s ∙ ap (λ (u : ReceptionRecord). u.message.source) (sym z)) in cc)
+
+pub whole_by_none : (own : ℕ) (lost held b : Bool) (f : FrameRecord) (now : ℕ) (r : Reception)
+    → ((x : ReceptionRecord) → r.session ≡ Some x → source_of f.id ≢ x.message.source) → whole_by own lost held f now (left b r) ≡ None
+whole_by_none own true held b f now r n = refl
+whole_by_none own false false b f now r n = refl
+whole_by_none own false true true f now r n = none_whole own f now (has_place r.waits) None (λ x z. absurd (cc))
+whole_by_none own false true false f now r n = none_whole own f now (has_place r.waits) r.session n
+
+pub waits_stay : (w : Who) (H : List Call) (f : FrameRecord)
+    → ((r : ReceptionRecord) → (reception w H).session ≡ Some r → source_of f.id ≢ r.message.source)
+    → (reception w (Hear f ∷ H)).waits ≡ (reception w H).waits
+waits_stay w H f n =
+    let b = leaves (holder w H) (holder w (Hear f ∷ H)) (reception w H).session in
+    waits_after w.address (is_smaller w (claim_of f)) (holds w H f.stamp) f (time_heard (Hear f ∷ H)) (left b (reception w H))
+    ∙ (ap (λ (o : Option MessageRecord). keeps f.stamp o (left b (reception w H)).waits)
+    (whole_by_none w.address (is_smaller w (claim_of f)) (holds w H f.stamp) b f (time_heard (Hear f ∷ H)) (reception w H) n)
+    ∙ left_waits b (reception w H))
+
+-- ---- what is said
+
+without_one : (a : ℕ) (xs : List Message) (m : Message) → goes_to a m ≡ true → without a (xs ++ m ∷ []) ≡ without a xs
+without_one a [] m e = ap (λ (b : Bool). if b then without a [] else m ∷ without a []) e
+without_one a (x ∷ xs) m e = ap (λ ys. if goes_to a x then ys else x ∷ ys) (without_one a xs m e)
+
+without_twice : (a : ℕ) (xs : List Message) → without a (without a xs) ≡ without a xs
+without_twice a [] = refl
+without_twice a (x ∷ xs) = go (goes_to a x) refl (without_twice a xs)
+  where
+    go : (b : Bool) → goes_to a x ≡ b → without a (without a xs) ≡ without a xs
+        → without a (if b then without a xs else x ∷ without a xs) ≡ (if b then without a xs else x ∷ without a xs)
+    go true e h = h
+    go false e h = ap (λ (b : Bool). if b then without a (without a xs) else x ∷ without a (without a xs)) e ∙ ap (λ ys. x ∷ ys) h
+
+to_others_stay : (own a : ℕ) (s : Option ToSend) (xs : List Message) → without a (replied own a s xs) ≡ without a xs
+to_others_stay own a None xs = refl
+to_others_stay own a (Some x) xs = go (nat_lt (length (without a xs)) 16)
+  where
+    go : (b : Bool) → without a (if b then without a xs ++ reply_from own a x.bytes ∷ [] else without a xs) ≡ without a xs
+    go true = without_one a (without a xs) (reply_from own a x.bytes) (eq-eqb a a refl) ∙ without_twice a xs
+    go false = without_twice a xs
+
+pub replies_stay : (w : Who) (H : List Call) (f : FrameRecord) → claim_of f ≡ None
+    → without (source_of f.id) (reception w (Hear f ∷ H)).replies ≡ without (source_of f.id) (reception w H).replies
+replies_stay w H f e = go (holds w H f.stamp) refl
+  where
+    go : (b : Bool) → holds w H f.stamp ≡ b → without (source_of f.id) (reception w (Hear f ∷ H)).replies ≡ without (source_of f.id) (reception w H).replies
+    go true h = ap (without (source_of f.id)) (says_it w H f h e) ∙ to_others_stay w.address (source_of f.id) (says w H f) (reception w H).replies
+    go false h = ap (without (source_of f.id)) (idle (is_smaller w (claim_of f)) (holds w H f.stamp) (leaves (holder w H) (holder w (Hear f ∷ H)) (reception w H).session) (ap (is_smaller w) e) h (not_left_by w H f e))
+      where
+        idle : (a b c : Bool) → a ≡ false → b ≡ false → c ≡ false
+            → (heard_by w.address a b f (time_heard (Hear f ∷ H)) (left c (reception w H))).replies ≡ (reception w H).replies
+        idle true b c x y z = absurd (cc)
+        idle false true c x y z = absurd (cc)
+        idle false false true x y z = absurd (cc)
+        idle false false false x y z = refl

@@ -1,8 +1,0 @@
-use Rattle.std.proofs.Common.{[], refl}
-use Rattle.j39_listen.specs.Filter.{filter_of, filtered_of}
-use Rattle.j39_reports.specs.EntryText.{entry_record}
-use Rattle.j39_reports.proofs.report_records.run.report_csv_filtered.Goals as goal
-
-pub returns-clause-ran : goal.returns-clause-ran
-returns-clause-ran g c = c.run_headed.ensures.ran (record { rows = c.args.groups.now; which = filter_of c.args.filter })
-    (filtered_of entry_record c.args.groups.now (filter_of c.args.filter) 0 []) (λ name. c.new.ensures) refl
