@@ -1,5 +1,5 @@
 -- One of the logs isn't opened.
-use Rattle.std.proofs.Common.{◌≡◌, ◌<◌, ◌++◌, ℕ, zero, suc, List, [], ◌∷◌, arith, length, map, slice_index_or, subst}
+use Rattle.std.proofs.Common.{◌≡◌, ◌<◌, ◌++◌, ℕ, zero, suc, List, [], ◌∷◌, None, Option, arith, length, map, slice_index_or, subst}
 use Rattle.std.proofs.lemmas.List.{get_or-map, length-map, map-append}
 use Rattle.std.proofs.lemmas.List.Elements.{All-append}
 use Rattle.std.specs.List.{All, Contains}
@@ -9,7 +9,7 @@ use Rattle.j39_cli.specs.Order.{IsSpanOfSome}
 use Rattle.j39_cli.specs.declared.file_span.FileSpan.{FileSpan}
 use Rattle.j1939.specs.Opened.{IsUnopened}
 use Rattle.j1939.specs.declared.input.Unopened.{Unopened}
-use Rattle.j1939.specs.declared.input.Unopened.TheVariants.{File, Memory}
+use Rattle.j1939.specs.declared.input.Unopened.TheVariants.{File, Folder, Memory}
 
 only_one : (x y : List ℕ) → Contains (x ∷ []) y → x ≡ y
 only_one x y (zero, fits, is) = is
@@ -18,6 +18,7 @@ only_one x y (suc k, fits, is) = absurd (omega (arith, fits))
 -- it is one of them where it is this one of them
 pub unopened_among : (x : List ℕ) (xs : List (List ℕ)) (why : Unopened) → Contains xs x → IsUnopened (x ∷ []) why → IsUnopened xs why
 unopened_among x xs (File name) among is = subst (Contains xs) (only_one x name.now is) among
+unopened_among x xs (Folder name) among is = subst (Contains xs) (only_one x name.now is) among
 unopened_among x xs Memory among is = tt
 
 -- of those behind the first
@@ -41,3 +42,10 @@ seen_more spans new span all one is =
     alone : All IsSpanOfSome (span_record span ∷ [])
     alone zero d fits = one
     alone (suc k) d fits = absurd (omega (arith, fits))
+
+-- what these logs hold: std doesn't say
+abbrev pub unknown : {L : Type 0} → List L → List (Option (List ℕ))
+unknown logs = map (λ log. None) logs
+
+pub unknown_length : {L : Type 0} (logs : List L) → length (unknown logs) ≡ length logs
+unknown_length logs = length-map logs (λ log. None)

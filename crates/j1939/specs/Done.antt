@@ -1,7 +1,7 @@
 -- What the program does for its words: a task over its log and by its table, or what is told in its place.
 use Rattle.std.specs.Prelude.{◌≡◌, ◌⊎◌, ◌↔◌, ◌∷◌, ℕ, false, true, IfOk, List, [], MatchOption, MatchResult, Option, codes, length}
 use Rattle.std.specs.List.{All, Contains}
-use Rattle.j39_io.specs.Turn.{Device, Turn, Writes}
+use Rattle.j39_io.specs.Turn.{Device, Turn}
 use Rattle.j39_groups.specs.Row.{RowRecord}
 use Rattle.j39_groups.specs.Table.{the_table}
 use Rattle.j39_table.specs.Tables.{IsFaultOf, IsTableOf}
@@ -9,12 +9,14 @@ use Rattle.j39_table.specs.declared.fault.TableFault.{TableFault}
 use Rattle.j39_table.specs.declared.fault.TableFault.TheVariants.{Memory}
 use Rattle.j39_cli.specs.Answer.{Answer}
 use Rattle.j39_cli.specs.CommandWords.{CommandWords, HasValues, IsAnswer, words_of}
+use Rattle.j39_cli.specs.Joined.{joined_known}
 use Rattle.j39_cli.specs.LogCommand.{inputs_of}
 use Rattle.j39_cli.specs.Order.{IsSpanOfSome, Span, order_text}
-use Rattle.j39_cli.specs.OwnTable.{folder_line, table_line}
-use Rattle.j39_cli.specs.Refusal.{IsHelp, IsWrongLine, error_line, error_words, out_words}
+use Rattle.j39_cli.specs.OwnTable.{table_line}
+use Rattle.j39_cli.specs.Refusal.{IsHelp, IsWrongLine, error_line, error_words, folder_line, out_words}
 use Rattle.j39_cli.specs.Spelling.{IsSpelled}
-use Rattle.j39_cli.specs.Task.{IsPerformedOver, asks_input_twice, files_of, table_of}
+use Rattle.j39_cli.specs.Task.{IsPerformed, asks_input_twice, files_of, table_of}
+use Rattle.j39_cli.specs.Tells.{Tells}
 use Rattle.j39_cli.specs.Unknown.{asks_for_unknown, unknown_text}
 use Rattle.j39_cli.specs.declared.task.ParseFault.{ParseFault}
 use Rattle.j39_cli.specs.declared.task.ParseFault.TheVariants as refused
@@ -24,7 +26,11 @@ use Rattle.j39_cli.specs.declared.task.Task.{Task}
 pub record TellsLine (line : List ℕ) (status : ℕ) (out err : Turn) : Type 0 where
   pub status_is : status ≡ 1
   pub silent : out.new ≡ out.old
-  pub told : Writes err line
+  pub told : Tells err line
+
+-- that this is a folder is told
+abbrev pub TellsFolder : List ℕ → ℕ → Turn → Turn → Type 0
+TellsFolder file status out err = TellsLine (folder_line file) status out err
 
 -- that a file can't be opened is told
 abbrev pub TellsUnopened : List ℕ → ℕ → Turn → Turn → Type 0
@@ -34,23 +40,26 @@ TellsUnopened file status out err = TellsLine (error_line (codes "cannot open ")
 abbrev pub TellsFault : List ℕ → TableFault → ℕ → Turn → Turn → Type 0
 TellsFault name fault status out err = TellsLine (table_line name fault) status out err
 
--- the task was performed by these rows over what each of its FILEs holds, one behind the other; before that it was told which
--- of them begins before the one before it ends, by what was seen at both ends of each
+-- the task was performed by these rows over what each of its FILEs holds, one behind the other, as one log that no fault has
+-- come to; before that it was told which of them begins before the one before it ends, by what was seen at both ends of each
 pub record IsDoneOver (rows : List RowRecord) (task : Task) (status : ℕ) (out err : Turn) : Type 0 where
   pub spans : List Span
   pub each_span : length spans ≡ length (files_of task)
   pub seen : All IsSpanOfSome spans
   pub between : Device
-  pub told : Writes (record { old = err.old; new = between }) (order_text (files_of task) spans)
+  pub told : Tells (record { old = err.old; new = between }) (order_text (files_of task) spans)
   pub held : List (Option (List ℕ))
   pub each : length held ≡ length (inputs_of (files_of task))
-  pub performed : IsPerformedOver rows task held status out (record { old = between; new = err.new })
+  pub log : Turn
+  pub joined : log.old.bytes ≡ joined_known held
+  pub sound : log.old.has_failed ≡ false
+  pub performed : IsPerformed rows task status log out (record { old = between; new = err.new })
 
--- so it was; or one of its FILEs can't be opened, or memory for all of them was refused, and nothing is written
+-- so it was; or one of its FILEs can't be opened or is a folder, or memory for all of them was refused, and nothing is written
 abbrev pub IsDoneOnce : List RowRecord → Task → ℕ → Turn → Turn → Type 0
 IsDoneOnce rows task status out err =
     IsDoneOver rows task status out err
-    ⊎ (((file : List ℕ) × Contains (files_of task) file × TellsUnopened file status out err)
+    ⊎ (((file : List ℕ) × Contains (files_of task) file × (TellsUnopened file status out err ⊎ TellsFolder file status out err))
     ⊎ TellsLine (error_line (codes "out of memory") []) status out err)
 
 -- no row has any of the parameters that are asked for: that is told, and no log is opened
@@ -58,13 +67,13 @@ pub record FindsNone (rows : List RowRecord) (task : Task) (status : ℕ) (out e
   pub status_is : status ≡ 2
   pub none_found : asks_for_unknown rows task ≡ true
   pub silent : out.new ≡ out.old
-  pub told : Writes err (unknown_text rows task)
+  pub told : Tells err (unknown_text rows task)
 
 -- it was done behind the words on those that no row has
 pub record IsDoneBehind (rows : List RowRecord) (task : Task) (status : ℕ) (out err : Turn) : Type 0 where
   pub some_found : asks_for_unknown rows task ≡ false
   pub between : Device
-  pub told : Writes (record { old = err.old; new = between }) (unknown_text rows task)
+  pub told : Tells (record { old = err.old; new = between }) (unknown_text rows task)
   pub done : IsDoneOnce rows task status out (record { old = between; new = err.new })
 
 abbrev pub IsDoneBy : List RowRecord → Task → ℕ → Turn → Turn → Type 0
@@ -81,7 +90,7 @@ IsDoneByText name text task status out err =
 abbrev pub IsDoneByName : List ℕ → Task → ℕ → Turn → Turn → Type 0
 IsDoneByName name task status out err =
     ((text : List ℕ) × IsDoneByText name text task status out err)
-    ⊎ (TellsUnopened name status out err ⊎ (TellsLine (folder_line name) status out err ⊎ TellsFault name Memory status out err))
+    ⊎ (TellsUnopened name status out err ⊎ (TellsFolder name status out err ⊎ TellsFault name Memory status out err))
 
 -- the task was done by the table that it names, or else by the built-in one
 abbrev pub IsDone : Task → ℕ → Turn → Turn → Type 0
@@ -94,7 +103,7 @@ pub record AsksInputTwice (task : Task) (status : ℕ) (out err : Turn) : Type 0
   pub status_is : status ≡ 2
   pub is_twice : asks_input_twice task ≡ true
   pub silent : out.new ≡ out.old
-  pub told : Writes err (error_line (codes "standard input (-) twice among FILE") [])
+  pub told : Tells err (error_line (codes "standard input (-) twice among FILE") [])
 
 -- ---- the words
 
@@ -110,8 +119,8 @@ pub record TellsWhy (fault : ParseFault) (status : ℕ) (out err : Turn) : Type 
   pub help : (status ≡ 0) ↔ IsHelp fault
   pub memory : (status ≡ 1) ↔ (fault ≡ refused.Memory)
   pub wrong : (status ≡ 2) ↔ IsWrongLine fault
-  pub out_told : Writes out (out_words fault)
-  pub err_told : Writes err (error_words fault)
+  pub out_told : Tells out (out_words fault)
+  pub err_told : Tells err (error_words fault)
 
 -- the task that the words ask for was done, or why there is none is told
 pub record Follows (words : List (List ℕ)) (status : ℕ) (out err : Turn) : Type 0 where

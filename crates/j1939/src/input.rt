@@ -1,5 +1,5 @@
 //! The logs that are read: what each FILE holds, or standard input.
-ghost use Rattle.std.specs.Prelude.{◌≡◌, ◌+◌, ◌++◌, ◌∷◌, [], IfErr, IfOk, length, map, true};
+ghost use Rattle.std.specs.Prelude.{◌≡◌, ◌+◌, ◌++◌, ◌∷◌, [], IfErr, IfOk, IfSome, length, map, true};
 ghost use Rattle.std.specs.List.{All};
 ghost use Rattle.j39_cli.specs.FileSpans.{span_record};
 ghost use Rattle.j39_cli.specs.LogCommand.{inputs_of};
@@ -55,6 +55,8 @@ const END: usize = 512;
 pub(crate) enum Unopened<'a> {
     /// The file of this name can't be opened.
     File(&'a str),
+    /// This one is a folder.
+    Folder(&'a str),
     /// Memory was refused.
     Memory,
 }
@@ -119,25 +121,30 @@ fn input_of<'a>(rt: &HostRuntime, file: &'a str, looks: bool) -> Result<Log, Uno
         return Ok(Log { input, span });
     }
     match looked_at(rt, file, looks) {
-        Ok((log, span)) => Ok(Log {
+        Ok(Some((log, span))) => Ok(Log {
             input: Told::new(Input::File(log)),
             span,
         }),
+        Ok(None) => Err(Unopened::Folder(file)),
         Err(_) => Err(Unopened::File(file)),
     }
 }
 
-/// Opens a file, and looks at both its ends if that is asked and it can be read from any place.
-fn looked_at(rt: &HostRuntime, file: &str, looks: bool) -> io::Result<(File, FileSpan)>
-    ensures { IfOk result (λ log. IsSpanOfSome (span_record log.1)) }
+/// Opens a file, and looks at both its ends if that is asked and it can be read from any place. `None` for a folder.
+fn looked_at(rt: &HostRuntime, file: &str, looks: bool) -> io::Result<Option<(File, FileSpan)>>
+    ensures { IfOk result (λ log. IfSome log (λ log. IsSpanOfSome (span_record log.1))) }
 {
     let mut log = fs::open(rt, file)?;
-    let span = if looks && log.metadata()?.is_file() {
+    let kind = log.metadata()?;
+    if kind.is_dir() {
+        return Ok(None);
+    }
+    let span = if looks && kind.is_file() {
         span_in(&mut log)?
     } else {
         span_of(b"", b"")
     };
-    Ok((log, span))
+    Ok(Some((log, span)))
 }
 
 /// Where the stamps of a file begin and end. It stands at its front then.

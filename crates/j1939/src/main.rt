@@ -3,10 +3,11 @@
 
 ghost use Rattle.std.specs.Prelude.{◌≡◌, ◌≢◌, ◌≤◌, ◌⊎◌, ℕ, IfOk, List, codes, false, map, true};
 ghost use Rattle.std.specs.IoError.{error_kind};
-ghost use Rattle.j39_io.specs.Turn.{Turn, Writes, turn};
+ghost use Rattle.j39_io.specs.Turn.{Turn, turn};
 ghost use Rattle.j39_table.specs.declared.fault.TableFault.{TableFault};
-ghost use Rattle.j39_cli.specs.OwnTable.{folder_line, table_line};
-ghost use Rattle.j39_cli.specs.Refusal.{IsWrongLine, error_line};
+ghost use Rattle.j39_cli.specs.OwnTable.{table_line};
+ghost use Rattle.j39_cli.specs.Refusal.{IsWrongLine, error_line, folder_line};
+ghost use Rattle.j39_cli.specs.Tells.{Tells};
 ghost use Rattle.j1939.specs.Done.{Follows, IsDone, IsDoneBy, IsDoneByText, IsDoneOnce};
 
 mod input;
@@ -14,7 +15,7 @@ mod table;
 
 use input::{Unopened, opened};
 use j39_cli::{
-    ParseFault, Task, asks_for_unknown, asks_input_twice, folder_for_table, parse, perform_over,
+    Joined, ParseFault, Task, asks_for_unknown, asks_input_twice, not_a_file, parse, perform_with,
     refuse, tell_order, unopened, wrong_table,
 };
 use j39_groups::Groups;
@@ -116,20 +117,20 @@ fn done<W: Sink, E: Sink>(rt: &HostRuntime, task: &Task<'_>, out: &mut W, err: &
 fn unread<E: Sink>(name: &str, error: &io::Error, err: &mut E) -> u8
     ensures status { result ≡ 1 }
     ensures memory { error_kind error.now ≡ ErrorKind.OutOfMemory
-        → Writes (turn E.written E.has_failed err.old err.new) (table_line name.now TableFault.Memory) }
+        → Tells (turn E.written E.has_failed err.old err.new) (table_line name.now TableFault.Memory) }
     ensures folder { error_kind error.now ≡ ErrorKind.IsADirectory
-        → Writes (turn E.written E.has_failed err.old err.new) (folder_line name.now) }
+        → Tells (turn E.written E.has_failed err.old err.new) (folder_line name.now) }
     ensures other { error_kind error.now ≢ ErrorKind.OutOfMemory → error_kind error.now ≢ ErrorKind.IsADirectory
-        → Writes (turn E.written E.has_failed err.old err.new) (error_line (codes "cannot open ") name.now) }
-    ensures one_of { Writes (turn E.written E.has_failed err.old err.new) (error_line (codes "cannot open ") name.now)
-        ⊎ (Writes (turn E.written E.has_failed err.old err.new) (folder_line name.now)
-        ⊎ Writes (turn E.written E.has_failed err.old err.new) (table_line name.now TableFault.Memory)) }
+        → Tells (turn E.written E.has_failed err.old err.new) (error_line (codes "cannot open ") name.now) }
+    ensures one_of { Tells (turn E.written E.has_failed err.old err.new) (error_line (codes "cannot open ") name.now)
+        ⊎ (Tells (turn E.written E.has_failed err.old err.new) (folder_line name.now)
+        ⊎ Tells (turn E.written E.has_failed err.old err.new) (table_line name.now TableFault.Memory)) }
     ensures passed_on { E.has_failed err.new ≡ false → E.is_flushed err.new ≡ true }
 {
     if error.kind() == ErrorKind::OutOfMemory {
         wrong_table(name, TableFault::Memory, err)
     } else if error.kind() == ErrorKind::IsADirectory {
-        folder_for_table(name, err)
+        not_a_file(name, err)
     } else {
         unopened(name, err)
     }
@@ -194,9 +195,11 @@ fn over<W: Sink, E: Sink>(
     match opened(rt, task.files()) {
         Ok(logs) => {
             tell_order(task.files(), logs.spans.as_slice(), err);
-            perform_over(rt.alloc(), groups, task, logs.first, logs.later, out, err)
+            let mut log = Joined::new(logs.first, logs.later);
+            perform_with(rt.alloc(), groups, task, &mut log, out, err)
         }
         Err(Unopened::File(file)) => unopened(file, err),
+        Err(Unopened::Folder(file)) => not_a_file(file, err),
         Err(Unopened::Memory) => refuse(&ParseFault::Memory, out, err),
     }
 }

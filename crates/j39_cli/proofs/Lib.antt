@@ -19,3 +19,5 @@ pub mod JoinedLemmas
 pub mod RunLemmas
 -- the order of FILEs
 pub mod OrderLemmas
+-- what is told of nothing
+pub mod TellsLemmas

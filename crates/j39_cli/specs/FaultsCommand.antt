@@ -2,7 +2,7 @@
 -- [--all | --changes | --now] [--csv | --json] [FILE]..`.
 use Rattle.std.specs.Prelude.{◌≡◌, ◌≢◌, ◌⊎◌, ◌∷◌, [], ℕ, Bool, true, false, List, Option, Some, None, Result, Ok, Err, codes, option_map, unwrap_or}
 use Rattle.std.specs.Option.{ForSome}
-use Rattle.j39_io.specs.Turn.{Turn, Writes}
+use Rattle.j39_io.specs.Turn.{Turn}
 use Rattle.clap.specs.Words.{App, Text, new_app, with_rule}
 use Rattle.j39_log.specs.Bus.{IsBusName}
 use Rattle.j39_listen.specs.Output.{Making}
@@ -29,6 +29,7 @@ use Rattle.j39_cli.specs.Counted.{fault_counts_text}
 use Rattle.j39_cli.specs.Refusal.{error_line}
 use Rattle.j39_cli.specs.Spns.{IsSpnList, spns_in}
 use Rattle.j39_cli.specs.Rules.{flag_rule, option_rule, with_table}
+use Rattle.j39_cli.specs.Tells.{Tells}
 use Rattle.j39_listen.specs.declared.format.Format.{Format}
 use Rattle.j39_cli.specs.declared.task.FaultsTold.{FaultsTold}
 use Rattle.j39_cli.specs.declared.task.FaultsTold.TheVariants.{InMessages, Now}
@@ -92,8 +93,8 @@ asks_by Now = AsksForFaultsNow
 
 -- the end of a run is told: its counts, with the messages that were broken, with status 0, or its fault, with status 1
 abbrev pub IsFaultsTold : Result FaultCounts RunFault → ℕ → Turn → Type 0
-IsFaultsTold (Ok told) status err = (status ≡ 0) × Writes err (fault_counts_text told)
-IsFaultsTold (Err fault) status err = (status ≡ 1) × Writes err (error_line (fault_text fault) [])
+IsFaultsTold (Ok told) status err = (status ≡ 0) × Tells err (fault_counts_text told)
+IsFaultsTold (Err fault) status err = (status ≡ 1) × Tells err (error_line (fault_text fault) [])
 
 -- a run over the log ended so, as a run that makes this of faults may, and its end is told
 pub record IsFaultsRun (makes : Making) (asks : Wanting) (bus : Option (List ℕ)) (status : ℕ) (log out err : Turn) : Type 0 where

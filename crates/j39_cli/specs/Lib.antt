@@ -36,6 +36,7 @@ pub mod Outgoing
 pub mod CutCommand
 pub mod GroupsCommand
 -- what is written on a device
+pub mod Tells
 pub mod WholeText
 pub mod Counted
 pub mod OwnTable

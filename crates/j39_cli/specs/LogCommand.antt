@@ -2,7 +2,7 @@
 use Rattle.std.specs.Prelude.{◌≡◌, ◌⊎◌, ℕ, Bool, true, false, ◌++◌, ◌∷◌, List, [], Option, None, Some, Result, Ok, Err, codes, decimal}
 use Rattle.std.specs.Str.{bytes_eq}
 use Rattle.std.specs.Option.{ForSome}
-use Rattle.j39_io.specs.Turn.{Turn, Writes}
+use Rattle.j39_io.specs.Turn.{Turn}
 use Rattle.clap.specs.Words.{App, with_rule}
 use Rattle.j39_log.specs.Bus.{IsBusName}
 use Rattle.j39_groups.specs.Row.{RowRecord}
@@ -17,6 +17,7 @@ use Rattle.j39_cli.specs.Form.{Meaning}
 use Rattle.j39_cli.specs.Rules.{flag_rule, option_rule, values_rule}
 use Rattle.j39_cli.specs.Counted.{counts_text}
 use Rattle.j39_cli.specs.Refusal.{error_line}
+use Rattle.j39_cli.specs.Tells.{Tells}
 use Rattle.j39_listen.specs.declared.format.Format.{Format}
 use Rattle.j39_listen.specs.declared.format.Format.TheVariants.{Line, Object, Record}
 use Rattle.j39_cli.specs.declared.task.LogInput.{LogInput}
@@ -58,8 +59,8 @@ fault_text TooLong = codes "input longer than " ++ decimal log_limit ++ codes " 
 
 -- the end of a run is told: its counts, with status 0, or its fault, with status 1
 abbrev pub IsTold : Result Counts RunFault → ℕ → Turn → Type 0
-IsTold (Ok counts) status err = (status ≡ 0) × Writes err (counts_text counts)
-IsTold (Err fault) status err = (status ≡ 1) × Writes err (error_line (fault_text fault) [])
+IsTold (Ok counts) status err = (status ≡ 0) × Tells err (counts_text counts)
+IsTold (Err fault) status err = (status ≡ 1) × Tells err (error_line (fault_text fault) [])
 
 -- a run over the log ended so, as a run that makes and asks this may, and its end is told
 pub record IsRun (asks : Wanting) (makes : Making) (bus : Option (List ℕ)) (status : ℕ) (log out err : Turn) : Type 0 where

@@ -11,7 +11,3 @@ table_line file (Line number fault) = error_line file (fault_text (Line number f
 table_line file (TooManyRows number) = error_line file (fault_text (TooManyRows number))
 table_line file TooLong = error_line file (fault_text TooLong)
 table_line file Memory = error_line (codes "out of memory") []
-
--- of a folder in the place of a table
-abbrev pub folder_line : List ℕ → List ℕ
-folder_line folder = error_line folder (codes " is a folder")

@@ -23,6 +23,10 @@ IsWrongLine (Help text) = ⊥
 abbrev pub error_line : List ℕ → List ℕ → List ℕ
 error_line words name = codes "j1939: " ++ (words ++ (name ++ newline ∷ []))
 
+-- of a folder in the place of a file
+abbrev pub folder_line : List ℕ → List ℕ
+folder_line folder = error_line folder (codes " is a folder")
+
 -- what standard output is told
 abbrev pub out_words : ParseFault → List ℕ
 out_words Memory = []

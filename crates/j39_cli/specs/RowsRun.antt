@@ -1,6 +1,6 @@
 -- A run over a log by a table of parameters, or by its rows of those that are asked for, `--spn`.
 use Rattle.std.specs.Prelude.{◌≡◌, ◌⊎◌, ℕ, List, [], Option, None, Some}
-use Rattle.j39_io.specs.Turn.{Turn, Writes}
+use Rattle.j39_io.specs.Turn.{Turn}
 use Rattle.j39_groups.specs.Readings.{HaveSameGroups, rows_of_spns}
 use Rattle.j39_groups.specs.Row.{RowRecord}
 use Rattle.j39_listen.specs.Asking.{Wanting}
@@ -8,13 +8,14 @@ use Rattle.j39_listen.specs.Output.{Making}
 use Rattle.j39_listen.specs.declared.running.RunFault.TheVariants.{Memory}
 use Rattle.j39_cli.specs.LogCommand.{IsRun, fault_text}
 use Rattle.j39_cli.specs.Refusal.{error_line}
+use Rattle.j39_cli.specs.Tells.{Tells}
 
 -- memory was refused before the log was read: that is told, and nothing is written
 pub record IsNotBegun (status : ℕ) (log out err : Turn) : Type 0 where
   pub status_is : status ≡ 1
   pub unread : log.new ≡ log.old
   pub unwritten : out.new ≡ out.old
-  pub told : Writes err (error_line (fault_text Memory) [])
+  pub told : Tells err (error_line (fault_text Memory) [])
 
 -- by the whole table, or by its rows of the parameters that are asked for
 abbrev pub IsRowsRun : (List RowRecord → Wanting) → (List RowRecord → Making) → Option (List ℕ) → List RowRecord → Option (List ℕ) → ℕ

@@ -1,6 +1,6 @@
 -- The command `survey [--bus B] [--table T] [FILE]..`.
 use Rattle.std.specs.Prelude.{◌≡◌, ◌⊎◌, ◌∷◌, ℕ, List, [], Option, Result, Ok, Err, codes, true}
-use Rattle.j39_io.specs.Turn.{Turn, Writes}
+use Rattle.j39_io.specs.Turn.{Turn}
 use Rattle.std.specs.Option.{ForSome}
 use Rattle.clap.specs.Words.{App, Text, new_app}
 use Rattle.j39_log.specs.Bus.{IsBusName}
@@ -12,6 +12,7 @@ use Rattle.j39_cli.specs.Form.{Form, Meaning, option, values}
 use Rattle.j39_cli.specs.LogCommand.{fault_text, log_limit, with_log}
 use Rattle.j39_cli.specs.Refusal.{error_line}
 use Rattle.j39_cli.specs.Rules.{with_table}
+use Rattle.j39_cli.specs.Tells.{Tells}
 use Rattle.j39_cli.specs.declared.task.LogInput.{LogInput}
 use Rattle.j39_cli.specs.declared.task.Task.{Task}
 use Rattle.j39_cli.specs.declared.task.Task.TheVariants.{Survey}
@@ -33,7 +34,7 @@ survey_form bus table file = record {
 -- the end of a survey: nothing is said of one that was written, with status 0, and a fault is told, with status 1
 abbrev pub IsSurveyTold : Result (Unit {0}) RunFault → ℕ → Turn → Type 0
 IsSurveyTold (Ok none) status err = (status ≡ 0) × (err.new ≡ err.old)
-IsSurveyTold (Err fault) status err = (status ≡ 1) × Writes err (error_line (fault_text fault) [])
+IsSurveyTold (Err fault) status err = (status ≡ 1) × Tells err (error_line (fault_text fault) [])
 
 -- a survey of the log ended so, as `survey` of `j39_reports` may, and its end is told
 pub record IsSurvey (bus : Option (List ℕ)) (rows : List RowRecord) (status : ℕ) (log out err : Turn) : Type 0 where

@@ -1,11 +1,10 @@
 -- What a task comes to.
-use Rattle.std.specs.Prelude.{◌≡◌, ℕ, Bool, false, List, Option, count_by, nat_lt}
+use Rattle.std.specs.Prelude.{ℕ, Bool, List, Option, count_by, nat_lt}
 use Rattle.j39_io.specs.Turn.{Turn}
 use Rattle.j39_address.specs.Name.{name_raw}
 use Rattle.j39_frame.specs.Identifier.{id_raw}
 use Rattle.j39_groups.specs.Row.{RowRecord}
 use Rattle.j39_cli.specs.Form.{Meaning}
-use Rattle.j39_cli.specs.Joined.{joined_known}
 use Rattle.j39_cli.specs.LogCommand.{is_input}
 use Rattle.j39_cli.specs.AnswerCommand.{answer_meaning}
 use Rattle.j39_cli.specs.CutCommand.{cut_meaning}
@@ -54,13 +53,6 @@ IsInRange t = (meaning_of t).InRange
 -- writer
 abbrev pub IsPerformed : List RowRecord → Task → ℕ → Turn → Turn → Turn → Type 0
 IsPerformed table t status log out err = (meaning_of t).Performs table status log out err
-
--- the same over what these hold, one behind the other, as one log that no fault has come to
-pub record IsPerformedOver (table : List RowRecord) (t : Task) (held : List (Option (List ℕ))) (status : ℕ) (out err : Turn) : Type 0 where
-  pub log : Turn
-  pub joined : log.old.bytes ≡ joined_known held
-  pub sound : log.old.has_failed ≡ false
-  pub performed : IsPerformed table t status log out err
 
 abbrev pub reads_log : Task → Bool
 reads_log t = (meaning_of t).reads_log

@@ -2,8 +2,9 @@
 use Rattle.std.specs.Prelude.{◌≡◌, ◌⊎◌, ℕ, true, List, [], codes}
 use Rattle.std.specs.Io.KnownBytes.{Appends}
 use Rattle.j39_io.specs.Device.{AppendsFront}
-use Rattle.j39_io.specs.Turn.{IsUnmarked, Turn, Writes}
+use Rattle.j39_io.specs.Turn.{IsUnmarked, Turn}
 use Rattle.j39_cli.specs.Refusal.{error_line}
+use Rattle.j39_cli.specs.Tells.{Tells}
 
 -- status 0: all of the text was written, and no fault came
 abbrev pub IsWhole : List ℕ → ℕ → Turn → Type 0
@@ -13,7 +14,7 @@ IsWhole text status out = (status ≡ 0) × Appends out.old.bytes out.new.bytes 
 abbrev pub IsCutShort : List ℕ → ℕ → Turn → Turn → Type 0
 IsCutShort text status out err =
     (status ≡ 1) × AppendsFront out.old.bytes out.new.bytes text × (out.new.has_failed ≡ true)
-    × Writes err (error_line (codes "write failed") [])
+    × Tells err (error_line (codes "write failed") [])
 
 abbrev pub IsShown : List ℕ → ℕ → Turn → Turn → Type 0
 IsShown text status out err = IsWhole text status out ⊎ IsCutShort text status out err

@@ -1,10 +1,11 @@
 //! What the commands that read a log have in common.
 ghost use Rattle.std.specs.Prelude.{◌≡◌, [], false, true};
-ghost use Rattle.j39_io.specs.Turn.{Writes, turn};
+ghost use Rattle.j39_io.specs.Turn.{turn};
 ghost use Rattle.clap.specs.Words.{App};
 ghost use Rattle.j39_cli.specs.LogCommand.{IsTold, fault_text, with_forms, with_log};
 ghost use Rattle.j39_cli.specs.Refusal.{error_line};
 ghost use Rattle.j39_cli.specs.Rules.{IsMade};
+ghost use Rattle.j39_cli.specs.Tells.{Tells};
 
 use crate::command::{with_flag, with_option, with_values};
 use crate::fields::{counts_line, push_field};
@@ -72,7 +73,7 @@ pub(crate) fn tell_end<E: Sink>(end: Result<Counts, RunFault>, err: &mut E) -> u
 /// Says which fault came, and answers the exit status.
 pub(crate) fn tell_fault<E: Sink>(fault: RunFault, err: &mut E) -> u8
     ensures status { result ≡ 1 }
-    ensures told { Writes (turn E.written E.has_failed err.old err.new) (error_line (fault_text fault) []) }
+    ensures told { Tells (turn E.written E.has_failed err.old err.new) (error_line (fault_text fault) []) }
     ensures passed_on { E.has_failed err.new ≡ false → E.is_flushed err.new ≡ true }
 {
     complain(err, words_of(fault).as_slice(), b"");

@@ -2,12 +2,12 @@
 ghost use Rattle.std.specs.Prelude.{◌≡◌, ◌≤◌, ◌<◌, ◌++◌, [], codes, false, length, map, option_map, reverse, true};
 ghost use Rattle.std.specs.List.{prefix_len};
 ghost use Rattle.j39_frame.specs.Stamp.{stamp_micros};
-ghost use Rattle.j39_io.specs.Device.{AppendsFront};
 ghost use Rattle.j39_io.specs.Puts.{Puts};
-ghost use Rattle.j39_io.specs.Turn.{Writes, turn};
+ghost use Rattle.j39_io.specs.Turn.{turn};
 ghost use Rattle.j39_log.specs.Newline.{is_no_newline};
 ghost use Rattle.j39_cli.specs.FileSpans.{span_record};
 ghost use Rattle.j39_cli.specs.Order.{IsSpan, IsSpanOfSome, IsStampOf, first_line, is_before, last_line, order_line, order_text, without_end};
+ghost use Rattle.j39_cli.specs.Tells.{Tells};
 
 use crate::FileSpan;
 use j39_frame::Stamp;
@@ -81,9 +81,7 @@ fn stamp_of(line: &[u8]) -> Option<Stamp>
 /// Says of the first two FILEs, one behind the other, of which the second begins before the first ends, that it does. A fault
 /// of the writer is passed over.
 pub fn tell_order<E: Sink>(files: &[&str], spans: &[FileSpan], err: &mut E)
-    ensures told { Writes (turn E.written E.has_failed err.old err.new)
-        (order_text (map (λ file. file.now) files.now) (map span_record spans.now)) }
-    ensures front { AppendsFront (E.written err.old) (E.written err.new)
+    ensures told { Tells (turn E.written E.has_failed err.old err.new)
         (order_text (map (λ file. file.now) files.now) (map span_record spans.now)) }
     ensures untouched { order_text (map (λ file. file.now) files.now) (map span_record spans.now) ≡ [] → err.new ≡ err.old }
     ensures passed_on { 0 < length (order_text (map (λ file. file.now) files.now) (map span_record spans.now))
@@ -112,8 +110,7 @@ fn is_before(first: FileSpan, second: FileSpan) -> bool
 
 /// Says that of two FILEs the second begins before the first ends.
 fn tell_before<E: Sink>(first: &str, second: &str, err: &mut E)
-    ensures told { Writes (turn E.written E.has_failed err.old err.new) (order_line first.now second.now) }
-    ensures front { AppendsFront (E.written err.old) (E.written err.new) (order_line first.now second.now) }
+    ensures told { Tells (turn E.written E.has_failed err.old err.new) (order_line first.now second.now) }
     ensures passed_on { E.has_failed err.new ≡ false → E.is_flushed err.new ≡ true }
 {
     match put_before(first.as_bytes(), second.as_bytes(), err) {

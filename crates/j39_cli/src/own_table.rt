@@ -1,7 +1,8 @@
 //! What the program says of a file that is no table of parameters.
 ghost use Rattle.std.specs.Prelude.{◌≡◌, false, true};
-ghost use Rattle.j39_io.specs.Turn.{Writes, turn};
-ghost use Rattle.j39_cli.specs.OwnTable.{folder_line, table_line};
+ghost use Rattle.j39_io.specs.Turn.{turn};
+ghost use Rattle.j39_cli.specs.OwnTable.{table_line};
+ghost use Rattle.j39_cli.specs.Tells.{Tells};
 
 use crate::refusal::complain;
 use j39_io::Sink;
@@ -10,7 +11,7 @@ use j39_table::TableFault;
 /// Says why this file is no table, and answers the exit status. A fault of the writer is passed over.
 pub fn wrong_table<E: Sink>(file: &str, fault: TableFault, err: &mut E) -> u8
     ensures status { result ≡ 1 }
-    ensures err { Writes (turn E.written E.has_failed err.old err.new)
+    ensures err { Tells (turn E.written E.has_failed err.old err.new)
         (table_line file.now fault) }
     ensures passed_on { E.has_failed err.new ≡ false → E.is_flushed err.new ≡ true }
 {
@@ -18,15 +19,5 @@ pub fn wrong_table<E: Sink>(file: &str, fault: TableFault, err: &mut E) -> u8
         TableFault::Memory => complain(err, b"out of memory", b""),
         _ => complain(err, file.as_bytes(), fault.text().as_slice()),
     }
-    1
-}
-
-/// Says that this is a folder, and no table, and answers the exit status. A fault of the writer is passed over.
-pub fn folder_for_table<E: Sink>(folder: &str, err: &mut E) -> u8
-    ensures status { result ≡ 1 }
-    ensures err { Writes (turn E.written E.has_failed err.old err.new) (folder_line folder.now) }
-    ensures passed_on { E.has_failed err.new ≡ false → E.is_flushed err.new ≡ true }
-{
-    complain(err, folder.as_bytes(), b" is a folder");
     1
 }

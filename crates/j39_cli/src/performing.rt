@@ -1,15 +1,15 @@
 //! Tasks over devices.
-ghost use Rattle.std.specs.Prelude.{◌≡◌, ◌⊎◌, ◌∷◌, false, map, true};
+ghost use Rattle.std.specs.Prelude.{◌≡◌, ◌⊎◌, false, true};
 ghost use Rattle.j39_io.specs.Turn.{turn};
 ghost use Rattle.j39_groups.specs.Table.{the_table};
-ghost use Rattle.j39_cli.specs.Task.{IsPerformed, IsPerformedOver, reads_log};
+ghost use Rattle.j39_cli.specs.Task.{IsPerformed, reads_log};
 
 use crate::faults::versions_in;
 use crate::id::id_line;
 use crate::log::tell_end;
 use crate::name::name_lines;
 use crate::shown::show_text;
-use crate::{Joined, Task, answer, faults, groups, nodes, report, summary, survey, watch};
+use crate::{Task, answer, faults, groups, nodes, report, summary, survey, watch};
 use j39_groups::Groups;
 use j39_io::{Sink, Source};
 use std::alloc::Global;
@@ -133,30 +133,4 @@ pub fn perform_with<R: Source, W: Sink, E: Sink>(
             tell_end(end, err)
         }
     }
-}
-
-/// Performs a task by a table of parameters, as `perform_with`, over several logs that are read one behind the other, as one.
-pub fn perform_over<R: Source + Drop, W: Sink, E: Sink>(
-    alloc: Global,
-    groups: &Groups<'_>,
-    task: &Task<'_>,
-    first: R,
-    later: Vec<R>,
-    sink: &mut W,
-    err: &mut E,
-) -> u8
-    ensures status { (result ≡ 0) ⊎ (result ≡ 1) }
-
-    // What each command leaves of the writer and the error writer, by what the logs hold.
-    ensures performed { IsPerformedOver groups.now task.now (R.remaining first ∷ map R.remaining later.items) result
-        (turn W.written W.has_failed sink.old sink.new)
-        (turn E.written E.has_failed err.old err.new) }
-
-    // What is told is passed on, where its writer has not failed.
-    ensures flushed { result ≡ 0 → W.is_flushed sink.new ≡ true }
-    ensures passed_out { W.is_flushed sink.old ≡ true → W.has_failed sink.new ≡ false → W.is_flushed sink.new ≡ true }
-    ensures passed_on { result ≡ 1 → E.has_failed err.new ≡ false → E.is_flushed err.new ≡ true }
-{
-    let mut log = Joined::new(first, later);
-    perform_with(alloc, groups, task, &mut log, sink, err)
 }

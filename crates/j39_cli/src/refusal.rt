@@ -1,8 +1,9 @@
 //! What the program says where it has no task, or can't open the log.
 ghost use Rattle.std.specs.Prelude.{◌≡◌, ◌↔◌, codes, false, true};
 ghost use Rattle.j39_io.specs.Puts.{Puts};
-ghost use Rattle.j39_io.specs.Turn.{Writes, turn};
-ghost use Rattle.j39_cli.specs.Refusal.{IsHelp, IsWrongLine, error_line, error_words, out_words};
+ghost use Rattle.j39_io.specs.Turn.{turn};
+ghost use Rattle.j39_cli.specs.Refusal.{IsHelp, IsWrongLine, error_line, error_words, folder_line, out_words};
+ghost use Rattle.j39_cli.specs.Tells.{Tells};
 
 use crate::ParseFault;
 use j39_io::{DeviceFault, Sink, put_all};
@@ -14,9 +15,9 @@ pub fn refuse<W: Sink, E: Sink>(fault: &ParseFault, out: &mut W, err: &mut E) ->
     ensures memory { (result ≡ 1) ↔ (fault.now ≡ ParseFault.Memory) }
     ensures wrong { (result ≡ 2) ↔ IsWrongLine fault.now }
 
-    // Each writer holds its own words, where no fault came, and the other one isn't touched.
-    ensures out { Writes (turn W.written W.has_failed out.old out.new) (out_words fault.now) }
-    ensures err { Writes (turn E.written E.has_failed err.old err.new) (error_words fault.now) }
+    // Each writer is told its own words, and the other one isn't touched.
+    ensures out { Tells (turn W.written W.has_failed out.old out.new) (out_words fault.now) }
+    ensures err { Tells (turn E.written E.has_failed err.old err.new) (error_words fault.now) }
     ensures silent_out { ¬ (IsHelp fault.now) → out.new ≡ out.old }
     ensures silent_err { IsHelp fault.now → err.new ≡ err.old }
 
@@ -48,7 +49,7 @@ pub fn refuse<W: Sink, E: Sink>(fault: &ParseFault, out: &mut W, err: &mut E) ->
 /// passed over.
 pub fn unopened<E: Sink>(file: &str, err: &mut E) -> u8
     ensures status { result ≡ 1 }
-    ensures err { Writes (turn E.written E.has_failed err.old err.new)
+    ensures err { Tells (turn E.written E.has_failed err.old err.new)
         (error_line (codes "cannot open ") file.now) }
     ensures passed_on { E.has_failed err.new ≡ false → E.is_flushed err.new ≡ true }
 {
@@ -56,23 +57,39 @@ pub fn unopened<E: Sink>(file: &str, err: &mut E) -> u8
     1
 }
 
+/// Says that this is a folder, and no file, and answers the exit status. A fault of the writer is passed over.
+pub fn not_a_file<E: Sink>(folder: &str, err: &mut E) -> u8
+    ensures status { result ≡ 1 }
+    ensures err { Tells (turn E.written E.has_failed err.old err.new) (folder_line folder.now) }
+    ensures passed_on { E.has_failed err.new ≡ false → E.is_flushed err.new ≡ true }
+{
+    complain(err, folder.as_bytes(), b" is a folder");
+    1
+}
+
 /// Writes the text, and passes it on. A fault shows in the mark alone.
 pub(crate) fn show<S: Sink>(sink: &mut S, text: &[u8])
-    ensures text { Writes (turn S.written S.has_failed sink.old sink.new) text.now }
+    ensures text { Tells (turn S.written S.has_failed sink.old sink.new) text.now }
     ensures passed_on { S.has_failed sink.new ≡ false → S.is_flushed sink.new ≡ true }
 {
-    if put_all(sink, text).is_ok() {
-        let _ = sink.flush();
+    match put_all(sink, text) {
+        Ok(()) => {
+            let _ = sink.flush();
+        }
+        Err(DeviceFault) => {}
     }
 }
 
 /// Writes a line of the program's own, and passes it on. A fault shows in the mark alone.
 pub(crate) fn complain<E: Sink>(err: &mut E, words: &[u8], name: &[u8])
-    ensures text { Writes (turn E.written E.has_failed err.old err.new) (error_line words.now name.now) }
+    ensures text { Tells (turn E.written E.has_failed err.old err.new) (error_line words.now name.now) }
     ensures passed_on { E.has_failed err.new ≡ false → E.is_flushed err.new ≡ true }
 {
-    if put_line(err, words, name).is_ok() {
-        let _ = err.flush();
+    match put_line(err, words, name) {
+        Ok(()) => {
+            let _ = err.flush();
+        }
+        Err(DeviceFault) => {}
     }
 }
 

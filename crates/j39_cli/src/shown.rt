@@ -1,9 +1,10 @@
 //! What a command writes whole, where it reads no log.
 ghost use Rattle.std.specs.Prelude.{◌≡◌, [], OnOk, OnErr, codes, false, true};
 ghost use Rattle.j39_io.specs.Puts.{Puts};
-ghost use Rattle.j39_io.specs.Turn.{Writes, turn};
+ghost use Rattle.j39_io.specs.Turn.{turn};
 ghost use Rattle.j39_cli.specs.WholeText.{IsShown};
 ghost use Rattle.j39_cli.specs.Refusal.{error_line};
+ghost use Rattle.j39_cli.specs.Tells.{Tells};
 
 use crate::refusal::complain;
 use j39_io::{DeviceFault, Sink, put_all};
@@ -25,7 +26,7 @@ pub(crate) fn show_text<W: Sink, E: Sink>(text: &[u8], sink: &mut W, err: &mut E
 pub(crate) fn status_of<E: Sink>(put: Result<(), DeviceFault>, err: &mut E) -> u8
     ensures done { OnOk put ((result ≡ 0) × (err.new ≡ err.old)) }
     ensures failed { OnErr put ((result ≡ 1)
-        × Writes (turn E.written E.has_failed err.old err.new) (error_line (codes "write failed") [])) }
+        × Tells (turn E.written E.has_failed err.old err.new) (error_line (codes "write failed") [])) }
     ensures passed_on { OnErr put (E.has_failed err.new ≡ false → E.is_flushed err.new ≡ true) }
 {
     match put {

@@ -2,10 +2,11 @@
 ghost use Rattle.std.specs.Prelude.{◌≡◌, ◌<◌, [], codes, count_by, false, length, map, not, true};
 ghost use Rattle.std.specs.List.{flat_map, list_any};
 ghost use Rattle.j39_io.specs.Puts.{Puts};
-ghost use Rattle.j39_io.specs.Turn.{Writes, turn};
+ghost use Rattle.j39_io.specs.Turn.{turn};
 ghost use Rattle.j39_cli.specs.LogCommand.{is_input};
 ghost use Rattle.j39_cli.specs.Refusal.{error_line};
 ghost use Rattle.j39_cli.specs.Task.{asks_input_twice};
+ghost use Rattle.j39_cli.specs.Tells.{Tells};
 ghost use Rattle.j39_cli.specs.Unknown.{asks_for_unknown, has_row, unknown_line, unknown_text, unknown_words};
 
 use crate::Task;
@@ -17,7 +18,7 @@ use j39_io::{DeviceFault, Sink};
 /// A fault of the writer is passed over.
 pub fn asks_for_unknown<E: Sink>(groups: &Groups<'_>, task: &Task<'_>, err: &mut E) -> bool
     ensures answer { result ≡ asks_for_unknown groups.now task.now }
-    ensures told { Writes (turn E.written E.has_failed err.old err.new) (unknown_text groups.now task.now) }
+    ensures told { Tells (turn E.written E.has_failed err.old err.new) (unknown_text groups.now task.now) }
     ensures passed_on { result ≡ true → E.has_failed err.new ≡ false → E.is_flushed err.new ≡ true }
     ensures some { 0 < length (unknown_text groups.now task.now) → E.has_failed err.new ≡ false
         → E.is_flushed err.new ≡ true }
@@ -39,7 +40,7 @@ pub fn asks_for_unknown<E: Sink>(groups: &Groups<'_>, task: &Task<'_>, err: &mut
 pub fn asks_input_twice<E: Sink>(task: &Task<'_>, err: &mut E) -> bool
     ensures answer { result ≡ asks_input_twice task.now }
     ensures told { result ≡ true
-        → Writes (turn E.written E.has_failed err.old err.new) (error_line (codes "standard input (-) twice among FILE") []) }
+        → Tells (turn E.written E.has_failed err.old err.new) (error_line (codes "standard input (-) twice among FILE") []) }
     ensures silent { result ≡ false → err.new ≡ err.old }
     ensures passed_on { result ≡ true → E.has_failed err.new ≡ false → E.is_flushed err.new ≡ true }
 {
@@ -60,13 +61,24 @@ fn inputs_among(files: &[&str]) -> usize
 /// Says which of these no row has, and answers whether that is all of them.
 fn tell_unknown<E: Sink>(groups: &Groups<'_>, spns: &[u32], err: &mut E) -> bool
     ensures answer { result ≡ not (list_any (has_row groups.now) spns.now) }
-    ensures told { Writes (turn E.written E.has_failed err.old err.new) (unknown_words groups.now spns.now) }
+    ensures told { Tells (turn E.written E.has_failed err.old err.new) (unknown_words groups.now spns.now) }
     ensures passed_on { E.has_failed err.new ≡ false → E.is_flushed err.new ≡ true }
 {
-    if put_unknown(groups, spns, err).is_ok() {
-        let _ = err.flush();
-    }
+    show_unknown(groups, spns, err);
     !has_any(groups, spns)
+}
+
+/// Says which of these no row has. A fault of the writer is passed over.
+fn show_unknown<E: Sink>(groups: &Groups<'_>, spns: &[u32], err: &mut E)
+    ensures told { Tells (turn E.written E.has_failed err.old err.new) (unknown_words groups.now spns.now) }
+    ensures passed_on { E.has_failed err.new ≡ false → E.is_flushed err.new ≡ true }
+{
+    match put_unknown(groups, spns, err) {
+        Ok(()) => {
+            let _ = err.flush();
+        }
+        Err(DeviceFault) => {}
+    }
 }
 
 /// Whether some row has one of these.

@@ -1,11 +1,10 @@
 -- tried
-use Rattle.std.proofs.Common.{◌≡◌, rules}
+use Rattle.std.proofs.Common.{rules}
 use Rattle.j39_io.proofs.DeviceLemmas.{front_of_all}
 use Rattle.j39_cli.proofs.order.tell_before.Goals as goal
 
-pub returns-in-Ok-clause-front : goal.returns-in-Ok-clause-front
-returns-in-Ok-clause-front g c =
-    rw (c.as_bytes.ensures.value, c.as_bytes-2.ensures.value) at (front_of_all _ (g.E.Sink.written c.put_before.new.err) _ _ c.in-Ok.ensures.written c.flush.ensures.bytes)
-
-pub returns-in-Err-clause-front : goal.returns-in-Err-clause-front
-returns-in-Err-clause-front g c = rw (c.as_bytes.ensures.value, c.as_bytes-2.ensures.value) at c.in-Err.ensures.front
+pub returns-in-Ok-clause-told : goal.returns-in-Ok-clause-told
+returns-in-Ok-clause-told g c = record {
+  whole = search rules;
+  front = rw (c.as_bytes.ensures.value, c.as_bytes-2.ensures.value) at (front_of_all _ (g.E.Sink.written c.put_before.new.err) _ _ c.in-Ok.ensures.written c.flush.ensures.bytes);
+}

@@ -1,9 +1,9 @@
 -- The first two of which it is so are told.
 use Rattle.std.proofs.Common.{◌≡◌, ◌∙◌, [], ℕ, List, ap, arith, length, refl, subst, sym}
-use Rattle.std.proofs.KnownBytes.{Appends-nil}
-use Rattle.std.specs.Io.KnownBytes.{Appends}
-use Rattle.j39_io.specs.Device.{AppendsFront}
+use Rattle.j39_io.specs.Turn.{turn}
+use Rattle.j39_cli.specs.Tells.{Tells}
 use Rattle.j39_cli.proofs.OrderLemmas.{text_end, text_here, text_next, text_of}
+use Rattle.j39_cli.proofs.TellsLemmas.{tells_nothing}
 use Rattle.j39_cli.proofs.order.tell_order.Goals as goal
 
 pub loop-at-init : goal.loop-at-init
@@ -20,39 +20,23 @@ loop-at-preserved g c =
     )
 
 pub returns-then-is_before-clause-told : goal.returns-then-is_before-clause-told
-returns-then-is_before-clause-told g c = λ sound.
+returns-then-is_before-clause-told g c =
     let below = c.loop-at-test.true in
     let count = c.min-count.ensures in
-    subst (λ (t : List ℕ). Appends (g.E.Sink.written c.args.err.now) (g.E.Sink.written c.tell_before.new.err) t)
+    subst (λ (t : List ℕ). Tells (turn g.E.Sink.written g.E.Sink.has_failed c.args.err.now c.tell_before.new.err) t)
     (sym (c.loop-at.invariant.1 ∙ text_here c.loop-at.at c.args.files.now c.args.spans.now _ _ _ _ c.loop-at.invariant.0 (grind (arith, below, count)) (grind (arith, below, count))
     c.index-spans-at.is c.index-spans-at-in-loop-at.is (sym c.is_before.ensures ∙ c.if-is_before.true)))
-    (rw c.loop-at.invariant.2 at (c.tell_before.ensures.told sound))
+    (rw c.loop-at.invariant.2 at c.tell_before.ensures.told)
 
 pub returns-clause-told : goal.returns-clause-told
-returns-clause-told g c = λ sound.
+returns-clause-told g c =
     let none : text_of c.args.files.now c.args.spans.now ≡ [] =
     c.loop-at.invariant.1 ∙ text_end c.loop-at.at _ c.args.files.now c.args.spans.now c.loop-at.invariant.0 c.min-count.ensures (let end = c.loop-at-test.false in omega (arith, end)) in
-    subst (λ (t : List ℕ). Appends (g.E.Sink.written c.args.err.now) (g.E.Sink.written c.loop-at.err) t) (sym none)
-    (rw c.loop-at.invariant.2 (Appends-nil (g.E.Sink.written c.args.err.now)))
+    subst (λ (t : List ℕ). Tells (turn g.E.Sink.written g.E.Sink.has_failed c.args.err.now c.loop-at.err) t) (sym none)
+    (rw c.loop-at.invariant.2 (tells_nothing g.E.Sink.written g.E.Sink.has_failed c.args.err.now))
 
 pub returns-clause-passed_on : goal.returns-clause-passed_on
 returns-clause-passed_on g c = λ some sound.
     let none : text_of c.args.files.now c.args.spans.now ≡ [] =
     c.loop-at.invariant.1 ∙ text_end c.loop-at.at _ c.args.files.now c.args.spans.now c.loop-at.invariant.0 c.min-count.ensures (let end = c.loop-at-test.false in omega (arith, end)) in
     absurd (let l = ap length none in omega (arith, l, some))
-
-pub returns-then-is_before-clause-front : goal.returns-then-is_before-clause-front
-returns-then-is_before-clause-front g c =
-    let below = c.loop-at-test.true in
-    let count = c.min-count.ensures in
-    subst (λ (t : List ℕ). AppendsFront (g.E.Sink.written c.args.err.now) (g.E.Sink.written c.tell_before.new.err) t)
-    (sym (c.loop-at.invariant.1 ∙ text_here c.loop-at.at c.args.files.now c.args.spans.now _ _ _ _ c.loop-at.invariant.0 (grind (arith, below, count)) (grind (arith, below, count))
-    c.index-spans-at.is c.index-spans-at-in-loop-at.is (sym c.is_before.ensures ∙ c.if-is_before.true)))
-    (rw c.loop-at.invariant.2 at c.tell_before.ensures.front)
-
-pub returns-clause-front : goal.returns-clause-front
-returns-clause-front g c =
-    let none : text_of c.args.files.now c.args.spans.now ≡ [] =
-    c.loop-at.invariant.1 ∙ text_end c.loop-at.at _ c.args.files.now c.args.spans.now c.loop-at.invariant.0 c.min-count.ensures (let end = c.loop-at-test.false in omega (arith, end)) in
-    subst (λ (t : List ℕ). AppendsFront (g.E.Sink.written c.args.err.now) (g.E.Sink.written c.loop-at.err) t) (sym none)
-    (rw c.loop-at.invariant.2 ([], [], refl, Appends-nil (g.E.Sink.written c.args.err.now)))
