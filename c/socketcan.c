@@ -5,9 +5,10 @@
  * candump -L writes it, once the interface took it: where its queue is full the frame waits, and is handed over again.
  *
  *   socketcan INTERFACE NAME ADDRESS [DESTINATION]   on an interface, until SIGINT or SIGTERM: NAME and the addresses
- *   are hex socketcan --socketpair                           two of them in two processes, for two seconds, with a
- *                                                    socketpair for a bus: both claim address 80; one sends the other
- *                                                    its VIN, and asks for the other's
+ *                                                    are hex
+ *   socketcan --socketpair                           two of them in two processes, for two seconds, with a socketpair
+ *                                                    for a bus: both claim address 80; one sends the other its VIN,
+ *                                                    and asks for the other's
  */
 #define _DEFAULT_SOURCE
 #include "j1939.h"
