@@ -100,6 +100,35 @@ same() {
   fi
 }
 
+# Makes of each row of tests/rows a folder in `work` of its name, with the files words, log, writes, says and status. A row is
+#
+#   row NAME: the words of the command
+#   the log on standard input
+#   writes
+#   the lines on standard output
+#   says STATUS         (no number: 0)
+#   the lines on standard error, up to an empty one
+#
+# A line `$ COMMAND` stands for the lines that the command prints in the row's folder; ../NAME is that of a row above it.
+unpack_rows() {
+  awk -v work="$work" '
+    function begins(file) { out = folder "/" file; printf "" >out; close(out) }
+    function stops(why) { print FILENAME ": " why >"/dev/stderr"; exit 1 }
+    FNR == 1 { part = "" }
+    /^row / {
+      close(out)
+      folder = work "/" substr($2, 1, length($2) - 1)
+      if (system("mkdir " folder)) stops($2 " can not have a folder")
+      sub(/^row [^:]*: /, ""); begins("words"); print >>out; close(out); begins("log"); part = "log"; next
+    }
+    part == "log" && $0 == "writes" { close(out); part = $0; begins(part); next }
+    part == "writes" && $1 == "says" { close(out); begins("status"); print $2 + 0 >>out; close(out); part = $1; begins(part); next }
+    part == "says" && $0 == "" { part = "" }
+    part != "" && sub(/^[$] /, "") { close(out); if (system("cd " folder " && " $0 " >>" part)) stops($0); next }
+    part != "" { print >>out }
+  ' "$top"/tests/rows/*.rows
+}
+
 # A reader of logs, which has to make the report of each sample.
 reads_samples() {
   local log what

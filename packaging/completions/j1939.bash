@@ -13,7 +13,7 @@ _j1939_options() {
     report) echo --bus --table --spn --from --to --pgn --since --until --csv --json --help -h ;;
     summary) echo --bus --table --spn --from --to --pgn --since --until --csv --json --help -h ;;
     faults) echo --bus --table --conversion --spn --from --to --pgn --since --until --all --changes --now --csv --json --help -h ;;
-    nodes) echo --bus --from --csv --json --help -h ;;
+    nodes) echo --bus --from --seen --csv --json --help -h ;;
     answer) echo --name --address --bus --help -h ;;
     cut) echo --source --pgn --at --bus --help -h ;;
     groups) echo --table --help -h ;;

@@ -33,6 +33,7 @@ complete -c j1939 -n '__fish_seen_subcommand_from report faults summary' -l to -
 complete -c j1939 -n '__fish_seen_subcommand_from report faults summary' -l pgn -x -d 'The groups to write alone, with commas between'
 complete -c j1939 -n '__fish_seen_subcommand_from report faults summary' -l since -x -d 'The first time to write'
 complete -c j1939 -n '__fish_seen_subcommand_from report faults summary' -l until -x -d 'The last time to write'
+complete -c j1939 -n '__fish_seen_subcommand_from nodes' -l seen -d 'Also last claim and frame, and who talks without a claim'
 complete -c j1939 -n '__fish_seen_subcommand_from report faults nodes summary' -l csv -d 'Comma-separated values'
 complete -c j1939 -n '__fish_seen_subcommand_from report faults nodes summary' -l json -d 'Objects of JSON, one a line'
 complete -c j1939 -n '__fish_seen_subcommand_from faults' -l conversion -x -d 'By which version older SPNs are read: 1, 2 or 3, or NAME=1,..'

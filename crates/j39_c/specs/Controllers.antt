@@ -149,22 +149,28 @@ answer_in n =
 
 -- ---- what ended, by what a call answered and wrote out
 
+-- what has no reason and no acknowledgment has 0 for one
+abbrev pub plain : {E : Type 0} → ℕ → E → Option E
+plain zero ending = Some ending
+plain (suc detail) ending = None
+
 -- 1 done, 2 withdrawn
-abbrev pub ending_in : ℕ → Option Ending
-ending_in n = if nat_eq n 1 then Some message.Done else if nat_eq n 2 then Some message.Withdrawn else None
+abbrev pub ending_in : ℕ → ℕ → Option Ending
+ending_in n detail =
+    if nat_eq n 1 then plain detail message.Done else if nat_eq n 2 then plain detail message.Withdrawn else None
 
 -- the same; 3 failed for a reason, 4 its destination is gone
 abbrev pub transfer_ending_in : ℕ → ℕ → Option TransferEnding
 transfer_ending_in n detail =
-    if nat_eq n 1 then Some transfer.Done else if nat_eq n 2 then Some transfer.Withdrawn
-    else if nat_eq n 3 then Some (transfer.Failed detail) else if nat_eq n 4 then Some transfer.Gone else None
+    if nat_eq n 1 then plain detail transfer.Done else if nat_eq n 2 then plain detail transfer.Withdrawn
+    else if nat_eq n 3 then Some (transfer.Failed detail) else if nat_eq n 4 then plain detail transfer.Gone else None
 
 -- 1 answered by its group, 2 withdrawn, 5 acknowledged, 6 it timed out
 abbrev pub ask_ending_in : ℕ → ℕ → Option AskEnding
 ask_ending_in n detail =
-    if nat_eq n 1 then Some request.Answered else if nat_eq n 2 then Some request.Withdrawn
+    if nat_eq n 1 then plain detail request.Answered else if nat_eq n 2 then plain detail request.Withdrawn
     else if nat_eq n 5 then option_map request.Acknowledged (answer_in detail)
-    else if nat_eq n 6 then Some request.TimedOut else None
+    else if nat_eq n 6 then plain detail request.TimedOut else None
 
 abbrev pub with_token : {E : Type 0} → PlainEnded → Option E → Option (ℕ × E)
 with_token x ending = option_map (λ e. (x.token, e)) ending
@@ -172,8 +178,8 @@ with_token x ending = option_map (λ e. (x.token, e)) ending
 -- 0 none of the four kinds; 1 a message of one frame, 2 a broadcast, 3 a transfer, 4 a request
 abbrev pub ended_by : ℤ → PlainEnded → List Call
 ended_by (pos zero) x = TakeAskEnded None ∷ TakeTransferEnded None ∷ TakeBroadcastEnded None ∷ TakeEnded None ∷ []
-ended_by (pos (suc zero)) x = TakeEnded (with_token x (ending_in x.ending)) ∷ []
-ended_by (pos (suc (suc zero))) x = TakeBroadcastEnded (with_token x (ending_in x.ending)) ∷ TakeEnded None ∷ []
+ended_by (pos (suc zero)) x = TakeEnded (with_token x (ending_in x.ending x.detail)) ∷ []
+ended_by (pos (suc (suc zero))) x = TakeBroadcastEnded (with_token x (ending_in x.ending x.detail)) ∷ TakeEnded None ∷ []
 ended_by (pos (suc (suc (suc zero)))) x =
     TakeTransferEnded (with_token x (transfer_ending_in x.ending x.detail)) ∷ TakeBroadcastEnded None ∷ TakeEnded None ∷ []
 ended_by (pos (suc (suc (suc (suc n))))) x =

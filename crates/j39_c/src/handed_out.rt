@@ -181,7 +181,7 @@ impl PlainEnded {
     /// How a message ended.
     pub(crate) fn of_message(token: u64, ending: Ending) -> PlainEnded
         ensures token { result.token ≡ token }
-        ensures ending { ending_in result.ending ≡ Some ending }
+        ensures ending { ending_in result.ending result.detail ≡ Some ending }
     {
         let ending = match ending {
             Ending::Done => 1,

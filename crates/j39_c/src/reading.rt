@@ -16,7 +16,7 @@ use crate::handed_out::put;
 use crate::message::WholeMessage;
 use crate::refusal::Refusal;
 use j39_frame::Pgn;
-use j39_groups::{Reading, Scale, Value, put_value, raw_of, readings};
+use j39_groups::{Reading, Slot, Value, put_value, raw_of, readings};
 use j39_io::{DeviceFault, Sink};
 use std::alloc::Global;
 
@@ -118,7 +118,7 @@ fn plain(reading: &Reading<'_, '_>) -> PlainReading
             number,
             spn,
             kind: 0,
-            places: scale.places,
+            places: scale.places(),
             unit: unit_of(scale),
         },
         Value::On => of_kind(spn, 1),
@@ -144,11 +144,11 @@ fn of_kind(spn: u32, kind: u8) -> PlainReading
 }
 
 /// The unit of a scale, filled up with zeros: one at least.
-fn unit_of(scale: Scale<'_>) -> [u8; 8]
-    requires { length scale.unit.now ≤ 7 }
+fn unit_of(scale: Slot<'_>) -> [u8; 8]
+    requires { length (scale_record scale).unit ≤ 7 }
     ensures { IsFilled result (scale_record scale.entry).unit }
 {
-    let text = scale.unit;
+    let text = scale.unit();
     let mut unit = [0; 8];
     unit[..text.len()].copy_from_slice(text);
     unit

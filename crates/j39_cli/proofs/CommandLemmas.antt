@@ -60,8 +60,8 @@ is_parsed program (faults bus table conversion spn from to pgn since until all c
     (record { step = refl; passes = refl; found = refl; checks = refl }) refl refl
     (memory_of_bus bus _ (memory_of_value _ _ conversion _ (memory_of_value _ _ spn _ (memory_of_value _ _ from _ (memory_of_value _ _ to _
     (memory_of_value _ _ pgn _ (memory_of_value _ _ since _ (memory_of_value _ _ until _ (memory_checked _ _ _ (memory_checked _ _ _ tt))))))))))
-is_parsed program (nodes bus from csv json file) =
-    parsed_choices program nodes_app (nodes bus from csv json file) (before_each (form_of (nodes bus from csv json file)).arguments) file_rule file (takes_file refl)
+is_parsed program (nodes bus from seen csv json file) =
+    parsed_choices program nodes_app (nodes bus from seen csv json file) (before_each (form_of (nodes bus from seen csv json file)).arguments) file_rule file (takes_file refl)
     (record { choices = tt; known = refl; apart = refl; defaults = refl; none_by_default = refl; first = refl; valid = λ rows. refl })
     (record { step = refl; passes = refl; found = refl; checks = refl }) refl refl (memory_of_bus bus _ (memory_of_value _ _ from _ (memory_checked _ _ _ tt)))
 is_parsed program (answer node address bus file) = parsed_each program answer_app (answer node address bus file)

@@ -89,7 +89,7 @@ is_command_found : (s : CommandWords) (found : Found) → AreFound found (form_o
 is_command_found (command.report bus table spn from to pgn since until csv json file) found are = cc
 is_command_found (command.summary bus table spn from to pgn since until csv json file) found are = cc
 is_command_found (command.faults bus table conversion spn from to pgn since until all changes now csv json file) found are = cc
-is_command_found (command.nodes bus from csv json file) found are = cc
+is_command_found (command.nodes bus from seen csv json file) found are = cc
 is_command_found (command.answer node address bus file) found are =
     cc (is_text_found found (codes "name") node are.0, is_text_found found (codes "address") address are.1.0)
 is_command_found (command.id hex) found are = cc (is_text_found found (codes "hex") hex are.0)

@@ -1,14 +1,21 @@
 -- From what a run ensures to what its command promises.
-use Rattle.std.proofs.Common.{◌≡◌, ◌⊎◌, ℕ, List, Option, Some, inl, inr, subst, sym}
-use Rattle.std.specs.Prelude.{Result, Ok, Err}
+use Rattle.std.proofs.Common.{◌≡◌, ◌∙◌, ◌⊎◌, ℕ, List, Option, Some, inl, inr, subst, sym}
+use Rattle.std.specs.Prelude.{IfSome, OnOk, Result, Ok, Err}
 use Rattle.std.specs.Result.{result_map_both}
 use Rattle.j39_io.specs.Turn.{Turn}
-use Rattle.j39_listen.specs.Asking.{Wanting}
+use Rattle.j39_groups.specs.Row.{RowRecord}
+use Rattle.j39_listen.specs.Asking.{AsksForBoxes, Wanting}
+use Rattle.j39_listen.specs.Filter.{FilterRecord, no_filter}
 use Rattle.j39_listen.specs.Output.{Making}
 use Rattle.j39_listen.specs.Ran.{Ran}
+use Rattle.j39_listen.specs.Run.{WritesAsked, WritesPublished, WritesWholeLines}
+use Rattle.j39_listen.specs.declared.format.Format.{Format}
+use Rattle.j39_listen.specs.declared.format.Format.TheVariants.{Line}
 use Rattle.j39_listen.specs.declared.counts.Counts.{Counts}
 use Rattle.j39_listen.specs.declared.running.RunFault.{RunFault}
+use Rattle.j39_listen.specs.declared.running.RunFault.TheVariants.{Read}
 use Rattle.j39_cli.specs.LogCommand.{IsRun, IsTold, log_limit}
+use Rattle.j39_cli.specs.ReportCommand.{IsReported, form_in, head_in, makes_in}
 
 known : (r : Result Counts RunFault) (status : ℕ) (err : Turn) → IsTold r status err → (status ≡ 0) ⊎ (status ≡ 1)
 known (Ok counts) status err told = inl told.0
@@ -23,6 +30,26 @@ is_run asks makes bus bus' r status log out err is ran told = record {
   result = r;
   ran = subst (λ (b : Option (List ℕ)). Ran makes asks b log_limit r log out) is ran;
   told = told;
+}
+
+-- a run of the report that ended, and whose end was told, is one
+pub is_reported : (which : FilterRecord) (format : Format) (bus : Option (List ℕ)) (rows : List RowRecord) (r : Result Counts RunFault) (status : ℕ) (log out err : Turn)
+    → Ran (makes_in format which rows) AsksForBoxes bus log_limit r log out → IsTold r status err
+    → (format ≡ Line → which ≡ no_filter → OnOk r (IfSome log.old.bytes (λ bytes. WritesPublished rows bus bytes out.old.bytes out.new.bytes)))
+    → OnOk r (IfSome log.old.bytes (λ bytes. WritesAsked (head_in format) (form_in format) which rows bus bytes out.old.bytes out.new.bytes))
+    → (r ≡ Err Read → WritesWholeLines (makes_in format which rows) bus log.old.bytes log.new.bytes out.old.bytes out.new.bytes)
+    → IsReported which format bus rows status log out err
+is_reported which format bus rows (Ok counts) status log out err ran told published asked kept = record {
+  run = record { known = inl told.0; result = Ok counts; ran = ran; told = told };
+  published = λ zero. published;
+  asked = λ zero. asked;
+  kept_up = kept;
+}
+is_reported which format bus rows (Err fault) status log out err ran told published asked kept = record {
+  run = record { known = inr told.0; result = Err fault; ran = ran; told = told };
+  published = λ zero. absurd (let no : 0 ≡ 1 = sym zero ∙ told.0 in cc);
+  asked = λ zero. absurd (let no : 0 ≡ 1 = sym zero ∙ told.0 in cc);
+  kept_up = kept;
 }
 
 -- how the run of an answer ended, by what was answered

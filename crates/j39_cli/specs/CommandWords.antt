@@ -29,7 +29,7 @@ pub data CommandWords : Type 0 where
       → List Text → CommandWords
   faults : Option Text → Option Text → Option Text → Option Text → Option Text → Option Text → Option Text → Option Text → Option Text → Bool → Bool
       → Bool → Bool → Bool → List Text → CommandWords
-  nodes : Option Text → Option Text → Bool → Bool → List Text → CommandWords
+  nodes : Option Text → Option Text → Bool → Bool → Bool → List Text → CommandWords
   answer : Text → Text → Option Text → List Text → CommandWords
   id : Text → CommandWords
   name : Text → CommandWords
@@ -43,7 +43,7 @@ form_of (report bus table spn from to pgn since until csv json file) = report_fo
 form_of (summary bus table spn from to pgn since until csv json file) = summary_form bus table spn from to pgn since until csv json file
 form_of (faults bus table conversion spn from to pgn since until all changes now csv json file) =
     faults_form bus table conversion spn from to pgn since until all changes now csv json file
-form_of (nodes bus from csv json file) = nodes_form bus from csv json file
+form_of (nodes bus from seen csv json file) = nodes_form bus from seen csv json file
 form_of (answer node address bus file) = answer_form node address bus file
 form_of (id hex) = id_form hex
 form_of (name hex) = name_form hex
@@ -90,7 +90,8 @@ command_found called found =
     else if bytes_eq called (codes "faults") then
     faults bus table (first_value found (codes "conversion")) spn from to pgn since until (is_given (first_value found (codes "all")))
     (is_given (first_value found (codes "changes"))) (is_given (first_value found (codes "now"))) csv json file
-    else if bytes_eq called (codes "nodes") then nodes bus from csv json file
+    else if bytes_eq called (codes "nodes") then
+    nodes bus from (is_given (first_value found (codes "seen"))) csv json file
     else if bytes_eq called (codes "answer") then
     answer (text_found found (codes "name")) (text_found found (codes "address")) bus file
     else if bytes_eq called (codes "id") then id (text_found found (codes "hex"))

@@ -1,37 +1,60 @@
--- The command `nodes [--bus B] [--from A,..] [--csv | --json] [FILE]..`.
-use Rattle.std.specs.Prelude.{◌≡◌, ◌≢◌, ◌∷◌, [], ℕ, Bool, false, List, None, Option, Some, codes, option_map}
+-- The command `nodes [--bus B] [--from A,..] [--seen] [--csv | --json] [FILE]..`.
+use Rattle.std.specs.Prelude.{◌≡◌, ◌≢◌, ◌∷◌, [], ℕ, Bool, false, true, List, None, Option, Some, codes, option_map}
 use Rattle.clap.specs.Words.{App, Text, new_app, with_rule}
 use Rattle.j39_listen.specs.Asking.{AsksNowhere}
-use Rattle.j39_listen.specs.Headed.{MakesNodes}
+use Rattle.j39_listen.specs.Headed.{begins_flushed}
+use Rattle.j39_listen.specs.Nodes.{MakesNodesOf}
+use Rattle.j39_listen.specs.Output.{Making}
+use Rattle.j39_listen.specs.SeenNodes.{MakesSeenNodes}
 use Rattle.j39_cli.specs.Answer.{IsBusChecked, IsChecked, IsTask, IsValueChecked}
 use Rattle.j39_cli.specs.Asked.{IsSenderList, senders_in}
 use Rattle.j39_cli.specs.Form.{Form, Meaning, flag, option, values}
 use Rattle.j39_cli.specs.LogCommand.{runs, with_forms, with_log, written_by}
-use Rattle.j39_cli.specs.Rules.{option_rule}
+use Rattle.j39_cli.specs.Rules.{flag_rule, option_rule}
 use Rattle.j39_listen.specs.declared.format.Format.{Format}
 use Rattle.j39_listen.specs.declared.filter.Sender.{Sender}
 use Rattle.j39_cli.specs.declared.task.Argument.TheVariants as argument
 use Rattle.j39_cli.specs.declared.task.LogInput.{LogInput}
+use Rattle.j39_cli.specs.declared.task.NodesTold.{NodesTold}
+use Rattle.j39_cli.specs.declared.task.NodesTold.TheVariants.{Held, Seen}
+use Rattle.j39_listen.specs.declared.format.Format.TheVariants.{Line, Object, Record}
 use Rattle.j39_cli.specs.declared.task.Task.{Task}
 use Rattle.j39_cli.specs.declared.task.Task.TheVariants.{Nodes}
 
 abbrev pub nodes_app : App
-nodes_app = with_log (with_forms (with_rule (new_app (codes "nodes")) (option_rule (codes "from") false)))
+nodes_app = with_log (with_forms (with_rule (with_rule (new_app (codes "nodes")) (option_rule (codes "from") false)) (flag_rule (codes "seen"))))
 
-abbrev pub IsNodesTask : Option (List ℕ) → Option (List ℕ) → Bool → Bool → List (List ℕ) → Task → Type 0
-IsNodesTask bus from csv json file (Nodes input senders format) =
-    (input.bus ≡ bus) × (senders ≡ option_map senders_in from) × (written_by csv json ≡ Some format) × (input.file ≡ file)
-IsNodesTask bus from csv json file t = ⊥
+-- who holds which address alone; who was seen there too where `--seen` asks for it, and in records and objects
+abbrev pub told_by : Bool → Format → NodesTold
+told_by false Line = Held
+told_by true Line = Seen Line
+told_by seen Record = Seen Record
+told_by seen Object = Seen Object
 
-abbrev pub nodes_form : Option Text → Option Text → Bool → Bool → List Text → Form
-nodes_form bus from csv json file = record {
+abbrev pub IsNodesTask : Option (List ℕ) → Option (List ℕ) → Bool → Bool → Bool → List (List ℕ) → Task → Type 0
+IsNodesTask bus from seen csv json file (Nodes input senders told) =
+    (input.bus ≡ bus) × (senders ≡ option_map senders_in from) × (option_map (told_by seen) (written_by csv json) ≡ Some told)
+    × (input.file ≡ file)
+IsNodesTask bus from seen csv json file t = ⊥
+
+abbrev pub nodes_form : Option Text → Option Text → Bool → Bool → Bool → List Text → Form
+nodes_form bus from seen csv json file = record {
   called = codes "nodes";
-  arguments = option (codes "bus") bus ∷ option (codes "from") from ∷ flag (codes "csv") csv ∷ flag (codes "json") json
+  arguments = option (codes "bus") bus ∷ option (codes "from") from ∷ flag (codes "seen") seen ∷ flag (codes "csv") csv ∷ flag (codes "json") json
       ∷ values (codes "file") file ∷ [];
   Answers = IsBusChecked bus (IsValueChecked IsSenderList argument.From from
-      (IsChecked (written_by csv json ≢ None) argument.Forms (IsTask (IsNodesTask bus from csv json file))));
+      (IsChecked (written_by csv json ≢ None) argument.Forms (IsTask (IsNodesTask bus from seen csv json file))));
 }
 
--- who is asked for, with a NAME or at an address
-abbrev pub nodes_meaning : LogInput → Option (List Sender) → Format → Meaning
-nodes_meaning input from format = runs (λ _. AsksNowhere) (λ _. MakesNodes format from) input
+-- of who is asked for, with a NAME or at an address
+abbrev pub makes_told : NodesTold → Option (List Sender) → Making
+makes_told Held from = MakesNodesOf from
+makes_told (Seen format) from = MakesSeenNodes format from
+
+-- whether all is passed on before the first read
+abbrev pub told_flushed : NodesTold → Bool → Bool
+told_flushed Held before = before
+told_flushed (Seen format) before = begins_flushed format before
+
+abbrev pub nodes_meaning : LogInput → Option (List Sender) → NodesTold → Meaning
+nodes_meaning input from told = runs (λ _. AsksNowhere) (λ _. makes_told told from) input

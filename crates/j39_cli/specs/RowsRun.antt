@@ -3,10 +3,8 @@ use Rattle.std.specs.Prelude.{◌≡◌, ◌⊎◌, ℕ, List, [], Option, None,
 use Rattle.j39_io.specs.Turn.{Turn}
 use Rattle.j39_groups.specs.Readings.{HaveSameGroups, rows_of_spns}
 use Rattle.j39_groups.specs.Row.{RowRecord}
-use Rattle.j39_listen.specs.Asking.{Wanting}
-use Rattle.j39_listen.specs.Output.{Making}
 use Rattle.j39_listen.specs.declared.running.RunFault.TheVariants.{Memory}
-use Rattle.j39_cli.specs.LogCommand.{IsRun, fault_text}
+use Rattle.j39_cli.specs.LogCommand.{fault_text}
 use Rattle.j39_cli.specs.Refusal.{error_line}
 use Rattle.j39_cli.specs.Tells.{Tells}
 
@@ -17,10 +15,13 @@ pub record IsNotBegun (status : ℕ) (log out err : Turn) : Type 0 where
   pub unwritten : out.new ≡ out.old
   pub told : Tells err (error_line (fault_text Memory) [])
 
+-- a run by a table of parameters: its status, and what it leaves of the reader, the writer and the error writer
+abbrev pub Running : Type 1
+Running = List RowRecord → ℕ → Turn → Turn → Turn → Type 0
+
 -- by the whole table, or by its rows of the parameters that are asked for
-abbrev pub IsRowsRun : (List RowRecord → Wanting) → (List RowRecord → Making) → Option (List ℕ) → List RowRecord → Option (List ℕ) → ℕ
-    → Turn → Turn → Turn → Type 0
-IsRowsRun asks makes None rows bus status log out err = IsRun (asks rows) (makes rows) bus status log out err
-IsRowsRun asks makes (Some spns) rows bus status log out err =
-    ((kept : List RowRecord) × HaveSameGroups kept (rows_of_spns spns rows)
-    × IsRun (asks kept) (makes kept) bus status log out err) ⊎ IsNotBegun status log out err
+abbrev pub IsRunBy : Running → Option (List ℕ) → Running
+IsRunBy runs None rows status log out err = runs rows status log out err
+IsRunBy runs (Some spns) rows status log out err =
+    ((kept : List RowRecord) × HaveSameGroups kept (rows_of_spns spns rows) × runs kept status log out err)
+    ⊎ IsNotBegun status log out err

@@ -11,8 +11,8 @@ use Rattle.j39_cli.specs.Answer.{IsBusChecked, IsChecked, IsTask, IsValueChecked
 use Rattle.j39_cli.specs.Asked.{IsAddressList, IsAsked, IsMoment, IsPgnList, IsSenderList, filter_in}
 use Rattle.j39_cli.specs.FilterWords.{with_filter}
 use Rattle.j39_cli.specs.Form.{Form, Meaning, flag, option, values}
-use Rattle.j39_cli.specs.LogCommand.{with_forms, with_log, written_by}
-use Rattle.j39_cli.specs.RowsRun.{IsRowsRun}
+use Rattle.j39_cli.specs.LogCommand.{IsRun, with_forms, with_log, written_by}
+use Rattle.j39_cli.specs.RowsRun.{IsRunBy}
 use Rattle.j39_cli.specs.Rules.{option_rule, with_table}
 use Rattle.j39_cli.specs.Spns.{IsSpnList, spns_in}
 use Rattle.j39_listen.specs.declared.format.Format.{Format}
@@ -50,7 +50,8 @@ summary_form bus table spn from to pgn since until csv json file = record {
 -- the summary of the entries that are asked for
 abbrev pub IsSummaryRun : Option (List ℕ) → FilterRecord → Format → List RowRecord → Option (List ℕ) → ℕ → Turn → Turn → Turn
     → Type 0
-IsSummaryRun spns which format = IsRowsRun (AsksForRows which) (MakesSummary format which) spns
+IsSummaryRun spns which format rows bus =
+    IsRunBy (λ kept. IsRun (AsksForRows which kept) (MakesSummary format which kept) bus) spns rows
 
 abbrev pub summary_meaning : LogInput → Option (List ℕ) → Option (List ℕ) → Asked → Format → Meaning
 summary_meaning input table spns asked format = record {

@@ -1,5 +1,5 @@
 -- What a task comes to.
-use Rattle.std.specs.Prelude.{ℕ, Bool, List, Option, count_by, nat_lt}
+use Rattle.std.specs.Prelude.{ℕ, Bool, List, [], ◌∷◌, Option, None, Some, count_by, nat_lt}
 use Rattle.j39_io.specs.Turn.{Turn}
 use Rattle.j39_address.specs.Name.{name_raw}
 use Rattle.j39_frame.specs.Identifier.{id_raw}
@@ -24,7 +24,7 @@ abbrev pub meaning_of : Task → Meaning
 meaning_of (Report input table spns asked format) = report_meaning input table spns asked format
 meaning_of (Summary input table spns asked format) = summary_meaning input table spns asked format
 meaning_of (Faults input table conversions spns asked told format) = faults_meaning input table conversions spns asked told format
-meaning_of (Nodes input from format) = nodes_meaning input from format
+meaning_of (Nodes input from told) = nodes_meaning input from told
 meaning_of (Answer name address input) = answer_meaning (name_raw name) address input
 meaning_of (Id id) = id_meaning (id_raw id)
 meaning_of (Name name) = name_meaning (name_raw name)
@@ -33,9 +33,17 @@ meaning_of (Groups table) = groups_meaning table
 meaning_of (Survey input table) = survey_meaning input table
 meaning_of (Watch input table size) = watch_meaning input table size
 
+abbrev pub first_in : List (List ℕ) → Option (List ℕ)
+first_in [] = None
+first_in (file ∷ files) = Some file
+
 -- each FILE of the task
 abbrev pub files_of : Task → List (List ℕ)
 files_of t = (meaning_of t).file
+
+-- the first of them
+abbrev pub file_of : Task → Option (List ℕ)
+file_of t = first_in (files_of t)
 
 -- standard input is asked for twice among them, and it can be read once
 abbrev pub asks_input_twice : Task → Bool

@@ -44,6 +44,8 @@ pub use own_table::wrong_table;
 pub use performing::{perform, perform_with};
 pub use refusal::{not_a_file, refuse, unopened};
 pub use spns::Spns;
-pub use task::{Address, Argument, FaultsTold, Files, LogInput, ParseFault, Task, WordText};
+pub use task::{
+    Address, Argument, FaultsTold, Files, LogInput, NodesTold, ParseFault, Task, WordText,
+};
 pub use unknown::{asks_for_unknown, asks_input_twice};
 pub use words::parse;

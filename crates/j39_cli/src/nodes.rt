@@ -1,32 +1,35 @@
 //! The command `nodes`: its words, and how it is performed.
-ghost use Rattle.std.specs.Prelude.{codes};
+ghost use Rattle.std.specs.Prelude.{◌≡◌, codes};
 ghost use Rattle.j39_io.specs.Turn.{turn};
-ghost use Rattle.clap.specs.Words.{found_of};
+ghost use Rattle.clap.specs.Words.{first_value, found_of};
 ghost use Rattle.j39_listen.specs.Asking.{AsksNowhere};
-ghost use Rattle.j39_listen.specs.Headed.{MakesNodes, begins_flushed};
+ghost use Rattle.j39_listen.specs.Nodes.{MakesNodesOf};
 ghost use Rattle.j39_listen.specs.Ran.{PassesOn, Ran};
 ghost use Rattle.j39_cli.specs.CommandWords.{IsAnswered, command_found};
 ghost use Rattle.j39_cli.specs.LogCommand.{log_limit};
-ghost use Rattle.j39_cli.specs.NodesCommand.{nodes_app};
-ghost use Rattle.j39_cli.specs.Rules.{IsMade};
+ghost use Rattle.j39_cli.specs.NodesCommand.{makes_told, nodes_app, told_by, told_flushed};
+ghost use Rattle.j39_cli.specs.Rules.{IsMade, is_given};
 
-use crate::command::{new_command, with_option};
+use crate::command::{new_command, with_flag, with_option};
 use crate::log::{LOG_LIMIT, copy_of, with_forms, with_log};
-use crate::words::{bus_value, format_given, log_input, senders_value};
-use crate::{Argument, ParseFault, Senders, Task};
+use crate::words::{bus_value, format_given, is_set, log_input, senders_value};
+use crate::{Argument, NodesTold, ParseFault, Senders, Task};
 use clap::{ArgMatches, Command};
 use j39_io::{Sink, Source};
-use j39_listen::{Counts, Format, RunFault};
+use j39_listen::{Counts, Format, RunFault, nodes_of, nodes_seen};
 use j39_log::Bus;
 use std::alloc::{AllocError, Global};
 
 const ABOUT: &str = "\
-Writes who is at which address at the end of a log: one line for each address that
-is held, or that sent other frames than claims, rising. It has the source address
-(hex), the NAME that holds it (hex, or dashes if none does), the time of that NAME's
-last claim of it (or -), and the time of the last frame from there. A controller
-whose claim was lost to a smaller NAME, or that gave its address up, holds none.
-`j1939 name` explains a NAME.";
+Writes who holds which address at the end of a log: one line for each address that is
+held, rising, with the source address and the NAME that holds it, both in hex. A
+controller whose claim was lost to a smaller NAME, or that gave its address up, holds
+none. `j1939 name` explains a NAME.
+
+With --seen, and in each of the other forms, it also has the time of that NAME's last
+claim of it and of the last frame from there. Then an address that nobody holds has a
+line too (dashes for the NAME, - for the claim), if other frames than claims came from
+there since its holder last changed.";
 
 const HELP: &str = "\
 At the end the counts go to standard error:
@@ -39,6 +42,8 @@ At the end the counts go to standard error:
 Example:
   j1939 nodes --bus can0 trip.log
 writes lines such as
+  00 8000000001401234
+and with --seen
   00 8000000001401234 (1700000000.000000) (1700000060.250000)";
 
 /// What clap is told of it.
@@ -49,6 +54,8 @@ pub(crate) fn command<'a>(alloc: Global) -> Result<Command<'a>, AllocError>
     let command = new_command(alloc, "nodes", about, ABOUT, HELP);
     let help = "These addresses (hex), or those of these NAMEs (16 hex digits), alone";
     let command = with_option(alloc, command, "from", "A,..", false, help);
+    let help = "Also when each was claimed and heard last, and who talks without a claim";
+    let command = with_flag(alloc, command, "seen", help);
     with_log(alloc, with_forms(alloc, command))
 }
 
@@ -72,27 +79,73 @@ pub(crate) fn task<'a>(alloc: Global, given: &ArgMatches<'a>) -> Result<Task<'a>
         Ok(input) => Ok(Task::Nodes {
             input,
             from,
-            format,
+            told: told_given(given, format),
         }),
         Err(fault) => Err(fault),
     }
 }
 
-/// Reads a log, and writes who is at which address after it, of those that are asked for.
+/// What is told by `--seen` and in this format.
+fn told_given(given: &ArgMatches<'_>, format: Format) -> NodesTold
+    ensures { result ≡ told_by (is_given (first_value (found_of given.now) (codes "seen"))) format }
+{
+    told_by(is_set(given, "seen"), format)
+}
+
+fn told_by(is_seen: bool, format: Format) -> NodesTold
+    ensures { result ≡ told_by is_seen format }
+{
+    match format {
+        Format::Line => {
+            if is_seen {
+                NodesTold::Seen(Format::Line)
+            } else {
+                NodesTold::Held
+            }
+        }
+        Format::Record => NodesTold::Seen(Format::Record),
+        Format::Object => NodesTold::Seen(Format::Object),
+    }
+}
+
+/// Reads a log, and tells of the addresses after it, of those that are asked for.
 pub(crate) fn run<R: Source, W: Sink>(
-    format: Format,
+    told: NodesTold,
     from: &Option<Senders>,
     bus: &Option<Bus>,
     source: &mut R,
     sink: &mut W,
 ) -> Result<Counts, RunFault>
-    ensures ran { Ran (MakesNodes format from.now) AsksNowhere bus.now log_limit result
+    ensures ran { Ran (makes_told told from.now) AsksNowhere bus.now log_limit result
         (turn R.remaining R.has_failed source.old source.new) (turn W.written W.has_failed sink.old sink.new) }
-    ensures flushed { PassesOn result (begins_flushed format (W.is_flushed sink.old)) (W.is_flushed sink.new) }
+    ensures flushed { PassesOn result (told_flushed told (W.is_flushed sink.old)) (W.is_flushed sink.new) }
 {
-    let from = match from {
-        Some(senders) => Some(senders.as_slice()),
-        None => None,
-    };
-    j39_listen::nodes(format, from, source, sink, copy_of(bus), LOG_LIMIT)
+    let bus = copy_of(bus);
+    match told {
+        NodesTold::Held => held(from, source, sink, bus),
+        NodesTold::Seen(format) => {
+            let from = match from {
+                Some(senders) => Some(senders.as_slice()),
+                None => None,
+            };
+            nodes_seen(format, from, source, sink, bus, LOG_LIMIT)
+        }
+    }
+}
+
+/// Reads a log, and writes who holds which address after it.
+fn held<R: Source, W: Sink>(
+    from: &Option<Senders>,
+    source: &mut R,
+    sink: &mut W,
+    bus: Option<Bus>,
+) -> Result<Counts, RunFault>
+    ensures ran { Ran (MakesNodesOf from.now) AsksNowhere bus log_limit result
+        (turn R.remaining R.has_failed source.old source.new) (turn W.written W.has_failed sink.old sink.new) }
+    ensures flushed { PassesOn result (W.is_flushed sink.old) (W.is_flushed sink.new) }
+{
+    match from {
+        Some(senders) => nodes_of(senders.as_slice(), source, sink, bus, LOG_LIMIT),
+        None => j39_listen::nodes(source, sink, bus, LOG_LIMIT),
+    }
 }

@@ -111,11 +111,10 @@ pub fn perform_with<R: Source, W: Sink, E: Sink>(
                 alloc, groups, &input.bus, versions, spns, asked, *told, *format, source, sink, err,
             )
         }
-        Task::Nodes {
-            input,
-            from,
-            format,
-        } => tell_end(nodes::run(*format, from, &input.bus, source, sink), err),
+        Task::Nodes { input, from, told } => tell_end(
+            nodes::run(*told, from, &input.bus, source, sink),
+            err,
+        ),
         Task::Answer {
             name,
             address,

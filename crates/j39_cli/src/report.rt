@@ -1,13 +1,17 @@
 //! The command `report`: its words, and how it is performed.
-ghost use Rattle.std.specs.Prelude.{◌≡◌, ◌⊎◌, OnOk, codes, false, true};
+ghost use Rattle.std.specs.Prelude.{◌≡◌, ◌⊎◌, Err, IfSome, OnOk, codes, false, true};
 ghost use Rattle.j39_io.specs.Turn.{turn};
 ghost use Rattle.clap.specs.Words.{found_of};
 ghost use Rattle.j39_listen.specs.Asking.{AsksForBoxes};
+ghost use Rattle.j39_listen.specs.Filter.{no_filter};
 ghost use Rattle.j39_listen.specs.Ran.{Ran};
+ghost use Rattle.j39_listen.specs.Run.{WritesAsked, WritesPublished, WritesWholeLines};
+ghost use Rattle.j39_listen.specs.declared.format.Format.TheVariants.{Line};
+ghost use Rattle.j39_listen.specs.declared.running.RunFault.TheVariants.{Read};
 ghost use Rattle.j39_cli.specs.Asked.{filter_in};
 ghost use Rattle.j39_cli.specs.CommandWords.{IsAnswered, command_found};
 ghost use Rattle.j39_cli.specs.LogCommand.{log_limit};
-ghost use Rattle.j39_cli.specs.ReportCommand.{IsReportRun, makes_in, report_app};
+ghost use Rattle.j39_cli.specs.ReportCommand.{IsReportRun, form_in, head_in, makes_in, report_app};
 ghost use Rattle.j39_cli.specs.Rules.{IsMade};
 
 use crate::command::{new_command, with_option, with_table};
@@ -136,6 +140,12 @@ fn run<R: Source, W: Sink>(
 ) -> Result<Counts, RunFault>
     ensures ran { Ran (makes_in format (filter_in asked.now) groups.now) AsksForBoxes bus.now log_limit result
         (turn R.remaining R.has_failed source.old source.new) (turn W.written W.has_failed sink.old sink.new) }
+    ensures published { format ≡ Line → filter_in asked.now ≡ no_filter → OnOk result (IfSome (R.remaining source.old)
+        (λ log. WritesPublished groups.now bus.now log (W.written sink.old) (W.written sink.new))) }
+    ensures asked { OnOk result (IfSome (R.remaining source.old) (λ log. WritesAsked (head_in format) (form_in format)
+        (filter_in asked.now) groups.now bus.now log (W.written sink.old) (W.written sink.new))) }
+    ensures kept_up { result ≡ Err Read → WritesWholeLines (makes_in format (filter_in asked.now) groups.now) bus.now
+        (R.remaining source.old) (R.remaining source.new) (W.written sink.old) (W.written sink.new) }
     ensures flushed { OnOk result (W.is_flushed sink.new ≡ true) }
     ensures passed_out { W.is_flushed sink.old ≡ true → W.has_failed sink.new ≡ false → W.is_flushed sink.new ≡ true }
 {

@@ -2,7 +2,7 @@
 ghost use Rattle.std.specs.Prelude.{◌≡◌, ◌≢◌, ◌↔◌, [], IfOk, IfSome, IsSome, OnErr, Some, map, option_map};
 ghost use Rattle.j39_frame.specs.Address.{IsAddress};
 ghost use Rattle.j39_cli.specs.Answer.{argument_text};
-ghost use Rattle.j39_cli.specs.Task.{files_of, table_of};
+ghost use Rattle.j39_cli.specs.Task.{file_of, files_of, table_of};
 
 use crate::{Asked, Conversions, Outgoing, Senders, Spns};
 use j39_address::Name;
@@ -139,6 +139,15 @@ pub enum FaultsTold {
     Now,
 }
 
+/// What is told of the addresses after a log.
+#[derive(Clone, Copy, Debug, PartialEq, Eq)]
+pub enum NodesTold {
+    /// Who holds which, a line each.
+    Held,
+    /// Also when its holder claimed it last, when a frame came last from there, and who talks at one that nobody holds.
+    Seen(Format),
+}
+
 /// A command with its values.
 #[derive(Drop)]
 pub enum Task<'a> {
@@ -191,8 +200,8 @@ pub enum Task<'a> {
         input: LogInput<'a>,
         /// The senders that are asked for; `None` for all.
         from: Option<Senders>,
-        /// How they are written.
-        format: Format,
+        /// What is told of them.
+        told: NodesTold,
     },
     /// What a node would send, had it been on the bus of a log.
     Answer {
@@ -243,6 +252,16 @@ impl<'a> Task<'a> {
             Task::Survey { input, .. } => input.file.as_slice(),
             Task::Watch { input, .. } => input.file.as_slice(),
             _ => &[],
+        }
+    }
+
+    /// The first FILE; `None` where none is given, or the command reads no log.
+    pub fn file(&self) -> Option<&'a str>
+        ensures { option_map (λ text. text.now) result ≡ file_of self.now }
+    {
+        match self.files() {
+            [first, ..] => Some(*first),
+            [] => None,
         }
     }
 

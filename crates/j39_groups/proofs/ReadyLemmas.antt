@@ -8,7 +8,7 @@ use Rattle.std.specs.Str.{bytes_eq}
 use Rattle.std.proofs.lemmas.Slice.Eq.{bytes_eq-Decides}
 use Rattle.j39_groups.specs.declared.field.Field.{Field}
 use Rattle.j39_groups.specs.declared.field.Field.TheVariants.{Number, Bits, Signed, Switch, Text, Texts}
-use Rattle.j39_groups.specs.declared.scale.Scale.{Scale}
+use Rattle.j39_groups.specs.declared.slot.Slot.{Slot}
 use Rattle.j39_groups.specs.declared.short_text.ShortText.{ShortText}
 use Rattle.j39_groups.specs.declared.prepared.Ending.{Ending}
 use Rattle.j39_groups.specs.declared.prepared.Prepared.{Prepared}
@@ -52,7 +52,7 @@ prepared_is row prepared h is =
     let label = label_is prepared.label row.pgn row.spn both.0 in
     (label.0, label.1, both.1)
 
-scale_end_is : (end : Ending) (scale : Scale) → is_scale_end end scale ≡ true → IsEnd end (scale_record scale)
+scale_end_is : (end : Ending) (scale : Slot) → is_scale_end end scale ≡ true → IsEnd end (scale_record scale)
 scale_end_is end scale h =
     let first = and_parts (is_short_end end) (end.places == scale.places && bytes_eq (short_text end.text) (32 ∷ (scale.unit.now ++ (10 ∷ [])))) h in
     let short = and_parts (nat_le end.text.from 16) (nat_le end.places 15) first.0 in
@@ -60,7 +60,7 @@ scale_end_is end scale h =
     record { from = leb-true _ _ short.0; few = leb-true _ _ short.1; places = eqb-true _ _ both.0; text = (bytes_eq-Decides _ _).0 both.1 }
 
 -- the end of a scale that was written passes the test
-pub scale_end_from : (end : Ending) (scale : Scale) → end.text.from ≤ 16 → scale.places ≤ 15 → end.places ≡ scale.places
+pub scale_end_from : (end : Ending) (scale : Slot) → end.text.from ≤ 16 → scale.places ≤ 15 → end.places ≡ scale.places
     → short_text end.text ≡ 32 ∷ (scale.unit.now ++ (10 ∷ [])) → is_scale_end end scale ≡ true
 scale_end_from end scale inside few places text =
     let i : nat_le end.text.from 16 ≡ true = le-leb _ _ inside in
@@ -163,7 +163,7 @@ pub labelled_line : (head pgn spn value end label : List ℕ) → label ≡ (pgn
     → head ++ (label ++ (value ++ end)) ≡ (head ++ pgn ++ codes " ") ++ spn ++ codes " " ++ value ++ end
 labelled_line head pgn spn value end label is = ap (λ t. head ++ (t ++ (value ++ end))) is ∙ (simp append_assoc refl)
 
-bits_sound : (byte low count : ℕ) (scale : Scale) → is_sound (Bits byte low count scale) ≡ true → IsSoundBits byte low count scale
+bits_sound : (byte low count : ℕ) (scale : Slot) → is_sound (Bits byte low count scale) ≡ true → IsSoundBits byte low count scale
 bits_sound byte low count scale h =
     let a = and_parts _ _ h in
     let b = and_parts _ _ a.0 in

@@ -2,19 +2,19 @@
 use Rattle.std.specs.Prelude.{◌≡◌, ◌==◌, ◌&&◌, ◌+◌, ◌-◌, ◌*◌, ◌^◌, ◌<◌, ◌≤◌, ⊤, ℕ, Bool, nat_lt, nat_le, unsigned_abs}
 use Rattle.j39_groups.specs.declared.field.Field.{Field}
 use Rattle.j39_groups.specs.declared.field.Field.TheVariants.{Number, Bits, Signed, Switch, Text, Texts}
-use Rattle.j39_groups.specs.declared.scale.Scale.{Scale}
+use Rattle.j39_groups.specs.declared.slot.Slot.{Slot}
 
 -- the largest magnitude that a value of a raw number of so many bits can have
-abbrev pub largest : ℕ → Scale → ℕ
+abbrev pub largest : ℕ → Slot → ℕ
 largest bits scale = scale.step * (2 ^ bits - 1) + unsigned_abs scale.offset
 
-pub record IsSoundBytes (first last : ℕ) (scale : Scale) : Type 0 where
+pub record IsSoundBytes (first last : ℕ) (scale : Slot) : Type 0 where
   pub starts : 0 < first
   pub ordered : first ≤ last
   pub narrow : last < first + 4
   pub fits : largest (8 * (last - first + 1)) scale < 2 ^ 63
 
-pub record IsSoundBits (byte low count : ℕ) (scale : Scale) : Type 0 where
+pub record IsSoundBits (byte low count : ℕ) (scale : Slot) : Type 0 where
   pub byte_starts : 0 < byte
   pub starts : 0 < low
   pub ends : low ≤ 8

@@ -6,7 +6,7 @@ use Rattle.j39_groups.specs.declared.listed.LentRows.{LentRows}
 use Rattle.j39_groups.specs.declared.listed.Listed.{Listed}
 use Rattle.j39_groups.specs.declared.listed.Listed.TheVariants.{Lent, Kept}
 use Rattle.j39_groups.specs.declared.row.Row.{Row}
-use Rattle.j39_groups.specs.declared.scale.Scale.{Scale}
+use Rattle.j39_groups.specs.declared.slot.Slot.{Slot}
 use Rattle.j39_groups.specs.declared.short.Short.{Short}
 use Rattle.j39_groups.specs.declared.short.Short.TheVariants.{Number as ShortNumber, On as ShortOn, Off as ShortOff, Error as ShortError, Reserved as ShortReserved, Indicator as ShortIndicator}
 use Rattle.j39_groups.specs.declared.value.Reading.{Reading}
@@ -17,7 +17,7 @@ use Rattle.j39_groups.specs.Value.{SlotRecord, ValueRecord, number, on, off, err
 use Rattle.j39_memory.specs.Items.{items_of}
 use Rattle.j39_memory.specs.declared.list.List.{List as RowList}
 
-abbrev pub scale_record : Scale → SlotRecord
+abbrev pub scale_record : Slot → SlotRecord
 scale_record scale = record {
   step = pos scale.step;
   offset = scale.offset;

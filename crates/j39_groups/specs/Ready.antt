@@ -7,7 +7,7 @@ use Rattle.j39_groups.specs.declared.field.Field.{Field}
 use Rattle.j39_groups.specs.declared.field.Field.TheVariants.{Number, Bits, Signed, Switch, Text, Texts}
 use Rattle.j39_groups.specs.declared.prepared.Ending.{Ending}
 use Rattle.j39_groups.specs.declared.prepared.Prepared.{Prepared}
-use Rattle.j39_groups.specs.declared.scale.Scale.{Scale}
+use Rattle.j39_groups.specs.declared.slot.Slot.{Slot}
 use Rattle.j39_groups.specs.declared.short_text.ShortText.{ShortText}
 use Rattle.j39_groups.specs.Value.{SlotRecord, ValueRecord, number, on, off, error, reserved, indicator, text}
 
@@ -28,7 +28,7 @@ abbrev pub is_short_end : Ending → Bool
 is_short_end end = nat_le end.text.from 16 && nat_le end.places 15
 
 -- it is a number's places, and a space, the unit and a newline
-abbrev pub is_scale_end : Ending → Scale → Bool
+abbrev pub is_scale_end : Ending → Slot → Bool
 is_scale_end end scale =
     is_short_end end && (end.places == scale.places
     && bytes_eq (short_text end.text) (space ∷ (scale.unit.now ++ (newline ∷ []))))

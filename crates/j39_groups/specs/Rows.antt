@@ -5,7 +5,7 @@ use Rattle.j39_groups.specs.declared.by_number.SizedScale.{SizedScale}
 use Rattle.j39_groups.specs.declared.field.Field.{Field}
 use Rattle.j39_groups.specs.declared.field.Field.TheVariants.{Number, Bits, Signed, Switch, Text, Texts}
 use Rattle.j39_groups.specs.declared.row.Row.{Row}
-use Rattle.j39_groups.specs.declared.scale.Scale.{Scale}
+use Rattle.j39_groups.specs.declared.slot.Slot.{Slot}
 use Rattle.j39_groups.specs.Fields.{is_sound}
 use Rattle.j39_groups.specs.Models.{scale_record}
 use Rattle.j39_groups.specs.Readings.{is_heard_group, is_network_group}
@@ -25,7 +25,7 @@ is_row row = is_sound row.field && (is_listed_group row.pgn && is_prepared row.p
 abbrev pub sized_slot_record : SizedScale → SizedSlotRecord
 sized_slot_record n = record { count = n.count; slot = scale_record n.scale }
 
-pub record IsSoundCount (count : ℕ) (scale : Scale) : Type 0 where
+pub record IsSoundCount (count : ℕ) (scale : Slot) : Type 0 where
   pub some : 0 < count
   pub narrow : count ≤ 4
   pub rises : 0 < scale.step

@@ -10,12 +10,12 @@ ghost use Rattle.j39_groups.specs.Slots.{slot_at, sized_slot_of_spn, slot_of_spn
 use crate::field::Field;
 use crate::raw::{is_valid, top_byte};
 use crate::row::Row;
-use crate::scale::Scale;
+use crate::slot::Slot;
 use crate::table::built_in_rows;
 
 /// The slot of a parameter (SPN) of the built-in table that is a number (J1939-71); `None` for switches, texts and
 /// unknown parameters.
-pub fn slot_of(spn: u32) -> Option<Scale<'static>>
+pub fn slot_of(spn: u32) -> Option<Slot<'static>>
     ensures { option_map scale_record result ≡ slot_of_spn spn }
 {
     let sized = sized_scale_of(spn)?;
@@ -41,7 +41,7 @@ pub fn raw_of(spn: u32, value: i64) -> Option<u32>
 #[derive(Clone, Copy)]
 struct SizedScale<'t> {
     count: u8,
-    scale: Scale<'t>,
+    scale: Slot<'t>,
 }
 
 /// The scale of a parameter in the table.

@@ -2,7 +2,7 @@
 ghost use Rattle.std.specs.Prelude.{◌≡◌, ◌+◌, ◌==◌, ◌&&◌, nat_lt, nat_le};
 ghost use Rattle.j39_groups.specs.Fields.{is_sound};
 
-use crate::scale::Scale;
+use crate::slot::Slot;
 
 /// Where a parameter stands in the payload. Bytes, bits and parts count from 1.
 #[derive(Clone, Copy)]
@@ -11,7 +11,7 @@ pub enum Field<'t> {
     Number {
         first: u8,
         last: u8,
-        scale: Scale<'t>,
+        scale: Slot<'t>,
     },
     /// A number in `count` bits, 1 to 32, from the bit `low` of a byte on, low bit first; it may go on in the next
     /// bytes.
@@ -19,7 +19,7 @@ pub enum Field<'t> {
         byte: u8,
         low: u8,
         count: u8,
-        scale: Scale<'t>,
+        scale: Slot<'t>,
     },
     /// A switch in the bits `low` and `high` of a byte, neighbours.
     Switch {
@@ -42,7 +42,7 @@ pub enum Field<'t> {
         byte: u8,
         low: u8,
         count: u8,
-        scale: Scale<'t>,
+        scale: Slot<'t>,
     },
 }
 

@@ -3,8 +3,8 @@ ghost use Rattle.std.specs.Prelude.{◌≡◌, true, IfSome};
 ghost use Rattle.j39_groups.specs.Ready.{is_end, is_label, is_prepared, is_scale_end};
 
 use crate::field::Field;
-use crate::scale::Scale;
 use crate::short_text::ShortText;
+use crate::slot::Slot;
 use j39_io::backwards::{byte_before, number_before, slice_before};
 
 /// How the line of a number or a switch ends.
@@ -69,7 +69,7 @@ fn end_of(field: Field<'_>) -> Option<Ending>
 }
 
 /// A space, the unit and a newline.
-fn scale_end(scale: Scale<'_>) -> Option<Ending>
+fn scale_end(scale: Slot<'_>) -> Option<Ending>
     ensures { IfSome result (λ end. is_scale_end end scale.entry ≡ true) }
 {
     if scale.places > 15 || scale.unit.len() > 14 {

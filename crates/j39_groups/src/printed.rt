@@ -11,7 +11,7 @@ ghost use Rattle.j39_groups.specs.Rows.{is_row};
 
 use crate::field::Field;
 use crate::row::Row;
-use crate::scale::Scale;
+use crate::slot::Slot;
 use crate::text::{Text, scaled_text};
 use arrayvec::ArrayVec;
 use j39_io::printing::push_number;
@@ -280,7 +280,7 @@ fn scale_of(field: Field<'_>) -> ScaleTexts<'_>
     }
 }
 
-fn scale_texts(scale: Scale<'_>) -> ScaleTexts<'_>
+fn scale_texts(scale: Slot<'_>) -> ScaleTexts<'_>
     requires { scale.step < 2 ^ 63 }
     ensures { scale_columns result.step.items result.offset.items result.unit.now
         ≡ slot_text (scale_record scale.entry) }

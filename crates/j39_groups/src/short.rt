@@ -2,7 +2,7 @@
 ghost use Rattle.std.specs.Prelude.{◌≡◌};
 ghost use Rattle.j39_groups.specs.Models.{scale_record, short_value, value_of};
 
-use crate::scale::Scale;
+use crate::slot::Slot;
 use crate::value::Value;
 
 /// A number in units of the last printed place, or a word: small enough to be handed on without a copy.
@@ -19,7 +19,7 @@ pub(crate) enum Short {
 impl Short {
     /// The value, of a number with this scale.
     #[inline(always)]
-    pub fn with<'t, 'v>(self, scale: Scale<'t>) -> Value<'t, 'v>
+    pub fn with<'t, 'v>(self, scale: Slot<'t>) -> Value<'t, 'v>
         ensures { value_of result ≡ short_value (scale_record scale.entry) self }
     {
         match self {

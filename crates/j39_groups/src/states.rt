@@ -8,7 +8,7 @@ ghost use Rattle.j39_groups.specs.States.{called, error_in, indicator_in, name_l
 
 use crate::field::Field;
 use crate::row::Row;
-use crate::scale::Scale;
+use crate::slot::Slot;
 use crate::value::Value;
 use arrayvec::ArrayVec;
 use j39_io::printing::push_number;
@@ -105,7 +105,7 @@ fn first_state(states: &[u8], raw: u64) -> Option<&[u8]>
     None
 }
 
-impl Scale<'_> {
+impl Slot<'_> {
     /// How many steps a number is above the offset; `None` below it, and between two steps.
     #[tactic(auto, unfolding(crate::specs::States::steps_up))]
     fn steps_up(self, number: i64) -> Option<u64>

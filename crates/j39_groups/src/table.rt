@@ -8,8 +8,8 @@ ghost use Rattle.j39_groups.specs.Table.{the_table};
 use crate::field::Field;
 use crate::prepared::{Ending, Prepared};
 use crate::row::Row;
-use crate::scale::Scale;
 use crate::short_text::ShortText;
+use crate::slot::Slot;
 
 /// All rows.
 pub(crate) fn built_in_rows() -> &'static [Row<'static>]
@@ -263,7 +263,7 @@ macro_rules! number {
             field: Field::Number {
                 first: $first,
                 last: $last,
-                scale: Scale {
+                scale: Slot {
                     step: $step,
                     offset: $offset,
                     places: $places,

@@ -10,7 +10,7 @@ ghost use Rattle.j39_groups.specs.Models.{scale_record, value_of};
 ghost use Rattle.j39_groups.specs.ValueText.{value_text, number_text, scaled_text, magnitude_text, byte_text, is_plain, quoted};
 
 use crate::printed::put_parts;
-use crate::scale::Scale;
+use crate::slot::Slot;
 use crate::value::Value;
 use arrayvec::ArrayVec;
 use j39_io::printing::{push_bytes, push_number};
@@ -37,7 +37,7 @@ pub fn put_value<W: Sink>(value: &Value<'_, '_>, sink: &mut W) -> Result<(), Dev
 }
 
 /// Writes a number in decimal with its places, a space and the unit.
-fn put_number<W: Sink>(number: i64, scale: Scale<'_>, sink: &mut W) -> Result<(), DeviceFault>
+fn put_number<W: Sink>(number: i64, scale: Slot<'_>, sink: &mut W) -> Result<(), DeviceFault>
     ensures { Puts (number_text number (scale_record scale.entry)) result (turn W.written W.has_failed sink.old sink.new) }
 {
     let text = scaled_text(number, scale.places);

@@ -1,12 +1,12 @@
 //! What a parameter's raw value means.
 
-use crate::scale::Scale;
+use crate::slot::Slot;
 
 /// A parameter's value (J1939-71): `'t` is how long the table lives, `'v` how long the payload.
 #[derive(Clone, Copy)]
 pub enum Value<'t, 'v> {
-    /// A valid number, `raw * step + offset`, in units of the last printed place, and its scale.
-    Number(i64, Scale<'t>),
+    /// A valid number, `raw * step + offset`, in units of the last printed place, and its slot.
+    Number(i64, Slot<'t>),
     /// A switch that is on.
     On,
     /// A switch that is off.

@@ -12,8 +12,8 @@ ghost use Rattle.j39_groups.specs.Ranges.{is_valid};
 
 use crate::field::Field;
 use crate::raw::{is_valid, raw_bits, raw_number, raw_of, top_byte};
-use crate::scale::Scale;
 use crate::short::Short;
+use crate::slot::Slot;
 use crate::value::Value;
 
 /// The value in a field that has one at most; `None` for several texts.
@@ -33,14 +33,14 @@ pub(crate) fn value_in<'t, 'v>(bytes: &'v [u8], field: Field<'t>) -> Option<Valu
             count,
             scale,
         } => with(signed_of(bytes, byte, low, count, &scale), scale),
-        Field::Switch { .. } => with(short_in(bytes, &field), Scale::NONE),
+        Field::Switch { .. } => with(short_in(bytes, &field), Slot::NONE),
         Field::Text { part } => text_at(bytes, part),
         Field::Texts { .. } => None,
     }
 }
 
 #[inline(always)]
-fn with<'t, 'v>(short: Option<Short>, scale: Scale<'t>) -> Option<Value<'t, 'v>>
+fn with<'t, 'v>(short: Option<Short>, scale: Slot<'t>) -> Option<Value<'t, 'v>>
     ensures { option_map value_of result ≡ option_map (short_value (scale_record scale.entry)) short }
 {
     match short {
@@ -100,7 +100,7 @@ pub(crate) fn holds_number(bytes: &[u8], field: &Field<'_>) -> bool
 
 /// The number in the bytes `first` to `last`.
 #[inline(always)]
-pub(crate) fn number_of(bytes: &[u8], first: u8, last: u8, scale: &Scale<'_>) -> Option<Short>
+pub(crate) fn number_of(bytes: &[u8], first: u8, last: u8, scale: &Slot<'_>) -> Option<Short>
     requires { IsSoundBytes first last scale.now }
     ensures { option_map (short_value (scale_record scale.now)) result
         ≡ option_and_then (number_meaning (last - (first - 1)) (scale_record scale.now))
@@ -116,7 +116,7 @@ pub(crate) fn number_of(bytes: &[u8], first: u8, last: u8, scale: &Scale<'_>) ->
 /// What a raw number of `count` bytes means.
 #[inline(always)]
 #[tactic(auto, unfolding(crate::specs::Readings::by_top_byte))]
-fn number(raw: u32, count: u8, scale: &Scale<'_>) -> Option<Short>
+fn number(raw: u32, count: u8, scale: &Slot<'_>) -> Option<Short>
     requires some { 0 < count }
     requires narrow { count ≤ 4 }
     requires fits { scale.now.step * raw + unsigned_abs scale.now.offset < 2 ^ 63 }
@@ -146,7 +146,7 @@ fn word_by_top_byte(top: u32) -> Option<Short>
 }
 
 #[inline]
-fn bits_of(bytes: &[u8], byte: u8, low: u8, count: u8, scale: &Scale<'_>) -> Option<Short>
+fn bits_of(bytes: &[u8], byte: u8, low: u8, count: u8, scale: &Slot<'_>) -> Option<Short>
     requires { IsSoundBits byte low count scale.now }
     ensures { option_map (short_value (scale_record scale.now)) result
         ≡ option_and_then (bits_meaning count (scale_record scale.now)) (raw_bits byte low count bytes.now) }
@@ -158,7 +158,7 @@ fn bits_of(bytes: &[u8], byte: u8, low: u8, count: u8, scale: &Scale<'_>) -> Opt
 /// What a number of `count` bits means.
 #[inline]
 #[tactic(auto, unfolding(crate::specs::Readings::bits_meaning))]
-fn bits_meaning(raw: u32, count: u8, scale: &Scale<'_>) -> Option<Short>
+fn bits_meaning(raw: u32, count: u8, scale: &Slot<'_>) -> Option<Short>
     requires some { 0 < count }
     requires few { count ≤ 32 }
     requires narrow { raw < 2 ^ count }
@@ -180,7 +180,7 @@ fn bits_meaning(raw: u32, count: u8, scale: &Scale<'_>) -> Option<Short>
 
 /// The number in two's complement.
 #[inline(never)]
-fn signed_of(bytes: &[u8], byte: u8, low: u8, count: u8, scale: &Scale<'_>) -> Option<Short>
+fn signed_of(bytes: &[u8], byte: u8, low: u8, count: u8, scale: &Slot<'_>) -> Option<Short>
     requires { IsSoundBits byte low count scale.now }
     ensures { option_map (short_value (scale_record scale.now)) result
         ≡ option_map (signed_value count (scale_record scale.now)) (raw_bits byte low count bytes.now) }

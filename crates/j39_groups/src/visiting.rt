@@ -14,8 +14,8 @@ ghost use Rattle.j39_groups.specs.declared.field.Field.TheVariants.{Texts};
 use crate::field::Field;
 use crate::reading::push_texts;
 use crate::row::Row;
-use crate::scale::Scale;
 use crate::short::Short;
+use crate::slot::Slot;
 use crate::value::{Reading, Value};
 use crate::value_in::{bytes_from, holds_number, number_of, switch_at, value_in};
 use arrayvec::ArrayVec;
@@ -151,7 +151,7 @@ fn visit_short<'t, M, V: ReadingVisitor<'t, M>>(
     row: &Row<'t>,
     bytes: &[u8],
     short: Option<Short>,
-    scale: &Scale<'t>,
+    scale: &Slot<'t>,
     visitor: &mut V,
     medium: &mut M,
 ) -> Result<(), V::Fault>
@@ -208,7 +208,7 @@ fn visit_said<'t, M, V: ReadingVisitor<'t, M>>(
     ensures stopped { OnErr result (Stops V.has_taken V.has_stopped visitor.old medium.old visitor.new medium.new
         (told (record { spn = spn; value = short_value no_slot word }) ∷ [])) }
 {
-    visitor.visit(spn, word.with(Scale::NONE), medium)
+    visitor.visit(spn, word.with(Slot::NONE), medium)
 }
 
 /// Hands on a word, which few values are.
@@ -216,7 +216,7 @@ fn visit_said<'t, M, V: ReadingVisitor<'t, M>>(
 fn visit_word<'t, M, V: ReadingVisitor<'t, M>>(
     spn: u32,
     word: Short,
-    scale: &Scale<'t>,
+    scale: &Slot<'t>,
     visitor: &mut V,
     medium: &mut M,
 ) -> Result<(), V::Fault>

@@ -18,8 +18,8 @@ use Rattle.j39_listen.proofs.Causal.{heard_more}
 use Rattle.j39_listen.proofs.LineLemmas.{capped-fits, capped-sum}
 use Rattle.j39_listen.proofs.ReportAccount.{same_made}
 use Rattle.j39_listen.specs.AccountCalls.{Begins, MakesOne, Meets, Stops}
-use Rattle.j39_listen.specs.AnswersSoFar.{Calls, HasAnswered, Notices, Obeys, all_sent, is_empty, starts}
-use Rattle.j39_listen.specs.Answers.{AnsweredBelow, calls_at, calls_with, sent_by, sent_text}
+use Rattle.j39_listen.specs.AnswersSoFar.{Calls, HasAnswered, Notices, Obeys, all_sent, hears, is_empty, starts}
+use Rattle.j39_listen.specs.Answers.{AnsweredBelow, calls_at, calls_with, commands, sent_by, sent_text}
 use Rattle.j39_listen.specs.Heard.{Hearing, or_none}
 use Rattle.j39_listen.specs.Listening.{Hears}
 use Rattle.j39_listen.specs.Output.{MakesAnswers, Output, answers_of, nothing}
@@ -118,6 +118,17 @@ sent_few sent =
     at_most_few None = omega arith
     at_most_few (Some f) = omega arith
 
+-- behind what it hears it may be commanded
+pub obeys_all : (a b c : Claimer) (is_idle : Bool) (f : FrameRecord) (command : Option Command) (sent : Sent) (now : ℕ) → now ≡ f.stamp
+    → Obeys a (starts is_idle ++ hears f) f.stamp (option_to_list sent.started ++ option_to_list sent.answered) b → Obeys b (commands command) now (option_to_list sent.obeyed) c
+    → Obeys a (starts is_idle ++ calls_with f command) f.stamp (all_sent sent) c
+obeys_all a b c is_idle f command sent now at first last =
+    let both = obeys-append a b c (starts is_idle ++ hears f) (commands command) f.stamp (option_to_list sent.started ++ option_to_list sent.answered) (option_to_list sent.obeyed)
+    first (subst (λ (t : ℕ). Obeys b (commands command) t (option_to_list sent.obeyed) c) at last) in
+    subst (λ (calls : List Call). Obeys a calls f.stamp (all_sent sent) c) (append_assoc (starts is_idle) (hears f) (commands command))
+    (subst (λ (frames : List FrameRecord). Obeys a ((starts is_idle ++ hears f) ++ commands command) f.stamp frames c)
+    (append_assoc (option_to_list sent.started) (option_to_list sent.answered) (option_to_list sent.obeyed)) both)
+
 -- what the node is called with, behind the frames that it was given
 called_here : (start : Node) (bus : List ℕ) (a : Answers) (f : FrameRecord) (noticed : Noticed) (sent : Sent) (claimer' : Claimer) (F : List FrameRecord) (before : Output)
     → Obeys a.claimer (starts a.is_idle ++ calls_with f (option_map command_by noticed.command)) f.stamp (all_sent sent) claimer' → (has : HasAnswered start bus a F before)
@@ -173,6 +184,10 @@ pub answers_begin : (start : Node) → Begins (HasAnswered start) (MakesAnswers 
 answers_begin start = λ bus a F G before all has made.
     let t = texts start bus F G has.sent has.node all has.answered made in
     (sent_text bus t.0, t.1 ∙ ap (λ x. x ++ sent_text bus t.0) (sym (ap (λ (o : Output). o.text) has.output_is)))
+
+-- all that is made of the frames is made as they are met
+pub answered_makes : (start : Node) (bus : List ℕ) (a : Answers) (F : List FrameRecord) (output : Output) → HasAnswered start bus a F output → MakesAnswers start bus F output
+answered_makes start bus a F output has = (has.heard, has.sent, has.are_heard, (has.node, has.answered), has.output_is)
 
 pub answers_one : (start : Node) → MakesOne (MakesAnswers start)
 answers_one start = λ bus F x y (hs, xs, heard_x, (m, are_x), is_x) (ks, ys, heard_y, (n, are_y), is_y).

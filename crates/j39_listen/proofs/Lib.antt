@@ -16,9 +16,11 @@ pub mod ListenerLemmas
 -- the accounts: for those of `report`, `nodes` and `answer`
 pub mod ReportAccount
 pub mod FilterLemmas
+pub mod ByAddressLemmas
 pub mod SeenLemmas
 mod SecondsLemmas
 pub mod NodeLemmas
+pub mod SeenNodeLemmas
 pub mod AnswerLemmas
 pub mod AnswerAccount
 pub mod AnswerExisting
@@ -30,6 +32,7 @@ pub mod PieceLemmas
 pub mod DigitLemmas
 pub mod AskLemmas
 pub mod HeadedLemmas
+pub mod KeepingUp
 -- the headline: for the laws on what was published
 pub mod Items
 pub mod Sent

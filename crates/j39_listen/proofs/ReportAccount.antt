@@ -148,6 +148,11 @@ module _ (form : Form) (subject : Subject) where
       let t = texts bus F G has.heard before all has.are_heard has.output_is made in
       ((of (first_stamp (F ++ G)) t.0).text, t.1)
 
+  -- all that is made of the frames is made as they are met
+  pub reported_makes : {E : Type 0} (bus : List ℕ) (r : Report E) (F : List FrameRecord) (output : Output) → HasReported form subject r F output
+      → MakesFilteredIn form groups which bus F output
+  reported_makes bus r F output has = (has.heard, has.are_heard, has.output_is)
+
   pub report_one : MakesOne (MakesFilteredIn form groups which)
   report_one = λ bus F x y (hs, are_x, is_x) (ks, are_y, is_y).
       ap (λ (o : Output). o.text) is_x

@@ -2,7 +2,9 @@
 pub mod Heard
 pub mod Forgets
 pub mod Report
+pub mod ByAddress
 pub mod Nodes
+pub mod SeenNodes
 pub mod Answers
 pub mod Output
 pub mod Members
@@ -31,6 +33,7 @@ pub mod OneFrameMore
 pub mod AccountCalls
 pub mod ReportSoFar
 pub mod NodesSoFar
+pub mod SeenSoFar
 pub mod AnswersSoFar
 pub mod LinesSoFar
 pub mod PiecesSoFar

@@ -1,10 +1,10 @@
 -- The steps of a run over pieces of a log.
 use Rattle.std.specs.Prelude.{◌≡◌, ◌≢◌, ◌⊎◌, ◌++◌, [], ℕ, List, Option, length}
 use Rattle.std.specs.List.{AllByRecursion}
-use Rattle.std.specs.Io.KnownBytes.{Appends}
+use Rattle.std.specs.Io.KnownBytes.{Appends, Consumes}
 use Rattle.j39_io.specs.Device.{AppendsFront}
 use Rattle.j39_frame.specs.Frame.{FrameRecord}
-use Rattle.j39_log.specs.Log.{HasNoNewline, ended, SpellEach, bus_of, frames_of}
+use Rattle.j39_log.specs.Log.{HasNoNewline, IsLog, ended, SpellEach, bus_of, frames_of}
 use Rattle.j39_log.specs.Spelled.{Spelled, Spells}
 use Rattle.j39_log.specs.Splitter.{HasBegun, EndsLine}
 use Rattle.j39_log.specs.declared.splitter.Splitter.{Splitter}
@@ -82,6 +82,20 @@ pub record HasTaken {A : Type 0} (has_met : Meeting A) (given : Option (List ℕ
   pub begun : List ℕ
   pub begins : HasBegun run.splitter begun
   pub has_read : HasRead has_met given taken begun run.lines old new
+
+-- the whole lines of the bytes that were taken were met, and behind a head all that is made of their frames so far was written
+pub record KeepsUp {A : Type 0} (has_met : Meeting A) (head : List ℕ) (given remaining remaining' old new : Option (List ℕ))
+    : Type 0 where
+  pub lines : List (List ℕ)
+  pub begun : List ℕ
+  pub whole : HasNoNewline begun
+  pub consumed : Consumes remaining remaining' (ended lines ++ begun)
+  pub spelled : List Spelled
+  pub is_log : IsLog (ended lines) spelled
+  pub account : A
+  pub output : Output
+  pub met : has_met (run_bus given spelled) account (frames_of given spelled) output
+  pub written : Appends old new (head ++ output.text)
 
 -- whatever bytes the run stands for, this is so of them and of what the writer held before them
 abbrev pub Behind : {A : Type 0} → Meeting A → Pieces A → Option (List ℕ)

@@ -1,14 +1,16 @@
 -- What a run over a log writes and counts, whatever it makes of the frames.
 use Rattle.std.specs.Prelude.{◌≡◌, ◌<◌, ◌≤◌, ◌++◌, ℕ, List, [], Option, length, unwrap_or}
+use Rattle.std.specs.List.{flat_map}
 use Rattle.std.specs.Io.KnownBytes.{Appends, Consumes}
 use Rattle.j39_io.specs.Device.{AppendsFront}
-use Rattle.j39_log.specs.Log.{IsLog, bus_of, frames_of}
+use Rattle.j39_log.specs.Log.{HasNoNewline, IsLog, bus_of, ended, frames_of}
 use Rattle.j39_log.specs.Spelled.{Spelled}
 use Rattle.j39_groups.specs.Row.{RowRecord}
 use Rattle.j39_listen.specs.Counting.{counts_of}
 use Rattle.j39_listen.specs.Output.{Output, Making, Meeting}
-use Rattle.j39_listen.specs.Report.{Entry, IsReport, text_of}
-use Rattle.j39_listen.specs.Values.{TellsPublished, TellsRepeated, TellsThinned}
+use Rattle.j39_listen.specs.Filter.{FilterRecord, first_stamp, taken}
+use Rattle.j39_listen.specs.Report.{Entry, Form, IsReport, text_of}
+use Rattle.j39_listen.specs.Values.{TellsPublished, TellsRepeated, TellsTaken, TellsThinned}
 use Rattle.j39_listen.specs.declared.counts.Counts.{Counts}
 
 -- the name of the run's bus; empty where none is given and no line is a frame, so that nothing is on it
@@ -24,6 +26,16 @@ pub record Writes (makes : Making) (given : Option (List ℕ)) (log : List ℕ) 
   pub is_made : makes (run_bus given spelled) (frames_of given spelled) output
   pub counts_are : counts ≡ counts_of given spelled output
   pub written : Appends old new output.text
+
+-- a run that a read ended is not behind: it wrote what is made of the whole lines of the bytes that it took, as if they were
+-- the log, and nothing else; of what stands behind their last newline, nothing
+pub record WritesWholeLines (makes : Making) (given remaining remaining' old new : Option (List ℕ)) : Type 0 where
+  pub lines : List (List ℕ)
+  pub begun : List ℕ
+  pub whole : HasNoNewline begun
+  pub consumed : Consumes remaining remaining' (ended lines ++ begun)
+  pub counts : Counts
+  pub writes : Writes makes given (ended lines) counts old new
 
 -- an account has met the log's frames on the run's bus
 pub record HasMetLog {A : Type 0} (has_met : Meeting A) (given : Option (List ℕ)) (log : List ℕ) (account : A)
@@ -82,3 +94,16 @@ pub record WritesPublished (groups : List RowRecord) (given : Option (List ℕ))
   pub published : TellsPublished groups (frames_of given spelled) entries
   pub thinned : TellsThinned groups (frames_of given spelled) entries
   pub repeated : TellsRepeated groups (frames_of given spelled) entries
+
+-- a run over the log wrote, behind this head and in this form, the entries that a filter takes of the report, and of publishers
+-- they tell exactly what it takes of the values published
+pub record WritesAsked (head : List ℕ) (form : Form) (which : FilterRecord) (groups : List RowRecord)
+    (given : Option (List ℕ)) (log : List ℕ) (old new : Option (List ℕ)) : Type 0 where
+  pub spelled : List Spelled
+  pub is_log : IsLog log spelled
+  pub report : List Entry
+  pub is_report : IsReport groups (frames_of given spelled) report
+  pub entries : List Entry
+  pub entries_are : entries ≡ taken which (first_stamp (frames_of given spelled)) report
+  pub written : Appends old new (head ++ flat_map (form groups) entries)
+  pub tells : TellsTaken which (first_stamp (frames_of given spelled)) groups (frames_of given spelled) entries

@@ -3,6 +3,7 @@ use Rattle.std.specs.Prelude.{◌≡◌, ℕ, zero, suc, Bool, false, not, ◌&&
 use Rattle.std.specs.List.{flat_map, list_any}
 use Rattle.j39_frame.specs.Frame.{FrameRecord}
 use Rattle.j39_groups.specs.Row.{RowRecord}
+use Rattle.j39_listen.specs.Filter.{FilterRecord, taken}
 use Rattle.j39_listen.specs.Heard.{Hearing, frame_at, sent_to}
 use Rattle.j39_listen.specs.Loss.{LostTogether, Repeated, Thinned}
 use Rattle.j39_listen.specs.Published.{Item, Published, Publishing, is_publisher, last_place}
@@ -55,3 +56,13 @@ TellsThinned groups G entries = (F : List FrameRecord) (P : Publishing) (X : ℕ
 abbrev pub TellsRepeated : List RowRecord → List FrameRecord → List Entry → Type 0
 TellsRepeated groups H entries = (F G : List FrameRecord) (P : Publishing) (X : ℕ → Bool)
     → Published groups F P → Thinned F G X → LostTogether F P X → Repeated G H → kept_to P entries ≡ values groups F P X
+
+-- what a filter takes of a report tells of what was published exactly what it takes of these values, whatever packets were lost
+-- and repeated
+pub record TellsTaken (which : FilterRecord) (first : ℕ) (groups : List RowRecord) (H : List FrameRecord) (entries : List Entry)
+    : Type 0 where
+  pub published : (P : Publishing) → Published groups H P → kept_to P entries ≡ taken which first (values groups H P no_place)
+  pub thinned : (F : List FrameRecord) (P : Publishing) (X : ℕ → Bool) → Published groups F P → Thinned F H X → LostTogether F P X
+      → kept_to P entries ≡ taken which first (values groups F P X)
+  pub repeated : (F G : List FrameRecord) (P : Publishing) (X : ℕ → Bool) → Published groups F P → Thinned F G X
+      → LostTogether F P X → Repeated G H → kept_to P entries ≡ taken which first (values groups F P X)

@@ -14,13 +14,15 @@ ghost use Rattle.j39_frame.specs.Identifier.{destination_of};
 ghost use Rattle.j39_frame.specs.Pgn.{pgn_raw};
 ghost use Rattle.j39_frame.specs.Stamp.{stamp_micros};
 ghost use Rattle.j39_listen.specs.Asking.{AsksForBoxes};
-ghost use Rattle.j39_listen.specs.Answers.{calls_with, commands, sent_text};
+ghost use Rattle.j39_listen.specs.Answers.{commands, sent_text};
 ghost use Rattle.j39_listen.specs.AnswersSoFar.{HasAnswered, Notices, Obeys, all_sent, hears, starts};
 ghost use Rattle.j39_listen.specs.Listening.{Hears};
 ghost use Rattle.j39_listen.specs.Output.{MakesAnswers, nothing};
 ghost use Rattle.j39_listen.specs.Ran.{PassesOn, Ran};
+ghost use Rattle.j39_listen.specs.Run.{WritesWholeLines};
 ghost use Rattle.j39_listen.specs.declared.counts.Counts.{Counts};
 ghost use Rattle.j39_listen.specs.declared.running.RunFault.{RunFault};
+ghost use Rattle.j39_listen.specs.declared.running.RunFault.TheVariants.{Read};
 
 use crate::account::{Account, LineFault};
 use crate::counts::Made;
@@ -54,6 +56,11 @@ pub fn answer<R: Source, W: Sink>(
 
     // What was written is passed on at the end, and before each read.
     ensures flushed { preferred < null_address → PassesOn result (W.is_flushed sink.old) (W.is_flushed sink.new) }
+
+    // Where a read ends the run, all that is sent at the whole lines before it was written.
+    ensures kept_up { preferred < null_address → result ≡ Err Read
+        → WritesWholeLines (MakesAnswers (idle_node (name_raw name) preferred)) bus (R.remaining source.old)
+        (R.remaining source.new) (W.written sink.old) (W.written sink.new) }
 
     // No node starts with an address above 253, and then nothing is read or written.
     ensures none { result ≡ Ok None ↔ null_address ≤ preferred }
@@ -106,15 +113,21 @@ impl Account for Answers {
 
     ghost asks = { λ subject. AsksForBoxes };
 
-    // The listener hears the log alone, so it may hear a frame before the node does: where memory is
-    // refused nothing was sent at the frame.
+    // Time passes for the node, and it hears the frame; then the listener does, whose message may command it. Where
+    // memory is refused nothing was sent at the frame.
     fn feed<W: Sink>(&mut self, bus: &Bus, frame: &Frame, sink: &mut W) -> Result<(), LineFault> {
+        let (started, answered) = call(&mut self.claimer, self.is_idle, frame);
         let noticed = match notice(&mut self.listener, frame) {
             Ok(noticed) => noticed,
             Err(AllocError) => return Err(LineFault::Memory),
         };
-        let sent = call(&mut self.claimer, self.is_idle, frame, noticed.command);
+        let obeyed = obey(&mut self.claimer, noticed.command, frame.stamp);
         self.is_idle = false;
+        let sent = Sent {
+            started,
+            answered,
+            obeyed,
+        };
         match put_sent(&sent, bus, sink) {
             Ok(lines) => {
                 let messages = noticed.messages;
@@ -180,17 +193,14 @@ pub(crate) struct Sent {
     obeyed: Option<Frame>,
 }
 
-/// Calls the node with what a frame is to it.
-fn call(claimer: &mut Claimer, is_idle: bool, frame: &Frame, command: Option<(Name, u8)>) -> Sent
-    ensures { Obeys claimer.old (starts is_idle
-        ++ calls_with frame.now (option_map command_by command)) frame.now.stamp (all_sent result) claimer.new }
+/// Calls the node with a frame, and before the first one starts it: what it sends when it is started, and for what it hears.
+fn call(claimer: &mut Claimer, is_idle: bool, frame: &Frame) -> (Option<Frame>, Option<Frame>)
+    ensures { Obeys claimer.old (starts is_idle ++ hears frame.now) frame.now.stamp
+        (option_to_list result.0 ++ option_to_list result.1) claimer.new }
 {
     let now = frame.stamp;
-    Sent {
-        started: start(claimer, is_idle, now),
-        answered: hear(claimer, frame, now),
-        obeyed: obey(claimer, command, now),
-    }
+    let started = start(claimer, is_idle, now);
+    (started, hear(claimer, frame, now))
 }
 
 fn start(claimer: &mut Claimer, is_idle: bool, now: Stamp) -> Option<Frame>

@@ -1,11 +1,12 @@
 //! A run that writes a head before its lines, as the names of the columns.
-ghost use Rattle.std.specs.Prelude.{◌≡◌, true, IfSome, OnOk};
+ghost use Rattle.std.specs.Prelude.{◌≡◌, true, Err, IfSome, OnOk};
 ghost use Rattle.j39_io.specs.Puts.{Puts};
 ghost use Rattle.j39_io.specs.Turn.{turn};
 ghost use Rattle.j39_listen.specs.Headed.{Headed};
-ghost use Rattle.j39_listen.specs.PiecesSoFar.{AtStart};
+ghost use Rattle.j39_listen.specs.PiecesSoFar.{AtStart, KeepsUp};
 ghost use Rattle.j39_listen.specs.Ran.{Ended, PassesOn, Ran};
 ghost use Rattle.j39_listen.specs.Run.{HasMetLog};
+ghost use Rattle.j39_listen.specs.declared.running.RunFault.TheVariants.{Read};
 
 use crate::Counts;
 use crate::account::Account;
@@ -35,6 +36,10 @@ pub fn run_headed<A: Account, R: Source, W: Sink>(
 
     // What was written is passed on at the end, and before each read, the head before the first.
     ensures flushed { PassesOn result true (W.is_flushed sink.new) }
+
+    // Where a read ends the run, the head and all that the whole lines before it make was written.
+    ensures kept_up { result ≡ Err Read → AtStart A.has_met account (λ subject. KeepsUp (A.has_met subject) head.now bus
+        (R.remaining source.old) (R.remaining source.new) (W.written sink.old) (W.written sink.new)) }
 {
     let (ran, _) = run_headed_keeping(head, account, source, sink, bus, limit);
     ran
@@ -61,6 +66,8 @@ pub fn run_headed_keeping<A: Account, R: Source, W: Sink>(
     // After a run that ended well the account has met the frames of the log.
     ensures met { OnOk result.0 (AtStart A.has_met account (λ subject. IfSome (R.remaining source.old)
         (λ log. HasMetLog (A.has_met subject) bus log result.1))) }
+    ensures kept_up { result.0 ≡ Err Read → AtStart A.has_met account (λ subject. KeepsUp (A.has_met subject) head.now bus
+        (R.remaining source.old) (R.remaining source.new) (W.written sink.old) (W.written sink.new)) }
 {
     match put_head(head, sink) {
         Ok(()) => run_keeping(account, source, sink, bus, limit),

@@ -14,8 +14,8 @@ ghost use Rattle.j39_listen.specs.NoTransferExamples.{Publishes, early, early_fr
 ghost use Rattle.j39_listen.specs.Filter.{FilterRecord, IsAmong, filtered_of, is_name, messages_taken, no_filter, taken, takes};
 ghost use Rattle.j39_listen.specs.Heard.{AreHeard, HeardAt, Hearing};
 ghost use Rattle.j39_listen.specs.Output.{report_of};
-ghost use Rattle.j39_listen.specs.Headed.{nodes_from};
-ghost use Rattle.j39_listen.specs.Nodes.{Presence};
+ghost use Rattle.j39_listen.specs.ByAddress.{shown_from};
+ghost use Rattle.j39_listen.specs.SeenNodes.{Presence, is_seen_node};
 ghost use Rattle.j39_listen.specs.Report.{Entry, Form, IsReport, entries_among, entries_of};
 ghost use Rattle.j39_listen.specs.Loss.{LostTogether, Repeated, Thinned};
 ghost use Rattle.j39_listen.specs.LossExample.{heard_frames, left_frames, left_values, lost, sent, sent_frames, sent_values};
@@ -62,7 +62,7 @@ pub fn filters()
     ensures none { (form : Form) (groups : List RowRecord) (first : ℕ) (heard : List Hearing)
         → filtered_of form groups no_filter first heard ≡ report_of form groups heard }
     ensures no_message { (first : ℕ) (heard : List Hearing) → messages_taken no_filter first heard ≡ heard }
-    ensures no_sender { (nodes : List Presence) → nodes_from None nodes ≡ nodes }
+    ensures no_sender { (nodes : List Presence) → shown_from is_seen_node None nodes ≡ nodes }
     ensures messages { (f : FilterRecord) (groups : List RowRecord) (first : ℕ) (heard : List Hearing)
         → flat_map (entries_of groups) (messages_taken f first heard) ≡ taken f first (flat_map (entries_of groups) heard) }
 {}

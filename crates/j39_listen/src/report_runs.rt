@@ -1,13 +1,15 @@
 //! The runs that write the report of what is heard on a bus, whole or kept to what a filter takes.
-ghost use Rattle.std.specs.Prelude.{IfSome, OnOk};
+ghost use Rattle.std.specs.Prelude.{◌≡◌, [], Err, IfSome, OnOk};
 ghost use Rattle.j39_io.specs.Turn.{turn};
 ghost use Rattle.j39_groups.specs.Table.{the_table};
 ghost use Rattle.j39_listen.specs.Asking.{AsksForBoxes};
 ghost use Rattle.j39_listen.specs.Chooses.{which_of};
-ghost use Rattle.j39_listen.specs.Filter.{MakesFiltered};
+ghost use Rattle.j39_listen.specs.Filter.{MakesFiltered, no_filter};
 ghost use Rattle.j39_listen.specs.Output.{MakesReport};
 ghost use Rattle.j39_listen.specs.Ran.{PassesOn, Ran};
-ghost use Rattle.j39_listen.specs.Run.{WritesPublished};
+ghost use Rattle.j39_listen.specs.Report.{entry_text};
+ghost use Rattle.j39_listen.specs.Run.{WritesAsked, WritesPublished, WritesWholeLines};
+ghost use Rattle.j39_listen.specs.declared.running.RunFault.TheVariants.{Read};
 
 use crate::Counts;
 use crate::filter::Filter;
@@ -40,6 +42,10 @@ pub fn run<R: Source, W: Sink>(
 
     // What was written is passed on at the end, and before each read.
     ensures flushed { PassesOn result (W.is_flushed sink.old) (W.is_flushed sink.new) }
+
+    // Where a read ends the run, all that the whole lines before it make was written.
+    ensures kept_up { result ≡ Err Read → WritesWholeLines (MakesReport the_table) bus
+        (R.remaining source.old) (R.remaining source.new) (W.written sink.old) (W.written sink.new) }
 {
     let groups = Groups::built_in();
     // Named, so that its proof is one whether a table that was read would own memory or not.
@@ -69,10 +75,12 @@ pub fn run_with<R: Source, W: Sink>(
 
     // What was written is passed on at the end, and before each read.
     ensures flushed { PassesOn result (W.is_flushed sink.old) (W.is_flushed sink.new) }
+
+    // Where a read ends the run, all that the whole lines before it make was written.
+    ensures kept_up { result ≡ Err Read → WritesWholeLines (MakesReport groups.now) bus
+        (R.remaining source.old) (R.remaining source.new) (W.written sink.old) (W.written sink.new) }
 {
-    let pen = Pen::new();
-    let report = Report::new(alloc, groups, None, pen);
-    run_over(report, source, sink, bus, limit)
+    run_filtered(alloc, groups, None, source, sink, bus, limit)
 }
 
 /// Writes the report of a log of at most `limit` bytes by a table of parameters, kept to the entries that a filter takes; whole
@@ -91,8 +99,21 @@ pub fn run_filtered<R: Source, W: Sink>(
     ensures ran { Ran (MakesFiltered groups.now (which_of filter.entry)) AsksForBoxes bus limit result
         (turn R.remaining R.has_failed source.old source.new) (turn W.written W.has_failed sink.old sink.new) }
 
+    // The headline, where nothing is asked for: of what publishers sent, its lines under their addresses are exactly the values
+    // published, but for the messages that lost a packet.
+    ensures published { which_of filter.entry ≡ no_filter → OnOk result (IfSome (R.remaining source.old)
+        (λ log. WritesPublished groups.now bus log (W.written sink.old) (W.written sink.new))) }
+
+    // And by a filter: they are exactly those of these values that it takes.
+    ensures asked { OnOk result (IfSome (R.remaining source.old) (λ log. WritesAsked [] (λ rows. entry_text)
+        (which_of filter.entry) groups.now bus log (W.written sink.old) (W.written sink.new))) }
+
     // What was written is passed on at the end, and before each read.
     ensures flushed { PassesOn result (W.is_flushed sink.old) (W.is_flushed sink.new) }
+
+    // Where a read ends the run, all that the whole lines before it make was written.
+    ensures kept_up { result ≡ Err Read → WritesWholeLines (MakesFiltered groups.now (which_of filter.entry)) bus
+        (R.remaining source.old) (R.remaining source.new) (W.written sink.old) (W.written sink.new) }
 {
     let pen = Pen::new();
     let report = Report::new(alloc, groups, filter, pen);

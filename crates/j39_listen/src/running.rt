@@ -1,8 +1,8 @@
 //! A run over a log, piece by piece, whatever account of it is written.
-ghost use Rattle.std.specs.Prelude.{◌≡◌, ◌≢◌, ◌<◌, ◌++◌, true, IfOk, IfSome, OnOk, OnErr, Err};
+ghost use Rattle.std.specs.Prelude.{◌≡◌, ◌≢◌, ◌<◌, ◌++◌, [], true, IfOk, IfSome, OnOk, OnErr, Err};
 ghost use Rattle.j39_io.specs.Turn.{turn};
 ghost use Rattle.j39_listen.specs.Asking.{AsksAmong};
-ghost use Rattle.j39_listen.specs.PiecesSoFar.{AtNothing, AtStart, Behind, HasTaken};
+ghost use Rattle.j39_listen.specs.PiecesSoFar.{AtNothing, AtStart, Behind, HasTaken, KeepsUp};
 ghost use Rattle.j39_listen.specs.Ran.{Ended, PassesOn, Ran};
 ghost use Rattle.j39_listen.specs.Run.{HasMetLog, Writes, WritesFront, WritesFrontOfMore};
 ghost use Rattle.j39_listen.specs.declared.running.RunFault.TheVariants.{Memory, Read, Write, TooLong};
@@ -77,6 +77,10 @@ pub fn run_over<A: Account, R: Source, W: Sink>(
 
     // What was written is passed on at the end, and before each read.
     ensures flushed { PassesOn result (W.is_flushed sink.old) (W.is_flushed sink.new) }
+
+    // Where a read ends the run, all that the whole lines before it make was written.
+    ensures kept_up { result ≡ Err Read → AtStart A.has_met account (λ subject. KeepsUp (A.has_met subject) [] bus
+        (R.remaining source.old) (R.remaining source.new) (W.written sink.old) (W.written sink.new)) }
 {
     let (ran, _) = run_keeping(account, source, sink, bus, limit);
     ran
@@ -100,6 +104,8 @@ pub fn run_keeping<A: Account, R: Source, W: Sink>(
     // After a run that ended well the account has met the frames of the log.
     ensures met { OnOk result.0 (AtStart A.has_met account (λ subject. IfSome (R.remaining source.old)
         (λ log. HasMetLog (A.has_met subject) bus log result.1))) }
+    ensures kept_up { result.0 ≡ Err Read → AtStart A.has_met account (λ subject. KeepsUp (A.has_met subject) [] bus
+        (R.remaining source.old) (R.remaining source.new) (W.written sink.old) (W.written sink.new)) }
 {
     let mut pieces = Pieces::new(account, bus);
     let ran = read_pieces(&mut pieces, source, sink, limit);
@@ -122,6 +128,9 @@ fn read_pieces<A: Account, R: Source, W: Sink>(
     ensures met { OnOk result (AtNothing A.has_met pieces.old (W.written sink.old)
         (λ subject given. IfSome (R.remaining source.old)
         (λ log. HasMetLog (A.has_met subject) given log pieces.new.lines.account))) }
+    ensures kept_up { result ≡ Err Read → AtNothing A.has_met pieces.old (W.written sink.old)
+        (λ subject given. KeepsUp (A.has_met subject) [] given (R.remaining source.old) (R.remaining source.new)
+        (W.written sink.old) (W.written sink.new)) }
 {
     A::laws();
     let mut piece = [0u8; PIECE];

@@ -219,39 +219,23 @@ next w (ReleaseBroadcast false) s = s
 next w (ReleaseBroadcast true) s = record s { hearing = None }
 
 state_is : (w : Who) (call : Call) (H : List Call) → state w (call ∷ H) ≡ next w call (state w H)
-state_is w (Hear f) H = refl
-state_is w (Tick now) H = refl
 state_is w (TakeFrame now None) H = refl
-state_is w (TakeFrame now (Some f)) H = refl
 state_is w (Send now d (Ok k)) H = refl
-state_is w (Send now d (Err r)) H = refl
 state_is w (Ask now group to (Ok k)) H = refl
-state_is w (Ask now group to (Err r)) H = refl
 state_is w (Acknowledge now r a (Ok x)) H = refl
-state_is w (Acknowledge now r a (Err x)) H = refl
 state_is w (Broadcast now group bytes (Ok k)) H = refl
-state_is w (Broadcast now group bytes (Err r)) H = refl
 state_is w (Transfer now group to bytes (Ok k)) H = refl
-state_is w (Transfer now group to bytes (Err r)) H = refl
 state_is w (TakeEnded None) H = refl
-state_is w (TakeEnded (Some x)) H = refl
 state_is w (TakeReceived None) H = refl
-state_is w (TakeReceived (Some x)) H = refl
 state_is w (TakeRequest None) H = refl
-state_is w (TakeRequest (Some r)) H = refl
 state_is w (TakeNews None) H = refl
 state_is w (TakeNews (Some AddressLost)) H = refl
 state_is w (TakeNews (Some AnotherAtAddress)) H = refl
-state_is w (TakeNews (Some MessagesMissed)) H = refl
 state_is w (TakeBroadcastEnded None) H = refl
-state_is w (TakeBroadcastEnded (Some x)) H = refl
 state_is w (TakeTransferEnded None) H = refl
-state_is w (TakeTransferEnded (Some x)) H = refl
 state_is w (TakeAskEnded None) H = refl
-state_is w (TakeAskEnded (Some x)) H = refl
-state_is w (ReleaseTransfer b) H = refl
 state_is w (ReleaseBroadcast false) H = refl
-state_is w (ReleaseBroadcast true) H = refl
+state_is w call H = refl
 
 -- ---- the answers hang on nothing else
 
@@ -313,41 +297,11 @@ Answers w s (Tick now) = Unit {0}
 
 answered : (w : Who) (H : List Call) (call : Call) → IsAnswered w H call → Answers w (state w H) call
 answered w H (TakeFrame now a) h = h
-answered w H (Send now d a) h = h
-answered w H (TakeEnded a) h = h
-answered w H (TakeReceived a) h = h
-answered w H (TakeRequest a) h = h
-answered w H (TakeNews a) h = h
-answered w H (Acknowledge now r a b) h = h
-answered w H (Broadcast now group bytes a) h = h
-answered w H (TakeBroadcastEnded a) h = h
-answered w H (ReleaseTransfer a) h = h
-answered w H (Transfer now group to bytes a) h = h
-answered w H (TakeTransferEnded a) h = h
-answered w H (Ask now group to a) h = h
-answered w H (TakeAskEnded a) h = h
-answered w H (ReleaseBroadcast a) h = h
-answered w H (Hear f) h = h
-answered w H (Tick now) h = h
+answered w H call h = h
 
 answers : (w : Who) (H : List Call) (call : Call) → Answers w (state w H) call → IsAnswered w H call
 answers w H (TakeFrame now a) h = h
-answers w H (Send now d a) h = h
-answers w H (TakeEnded a) h = h
-answers w H (TakeReceived a) h = h
-answers w H (TakeRequest a) h = h
-answers w H (TakeNews a) h = h
-answers w H (Acknowledge now r a b) h = h
-answers w H (Broadcast now group bytes a) h = h
-answers w H (TakeBroadcastEnded a) h = h
-answers w H (ReleaseTransfer a) h = h
-answers w H (Transfer now group to bytes a) h = h
-answers w H (TakeTransferEnded a) h = h
-answers w H (Ask now group to a) h = h
-answers w H (TakeAskEnded a) h = h
-answers w H (ReleaseBroadcast a) h = h
-answers w H (Hear f) h = h
-answers w H (Tick now) h = h
+answers w H call h = h
 
 -- ---- so what is the same now stays the same
 

@@ -1,5 +1,5 @@
 -- The laws of requests.
-use Rattle.std.proofs.Common.{◌≡◌, ◌⊎◌, ◌↔◌, ℕ, suc, ◌+◌, ◌-◌, ◌<◌, ◌≤◌, List, [], ◌∷◌, ◌++◌, length, Option, Some, None, Result, Ok, Err, Bool, true, false, not, ◌&&◌, ◌||◌, if◌then◌else◌, nat_eq, nat_lt, refl, sym, ap, ◌∙◌, subst, inl, inr, arith, eqb-true, IsTrue}
+use Rattle.std.proofs.Common.{◌≡◌, ◌⊎◌, ◌↔◌, ℕ, zero, suc, ◌+◌, ◌-◌, ◌<◌, ◌≤◌, List, [], ◌∷◌, ◌++◌, length, Option, Some, None, Result, Ok, Err, Bool, true, false, not, ◌&&◌, ◌||◌, if◌then◌else◌, nat_eq, nat_lt, refl, sym, ap, ◌∙◌, subst, inl, inr, arith, eqb-true, IsTrue}
 use Rattle.std.specs.List.{slice_get}
 use Rattle.std.specs.Option.{option_map}
 use Rattle.j39_frame.specs.Frame.{FrameRecord}
@@ -11,15 +11,14 @@ use Rattle.j39_node.specs.declared.kinds.AskEnding.TheVariants.{Answered, Acknow
 use Rattle.j39_node.specs.declared.kinds.Refused.{Refused}
 use Rattle.j39_node.specs.declared.kinds.Refused.TheVariants.{NoAddress, BadValue, Full}
 use Rattle.j39_node.specs.History.{Who, Message, Call, accepted, address_after, holds, is_acknowledgment, is_claim, is_full, is_lost, is_session, is_smaller, message_from, message_of, moment, request_for, sent, step, told}
-use Rattle.j39_node.specs.History.Call.{Ask, TakeAskEnded, Hear, TakeFrame}
+use Rattle.j39_node.specs.History.Call.{Ask, Hear, Send, TakeAskEnded, TakeFrame}
 use Rattle.j39_address.specs.Claim.{claim_of}
 use Rattle.j39_node.specs.Since.{passed_in}
 use Rattle.j39_node.specs.Asking.{is_whole, made, AskedSince, HeardFirst, NoneEnds, Question, ask_end, asks, can_ask, end_at, ended, ends, first, has_token, is_answer, is_asking, is_message, is_reply, is_request, is_taken, open_ask, question, reaches, said_by, says_to, silent_end, told_asks, wait}
 use Rattle.j39_node.specs.Is.{AreAnswered, Is, IsAnswered}
 use Rattle.j39_node.proofs.AskCases.{AskCase, ask_case, homeless, unfit, busy, asks as accepts}
-use Rattle.j39_node.proofs.AskView.{View, view, asks_one, tells_one, hears_one, takes_one, quiet, get_before}
 use Rattle.j39_node.proofs.QueueLemmas.{get_append, length_one_more}
-use Rattle.j39_node.proofs.SoundLemmas.{both, sound}
+use Rattle.j39_node.proofs.SoundLemmas.{both, lost_older, sound}
 use Rattle.j39_node.proofs.LawLemmas.{full_from, full_parts, not_both, sent_within, stays_lost, stays_lost_claimed}
 
 -- ---- which is open
@@ -45,7 +44,7 @@ opens w H now group to k (accepts a b f e) = (b, none_open (is_full w H) (open_a
 
 listed : (w : Who) (H : List Call) → AreAnswered w H → Listed (length (told_asks H)) (asks H) (open_ask H)
 listed w [] e = refl
-listed w (call ∷ H) e = go call (view call) e.1 (listed w H e.0)
+listed w (call ∷ H) e = go call e.1 (listed w H e.0)
   where
     new : (o : Option Question) (q : Question) → o ≡ None → Listed (length (told_asks H)) (asks H) o → Listed (length (told_asks H)) (asks H ++ q ∷ []) (Some q)
     new None q z h =
@@ -57,23 +56,29 @@ listed w (call ∷ H) e = go call (view call) e.1 (listed w H e.0)
     over None n left b l x z h = absurd (cc)
     over (Some q) n left b l x z h = h.1 ∙ sym (length_one_more (told_asks H) x)
 
-    go : (call : Call) → View call → IsAnswered w H call → Listed (length (told_asks H)) (asks H) (open_ask H)
+    go : (call : Call) → IsAnswered w H call → Listed (length (told_asks H)) (asks H) (open_ask H)
         → Listed (length (told_asks (call ∷ H))) (asks (call ∷ H)) (open_ask (call ∷ H))
-    go _ (asks_one now group to k) right h = new (open_ask H) (question k group to) (opens w H now group to k (ask_case w H now group to (Ok k) right)).1 h
-    go _ (tells_one x) right h = over (open_ask H) (length (sent H)) (wait H) (ended w H) (is_lost (address_after w H)) x right h
-    go _ (hears_one f) right h = h
-    go _ (takes_one now f) right h = h
-    go _ (quiet call s) right h =
-        subst (λ (xs : List (ℕ × AskEnding)). Listed (length xs) (asks (call ∷ H)) (open_ask (call ∷ H))) (sym (s.told H))
-        (subst (λ (qs : List Question). Listed (length (told_asks H)) qs (open_ask (call ∷ H))) (sym (s.asks H))
-        (subst (λ (o : Option Question). Listed (length (told_asks H)) (asks H) o) (sym (s.current H)) h))
+    go (Ask now group to (Ok k)) right h = new (open_ask H) (question k group to) (opens w H now group to k (ask_case w H now group to (Ok k) right)).1 h
+    go (TakeAskEnded (Some x)) right h = over (open_ask H) (length (sent H)) (wait H) (ended w H) (is_lost (address_after w H)) x right h
+    go call right h = h
 
 -- ---- what it sends
+
+get_before : {T : Type 0} (L : List T) (y : T) (i : ℕ) (x : T) → slice_get L i ≡ Some x → slice_get (L ++ y ∷ []) i ≡ Some x
+get_before [] y i x e = absurd (cc)
+get_before (z ∷ L) y zero x e = e
+get_before (z ∷ L) y (suc i) x e = get_before L y i x e
+
+-- what is accepted stays where it is
+grows_on : (w : Who) (H : List Call) (call : Call) (n : ℕ) (x : ℕ × Message) → slice_get (accepted w H) n ≡ Some x → slice_get (accepted w (call ∷ H)) n ≡ Some x
+grows_on w H (Send now draft (Ok k)) n x e = get_before (accepted w H) _ n x e
+grows_on w H (Ask now group to (Ok k)) n x e = get_before (accepted w H) _ n x e
+grows_on w H call n x e = e
 
 pub request_sent : (w : Who) (H : List Call) → AreAnswered w H → (i : ℕ) (q : Question) → slice_get (asks H) i ≡ Some q
     → slice_get (accepted w H) q.token ≡ Some (q.token, message_from w (request_for q.group q.to))
 request_sent w [] e i q g = absurd (cc)
-request_sent w (call ∷ H) e i q g = go call (view call) e.1 (request_sent w H e.0) i q g
+request_sent w (call ∷ H) e i q g = go call e.1 (request_sent w H e.0) i q g
   where
     Sent : List Call → Type 0
     Sent G = (i : ℕ) (q : Question) → slice_get (asks G) i ≡ Some q → slice_get (accepted w G) q.token ≡ Some (q.token, message_from w (request_for q.group q.to))
@@ -87,12 +92,9 @@ request_sent w (call ∷ H) e i q g = go call (view call) e.1 (request_sent w H 
           (get_last (accepted w H) (k, message_from w (request_for group to))))
     ]
 
-    go : (call : Call) → View call → IsAnswered w H call → Sent H → Sent (call ∷ H)
-    go _ (asks_one now group to k) right h = new now group to k (opens w H now group to k (ask_case w H now group to (Ok k) right)).2 h
-    go _ (tells_one x) right h = h
-    go _ (hears_one f) right h = h
-    go _ (takes_one now f) right h = h
-    go _ (quiet call s) right h = λ i q g. s.grows w H q.token _ (h i q (ap (λ (qs : List Question). slice_get qs i) (sym (s.asks H)) ∙ g))
+    go : (call : Call) → IsAnswered w H call → Sent H → Sent (call ∷ H)
+    go (Ask now group to (Ok k)) right h = new now group to k (opens w H now group to k (ask_case w H now group to (Ok k) right)).2 h
+    go call right h = λ i q g. grows_on w H call q.token _ (h i q g)
 
 -- ---- since when it waits
 
@@ -131,7 +133,7 @@ not_taken_by H now f q o r t = go (is_claim f || (is_acknowledgment f || is_sess
 
 pub waits : (w : Who) (H : List Call) → AreAnswered w H → (q : Question) → open_ask H ≡ Some q → is_taken q H ≡ true → Waits H q
 waits w [] e q o t = absurd (cc)
-waits w (call ∷ H) e q o t = go call (view call) e.1 (λ i k. waits w H e.0 q i k) o t
+waits w (call ∷ H) e q o t = go call e.1 (λ i k. waits w H e.0 q i k) o t
   where
     late : (k n : ℕ) → n ≤ k → nat_lt k n ≡ true → ⊥
     late k n l g = grind arith
@@ -147,14 +149,12 @@ waits w (call ∷ H) e q o t = go call (view call) e.1 (λ i k. waits w H e.0 q 
     takes now f false prior r o t =
         waits_on H (TakeFrame now (Some f)) q (ap (λ (b : Bool). if b then 1250000 else wait H - step H now) r) (prior o (not_taken_by H now f q o r t))
 
-    go : (call : Call) → View call → IsAnswered w H call → (open_ask H ≡ Some q → is_taken q H ≡ true → Waits H q) → open_ask (call ∷ H) ≡ Some q → is_taken q (call ∷ H) ≡ true → Waits (call ∷ H) q
-    go _ (asks_one now group to k) right prior o t =
+    go : (call : Call) → IsAnswered w H call → (open_ask H ≡ Some q → is_taken q H ≡ true → Waits H q) → open_ask (call ∷ H) ≡ Some q → is_taken q (call ∷ H) ≡ true → Waits (call ∷ H) q
+    go (Ask now group to (Ok k)) right prior o t =
         fresh now group to k (opens w H now group to k (ask_case w H now group to (Ok k) right)).2 (let z : question k group to ≡ q = cc in z) t
-    go _ (tells_one x) right prior o t = absurd (cc)
-    go _ (hears_one f) right prior o t = waits_on H (Hear f) q refl (prior o t)
-    go _ (takes_one now f) right prior o t = takes now f (is_request H f) prior refl o t
-    go _ (quiet call s) right prior o t =
-        waits_on H call q (s.wait H) (prior (sym (s.current H) ∙ o) (sym (ap (λ (xs : List Message). nat_lt q.token (length xs)) (s.sent H)) ∙ t))
+    go (TakeAskEnded (Some x)) right prior o t = absurd (cc)
+    go (TakeFrame now (Some f)) right prior o t = takes now f (is_request H f) prior refl o t
+    go call right prior o t = waits_on H call q (omega arith) (prior o t)
 
 -- ---- how it ends
 
@@ -278,7 +278,7 @@ ends_by w H f q e right o n z = go (silent_end (is_taken q H) (wait H - step H f
 
 outcome : (w : Who) (H : List Call) → AreAnswered w H → (q : Question) (e : AskEnding) → open_ask H ≡ Some q → ended w H ≡ Some e → Outcome w H q e
 outcome w [] right q e o z = absurd (cc)
-outcome w (call ∷ H) right q e o z = go call (view call) (λ i k. outcome w H right.0 q e i k) o z
+outcome w (call ∷ H) right q e o z = go call (λ i k. outcome w H right.0 q e i k) o z
   where
     hears : (f : FrameRecord) (b : Option AskEnding) → (open_ask H ≡ Some q → ended w H ≡ Some e → Outcome w H q e) → open_ask H ≡ Some q → ended w H ≡ b
         → first b (end_at w (open_ask H) (length (sent H)) (wait H - step H f.stamp) (is_lost (address_after w (Hear f ∷ H))) f (made w H f)) ≡ Some e → Outcome w (Hear f ∷ H) q e
@@ -286,14 +286,15 @@ outcome w (call ∷ H) right q e o z = go call (view call) (λ i k. outcome w H 
     hears f None prior o p z = ends_by w H f q e right.0 o p
         (sym (ap (λ (x : Option Question). end_at w x (length (sent H)) (wait H - step H f.stamp) (is_lost (address_after w (Hear f ∷ H))) f (made w H f)) o) ∙ z)
 
-    go : (call : Call) → View call → (open_ask H ≡ Some q → ended w H ≡ Some e → Outcome w H q e) → open_ask (call ∷ H) ≡ Some q → ended w (call ∷ H) ≡ Some e
+    go : (call : Call) → (open_ask H ≡ Some q → ended w H ≡ Some e → Outcome w H q e) → open_ask (call ∷ H) ≡ Some q → ended w (call ∷ H) ≡ Some e
         → Outcome w (call ∷ H) q e
-    go _ (asks_one now group to k) prior o z = absurd (cc)
-    go _ (tells_one x) prior o z = absurd (cc)
-    go _ (hears_one f) prior o z = hears f (ended w H) prior o refl z
-    go _ (takes_one now f) prior o z =
+    go (Ask now group to (Ok k)) prior o z = absurd (cc)
+    go (TakeAskEnded (Some x)) prior o z = absurd (cc)
+    go (Hear f) prior o z = hears f (ended w H) prior o refl z
+    go (TakeFrame now (Some f)) prior o z =
         later_outcome w H (TakeFrame now (Some f)) q e (stays_lost_claimed (is_claim f) (step H now) (address_after w H)) (prior o z)
-    go _ (quiet call s) prior o z = later_outcome w H call q e (λ l. s.lost w H ∙ l) (prior (sym (s.current H) ∙ o) (sym (s.ended w H) ∙ z))
+    go call prior o z =
+        later_outcome w H call q e (λ l. let y = lost_older (step H (moment (call ∷ H))) (address_after w H) in cc) (prior o z)
 
 -- the end that is told
 record Told (w : Who) (H : List Call) (k : ℕ) (e : AskEnding) : Type 0 where
@@ -487,19 +488,18 @@ withdrawn_means w H c k is = let t = told_is w H c k Withdrawn is in go t.questi
 stays : (w : Who) (later H : List Call) (q : Question) (e : AskEnding) → NoneEnds later → open_ask H ≡ Some q → ended w H ≡ Some e
     → (open_ask (later ++ H) ≡ Some q) × (ended w (later ++ H) ≡ Some e)
 stays w [] H q e n o z = (o, z)
-stays w (call ∷ later) H q e n o z = go call (view call) n.0 (stays w later H q e n.1 o z)
+stays w (call ∷ later) H q e n o z = go call n.0 (stays w later H q e n.1 o z)
   where
-    go : (call : Call) → View call → ends call ≡ false → (open_ask (later ++ H) ≡ Some q) × (ended w (later ++ H) ≡ Some e)
+    go : (call : Call) → ends call ≡ false → (open_ask (later ++ H) ≡ Some q) × (ended w (later ++ H) ≡ Some e)
         → (open_ask (call ∷ later ++ H) ≡ Some q) × (ended w (call ∷ later ++ H) ≡ Some e)
-    go _ (asks_one now group to k) x h = absurd (cc)
-    go _ (tells_one y) x h = absurd (cc)
-    go _ (hears_one f) x h = (
+    go (Ask now group to (Ok k)) x h = absurd (cc)
+    go (TakeAskEnded (Some y)) x h = absurd (cc)
+    go (Hear f) x h = (
       h.0,
       ap (λ (o : Option AskEnding). first o (end_at w (open_ask (later ++ H)) (length (sent (later ++ H))) (wait (later ++ H) - step (later ++ H) f.stamp)
           (is_lost (address_after w (Hear f ∷ later ++ H))) f (made w (later ++ H) f))) h.1,
     )
-    go _ (takes_one now f) x h = h
-    go _ (quiet call s) x h = (s.current (later ++ H) ∙ h.0, s.ended w (later ++ H) ∙ h.1)
+    go call x h = h
 
 some_left : (a b : ℕ) → b < a → nat_eq (a - b) 0 ≡ false
 some_left a b g = grind arith

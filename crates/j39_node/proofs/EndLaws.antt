@@ -13,7 +13,7 @@ use Rattle.j39_node.specs.declared.controller.Controller.{Controller}
 use Rattle.j39_node.specs.declared.kinds.TransferEnding.{TransferEnding}
 use Rattle.j39_node.specs.declared.kinds.TransferEnding.TheVariants.{Done, Withdrawn, Failed, Gone}
 use Rattle.j39_node.specs.History.{Who, Message, Call, address_after, broadcast_from, can_broadcast, is_held, is_lost, is_sendable, moment, step}
-use Rattle.j39_node.specs.History.Call.{Broadcast, Hear, TakeBroadcastEnded, TakeFrame, Transfer}
+use Rattle.j39_node.specs.History.Call.{Hear, TakeFrame, TakeTransferEnded, Transfer}
 use Rattle.j39_node.specs.Is.{AreAnswered, Is, IsAnswered, long_by, next_frame, next_packet}
 use Rattle.j39_node.specs.Prompt.{IsPrompt, NoneTold, tells_transfer, waited_in}
 use Rattle.j39_node.specs.Reception.{holder, is_move}
@@ -27,9 +27,7 @@ use Rattle.j39_node.proofs.MoveLemmas.{hears_token}
 use Rattle.j39_node.proofs.PortLemmas.{TransferCase, hears_same, sends_same, transfer_case}
 use Rattle.j39_node.proofs.PortLemmas.TransferCase.{homeless, unfit, busy, opens}
 use Rattle.j39_node.proofs.PromptLaws.{answered_from, keeps_heard, keeps_taken, lost_heard, lost_taken, waited_last}
-use Rattle.j39_node.proofs.PromptView.{Quiet, View, ages_none, held_older, view}
-use Rattle.j39_node.proofs.PromptView.View.{at_hear, at_none, at_take, at_broadcast, at_broadcast_told, at_transfer, at_transfer_told, at_rest}
-use Rattle.j39_node.proofs.SoundLemmas.{lost_older}
+use Rattle.j39_node.proofs.SoundLemmas.{held_older, lost_older}
 use Rattle.j39_node.proofs.TransferLaws.{Budgeted, BudgetedIf, budgeted}
 
 -- ---- what is over stays over
@@ -162,10 +160,6 @@ module _ (w : Who) (B : List Call) (g k : ℕ) (m : MessageRecord) (few : packet
           (subst (λ (x : ℕ). Timely g h.running.granted h.running.spent x (waited_in (call ∷ later) B) h.running.sender) (sym a)
           (subst (λ (x : ℕ). Timely g h.running.granted h.running.spent (age (later ++ B) + step (later ++ B) (moment (call ∷ later ++ B))) x h.running.sender) (sym q)
           (passes g h.running.granted h.running.spent (age (later ++ B)) (waited_in later B) (step (later ++ B) (moment (call ∷ later ++ B))) h.running.sender t)))
-
-  rests : (call : Call) (later : List Call) → Quiet call → Stands later → Stands (call ∷ later)
-  rests call later q h =
-      rests_with call later (q.transfer w (later ++ B)) (q.age_is (later ++ B)) (q.waits later B) (q.lost w (later ++ B)) (q.held w (later ++ B)) h
 
   -- a frame is heard
   heard_so : (later : List Call) (f : FrameRecord) (h : Stands later) (lost replaced : Bool) → is_lost (address_after w (Hear f ∷ later ++ B)) ≡ lost
@@ -327,24 +321,22 @@ module _ (w : Who) (B : List Call) (g k : ℕ) (m : MessageRecord) (few : packet
   none_begins later now group to j bytes h (opens a b f e) =
       let z : true ≡ false = sym (ap (λ (x : Option Running). is_engaged x (length (all_transfers w (later ++ B))) || is_resting w (later ++ B) now group to) h.is) ∙ f in absurd (cc)
 
-  one_more : (call : Call) (later : List Call) → View call → IsAnswered w (later ++ B) call → tells_transfer call ≡ false
+  one_more : (call : Call) (later : List Call) → IsAnswered w (later ++ B) call → tells_transfer call ≡ false
       → waited_in later B + step (later ++ B) (moment (call ∷ later ++ B)) ≤ g → Stands later → Stands (call ∷ later)
-  one_more call later (at_hear f) a n p h = hears_one f later p h
-  one_more call later (at_take now f) a n p h = takes_one now f later p h
-  one_more call later (at_none now) a n p h = takes_no_frame now later a p h
-  one_more call later (at_broadcast now group j bytes) a n p h =
-      rests_with (Broadcast now group bytes (Ok j)) later refl refl refl (λ e. lost_older (step (later ++ B) now) (address_after w (later ++ B)) ∙ e)
-      (held_older (step (later ++ B) now) (address_after w (later ++ B))) h
-  one_more call later (at_broadcast_told x) a n p h =
-      rests_with (TakeBroadcastEnded (Some x)) later refl (ages_none (age (later ++ B)) (moment (later ++ B))) refl (λ e. e) (λ e. e) h
-  one_more call later (at_transfer now group to j bytes) a n p h =
+  one_more (Hear f) later a n p h = hears_one f later p h
+  one_more (TakeFrame now (Some f)) later a n p h = takes_one now f later p h
+  one_more (TakeFrame now None) later a n p h = takes_no_frame now later a p h
+  one_more (Transfer now group to bytes (Ok j)) later a n p h =
       absurd (none_begins later now group to j bytes h (transfer_case w (later ++ B) now group to bytes (Ok j) a))
-  one_more call later (at_transfer_told x) a n p h = absurd (let z : true ≡ false = n in cc)
-  one_more c later (at_rest call q) a n p h = rests call later q h
+  one_more (TakeTransferEnded (Some x)) later a n p h = absurd (let z : true ≡ false = n in cc)
+  one_more call later a n p h =
+      rests_with call later refl (omega arith) refl
+      (λ e. let z = lost_older (step (later ++ B) (moment (call ∷ later ++ B))) (address_after w (later ++ B)) in cc)
+      (λ e. let z = held_older (step (later ++ B) (moment (call ∷ later ++ B))) (address_after w (later ++ B)) e in cc) h
 
   stands : (later : List Call) → AreAnswered w (later ++ B) → NoneTold tells_transfer later → IsPrompt g later B → Stands [] → Stands later
   stands [] a n p h = h
-  stands (call ∷ later) a n p h = one_more call later (view call) a.1 n.0 p.1 (stands later a.0 n.1 p.0 h)
+  stands (call ∷ later) a n p h = one_more call later a.1 n.0 p.1 (stands later a.0 n.1 p.0 h)
 
   ends_so : (later : List Call) → Stands later → (packets_of m + 65) * (timer_t3 + g) + g < passed_in later B → waited_in later B ≤ g
       → (e : TransferEnding) × (next_transfer_ended w (later ++ B) ≡ Some (k, e))

@@ -6,7 +6,7 @@ use Rattle.j39_transport.specs.Message.{packets_of}
 use Rattle.j39_transport.specs.Protocol.{timeout, timer_t3, timer_t4}
 use Rattle.j39_transport.specs.Sending.{SenderRecord, SendState, Idle, Waiting, Sending, Done, Failed, aborted, acknowledged, cleared, hears, is_idle, is_running, is_waiting, may_name, sends_packet, ticks_in, waits}
 use Rattle.j39_transport.specs.SenderNext.{granted_by}
-use Rattle.j39_transport.specs.Signals.{Signal, BroadcastAnnounce, RequestToSend, ClearToSend, Acknowledgment, Abort, Packet}
+use Rattle.j39_transport.specs.Signals.{Signal, ClearToSend, Acknowledgment, Abort}
 use Rattle.j39_node.specs.Transfers.{granted_after, spent_after}
 
 -- ---- how long after its acceptance it is where it is, at most
@@ -76,18 +76,11 @@ pub data HeardCase (s : SenderRecord) (now : ℕ) (o : Option ℕ) (r : SenderRe
   clears : (limit next last : ℕ) → s.state ≡ Waiting limit → o ≡ Some last → r ≡ record s { state = Sending next last } → HeardCase s now o r
 
 waiting_is : (u : SendState) → is_waiting u ≡ true → (limit : ℕ) × (u ≡ Waiting limit)
-waiting_is Idle e = absurd (let z : false ≡ true = e in cc)
 waiting_is (Waiting limit) e = (limit, refl)
-waiting_is (Sending next last) e = absurd (let z : false ≡ true = e in cc)
-waiting_is Done e = absurd (let z : false ≡ true = e in cc)
-waiting_is (Failed reason) e = absurd (let z : false ≡ true = e in cc)
+waiting_is other e = absurd (let z : false ≡ true = e in cc)
 
 pub heard_case : (s : SenderRecord) (o : Option Signal) (now : ℕ) → HeardCase s now (granted_by s o) (hears o now s)
 unfolding hears cleared acknowledged aborted
-heard_case s None now = same refl refl
-heard_case s (Some (BroadcastAnnounce size packets pgn)) now = same refl refl
-heard_case s (Some (RequestToSend size packets most pgn)) now = same refl refl
-heard_case s (Some (Packet number part)) now = same refl refl
 heard_case s (Some (ClearToSend count p pgn)) now = go (pgn == s.message.pgn) (is_waiting s.state) (count == 0) (may_name s p) refl
   where
     go : (a w z n : Bool) → is_waiting s.state ≡ w
@@ -105,6 +98,7 @@ heard_case s (Some (Acknowledgment size packets pgn)) now = cond_both (pgn == s.
     (HeardCase s now None) (λ u. ends refl) (λ u. same refl refl)) (λ t. same refl refl)
 heard_case s (Some (Abort reason pgn)) now = cond_both (pgn == s.message.pgn) _ _ (HeardCase s now None)
     (λ t. cond_both (is_running s.state) _ _ (HeardCase s now None) (λ u. ends refl) (λ u. same refl refl)) (λ t. same refl refl)
+heard_case s other now = same refl refl
 
 -- a clear more
 counts : (granted spent last : ℕ) → suc (granted + spent) ≤ granted_after (Some last) granted + spent_after (Some last) granted spent

@@ -11,9 +11,9 @@ use Rattle.j39_transport.specs.Key.{Key, Broadcast as by}
 use Rattle.j39_transport.specs.Message.{MessageRecord}
 use Rattle.j39_transport.proofs.FrameFacts.{announcement_facts}
 use Rattle.j39_node.specs.declared.controller.Controller.{Controller}
-use Rattle.j39_node.specs.declared.kinds.News.TheVariants.{AddressLost, AnotherAtAddress, MessagesMissed}
+use Rattle.j39_node.specs.declared.kinds.News.TheVariants.{MessagesMissed}
 use Rattle.j39_node.specs.History.{Who, Call, is_claim, is_own_group, is_subscribed}
-use Rattle.j39_node.specs.History.Call.{Ask, TakeAskEnded, Hear, Tick, TakeFrame, Send, TakeEnded, TakeReceived, TakeRequest, TakeNews, Acknowledge, Broadcast, TakeBroadcastEnded, ReleaseTransfer, Transfer, TakeTransferEnded, ReleaseBroadcast}
+use Rattle.j39_node.specs.History.Call.{Hear, TakeFrame, TakeNews, ReleaseBroadcast}
 use Rattle.j39_node.specs.Hearing.{IsFit, IsPartOf, ended, passed, chosen, OpenBroadcast, WasBroadcast, announces, begun, changes, found, goes_on, got_broadcasts, grown, has_room, hearing, hears, is_ignored, is_late, is_unheard, is_whole, left, made_whole, message_by, newly, opens, packed, packs, touched, unheard, unheard_news, waiting, whole_broadcasts, whole_of}
 use Rattle.j39_node.specs.Is.{HearingRecord, Is}
 use Rattle.j39_node.specs.Reception.{KeepsHolder, frames_heard, has_place, held_then, holder, is_same, listed, time_heard}
@@ -70,25 +70,10 @@ in_order who [] = refl
 in_order who (Hear f ∷ H) =
     list_more (waiting who H) (waiting who (Hear f ∷ H)) (whole_broadcasts who H) (got_broadcasts who H) (in_order who H)
     (λ p e. ap whole_of (whole_stays who (changes (holder who H) (holder who (Hear f ∷ H)) (hearing who H)) (time_heard (Hear f ∷ H)) f (hearing who H) p e))
-in_order who (TakeFrame now None ∷ H) = in_order who H
 in_order who (TakeFrame now (Some f) ∷ H) =
     in_order who H ∙ ap (λ z. got_broadcasts who H ++ listed z) (sym (whole_of_left (changes (holder who H) (holder who (TakeFrame now (Some f) ∷ H)) (hearing who H)) (hearing who H)))
-in_order who (Tick now ∷ H) = in_order who H
-in_order who (Send now d answer ∷ H) = in_order who H
-in_order who (TakeEnded answer ∷ H) = in_order who H
-in_order who (TakeReceived answer ∷ H) = in_order who H
-in_order who (TakeRequest answer ∷ H) = in_order who H
-in_order who (TakeNews answer ∷ H) = in_order who H
-in_order who (Acknowledge now r answer result ∷ H) = in_order who H
-in_order who (Broadcast now group bytes answer ∷ H) = in_order who H
-in_order who (TakeBroadcastEnded answer ∷ H) = in_order who H
-in_order who (ReleaseTransfer answer ∷ H) = in_order who H
-in_order who (Transfer now group to bytes answer ∷ H) = in_order who H
-in_order who (TakeTransferEnded answer ∷ H) = in_order who H
-in_order who (Ask now group to answer ∷ H) = in_order who H
-in_order who (TakeAskEnded answer ∷ H) = in_order who H
-in_order who (ReleaseBroadcast false ∷ H) = in_order who H
 in_order who (ReleaseBroadcast true ∷ H) = in_order who H ∙ sym (append-nil (got_broadcasts who H ++ listed (waiting who H)))
+in_order who (call ∷ H) = in_order who H
 
 pub released : (who : Who) (H : List Call) (c : Controller) (answer : Bool) → Is who (ReleaseBroadcast answer ∷ H) c
     → (answer ≡ true ↔ ((x : ℕ × MessageRecord) × (waiting who H ≡ Some x)))
@@ -175,25 +160,8 @@ some_unheard who (Hear f ∷ H) e =
       | inl z ↦ still (is_unheard who (time_heard (Hear f ∷ H)) f (found who H f)) (unheard who H) (some_unheard who H z)
       | inr z ↦ one_more _ (unheard who H) z
     ]
-some_unheard who (Tick now ∷ H) e = some_unheard who H e
-some_unheard who (TakeFrame now answer ∷ H) e = some_unheard who H e
-some_unheard who (Send now d answer ∷ H) e = some_unheard who H e
-some_unheard who (TakeEnded answer ∷ H) e = some_unheard who H e
-some_unheard who (TakeReceived answer ∷ H) e = some_unheard who H e
-some_unheard who (TakeRequest answer ∷ H) e = some_unheard who H e
-some_unheard who (TakeNews None ∷ H) e = some_unheard who H e
-some_unheard who (TakeNews (Some AddressLost) ∷ H) e = some_unheard who H e
-some_unheard who (TakeNews (Some AnotherAtAddress) ∷ H) e = some_unheard who H e
 some_unheard who (TakeNews (Some MessagesMissed) ∷ H) e = absurd (cc)
-some_unheard who (Acknowledge now r answer result ∷ H) e = some_unheard who H e
-some_unheard who (Broadcast now group bytes answer ∷ H) e = some_unheard who H e
-some_unheard who (TakeBroadcastEnded answer ∷ H) e = some_unheard who H e
-some_unheard who (ReleaseTransfer answer ∷ H) e = some_unheard who H e
-some_unheard who (Transfer now group to bytes answer ∷ H) e = some_unheard who H e
-some_unheard who (TakeTransferEnded answer ∷ H) e = some_unheard who H e
-some_unheard who (Ask now group to answer ∷ H) e = some_unheard who H e
-some_unheard who (TakeAskEnded answer ∷ H) e = some_unheard who H e
-some_unheard who (ReleaseBroadcast answer ∷ H) e = some_unheard who H e
+some_unheard who (call ∷ H) e = some_unheard who H e
 
 -- ---- what is heard is for the program
 
@@ -235,24 +203,9 @@ wanted_hears who now f o h = go (announces f) (packs f) (has_room now (source_of
 wanted : (w : Who) (H : List Call) → IsWanted w (hearing w H)
 wanted w [] = tt
 wanted w (Hear f ∷ H) = wanted_hears w (time_heard (Hear f ∷ H)) f (found w H f) (wanted_left w (changes (holder w H) (holder w (Hear f ∷ H)) (hearing w H)) (hearing w H) (wanted w H))
-wanted w (TakeFrame now None ∷ H) = wanted w H
 wanted w (TakeFrame now (Some f) ∷ H) = wanted_left w (changes (holder w H) (holder w (TakeFrame now (Some f) ∷ H)) (hearing w H)) (hearing w H) (wanted w H)
-wanted w (Tick now ∷ H) = wanted w H
-wanted w (Send now d answer ∷ H) = wanted w H
-wanted w (TakeEnded answer ∷ H) = wanted w H
-wanted w (TakeReceived answer ∷ H) = wanted w H
-wanted w (TakeRequest answer ∷ H) = wanted w H
-wanted w (TakeNews answer ∷ H) = wanted w H
-wanted w (Acknowledge now r answer result ∷ H) = wanted w H
-wanted w (Broadcast now group bytes answer ∷ H) = wanted w H
-wanted w (TakeBroadcastEnded answer ∷ H) = wanted w H
-wanted w (ReleaseTransfer answer ∷ H) = wanted w H
-wanted w (Transfer now group to bytes answer ∷ H) = wanted w H
-wanted w (TakeTransferEnded answer ∷ H) = wanted w H
-wanted w (Ask now group to answer ∷ H) = wanted w H
-wanted w (TakeAskEnded answer ∷ H) = wanted w H
 wanted w (ReleaseBroadcast true ∷ H) = tt
-wanted w (ReleaseBroadcast false ∷ H) = wanted w H
+wanted w (call ∷ H) = wanted w H
 
 pub is_wanted : (who : Who) (H : List Call) (f : FrameRecord) (p : ℕ × MessageRecord) → made_whole who H f ≡ Some p
     → IsTrue (is_subscribed who p.1.pgn) × (is_own_group p.1.pgn ≡ false)
@@ -607,24 +560,9 @@ taken_more who H now f (Some x) (inr h) = by (is_same (holder who H x.source) (h
 are_begun : (who : Who) (H : List Call) → AreBegun who H (hearing who H)
 are_begun who [] = tt
 are_begun who (Hear f ∷ H) = heard_more who H (time_heard (Hear f ∷ H)) f (hearing who H) (are_begun who H)
-are_begun who (TakeFrame now None ∷ H) = quiet_more who (TakeFrame now None) H (hearing who H) (λ G. refl) (λ a. refl) (are_begun who H)
 are_begun who (TakeFrame now (Some f) ∷ H) = taken_more who H now f (hearing who H) (are_begun who H)
-are_begun who (Tick now ∷ H) = quiet_more who (Tick now) H (hearing who H) (λ G. refl) (λ a. refl) (are_begun who H)
-are_begun who (Send now d answer ∷ H) = quiet_more who (Send now d answer) H (hearing who H) (λ G. refl) (λ a. refl) (are_begun who H)
-are_begun who (TakeEnded answer ∷ H) = quiet_more who (TakeEnded answer) H (hearing who H) (λ G. refl) (λ a. refl) (are_begun who H)
-are_begun who (TakeReceived answer ∷ H) = quiet_more who (TakeReceived answer) H (hearing who H) (λ G. refl) (λ a. refl) (are_begun who H)
-are_begun who (TakeRequest answer ∷ H) = quiet_more who (TakeRequest answer) H (hearing who H) (λ G. refl) (λ a. refl) (are_begun who H)
-are_begun who (TakeNews answer ∷ H) = quiet_more who (TakeNews answer) H (hearing who H) (λ G. refl) (λ a. refl) (are_begun who H)
-are_begun who (Acknowledge now r answer result ∷ H) = quiet_more who (Acknowledge now r answer result) H (hearing who H) (λ G. refl) (λ a. refl) (are_begun who H)
-are_begun who (Broadcast now group bytes answer ∷ H) = quiet_more who (Broadcast now group bytes answer) H (hearing who H) (λ G. refl) (λ a. refl) (are_begun who H)
-are_begun who (TakeBroadcastEnded answer ∷ H) = quiet_more who (TakeBroadcastEnded answer) H (hearing who H) (λ G. refl) (λ a. refl) (are_begun who H)
-are_begun who (ReleaseTransfer answer ∷ H) = quiet_more who (ReleaseTransfer answer) H (hearing who H) (λ G. refl) (λ a. refl) (are_begun who H)
-are_begun who (Transfer now group to bytes answer ∷ H) = quiet_more who (Transfer now group to bytes answer) H (hearing who H) (λ G. refl) (λ a. refl) (are_begun who H)
-are_begun who (TakeTransferEnded answer ∷ H) = quiet_more who (TakeTransferEnded answer) H (hearing who H) (λ G. refl) (λ a. refl) (are_begun who H)
-are_begun who (Ask now group to answer ∷ H) = quiet_more who (Ask now group to answer) H (hearing who H) (λ G. refl) (λ a. refl) (are_begun who H)
-are_begun who (TakeAskEnded answer ∷ H) = quiet_more who (TakeAskEnded answer) H (hearing who H) (λ G. refl) (λ a. refl) (are_begun who H)
 are_begun who (ReleaseBroadcast true ∷ H) = tt
-are_begun who (ReleaseBroadcast false ∷ H) = quiet_more who (ReleaseBroadcast false) H (hearing who H) (λ G. refl) (λ a. refl) (are_begun who H)
+are_begun who (call ∷ H) = quiet_more who call H (hearing who H) (λ G. refl) (λ a. refl) (are_begun who H)
 
 length_taken : (n : ℕ) (xs : List ℕ) → n ≤ length xs → length (take n xs) ≡ n
 length_taken n xs l =

@@ -10,7 +10,7 @@ use Rattle.j39_transport.specs.Key.{Broadcast as by, is_key}
 use Rattle.j39_frame.specs.Network.{transport_data_group}
 use Rattle.j39_transport.proofs.FrameFacts.{announcement_facts}
 use Rattle.j39_node.specs.History.{Who, Call, is_claim, told_claims}
-use Rattle.j39_node.specs.History.Call.{Ask, TakeAskEnded, Hear, Tick, TakeFrame, Send, TakeEnded, TakeReceived, TakeRequest, TakeNews, Acknowledge, Broadcast, TakeBroadcastEnded, ReleaseTransfer, Transfer, TakeTransferEnded, ReleaseBroadcast}
+use Rattle.j39_node.specs.History.Call.{Hear, TakeFrame, ReleaseBroadcast}
 use Rattle.j39_node.specs.Hearing.{IsFit, OpenBroadcast, announces, begun, changes, found, grown, has_room, hearing, hears, is_ignored, is_late, is_unheard, is_whole, left, opens, packed, packs, touched, unheard}
 use Rattle.j39_node.specs.Reception.{holder, is_same, time_heard}
 use Rattle.j39_node.specs.Is.{HearingRecord, hearing_after}
@@ -110,24 +110,9 @@ fit_hears w now f o h = go (announces f) (packs f) (has_room now (source_of f.id
 pub fit : (w : Who) (H : List Call) → IsFit (hearing w H)
 fit w [] = tt
 fit w (Hear f ∷ H) = fit_hears w (time_heard (Hear f ∷ H)) f (found w H f) (fit_left (changes (holder w H) (holder w (Hear f ∷ H)) (hearing w H)) (hearing w H) (fit w H))
-fit w (TakeFrame now None ∷ H) = fit w H
 fit w (TakeFrame now (Some f) ∷ H) = fit_left (changes (holder w H) (holder w (TakeFrame now (Some f) ∷ H)) (hearing w H)) (hearing w H) (fit w H)
-fit w (Tick now ∷ H) = fit w H
-fit w (Send now d answer ∷ H) = fit w H
-fit w (TakeEnded answer ∷ H) = fit w H
-fit w (TakeReceived answer ∷ H) = fit w H
-fit w (TakeRequest answer ∷ H) = fit w H
-fit w (TakeNews answer ∷ H) = fit w H
-fit w (Acknowledge now r answer result ∷ H) = fit w H
-fit w (Broadcast now group bytes answer ∷ H) = fit w H
-fit w (TakeBroadcastEnded answer ∷ H) = fit w H
-fit w (ReleaseTransfer answer ∷ H) = fit w H
-fit w (Transfer now group to bytes answer ∷ H) = fit w H
-fit w (TakeTransferEnded answer ∷ H) = fit w H
-fit w (Ask now group to answer ∷ H) = fit w H
-fit w (TakeAskEnded answer ∷ H) = fit w H
 fit w (ReleaseBroadcast true ∷ H) = tt
-fit w (ReleaseBroadcast false ∷ H) = fit w H
+fit w (call ∷ H) = fit w H
 
 -- by what it is
 pub hears_is : (w : Who) (now : ℕ) (f : FrameRecord) (o : Option OpenBroadcast) (a b : Bool) → announces f ≡ a → packs f ≡ b

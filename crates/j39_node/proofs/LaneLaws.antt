@@ -9,7 +9,7 @@ use Rattle.j39_node.specs.declared.kinds.Ending.TheVariants.{Done, Withdrawn}
 use Rattle.j39_node.specs.declared.kinds.Refused.{Refused}
 use Rattle.j39_node.specs.declared.kinds.Refused.TheVariants.{NoAddress, BadValue, Full}
 use Rattle.j39_node.specs.History.{Who, Message, Call, accepted, acknowledged, address_after, all_frames, broadcasts, can_broadcast, claim_address, claim_from, due, first_frames, frame_of, has_packets, holds, is_busy, is_left, is_lost, is_open, is_packet, message_of, moment, open_broadcast, owes_claim, packets, pause, sent, step, told_broadcasts}
-use Rattle.j39_node.specs.History.Call.{Ask, TakeAskEnded, Hear, Tick, TakeFrame, Send, TakeEnded, TakeReceived, TakeRequest, TakeNews, Acknowledge, Broadcast, TakeBroadcastEnded, ReleaseTransfer, Transfer, TakeTransferEnded, ReleaseBroadcast}
+use Rattle.j39_node.specs.History.Call.{TakeFrame, Broadcast, TakeBroadcastEnded}
 use Rattle.j39_node.specs.Reception.{reception}
 use Rattle.j39_node.specs.Is.{AreAnswered, Is, broadcast_end, next_control, next_packet, packet_by, long_by, next_frame, next_long}
 use Rattle.j39_node.specs.Transfers.{next_transfer}
@@ -177,33 +177,11 @@ pause_or : (b : Bool) (p s q : ℕ) → 50000 ≤ p + q → 50000 ≤ (if b then
 pause_or true p s q l = omega arith
 pause_or false p s q l = omega (arith, l)
 
-shorter : (p s q : ℕ) → 50000 ≤ p + q → 50000 ≤ (p - s) + (q + s)
-shorter p s q l = omega (arith, l)
-
-longer : (p q s : ℕ) → 50000 ≤ p + q → 50000 ≤ p + (q + s)
-longer p q s l = omega (arith, l)
-
 -- what is left of the pause, and what passed since a frame of packets
 pauses : (later E : List Call) → 50000 ≤ pause E → 50000 ≤ pause (later ++ E) + passed_in later E
 pauses [] E l = omega (arith, l)
-pauses (Hear f ∷ later) E l = shorter (pause (later ++ E)) (step (later ++ E) f.stamp) (passed_in later E) (pauses later E l)
-pauses (Tick now ∷ later) E l = shorter (pause (later ++ E)) (step (later ++ E) now) (passed_in later E) (pauses later E l)
-pauses (TakeFrame now None ∷ later) E l = shorter (pause (later ++ E)) (step (later ++ E) now) (passed_in later E) (pauses later E l)
 pauses (TakeFrame now (Some f) ∷ later) E l = pause_or (is_packet f) (pause (later ++ E)) (step (later ++ E) now) (passed_in later E) (pauses later E l)
-pauses (Send now d answer ∷ later) E l = shorter (pause (later ++ E)) (step (later ++ E) now) (passed_in later E) (pauses later E l)
-pauses (Ask now group to answer ∷ later) E l = shorter (pause (later ++ E)) (step (later ++ E) now) (passed_in later E) (pauses later E l)
-pauses (TakeEnded answer ∷ later) E l = longer (pause (later ++ E)) (passed_in later E) _ (pauses later E l)
-pauses (TakeAskEnded answer ∷ later) E l = longer (pause (later ++ E)) (passed_in later E) _ (pauses later E l)
-pauses (TakeReceived answer ∷ later) E l = longer (pause (later ++ E)) (passed_in later E) _ (pauses later E l)
-pauses (TakeRequest answer ∷ later) E l = longer (pause (later ++ E)) (passed_in later E) _ (pauses later E l)
-pauses (TakeNews answer ∷ later) E l = longer (pause (later ++ E)) (passed_in later E) _ (pauses later E l)
-pauses (Acknowledge now r answer result ∷ later) E l = shorter (pause (later ++ E)) (step (later ++ E) now) (passed_in later E) (pauses later E l)
-pauses (Broadcast now group bytes answer ∷ later) E l = shorter (pause (later ++ E)) (step (later ++ E) now) (passed_in later E) (pauses later E l)
-pauses (TakeBroadcastEnded answer ∷ later) E l = longer (pause (later ++ E)) (passed_in later E) _ (pauses later E l)
-pauses (ReleaseTransfer answer ∷ later) E l = longer (pause (later ++ E)) (passed_in later E) _ (pauses later E l)
-pauses (ReleaseBroadcast answer ∷ later) E l = longer (pause (later ++ E)) (passed_in later E) _ (pauses later E l)
-pauses (Transfer now group to bytes answer ∷ later) E l = shorter (pause (later ++ E)) (step (later ++ E) now) (passed_in later E) (pauses later E l)
-pauses (TakeTransferEnded answer ∷ later) E l = longer (pause (later ++ E)) (passed_in later E) _ (pauses later E l)
+pauses (call ∷ later) E l = let h = pauses later E l in omega (arith, h)
 
 pub spaced : (w : Who) (H later : List Call) (c : Controller) (now at : ℕ) (f g : FrameRecord)
     → Is w (TakeFrame now (Some g) ∷ later ++ TakeFrame at (Some f) ∷ H) c → IsTrue (is_packet f) → IsTrue (is_packet g)
@@ -245,9 +223,6 @@ lets_pass H call h p l =
     let b = r.2 in
     (r.0 + step H (moment (call ∷ H)), later_by_one H call r.0 r.1, omega (arith, p, l, b))
 
-says_nothing : (H : List Call) (call : Call) → Began H → moment (call ∷ H) ≡ moment H → pause (call ∷ H) ≡ pause H → Began (call ∷ H)
-says_nothing H call h m p = lets_pass H call h (omega (arith, p, m))
-
 taken_by : (H : List Call) (now : ℕ) (f : FrameRecord) (b : Bool) → is_packet f ≡ b → Began H → Began (TakeFrame now (Some f) ∷ H)
 taken_by H now f true k h = λ l.
     let p = pause_is H now f true k in
@@ -256,24 +231,8 @@ taken_by H now f false k h = lets_pass H (TakeFrame now (Some f)) h (pause_is H 
 
 began : (H : List Call) → Began H
 began [] = λ l. absurd (omega (arith, l))
-began (Hear f ∷ H) = lets_pass H (Hear f) (began H) refl
-began (Tick now ∷ H) = lets_pass H (Tick now) (began H) refl
-began (TakeFrame now None ∷ H) = lets_pass H (TakeFrame now None) (began H) refl
 began (TakeFrame now (Some f) ∷ H) = taken_by H now f (is_packet f) refl (began H)
-began (Send now d answer ∷ H) = lets_pass H (Send now d answer) (began H) refl
-began (Ask now group to answer ∷ H) = lets_pass H (Ask now group to answer) (began H) refl
-began (TakeEnded answer ∷ H) = says_nothing H (TakeEnded answer) (began H) refl refl
-began (TakeAskEnded answer ∷ H) = says_nothing H (TakeAskEnded answer) (began H) refl refl
-began (TakeReceived answer ∷ H) = says_nothing H (TakeReceived answer) (began H) refl refl
-began (TakeRequest answer ∷ H) = says_nothing H (TakeRequest answer) (began H) refl refl
-began (TakeNews answer ∷ H) = says_nothing H (TakeNews answer) (began H) refl refl
-began (Acknowledge now r answer result ∷ H) = lets_pass H (Acknowledge now r answer result) (began H) refl
-began (Broadcast now group bytes answer ∷ H) = lets_pass H (Broadcast now group bytes answer) (began H) refl
-began (TakeBroadcastEnded answer ∷ H) = says_nothing H (TakeBroadcastEnded answer) (began H) refl refl
-began (ReleaseTransfer answer ∷ H) = says_nothing H (ReleaseTransfer answer) (began H) refl refl
-began (ReleaseBroadcast answer ∷ H) = says_nothing H (ReleaseBroadcast answer) (began H) refl refl
-began (Transfer now group to bytes answer ∷ H) = lets_pass H (Transfer now group to bytes answer) (began H) refl
-began (TakeTransferEnded answer ∷ H) = says_nothing H (TakeTransferEnded answer) (began H) refl refl
+began (call ∷ H) = lets_pass H call (began H) (omega arith)
 
 -- a frame that is left waits for the pause alone
 no_frame : (o : Option (ℕ × MessageRecord)) (i left : ℕ) → is_left o i ≡ true → packet_by o i left ≡ None → 0 < left

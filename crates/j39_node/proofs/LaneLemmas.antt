@@ -8,7 +8,7 @@ use Rattle.j39_node.specs.declared.kinds.Ending.TheVariants.{Done, Withdrawn}
 use Rattle.j39_node.specs.declared.kinds.Refused.{Refused}
 use Rattle.j39_node.specs.declared.kinds.Refused.TheVariants.{NoAddress, BadValue, Full}
 use Rattle.j39_node.specs.History.{Who, Message, Call, accepted, acknowledged, due, sent, address_after, broadcast_from, broadcasts, can_broadcast, first_frames, frame_of, holds, is_busy, is_lost, is_open, is_packet, open_broadcast, packets, pause, step, told_broadcasts}
-use Rattle.j39_node.specs.History.Call.{Ask, TakeAskEnded, Hear, Tick, TakeFrame, Send, TakeEnded, TakeReceived, TakeRequest, TakeNews, Acknowledge, Broadcast, TakeBroadcastEnded, ReleaseTransfer, Transfer, TakeTransferEnded, ReleaseBroadcast}
+use Rattle.j39_node.specs.History.Call.{TakeFrame, Broadcast, TakeBroadcastEnded}
 use Rattle.j39_node.specs.Reception.{reception}
 use Rattle.j39_node.specs.Is.{AreAnswered, answer_to_broadcast, broadcast_end, stamped}
 use Rattle.j39_node.proofs.QueueLemmas.{length_one_more}
@@ -167,24 +167,8 @@ lane_closes w H x (broken m e l a d) h =
 
 pub laned : (w : Who) (H : List Call) → AreAnswered w H → Laned w (length (told_broadcasts H)) (broadcasts w H) (packets H) (open_broadcast w H)
 laned w [] e = refl
-laned w (Hear f ∷ H) e = laned w H e.0
-laned w (Tick now ∷ H) e = laned w H e.0
-laned w (TakeFrame now None ∷ H) e = laned w H e.0
 laned w (TakeFrame now (Some f) ∷ H) e = lane_frame w H now f e.0 (frame_case w H now f e.1) (laned w H e.0)
-laned w (Send now d answer ∷ H) e = laned w H e.0
-laned w (Ask now group to answer ∷ H) e = laned w H e.0
-laned w (TakeEnded answer ∷ H) e = laned w H e.0
-laned w (TakeAskEnded answer ∷ H) e = laned w H e.0
-laned w (TakeReceived answer ∷ H) e = laned w H e.0
-laned w (TakeRequest answer ∷ H) e = laned w H e.0
-laned w (TakeNews answer ∷ H) e = laned w H e.0
-laned w (Acknowledge now r answer result ∷ H) e = laned w H e.0
 laned w (Broadcast now group bytes (Ok k) ∷ H) e = lane_opens w H now group k bytes (broadcast_case w H now group bytes (Ok k) e.1) (laned w H e.0)
-laned w (Broadcast now group bytes (Err r) ∷ H) e = laned w H e.0
-laned w (TakeBroadcastEnded None ∷ H) e = laned w H e.0
-laned w (Transfer now group to bytes answer ∷ H) e = laned w H e.0
-laned w (TakeTransferEnded answer ∷ H) e = laned w H e.0
 laned w (TakeBroadcastEnded (Some x) ∷ H) e =
     lane_closes w H x (lane_end (open_broadcast w H) (length (packets H)) (is_lost (address_after w H)) x e.1) (laned w H e.0)
-laned w (ReleaseTransfer answer ∷ H) e = laned w H e.0
-laned w (ReleaseBroadcast answer ∷ H) e = laned w H e.0
+laned w (call ∷ H) e = laned w H e.0

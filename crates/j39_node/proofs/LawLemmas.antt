@@ -18,7 +18,7 @@ use Rattle.j39_node.specs.declared.kinds.News.TheVariants.{AddressLost, AnotherA
 use Rattle.j39_node.specs.declared.kinds.Refused.{Refused}
 use Rattle.j39_node.specs.declared.kinds.Refused.TheVariants.{NoAddress, BadValue, Full}
 use Rattle.j39_node.specs.History.{Who, Message, Draft, Call, Address, IsFront, accepted, address_after, calls_for_claim, can_send, claim_address, claim_from, content, frames, got, heard, holds, is_claim, is_smaller, claimed, is_for_program, is_held, is_lost, is_none, is_own_group, is_some, is_subscribed, kept, message_of, missed, moment, older, owes_claim, sent, step, told, Asked, asked, acknowledgment, acknowledgment_group, acknowledged, due, handed, requests, is_served, with_request, with_refusal, stamp_at, held_at, lost_news, another_news, missed_news, open_broadcast, packets, pause}
-use Rattle.j39_node.specs.History.Call.{Ask, TakeAskEnded, Hear, Tick, TakeFrame, Send, TakeEnded, TakeReceived, TakeRequest, TakeNews, Acknowledge, Broadcast, TakeBroadcastEnded, ReleaseTransfer, Transfer, TakeTransferEnded, ReleaseBroadcast}
+use Rattle.j39_node.specs.History.Call.{Hear, Tick, TakeFrame, Send, TakeEnded, TakeReceived, TakeRequest, TakeNews, Acknowledge}
 use Rattle.j39_node.specs.Reception.{is_waiting, reception}
 use Rattle.j39_node.proofs.ReceptionLemmas.{replied_get, tidy}
 use Rattle.j39_node.specs.History.Address.{NotClaimed, Claimed, Lost}
@@ -27,7 +27,7 @@ use Rattle.j39_node.specs.Is.{Is, control_of, next_control, next_frame, end_of, 
 use Rattle.j39_node.specs.Transfers.{age, at_in, next_due}
 use Rattle.j39_node.proofs.DueLemmas.{from_long, quiet_long, then_long}
 use Rattle.j39_node.proofs.QueueLemmas.{get_within, length_one_more, length_map}
-use Rattle.j39_node.proofs.SoundLemmas.{Sound, sound, front_length, lost_older, lost_claimed, frame_by, due_get, due_taken, own_get, FrameCase, frame_case, SendCase, send_case, EndCase, end_case, claim_taken, message_taken, none_steers, packet_taken, packet_case, reply_taken, transfer_taken}
+use Rattle.j39_node.proofs.SoundLemmas.{EndCase, FrameCase, SendCase, Sound, claim_taken, due_get, due_taken, end_case, frame_by, frame_case, front_length, held_older, lost_claimed, lost_older, message_taken, none_steers, own_get, packet_case, packet_taken, reply_taken, send_case, sound, transfer_taken}
 use Rattle.j39_node.proofs.LaneLemmas.{laned, opened_by}
 use Rattle.j39_node.proofs.CallLemmas.{acknowledge_is, acknowledges_by, due_by}
 use Rattle.j39_node.proofs.SoundLemmas.FrameCase.{claims, acknowledges, replies, sends, packs, transfers}
@@ -293,22 +293,7 @@ count_one false r xs ys x m e = e
 pub counted : (w : Who) (H : List Call) → length (kept w H) + missed w H ≡ length (heard w H)
 counted w [] = refl
 counted w (Hear f ∷ H) = count_one (is_for_program w (holds w H f.stamp) f) (nat_lt (length (kept w H) - length (got H)) 16) (heard w H) (kept w H) (f.stamp, message_of f) (missed w H) (counted w H)
-counted w (Tick now ∷ H) = counted w H
-counted w (TakeFrame now answer ∷ H) = counted w H
-counted w (Send now d answer ∷ H) = counted w H
-counted w (Ask now group to answer ∷ H) = counted w H
-counted w (TakeEnded answer ∷ H) = counted w H
-counted w (TakeAskEnded answer ∷ H) = counted w H
-counted w (TakeReceived answer ∷ H) = counted w H
-counted w (TakeRequest answer ∷ H) = counted w H
-counted w (TakeNews answer ∷ H) = counted w H
-counted w (Acknowledge now r answer result ∷ H) = counted w H
-counted w (Broadcast now group bytes answer ∷ H) = counted w H
-counted w (TakeBroadcastEnded answer ∷ H) = counted w H
-counted w (ReleaseTransfer answer ∷ H) = counted w H
-counted w (ReleaseBroadcast answer ∷ H) = counted w H
-counted w (Transfer now group to bytes answer ∷ H) = counted w H
-counted w (TakeTransferEnded answer ∷ H) = counted w H
+counted w (call ∷ H) = counted w H
 
 pub not_subscribed : (w : Who) (H : List Call) (f : FrameRecord) → is_subscribed w (pgn_of f.id) ≡ false
     → (kept w (Hear f ∷ H) ≡ kept w H) × (missed w (Hear f ∷ H) ≡ missed w H)
@@ -361,23 +346,8 @@ or_right false b e = e
 still_owed : (w : Who) (later H : List Call) → frames later ≡ [] → owes_claim w H ≡ true → owes_claim w (later ++ H) ≡ true
 still_owed w [] H e o = o
 still_owed w (Hear f ∷ later) H e o = or_true _ _ (still_owed w later H e o)
-still_owed w (Tick now ∷ later) H e o = still_owed w later H e o
-still_owed w (TakeFrame now None ∷ later) H e o = still_owed w later H e o
 still_owed w (TakeFrame now (Some f) ∷ later) H e o = absurd (let a = ap length e in let b = length_one_more (frames later) f in omega (arith, a, b))
-still_owed w (Send now d answer ∷ later) H e o = still_owed w later H e o
-still_owed w (Ask now group to answer ∷ later) H e o = still_owed w later H e o
-still_owed w (TakeEnded answer ∷ later) H e o = still_owed w later H e o
-still_owed w (TakeAskEnded answer ∷ later) H e o = still_owed w later H e o
-still_owed w (TakeReceived answer ∷ later) H e o = still_owed w later H e o
-still_owed w (TakeRequest answer ∷ later) H e o = still_owed w later H e o
-still_owed w (TakeNews answer ∷ later) H e o = still_owed w later H e o
-still_owed w (Acknowledge now r answer result ∷ later) H e o = still_owed w later H e o
-still_owed w (Broadcast now group bytes answer ∷ later) H e o = still_owed w later H e o
-still_owed w (TakeBroadcastEnded answer ∷ later) H e o = still_owed w later H e o
-still_owed w (ReleaseTransfer answer ∷ later) H e o = still_owed w later H e o
-still_owed w (ReleaseBroadcast answer ∷ later) H e o = still_owed w later H e o
-still_owed w (Transfer now group to bytes answer ∷ later) H e o = still_owed w later H e o
-still_owed w (TakeTransferEnded answer ∷ later) H e o = still_owed w later H e o
+still_owed w (call ∷ later) H e o = still_owed w later H e o
 
 pub next_claim : (w : Who) (H later : List Call) (c : Controller) (now : ℕ) (f g : FrameRecord)
     → Is w (TakeFrame now (Some g) ∷ later ++ Hear f ∷ H) c → frames later ≡ []
@@ -572,14 +542,6 @@ only_to_address w H c now r a is = go (holds w H now) (nat_eq r.destination w.ad
 
 -- ---- quiet till due
 
-held_later : (a : Address) (e : ℕ) → is_held a ≡ true → is_held (older e a) ≡ true
-held_later NotClaimed e h = absurd (cc)
-held_later (Claimed n) e h = longer n e h
-  where
-    longer : (n e : ℕ) → nat_le 250000 n ≡ true → nat_le 250000 (n + e) ≡ true
-    longer n e h = grind arith
-held_later Lost e h = absurd (cc)
-
 -- where no address is held, nothing was accepted or is due that could be taken
 Quiet : Who → List Call → ℕ → Type 0
 Quiet w H now = (t : ℕ) → next_due w H ≡ Some t → now < t
@@ -746,7 +708,7 @@ none_taken w H c now is long later = go (owes_claim w H) (is_held (address_after
     go : (o h x : Bool) → owes_claim w H ≡ o → is_held (address_after w H) ≡ h → is_waiting w H ≡ x → ⊥
     go true h x p q r = by (inl p)
     go false true true p q r = by (inr (
-      held_later (address_after w H) _ q,
+      held_older _ (address_after w H) q,
       λ n. (let k = none_steers _ (slice_get (reception w H).replies 0) n.0 in
           let a = there (due w H) (length (acknowledged H)) k.0 in let b = there (accepted w H) (length (sent H)) n.1 in let v = there (reception w H).replies 0 k.1 in
           let d : is_waiting w H ≡ false =
@@ -755,7 +717,7 @@ none_taken w H c now is long later = go (owes_claim w H) (is_held (address_after
           not_both _ d r),
     ))
     go false true false p q r = by (inr (
-      held_later (address_after w H) _ q,
+      held_older _ (address_after w H) q,
       λ n. long (due_later w H true (none true false p q r refl) q) n.2,
     ))
     go false false x p q r = later (due_later w H false (none false x p q r refl) q) q
@@ -815,26 +777,9 @@ lost_is_lost w (Hear f ∷ H) e = elim (either (lost_news w H) (is_smaller w (cl
   | inl z ↦ stays_lost (is_smaller w (claim_of f)) (step H f.stamp) (address_after w H) (lost_is_lost w H z)
   | inr z ↦ is_driven (is_smaller w (claim_of f)) _ (step H f.stamp) (address_after w H) z
 ]
-lost_is_lost w (Tick now ∷ H) e = lost_older (step H now) (address_after w H) ∙ lost_is_lost w H e
-lost_is_lost w (TakeFrame now None ∷ H) e = lost_older (step H now) (address_after w H) ∙ lost_is_lost w H e
 lost_is_lost w (TakeFrame now (Some f) ∷ H) e = stays_lost_claimed (is_claim f) (step H now) (address_after w H) (lost_is_lost w H e)
-lost_is_lost w (Send now d answer ∷ H) e = lost_older (step H now) (address_after w H) ∙ lost_is_lost w H e
-lost_is_lost w (Ask now group to answer ∷ H) e = lost_older (step H now) (address_after w H) ∙ lost_is_lost w H e
-lost_is_lost w (TakeEnded answer ∷ H) e = lost_is_lost w H e
-lost_is_lost w (TakeAskEnded answer ∷ H) e = lost_is_lost w H e
-lost_is_lost w (TakeReceived answer ∷ H) e = lost_is_lost w H e
-lost_is_lost w (TakeRequest answer ∷ H) e = lost_is_lost w H e
-lost_is_lost w (TakeNews None ∷ H) e = lost_is_lost w H e
 lost_is_lost w (TakeNews (Some AddressLost) ∷ H) e = absurd (cc)
-lost_is_lost w (TakeNews (Some AnotherAtAddress) ∷ H) e = lost_is_lost w H e
-lost_is_lost w (TakeNews (Some MessagesMissed) ∷ H) e = lost_is_lost w H e
-lost_is_lost w (Acknowledge now r answer result ∷ H) e = lost_older (step H now) (address_after w H) ∙ lost_is_lost w H e
-lost_is_lost w (Broadcast now group bytes answer ∷ H) e = lost_older (step H now) (address_after w H) ∙ lost_is_lost w H e
-lost_is_lost w (TakeBroadcastEnded answer ∷ H) e = lost_is_lost w H e
-lost_is_lost w (ReleaseTransfer answer ∷ H) e = lost_is_lost w H e
-lost_is_lost w (ReleaseBroadcast answer ∷ H) e = lost_is_lost w H e
-lost_is_lost w (Transfer now group to bytes answer ∷ H) e = lost_older (step H now) (address_after w H) ∙ lost_is_lost w H e
-lost_is_lost w (TakeTransferEnded answer ∷ H) e = lost_is_lost w H e
+lost_is_lost w (call ∷ H) e = let z = lost_older (step H (moment (call ∷ H))) (address_after w H) in let h = lost_is_lost w H e in cc
 
 still_missed : (b : Bool) (m : ℕ) → 0 < m → 0 < (if b then suc m else m)
 still_missed true m l = omega (arith, l)
@@ -851,22 +796,5 @@ some_missed w (Hear f ∷ H) e =
       | inl z ↦ still_missed (is_for_program w (holds w H f.stamp) f && not (nat_lt (length (kept w H) - length (got H)) 16)) (missed w H) (some_missed w H z)
       | inr z ↦ one_missed _ (missed w H) z
     ]
-some_missed w (Tick now ∷ H) e = some_missed w H e
-some_missed w (TakeFrame now answer ∷ H) e = some_missed w H e
-some_missed w (Send now d answer ∷ H) e = some_missed w H e
-some_missed w (Ask now group to answer ∷ H) e = some_missed w H e
-some_missed w (TakeEnded answer ∷ H) e = some_missed w H e
-some_missed w (TakeAskEnded answer ∷ H) e = some_missed w H e
-some_missed w (TakeReceived answer ∷ H) e = some_missed w H e
-some_missed w (TakeRequest answer ∷ H) e = some_missed w H e
-some_missed w (TakeNews None ∷ H) e = some_missed w H e
-some_missed w (TakeNews (Some AddressLost) ∷ H) e = some_missed w H e
-some_missed w (TakeNews (Some AnotherAtAddress) ∷ H) e = some_missed w H e
 some_missed w (TakeNews (Some MessagesMissed) ∷ H) e = absurd (cc)
-some_missed w (Acknowledge now r answer result ∷ H) e = some_missed w H e
-some_missed w (Broadcast now group bytes answer ∷ H) e = some_missed w H e
-some_missed w (TakeBroadcastEnded answer ∷ H) e = some_missed w H e
-some_missed w (ReleaseTransfer answer ∷ H) e = some_missed w H e
-some_missed w (ReleaseBroadcast answer ∷ H) e = some_missed w H e
-some_missed w (Transfer now group to bytes answer ∷ H) e = some_missed w H e
-some_missed w (TakeTransferEnded answer ∷ H) e = some_missed w H e
+some_missed w (call ∷ H) e = some_missed w H e

@@ -20,7 +20,6 @@ pub mod AskLemmas
 -- a call more
 pub mod CallLemmas
 -- what a call does to the open request
-pub mod AskView
 -- the laws of requests
 pub mod AskLaws
 -- a call of `ask` more
@@ -51,7 +50,6 @@ pub mod RequestStrangers
 pub mod AsideLaws
 pub mod MovingLemmas
 -- the laws of a driver that is prompt
-pub mod PromptView
 pub mod PromptLaws
 pub mod RestLaws
 pub mod EndSteps

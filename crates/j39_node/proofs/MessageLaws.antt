@@ -1,12 +1,12 @@
 -- That every message of one frame ends.
-use Rattle.std.proofs.Common.{◌≡◌, ◌⊎◌, ℕ, zero, suc, ◌+◌, ◌<◌, ◌≤◌, List, [], ◌∷◌, ◌++◌, length, Option, Some, None, Ok, Bool, true, false, ◌||◌, if◌then◌else◌, nat_lt, refl, sym, ap, ◌∙◌, arith, inl, inr, IsTrue}
+use Rattle.std.proofs.Common.{◌≡◌, ◌⊎◌, ℕ, zero, suc, ◌+◌, ◌<◌, ◌≤◌, List, [], ◌∷◌, ◌++◌, length, Option, Some, None, Ok, Bool, true, false, ◌||◌, if◌then◌else◌, nat_lt, refl, ap, ◌∙◌, arith, inl, inr, IsTrue}
 use Rattle.std.specs.List.{slice_get}
 use Rattle.j39_frame.specs.Frame.{FrameRecord}
 use Rattle.j39_node.specs.declared.controller.Controller.{Controller}
 use Rattle.j39_node.specs.declared.kinds.Ending.{Ending}
 use Rattle.j39_node.specs.declared.kinds.Ending.TheVariants.{Done, Withdrawn}
 use Rattle.j39_node.specs.History.{Who, Message, Draft, Call, accepted, address_after, claim_address, claim_from, holds, is_acknowledgment, is_claim, is_held, is_lost, is_session, message_from, message_of, moment, owes_claim, request_for, sent, step, told}
-use Rattle.j39_node.specs.History.Call.{Ask, Broadcast, Hear, Send, TakeBroadcastEnded, TakeFrame, Transfer, TakeTransferEnded}
+use Rattle.j39_node.specs.History.Call.{Ask, Hear, Send, TakeFrame}
 use Rattle.j39_node.specs.Is.{AreAnswered, Is, IsAnswered, end_of, next_control, next_ended, next_frame, next_long}
 use Rattle.j39_node.specs.Prompt.{IsPrompt, waited_in}
 use Rattle.j39_node.specs.Since.{passed_in}
@@ -14,10 +14,8 @@ use Rattle.j39_node.proofs.AskCases.{AskCase, ask_case}
 use Rattle.j39_node.proofs.AskCases.AskCase.{homeless, unfit, busy, asks}
 use Rattle.j39_node.proofs.LawLemmas.{past_end}
 use Rattle.j39_node.proofs.PromptLaws.{answered_from, keeps_heard, keeps_taken, lost_heard, lost_taken, waited_last}
-use Rattle.j39_node.proofs.PromptView.{Quiet, View, held_older, view}
-use Rattle.j39_node.proofs.PromptView.View.{at_hear, at_none, at_take, at_broadcast, at_broadcast_told, at_transfer, at_transfer_told, at_rest}
 use Rattle.j39_node.proofs.QueueLemmas.{length_one_more}
-use Rattle.j39_node.proofs.SoundLemmas.{SendCase, frame_by, lost_older, send_case, sound}
+use Rattle.j39_node.proofs.SoundLemmas.{SendCase, frame_by, held_older, lost_older, send_case, sound}
 use Rattle.j39_node.proofs.SoundLemmas.SendCase.{no_address, bad_value, full, accepts}
 
 -- where no frame is taken from an address that is held, no message waits
@@ -41,6 +39,11 @@ more_sent H now f = go (is_claim f || (is_acknowledgment f || is_session f))
     go true = omega arith
     go false = let e = length_one_more (sent H) (message_of f) in omega (arith, e)
 
+accepts_more : (w : Who) (H : List Call) (call : Call) → length (accepted w H) ≤ length (accepted w (call ∷ H))
+accepts_more w H (Send now d (Ok k)) = let e = length_one_more (accepted w H) (k, message_from w d) in omega (arith, e)
+accepts_more w H (Ask now group to (Ok k)) = let e = length_one_more (accepted w H) (k, message_from w (request_for group to)) in omega (arith, e)
+accepts_more w H call = omega arith
+
 module _ (w : Who) (B : List Call) (g k : ℕ) where
   -- taken, or the address is lost; or it waits, and no take answered none since its acceptance
   data Course (later : List Call) : Type 0 where
@@ -52,33 +55,24 @@ module _ (w : Who) (B : List Call) (g k : ℕ) where
     pub among : k < length (accepted w (later ++ B))
     pub course : Course later
 
-  rests : (call : Call) (later : List Call) → Quiet call → Stands later → Stands (call ∷ later)
-  rests call later q h = record { among = (let a = q.accepts w (later ++ B) in let b = h.among in omega (arith, a, b)); course = go h.course }
-    where
-      go : Course later → Course (call ∷ later)
-      go (taken l) = taken (let e = ap length (q.sent_is (later ++ B)) in omega (arith, e, l))
-      go (gone e) = gone (q.lost w (later ++ B) e)
-      go (waits e p) = waits (q.held w (later ++ B) e)
-          (ap (λ (n : ℕ). n + step (later ++ B) (moment (call ∷ later ++ B))) p ∙ sym (q.waits later B))
-
   passes : (later : List Call) (now : ℕ) → passed_in later B ≡ waited_in later B
       → passed_in later B + step (later ++ B) now ≡ waited_in later B + step (later ++ B) now
   passes later now p = ap (λ (n : ℕ). n + step (later ++ B) now) p
 
-  one_more : (call : Call) (later : List Call) → View call → IsAnswered w (later ++ B) call → Stands later → Stands (call ∷ later)
-  one_more call later (at_hear f) a h = record { among = h.among; course = go h.course }
+  one_more : (call : Call) (later : List Call) → IsAnswered w (later ++ B) call → Stands later → Stands (call ∷ later)
+  one_more (Hear f) later a h = record { among = h.among; course = go h.course }
     where
       go : Course later → Course (Hear f ∷ later)
       go (taken l) = taken l
       go (gone e) = gone (lost_heard w (later ++ B) f e)
       go (waits e p) = elim (keeps_heard w (later ++ B) f e) [ inl z ↦ gone z | inr z ↦ waits z (passes later f.stamp p) ]
-  one_more call later (at_take now f) a h = record { among = h.among; course = go h.course }
+  one_more (TakeFrame now (Some f)) later a h = record { among = h.among; course = go h.course }
     where
       go : Course later → Course (TakeFrame now (Some f) ∷ later)
       go (taken l) = taken (let e = more_sent (later ++ B) now f in omega (arith, e, l))
       go (gone e) = gone (lost_taken w (later ++ B) now f e)
       go (waits e p) = waits (keeps_taken w (later ++ B) now f e) (passes later now p)
-  one_more call later (at_none now) a h = record { among = h.among; course = go h.course }
+  one_more (TakeFrame now None) later a h = record { among = h.among; course = go h.course }
     where
       go : Course later → Course (TakeFrame now None ∷ later)
       go (taken l) = taken l
@@ -86,35 +80,17 @@ module _ (w : Who) (B : List Call) (g k : ℕ) where
       go (waits e p) = taken (let l = past_end (accepted w (later ++ B)) (length (sent (later ++ B)))
           (none_waits w (later ++ B) now (held_older (step (later ++ B) now) (address_after w (later ++ B)) e) a) in
           let b = h.among in omega (arith, l, b))
-  one_more call later (at_broadcast now group j bytes) a h = record { among = h.among; course = go h.course }
+  one_more call later a h = record { among = (let m = accepts_more w (later ++ B) call in let b = h.among in omega (arith, m, b)); course = go h.course }
     where
-      go : Course later → Course (Broadcast now group bytes (Ok j) ∷ later)
+      go : Course later → Course (call ∷ later)
       go (taken l) = taken l
-      go (gone e) = gone (lost_older (step (later ++ B) now) (address_after w (later ++ B)) ∙ e)
-      go (waits e p) = waits (held_older (step (later ++ B) now) (address_after w (later ++ B)) e) (passes later now p)
-  one_more call later (at_broadcast_told x) a h = record { among = h.among; course = go h.course }
-    where
-      go : Course later → Course (TakeBroadcastEnded (Some x) ∷ later)
-      go (taken l) = taken l
-      go (gone e) = gone e
-      go (waits e p) = waits e (passes later (moment (later ++ B)) p)
-  one_more call later (at_transfer now group to j bytes) a h = record { among = h.among; course = go h.course }
-    where
-      go : Course later → Course (Transfer now group to bytes (Ok j) ∷ later)
-      go (taken l) = taken l
-      go (gone e) = gone (lost_older (step (later ++ B) now) (address_after w (later ++ B)) ∙ e)
-      go (waits e p) = waits (held_older (step (later ++ B) now) (address_after w (later ++ B)) e) (passes later now p)
-  one_more call later (at_transfer_told x) a h = record { among = h.among; course = go h.course }
-    where
-      go : Course later → Course (TakeTransferEnded (Some x) ∷ later)
-      go (taken l) = taken l
-      go (gone e) = gone e
-      go (waits e p) = waits e (passes later (moment (later ++ B)) p)
-  one_more c later (at_rest call q) a h = rests call later q h
+      go (gone e) = gone (let z = lost_older (step (later ++ B) (moment (call ∷ later ++ B))) (address_after w (later ++ B)) in cc)
+      go (waits e p) = waits (let z = held_older (step (later ++ B) (moment (call ∷ later ++ B))) (address_after w (later ++ B)) e in cc)
+          (passes later (moment (call ∷ later ++ B)) p)
 
   stands : (later : List Call) → AreAnswered w (later ++ B) → Stands [] → Stands later
   stands [] a h = h
-  stands (call ∷ later) a h = one_more call later (view call) a.1 (stands later a.0 h)
+  stands (call ∷ later) a h = one_more call later a.1 (stands later a.0 h)
 
   ends_so : (later : List Call) → Stands later → g < passed_in later B → waited_in later B ≤ g
       → (k < length (sent (later ++ B))) ⊎ (is_lost (address_after w (later ++ B)) ≡ true)

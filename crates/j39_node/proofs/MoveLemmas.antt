@@ -1,5 +1,5 @@
 -- What every answered history says of transfers.
-use Rattle.std.proofs.Common.{◌≡◌, ◌⊎◌, ℕ, suc, ◌-◌, List, [], ◌∷◌, ◌++◌, length, Option, Some, None, Ok, Err, Bool, true, false, ◌||◌, ◌&&◌, if◌then◌else◌, refl, sym, ap, ◌∙◌, inl, inr, arith, subst}
+use Rattle.std.proofs.Common.{◌≡◌, ◌⊎◌, ℕ, suc, ◌-◌, List, [], ◌∷◌, ◌++◌, length, Option, Some, None, Ok, Bool, true, false, ◌||◌, ◌&&◌, if◌then◌else◌, refl, sym, ap, ◌∙◌, inl, inr, arith, subst}
 use Rattle.std.specs.List.{slice_get}
 use Rattle.std.specs.Option.{option_map}
 use Rattle.std.proofs.lemmas.Bool.{or_parts, cond_both}
@@ -9,7 +9,7 @@ use Rattle.j39_transport.specs.Sending.{Tick, aborted, is_running, new_sender, s
 use Rattle.j39_transport.specs.Signals.{Signal, Abort}
 use Rattle.j39_node.specs.declared.kinds.TransferEnding.{TransferEnding}
 use Rattle.j39_node.specs.History.{Who, Message, Call, accepted, acknowledged, address_after, broadcast_from, due, holds, is_lost, message_of, open_broadcast, packets, pause, sent, step}
-use Rattle.j39_node.specs.History.Call.{Ask, TakeAskEnded, Hear, Tick as Ticks, TakeFrame, Send, TakeEnded, TakeReceived, TakeRequest, TakeNews, Acknowledge, Broadcast, TakeBroadcastEnded, ReleaseTransfer, Transfer, TakeTransferEnded, ReleaseBroadcast}
+use Rattle.j39_node.specs.History.Call.{Hear, TakeFrame, Transfer, TakeTransferEnded}
 use Rattle.j39_node.specs.Is.{AreAnswered, next_packet}
 use Rattle.j39_node.specs.Transfers.{is_resting, Running, begun, clock_at, gives_up, hears, hears_if, is_engaged, is_replaced, is_spent, listens, open_transfer, says, sends, sends_if, signal_by, told_transfers, transfer_by, transfer_end, transfers as all_transfers}
 use Rattle.j39_node.specs.Reception.{holder, is_move, reception}
@@ -118,25 +118,10 @@ moved w [] e = tt
 moved w (Hear f ∷ H) e =
     moved_hears (is_lost (address_after w (Hear f ∷ H))) (λ a. is_replaced (holder w H a) (holder w (Hear f ∷ H) a)) f (clock_at H f.stamp) (open_transfer w H) (moves w H)
     (moved w H e.0)
-moved w (Ticks now ∷ H) e = moved w H e.0
-moved w (TakeFrame now None ∷ H) e = moved w H e.0
 moved w (TakeFrame now (Some f) ∷ H) e = moved_frame w H now f e.0 (frame_case w H now f e.1) (moved w H e.0) (is_move w H f) refl
-moved w (Send now draft answer ∷ H) e = moved w H e.0
-moved w (Ask now group to answer ∷ H) e = moved w H e.0
-moved w (TakeEnded answer ∷ H) e = moved w H e.0
-moved w (TakeAskEnded answer ∷ H) e = moved w H e.0
-moved w (TakeReceived answer ∷ H) e = moved w H e.0
-moved w (TakeRequest answer ∷ H) e = moved w H e.0
-moved w (TakeNews answer ∷ H) e = moved w H e.0
-moved w (Acknowledge now r answer result ∷ H) e = moved w H e.0
-moved w (Broadcast now group bytes answer ∷ H) e = moved w H e.0
-moved w (TakeBroadcastEnded answer ∷ H) e = moved w H e.0
 moved w (Transfer now group to bytes (Ok k) ∷ H) e = moved_new (broadcast_from w group bytes) to
-moved w (Transfer now group to bytes (Err r) ∷ H) e = moved w H e.0
-moved w (TakeTransferEnded None ∷ H) e = moved w H e.0
 moved w (TakeTransferEnded (Some x) ∷ H) e = tt
-moved w (ReleaseTransfer answer ∷ H) e = moved w H e.0
-moved w (ReleaseBroadcast answer ∷ H) e = moved w H e.0
+moved w (call ∷ H) e = moved w H e.0
 
 pub moved_open : (w : Who) (H : List Call) (t : Running) → AreAnswered w H → open_transfer w H ≡ Some t → Moved t.sender (moves w H)
 moved_open w H t right e = subst (λ (o : Option Running). MovedIf o (moves w H)) e (moved w H right)
@@ -211,26 +196,11 @@ last_one w [] e = refl
 last_one w (Hear f ∷ H) e =
     last_hears _ _ (is_lost (address_after w (Hear f ∷ H))) (λ a. is_replaced (holder w H a) (holder w (Hear f ∷ H) a)) f (clock_at H f.stamp) (open_transfer w H)
     (last_one w H e.0)
-last_one w (Ticks now ∷ H) e = last_one w H e.0
-last_one w (TakeFrame now None ∷ H) e = last_one w H e.0
 last_one w (TakeFrame now (Some f) ∷ H) e = last_sends _ _ (is_move w H f) (clock_at H now) (open_transfer w H) (last_one w H e.0)
-last_one w (Send now draft answer ∷ H) e = last_one w H e.0
-last_one w (Ask now group to answer ∷ H) e = last_one w H e.0
-last_one w (TakeEnded answer ∷ H) e = last_one w H e.0
-last_one w (TakeAskEnded answer ∷ H) e = last_one w H e.0
-last_one w (TakeReceived answer ∷ H) e = last_one w H e.0
-last_one w (TakeRequest answer ∷ H) e = last_one w H e.0
-last_one w (TakeNews answer ∷ H) e = last_one w H e.0
-last_one w (Acknowledge now r answer result ∷ H) e = last_one w H e.0
-last_one w (Broadcast now group bytes answer ∷ H) e = last_one w H e.0
-last_one w (TakeBroadcastEnded answer ∷ H) e = last_one w H e.0
 last_one w (Transfer now group to bytes (Ok k) ∷ H) e = last_opens w H now group to k bytes (transfer_case w H now group to bytes (Ok k) e.1) (last_one w H e.0)
-last_one w (Transfer now group to bytes (Err r) ∷ H) e = last_one w H e.0
-last_one w (TakeTransferEnded None ∷ H) e = last_one w H e.0
 last_one w (TakeTransferEnded (Some x) ∷ H) e =
     length_one_more (told_transfers H) x ∙ last_closes (length (told_transfers H)) (all_transfers w H) (open_transfer w H) (is_lost (address_after w H)) x (last_one w H e.0) e.1
-last_one w (ReleaseTransfer answer ∷ H) e = last_one w H e.0
-last_one w (ReleaseBroadcast answer ∷ H) e = last_one w H e.0
+last_one w (call ∷ H) e = last_one w H e.0
 
 pub last_open : (w : Who) (H : List Call) (t : Running) → AreAnswered w H → open_transfer w H ≡ Some t → Last (length (told_transfers H)) (all_transfers w H) t
 last_open w H t right e = subst (LastIf (length (told_transfers H)) (all_transfers w H)) e (last_one w H right)
@@ -306,24 +276,9 @@ pub traced : (w : Who) (Q : Running → Type 0) (So : ℕ → MessageRecord → 
     → open_transfer w H ≡ Some t → Q t → Happened (So t.sender.destination t.sender.message) H
 traced w Q So arises [] t right e q = absurd (cc)
 traced w Q So arises (Hear f ∷ H) t right e q = trace_hears w Q So H f t (open_transfer w H) arises right.0 refl e q (λ u k. traced w Q So arises H u right.0 k)
-traced w Q So arises (Ticks now ∷ H) t right e q = later_on _ H _ refl (traced w Q So arises H t right.0 e q)
-traced w Q So arises (TakeFrame now None ∷ H) t right e q = later_on _ H _ refl (traced w Q So arises H t right.0 e q)
 traced w Q So arises (TakeFrame now (Some f) ∷ H) t right e q =
     trace_sends w Q So H now f t (is_move w H f) arises right.0 (frame_case w H now f right.1) refl e q (λ u k. traced w Q So arises H u right.0 k)
-traced w Q So arises (Send now draft answer ∷ H) t right e q = later_on _ H _ refl (traced w Q So arises H t right.0 e q)
-traced w Q So arises (Ask now group to answer ∷ H) t right e q = later_on _ H _ refl (traced w Q So arises H t right.0 e q)
-traced w Q So arises (TakeEnded answer ∷ H) t right e q = later_on _ H _ refl (traced w Q So arises H t right.0 e q)
-traced w Q So arises (TakeAskEnded answer ∷ H) t right e q = later_on _ H _ refl (traced w Q So arises H t right.0 e q)
-traced w Q So arises (TakeReceived answer ∷ H) t right e q = later_on _ H _ refl (traced w Q So arises H t right.0 e q)
-traced w Q So arises (TakeRequest answer ∷ H) t right e q = later_on _ H _ refl (traced w Q So arises H t right.0 e q)
-traced w Q So arises (TakeNews answer ∷ H) t right e q = later_on _ H _ refl (traced w Q So arises H t right.0 e q)
-traced w Q So arises (Acknowledge now r answer result ∷ H) t right e q = later_on _ H _ refl (traced w Q So arises H t right.0 e q)
-traced w Q So arises (Broadcast now group bytes answer ∷ H) t right e q = later_on _ H _ refl (traced w Q So arises H t right.0 e q)
-traced w Q So arises (TakeBroadcastEnded answer ∷ H) t right e q = later_on _ H _ refl (traced w Q So arises H t right.0 e q)
 traced w Q So arises (Transfer now group to bytes (Ok k) ∷ H) t right e q =
     let z : begun k (broadcast_from w group bytes) to ≡ t = cc in absurd (arises.begins_not k (broadcast_from w group bytes) to (subst Q (sym z) q))
-traced w Q So arises (Transfer now group to bytes (Err r) ∷ H) t right e q = later_on _ H _ refl (traced w Q So arises H t right.0 e q)
-traced w Q So arises (TakeTransferEnded None ∷ H) t right e q = later_on _ H _ refl (traced w Q So arises H t right.0 e q)
 traced w Q So arises (TakeTransferEnded (Some x) ∷ H) t right e q = absurd (cc)
-traced w Q So arises (ReleaseTransfer answer ∷ H) t right e q = later_on _ H _ refl (traced w Q So arises H t right.0 e q)
-traced w Q So arises (ReleaseBroadcast answer ∷ H) t right e q = later_on _ H _ refl (traced w Q So arises H t right.0 e q)
+traced w Q So arises (call ∷ H) t right e q = later_on _ H _ refl (traced w Q So arises H t right.0 e q)

@@ -146,11 +146,8 @@ pub record Moved (s : SenderRecord) (xs : List Message) : Type 0 where
   pub taken : (i : ℕ) → 1 ≤ i → i ≤ s.highest → IsAmong xs (packet_move s.destination s.message i)
 
 waiting_some : (n h : ℕ) (xs : List Message) (u : SendState) → StateFits n h xs u → is_waiting u ≡ true → xs ≢ []
-waiting_some n h xs Idle f e = absurd (cc)
 waiting_some n h xs (Waiting limit) f e = f
-waiting_some n h xs (Sending next last) f e = absurd (cc)
-waiting_some n h xs Done f e = absurd (cc)
-waiting_some n h xs (Failed reason) f e = absurd (cc)
+waiting_some n h xs other f e = absurd (cc)
 
 pub running_some : (n h : ℕ) (xs : List Message) (u : SendState) → StateFits n h xs u → is_running u ≡ true → xs ≢ []
 running_some n h xs Idle f e = absurd (cc)

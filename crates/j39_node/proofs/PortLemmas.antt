@@ -5,14 +5,14 @@ use Rattle.j39_frame.specs.Frame.{FrameRecord}
 use Rattle.j39_frame.specs.Network.{transport_control_group, transport_data_group}
 use Rattle.j39_transport.specs.Sending as sending
 use Rattle.j39_transport.specs.Sending.{SendEvent, SenderRecord, Failed, Heard, Tick, aborted, is_running, new_sender, send_step}
-use Rattle.j39_transport.specs.Signals.{Signal, BroadcastAnnounce, RequestToSend, ClearToSend, Acknowledgment, Abort, Packet, group_with, said_between}
+use Rattle.j39_transport.specs.Signals.{Signal, Packet, group_with, said_between}
 use Rattle.j39_transport.proofs.SenderLemmas.{ticked, hears_signal}
 use Rattle.j39_node.specs.declared.kinds.Refused.{Refused}
 use Rattle.j39_node.specs.declared.kinds.Refused.TheVariants.{NoAddress, BadValue, Full}
 use Rattle.j39_node.specs.History.{Who, Message, Call, address_after, can_broadcast, holds, is_lost, is_some, told_claims}
 use Rattle.j39_node.specs.Reception.{holder, is_move}
 use Rattle.j39_node.proofs.ReceptionLemmas.{table_is}
-use Rattle.j39_node.specs.History.Call.{Ask, TakeAskEnded, Hear, Tick as Ticks, TakeFrame, Send, TakeEnded, TakeReceived, TakeRequest, TakeNews, Acknowledge, Broadcast, TakeBroadcastEnded, ReleaseTransfer, Transfer, TakeTransferEnded, ReleaseBroadcast}
+use Rattle.j39_node.specs.History.Call.{Hear, TakeFrame, Transfer, TakeTransferEnded}
 use Rattle.j39_node.specs.Is.{AreAnswered, PortRecord, port_after}
 use Rattle.j39_node.specs.Transfers.{Resting, is_resting, resting, Running, answer_to_transfer, can_transfer, clock_at, gives_up, hears, hears_if, is_engaged, is_replaced, is_spent, listens, open_transfer, says, sends, sends_if, signal_by, transfer_by, transfers}
 use Rattle.j39_address.specs.Claims.{Knows, holder_in}
@@ -128,25 +128,10 @@ ported w [] e = tt
 ported w (Hear f ∷ H) e =
     ported_hears w (is_lost (address_after w (Hear f ∷ H))) (λ a. is_replaced (holder w H a) (holder w (Hear f ∷ H) a)) f (clock_at H f.stamp) (open_transfer w H)
     (ported w H e.0)
-ported w (Ticks now ∷ H) e = ported w H e.0
-ported w (TakeFrame now None ∷ H) e = ported w H e.0
 ported w (TakeFrame now (Some f) ∷ H) e = ported_sends w (is_move w H f) (clock_at H now) (open_transfer w H) (ported w H e.0)
-ported w (Send now draft answer ∷ H) e = ported w H e.0
-ported w (Ask now group to answer ∷ H) e = ported w H e.0
-ported w (TakeEnded answer ∷ H) e = ported w H e.0
-ported w (TakeAskEnded answer ∷ H) e = ported w H e.0
-ported w (TakeReceived answer ∷ H) e = ported w H e.0
-ported w (TakeRequest answer ∷ H) e = ported w H e.0
-ported w (TakeNews answer ∷ H) e = ported w H e.0
-ported w (Acknowledge now r answer result ∷ H) e = ported w H e.0
-ported w (Broadcast now group bytes answer ∷ H) e = ported w H e.0
-ported w (TakeBroadcastEnded answer ∷ H) e = ported w H e.0
 ported w (Transfer now group to bytes (Ok k) ∷ H) e = ported_opens w H now group to k bytes (transfer_case w H now group to bytes (Ok k) e.1)
-ported w (Transfer now group to bytes (Err r) ∷ H) e = ported w H e.0
-ported w (TakeTransferEnded None ∷ H) e = ported w H e.0
 ported w (TakeTransferEnded (Some x) ∷ H) e = tt
-ported w (ReleaseTransfer answer ∷ H) e = ported w H e.0
-ported w (ReleaseBroadcast answer ∷ H) e = ported w H e.0
+ported w (call ∷ H) e = ported w H e.0
 
 -- ---- what its frames are
 
@@ -156,12 +141,8 @@ pub record SaidCase (w : Who) (m : Message) : Type 0 where
   pub directed : is_some m.destination 255 ≡ false
 
 either_group : (a : Signal) → (group_with a ≡ transport_control_group) ⊎ (group_with a ≡ transport_data_group)
-either_group (BroadcastAnnounce size packets pgn) = inl refl
-either_group (RequestToSend size packets most pgn) = inl refl
-either_group (ClearToSend count next pgn) = inl refl
-either_group (Acknowledgment size packets pgn) = inl refl
-either_group (Abort reason pgn) = inl refl
 either_group (Packet number part) = inr refl
+either_group other = inl refl
 
 pub said_case : (w : Who) (o : Option Running) (now : ℕ) (m : Message) → Ported w o → transfer_by o now ≡ Some m → SaidCase w m
 said_case w None now m h e = absurd (cc)

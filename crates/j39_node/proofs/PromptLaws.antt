@@ -9,7 +9,7 @@ use Rattle.j39_node.specs.declared.kinds.Ending.{Ending}
 use Rattle.j39_node.specs.declared.kinds.Ending.TheVariants.{Done, Withdrawn}
 use Rattle.j39_node.specs.History.{Who, Message, Call, Address, address_after, broadcast_from, broadcasts, claimed, frame_of, is_claim, is_held, is_lost, is_open, is_packet, is_smaller, message_of, moment, older, open_broadcast, packets, pause, step}
 use Rattle.j39_node.specs.History.Address.{NotClaimed, Claimed, Lost}
-use Rattle.j39_node.specs.History.Call.{Broadcast, Hear, TakeFrame, Transfer, TakeTransferEnded}
+use Rattle.j39_node.specs.History.Call.{Broadcast, Hear, TakeBroadcastEnded, TakeFrame}
 use Rattle.j39_node.specs.Is.{AreAnswered, Is, IsAnswered, broadcast_end, ending_of, long_by, next_broadcast_ended, next_frame, next_packet, packet_by}
 use Rattle.j39_node.specs.Prompt.{IsPrompt, NoneTold, tells_broadcast, waited_in}
 use Rattle.j39_node.specs.Since.{passed_in}
@@ -18,10 +18,8 @@ use Rattle.j39_node.specs.Transfers.{next_transfer}
 use Rattle.j39_node.proofs.LaneLaws.{none_long}
 use Rattle.j39_node.proofs.LaneLemmas.{BroadcastCase, broadcast_case}
 use Rattle.j39_node.proofs.LaneLemmas.BroadcastCase.{homeless, unfit, busy, opens}
-use Rattle.j39_node.proofs.PromptView.{Quiet, View, held_older, stands_still, view}
-use Rattle.j39_node.proofs.PromptView.View.{at_hear, at_none, at_take, at_broadcast, at_broadcast_told, at_transfer, at_transfer_told, at_rest}
 use Rattle.j39_node.proofs.QueueLemmas.{length_one_more}
-use Rattle.j39_node.proofs.SoundLemmas.{lost_claimed, lost_older, packets_is, pause_is}
+use Rattle.j39_node.proofs.SoundLemmas.{held_older, lost_claimed, lost_older, packets_is, pause_is}
 
 -- ---- an address that was held is held or lost
 
@@ -118,22 +116,6 @@ module _ (w : Who) (B : List Call) (g k : ℕ) (m : MessageRecord) where
     pub broadcast : open_broadcast w (later ++ B) ≡ Some (k, m)
     pub course : Course later
 
-  -- a call that lets time pass alone
-  rests : (call : Call) (later : List Call) → Quiet call → Stands later → Stands (call ∷ later)
-  rests call later q h = record { broadcast = q.broadcast w (later ++ B) ∙ h.broadcast; course = go h.course }
-    where
-      same : length (packets (call ∷ later ++ B)) ≡ length (packets (later ++ B))
-      same = ap length (q.packets_are (later ++ B))
-
-      go : Course later → Course (call ∷ later)
-      go (over l) = over (omega (arith, l, same))
-      go (gone e) = gone (q.lost w (later ++ B) e)
-      go (runs e t) = runs (q.held w (later ++ B) e)
-          (subst (λ (n : ℕ). Timely g n (passed_in (call ∷ later) B) (pause (call ∷ later ++ B)) (waited_in (call ∷ later) B)) (sym same)
-          (subst (λ (n : ℕ). Timely g (length (packets (later ++ B))) (passed_in (call ∷ later) B) n (waited_in (call ∷ later) B)) (sym (q.pause_is (later ++ B)))
-          (subst (λ (n : ℕ). Timely g (length (packets (later ++ B))) (passed_in (call ∷ later) B) (pause (later ++ B) - step (later ++ B) (moment (call ∷ later ++ B))) n) (sym (q.waits later B))
-          (passes g _ _ _ _ (step (later ++ B) (moment (call ∷ later ++ B))) t))))
-
   -- a frame is heard
   hears_one : (f : FrameRecord) (later : List Call) → Stands later → Stands (Hear f ∷ later)
   hears_one f later h = record { broadcast = h.broadcast; course = go h.course }
@@ -220,36 +202,29 @@ module _ (w : Who) (B : List Call) (g k : ℕ) (m : MessageRecord) where
       let z : true ≡ false = sym (ap (λ (x : Option (ℕ × MessageRecord)). is_open x || nat_eq (length (broadcasts w (later ++ B))) 18446744073709551615) o) ∙ f in
       absurd (cc)
 
-  one_more : (call : Call) (later : List Call) → View call → IsAnswered w (later ++ B) call → tells_broadcast call ≡ false
+  one_more : (call : Call) (later : List Call) → IsAnswered w (later ++ B) call → tells_broadcast call ≡ false
       → waited_in later B + step (later ++ B) (moment (call ∷ later ++ B)) ≤ g → Stands later → Stands (call ∷ later)
-  one_more call later (at_hear f) a n p h = hears_one f later h
-  one_more call later (at_take now f) a n p h = takes_one now f later p h
-  one_more call later (at_none now) a n p h = takes_no_frame now later a h
-  one_more call later (at_broadcast now group j bytes) a n p h =
+  one_more (Hear f) later a n p h = hears_one f later h
+  one_more (TakeFrame now (Some f)) later a n p h = takes_one now f later p h
+  one_more (TakeFrame now None) later a n p h = takes_no_frame now later a h
+  one_more (Broadcast now group bytes (Ok j)) later a n p h =
       absurd (none_begins later now group j bytes h.broadcast (broadcast_case w (later ++ B) now group bytes (Ok j) a))
-  one_more call later (at_broadcast_told x) a n p h = absurd (let z : true ≡ false = n in cc)
-  one_more call later (at_transfer now group to j bytes) a n p h = record { broadcast = h.broadcast; course = go h.course }
+  one_more (TakeBroadcastEnded (Some x)) later a n p h = absurd (let z : true ≡ false = n in cc)
+  one_more call later a n p h = record { broadcast = h.broadcast; course = go h.course }
     where
-      go : Course later → Course (Transfer now group to bytes (Ok j) ∷ later)
-      go (over l) = over l
-      go (gone e) = gone (lost_older (step (later ++ B) now) (address_after w (later ++ B)) ∙ e)
-      go (runs e t) = runs (held_older (step (later ++ B) now) (address_after w (later ++ B)) e) (passes g _ _ _ _ (step (later ++ B) now) t)
-  one_more call later (at_transfer_told x) a n p h = record { broadcast = h.broadcast; course = go h.course }
-    where
-      s : ℕ
-      s = step (later ++ B) (moment (later ++ B))
+      left : pause (later ++ B) - step (later ++ B) (moment (call ∷ later ++ B)) ≡ pause (call ∷ later ++ B)
+      left = omega arith
 
-      go : Course later → Course (TakeTransferEnded (Some x) ∷ later)
+      go : Course later → Course (call ∷ later)
       go (over l) = over l
-      go (gone e) = gone e
-      go (runs e t) = runs e
-          (subst (λ (n : ℕ). Timely g (length (packets (later ++ B))) (passed_in (TakeTransferEnded (Some x) ∷ later) B) n (waited_in (TakeTransferEnded (Some x) ∷ later) B))
-          (sym (stands_still (pause (later ++ B)) (moment (later ++ B)))) (passes g _ _ _ _ (step (later ++ B) (moment (later ++ B))) t))
-  one_more c later (at_rest call q) a n p h = rests call later q h
+      go (gone e) = gone (let z = lost_older (step (later ++ B) (moment (call ∷ later ++ B))) (address_after w (later ++ B)) in cc)
+      go (runs e t) = runs (let z = held_older (step (later ++ B) (moment (call ∷ later ++ B))) (address_after w (later ++ B)) e in cc)
+          (subst (λ (n : ℕ). Timely g (length (packets (later ++ B))) (passed_in (call ∷ later) B) n (waited_in (call ∷ later) B)) left
+          (passes g _ _ _ _ (step (later ++ B) (moment (call ∷ later ++ B))) t))
 
   stands : (later : List Call) → AreAnswered w (later ++ B) → NoneTold tells_broadcast later → IsPrompt g later B → Stands [] → Stands later
   stands [] a n p h = h
-  stands (call ∷ later) a n p h = one_more call later (view call) a.1 n.0 p.1 (stands later a.0 n.1 p.0 h)
+  stands (call ∷ later) a n p h = one_more call later a.1 n.0 p.1 (stands later a.0 n.1 p.0 h)
 
   -- then its end would be told
   ends_by : (i : ℕ) (b lost : Bool) → nat_lt (packets_of m) i ≡ b → (packets_of m < i) ⊎ (lost ≡ true) → (e : Ending) × (ending_of b lost k ≡ Some (k, e))
@@ -286,42 +261,20 @@ module _ (w : Who) (B : List Call) (g k : ℕ) (m : MessageRecord) where
           most false z = inl (past _ _ z)
 
 -- the last call came in time
-waited_call : (g : ℕ) (call : Call) (later B : List Call) → View call → waited_in later B + step (later ++ B) (moment (call ∷ later ++ B)) ≤ g
-    → waited_in (call ∷ later) B ≤ g
-waited_call g call later B (at_hear f) p = p
-waited_call g call later B (at_take now f) p = p
-waited_call g call later B (at_none now) p = omega arith
-waited_call g call later B (at_broadcast now group j bytes) p = p
-waited_call g call later B (at_broadcast_told x) p = p
-waited_call g call later B (at_transfer now group to j bytes) p = p
-waited_call g call later B (at_transfer_told x) p = p
-waited_call g c later B (at_rest call q) p = let e = q.waits later B in omega (arith, e, p)
-
 pub waited_last : (g : ℕ) (later B : List Call) → IsPrompt g later B → waited_in later B ≤ g
 waited_last g [] B p = omega arith
-waited_last g (call ∷ later) B p = waited_call g call later B (view call) p.1
+waited_last g (TakeFrame now None ∷ later) B p = omega arith
+waited_last g (call ∷ later) B p = p.1
 
 -- never is more left than the gap
-less_left : (p s : ℕ) → p ≤ gap → p - s ≤ gap
-less_left p s l = omega (arith, l)
-
-pause_call : (call : Call) (H : List Call) → View call → pause H ≤ gap → pause (call ∷ H) ≤ gap
-pause_call call H (at_hear f) l = less_left (pause H) (step H f.stamp) l
-pause_call call H (at_take now f) l = go (is_packet f)
-  where
-    go : (b : Bool) → (if b then gap else pause H - step H now) ≤ gap
-    go true = omega arith
-    go false = less_left (pause H) (step H now) l
-pause_call call H (at_none now) l = less_left (pause H) (step H now) l
-pause_call call H (at_broadcast now group j bytes) l = less_left (pause H) (step H now) l
-pause_call call H (at_broadcast_told x) l = l
-pause_call call H (at_transfer now group to j bytes) l = less_left (pause H) (step H now) l
-pause_call call H (at_transfer_told x) l = l
-pause_call c H (at_rest call q) l = let e = q.pause_is H in let a = less_left (pause H) (step H (moment (call ∷ H))) l in omega (arith, e, a)
-
 pause_most : (H : List Call) → pause H ≤ gap
 pause_most [] = omega arith
-pause_most (call ∷ H) = pause_call call H (view call) (pause_most H)
+pause_most (TakeFrame now (Some f) ∷ H) = go (is_packet f) (pause_most H)
+  where
+    go : (b : Bool) → pause H ≤ gap → (if b then gap else pause H - step H now) ≤ gap
+    go true l = omega arith
+    go false l = omega (arith, l)
+pause_most (call ∷ H) = let l = pause_most H in omega (arith, l)
 
 pub answered_from : (w : Who) (later B : List Call) → AreAnswered w (later ++ B) → AreAnswered w B
 answered_from w [] B a = a

@@ -18,9 +18,9 @@ use Rattle.j39_transport.specs.ReceiverStands.{AreReceived, IsReceived, Receiver
 use Rattle.j39_transport.specs.Signals.{Signal, BroadcastAnnounce, RequestToSend, ClearToSend, Acknowledgment, Abort, Packet, bytes_with, said_between, said_by, written}
 use Rattle.j39_transport.proofs.Handed.{has_heard, stands_still, were_handed}
 use Rattle.j39_node.specs.declared.controller.Controller.{Controller}
-use Rattle.j39_node.specs.History.{Who, Message, Call, Address, acknowledged, address_after, due, holds, is_acknowledgment, is_claim, is_held, is_lost, is_packet, is_session, is_smaller, is_some, is_transfer, message_of, older, open_broadcast, packets, pause, step}
+use Rattle.j39_node.specs.History.{Who, Message, Call, Address, acknowledged, address_after, due, holds, is_acknowledgment, is_claim, is_held, is_lost, is_packet, is_session, is_smaller, is_some, is_transfer, message_of, moment, older, open_broadcast, packets, pause, step}
 use Rattle.j39_node.specs.History.Address.{NotClaimed, Claimed, Lost}
-use Rattle.j39_node.specs.History.Call.{Ask, TakeAskEnded, Hear, Tick, TakeFrame, Send, TakeEnded, TakeReceived, TakeRequest, TakeNews, Acknowledge, Broadcast, TakeBroadcastEnded, ReleaseTransfer, Transfer, TakeTransferEnded, ReleaseBroadcast}
+use Rattle.j39_node.specs.History.Call.{Ask, Hear, Tick, TakeFrame, Send, Acknowledge, Broadcast, ReleaseTransfer, Transfer}
 use Rattle.j39_node.specs.Is.{Is}
 use Rattle.j39_node.specs.Asking.{made_of}
 use Rattle.j39_node.specs.Is.{made_by}
@@ -112,24 +112,10 @@ in_order w (Tick now ∷ H) =
     in_order w H ∙ ap (λ x. got_transfers w H ++ listed x)
     (sym (keeps_same now (recv_step (receiver_at w.address (reception w H)) Ticks (time_heard (Tick now ∷ H)) true).delivers (reception w H).waits
     (tick_quiet (receiver_at w.address (reception w H)) (time_heard (Tick now ∷ H)))))
-in_order w (TakeFrame now None ∷ H) = in_order w H
 in_order w (TakeFrame now (Some f) ∷ H) =
     in_order w H ∙ ap (λ x. got_transfers w H ++ listed x) (sym (taken_waits (is_claim f) (is_acknowledgment f) _ (reception w H)))
-in_order w (Send now d answer ∷ H) = in_order w H
-in_order w (Ask now group to answer ∷ H) = in_order w H
-in_order w (TakeEnded answer ∷ H) = in_order w H
-in_order w (TakeAskEnded answer ∷ H) = in_order w H
-in_order w (TakeReceived answer ∷ H) = in_order w H
-in_order w (TakeRequest answer ∷ H) = in_order w H
-in_order w (TakeNews answer ∷ H) = in_order w H
-in_order w (Acknowledge now r answer result ∷ H) = in_order w H
-in_order w (Broadcast now group bytes answer ∷ H) = in_order w H
-in_order w (TakeBroadcastEnded answer ∷ H) = in_order w H
-in_order w (ReleaseTransfer false ∷ H) = in_order w H
 in_order w (ReleaseTransfer true ∷ H) = in_order w H ∙ sym (append-nil (got_transfers w H ++ listed (reception w H).waits))
-in_order w (ReleaseBroadcast answer ∷ H) = in_order w H
-in_order w (TakeTransferEnded answer ∷ H) = in_order w H
-in_order w (Transfer now group to bytes answer ∷ H) = in_order w H
+in_order w (call ∷ H) = in_order w H
 
 pub released : (w : Who) (H : List Call) (c : Controller) (answer : Bool) → Is w (ReleaseTransfer answer ∷ H) c
     → (answer ≡ true ↔ ((x : ℕ × MessageRecord) × ((reception w H).waits ≡ Some x)))
@@ -338,23 +324,10 @@ begun : (w : Who) (H : List Call) → AreBegun w H (reception w H).session
 begun w [] = tt
 begun w (Hear f ∷ H) = begun_heard w H (is_smaller w (claim_of f)) (holds w H f.stamp) _ f (time_heard (Hear f ∷ H)) (reception w H) refl (begun w H)
 begun w (Tick now ∷ H) = begun_ticked w H now (time_heard (Tick now ∷ H)) (reception w H).session (begun w H)
-begun w (TakeFrame now None ∷ H) = stays w H (TakeFrame now None) (reception w H).session (λ G. refl) (λ r e. refl) (begun w H)
 begun w (TakeFrame now (Some f) ∷ H) = begun_taken w H now f (is_claim f) (is_acknowledgment f) _ (reception w H) refl refl (begun w H)
-begun w (Send now d answer ∷ H) = stays w H (Send now d answer) (reception w H).session (λ G. refl) (λ r e. refl) (begun w H)
-begun w (Ask now group to answer ∷ H) = stays w H (Ask now group to answer) (reception w H).session (λ G. refl) (λ r e. refl) (begun w H)
-begun w (TakeEnded answer ∷ H) = stays w H (TakeEnded answer) (reception w H).session (λ G. refl) (λ r e. refl) (begun w H)
-begun w (TakeAskEnded answer ∷ H) = stays w H (TakeAskEnded answer) (reception w H).session (λ G. refl) (λ r e. refl) (begun w H)
-begun w (TakeReceived answer ∷ H) = stays w H (TakeReceived answer) (reception w H).session (λ G. refl) (λ r e. refl) (begun w H)
-begun w (TakeRequest answer ∷ H) = stays w H (TakeRequest answer) (reception w H).session (λ G. refl) (λ r e. refl) (begun w H)
-begun w (TakeNews answer ∷ H) = stays w H (TakeNews answer) (reception w H).session (λ G. refl) (λ r e. refl) (begun w H)
-begun w (Acknowledge now r answer result ∷ H) = stays w H (Acknowledge now r answer result) (reception w H).session (λ G. refl) (λ r e. refl) (begun w H)
-begun w (Broadcast now group bytes answer ∷ H) = stays w H (Broadcast now group bytes answer) (reception w H).session (λ G. refl) (λ r e. refl) (begun w H)
-begun w (TakeBroadcastEnded answer ∷ H) = stays w H (TakeBroadcastEnded answer) (reception w H).session (λ G. refl) (λ r e. refl) (begun w H)
 begun w (ReleaseTransfer answer ∷ H) =
     stays w H (ReleaseTransfer answer) (released_by answer (reception w H)).session (λ G. refl) (λ r e. refl) (subst (AreBegun w H) (sym (same_released answer (reception w H))) (begun w H))
-begun w (ReleaseBroadcast answer ∷ H) = stays w H (ReleaseBroadcast answer) (reception w H).session (λ G. refl) (λ r e. refl) (begun w H)
-begun w (TakeTransferEnded answer ∷ H) = stays w H (TakeTransferEnded answer) (reception w H).session (λ G. refl) (λ r e. refl) (begun w H)
-begun w (Transfer now group to bytes answer ∷ H) = stays w H (Transfer now group to bytes answer) (reception w H).session (λ G. refl) (λ r e. refl) (begun w H)
+begun w (call ∷ H) = stays w H call (reception w H).session (λ G. refl) (λ r e. refl) (begun w H)
 
 -- ---- what is made whole
 
@@ -498,23 +471,10 @@ silent w (Hear f ∷ H) e =
     (λ i. silent_left (leaves (holder w H) (holder w (Hear f ∷ H)) (reception w H).session) (reception w H)
     (silent w H (lost_before (is_smaller w (claim_of f)) (step H f.stamp) (address_after w H) e i)))
 silent w (Tick now ∷ H) e = silent_tick w.address now (time_heard (Tick now ∷ H)) (reception w H) (silent w H (sym (lost_older (step H now) (address_after w H)) ∙ e))
-silent w (TakeFrame now None ∷ H) e = silent w H (sym (lost_older (step H now) (address_after w H)) ∙ e)
 silent w (TakeFrame now (Some f) ∷ H) e =
     silent_taken (is_claim f) (is_acknowledgment f) _ (reception w H) (silent w H (claim_lost (is_claim f) (step H now) (address_after w H) e))
-silent w (Send now d answer ∷ H) e = silent w H (sym (lost_older (step H now) (address_after w H)) ∙ e)
-silent w (Ask now group to answer ∷ H) e = silent w H (sym (lost_older (step H now) (address_after w H)) ∙ e)
-silent w (TakeEnded answer ∷ H) e = silent w H e
-silent w (TakeAskEnded answer ∷ H) e = silent w H e
-silent w (TakeReceived answer ∷ H) e = silent w H e
-silent w (TakeRequest answer ∷ H) e = silent w H e
-silent w (TakeNews answer ∷ H) e = silent w H e
-silent w (Acknowledge now r answer result ∷ H) e = silent w H (sym (lost_older (step H now) (address_after w H)) ∙ e)
-silent w (Broadcast now group bytes answer ∷ H) e = silent w H (sym (lost_older (step H now) (address_after w H)) ∙ e)
-silent w (TakeBroadcastEnded answer ∷ H) e = silent w H e
 silent w (ReleaseTransfer answer ∷ H) e = silent_released answer (reception w H) (silent w H e)
-silent w (ReleaseBroadcast answer ∷ H) e = silent w H e
-silent w (TakeTransferEnded answer ∷ H) e = silent w H e
-silent w (Transfer now group to bytes answer ∷ H) e = silent w H (sym (lost_older (step H now) (address_after w H)) ∙ e)
+silent w (call ∷ H) e = silent w H (let z = lost_older (step H (moment (call ∷ H))) (address_after w H) in cc)
 
 pub lost_is_silent : (w : Who) (H : List Call) → IsTrue (is_lost (address_after w H)) → ((reception w H).session ≡ None) × ((reception w H).replies ≡ [])
 lost_is_silent w H e = let s = silent w H e in (s.session, s.replies)

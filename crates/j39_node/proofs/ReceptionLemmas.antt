@@ -20,7 +20,7 @@ use Rattle.j39_transport.specs.Receiving.{ReceiverRecord, RecvResult, Heard, Tic
 use Rattle.j39_transport.specs.Session.{SessionRecord}
 use Rattle.j39_transport.specs.Signals.{Signal, BroadcastAnnounce, RequestToSend, ClearToSend, Acknowledgment, Abort, Packet, said_between}
 use Rattle.j39_node.specs.History.{Who, Message, Call, holds, is_acknowledgment, is_claim, is_smaller, told_claims}
-use Rattle.j39_node.specs.History.Call.{Ask, TakeAskEnded, Hear, Tick, TakeFrame, Send, TakeEnded, TakeReceived, TakeRequest, TakeNews, Acknowledge, Broadcast, TakeBroadcastEnded, ReleaseTransfer, Transfer, TakeTransferEnded, ReleaseBroadcast}
+use Rattle.j39_node.specs.History.Call.{Hear, Tick, TakeFrame, ReleaseTransfer}
 use Rattle.j39_node.specs.Reception.{Reception, IsApart, time_heard, goes_to, has_place, heard_by, held_then, held_through, holder, is_same, keeps, leaves, left, receiver_at, reception, released_by, replied, step_at, taken_by, takes, ticked, without}
 
 -- ---- what a step of the receiver leaves
@@ -83,17 +83,12 @@ module _ (P : ℕ → Type 0) where
   pub tame_signal : (source own : ℕ) (s : Option Signal) (now : ℕ) (found : Bool) (o : Option ReceptionRecord) → (is_taken source o ≡ false → P source) → Fits P o
       → Tame P (takes_signal (Directed source own) s now found o)
   unfolding takes_signal takes_data takes_abort
-  tame_signal source own None now found o l h = tame_quiet o h
-  tame_signal source own (Some (BroadcastAnnounce size packets pgn)) now found o l h = tame_quiet o h
   tame_signal source own (Some (RequestToSend size packets most pgn)) now found o l h = tame_request _ most now found o l h
-  tame_signal source own (Some (ClearToSend count next pgn)) now found o l h = tame_quiet o h
-  tame_signal source own (Some (Acknowledgment size packets pgn)) now found o l h = tame_quiet o h
-  tame_signal source own (Some (Abort reason pgn)) now found None l h = tame_quiet None tt
   tame_signal source own (Some (Abort reason pgn)) now found (Some r) l h =
       cond_both (is_from source r && pgn == r.message.group) _ _ (Tame P) (λ t. tame_quiet None tt) (λ t. tame_quiet (Some r) h)
-  tame_signal source own (Some (Packet k part)) now found None l h = tame_quiet None tt
   tame_signal source own (Some (Packet k part)) now found (Some r) l h =
       cond_both (is_from source r) _ _ (Tame P) (λ t. tame_packet k part now r h) (λ t. tame_quiet (Some r) h)
+  tame_signal source own other now found o l h = tame_quiet o h
 
   pub tame_tick : (now : ℕ) (o : Option ReceptionRecord) → Fits P o → Tame P (takes_tick now o)
   unfolding takes_tick
@@ -148,12 +143,8 @@ refused_step r f now e =
   where
     go : (s : Option Signal) → Refuses (result_of r.own (frames.source_of f.id) (takes_signal (Directed (frames.source_of f.id) r.own) s now false None))
     go None = record { session = refl; delivers = refl }
-    go (Some (BroadcastAnnounce size packets pgn)) = record { session = refl; delivers = refl }
-    go (Some (RequestToSend size packets most pgn)) = record { session = refl; delivers = refl }
-    go (Some (ClearToSend count next pgn)) = record { session = refl; delivers = refl }
-    go (Some (Acknowledgment size packets pgn)) = record { session = refl; delivers = refl }
-    go (Some (Abort reason pgn)) = record { session = refl; delivers = refl }
     go (Some (Packet k part)) = record { session = refl; delivers = refl }
+    go other = record { session = refl; delivers = refl }
 
 -- ---- the replies
 
@@ -291,22 +282,9 @@ tidy w (Hear f ∷ H) =
     tidy_heard w.address (is_smaller w (claim_of f)) (holds w H f.stamp) f (time_heard (Hear f ∷ H)) _
     (tidy_left w.address (leaves (holder w H) (holder w (Hear f ∷ H)) (reception w H).session) (reception w H) (tidy w H))
 tidy w (Tick now ∷ H) = tidy_ticked w.address now (time_heard (Tick now ∷ H)) (reception w H) (tidy w H)
-tidy w (TakeFrame now None ∷ H) = tidy w H
 tidy w (TakeFrame now (Some f) ∷ H) = tidy_taken w.address (is_claim f) (is_acknowledgment f) _ (reception w H) (tidy w H)
-tidy w (Send now d answer ∷ H) = tidy w H
-tidy w (Ask now group to answer ∷ H) = tidy w H
-tidy w (TakeEnded answer ∷ H) = tidy w H
-tidy w (TakeAskEnded answer ∷ H) = tidy w H
-tidy w (TakeReceived answer ∷ H) = tidy w H
-tidy w (TakeRequest answer ∷ H) = tidy w H
-tidy w (TakeNews answer ∷ H) = tidy w H
-tidy w (Acknowledge now r answer result ∷ H) = tidy w H
-tidy w (Broadcast now group bytes answer ∷ H) = tidy w H
-tidy w (TakeBroadcastEnded answer ∷ H) = tidy w H
 tidy w (ReleaseTransfer answer ∷ H) = tidy_released w.address answer (reception w H) (tidy w H)
-tidy w (ReleaseBroadcast answer ∷ H) = tidy w H
-tidy w (TakeTransferEnded answer ∷ H) = tidy w H
-tidy w (Transfer now group to bytes answer ∷ H) = tidy w H
+tidy w (call ∷ H) = tidy w H
 
 -- ---- who holds an address
 
@@ -377,23 +355,8 @@ known_more F (f ∷ E) a o h =
 pub holders : (w : Who) (H : List Call) (a : ℕ) → HolderOf (told_claims w H) a (holder w H a)
 holders w [] a = known_more [] w.known a None (record { is = λ n h. absurd h; none = λ e. refl })
 holders w (Hear f ∷ H) a = one_holder_more (told_claims w H) f a (holder w H a) true (holders w H a)
-holders w (TakeFrame now None ∷ H) a = holders w H a
 holders w (TakeFrame now (Some f) ∷ H) a = one_holder_more (told_claims w H) f a (holder w H a) (is_claim f) (holders w H a)
-holders w (Tick now ∷ H) a = holders w H a
-holders w (Send now d answer ∷ H) a = holders w H a
-holders w (Ask now group to answer ∷ H) a = holders w H a
-holders w (TakeEnded answer ∷ H) a = holders w H a
-holders w (TakeAskEnded answer ∷ H) a = holders w H a
-holders w (TakeReceived answer ∷ H) a = holders w H a
-holders w (TakeRequest answer ∷ H) a = holders w H a
-holders w (TakeNews answer ∷ H) a = holders w H a
-holders w (Acknowledge now r answer result ∷ H) a = holders w H a
-holders w (Broadcast now group bytes answer ∷ H) a = holders w H a
-holders w (TakeBroadcastEnded answer ∷ H) a = holders w H a
-holders w (ReleaseTransfer answer ∷ H) a = holders w H a
-holders w (ReleaseBroadcast answer ∷ H) a = holders w H a
-holders w (TakeTransferEnded answer ∷ H) a = holders w H a
-holders w (Transfer now group to bytes answer ∷ H) a = holders w H a
+holders w (call ∷ H) a = holders w H a
 
 -- what the table has is the holder
 pub table_is : (w : Who) (table : Claims) (H : List Call) (a : ℕ) → Knows table (told_claims w H) → holder_in table a ≡ holder w H a

@@ -3,11 +3,9 @@ use Rattle.std.proofs.Common.{◌≡◌, ℕ, ◌+◌, ◌-◌, ◌<◌, ◌≤�
 use Rattle.std.proofs.lemmas.Bool.{and_from, and_parts}
 use Rattle.j39_node.specs.declared.kinds.TransferEnding.{TransferEnding}
 use Rattle.j39_node.specs.History.{Who, Call, moment, step}
-use Rattle.j39_node.specs.History.Call.{Broadcast, Hear, TakeBroadcastEnded, TakeFrame, Transfer, TakeTransferEnded}
+use Rattle.j39_node.specs.History.Call.{TakeTransferEnded}
 use Rattle.j39_node.specs.Since.{ToldSince, passed_in}
 use Rattle.j39_node.specs.Transfers.{Resting, NoneRests, PairRests, AllRest, Running, holds_back, is_resting, joined, open_transfer, rest, resting, rests_after, with_pair}
-use Rattle.j39_node.proofs.PromptView.{View, view}
-use Rattle.j39_node.proofs.PromptView.View.{at_hear, at_none, at_take, at_broadcast, at_broadcast_told, at_transfer, at_transfer_told, at_rest}
 
 -- ---- it rests only after such an end
 
@@ -36,14 +34,8 @@ one_later H call e h l =
       left = (let p = r.left in omega (arith, p, e, l));
     }
 
-since_call : (call : Call) (H : List Call) → View call → (0 < rest H → Rested H) → 0 < rest (call ∷ H) → Rested (call ∷ H)
-since_call call H (at_hear f) h l = one_later H (Hear f) (omega arith) h l
-since_call call H (at_take now f) h l = one_later H (TakeFrame now (Some f)) (omega arith) h l
-since_call call H (at_none now) h l = one_later H (TakeFrame now None) (omega arith) h l
-since_call call H (at_broadcast now group j bytes) h l = one_later H (Broadcast now group bytes (Ok j)) (omega arith) h l
-since_call call H (at_broadcast_told x) h l = one_later H (TakeBroadcastEnded (Some x)) (omega arith) h l
-since_call call H (at_transfer now group to j bytes) h l = one_later H (Transfer now group to bytes (Ok j)) (omega arith) h l
-since_call call H (at_transfer_told x) h l = go (rests_after x.1) refl
+since_call : (call : Call) (H : List Call) → (0 < rest H → Rested H) → 0 < rest (call ∷ H) → Rested (call ∷ H)
+since_call (TakeTransferEnded (Some x)) H h l = go (rests_after x.1) refl
   where
     go : (b : Bool) → rests_after x.1 ≡ b → Rested (TakeTransferEnded (Some x) ∷ H)
     go true e = record {
@@ -55,11 +47,11 @@ since_call call H (at_transfer_told x) h l = go (rests_after x.1) refl
     }
     go false e =
         one_later H (TakeTransferEnded (Some x)) (let z = ap (λ (c : Bool). if c then 4000000 else rest H) e in omega (arith, z)) h l
-since_call c H (at_rest call q) h l = one_later H call (let e = q.rest_is H in omega (arith, e)) h l
+since_call call H h l = one_later H call (omega arith) h l
 
 rested : (H : List Call) → 0 < rest H → Rested H
 rested [] l = absurd (omega (arith, l))
-rested (call ∷ H) l = since_call call H (view call) (rested H) l
+rested (call ∷ H) l = since_call call H (rested H) l
 
 less : (m n : ℕ) → nat_lt m n ≡ true → m < n
 less m n z = grind arith
@@ -110,14 +102,8 @@ module _ (w : Who) (B : List Call) (group to : ℕ) where
     pub left : 4000000 ≤ rest (later ++ B) + passed_in later B
     pub pair : holds_back (resting w (later ++ B)) group to ≡ true
 
-  more : (call : Call) (later : List Call) → View call → passed_in later B < 4000000 → Holds later → Holds (call ∷ later)
-  more call later (at_hear f) l h = record { left = (let a = h.left in omega (arith, a)); pair = h.pair }
-  more call later (at_take now f) l h = record { left = (let a = h.left in omega (arith, a)); pair = h.pair }
-  more call later (at_none now) l h = record { left = (let a = h.left in omega (arith, a)); pair = h.pair }
-  more call later (at_broadcast now g j bytes) l h = record { left = (let a = h.left in omega (arith, a)); pair = h.pair }
-  more call later (at_broadcast_told x) l h = record { left = (let a = h.left in omega (arith, a)); pair = h.pair }
-  more call later (at_transfer now g t j bytes) l h = record { left = (let a = h.left in omega (arith, a)); pair = h.pair }
-  more call later (at_transfer_told x) l h = go (rests_after x.1) refl
+  more : (call : Call) (later : List Call) → passed_in later B < 4000000 → Holds later → Holds (call ∷ later)
+  more (TakeTransferEnded (Some x)) later l h = go (rests_after x.1) refl
     where
       go : (b : Bool) → rests_after x.1 ≡ b → Holds (TakeTransferEnded (Some x) ∷ later)
       go true e = record {
@@ -130,14 +116,11 @@ module _ (w : Who) (B : List Call) (group to : ℕ) where
         pair = ap (λ (c : Bool). holds_back (if c then joined (rest (later ++ B)) (resting w (later ++ B)) (open_transfer w (later ++ B)) else resting w (later ++ B)) group to) e
             ∙ h.pair;
       }
-  more c later (at_rest call q) l h = record {
-    left = (let a = h.left in let e = q.rest_is (later ++ B) in omega (arith, a, e));
-    pair = ap (λ (r : Resting). holds_back r group to) (q.resting_is w (later ++ B)) ∙ h.pair;
-  }
+  more call later l h = record { left = (let a = h.left in omega (arith, a)); pair = h.pair }
 
   holds : (later : List Call) → Holds [] → passed_in later B < 4000000 → Holds later
   holds [] h l = h
-  holds (call ∷ later) h l = more call later (view call) (omega (arith, l)) (holds later h (omega (arith, l)))
+  holds (call ∷ later) h l = more call later (omega (arith, l)) (holds later h (omega (arith, l)))
 
 pub rests_so : (w : Who) (later earlier : List Call) (now group to : ℕ) (x : ℕ × TransferEnding) (t : Running) → IsTrue (rests_after x.1)
     → open_transfer w earlier ≡ Some t → t.sender.destination ≡ to → t.sender.message.pgn ≡ group

@@ -6,7 +6,7 @@ use Rattle.j39_frame.specs.Identifier.{destination_of, page_of, pf_of, pgn_of, p
 use Rattle.j39_transport.specs.Cutting.{ToSend, transport_id}
 use Rattle.j39_transport.specs.Sending.{SenderRecord, sent_by}
 use Rattle.j39_transport.specs.SenderModel.{IsSender}
-use Rattle.j39_transport.specs.Signals.{Signal, BroadcastAnnounce, RequestToSend, ClearToSend, Acknowledgment, Abort, Packet, group_with, written}
+use Rattle.j39_transport.specs.Signals.{Signal, Packet, group_with, written}
 use Rattle.j39_node.specs.History.{Message, carried}
 use Rattle.j39_node.specs.Is.{stamped}
 use Rattle.j39_node.specs.Transfers.{says}
@@ -34,12 +34,8 @@ of_front raw front s d bytes f t h k e =
 
 written_is : (raw s d : ℕ) (a : Signal) (bytes : List ℕ) → s < 254 → d < 254 → raw ≡ transport_id (group_with a) s d
     → carried raw bytes ≡ carries (group_with a) s d bytes
-written_is raw s d (BroadcastAnnounce size packets pgn) bytes h k e = of_front raw 236 s d bytes (omega arith) refl h k e
-written_is raw s d (RequestToSend size packets most pgn) bytes h k e = of_front raw 236 s d bytes (omega arith) refl h k e
-written_is raw s d (ClearToSend count next pgn) bytes h k e = of_front raw 236 s d bytes (omega arith) refl h k e
-written_is raw s d (Acknowledgment size packets pgn) bytes h k e = of_front raw 236 s d bytes (omega arith) refl h k e
-written_is raw s d (Abort reason pgn) bytes h k e = of_front raw 236 s d bytes (omega arith) refl h k e
 written_is raw s d (Packet number part) bytes h k e = of_front raw 235 s d bytes (omega arith) refl h k e
+written_is raw s d other bytes h k e = of_front raw 236 s d bytes (omega arith) refl h k e
 
 -- the frame of what the sender says
 pub said_made : (r : Option FrameRecord) (now id : ℕ) (bytes : List ℕ) (s : SenderRecord) (o : Option Signal) → IsSender s

@@ -1,11 +1,11 @@
 -- A claimed address was claimed by a frame that was taken.
-use Rattle.std.proofs.Common.{◌≡◌, ◌≤◌, ℕ, ◌+◌, ◌-◌, List, [], ◌∷◌, ◌++◌, length, nat_eq, Some, None, Bool, true, false, if◌then◌else◌, nat_le, IsTrue, refl, sym, ap, ◌∙◌, subst, arith}
+use Rattle.std.proofs.Common.{◌≡◌, ◌≤◌, ℕ, ◌+◌, ◌-◌, List, [], ◌∷◌, ◌++◌, length, nat_eq, Some, Bool, true, false, if◌then◌else◌, nat_le, IsTrue, refl, sym, ap, ◌∙◌, subst, arith}
 use Rattle.j39_frame.specs.Frame.{FrameRecord}
 use Rattle.j39_frame.specs.Network.{address_claimed_group}
 use Rattle.j39_address.specs.Claim.{claim_of}
 use Rattle.j39_node.specs.declared.controller.Controller.{Controller}
 use Rattle.j39_node.specs.History.{Who, Call, Message, Address, address_after, claim_address, claim_from, claimed, content, holds, is_claim, is_held, is_lost, is_smaller, moment, older, open_broadcast, packets, pause, step}
-use Rattle.j39_node.specs.History.Call.{Ask, TakeAskEnded, Hear, Tick, TakeFrame, Send, TakeEnded, TakeReceived, TakeRequest, TakeNews, Acknowledge, Broadcast, TakeBroadcastEnded, ReleaseTransfer, Transfer, TakeTransferEnded, ReleaseBroadcast}
+use Rattle.j39_node.specs.History.Call.{Hear, TakeFrame}
 use Rattle.j39_node.specs.History.Address.{NotClaimed, Claimed, Lost}
 use Rattle.j39_node.specs.Is.{Is, AreAnswered}
 use Rattle.j39_node.specs.Since.{ClaimedSince, NoneDrivesAway, drives_away, passed_in}
@@ -51,10 +51,11 @@ passes w H call d h f e =
     let b = before (step H (moment (call ∷ H))) d (address_after w H) e in
     one_later w H call b.elapsed d (h b.elapsed b.was) f b.is
 
--- a call that tells no moment
-rests : (w : Who) (H : List Call) (call : Call) (d : ℕ) → ((n : ℕ) → address_after w H ≡ Claimed n → ClaimedSince w H n) → drives_away w call ≡ false
-    → moment (call ∷ H) ≡ moment H → address_after w H ≡ Claimed d → ClaimedSince w (call ∷ H) d
-rests w H call d h f m e = one_later w H call d d (h d e) f (omega (arith, m))
+-- where no time passes it is as old as before
+same_age : (m : ℕ) (a : Address) → older (m - m) a ≡ a
+same_age m NotClaimed = refl
+same_age m (Claimed n) = ap Claimed (omega arith)
+same_age m Lost = refl
 
 -- the first claim
 begins : (w : Who) (H : List Call) (now : ℕ) (f : FrameRecord) → AreAnswered w H → FrameCase w H now f → is_claim f ≡ true → address_after w H ≡ NotClaimed
@@ -97,27 +98,10 @@ claimed_since w [] d right e = absurd (cc)
 claimed_since w (Hear f ∷ H) d right e =
     let n = not_driven (is_smaller w (claim_of f)) (step H f.stamp) d (address_after w H) e in
     passes w H (Hear f) d (λ k i. claimed_since w H k right.0 i) n.0 n.1
-claimed_since w (Tick now ∷ H) d right e = passes w H (Tick now) d (λ k i. claimed_since w H k right.0 i) refl e
-claimed_since w (TakeFrame now None ∷ H) d right e = passes w H (TakeFrame now None) d (λ k i. claimed_since w H k right.0 i) refl e
 claimed_since w (TakeFrame now (Some f) ∷ H) d right e =
     taken w H now d f right.0 (frame_case w H now f right.1) (λ k i. claimed_since w H k right.0 i) (is_claim f) (address_after w H) refl refl e
-claimed_since w (Send now draft answer ∷ H) d right e = passes w H (Send now draft answer) d (λ k i. claimed_since w H k right.0 i) refl e
-claimed_since w (Ask now group to answer ∷ H) d right e = passes w H (Ask now group to answer) d (λ k i. claimed_since w H k right.0 i) refl e
-claimed_since w (TakeEnded answer ∷ H) d right e = rests w H (TakeEnded answer) d (λ k i. claimed_since w H k right.0 i) refl refl e
-claimed_since w (TakeAskEnded answer ∷ H) d right e = rests w H (TakeAskEnded answer) d (λ k i. claimed_since w H k right.0 i) refl refl e
-claimed_since w (TakeReceived answer ∷ H) d right e = rests w H (TakeReceived answer) d (λ k i. claimed_since w H k right.0 i) refl refl e
-claimed_since w (TakeRequest answer ∷ H) d right e = rests w H (TakeRequest answer) d (λ k i. claimed_since w H k right.0 i) refl refl e
-claimed_since w (TakeNews answer ∷ H) d right e = rests w H (TakeNews answer) d (λ k i. claimed_since w H k right.0 i) refl refl e
-claimed_since w (Acknowledge now r answer result ∷ H) d right e =
-    passes w H (Acknowledge now r answer result) d (λ k i. claimed_since w H k right.0 i) refl e
-claimed_since w (Broadcast now group bytes answer ∷ H) d right e =
-    passes w H (Broadcast now group bytes answer) d (λ k i. claimed_since w H k right.0 i) refl e
-claimed_since w (TakeBroadcastEnded answer ∷ H) d right e = rests w H (TakeBroadcastEnded answer) d (λ k i. claimed_since w H k right.0 i) refl refl e
-claimed_since w (ReleaseTransfer answer ∷ H) d right e = rests w H (ReleaseTransfer answer) d (λ k i. claimed_since w H k right.0 i) refl refl e
-claimed_since w (ReleaseBroadcast answer ∷ H) d right e = rests w H (ReleaseBroadcast answer) d (λ k i. claimed_since w H k right.0 i) refl refl e
-claimed_since w (Transfer now group to bytes answer ∷ H) d right e =
-    passes w H (Transfer now group to bytes answer) d (λ k i. claimed_since w H k right.0 i) refl e
-claimed_since w (TakeTransferEnded answer ∷ H) d right e = rests w H (TakeTransferEnded answer) d (λ k i. claimed_since w H k right.0 i) refl refl e
+claimed_since w (call ∷ H) d right e =
+    passes w H call d (λ k i. claimed_since w H k right.0 i) refl (let z = same_age (moment H) (address_after w H) in cc)
 
 held_cases : (s : ℕ) (a : Address) → is_held (older s a) ≡ true → (e : ℕ) × (a ≡ Claimed e) × (250000 ≤ e + s)
 held_cases s NotClaimed h = absurd (cc)
@@ -144,11 +128,6 @@ ages : (a b : Address) (s p : ℕ) → Stands a p → b ≡ older s a → Stands
 ages a b s p (gone e) f = gone (f ∙ ap (older s) e)
 ages a b s p (stands e g l) f = stands (e + s) (f ∙ ap (older s) g) (omega (arith, l))
 
--- no time passes
-waits : (a : Address) (s p : ℕ) → Stands a p → s ≡ 0 → Stands a (p + s)
-waits a s p (gone e) z = gone e
-waits a s p (stands e g l) z = stands e g (omega (arith, l, z))
-
 claims_again : (b : Bool) (a : Address) (p : ℕ) → Stands a p → Stands (if b then claimed a else a) p
 claims_again false a p h = h
 claims_again true a p (gone e) = gone (ap claimed e)
@@ -167,28 +146,13 @@ stands_since w (Hear g ∷ later) E at f k d =
     let H = later ++ TakeFrame at (Some f) ∷ E in
     ages (address_after w H) _ (step H g.stamp) _ (stands_since w later E at f k d.1)
     (ap (λ (b : Bool). if b then Lost else older (step H g.stamp) (address_after w H)) d.0)
-stands_since w (Tick now ∷ later) E at f k d = ages _ _ (step (later ++ TakeFrame at (Some f) ∷ E) now) _ (stands_since w later E at f k d.1) refl
-stands_since w (TakeFrame now None ∷ later) E at f k d = ages _ _ (step (later ++ TakeFrame at (Some f) ∷ E) now) _ (stands_since w later E at f k d.1) refl
 stands_since w (TakeFrame now (Some g) ∷ later) E at f k d =
     let H = later ++ TakeFrame at (Some f) ∷ E in
     claims_again (is_claim g) (older (step H now) (address_after w H)) _ (ages (address_after w H) _ (step H now) _ (stands_since w later E at f k d.1) refl)
-stands_since w (Send now draft answer ∷ later) E at f k d = ages _ _ (step (later ++ TakeFrame at (Some f) ∷ E) now) _ (stands_since w later E at f k d.1) refl
-stands_since w (Ask now group to answer ∷ later) E at f k d = ages _ _ (step (later ++ TakeFrame at (Some f) ∷ E) now) _ (stands_since w later E at f k d.1) refl
-stands_since w (TakeEnded answer ∷ later) E at f k d = waits _ _ _ (stands_since w later E at f k d.1) (omega arith)
-stands_since w (TakeAskEnded answer ∷ later) E at f k d = waits _ _ _ (stands_since w later E at f k d.1) (omega arith)
-stands_since w (TakeReceived answer ∷ later) E at f k d = waits _ _ _ (stands_since w later E at f k d.1) (omega arith)
-stands_since w (TakeRequest answer ∷ later) E at f k d = waits _ _ _ (stands_since w later E at f k d.1) (omega arith)
-stands_since w (TakeNews answer ∷ later) E at f k d = waits _ _ _ (stands_since w later E at f k d.1) (omega arith)
-stands_since w (Acknowledge now r answer result ∷ later) E at f k d =
-    ages _ _ (step (later ++ TakeFrame at (Some f) ∷ E) now) _ (stands_since w later E at f k d.1) refl
-stands_since w (Broadcast now group bytes answer ∷ later) E at f k d =
-    ages _ _ (step (later ++ TakeFrame at (Some f) ∷ E) now) _ (stands_since w later E at f k d.1) refl
-stands_since w (TakeBroadcastEnded answer ∷ later) E at f k d = waits _ _ _ (stands_since w later E at f k d.1) (omega arith)
-stands_since w (ReleaseTransfer answer ∷ later) E at f k d = waits _ _ _ (stands_since w later E at f k d.1) (omega arith)
-stands_since w (ReleaseBroadcast answer ∷ later) E at f k d = waits _ _ _ (stands_since w later E at f k d.1) (omega arith)
-stands_since w (Transfer now group to bytes answer ∷ later) E at f k d =
-    ages _ _ (step (later ++ TakeFrame at (Some f) ∷ E) now) _ (stands_since w later E at f k d.1) refl
-stands_since w (TakeTransferEnded answer ∷ later) E at f k d = waits _ _ _ (stands_since w later E at f k d.1) (omega arith)
+stands_since w (call ∷ later) E at f k d =
+    let H = later ++ TakeFrame at (Some f) ∷ E in
+    ages (address_after w H) (address_after w (call ∷ H)) (step H (moment (call ∷ H))) _ (stands_since w later E at f k d.1)
+    (let z = same_age (moment H) (address_after w H) in cc)
 
 in_time : (s p : ℕ) (a : Address) → Stands a p → (IsTrue (is_lost a) → ⊥) → 250000 ≤ p + s → is_held (older s a) ≡ true
 in_time s p a (gone e) n l = absurd (n (ap is_lost e))

@@ -1,5 +1,5 @@
 -- What every answered history says of what was accepted, sent and told.
-use Rattle.std.proofs.Common.{◌≡◌, ℕ, zero, suc, ◌-◌, ◌<◌, ◌≤◌, List, [], ◌∷◌, ◌++◌, length, map, Option, Some, None, Result, Ok, Err, Bool, true, false, not, ◌&&◌, ◌||◌, if◌then◌else◌, nat_eq, nat_lt, nat_le, ◌==◌, refl, sym, ap, ◌∙◌, subst, inl, inr, arith, append_assoc, length-append, eq-eqb, eqb-true, ltb-true, ◌⊎◌}
+use Rattle.std.proofs.Common.{◌≡◌, ℕ, zero, suc, ◌+◌, ◌-◌, ◌<◌, ◌≤◌, List, [], ◌∷◌, ◌++◌, length, map, Option, Some, None, Result, Ok, Err, Bool, true, false, not, ◌&&◌, ◌||◌, if◌then◌else◌, nat_eq, nat_lt, nat_le, ◌==◌, refl, sym, ap, ◌∙◌, subst, inl, inr, arith, append_assoc, length-append, eq-eqb, eqb-true, ltb-true, ◌⊎◌}
 use Rattle.std.specs.List.{slice_get}
 use Rattle.std.specs.Option.{option_map}
 use Rattle.j39_frame.specs.Frame.{FrameRecord}
@@ -13,8 +13,8 @@ use Rattle.j39_node.specs.declared.kinds.Answer.{Answer}
 use Rattle.j39_node.specs.declared.kinds.Answer.TheVariants.{Nack, Busy}
 use Rattle.j39_node.specs.declared.kinds.Refused.{Refused}
 use Rattle.j39_node.specs.declared.kinds.Refused.TheVariants.{NoAddress, BadValue, Full}
-use Rattle.j39_node.specs.History.{Who, Message, Draft, Call, Address, message_of, older, claimed, address_after, holds, is_lost, is_held, is_claim, is_smaller, claim_address, claim_from, owes_claim, can_send, is_own_group, message_from, accepted, sent, told, is_full, step, content, IsFront, got, kept, Asked, asked, acknowledgment_group, is_acknowledgment, acknowledgment, acknowledged, due, handed, requests, is_served, with_request, with_refusal, is_sendable, request_for, is_packet, is_session, is_some, frame_of, open_broadcast, packets, pause, is_transfer}
-use Rattle.j39_node.specs.History.Call.{Ask, TakeAskEnded, Hear, Tick, TakeFrame, Send, TakeEnded, TakeReceived, TakeRequest, TakeNews, Acknowledge, Broadcast, TakeBroadcastEnded, ReleaseTransfer, Transfer, TakeTransferEnded, ReleaseBroadcast}
+use Rattle.j39_node.specs.History.{Who, Message, Draft, Call, Address, IsFront, Asked, accepted, acknowledged, acknowledgment, acknowledgment_group, address_after, asked, can_send, claim_address, claim_from, claimed, content, due, frame_of, got, handed, holds, is_acknowledgment, is_claim, is_full, is_held, is_lost, is_own_group, is_packet, is_sendable, is_served, is_session, is_smaller, is_some, is_transfer, kept, message_from, message_of, moment, older, open_broadcast, owes_claim, packets, pause, request_for, requests, sent, step, told, with_refusal, with_request}
+use Rattle.j39_node.specs.History.Call.{Ask, Hear, TakeFrame, Send, TakeEnded, TakeReceived, TakeRequest, Acknowledge}
 use Rattle.j39_node.specs.Reception.{is_move, none_waits, reception}
 use Rattle.j39_node.proofs.ReceptionLemmas.{IsReply, replied_get, tidy}
 use Rattle.j39_node.specs.History.Address.{NotClaimed, Claimed, Lost}
@@ -31,6 +31,14 @@ pub lost_older : (s : ℕ) (a : Address) → is_lost (older s a) ≡ is_lost a
 lost_older s NotClaimed = refl
 lost_older s (Claimed e) = refl
 lost_older s Lost = refl
+
+pub held_older : (s : ℕ) (a : Address) → is_held a ≡ true → is_held (older s a) ≡ true
+held_older s NotClaimed e = absurd (cc)
+held_older s Lost e = absurd (cc)
+held_older s (Claimed n) e = go n s e
+  where
+    go : (m k : ℕ) → nat_le 250000 m ≡ true → nat_le 250000 (m + k) ≡ true
+    go m k z = grind arith
 
 pub lost_claimed : (a : Address) → is_lost (claimed a) ≡ is_lost a
 lost_claimed NotClaimed = refl
@@ -594,8 +602,6 @@ sound_more : (w : Who) (H : List Call) (call : Call) → AreAnswered w H → IsA
 sound_more w H (Hear f) right e h = rests w H _ refl refl refl (lost_if w (is_smaller w (claim_of f)) (step H f.stamp) (address_after w H))
     (kept_grows _ (kept w H) (f.stamp, message_of f) (got H) h.reads)
     (heard_desk w H f h.desk) h
-sound_more w H (Tick now) right e h = rests w H _ refl refl refl (λ l. sym (lost_older (step H now) (address_after w H)) ∙ l) h.reads h.desk h
-sound_more w H (TakeFrame now None) right e h = rests w H _ refl refl refl (λ l. sym (lost_older (step H now) (address_after w H)) ∙ l) h.reads h.desk h
 sound_more w H (TakeFrame now (Some f)) right e h = sound_frame w H now f right (frame_case w H now f e) h
 sound_more w H (Send now d (Ok k)) right e h = go (send_case w H now d (Ok k) e)
   where
@@ -611,27 +617,13 @@ sound_more w H (Ask now group to (Ok k)) right e h = go (ask_case w H now group 
     go (unfit a b c) = absurd (cc)
     go (busy a b c i) = absurd (cc)
     go (asks a b c i) = sound_ask w H now k group to b (let z : k ≡ length (accepted w H) = cc in z) h
-sound_more w H (Ask now group to (Err r)) right e h = rests w H _ refl refl refl (λ l. sym (lost_older (step H now) (address_after w H)) ∙ l) h.reads h.desk h
-sound_more w H (Send now d (Err r)) right e h = rests w H _ refl refl refl (λ l. sym (lost_older (step H now) (address_after w H)) ∙ l) h.reads h.desk h
-sound_more w H (TakeEnded None) right e h = rests w H _ refl refl refl (λ l. l) h.reads h.desk h
 sound_more w H (TakeEnded (Some x)) right e h = sound_ended w H x (end_case w H x e) h
-sound_more w H (TakeReceived None) right e h = rests w H _ refl refl refl (λ l. l) h.reads h.desk h
 sound_more w H (TakeReceived (Some x)) right e h = rests w H _ refl refl refl (λ l. l)
     (front_longer (got H) (kept w H) x h.reads (sym e)) h.desk h
-sound_more w H (TakeNews None) right e h = rests w H _ refl refl refl (λ l. l) h.reads h.desk h
-sound_more w H (TakeNews (Some n)) right e h = rests w H _ refl refl refl (λ l. l) h.reads h.desk h
-sound_more w H (TakeRequest None) right e h = rests w H _ refl refl refl (λ l. l) h.reads h.desk h
 sound_more w H (TakeRequest (Some r)) right e h = rests w H _ refl refl refl (λ l. l) h.reads (h.desk.0, h.desk.1, front_longer (handed H) (requests w H) r h.desk.2 (sym e)) h
 sound_more w H (Acknowledge now r answer (Ok x)) right e h = rests w H _ refl refl refl (λ l. sym (lost_older (step H now) (address_after w H)) ∙ l) h.reads
     (due_append w (due w H) answer r h.desk.0, front_append (acknowledged H) (due w H) (acknowledgment w answer r) h.desk.1, h.desk.2) h
-sound_more w H (Acknowledge now r answer (Err k)) right e h = rests w H _ refl refl refl (λ l. sym (lost_older (step H now) (address_after w H)) ∙ l) h.reads h.desk h
-sound_more w H (Broadcast now group bytes answer) right e h = rests w H _ refl refl refl (λ l. sym (lost_older (step H now) (address_after w H)) ∙ l) h.reads h.desk h
-sound_more w H (TakeBroadcastEnded answer) right e h = rests w H _ refl refl refl (λ l. l) h.reads h.desk h
-sound_more w H (Transfer now group to bytes answer) right e h = rests w H _ refl refl refl (λ l. sym (lost_older (step H now) (address_after w H)) ∙ l) h.reads h.desk h
-sound_more w H (TakeAskEnded answer) right e h = rests w H _ refl refl refl (λ l. l) h.reads h.desk h
-sound_more w H (TakeTransferEnded answer) right e h = rests w H _ refl refl refl (λ l. l) h.reads h.desk h
-sound_more w H (ReleaseTransfer answer) right e h = rests w H _ refl refl refl (λ l. l) h.reads h.desk h
-sound_more w H (ReleaseBroadcast answer) right e h = rests w H _ refl refl refl (λ l. l) h.reads h.desk h
+sound_more w H call right e h = rests w H (call ∷ H) refl refl refl (λ l. let z = lost_older (step H (moment (call ∷ H))) (address_after w H) in cc) h.reads h.desk h
 
 pub sound : (w : Who) (H : List Call) → AreAnswered w H → Sound w H
 sound w [] e = record { own = tt; fronts = ([], refl); within = omega arith; in_turn = λ l. omega arith; reads = ([], refl); desk = (tt, ([], refl), ([], refl)); numbered = λ i x e. absurd (cc) }

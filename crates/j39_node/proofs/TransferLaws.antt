@@ -17,7 +17,7 @@ use Rattle.j39_node.specs.declared.kinds.TransferEnding.TheVariants.{Done, Withd
 use Rattle.j39_node.specs.declared.kinds.Refused.{Refused}
 use Rattle.j39_node.specs.declared.kinds.Refused.TheVariants.{NoAddress, BadValue, Full}
 use Rattle.j39_node.specs.History.{Who, Message, Call, accepted, acknowledged, address_after, due, has_packets, holds, is_lost, message_of, packets, sent, step}
-use Rattle.j39_node.specs.History.Call.{Ask, TakeAskEnded, Hear, Tick as Ticks, TakeFrame, Send, TakeEnded, TakeReceived, TakeRequest, TakeNews, Acknowledge, Broadcast, TakeBroadcastEnded, ReleaseTransfer, Transfer, TakeTransferEnded, ReleaseBroadcast}
+use Rattle.j39_node.specs.History.Call.{Hear, TakeFrame, Transfer, TakeTransferEnded}
 use Rattle.j39_node.specs.Is.{AreAnswered, Is, long_by, next_packet}
 use Rattle.j39_node.specs.Since.{PacketSince}
 use Rattle.j39_node.specs.Transfers.{Running, broken_off, can_transfer, clock_at, ending_by, gives_up, granted_after, hears, hears_if, is_engaged, is_over, is_replaced, is_resting, is_spent, listens, next_transfer, open_transfer, said_to, says, sends, sends_if, signal_by, spent_after, told_transfers, transfer_end, transfers as all_transfers}
@@ -284,25 +284,10 @@ budgeted w [] = tt
 budgeted w (Hear f ∷ H) =
     budget_hears_if (is_lost (address_after w (Hear f ∷ H))) (λ a. is_replaced (holder w H a) (holder w (Hear f ∷ H) a)) f (clock_at H f.stamp) (open_transfer w H)
     (clears w H) (budgeted w H)
-budgeted w (Ticks now ∷ H) = budgeted w H
-budgeted w (TakeFrame now None ∷ H) = budgeted w H
 budgeted w (TakeFrame now (Some f) ∷ H) = budget_sends (is_move w H f) (clock_at H now) (open_transfer w H) (clears w H) (budgeted w H)
-budgeted w (Send now draft answer ∷ H) = budgeted w H
-budgeted w (Ask now group to answer ∷ H) = budgeted w H
-budgeted w (TakeEnded answer ∷ H) = budgeted w H
-budgeted w (TakeAskEnded answer ∷ H) = budgeted w H
-budgeted w (TakeReceived answer ∷ H) = budgeted w H
-budgeted w (TakeRequest answer ∷ H) = budgeted w H
-budgeted w (TakeNews answer ∷ H) = budgeted w H
-budgeted w (Acknowledge now r answer result ∷ H) = budgeted w H
-budgeted w (Broadcast now group bytes answer ∷ H) = budgeted w H
-budgeted w (TakeBroadcastEnded answer ∷ H) = budgeted w H
 budgeted w (Transfer now group to bytes (Ok k) ∷ H) = record { count = omega arith; granted = omega arith; spent = omega arith; heard = omega arith }
-budgeted w (Transfer now group to bytes (Err r) ∷ H) = budgeted w H
-budgeted w (TakeTransferEnded None ∷ H) = budgeted w H
 budgeted w (TakeTransferEnded (Some x) ∷ H) = tt
-budgeted w (ReleaseTransfer answer ∷ H) = budgeted w H
-budgeted w (ReleaseBroadcast answer ∷ H) = budgeted w H
+budgeted w (call ∷ H) = budgeted w H
 
 pub bounded : (w : Who) (H : List Call) (c : Controller) (t : Running) → Is w H c → open_transfer w H ≡ Some t → clears w H ≤ packets_of t.sender.message + 65
 bounded w H c t is e =
@@ -620,10 +605,6 @@ stays_heard s f now e = go (said_between s.destination s.message.source f)
     not_first false b c d k = refl
 
     go : (o : Option Signal) → (sending.hears o now s).state ≡ sending.Done
-    go None = e
-    go (Some (BroadcastAnnounce size packets pgn)) = e
-    go (Some (RequestToSend size packets most pgn)) = e
-    go (Some (Packet k part)) = e
     go (Some (ClearToSend count p pgn)) = cond_both (pgn == s.message.pgn) _ _ (λ (r : SenderRecord). r.state ≡ sending.Done)
         (λ t. cond_both (is_waiting s.state) _ _ (λ (r : SenderRecord). r.state ≡ sending.Done) (λ u. absurd (not_both _ idle u)) (λ u. e)) (λ t. e)
     go (Some (Acknowledgment size packets pgn)) = cond_both (pgn == s.message.pgn) _ _ (λ (r : SenderRecord). r.state ≡ sending.Done)
@@ -631,6 +612,7 @@ stays_heard s f now e = go (said_between s.destination s.message.source f)
         (λ (r : SenderRecord). r.state ≡ sending.Done) (λ u. refl) (λ u. e)) (λ t. e)
     go (Some (Abort reason pgn)) = cond_both (pgn == s.message.pgn) _ _ (λ (r : SenderRecord). r.state ≡ sending.Done)
         (λ t. cond_both (is_running s.state) _ _ (λ (r : SenderRecord). r.state ≡ sending.Done) (λ u. absurd (not_both _ still u)) (λ u. e)) (λ t. e)
+    go other = e
 
 stays_ticked : (s : SenderRecord) (now : ℕ) → s.state ≡ sending.Done → (send_step s Tick now).after.state ≡ sending.Done
 unfolding send_step ticks_in
@@ -665,26 +647,11 @@ stays_done w token (Hear f ∷ later) E n h =
     let G = later ++ E in
     done_hears token (is_lost (address_after w (Hear f ∷ G))) (λ a. is_replaced (holder w G a) (holder w (Hear f ∷ G) a)) f (clock_at G f.stamp) (open_transfer w G)
     (stays_done w token later E n.1 h)
-stays_done w token (Ticks now ∷ later) E n h = stays_done w token later E n.1 h
-stays_done w token (TakeFrame now None ∷ later) E n h = stays_done w token later E n.1 h
 stays_done w token (TakeFrame now (Some f) ∷ later) E n h =
     done_sends token (is_move w (later ++ E) f) (clock_at (later ++ E) now) (open_transfer w (later ++ E)) (stays_done w token later E n.1 h)
-stays_done w token (Send now draft answer ∷ later) E n h = stays_done w token later E n.1 h
-stays_done w token (Ask now group to answer ∷ later) E n h = stays_done w token later E n.1 h
-stays_done w token (TakeEnded answer ∷ later) E n h = stays_done w token later E n.1 h
-stays_done w token (TakeAskEnded answer ∷ later) E n h = stays_done w token later E n.1 h
-stays_done w token (TakeReceived answer ∷ later) E n h = stays_done w token later E n.1 h
-stays_done w token (TakeRequest answer ∷ later) E n h = stays_done w token later E n.1 h
-stays_done w token (TakeNews answer ∷ later) E n h = stays_done w token later E n.1 h
-stays_done w token (Acknowledge now r answer result ∷ later) E n h = stays_done w token later E n.1 h
-stays_done w token (Broadcast now group bytes answer ∷ later) E n h = stays_done w token later E n.1 h
-stays_done w token (TakeBroadcastEnded answer ∷ later) E n h = stays_done w token later E n.1 h
 stays_done w token (Transfer now group to bytes (Ok k) ∷ later) E n h = absurd (let z = n.0 in cc)
-stays_done w token (Transfer now group to bytes (Err r) ∷ later) E n h = stays_done w token later E n.1 h
-stays_done w token (TakeTransferEnded None ∷ later) E n h = stays_done w token later E n.1 h
 stays_done w token (TakeTransferEnded (Some x) ∷ later) E n h = absurd (let z = n.0 in cc)
-stays_done w token (ReleaseTransfer answer ∷ later) E n h = stays_done w token later E n.1 h
-stays_done w token (ReleaseBroadcast answer ∷ later) E n h = stays_done w token later E n.1 h
+stays_done w token (call ∷ later) E n h = stays_done w token later E n.1 h
 
 acks : (s : SenderRecord) (now : ℕ) (f : FrameRecord) → is_waiting s.state ≡ true → s.highest ≡ packets_of s.message
     → said_to s f ≡ Some (Acknowledgment (length s.message.bytes) (packets_of s.message) s.message.pgn) → (send_step s (Heard f) now).after.state ≡ sending.Done
@@ -769,26 +736,11 @@ stays_gone w token (Hear f ∷ later) E r n h =
     let G = later ++ E in
     gone_hears token (is_lost (address_after w (Hear f ∷ G))) (λ a. is_replaced (holder w G a) (holder w (Hear f ∷ G) a)) f (clock_at G f.stamp) (open_transfer w G)
     (stays_gone w token later E r.0 n.1 h)
-stays_gone w token (Ticks now ∷ later) E r n h = stays_gone w token later E r.0 n.1 h
-stays_gone w token (TakeFrame now None ∷ later) E r n h = stays_gone w token later E r.0 n.1 h
 stays_gone w token (TakeFrame now (Some f) ∷ later) E r n h =
     gone_sends w (later ++ E) token now f (is_move w (later ++ E) f) r refl (stays_gone w token later E r.0 n.1 h)
-stays_gone w token (Send now draft answer ∷ later) E r n h = stays_gone w token later E r.0 n.1 h
-stays_gone w token (Ask now group to answer ∷ later) E r n h = stays_gone w token later E r.0 n.1 h
-stays_gone w token (TakeEnded answer ∷ later) E r n h = stays_gone w token later E r.0 n.1 h
-stays_gone w token (TakeAskEnded answer ∷ later) E r n h = stays_gone w token later E r.0 n.1 h
-stays_gone w token (TakeReceived answer ∷ later) E r n h = stays_gone w token later E r.0 n.1 h
-stays_gone w token (TakeRequest answer ∷ later) E r n h = stays_gone w token later E r.0 n.1 h
-stays_gone w token (TakeNews answer ∷ later) E r n h = stays_gone w token later E r.0 n.1 h
-stays_gone w token (Acknowledge now q answer result ∷ later) E r n h = stays_gone w token later E r.0 n.1 h
-stays_gone w token (Broadcast now group bytes answer ∷ later) E r n h = stays_gone w token later E r.0 n.1 h
-stays_gone w token (TakeBroadcastEnded answer ∷ later) E r n h = stays_gone w token later E r.0 n.1 h
 stays_gone w token (Transfer now group to bytes (Ok k) ∷ later) E r n h = absurd (let z = n.0 in cc)
-stays_gone w token (Transfer now group to bytes (Err x) ∷ later) E r n h = stays_gone w token later E r.0 n.1 h
-stays_gone w token (TakeTransferEnded None ∷ later) E r n h = stays_gone w token later E r.0 n.1 h
 stays_gone w token (TakeTransferEnded (Some x) ∷ later) E r n h = absurd (let z = n.0 in cc)
-stays_gone w token (ReleaseTransfer answer ∷ later) E r n h = stays_gone w token later E r.0 n.1 h
-stays_gone w token (ReleaseBroadcast answer ∷ later) E r n h = stays_gone w token later E r.0 n.1 h
+stays_gone w token (call ∷ later) E r n h = stays_gone w token later E r.0 n.1 h
 
 pub is_gone : (w : Who) (H later : List Call) (c : Controller) (f : FrameRecord) (t : Running) (answer : Option (ℕ × TransferEnding))
     → Is w (TakeTransferEnded answer ∷ later ++ Hear f ∷ H) c → NoneEnds later → open_transfer w H ≡ Some t → is_over t ≡ false

@@ -3,7 +3,7 @@ use Rattle.std.specs.Prelude.{◌≡◌, ◌==◌, ◌+◌, ◌<◌, ◌&&◌, �
 use Rattle.j39_groups.specs.Printed.{place_text}
 use Rattle.j39_groups.specs.Models.{field_record, scale_record}
 use Rattle.j39_groups.specs.declared.field.Field.{Field}
-use Rattle.j39_groups.specs.declared.scale.Scale.{Scale}
+use Rattle.j39_groups.specs.declared.slot.Slot.{Slot}
 use Rattle.j39_groups.specs.Row.{FieldRecord, number_field, bits_field, signed_field, switch_field, text_field, texts_field}
 use Rattle.j39_table.specs.Agreement.{AreColumnsOf, IsWrongAfter}
 use Rattle.j39_table.specs.Faults.{column_of}
@@ -43,7 +43,7 @@ pub record IsFaultFrom {T : Type 0} (IsGood : T → Type 0) (columns : T → Lis
   pub within : count < length texts
   pub wrong : IsWrongAfter IsGood columns texts count
 
-abbrev pub HasScale : ℕ → List (List ℕ) → Result Scale RowFault → Type 0
+abbrev pub HasScale : ℕ → List (List ℕ) → Result Slot RowFault → Type 0
 HasScale bits texts result =
     MatchResult result (λ scale. AreColumnsOf (IsGoodScale bits) slot_columns texts (scale_record scale))
     (λ fault. IsFaultFrom (IsGoodScale bits) slot_columns 4 texts fault)

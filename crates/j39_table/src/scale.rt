@@ -6,7 +6,7 @@ ghost use Rattle.j39_table.specs.Scales.{SaysOffset, SaysStep};
 use crate::RowFault;
 use crate::columns::scaled_in;
 use crate::words::is_word;
-use j39_groups::Scale;
+use j39_groups::Slot;
 
 /// The scale that three columns say, for numbers of so many bits.
 pub(crate) fn scale_in<'t>(
@@ -14,7 +14,7 @@ pub(crate) fn scale_in<'t>(
     step: &[u8],
     offset: &[u8],
     unit: &'t [u8],
-) -> Result<Scale<'t>, RowFault>
+) -> Result<Slot<'t>, RowFault>
     requires some { 0 < bits }
     requires narrow { bits ≤ 32 }
     ensures { HasScale bits (step.now ∷ offset.now ∷ unit.entry.now ∷ []) result }
@@ -28,12 +28,7 @@ pub(crate) fn scale_in<'t>(
     if !is_word(unit) {
         return Err(RowFault::Unit);
     }
-    Ok(Scale {
-        step,
-        offset,
-        places,
-        unit,
-    })
+    Ok(Slot::of_own_table(step, offset, places, unit))
 }
 
 /// The step that a text says, and its places.

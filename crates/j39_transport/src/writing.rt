@@ -1,5 +1,5 @@
 //! Writing the frames of the transport protocol (J1939-21, 5.10.3 and 5.10.4).
-ghost use Rattle.std.specs.Prelude.{◌≡◌, ◌∷◌, ◌<◌};
+ghost use Rattle.std.specs.Prelude.{◌≡◌, ◌∷◌, ◌<◌, length};
 ghost use Rattle.byteorder.specs.Endian.{little_bytes};
 ghost use Rattle.j39_frame.specs.Identifier.{id_raw};
 ghost use Rattle.j39_frame.specs.Network.{transport_control_group, transport_data_group};
@@ -7,6 +7,7 @@ ghost use Rattle.j39_transport.specs.Protocol.{clear_to_send, connection_abort, 
 ghost use Rattle.j39_transport.specs.Cutting.{announcement_bytes, transport_id};
 
 use crate::protocol::{CLEAR_TO_SEND, CONNECTION_ABORT, FILLER, TRANSPORT_CONTROL, TRANSPORT_DATA};
+use byteorder::{ByteOrder, LittleEndian};
 use j39_frame::Id;
 
 /// The identifier of a TP.CM frame.
@@ -37,11 +38,10 @@ fn transport_id(group: u32, source: u8, destination: u8) -> Id
 pub(crate) fn announcement_bytes(kind: u8, size: u16, packets: u8, most: u8, pgn: u32) -> [u8; 8]
     ensures { result ≡ announcement_bytes kind size packets most pgn }
 {
-    let [size_low, size_high] = size.to_le_bytes();
-    let [pgn_low, pgn_mid, pgn_high, _] = pgn.to_le_bytes();
-    [
-        kind, size_low, size_high, packets, most, pgn_low, pgn_mid, pgn_high,
-    ]
+    let mut bytes = [kind, 0, 0, packets, most, 0, 0, 0];
+    LittleEndian::write_u16(&mut bytes[1..3], size);
+    write_group(&mut bytes[5..], pgn);
+    bytes
 }
 
 /// The data of a CTS of so many packets, from this number on.
@@ -61,10 +61,17 @@ pub(crate) fn abort_bytes(reason: u8, pgn: u32) -> [u8; 8]
 fn answer_bytes(kind: u8, second: u8, third: u8, pgn: u32) -> [u8; 8]
     ensures { result ≡ kind ∷ second ∷ third ∷ filler ∷ filler ∷ little_bytes 3 pgn }
 {
-    let [pgn_low, pgn_mid, pgn_high, _] = pgn.to_le_bytes();
-    [
-        kind, second, third, FILLER, FILLER, pgn_low, pgn_mid, pgn_high,
-    ]
+    let mut bytes = [kind, second, third, FILLER, FILLER, 0, 0, 0];
+    write_group(&mut bytes[5..], pgn);
+    bytes
+}
+
+/// A group as the last three bytes of a TP.CM frame. A higher bit, which no group has, isn't written.
+fn write_group(bytes: &mut [u8], pgn: u32)
+    requires { length bytes.old ≡ 3 }
+    ensures { bytes.new ≡ little_bytes 3 pgn }
+{
+    LittleEndian::write_u24(bytes, pgn % (1 << 24));
 }
 
 /// The data of a packet: its number, then seven bytes of the message.

@@ -190,7 +190,7 @@ fn places_of(value: Value<'_, '_>) -> u32
     ensures { result ≡ places_of (value_of value.entry) }
 {
     match value {
-        Value::Number(_, scale) => u32::from(scale.places),
+        Value::Number(_, scale) => u32::from(scale.places()),
         _ => 0,
     }
 }

@@ -1,7 +1,7 @@
 //! What is made of a log, in the room of a page.
 ghost use Rattle.std.specs.Prelude.{◌≡◌, ◌≢◌, ◌<◌, length, take, IfErr, IfOk, None, OnErr, OnOk, Ok, Err};
 ghost use Rattle.j39_groups.specs.Printed.{rows_text};
-ghost use Rattle.j39_listen.specs.Headed.{MakesNodes};
+ghost use Rattle.j39_listen.specs.SeenNodes.{MakesSeenNodes};
 ghost use Rattle.j39_listen.specs.declared.format.Format.TheVariants.{Line};
 ghost use Rattle.j39_listen.specs.declared.running.RunFault.TheVariants as fault;
 ghost use Rattle.j39_table.specs.FaultWords.{fault_text};
@@ -97,15 +97,15 @@ pub fn values(
 
 /// Writes who holds which address at the end of a log.
 pub fn nodes(log: &[u8], bus: Option<Bus>, room: &mut [u8]) -> Result<LogText, Refusal>
-    ensures nodes { IfOk result (λ text. IsMade (MakesNodes Line None) bus log.now text room.new) }
+    ensures nodes { IfOk result (λ text. IsMade (MakesSeenNodes Line None) bus log.now text room.new) }
     ensures fits { IfOk result (λ text. text.bytes < length room.new) }
-    ensures too_small { result ≡ Err TooSmall → Overflows (MakesNodes Line None) bus log.now room.new }
+    ensures too_small { result ≡ Err TooSmall → Overflows (MakesSeenNodes Line None) bus log.now room.new }
     ensures memory { result ≢ Err Memory }
 {
     let mut source = LogBytes::new(log);
     let mut sink = Room::new(room);
     let limit = log.len() as u64;
-    let ran = j39_listen::nodes(Format::Line, None, &mut source, &mut sink, bus, limit);
+    let ran = j39_listen::nodes_seen(Format::Line, None, &mut source, &mut sink, bus, limit);
     told(ran, &sink)
 }
 

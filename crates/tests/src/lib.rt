@@ -3,6 +3,8 @@
 #![tactic(auto)]
 
 #[cfg(test)]
+mod assemblers;
+#[cfg(test)]
 mod broadcasts;
 #[cfg(test)]
 mod claimer;
@@ -12,8 +14,6 @@ mod engine_answers;
 pub mod examples;
 #[cfg(test)]
 mod fault_messages;
-#[cfg(test)]
-mod listener_memory;
 #[cfg(test)]
 mod node;
 #[cfg(test)]
@@ -30,8 +30,6 @@ mod node_transfers;
 mod quick_lines;
 #[cfg(test)]
 mod raw_values;
-#[cfg(test)]
-mod receiver_memory;
 #[cfg(test)]
 mod run_faults;
 #[cfg(test)]

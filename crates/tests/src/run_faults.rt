@@ -1,8 +1,9 @@
 //! Devices that fail, and logs that are too long.
 use crate::trial::{Full, Trial};
+use j39_address::Name;
 use j39_cli::{parse, perform};
 use j39_io::Told;
-use j39_listen::{RunFault, run};
+use j39_listen::{RunFault, answer, run};
 use std::alloc::Global;
 use std::test::Fail;
 
@@ -32,12 +33,25 @@ const VIN_TEXT: &[u8] = b"(0000000002.010000) 00 8000000001401234 61444 190 1500
     (0000000002.060000) 00 8000000001401234 61444 190 1501.000 rpm\n\
     (0000000002.150000) 00 8000000001401234 65260 237 \"1FUJA6CV12LK12345\"\n";
 
+/// A transfer that is overheard.
+const TRANSFER_LOG: &[u8] = b"(0000000001.000000) can0 18EEFF00#3412400100000080\n\
+    (0000000002.000000) can0 1CEC0B00#10120003FFECFE00\n\
+    (0000000002.010000) can0 1CEC000B#110301FFFFECFE00\n\
+    (0000000002.020000) can0 1CEB0B00#013146554A413643\n\
+    (0000000002.030000) can0 1CEB0B00#025631324C4B3132\n\
+    (0000000002.040000) can0 1CEB0B00#033334352AFFFFFF\n\
+    (0000000002.050000) can0 1CEC000B#13120003FFECFE00\n";
+
+const TRANSFER_TEXT: &[u8] =
+    b"(0000000002.040000) 00 8000000001401234 65260 237 \"1FUJA6CV12LK12345\"\n";
+
 /// Logs with their reports.
-fn logs() -> [(&'static [u8], &'static [u8]); 3] {
+fn logs() -> [(&'static [u8], &'static [u8]); 4] {
     [
         (&LOG[..TWO_LINES], &TEXT[..TEXT_OF_TWO]),
         (LOG, TEXT),
         (VIN_LOG, VIN_TEXT),
+        (TRANSFER_LOG, TRANSFER_TEXT),
     ]
 }
 
@@ -193,6 +207,25 @@ fn writer_that_fails(rt: HostRuntime) -> Result<(), Fail> {
     assert!(rt; ends_at_write(alloc, LOG, full, &TEXT[..60], 0)?);
     let stuck = room_for(alloc, 1000)?.failing_flush();
     assert!(rt; ends_at_write(alloc, LOG, stuck, TEXT, 1)?);
+    Ok(())
+}
+
+/// No node starts at 254.
+#[test]
+fn answer_of_the_null_address(rt: HostRuntime) -> Result<(), Fail> {
+    let (mut source, mut sink) = (log_in(rt.alloc(), 7)?, room_for(rt.alloc(), 300)?);
+    let met = answer(
+        rt.alloc(),
+        &mut Told::new(&mut source),
+        &mut Told::new(&mut sink),
+        None,
+        Name::new(0x8000000001401234),
+        254,
+        1000,
+    )?;
+    assert!(rt; met.is_none());
+    assert_eq!(rt; source.reads(), 0);
+    assert!(rt; sink.written().is_empty());
     Ok(())
 }
 

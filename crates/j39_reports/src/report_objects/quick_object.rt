@@ -88,7 +88,7 @@ fn json_before(out: &mut [u8], end: usize, value: Value<'_, '_>) -> Option<usize
     ensures short { IfSome result (λ start. end ≤ start + 38) }
 {
     match value {
-        Value::Number(number, scale) => scaled_before(out, end, number, scale.places),
+        Value::Number(number, scale) => scaled_before(out, end, number, scale.places()),
         Value::On => Some(bytes_before(out, end, *b"\"on\"")),
         Value::Off => Some(bytes_before(out, end, *b"\"off\"")),
         Value::Error => Some(bytes_before(out, end, *b"\"error\"")),
@@ -104,7 +104,7 @@ pub(crate) fn unit_in<'t>(value: Value<'t, '_>) -> Option<&'t [u8]>
     ensures { option_map (λ unit. unit.now) result ≡ unit_in (value_of value.entry) }
 {
     match value {
-        Value::Number(_, scale) => Some(scale.unit),
+        Value::Number(_, scale) => Some(scale.unit()),
         Value::On => None,
         Value::Off => None,
         Value::Error => None,

@@ -1,8 +1,12 @@
 //! The run that writes the report as objects of JSON.
+ghost use Rattle.std.specs.Prelude.{◌≡◌, [], Err, IfSome, OnOk};
 ghost use Rattle.j39_io.specs.Turn.{turn};
 ghost use Rattle.j39_listen.specs.Asking.{AsksForBoxes};
 ghost use Rattle.j39_listen.specs.Chooses.{which_of};
 ghost use Rattle.j39_listen.specs.Ran.{PassesOn, Ran};
+ghost use Rattle.j39_listen.specs.Run.{WritesAsked, WritesWholeLines};
+ghost use Rattle.j39_listen.specs.declared.running.RunFault.TheVariants.{Read};
+ghost use Rattle.j39_reports.specs.EntryObject.{entry_object};
 ghost use Rattle.j39_reports.specs.ReportObjects.{MakesObjects};
 
 use crate::report_objects::objects::ObjectForm;
@@ -29,8 +33,16 @@ pub fn report_json<R: Source, W: Sink>(
     ensures ran { Ran (MakesObjects groups.now (which_of filter.entry)) AsksForBoxes bus limit result
         (turn R.remaining R.has_failed source.old source.new) (turn W.written W.has_failed sink.old sink.new) }
 
+    // Of what publishers sent, they are exactly those of the values published that the filter takes.
+    ensures asked { OnOk result (IfSome (R.remaining source.old) (λ log. WritesAsked [] entry_object
+        (which_of filter.entry) groups.now bus log (W.written sink.old) (W.written sink.new))) }
+
     // What was written is passed on at the end, and before each read.
     ensures flushed { PassesOn result (W.is_flushed sink.old) (W.is_flushed sink.new) }
+
+    // Where a read ends the run, all that the whole lines before it make was written.
+    ensures kept_up { result ≡ Err Read → WritesWholeLines (MakesObjects groups.now (which_of filter.entry)) bus
+        (R.remaining source.old) (R.remaining source.new) (W.written sink.old) (W.written sink.new) }
 {
     let form = ObjectForm::new();
     let report = Report::new(alloc, groups, filter, form);

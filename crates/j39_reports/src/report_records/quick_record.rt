@@ -122,7 +122,7 @@ fn bare_before(out: &mut [u8], end: usize, value: Value<'_, '_>) -> Option<usize
     ensures short { IfSome result (λ start. end ≤ start + 38) }
 {
     match value {
-        Value::Number(number, scale) => scaled_before(out, end, number, scale.places),
+        Value::Number(number, scale) => scaled_before(out, end, number, scale.places()),
         Value::On => Some(bytes_before(out, end, *b"on")),
         Value::Off => Some(bytes_before(out, end, *b"off")),
         Value::Error => Some(bytes_before(out, end, *b"error")),

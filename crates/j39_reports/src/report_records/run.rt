@@ -1,11 +1,13 @@
 //! The run that writes the report as records of comma-separated values.
-ghost use Rattle.std.specs.Prelude.{true};
+ghost use Rattle.std.specs.Prelude.{◌≡◌, Err, IfSome, OnOk, true};
 ghost use Rattle.j39_io.specs.Turn.{turn};
 ghost use Rattle.j39_listen.specs.Asking.{AsksForBoxes};
 ghost use Rattle.j39_listen.specs.Chooses.{which_of};
 ghost use Rattle.j39_listen.specs.Headed.{Headed};
 ghost use Rattle.j39_listen.specs.Ran.{PassesOn, Ran};
-ghost use Rattle.j39_reports.specs.EntryText.{header_text};
+ghost use Rattle.j39_listen.specs.Run.{WritesAsked, WritesWholeLines};
+ghost use Rattle.j39_listen.specs.declared.running.RunFault.TheVariants.{Read};
+ghost use Rattle.j39_reports.specs.EntryText.{entry_record, header_text};
 ghost use Rattle.j39_reports.specs.ReportRecords.{MakesRecords};
 
 use crate::report_records::records::RecordForm;
@@ -36,8 +38,16 @@ pub fn report_csv<R: Source, W: Sink>(
     ensures ran { Ran (Headed header_text (MakesRecords groups.now (which_of filter.entry))) AsksForBoxes bus limit result
         (turn R.remaining R.has_failed source.old source.new) (turn W.written W.has_failed sink.old sink.new) }
 
+    // Of what publishers sent, they are exactly those of the values published that the filter takes.
+    ensures asked { OnOk result (IfSome (R.remaining source.old) (λ log. WritesAsked header_text entry_record
+        (which_of filter.entry) groups.now bus log (W.written sink.old) (W.written sink.new))) }
+
     // What was written is passed on at the end, and before each read, the header before the first.
     ensures flushed { PassesOn result true (W.is_flushed sink.new) }
+
+    // Where a read ends the run, the header and all that the whole lines before it make was written.
+    ensures kept_up { result ≡ Err Read → WritesWholeLines (Headed header_text (MakesRecords groups.now (which_of filter.entry)))
+        bus (R.remaining source.old) (R.remaining source.new) (W.written sink.old) (W.written sink.new) }
 {
     let form = RecordForm::new();
     let report = Report::new(alloc, groups, filter, form);

@@ -177,7 +177,7 @@ fn put_span<W: Sink>(form: Format, span: &NumberRange<'_>, sink: &mut W) -> Resu
     ensures { Puts (range_in form (Some (range_of_span span.now))) result (turn W.written W.has_failed sink.old sink.new) }
 {
     put_bounds(form, span, sink)?;
-    put_unit(form, span.scale.unit, sink)
+    put_unit(form, span.scale.unit(), sink)
 }
 
 /// Writes the least number and the most.
@@ -190,9 +190,9 @@ fn put_bounds<W: Sink>(
     ensures { Puts (bounds_in form (range_of_span span.now)) result (turn W.written W.has_failed sink.old sink.new) }
 {
     let first = separator(form, b",\"least\":");
-    let least = scaled_text(span.least, span.scale.places);
+    let least = scaled_text(span.least, span.scale.places());
     let second = separator(form, b",\"most\":");
-    let most = scaled_text(span.most, span.scale.places);
+    let most = scaled_text(span.most, span.scale.places());
     let parts: [&[u8]; 4] = [first, least.as_slice(), second, most.as_slice()];
     put_parts(&parts, sink)
 }
@@ -253,7 +253,7 @@ fn put_kept<W: Sink>(
 {
     match kept {
         StoredValue::Number(number, scale) => {
-            put_all(sink, scaled_text(*number, scale.places).as_slice())
+            put_all(sink, scaled_text(*number, scale.places()).as_slice())
         }
         StoredValue::On => put_word(form, b"on", sink),
         StoredValue::Off => put_word(form, b"off", sink),

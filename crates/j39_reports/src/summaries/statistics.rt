@@ -13,7 +13,7 @@ ghost use Rattle.j39_frame.specs.declared.origin.Origin.{Origin};
 
 use crate::summaries::stored_value::StoredValue;
 use j39_frame::Stamp;
-use j39_groups::{Scale, Value};
+use j39_groups::{Slot, Value};
 use j39_memory::OriginChange;
 use std::alloc::{AllocError, Global};
 
@@ -27,7 +27,7 @@ pub(crate) struct Sample<'t> {
 /// The least and the most number, in units of the last printed place, and the scale of the first.
 #[derive(Clone, Copy)]
 pub(crate) struct NumberRange<'t> {
-    pub scale: Scale<'t>,
+    pub scale: Slot<'t>,
     pub least: i64,
     pub most: i64,
 }
@@ -91,7 +91,7 @@ impl<'t> Statistics<'t> {
 
     /// One number more.
     #[inline(always)]
-    fn grow_by_number(&mut self, stamp: Stamp, value: i64, scale: Scale<'t>)
+    fn grow_by_number(&mut self, stamp: Stamp, value: i64, scale: Slot<'t>)
         ensures { (origin : Origin) → row_shown (origin, self.new)
             ≡ grown (row_shown (origin, self.old))
             (entry_at origin (stamp_micros stamp) (number value (scale_record scale.entry))) }
@@ -171,15 +171,15 @@ fn span_of<'t>(value: Value<'t, '_>) -> Option<NumberRange<'t>>
 
 /// Whether numbers of both can be compared: they have as many places, and one unit.
 #[inline(always)]
-fn are_comparable(a: Scale<'_>, b: Scale<'_>) -> bool
+fn are_comparable(a: Slot<'_>, b: Slot<'_>) -> bool
     ensures { result ≡ are_comparable (scale_record a.entry) (scale_record b.entry) }
 {
-    a.places == b.places && a.unit == b.unit
+    a.places() == b.places() && a.unit() == b.unit()
 }
 
 /// The range has a number more.
 #[inline(always)]
-fn widen<'t>(range: &mut Option<NumberRange<'t>>, number: i64, scale: Scale<'t>)
+fn widen<'t>(range: &mut Option<NumberRange<'t>>, number: i64, scale: Slot<'t>)
     ensures { option_map range_of_span range.new ≡ widened (option_map range_of_span range.old)
         (Some (record { value = number; slot = scale_record scale.entry })) }
 {
@@ -192,7 +192,7 @@ fn widen<'t>(range: &mut Option<NumberRange<'t>>, number: i64, scale: Scale<'t>)
 impl<'t> NumberRange<'t> {
     /// That of one number.
     #[inline(always)]
-    fn of(number: i64, scale: Scale<'t>) -> NumberRange<'t>
+    fn of(number: i64, scale: Slot<'t>) -> NumberRange<'t>
         ensures { Some (range_of_span result) ≡ widened None
             (Some (record { value = number; slot = scale_record scale.entry })) }
     {
@@ -205,7 +205,7 @@ impl<'t> NumberRange<'t> {
 
     /// It has a number more, where that can be compared with the first.
     #[inline(always)]
-    fn widen(&mut self, number: i64, scale: Scale<'t>)
+    fn widen(&mut self, number: i64, scale: Slot<'t>)
         ensures { Some (range_of_span self.new) ≡ widened (Some (range_of_span self.old))
             (Some (record { value = number; slot = scale_record scale.entry })) }
     {

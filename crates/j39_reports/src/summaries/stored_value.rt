@@ -6,7 +6,7 @@ ghost use Rattle.j39_reports.specs.RowModels.{kept_value};
 ghost use Rattle.j39_reports.specs.SummaryRun.{IsText};
 
 use arrayvec::ArrayVec;
-use j39_groups::{Scale, Value};
+use j39_groups::{Slot, Value};
 use j39_io::printing::push_bytes;
 use j39_memory::Stored;
 use j39_transport::LONGEST;
@@ -16,7 +16,7 @@ use std::alloc::{AllocError, Global};
 #[derive(Drop)]
 pub(crate) enum StoredValue<'t> {
     /// A number, in units of the last printed place, and its scale.
-    Number(i64, Scale<'t>),
+    Number(i64, Slot<'t>),
     On,
     Off,
     Error,

@@ -28,7 +28,7 @@ use arrayvec::ArrayVec;
 use j39_address::Name;
 use j39_faults::{Code, Kind, Lamps, State};
 use j39_frame::{Origin, Stamp};
-use j39_groups::{Groups, Scale, put_value};
+use j39_groups::{Groups, Slot, put_value};
 use j39_io::backwards::{byte_before, bytes_before, hex_before, number_before, slice_before};
 use j39_io::{DeviceFault, Sink, put_all};
 use j39_log::push_stamp;
@@ -236,15 +236,15 @@ fn value_before(block: &mut Block, value: &StoredValue<'_>) -> Option<usize>
 }
 
 /// Writes a number with its unit.
-fn measure_before(block: &mut Block, number: i64, scale: Scale<'_>) -> Option<usize>
+fn measure_before(block: &mut Block, number: i64, scale: Slot<'_>) -> Option<usize>
     ensures { IfSome result (λ start. WritesBefore block.old block.new 63 start (number_text number (scale_record scale.entry))) }
 {
-    if scale.unit.len() > 16 {
+    if scale.unit().len() > 16 {
         return None;
     }
-    let unit = slice_before(block, END, scale.unit);
+    let unit = slice_before(block, END, scale.unit());
     let space = byte_before(block, unit, b' ');
-    scaled_before(block, space, number, scale.places)
+    scaled_before(block, space, number, scale.places())
 }
 
 /// Appends how old a value is, in its column.

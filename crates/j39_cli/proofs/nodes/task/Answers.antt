@@ -1,6 +1,8 @@
 -- The bus is checked, then the senders, then how it is written.
-use Rattle.std.proofs.Common.{◌≡◌, ◌∙◌, Some, None, codes, inl, rules, sym}
+use Rattle.std.proofs.Common.{◌≡◌, ◌∙◌, Some, None, ap, codes, inl, option_map, rules, sym}
 use Rattle.clap.specs.Words.{first_value, found_of}
+use Rattle.j39_cli.specs.NodesCommand.{told_by}
+use Rattle.j39_cli.specs.Rules.{is_given}
 use Rattle.j39_cli.proofs.TakenLemmas.{bus_read, bus_wrong, value_read, value_wrong}
 use Rattle.j39_cli.proofs.nodes.task.Goals as goal
 
@@ -12,7 +14,12 @@ returns-in-Ok-log_input c =
     record {
       answer = bus_read (first_value found (codes "bus")) _ _ _ c.in-Ok.ensures (λ is_bus.
           value_read _ _ _ (first_value found (codes "from")) _ _ _ c.in-Ok-senders_value.ensures (λ from_is. record {
-            in_range = λ _. (input.0 ∙ is_bus, from_is, written, input.1);
+            in_range = λ _. (
+              input.0 ∙ is_bus,
+              from_is,
+              ap (option_map (told_by (is_given (first_value found (codes "seen"))))) written ∙ ap Some (sym c.told_given.ensures),
+              input.1,
+            );
             wrong = λ none. absurd (none (λ is. (let no : Some c.in-Some.format ≡ None = sym written ∙ is in cc)));
           }));
       memory = search rules;

@@ -15,7 +15,7 @@ pub returns-in-faults-clause-tells : goal.returns-in-faults-clause-tells
 returns-in-faults-clause-tells c = tells _ (found_of c.args.given.now) c.task-in-faults.result (faults _ _ _ _ _ _ _ _ _ _ _ _ _ _ _) c.in-faults.is (refl, (refl, (refl, (refl, (refl, (refl, (refl, (refl, (refl, (refl, (refl, (refl, (refl, (refl, (refl, tt))))))))))))))) c.task-in-faults.ensures.answer
 
 pub returns-in-nodes-clause-tells : goal.returns-in-nodes-clause-tells
-returns-in-nodes-clause-tells c = tells _ (found_of c.args.given.now) c.task-in-nodes.result (nodes _ _ _ _ _) c.in-nodes.is (refl, (refl, (refl, (refl, (refl, tt))))) c.task-in-nodes.ensures.answer
+returns-in-nodes-clause-tells c = tells _ (found_of c.args.given.now) c.task-in-nodes.result (nodes _ _ _ _ _ _) c.in-nodes.is (refl, (refl, (refl, (refl, (refl, (refl, tt)))))) c.task-in-nodes.ensures.answer
 
 pub returns-in-groups-clause-tells : goal.returns-in-groups-clause-tells
 returns-in-groups-clause-tells c = tells _ (found_of c.args.given.now) c.task-in-groups.result (groups _) c.in-groups.is (refl, tt) c.task-in-groups.ensures.answer

@@ -1,6 +1,7 @@
 -- What was written behind the head, and a fault in it.
 use Rattle.std.proofs.Common.{rules}
 use Rattle.j39_listen.proofs.HeadedLemmas.{cut_in_head, ended_headed, ran_headed, stops_in_head}
+use Rattle.j39_listen.proofs.KeepingUp.{keeps_up_behind}
 use Rattle.j39_listen.proofs.headed.run_headed_keeping.Goals as goal
 
 pub returns-in-Ok-clause-ended : goal.returns-in-Ok-clause-ended
@@ -20,3 +21,7 @@ returns-in-Err-clause-ran g c = λ subject output met none. record {
   cut_short = λ _. cut_in_head c.args.head.now (g.A.Account.makes subject) c.args.bus _ _ _ c.in-Err.ensures.puts.front;
   prefix = stops_in_head c.args.head.now (g.A.Account.makes subject) c.args.bus _ _ _ c.in-Err.ensures.puts.front;
 }
+
+pub returns-in-Ok-clause-kept_up : goal.returns-in-Ok-clause-kept_up
+returns-in-Ok-clause-kept_up g c = λ read subject output met none.
+    keeps_up_behind (g.A.Account.has_met subject) c.args.head.now c.args.bus _ _ _ _ _ c.in-Ok.ensures.puts.written (c.run_keeping.ensures.kept_up read subject output met none)

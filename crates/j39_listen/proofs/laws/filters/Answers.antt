@@ -1,6 +1,6 @@
+use Rattle.std.proofs.Common.{refl}
 use Rattle.j39_listen.specs.Filter.{takes}
 use Rattle.j39_listen.proofs.FilterLemmas.{among, both, either_order, no_message, of_messages, whole}
-use Rattle.j39_listen.proofs.NodeLemmas.{from_none}
 use Rattle.j39_listen.proofs.laws.filters.Goals as goal
 
 pub returns : goal.returns
@@ -10,6 +10,6 @@ returns c = record {
   either_order = λ f g first entries. either_order (takes f first) (takes g first) entries;
   none = whole;
   no_message = no_message;
-  no_sender = from_none;
+  no_sender = λ nodes. refl;
   messages = of_messages;
 }

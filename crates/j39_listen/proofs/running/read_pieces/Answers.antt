@@ -5,6 +5,7 @@ use Rattle.std.specs.Io.KnownBytes.{Consumes}
 use Rattle.std.proofs.KnownBytes.{Consumes-kept, Consumes-nil, Consumes-trans}
 use Rattle.std.specs.Prelude.{Err}
 use Rattle.j39_listen.proofs.AskLemmas.{same_run_fault}
+use Rattle.j39_listen.proofs.KeepingUp.{keeps_up}
 use Rattle.j39_listen.proofs.PieceLemmas.{at_fault, front_of_all, front_of_more, front_of_no_more, front_of_taken, front_of_whole, no_fault, on_err_from, on_ok_from, so_of_whole}
 use Rattle.j39_listen.proofs.running.read_pieces.Goals as goal
 
@@ -192,3 +193,14 @@ returns-in-Err-clause-flushed g c = record {
   at_reads = search rules;
   at_memory = λ fails before. c.in-Err.ensures.passed_on (ap Err (same_run_fault _ _ fails));
 }
+
+pub returns-in_default-clause-kept_up : goal.returns-in_default-clause-kept_up
+returns-in_default-clause-kept_up g c = λ read subject given h.
+    let inv = c.pieces.invariant in
+    keeps_up (g.A.Account.has_met subject) given _ _ inv.0 c.pieces.pieces _ _ (Consumes-kept _ _ _ inv.0 inv.1 c.in_default.ensures.bytes) (inv.2 subject given h)
+
+pub returns-then-n-eq0-clause-kept_up : goal.returns-then-n-eq0-clause-kept_up
+returns-then-n-eq0-clause-kept_up g c = λ read. absurd (c.finish.ensures.not_read read)
+
+pub returns-in-Err-clause-kept_up : goal.returns-in-Err-clause-kept_up
+returns-in-Err-clause-kept_up g c = λ read. absurd (c.in-Err.ensures.not_read (ap Err (same_run_fault _ _ read)))

@@ -8,3 +8,6 @@ pub returns-clause-met : goal.returns-clause-met
 returns-clause-met g c =
     rw c.into_account.ensures (on_ok_from c.read_pieces-ran.result _ _
     (λ met subject output is none. met subject c.args.bus (c.new-pieces.ensures _ subject output is none)) c.read_pieces-ran.ensures.met)
+
+pub returns-clause-kept_up : goal.returns-clause-kept_up
+returns-clause-kept_up g c = λ read subject output met none. c.read_pieces-ran.ensures.kept_up read subject c.args.bus (c.new-pieces.ensures _ subject output met none)

@@ -1,12 +1,12 @@
 use Rattle.std.proofs.Common.{None, rules}
-use Rattle.j39_listen.specs.Headed.{MakesNodes}
+use Rattle.j39_listen.specs.SeenNodes.{MakesSeenNodes}
 use Rattle.j39_listen.specs.declared.format.Format.TheVariants.{Line}
-use Rattle.j39_listen.proofs.NodeLemmas.{nodes_one}
+use Rattle.j39_listen.proofs.SeenNodeLemmas.{seen_nodes_one}
 use Rattle.j39_web.proofs.RoomLemmas.{overflows}
 use Rattle.j39_web.proofs.texts.nodes.Goals as goal
 
 pub returns-clause-too_small : goal.returns-clause-too_small
 returns-clause-too_small c = λ fails.
-    let ran = c.nodes-ran.ensures in
-    overflows (MakesNodes Line None) (nodes_one _ None) c.args.bus c.args.log.now c.new-source.result.rest.now c.nodes-ran.result _ _ _ _ _ _ _
+    let ran = c.nodes_seen-ran.ensures in
+    overflows (MakesSeenNodes Line None) (seen_nodes_one Line None) c.args.bus c.args.log.now c.new-source.result.rest.now c.nodes_seen-ran.result _ _ _ _ _ _ _
     (search rules) (search rules) ran.ran.writes ran.ran.cut_short (search rules) (search rules) (search rules) (c.told.ensures.too_small fails) (search rules)

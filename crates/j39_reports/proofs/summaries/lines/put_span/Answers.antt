@@ -9,4 +9,4 @@ returns-in_err-put_bounds g c = puts_first _ _ _ _ _ c.from_residual.ensures.0 c
 
 pub returns : goal.returns
 unfolding range_in
-returns g c = puts_then _ _ _ _ _ _ _ c.in_ok-put_bounds.ensures c.put_unit.ensures
+returns g c = puts_then _ _ _ _ _ _ _ c.in_ok-put_bounds.ensures (rw c.unit.ensures at c.put_unit.ensures)
