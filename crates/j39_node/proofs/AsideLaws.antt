@@ -14,7 +14,8 @@ use Rattle.j39_node.specs.declared.kinds.Refused.TheVariants.{NoAddress, BadValu
 use Rattle.j39_node.specs.Aside.{IsAside}
 use Rattle.j39_node.specs.History.{Who, Message, Call, Address, Asked, accepted, acknowledged, acknowledgment, address_after, another_news, asked, asked_group, asked_with, broadcast_from, broadcasts, calls_for_claim, is_larger, is_own_group, is_subscribed, can_broadcast, can_send, claim_address, claim_from, claimed, due, got, handed, holds, is_acknowledgment, is_another, is_claim, is_for_program, is_held, is_lost, is_none, is_open, is_packet, is_session, is_smaller, is_some, is_transfer, kept, lost_news, message_from, message_of, missed_news, moment, older, open_broadcast, owes_claim, packets, pause, request_for, requests, sent, step, told, with_refusal, with_request}
 use Rattle.j39_node.specs.History.Address.{Lost}
-use Rattle.j39_node.specs.History.Call.{Ask, TakeAskEnded, Hear, Tick, TakeFrame, Send, TakeEnded, TakeReceived, TakeRequest, TakeNews, Acknowledge, Broadcast, TakeBroadcastEnded, ReleaseTransfer, Transfer, TakeTransferEnded, ReleaseBroadcast}
+use Rattle.j39_node.specs.History.Call.{At, TakeAskEnded, TakeEnded, TakeReceived, TakeRequest, TakeNews, TakeBroadcastEnded, ReleaseTransfer, TakeTransferEnded, ReleaseBroadcast}
+use Rattle.j39_node.specs.History.Act.{Ask, Hear, Tick, TakeFrame, Send, Acknowledge, Broadcast, Transfer}
 use Rattle.j39_node.specs.Reception.{Reception, has_place, heard_at, heard_by, held_then, holder, later, leaves, left, none_waits, reception, released_by, taken_by, ticked, time_heard, whole_by}
 use Rattle.j39_node.specs.Hearing.{OpenBroadcast, announces, changes, found, has_room, hearing, is_ignored, hears as hears_it, is_unheard, left as leaves_it, newly, packs, unheard_news, whole_of}
 use Rattle.j39_node.specs.Transfers.{Resting, Running, age, begun, can_transfer, clock, hears_if, holds_back, is_engaged, is_replaced, joined, open_transfer, rest, resting, rests_after, sends_if, transfer_by, transfer_end, transfers}
@@ -164,36 +165,36 @@ takes_with now f holds s = record (passes now s) {
 }
 
 abbrev next : Who → Call → State → State
-next w (Hear f) s = heard w f s
-next w (Tick now) s = record (passes now s) {
+next w (At @@ (Hear f)) s = heard w f s
+next w (At now Tick) s = record (passes now s) {
   heard_at = now;
   time = later s.time (now - s.heard_at);
   reception = ticked w.address now (later s.time (now - s.heard_at)) s.reception;
 }
-next w (TakeFrame now None) s = passes now s
-next w (TakeFrame now (Some f)) s = takes_with now f (λ b. if is_claim f then held_then b (claim_of f) (s.holder b) else s.holder b) s
-next w (Send now d (Ok k)) s = record (passes now s) { accepted = s.accepted ++ (k, message_from w d) ∷ [] }
-next w (Send now d (Err r)) s = passes now s
-next w (Ask now group to (Ok k)) s = record (passes now s) {
+next w (At now (TakeFrame None)) s = passes now s
+next w (At now (TakeFrame (Some f))) s = takes_with now f (λ b. if is_claim f then held_then b (claim_of f) (s.holder b) else s.holder b) s
+next w (At now (Send d (Ok k))) s = record (passes now s) { accepted = s.accepted ++ (k, message_from w d) ∷ [] }
+next w (At now (Send d (Err r))) s = passes now s
+next w (At now (Ask group to (Ok k))) s = record (passes now s) {
   accepted = s.accepted ++ (k, message_from w (request_for group to)) ∷ [];
   ask = Some (question k group to);
   ended = None;
 }
-next w (Ask now group to (Err r)) s = passes now s
-next w (Acknowledge now r a (Ok x)) s = record (passes now s) { due = s.due ++ acknowledgment w a r ∷ [] }
-next w (Acknowledge now r a (Err x)) s = passes now s
-next w (Broadcast now group bytes (Ok k)) s = record (passes now s) {
+next w (At now (Ask group to (Err r))) s = passes now s
+next w (At now (Acknowledge r a (Ok x))) s = record (passes now s) { due = s.due ++ acknowledgment w a r ∷ [] }
+next w (At now (Acknowledge r a (Err x))) s = passes now s
+next w (At now (Broadcast group bytes (Ok k))) s = record (passes now s) {
   broadcasts = s.broadcasts ++ broadcast_from w group bytes ∷ [];
   broadcast = Some (k, broadcast_from w group bytes);
   packets = [];
 }
-next w (Broadcast now group bytes (Err r)) s = passes now s
-next w (Transfer now group to bytes (Ok k)) s = record (passes now s) {
+next w (At now (Broadcast group bytes (Err r))) s = passes now s
+next w (At now (Transfer group to bytes (Ok k))) s = record (passes now s) {
   transfers = s.transfers ++ (to, broadcast_from w group bytes) ∷ [];
   transfer = Some (begun k (broadcast_from w group bytes) to);
   age = 0;
 }
-next w (Transfer now group to bytes (Err r)) s = passes now s
+next w (At now (Transfer group to bytes (Err r))) s = passes now s
 next w (TakeEnded None) s = s
 next w (TakeEnded (Some x)) s = record s { told = s.told ++ x ∷ [] }
 next w (TakeReceived None) s = s
@@ -219,12 +220,12 @@ next w (ReleaseBroadcast false) s = s
 next w (ReleaseBroadcast true) s = record s { hearing = None }
 
 state_is : (w : Who) (call : Call) (H : List Call) → state w (call ∷ H) ≡ next w call (state w H)
-state_is w (TakeFrame now None) H = refl
-state_is w (Send now d (Ok k)) H = refl
-state_is w (Ask now group to (Ok k)) H = refl
-state_is w (Acknowledge now r a (Ok x)) H = refl
-state_is w (Broadcast now group bytes (Ok k)) H = refl
-state_is w (Transfer now group to bytes (Ok k)) H = refl
+state_is w (At now (TakeFrame None)) H = refl
+state_is w (At now (Send d (Ok k))) H = refl
+state_is w (At now (Ask group to (Ok k))) H = refl
+state_is w (At now (Acknowledge r a (Ok x))) H = refl
+state_is w (At now (Broadcast group bytes (Ok k))) H = refl
+state_is w (At now (Transfer group to bytes (Ok k))) H = refl
 state_is w (TakeEnded None) H = refl
 state_is w (TakeReceived None) H = refl
 state_is w (TakeRequest None) H = refl
@@ -255,19 +256,19 @@ abbrev full_by : State → Bool
 full_by s = nat_eq (length s.accepted - length s.told) 16 || nat_eq (length s.accepted) 18446744073709551615
 
 abbrev Answers : Who → State → Call → Type 0
-Answers w s (TakeFrame now answer) = option_map stamped answer ≡ frame_by w s now
-Answers w s (Send now d answer) =
+Answers w s (At now (TakeFrame answer)) = option_map stamped answer ≡ frame_by w s now
+Answers w s (At now (Send d answer)) =
     answer ≡ (if holds_at s now then (if can_send w d then (if full_by s then Err Full else Ok (length s.accepted)) else Err BadValue) else Err NoAddress)
 Answers w s (TakeEnded answer) = answer ≡ end_of (nat_lt (length s.told) (length s.sent)) (is_lost s.address) (slice_get s.accepted (length s.told))
 Answers w s (TakeReceived answer) = answer ≡ slice_get s.kept (length s.got)
 Answers w s (TakeRequest answer) = answer ≡ slice_get s.requests (length s.handed)
 Answers w s (TakeNews answer) = answer ≡ news_of s.lost s.another (s.missed || s.unheard)
-Answers w s (Acknowledge now r answer result) =
+Answers w s (At now (Acknowledge r answer result)) =
     result
     ≡ (if holds_at s now
     then (if nat_eq r.destination w.address then (if nat_eq (length s.due - length s.acknowledged) 16 then Err Full else Ok tt) else Err BadValue)
     else Err NoAddress)
-Answers w s (Broadcast now group bytes answer) =
+Answers w s (At now (Broadcast group bytes answer)) =
     answer
     ≡ (if holds_at s now
     then (if can_broadcast group bytes
@@ -276,7 +277,7 @@ Answers w s (Broadcast now group bytes answer) =
     else Err NoAddress)
 Answers w s (TakeBroadcastEnded answer) = answer ≡ broadcast_end s.broadcast (length s.packets) (is_lost s.address)
 Answers w s (ReleaseTransfer answer) = answer ≡ not (has_place s.reception.waits)
-Answers w s (Transfer now group to bytes answer) =
+Answers w s (At now (Transfer group to bytes answer)) =
     answer
     ≡ (if holds_at s now
     then (if can_transfer w group to bytes
@@ -285,22 +286,22 @@ Answers w s (Transfer now group to bytes answer) =
     else Err BadValue)
     else Err NoAddress)
 Answers w s (TakeTransferEnded answer) = answer ≡ transfer_end s.transfer (is_lost s.address)
-Answers w s (Ask now group to answer) =
+Answers w s (At now (Ask group to answer)) =
     answer
     ≡ (if holds_at s now
     then (if can_ask w group to then (if full_by s || is_asking s.ask then Err Full else Ok (length s.accepted)) else Err BadValue)
     else Err NoAddress)
 Answers w s (TakeAskEnded answer) = answer ≡ ask_end s.ask (length s.sent) s.ended s.wait (is_lost s.address)
 Answers w s (ReleaseBroadcast answer) = answer ≡ not (has_place (whole_of s.hearing))
-Answers w s (Hear f) = Unit {0}
-Answers w s (Tick now) = Unit {0}
+Answers w s (At @@ (Hear f)) = Unit {0}
+Answers w s (At now Tick) = Unit {0}
 
 answered : (w : Who) (H : List Call) (call : Call) → IsAnswered w H call → Answers w (state w H) call
-answered w H (TakeFrame now a) h = h
+answered w H (At now (TakeFrame a)) h = h
 answered w H call h = h
 
 answers : (w : Who) (H : List Call) (call : Call) → Answers w (state w H) call → IsAnswered w H call
-answers w H (TakeFrame now a) h = h
+answers w H (At now (TakeFrame a)) h = h
 answers w H call h = h
 
 -- ---- so what is the same now stays the same
@@ -410,9 +411,9 @@ module _ (w : Who) (f : FrameRecord) (a : IsAside w f) where
   mine : is_smaller w (claim_of f) ≡ false
   mine = ap (is_smaller w) a.claims
 
-  pub aside_is : (H : List Call) → AreAnswered w H → state w (Hear f ∷ H) ≡ aside w f.stamp (state w H)
+  pub aside_is : (H : List Call) → AreAnswered w H → state w (At @@ (Hear f) ∷ H) ≡ aside w f.stamp (state w H)
   aside_is H right =
-      λ i. record (state w (Hear f ∷ H)) {
+      λ i. record (state w (At @@ (Hear f) ∷ H)) {
         address = lives i;
         owes = owes i;
         kept = keeps i;
@@ -432,29 +433,29 @@ module _ (w : Who) (f : FrameRecord) (a : IsAside w f) where
       held : Bool
       held = holds w H f.stamp
 
-      lives : address_after w (Hear f ∷ H) ≡ older (step H f.stamp) (address_after w H)
+      lives : address_after w (At @@ (Hear f) ∷ H) ≡ older (step H f.stamp) (address_after w H)
       lives = ap (λ (b : Bool). if b then Lost else older (step H f.stamp) (address_after w H)) mine
 
-      owes : owes_claim w (Hear f ∷ H) ≡ owes_claim w H
+      owes : owes_claim w (At @@ (Hear f) ∷ H) ≡ owes_claim w H
       owes = ap (λ (b : Bool). owes_claim w H || b) (uncalled (is_lost (address_after w H))) ∙ no_more (owes_claim w H)
 
-      keeps : kept w (Hear f ∷ H) ≡ kept w H
+      keeps : kept w (At @@ (Hear f) ∷ H) ≡ kept w H
       keeps = ap (λ (b : Bool). if b && nat_lt (length (kept w H) - length (got H)) 16 then kept w H ++ (f.stamp, message_of f) ∷ [] else kept w H) (unwanted held)
 
-      loses : lost_news w (Hear f ∷ H) ≡ lost_news w H
+      loses : lost_news w (At @@ (Hear f) ∷ H) ≡ lost_news w H
       loses = ap (λ (b : Bool). lost_news w H || (b && not (is_lost (address_after w H)))) mine ∙ no_more (lost_news w H)
 
-      others : another_news w (Hear f ∷ H) ≡ another_news w H
+      others : another_news w (At @@ (Hear f) ∷ H) ≡ another_news w H
       others = ap (λ (b : Bool). another_news w H || b) (not_mine held) ∙ no_more (another_news w H)
 
-      misses : missed_news w (Hear f ∷ H) ≡ missed_news w H
+      misses : missed_news w (At @@ (Hear f) ∷ H) ≡ missed_news w H
       misses = ap (λ (b : Bool). missed_news w H || (b && not (nat_lt (length (kept w H) - length (got H)) 16))) (unwanted held) ∙ no_more (missed_news w H)
 
-      unheard : unheard_news w (Hear f ∷ H) ≡ unheard_news w H
-      unheard = ap (λ (b : Bool). unheard_news w H || (b && (not (is_ignored w (frames.pgn_named f)) && not (has_room (time_heard (Hear f ∷ H)) (source_of f.id) (found w H f))))) unannounced
+      unheard : unheard_news w (At @@ (Hear f) ∷ H) ≡ unheard_news w H
+      unheard = ap (λ (b : Bool). unheard_news w H || (b && (not (is_ignored w (frames.pgn_named f)) && not (has_room (time_heard (At @@ (Hear f) ∷ H)) (source_of f.id) (found w H f))))) unannounced
           ∙ no_more (unheard_news w H)
 
-      receives : reception w (Hear f ∷ H) ≡ reception w H
+      receives : reception w (At @@ (Hear f) ∷ H) ≡ reception w H
       receives = to_others w H f mine (λ r z. unclaimed w H f r.message.source a.claims) (elsewhere w.address a.not_here)
 
       silent : (o : Option Question) (n left : ℕ) (lost : Bool) → end_at w o n left lost f (made w H f) ≡ silence_of o n left lost
@@ -468,28 +469,28 @@ module _ (w : Who) (f : FrameRecord) (a : IsAside w f) where
           go None true = refl
           go None false = refl
 
-      ends : ended w (Hear f ∷ H) ≡ first (ended w H) (silence_of (open_ask H) (length (sent H)) (wait H - step H f.stamp) (is_lost (older (step H f.stamp) (address_after w H))))
+      ends : ended w (At @@ (Hear f) ∷ H) ≡ first (ended w H) (silence_of (open_ask H) (length (sent H)) (wait H - step H f.stamp) (is_lost (older (step H f.stamp) (address_after w H))))
       ends =
           ap (λ (x : Address). first (ended w H) (end_at w (open_ask H) (length (sent H)) (wait H - step H f.stamp) (is_lost x) f (made w H f))) lives
           ∙ ap (first (ended w H)) (silent (open_ask H) (length (sent H)) (wait H - step H f.stamp) (is_lost (older (step H f.stamp) (address_after w H))))
 
 -- ---- so no answer tells which it was
 
-pub alike : (w : Who) (later H : List Call) (f g : FrameRecord) → IsAside w f → IsAside w g → f.stamp ≡ g.stamp → AreAnswered w (later ++ Hear f ∷ H)
-    → AreAnswered w (later ++ Hear g ∷ H)
+pub alike : (w : Who) (later H : List Call) (f g : FrameRecord) → IsAside w f → IsAside w g → f.stamp ≡ g.stamp → AreAnswered w (later ++ At @@ (Hear f) ∷ H)
+    → AreAnswered w (later ++ At @@ (Hear g) ∷ H)
 alike w later H f g a b e h =
-    let right = (before w later (Hear f ∷ H) h).0 in
-    same_answers w later (Hear f ∷ H) (Hear g ∷ H)
+    let right = (before w later (At @@ (Hear f) ∷ H) h).0 in
+    same_answers w later (At @@ (Hear f) ∷ H) (At @@ (Hear g) ∷ H)
     (aside_is w f a H right ∙ (ap (λ (n : ℕ). aside w n (state w H)) e ∙ sym (aside_is w g b H right))) (λ r. r) h
 
-pub timely : (w : Who) (later H : List Call) (f : FrameRecord) → IsAside w f → reception w (Tick f.stamp ∷ H) ≡ reception w H → ended w (Hear f ∷ H) ≡ ended w H
-    → (AreAnswered w (later ++ Hear f ∷ H) ↔ AreAnswered w (later ++ Tick f.stamp ∷ H))
+pub timely : (w : Who) (later H : List Call) (f : FrameRecord) → IsAside w f → reception w (At f.stamp Tick ∷ H) ≡ reception w H → ended w (At @@ (Hear f) ∷ H) ≡ ended w H
+    → (AreAnswered w (later ++ At @@ (Hear f) ∷ H) ↔ AreAnswered w (later ++ At f.stamp Tick ∷ H))
 timely w later H f a quiet none = (
-  λ h. same_answers w later (Hear f ∷ H) (Tick f.stamp ∷ H) (same (before w later (Hear f ∷ H) h).0) (λ r. r) h,
-  λ h. same_answers w later (Tick f.stamp ∷ H) (Hear f ∷ H) (sym (same (before w later (Tick f.stamp ∷ H) h).0)) (λ r. r) h,
+  λ h. same_answers w later (At @@ (Hear f) ∷ H) (At f.stamp Tick ∷ H) (same (before w later (At @@ (Hear f) ∷ H) h).0) (λ r. r) h,
+  λ h. same_answers w later (At f.stamp Tick ∷ H) (At @@ (Hear f) ∷ H) (sym (same (before w later (At f.stamp Tick ∷ H) h).0)) (λ r. r) h,
 )
   where
-    same : AreAnswered w H → state w (Hear f ∷ H) ≡ state w (Tick f.stamp ∷ H)
+    same : AreAnswered w H → state w (At @@ (Hear f) ∷ H) ≡ state w (At f.stamp Tick ∷ H)
     same right =
         (λ i. record (aside_is w f a H right i) { ended = none i })
-        ∙ λ i. record (state w (Tick f.stamp ∷ H)) { reception = sym quiet i }
+        ∙ λ i. record (state w (At f.stamp Tick ∷ H)) { reception = sym quiet i }

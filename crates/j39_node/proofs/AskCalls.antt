@@ -7,7 +7,8 @@ use Rattle.j39_node.specs.declared.outgoing.Outgoing.{Outgoing}
 use Rattle.j39_node.specs.declared.kinds.Refused.{Refused}
 use Rattle.std.specs.Option.{option_map}
 use Rattle.j39_node.specs.History.{Who, Message, Call, accepted, is_full, message_from, request_for, sent, told, told_claims}
-use Rattle.j39_node.specs.History.Call.{Ask}
+use Rattle.j39_node.specs.History.Call.{At}
+use Rattle.j39_node.specs.History.Act.{Ask}
 use Rattle.j39_node.specs.Asking.{answer_to_ask, ended, is_asking, open_ask, question}
 use Rattle.j39_node.specs.Is.{hearing_of, AskRecord, Is, ask_record, asking_of, incoming_of, lane_of, port_of, posted, received_by, refusal_by, request_by, who_of}
 use Rattle.j39_node.proofs.QueueLemmas.{drop_append, length_one_more, map_append}
@@ -26,7 +27,7 @@ busy_is w H c h =
     (ap (λ (o : Option AskRecord). is_asking (option_map (λ (x : AskRecord). x.question) o)) h.asking ∙ asking_is (open_ask H) (length (sent H)) (ended w H))
 
 pub refuses_ask : (w : Who) (H : List Call) (old new : Controller) (now group to : ℕ) (r : Refused) → Is w H old → Passed w H now new.hold
-    → Err r ≡ answer_to_ask w H now group to → new ≡ record old { hold = new.hold } → Is w (Ask now group to (Err r) ∷ H) new
+    → Err r ≡ answer_to_ask w H now group to → new ≡ record old { hold = new.hold } → Is w (At now (Ask group to (Err r)) ∷ H) new
 refuses_ask w H old new now group to r h p answer e = record {
   who = ap (λ c. who_of w.known c.own) e ∙ h.who;
   answered = (h.answered, answer);
@@ -54,7 +55,7 @@ pub asks_one : (w : Who) (H : List Call) (old new : Controller) (now group to : 
     → Ok old.next_token ≡ answer_to_ask w H now group to → posted x ≡ (old.next_token, message_from w (request_for group to))
     → new ≡ record old { hold = new.hold; outgoing = new.outgoing; next_token = new.next_token; asking = new.asking } → new.outgoing.items ≡ old.outgoing.items ++ x ∷ []
     → new.next_token ≡ suc old.next_token → asking_of new.asking ≡ Some (ask_record q)
-    → ask_record q ≡ record { question = question old.next_token group to; taken = false; ending = None } → Is w (Ask now group to (Ok old.next_token) ∷ H) new
+    → ask_record q ≡ record { question = question old.next_token group to; taken = false; ending = None } → Is w (At now (Ask group to (Ok old.next_token)) ∷ H) new
 asks_one w H old new now group to x q h p answer is e e0 e1 e2 e3 =
     let s = sound w H h.answered in
     let m = message_from w (request_for group to) in

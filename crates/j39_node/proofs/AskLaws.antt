@@ -11,7 +11,8 @@ use Rattle.j39_node.specs.declared.kinds.AskEnding.TheVariants.{Answered, Acknow
 use Rattle.j39_node.specs.declared.kinds.Refused.{Refused}
 use Rattle.j39_node.specs.declared.kinds.Refused.TheVariants.{NoAddress, BadValue, Full}
 use Rattle.j39_node.specs.History.{Who, Message, Call, accepted, address_after, holds, is_acknowledgment, is_claim, is_full, is_lost, is_session, is_smaller, message_from, message_of, moment, request_for, sent, step, told}
-use Rattle.j39_node.specs.History.Call.{Ask, Hear, Send, TakeAskEnded, TakeFrame}
+use Rattle.j39_node.specs.History.Call.{At, TakeAskEnded}
+use Rattle.j39_node.specs.History.Act.{Ask, Hear, Send, TakeFrame}
 use Rattle.j39_address.specs.Claim.{claim_of}
 use Rattle.j39_node.specs.Since.{passed_in}
 use Rattle.j39_node.specs.Asking.{is_whole, made, AskedSince, HeardFirst, NoneEnds, Question, ask_end, asks, can_ask, end_at, ended, ends, first, has_token, is_answer, is_asking, is_message, is_reply, is_request, is_taken, open_ask, question, reaches, said_by, says_to, silent_end, told_asks, wait}
@@ -58,7 +59,7 @@ listed w (call ∷ H) e = go call e.1 (listed w H e.0)
 
     go : (call : Call) → IsAnswered w H call → Listed (length (told_asks H)) (asks H) (open_ask H)
         → Listed (length (told_asks (call ∷ H))) (asks (call ∷ H)) (open_ask (call ∷ H))
-    go (Ask now group to (Ok k)) right h = new (open_ask H) (question k group to) (opens w H now group to k (ask_case w H now group to (Ok k) right)).1 h
+    go (At now (Ask group to (Ok k))) right h = new (open_ask H) (question k group to) (opens w H now group to k (ask_case w H now group to (Ok k) right)).1 h
     go (TakeAskEnded (Some x)) right h = over (open_ask H) (length (sent H)) (wait H) (ended w H) (is_lost (address_after w H)) x right h
     go call right h = h
 
@@ -71,8 +72,8 @@ get_before (z ∷ L) y (suc i) x e = get_before L y i x e
 
 -- what is accepted stays where it is
 grows_on : (w : Who) (H : List Call) (call : Call) (n : ℕ) (x : ℕ × Message) → slice_get (accepted w H) n ≡ Some x → slice_get (accepted w (call ∷ H)) n ≡ Some x
-grows_on w H (Send now draft (Ok k)) n x e = get_before (accepted w H) _ n x e
-grows_on w H (Ask now group to (Ok k)) n x e = get_before (accepted w H) _ n x e
+grows_on w H (At now (Send draft (Ok k))) n x e = get_before (accepted w H) _ n x e
+grows_on w H (At now (Ask group to (Ok k))) n x e = get_before (accepted w H) _ n x e
 grows_on w H call n x e = e
 
 pub request_sent : (w : Who) (H : List Call) → AreAnswered w H → (i : ℕ) (q : Question) → slice_get (asks H) i ≡ Some q
@@ -83,7 +84,7 @@ request_sent w (call ∷ H) e i q g = go call e.1 (request_sent w H e.0) i q g
     Sent : List Call → Type 0
     Sent G = (i : ℕ) (q : Question) → slice_get (asks G) i ≡ Some q → slice_get (accepted w G) q.token ≡ Some (q.token, message_from w (request_for q.group q.to))
 
-    new : (now group to k : ℕ) → k ≡ length (accepted w H) → Sent H → Sent (Ask now group to (Ok k) ∷ H)
+    new : (now group to k : ℕ) → k ≡ length (accepted w H) → Sent H → Sent (At now (Ask group to (Ok k)) ∷ H)
     new now group to k t h = λ i q g. elim (get_append (asks H) (question k group to) i q g) [
       | inl old ↦ get_before (accepted w H) _ q.token _ (h i q old)
       | inr last ↦ subst (λ (p : Question). slice_get (accepted w H ++ (k, message_from w (request_for group to)) ∷ []) p.token ≡ Some (p.token, message_from w (request_for p.group p.to)))
@@ -93,7 +94,7 @@ request_sent w (call ∷ H) e i q g = go call e.1 (request_sent w H e.0) i q g
     ]
 
     go : (call : Call) → IsAnswered w H call → Sent H → Sent (call ∷ H)
-    go (Ask now group to (Ok k)) right h = new now group to k (opens w H now group to k (ask_case w H now group to (Ok k) right)).2 h
+    go (At now (Ask group to (Ok k))) right h = new now group to k (opens w H now group to k (ask_case w H now group to (Ok k) right)).2 h
     go call right h = λ i q g. grows_on w H call q.token _ (h i q g)
 
 -- ---- since when it waits
@@ -108,7 +109,7 @@ later_asked H call q e h = record {
   current = h.current;
   request = h.request;
   passed = ap (λ (n : ℕ). n + step H (moment (call ∷ H))) h.passed
-      ∙ ap (λ (G : List Call). passed_in h.later (TakeFrame h.at (Some h.frame) ∷ h.earlier) + step G (moment (call ∷ G))) h.is;
+      ∙ ap (λ (G : List Call). passed_in h.later (At h.at (TakeFrame (Some h.frame)) ∷ h.earlier) + step G (moment (call ∷ G))) h.is;
 }
 
 abbrev Waits : List Call → Question → Type 0
@@ -119,13 +120,13 @@ waits_on H call q p h = let l = h.2 in (h.0 + step H (moment (call ∷ H)), late
 
 -- a frame that isn't its request takes nothing of it
 not_taken_by : (H : List Call) (now : ℕ) (f : FrameRecord) (q : Question) → open_ask H ≡ Some q → is_request H f ≡ false
-    → is_taken q (TakeFrame now (Some f) ∷ H) ≡ true → is_taken q H ≡ true
+    → is_taken q (At now (TakeFrame (Some f)) ∷ H) ≡ true → is_taken q H ≡ true
 not_taken_by H now f q o r t = go (is_claim f || (is_acknowledgment f || is_session f)) refl r t
   where
     less : (k n : ℕ) → nat_eq k n ≡ false → nat_lt k (suc n) ≡ true → nat_lt k n ≡ true
     less k n e g = grind arith
 
-    go : (b : Bool) → (is_claim f || (is_acknowledgment f || is_session f)) ≡ b → is_request H f ≡ false → is_taken q (TakeFrame now (Some f) ∷ H) ≡ true → is_taken q H ≡ true
+    go : (b : Bool) → (is_claim f || (is_acknowledgment f || is_session f)) ≡ b → is_request H f ≡ false → is_taken q (At now (TakeFrame (Some f)) ∷ H) ≡ true → is_taken q H ≡ true
     go true e r t = sym (ap (λ (x : Bool). nat_lt q.token (length (if x then sent H else sent H ++ message_of f ∷ []))) e) ∙ t
     go false e r t =
         less q.token (length (sent H)) (sym (ap (λ (x : Bool). not x && has_token (open_ask H) (length (sent H))) e ∙ ap (λ (x : Option Question). has_token x (length (sent H))) o) ∙ r)
@@ -138,22 +139,22 @@ waits w (call ∷ H) e q o t = go call e.1 (λ i k. waits w H e.0 q i k) o t
     late : (k n : ℕ) → n ≤ k → nat_lt k n ≡ true → ⊥
     late k n l g = grind arith
 
-    fresh : (now group to k : ℕ) → k ≡ length (accepted w H) → question k group to ≡ q → is_taken q H ≡ true → Waits (Ask now group to (Ok k) ∷ H) q
+    fresh : (now group to k : ℕ) → k ≡ length (accepted w H) → question k group to ≡ q → is_taken q H ≡ true → Waits (At now (Ask group to (Ok k)) ∷ H) q
     fresh now group to k z p g = absurd (late q.token (length (sent H))
         (let a = sent_within w H (sound w H e.0) in let b = ap (λ (y : Question). y.token) p in omega (arith, a, b, z)) g)
 
-    takes : (now : ℕ) (f : FrameRecord) (b : Bool) → (open_ask H ≡ Some q → is_taken q H ≡ true → Waits H q) → is_request H f ≡ b → open_ask H ≡ Some q → is_taken q (TakeFrame now (Some f) ∷ H) ≡ true
-        → Waits (TakeFrame now (Some f) ∷ H) q
+    takes : (now : ℕ) (f : FrameRecord) (b : Bool) → (open_ask H ≡ Some q → is_taken q H ≡ true → Waits H q) → is_request H f ≡ b → open_ask H ≡ Some q → is_taken q (At now (TakeFrame (Some f)) ∷ H) ≡ true
+        → Waits (At now (TakeFrame (Some f)) ∷ H) q
     takes now f true prior r o t =
         (0, record { later = []; earlier = H; at = now; frame = f; is = refl; current = o; request = r; passed = refl }, ap (λ (b : Bool). if b then 1250000 else wait H - step H now) r)
     takes now f false prior r o t =
-        waits_on H (TakeFrame now (Some f)) q (ap (λ (b : Bool). if b then 1250000 else wait H - step H now) r) (prior o (not_taken_by H now f q o r t))
+        waits_on H (At now (TakeFrame (Some f))) q (ap (λ (b : Bool). if b then 1250000 else wait H - step H now) r) (prior o (not_taken_by H now f q o r t))
 
     go : (call : Call) → IsAnswered w H call → (open_ask H ≡ Some q → is_taken q H ≡ true → Waits H q) → open_ask (call ∷ H) ≡ Some q → is_taken q (call ∷ H) ≡ true → Waits (call ∷ H) q
-    go (Ask now group to (Ok k)) right prior o t =
+    go (At now (Ask group to (Ok k))) right prior o t =
         fresh now group to k (opens w H now group to k (ask_case w H now group to (Ok k) right)).2 (let z : question k group to ≡ q = cc in z) t
     go (TakeAskEnded (Some x)) right prior o t = absurd (cc)
-    go (TakeFrame now (Some f)) right prior o t = takes now f (is_request H f) prior refl o t
+    go (At now (TakeFrame (Some f))) right prior o t = takes now f (is_request H f) prior refl o t
     go call right prior o t = waits_on H call q (omega arith) (prior o t)
 
 -- ---- how it ends
@@ -244,10 +245,10 @@ not_over taken left lost z = go taken (nat_eq left 0) lost refl refl refl z
 
 -- a frame ends it
 ends_by : (w : Who) (H : List Call) (f : FrameRecord) (q : Question) (e : AskEnding) → AreAnswered w H → open_ask H ≡ Some q → ended w H ≡ None
-    → end_at w (Some q) (length (sent H)) (wait H - step H f.stamp) (is_lost (address_after w (Hear f ∷ H))) f (made w H f) ≡ Some e → Outcome w (Hear f ∷ H) q e
-ends_by w H f q e right o n z = go (silent_end (is_taken q H) (wait H - step H f.stamp) (is_lost (address_after w (Hear f ∷ H)))) (is_taken q H) refl refl z
+    → end_at w (Some q) (length (sent H)) (wait H - step H f.stamp) (is_lost (address_after w (At @@ (Hear f) ∷ H))) f (made w H f) ≡ Some e → Outcome w (At @@ (Hear f) ∷ H) q e
+ends_by w H f q e right o n z = go (silent_end (is_taken q H) (wait H - step H f.stamp) (is_lost (address_after w (At @@ (Hear f) ∷ H)))) (is_taken q H) refl refl z
   where
-    timely : is_taken q H ≡ true → 0 < wait H - step H f.stamp → says_to w q f (made w H f) ≡ Some e → Outcome w (Hear f ∷ H) q e
+    timely : is_taken q H ≡ true → 0 < wait H - step H f.stamp → says_to w q f (made w H f) ≡ Some e → Outcome w (At @@ (Hear f) ∷ H) q e
     timely t l s =
         let a = waits w H right q o t in
         let b = a.2 in
@@ -264,15 +265,15 @@ ends_by w H f q e right o n z = go (silent_end (is_taken q H) (wait H - step H f
           says = s;
         })
 
-    out : is_taken q H ≡ true → wait H - step H f.stamp ≡ 0 → e ≡ TimedOut → Outcome w (Hear f ∷ H) q e
+    out : is_taken q H ≡ true → wait H - step H f.stamp ≡ 0 → e ≡ TimedOut → Outcome w (At @@ (Hear f) ∷ H) q e
     out t l y =
         let a = waits w H right q o t in
         let b = a.2 in
-        by_time (a.0 + step H f.stamp) y (later_asked H (Hear f) q a.0 a.1) (omega (arith, b, l))
+        by_time (a.0 + step H f.stamp) y (later_asked H (At @@ (Hear f)) q a.0 a.1) (omega (arith, b, l))
 
-    go : (s : Option AskEnding) (b : Bool) → silent_end (is_taken q H) (wait H - step H f.stamp) (is_lost (address_after w (Hear f ∷ H))) ≡ s → is_taken q H ≡ b
-        → first s (if b then says_to w q f (made w H f) else None) ≡ Some e → Outcome w (Hear f ∷ H) q e
-    go (Some x) b p r z = silently w (Hear f ∷ H) q e _ _ _ (p ∙ z) out (λ l y. by_loss y l)
+    go : (s : Option AskEnding) (b : Bool) → silent_end (is_taken q H) (wait H - step H f.stamp) (is_lost (address_after w (At @@ (Hear f) ∷ H))) ≡ s → is_taken q H ≡ b
+        → first s (if b then says_to w q f (made w H f) else None) ≡ Some e → Outcome w (At @@ (Hear f) ∷ H) q e
+    go (Some x) b p r z = silently w (At @@ (Hear f) ∷ H) q e _ _ _ (p ∙ z) out (λ l y. by_loss y l)
     go None true p r z = timely r ((not_over (is_taken q H) _ _ p).1 r) z
     go None false p r z = absurd (cc)
 
@@ -281,18 +282,18 @@ outcome w [] right q e o z = absurd (cc)
 outcome w (call ∷ H) right q e o z = go call (λ i k. outcome w H right.0 q e i k) o z
   where
     hears : (f : FrameRecord) (b : Option AskEnding) → (open_ask H ≡ Some q → ended w H ≡ Some e → Outcome w H q e) → open_ask H ≡ Some q → ended w H ≡ b
-        → first b (end_at w (open_ask H) (length (sent H)) (wait H - step H f.stamp) (is_lost (address_after w (Hear f ∷ H))) f (made w H f)) ≡ Some e → Outcome w (Hear f ∷ H) q e
-    hears f (Some x) prior o p z = later_outcome w H (Hear f) q e (stays_lost (is_smaller w (claim_of f)) (step H f.stamp) (address_after w H)) (prior o (p ∙ z))
+        → first b (end_at w (open_ask H) (length (sent H)) (wait H - step H f.stamp) (is_lost (address_after w (At @@ (Hear f) ∷ H))) f (made w H f)) ≡ Some e → Outcome w (At @@ (Hear f) ∷ H) q e
+    hears f (Some x) prior o p z = later_outcome w H (At @@ (Hear f)) q e (stays_lost (is_smaller w (claim_of f)) (step H f.stamp) (address_after w H)) (prior o (p ∙ z))
     hears f None prior o p z = ends_by w H f q e right.0 o p
-        (sym (ap (λ (x : Option Question). end_at w x (length (sent H)) (wait H - step H f.stamp) (is_lost (address_after w (Hear f ∷ H))) f (made w H f)) o) ∙ z)
+        (sym (ap (λ (x : Option Question). end_at w x (length (sent H)) (wait H - step H f.stamp) (is_lost (address_after w (At @@ (Hear f) ∷ H))) f (made w H f)) o) ∙ z)
 
     go : (call : Call) → (open_ask H ≡ Some q → ended w H ≡ Some e → Outcome w H q e) → open_ask (call ∷ H) ≡ Some q → ended w (call ∷ H) ≡ Some e
         → Outcome w (call ∷ H) q e
-    go (Ask now group to (Ok k)) prior o z = absurd (cc)
+    go (At now (Ask group to (Ok k))) prior o z = absurd (cc)
     go (TakeAskEnded (Some x)) prior o z = absurd (cc)
-    go (Hear f) prior o z = hears f (ended w H) prior o refl z
-    go (TakeFrame now (Some f)) prior o z =
-        later_outcome w H (TakeFrame now (Some f)) q e (stays_lost_claimed (is_claim f) (step H now) (address_after w H)) (prior o z)
+    go (At @@ (Hear f)) prior o z = hears f (ended w H) prior o refl z
+    go (At now (TakeFrame (Some f))) prior o z =
+        later_outcome w H (At now (TakeFrame (Some f))) q e (stays_lost_claimed (is_claim f) (step H now) (address_after w H)) (prior o z)
     go call prior o z =
         later_outcome w H call q e (λ l. let y = lost_older (step H (moment (call ∷ H))) (address_after w H) in cc) (prior o z)
 
@@ -324,11 +325,11 @@ told_is w H c k e is = go (open_ask H) (ended w H) refl refl is.answered.1
 
 -- ---- what ask answers
 
-answers : (w : Who) (H : List Call) (c : Controller) (now group to : ℕ) (answer : Result ℕ Refused) → Is w (Ask now group to answer ∷ H) c → AskCase w H now group to answer
+answers : (w : Who) (H : List Call) (c : Controller) (now group to : ℕ) (answer : Result ℕ Refused) → Is w (At now (Ask group to answer) ∷ H) c → AskCase w H now group to answer
 answers w H c now group to answer is = ask_case w H now group to answer is.answered.1
 
 pub refused_address : (w : Who) (H : List Call) (c : Controller) (now group to : ℕ) (answer : Result ℕ Refused)
-    → Is w (Ask now group to answer ∷ H) c → (answer ≡ Err NoAddress ↔ (IsTrue (holds w H now) → ⊥))
+    → Is w (At now (Ask group to answer) ∷ H) c → (answer ≡ Err NoAddress ↔ (IsTrue (holds w H now) → ⊥))
 refused_address w H c now group to answer is = go (answers w H c now group to answer is)
   where
     go : AskCase w H now group to answer → (answer ≡ Err NoAddress ↔ (IsTrue (holds w H now) → ⊥))
@@ -338,7 +339,7 @@ refused_address w H c now group to answer is = go (answers w H c now group to an
     go (accepts a b f e) = (λ z. absurd (cc), λ z. absurd (z a))
 
 pub refused_value : (w : Who) (H : List Call) (c : Controller) (now group to : ℕ) (answer : Result ℕ Refused)
-    → Is w (Ask now group to answer ∷ H) c → (answer ≡ Err BadValue ↔ (IsTrue (holds w H now) × (IsTrue (can_ask w group to) → ⊥)))
+    → Is w (At now (Ask group to answer) ∷ H) c → (answer ≡ Err BadValue ↔ (IsTrue (holds w H now) × (IsTrue (can_ask w group to) → ⊥)))
 refused_value w H c now group to answer is = go (answers w H c now group to answer is)
   where
     go : AskCase w H now group to answer → (answer ≡ Err BadValue ↔ (IsTrue (holds w H now) × (IsTrue (can_ask w group to) → ⊥)))
@@ -372,7 +373,7 @@ from_limit w H right e (inr z) = go (is_full w H) e (full_from (length (accepted
     go true f g = absurd (cc)
     go false f g = absurd (cc)
 
-pub refused_full : (w : Who) (H : List Call) (c : Controller) (now group to : ℕ) (answer : Result ℕ Refused) → Is w (Ask now group to answer ∷ H) c
+pub refused_full : (w : Who) (H : List Call) (c : Controller) (now group to : ℕ) (answer : Result ℕ Refused) → Is w (At now (Ask group to answer) ∷ H) c
     → (answer ≡ Err Full ↔ (IsTrue (holds w H now) × IsTrue (can_ask w group to) × AtLimit w H))
 refused_full w H c now group to answer is = go (answers w H c now group to answer is)
   where
@@ -382,7 +383,7 @@ refused_full w H c now group to answer is = go (answers w H c now group to answe
     go (busy a b f e) = (λ z. (a, b, limit w H is.answered.0 f), λ z. e)
     go (accepts a b f e) = (λ z. absurd (cc), λ z. absurd (from_limit w H is.answered.0 f z.2))
 
-pub is_accepted : (w : Who) (H : List Call) (c : Controller) (now group to : ℕ) (answer : Result ℕ Refused) → Is w (Ask now group to answer ∷ H) c
+pub is_accepted : (w : Who) (H : List Call) (c : Controller) (now group to : ℕ) (answer : Result ℕ Refused) → Is w (At now (Ask group to answer) ∷ H) c
     → IsTrue (holds w H now) → IsTrue (can_ask w group to) → length (asks H) ≡ length (told_asks H) → length (accepted w H) < length (told H) + 16
     → length (accepted w H) < 18446744073709551615 → answer ≡ Ok (length (accepted w H))
 is_accepted w H c now group to answer is held can none room some = go (answers w H c now group to answer is)
@@ -398,7 +399,7 @@ is_accepted w H c now group to answer is held can none room some = go (answers w
     go (busy a b f e) = absurd (no (limit w H is.answered.0 f))
     go (accepts a b f e) = e
 
-pub token_is : (w : Who) (H : List Call) (c : Controller) (now group to k : ℕ) → Is w (Ask now group to (Ok k) ∷ H) c → k ≡ length (accepted w H)
+pub token_is : (w : Who) (H : List Call) (c : Controller) (now group to k : ℕ) → Is w (At now (Ask group to (Ok k)) ∷ H) c → k ≡ length (accepted w H)
 token_is w H c now group to k is = (opens w H now group to k (answers w H c now group to (Ok k) is)).2
 
 -- ---- its frame
@@ -408,7 +409,7 @@ pub frame_is : (w : Who) (H : List Call) (c : Controller) (i : ℕ) (q : Questio
 frame_is w H c i q is g = request_sent w H is.answered i q g
 
 pub taken_once : (H : List Call) (now : ℕ) (f : FrameRecord) (q : Question) → open_ask H ≡ Some q → IsTrue (is_request H f)
-    → (is_taken q H ≡ false) × IsTrue (is_taken q (TakeFrame now (Some f) ∷ H)) × (length (sent H) ≡ q.token)
+    → (is_taken q H ≡ false) × IsTrue (is_taken q (At now (TakeFrame (Some f)) ∷ H)) × (length (sent H) ≡ q.token)
 taken_once H now f q o r =
     let b = both (is_message f) (has_token (open_ask H) (length (sent H))) r in
     let z = eqb-true q.token (length (sent H)) (sym (ap (λ (x : Option Question). has_token x (length (sent H))) o) ∙ b.1) in (
@@ -492,12 +493,12 @@ stays w (call ∷ later) H q e n o z = go call n.0 (stays w later H q e n.1 o z)
   where
     go : (call : Call) → ends call ≡ false → (open_ask (later ++ H) ≡ Some q) × (ended w (later ++ H) ≡ Some e)
         → (open_ask (call ∷ later ++ H) ≡ Some q) × (ended w (call ∷ later ++ H) ≡ Some e)
-    go (Ask now group to (Ok k)) x h = absurd (cc)
+    go (At now (Ask group to (Ok k))) x h = absurd (cc)
     go (TakeAskEnded (Some y)) x h = absurd (cc)
-    go (Hear f) x h = (
+    go (At @@ (Hear f)) x h = (
       h.0,
       ap (λ (o : Option AskEnding). first o (end_at w (open_ask (later ++ H)) (length (sent (later ++ H))) (wait (later ++ H) - step (later ++ H) f.stamp)
-          (is_lost (address_after w (Hear f ∷ later ++ H))) f (made w (later ++ H) f))) h.1,
+          (is_lost (address_after w (At @@ (Hear f) ∷ later ++ H))) f (made w (later ++ H) f))) h.1,
     )
     go call x h = h
 
@@ -505,17 +506,17 @@ some_left : (a b : ℕ) → b < a → nat_eq (a - b) 0 ≡ false
 some_left a b g = grind arith
 
 pub first_stands : (w : Who) (H later : List Call) (c : Controller) (f : FrameRecord) (q : Question) (e : AskEnding) (answer : Option (ℕ × AskEnding))
-    → Is w (TakeAskEnded answer ∷ later ++ Hear f ∷ H) c → NoneEnds later → open_ask H ≡ Some q → IsTrue (is_taken q H) → ended w H ≡ None
-    → step H f.stamp < wait H → is_lost (address_after w (Hear f ∷ H)) ≡ false → says_to w q f (made w H f) ≡ Some e → answer ≡ Some (q.token, e)
+    → Is w (TakeAskEnded answer ∷ later ++ At @@ (Hear f) ∷ H) c → NoneEnds later → open_ask H ≡ Some q → IsTrue (is_taken q H) → ended w H ≡ None
+    → step H f.stamp < wait H → is_lost (address_after w (At @@ (Hear f) ∷ H)) ≡ false → says_to w q f (made w H f) ≡ Some e → answer ≡ Some (q.token, e)
 first_stands w H later c f q e answer is n o t none l kept says =
-    let G = later ++ Hear f ∷ H in
-    let now : ended w (Hear f ∷ H) ≡ Some e =
-    ap (λ (x : Option AskEnding). first x (end_at w (open_ask H) (length (sent H)) (wait H - step H f.stamp) (is_lost (address_after w (Hear f ∷ H))) f (made w H f))) none
-    ∙ (ap (λ (x : Option Question). end_at w x (length (sent H)) (wait H - step H f.stamp) (is_lost (address_after w (Hear f ∷ H))) f (made w H f)) o
-    ∙ (ap (λ (b : Bool). first (silent_end b (wait H - step H f.stamp) (is_lost (address_after w (Hear f ∷ H)))) (if b then says_to w q f (made w H f) else None)) t
-    ∙ (ap (λ (b : Bool). first (if b then Some TimedOut else if is_lost (address_after w (Hear f ∷ H)) then Some Withdrawn else None) (says_to w q f (made w H f))) (some_left (wait H) (step H f.stamp) l)
+    let G = later ++ At @@ (Hear f) ∷ H in
+    let now : ended w (At @@ (Hear f) ∷ H) ≡ Some e =
+    ap (λ (x : Option AskEnding). first x (end_at w (open_ask H) (length (sent H)) (wait H - step H f.stamp) (is_lost (address_after w (At @@ (Hear f) ∷ H))) f (made w H f))) none
+    ∙ (ap (λ (x : Option Question). end_at w x (length (sent H)) (wait H - step H f.stamp) (is_lost (address_after w (At @@ (Hear f) ∷ H))) f (made w H f)) o
+    ∙ (ap (λ (b : Bool). first (silent_end b (wait H - step H f.stamp) (is_lost (address_after w (At @@ (Hear f) ∷ H)))) (if b then says_to w q f (made w H f) else None)) t
+    ∙ (ap (λ (b : Bool). first (if b then Some TimedOut else if is_lost (address_after w (At @@ (Hear f) ∷ H)) then Some Withdrawn else None) (says_to w q f (made w H f))) (some_left (wait H) (step H f.stamp) l)
     ∙ (ap (λ (b : Bool). first (if b then Some Withdrawn else None) (says_to w q f (made w H f))) kept ∙ says)))) in
-    let s = stays w later (Hear f ∷ H) q e n o now in
+    let s = stays w later (At @@ (Hear f) ∷ H) q e n o now in
     is.answered.1
     ∙ (ap (λ (x : Option Question). ask_end x (length (sent G)) (ended w G) (wait G) (is_lost (address_after w G))) s.0
     ∙ ap (λ (x : Option AskEnding). ask_end (Some q) (length (sent G)) x (wait G) (is_lost (address_after w G))) s.1)

@@ -4,7 +4,8 @@ use Rattle.std.specs.Option.{option_map}
 use Rattle.j39_frame.specs.Frame.{FrameRecord}
 use Rattle.j39_node.specs.declared.kinds.AskEnding.{AskEnding}
 use Rattle.j39_node.specs.History.{Who, Message, Call, is_acknowledgment, is_claim, is_session, message_of, sent, step}
-use Rattle.j39_node.specs.History.Call.{TakeFrame}
+use Rattle.j39_node.specs.History.Call.{At}
+use Rattle.j39_node.specs.History.Act.{TakeFrame}
 use Rattle.j39_node.specs.Asking.{Question, end_at, ended, first, has_token, is_asking, is_message, is_request, open_ask, wait, ask_end}
 use Rattle.j39_node.specs.Is.{AskRecord, asked_by, asking_after, ended_with, hears_with}
 use Rattle.j39_node.proofs.SoundLemmas.{sent_is}
@@ -21,11 +22,11 @@ no_request H f a b s e g i z =
 
 -- a frame that is no message leaves it
 pub wait_same : (H : List Call) (now : ℕ) (f : FrameRecord) (a b s : Bool) → is_claim f ≡ a → is_acknowledgment f ≡ b → is_session f ≡ s → (a || (b || s)) ≡ true
-    → wait H - step H now ≡ wait (TakeFrame now (Some f) ∷ H)
+    → wait H - step H now ≡ wait (At now (TakeFrame (Some f)) ∷ H)
 wait_same H now f a b s e g i z = sym (ap (λ (x : Bool). if x then 1250000 else wait H - step H now) (no_request H f a b s e g i z))
 
 pub ask_same : (w : Who) (H : List Call) (now : ℕ) (f : FrameRecord) (a b s : Bool) → is_claim f ≡ a → is_acknowledgment f ≡ b → is_session f ≡ s → (a || (b || s)) ≡ true
-    → asking_after w H ≡ asking_after w (TakeFrame now (Some f) ∷ H)
+    → asking_after w H ≡ asking_after w (At now (TakeFrame (Some f)) ∷ H)
 ask_same w H now f a b s e g i z =
     ap (λ (xs : List Message). asked_by (open_ask H) (length xs) (ended w H))
     (sym (sent_is H now f a b s e g i ∙ ap (λ (x : Bool). if x then sent H else sent H ++ message_of f ∷ []) z))
@@ -37,7 +38,7 @@ token_of (Some q) n e = refl
 
 pub wait_more : (w : Who) (H : List Call) (now k : ℕ) (f : FrameRecord) (r : Bool) → is_claim f ≡ false → is_acknowledgment f ≡ false → is_session f ≡ false
     → k ≡ length (sent H) → r ≡ has_token (option_map (λ (x : AskRecord). x.question) (asking_after w H)) k
-    → (if r then 1250000 else wait H - step H now) ≡ wait (TakeFrame now (Some f) ∷ H)
+    → (if r then 1250000 else wait H - step H now) ≡ wait (At now (TakeFrame (Some f)) ∷ H)
 wait_more w H now k f r e g i t z =
     ap (λ (x : Bool). if x then 1250000 else wait H - step H now)
     (z ∙ (ap (λ (o : Option Question). has_token o k) (token_of (open_ask H) (length (sent H)) (ended w H))
@@ -49,8 +50,8 @@ lt_more t n = grind arith
 abbrev pub takes : ℕ → AskRecord → AskRecord
 takes k x = record { question = x.question; taken = x.taken || nat_eq x.question.token k; ending = x.ending }
 
-pub ask_more : (w : Who) (H : List Call) (now k : ℕ) (f : FrameRecord) → k ≡ length (sent H) → sent (TakeFrame now (Some f) ∷ H) ≡ sent H ++ message_of f ∷ []
-    → option_map (takes k) (asking_after w H) ≡ asking_after w (TakeFrame now (Some f) ∷ H)
+pub ask_more : (w : Who) (H : List Call) (now k : ℕ) (f : FrameRecord) → k ≡ length (sent H) → sent (At now (TakeFrame (Some f)) ∷ H) ≡ sent H ++ message_of f ∷ []
+    → option_map (takes k) (asking_after w H) ≡ asking_after w (At now (TakeFrame (Some f)) ∷ H)
 ask_more w H now k f t e = go (open_ask H) ∙ ap (λ (n : ℕ). asked_by (open_ask H) n (ended w H)) (sym (ap length e ∙ length_one_more (sent H) (message_of f)))
   where
     go : (o : Option Question) → option_map (takes k) (asked_by o (length (sent H)) (ended w H)) ≡ asked_by o (suc (length (sent H))) (ended w H)

@@ -28,7 +28,8 @@ use Rattle.j39_node.proofs.AskLemmas.{ask_heard, ask_more, ask_same, takes, wait
 use Rattle.j39_node.specs.Is.{AskRecord, made_by, asking_of, hears_with}
 use Rattle.j39_node.specs.Hold.{rested, asked as hold_asked, standing_of, less, passed, heard, claims, paused, stands, lost, left_at}
 use Rattle.j39_node.specs.History.{Who, Message, Draft, Call, Address, message_of, older, claimed, address_after, holds, is_lost, is_held, is_smaller, claim_address, claim_from, owes_claim, calls_for_claim, can_send, message_from, accepted, sent, told, is_full, step, moment, is_for_program, kept, got, missed, Asked, asked, acknowledgment, acknowledged, due, handed, requests, is_served, with_request, with_refusal, stamp_at, held_at, told_claims, is_another, is_acknowledgment, is_claim, lost_news, another_news, missed_news, broadcasts, broadcast_from, can_broadcast, has_packets, is_busy, is_left, is_open, is_packet, open_broadcast, packets, pause}
-use Rattle.j39_node.specs.History.Call.{Hear, TakeFrame, Send, TakeEnded, TakeRequest, Acknowledge, Broadcast, Transfer, TakeTransferEnded}
+use Rattle.j39_node.specs.History.Call.{At, TakeEnded, TakeRequest, TakeTransferEnded}
+use Rattle.j39_node.specs.History.Act.{Hear, TakeFrame, Send, Acknowledge, Broadcast, Transfer}
 use Rattle.j39_node.proofs.ReceptionLaws.{made_is}
 use Rattle.j39_node.specs.Reception.{has_place, IsApart, heard_at, heard_by, holder, is_same, is_waiting, leaves, left, reception, time_heard, whole}
 use Rattle.j39_node.specs.declared.incoming.Incoming.{Incoming}
@@ -114,7 +115,7 @@ is_lane l k e f g =
     ∙ ap (λ (x : ℕ). record l { current = k.current; count = k.count; next_token = x }) g)
 
 -- a frame that is none of packets leaves it
-lane_same : (w : Who) (H : List Call) (now : ℕ) (f : FrameRecord) → is_packet f ≡ false → lane_after w H ≡ lane_after w (TakeFrame now (Some f) ∷ H)
+lane_same : (w : Who) (H : List Call) (now : ℕ) (f : FrameRecord) → is_packet f ≡ false → lane_after w H ≡ lane_after w (At now (TakeFrame (Some f)) ∷ H)
 lane_same w H now f e = ap (λ (xs : List Message). record (lane_after w H) { count = length xs }) (sym (packets_is H now f false e))
 
 pub packet_next : (w : Who) (H : List Call) (c : Controller) (now left : ℕ) → Is w H c → left ≡ pause H - step H now
@@ -138,46 +139,46 @@ is_empty (x ∷ xs) e = absurd (cc)
 none_replied : (w : Who) (H : List Call) (c : Controller) → Is w H c → length c.incoming.replies.items ≡ 0 → (reception w H).replies ≡ []
 none_replied w H c h e = is_empty (reception w H).replies (sym (replies_length w H c h) ∙ e)
 
-incoming_same : (w : Who) (H : List Call) (now : ℕ) (f : FrameRecord) → reception w (TakeFrame now (Some f) ∷ H) ≡ reception w H
-    → incoming_after w H ≡ incoming_after w (TakeFrame now (Some f) ∷ H)
+incoming_same : (w : Who) (H : List Call) (now : ℕ) (f : FrameRecord) → reception w (At now (TakeFrame (Some f)) ∷ H) ≡ reception w H
+    → incoming_after w H ≡ incoming_after w (At now (TakeFrame (Some f)) ∷ H)
 incoming_same w H now f e = λ i. record { moment = heard_at H; clock = time_heard H; own = w.address; has_box = true; reception = sym e i }
 
-told_is : (w : Who) (H : List Call) (now : ℕ) (f : FrameRecord) → is_claim f ≡ true → told_claims w (TakeFrame now (Some f) ∷ H) ≡ told_claims w H ++ f ∷ []
+told_is : (w : Who) (H : List Call) (now : ℕ) (f : FrameRecord) → is_claim f ≡ true → told_claims w (At now (TakeFrame (Some f)) ∷ H) ≡ told_claims w H ++ f ∷ []
 told_is w H now f e = ap (λ (b : Bool). if b then told_claims w H ++ f ∷ [] else told_claims w H) e
 
 -- its own claim is taken
 incoming_claimed : (w : Who) (H : List Call) (old : Controller) (now : ℕ) (f : FrameRecord) (table : Claims) → Is w H old → is_claim f ≡ true
-    → Knows table (told_claims w (TakeFrame now (Some f) ∷ H))
+    → Knows table (told_claims w (At now (TakeFrame (Some f)) ∷ H))
     → with_reception (left (leaves (holder_in old.holders) (holder_in table) (incoming_of old.incoming).reception.session) (incoming_of old.incoming).reception) (incoming_of old.incoming)
-    ≡ incoming_after w (TakeFrame now (Some f) ∷ H)
+    ≡ incoming_after w (At now (TakeFrame (Some f)) ∷ H)
 incoming_claimed w H old now f table h e knows =
-    let G = TakeFrame now (Some f) ∷ H in
+    let G = At now (TakeFrame (Some f)) ∷ H in
     ap (λ (x : IncomingRecord). with_reception (left (leaves (holder_in old.holders) (holder_in table) x.reception.session) x.reception) x) h.incoming
     ∙ (ap (λ (b : Bool). with_reception (left b (reception w H)) (incoming_after w H)) (leaves_is w old.holders table H G (reception w H).session h.holders knows)
     ∙ λ i. record { moment = heard_at H; clock = time_heard H; own = w.address; has_box = true; reception = sym (taken_is w H now f true _ e refl) i })
 
 -- a reply is taken
 incoming_replied : (w : Who) (H : List Call) (now : ℕ) (f : FrameRecord) → is_claim f ≡ false → is_acknowledgment f ≡ false
-    → with_replies (drop 1 (reception w H).replies) (incoming_after w H) ≡ incoming_after w (TakeFrame now (Some f) ∷ H)
+    → with_replies (drop 1 (reception w H).replies) (incoming_after w H) ≡ incoming_after w (At now (TakeFrame (Some f)) ∷ H)
 incoming_replied w H now f e g =
     λ i. record { moment = heard_at H; clock = time_heard H; own = w.address; has_box = true; reception = sym (taken_is w H now f false false e g) i }
 
 -- a frame is heard
 incoming_heard : (w : Who) (H : List Call) (old : Controller) (f : FrameRecord) (table : Claims) (new : Incoming) (gone held : Bool) → Is w H old
-    → Knows table (told_claims w (Hear f ∷ H)) → gone ≡ is_smaller w (claim_of f) → held ≡ holds w H f.stamp
+    → Knows table (told_claims w (At @@ (Hear f) ∷ H)) → gone ≡ is_smaller w (claim_of f) → held ≡ holds w H f.stamp
     → (old.incoming.receiver.has_box ≡ true → IsApart (incoming_of old.incoming).reception
     → incoming_of new ≡ hears gone held f (holder_in old.holders) (holder_in table) (incoming_of old.incoming))
-    → incoming_of new ≡ incoming_after w (Hear f ∷ H)
+    → incoming_of new ≡ incoming_after w (At @@ (Hear f) ∷ H)
 incoming_heard w H old f table new gone held h knows away stays does =
     does (ap (λ (x : IncomingRecord). x.has_box) h.incoming) (subst (λ (x : IncomingRecord). IsApart x.reception) (sym h.incoming) (tidy w H).apart)
     ∙ (ap (hears gone held f (holder_in old.holders) (holder_in table)) h.incoming
-    ∙ (ap (λ (b : Bool). with_reception (heard_by w.address gone held f (time_heard (Hear f ∷ H)) (left b (reception w H))) (incoming_now w H f))
-    (leaves_is w old.holders table H (Hear f ∷ H) (reception w H).session h.holders knows)
-    ∙ λ i. with_reception (heard_by w.address (away i) (stays i) f (time_heard (Hear f ∷ H))
-    (left (leaves (holder w H) (holder w (Hear f ∷ H)) (reception w H).session) (reception w H))) (incoming_now w H f)))
+    ∙ (ap (λ (b : Bool). with_reception (heard_by w.address gone held f (time_heard (At @@ (Hear f) ∷ H)) (left b (reception w H))) (incoming_now w H f))
+    (leaves_is w old.holders table H (At @@ (Hear f) ∷ H) (reception w H).session h.holders knows)
+    ∙ λ i. with_reception (heard_by w.address (away i) (stays i) f (time_heard (At @@ (Hear f) ∷ H))
+    (left (leaves (holder w H) (holder w (At @@ (Hear f) ∷ H)) (reception w H).session) (reception w H))) (incoming_now w H f)))
   where
     incoming_now : Who → List Call → FrameRecord → IncomingRecord
-    incoming_now w H f = record { moment = f.stamp; clock = time_heard (Hear f ∷ H); own = w.address; has_box = true; reception = reception w H }
+    incoming_now w H f = record { moment = f.stamp; clock = time_heard (At @@ (Hear f) ∷ H); own = w.address; has_box = true; reception = reception w H }
 
 pub transfer_next : (w : Who) (H : List Call) (c : Controller) (now time : ℕ) → Is w H c → time ≡ min (age H + step H now) 18446744073709551615
     → transfer_by (port_of c.transfers).current (clock time) ≡ next_transfer w H now
@@ -233,7 +234,7 @@ pub taken : (w : Who) (H : List Call) (old new : Controller) (now : ℕ) (r : Op
     → new ≡ record old { hold = new.hold; taken = new.taken; asking = new.asking } → new.taken ≡ suc old.taken → (request : Bool)
     → asking_of new.asking ≡ option_map (takes x.token) (asking_of old.asking)
     → request ≡ has_token (option_map (λ (y : AskRecord). y.question) (asking_of old.asking)) x.token → new.hold ≡ hold_asked request mid
-    → Is w (TakeFrame now r ∷ H) new
+    → Is w (At now (TakeFrame r) ∷ H) new
 taken w H old new now None x mid h p owes held none quiet g m e d request a1 a2 a3 = absurd (cc)
 taken w H old new now (Some f) x mid h p owes held none quiet g m e d request a1 a2 a3 =
     let s = sound w H h.answered in
@@ -260,7 +261,7 @@ taken w H old new now (Some f) x mid h p owes held none quiet g m e d request a1
       requests = ap (λ c. map request_by c.desk.waiting.items) e ∙ h.requests;
       acknowledgments = ap (λ c. map (refusal_by w) c.desk.due.items) e ∙ (h.acknowledgments
           ∙ ap (λ (xs : List Message). drop (length xs) (due w H)) (sym (acknowledged_is H now f false false n l)));
-      holders = subst (λ t. Knows t (told_claims w (TakeFrame now (Some f) ∷ H))) (sym (ap (λ c. c.holders) e))
+      holders = subst (λ t. Knows t (told_claims w (At now (TakeFrame (Some f)) ∷ H))) (sym (ap (λ c. c.holders) e))
           (subst (Knows old.holders) (sym (ap (λ (b : Bool). if b then told_claims w H ++ f ∷ [] else told_claims w H) n)) h.holders);
       news = ap (λ c. c.news) e ∙ h.news;
       missed = ap (λ c. c.inbox.missed) e ∙ h.missed;
@@ -275,7 +276,7 @@ pub taken_none : (w : Who) (H : List Call) (old new : Controller) (now : ℕ) �
     → length old.incoming.replies.items ≡ 0 → slice_get old.outgoing.items old.taken ≡ None
     → (let none : Option (ℕ × Message) = None in none) ≡ option_map (at_now now) (packet_by (lane_of (who_of w.known old.own) old.lane).current old.lane.count new.hold.pause)
     → (let none : Option (ℕ × Message) = None in none) ≡ option_map (at_now now) (transfer_by (port_of old.transfers).current (clock new.hold.age))
-    → new ≡ record old { hold = new.hold } → Is w (TakeFrame now None ∷ H) new
+    → new ≡ record old { hold = new.hold } → Is w (At now (TakeFrame None) ∷ H) new
 taken_none w H old new now h p owes held none quiet g m u e =
     let s = sound w H h.answered in
     let t = s.in_turn (holding_not_lost w H now held) in
@@ -310,11 +311,11 @@ pub taken_packet : (w : Who) (H : List Call) (old new : Controller) (now : ℕ) 
     → length old.incoming.replies.items ≡ 0 → slice_get old.outgoing.items old.taken ≡ None
     → Some (stamped f) ≡ option_map (at_now now) (packet_by (lane_of (who_of w.known old.own) old.lane).current old.lane.count mid.pause)
     → new ≡ record old { hold = new.hold; lane = new.lane } → new.hold ≡ paused mid → new.lane ≡ record old.lane { count = new.lane.count }
-    → new.lane.count ≡ suc old.lane.count → Is w (TakeFrame now (Some f) ∷ H) new
+    → new.lane.count ≡ suc old.lane.count → Is w (At now (TakeFrame (Some f)) ∷ H) new
 taken_packet w H old new now f mid h p owes held none quiet g m e e0 e1 more =
     go (next_packet w H now) refl (m ∙ ap (option_map (at_now now)) (packet_next w H old now mid.pause h p.pause))
   where
-    go : (o : Option Message) → next_packet w H now ≡ o → Some (stamped f) ≡ option_map (at_now now) o → Is w (TakeFrame now (Some f) ∷ H) new
+    go : (o : Option Message) → next_packet w H now ≡ o → Some (stamped f) ≡ option_map (at_now now) o → Is w (At now (TakeFrame (Some f)) ∷ H) new
     go None q i = absurd (cc)
     go (Some y) q i =
         let s = sound w H h.answered in
@@ -338,7 +339,7 @@ taken_packet w H old new now f mid h p owes held none quiet g m e e0 e1 more =
           requests = ap (λ c. map request_by c.desk.waiting.items) e ∙ h.requests;
           acknowledgments = ap (λ c. map (refusal_by w) c.desk.due.items) e ∙ (h.acknowledgments
               ∙ ap (λ (xs : List Message). drop (length xs) (due w H)) (sym (acknowledged_is H now f false false is.0 is.1)));
-          holders = subst (λ t. Knows t (told_claims w (TakeFrame now (Some f) ∷ H))) (sym (ap (λ c. c.holders) e))
+          holders = subst (λ t. Knows t (told_claims w (At now (TakeFrame (Some f)) ∷ H))) (sym (ap (λ c. c.holders) e))
               (subst (Knows old.holders) (sym (ap (λ (b : Bool). if b then told_claims w H ++ f ∷ [] else told_claims w H) is.0)) h.holders);
           news = ap (λ c. c.news) e ∙ h.news;
           missed = ap (λ c. c.inbox.missed) e ∙ h.missed;
@@ -357,14 +358,14 @@ pub taken_transfer : (w : Who) (H : List Call) (old new : Controller) (now : ℕ
     → Some (stamped f) ≡ option_map (at_now now) (transfer_by (port_of old.transfers).current (clock mid.age))
     → new ≡ record old { hold = mid; transfers = new.transfers }
     → (port_of new.transfers).current ≡ sends_if true (clock mid.age) (port_of old.transfers).current → new.transfers.next_token ≡ old.transfers.next_token
-    → new.transfers.resting ≡ old.transfers.resting → Is w (TakeFrame now (Some f) ∷ H) new
+    → new.transfers.resting ≡ old.transfers.resting → Is w (At now (TakeFrame (Some f)) ∷ H) new
 taken_transfer w H old new now f mid h p owes held none quiet g m u e e0 e1 e2 =
     go (next_transfer w H now) refl (u ∙ ap (option_map (at_now now)) (transfer_next w H old now mid.age h p.age))
   where
     no_packets : next_packet w H now ≡ None
     no_packets = sym (packet_next w H old now mid.pause h p.pause) ∙ no_message now _ m
 
-    go : (o : Option Message) → next_transfer w H now ≡ o → Some (stamped f) ≡ option_map (at_now now) o → Is w (TakeFrame now (Some f) ∷ H) new
+    go : (o : Option Message) → next_transfer w H now ≡ o → Some (stamped f) ≡ option_map (at_now now) o → Is w (At now (TakeFrame (Some f)) ∷ H) new
     go None q i = absurd (cc)
     go (Some y) q i =
         let s = sound w H h.answered in
@@ -389,7 +390,7 @@ taken_transfer w H old new now f mid h p owes held none quiet g m u e e0 e1 e2 =
           requests = ap (λ c. map request_by c.desk.waiting.items) e ∙ h.requests;
           acknowledgments = ap (λ c. map (refusal_by w) c.desk.due.items) e ∙ (h.acknowledgments
               ∙ ap (λ (xs : List Message). drop (length xs) (due w H)) (sym (acknowledged_is H now f false false is.claim is.plain)));
-          holders = subst (λ t. Knows t (told_claims w (TakeFrame now (Some f) ∷ H))) (sym (ap (λ c. c.holders) e))
+          holders = subst (λ t. Knows t (told_claims w (At now (TakeFrame (Some f)) ∷ H))) (sym (ap (λ c. c.holders) e))
               (subst (Knows old.holders) (sym (ap (λ (b : Bool). if b then told_claims w H ++ f ∷ [] else told_claims w H) is.claim)) h.holders);
           news = ap (λ c. c.news) e ∙ h.news;
           missed = ap (λ c. c.inbox.missed) e ∙ h.missed;
@@ -405,7 +406,7 @@ taken_transfer w H old new now f mid h p owes held none quiet g m u e e0 e1 e2 =
 pub taken_due : (w : Who) (H : List Call) (old new : Controller) (now : ℕ) (r : Option FrameRecord) (x : Due) → Is w H old
     → Passed w H now new.hold → new.hold.owes_claim ≡ false → holds w H now ≡ true
     → First (refusal_by w) new.desk.due.items x (length (acknowledged H)) (due w H) → option_map stamped r ≡ Some (now, refusal_by w x)
-    → new ≡ record old { hold = new.hold; desk = record { waiting = old.desk.waiting; due = new.desk.due } } → Is w (TakeFrame now r ∷ H) new
+    → new ≡ record old { hold = new.hold; desk = record { waiting = old.desk.waiting; due = new.desk.due } } → Is w (At now (TakeFrame r) ∷ H) new
 taken_due w H old new now None x h p owes held first m e = absurd (cc)
 taken_due w H old new now (Some f) x h p owes held first m e =
     let s = sound w H h.answered in
@@ -423,7 +424,7 @@ taken_due w H old new now (Some f) x h p owes held first m e =
       unread = ap (λ c. map received_by c.inbox.unread.items) e ∙ h.unread;
       requests = ap (λ c. map request_by c.desk.waiting.items) e ∙ h.requests;
       acknowledgments = first.rest ∙ ap (λ (n : ℕ). drop n (due w H)) (sym (ap length more ∙ length_one_more (acknowledged H) (message_of f)));
-      holders = subst (λ t. Knows t (told_claims w (TakeFrame now (Some f) ∷ H))) (sym (ap (λ c. c.holders) e))
+      holders = subst (λ t. Knows t (told_claims w (At now (TakeFrame (Some f)) ∷ H))) (sym (ap (λ c. c.holders) e))
           (subst (Knows old.holders) (sym (ap (λ (b : Bool). if b then told_claims w H ++ f ∷ [] else told_claims w H) is.0)) h.holders);
       news = ap (λ c. c.news) e ∙ h.news;
       missed = ap (λ c. c.inbox.missed) e ∙ h.missed;
@@ -438,7 +439,7 @@ pub taken_reply : (w : Who) (H : List Call) (old new : Controller) (now : ℕ) (
     → First (said_by old.incoming.receiver.state.own) new.incoming.replies.items x 0 (reception w H).replies
     → option_map stamped r ≡ Some (now, said_by w.address x)
     → new ≡ record old { hold = new.hold; incoming = new.incoming } → new.incoming ≡ record old.incoming { replies = new.incoming.replies }
-    → Is w (TakeFrame now r ∷ H) new
+    → Is w (At now (TakeFrame r) ∷ H) new
 taken_reply w H old new now None x h p owes held none first m e e0 = absurd (cc)
 taken_reply w H old new now (Some f) x h p owes held none first m e e0 =
     let own : old.incoming.receiver.state.own ≡ w.address = ap (λ (y : IncomingRecord). y.own) h.incoming in
@@ -460,7 +461,7 @@ taken_reply w H old new now (Some f) x h p owes held none first m e e0 =
       requests = ap (λ c. map request_by c.desk.waiting.items) e ∙ h.requests;
       acknowledgments = ap (λ c. map (refusal_by w) c.desk.due.items) e ∙ (h.acknowledgments
           ∙ ap (λ (xs : List Message). drop (length xs) (due w H)) (sym (acknowledged_is H now f false false is.0 is.1)));
-      holders = subst (λ t. Knows t (told_claims w (TakeFrame now (Some f) ∷ H))) (sym (ap (λ c. c.holders) e))
+      holders = subst (λ t. Knows t (told_claims w (At now (TakeFrame (Some f)) ∷ H))) (sym (ap (λ c. c.holders) e))
           (subst (Knows old.holders) (sym (ap (λ (b : Bool). if b then told_claims w H ++ f ∷ [] else told_claims w H) is.0)) h.holders);
       news = ap (λ c. c.news) e ∙ h.news;
       missed = ap (λ c. c.inbox.missed) e ∙ h.missed;
@@ -550,7 +551,7 @@ full_is w H old h =
 pub posts : (w : Who) (H : List Call) (old new : Controller) (now : ℕ) (d : Draft) (x : Outgoing) → Is w H old → Passed w H now new.hold
     → holds w H now ≡ true → can_send w d ≡ true → (nat_eq (length old.outgoing.items) 16 || nat_eq old.next_token 18446744073709551615) ≡ false
     → posted x ≡ (old.next_token, message_from w d) → new.outgoing.items ≡ old.outgoing.items ++ x ∷ [] → new.next_token ≡ suc old.next_token
-    → new.own ≡ old.own → new.taken ≡ old.taken → new.inbox ≡ old.inbox → new.desk ≡ old.desk → new.holders ≡ old.holders → new.news ≡ old.news → new.lane ≡ old.lane → new.incoming ≡ old.incoming → new.transfers ≡ old.transfers → asking_of new.asking ≡ asking_of old.asking → new.hearing ≡ old.hearing → Is w (Send now d (Ok old.next_token) ∷ H) new
+    → new.own ≡ old.own → new.taken ≡ old.taken → new.inbox ≡ old.inbox → new.desk ≡ old.desk → new.holders ≡ old.holders → new.news ≡ old.news → new.lane ≡ old.lane → new.incoming ≡ old.incoming → new.transfers ≡ old.transfers → asking_of new.asking ≡ asking_of old.asking → new.hearing ≡ old.hearing → Is w (At now (Send d (Ok old.next_token)) ∷ H) new
 posts w H old new now d x h p held can room is e0 e1 e2 e3 e4 e5 e6 e7 e8 e9 e10 e11 e12 =
     let s = sound w H h.answered in
     record {
@@ -681,7 +682,7 @@ pub heard_more : (w : Who) (H : List Call) (old new : Controller) (f : FrameReco
     → m.current ≡ leaves_it left_by (hearing_of old.hearing).current → m.missed ≡ old.hearing.missed
     → unheard ≡ is_unheard (who_of w.known old.own) (stamp_micros new.incoming.clock) f m.current
     → new.hearing.missed ≡ (if unheard then min (m.missed + 1) 18446744073709551615 else m.missed)
-    → (IsFit m.current → (hearing_of new.hearing).current ≡ hears_it (who_of w.known old.own) (stamp_micros new.incoming.clock) f m.current) → Is w (Hear f ∷ H) new
+    → (IsFit m.current → (hearing_of new.hearing).current ≡ hears_it (who_of w.known old.own) (stamp_micros new.incoming.clock) f m.current) → Is w (At @@ (Hear f) ∷ H) new
 heard_more w H old new f mid held wanted away gone calls replaced unheard o h p e1 e2 e3 e4 e5 e6 e7 q1 q2 q3 q4 q5 e8 s1 s2 s3 s4 s5 s9 s6 s7 s8 s10 whole_now m1 cast_now m2 a1 left_by p1 p2 m t1 t2 t3 t4 t5 t6 t7 t8 =
     let s = sound w H h.answered in
     let wants : wanted ≡ is_for_program w (holds w H f.stamp) f =
@@ -697,13 +698,13 @@ heard_more w H old new f mid held wanted away gone calls replaced unheard o h p 
     let goes : gone ≡ is_smaller w (claim_of f) = e5 ∙ ap (λ (v : Who). is_smaller v (claim_of f)) h.who in
     let asks : calls ≡ calls_for_claim w (is_lost (address_after w H)) f =
     e7 ∙ (ap (λ (v : Who). calls_for_claim v away f) h.who ∙ ap (λ (b : Bool). calls_for_claim w b f) lost_before) in
-    let r : ℕ → Bool = λ a. is_replaced (holder w H a) (holder w (Hear f ∷ H) a) in
+    let r : ℕ → Bool = λ a. is_replaced (holder w H a) (holder w (At @@ (Hear f) ∷ H) a) in
     let current : (port_of old.transfers).current ≡ open_transfer w H = ap (λ (t : PortRecord). t.current) h.port in
-    let stands_now : new.hold.standing ≡ standing_of (address_after w (Hear f ∷ H)) =
+    let stands_now : new.hold.standing ≡ standing_of (address_after w (At @@ (Hear f) ∷ H)) =
     ap (λ (k : Hold). k.standing) e8 ∙ (ap (λ (b : Bool). if b then standing.Lost else mid.standing) goes
     ∙ (ap (λ (x : Standing). if is_smaller w (claim_of f) then standing.Lost else x) p.standing
     ∙ heard_standing (is_smaller w (claim_of f)) (step H f.stamp) (address_after w H))) in
-    let hears_in : incoming_of new.incoming ≡ incoming_after w (Hear f ∷ H) =
+    let hears_in : incoming_of new.incoming ≡ incoming_after w (At @@ (Hear f) ∷ H) =
     incoming_heard w H old f new.holders new.incoming gone held h (q4 (told_claims w H) h.holders) goes (holds_is w H f.stamp mid held p e1) s9 in
     let on = heard_on w H f old.holders new.holders left_by unheard (stamp_micros new.incoming.clock) p1 p2 (hearing_of old.hearing) m (hearing_of new.hearing) h.hearing
     h.holders (q4 (told_claims w H) h.holders) (ap (λ (x : IncomingRecord). x.clock) hears_in) t1 t2 t3 t4 t5
@@ -715,7 +716,7 @@ heard_more w H old new f mid held wanted away gone calls replaced unheard o h p 
     let cast_is : cast_now ≡ made_of (option_map (λ (x : ℕ × MessageRecord). x.1) (made_whole w H f)) =
     m2 ∙ (ap (λ (x : HearingRecord). made_by (not (not (has_place (whole_of x.current)))) (whole_of (hearing_of new.hearing).current)) h.hearing
     ∙ (ap (λ (x : HearingRecord). made_by (not (not (has_place (waiting w H)))) (whole_of x.current)) on.hearing
-    ∙ cast_by (waiting w H) (waiting w (Hear f ∷ H)))) in
+    ∙ cast_by (waiting w H) (waiting w (At @@ (Hear f) ∷ H)))) in
     let made_now : option_or whole_now cast_now ≡ made w H f =
     ap (λ (o : Option (ℕ × ℕ)). option_or o cast_now) whole_is ∙ ap (option_or (made_of (whole w H f))) cast_is in
     record {
@@ -728,11 +729,11 @@ heard_more w H old new f mid held wanted away gone calls replaced unheard o h p 
       taken = s3 ∙ h.taken;
       token = s4 ∙ h.token;
       asking = a1 ∙ (ap (λ (v : Who). option_map (hears_with v (lost new.hold.standing) new.hold.wait f (option_or whole_now cast_now)) (asking_of old.asking)) h.who
-          ∙ (ap (λ (b : Bool). option_map (hears_with w b new.hold.wait f (option_or whole_now cast_now)) (asking_of old.asking)) (ap lost stands_now ∙ lost_is (address_after w (Hear f ∷ H)))
-          ∙ (ap (λ (n : ℕ). option_map (hears_with w (is_lost (address_after w (Hear f ∷ H))) n f (option_or whole_now cast_now)) (asking_of old.asking)) (ap (λ (k : Hold). k.wait) e8 ∙ p.wait)
-          ∙ (ap (λ (o : Option (ℕ × ℕ)). option_map (hears_with w (is_lost (address_after w (Hear f ∷ H))) (wait H - step H f.stamp) f o) (asking_of old.asking)) made_now
-          ∙ (ap (option_map (hears_with w (is_lost (address_after w (Hear f ∷ H))) (wait H - step H f.stamp) f (made w H f))) h.asking
-          ∙ ask_heard w (open_ask H) (length (sent H)) (wait H - step H f.stamp) (ended w H) (is_lost (address_after w (Hear f ∷ H))) f (made w H f))))));
+          ∙ (ap (λ (b : Bool). option_map (hears_with w b new.hold.wait f (option_or whole_now cast_now)) (asking_of old.asking)) (ap lost stands_now ∙ lost_is (address_after w (At @@ (Hear f) ∷ H)))
+          ∙ (ap (λ (n : ℕ). option_map (hears_with w (is_lost (address_after w (At @@ (Hear f) ∷ H))) n f (option_or whole_now cast_now)) (asking_of old.asking)) (ap (λ (k : Hold). k.wait) e8 ∙ p.wait)
+          ∙ (ap (λ (o : Option (ℕ × ℕ)). option_map (hears_with w (is_lost (address_after w (At @@ (Hear f) ∷ H))) (wait H - step H f.stamp) f o) (asking_of old.asking)) made_now
+          ∙ (ap (option_map (hears_with w (is_lost (address_after w (At @@ (Hear f) ∷ H))) (wait H - step H f.stamp) f (made w H f))) h.asking
+          ∙ ask_heard w (open_ask H) (length (sent H)) (wait H - step H f.stamp) (ended w H) (is_lost (address_after w (At @@ (Hear f) ∷ H))) f (made w H f))))));
       unread = e3 ∙ (ap (λ (b : Bool). offered b (stamped f) (map received_by old.inbox.unread.items)) wants
           ∙ kept_rest (is_for_program w (holds w H f.stamp) f) (kept w H) _ (length (got H)) (stamped f) (read w H s) h.unread);
       requests = q1 ∙ (ap (λ (v : Who). with_request v (nat_lt (length old.desk.waiting.items) 16) o (map request_by old.desk.waiting.items)) h.who
@@ -764,16 +765,16 @@ heard_more w H old new f mid held wanted away gone calls replaced unheard o h p 
       incoming = hears_in;
       hearing = on.hearing;
       port = is_port _ _
-          (s7 (λ a. is_replaced (holder w H a) (holder w (Hear f ∷ H) a))
-          (subst (λ (o : Option Running). IfSome o (λ x. replaced ≡ is_replaced (holder w H x.sender.destination) (holder w (Hear f ∷ H) x.sender.destination)))
+          (s7 (λ a. is_replaced (holder w H a) (holder w (At @@ (Hear f) ∷ H) a))
+          (subst (λ (o : Option Running). IfSome o (λ x. replaced ≡ is_replaced (holder w H x.sender.destination) (holder w (At @@ (Hear f) ∷ H) x.sender.destination)))
           (sym current)
           (replaced_is w H f old.holders new.holders replaced (open_transfer w H) (ported w H h.answered) h.holders (q4 (told_claims w H) h.holders)
           (subst (λ (o : Option Running). IfSome o (λ x. replaced ≡ is_replaced (holder_in old.holders x.sender.destination) (holder_in new.holders x.sender.destination))) current s6)))
           ∙ (ap (λ (b : Bool). hears_if b r f (min new.hold.age 9999999999999999) (port_of old.transfers).current)
-          (ap lost stands_now ∙ lost_is (address_after w (Hear f ∷ H)))
-          ∙ (ap (λ (n : ℕ). hears_if (is_lost (address_after w (Hear f ∷ H))) r f n (port_of old.transfers).current)
+          (ap lost stands_now ∙ lost_is (address_after w (At @@ (Hear f) ∷ H)))
+          ∙ (ap (λ (n : ℕ). hears_if (is_lost (address_after w (At @@ (Hear f) ∷ H))) r f n (port_of old.transfers).current)
           (ap (λ (n : ℕ). min n 9999999999999999) (ap (λ (k : Hold). k.age) e8 ∙ p.age) ∙ clock_is (age H + step H f.stamp))
-          ∙ ap (hears_if (is_lost (address_after w (Hear f ∷ H))) r f (clock_at H f.stamp)) current)))
+          ∙ ap (hears_if (is_lost (address_after w (At @@ (Hear f) ∷ H))) r f (clock_at H f.stamp)) current)))
           (s8 ∙ ap (λ (t : PortRecord). t.next_token) h.port) (ap resting_by s10 ∙ ap (λ (t : PortRecord). t.resting) h.port);
     }
 
@@ -814,7 +815,7 @@ acknowledge_is w H now r a b f e g k =
 pub due_more : (w : Who) (H : List Call) (old new : Controller) (now : ℕ) (answer : Answer) (x : Due) → Is w H old → Passed w H now new.hold
     → Ok tt ≡ answer_to_acknowledge w H now (request_by x.request) → x.answer ≡ answer → new.desk.due.items ≡ old.desk.due.items ++ x ∷ []
     → new ≡ record old { hold = new.hold; desk = record { waiting = old.desk.waiting; due = new.desk.due } }
-    → Is w (Acknowledge now (request_by x.request) answer (Ok tt) ∷ H) new
+    → Is w (At now (Acknowledge (request_by x.request) answer (Ok tt)) ∷ H) new
 due_more w H old new now answer x h p right a g e =
     let s = sound w H h.answered in
     record {
@@ -843,7 +844,7 @@ due_more w H old new now answer x h p right a g e =
 -- ---- a call that only lets time pass
 
 pub refuses_send : (w : Who) (H : List Call) (old new : Controller) (now : ℕ) (d : Draft) (r : Refused) → Is w H old → Passed w H now new.hold
-    → Err r ≡ answer_to_send w H now d → new ≡ record old { hold = new.hold } → Is w (Send now d (Err r) ∷ H) new
+    → Err r ≡ answer_to_send w H now d → new ≡ record old { hold = new.hold } → Is w (At now (Send d (Err r)) ∷ H) new
 refuses_send w H old new now d r h p answer e = record {
   who = ap (λ c. who_of w.known c.own) e ∙ h.who;
   answered = (h.answered, answer);
@@ -952,7 +953,7 @@ pub claims_more : (w : Who) (H : List Call) (old new : Controller) (now : ℕ) (
     → (left_by : Bool) (p1 p2 : Option ℕ) → IfSome (hearing_of old.hearing).current (λ z. p1 ≡ holder_in old.holders z.source)
     → IfSome (hearing_of old.hearing).current (λ z. p2 ≡ holder_in new.holders z.source) → left_by ≡ not (is_same p1 p2)
     → (hearing_of new.hearing).current ≡ leaves_it left_by (hearing_of old.hearing).current → new.hearing.missed ≡ old.hearing.missed
-    → new ≡ record old { hold = new.hold; holders = new.holders; incoming = new.incoming; hearing = new.hearing } → Is w (TakeFrame now (Some f) ∷ H) new
+    → new ≡ record old { hold = new.hold; holders = new.holders; incoming = new.incoming; hearing = new.hearing } → Is w (At now (TakeFrame (Some f)) ∷ H) new
 claims_more w H old new now f mid a h p owes e0 m at knows drops left_by p1 p2 t1 t2 t3 t4 t5 e =
     let from : claim_from (who_of w.known old.own) a ≡ claim_from w (claim_address w (address_after w H)) =
     ap (λ (v : Who). claim_from v a) h.who
@@ -1098,7 +1099,7 @@ broadcast_is w H now group bytes a b f e g k =
 
 pub refuses_broadcast : (w : Who) (H : List Call) (old new : Controller) (now group : ℕ) (bytes : List ℕ) (r : Refused) → Is w H old
     → Passed w H now new.hold → Err r ≡ answer_to_broadcast w H now group bytes → new ≡ record old { hold = new.hold }
-    → Is w (Broadcast now group bytes (Err r) ∷ H) new
+    → Is w (At now (Broadcast group bytes (Err r)) ∷ H) new
 refuses_broadcast w H old new now group bytes r h p answer e = record {
   who = ap (λ c. who_of w.known c.own) e ∙ h.who;
   answered = (h.answered, answer);
@@ -1122,7 +1123,7 @@ refuses_broadcast w H old new now group bytes r h p answer e = record {
 pub begins : (w : Who) (H : List Call) (old new : Controller) (now group : ℕ) (bytes : List ℕ) (x : Open) → Is w H old → Passed w H now new.hold
     → Ok old.lane.next_token ≡ answer_to_broadcast w H now group bytes → opened w x ≡ (old.lane.next_token, broadcast_from w group bytes)
     → new ≡ record old { hold = new.hold; lane = new.lane } → new.lane.current ≡ Some x → new.lane.count ≡ 0
-    → new.lane.next_token ≡ suc old.lane.next_token → Is w (Broadcast now group bytes (Ok old.lane.next_token) ∷ H) new
+    → new.lane.next_token ≡ suc old.lane.next_token → Is w (At now (Broadcast group bytes (Ok old.lane.next_token)) ∷ H) new
 begins w H old new now group bytes x h p answer is e e0 e1 e2 = record {
   who = ap (λ c. who_of w.known c.own) e ∙ h.who;
   answered = (h.answered, answer);
@@ -1170,7 +1171,7 @@ transfer_is w H now group to bytes a b f e g k =
 
 pub refuses_transfer : (w : Who) (H : List Call) (old new : Controller) (now group to : ℕ) (bytes : List ℕ) (r : Refused) → Is w H old
     → Passed w H now new.hold → Err r ≡ answer_to_transfer w H now group to bytes → new ≡ record old { hold = new.hold }
-    → Is w (Transfer now group to bytes (Err r) ∷ H) new
+    → Is w (At now (Transfer group to bytes (Err r)) ∷ H) new
 refuses_transfer w H old new now group to bytes r h p answer e = record {
   who = ap (λ c. who_of w.known c.own) e ∙ h.who;
   answered = (h.answered, answer);
@@ -1196,7 +1197,7 @@ pub transfer_begins : (w : Who) (H : List Call) (old new : Controller) (now grou
     → running x ≡ begun old.transfers.next_token (broadcast_from w group bytes) to
     → new ≡ record old { hold = new.hold; transfers = new.transfers } → new.hold ≡ record mid { age = 0 } → new.transfers.current ≡ Some x
     → new.transfers.next_token ≡ suc old.transfers.next_token → new.transfers.resting ≡ old.transfers.resting
-    → Is w (Transfer now group to bytes (Ok old.transfers.next_token) ∷ H) new
+    → Is w (At now (Transfer group to bytes (Ok old.transfers.next_token)) ∷ H) new
 transfer_begins w H old new now group to bytes x mid h p answer is e e0 e1 e2 e3 = record {
   who = ap (λ c. who_of w.known c.own) e ∙ h.who;
   answered = (h.answered, answer);

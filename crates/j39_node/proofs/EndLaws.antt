@@ -13,7 +13,8 @@ use Rattle.j39_node.specs.declared.controller.Controller.{Controller}
 use Rattle.j39_node.specs.declared.kinds.TransferEnding.{TransferEnding}
 use Rattle.j39_node.specs.declared.kinds.TransferEnding.TheVariants.{Done, Withdrawn, Failed, Gone}
 use Rattle.j39_node.specs.History.{Who, Message, Call, address_after, broadcast_from, can_broadcast, is_held, is_lost, is_sendable, moment, step}
-use Rattle.j39_node.specs.History.Call.{Hear, TakeFrame, TakeTransferEnded, Transfer}
+use Rattle.j39_node.specs.History.Call.{At, TakeTransferEnded}
+use Rattle.j39_node.specs.History.Act.{Hear, TakeFrame, Transfer}
 use Rattle.j39_node.specs.Is.{AreAnswered, Is, IsAnswered, long_by, next_frame, next_packet}
 use Rattle.j39_node.specs.Prompt.{IsPrompt, NoneTold, tells_transfer, waited_in}
 use Rattle.j39_node.specs.Reception.{holder, is_move}
@@ -162,9 +163,9 @@ module _ (w : Who) (B : List Call) (g k : ℕ) (m : MessageRecord) (few : packet
           (passes g h.running.granted h.running.spent (age (later ++ B)) (waited_in later B) (step (later ++ B) (moment (call ∷ later ++ B))) h.running.sender t)))
 
   -- a frame is heard
-  heard_so : (later : List Call) (f : FrameRecord) (h : Stands later) (lost replaced : Bool) → is_lost (address_after w (Hear f ∷ later ++ B)) ≡ lost
+  heard_so : (later : List Call) (f : FrameRecord) (h : Stands later) (lost replaced : Bool) → is_lost (address_after w (At @@ (Hear f) ∷ later ++ B)) ≡ lost
       → waited_in later B + step (later ++ B) f.stamp ≤ g → (u : Bool) → (is_idle h.running.sender.state || is_running h.running.sender.state) ≡ u → Course later h.running
-      → Course (Hear f ∷ later) (hears lost replaced f (clock_at (later ++ B) f.stamp) h.running)
+      → Course (At @@ (Hear f) ∷ later) (hears lost replaced f (clock_at (later ++ B) f.stamp) h.running)
   unfolding send_step
   heard_so later f h true replaced l p u z c = gone l
   heard_so later f h false replaced l p u z (over x) = over (over_hears false replaced f (clock_at (later ++ B) f.stamp) h.running x)
@@ -172,7 +173,7 @@ module _ (w : Who) (B : List Call) (g k : ℕ) (m : MessageRecord) (few : packet
   heard_so later f h false true l p u z (runs e n t) = over (inl refl)
   heard_so later f h false false l p false z (runs e n t) = over (over_hears false false f (clock_at (later ++ B) f.stamp) h.running (inr z))
   heard_so later f h false false l p true z (runs e n t) =
-      subst (λ (now : ℕ). Course (Hear f ∷ later) (hears false false f now h.running)) (sym (clock_goes later h f.stamp p t z)) (go (keeps_heard w (later ++ B) f e))
+      subst (λ (now : ℕ). Course (At @@ (Hear f) ∷ later) (hears false false f now h.running)) (sym (clock_goes later h f.stamp p t z)) (go (keeps_heard w (later ++ B) f e))
     where
       now : ℕ
       now = age (later ++ B) + step (later ++ B) f.stamp
@@ -185,21 +186,21 @@ module _ (w : Who) (B : List Call) (g k : ℕ) (m : MessageRecord) (few : packet
           (listens f now h.running).sender (granted_by h.running.sender (said_to h.running.sender f))
           (heard_case h.running.sender (said_to h.running.sender f) now) t p
 
-      go : (is_lost (address_after w (Hear f ∷ later ++ B)) ≡ true) ⊎ (is_held (address_after w (Hear f ∷ later ++ B)) ≡ true)
-          → Course (Hear f ∷ later) (hears false false f now h.running)
+      go : (is_lost (address_after w (At @@ (Hear f) ∷ later ++ B)) ≡ true) ⊎ (is_held (address_after w (At @@ (Hear f) ∷ later ++ B)) ≡ true)
+          → Course (At @@ (Hear f) ∷ later) (hears false false f now h.running)
       go (inl y) = absurd (let x : true ≡ false = sym y ∙ l in cc)
-      go (inr y) = cond_both (h.running.gone || is_spent h.running) h.running (listens f now h.running) (Course (Hear f ∷ later))
+      go (inr y) = cond_both (h.running.gone || is_spent h.running) h.running (listens f now h.running) (Course (At @@ (Hear f) ∷ later))
           (λ i. runs y n (passes g h.running.granted h.running.spent (age (later ++ B)) (waited_in later B) (step (later ++ B) f.stamp) h.running.sender t))
           (λ i. elim by [
             | inl x ↦ over (inr x)
             | inr x ↦ runs y n x
           ])
 
-  hears_one : (f : FrameRecord) (later : List Call) → waited_in later B + step (later ++ B) f.stamp ≤ g → Stands later → Stands (Hear f ∷ later)
+  hears_one : (f : FrameRecord) (later : List Call) → waited_in later B + step (later ++ B) f.stamp ≤ g → Stands later → Stands (At @@ (Hear f) ∷ later)
   hears_one f later p h =
       let G = later ++ B in
-      let l = is_lost (address_after w (Hear f ∷ G)) in
-      let r : ℕ → Bool = λ a. is_replaced (holder w G a) (holder w (Hear f ∷ G) a) in
+      let l = is_lost (address_after w (At @@ (Hear f) ∷ G)) in
+      let r : ℕ → Bool = λ a. is_replaced (holder w G a) (holder w (At @@ (Hear f) ∷ G) a) in
       record {
         running = hears l (r h.running.sender.destination) f (clock_at G f.stamp) h.running;
         is = ap (hears_if l r f (clock_at G f.stamp)) h.is;
@@ -212,7 +213,7 @@ module _ (w : Who) (B : List Call) (g k : ℕ) (m : MessageRecord) (few : packet
   -- a frame is taken
   moved_so : (later : List Call) (now : ℕ) (f : FrameRecord) (h : Stands later) (b : Bool) → waited_in later B + step (later ++ B) now ≤ g
       → (u : Bool) → (is_idle h.running.sender.state || is_running h.running.sender.state) ≡ u → Course later h.running
-      → (x : Running) × (sends_if b (clock_at (later ++ B) now) (Some h.running) ≡ Some x) × Course (TakeFrame now (Some f) ∷ later) x
+      → (x : Running) × (sends_if b (clock_at (later ++ B) now) (Some h.running) ≡ Some x) × Course (At now (TakeFrame (Some f)) ∷ later) x
   unfolding send_step
   moved_so later now f h false p u z (over x) = (h.running, refl, over x)
   moved_so later now f h true p u z (over x) = (sends (clock_at (later ++ B) now) h.running, refl, over (over_sends (clock_at (later ++ B) now) h.running x))
@@ -229,9 +230,9 @@ module _ (w : Who) (B : List Call) (g k : ℕ) (m : MessageRecord) (few : packet
   moved_so later now f h true p true z (runs e n t) = (
     sends (clock_at (later ++ B) now) h.running,
     refl,
-    subst (λ (x : ℕ). Course (TakeFrame now (Some f) ∷ later) (sends x h.running)) (sym (clock_goes later h now p t z))
+    subst (λ (x : ℕ). Course (At now (TakeFrame (Some f)) ∷ later) (sends x h.running)) (sym (clock_goes later h now p t z))
         (cond_both (gives_up h.running) (aborted 5 h.running.sender) (send_step h.running.sender Tick (age (later ++ B) + step (later ++ B) now)).after
-        (λ (r : SenderRecord). Course (TakeFrame now (Some f) ∷ later) (record h.running { sender = r }))
+        (λ (r : SenderRecord). Course (At now (TakeFrame (Some f)) ∷ later) (record h.running { sender = r }))
         (λ i. over (inr (ended_aborted h.running.sender 5 (running_of h.running i))))
         (λ i. elim (ticked_timely g h.running.granted h.running.spent (age (later ++ B)) (waited_in later B) (step (later ++ B) now) h.running.sender t p) [
           | inl y ↦ over (inr y)
@@ -240,10 +241,10 @@ module _ (w : Who) (B : List Call) (g k : ℕ) (m : MessageRecord) (few : packet
   )
 
   takes_one : (now : ℕ) (f : FrameRecord) (later : List Call) → waited_in later B + step (later ++ B) now ≤ g → Stands later
-      → Stands (TakeFrame now (Some f) ∷ later)
+      → Stands (At now (TakeFrame (Some f)) ∷ later)
   takes_one now f later p h =
       let x = moved_so later now f h (is_move w (later ++ B) f) p _ refl h.course in
-      let e : open_transfer w (TakeFrame now (Some f) ∷ later ++ B) ≡ Some x.0 =
+      let e : open_transfer w (At now (TakeFrame (Some f)) ∷ later ++ B) ≡ Some x.0 =
       ap (sends_if (is_move w (later ++ B) f) (clock_at (later ++ B) now)) h.is ∙ x.1 in
       let kept = stays_so (is_move w (later ++ B) f) (clock_at (later ++ B) now) h.running x.0 x.1 in
       record {
@@ -276,7 +277,7 @@ module _ (w : Who) (B : List Call) (g k : ℕ) (m : MessageRecord) (few : packet
   none_so : (later : List Call) (now : ℕ) (h : Stands later) → transfer_by (Some h.running) (clock_at (later ++ B) now) ≡ None
       → waited_in later B + step (later ++ B) now ≤ g → (u : Bool) → (is_idle h.running.sender.state || is_running h.running.sender.state) ≡ u
       → is_held (address_after w (later ++ B)) ≡ true → h.running.gone ≡ false
-      → Timely g h.running.granted h.running.spent (age (later ++ B)) (waited_in later B) h.running.sender → Course (TakeFrame now None ∷ later) h.running
+      → Timely g h.running.granted h.running.spent (age (later ++ B)) (waited_in later B) h.running.sender → Course (At now (TakeFrame None) ∷ later) h.running
   unfolding send_step
   none_so later now h none p false z e n t = over (inr z)
   none_so later now h none p true z e n t =
@@ -285,7 +286,7 @@ module _ (w : Who) (B : List Call) (g k : ℕ) (m : MessageRecord) (few : packet
       else (send_step h.running.sender Tick (clock_at (later ++ B) now)).says) (sym n) ∙ says_none h.running.sender (signal_by h.running (clock_at (later ++ B) now)) none)
     where
       by : (b : Bool) → gives_up h.running ≡ b → (if b then Some (Abort 5 h.running.sender.message.pgn)
-          else (send_step h.running.sender Tick (clock_at (later ++ B) now)).says) ≡ None → Course (TakeFrame now None ∷ later) h.running
+          else (send_step h.running.sender Tick (clock_at (later ++ B) now)).says) ≡ None → Course (At now (TakeFrame None) ∷ later) h.running
       by true i y = absurd (cc)
       by false i y = elim (none_timely g h.running.granted h.running.spent (age (later ++ B)) (waited_in later B) (step (later ++ B) now) h.running.sender t
           (ap (λ (x : ℕ). (ticks_in h.running.sender.state x h.running.sender).says) (sym (clock_goes later h now p t z)) ∙ y) i) [
@@ -294,7 +295,7 @@ module _ (w : Who) (B : List Call) (g k : ℕ) (m : MessageRecord) (few : packet
           ]
 
   takes_no_frame : (now : ℕ) (later : List Call) → (let none : Option (ℕ × Message) = None in none) ≡ next_frame w (later ++ B) now
-      → waited_in later B + step (later ++ B) now ≤ g → Stands later → Stands (TakeFrame now None ∷ later)
+      → waited_in later B + step (later ++ B) now ≤ g → Stands later → Stands (At now (TakeFrame None) ∷ later)
   takes_no_frame now later answer p h = record {
     running = h.running;
     is = h.is;
@@ -304,7 +305,7 @@ module _ (w : Who) (B : List Call) (g k : ℕ) (m : MessageRecord) (few : packet
     course = go h.course;
   }
     where
-      go : Course later h.running → Course (TakeFrame now None ∷ later) h.running
+      go : Course later h.running → Course (At now (TakeFrame None) ∷ later) h.running
       go (over x) = over x
       go (gone x) = gone (lost_older (step (later ++ B) now) (address_after w (later ++ B)) ∙ x)
       go (runs e n t) = none_so later now h
@@ -323,10 +324,10 @@ module _ (w : Who) (B : List Call) (g k : ℕ) (m : MessageRecord) (few : packet
 
   one_more : (call : Call) (later : List Call) → IsAnswered w (later ++ B) call → tells_transfer call ≡ false
       → waited_in later B + step (later ++ B) (moment (call ∷ later ++ B)) ≤ g → Stands later → Stands (call ∷ later)
-  one_more (Hear f) later a n p h = hears_one f later p h
-  one_more (TakeFrame now (Some f)) later a n p h = takes_one now f later p h
-  one_more (TakeFrame now None) later a n p h = takes_no_frame now later a p h
-  one_more (Transfer now group to bytes (Ok j)) later a n p h =
+  one_more (At @@ (Hear f)) later a n p h = hears_one f later p h
+  one_more (At now (TakeFrame (Some f))) later a n p h = takes_one now f later p h
+  one_more (At now (TakeFrame None)) later a n p h = takes_no_frame now later a p h
+  one_more (At now (Transfer group to bytes (Ok j))) later a n p h =
       absurd (none_begins later now group to j bytes h (transfer_case w (later ++ B) now group to bytes (Ok j) a))
   one_more (TakeTransferEnded (Some x)) later a n p h = absurd (let z : true ≡ false = n in cc)
   one_more call later a n p h =
@@ -365,13 +366,13 @@ few_packets group bytes e =
     le_is a b z = grind arith
 
 pub transfer_ends : (w : Who) (later earlier : List Call) (c : Controller) (g now group to k : ℕ) (bytes : List ℕ)
-    → Is w (later ++ Transfer now group to bytes (Ok k) ∷ earlier) c → NoneTold tells_transfer later
-    → IsPrompt g later (Transfer now group to bytes (Ok k) ∷ earlier) → g < 1000000000000
-    → (packets_of (broadcast_from w group bytes) + 65) * (timer_t3 + g) + g < passed_in later (Transfer now group to bytes (Ok k) ∷ earlier)
-    → (e : TransferEnding) × (next_transfer_ended w (later ++ Transfer now group to bytes (Ok k) ∷ earlier) ≡ Some (k, e))
+    → Is w (later ++ At now (Transfer group to bytes (Ok k)) ∷ earlier) c → NoneTold tells_transfer later
+    → IsPrompt g later (At now (Transfer group to bytes (Ok k)) ∷ earlier) → g < 1000000000000
+    → (packets_of (broadcast_from w group bytes) + 65) * (timer_t3 + g) + g < passed_in later (At now (Transfer group to bytes (Ok k)) ∷ earlier)
+    → (e : TransferEnding) × (next_transfer_ended w (later ++ At now (Transfer group to bytes (Ok k)) ∷ earlier) ≡ Some (k, e))
 unfolding new_sender
 transfer_ends w later earlier c g now group to k bytes is none prompt short l =
-    let B = Transfer now group to bytes (Ok k) ∷ earlier in
+    let B = At now (Transfer group to bytes (Ok k)) ∷ earlier in
     let m = broadcast_from w group bytes in
     let fit = accepted_so (transfer_case w earlier now group to bytes (Ok k) ((answered_from w later B is.answered).1)) in
     let few = few_packets group bytes (and_parts (can_broadcast group bytes) (nat_lt to 254 && not (nat_eq to w.address)) fit.1).0 in
@@ -387,7 +388,7 @@ transfer_ends w later earlier c g now group to k bytes is none prompt short l =
     l (waited_last g later B prompt)
   where
     accepted_so : TransferCase w earlier now group to bytes (Ok k)
-        → (is_held (address_after w (Transfer now group to bytes (Ok k) ∷ earlier)) ≡ true) × (can_transfer w group to bytes ≡ true)
+        → (is_held (address_after w (At now (Transfer group to bytes (Ok k)) ∷ earlier)) ≡ true) × (can_transfer w group to bytes ≡ true)
     accepted_so (homeless a e) = absurd (cc)
     accepted_so (unfit a b e) = absurd (cc)
     accepted_so (busy a b f e) = absurd (cc)

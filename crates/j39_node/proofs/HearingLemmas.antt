@@ -10,7 +10,8 @@ use Rattle.j39_transport.specs.Key.{Broadcast as by, is_key}
 use Rattle.j39_frame.specs.Network.{transport_data_group}
 use Rattle.j39_transport.proofs.FrameFacts.{announcement_facts}
 use Rattle.j39_node.specs.History.{Who, Call, is_claim, told_claims}
-use Rattle.j39_node.specs.History.Call.{Hear, TakeFrame, ReleaseBroadcast}
+use Rattle.j39_node.specs.History.Call.{At, ReleaseBroadcast}
+use Rattle.j39_node.specs.History.Act.{Hear, TakeFrame}
 use Rattle.j39_node.specs.Hearing.{IsFit, OpenBroadcast, announces, begun, changes, found, grown, has_room, hearing, hears, is_ignored, is_late, is_unheard, is_whole, left, opens, packed, packs, touched, unheard}
 use Rattle.j39_node.specs.Reception.{holder, is_same, time_heard}
 use Rattle.j39_node.specs.Is.{HearingRecord, hearing_after}
@@ -38,10 +39,10 @@ left_is w H G old new b p q (Some x) k l e f g =
 
 -- ---- a frame is taken
 
-pub hearing_same : (w : Who) (H : List Call) (now : ℕ) (f : FrameRecord) → is_claim f ≡ false → hearing_after w H ≡ hearing_after w (TakeFrame now (Some f) ∷ H)
+pub hearing_same : (w : Who) (H : List Call) (now : ℕ) (f : FrameRecord) → is_claim f ≡ false → hearing_after w H ≡ hearing_after w (At now (TakeFrame (Some f)) ∷ H)
 hearing_same w H now f e =
     ap (λ (o : Option OpenBroadcast). (let r : HearingRecord = record { current = o; missed = min (unheard w H) 18446744073709551615 } in r))
-    (sym (left_same (holder w H) (holder w (TakeFrame now (Some f) ∷ H)) (hearing w H)
+    (sym (left_same (holder w H) (holder w (At now (TakeFrame (Some f)) ∷ H)) (hearing w H)
     (λ a. cond (is_claim f) _ (holder w H a) e)))
   where
     cond : (b : Bool) (x y : Option ℕ) → b ≡ false → (if b then x else y) ≡ y
@@ -53,11 +54,11 @@ is_hearing x y e f =
     ap (λ (o : Option OpenBroadcast). record x { current = o }) e ∙ ap (λ (n : ℕ). record x { current = y.current; missed = n }) f
 
 pub claimed_on : (w : Who) (H : List Call) (now : ℕ) (f : FrameRecord) (old new : Claims) (b : Bool) (p q : Option ℕ) (x y : HearingRecord) → x ≡ hearing_after w H
-    → Knows old (told_claims w H) → Knows new (told_claims w (TakeFrame now (Some f) ∷ H))
+    → Knows old (told_claims w H) → Knows new (told_claims w (At now (TakeFrame (Some f)) ∷ H))
     → IfSome x.current (λ z. p ≡ holder_in old z.source) → IfSome x.current (λ z. q ≡ holder_in new z.source) → b ≡ not (is_same p q)
-    → y.current ≡ left b x.current → y.missed ≡ x.missed → y ≡ hearing_after w (TakeFrame now (Some f) ∷ H)
+    → y.current ≡ left b x.current → y.missed ≡ x.missed → y ≡ hearing_after w (At now (TakeFrame (Some f)) ∷ H)
 claimed_on w H now f old new b p q x y h k l e1 e2 e3 e4 e5 =
-    let G = TakeFrame now (Some f) ∷ H in
+    let G = At now (TakeFrame (Some f)) ∷ H in
     let o : x.current ≡ hearing w H = ap (λ (r : HearingRecord). r.current) h in
     is_hearing _ _ (e4 ∙ (left_is w H G old new b p q x.current k l e1 e2 e3 ∙ ap (λ (z : Option OpenBroadcast). left (changes (holder w H) (holder w G) z) z) o))
     (e5 ∙ ap (λ (r : HearingRecord). r.missed) h)
@@ -109,8 +110,8 @@ fit_hears w now f o h = go (announces f) (packs f) (has_room now (source_of f.id
 
 pub fit : (w : Who) (H : List Call) → IsFit (hearing w H)
 fit w [] = tt
-fit w (Hear f ∷ H) = fit_hears w (time_heard (Hear f ∷ H)) f (found w H f) (fit_left (changes (holder w H) (holder w (Hear f ∷ H)) (hearing w H)) (hearing w H) (fit w H))
-fit w (TakeFrame now (Some f) ∷ H) = fit_left (changes (holder w H) (holder w (TakeFrame now (Some f) ∷ H)) (hearing w H)) (hearing w H) (fit w H)
+fit w (At @@ (Hear f) ∷ H) = fit_hears w (time_heard (At @@ (Hear f) ∷ H)) f (found w H f) (fit_left (changes (holder w H) (holder w (At @@ (Hear f) ∷ H)) (hearing w H)) (hearing w H) (fit w H))
+fit w (At now (TakeFrame (Some f)) ∷ H) = fit_left (changes (holder w H) (holder w (At now (TakeFrame (Some f)) ∷ H)) (hearing w H)) (hearing w H) (fit w H)
 fit w (ReleaseBroadcast true ∷ H) = tt
 fit w (call ∷ H) = fit w H
 
@@ -138,17 +139,17 @@ missed_more false c m e = e
 
 -- what a frame makes of it
 pub record HeardOn (w : Who) (H : List Call) (f : FrameRecord) (u : Bool) (y : HearingRecord) : Type 0 where
-  pub unheard : u ≡ is_unheard w (time_heard (Hear f ∷ H)) f (found w H f)
-  pub hearing : y ≡ hearing_after w (Hear f ∷ H)
+  pub unheard : u ≡ is_unheard w (time_heard (At @@ (Hear f) ∷ H)) f (found w H f)
+  pub hearing : y ≡ hearing_after w (At @@ (Hear f) ∷ H)
 
 pub heard_on : (w : Who) (H : List Call) (f : FrameRecord) (old new : Claims) (b u : Bool) (now : ℕ) (p q : Option ℕ) (x m y : HearingRecord) → x ≡ hearing_after w H
-    → Knows old (told_claims w H) → Knows new (told_claims w (Hear f ∷ H)) → now ≡ time_heard (Hear f ∷ H)
+    → Knows old (told_claims w H) → Knows new (told_claims w (At @@ (Hear f) ∷ H)) → now ≡ time_heard (At @@ (Hear f) ∷ H)
     → IfSome x.current (λ z. p ≡ holder_in old z.source) → IfSome x.current (λ z. q ≡ holder_in new z.source) → b ≡ not (is_same p q)
     → m.current ≡ left b x.current → m.missed ≡ x.missed → u ≡ is_unheard w now f m.current
     → y.missed ≡ (if u then min (m.missed + 1) 18446744073709551615 else m.missed) → (IsFit m.current → y.current ≡ hears w now f m.current)
     → HeardOn w H f u y
 heard_on w H f old new b u now p q x m y h k l t e1 e2 e3 e4 e5 e6 e7 e8 =
-    let G = Hear f ∷ H in
+    let G = At @@ (Hear f) ∷ H in
     let o : x.current ≡ hearing w H = ap (λ (r : HearingRecord). r.current) h in
     let mid : m.current ≡ found w H f =
     e4 ∙ (left_is w H G old new b p q x.current k l e1 e2 e3 ∙ ap (λ (z : Option OpenBroadcast). left (changes (holder w H) (holder w G) z) z) o) in

@@ -9,7 +9,8 @@ use Rattle.j39_node.specs.declared.kinds.Ending.TheVariants.{Done, Withdrawn}
 use Rattle.j39_node.specs.declared.kinds.Refused.{Refused}
 use Rattle.j39_node.specs.declared.kinds.Refused.TheVariants.{NoAddress, BadValue, Full}
 use Rattle.j39_node.specs.History.{Who, Message, Call, accepted, acknowledged, address_after, all_frames, broadcasts, can_broadcast, claim_address, claim_from, due, first_frames, frame_of, has_packets, holds, is_busy, is_left, is_lost, is_open, is_packet, message_of, moment, open_broadcast, owes_claim, packets, pause, sent, step, told_broadcasts}
-use Rattle.j39_node.specs.History.Call.{TakeFrame, Broadcast, TakeBroadcastEnded}
+use Rattle.j39_node.specs.History.Call.{At, TakeBroadcastEnded}
+use Rattle.j39_node.specs.History.Act.{TakeFrame, Broadcast}
 use Rattle.j39_node.specs.Reception.{reception}
 use Rattle.j39_node.specs.Is.{AreAnswered, Is, broadcast_end, next_control, next_packet, packet_by, long_by, next_frame, next_long}
 use Rattle.j39_node.specs.Transfers.{next_transfer}
@@ -25,12 +26,12 @@ use Rattle.j39_node.proofs.LawLemmas.{not_both, past_end, sent_within, whole}
 
 -- ---- what broadcast answers
 
-answers : (w : Who) (H : List Call) (c : Controller) (now group : ℕ) (bytes : List ℕ) (answer : Result ℕ Refused) → Is w (Broadcast now group bytes answer ∷ H) c
+answers : (w : Who) (H : List Call) (c : Controller) (now group : ℕ) (bytes : List ℕ) (answer : Result ℕ Refused) → Is w (At now (Broadcast group bytes answer) ∷ H) c
     → BroadcastCase w H now group bytes answer
 answers w H c now group bytes answer is = broadcast_case w H now group bytes answer is.answered.1
 
 pub refused_address : (w : Who) (H : List Call) (c : Controller) (now group : ℕ) (bytes : List ℕ) (answer : Result ℕ Refused)
-    → Is w (Broadcast now group bytes answer ∷ H) c → (answer ≡ Err NoAddress ↔ (IsTrue (holds w H now) → ⊥))
+    → Is w (At now (Broadcast group bytes answer) ∷ H) c → (answer ≡ Err NoAddress ↔ (IsTrue (holds w H now) → ⊥))
 refused_address w H c now group bytes answer is = go (answers w H c now group bytes answer is)
   where
     go : BroadcastCase w H now group bytes answer → (answer ≡ Err NoAddress ↔ (IsTrue (holds w H now) → ⊥))
@@ -40,7 +41,7 @@ refused_address w H c now group bytes answer is = go (answers w H c now group by
     go (opens a b f e) = (λ z. absurd (cc), λ z. absurd (z a))
 
 pub refused_value : (w : Who) (H : List Call) (c : Controller) (now group : ℕ) (bytes : List ℕ) (answer : Result ℕ Refused)
-    → Is w (Broadcast now group bytes answer ∷ H) c
+    → Is w (At now (Broadcast group bytes answer) ∷ H) c
     → (answer ≡ Err BadValue ↔ (IsTrue (holds w H now) × (IsTrue (can_broadcast group bytes) → ⊥)))
 refused_value w H c now group bytes answer is = go (answers w H c now group bytes answer is)
   where
@@ -79,7 +80,7 @@ no_limit w H right e l =
     ]
 
 pub refused_full : (w : Who) (H : List Call) (c : Controller) (now group : ℕ) (bytes : List ℕ) (answer : Result ℕ Refused)
-    → Is w (Broadcast now group bytes answer ∷ H) c
+    → Is w (At now (Broadcast group bytes answer) ∷ H) c
     → (answer ≡ Err Full ↔ (IsTrue (holds w H now) × IsTrue (can_broadcast group bytes)
     × ((length (broadcasts w H) ≡ length (told_broadcasts H) + 1) ⊎ (length (broadcasts w H) ≡ 18446744073709551615))))
 unfolding AtLimit
@@ -92,7 +93,7 @@ refused_full w H c now group bytes answer is = go (answers w H c now group bytes
     go (opens a b f e) = (λ z. absurd (cc), λ z. absurd (no_limit w H is.answered.0 f z.2))
 
 pub is_accepted : (w : Who) (H : List Call) (c : Controller) (now group : ℕ) (bytes : List ℕ) (answer : Result ℕ Refused)
-    → Is w (Broadcast now group bytes answer ∷ H) c → IsTrue (holds w H now) → IsTrue (can_broadcast group bytes)
+    → Is w (At now (Broadcast group bytes answer) ∷ H) c → IsTrue (holds w H now) → IsTrue (can_broadcast group bytes)
     → length (broadcasts w H) ≡ length (told_broadcasts H) → length (broadcasts w H) < 18446744073709551615
     → answer ≡ Ok (length (broadcasts w H))
 unfolding AtLimit
@@ -104,7 +105,7 @@ is_accepted w H c now group bytes answer is held can room some = go (answers w H
     go (busy a b f e) = elim (limit w H is.answered.0 f) [ inl z ↦ absurd (omega (arith, z, room)) | inr z ↦ absurd (omega (arith, z, some)) ]
     go (opens a b f e) = e
 
-pub token_is : (w : Who) (H : List Call) (c : Controller) (now group k : ℕ) (bytes : List ℕ) → Is w (Broadcast now group bytes (Ok k) ∷ H) c
+pub token_is : (w : Who) (H : List Call) (c : Controller) (now group k : ℕ) (bytes : List ℕ) → Is w (At now (Broadcast group bytes (Ok k)) ∷ H) c
     → k ≡ length (broadcasts w H)
 token_is w H c now group k bytes is = go (answers w H c now group bytes (Ok k) is)
   where
@@ -132,7 +133,7 @@ record Packed (w : Who) (H : List Call) (now : ℕ) (f : FrameRecord) : Type 0 w
   pub none_waits : slice_get (accepted w H) (length (sent H)) ≡ None
   pub over : pause H - step H now ≡ 0
 
-packed : (w : Who) (H : List Call) (c : Controller) (now : ℕ) (f : FrameRecord) → Is w (TakeFrame now (Some f) ∷ H) c → is_packet f ≡ true → Packed w H now f
+packed : (w : Who) (H : List Call) (c : Controller) (now : ℕ) (f : FrameRecord) → Is w (At now (TakeFrame (Some f)) ∷ H) c → is_packet f ≡ true → Packed w H now f
 packed w H c now f is p = go (frame_case w H now f is.answered.1)
   where
     right : AreAnswered w H
@@ -158,11 +159,11 @@ packed w H c now f is p = go (frame_case w H now f is.answered.1)
           over = x.over;
         }
 
-pub only : (w : Who) (H : List Call) (c : Controller) (now : ℕ) (f : FrameRecord) → Is w (TakeFrame now (Some f) ∷ H) c → IsTrue (is_packet f)
+pub only : (w : Who) (H : List Call) (c : Controller) (now : ℕ) (f : FrameRecord) → Is w (At now (TakeFrame (Some f)) ∷ H) c → IsTrue (is_packet f)
     → (k : ℕ) × (m : MessageRecord) × (open_broadcast w H ≡ Some (k, m)) × (message_of f ≡ frame_of m (length (packets H))) × (length (packets H) ≤ packets_of m)
 only w H c now f is p = let x = packed w H c now f is p in (x.token, x.message, x.current, x.is, x.within)
 
-pub behind : (w : Who) (H : List Call) (c : Controller) (now : ℕ) (f : FrameRecord) → Is w (TakeFrame now (Some f) ∷ H) c → IsTrue (is_packet f)
+pub behind : (w : Who) (H : List Call) (c : Controller) (now : ℕ) (f : FrameRecord) → Is w (At now (TakeFrame (Some f)) ∷ H) c → IsTrue (is_packet f)
     → IsTrue (holds w H now) × (length (sent H) ≡ length (accepted w H)) × (acknowledged H ≡ due w H)
 behind w H c now f is p =
     let x = packed w H c now f is p in
@@ -180,17 +181,17 @@ pause_or false p s q l = omega (arith, l)
 -- what is left of the pause, and what passed since a frame of packets
 pauses : (later E : List Call) → 50000 ≤ pause E → 50000 ≤ pause (later ++ E) + passed_in later E
 pauses [] E l = omega (arith, l)
-pauses (TakeFrame now (Some f) ∷ later) E l = pause_or (is_packet f) (pause (later ++ E)) (step (later ++ E) now) (passed_in later E) (pauses later E l)
+pauses (At now (TakeFrame (Some f)) ∷ later) E l = pause_or (is_packet f) (pause (later ++ E)) (step (later ++ E) now) (passed_in later E) (pauses later E l)
 pauses (call ∷ later) E l = let h = pauses later E l in omega (arith, h)
 
 pub spaced : (w : Who) (H later : List Call) (c : Controller) (now at : ℕ) (f g : FrameRecord)
-    → Is w (TakeFrame now (Some g) ∷ later ++ TakeFrame at (Some f) ∷ H) c → IsTrue (is_packet f) → IsTrue (is_packet g)
-    → 50000 ≤ passed_in (TakeFrame now (Some g) ∷ later) (TakeFrame at (Some f) ∷ H)
+    → Is w (At now (TakeFrame (Some g)) ∷ later ++ At at (TakeFrame (Some f)) ∷ H) c → IsTrue (is_packet f) → IsTrue (is_packet g)
+    → 50000 ≤ passed_in (At now (TakeFrame (Some g)) ∷ later) (At at (TakeFrame (Some f)) ∷ H)
 spaced w H later c now at f g is p q =
-    let x = packed w (later ++ TakeFrame at (Some f) ∷ H) c now g is q in
+    let x = packed w (later ++ At at (TakeFrame (Some f)) ∷ H) c now g is q in
     let o = x.over in
-    let l = pauses later (TakeFrame at (Some f) ∷ H) (begins (is_packet f) p) in
-    over_all (pause (later ++ TakeFrame at (Some f) ∷ H)) (passed_in later (TakeFrame at (Some f) ∷ H)) (step (later ++ TakeFrame at (Some f) ∷ H) now) l o
+    let l = pauses later (At at (TakeFrame (Some f)) ∷ H) (begins (is_packet f) p) in
+    over_all (pause (later ++ At at (TakeFrame (Some f)) ∷ H)) (passed_in later (At at (TakeFrame (Some f)) ∷ H)) (step (later ++ At at (TakeFrame (Some f)) ∷ H) now) l o
   where
     begins : (b : Bool) → b ≡ true → 50000 ≤ (if b then 50000 else pause H - step H at)
     begins true e = omega arith
@@ -210,7 +211,7 @@ later_by_one H call e h = record {
   is = ap (λ G. call ∷ G) h.is;
   of_packets = h.of_packets;
   passed = ap (λ (n : ℕ). n + step H (moment (call ∷ H))) h.passed
-      ∙ ap (λ (G : List Call). passed_in h.later (TakeFrame h.at (Some h.packet) ∷ h.earlier) + step G (moment (call ∷ G))) h.is;
+      ∙ ap (λ (G : List Call). passed_in h.later (At h.at (TakeFrame (Some h.packet)) ∷ h.earlier) + step G (moment (call ∷ G))) h.is;
 }
 
 -- a pause that lasts began with a frame of packets
@@ -223,15 +224,15 @@ lets_pass H call h p l =
     let b = r.2 in
     (r.0 + step H (moment (call ∷ H)), later_by_one H call r.0 r.1, omega (arith, p, l, b))
 
-taken_by : (H : List Call) (now : ℕ) (f : FrameRecord) (b : Bool) → is_packet f ≡ b → Began H → Began (TakeFrame now (Some f) ∷ H)
+taken_by : (H : List Call) (now : ℕ) (f : FrameRecord) (b : Bool) → is_packet f ≡ b → Began H → Began (At now (TakeFrame (Some f)) ∷ H)
 taken_by H now f true k h = λ l.
     let p = pause_is H now f true k in
     (0, record { later = []; earlier = H; at = now; packet = f; is = refl; of_packets = k; passed = refl }, omega (arith, p))
-taken_by H now f false k h = lets_pass H (TakeFrame now (Some f)) h (pause_is H now f false k)
+taken_by H now f false k h = lets_pass H (At now (TakeFrame (Some f))) h (pause_is H now f false k)
 
 began : (H : List Call) → Began H
 began [] = λ l. absurd (omega (arith, l))
-began (TakeFrame now (Some f) ∷ H) = taken_by H now f (is_packet f) refl (began H)
+began (At now (TakeFrame (Some f)) ∷ H) = taken_by H now f (is_packet f) refl (began H)
 began (call ∷ H) = lets_pass H call (began H) (omega arith)
 
 -- a frame that is left waits for the pause alone
@@ -258,7 +259,7 @@ none_long w H now held e =
     none false true None None (Some y) b e = absurd (cc)
     none false true None None None b e = refl
 
-pausing : (w : Who) (H : List Call) (c : Controller) (now : ℕ) → Is w (TakeFrame now None ∷ H) c → IsTrue (holds w H now)
+pausing : (w : Who) (H : List Call) (c : Controller) (now : ℕ) → Is w (At now (TakeFrame None) ∷ H) c → IsTrue (holds w H now)
     → IsTrue (has_packets w H) → step H now < pause H
 pausing w H c now is held some =
     let l = no_frame (open_broadcast w H) (length (packets H)) (pause H - step H now) some
@@ -353,7 +354,7 @@ packet_waits w H now some none =
     let b = r.2 in
     (r.0, r.1, omega (arith, l, b))
 
-pub waits : (w : Who) (H : List Call) (c : Controller) (now : ℕ) → Is w (TakeFrame now None ∷ H) c → IsTrue (holds w H now)
+pub waits : (w : Who) (H : List Call) (c : Controller) (now : ℕ) → Is w (At now (TakeFrame None) ∷ H) c → IsTrue (holds w H now)
     → IsTrue (has_packets w H) → (e : ℕ) × PacketSince H e × (e + step H now < 50000)
 waits w H c now is held some =
     let l = pausing w H c now is held some in

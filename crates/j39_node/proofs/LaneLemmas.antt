@@ -8,7 +8,8 @@ use Rattle.j39_node.specs.declared.kinds.Ending.TheVariants.{Done, Withdrawn}
 use Rattle.j39_node.specs.declared.kinds.Refused.{Refused}
 use Rattle.j39_node.specs.declared.kinds.Refused.TheVariants.{NoAddress, BadValue, Full}
 use Rattle.j39_node.specs.History.{Who, Message, Call, accepted, acknowledged, due, sent, address_after, broadcast_from, broadcasts, can_broadcast, first_frames, frame_of, holds, is_busy, is_lost, is_open, is_packet, open_broadcast, packets, pause, step, told_broadcasts}
-use Rattle.j39_node.specs.History.Call.{TakeFrame, Broadcast, TakeBroadcastEnded}
+use Rattle.j39_node.specs.History.Call.{At, TakeBroadcastEnded}
+use Rattle.j39_node.specs.History.Act.{TakeFrame, Broadcast}
 use Rattle.j39_node.specs.Reception.{reception}
 use Rattle.j39_node.specs.Is.{AreAnswered, answer_to_broadcast, broadcast_end, stamped}
 use Rattle.j39_node.proofs.QueueLemmas.{length_one_more}
@@ -112,13 +113,13 @@ grows w told all xs m (Some x) left p h =
 -- a frame is taken
 lane_frame : (w : Who) (H : List Call) (now : ℕ) (f : FrameRecord) → AreAnswered w H → FrameCase w H now f
     → Laned w (length (told_broadcasts H)) (broadcasts w H) (packets H) (open_broadcast w H)
-    → Laned w (length (told_broadcasts H)) (broadcasts w H) (packets (TakeFrame now (Some f) ∷ H)) (open_broadcast w H)
+    → Laned w (length (told_broadcasts H)) (broadcasts w H) (packets (At now (TakeFrame (Some f)) ∷ H)) (open_broadcast w H)
 lane_frame w H now f right case h = go case
   where
-    same : is_packet f ≡ false → Laned w (length (told_broadcasts H)) (broadcasts w H) (packets (TakeFrame now (Some f) ∷ H)) (open_broadcast w H)
+    same : is_packet f ≡ false → Laned w (length (told_broadcasts H)) (broadcasts w H) (packets (At now (TakeFrame (Some f)) ∷ H)) (open_broadcast w H)
     same e = subst (λ xs. Laned w (length (told_broadcasts H)) (broadcasts w H) xs (open_broadcast w H)) (sym (packets_is H now f false e)) h
 
-    go : FrameCase w H now f → Laned w (length (told_broadcasts H)) (broadcasts w H) (packets (TakeFrame now (Some f) ∷ H)) (open_broadcast w H)
+    go : FrameCase w H now f → Laned w (length (told_broadcasts H)) (broadcasts w H) (packets (At now (TakeFrame (Some f)) ∷ H)) (open_broadcast w H)
     go (claims o e) = same (no_packet f (claim_single f (claim_taken f now w _ e)))
     go (acknowledges m o k g e) = same (no_packet f (due_taken w f now m e (due_get w (due w H) (length (acknowledged H)) m (sound w H right).desk.0 g)).2)
     go (replies m o k n g e) = same (reply_taken w.address f now m e (replied_get w.address (reception w H).replies 0 m (tidy w H).replies g)).3
@@ -167,8 +168,8 @@ lane_closes w H x (broken m e l a d) h =
 
 pub laned : (w : Who) (H : List Call) → AreAnswered w H → Laned w (length (told_broadcasts H)) (broadcasts w H) (packets H) (open_broadcast w H)
 laned w [] e = refl
-laned w (TakeFrame now (Some f) ∷ H) e = lane_frame w H now f e.0 (frame_case w H now f e.1) (laned w H e.0)
-laned w (Broadcast now group bytes (Ok k) ∷ H) e = lane_opens w H now group k bytes (broadcast_case w H now group bytes (Ok k) e.1) (laned w H e.0)
+laned w (At now (TakeFrame (Some f)) ∷ H) e = lane_frame w H now f e.0 (frame_case w H now f e.1) (laned w H e.0)
+laned w (At now (Broadcast group bytes (Ok k)) ∷ H) e = lane_opens w H now group k bytes (broadcast_case w H now group bytes (Ok k) e.1) (laned w H e.0)
 laned w (TakeBroadcastEnded (Some x) ∷ H) e =
     lane_closes w H x (lane_end (open_broadcast w H) (length (packets H)) (is_lost (address_after w H)) x e.1) (laned w H e.0)
 laned w (call ∷ H) e = laned w H e.0

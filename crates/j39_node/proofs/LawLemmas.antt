@@ -18,7 +18,8 @@ use Rattle.j39_node.specs.declared.kinds.News.TheVariants.{AddressLost, AnotherA
 use Rattle.j39_node.specs.declared.kinds.Refused.{Refused}
 use Rattle.j39_node.specs.declared.kinds.Refused.TheVariants.{NoAddress, BadValue, Full}
 use Rattle.j39_node.specs.History.{Who, Message, Draft, Call, Address, IsFront, accepted, address_after, calls_for_claim, can_send, claim_address, claim_from, content, frames, got, heard, holds, is_claim, is_smaller, claimed, is_for_program, is_held, is_lost, is_none, is_own_group, is_some, is_subscribed, kept, message_of, missed, moment, older, owes_claim, sent, step, told, Asked, asked, acknowledgment, acknowledgment_group, acknowledged, due, handed, requests, is_served, with_request, with_refusal, stamp_at, held_at, lost_news, another_news, missed_news, open_broadcast, packets, pause}
-use Rattle.j39_node.specs.History.Call.{Hear, Tick, TakeFrame, Send, TakeEnded, TakeReceived, TakeRequest, TakeNews, Acknowledge}
+use Rattle.j39_node.specs.History.Call.{At, TakeEnded, TakeReceived, TakeRequest, TakeNews}
+use Rattle.j39_node.specs.History.Act.{Hear, Tick, TakeFrame, Send, Acknowledge}
 use Rattle.j39_node.specs.Reception.{is_waiting, reception}
 use Rattle.j39_node.proofs.ReceptionLemmas.{replied_get, tidy}
 use Rattle.j39_node.specs.History.Address.{NotClaimed, Claimed, Lost}
@@ -36,10 +37,10 @@ use Rattle.j39_node.proofs.SoundLemmas.EndCase.{done, withdrawn}
 
 -- ---- sources
 
-frame : (w : Who) (H : List Call) (c : Controller) (now : ℕ) (f : FrameRecord) → Is w (TakeFrame now (Some f) ∷ H) c → FrameCase w H now f
+frame : (w : Who) (H : List Call) (c : Controller) (now : ℕ) (f : FrameRecord) → Is w (At now (TakeFrame (Some f)) ∷ H) c → FrameCase w H now f
 frame w H c now f is = frame_case w H now f is.answered.1
 
-pub moments : (w : Who) (H : List Call) (c : Controller) (now : ℕ) (f : FrameRecord) → Is w (TakeFrame now (Some f) ∷ H) c → f.stamp ≡ now
+pub moments : (w : Who) (H : List Call) (c : Controller) (now : ℕ) (f : FrameRecord) → Is w (At now (TakeFrame (Some f)) ∷ H) c → f.stamp ≡ now
 moments w H c now f is = go (frame w H c now f is)
   where
     go : FrameCase w H now f → f.stamp ≡ now
@@ -50,7 +51,7 @@ moments w H c now f is = go (frame w H c now f is)
     go (packs m o h k past g e) = ap (λ (y : ℕ × Message). y.0) e
     go (transfers m o h k past nothing g e) = ap (λ (y : ℕ × Message). y.0) e
 
-pub sources : (w : Who) (H : List Call) (c : Controller) (now : ℕ) (f : FrameRecord) → Is w (TakeFrame now (Some f) ∷ H) c
+pub sources : (w : Who) (H : List Call) (c : Controller) (now : ℕ) (f : FrameRecord) → Is w (At now (TakeFrame (Some f)) ∷ H) c
     → (message_of f ≡ claim_from w (claim_address w (address_after w H)))
     ⊎ (IsTrue (holds w H now) × (source_of f.id ≡ w.address) × (pgn_of f.id ≢ address_claimed_group))
 sources w H c now f is = go (frame w H c now f is)
@@ -94,7 +95,7 @@ sources w H c now f is = go (frame w H c now f is)
 
 -- ---- accounted once
 
-pub token_is : (w : Who) (H : List Call) (c : Controller) (now k : ℕ) (d : Draft) → Is w (Send now d (Ok k) ∷ H) c → k ≡ length (accepted w H)
+pub token_is : (w : Who) (H : List Call) (c : Controller) (now k : ℕ) (d : Draft) → Is w (At now (Send d (Ok k)) ∷ H) c → k ≡ length (accepted w H)
 token_is w H c now k d is = go (send_case w H now d (Ok k) is.answered.1)
   where
     go : SendCase w H now d (Ok k) → k ≡ length (accepted w H)
@@ -174,7 +175,7 @@ pub withdrawn_means : (w : Who) (H : List Call) (c : Controller) (k : ℕ) (e : 
     → IsTrue (is_lost (address_after w H))
 withdrawn_means w H c k e is z = (told_is w H c k e is).withdrawn z
 
-pub none_waits : (w : Who) (H : List Call) (c : Controller) (now : ℕ) → Is w (TakeFrame now None ∷ H) c → IsTrue (holds w H now)
+pub none_waits : (w : Who) (H : List Call) (c : Controller) (now : ℕ) → Is w (At now (TakeFrame None) ∷ H) c → IsTrue (holds w H now)
     → (length (sent H) ≡ length (accepted w H)) × (length (acknowledged H) ≡ length (due w H))
 none_waits w H c now is held =
     go (owes_claim w H) (holds w H now) (next_control w H) (slice_get (accepted w H) (length (sent H))) held refl refl is.answered.1
@@ -200,14 +201,14 @@ none_waits w H c now is held =
 
 -- ---- what send answers
 
-answers : (w : Who) (H : List Call) (c : Controller) (now : ℕ) (d : Draft) (answer : Result ℕ Refused) → Is w (Send now d answer ∷ H) c → SendCase w H now d answer
+answers : (w : Who) (H : List Call) (c : Controller) (now : ℕ) (d : Draft) (answer : Result ℕ Refused) → Is w (At now (Send d answer) ∷ H) c → SendCase w H now d answer
 answers w H c now d answer is = send_case w H now d answer is.answered.1
 
 pub not_both : (b : Bool) → b ≡ false → b ≡ true → ⊥
 not_both b e f = let z : false ≡ true = sym e ∙ f in absurd (cc)
 
 pub refused_address : (w : Who) (H : List Call) (c : Controller) (now : ℕ) (d : Draft) (answer : Result ℕ Refused)
-    → Is w (Send now d answer ∷ H) c → (answer ≡ Err NoAddress ↔ (IsTrue (holds w H now) → ⊥))
+    → Is w (At now (Send d answer) ∷ H) c → (answer ≡ Err NoAddress ↔ (IsTrue (holds w H now) → ⊥))
 refused_address w H c now d answer is = go (answers w H c now d answer is)
   where
     go : SendCase w H now d answer → (answer ≡ Err NoAddress ↔ (IsTrue (holds w H now) → ⊥))
@@ -217,7 +218,7 @@ refused_address w H c now d answer is = go (answers w H c now d answer is)
     go (accepts a b f e) = (λ z. absurd (cc), λ z. absurd (z a))
 
 pub refused_value : (w : Who) (H : List Call) (c : Controller) (now : ℕ) (d : Draft) (answer : Result ℕ Refused)
-    → Is w (Send now d answer ∷ H) c → (answer ≡ Err BadValue ↔ (IsTrue (holds w H now) × (IsTrue (can_send w d) → ⊥)))
+    → Is w (At now (Send d answer) ∷ H) c → (answer ≡ Err BadValue ↔ (IsTrue (holds w H now) × (IsTrue (can_send w d) → ⊥)))
 refused_value w H c now d answer is = go (answers w H c now d answer is)
   where
     go : SendCase w H now d answer → (answer ≡ Err BadValue ↔ (IsTrue (holds w H now) × (IsTrue (can_send w d) → ⊥)))
@@ -245,7 +246,7 @@ full_from a t (inr e) = go (nat_eq (a - t) 16) (eq-eqb a 18446744073709551615 e)
     go false f = f
 
 pub refused_full : (w : Who) (H : List Call) (c : Controller) (now : ℕ) (d : Draft) (answer : Result ℕ Refused)
-    → Is w (Send now d answer ∷ H) c
+    → Is w (At now (Send d answer) ∷ H) c
     → (answer ≡ Err Full ↔ (IsTrue (holds w H now) × IsTrue (can_send w d)
     × ((length (accepted w H) ≡ length (told H) + 16) ⊎ (length (accepted w H) ≡ 18446744073709551615))))
 refused_full w H c now d answer is = go (answers w H c now d answer is)
@@ -258,7 +259,7 @@ refused_full w H c now d answer is = go (answers w H c now d answer is)
     go (accepts a b f e) = (λ z. absurd (cc), λ z. absurd (not_both _ f (full_from _ _ z.2)))
 
 pub is_accepted : (w : Who) (H : List Call) (c : Controller) (now : ℕ) (d : Draft) (answer : Result ℕ Refused)
-    → Is w (Send now d answer ∷ H) c → IsTrue (holds w H now) → IsTrue (can_send w d)
+    → Is w (At now (Send d answer) ∷ H) c → IsTrue (holds w H now) → IsTrue (can_send w d)
     → length (accepted w H) < length (told H) + 16 → length (accepted w H) < 18446744073709551615
     → answer ≡ Ok (length (accepted w H))
 is_accepted w H c now d answer is held can room some = go (answers w H c now d answer is)
@@ -292,11 +293,11 @@ count_one false r xs ys x m e = e
 
 pub counted : (w : Who) (H : List Call) → length (kept w H) + missed w H ≡ length (heard w H)
 counted w [] = refl
-counted w (Hear f ∷ H) = count_one (is_for_program w (holds w H f.stamp) f) (nat_lt (length (kept w H) - length (got H)) 16) (heard w H) (kept w H) (f.stamp, message_of f) (missed w H) (counted w H)
+counted w (At @@ (Hear f) ∷ H) = count_one (is_for_program w (holds w H f.stamp) f) (nat_lt (length (kept w H) - length (got H)) 16) (heard w H) (kept w H) (f.stamp, message_of f) (missed w H) (counted w H)
 counted w (call ∷ H) = counted w H
 
 pub not_subscribed : (w : Who) (H : List Call) (f : FrameRecord) → is_subscribed w (pgn_of f.id) ≡ false
-    → (kept w (Hear f ∷ H) ≡ kept w H) × (missed w (Hear f ∷ H) ≡ missed w H)
+    → (kept w (At @@ (Hear f) ∷ H) ≡ kept w H) × (missed w (At @@ (Hear f) ∷ H) ≡ missed w H)
 not_subscribed w H f e = (
   ap (λ (b : Bool). if b && nat_lt (length (kept w H) - length (got H)) 16 then kept w H ++ (f.stamp, message_of f) ∷ [] else kept w H) none,
   ap (λ (b : Bool). if b && not (nat_lt (length (kept w H) - length (got H)) 16) then suc (missed w H) else missed w H) none,
@@ -312,7 +313,7 @@ not_subscribed w H f e = (
         && (is_none (destination_of f.id) || (is_some (destination_of f.id) global_address || (is_some (destination_of f.id) w.address && holds w H f.stamp))))) e
         ∙ nothing (nat_lt (source_of f.id) null_address)
 
-pub missed_full : (w : Who) (H : List Call) (f : FrameRecord) → missed w (Hear f ∷ H) ≢ missed w H → length (got H) + 16 ≤ length (kept w H)
+pub missed_full : (w : Who) (H : List Call) (f : FrameRecord) → missed w (At @@ (Hear f) ∷ H) ≢ missed w H → length (got H) + 16 ≤ length (kept w H)
 missed_full w H f n = go (is_for_program w (holds w H f.stamp) f) (nat_lt (length (kept w H) - length (got H)) 16) refl n
   where
     not_lt : (k g : ℕ) → nat_lt (k - g) 16 ≡ false → g + 16 ≤ k
@@ -345,18 +346,18 @@ or_right false b e = e
 -- what is owed stays owed until a frame is taken
 still_owed : (w : Who) (later H : List Call) → frames later ≡ [] → owes_claim w H ≡ true → owes_claim w (later ++ H) ≡ true
 still_owed w [] H e o = o
-still_owed w (Hear f ∷ later) H e o = or_true _ _ (still_owed w later H e o)
-still_owed w (TakeFrame now (Some f) ∷ later) H e o = absurd (let a = ap length e in let b = length_one_more (frames later) f in omega (arith, a, b))
+still_owed w (At @@ (Hear f) ∷ later) H e o = or_true _ _ (still_owed w later H e o)
+still_owed w (At now (TakeFrame (Some f)) ∷ later) H e o = absurd (let a = ap length e in let b = length_one_more (frames later) f in omega (arith, a, b))
 still_owed w (call ∷ later) H e o = still_owed w later H e o
 
 pub next_claim : (w : Who) (H later : List Call) (c : Controller) (now : ℕ) (f g : FrameRecord)
-    → Is w (TakeFrame now (Some g) ∷ later ++ Hear f ∷ H) c → frames later ≡ []
+    → Is w (At now (TakeFrame (Some g)) ∷ later ++ At @@ (Hear f) ∷ H) c → frames later ≡ []
     → IsTrue (calls_for_claim w (is_lost (address_after w H)) f)
-    → message_of g ≡ claim_from w (claim_address w (address_after w (later ++ Hear f ∷ H)))
+    → message_of g ≡ claim_from w (claim_address w (address_after w (later ++ At @@ (Hear f) ∷ H)))
 next_claim w H later c now f g is none calls =
-    owed w _ now g (frame w (later ++ Hear f ∷ H) c now g is) (still_owed w later (Hear f ∷ H) none (or_right (owes_claim w H) _ calls))
+    owed w _ now g (frame w (later ++ At @@ (Hear f) ∷ H) c now g is) (still_owed w later (At @@ (Hear f) ∷ H) none (or_right (owes_claim w H) _ calls))
 
-pub claims_at_once : (w : Who) (H : List Call) (c : Controller) (now : ℕ) (answer : Option FrameRecord) → Is w (TakeFrame now answer ∷ H) c
+pub claims_at_once : (w : Who) (H : List Call) (c : Controller) (now : ℕ) (answer : Option FrameRecord) → Is w (At now (TakeFrame answer) ∷ H) c
     → IsTrue (owes_claim w H) → answer ≢ None
 claims_at_once w H c now (Some f) is o z = absurd (cc)
 claims_at_once w H c now None is o z =
@@ -367,7 +368,7 @@ claims_at_once w H c now None is o z =
     go true a y e f = absurd (cc)
     go false a y e f = absurd (cc)
 
-pub claims_only : (w : Who) (H : List Call) (c : Controller) (now : ℕ) (f : FrameRecord) → Is w (TakeFrame now (Some f) ∷ H) c
+pub claims_only : (w : Who) (H : List Call) (c : Controller) (now : ℕ) (f : FrameRecord) → Is w (At now (TakeFrame (Some f)) ∷ H) c
     → pgn_of f.id ≡ address_claimed_group → IsTrue (owes_claim w H)
 claims_only w H c now f is z = go (frame w H c now f is)
   where
@@ -420,11 +421,11 @@ cannot w H = cannot_is w (address_after w H)
 -- ---- requests
 
 request_case : (w : Who) (H : List Call) (f : FrameRecord) (o : Option Asked) → asked w (holds w H f.stamp) f ≡ o
-    → requests w (Hear f ∷ H) ≡ with_request w (nat_lt (length (requests w H) - length (handed H)) 16) o (requests w H)
+    → requests w (At @@ (Hear f) ∷ H) ≡ with_request w (nat_lt (length (requests w H) - length (handed H)) 16) o (requests w H)
 request_case w H f o e = ap (λ x. with_request w (nat_lt (length (requests w H) - length (handed H)) 16) x (requests w H)) e
 
 refusal_case : (w : Who) (H : List Call) (f : FrameRecord) (o : Option Asked) → asked w (holds w H f.stamp) f ≡ o
-    → due w (Hear f ∷ H) ≡ with_refusal w (nat_lt (length (requests w H) - length (handed H)) 16) (nat_lt (length (due w H) - length (acknowledged H)) 16) o (due w H)
+    → due w (At @@ (Hear f) ∷ H) ≡ with_refusal w (nat_lt (length (requests w H) - length (handed H)) 16) (nat_lt (length (due w H) - length (acknowledged H)) 16) o (due w H)
 refusal_case w H f o e = ap (λ x. with_refusal w (nat_lt (length (requests w H) - length (handed H)) 16) (nat_lt (length (due w H) - length (acknowledged H)) 16) x (due w H)) e
 
 has_room : (a b : ℕ) → a < b + 16 → nat_lt (a - b) 16 ≡ true
@@ -451,7 +452,7 @@ off true c = refl
 off false c = refl
 
 pub is_handed : (w : Who) (H : List Call) (f : FrameRecord) (r : Asked) → asked w (holds w H f.stamp) f ≡ Some r → IsTrue (is_served w r.group)
-    → length (requests w H) < length (handed H) + 16 → (requests w (Hear f ∷ H) ≡ requests w H ++ r ∷ []) × (due w (Hear f ∷ H) ≡ due w H)
+    → length (requests w H) < length (handed H) + 16 → (requests w (At @@ (Hear f) ∷ H) ≡ requests w H ++ r ∷ []) × (due w (At @@ (Hear f) ∷ H) ≡ due w H)
 is_handed w H f r e served l =
     let room = has_room _ _ l in (
       request_case w H f (Some r) e ∙ (ap (λ (b : Bool). with_request w b (Some r) (requests w H)) room ∙ with_it w r (requests w H) true true served),
@@ -464,7 +465,7 @@ is_handed w H f r e served l =
 
 pub is_refused : (w : Who) (H : List Call) (f : FrameRecord) (r : Asked) → asked w (holds w H f.stamp) f ≡ Some r → r.destination ≡ w.address
     → (IsTrue (is_served w r.group) → ⊥) → length (due w H) < length (acknowledged H) + 16
-    → (requests w (Hear f ∷ H) ≡ requests w H) × (due w (Hear f ∷ H) ≡ due w H ++ acknowledgment w Nack r ∷ [])
+    → (requests w (At @@ (Hear f) ∷ H) ≡ requests w H) × (due w (At @@ (Hear f) ∷ H) ≡ due w H ++ acknowledgment w Nack r ∷ [])
 is_refused w H f r e at n l =
     let s = is_false _ n in
     let room = nat_lt (length (requests w H) - length (handed H)) 16 in (
@@ -476,7 +477,7 @@ is_refused w H f r e at n l =
 
 pub is_busy : (w : Who) (H : List Call) (f : FrameRecord) (r : Asked) → asked w (holds w H f.stamp) f ≡ Some r → r.destination ≡ w.address
     → IsTrue (is_served w r.group) → length (handed H) + 16 ≤ length (requests w H) → length (due w H) < length (acknowledged H) + 16
-    → (requests w (Hear f ∷ H) ≡ requests w H) × (due w (Hear f ∷ H) ≡ due w H ++ acknowledgment w Busy r ∷ [])
+    → (requests w (At @@ (Hear f) ∷ H) ≡ requests w H) × (due w (At @@ (Hear f) ∷ H) ≡ due w H ++ acknowledgment w Busy r ∷ [])
 is_busy w H f r e at served k l =
     let none = has_none _ _ k in (
       request_case w H f (Some r) e ∙ (ap (λ (b : Bool). with_request w b (Some r) (requests w H)) none ∙ with_it w r (requests w H) true false served),
@@ -487,14 +488,14 @@ is_busy w H f r e at served k l =
     )
 
 pub never_to_all : (w : Who) (H : List Call) (f : FrameRecord) (r : Asked) → asked w (holds w H f.stamp) f ≡ Some r → r.destination ≢ w.address
-    → due w (Hear f ∷ H) ≡ due w H
+    → due w (At @@ (Hear f) ∷ H) ≡ due w H
 never_to_all w H f r e n =
     refusal_case w H f (Some r) e
     ∙ refused_it w r (due w H) (is_served w r.group) (nat_lt (length (requests w H) - length (handed H)) 16) (nat_lt (length (due w H) - length (acknowledged H)) 16) false refl
     (is_false _ (λ z. n (eqb-true _ _ z)))
 
 pub no_request : (w : Who) (H : List Call) (f : FrameRecord) → asked w (holds w H f.stamp) f ≡ None
-    → (requests w (Hear f ∷ H) ≡ requests w H) × (due w (Hear f ∷ H) ≡ due w H)
+    → (requests w (At @@ (Hear f) ∷ H) ≡ requests w H) × (due w (At @@ (Hear f) ∷ H) ≡ due w H)
 no_request w H f e = (request_case w H f None e, refusal_case w H f None e)
 
 pub handed_in_order : (w : Who) (H : List Call) (c : Controller) → Is w H c → IsFront (handed H) (requests w H)
@@ -508,7 +509,7 @@ all_handed w H c is = whole (handed H) (requests w H) (sound w H is.answered.0).
 pub acknowledged_in_order : (w : Who) (H : List Call) (c : Controller) → Is w H c → IsFront (acknowledged H) (due w H)
 acknowledged_in_order w H c is = (sound w H is.answered).desk.1
 
-pub acknowledged_first : (w : Who) (H : List Call) (c : Controller) (now : ℕ) (f : FrameRecord) → Is w (TakeFrame now (Some f) ∷ H) c
+pub acknowledged_first : (w : Who) (H : List Call) (c : Controller) (now : ℕ) (f : FrameRecord) → Is w (At now (TakeFrame (Some f)) ∷ H) c
     → pgn_of f.id ≢ address_claimed_group → pgn_of f.id ≢ acknowledgment_group → acknowledged H ≡ due w H
 acknowledged_first w H c now f is n m = go (frame w H c now f is)
   where
@@ -525,12 +526,12 @@ acknowledged_first w H c now f is n m = go (frame w H c now f is)
         whole (acknowledged H) (due w H) (sound w H is.answered.0).desk.1 (past_end (due w H) (length (acknowledged H)) (none_steers _ (slice_get (reception w H).replies 0) k).0)
 
 pub is_acknowledged : (w : Who) (H : List Call) (c : Controller) (now : ℕ) (r : Asked) (a : Answer) (result : Result (Unit {0}) Refused)
-    → Is w (Acknowledge now r a result ∷ H) c → IsTrue (holds w H now) → r.destination ≡ w.address → length (due w H) < length (acknowledged H) + 16
+    → Is w (At now (Acknowledge r a result) ∷ H) c → IsTrue (holds w H now) → r.destination ≡ w.address → length (due w H) < length (acknowledged H) + 16
     → result ≡ Ok tt
 is_acknowledged w H c now r a result is held at l =
     is.answered.1 ∙ acknowledge_is w H now r true true false held (eq-eqb _ _ at) (is_false _ (λ z. (let y = eqb-true _ _ z in omega (arith, y, l))))
 
-pub only_to_address : (w : Who) (H : List Call) (c : Controller) (now : ℕ) (r : Asked) (a : Answer) → Is w (Acknowledge now r a (Ok tt) ∷ H) c
+pub only_to_address : (w : Who) (H : List Call) (c : Controller) (now : ℕ) (r : Asked) (a : Answer) → Is w (At now (Acknowledge r a (Ok tt)) ∷ H) c
     → IsTrue (holds w H now) × (r.destination ≡ w.address)
 only_to_address w H c now r a is = go (holds w H now) (nat_eq r.destination w.address) (nat_eq (length (due w H) - length (acknowledged H)) 16) refl refl
     (is.answered.1 ∙ acknowledge_is w H now r _ _ _ refl refl refl)
@@ -648,13 +649,13 @@ nothing_taken w H now l m q =
         let u = or_false _ _ v.1 in
         inr (no_control w H (past (due w H) (length (acknowledged H)) u.0) (past (reception w H).replies 0 u.1), past (accepted w H) (length (sent H)) v.0, long z)
 
-pub quiet : (w : Who) (H : List Call) (c : Controller) (now : ℕ) (answer : Option FrameRecord) → Is w (TakeFrame now answer ∷ H) c → moment H ≤ now
+pub quiet : (w : Who) (H : List Call) (c : Controller) (now : ℕ) (answer : Option FrameRecord) → Is w (At now (TakeFrame answer) ∷ H) c → moment H ≤ now
     → now < 10000000000000000 → ((t : ℕ) → next_due w H ≡ Some t → now < t) → answer ≡ None
 unfolding Quiet
 quiet w H c now None is l m q = refl
 quiet w H c now (Some f) is l m q = absurd (let z = is.answered.1 ∙ nothing_taken w H now l m q in cc)
 
-pub ticks : (w : Who) (H : List Call) (now later : ℕ) → moment H ≤ now → now ≤ later → holds w (Tick now ∷ H) later ≡ holds w H later
+pub ticks : (w : Who) (H : List Call) (now later : ℕ) → moment H ≤ now → now ≤ later → holds w (At now Tick ∷ H) later ≡ holds w H later
 ticks w H now later l m = go (address_after w H)
   where
     go : (a : Address) → is_held (older (later - now) (older (now - moment H) a)) ≡ is_held (older (later - moment H) a)
@@ -691,7 +692,7 @@ some_by false true None None None m now (inl e) f = absurd (cc)
 some_by false true None None None m now (inr e) f = e.1 (refl, refl, refl)
 
 -- one is taken where the claim is owed, one waits, or one of packets is due
-none_taken : (w : Who) (H : List Call) (c : Controller) (now : ℕ) → Is w (TakeFrame now None ∷ H) c
+none_taken : (w : Who) (H : List Call) (c : Controller) (now : ℕ) → Is w (At now (TakeFrame None) ∷ H) c
     → (next_due w H ≡ due_by w H false true → next_long w H now ≡ None → ⊥)
     → (next_due w H ≡ due_by w H false false → is_held (address_after w H) ≡ false → ⊥) → ⊥
 none_taken w H c now is long later = go (owes_claim w H) (is_held (address_after w H)) (is_waiting w H) refl refl refl
@@ -722,13 +723,13 @@ none_taken w H c now is long later = go (owes_claim w H) (is_held (address_after
     ))
     go false false x p q r = later (due_later w H false (none false x p q r refl) q) q
 
-pub due_now : (w : Who) (H : List Call) (c : Controller) (now : ℕ) (answer : Option FrameRecord) → Is w (TakeFrame now answer ∷ H) c
+pub due_now : (w : Who) (H : List Call) (c : Controller) (now : ℕ) (answer : Option FrameRecord) → Is w (At now (TakeFrame answer) ∷ H) c
     → next_due w H ≡ Some (moment H) → answer ≢ None
 due_now w H c now (Some f) is e z = absurd (cc)
 due_now w H c now None is e z =
     none_taken w H c now is (λ d k. from_long w H now (sym d ∙ e) k) (λ d q. held_at_later (address_after w H) (moment H) (sym d ∙ e))
 
-pub due_then : (w : Who) (H : List Call) (c : Controller) (now t : ℕ) (answer : Option FrameRecord) → Is w (TakeFrame now answer ∷ H) c
+pub due_then : (w : Who) (H : List Call) (c : Controller) (now t : ℕ) (answer : Option FrameRecord) → Is w (At now (TakeFrame answer) ∷ H) c
     → next_due w H ≡ Some t → t ≤ now → IsTrue (is_held (address_after w H)) → age H + step H t < 10000000000000000 → answer ≢ None
 due_then w H c now t (Some f) is e l held m z = absurd (cc)
 due_then w H c now t None is e l held m z =
@@ -773,11 +774,11 @@ is_driven false c s a e = absurd (cc)
 
 pub lost_is_lost : (w : Who) (H : List Call) → IsTrue (lost_news w H) → IsTrue (is_lost (address_after w H))
 lost_is_lost w [] e = absurd (cc)
-lost_is_lost w (Hear f ∷ H) e = elim (either (lost_news w H) (is_smaller w (claim_of f) && not (is_lost (address_after w H))) e) [
+lost_is_lost w (At @@ (Hear f) ∷ H) e = elim (either (lost_news w H) (is_smaller w (claim_of f) && not (is_lost (address_after w H))) e) [
   | inl z ↦ stays_lost (is_smaller w (claim_of f)) (step H f.stamp) (address_after w H) (lost_is_lost w H z)
   | inr z ↦ is_driven (is_smaller w (claim_of f)) _ (step H f.stamp) (address_after w H) z
 ]
-lost_is_lost w (TakeFrame now (Some f) ∷ H) e = stays_lost_claimed (is_claim f) (step H now) (address_after w H) (lost_is_lost w H e)
+lost_is_lost w (At now (TakeFrame (Some f)) ∷ H) e = stays_lost_claimed (is_claim f) (step H now) (address_after w H) (lost_is_lost w H e)
 lost_is_lost w (TakeNews (Some AddressLost) ∷ H) e = absurd (cc)
 lost_is_lost w (call ∷ H) e = let z = lost_older (step H (moment (call ∷ H))) (address_after w H) in let h = lost_is_lost w H e in cc
 
@@ -791,7 +792,7 @@ one_missed false m e = absurd (cc)
 
 pub some_missed : (w : Who) (H : List Call) → IsTrue (missed_news w H) → 0 < missed w H
 some_missed w [] e = absurd (cc)
-some_missed w (Hear f ∷ H) e =
+some_missed w (At @@ (Hear f) ∷ H) e =
     elim (either (missed_news w H) (is_for_program w (holds w H f.stamp) f && not (nat_lt (length (kept w H) - length (got H)) 16)) e) [
       | inl z ↦ still_missed (is_for_program w (holds w H f.stamp) f && not (nat_lt (length (kept w H) - length (got H)) 16)) (missed w H) (some_missed w H z)
       | inr z ↦ one_missed _ (missed w H) z

@@ -6,7 +6,8 @@ use Rattle.j39_node.specs.declared.controller.Controller.{Controller}
 use Rattle.j39_node.specs.declared.kinds.Ending.{Ending}
 use Rattle.j39_node.specs.declared.kinds.Ending.TheVariants.{Done, Withdrawn}
 use Rattle.j39_node.specs.History.{Who, Message, Draft, Call, accepted, address_after, claim_address, claim_from, holds, is_acknowledgment, is_claim, is_held, is_lost, is_session, message_from, message_of, moment, owes_claim, request_for, sent, step, told}
-use Rattle.j39_node.specs.History.Call.{Ask, Hear, Send, TakeFrame}
+use Rattle.j39_node.specs.History.Call.{At}
+use Rattle.j39_node.specs.History.Act.{Ask, Hear, Send, TakeFrame}
 use Rattle.j39_node.specs.Is.{AreAnswered, Is, IsAnswered, end_of, next_control, next_ended, next_frame, next_long}
 use Rattle.j39_node.specs.Prompt.{IsPrompt, waited_in}
 use Rattle.j39_node.specs.Since.{passed_in}
@@ -32,7 +33,7 @@ none_waits w H now held e =
     none false true None (Some y) p b e = absurd (cc)
     none false true None None p b e = refl
 
-more_sent : (H : List Call) (now : ℕ) (f : FrameRecord) → length (sent H) ≤ length (sent (TakeFrame now (Some f) ∷ H))
+more_sent : (H : List Call) (now : ℕ) (f : FrameRecord) → length (sent H) ≤ length (sent (At now (TakeFrame (Some f)) ∷ H))
 more_sent H now f = go (is_claim f || (is_acknowledgment f || is_session f))
   where
     go : (b : Bool) → length (sent H) ≤ length (if b then sent H else sent H ++ message_of f ∷ [])
@@ -40,8 +41,8 @@ more_sent H now f = go (is_claim f || (is_acknowledgment f || is_session f))
     go false = let e = length_one_more (sent H) (message_of f) in omega (arith, e)
 
 accepts_more : (w : Who) (H : List Call) (call : Call) → length (accepted w H) ≤ length (accepted w (call ∷ H))
-accepts_more w H (Send now d (Ok k)) = let e = length_one_more (accepted w H) (k, message_from w d) in omega (arith, e)
-accepts_more w H (Ask now group to (Ok k)) = let e = length_one_more (accepted w H) (k, message_from w (request_for group to)) in omega (arith, e)
+accepts_more w H (At now (Send d (Ok k))) = let e = length_one_more (accepted w H) (k, message_from w d) in omega (arith, e)
+accepts_more w H (At now (Ask group to (Ok k))) = let e = length_one_more (accepted w H) (k, message_from w (request_for group to)) in omega (arith, e)
 accepts_more w H call = omega arith
 
 module _ (w : Who) (B : List Call) (g k : ℕ) where
@@ -60,21 +61,21 @@ module _ (w : Who) (B : List Call) (g k : ℕ) where
   passes later now p = ap (λ (n : ℕ). n + step (later ++ B) now) p
 
   one_more : (call : Call) (later : List Call) → IsAnswered w (later ++ B) call → Stands later → Stands (call ∷ later)
-  one_more (Hear f) later a h = record { among = h.among; course = go h.course }
+  one_more (At @@ (Hear f)) later a h = record { among = h.among; course = go h.course }
     where
-      go : Course later → Course (Hear f ∷ later)
+      go : Course later → Course (At @@ (Hear f) ∷ later)
       go (taken l) = taken l
       go (gone e) = gone (lost_heard w (later ++ B) f e)
       go (waits e p) = elim (keeps_heard w (later ++ B) f e) [ inl z ↦ gone z | inr z ↦ waits z (passes later f.stamp p) ]
-  one_more (TakeFrame now (Some f)) later a h = record { among = h.among; course = go h.course }
+  one_more (At now (TakeFrame (Some f))) later a h = record { among = h.among; course = go h.course }
     where
-      go : Course later → Course (TakeFrame now (Some f) ∷ later)
+      go : Course later → Course (At now (TakeFrame (Some f)) ∷ later)
       go (taken l) = taken (let e = more_sent (later ++ B) now f in omega (arith, e, l))
       go (gone e) = gone (lost_taken w (later ++ B) now f e)
       go (waits e p) = waits (keeps_taken w (later ++ B) now f e) (passes later now p)
-  one_more (TakeFrame now None) later a h = record { among = h.among; course = go h.course }
+  one_more (At now (TakeFrame None)) later a h = record { among = h.among; course = go h.course }
     where
-      go : Course later → Course (TakeFrame now None ∷ later)
+      go : Course later → Course (At now (TakeFrame None) ∷ later)
       go (taken l) = taken l
       go (gone e) = gone (lost_older (step (later ++ B) now) (address_after w (later ++ B)) ∙ e)
       go (waits e p) = taken (let l = past_end (accepted w (later ++ B)) (length (sent (later ++ B)))
@@ -134,7 +135,7 @@ told_next w H k a l t h =
 -- ---- what was accepted
 
 sent_so : (w : Who) (H : List Call) (now k : ℕ) (d : Draft) → SendCase w H now d (Ok k)
-    → (is_held (address_after w (Send now d (Ok k) ∷ H)) ≡ true) × (k < length (accepted w (Send now d (Ok k) ∷ H)))
+    → (is_held (address_after w (At now (Send d (Ok k)) ∷ H)) ≡ true) × (k < length (accepted w (At now (Send d (Ok k)) ∷ H)))
 sent_so w H now k d (no_address a e) = absurd (cc)
 sent_so w H now k d (bad_value a b e) = absurd (cc)
 sent_so w H now k d (full a b f e) = absurd (cc)
@@ -143,7 +144,7 @@ sent_so w H now k d (accepts a b f e) =
     let y = length_one_more (accepted w H) (k, message_from w d) in (a, omega (arith, z, y))
 
 asked_so : (w : Who) (H : List Call) (now group to k : ℕ) → AskCase w H now group to (Ok k)
-    → (is_held (address_after w (Ask now group to (Ok k) ∷ H)) ≡ true) × (k < length (accepted w (Ask now group to (Ok k) ∷ H)))
+    → (is_held (address_after w (At now (Ask group to (Ok k)) ∷ H)) ≡ true) × (k < length (accepted w (At now (Ask group to (Ok k)) ∷ H)))
 asked_so w H now group to k (homeless a e) = absurd (cc)
 asked_so w H now group to k (unfit a b e) = absurd (cc)
 asked_so w H now group to k (busy a b f e) = absurd (cc)
@@ -162,41 +163,41 @@ module _ (w : Who) (later B : List Call) (c : Controller) (g k : ℕ) (is : Is w
   ends_told : length (told (later ++ B)) ≤ k → (e : Ending) × (next_ended w (later ++ B) ≡ Some (length (told (later ++ B)), e))
   ends_told t = told_next w (later ++ B) k is.answered here.among t ends_taken
 
-sent_fits : (w : Who) (later earlier : List Call) (c : Controller) (now k : ℕ) (d : Draft) → Is w (later ++ Send now d (Ok k) ∷ earlier) c
-    → (is_held (address_after w (Send now d (Ok k) ∷ earlier)) ≡ true) × (k < length (accepted w (Send now d (Ok k) ∷ earlier)))
+sent_fits : (w : Who) (later earlier : List Call) (c : Controller) (now k : ℕ) (d : Draft) → Is w (later ++ At now (Send d (Ok k)) ∷ earlier) c
+    → (is_held (address_after w (At now (Send d (Ok k)) ∷ earlier)) ≡ true) × (k < length (accepted w (At now (Send d (Ok k)) ∷ earlier)))
 sent_fits w later earlier c now k d is =
-    sent_so w earlier now k d (send_case w earlier now d (Ok k) ((answered_from w later (Send now d (Ok k) ∷ earlier) is.answered).1))
+    sent_so w earlier now k d (send_case w earlier now d (Ok k) ((answered_from w later (At now (Send d (Ok k)) ∷ earlier) is.answered).1))
 
-asked_fits : (w : Who) (later earlier : List Call) (c : Controller) (now group to k : ℕ) → Is w (later ++ Ask now group to (Ok k) ∷ earlier) c
-    → (is_held (address_after w (Ask now group to (Ok k) ∷ earlier)) ≡ true) × (k < length (accepted w (Ask now group to (Ok k) ∷ earlier)))
+asked_fits : (w : Who) (later earlier : List Call) (c : Controller) (now group to k : ℕ) → Is w (later ++ At now (Ask group to (Ok k)) ∷ earlier) c
+    → (is_held (address_after w (At now (Ask group to (Ok k)) ∷ earlier)) ≡ true) × (k < length (accepted w (At now (Ask group to (Ok k)) ∷ earlier)))
 asked_fits w later earlier c now group to k is =
     asked_so w earlier now group to k
-    (ask_case w earlier now group to (Ok k) ((answered_from w later (Ask now group to (Ok k) ∷ earlier) is.answered).1))
+    (ask_case w earlier now group to (Ok k) ((answered_from w later (At now (Ask group to (Ok k)) ∷ earlier) is.answered).1))
 
-pub sent_ends : (w : Who) (later earlier : List Call) (c : Controller) (g now k : ℕ) (d : Draft) → Is w (later ++ Send now d (Ok k) ∷ earlier) c
-    → IsPrompt g later (Send now d (Ok k) ∷ earlier) → g < passed_in later (Send now d (Ok k) ∷ earlier)
-    → (k < length (sent (later ++ Send now d (Ok k) ∷ earlier))) ⊎ IsTrue (is_lost (address_after w (later ++ Send now d (Ok k) ∷ earlier)))
+pub sent_ends : (w : Who) (later earlier : List Call) (c : Controller) (g now k : ℕ) (d : Draft) → Is w (later ++ At now (Send d (Ok k)) ∷ earlier) c
+    → IsPrompt g later (At now (Send d (Ok k)) ∷ earlier) → g < passed_in later (At now (Send d (Ok k)) ∷ earlier)
+    → (k < length (sent (later ++ At now (Send d (Ok k)) ∷ earlier))) ⊎ IsTrue (is_lost (address_after w (later ++ At now (Send d (Ok k)) ∷ earlier)))
 sent_ends w later earlier c g now k d is prompt l =
-    ends_taken w later (Send now d (Ok k) ∷ earlier) c g k is (sent_fits w later earlier c now k d is) prompt l
+    ends_taken w later (At now (Send d (Ok k)) ∷ earlier) c g k is (sent_fits w later earlier c now k d is) prompt l
 
 pub asked_ends : (w : Who) (later earlier : List Call) (c : Controller) (g now group to k : ℕ)
-    → Is w (later ++ Ask now group to (Ok k) ∷ earlier) c → IsPrompt g later (Ask now group to (Ok k) ∷ earlier)
-    → g < passed_in later (Ask now group to (Ok k) ∷ earlier)
-    → (k < length (sent (later ++ Ask now group to (Ok k) ∷ earlier)))
-    ⊎ IsTrue (is_lost (address_after w (later ++ Ask now group to (Ok k) ∷ earlier)))
+    → Is w (later ++ At now (Ask group to (Ok k)) ∷ earlier) c → IsPrompt g later (At now (Ask group to (Ok k)) ∷ earlier)
+    → g < passed_in later (At now (Ask group to (Ok k)) ∷ earlier)
+    → (k < length (sent (later ++ At now (Ask group to (Ok k)) ∷ earlier)))
+    ⊎ IsTrue (is_lost (address_after w (later ++ At now (Ask group to (Ok k)) ∷ earlier)))
 asked_ends w later earlier c g now group to k is prompt l =
-    ends_taken w later (Ask now group to (Ok k) ∷ earlier) c g k is (asked_fits w later earlier c now group to k is) prompt l
+    ends_taken w later (At now (Ask group to (Ok k)) ∷ earlier) c g k is (asked_fits w later earlier c now group to k is) prompt l
 
-pub sent_told : (w : Who) (later earlier : List Call) (c : Controller) (g now k : ℕ) (d : Draft) → Is w (later ++ Send now d (Ok k) ∷ earlier) c
-    → IsPrompt g later (Send now d (Ok k) ∷ earlier) → g < passed_in later (Send now d (Ok k) ∷ earlier)
-    → length (told (later ++ Send now d (Ok k) ∷ earlier)) ≤ k
-    → (e : Ending) × (next_ended w (later ++ Send now d (Ok k) ∷ earlier) ≡ Some (length (told (later ++ Send now d (Ok k) ∷ earlier)), e))
+pub sent_told : (w : Who) (later earlier : List Call) (c : Controller) (g now k : ℕ) (d : Draft) → Is w (later ++ At now (Send d (Ok k)) ∷ earlier) c
+    → IsPrompt g later (At now (Send d (Ok k)) ∷ earlier) → g < passed_in later (At now (Send d (Ok k)) ∷ earlier)
+    → length (told (later ++ At now (Send d (Ok k)) ∷ earlier)) ≤ k
+    → (e : Ending) × (next_ended w (later ++ At now (Send d (Ok k)) ∷ earlier) ≡ Some (length (told (later ++ At now (Send d (Ok k)) ∷ earlier)), e))
 sent_told w later earlier c g now k d is prompt l =
-    ends_told w later (Send now d (Ok k) ∷ earlier) c g k is (sent_fits w later earlier c now k d is) prompt l
+    ends_told w later (At now (Send d (Ok k)) ∷ earlier) c g k is (sent_fits w later earlier c now k d is) prompt l
 
 pub asked_told : (w : Who) (later earlier : List Call) (c : Controller) (g now group to k : ℕ)
-    → Is w (later ++ Ask now group to (Ok k) ∷ earlier) c → IsPrompt g later (Ask now group to (Ok k) ∷ earlier)
-    → g < passed_in later (Ask now group to (Ok k) ∷ earlier) → length (told (later ++ Ask now group to (Ok k) ∷ earlier)) ≤ k
-    → (e : Ending) × (next_ended w (later ++ Ask now group to (Ok k) ∷ earlier) ≡ Some (length (told (later ++ Ask now group to (Ok k) ∷ earlier)), e))
+    → Is w (later ++ At now (Ask group to (Ok k)) ∷ earlier) c → IsPrompt g later (At now (Ask group to (Ok k)) ∷ earlier)
+    → g < passed_in later (At now (Ask group to (Ok k)) ∷ earlier) → length (told (later ++ At now (Ask group to (Ok k)) ∷ earlier)) ≤ k
+    → (e : Ending) × (next_ended w (later ++ At now (Ask group to (Ok k)) ∷ earlier) ≡ Some (length (told (later ++ At now (Ask group to (Ok k)) ∷ earlier)), e))
 asked_told w later earlier c g now group to k is prompt l =
-    ends_told w later (Ask now group to (Ok k) ∷ earlier) c g k is (asked_fits w later earlier c now group to k is) prompt l
+    ends_told w later (At now (Ask group to (Ok k)) ∷ earlier) c g k is (asked_fits w later earlier c now group to k is) prompt l

@@ -9,7 +9,8 @@ use Rattle.j39_transport.specs.Sending.{Tick, aborted, is_running, new_sender, s
 use Rattle.j39_transport.specs.Signals.{Signal, Abort}
 use Rattle.j39_node.specs.declared.kinds.TransferEnding.{TransferEnding}
 use Rattle.j39_node.specs.History.{Who, Message, Call, accepted, acknowledged, address_after, broadcast_from, due, holds, is_lost, message_of, open_broadcast, packets, pause, sent, step}
-use Rattle.j39_node.specs.History.Call.{Hear, TakeFrame, Transfer, TakeTransferEnded}
+use Rattle.j39_node.specs.History.Call.{At, TakeTransferEnded}
+use Rattle.j39_node.specs.History.Act.{Hear, TakeFrame, Transfer}
 use Rattle.j39_node.specs.Is.{AreAnswered, next_packet}
 use Rattle.j39_node.specs.Transfers.{is_resting, Running, begun, clock_at, gives_up, hears, hears_if, is_engaged, is_replaced, is_spent, listens, open_transfer, says, sends, sends_if, signal_by, told_transfers, transfer_by, transfer_end, transfers as all_transfers}
 use Rattle.j39_node.specs.Reception.{holder, is_move, reception}
@@ -115,11 +116,11 @@ moved_new m to = record { state = refl; taken = λ i l k. absurd (omega (arith, 
 
 pub moved : (w : Who) (H : List Call) → AreAnswered w H → MovedIf (open_transfer w H) (moves w H)
 moved w [] e = tt
-moved w (Hear f ∷ H) e =
-    moved_hears (is_lost (address_after w (Hear f ∷ H))) (λ a. is_replaced (holder w H a) (holder w (Hear f ∷ H) a)) f (clock_at H f.stamp) (open_transfer w H) (moves w H)
+moved w (At @@ (Hear f) ∷ H) e =
+    moved_hears (is_lost (address_after w (At @@ (Hear f) ∷ H))) (λ a. is_replaced (holder w H a) (holder w (At @@ (Hear f) ∷ H) a)) f (clock_at H f.stamp) (open_transfer w H) (moves w H)
     (moved w H e.0)
-moved w (TakeFrame now (Some f) ∷ H) e = moved_frame w H now f e.0 (frame_case w H now f e.1) (moved w H e.0) (is_move w H f) refl
-moved w (Transfer now group to bytes (Ok k) ∷ H) e = moved_new (broadcast_from w group bytes) to
+moved w (At now (TakeFrame (Some f)) ∷ H) e = moved_frame w H now f e.0 (frame_case w H now f e.1) (moved w H e.0) (is_move w H f) refl
+moved w (At now (Transfer group to bytes (Ok k)) ∷ H) e = moved_new (broadcast_from w group bytes) to
 moved w (TakeTransferEnded (Some x) ∷ H) e = tt
 moved w (call ∷ H) e = moved w H e.0
 
@@ -193,11 +194,11 @@ last_closes told all (Some t) lost x h e = let a = h.token in let b = h.count in
 
 pub last_one : (w : Who) (H : List Call) → AreAnswered w H → LastIf (length (told_transfers H)) (all_transfers w H) (open_transfer w H)
 last_one w [] e = refl
-last_one w (Hear f ∷ H) e =
-    last_hears _ _ (is_lost (address_after w (Hear f ∷ H))) (λ a. is_replaced (holder w H a) (holder w (Hear f ∷ H) a)) f (clock_at H f.stamp) (open_transfer w H)
+last_one w (At @@ (Hear f) ∷ H) e =
+    last_hears _ _ (is_lost (address_after w (At @@ (Hear f) ∷ H))) (λ a. is_replaced (holder w H a) (holder w (At @@ (Hear f) ∷ H) a)) f (clock_at H f.stamp) (open_transfer w H)
     (last_one w H e.0)
-last_one w (TakeFrame now (Some f) ∷ H) e = last_sends _ _ (is_move w H f) (clock_at H now) (open_transfer w H) (last_one w H e.0)
-last_one w (Transfer now group to bytes (Ok k) ∷ H) e = last_opens w H now group to k bytes (transfer_case w H now group to bytes (Ok k) e.1) (last_one w H e.0)
+last_one w (At now (TakeFrame (Some f)) ∷ H) e = last_sends _ _ (is_move w H f) (clock_at H now) (open_transfer w H) (last_one w H e.0)
+last_one w (At now (Transfer group to bytes (Ok k)) ∷ H) e = last_opens w H now group to k bytes (transfer_case w H now group to bytes (Ok k) e.1) (last_one w H e.0)
 last_one w (TakeTransferEnded (Some x) ∷ H) e =
     length_one_more (told_transfers H) x ∙ last_closes (length (told_transfers H)) (all_transfers w H) (open_transfer w H) (is_lost (address_after w H)) x (last_one w H e.0) e.1
 last_one w (call ∷ H) e = last_one w H e.0
@@ -224,11 +225,11 @@ now_so So H call s = record { later = []; call = call; earlier = H; is = refl; s
 pub record Arises (w : Who) (Q : Running → Type 0) (So : ℕ → MessageRecord → List Call → Call → Type 0) : Type 0 where
   pub begins_not : (token : ℕ) (m : MessageRecord) (to : ℕ) → Q (begun token m to) → ⊥
   pub by_hearing : (H : List Call) (f : FrameRecord) (t : Running) → AreAnswered w H → open_transfer w H ≡ Some t
-      → Q (hears (is_lost (address_after w (Hear f ∷ H))) (is_replaced (holder w H t.sender.destination) (holder w (Hear f ∷ H) t.sender.destination)) f (clock_at H f.stamp) t)
-      → Q t ⊎ So t.sender.destination t.sender.message H (Hear f)
+      → Q (hears (is_lost (address_after w (At @@ (Hear f) ∷ H))) (is_replaced (holder w H t.sender.destination) (holder w (At @@ (Hear f) ∷ H) t.sender.destination)) f (clock_at H f.stamp) t)
+      → Q t ⊎ So t.sender.destination t.sender.message H (At @@ (Hear f))
   pub by_sending : (H : List Call) (now : ℕ) (f : FrameRecord) (t : Running) (a : Signal) → AreAnswered w H → open_transfer w H ≡ Some t
       → signal_by t (clock_at H now) ≡ Some a → message_of f ≡ says t.sender a → Q (sends (clock_at H now) t)
-      → Q t ⊎ So t.sender.destination t.sender.message H (TakeFrame now (Some f))
+      → Q t ⊎ So t.sender.destination t.sender.message H (At now (TakeFrame (Some f)))
 
 abbrev Traced : (ℕ → MessageRecord → List Call → Call → Type 0) → Running → List Call → Type 0
 Traced So t H = Happened (So t.sender.destination t.sender.message) H
@@ -241,44 +242,44 @@ traced_same So new old H s h =
 
 trace_hears : (w : Who) (Q : Running → Type 0) (So : ℕ → MessageRecord → List Call → Call → Type 0) (H : List Call) (f : FrameRecord) (t : Running) (o : Option Running)
     → Arises w Q So → AreAnswered w H → open_transfer w H ≡ o
-    → hears_if (is_lost (address_after w (Hear f ∷ H))) (λ a. is_replaced (holder w H a) (holder w (Hear f ∷ H) a)) f (clock_at H f.stamp) o ≡ Some t → Q t
-    → ((u : Running) → open_transfer w H ≡ Some u → Q u → Traced So u H) → Traced So t (Hear f ∷ H)
+    → hears_if (is_lost (address_after w (At @@ (Hear f) ∷ H))) (λ a. is_replaced (holder w H a) (holder w (At @@ (Hear f) ∷ H) a)) f (clock_at H f.stamp) o ≡ Some t → Q t
+    → ((u : Running) → open_transfer w H ≡ Some u → Q u → Traced So u H) → Traced So t (At @@ (Hear f) ∷ H)
 trace_hears w Q So H f t None arises right e g q rec = absurd (cc)
 trace_hears w Q So H f t (Some u) arises right e g q rec =
-    let lost = is_lost (address_after w (Hear f ∷ H)) in
-    let replaced = is_replaced (holder w H u.sender.destination) (holder w (Hear f ∷ H) u.sender.destination) in
+    let lost = is_lost (address_after w (At @@ (Hear f) ∷ H)) in
+    let replaced = is_replaced (holder w H u.sender.destination) (holder w (At @@ (Hear f) ∷ H) u.sender.destination) in
     let z : hears lost replaced f (clock_at H f.stamp) u ≡ t = cc in
-    subst (λ (x : Running). Traced So x (Hear f ∷ H)) z
-    (traced_same So (hears lost replaced f (clock_at H f.stamp) u) u (Hear f ∷ H) (hears_same lost replaced f (clock_at H f.stamp) u)
+    subst (λ (x : Running). Traced So x (At @@ (Hear f) ∷ H)) z
+    (traced_same So (hears lost replaced f (clock_at H f.stamp) u) u (At @@ (Hear f) ∷ H) (hears_same lost replaced f (clock_at H f.stamp) u)
     (elim (arises.by_hearing H f u right e (subst Q (sym z) q)) [
-      | inl x ↦ later_on (So u.sender.destination u.sender.message) H (Hear f) refl (rec u e x)
-      | inr x ↦ now_so (So u.sender.destination u.sender.message) H (Hear f) x
+      | inl x ↦ later_on (So u.sender.destination u.sender.message) H (At @@ (Hear f)) refl (rec u e x)
+      | inr x ↦ now_so (So u.sender.destination u.sender.message) H (At @@ (Hear f)) x
     ]))
 
 trace_sends : (w : Who) (Q : Running → Type 0) (So : ℕ → MessageRecord → List Call → Call → Type 0) (H : List Call) (now : ℕ) (f : FrameRecord) (t : Running) (b : Bool)
     → Arises w Q So → AreAnswered w H → FrameCase w H now f → is_move w H f ≡ b → sends_if b (clock_at H now) (open_transfer w H) ≡ Some t → Q t
-    → ((u : Running) → open_transfer w H ≡ Some u → Q u → Traced So u H) → Traced So t (TakeFrame now (Some f) ∷ H)
+    → ((u : Running) → open_transfer w H ≡ Some u → Q u → Traced So u H) → Traced So t (At now (TakeFrame (Some f)) ∷ H)
 trace_sends w Q So H now f t false arises right case e g q rec =
-    later_on (So t.sender.destination t.sender.message) H (TakeFrame now (Some f)) refl (rec t g q)
+    later_on (So t.sender.destination t.sender.message) H (At now (TakeFrame (Some f))) refl (rec t g q)
 trace_sends w Q So H now f t true arises right case e g q rec =
     let s = sent_case w H now f right case e in
     let u = s.running in
     let g2 : sends_if true (clock_at H now) (Some u) ≡ Some t = ap (sends_if true (clock_at H now)) (sym s.is) ∙ g in
     let z : sends (clock_at H now) u ≡ t = cc in
-    subst (λ (x : Running). Traced So x (TakeFrame now (Some f) ∷ H)) z
-    (traced_same So (sends (clock_at H now) u) u (TakeFrame now (Some f) ∷ H) (sends_same (clock_at H now) u)
+    subst (λ (x : Running). Traced So x (At now (TakeFrame (Some f)) ∷ H)) z
+    (traced_same So (sends (clock_at H now) u) u (At now (TakeFrame (Some f)) ∷ H) (sends_same (clock_at H now) u)
     (elim (arises.by_sending H now f u s.signal right s.is s.said s.frame (subst Q (sym z) q)) [
-      | inl x ↦ later_on (So u.sender.destination u.sender.message) H (TakeFrame now (Some f)) refl (rec u s.is x)
-      | inr x ↦ now_so (So u.sender.destination u.sender.message) H (TakeFrame now (Some f)) x
+      | inl x ↦ later_on (So u.sender.destination u.sender.message) H (At now (TakeFrame (Some f))) refl (rec u s.is x)
+      | inr x ↦ now_so (So u.sender.destination u.sender.message) H (At now (TakeFrame (Some f))) x
     ]))
 
 pub traced : (w : Who) (Q : Running → Type 0) (So : ℕ → MessageRecord → List Call → Call → Type 0) → Arises w Q So → (H : List Call) (t : Running) → AreAnswered w H
     → open_transfer w H ≡ Some t → Q t → Happened (So t.sender.destination t.sender.message) H
 traced w Q So arises [] t right e q = absurd (cc)
-traced w Q So arises (Hear f ∷ H) t right e q = trace_hears w Q So H f t (open_transfer w H) arises right.0 refl e q (λ u k. traced w Q So arises H u right.0 k)
-traced w Q So arises (TakeFrame now (Some f) ∷ H) t right e q =
+traced w Q So arises (At @@ (Hear f) ∷ H) t right e q = trace_hears w Q So H f t (open_transfer w H) arises right.0 refl e q (λ u k. traced w Q So arises H u right.0 k)
+traced w Q So arises (At now (TakeFrame (Some f)) ∷ H) t right e q =
     trace_sends w Q So H now f t (is_move w H f) arises right.0 (frame_case w H now f right.1) refl e q (λ u k. traced w Q So arises H u right.0 k)
-traced w Q So arises (Transfer now group to bytes (Ok k) ∷ H) t right e q =
+traced w Q So arises (At now (Transfer group to bytes (Ok k)) ∷ H) t right e q =
     let z : begun k (broadcast_from w group bytes) to ≡ t = cc in absurd (arises.begins_not k (broadcast_from w group bytes) to (subst Q (sym z) q))
 traced w Q So arises (TakeTransferEnded (Some x) ∷ H) t right e q = absurd (cc)
 traced w Q So arises (call ∷ H) t right e q = later_on _ H _ refl (traced w Q So arises H t right.0 e q)

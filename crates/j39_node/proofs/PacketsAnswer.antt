@@ -14,7 +14,8 @@ use Rattle.j39_transport.proofs.FrameFacts.{announcement_facts}
 use Rattle.j39_node.specs.declared.kinds.AskEnding.{AskEnding}
 use Rattle.j39_node.specs.declared.kinds.AskEnding.TheVariants.{Answered}
 use Rattle.j39_node.specs.History.{Who, Call, holds, is_smaller}
-use Rattle.j39_node.specs.History.Call.{Hear}
+use Rattle.j39_node.specs.History.Call.{At}
+use Rattle.j39_node.specs.History.Act.{Hear}
 use Rattle.j39_node.specs.Reception.{Reception, has_place, holder, leaves, left, receiver_at, reception, time_heard, whole, whole_by}
 use Rattle.j39_node.specs.Hearing.{OpenBroadcast, announces, begun, changes, has_room, hearing, hears, is_ignored, left as leaves_it, made_whole, newly, packed, packs, waiting, whole_of}
 use Rattle.j39_node.specs.Asking.{Question, made, made_of, says_to}
@@ -76,10 +77,10 @@ pub made_by_packet : (who : Who) (H : List Call) (f : FrameRecord) (p : ℕ × M
 made_by_packet who H f p e = go (waiting who H) refl e
   where
     b : Bool
-    b = changes (holder who H) (holder who (Hear f ∷ H)) (hearing who H)
+    b = changes (holder who H) (holder who (At @@ (Hear f) ∷ H)) (hearing who H)
 
-    go : (o : Option (ℕ × MessageRecord)) → waiting who H ≡ o → newly o (waiting who (Hear f ∷ H)) ≡ Some p → packs f ≡ true
-    go None i z = whole_by_packet who (time_heard (Hear f ∷ H)) f (leaves_it b (hearing who H)) p (whole_of_left b (hearing who H) ∙ i) z
+    go : (o : Option (ℕ × MessageRecord)) → waiting who H ≡ o → newly o (waiting who (At @@ (Hear f) ∷ H)) ≡ Some p → packs f ≡ true
+    go None i z = whole_by_packet who (time_heard (At @@ (Hear f) ∷ H)) f (leaves_it b (hearing who H)) p (whole_of_left b (hearing who H) ∙ i) z
     go (Some x) i z = absurd (cc)
 
 pub packs_to_all : (f : FrameRecord) → packs f ≡ true → destination_of f.id ≡ Some 255
@@ -105,7 +106,7 @@ pub broadcast_answers : (w : Who) (H : List Call) (f : FrameRecord) (x : ℕ × 
 broadcast_answers w H f x q l e g a =
     let to_all = packs_to_all f (made_by_packet w H f x e) in
     let none : whole w H f ≡ None =
-    none_whole w.address (is_smaller w (claim_of f)) (holds w H f.stamp) f (time_heard (Hear f ∷ H))
-    (left (leaves (holder w H) (holder w (Hear f ∷ H)) (reception w H).session) (reception w H))
+    none_whole w.address (is_smaller w (claim_of f)) (holds w H f.stamp) f (time_heard (At @@ (Hear f) ∷ H))
+    (left (leaves (holder w H) (holder w (At @@ (Hear f) ∷ H)) (reception w H).session) (reception w H))
     (not_said w.address f (to_another w.address (destination_of f.id) l to_all)) in
     answers_by w q f x.1 (made w H f) (λ i. option_or (made_of (none i)) (made_of (option_map (λ (y : ℕ × MessageRecord). y.1) (e i)))) g a

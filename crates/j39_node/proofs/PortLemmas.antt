@@ -12,7 +12,8 @@ use Rattle.j39_node.specs.declared.kinds.Refused.TheVariants.{NoAddress, BadValu
 use Rattle.j39_node.specs.History.{Who, Message, Call, address_after, can_broadcast, holds, is_lost, is_some, told_claims}
 use Rattle.j39_node.specs.Reception.{holder, is_move}
 use Rattle.j39_node.proofs.ReceptionLemmas.{table_is}
-use Rattle.j39_node.specs.History.Call.{Hear, TakeFrame, Transfer, TakeTransferEnded}
+use Rattle.j39_node.specs.History.Call.{At, TakeTransferEnded}
+use Rattle.j39_node.specs.History.Act.{Hear, TakeFrame, Transfer}
 use Rattle.j39_node.specs.Is.{AreAnswered, PortRecord, port_after}
 use Rattle.j39_node.specs.Transfers.{Resting, is_resting, resting, Running, answer_to_transfer, can_transfer, clock_at, gives_up, hears, hears_if, is_engaged, is_replaced, is_spent, listens, open_transfer, says, sends, sends_if, signal_by, transfer_by, transfers}
 use Rattle.j39_address.specs.Claims.{Knows, holder_in}
@@ -115,7 +116,7 @@ not_all : (n : ℕ) → n < 254 → nat_eq n 255 ≡ false
 not_all n e = grind arith
 
 ported_opens : (w : Who) (H : List Call) (now group to k : ℕ) (bytes : List ℕ) → TransferCase w H now group to bytes (Ok k)
-    → Ported w (open_transfer w (Transfer now group to bytes (Ok k) ∷ H))
+    → Ported w (open_transfer w (At now (Transfer group to bytes (Ok k)) ∷ H))
 unfolding new_sender
 ported_opens w H now group to k bytes (homeless a e) = absurd (cc)
 ported_opens w H now group to k bytes (unfit a b e) = absurd (cc)
@@ -125,11 +126,11 @@ ported_opens w H now group to k bytes (opens a b f e) =
 
 pub ported : (w : Who) (H : List Call) → AreAnswered w H → Ported w (open_transfer w H)
 ported w [] e = tt
-ported w (Hear f ∷ H) e =
-    ported_hears w (is_lost (address_after w (Hear f ∷ H))) (λ a. is_replaced (holder w H a) (holder w (Hear f ∷ H) a)) f (clock_at H f.stamp) (open_transfer w H)
+ported w (At @@ (Hear f) ∷ H) e =
+    ported_hears w (is_lost (address_after w (At @@ (Hear f) ∷ H))) (λ a. is_replaced (holder w H a) (holder w (At @@ (Hear f) ∷ H) a)) f (clock_at H f.stamp) (open_transfer w H)
     (ported w H e.0)
-ported w (TakeFrame now (Some f) ∷ H) e = ported_sends w (is_move w H f) (clock_at H now) (open_transfer w H) (ported w H e.0)
-ported w (Transfer now group to bytes (Ok k) ∷ H) e = ported_opens w H now group to k bytes (transfer_case w H now group to bytes (Ok k) e.1)
+ported w (At now (TakeFrame (Some f)) ∷ H) e = ported_sends w (is_move w H f) (clock_at H now) (open_transfer w H) (ported w H e.0)
+ported w (At now (Transfer group to bytes (Ok k)) ∷ H) e = ported_opens w H now group to k bytes (transfer_case w H now group to bytes (Ok k) e.1)
 ported w (TakeTransferEnded (Some x) ∷ H) e = tt
 ported w (call ∷ H) e = ported w H e.0
 
@@ -172,13 +173,13 @@ peers_are (Some t) b p q old new e f g = g ∙ (ap (λ (o : Option ℕ). is_repl
 
 -- whether a frame that is heard replaces the holder of the destination's address
 pub replaced_is : (w : Who) (H : List Call) (f : FrameRecord) (old new : Claims) (b : Bool) (o : Option Running) → Ported w o
-    → Knows old (told_claims w H) → Knows new (told_claims w (Hear f ∷ H))
+    → Knows old (told_claims w H) → Knows new (told_claims w (At @@ (Hear f) ∷ H))
     → IfSome o (λ x. b ≡ is_replaced (holder_in old x.sender.destination) (holder_in new x.sender.destination))
-    → IfSome o (λ x. b ≡ is_replaced (holder w H x.sender.destination) (holder w (Hear f ∷ H) x.sender.destination))
+    → IfSome o (λ x. b ≡ is_replaced (holder w H x.sender.destination) (holder w (At @@ (Hear f) ∷ H) x.sender.destination))
 replaced_is w H f old new b None h k l e = e
 replaced_is w H f old new b (Some t) h k l e =
     e ∙ (ap (λ (o : Option ℕ). is_replaced o (holder_in new t.sender.destination)) (holder_known w H old t.sender.destination h.directed k)
-    ∙ ap (is_replaced (holder w H t.sender.destination)) (holder_known w (Hear f ∷ H) new t.sender.destination h.directed l))
+    ∙ ap (is_replaced (holder w H t.sender.destination)) (holder_known w (At @@ (Hear f) ∷ H) new t.sender.destination h.directed l))
 
 -- ---- what a controller has of it
 
@@ -188,13 +189,13 @@ is_port p q e f g =
     ∙ (ap (λ (n : ℕ). record p { current = q.current; next_token = n }) f ∙ ap (λ (x : Resting). record q { resting = x }) g)
 
 -- a frame that is none of a transfer leaves it
-pub port_same : (w : Who) (H : List Call) (now : ℕ) (f : FrameRecord) → is_move w H f ≡ false → port_after w H ≡ port_after w (TakeFrame now (Some f) ∷ H)
+pub port_same : (w : Who) (H : List Call) (now : ℕ) (f : FrameRecord) → is_move w H f ≡ false → port_after w H ≡ port_after w (At now (TakeFrame (Some f)) ∷ H)
 port_same w H now f e =
     sym (ap (λ (b : Bool). (let p : PortRecord = record { current = sends_if b (clock_at H now) (open_transfer w H); next_token = length (transfers w H); resting = resting w H } in p)) e)
 
 -- one of a transfer is its sender's step
 pub port_more : (w : Who) (H : List Call) (now : ℕ) (f : FrameRecord) → is_move w H f ≡ true
-    → sends_if true (clock_at H now) (open_transfer w H) ≡ open_transfer w (TakeFrame now (Some f) ∷ H)
+    → sends_if true (clock_at H now) (open_transfer w H) ≡ open_transfer w (At now (TakeFrame (Some f)) ∷ H)
 port_more w H now f e = sym (ap (λ (b : Bool). sends_if b (clock_at H now) (open_transfer w H)) e)
 
 pub clock_is : (n : ℕ) → min (min n 18446744073709551615) 9999999999999999 ≡ min n 9999999999999999

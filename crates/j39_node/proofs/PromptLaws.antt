@@ -9,7 +9,8 @@ use Rattle.j39_node.specs.declared.kinds.Ending.{Ending}
 use Rattle.j39_node.specs.declared.kinds.Ending.TheVariants.{Done, Withdrawn}
 use Rattle.j39_node.specs.History.{Who, Message, Call, Address, address_after, broadcast_from, broadcasts, claimed, frame_of, is_claim, is_held, is_lost, is_open, is_packet, is_smaller, message_of, moment, older, open_broadcast, packets, pause, step}
 use Rattle.j39_node.specs.History.Address.{NotClaimed, Claimed, Lost}
-use Rattle.j39_node.specs.History.Call.{Broadcast, Hear, TakeBroadcastEnded, TakeFrame}
+use Rattle.j39_node.specs.History.Call.{At, TakeBroadcastEnded}
+use Rattle.j39_node.specs.History.Act.{Broadcast, Hear, TakeFrame}
 use Rattle.j39_node.specs.Is.{AreAnswered, Is, IsAnswered, broadcast_end, ending_of, long_by, next_broadcast_ended, next_frame, next_packet, packet_by}
 use Rattle.j39_node.specs.Prompt.{IsPrompt, NoneTold, tells_broadcast, waited_in}
 use Rattle.j39_node.specs.Since.{passed_in}
@@ -29,7 +30,7 @@ held_claimed (Claimed n) e = e
 held_claimed Lost e = absurd (cc)
 
 pub keeps_heard : (w : Who) (H : List Call) (f : FrameRecord) → is_held (address_after w H) ≡ true
-    → (is_lost (address_after w (Hear f ∷ H)) ≡ true) ⊎ (is_held (address_after w (Hear f ∷ H)) ≡ true)
+    → (is_lost (address_after w (At @@ (Hear f) ∷ H)) ≡ true) ⊎ (is_held (address_after w (At @@ (Hear f) ∷ H)) ≡ true)
 keeps_heard w H f e = go (is_smaller w (claim_of f))
   where
     go : (b : Bool) → (is_lost (if b then Lost else older (step H f.stamp) (address_after w H)) ≡ true)
@@ -38,7 +39,7 @@ keeps_heard w H f e = go (is_smaller w (claim_of f))
     go false = inr (held_older (step H f.stamp) (address_after w H) e)
 
 pub keeps_taken : (w : Who) (H : List Call) (now : ℕ) (f : FrameRecord) → is_held (address_after w H) ≡ true
-    → is_held (address_after w (TakeFrame now (Some f) ∷ H)) ≡ true
+    → is_held (address_after w (At now (TakeFrame (Some f)) ∷ H)) ≡ true
 keeps_taken w H now f e = go (is_claim f)
   where
     go : (b : Bool) → is_held (if b then claimed (older (step H now) (address_after w H)) else older (step H now) (address_after w H)) ≡ true
@@ -46,7 +47,7 @@ keeps_taken w H now f e = go (is_claim f)
     go false = held_older (step H now) (address_after w H) e
 
 -- what is lost stays lost
-pub lost_heard : (w : Who) (H : List Call) (f : FrameRecord) → is_lost (address_after w H) ≡ true → is_lost (address_after w (Hear f ∷ H)) ≡ true
+pub lost_heard : (w : Who) (H : List Call) (f : FrameRecord) → is_lost (address_after w H) ≡ true → is_lost (address_after w (At @@ (Hear f) ∷ H)) ≡ true
 lost_heard w H f e = go (is_smaller w (claim_of f))
   where
     go : (b : Bool) → is_lost (if b then Lost else older (step H f.stamp) (address_after w H)) ≡ true
@@ -54,7 +55,7 @@ lost_heard w H f e = go (is_smaller w (claim_of f))
     go false = lost_older (step H f.stamp) (address_after w H) ∙ e
 
 pub lost_taken : (w : Who) (H : List Call) (now : ℕ) (f : FrameRecord) → is_lost (address_after w H) ≡ true
-    → is_lost (address_after w (TakeFrame now (Some f) ∷ H)) ≡ true
+    → is_lost (address_after w (At now (TakeFrame (Some f)) ∷ H)) ≡ true
 lost_taken w H now f e = go (is_claim f)
   where
     go : (b : Bool) → is_lost (if b then claimed (older (step H now) (address_after w H)) else older (step H now) (address_after w H)) ≡ true
@@ -117,10 +118,10 @@ module _ (w : Who) (B : List Call) (g k : ℕ) (m : MessageRecord) where
     pub course : Course later
 
   -- a frame is heard
-  hears_one : (f : FrameRecord) (later : List Call) → Stands later → Stands (Hear f ∷ later)
+  hears_one : (f : FrameRecord) (later : List Call) → Stands later → Stands (At @@ (Hear f) ∷ later)
   hears_one f later h = record { broadcast = h.broadcast; course = go h.course }
     where
-      go : Course later → Course (Hear f ∷ later)
+      go : Course later → Course (At @@ (Hear f) ∷ later)
       go (over l) = over l
       go (gone e) = gone (lost_heard w (later ++ B) f e)
       go (runs e t) = elim (keeps_heard w (later ++ B) f e) [
@@ -130,27 +131,27 @@ module _ (w : Who) (B : List Call) (g k : ℕ) (m : MessageRecord) where
 
   -- a frame is taken
   takes_one : (now : ℕ) (f : FrameRecord) (later : List Call) → waited_in later B + step (later ++ B) now ≤ g → Stands later
-      → Stands (TakeFrame now (Some f) ∷ later)
+      → Stands (At now (TakeFrame (Some f)) ∷ later)
   takes_one now f later p h = record { broadcast = h.broadcast; course = go (is_packet f) refl h.course }
     where
       G : List Call
-      G = TakeFrame now (Some f) ∷ later ++ B
+      G = At now (TakeFrame (Some f)) ∷ later ++ B
 
-      go : (b : Bool) → is_packet f ≡ b → Course later → Course (TakeFrame now (Some f) ∷ later)
+      go : (b : Bool) → is_packet f ≡ b → Course later → Course (At now (TakeFrame (Some f)) ∷ later)
       go true i (over l) =
           over (let n = ap length (packets_is (later ++ B) now f true i) in let o = length_one_more (packets (later ++ B)) (message_of f) in omega (arith, l, n, o))
       go false i (over l) = over (let n = ap length (packets_is (later ++ B) now f false i) in omega (arith, l, n))
       go b i (gone e) = gone (lost_taken w (later ++ B) now f e)
       go true i (runs e t) = runs (keeps_taken w (later ++ B) now f e)
-          (subst (λ (n : ℕ). Timely g n (passed_in (TakeFrame now (Some f) ∷ later) B) (pause G) (waited_in (TakeFrame now (Some f) ∷ later) B))
+          (subst (λ (n : ℕ). Timely g n (passed_in (At now (TakeFrame (Some f)) ∷ later) B) (pause G) (waited_in (At now (TakeFrame (Some f)) ∷ later) B))
           (sym (ap length (packets_is (later ++ B) now f true i) ∙ length_one_more (packets (later ++ B)) (message_of f)))
-          (subst (λ (n : ℕ). Timely g (suc (length (packets (later ++ B)))) (passed_in (TakeFrame now (Some f) ∷ later) B) n (waited_in (TakeFrame now (Some f) ∷ later) B))
+          (subst (λ (n : ℕ). Timely g (suc (length (packets (later ++ B)))) (passed_in (At now (TakeFrame (Some f)) ∷ later) B) n (waited_in (At now (TakeFrame (Some f)) ∷ later) B))
           (sym (pause_is (later ++ B) now f true i))
           (packs_one g _ _ _ _ (step (later ++ B) now) t p)))
       go false i (runs e t) = runs (keeps_taken w (later ++ B) now f e)
-          (subst (λ (n : ℕ). Timely g n (passed_in (TakeFrame now (Some f) ∷ later) B) (pause G) (waited_in (TakeFrame now (Some f) ∷ later) B))
+          (subst (λ (n : ℕ). Timely g n (passed_in (At now (TakeFrame (Some f)) ∷ later) B) (pause G) (waited_in (At now (TakeFrame (Some f)) ∷ later) B))
           (sym (ap length (packets_is (later ++ B) now f false i)))
-          (subst (λ (n : ℕ). Timely g (length (packets (later ++ B))) (passed_in (TakeFrame now (Some f) ∷ later) B) n (waited_in (TakeFrame now (Some f) ∷ later) B))
+          (subst (λ (n : ℕ). Timely g (length (packets (later ++ B))) (passed_in (At now (TakeFrame (Some f)) ∷ later) B) n (waited_in (At now (TakeFrame (Some f)) ∷ later) B))
           (sym (pause_is (later ++ B) now f false i))
           (passes g _ _ _ _ (step (later ++ B) now) t)))
 
@@ -171,7 +172,7 @@ module _ (w : Who) (B : List Call) (g k : ℕ) (m : MessageRecord) where
   first_none (Some x) b e = absurd (cc)
 
   takes_no_frame : (now : ℕ) (later : List Call) → (let none : Option (ℕ × Message) = None in none) ≡ next_frame w (later ++ B) now → Stands later
-      → Stands (TakeFrame now None ∷ later)
+      → Stands (At now (TakeFrame None) ∷ later)
   takes_no_frame now later answer h = record { broadcast = h.broadcast; course = go h.course }
     where
       G : List Call
@@ -180,7 +181,7 @@ module _ (w : Who) (B : List Call) (g k : ℕ) (m : MessageRecord) where
       s : ℕ
       s = step G now
 
-      go : Course later → Course (TakeFrame now None ∷ later)
+      go : Course later → Course (At now (TakeFrame None) ∷ later)
       go (over l) = over l
       go (gone e) = gone (lost_older (step (later ++ B) now) (address_after w (later ++ B)) ∙ e)
       go (runs e t) =
@@ -204,10 +205,10 @@ module _ (w : Who) (B : List Call) (g k : ℕ) (m : MessageRecord) where
 
   one_more : (call : Call) (later : List Call) → IsAnswered w (later ++ B) call → tells_broadcast call ≡ false
       → waited_in later B + step (later ++ B) (moment (call ∷ later ++ B)) ≤ g → Stands later → Stands (call ∷ later)
-  one_more (Hear f) later a n p h = hears_one f later h
-  one_more (TakeFrame now (Some f)) later a n p h = takes_one now f later p h
-  one_more (TakeFrame now None) later a n p h = takes_no_frame now later a h
-  one_more (Broadcast now group bytes (Ok j)) later a n p h =
+  one_more (At @@ (Hear f)) later a n p h = hears_one f later h
+  one_more (At now (TakeFrame (Some f))) later a n p h = takes_one now f later p h
+  one_more (At now (TakeFrame None)) later a n p h = takes_no_frame now later a h
+  one_more (At now (Broadcast group bytes (Ok j))) later a n p h =
       absurd (none_begins later now group j bytes h.broadcast (broadcast_case w (later ++ B) now group bytes (Ok j) a))
   one_more (TakeBroadcastEnded (Some x)) later a n p h = absurd (let z : true ≡ false = n in cc)
   one_more call later a n p h = record { broadcast = h.broadcast; course = go h.course }
@@ -263,13 +264,13 @@ module _ (w : Who) (B : List Call) (g k : ℕ) (m : MessageRecord) where
 -- the last call came in time
 pub waited_last : (g : ℕ) (later B : List Call) → IsPrompt g later B → waited_in later B ≤ g
 waited_last g [] B p = omega arith
-waited_last g (TakeFrame now None ∷ later) B p = omega arith
+waited_last g (At now (TakeFrame None) ∷ later) B p = omega arith
 waited_last g (call ∷ later) B p = p.1
 
 -- never is more left than the gap
 pause_most : (H : List Call) → pause H ≤ gap
 pause_most [] = omega arith
-pause_most (TakeFrame now (Some f) ∷ H) = go (is_packet f) (pause_most H)
+pause_most (At now (TakeFrame (Some f)) ∷ H) = go (is_packet f) (pause_most H)
   where
     go : (b : Bool) → pause H ≤ gap → (if b then gap else pause H - step H now) ≤ gap
     go true l = omega arith
@@ -281,18 +282,18 @@ answered_from w [] B a = a
 answered_from w (call ∷ later) B a = answered_from w later B a.0
 
 pub broadcast_ends : (w : Who) (later earlier : List Call) (c : Controller) (g now group k : ℕ) (bytes : List ℕ)
-    → Is w (later ++ Broadcast now group bytes (Ok k) ∷ earlier) c → NoneTold tells_broadcast later
-    → IsPrompt g later (Broadcast now group bytes (Ok k) ∷ earlier)
-    → (packets_of (broadcast_from w group bytes) + 1) * (gap + g) < passed_in later (Broadcast now group bytes (Ok k) ∷ earlier)
-    → (e : Ending) × (next_broadcast_ended w (later ++ Broadcast now group bytes (Ok k) ∷ earlier) ≡ Some (k, e))
+    → Is w (later ++ At now (Broadcast group bytes (Ok k)) ∷ earlier) c → NoneTold tells_broadcast later
+    → IsPrompt g later (At now (Broadcast group bytes (Ok k)) ∷ earlier)
+    → (packets_of (broadcast_from w group bytes) + 1) * (gap + g) < passed_in later (At now (Broadcast group bytes (Ok k)) ∷ earlier)
+    → (e : Ending) × (next_broadcast_ended w (later ++ At now (Broadcast group bytes (Ok k)) ∷ earlier) ≡ Some (k, e))
 broadcast_ends w later earlier c g now group k bytes is none prompt l =
-    let B = Broadcast now group bytes (Ok k) ∷ earlier in
+    let B = At now (Broadcast group bytes (Ok k)) ∷ earlier in
     ends_so w B g k (broadcast_from w group bytes) later
     (stands w B g k (broadcast_from w group bytes) later is.answered none prompt
     (record { broadcast = refl; course = runs (held (broadcast_case w earlier now group bytes (Ok k) ((answered_from w later B is.answered).1))) (accepted_now g (pause B) (pause_most B)) }))
     l (waited_last g later B prompt)
   where
-    held : BroadcastCase w earlier now group bytes (Ok k) → is_held (address_after w (Broadcast now group bytes (Ok k) ∷ earlier)) ≡ true
+    held : BroadcastCase w earlier now group bytes (Ok k) → is_held (address_after w (At now (Broadcast group bytes (Ok k)) ∷ earlier)) ≡ true
     held (homeless a e) = absurd (cc)
     held (unfit a b e) = absurd (cc)
     held (busy a b f e) = absurd (cc)

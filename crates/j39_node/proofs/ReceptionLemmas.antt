@@ -20,7 +20,8 @@ use Rattle.j39_transport.specs.Receiving.{ReceiverRecord, RecvResult, Heard, Tic
 use Rattle.j39_transport.specs.Session.{SessionRecord}
 use Rattle.j39_transport.specs.Signals.{Signal, BroadcastAnnounce, RequestToSend, ClearToSend, Acknowledgment, Abort, Packet, said_between}
 use Rattle.j39_node.specs.History.{Who, Message, Call, holds, is_acknowledgment, is_claim, is_smaller, told_claims}
-use Rattle.j39_node.specs.History.Call.{Hear, Tick, TakeFrame, ReleaseTransfer}
+use Rattle.j39_node.specs.History.Call.{At, ReleaseTransfer}
+use Rattle.j39_node.specs.History.Act.{Hear, Tick, TakeFrame}
 use Rattle.j39_node.specs.Reception.{Reception, IsApart, time_heard, goes_to, has_place, heard_by, held_then, held_through, holder, is_same, keeps, leaves, left, receiver_at, reception, released_by, replied, step_at, taken_by, takes, ticked, without}
 
 -- ---- what a step of the receiver leaves
@@ -278,11 +279,11 @@ tidy_released own true r h = record { fits = h.fits; apart = inl refl; replies =
 
 pub tidy : (w : Who) (H : List Call) → Tidy w.address (reception w H)
 tidy w [] = record { fits = tt; apart = inl refl; replies = tt }
-tidy w (Hear f ∷ H) =
-    tidy_heard w.address (is_smaller w (claim_of f)) (holds w H f.stamp) f (time_heard (Hear f ∷ H)) _
-    (tidy_left w.address (leaves (holder w H) (holder w (Hear f ∷ H)) (reception w H).session) (reception w H) (tidy w H))
-tidy w (Tick now ∷ H) = tidy_ticked w.address now (time_heard (Tick now ∷ H)) (reception w H) (tidy w H)
-tidy w (TakeFrame now (Some f) ∷ H) = tidy_taken w.address (is_claim f) (is_acknowledgment f) _ (reception w H) (tidy w H)
+tidy w (At @@ (Hear f) ∷ H) =
+    tidy_heard w.address (is_smaller w (claim_of f)) (holds w H f.stamp) f (time_heard (At @@ (Hear f) ∷ H)) _
+    (tidy_left w.address (leaves (holder w H) (holder w (At @@ (Hear f) ∷ H)) (reception w H).session) (reception w H) (tidy w H))
+tidy w (At now Tick ∷ H) = tidy_ticked w.address now (time_heard (At now Tick ∷ H)) (reception w H) (tidy w H)
+tidy w (At now (TakeFrame (Some f)) ∷ H) = tidy_taken w.address (is_claim f) (is_acknowledgment f) _ (reception w H) (tidy w H)
 tidy w (ReleaseTransfer answer ∷ H) = tidy_released w.address answer (reception w H) (tidy w H)
 tidy w (call ∷ H) = tidy w H
 
@@ -354,8 +355,8 @@ known_more F (f ∷ E) a o h =
 
 pub holders : (w : Who) (H : List Call) (a : ℕ) → HolderOf (told_claims w H) a (holder w H a)
 holders w [] a = known_more [] w.known a None (record { is = λ n h. absurd h; none = λ e. refl })
-holders w (Hear f ∷ H) a = one_holder_more (told_claims w H) f a (holder w H a) true (holders w H a)
-holders w (TakeFrame now (Some f) ∷ H) a = one_holder_more (told_claims w H) f a (holder w H a) (is_claim f) (holders w H a)
+holders w (At @@ (Hear f) ∷ H) a = one_holder_more (told_claims w H) f a (holder w H a) true (holders w H a)
+holders w (At now (TakeFrame (Some f)) ∷ H) a = one_holder_more (told_claims w H) f a (holder w H a) (is_claim f) (holders w H a)
 holders w (call ∷ H) a = holders w H a
 
 -- what the table has is the holder
@@ -371,14 +372,14 @@ leaves_is w old new H G (Some r) k l =
 -- ---- a frame is taken
 
 pub taken_is : (w : Who) (H : List Call) (now : ℕ) (f : FrameRecord) (a b : Bool) → is_claim f ≡ a → is_acknowledgment f ≡ b
-    → reception w (TakeFrame now (Some f) ∷ H)
-    ≡ taken_by a b (leaves (holder w H) (holder w (TakeFrame now (Some f) ∷ H)) (reception w H).session) (reception w H)
+    → reception w (At now (TakeFrame (Some f)) ∷ H)
+    ≡ taken_by a b (leaves (holder w H) (holder w (At now (TakeFrame (Some f)) ∷ H)) (reception w H).session) (reception w H)
 taken_is w H now f a b e g =
-    let l = leaves (holder w H) (holder w (TakeFrame now (Some f) ∷ H)) (reception w H).session in
+    let l = leaves (holder w H) (holder w (At now (TakeFrame (Some f)) ∷ H)) (reception w H).session in
     ap (λ (x : Bool). taken_by x (is_acknowledgment f) l (reception w H)) e ∙ ap (λ (y : Bool). taken_by a y l (reception w H)) g
 
 -- with no reply nothing changes
 pub none_taken : (w : Who) (H : List Call) (now : ℕ) (f : FrameRecord) → is_claim f ≡ false → is_acknowledgment f ≡ false → (reception w H).replies ≡ []
-    → reception w (TakeFrame now (Some f) ∷ H) ≡ reception w H
+    → reception w (At now (TakeFrame (Some f)) ∷ H) ≡ reception w H
 none_taken w H now f e g n =
     taken_is w H now f false false e g ∙ λ i. record { session = (reception w H).session; waits = (reception w H).waits; replies = (ap (drop 1) n ∙ sym n) i }

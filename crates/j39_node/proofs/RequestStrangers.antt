@@ -13,7 +13,8 @@ use Rattle.j39_node.specs.declared.kinds.AskEnding.{AskEnding}
 use Rattle.j39_node.specs.declared.kinds.AskEnding.TheVariants.{Answered}
 use Rattle.j39_node.specs.History.{Who, Call, address_after, holds, is_acknowledgment, is_lost, is_none, is_some, is_smaller, older, sent, step}
 use Rattle.j39_node.specs.History.Address.{Lost}
-use Rattle.j39_node.specs.History.Call.{Hear, Tick}
+use Rattle.j39_node.specs.History.Call.{At}
+use Rattle.j39_node.specs.History.Act.{Hear, Tick}
 use Rattle.j39_node.specs.Reception.{Reception, has_place, holder, leaves, left, reception, time_heard, whole, whole_by}
 use Rattle.j39_node.specs.Hearing.{OpenBroadcast, announces, begun, changes, grown, has_room, hearing, hears, is_ignored, is_late, is_whole as is_full, left as leaves_it, made_whole, message_by, newly, packed, packs, touched, waiting, whole_of}
 use Rattle.j39_node.specs.Asking.{Question, ask_end, end_at, ended, first, is_answer, is_of, is_reply, is_whole, made, made_of, next_ask_ended, open_ask, reaches, said_by, says_to, silent_end, wait}
@@ -87,10 +88,10 @@ broadcast_source : (who : Who) (H : List Call) (f : FrameRecord) (p : ℕ × Mes
 broadcast_source who H f p e = go (waiting who H) refl e
   where
     b : Bool
-    b = changes (holder who H) (holder who (Hear f ∷ H)) (hearing who H)
+    b = changes (holder who H) (holder who (At @@ (Hear f) ∷ H)) (hearing who H)
 
-    go : (o : Option (ℕ × MessageRecord)) → waiting who H ≡ o → newly o (waiting who (Hear f ∷ H)) ≡ Some p → p.1.source ≡ source_of f.id
-    go None i z = cast_source who (time_heard (Hear f ∷ H)) f (leaves_it b (hearing who H)) p (whole_of_left b (hearing who H) ∙ i) z
+    go : (o : Option (ℕ × MessageRecord)) → waiting who H ≡ o → newly o (waiting who (At @@ (Hear f) ∷ H)) ≡ Some p → p.1.source ≡ source_of f.id
+    go None i z = cast_source who (time_heard (At @@ (Hear f) ∷ H)) f (leaves_it b (hearing who H)) p (whole_of_left b (hearing who H) ∙ i) z
     go (Some x) i z = absurd (cc)
 
 made_source : (w : Who) (H : List Call) (f : FrameRecord) (x : ℕ × ℕ) → made w H f ≡ Some x → x.0 ≡ source_of f.id
@@ -100,7 +101,7 @@ made_source w H f x e = go (whole w H f) (made_whole w H f) refl refl e
         → option_or (made_of a) (made_of (option_map (λ (y : ℕ × MessageRecord). y.1) b)) ≡ Some x → x.0 ≡ source_of f.id
     go (Some m) b i k z =
         let y : (m.source, m.pgn) ≡ x = cc in
-        ap (λ (u : ℕ × ℕ). u.0) (sym y) ∙ whole_source w.address (is_smaller w (claim_of f)) (holds w H f.stamp) f (time_heard (Hear f ∷ H)) (left (leaves (holder w H) (holder w (Hear f ∷ H)) (reception w H).session) (reception w H)) m i
+        ap (λ (u : ℕ × ℕ). u.0) (sym y) ∙ whole_source w.address (is_smaller w (claim_of f)) (holds w H f.stamp) f (time_heard (At @@ (Hear f) ∷ H)) (left (leaves (holder w H) (holder w (At @@ (Hear f) ∷ H)) (reception w H).session) (reception w H)) m i
     go None (Some p) i k z = let y : (p.1.source, p.1.pgn) ≡ x = cc in ap (λ (u : ℕ × ℕ). u.0) (sym y) ∙ broadcast_source w H f p k
     go None None i k z = absurd (cc)
 
@@ -155,8 +156,8 @@ to_another w H f q a d n m =
 
     none_to : whole w H f ≡ None
     none_to =
-        none_whole w.address (is_smaller w (claim_of f)) (holds w H f.stamp) f (time_heard (Hear f ∷ H))
-        (left (leaves (holder w H) (holder w (Hear f ∷ H)) (reception w H).session) (reception w H))
+        none_whole w.address (is_smaller w (claim_of f)) (holds w H f.stamp) f (time_heard (At @@ (Hear f) ∷ H))
+        (left (leaves (holder w H) (holder w (At @@ (Hear f) ∷ H)) (reception w H).session) (reception w H))
         (not_said w.address f (elsewhere w.address m))
 
     none_cast : made_whole w H f ≡ None
@@ -172,7 +173,7 @@ to_another w H f q a d n m =
 -- ---- what says nothing ends nothing
 
 pub ends : (w : Who) (H : List Call) (f : FrameRecord) (q : Question) → open_ask H ≡ Some q → says_to w q f (made w H f) ≡ None
-    → is_smaller w (claim_of f) ≡ false → next_ask_ended w (Hear f ∷ H) ≡ next_ask_ended w (Tick f.stamp ∷ H)
+    → is_smaller w (claim_of f) ≡ false → next_ask_ended w (At @@ (Hear f) ∷ H) ≡ next_ask_ended w (At f.stamp Tick ∷ H)
 ends w H f q o none mine =
     (λ i. ask_end (o i) (length (sent H)) (first (ended w H) (end_at w (o i) (length (sent H)) left_over (lost i) f (made w H f))) left_over (lost i))
     ∙ (ap (λ (x : Option AskEnding). option_map (λ e. (q.token, e)) (first (first (ended w H) (first silence (if taken then x else None))) silence)) none
@@ -185,7 +186,7 @@ ends w H f q o none mine =
     lost_now : Bool
     lost_now = is_lost (older (step H f.stamp) (address_after w H))
 
-    lost : is_lost (address_after w (Hear f ∷ H)) ≡ lost_now
+    lost : is_lost (address_after w (At @@ (Hear f) ∷ H)) ≡ lost_now
     lost = ap (λ (b : Bool). is_lost (if b then Lost else older (step H f.stamp) (address_after w H))) mine
 
     taken : Bool

@@ -5,7 +5,8 @@ use Rattle.j39_frame.specs.Network.{address_claimed_group}
 use Rattle.j39_address.specs.Claim.{claim_of}
 use Rattle.j39_node.specs.declared.controller.Controller.{Controller}
 use Rattle.j39_node.specs.History.{Who, Call, Message, Address, address_after, claim_address, claim_from, claimed, content, holds, is_claim, is_held, is_lost, is_smaller, moment, older, open_broadcast, packets, pause, step}
-use Rattle.j39_node.specs.History.Call.{Hear, TakeFrame}
+use Rattle.j39_node.specs.History.Call.{At}
+use Rattle.j39_node.specs.History.Act.{Hear, TakeFrame}
 use Rattle.j39_node.specs.History.Address.{NotClaimed, Claimed, Lost}
 use Rattle.j39_node.specs.Is.{Is, AreAnswered}
 use Rattle.j39_node.specs.Since.{ClaimedSince, NoneDrivesAway, drives_away, passed_in}
@@ -26,7 +27,7 @@ one_later w H call e d h f g = record {
   claims = h.claims;
   stays = (f, h.stays);
   passed = g ∙ (ap (λ (n : ℕ). n + step H (moment (call ∷ H))) h.passed
-      ∙ ap (λ (G : List Call). passed_in h.later (TakeFrame h.at (Some h.claim) ∷ h.earlier) + step G (moment (call ∷ G))) h.is);
+      ∙ ap (λ (G : List Call). passed_in h.later (At h.at (TakeFrame (Some h.claim)) ∷ h.earlier) + step G (moment (call ∷ G))) h.is);
 }
 
 -- the address that was claimed before
@@ -59,7 +60,7 @@ same_age m Lost = refl
 
 -- the first claim
 begins : (w : Who) (H : List Call) (now : ℕ) (f : FrameRecord) → AreAnswered w H → FrameCase w H now f → is_claim f ≡ true → address_after w H ≡ NotClaimed
-    → ClaimedSince w (TakeFrame now (Some f) ∷ H) 0
+    → ClaimedSince w (At now (TakeFrame (Some f)) ∷ H) 0
 begins w H now f right (claims o e) k a = record {
   later = [];
   earlier = H;
@@ -84,21 +85,21 @@ begins w H now f right (transfers m o h n past nothing g e) k a =
 taken : (w : Who) (H : List Call) (now d : ℕ) (f : FrameRecord) → AreAnswered w H → FrameCase w H now f
     → ((n : ℕ) → address_after w H ≡ Claimed n → ClaimedSince w H n)
     → (b : Bool) (a : Address) → is_claim f ≡ b → address_after w H ≡ a
-    → (if b then claimed (older (step H now) a) else older (step H now) a) ≡ Claimed d → ClaimedSince w (TakeFrame now (Some f) ∷ H) d
+    → (if b then claimed (older (step H now) a) else older (step H now) a) ≡ Claimed d → ClaimedSince w (At now (TakeFrame (Some f)) ∷ H) d
 taken w H now d f right case h false a k i e =
-    passes w H (TakeFrame now (Some f)) d h refl (ap (older (step H now)) i ∙ e)
+    passes w H (At now (TakeFrame (Some f))) d h refl (ap (older (step H now)) i ∙ e)
 taken w H now d f right case h true NotClaimed k i e =
-    let z : 0 ≡ d = cc in subst (ClaimedSince w (TakeFrame now (Some f) ∷ H)) z (begins w H now f right case k i)
+    let z : 0 ≡ d = cc in subst (ClaimedSince w (At now (TakeFrame (Some f)) ∷ H)) z (begins w H now f right case k i)
 taken w H now d f right case h true Lost k i e = absurd (cc)
 taken w H now d f right case h true (Claimed n) k i e =
-    let z : n + step H now ≡ d = cc in one_later w H (TakeFrame now (Some f)) n d (h n i) refl (sym z)
+    let z : n + step H now ≡ d = cc in one_later w H (At now (TakeFrame (Some f))) n d (h n i) refl (sym z)
 
 pub claimed_since : (w : Who) (H : List Call) (d : ℕ) → AreAnswered w H → address_after w H ≡ Claimed d → ClaimedSince w H d
 claimed_since w [] d right e = absurd (cc)
-claimed_since w (Hear f ∷ H) d right e =
+claimed_since w (At @@ (Hear f) ∷ H) d right e =
     let n = not_driven (is_smaller w (claim_of f)) (step H f.stamp) d (address_after w H) e in
-    passes w H (Hear f) d (λ k i. claimed_since w H k right.0 i) n.0 n.1
-claimed_since w (TakeFrame now (Some f) ∷ H) d right e =
+    passes w H (At @@ (Hear f)) d (λ k i. claimed_since w H k right.0 i) n.0 n.1
+claimed_since w (At now (TakeFrame (Some f)) ∷ H) d right e =
     taken w H now d f right.0 (frame_case w H now f right.1) (λ k i. claimed_since w H k right.0 i) (is_claim f) (address_after w H) refl refl e
 claimed_since w (call ∷ H) d right e =
     passes w H call d (λ k i. claimed_since w H k right.0 i) refl (let z = same_age (moment H) (address_after w H) in cc)
@@ -140,17 +141,17 @@ first_claim true (Claimed n) e = stands n refl (omega arith)
 first_claim true Lost e = gone refl
 
 stands_since : (w : Who) (later E : List Call) (at : ℕ) (f : FrameRecord) → is_claim f ≡ true → NoneDrivesAway w later
-    → Stands (address_after w (later ++ TakeFrame at (Some f) ∷ E)) (passed_in later (TakeFrame at (Some f) ∷ E))
+    → Stands (address_after w (later ++ At at (TakeFrame (Some f)) ∷ E)) (passed_in later (At at (TakeFrame (Some f)) ∷ E))
 stands_since w [] E at f k d = first_claim (is_claim f) (older (step E at) (address_after w E)) k
-stands_since w (Hear g ∷ later) E at f k d =
-    let H = later ++ TakeFrame at (Some f) ∷ E in
+stands_since w (At @@ (Hear g) ∷ later) E at f k d =
+    let H = later ++ At at (TakeFrame (Some f)) ∷ E in
     ages (address_after w H) _ (step H g.stamp) _ (stands_since w later E at f k d.1)
     (ap (λ (b : Bool). if b then Lost else older (step H g.stamp) (address_after w H)) d.0)
-stands_since w (TakeFrame now (Some g) ∷ later) E at f k d =
-    let H = later ++ TakeFrame at (Some f) ∷ E in
+stands_since w (At now (TakeFrame (Some g)) ∷ later) E at f k d =
+    let H = later ++ At at (TakeFrame (Some f)) ∷ E in
     claims_again (is_claim g) (older (step H now) (address_after w H)) _ (ages (address_after w H) _ (step H now) _ (stands_since w later E at f k d.1) refl)
 stands_since w (call ∷ later) E at f k d =
-    let H = later ++ TakeFrame at (Some f) ∷ E in
+    let H = later ++ At at (TakeFrame (Some f)) ∷ E in
     ages (address_after w H) (address_after w (call ∷ H)) (step H (moment (call ∷ H))) _ (stands_since w later E at f k d.1)
     (let z = same_age (moment H) (address_after w H) in cc)
 
@@ -166,5 +167,5 @@ pub held_in_time : (w : Who) (H : List Call) (now e : ℕ) → ClaimedSince w H 
 held_in_time w H now e h n l =
     let k : is_claim h.claim ≡ true = ap (λ (m : Message). nat_eq m.group address_claimed_group) h.claims in
     let s = stands_since w h.later h.earlier h.at h.claim k h.stays in
-    let z = subst (λ (G : List Call). Stands (address_after w G) (passed_in h.later (TakeFrame h.at (Some h.claim) ∷ h.earlier))) (sym h.is) s in
+    let z = subst (λ (G : List Call). Stands (address_after w G) (passed_in h.later (At h.at (TakeFrame (Some h.claim)) ∷ h.earlier))) (sym h.is) s in
     in_time (step H now) e (address_after w H) (subst (Stands (address_after w H)) (sym h.passed) z) n l

@@ -14,7 +14,8 @@ use Rattle.j39_node.specs.declared.kinds.Answer.TheVariants.{Nack, Busy}
 use Rattle.j39_node.specs.declared.kinds.Refused.{Refused}
 use Rattle.j39_node.specs.declared.kinds.Refused.TheVariants.{NoAddress, BadValue, Full}
 use Rattle.j39_node.specs.History.{Who, Message, Draft, Call, Address, IsFront, Asked, accepted, acknowledged, acknowledgment, acknowledgment_group, address_after, asked, can_send, claim_address, claim_from, claimed, content, due, frame_of, got, handed, holds, is_acknowledgment, is_claim, is_full, is_held, is_lost, is_own_group, is_packet, is_sendable, is_served, is_session, is_smaller, is_some, is_transfer, kept, message_from, message_of, moment, older, open_broadcast, owes_claim, packets, pause, request_for, requests, sent, step, told, with_refusal, with_request}
-use Rattle.j39_node.specs.History.Call.{Ask, Hear, TakeFrame, Send, TakeEnded, TakeReceived, TakeRequest, Acknowledge}
+use Rattle.j39_node.specs.History.Call.{At, TakeEnded, TakeReceived, TakeRequest}
+use Rattle.j39_node.specs.History.Act.{Ask, Hear, TakeFrame, Send, Acknowledge}
 use Rattle.j39_node.specs.Reception.{is_move, none_waits, reception}
 use Rattle.j39_node.proofs.ReceptionLemmas.{IsReply, replied_get, tidy}
 use Rattle.j39_node.specs.History.Address.{NotClaimed, Claimed, Lost}
@@ -436,35 +437,35 @@ due_taken w f now m e is =
     )
 
 pub sent_is : (H : List Call) (now : ℕ) (f : FrameRecord) (a b p : Bool) → is_claim f ≡ a → is_acknowledgment f ≡ b → is_session f ≡ p
-    → sent (TakeFrame now (Some f) ∷ H) ≡ (if a || (b || p) then sent H else sent H ++ message_of f ∷ [])
+    → sent (At now (TakeFrame (Some f)) ∷ H) ≡ (if a || (b || p) then sent H else sent H ++ message_of f ∷ [])
 sent_is H now f a b p e g i = ap (λ (x : Bool). if x || (is_acknowledgment f || is_session f) then sent H else sent H ++ message_of f ∷ []) e
     ∙ (ap (λ (y : Bool). if a || (y || is_session f) then sent H else sent H ++ message_of f ∷ []) g
     ∙ ap (λ (y : Bool). if a || (b || y) then sent H else sent H ++ message_of f ∷ []) i)
 
 pub packets_is : (H : List Call) (now : ℕ) (f : FrameRecord) (p : Bool) → is_packet f ≡ p
-    → packets (TakeFrame now (Some f) ∷ H) ≡ (if p then packets H ++ message_of f ∷ [] else packets H)
+    → packets (At now (TakeFrame (Some f)) ∷ H) ≡ (if p then packets H ++ message_of f ∷ [] else packets H)
 packets_is H now f p e = ap (λ (y : Bool). if y then packets H ++ message_of f ∷ [] else packets H) e
 
 pub pause_is : (H : List Call) (now : ℕ) (f : FrameRecord) (p : Bool) → is_packet f ≡ p
-    → pause (TakeFrame now (Some f) ∷ H) ≡ (if p then 50000 else pause H - step H now)
+    → pause (At now (TakeFrame (Some f)) ∷ H) ≡ (if p then 50000 else pause H - step H now)
 pause_is H now f p e = ap (λ (y : Bool). if y then 50000 else pause H - step H now) e
 
 pub acknowledged_is : (H : List Call) (now : ℕ) (f : FrameRecord) (a b : Bool) → is_claim f ≡ a → is_acknowledgment f ≡ b
-    → acknowledged (TakeFrame now (Some f) ∷ H) ≡ (if a || not b then acknowledged H else acknowledged H ++ message_of f ∷ [])
+    → acknowledged (At now (TakeFrame (Some f)) ∷ H) ≡ (if a || not b then acknowledged H else acknowledged H ++ message_of f ∷ [])
 acknowledged_is H now f a b e g = ap (λ (x : Bool). if x || not (is_acknowledgment f) then acknowledged H else acknowledged H ++ message_of f ∷ []) e
     ∙ ap (λ (y : Bool). if a || not y then acknowledged H else acknowledged H ++ message_of f ∷ []) g
 
 pub address_is : (w : Who) (H : List Call) (now : ℕ) (f : FrameRecord) (a : Bool) → is_claim f ≡ a
-    → address_after w (TakeFrame now (Some f) ∷ H) ≡ (if a then claimed (older (step H now) (address_after w H)) else older (step H now) (address_after w H))
+    → address_after w (At now (TakeFrame (Some f)) ∷ H) ≡ (if a then claimed (older (step H now) (address_after w H)) else older (step H now) (address_after w H))
 address_is w H now f a e = ap (λ (b : Bool). if b then claimed (older (step H now) (address_after w H)) else older (step H now) (address_after w H)) e
 
-sound_claim : (w : Who) (H : List Call) (now : ℕ) (f : FrameRecord) → is_claim f ≡ true → Sound w H → Sound w (TakeFrame now (Some f) ∷ H)
+sound_claim : (w : Who) (H : List Call) (now : ℕ) (f : FrameRecord) → is_claim f ≡ true → Sound w H → Sound w (At now (TakeFrame (Some f)) ∷ H)
 sound_claim w H now f e h = rests w H _ refl (sent_is H now f true _ _ e refl refl) refl
     (λ l. sym (lost_older (step H now) (address_after w H)) ∙ (sym (lost_claimed _) ∙ (sym (ap is_lost (address_is w H now f true e)) ∙ l))) h.reads
     (h.desk.0, subst (λ xs. IsFront xs (due w H)) (sym (acknowledged_is H now f true _ e refl)) h.desk.1, h.desk.2) h
 
 sound_acknowledge : (w : Who) (H : List Call) (now : ℕ) (f : FrameRecord) (m : Message) → is_claim f ≡ false → is_acknowledgment f ≡ true
-    → slice_get (due w H) (length (acknowledged H)) ≡ Some m → stamped f ≡ (now, m) → Sound w H → Sound w (TakeFrame now (Some f) ∷ H)
+    → slice_get (due w H) (length (acknowledged H)) ≡ Some m → stamped f ≡ (now, m) → Sound w H → Sound w (At now (TakeFrame (Some f)) ∷ H)
 sound_acknowledge w H now f m e k g i h = rests w H _ refl (sent_is H now f false true _ e k refl) refl
     (λ l. sym (lost_older (step H now) (address_after w H)) ∙ (sym (ap is_lost (address_is w H now f false e)) ∙ l)) h.reads (
       h.desk.0,
@@ -474,15 +475,15 @@ sound_acknowledge w H now f m e k g i h = rests w H _ refl (sent_is H now f fals
     ) h
 
 sound_packet : (w : Who) (H : List Call) (now : ℕ) (f : FrameRecord) → (is_claim f ≡ false) × (is_acknowledgment f ≡ false) × (is_session f ≡ true)
-    → Sound w H → Sound w (TakeFrame now (Some f) ∷ H)
+    → Sound w H → Sound w (At now (TakeFrame (Some f)) ∷ H)
 sound_packet w H now f k h = rests w H _ refl (sent_is H now f false false true k.0 k.1 k.2) refl
     (λ l. sym (lost_older (step H now) (address_after w H)) ∙ (sym (ap is_lost (address_is w H now f false k.0)) ∙ l)) h.reads
     (h.desk.0, subst (λ xs. IsFront xs (due w H)) (sym (acknowledged_is H now f false false k.0 k.1)) h.desk.1, h.desk.2) h
 
 sound_send : (w : Who) (H : List Call) (now : ℕ) (f : FrameRecord) (x : ℕ × Message) → is_claim f ≡ false → is_acknowledgment f ≡ false → is_session f ≡ false → holds w H now ≡ true
-    → slice_get (accepted w H) (length (sent H)) ≡ Some x → stamped f ≡ (now, x.1) → Sound w H → Sound w (TakeFrame now (Some f) ∷ H)
+    → slice_get (accepted w H) (length (sent H)) ≡ Some x → stamped f ≡ (now, x.1) → Sound w H → Sound w (At now (TakeFrame (Some f)) ∷ H)
 sound_send w H now f x e k n held g i h =
-    let more : sent (TakeFrame now (Some f) ∷ H) ≡ sent H ++ x.1 ∷ [] =
+    let more : sent (At now (TakeFrame (Some f)) ∷ H) ≡ sent H ++ x.1 ∷ [] =
     sent_is H now f false false false e k n ∙ ap (λ (y : ℕ × Message). sent H ++ y.1 ∷ []) i in
     record {
       own = h.own;
@@ -495,7 +496,7 @@ sound_send w H now f x e k n held g i h =
       numbered = h.numbered;
     }
 
-sound_frame : (w : Who) (H : List Call) (now : ℕ) (f : FrameRecord) → AreAnswered w H → FrameCase w H now f → Sound w H → Sound w (TakeFrame now (Some f) ∷ H)
+sound_frame : (w : Who) (H : List Call) (now : ℕ) (f : FrameRecord) → AreAnswered w H → FrameCase w H now f → Sound w H → Sound w (At now (TakeFrame (Some f)) ∷ H)
 sound_frame w H now f right (claims owes e) h = sound_claim w H now f (claim_taken f now w _ e) h
 sound_frame w H now f right (acknowledges m owes held g e) h =
     let k = due_taken w f now m e (due_get w (due w H) (length (acknowledged H)) m h.desk.0 g) in
@@ -512,7 +513,7 @@ sound_frame w H now f right (packs m owes held none past g e) h =
 sound_frame w H now f right (transfers m owes held none past nothing g e) h =
     let is = transfer_taken w H now f m right e g in sound_packet w H now f (is.claim, is.plain, is.session) h
 
-sound_accept : (w : Who) (H : List Call) (now k : ℕ) (d : Draft) → can_send w d ≡ true → k ≡ length (accepted w H) → Sound w H → Sound w (Send now d (Ok k) ∷ H)
+sound_accept : (w : Who) (H : List Call) (now k : ℕ) (d : Draft) → can_send w d ≡ true → k ≡ length (accepted w H) → Sound w H → Sound w (At now (Send d (Ok k)) ∷ H)
 sound_accept w H now k d e g h = record {
   own = own_append w (accepted w H) (k, message_from w d) h.own (is_own w d e);
   fronts = subst (λ ys. IsFront (sent H) ys) (sym (map_append content (accepted w H) (k, message_from w d)))
@@ -527,7 +528,7 @@ sound_accept w H now k d e g h = record {
   ];
 }
 
-sound_ask : (w : Who) (H : List Call) (now k group to : ℕ) → can_ask w group to ≡ true → k ≡ length (accepted w H) → Sound w H → Sound w (Ask now group to (Ok k) ∷ H)
+sound_ask : (w : Who) (H : List Call) (now k group to : ℕ) → can_ask w group to ≡ true → k ≡ length (accepted w H) → Sound w H → Sound w (At now (Ask group to (Ok k)) ∷ H)
 sound_ask w H now k group to e g h = let s = sound_accept w H now k (request_for group to) (sendable w group to e) g h in record {
   own = s.own;
   fronts = s.fronts;
@@ -588,7 +589,7 @@ request_front w room (Some r) xs ys h = go (is_served w r.group && room)
     go true = front_append ys xs r h
     go false = h
 
-heard_desk : (w : Who) (H : List Call) (f : FrameRecord) → Desked w H → Desked w (Hear f ∷ H)
+heard_desk : (w : Who) (H : List Call) (f : FrameRecord) → Desked w H → Desked w (At @@ (Hear f) ∷ H)
 heard_desk w H f h =
     let room = nat_lt (length (requests w H) - length (handed H)) 16 in
     let place = nat_lt (length (due w H) - length (acknowledged H)) 16 in
@@ -599,20 +600,20 @@ heard_desk w H f h =
     )
 
 sound_more : (w : Who) (H : List Call) (call : Call) → AreAnswered w H → IsAnswered w H call → Sound w H → Sound w (call ∷ H)
-sound_more w H (Hear f) right e h = rests w H _ refl refl refl (lost_if w (is_smaller w (claim_of f)) (step H f.stamp) (address_after w H))
+sound_more w H (At @@ (Hear f)) right e h = rests w H _ refl refl refl (lost_if w (is_smaller w (claim_of f)) (step H f.stamp) (address_after w H))
     (kept_grows _ (kept w H) (f.stamp, message_of f) (got H) h.reads)
     (heard_desk w H f h.desk) h
-sound_more w H (TakeFrame now (Some f)) right e h = sound_frame w H now f right (frame_case w H now f e) h
-sound_more w H (Send now d (Ok k)) right e h = go (send_case w H now d (Ok k) e)
+sound_more w H (At now (TakeFrame (Some f))) right e h = sound_frame w H now f right (frame_case w H now f e) h
+sound_more w H (At now (Send d (Ok k))) right e h = go (send_case w H now d (Ok k) e)
   where
-    go : SendCase w H now d (Ok k) → Sound w (Send now d (Ok k) ∷ H)
+    go : SendCase w H now d (Ok k) → Sound w (At now (Send d (Ok k)) ∷ H)
     go (no_address a b) = absurd (cc)
     go (bad_value a b c) = absurd (cc)
     go (full a b c i) = absurd (cc)
     go (accepts a b c i) = sound_accept w H now k d b (let z : k ≡ length (accepted w H) = cc in z) h
-sound_more w H (Ask now group to (Ok k)) right e h = go (ask_case w H now group to (Ok k) e)
+sound_more w H (At now (Ask group to (Ok k))) right e h = go (ask_case w H now group to (Ok k) e)
   where
-    go : AskCase w H now group to (Ok k) → Sound w (Ask now group to (Ok k) ∷ H)
+    go : AskCase w H now group to (Ok k) → Sound w (At now (Ask group to (Ok k)) ∷ H)
     go (homeless a b) = absurd (cc)
     go (unfit a b c) = absurd (cc)
     go (busy a b c i) = absurd (cc)
@@ -621,7 +622,7 @@ sound_more w H (TakeEnded (Some x)) right e h = sound_ended w H x (end_case w H 
 sound_more w H (TakeReceived (Some x)) right e h = rests w H _ refl refl refl (λ l. l)
     (front_longer (got H) (kept w H) x h.reads (sym e)) h.desk h
 sound_more w H (TakeRequest (Some r)) right e h = rests w H _ refl refl refl (λ l. l) h.reads (h.desk.0, h.desk.1, front_longer (handed H) (requests w H) r h.desk.2 (sym e)) h
-sound_more w H (Acknowledge now r answer (Ok x)) right e h = rests w H _ refl refl refl (λ l. sym (lost_older (step H now) (address_after w H)) ∙ l) h.reads
+sound_more w H (At now (Acknowledge r answer (Ok x))) right e h = rests w H _ refl refl refl (λ l. sym (lost_older (step H now) (address_after w H)) ∙ l) h.reads
     (due_append w (due w H) answer r h.desk.0, front_append (acknowledged H) (due w H) (acknowledgment w answer r) h.desk.1, h.desk.2) h
 sound_more w H call right e h = rests w H (call ∷ H) refl refl refl (λ l. let z = lost_older (step H (moment (call ∷ H))) (address_after w H) in cc) h.reads h.desk h
 

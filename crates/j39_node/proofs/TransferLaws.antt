@@ -17,7 +17,8 @@ use Rattle.j39_node.specs.declared.kinds.TransferEnding.TheVariants.{Done, Withd
 use Rattle.j39_node.specs.declared.kinds.Refused.{Refused}
 use Rattle.j39_node.specs.declared.kinds.Refused.TheVariants.{NoAddress, BadValue, Full}
 use Rattle.j39_node.specs.History.{Who, Message, Call, accepted, acknowledged, address_after, due, has_packets, holds, is_lost, message_of, packets, sent, step}
-use Rattle.j39_node.specs.History.Call.{Hear, TakeFrame, Transfer, TakeTransferEnded}
+use Rattle.j39_node.specs.History.Call.{At, TakeTransferEnded}
+use Rattle.j39_node.specs.History.Act.{Hear, TakeFrame, Transfer}
 use Rattle.j39_node.specs.Is.{AreAnswered, Is, long_by, next_packet}
 use Rattle.j39_node.specs.Since.{PacketSince}
 use Rattle.j39_node.specs.Transfers.{Running, broken_off, can_transfer, clock_at, ending_by, gives_up, granted_after, hears, hears_if, is_engaged, is_over, is_replaced, is_resting, is_spent, listens, next_transfer, open_transfer, said_to, says, sends, sends_if, signal_by, spent_after, told_transfers, transfer_end, transfers as all_transfers}
@@ -35,11 +36,11 @@ use Rattle.j39_node.proofs.MoveLemmas.{Arises, LastIf, Sent, last_one, last_open
 -- ---- what transfer answers
 
 answers : (w : Who) (H : List Call) (c : Controller) (now group to : ℕ) (bytes : List ℕ) (answer : Result ℕ Refused)
-    → Is w (Transfer now group to bytes answer ∷ H) c → TransferCase w H now group to bytes answer
+    → Is w (At now (Transfer group to bytes answer) ∷ H) c → TransferCase w H now group to bytes answer
 answers w H c now group to bytes answer is = transfer_case w H now group to bytes answer is.answered.1
 
 pub refused_address : (w : Who) (H : List Call) (c : Controller) (now group to : ℕ) (bytes : List ℕ) (answer : Result ℕ Refused)
-    → Is w (Transfer now group to bytes answer ∷ H) c → (answer ≡ Err NoAddress ↔ (IsTrue (holds w H now) → ⊥))
+    → Is w (At now (Transfer group to bytes answer) ∷ H) c → (answer ≡ Err NoAddress ↔ (IsTrue (holds w H now) → ⊥))
 refused_address w H c now group to bytes answer is = go (answers w H c now group to bytes answer is)
   where
     go : TransferCase w H now group to bytes answer → (answer ≡ Err NoAddress ↔ (IsTrue (holds w H now) → ⊥))
@@ -49,7 +50,7 @@ refused_address w H c now group to bytes answer is = go (answers w H c now group
     go (opens a b f e) = (λ z. absurd (cc), λ z. absurd (z a))
 
 pub refused_value : (w : Who) (H : List Call) (c : Controller) (now group to : ℕ) (bytes : List ℕ) (answer : Result ℕ Refused)
-    → Is w (Transfer now group to bytes answer ∷ H) c
+    → Is w (At now (Transfer group to bytes answer) ∷ H) c
     → (answer ≡ Err BadValue ↔ (IsTrue (holds w H now) × (IsTrue (can_transfer w group to bytes) → ⊥)))
 refused_value w H c now group to bytes answer is = go (answers w H c now group to bytes answer is)
   where
@@ -82,7 +83,7 @@ free_limit None told all r h e (inr (inr a)) = not_both _ (or_parts (nat_eq (len
 free_limit (Some t) told all r h e l = absurd (let z : true ≡ false = e in cc)
 
 pub refused_full : (w : Who) (H : List Call) (c : Controller) (now group to : ℕ) (bytes : List ℕ) (answer : Result ℕ Refused)
-    → Is w (Transfer now group to bytes answer ∷ H) c
+    → Is w (At now (Transfer group to bytes answer) ∷ H) c
     → (answer ≡ Err Full ↔ (IsTrue (holds w H now) × IsTrue (can_transfer w group to bytes)
     × ((length (all_transfers w H) ≡ length (told_transfers H) + 1)
     ⊎ ((length (all_transfers w H) ≡ 18446744073709551615) ⊎ IsTrue (is_resting w H now group to)))))
@@ -98,7 +99,7 @@ refused_full w H c now group to bytes answer is = go (answers w H c now group to
         (λ z. absurd (cc), λ z. absurd (free_limit (open_transfer w H) _ _ (is_resting w H now group to) (last_one w H is.answered.0) f z.2))
 
 pub is_accepted : (w : Who) (H : List Call) (c : Controller) (now group to : ℕ) (bytes : List ℕ) (answer : Result ℕ Refused)
-    → Is w (Transfer now group to bytes answer ∷ H) c → IsTrue (holds w H now) → IsTrue (can_transfer w group to bytes)
+    → Is w (At now (Transfer group to bytes answer) ∷ H) c → IsTrue (holds w H now) → IsTrue (can_transfer w group to bytes)
     → length (all_transfers w H) ≡ length (told_transfers H) → length (all_transfers w H) < 18446744073709551615
     → is_resting w H now group to ≡ false → answer ≡ Ok (length (all_transfers w H))
 is_accepted w H c now group to bytes answer is held can room some rested = go (answers w H c now group to bytes answer is)
@@ -115,7 +116,7 @@ is_accepted w H c now group to bytes answer is held can room some rested = go (a
     go (busy a b f e) = absurd (free (engaged_limit (open_transfer w H) _ _ (is_resting w H now group to) (last_one w H is.answered.0) f))
     go (opens a b f e) = e
 
-pub token_is : (w : Who) (H : List Call) (c : Controller) (now group to k : ℕ) (bytes : List ℕ) → Is w (Transfer now group to bytes (Ok k) ∷ H) c
+pub token_is : (w : Who) (H : List Call) (c : Controller) (now group to k : ℕ) (bytes : List ℕ) → Is w (At now (Transfer group to bytes (Ok k)) ∷ H) c
     → k ≡ length (all_transfers w H)
 token_is w H c now group to k bytes is = go (answers w H c now group to bytes (Ok k) is)
   where
@@ -127,7 +128,7 @@ token_is w H c now group to k bytes is = go (answers w H c now group to bytes (O
 
 -- ---- which frames are taken
 
-sent_one : (w : Who) (H : List Call) (c : Controller) (now : ℕ) (f : FrameRecord) → Is w (TakeFrame now (Some f) ∷ H) c → is_move w H f ≡ true → Sent w H now f
+sent_one : (w : Who) (H : List Call) (c : Controller) (now : ℕ) (f : FrameRecord) → Is w (At now (TakeFrame (Some f)) ∷ H) c → is_move w H f ≡ true → Sent w H now f
 sent_one w H c now f is p = sent_case w H now f is.answered.0 (frame_case w H now f is.answered.1) p
 
 both : (x y : Bool) → (x && y) ≡ true → (x ≡ true) × (y ≡ true)
@@ -156,7 +157,7 @@ moves_so t now xs a h e = go (gives_up t) refl
     go true g = inr (running_some _ _ xs t.sender.state h.state (both (is_spent t) (is_running t.sender.state) g).1, inr (inr (ap (says t.sender) (given_up t now a g e))))
     go false g = by (signal_case t.sender now xs a h (ticking t now a g e))
 
-pub only : (w : Who) (H : List Call) (c : Controller) (now : ℕ) (f : FrameRecord) → Is w (TakeFrame now (Some f) ∷ H) c → IsTrue (is_move w H f)
+pub only : (w : Who) (H : List Call) (c : Controller) (now : ℕ) (f : FrameRecord) → Is w (At now (TakeFrame (Some f)) ∷ H) c → IsTrue (is_move w H f)
     → (k to : ℕ) × (m : MessageRecord) × (slice_get (all_transfers w H) k ≡ Some (to, m)) × (k ≡ length (told_transfers H)) × IsMove to m (moves w H) (message_of f)
 only w H c now f is p =
     let s = sent_one w H c now f is p in
@@ -170,7 +171,7 @@ only w H c now f is p =
           (moves_so s.running (clock_at H now) (moves w H) s.signal (moved_open w H s.running is.answered.0 s.is) s.said),
     )
 
-pub behind : (w : Who) (H : List Call) (c : Controller) (now : ℕ) (f : FrameRecord) → Is w (TakeFrame now (Some f) ∷ H) c → IsTrue (is_move w H f)
+pub behind : (w : Who) (H : List Call) (c : Controller) (now : ℕ) (f : FrameRecord) → Is w (At now (TakeFrame (Some f)) ∷ H) c → IsTrue (is_move w H f)
     → IsTrue (holds w H now) × (length (sent H) ≡ length (accepted w H)) × (acknowledged H ≡ due w H)
 behind w H c now f is p =
     let x = sent_one w H c now f is p in
@@ -179,18 +180,18 @@ behind w H c now f is p =
     let b = sent_within w H s in
     (x.held, omega (arith, a, b), whole (acknowledged H) (due w H) s.desk.1 (past_end (due w H) (length (acknowledged H)) x.none_due))
 
-pub after_broadcasts : (w : Who) (H : List Call) (c : Controller) (now : ℕ) (f : FrameRecord) → Is w (TakeFrame now (Some f) ∷ H) c → IsTrue (is_move w H f)
+pub after_broadcasts : (w : Who) (H : List Call) (c : Controller) (now : ℕ) (f : FrameRecord) → Is w (At now (TakeFrame (Some f)) ∷ H) c → IsTrue (is_move w H f)
     → IsTrue (has_packets w H) → (e : ℕ) × PacketSince H e × (e + step H now < 50000)
 after_broadcasts w H c now f is p some = packet_waits w H now some (sent_one w H c now f is p).no_packet
 
-pub waits : (w : Who) (H : List Call) (c : Controller) (now : ℕ) → Is w (TakeFrame now None ∷ H) c → IsTrue (holds w H now) → next_transfer w H now ≡ None
+pub waits : (w : Who) (H : List Call) (c : Controller) (now : ℕ) → Is w (At now (TakeFrame None) ∷ H) c → IsTrue (holds w H now) → next_transfer w H now ≡ None
 waits w H c now is held = no_long (next_packet w H now) (next_transfer w H now) (none_long w H now held is.answered.1)
   where
     no_long : (a b : Option Message) → long_by a b ≡ None → b ≡ None
     no_long None b e = e
     no_long (Some m) b e = absurd (cc)
 
-pub gives_up_so : (w : Who) (H : List Call) (c : Controller) (now : ℕ) (f : FrameRecord) (t : Running) → Is w (TakeFrame now (Some f) ∷ H) c → IsTrue (is_move w H f)
+pub gives_up_so : (w : Who) (H : List Call) (c : Controller) (now : ℕ) (f : FrameRecord) (t : Running) → Is w (At now (TakeFrame (Some f)) ∷ H) c → IsTrue (is_move w H f)
     → open_transfer w H ≡ Some t → IsTrue (gives_up t) → message_of f ≡ abort_move t.sender.destination t.sender.message 5
 gives_up_so w H c now f t is p e g =
     let s = sent_one w H c now f is p in
@@ -281,11 +282,11 @@ budget_sends true now (Some t) n h = record {
 
 pub budgeted : (w : Who) (H : List Call) → BudgetedIf (open_transfer w H) (clears w H)
 budgeted w [] = tt
-budgeted w (Hear f ∷ H) =
-    budget_hears_if (is_lost (address_after w (Hear f ∷ H))) (λ a. is_replaced (holder w H a) (holder w (Hear f ∷ H) a)) f (clock_at H f.stamp) (open_transfer w H)
+budgeted w (At @@ (Hear f) ∷ H) =
+    budget_hears_if (is_lost (address_after w (At @@ (Hear f) ∷ H))) (λ a. is_replaced (holder w H a) (holder w (At @@ (Hear f) ∷ H) a)) f (clock_at H f.stamp) (open_transfer w H)
     (clears w H) (budgeted w H)
-budgeted w (TakeFrame now (Some f) ∷ H) = budget_sends (is_move w H f) (clock_at H now) (open_transfer w H) (clears w H) (budgeted w H)
-budgeted w (Transfer now group to bytes (Ok k) ∷ H) = record { count = omega arith; granted = omega arith; spent = omega arith; heard = omega arith }
+budgeted w (At now (TakeFrame (Some f)) ∷ H) = budget_sends (is_move w H f) (clock_at H now) (open_transfer w H) (clears w H) (budgeted w H)
+budgeted w (At now (Transfer group to bytes (Ok k)) ∷ H) = record { count = omega arith; granted = omega arith; spent = omega arith; heard = omega arith }
 budgeted w (TakeTransferEnded (Some x) ∷ H) = tt
 budgeted w (call ∷ H) = budgeted w H
 
@@ -315,7 +316,7 @@ not_five t xs a (times_out n e) k =
 many : (k : ℕ) → nat_lt 64 k ≡ true → 65 ≤ k
 many k e = grind arith
 
-pub patient : (w : Who) (H : List Call) (c : Controller) (now : ℕ) (f : FrameRecord) (t : Running) → Is w (TakeFrame now (Some f) ∷ H) c → IsTrue (is_move w H f)
+pub patient : (w : Who) (H : List Call) (c : Controller) (now : ℕ) (f : FrameRecord) (t : Running) → Is w (At now (TakeFrame (Some f)) ∷ H) c → IsTrue (is_move w H f)
     → open_transfer w H ≡ Some t → message_of f ≡ abort_move t.sender.destination t.sender.message 5 → (65 ≤ t.spent) × (65 ≤ clears w H)
 patient w H c now f t is p e five = go (gives_up t) refl
   where
@@ -338,12 +339,12 @@ patient w H c now f t is p e five = go (gives_up t) refl
 
 -- ---- its sender takes the steps of the standard's
 
-pub heeds : (w : Who) (H : List Call) (f : FrameRecord) (t : Running) → open_transfer w H ≡ Some t → is_lost (address_after w (Hear f ∷ H)) ≡ false
-    → is_replaced (holder w H t.sender.destination) (holder w (Hear f ∷ H) t.sender.destination) ≡ false → t.gone ≡ false → is_spent t ≡ false
-    → (x : Running) × (open_transfer w (Hear f ∷ H) ≡ Some x) × (x.sender ≡ (send_step t.sender (Heard f) (clock_at H f.stamp)).after)
+pub heeds : (w : Who) (H : List Call) (f : FrameRecord) (t : Running) → open_transfer w H ≡ Some t → is_lost (address_after w (At @@ (Hear f) ∷ H)) ≡ false
+    → is_replaced (holder w H t.sender.destination) (holder w (At @@ (Hear f) ∷ H) t.sender.destination) ≡ false → t.gone ≡ false → is_spent t ≡ false
+    → (x : Running) × (open_transfer w (At @@ (Hear f) ∷ H) ≡ Some x) × (x.sender ≡ (send_step t.sender (Heard f) (clock_at H f.stamp)).after)
 heeds w H f t e own held here room =
     subst (λ (o : Option Running). (x : Running)
-    × (hears_if (is_lost (address_after w (Hear f ∷ H))) (λ a. is_replaced (holder w H a) (holder w (Hear f ∷ H) a)) f (clock_at H f.stamp) o ≡ Some x)
+    × (hears_if (is_lost (address_after w (At @@ (Hear f) ∷ H))) (λ a. is_replaced (holder w H a) (holder w (At @@ (Hear f) ∷ H) a)) f (clock_at H f.stamp) o ≡ Some x)
     × (x.sender ≡ (send_step t.sender (Heard f) (clock_at H f.stamp)).after))
     (sym e) (heard _ _ _ own held (ap (λ (b : Bool). b || is_spent t) here ∙ room))
   where
@@ -356,7 +357,7 @@ heeds w H f t e own held here room =
     heard false false true p q r = absurd (cc)
 
 pub goes_on : (w : Who) (H : List Call) (now : ℕ) (f : FrameRecord) (t : Running) → open_transfer w H ≡ Some t → IsTrue (is_move w H f) → gives_up t ≡ false
-    → (x : Running) × (open_transfer w (TakeFrame now (Some f) ∷ H) ≡ Some x) × (x.sender ≡ (send_step t.sender Tick (clock_at H now)).after)
+    → (x : Running) × (open_transfer w (At now (TakeFrame (Some f)) ∷ H) ≡ Some x) × (x.sender ≡ (send_step t.sender Tick (clock_at H now)).after)
 goes_on w H now f t e p g = (
   sends (clock_at H now) t,
   ap (λ (b : Bool). sends_if b (clock_at H now) (open_transfer w H)) p ∙ ap (λ (o : Option Running). sends_if true (clock_at H now) o) e,
@@ -467,11 +468,11 @@ done_arises w = record {
   where
     heard : (H : List Call) (f : FrameRecord) (t : Running) (lost replaced : Bool) (now : ℕ) → AreAnswered w H → open_transfer w H ≡ Some t
         → (hears lost replaced f now t).sender.state ≡ sending.Done
-        → (t.sender.state ≡ sending.Done) ⊎ Acknowledges w t.sender.destination t.sender.message H (Hear f)
+        → (t.sender.state ≡ sending.Done) ⊎ Acknowledges w t.sender.destination t.sender.message H (At @@ (Hear f))
     heard H f t true replaced now right e = λ q. inl q
     heard H f t false true now right e = λ q. inl q
     heard H f t false false now right e = cond_both (t.gone || is_spent t) t (listens f now t)
-        (λ (u : Running). u.sender.state ≡ sending.Done → (t.sender.state ≡ sending.Done) ⊎ Acknowledges w t.sender.destination t.sender.message H (Hear f))
+        (λ (u : Running). u.sender.state ≡ sending.Done → (t.sender.state ≡ sending.Done) ⊎ Acknowledges w t.sender.destination t.sender.message H (At @@ (Hear f)))
         (λ z q. inl q)
         (λ z q. elim (done_heard t.sender f now q) [
           | inl x ↦ inl x
@@ -482,11 +483,11 @@ done_arises w = record {
         ])
 
     hearing : (H : List Call) (f : FrameRecord) (t : Running) → AreAnswered w H → open_transfer w H ≡ Some t
-        → (hears (is_lost (address_after w (Hear f ∷ H))) (is_replaced (holder w H t.sender.destination) (holder w (Hear f ∷ H) t.sender.destination)) f (clock_at H f.stamp) t).sender.state
+        → (hears (is_lost (address_after w (At @@ (Hear f) ∷ H))) (is_replaced (holder w H t.sender.destination) (holder w (At @@ (Hear f) ∷ H) t.sender.destination)) f (clock_at H f.stamp) t).sender.state
         ≡ sending.Done
-        → (t.sender.state ≡ sending.Done) ⊎ Acknowledges w t.sender.destination t.sender.message H (Hear f)
+        → (t.sender.state ≡ sending.Done) ⊎ Acknowledges w t.sender.destination t.sender.message H (At @@ (Hear f))
     hearing H f t right e q =
-        heard H f t (is_lost (address_after w (Hear f ∷ H))) (is_replaced (holder w H t.sender.destination) (holder w (Hear f ∷ H) t.sender.destination)) (clock_at H f.stamp) right e q
+        heard H f t (is_lost (address_after w (At @@ (Hear f) ∷ H))) (is_replaced (holder w H t.sender.destination) (holder w (At @@ (Hear f) ∷ H) t.sender.destination)) (clock_at H f.stamp) right e q
 
 failed_arises : (w : Who) (r : ℕ) → Arises w (λ t. t.sender.state ≡ sending.Failed r) (Aborts w r)
 unfolding new_sender
@@ -498,20 +499,20 @@ failed_arises w r = record {
   where
     heard : (H : List Call) (f : FrameRecord) (t : Running) (lost replaced : Bool) (now : ℕ) → AreAnswered w H → open_transfer w H ≡ Some t
         → (hears lost replaced f now t).sender.state ≡ sending.Failed r
-        → (t.sender.state ≡ sending.Failed r) ⊎ Aborts w r t.sender.destination t.sender.message H (Hear f)
+        → (t.sender.state ≡ sending.Failed r) ⊎ Aborts w r t.sender.destination t.sender.message H (At @@ (Hear f))
     heard H f t true replaced now right e = λ q. inl q
     heard H f t false true now right e = λ q. inl q
     heard H f t false false now right e = cond_both (t.gone || is_spent t) t (listens f now t)
-        (λ (u : Running). u.sender.state ≡ sending.Failed r → (t.sender.state ≡ sending.Failed r) ⊎ Aborts w r t.sender.destination t.sender.message H (Hear f))
+        (λ (u : Running). u.sender.state ≡ sending.Failed r → (t.sender.state ≡ sending.Failed r) ⊎ Aborts w r t.sender.destination t.sender.message H (At @@ (Hear f)))
         (λ z q. inl q)
         (λ z q. elim (failed_heard t.sender f now r q) [ inl x ↦ inl x | inr x ↦ inr (said_own w H t f _ right e x) ])
 
     hearing : (H : List Call) (f : FrameRecord) (t : Running) → AreAnswered w H → open_transfer w H ≡ Some t
-        → (hears (is_lost (address_after w (Hear f ∷ H))) (is_replaced (holder w H t.sender.destination) (holder w (Hear f ∷ H) t.sender.destination)) f (clock_at H f.stamp) t).sender.state
+        → (hears (is_lost (address_after w (At @@ (Hear f) ∷ H))) (is_replaced (holder w H t.sender.destination) (holder w (At @@ (Hear f) ∷ H) t.sender.destination)) f (clock_at H f.stamp) t).sender.state
         ≡ sending.Failed r
-        → (t.sender.state ≡ sending.Failed r) ⊎ Aborts w r t.sender.destination t.sender.message H (Hear f)
+        → (t.sender.state ≡ sending.Failed r) ⊎ Aborts w r t.sender.destination t.sender.message H (At @@ (Hear f))
     hearing H f t right e q =
-        heard H f t (is_lost (address_after w (Hear f ∷ H))) (is_replaced (holder w H t.sender.destination) (holder w (Hear f ∷ H) t.sender.destination)) (clock_at H f.stamp) right e q
+        heard H f t (is_lost (address_after w (At @@ (Hear f) ∷ H))) (is_replaced (holder w H t.sender.destination) (holder w (At @@ (Hear f) ∷ H) t.sender.destination)) (clock_at H f.stamp) right e q
 
     aborts : (t : Running) (f : FrameRecord) (a : Signal) → message_of f ≡ says t.sender a → a ≡ Abort r t.sender.message.pgn
         → message_of f ≡ abort_move t.sender.destination t.sender.message r
@@ -519,9 +520,9 @@ failed_arises w r = record {
 
     sending_one : (H : List Call) (now : ℕ) (f : FrameRecord) (t : Running) (a : Signal) → AreAnswered w H → open_transfer w H ≡ Some t
         → signal_by t (clock_at H now) ≡ Some a → message_of f ≡ says t.sender a → (sends (clock_at H now) t).sender.state ≡ sending.Failed r
-        → (t.sender.state ≡ sending.Failed r) ⊎ Aborts w r t.sender.destination t.sender.message H (TakeFrame now (Some f))
+        → (t.sender.state ≡ sending.Failed r) ⊎ Aborts w r t.sender.destination t.sender.message H (At now (TakeFrame (Some f)))
     sending_one H now f t a right e g k = cond_both (gives_up t) (aborted 5 t.sender) (send_step t.sender Tick (clock_at H now)).after
-        (λ (s : SenderRecord). s.state ≡ sending.Failed r → (t.sender.state ≡ sending.Failed r) ⊎ Aborts w r t.sender.destination t.sender.message H (TakeFrame now (Some f)))
+        (λ (s : SenderRecord). s.state ≡ sending.Failed r → (t.sender.state ≡ sending.Failed r) ⊎ Aborts w r t.sender.destination t.sender.message H (At now (TakeFrame (Some f))))
         (λ z q. elim (failed_given_up t.sender 5 r q) [
           | inl x ↦ inl x
           | inr x ↦ inr (aborts t f a k (given_up t (clock_at H now) a z g ∙ ap (λ (n : ℕ). Abort n t.sender.message.pgn) x))
@@ -535,17 +536,17 @@ gone_arises : (w : Who) → Arises w (λ t. t.gone ≡ true) (λ to m. Replaces 
 gone_arises w = record {
   begins_not = λ token m to q. absurd (cc);
   by_hearing = λ H f t right e q.
-      heard H f t (is_lost (address_after w (Hear f ∷ H))) (is_replaced (holder w H t.sender.destination) (holder w (Hear f ∷ H) t.sender.destination)) (clock_at H f.stamp) refl q;
+      heard H f t (is_lost (address_after w (At @@ (Hear f) ∷ H))) (is_replaced (holder w H t.sender.destination) (holder w (At @@ (Hear f) ∷ H) t.sender.destination)) (clock_at H f.stamp) refl q;
   by_sending = λ H now f t a right e g k q. inl q;
 }
   where
     heard : (H : List Call) (f : FrameRecord) (t : Running) (lost replaced : Bool) (now : ℕ)
-        → is_replaced (holder w H t.sender.destination) (holder w (Hear f ∷ H) t.sender.destination) ≡ replaced → (hears lost replaced f now t).gone ≡ true
-        → (t.gone ≡ true) ⊎ Replaces w t.sender.destination H (Hear f)
+        → is_replaced (holder w H t.sender.destination) (holder w (At @@ (Hear f) ∷ H) t.sender.destination) ≡ replaced → (hears lost replaced f now t).gone ≡ true
+        → (t.gone ≡ true) ⊎ Replaces w t.sender.destination H (At @@ (Hear f))
     heard H f t true replaced now e = λ q. inl q
     heard H f t false true now e = λ q. inr e
     heard H f t false false now e = cond_both (t.gone || is_spent t) t (listens f now t)
-        (λ (u : Running). u.gone ≡ true → (t.gone ≡ true) ⊎ Replaces w t.sender.destination H (Hear f)) (λ z q. inl q) (λ z q. inl q)
+        (λ (u : Running). u.gone ≡ true → (t.gone ≡ true) ⊎ Replaces w t.sender.destination H (At @@ (Hear f))) (λ z q. inl q) (λ z q. inl q)
 
 of_token : (w : Who) (H : List Call) (c : Controller) (k : ℕ) (e : TransferEnding) (is : Is w (TakeTransferEnded (Some (k, e)) ∷ H) c) (x : Ended w H k e)
     → slice_get (all_transfers w H) k ≡ Some (x.running.sender.destination, x.running.sender.message)
@@ -643,13 +644,13 @@ done_sends token true now o h = subst (λ (x : Option Running). IsDone token (se
 
 stays_done : (w : Who) (token : ℕ) (later E : List Call) → NoneEnds later → IsDone token (open_transfer w E) → IsDone token (open_transfer w (later ++ E))
 stays_done w token [] E n h = h
-stays_done w token (Hear f ∷ later) E n h =
+stays_done w token (At @@ (Hear f) ∷ later) E n h =
     let G = later ++ E in
-    done_hears token (is_lost (address_after w (Hear f ∷ G))) (λ a. is_replaced (holder w G a) (holder w (Hear f ∷ G) a)) f (clock_at G f.stamp) (open_transfer w G)
+    done_hears token (is_lost (address_after w (At @@ (Hear f) ∷ G))) (λ a. is_replaced (holder w G a) (holder w (At @@ (Hear f) ∷ G) a)) f (clock_at G f.stamp) (open_transfer w G)
     (stays_done w token later E n.1 h)
-stays_done w token (TakeFrame now (Some f) ∷ later) E n h =
+stays_done w token (At now (TakeFrame (Some f)) ∷ later) E n h =
     done_sends token (is_move w (later ++ E) f) (clock_at (later ++ E) now) (open_transfer w (later ++ E)) (stays_done w token later E n.1 h)
-stays_done w token (Transfer now group to bytes (Ok k) ∷ later) E n h = absurd (let z = n.0 in cc)
+stays_done w token (At now (Transfer group to bytes (Ok k)) ∷ later) E n h = absurd (let z = n.0 in cc)
 stays_done w token (TakeTransferEnded (Some x) ∷ later) E n h = absurd (let z = n.0 in cc)
 stays_done w token (call ∷ later) E n h = stays_done w token later E n.1 h
 
@@ -666,16 +667,16 @@ acks s now f e g k =
     four a b c d p q r t = λ i. p i && q i && r i && t i
 
 pub is_done : (w : Who) (H later : List Call) (c : Controller) (f : FrameRecord) (t : Running) (answer : Option (ℕ × TransferEnding))
-    → Is w (TakeTransferEnded answer ∷ later ++ Hear f ∷ H) c → NoneEnds later → open_transfer w H ≡ Some t
+    → Is w (TakeTransferEnded answer ∷ later ++ At @@ (Hear f) ∷ H) c → NoneEnds later → open_transfer w H ≡ Some t
     → IsTrue (is_waiting t.sender.state) → t.sender.highest ≡ packets_of t.sender.message → t.gone ≡ false → is_spent t ≡ false
-    → is_lost (address_after w (Hear f ∷ H)) ≡ false
-    → is_replaced (holder w H t.sender.destination) (holder w (Hear f ∷ H) t.sender.destination) ≡ false
+    → is_lost (address_after w (At @@ (Hear f) ∷ H)) ≡ false
+    → is_replaced (holder w H t.sender.destination) (holder w (At @@ (Hear f) ∷ H) t.sender.destination) ≡ false
     → said_to t.sender f ≡ Some (Acknowledgment (length t.sender.message.bytes) (packets_of t.sender.message) t.sender.message.pgn)
     → answer ≡ Some (t.token, Done)
 is_done w H later c f t answer is n e waiting highest here room own held says =
-    let d = stays_done w t.token later (Hear f ∷ H) n first in
-    is.answered.1 ∙ (ap (λ (o : Option Running). transfer_end o (is_lost (address_after w (later ++ Hear f ∷ H)))) d.is
-    ∙ (ap (λ (u : SendState). option_map (λ y. (d.running.token, y)) (ending_by u d.running.gone (is_lost (address_after w (later ++ Hear f ∷ H))))) d.done
+    let d = stays_done w t.token later (At @@ (Hear f) ∷ H) n first in
+    is.answered.1 ∙ (ap (λ (o : Option Running). transfer_end o (is_lost (address_after w (later ++ At @@ (Hear f) ∷ H)))) d.is
+    ∙ (ap (λ (u : SendState). option_map (λ y. (d.running.token, y)) (ending_by u d.running.gone (is_lost (address_after w (later ++ At @@ (Hear f) ∷ H))))) d.done
     ∙ ap (λ (k : ℕ). (let o : Option (ℕ × TransferEnding) = Some (k, Done) in o)) d.token_is))
   where
     heard : (a b g : Bool) → a ≡ false → b ≡ false → g ≡ false
@@ -685,8 +686,8 @@ is_done w H later c f t answer is n e waiting highest here room own held says =
     heard false true g p q r = absurd (cc)
     heard false false true p q r = absurd (cc)
 
-    first : IsDone t.token (open_transfer w (Hear f ∷ H))
-    first = subst (λ (o : Option Running). IsDone t.token (hears_if (is_lost (address_after w (Hear f ∷ H))) (λ a. is_replaced (holder w H a) (holder w (Hear f ∷ H) a)) f (clock_at H f.stamp) o))
+    first : IsDone t.token (open_transfer w (At @@ (Hear f) ∷ H))
+    first = subst (λ (o : Option Running). IsDone t.token (hears_if (is_lost (address_after w (At @@ (Hear f) ∷ H))) (λ a. is_replaced (holder w H a) (holder w (At @@ (Hear f) ∷ H) a)) f (clock_at H f.stamp) o))
         (sym e) (heard _ _ _ own held (ap (λ (b : Bool). b || is_spent t) here ∙ room))
 
 -- ---- another holder makes it gone
@@ -712,7 +713,7 @@ gone_hears token lost replaced f now o h =
     go false false false e = absurd (cc)
 
 -- none of its frames is taken
-gone_sends : (w : Who) (H : List Call) (token now : ℕ) (f : FrameRecord) (b : Bool) → AreAnswered w (TakeFrame now (Some f) ∷ H) → is_move w H f ≡ b
+gone_sends : (w : Who) (H : List Call) (token now : ℕ) (f : FrameRecord) (b : Bool) → AreAnswered w (At now (TakeFrame (Some f)) ∷ H) → is_move w H f ≡ b
     → IsGone token (open_transfer w H) → IsGone token (sends_if b (clock_at H now) (open_transfer w H))
 gone_sends w H token now f false right e h = h
 gone_sends w H token now f true right e h = absurd (silent h.running.gone h.gone
@@ -732,24 +733,24 @@ gone_sends w H token now f true right e h = absurd (silent h.running.gone h.gone
 stays_gone : (w : Who) (token : ℕ) (later E : List Call) → AreAnswered w (later ++ E) → NoneEnds later → IsGone token (open_transfer w E)
     → IsGone token (open_transfer w (later ++ E))
 stays_gone w token [] E r n h = h
-stays_gone w token (Hear f ∷ later) E r n h =
+stays_gone w token (At @@ (Hear f) ∷ later) E r n h =
     let G = later ++ E in
-    gone_hears token (is_lost (address_after w (Hear f ∷ G))) (λ a. is_replaced (holder w G a) (holder w (Hear f ∷ G) a)) f (clock_at G f.stamp) (open_transfer w G)
+    gone_hears token (is_lost (address_after w (At @@ (Hear f) ∷ G))) (λ a. is_replaced (holder w G a) (holder w (At @@ (Hear f) ∷ G) a)) f (clock_at G f.stamp) (open_transfer w G)
     (stays_gone w token later E r.0 n.1 h)
-stays_gone w token (TakeFrame now (Some f) ∷ later) E r n h =
+stays_gone w token (At now (TakeFrame (Some f)) ∷ later) E r n h =
     gone_sends w (later ++ E) token now f (is_move w (later ++ E) f) r refl (stays_gone w token later E r.0 n.1 h)
-stays_gone w token (Transfer now group to bytes (Ok k) ∷ later) E r n h = absurd (let z = n.0 in cc)
+stays_gone w token (At now (Transfer group to bytes (Ok k)) ∷ later) E r n h = absurd (let z = n.0 in cc)
 stays_gone w token (TakeTransferEnded (Some x) ∷ later) E r n h = absurd (let z = n.0 in cc)
 stays_gone w token (call ∷ later) E r n h = stays_gone w token later E r.0 n.1 h
 
 pub is_gone : (w : Who) (H later : List Call) (c : Controller) (f : FrameRecord) (t : Running) (answer : Option (ℕ × TransferEnding))
-    → Is w (TakeTransferEnded answer ∷ later ++ Hear f ∷ H) c → NoneEnds later → open_transfer w H ≡ Some t → is_over t ≡ false
-    → is_lost (address_after w (Hear f ∷ H)) ≡ false
-    → is_replaced (holder w H t.sender.destination) (holder w (Hear f ∷ H) t.sender.destination) ≡ true → answer ≡ Some (t.token, Gone)
+    → Is w (TakeTransferEnded answer ∷ later ++ At @@ (Hear f) ∷ H) c → NoneEnds later → open_transfer w H ≡ Some t → is_over t ≡ false
+    → is_lost (address_after w (At @@ (Hear f) ∷ H)) ≡ false
+    → is_replaced (holder w H t.sender.destination) (holder w (At @@ (Hear f) ∷ H) t.sender.destination) ≡ true → answer ≡ Some (t.token, Gone)
 is_gone w H later c f t answer is n e going own left =
-    let d = stays_gone w t.token later (Hear f ∷ H) is.answered.0 n first in
-    is.answered.1 ∙ (ap (λ (o : Option Running). transfer_end o (is_lost (address_after w (later ++ Hear f ∷ H)))) d.is
-    ∙ (ap (λ (b : Bool). option_map (λ y. (d.running.token, y)) (ending_by d.running.sender.state b (is_lost (address_after w (later ++ Hear f ∷ H))))) d.gone
+    let d = stays_gone w t.token later (At @@ (Hear f) ∷ H) is.answered.0 n first in
+    is.answered.1 ∙ (ap (λ (o : Option Running). transfer_end o (is_lost (address_after w (later ++ At @@ (Hear f) ∷ H)))) d.is
+    ∙ (ap (λ (b : Bool). option_map (λ y. (d.running.token, y)) (ending_by d.running.sender.state b (is_lost (address_after w (later ++ At @@ (Hear f) ∷ H))))) d.gone
     ∙ (ap (option_map (λ (y : TransferEnding). (d.running.token, y))) (gone d.running.sender.state _ d.unended)
     ∙ ap (λ (k : ℕ). (let o : Option (ℕ × TransferEnding) = Some (k, Gone) in o)) d.token_is)))
   where
@@ -769,8 +770,8 @@ is_gone w H later c f t answer is n e going own left =
     heard false false p q = absurd (cc)
     heard false true p q = record { running = record t { gone = true }; is = refl; token_is = refl; gone = refl; unended = second t.gone _ going }
 
-    first : IsGone t.token (open_transfer w (Hear f ∷ H))
-    first = subst (λ (o : Option Running). IsGone t.token (hears_if (is_lost (address_after w (Hear f ∷ H))) (λ a. is_replaced (holder w H a) (holder w (Hear f ∷ H) a)) f (clock_at H f.stamp) o))
+    first : IsGone t.token (open_transfer w (At @@ (Hear f) ∷ H))
+    first = subst (λ (o : Option Running). IsGone t.token (hears_if (is_lost (address_after w (At @@ (Hear f) ∷ H))) (λ a. is_replaced (holder w H a) (holder w (At @@ (Hear f) ∷ H) a)) f (clock_at H f.stamp) o))
         (sym e) (heard _ _ own left)
 
 -- ---- where none is told

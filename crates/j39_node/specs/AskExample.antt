@@ -5,7 +5,8 @@ use Rattle.j39_node.specs.declared.kinds.Answer.TheVariants.{Nack}
 use Rattle.j39_node.specs.declared.kinds.AskEnding.TheVariants.{Answered, Acknowledged, TimedOut}
 use Rattle.j39_node.specs.declared.kinds.Refused.TheVariants.{NoAddress, BadValue, Full}
 use Rattle.j39_node.specs.History.{Call}
-use Rattle.j39_node.specs.History.Call.{Ask, Hear, TakeAskEnded, TakeFrame, Tick}
+use Rattle.j39_node.specs.History.Call.{At, TakeAskEnded}
+use Rattle.j39_node.specs.History.Act.{Ask, Hear, TakeFrame, Tick}
 use Rattle.j39_node.specs.Example.{announced_by, first_to_all, last_to_all, own_claim}
 
 -- address 128 asks 11 for group 65226; it answers; or it refuses
@@ -23,32 +24,32 @@ refusing now = record { stamp = now; id = 417922827; bytes = 1 ∷ 255 ∷ 255 �
 abbrev pub ask_example : List Call
 ask_example =
     TakeAskEnded (Some (3, Answered))
-    ∷ Hear (last_to_all 1720000)
+    ∷ At 1720000 (Hear (last_to_all 1720000))
     ∷ TakeAskEnded None
-    ∷ Hear (first_to_all 1660000)
-    ∷ Hear (announced_by 11 1600000)
-    ∷ TakeFrame 1590000 (Some (asking 1590000))
-    ∷ Ask 1580000 65226 11 (Ok 3)
+    ∷ At 1660000 (Hear (first_to_all 1660000))
+    ∷ At 1600000 (Hear (announced_by 11 1600000))
+    ∷ At 1590000 (TakeFrame (Some (asking 1590000)))
+    ∷ At 1580000 (Ask 65226 11 (Ok 3))
     ∷ TakeAskEnded None
     ∷ TakeAskEnded (Some (2, TimedOut))
-    ∷ Tick 1550000
+    ∷ At 1550000 Tick
     ∷ TakeAskEnded None
-    ∷ Tick 1549999
-    ∷ TakeFrame 300000 (Some (asking 300000))
-    ∷ Ask 299000 65226 11 (Ok 2)
+    ∷ At 1549999 Tick
+    ∷ At 300000 (TakeFrame (Some (asking 300000)))
+    ∷ At 299000 (Ask 65226 11 (Ok 2))
     ∷ TakeAskEnded (Some (1, Acknowledged Nack))
-    ∷ Hear (refusing 290000)
-    ∷ TakeFrame 280000 (Some (asking 280000))
-    ∷ Ask 280000 65226 11 (Ok 1)
+    ∷ At 290000 (Hear (refusing 290000))
+    ∷ At 280000 (TakeFrame (Some (asking 280000)))
+    ∷ At 280000 (Ask 65226 11 (Ok 1))
     ∷ TakeAskEnded (Some (0, Answered))
-    ∷ Hear (answering 270000)
-    ∷ TakeFrame 260000 (Some (asking 260000))
+    ∷ At 270000 (Hear (answering 270000))
+    ∷ At 260000 (TakeFrame (Some (asking 260000)))
     ∷ TakeAskEnded None
-    ∷ Hear (answering 255000)
-    ∷ Ask 250100 65226 12 (Err Full)
-    ∷ Ask 250100 65226 11 (Ok 0)
-    ∷ Ask 250100 65226 128 (Err BadValue)
-    ∷ Tick 250100
-    ∷ Ask 250099 65226 11 (Err NoAddress)
-    ∷ TakeFrame 100 (Some (own_claim 100))
+    ∷ At 255000 (Hear (answering 255000))
+    ∷ At 250100 (Ask 65226 12 (Err Full))
+    ∷ At 250100 (Ask 65226 11 (Ok 0))
+    ∷ At 250100 (Ask 65226 128 (Err BadValue))
+    ∷ At 250100 Tick
+    ∷ At 250099 (Ask 65226 11 (Err NoAddress))
+    ∷ At 100 (TakeFrame (Some (own_claim 100)))
     ∷ []

@@ -12,7 +12,8 @@ use Rattle.j39_node.specs.declared.kinds.AskEnding.TheVariants.{Answered, Acknow
 use Rattle.j39_node.specs.declared.kinds.Refused.{Refused}
 use Rattle.j39_node.specs.declared.kinds.Refused.TheVariants.{NoAddress, BadValue, Full}
 use Rattle.j39_node.specs.History.{Who, Call, accepted, address_after, holds, is_acknowledgment, is_claim, is_full, is_lost, is_none, is_sendable, is_session, is_some, sent, step}
-use Rattle.j39_node.specs.History.Call.{Ask, Hear, Tick, TakeFrame, Send, Acknowledge, Broadcast, Transfer, TakeAskEnded}
+use Rattle.j39_node.specs.History.Call.{At, TakeAskEnded}
+use Rattle.j39_node.specs.History.Act.{Ask, Hear, Tick, TakeFrame, Send, Acknowledge, Broadcast, Transfer}
 use Rattle.j39_node.specs.Since.{passed_in}
 use Rattle.j39_node.specs.Reception.{whole}
 use Rattle.j39_node.specs.Hearing.{made_whole}
@@ -34,7 +35,7 @@ question token group to = record { token = token; group = group; to = to }
 
 abbrev pub asks : List Call → List Question
 asks [] = []
-asks (Ask now group to (Ok token) ∷ H) = asks H ++ question token group to ∷ []
+asks (At now (Ask group to (Ok token)) ∷ H) = asks H ++ question token group to ∷ []
 asks (call ∷ H) = asks H
 
 -- the tokens of those that were told to have ended, and how
@@ -46,7 +47,7 @@ told_asks (call ∷ H) = told_asks H
 -- the one that is open: accepted last, and not told to have ended
 abbrev pub open_ask : List Call → Option Question
 open_ask [] = None
-open_ask (Ask now group to (Ok token) ∷ H) = Some (question token group to)
+open_ask (At now (Ask group to (Ok token)) ∷ H) = Some (question token group to)
 open_ask (TakeAskEnded (Some x) ∷ H) = None
 open_ask (call ∷ H) = open_ask H
 
@@ -68,15 +69,8 @@ is_request H f = is_message f && has_token (open_ask H) (length (sent H))
 -- what is left of the 1,250 ms that it waits after that (own); time that goes back is no time
 abbrev pub wait : List Call → ℕ
 wait [] = 0
-wait (Hear f ∷ H) = wait H - step H f.stamp
-wait (Tick now ∷ H) = wait H - step H now
-wait (TakeFrame now None ∷ H) = wait H - step H now
-wait (TakeFrame now (Some f) ∷ H) = if is_request H f then 1250000 else wait H - step H now
-wait (Send now draft answer ∷ H) = wait H - step H now
-wait (Ask now group to answer ∷ H) = wait H - step H now
-wait (Acknowledge now asked answer result ∷ H) = wait H - step H now
-wait (Broadcast now group bytes answer ∷ H) = wait H - step H now
-wait (Transfer now group to bytes answer ∷ H) = wait H - step H now
+wait (At now (TakeFrame (Some f)) ∷ H) = if is_request H f then 1250000 else wait H - step H now
+wait (At now act ∷ H) = wait H - step H now
 wait (call ∷ H) = wait H
 
 -- ---- what a frame says to it
@@ -113,8 +107,8 @@ abbrev pub made_of : Option MessageRecord → Option (ℕ × ℕ)
 made_of None = None
 made_of (Some m) = Some (m.source, m.pgn)
 
-abbrev pub made : Who → List Call → FrameRecord → Option (ℕ × ℕ)
-made w H f = option_or (made_of (whole w H f)) (made_of (option_map (λ x. x.1) (made_whole w H f)))
+abbrev pub made : Who → List Call → ℕ → FrameRecord → Option (ℕ × ℕ)
+made w H now f = option_or (made_of (whole w H now f)) (made_of (option_map (λ x. x.1) (made_whole w H now f)))
 
 abbrev pub is_whole : Question → Option (ℕ × ℕ) → Bool
 is_whole q None = false
@@ -148,10 +142,10 @@ end_at w (Some q) n left lost f made =
 -- how the open request ended by what was heard: what came first stands
 abbrev pub ended : Who → List Call → Option AskEnding
 ended w [] = None
-ended w (Hear f ∷ H) =
+ended w (At now (Hear f) ∷ H) =
     first (ended w H)
-    (end_at w (open_ask H) (length (sent H)) (wait H - step H f.stamp) (is_lost (address_after w (Hear f ∷ H))) f (made w H f))
-ended w (Ask now group to (Ok token) ∷ H) = None
+    (end_at w (open_ask H) (length (sent H)) (wait H - step H now) (is_lost (address_after w (At now (Hear f) ∷ H))) f (made w H now f))
+ended w (At now (Ask group to (Ok token)) ∷ H) = None
 ended w (call ∷ H) = ended w H
 
 -- ---- the answers that a history asks for
@@ -184,27 +178,28 @@ pub record AskedSince (H : List Call) (q : Question) (e : ℕ) : Type 0 where
   pub earlier : List Call
   pub at : ℕ
   pub frame : FrameRecord
-  pub is : H ≡ later ++ TakeFrame at (Some frame) ∷ earlier
+  pub is : H ≡ later ++ At at (TakeFrame (Some frame)) ∷ earlier
   pub current : open_ask earlier ≡ Some q
   pub request : IsTrue (is_request earlier frame)
-  pub passed : e ≡ passed_in later (TakeFrame at (Some frame) ∷ earlier)
+  pub passed : e ≡ passed_in later (At at (TakeFrame (Some frame)) ∷ earlier)
 
 -- at a call of H, after its frame was taken less than 1,250 ms before, this was heard first
 pub record HeardFirst (w : Who) (H : List Call) (q : Question) (ending : AskEnding) : Type 0 where
   pub later : List Call
+  pub at : ℕ
   pub frame : FrameRecord
   pub earlier : List Call
-  pub is : H ≡ later ++ Hear frame ∷ earlier
+  pub is : H ≡ later ++ At at (Hear frame) ∷ earlier
   pub current : open_ask earlier ≡ Some q
   pub none : ended w earlier ≡ None
   pub since : ℕ
   pub asked : AskedSince earlier q since
-  pub in_time : since + step earlier frame.stamp < 1250000
-  pub says : says_to w q frame (made w earlier frame) ≡ Some ending
+  pub in_time : since + step earlier at < 1250000
+  pub says : says_to w q frame (made w earlier at frame) ≡ Some ending
 
 -- none is accepted or told
 abbrev pub ends : Call → Bool
-ends (Ask now group to (Ok token)) = true
+ends (At now (Ask group to (Ok token))) = true
 ends (TakeAskEnded (Some x)) = true
 ends call = false
 

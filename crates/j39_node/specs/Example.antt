@@ -7,7 +7,8 @@ use Rattle.j39_node.specs.declared.kinds.Answer.TheVariants.{Ack}
 use Rattle.j39_node.specs.declared.kinds.News.TheVariants.{MessagesMissed}
 use Rattle.j39_node.specs.declared.kinds.Refused.TheVariants.{NoAddress, BadValue, Full}
 use Rattle.j39_node.specs.History.{Who, Asked, Draft, Call, message_of}
-use Rattle.j39_node.specs.History.Call.{Acknowledge, Broadcast, TakeBroadcastEnded, Hear, Tick, TakeFrame, TakeRequest, Send, TakeEnded, TakeNews, TakeReceived, ReleaseBroadcast, ReleaseTransfer, Transfer, TakeTransferEnded}
+use Rattle.j39_node.specs.History.Call.{At, TakeBroadcastEnded, TakeRequest, TakeEnded, TakeNews, TakeReceived, ReleaseBroadcast, ReleaseTransfer, TakeTransferEnded}
+use Rattle.j39_node.specs.History.Act.{Acknowledge, Broadcast, Hear, Tick, TakeFrame, Send, Transfer}
 
 -- NAME 2 at address 128, whose program serves group 65259 and subscribes 0 and 65226
 abbrev pub two : Who
@@ -119,68 +120,68 @@ last_to_all now = record { stamp = now; id = 485228299; bytes = 2 ∷ 8 ∷ 9 �
 -- address, so that a message and a broadcast that wait are withdrawn and none is accepted; the newest call first
 abbrev pub example : List Call
 example =
-    Send 400004 speed (Err NoAddress)
+    At 400004 (Send speed (Err NoAddress))
     ∷ TakeBroadcastEnded (Some (1, Withdrawn))
     ∷ TakeEnded None
     ∷ TakeEnded (Some (1, Withdrawn))
-    ∷ TakeFrame 400003 None
-    ∷ TakeFrame 400002 (Some (cannot_claim 400002))
-    ∷ Hear (smaller_claim 400001)
-    ∷ Broadcast 400000 65226 nine (Ok 1)
-    ∷ Send 400000 speed (Ok 1)
+    ∷ At 400003 (TakeFrame None)
+    ∷ At 400002 (TakeFrame (Some (cannot_claim 400002)))
+    ∷ At 400001 (Hear (smaller_claim 400001))
+    ∷ At 400000 (Broadcast 65226 nine (Ok 1))
+    ∷ At 400000 (Send speed (Ok 1))
     ∷ TakeTransferEnded (Some (0, transfer.Done))
-    ∷ Hear (received_all 399003)
-    ∷ TakeFrame 399002 (Some (last_to 399002))
-    ∷ TakeFrame 399001 (Some (first_to 399001))
-    ∷ Hear (clear 399000)
+    ∷ At 399003 (Hear (received_all 399003))
+    ∷ At 399002 (TakeFrame (Some (last_to 399002)))
+    ∷ At 399001 (TakeFrame (Some (first_to 399001)))
+    ∷ At 399000 (Hear (clear 399000))
     ∷ TakeTransferEnded None
-    ∷ Transfer 398002 65226 11 nine (Err Full)
-    ∷ TakeFrame 398001 (Some (request_to 398001))
-    ∷ Transfer 398000 65226 11 nine (Ok 0)
-    ∷ Transfer 398000 65226 128 nine (Err BadValue)
+    ∷ At 398002 (Transfer 65226 11 nine (Err Full))
+    ∷ At 398001 (TakeFrame (Some (request_to 398001)))
+    ∷ At 398000 (Transfer 65226 11 nine (Ok 0))
+    ∷ At 398000 (Transfer 65226 128 nine (Err BadValue))
     ∷ TakeBroadcastEnded (Some (0, Done))
-    ∷ TakeFrame 396000 (Some (last_packet 396000))
-    ∷ TakeFrame 346000 (Some (first_packet 346000))
-    ∷ TakeFrame 345999 None
+    ∷ At 396000 (TakeFrame (Some (last_packet 396000)))
+    ∷ At 346000 (TakeFrame (Some (first_packet 346000)))
+    ∷ At 345999 (TakeFrame None)
     ∷ TakeBroadcastEnded None
-    ∷ Broadcast 296001 65226 nine (Err Full)
-    ∷ TakeFrame 296000 (Some (announcement 296000))
-    ∷ Broadcast 296000 65226 nine (Ok 0)
-    ∷ Broadcast 296000 65226 (7 ∷ []) (Err BadValue)
-    ∷ TakeFrame 295003 (Some (answer_frame 295003))
-    ∷ Acknowledge 295002 request_in Ack (Ok tt)
+    ∷ At 296001 (Broadcast 65226 nine (Err Full))
+    ∷ At 296000 (TakeFrame (Some (announcement 296000)))
+    ∷ At 296000 (Broadcast 65226 nine (Ok 0))
+    ∷ At 296000 (Broadcast 65226 (7 ∷ []) (Err BadValue))
+    ∷ At 295003 (TakeFrame (Some (answer_frame 295003)))
+    ∷ At 295002 (Acknowledge request_in Ack (Ok tt))
     ∷ TakeRequest None
     ∷ TakeRequest (Some request_in)
-    ∷ TakeFrame 295001 (Some (refusal_frame 295001))
-    ∷ Hear (other_request 295000)
-    ∷ Hear (request 295000)
+    ∷ At 295001 (TakeFrame (Some (refusal_frame 295001)))
+    ∷ At 295000 (Hear (other_request 295000))
+    ∷ At 295000 (Hear (request 295000))
     ∷ TakeReceived None
     ∷ TakeReceived (Some (290000, message_of (torque 290000)))
-    ∷ Hear (torque 290000)
+    ∷ At 290000 (Hear (torque 290000))
     ∷ ReleaseTransfer false
     ∷ ReleaseTransfer true
-    ∷ TakeFrame 270007 (Some (has_all 270007))
-    ∷ Hear (last_from 270006)
-    ∷ Hear (first_from 270005)
-    ∷ TakeFrame 270004 None
-    ∷ TakeFrame 270003 (Some (busy_to 270003))
-    ∷ TakeFrame 270002 (Some (clear_to 270002))
-    ∷ Hear (other_request_from 270001)
-    ∷ Hear (request_from 270000)
+    ∷ At 270007 (TakeFrame (Some (has_all 270007)))
+    ∷ At 270006 (Hear (last_from 270006))
+    ∷ At 270005 (Hear (first_from 270005))
+    ∷ At 270004 (TakeFrame None)
+    ∷ At 270003 (TakeFrame (Some (busy_to 270003)))
+    ∷ At 270002 (TakeFrame (Some (clear_to 270002)))
+    ∷ At 270001 (Hear (other_request_from 270001))
+    ∷ At 270000 (Hear (request_from 270000))
     ∷ TakeEnded (Some (0, Done))
-    ∷ TakeFrame 250200 (Some (speed_frame 250200))
-    ∷ Send 250100 (record speed { to = 128 }) (Err BadValue)
-    ∷ Send 250100 speed (Ok 0)
-    ∷ Tick 250100
-    ∷ Send 250099 speed (Err NoAddress)
+    ∷ At 250200 (TakeFrame (Some (speed_frame 250200)))
+    ∷ At 250100 (Send (record speed { to = 128 }) (Err BadValue))
+    ∷ At 250100 (Send speed (Ok 0))
+    ∷ At 250100 Tick
+    ∷ At 250099 (Send speed (Err NoAddress))
     ∷ ReleaseBroadcast false
     ∷ ReleaseBroadcast true
     ∷ TakeNews None
     ∷ TakeNews (Some MessagesMissed)
-    ∷ Hear (last_to_all 130)
-    ∷ Hear (first_to_all 120)
-    ∷ Hear (announced_by 12 115)
-    ∷ Hear (announced_by 11 110)
-    ∷ TakeFrame 100 (Some (own_claim 100))
-    ∷ Tick 90
+    ∷ At 130 (Hear (last_to_all 130))
+    ∷ At 120 (Hear (first_to_all 120))
+    ∷ At 115 (Hear (announced_by 12 115))
+    ∷ At 110 (Hear (announced_by 11 110))
+    ∷ At 100 (TakeFrame (Some (own_claim 100)))
+    ∷ At 90 Tick
     ∷ []

@@ -9,7 +9,8 @@ use Rattle.j39_transport.specs.Message.{MessageRecord}
 use Rattle.j39_transport.specs.Protocol.{broadcast_limit}
 use Rattle.j39_node.specs.declared.kinds.News.TheVariants.{MessagesMissed}
 use Rattle.j39_node.specs.History.{Who, Call, is_own_group, is_subscribed}
-use Rattle.j39_node.specs.History.Call.{Hear, TakeFrame, TakeNews, ReleaseBroadcast}
+use Rattle.j39_node.specs.History.Call.{At, TakeNews, ReleaseBroadcast}
+use Rattle.j39_node.specs.History.Act.{Hear, TakeFrame}
 use Rattle.j39_node.specs.Reception.{KeepsHolder, frames_heard, holder, is_same, listed, time_heard}
 
 -- what was announced and by whom, how many packets came and their data, and the moment and the time of its last frame
@@ -100,25 +101,25 @@ left b (Some x) = if b && not (is_whole x) then None else Some x
 
 abbrev pub hearing : Who → List Call → Option OpenBroadcast
 hearing w [] = None
-hearing w (Hear f ∷ H) =
-    hears w (time_heard (Hear f ∷ H)) f (left (changes (holder w H) (holder w (Hear f ∷ H)) (hearing w H)) (hearing w H))
-hearing w (TakeFrame now (Some f) ∷ H) = left (changes (holder w H) (holder w (TakeFrame now (Some f) ∷ H)) (hearing w H)) (hearing w H)
+hearing w (At now (Hear f) ∷ H) =
+    hears w (time_heard (At now (Hear f) ∷ H)) f (left (changes (holder w H) (holder w (At now (Hear f) ∷ H)) (hearing w H)) (hearing w H))
+hearing w (At now (TakeFrame (Some f)) ∷ H) = left (changes (holder w H) (holder w (At now (TakeFrame (Some f)) ∷ H)) (hearing w H)) (hearing w H)
 hearing w (ReleaseBroadcast true ∷ H) = None
 hearing w (call ∷ H) = hearing w H
 
 -- the broadcast that f finds
-abbrev pub found : Who → List Call → FrameRecord → Option OpenBroadcast
-found w H f = left (changes (holder w H) (holder w (Hear f ∷ H)) (hearing w H)) (hearing w H)
+abbrev pub found : Who → List Call → ℕ → FrameRecord → Option OpenBroadcast
+found w H now f = left (changes (holder w H) (holder w (At now (Hear f) ∷ H)) (hearing w H)) (hearing w H)
 
 -- how many announcements weren't heard, and whether that is news
 abbrev pub unheard : Who → List Call → ℕ
 unheard w [] = 0
-unheard w (Hear f ∷ H) = if is_unheard w (time_heard (Hear f ∷ H)) f (found w H f) then suc (unheard w H) else unheard w H
+unheard w (At now (Hear f) ∷ H) = if is_unheard w (time_heard (At now (Hear f) ∷ H)) f (found w H now f) then suc (unheard w H) else unheard w H
 unheard w (call ∷ H) = unheard w H
 
 abbrev pub unheard_news : Who → List Call → Bool
 unheard_news w [] = false
-unheard_news w (Hear f ∷ H) = unheard_news w H || is_unheard w (time_heard (Hear f ∷ H)) f (found w H f)
+unheard_news w (At now (Hear f) ∷ H) = unheard_news w H || is_unheard w (time_heard (At now (Hear f) ∷ H)) f (found w H now f)
 unheard_news w (TakeNews (Some MessagesMissed) ∷ H) = false
 unheard_news w (call ∷ H) = unheard_news w H
 
@@ -140,13 +141,13 @@ abbrev pub newly : Option (ℕ × MessageRecord) → Option (ℕ × MessageRecor
 newly None after = after
 newly (Some x) after = None
 
-abbrev pub made_whole : Who → List Call → FrameRecord → Option (ℕ × MessageRecord)
-made_whole w H f = newly (waiting w H) (waiting w (Hear f ∷ H))
+abbrev pub made_whole : Who → List Call → ℕ → FrameRecord → Option (ℕ × MessageRecord)
+made_whole w H now f = newly (waiting w H) (waiting w (At now (Hear f) ∷ H))
 
 -- those that were whole
 abbrev pub whole_broadcasts : Who → List Call → List (ℕ × MessageRecord)
 whole_broadcasts w [] = []
-whole_broadcasts w (Hear f ∷ H) = whole_broadcasts w H ++ listed (made_whole w H f)
+whole_broadcasts w (At now (Hear f) ∷ H) = whole_broadcasts w H ++ listed (made_whole w H now f)
 whole_broadcasts w (call ∷ H) = whole_broadcasts w H
 
 -- those that the program got
@@ -166,13 +167,14 @@ pub data IsPartOf : List FrameRecord → List FrameRecord → Type 0 where
 -- an announcement of the message was heard and its packets after it, in order; and since, one NAME held its source, or none did
 pub record WasBroadcast (w : Who) (H : List Call) (m : MessageRecord) : Type 0 where
   pub later : List Call
+  pub at : ℕ
   pub first : FrameRecord
   pub earlier : List Call
-  pub is : H ≡ later ++ Hear first ∷ earlier
+  pub is : H ≡ later ++ At at (Hear first) ∷ earlier
   pub packets : List FrameRecord
   pub part : IsPartOf packets (frames_heard later)
   pub carries : CarriesCut (by m.source) m first packets
-  pub one : KeepsHolder w m.source later (Hear first ∷ earlier)
+  pub one : KeepsHolder w m.source later (At at (Hear first) ∷ earlier)
 
 -- ---- what every history says of it
 

@@ -50,22 +50,26 @@ pub record Draft : Type 0 where
   pub to : ℕ
   pub bytes : List ℕ
 
+-- what a call does that tells its moment
+pub data Act : Type 0 where
+  Hear : FrameRecord → Act
+  Tick : Act
+  TakeFrame : Option FrameRecord → Act
+  Send : Draft → Result ℕ Refused → Act
+  Ask : ℕ → ℕ → Result ℕ Refused → Act
+  Acknowledge : Asked → Answer → Result (Unit {0}) Refused → Act
+  Broadcast : ℕ → List ℕ → Result ℕ Refused → Act
+  Transfer : ℕ → ℕ → List ℕ → Result ℕ Refused → Act
+
 pub data Call : Type 0 where
-  Hear : FrameRecord → Call
-  Tick : ℕ → Call
-  TakeFrame : ℕ → Option FrameRecord → Call
-  Send : ℕ → Draft → Result ℕ Refused → Call
+  At : ℕ → Act → Call
   TakeEnded : Option (ℕ × Ending) → Call
   TakeReceived : Option (ℕ × Message) → Call
   TakeRequest : Option Asked → Call
   TakeNews : Option News → Call
-  Acknowledge : ℕ → Asked → Answer → Result (Unit {0}) Refused → Call
-  Broadcast : ℕ → ℕ → List ℕ → Result ℕ Refused → Call
   TakeBroadcastEnded : Option (ℕ × Ending) → Call
   ReleaseTransfer : Bool → Call
-  Transfer : ℕ → ℕ → ℕ → List ℕ → Result ℕ Refused → Call
   TakeTransferEnded : Option (ℕ × TransferEnding) → Call
-  Ask : ℕ → ℕ → ℕ → Result ℕ Refused → Call
   TakeAskEnded : Option (ℕ × AskEnding) → Call
   ReleaseBroadcast : Bool → Call
 
@@ -95,14 +99,7 @@ IsFront {T} front xs = (rest : List T) × (xs ≡ front ++ rest)
 -- the moment that the last call told, 0 before the first
 abbrev pub moment : List Call → ℕ
 moment [] = 0
-moment (Hear f ∷ H) = f.stamp
-moment (Tick now ∷ H) = now
-moment (TakeFrame now answer ∷ H) = now
-moment (Send now draft answer ∷ H) = now
-moment (Acknowledge now asked answer result ∷ H) = now
-moment (Ask now group to answer ∷ H) = now
-moment (Broadcast now group bytes answer ∷ H) = now
-moment (Transfer now group to bytes answer ∷ H) = now
+moment (At now act ∷ H) = now
 moment (call ∷ H) = moment H
 
 -- the microseconds from the last call to this moment; time that goes back is no time
@@ -143,16 +140,10 @@ is_larger w (Some c) = nat_eq c.address w.address && nat_lt w.name c.name
 -- how far the address is
 abbrev pub address_after : Who → List Call → Address
 address_after w [] = NotClaimed
-address_after w (Hear f ∷ H) = if is_smaller w (claim_of f) then Lost else older (step H f.stamp) (address_after w H)
-address_after w (Tick now ∷ H) = older (step H now) (address_after w H)
-address_after w (TakeFrame now None ∷ H) = older (step H now) (address_after w H)
-address_after w (TakeFrame now (Some f) ∷ H) =
+address_after w (At now (Hear f) ∷ H) = if is_smaller w (claim_of f) then Lost else older (step H now) (address_after w H)
+address_after w (At now (TakeFrame (Some f)) ∷ H) =
     if is_claim f then claimed (older (step H now) (address_after w H)) else older (step H now) (address_after w H)
-address_after w (Send now draft answer ∷ H) = older (step H now) (address_after w H)
-address_after w (Acknowledge now asked answer result ∷ H) = older (step H now) (address_after w H)
-address_after w (Ask now group to answer ∷ H) = older (step H now) (address_after w H)
-address_after w (Broadcast now group bytes answer ∷ H) = older (step H now) (address_after w H)
-address_after w (Transfer now group to bytes answer ∷ H) = older (step H now) (address_after w H)
+address_after w (At now act ∷ H) = older (step H now) (address_after w H)
 address_after w (call ∷ H) = address_after w H
 
 abbrev pub is_lost : Address → Bool
@@ -212,8 +203,8 @@ calls_for_claim w lost f = ((is_smaller w (claim_of f) || is_larger w (claim_of 
 -- a claim is owed: the first, or since a frame was taken last something was heard that is answered by one
 abbrev pub owes_claim : Who → List Call → Bool
 owes_claim w [] = true
-owes_claim w (Hear f ∷ H) = owes_claim w H || calls_for_claim w (is_lost (address_after w H)) f
-owes_claim w (TakeFrame now (Some f) ∷ H) = false
+owes_claim w (At now (Hear f) ∷ H) = owes_claim w H || calls_for_claim w (is_lost (address_after w H)) f
+owes_claim w (At now (TakeFrame (Some f)) ∷ H) = false
 owes_claim w (call ∷ H) = owes_claim w H
 
 -- ---- messages out
@@ -265,8 +256,8 @@ request_for group to = record {
 -- the messages that were accepted, each with its token: a request is one
 abbrev pub accepted : Who → List Call → List (ℕ × Message)
 accepted w [] = []
-accepted w (Send now draft (Ok token) ∷ H) = accepted w H ++ (token, message_from w draft) ∷ []
-accepted w (Ask now group to (Ok token) ∷ H) = accepted w H ++ (token, message_from w (request_for group to)) ∷ []
+accepted w (At now (Send draft (Ok token)) ∷ H) = accepted w H ++ (token, message_from w draft) ∷ []
+accepted w (At now (Ask group to (Ok token)) ∷ H) = accepted w H ++ (token, message_from w (request_for group to)) ∷ []
 accepted w (call ∷ H) = accepted w H
 
 abbrev pub is_acknowledgment : FrameRecord → Bool
@@ -286,14 +277,14 @@ is_transfer f = is_session f && not (is_some (destination_of f.id) global_addres
 -- the messages whose frames were taken
 abbrev pub sent : List Call → List Message
 sent [] = []
-sent (TakeFrame now (Some f) ∷ H) =
+sent (At now (TakeFrame (Some f)) ∷ H) =
     if is_claim f || (is_acknowledgment f || is_session f) then sent H else sent H ++ message_of f ∷ []
 sent (call ∷ H) = sent H
 
 -- all frames that were taken
 abbrev pub frames : List Call → List FrameRecord
 frames [] = []
-frames (TakeFrame now (Some f) ∷ H) = frames H ++ f ∷ []
+frames (At now (TakeFrame (Some f)) ∷ H) = frames H ++ f ∷ []
 frames (call ∷ H) = frames H
 
 -- the tokens that were told to have ended, and how
@@ -337,7 +328,7 @@ all_frames m = first_frames m (suc (packets_of m))
 -- the broadcasts that were accepted
 abbrev pub broadcasts : Who → List Call → List MessageRecord
 broadcasts w [] = []
-broadcasts w (Broadcast now group bytes (Ok token) ∷ H) = broadcasts w H ++ broadcast_from w group bytes ∷ []
+broadcasts w (At now (Broadcast group bytes (Ok token)) ∷ H) = broadcasts w H ++ broadcast_from w group bytes ∷ []
 broadcasts w (call ∷ H) = broadcasts w H
 
 -- the tokens of those that were told to have ended, and how
@@ -349,29 +340,22 @@ told_broadcasts (call ∷ H) = told_broadcasts H
 -- the broadcast that is open, with its token: accepted last, and not told to have ended
 abbrev pub open_broadcast : Who → List Call → Option (ℕ × MessageRecord)
 open_broadcast w [] = None
-open_broadcast w (Broadcast now group bytes (Ok token) ∷ H) = Some (token, broadcast_from w group bytes)
+open_broadcast w (At now (Broadcast group bytes (Ok token)) ∷ H) = Some (token, broadcast_from w group bytes)
 open_broadcast w (TakeBroadcastEnded (Some x) ∷ H) = None
 open_broadcast w (call ∷ H) = open_broadcast w H
 
 -- the frames of packets that were taken since a broadcast was accepted last
 abbrev pub packets : List Call → List Message
 packets [] = []
-packets (Broadcast now group bytes (Ok token) ∷ H) = []
-packets (TakeFrame now (Some f) ∷ H) = if is_packet f then packets H ++ message_of f ∷ [] else packets H
+packets (At now (Broadcast group bytes (Ok token)) ∷ H) = []
+packets (At now (TakeFrame (Some f)) ∷ H) = if is_packet f then packets H ++ message_of f ∷ [] else packets H
 packets (call ∷ H) = packets H
 
 -- what is left of the 50 ms that follow a frame of packets
 abbrev pub pause : List Call → ℕ
 pause [] = 0
-pause (Hear f ∷ H) = pause H - step H f.stamp
-pause (Tick now ∷ H) = pause H - step H now
-pause (TakeFrame now None ∷ H) = pause H - step H now
-pause (TakeFrame now (Some f) ∷ H) = if is_packet f then gap else pause H - step H now
-pause (Send now draft answer ∷ H) = pause H - step H now
-pause (Acknowledge now asked answer result ∷ H) = pause H - step H now
-pause (Ask now group to answer ∷ H) = pause H - step H now
-pause (Broadcast now group bytes answer ∷ H) = pause H - step H now
-pause (Transfer now group to bytes answer ∷ H) = pause H - step H now
+pause (At now (TakeFrame (Some f)) ∷ H) = if is_packet f then gap else pause H - step H now
+pause (At now act ∷ H) = pause H - step H now
 pause (call ∷ H) = pause H
 
 abbrev pub is_open : Option (ℕ × MessageRecord) → Bool
@@ -418,8 +402,8 @@ is_for_program w held f =
 -- the messages for the program that were heard, each with its moment
 abbrev pub heard : Who → List Call → List (ℕ × Message)
 heard w [] = []
-heard w (Hear f ∷ H) =
-    if is_for_program w (holds w H f.stamp) f then heard w H ++ (f.stamp, message_of f) ∷ [] else heard w H
+heard w (At now (Hear f) ∷ H) =
+    if is_for_program w (holds w H now) f then heard w H ++ (f.stamp, message_of f) ∷ [] else heard w H
 heard w (call ∷ H) = heard w H
 
 -- what the program got
@@ -431,8 +415,8 @@ got (call ∷ H) = got H
 -- those that were kept: all but what was heard while sixteen lay unread
 abbrev pub kept : Who → List Call → List (ℕ × Message)
 kept w [] = []
-kept w (Hear f ∷ H) =
-    if is_for_program w (holds w H f.stamp) f && nat_lt (length (kept w H) - length (got H)) 16
+kept w (At now (Hear f) ∷ H) =
+    if is_for_program w (holds w H now) f && nat_lt (length (kept w H) - length (got H)) 16
     then kept w H ++ (f.stamp, message_of f) ∷ []
     else kept w H
 kept w (call ∷ H) = kept w H
@@ -440,8 +424,8 @@ kept w (call ∷ H) = kept w H
 -- how many of them were missed
 abbrev pub missed : Who → List Call → ℕ
 missed w [] = 0
-missed w (Hear f ∷ H) =
-    if is_for_program w (holds w H f.stamp) f && not (nat_lt (length (kept w H) - length (got H)) 16)
+missed w (At now (Hear f) ∷ H) =
+    if is_for_program w (holds w H now) f && not (nat_lt (length (kept w H) - length (got H)) 16)
     then suc (missed w H)
     else missed w H
 missed w (call ∷ H) = missed w H
@@ -500,14 +484,14 @@ with_request w room (Some r) waiting = if is_served w r.group && room then waiti
 -- the requests for the program: those that came while fewer than sixteen waited
 abbrev pub requests : Who → List Call → List Asked
 requests w [] = []
-requests w (Hear f ∷ H) =
-    with_request w (nat_lt (length (requests w H) - length (handed H)) 16) (asked w (holds w H f.stamp) f) (requests w H)
+requests w (At now (Hear f) ∷ H) =
+    with_request w (nat_lt (length (requests w H) - length (handed H)) 16) (asked w (holds w H now) f) (requests w H)
 requests w (call ∷ H) = requests w H
 
 -- the acknowledgments whose frames were taken
 abbrev pub acknowledged : List Call → List Message
 acknowledged [] = []
-acknowledged (TakeFrame now (Some f) ∷ H) =
+acknowledged (At now (TakeFrame (Some f)) ∷ H) =
     if is_claim f || not (is_acknowledgment f) then acknowledged H else acknowledged H ++ message_of f ∷ []
 acknowledged (call ∷ H) = acknowledged H
 
@@ -522,10 +506,10 @@ with_refusal w room place (Some r) due =
 -- the acknowledgments that are due, and were: at most sixteen wait
 abbrev pub due : Who → List Call → List Message
 due w [] = []
-due w (Hear f ∷ H) =
+due w (At now (Hear f) ∷ H) =
     with_refusal w (nat_lt (length (requests w H) - length (handed H)) 16) (nat_lt (length (due w H) - length (acknowledged H)) 16)
-    (asked w (holds w H f.stamp) f) (due w H)
-due w (Acknowledge now r answer (Ok x) ∷ H) = due w H ++ acknowledgment w answer r ∷ []
+    (asked w (holds w H now) f) (due w H)
+due w (At now (Acknowledge r answer (Ok x)) ∷ H) = due w H ++ acknowledgment w answer r ∷ []
 due w (call ∷ H) = due w H
 
 -- ---- who holds which address
@@ -533,8 +517,8 @@ due w (call ∷ H) = due w H
 -- the frames that tell it: those known before, all that were heard, and its own claims that were taken
 abbrev pub told_claims : Who → List Call → List FrameRecord
 told_claims w [] = w.known
-told_claims w (Hear f ∷ H) = told_claims w H ++ f ∷ []
-told_claims w (TakeFrame now (Some f) ∷ H) = if is_claim f then told_claims w H ++ f ∷ [] else told_claims w H
+told_claims w (At now (Hear f) ∷ H) = told_claims w H ++ f ∷ []
+told_claims w (At now (TakeFrame (Some f)) ∷ H) = if is_claim f then told_claims w H ++ f ∷ [] else told_claims w H
 told_claims w (call ∷ H) = told_claims w H
 
 -- ---- news: each stands from when it happens until it is told
@@ -542,7 +526,7 @@ told_claims w (call ∷ H) = told_claims w H
 -- the address was lost
 abbrev pub lost_news : Who → List Call → Bool
 lost_news w [] = false
-lost_news w (Hear f ∷ H) = lost_news w H || (is_smaller w (claim_of f) && not (is_lost (address_after w H)))
+lost_news w (At now (Hear f) ∷ H) = lost_news w H || (is_smaller w (claim_of f) && not (is_lost (address_after w H)))
 lost_news w (TakeNews (Some AddressLost) ∷ H) = false
 lost_news w (call ∷ H) = lost_news w H
 
@@ -552,15 +536,15 @@ is_another w held f = held && (nat_eq (source_of f.id) w.address && not (is_clai
 
 abbrev pub another_news : Who → List Call → Bool
 another_news w [] = false
-another_news w (Hear f ∷ H) = another_news w H || is_another w (holds w H f.stamp) f
+another_news w (At now (Hear f) ∷ H) = another_news w H || is_another w (holds w H now) f
 another_news w (TakeNews (Some AnotherAtAddress) ∷ H) = false
 another_news w (call ∷ H) = another_news w H
 
 -- messages were missed
 abbrev pub missed_news : Who → List Call → Bool
 missed_news w [] = false
-missed_news w (Hear f ∷ H) =
-    missed_news w H || (is_for_program w (holds w H f.stamp) f && not (nat_lt (length (kept w H) - length (got H)) 16))
+missed_news w (At now (Hear f) ∷ H) =
+    missed_news w H || (is_for_program w (holds w H now) f && not (nat_lt (length (kept w H) - length (got H)) 16))
 missed_news w (TakeNews (Some MessagesMissed) ∷ H) = false
 missed_news w (call ∷ H) = missed_news w H
 

@@ -35,7 +35,8 @@ use Rattle.j39_node.specs.declared.kinds.Refused.{Refused}
 use Rattle.j39_node.specs.declared.kinds.Refused.TheVariants.{NoAddress, BadValue, Full}
 use Rattle.j39_node.specs.Hold.{standing_of}
 use Rattle.j39_node.specs.History.{Who, Message, Draft, Call, Address, carried, message_of, moment, address_after, holds, is_lost, claim_address, claim_from, owes_claim, can_send, accepted, sent, told, is_full, got, kept, missed, Asked, requests, handed, due, acknowledged, acknowledgment, told_claims, lost_news, another_news, missed_news, broadcast_from, broadcasts, can_broadcast, frame_of, is_busy, open_broadcast, packets, pause, step}
-use Rattle.j39_node.specs.History.Call.{Ask, TakeAskEnded, TakeFrame, Send, TakeEnded, TakeReceived, TakeRequest, TakeNews, Acknowledge, Broadcast, TakeBroadcastEnded, ReleaseTransfer, Transfer, TakeTransferEnded, ReleaseBroadcast}
+use Rattle.j39_node.specs.History.Call.{At, TakeAskEnded, TakeEnded, TakeReceived, TakeRequest, TakeNews, TakeBroadcastEnded, ReleaseTransfer, TakeTransferEnded, ReleaseBroadcast}
+use Rattle.j39_node.specs.History.Act.{Ask, TakeFrame, Send, Acknowledge, Broadcast, Transfer}
 use Rattle.j39_node.specs.History.Address.{NotClaimed, Claimed, Lost}
 use Rattle.j39_node.specs.Reception.{Reception, time_heard, has_place, heard_at, heard_by, keeps, later, leaves, left, reception, reply_from, ticked}
 use Rattle.j39_node.specs.Asking.{Question, answer_to_ask, ended, first, next_ask_ended, open_ask, question, says_to, silent_end, wait}
@@ -170,19 +171,19 @@ answer_to_acknowledge w H now r =
 
 -- the answer of the call is the one that the history before it asks for
 abbrev pub IsAnswered : Who → List Call → Call → Type 0
-IsAnswered w H (TakeFrame now answer) = option_map stamped answer ≡ next_frame w H now
-IsAnswered w H (Send now draft answer) = answer ≡ answer_to_send w H now draft
+IsAnswered w H (At now (TakeFrame answer)) = option_map stamped answer ≡ next_frame w H now
+IsAnswered w H (At now (Send draft answer)) = answer ≡ answer_to_send w H now draft
 IsAnswered w H (TakeEnded answer) = answer ≡ next_ended w H
 IsAnswered w H (TakeReceived answer) = answer ≡ next_received w H
 IsAnswered w H (TakeRequest answer) = answer ≡ next_request w H
 IsAnswered w H (TakeNews answer) = answer ≡ next_news w H
-IsAnswered w H (Acknowledge now r answer result) = result ≡ answer_to_acknowledge w H now r
-IsAnswered w H (Broadcast now group bytes answer) = answer ≡ answer_to_broadcast w H now group bytes
+IsAnswered w H (At now (Acknowledge r answer result)) = result ≡ answer_to_acknowledge w H now r
+IsAnswered w H (At now (Broadcast group bytes answer)) = answer ≡ answer_to_broadcast w H now group bytes
 IsAnswered w H (TakeBroadcastEnded answer) = answer ≡ next_broadcast_ended w H
 IsAnswered w H (ReleaseTransfer answer) = answer ≡ not (has_place (reception w H).waits)
-IsAnswered w H (Transfer now group to bytes answer) = answer ≡ answer_to_transfer w H now group to bytes
+IsAnswered w H (At now (Transfer group to bytes answer)) = answer ≡ answer_to_transfer w H now group to bytes
 IsAnswered w H (TakeTransferEnded answer) = answer ≡ next_transfer_ended w H
-IsAnswered w H (Ask now group to answer) = answer ≡ answer_to_ask w H now group to
+IsAnswered w H (At now (Ask group to answer)) = answer ≡ answer_to_ask w H now group to
 IsAnswered w H (TakeAskEnded answer) = answer ≡ next_ask_ended w H
 IsAnswered w H (ReleaseBroadcast answer) = answer ≡ not (has_place (waiting w H))
 IsAnswered w H call = Unit {0}
@@ -275,10 +276,10 @@ abbrev pub passed_to : ℕ → IncomingRecord → IncomingRecord
 passed_to now x = record
     { moment = now; clock = later x.clock (now - x.moment); own = x.own; has_box = x.has_box; reception = x.reception }
 
-abbrev pub hears : Bool → Bool → FrameRecord → (ℕ → Option ℕ) → (ℕ → Option ℕ) → IncomingRecord → IncomingRecord
-hears lost held f before after x =
-    with_reception (heard_by x.own lost held f (later x.clock (f.stamp - x.moment))
-    (left (leaves before after x.reception.session) x.reception)) (passed_to f.stamp x)
+abbrev pub hears : Bool → Bool → ℕ → FrameRecord → (ℕ → Option ℕ) → (ℕ → Option ℕ) → IncomingRecord → IncomingRecord
+hears lost held now f before after x =
+    with_reception (heard_by x.own lost held f (later x.clock (now - x.moment))
+    (left (leaves before after x.reception.session) x.reception)) (passed_to now x)
 
 abbrev pub ticks : ℕ → IncomingRecord → IncomingRecord
 ticks now x = with_reception (ticked x.own now (later x.clock (now - x.moment)) x.reception) (passed_to now x)

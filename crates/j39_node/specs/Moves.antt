@@ -9,14 +9,15 @@ use Rattle.j39_transport.specs.SenderNext.{granted_by}
 use Rattle.j39_transport.specs.Signals.{Abort, Acknowledgment, Packet, said_between}
 use Rattle.j39_node.specs.History.{Who, Call, Message, address_after, is_lost, message_of}
 use Rattle.j39_node.specs.Reception.{holder, is_move}
-use Rattle.j39_node.specs.History.Call.{Hear, TakeFrame, TakeTransferEnded, Transfer}
+use Rattle.j39_node.specs.History.Call.{At, TakeTransferEnded}
+use Rattle.j39_node.specs.History.Act.{Hear, TakeFrame, Transfer}
 use Rattle.j39_node.specs.Transfers.{Running, is_replaced, is_spent, move, open_transfer, said_to}
 
 -- the frames of transfers that were taken since one was accepted last
 abbrev pub moves : Who → List Call → List Message
 moves w [] = []
-moves w (Transfer now group to bytes (Ok token) ∷ H) = []
-moves w (TakeFrame now (Some f) ∷ H) = if is_move w H f then moves w H ++ message_of f ∷ [] else moves w H
+moves w (At now (Transfer group to bytes (Ok token)) ∷ H) = []
+moves w (At now (TakeFrame (Some f)) ∷ H) = if is_move w H f then moves w H ++ message_of f ∷ [] else moves w H
 moves w (call ∷ H) = moves w H
 
 -- its request to send; its packet of a number; an abort
@@ -41,7 +42,7 @@ IsAmong xs x = (k : ℕ) × (slice_get xs k ≡ Some x)
 
 -- a transfer is accepted
 abbrev pub begins : Call → Bool
-begins (Transfer now group to bytes (Ok token)) = true
+begins (At now (Transfer group to bytes (Ok token))) = true
 begins call = false
 
 abbrev pub NoneBegins : List Call → Type 0
@@ -59,20 +60,20 @@ pub record Happened (So : List Call → Call → Type 0) (H : List Call) : Type 
 
 -- the destination acknowledged the message, and all its packets were taken before
 abbrev pub Acknowledges : Who → ℕ → MessageRecord → List Call → Call → Type 0
-Acknowledges w to m earlier (Hear f) =
+Acknowledges w to m earlier (At now (Hear f)) =
     (said_between to w.address f ≡ Some (Acknowledgment (length m.bytes) (packets_of m) m.pgn))
     × ((i : ℕ) → 1 ≤ i → i ≤ packets_of m → IsAmong (moves w earlier) (packet_move to m i))
 Acknowledges w to m earlier call = ⊥
 
 -- the destination aborted it for this reason, or an abort for it was taken
 abbrev pub Aborts : Who → ℕ → ℕ → MessageRecord → List Call → Call → Type 0
-Aborts w reason to m earlier (Hear f) = said_between to w.address f ≡ Some (Abort reason m.pgn)
-Aborts w reason to m earlier (TakeFrame now (Some f)) = message_of f ≡ abort_move to m reason
+Aborts w reason to m earlier (At now (Hear f)) = said_between to w.address f ≡ Some (Abort reason m.pgn)
+Aborts w reason to m earlier (At now (TakeFrame (Some f))) = message_of f ≡ abort_move to m reason
 Aborts w reason to m earlier call = ⊥
 
 -- who held the destination's address no longer does
 abbrev pub Replaces : Who → ℕ → List Call → Call → Type 0
-Replaces w to earlier (Hear f) = is_replaced (holder w earlier to) (holder w (Hear f ∷ earlier) to) ≡ true
+Replaces w to earlier (At now (Hear f)) = is_replaced (holder w earlier to) (holder w (At now (Hear f) ∷ earlier) to) ≡ true
 Replaces w to earlier call = ⊥
 
 -- how many clears to send the open transfer took
@@ -90,9 +91,9 @@ clears_by lost replaced f (Some t) n = if takes_clear lost (replaced t.sender.de
 
 abbrev pub clears : Who → List Call → ℕ
 clears w [] = 0
-clears w (Transfer now group to bytes (Ok token) ∷ H) = 0
-clears w (Hear f ∷ H) =
-    clears_by (is_lost (address_after w (Hear f ∷ H))) (λ a. is_replaced (holder w H a) (holder w (Hear f ∷ H) a)) f (open_transfer w H)
+clears w (At now (Transfer group to bytes (Ok token)) ∷ H) = 0
+clears w (At now (Hear f) ∷ H) =
+    clears_by (is_lost (address_after w (At now (Hear f) ∷ H))) (λ a. is_replaced (holder w H a) (holder w (At now (Hear f) ∷ H) a)) f (open_transfer w H)
     (clears w H)
 clears w (call ∷ H) = clears w H
 

@@ -1,12 +1,13 @@
 -- A driver that is prompt, by its calls alone.
 use Rattle.std.specs.Prelude.{◌≡◌, ◌≤◌, ℕ, ◌+◌, Bool, true, false, List, [], ◌∷◌, ◌++◌, Some, None}
 use Rattle.j39_node.specs.History.{Call, moment, step}
-use Rattle.j39_node.specs.History.Call.{TakeFrame, TakeBroadcastEnded, TakeTransferEnded}
+use Rattle.j39_node.specs.History.Call.{At, TakeBroadcastEnded, TakeTransferEnded}
+use Rattle.j39_node.specs.History.Act.{TakeFrame}
 
 -- the sum of the forward steps since a take answered none, or since the earlier calls
 abbrev pub waited_in : List Call → List Call → ℕ
 waited_in [] earlier = 0
-waited_in (TakeFrame now None ∷ later) earlier = 0
+waited_in (At now (TakeFrame None) ∷ later) earlier = 0
 waited_in (call ∷ later) earlier = waited_in later earlier + step (later ++ earlier) (moment (call ∷ later ++ earlier))
 
 -- from the earlier calls to the first take that answers none, and from each such take to the next, at most g microseconds pass:

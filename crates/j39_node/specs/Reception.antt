@@ -12,7 +12,8 @@ use Rattle.j39_transport.specs.Reception.{ReceptionRecord, limit_of}
 use Rattle.j39_transport.specs.Receiving.{ReceiverRecord, RecvResult, Heard, Tick as Ticks, partner_of, recv_step}
 use Rattle.j39_transport.specs.ReceiverStands.{WasHanded}
 use Rattle.j39_node.specs.History.{Who, Message, Call, accepted, acknowledged, due, holds, is_acknowledgment, is_claim, is_smaller, is_some, is_transfer, sent, stamp_at}
-use Rattle.j39_node.specs.History.Call.{Hear, Tick, TakeFrame, ReleaseTransfer}
+use Rattle.j39_node.specs.History.Call.{At, ReleaseTransfer}
+use Rattle.j39_node.specs.History.Act.{Hear, Tick, TakeFrame}
 
 -- ---- who holds an address (J1939-81, 4.2.2)
 
@@ -31,8 +32,8 @@ held_through a (f ∷ frames) holder = held_through a frames (held_then a (claim
 -- the NAME that holds it, by what was known before, the claims heard, and its own that were taken
 abbrev pub holder : Who → List Call → ℕ → Option ℕ
 holder w [] a = held_through a w.known None
-holder w (Hear f ∷ H) a = held_then a (claim_of f) (holder w H a)
-holder w (TakeFrame now (Some f) ∷ H) a = if is_claim f then held_then a (claim_of f) (holder w H a) else holder w H a
+holder w (At now (Hear f) ∷ H) a = held_then a (claim_of f) (holder w H a)
+holder w (At now (TakeFrame (Some f)) ∷ H) a = if is_claim f then held_then a (claim_of f) (holder w H a) else holder w H a
 holder w (call ∷ H) a = holder w H a
 
 abbrev pub is_same : Option ℕ → Option ℕ → Bool
@@ -45,8 +46,8 @@ is_same (Some m) (Some n) = nat_eq m n
 
 abbrev pub heard_at : List Call → ℕ
 heard_at [] = 0
-heard_at (Hear f ∷ H) = f.stamp
-heard_at (Tick now ∷ H) = now
+heard_at (At now (Hear f) ∷ H) = now
+heard_at (At now Tick ∷ H) = now
 heard_at (call ∷ H) = heard_at H
 
 abbrev pub later : ℕ → ℕ → ℕ
@@ -54,8 +55,8 @@ later clock step = min (clock + step) 9999999999999999
 
 abbrev pub time_heard : List Call → ℕ
 time_heard [] = 0
-time_heard (Hear f ∷ H) = later (time_heard H) (f.stamp - heard_at H)
-time_heard (Tick now ∷ H) = later (time_heard H) (now - heard_at H)
+time_heard (At now (Hear f) ∷ H) = later (time_heard H) (now - heard_at H)
+time_heard (At now Tick ∷ H) = later (time_heard H) (now - heard_at H)
 time_heard (call ∷ H) = time_heard H
 
 -- ---- what is received
@@ -141,13 +142,13 @@ no_reception = record { session = None; waits = None; replies = [] }
 
 abbrev pub reception : Who → List Call → Reception
 reception w [] = no_reception
-reception w (Hear f ∷ H) =
-    heard_by w.address (is_smaller w (claim_of f)) (holds w H f.stamp) f (time_heard (Hear f ∷ H))
-    (left (leaves (holder w H) (holder w (Hear f ∷ H)) (reception w H).session) (reception w H))
-reception w (Tick now ∷ H) = ticked w.address now (time_heard (Tick now ∷ H)) (reception w H)
-reception w (TakeFrame now (Some f) ∷ H) =
+reception w (At now (Hear f) ∷ H) =
+    heard_by w.address (is_smaller w (claim_of f)) (holds w H now) f (time_heard (At now (Hear f) ∷ H))
+    (left (leaves (holder w H) (holder w (At now (Hear f) ∷ H)) (reception w H).session) (reception w H))
+reception w (At now Tick ∷ H) = ticked w.address now (time_heard (At now Tick ∷ H)) (reception w H)
+reception w (At now (TakeFrame (Some f)) ∷ H) =
     taken_by (is_claim f) (is_acknowledgment f)
-    (leaves (holder w H) (holder w (TakeFrame now (Some f) ∷ H)) (reception w H).session) (reception w H)
+    (leaves (holder w H) (holder w (At now (TakeFrame (Some f)) ∷ H)) (reception w H).session) (reception w H)
 reception w (ReleaseTransfer answer ∷ H) = released_by answer (reception w H)
 reception w (call ∷ H) = reception w H
 
@@ -175,10 +176,10 @@ whole_by own false true f now r = (step_at own f now r).delivers
 whole_by own false false f now r = None
 
 -- the message that the frame makes whole
-abbrev pub whole : Who → List Call → FrameRecord → Option MessageRecord
-whole w H f =
-    whole_by w.address (is_smaller w (claim_of f)) (holds w H f.stamp) f (time_heard (Hear f ∷ H))
-    (left (leaves (holder w H) (holder w (Hear f ∷ H)) (reception w H).session) (reception w H))
+abbrev pub whole : Who → List Call → ℕ → FrameRecord → Option MessageRecord
+whole w H now f =
+    whole_by w.address (is_smaller w (claim_of f)) (holds w H now) f (time_heard (At now (Hear f) ∷ H))
+    (left (leaves (holder w H) (holder w (At now (Hear f) ∷ H)) (reception w H).session) (reception w H))
 
 abbrev pub says_by : ℕ → Bool → Bool → FrameRecord → ℕ → Reception → Option ToSend
 says_by own true held f now r = None
@@ -186,15 +187,15 @@ says_by own false true f now r = (step_at own f now r).sends
 says_by own false false f now r = None
 
 -- what is said to the frame
-abbrev pub says : Who → List Call → FrameRecord → Option ToSend
-says w H f =
-    says_by w.address (is_smaller w (claim_of f)) (holds w H f.stamp) f (time_heard (Hear f ∷ H))
-    (left (leaves (holder w H) (holder w (Hear f ∷ H)) (reception w H).session) (reception w H))
+abbrev pub says : Who → List Call → ℕ → FrameRecord → Option ToSend
+says w H now f =
+    says_by w.address (is_smaller w (claim_of f)) (holds w H now) f (time_heard (At now (Hear f) ∷ H))
+    (left (leaves (holder w H) (holder w (At now (Hear f) ∷ H)) (reception w H).session) (reception w H))
 
 -- those that were whole, each with the moment of its last packet
 abbrev pub delivered : Who → List Call → List (ℕ × MessageRecord)
 delivered w [] = []
-delivered w (Hear f ∷ H) = delivered w H ++ listed (option_map (λ m. (f.stamp, m)) (whole w H f))
+delivered w (At now (Hear f) ∷ H) = delivered w H ++ listed (option_map (λ m. (f.stamp, m)) (whole w H now f))
 delivered w (call ∷ H) = delivered w H
 
 -- those that the program got
@@ -207,7 +208,7 @@ got_transfers w (call ∷ H) = got_transfers w H
 
 abbrev pub frames_heard : List Call → List FrameRecord
 frames_heard [] = []
-frames_heard (Hear f ∷ H) = frames_heard H ++ f ∷ []
+frames_heard (At now (Hear f) ∷ H) = frames_heard H ++ f ∷ []
 frames_heard (call ∷ H) = frames_heard H
 
 -- the NAME that holds a, or that none does, is the same after each of the later calls
@@ -219,11 +220,12 @@ KeepsHolder w a (call ∷ later) earlier = (holder w (call ∷ later ++ earlier)
 -- or none did
 pub record CameFromOne (w : Who) (H : List Call) (m : MessageRecord) : Type 0 where
   pub later : List Call
+  pub at : ℕ
   pub first : FrameRecord
   pub earlier : List Call
-  pub is : H ≡ later ++ Hear first ∷ earlier
-  pub handed : WasHanded w.address (frames_heard (later ++ Hear first ∷ [])) m
-  pub one : KeepsHolder w m.source later (Hear first ∷ earlier)
+  pub is : H ≡ later ++ At at (Hear first) ∷ earlier
+  pub handed : WasHanded w.address (frames_heard (later ++ At at (Hear first) ∷ [])) m
+  pub one : KeepsHolder w m.source later (At at (Hear first) ∷ earlier)
 
 -- ---- when something is due
 

@@ -3,7 +3,8 @@ use Rattle.std.specs.Prelude.{◌≡◌, ℕ, ◌+◌, Bool, false, List, [], �
 use Rattle.j39_frame.specs.Frame.{FrameRecord}
 use Rattle.j39_address.specs.Claim.{claim_of}
 use Rattle.j39_node.specs.History.{Who, Call, claim_from, is_packet, is_smaller, message_of, moment, step}
-use Rattle.j39_node.specs.History.Call.{Hear, TakeFrame, TakeTransferEnded}
+use Rattle.j39_node.specs.History.Call.{At, TakeTransferEnded}
+use Rattle.j39_node.specs.History.Act.{Hear, TakeFrame}
 use Rattle.j39_node.specs.declared.kinds.TransferEnding.{TransferEnding}
 
 -- the sum of the forward steps of these later calls, from the moment of the earlier ones on
@@ -13,7 +14,7 @@ passed_in (call ∷ later) earlier = passed_in later earlier + step (later ++ ea
 
 -- a smaller NAME's claim of the address is heard
 abbrev pub drives_away : Who → Call → Bool
-drives_away w (Hear f) = is_smaller w (claim_of f)
+drives_away w (At now (Hear f)) = is_smaller w (claim_of f)
 drives_away w call = false
 
 abbrev pub NoneDrivesAway : Who → List Call → Type 0
@@ -26,10 +27,10 @@ pub record ClaimedSince (w : Who) (H : List Call) (e : ℕ) : Type 0 where
   pub earlier : List Call
   pub at : ℕ
   pub claim : FrameRecord
-  pub is : H ≡ later ++ TakeFrame at (Some claim) ∷ earlier
+  pub is : H ≡ later ++ At at (TakeFrame (Some claim)) ∷ earlier
   pub claims : message_of claim ≡ claim_from w w.address
   pub stays : NoneDrivesAway w later
-  pub passed : e ≡ passed_in later (TakeFrame at (Some claim) ∷ earlier)
+  pub passed : e ≡ passed_in later (At at (TakeFrame (Some claim)) ∷ earlier)
 
 -- a frame of packets was taken at a call of H; e microseconds passed since
 pub record PacketSince (H : List Call) (e : ℕ) : Type 0 where
@@ -37,9 +38,9 @@ pub record PacketSince (H : List Call) (e : ℕ) : Type 0 where
   pub earlier : List Call
   pub at : ℕ
   pub packet : FrameRecord
-  pub is : H ≡ later ++ TakeFrame at (Some packet) ∷ earlier
+  pub is : H ≡ later ++ At at (TakeFrame (Some packet)) ∷ earlier
   pub of_packets : IsTrue (is_packet packet)
-  pub passed : e ≡ passed_in later (TakeFrame at (Some packet) ∷ earlier)
+  pub passed : e ≡ passed_in later (At at (TakeFrame (Some packet)) ∷ earlier)
 
 -- the end of a transfer was told at a call of H; e microseconds passed since
 pub record ToldSince (H : List Call) (x : ℕ × TransferEnding) (e : ℕ) : Type 0 where

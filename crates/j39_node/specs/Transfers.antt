@@ -14,7 +14,8 @@ use Rattle.j39_node.specs.declared.kinds.Refused.{Refused}
 use Rattle.j39_node.specs.declared.kinds.Refused.TheVariants.{NoAddress, BadValue, Full}
 use Rattle.j39_node.specs.History.{Who, Message, Call, address_after, broadcast_from, can_broadcast, has_packets, held_at, holds, is_held, is_lost, is_some, moment, owes_claim, pause, stamp_at, step}
 use Rattle.j39_node.specs.Reception.{holder, is_move, is_waiting}
-use Rattle.j39_node.specs.History.Call.{Ask, Hear, Tick as Ticks, TakeFrame, Send, Acknowledge, Broadcast, Transfer, TakeTransferEnded}
+use Rattle.j39_node.specs.History.Call.{At, TakeTransferEnded}
+use Rattle.j39_node.specs.History.Act.{Ask, Hear, Tick as Ticks, TakeFrame, Send, Acknowledge, Broadcast, Transfer}
 
 -- what may be transferred: what may be broadcast, to the address of another
 abbrev pub can_transfer : Who → ℕ → ℕ → List ℕ → Bool
@@ -23,7 +24,7 @@ can_transfer w group to bytes = can_broadcast group bytes && (nat_lt to null_add
 -- the transfers that were accepted: their destinations and messages
 abbrev pub transfers : Who → List Call → List (ℕ × MessageRecord)
 transfers w [] = []
-transfers w (Transfer now group to bytes (Ok token) ∷ H) = transfers w H ++ (to, broadcast_from w group bytes) ∷ []
+transfers w (At now (Transfer group to bytes (Ok token)) ∷ H) = transfers w H ++ (to, broadcast_from w group bytes) ∷ []
 transfers w (call ∷ H) = transfers w H
 
 -- the tokens of those that were told to have ended, and how
@@ -35,15 +36,8 @@ told_transfers (call ∷ H) = told_transfers H
 -- how long ago one was accepted last; time that goes back is no time
 abbrev pub age : List Call → ℕ
 age [] = 0
-age (Hear f ∷ H) = age H + step H f.stamp
-age (Ticks now ∷ H) = age H + step H now
-age (TakeFrame now answer ∷ H) = age H + step H now
-age (Send now draft answer ∷ H) = age H + step H now
-age (Acknowledge now asked answer result ∷ H) = age H + step H now
-age (Ask now group to answer ∷ H) = age H + step H now
-age (Broadcast now group bytes answer ∷ H) = age H + step H now
-age (Transfer now group to bytes (Ok token) ∷ H) = 0
-age (Transfer now group to bytes (Err reason) ∷ H) = age H + step H now
+age (At now (Transfer group to bytes (Ok token)) ∷ H) = 0
+age (At now act ∷ H) = age H + step H now
 age (call ∷ H) = age H
 
 -- this time, as a stamp can tell it
@@ -123,11 +117,11 @@ sends_if false now x = x
 -- the transfer that is open: accepted last, and not told to have ended
 abbrev pub open_transfer : Who → List Call → Option Running
 open_transfer w [] = None
-open_transfer w (Hear f ∷ H) =
-    hears_if (is_lost (address_after w (Hear f ∷ H))) (λ a. is_replaced (holder w H a) (holder w (Hear f ∷ H) a)) f
-    (clock_at H f.stamp) (open_transfer w H)
-open_transfer w (TakeFrame now (Some f) ∷ H) = sends_if (is_move w H f) (clock_at H now) (open_transfer w H)
-open_transfer w (Transfer now group to bytes (Ok token) ∷ H) = Some (begun token (broadcast_from w group bytes) to)
+open_transfer w (At now (Hear f) ∷ H) =
+    hears_if (is_lost (address_after w (At now (Hear f) ∷ H))) (λ a. is_replaced (holder w H a) (holder w (At now (Hear f) ∷ H) a)) f
+    (clock_at H now) (open_transfer w H)
+open_transfer w (At now (TakeFrame (Some f)) ∷ H) = sends_if (is_move w H f) (clock_at H now) (open_transfer w H)
+open_transfer w (At now (Transfer group to bytes (Ok token)) ∷ H) = Some (begun token (broadcast_from w group bytes) to)
 open_transfer w (TakeTransferEnded (Some x) ∷ H) = None
 open_transfer w (call ∷ H) = open_transfer w H
 
@@ -197,14 +191,7 @@ rests_after Gone = true
 -- what is left of them; time that goes back is no time
 abbrev pub rest : List Call → ℕ
 rest [] = 0
-rest (Hear f ∷ H) = rest H - step H f.stamp
-rest (Ticks now ∷ H) = rest H - step H now
-rest (TakeFrame now answer ∷ H) = rest H - step H now
-rest (Send now draft answer ∷ H) = rest H - step H now
-rest (Acknowledge now asked answer result ∷ H) = rest H - step H now
-rest (Ask now group to answer ∷ H) = rest H - step H now
-rest (Broadcast now group bytes answer ∷ H) = rest H - step H now
-rest (Transfer now group to bytes answer ∷ H) = rest H - step H now
+rest (At now act ∷ H) = rest H - step H now
 rest (TakeTransferEnded (Some x) ∷ H) = if rests_after x.1 then 4000000 else rest H
 rest (call ∷ H) = rest H
 

@@ -13,7 +13,8 @@ ghost use Rattle.j39_node.specs.declared.kinds.AskEnding.TheVariants as ending;
 ghost use Rattle.j39_node.specs.declared.kinds.Refused.{Refused};
 ghost use Rattle.j39_node.specs.declared.kinds.Refused.TheVariants as refused;
 ghost use Rattle.j39_node.specs.History.{Who, Call, accepted, address_after, holds, is_lost, is_smaller, message_of, sent, step, told};
-ghost use Rattle.j39_node.specs.History.Call.{Ask, Hear, TakeAskEnded, TakeFrame, Tick};
+ghost use Rattle.j39_node.specs.History.Call.{At, TakeAskEnded};
+ghost use Rattle.j39_node.specs.History.Act.{Ask, Hear, TakeFrame, Tick};
 ghost use Rattle.j39_node.specs.Reception.{whole};
 ghost use Rattle.j39_node.specs.Hearing.{made_whole};
 ghost use Rattle.j39_node.specs.Asking.{AskedSince, HeardFirst, NoneEnds, Question, asks, can_ask, ended, is_request, is_taken, made, next_ask_ended, open_ask, says_to, told_asks, wait};
@@ -26,22 +27,22 @@ ghost use Rattle.j39_node.specs.Is.{AreAnswered, Is};
 /// the next token of `send`.
 pub fn ask_means()
     ensures no_address { (w : Who) (H : List Call) (c : Controller) (now group to : ℕ) (answer : Result ℕ Refused)
-        → Is w (Ask now group to answer ∷ H) c → (answer ≡ Err refused.NoAddress ↔ (IsTrue (holds w H now) → ⊥)) }
+        → Is w (At now (Ask group to answer) ∷ H) c → (answer ≡ Err refused.NoAddress ↔ (IsTrue (holds w H now) → ⊥)) }
     ensures bad_value { (w : Who) (H : List Call) (c : Controller) (now group to : ℕ) (answer : Result ℕ Refused)
-        → Is w (Ask now group to answer ∷ H) c
+        → Is w (At now (Ask group to answer) ∷ H) c
         → (answer ≡ Err refused.BadValue ↔ (IsTrue (holds w H now) × (IsTrue (can_ask w group to) → ⊥))) }
     ensures full { (w : Who) (H : List Call) (c : Controller) (now group to : ℕ) (answer : Result ℕ Refused)
-        → Is w (Ask now group to answer ∷ H) c
+        → Is w (At now (Ask group to answer) ∷ H) c
         → (answer ≡ Err refused.Full
         ↔ (IsTrue (holds w H now) × IsTrue (can_ask w group to)
         × ((length (asks H) ≡ length (told_asks H) + 1)
         ⊎ ((length (accepted w H) ≡ length (told H) + 16) ⊎ (length (accepted w H) ≡ 18446744073709551615))))) }
     ensures accepts { (w : Who) (H : List Call) (c : Controller) (now group to : ℕ) (answer : Result ℕ Refused)
-        → Is w (Ask now group to answer ∷ H) c → IsTrue (holds w H now) → IsTrue (can_ask w group to)
+        → Is w (At now (Ask group to answer) ∷ H) c → IsTrue (holds w H now) → IsTrue (can_ask w group to)
         → length (asks H) ≡ length (told_asks H) → length (accepted w H) < length (told H) + 16
         → length (accepted w H) < 18446744073709551615 → answer ≡ Ok (length (accepted w H)) }
     ensures token { (w : Who) (H : List Call) (c : Controller) (now group to k : ℕ)
-        → Is w (Ask now group to (Ok k) ∷ H) c → k ≡ length (accepted w H) }
+        → Is w (At now (Ask group to (Ok k)) ∷ H) c → k ≡ length (accepted w H) }
 {}
 
 /// A request is the message of its token among those accepted, which `done_means` says are taken in order, each once: of priority 6,
@@ -61,7 +62,7 @@ pub fn request_means()
           },
         ) }
     ensures once { (H : List Call) (now : ℕ) (f : FrameRecord) (q : Question) → open_ask H ≡ Some q → IsTrue (is_request H f)
-        → (is_taken q H ≡ false) × IsTrue (is_taken q (TakeFrame now (Some f) ∷ H)) × (length (sent H) ≡ q.token) }
+        → (is_taken q H ≡ false) × IsTrue (is_taken q (At now (TakeFrame (Some f)) ∷ H)) × (length (sent H) ≡ q.token) }
     ensures since { (w : Who) (H : List Call) (c : Controller) (q : Question) → Is w H c → open_ask H ≡ Some q
         → IsTrue (is_taken q H) → (e : ℕ) × AskedSince H q e × (wait H ≡ 1250000 - e) }
 {}
@@ -80,9 +81,9 @@ pub fn ask_done_means()
         → Is w (TakeAskEnded (Some (k, ending.Acknowledged a)) ∷ H) c → open_ask H ≡ Some q
         → HeardFirst w H q (ending.Acknowledged a) }
     ensures heard { (w : Who) (H later : List Call) (c : Controller) (f : FrameRecord) (q : Question) (e : AskEnding)
-        (answer : Option (ℕ × AskEnding)) → Is w (TakeAskEnded answer ∷ later ++ Hear f ∷ H) c → NoneEnds later
+        (answer : Option (ℕ × AskEnding)) → Is w (TakeAskEnded answer ∷ later ++ At @@ (Hear f) ∷ H) c → NoneEnds later
         → open_ask H ≡ Some q → IsTrue (is_taken q H) → ended w H ≡ None → step H f.stamp < wait H
-        → is_lost (address_after w (Hear f ∷ H)) ≡ false → says_to w q f (made w H f) ≡ Some e → answer ≡ Some (q.token, e) }
+        → is_lost (address_after w (At @@ (Hear f) ∷ H)) ≡ false → says_to w q f (made w H f) ≡ Some e → answer ≡ Some (q.token, e) }
     ensures timed_out { (w : Who) (H : List Call) (c : Controller) (k : ℕ) (q : Question)
         → Is w (TakeAskEnded (Some (k, ending.TimedOut)) ∷ H) c → open_ask H ≡ Some q
         → (e : ℕ) × AskedSince H q e × (1250000 ≤ e) }
@@ -113,7 +114,7 @@ pub fn strangers_and_requests()
     ensures to_another { (w : Who) (H : List Call) (f : FrameRecord) (q : Question) (a : ℕ) → destination_of f.id ≡ Some a
         → a ≢ global_address → a ≢ w.address → says_to w q f (made w H f) ≡ None }
     ensures ends { (w : Who) (H : List Call) (f : FrameRecord) (q : Question) → open_ask H ≡ Some q → says_to w q f (made w H f) ≡ None
-        → is_smaller w (claim_of f) ≡ false → next_ask_ended w (Hear f ∷ H) ≡ next_ask_ended w (Tick f.stamp ∷ H) }
+        → is_smaller w (claim_of f) ≡ false → next_ask_ended w (At @@ (Hear f) ∷ H) ≡ next_ask_ended w (At f.stamp Tick ∷ H) }
 {}
 
 /// All answers of this history are those that a controller gives: requests are answered, one in packets to all; one is refused, and one

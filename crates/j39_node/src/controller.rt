@@ -17,7 +17,8 @@ ghost use Rattle.j39_node.specs.Hearing.{unheard, waiting};
 ghost use Rattle.j39_node.specs.Transfers.{clock, is_replaced, next_due, packet_in, packets_in, sooner, transfer_by, transfer_in};
 ghost use Rattle.j39_node.specs.Hold.{lost, stands};
 ghost use Rattle.j39_node.specs.Moving.{IsSettled, has_given, has_told, moved};
-ghost use Rattle.j39_node.specs.History.Call.{Ask, TakeAskEnded, Hear, Tick, TakeFrame, Send, TakeEnded, TakeReceived, TakeRequest, TakeNews, Acknowledge, Broadcast, TakeBroadcastEnded, ReleaseTransfer, Transfer, TakeTransferEnded, ReleaseBroadcast};
+ghost use Rattle.j39_node.specs.History.Call.{At, TakeAskEnded, TakeEnded, TakeReceived, TakeRequest, TakeNews, TakeBroadcastEnded, ReleaseTransfer, TakeTransferEnded, ReleaseBroadcast};
+ghost use Rattle.j39_node.specs.History.Act.{Ask, Hear, Tick, TakeFrame, Send, Acknowledge, Broadcast, Transfer};
 ghost use Rattle.j39_node.specs.Asking.{is_asking};
 ghost use Rattle.j39_node.specs.Is.{asking_of, Is, next_claims_request, first_of, lane_of, next_frame, packet_by, posted, received_by, request_by, stamped, status_after, who_of, long_by, port_of, hearing_of};
 
@@ -245,7 +246,7 @@ impl Controller {
 
     /// Hears a frame of another controller, at its stamp.
     pub fn hear(&mut self, frame: &Frame)
-        ensures { (w : Who) (H : List Call) → Is w H self.old → Is w (Hear frame.now ∷ H) self.new }
+        ensures { (w : Who) (H : List Call) → Is w H self.old → Is w (At @@ (Hear frame.now) ∷ H) self.new }
     {
         self.hold = self.hold.passed(frame.stamp);
         let is_held = self.hold.is_held();
@@ -282,7 +283,7 @@ impl Controller {
 
     /// Time passes.
     pub fn tick(&mut self, now: Stamp)
-        ensures { (w : Who) (H : List Call) → Is w H self.old → Is w (Tick (stamp_micros now) ∷ H) self.new }
+        ensures { (w : Who) (H : List Call) → Is w H self.old → Is w (At (stamp_micros now) Tick ∷ H) self.new }
     {
         self.hold = self.hold.passed(now);
         self.incoming.tick(now);
@@ -312,7 +313,7 @@ impl Controller {
 
     /// The frame that goes out now; by this it is sent. `None` where nothing is due.
     pub fn take_frame(&mut self, now: Stamp) -> Option<Frame>
-        ensures { (w : Who) (H : List Call) → Is w H self.old → Is w (TakeFrame (stamp_micros now) result ∷ H) self.new }
+        ensures { (w : Who) (H : List Call) → Is w H self.old → Is w (At (stamp_micros now) (TakeFrame result) ∷ H) self.new }
     {
         self.hold = self.hold.passed(now);
         if self.is_claim_due() {
@@ -383,8 +384,8 @@ impl Controller {
         to: u8,
         bytes: &[u8],
     ) -> Result<u64, Refused>
-        ensures { (w : Who) (H : List Call) → Is w H self.old → Is w (Send (stamp_micros now) (record
-            { priority = priority; group = pgn_raw group; to = to; bytes = bytes.now }) result ∷ H) self.new }
+        ensures { (w : Who) (H : List Call) → Is w H self.old → Is w (At (stamp_micros now) (Send (record
+            { priority = priority; group = pgn_raw group; to = to; bytes = bytes.now }) result) ∷ H) self.new }
     {
         self.hold = self.hold.passed(now);
         if !self.hold.is_held() {
@@ -428,7 +429,7 @@ impl Controller {
     /// ended.
     pub fn broadcast(&mut self, now: Stamp, group: Pgn, bytes: &[u8]) -> Result<u64, Refused>
         ensures { (w : Who) (H : List Call) → Is w H self.old
-            → Is w (Broadcast (stamp_micros now) (pgn_raw group) bytes.now result ∷ H) self.new }
+            → Is w (At (stamp_micros now) (Broadcast (pgn_raw group) bytes.now result) ∷ H) self.new }
     {
         self.hold = self.hold.passed(now);
         if !self.hold.is_held() {
@@ -469,7 +470,7 @@ impl Controller {
     /// nothing late of it is taken for this one's. Where one of another pair so ended in these 4 seconds, all rest till 4 seconds after it.
     pub fn transfer(&mut self, now: Stamp, group: Pgn, to: u8, bytes: &[u8]) -> Result<u64, Refused>
         ensures { (w : Who) (H : List Call) → Is w H self.old
-            → Is w (Transfer (stamp_micros now) (pgn_raw group) to bytes.now result ∷ H) self.new }
+            → Is w (At (stamp_micros now) (Transfer (pgn_raw group) to bytes.now result) ∷ H) self.new }
     {
         self.hold = self.hold.passed(now);
         if !self.hold.is_held() {
@@ -508,7 +509,7 @@ impl Controller {
     /// that is broadcast in packets counts if it is heard: if its group is subscribed, and no other broadcast lies there or is open.
     pub fn ask(&mut self, now: Stamp, group: Pgn, to: u8) -> Result<u64, Refused>
         ensures { (w : Who) (H : List Call) → Is w H self.old
-            → Is w (Ask (stamp_micros now) (pgn_raw group) to result ∷ H) self.new }
+            → Is w (At (stamp_micros now) (Ask (pgn_raw group) to result) ∷ H) self.new }
     {
         self.hold = self.hold.passed(now);
         if !self.hold.is_held() {
@@ -628,7 +629,7 @@ impl Controller {
         answer: Answer,
     ) -> Result<(), Refused>
         ensures { (w : Who) (H : List Call) → Is w H self.old
-            → Is w (Acknowledge (stamp_micros now) (request_by request) answer result ∷ H) self.new }
+            → Is w (At (stamp_micros now) (Acknowledge (request_by request) answer result) ∷ H) self.new }
     {
         self.hold = self.hold.passed(now);
         if !self.hold.is_held() {

@@ -7,7 +7,8 @@ ghost use Rattle.j39_node.specs.declared.kinds.Ending.{Ending};
 ghost use Rattle.j39_node.specs.declared.kinds.TransferEnding.{TransferEnding};
 ghost use Rattle.j39_node.specs.declared.kinds.TransferEnding.TheVariants as ending;
 ghost use Rattle.j39_node.specs.History.{Who, Call, Draft, address_after, broadcast_from, is_lost, sent, told};
-ghost use Rattle.j39_node.specs.History.Call.{Ask, Broadcast, Send, Transfer};
+ghost use Rattle.j39_node.specs.History.Call.{At};
+ghost use Rattle.j39_node.specs.History.Act.{Ask, Broadcast, Send, Transfer};
 ghost use Rattle.j39_node.specs.Is.{AreAnswered, Is, next_broadcast_ended, next_ended};
 ghost use Rattle.j39_node.specs.Transfers.{next_transfer_ended};
 ghost use Rattle.j39_node.specs.Prompt.{IsPrompt, NoneTold, tells_broadcast, tells_transfer};
@@ -20,10 +21,10 @@ ghost use Rattle.j39_node.specs.PromptExample.{prompt_example, prompt_start, tra
 /// sent or heard lengthens this.
 pub fn broadcast_ends()
     ensures { (w : Who) (later earlier : List Call) (c : Controller) (g now group k : ℕ) (bytes : List ℕ)
-        → Is w (later ++ Broadcast now group bytes (Ok k) ∷ earlier) c → NoneTold tells_broadcast later
-        → IsPrompt g later (Broadcast now group bytes (Ok k) ∷ earlier)
-        → (packets_of (broadcast_from w group bytes) + 1) * (gap + g) < passed_in later (Broadcast now group bytes (Ok k) ∷ earlier)
-        → (e : Ending) × (next_broadcast_ended w (later ++ Broadcast now group bytes (Ok k) ∷ earlier) ≡ Some (k, e)) }
+        → Is w (later ++ At now (Broadcast group bytes (Ok k)) ∷ earlier) c → NoneTold tells_broadcast later
+        → IsPrompt g later (At now (Broadcast group bytes (Ok k)) ∷ earlier)
+        → (packets_of (broadcast_from w group bytes) + 1) * (gap + g) < passed_in later (At now (Broadcast group bytes (Ok k)) ∷ earlier)
+        → (e : Ending) × (next_broadcast_ended w (later ++ At now (Broadcast group bytes (Ok k)) ∷ earlier) ≡ Some (k, e)) }
 {}
 
 /// A transfer of n packets ends, whatever its destination answers: where the driver is prompt by g microseconds since its
@@ -31,11 +32,11 @@ pub fn broadcast_ends()
 /// end, unless it told it before. T3 is 1,250 ms; 64 clears to send may grant nothing new.
 pub fn transfer_ends()
     ensures { (w : Who) (later earlier : List Call) (c : Controller) (g now group to k : ℕ) (bytes : List ℕ)
-        → Is w (later ++ Transfer now group to bytes (Ok k) ∷ earlier) c → NoneTold tells_transfer later
-        → IsPrompt g later (Transfer now group to bytes (Ok k) ∷ earlier) → g < 1000000000000
+        → Is w (later ++ At now (Transfer group to bytes (Ok k)) ∷ earlier) c → NoneTold tells_transfer later
+        → IsPrompt g later (At now (Transfer group to bytes (Ok k)) ∷ earlier) → g < 1000000000000
         → (packets_of (broadcast_from w group bytes) + 65) * (timer_t3 + g) + g
-        < passed_in later (Transfer now group to bytes (Ok k) ∷ earlier)
-        → (e : TransferEnding) × (next_transfer_ended w (later ++ Transfer now group to bytes (Ok k) ∷ earlier) ≡ Some (k, e)) }
+        < passed_in later (At now (Transfer group to bytes (Ok k)) ∷ earlier)
+        → (e : TransferEnding) × (next_transfer_ended w (later ++ At now (Transfer group to bytes (Ok k)) ∷ earlier) ≡ Some (k, e)) }
 {}
 
 /// A message of one frame ends, also that of a request: where the driver is prompt by g microseconds since its acceptance, and more
@@ -43,25 +44,25 @@ pub fn transfer_ends()
 /// messages, is taken in this time too. Then `take_ended` would tell an end: that of the oldest message that it didn't tell.
 pub fn message_ends()
     ensures sent { (w : Who) (later earlier : List Call) (c : Controller) (g now k : ℕ) (d : Draft)
-        → Is w (later ++ Send now d (Ok k) ∷ earlier) c → IsPrompt g later (Send now d (Ok k) ∷ earlier)
-        → g < passed_in later (Send now d (Ok k) ∷ earlier)
-        → (k < length (sent (later ++ Send now d (Ok k) ∷ earlier)))
-        ⊎ IsTrue (is_lost (address_after w (later ++ Send now d (Ok k) ∷ earlier))) }
+        → Is w (later ++ At now (Send d (Ok k)) ∷ earlier) c → IsPrompt g later (At now (Send d (Ok k)) ∷ earlier)
+        → g < passed_in later (At now (Send d (Ok k)) ∷ earlier)
+        → (k < length (sent (later ++ At now (Send d (Ok k)) ∷ earlier)))
+        ⊎ IsTrue (is_lost (address_after w (later ++ At now (Send d (Ok k)) ∷ earlier))) }
     ensures sent_told { (w : Who) (later earlier : List Call) (c : Controller) (g now k : ℕ) (d : Draft)
-        → Is w (later ++ Send now d (Ok k) ∷ earlier) c → IsPrompt g later (Send now d (Ok k) ∷ earlier)
-        → g < passed_in later (Send now d (Ok k) ∷ earlier) → length (told (later ++ Send now d (Ok k) ∷ earlier)) ≤ k
-        → (e : Ending) × (next_ended w (later ++ Send now d (Ok k) ∷ earlier)
-        ≡ Some (length (told (later ++ Send now d (Ok k) ∷ earlier)), e)) }
+        → Is w (later ++ At now (Send d (Ok k)) ∷ earlier) c → IsPrompt g later (At now (Send d (Ok k)) ∷ earlier)
+        → g < passed_in later (At now (Send d (Ok k)) ∷ earlier) → length (told (later ++ At now (Send d (Ok k)) ∷ earlier)) ≤ k
+        → (e : Ending) × (next_ended w (later ++ At now (Send d (Ok k)) ∷ earlier)
+        ≡ Some (length (told (later ++ At now (Send d (Ok k)) ∷ earlier)), e)) }
     ensures asked { (w : Who) (later earlier : List Call) (c : Controller) (g now group to k : ℕ)
-        → Is w (later ++ Ask now group to (Ok k) ∷ earlier) c → IsPrompt g later (Ask now group to (Ok k) ∷ earlier)
-        → g < passed_in later (Ask now group to (Ok k) ∷ earlier)
-        → (k < length (sent (later ++ Ask now group to (Ok k) ∷ earlier)))
-        ⊎ IsTrue (is_lost (address_after w (later ++ Ask now group to (Ok k) ∷ earlier))) }
+        → Is w (later ++ At now (Ask group to (Ok k)) ∷ earlier) c → IsPrompt g later (At now (Ask group to (Ok k)) ∷ earlier)
+        → g < passed_in later (At now (Ask group to (Ok k)) ∷ earlier)
+        → (k < length (sent (later ++ At now (Ask group to (Ok k)) ∷ earlier)))
+        ⊎ IsTrue (is_lost (address_after w (later ++ At now (Ask group to (Ok k)) ∷ earlier))) }
     ensures asked_told { (w : Who) (later earlier : List Call) (c : Controller) (g now group to k : ℕ)
-        → Is w (later ++ Ask now group to (Ok k) ∷ earlier) c → IsPrompt g later (Ask now group to (Ok k) ∷ earlier)
-        → g < passed_in later (Ask now group to (Ok k) ∷ earlier) → length (told (later ++ Ask now group to (Ok k) ∷ earlier)) ≤ k
-        → (e : Ending) × (next_ended w (later ++ Ask now group to (Ok k) ∷ earlier)
-        ≡ Some (length (told (later ++ Ask now group to (Ok k) ∷ earlier)), e)) }
+        → Is w (later ++ At now (Ask group to (Ok k)) ∷ earlier) c → IsPrompt g later (At now (Ask group to (Ok k)) ∷ earlier)
+        → g < passed_in later (At now (Ask group to (Ok k)) ∷ earlier) → length (told (later ++ At now (Ask group to (Ok k)) ∷ earlier)) ≤ k
+        → (e : Ending) × (next_ended w (later ++ At now (Ask group to (Ok k)) ∷ earlier)
+        ≡ Some (length (told (later ++ At now (Ask group to (Ok k)) ∷ earlier)), e)) }
 {}
 
 /// All answers of this history are those that a controller gives, its driver is prompt by 100 ms, and a broadcast of two packets

@@ -19,7 +19,8 @@ ghost use Rattle.j39_node.specs.declared.kinds.News.TheVariants as news;
 ghost use Rattle.j39_node.specs.declared.kinds.Refused.{Refused};
 ghost use Rattle.j39_node.specs.declared.kinds.Refused.TheVariants as refused;
 ghost use Rattle.j39_node.specs.History.{Who, is_smaller, Asked, Call, Message, Draft, IsFront, accepted, acknowledgment, acknowledgment_group, asked, asked_group, handed, is_served, requests, lost_news, another_news, missed_news, address_after, calls_for_claim, can_send, claim_address, claim_from, content, acknowledged, due, frames, got, heard, holds, is_held, is_lost, is_subscribed, kept, message_of, missed, moment, owes_claim, sent, step, told, all_frames, broadcasts, can_broadcast, first_frames, frame_of, has_packets, is_acknowledgment, is_claim, is_packet, is_transfer, open_broadcast, packets, told_broadcasts};
-ghost use Rattle.j39_node.specs.History.Call.{Acknowledge, Broadcast, TakeBroadcastEnded, ReleaseTransfer, Hear, TakeNews, Tick, TakeFrame, TakeRequest, Send, TakeEnded, TakeReceived, Transfer, TakeTransferEnded};
+ghost use Rattle.j39_node.specs.History.Call.{At, TakeBroadcastEnded, ReleaseTransfer, TakeNews, TakeRequest, TakeEnded, TakeReceived, TakeTransferEnded};
+ghost use Rattle.j39_node.specs.History.Act.{Acknowledge, Broadcast, Hear, Tick, TakeFrame, Send, Transfer};
 ghost use Rattle.j39_node.specs.Reception.{CameFromOne, delivered, got_transfers, heard_at, holder, is_move, listed, next_tick, reception, replied, reply_from, says, time_heard, whole, without};
 ghost use Rattle.j39_transport.specs.Cutting.{ToSend};
 ghost use Rattle.j39_transport.specs.Receiving.{said_to};
@@ -38,9 +39,9 @@ ghost use Rattle.j39_node.specs.Is.{AreAnswered, Is, next_frame, status_after};
 /// holds at that moment, and is no claim.
 pub fn sources()
     ensures moment { (w : Who) (H : List Call) (c : Controller) (now : ℕ) (f : FrameRecord)
-        → Is w (TakeFrame now (Some f) ∷ H) c → f.stamp ≡ now }
+        → Is w (At now (TakeFrame (Some f)) ∷ H) c → f.stamp ≡ now }
     ensures source { (w : Who) (H : List Call) (c : Controller) (now : ℕ) (f : FrameRecord)
-        → Is w (TakeFrame now (Some f) ∷ H) c
+        → Is w (At now (TakeFrame (Some f)) ∷ H) c
         → (message_of f ≡ claim_from w (claim_address w (address_after w H)))
         ⊎ (IsTrue (holds w H now) × (source_of f.id ≡ w.address) × (pgn_of f.id ≢ address_claimed_group)) }
 {}
@@ -58,7 +59,7 @@ pub fn held_means()
 /// accepted. Where none is told, all that were taken are told; and all that were accepted, if the address is lost.
 pub fn accounted_once()
     ensures accepted { (w : Who) (H : List Call) (c : Controller) (now k : ℕ) (d : Draft)
-        → Is w (Send now d (Ok k) ∷ H) c → k ≡ length (accepted w H) }
+        → Is w (At now (Send d (Ok k)) ∷ H) c → k ≡ length (accepted w H) }
     ensures told { (w : Who) (H : List Call) (c : Controller) (k : ℕ) (e : Ending)
         → Is w (TakeEnded (Some (k, e)) ∷ H) c → (k ≡ length (told H)) × (k < length (accepted w H)) }
     ensures all { (w : Who) (H : List Call) (c : Controller) → Is w (TakeEnded None ∷ H) c
@@ -76,7 +77,7 @@ pub fn done_means()
         → Is w (TakeEnded (Some (k, e)) ∷ H) c → (e ≡ ending.Done ↔ (k < length (sent H))) }
     ensures withdrawn { (w : Who) (H : List Call) (c : Controller) (k : ℕ) (e : Ending)
         → Is w (TakeEnded (Some (k, e)) ∷ H) c → e ≡ ending.Withdrawn → IsTrue (is_lost (address_after w H)) }
-    ensures none_waits { (w : Who) (H : List Call) (c : Controller) (now : ℕ) → Is w (TakeFrame now None ∷ H) c
+    ensures none_waits { (w : Who) (H : List Call) (c : Controller) (now : ℕ) → Is w (At now (TakeFrame None) ∷ H) c
         → IsTrue (holds w H now)
         → (length (sent H) ≡ length (accepted w H)) × (length (acknowledged H) ≡ length (due w H)) }
 {}
@@ -85,17 +86,17 @@ pub fn done_means()
 /// tokens are accepted and not told (or as many as there are tokens were accepted), and else the next token.
 pub fn refused_means()
     ensures no_address { (w : Who) (H : List Call) (c : Controller) (now : ℕ) (d : Draft) (answer : Result ℕ Refused)
-        → Is w (Send now d answer ∷ H) c → (answer ≡ Err refused.NoAddress ↔ (IsTrue (holds w H now) → ⊥)) }
+        → Is w (At now (Send d answer) ∷ H) c → (answer ≡ Err refused.NoAddress ↔ (IsTrue (holds w H now) → ⊥)) }
     ensures bad_value { (w : Who) (H : List Call) (c : Controller) (now : ℕ) (d : Draft) (answer : Result ℕ Refused)
-        → Is w (Send now d answer ∷ H) c
+        → Is w (At now (Send d answer) ∷ H) c
         → (answer ≡ Err refused.BadValue ↔ (IsTrue (holds w H now) × (IsTrue (can_send w d) → ⊥))) }
     ensures full { (w : Who) (H : List Call) (c : Controller) (now : ℕ) (d : Draft) (answer : Result ℕ Refused)
-        → Is w (Send now d answer ∷ H) c
+        → Is w (At now (Send d answer) ∷ H) c
         → (answer ≡ Err refused.Full
         ↔ (IsTrue (holds w H now) × IsTrue (can_send w d)
         × ((length (accepted w H) ≡ length (told H) + 16) ⊎ (length (accepted w H) ≡ 18446744073709551615)))) }
     ensures accepts { (w : Who) (H : List Call) (c : Controller) (now : ℕ) (d : Draft) (answer : Result ℕ Refused)
-        → Is w (Send now d answer ∷ H) c → IsTrue (holds w H now) → IsTrue (can_send w d)
+        → Is w (At now (Send d answer) ∷ H) c → IsTrue (holds w H now) → IsTrue (can_send w d)
         → length (accepted w H) < length (told H) + 16 → length (accepted w H) < 18446744073709551615
         → answer ≡ Ok (length (accepted w H)) }
 {}
@@ -107,23 +108,23 @@ pub fn received()
     ensures in_order { (w : Who) (H : List Call) (c : Controller) → Is w H c → IsFront (got H) (kept w H) }
     ensures all { (w : Who) (H : List Call) (c : Controller) → Is w (TakeReceived None ∷ H) c → got H ≡ kept w H }
     ensures counted { (w : Who) (H : List Call) → length (kept w H) + missed w H ≡ length (heard w H) }
-    ensures room { (w : Who) (H : List Call) (f : FrameRecord) → missed w (Hear f ∷ H) ≢ missed w H
+    ensures room { (w : Who) (H : List Call) (f : FrameRecord) → missed w (At @@ (Hear f) ∷ H) ≢ missed w H
         → length (got H) + 16 ≤ length (kept w H) }
     ensures subscribed { (w : Who) (H : List Call) (f : FrameRecord) → is_subscribed w (pgn_of f.id) ≡ false
-        → (kept w (Hear f ∷ H) ≡ kept w H) × (missed w (Hear f ∷ H) ≡ missed w H) }
+        → (kept w (At @@ (Hear f) ∷ H) ≡ kept w H) × (missed w (At @@ (Hear f) ∷ H) ≡ missed w H) }
 {}
 
 /// After a frame was heard that a claim answers (another's claim of the address, or a request for claims), the next frame taken
 /// is its claim, or 'cannot claim' where the address is lost. A claim is taken only where one is owed.
 pub fn claims()
     ensures next { (w : Who) (H later : List Call) (c : Controller) (now : ℕ) (f g : FrameRecord)
-        → Is w (TakeFrame now (Some g) ∷ later ++ Hear f ∷ H) c → frames later ≡ []
+        → Is w (At now (TakeFrame (Some g)) ∷ later ++ At @@ (Hear f) ∷ H) c → frames later ≡ []
         → IsTrue (calls_for_claim w (is_lost (address_after w H)) f)
-        → message_of g ≡ claim_from w (claim_address w (address_after w (later ++ Hear f ∷ H))) }
+        → message_of g ≡ claim_from w (claim_address w (address_after w (later ++ At @@ (Hear f) ∷ H))) }
     ensures at_once { (w : Who) (H : List Call) (c : Controller) (now : ℕ) (answer : Option FrameRecord)
-        → Is w (TakeFrame now answer ∷ H) c → IsTrue (owes_claim w H) → answer ≢ None }
+        → Is w (At now (TakeFrame answer) ∷ H) c → IsTrue (owes_claim w H) → answer ≢ None }
     ensures only { (w : Who) (H : List Call) (c : Controller) (now : ℕ) (f : FrameRecord)
-        → Is w (TakeFrame now (Some f) ∷ H) c → pgn_of f.id ≡ address_claimed_group → IsTrue (owes_claim w H) }
+        → Is w (At now (TakeFrame (Some f)) ∷ H) c → pgn_of f.id ≡ address_claimed_group → IsTrue (owes_claim w H) }
 {}
 
 /// No frame is taken before the moment that `next_due` tells, if nothing is heard or handed in till then; and one is taken at the
@@ -131,15 +132,15 @@ pub fn claims()
 /// in two steps is the same as in one.
 pub fn quiet_till_due()
     ensures quiet { (w : Who) (H : List Call) (c : Controller) (now : ℕ) (answer : Option FrameRecord)
-        → Is w (TakeFrame now answer ∷ H) c → moment H ≤ now → now < 10000000000000000
+        → Is w (At now (TakeFrame answer) ∷ H) c → moment H ≤ now → now < 10000000000000000
         → ((t : ℕ) → next_due w H ≡ Some t → now < t) → answer ≡ None }
     ensures due { (w : Who) (H : List Call) (c : Controller) (now : ℕ) (answer : Option FrameRecord)
-        → Is w (TakeFrame now answer ∷ H) c → next_due w H ≡ Some (moment H) → answer ≢ None }
+        → Is w (At now (TakeFrame answer) ∷ H) c → next_due w H ≡ Some (moment H) → answer ≢ None }
     ensures taken { (w : Who) (H : List Call) (c : Controller) (now t : ℕ) (answer : Option FrameRecord)
-        → Is w (TakeFrame now answer ∷ H) c → next_due w H ≡ Some t → t ≤ now → IsTrue (is_held (address_after w H))
+        → Is w (At now (TakeFrame answer) ∷ H) c → next_due w H ≡ Some t → t ≤ now → IsTrue (is_held (address_after w H))
         → age H + step H t < 10000000000000000 → answer ≢ None }
     ensures ticks { (w : Who) (H : List Call) (now later : ℕ) → moment H ≤ now → now ≤ later
-        → holds w (Tick now ∷ H) later ≡ holds w H later }
+        → holds w (At now Tick ∷ H) later ≡ holds w H later }
 {}
 
 /// News is told while it stands, and where none is told none stands: that the address was lost, which it then is; that another
@@ -175,21 +176,21 @@ pub fn an_example()
 pub fn requests()
     ensures handed { (w : Who) (H : List Call) (f : FrameRecord) (r : Asked) → asked w (holds w H f.stamp) f ≡ Some r
         → IsTrue (is_served w r.group) → length (requests w H) < length (handed H) + 16
-        → (requests w (Hear f ∷ H) ≡ requests w H ++ r ∷ []) × (due w (Hear f ∷ H) ≡ due w H) }
+        → (requests w (At @@ (Hear f) ∷ H) ≡ requests w H ++ r ∷ []) × (due w (At @@ (Hear f) ∷ H) ≡ due w H) }
     ensures refused { (w : Who) (H : List Call) (f : FrameRecord) (r : Asked) → asked w (holds w H f.stamp) f ≡ Some r
         → r.destination ≡ w.address → (IsTrue (is_served w r.group) → ⊥)
         → length (due w H) < length (acknowledged H) + 16
-        → (requests w (Hear f ∷ H) ≡ requests w H)
-        × (due w (Hear f ∷ H) ≡ due w H ++ acknowledgment w answer.Nack r ∷ []) }
+        → (requests w (At @@ (Hear f) ∷ H) ≡ requests w H)
+        × (due w (At @@ (Hear f) ∷ H) ≡ due w H ++ acknowledgment w answer.Nack r ∷ []) }
     ensures no_room { (w : Who) (H : List Call) (f : FrameRecord) (r : Asked) → asked w (holds w H f.stamp) f ≡ Some r
         → r.destination ≡ w.address → IsTrue (is_served w r.group) → length (handed H) + 16 ≤ length (requests w H)
         → length (due w H) < length (acknowledged H) + 16
-        → (requests w (Hear f ∷ H) ≡ requests w H)
-        × (due w (Hear f ∷ H) ≡ due w H ++ acknowledgment w answer.Busy r ∷ []) }
+        → (requests w (At @@ (Hear f) ∷ H) ≡ requests w H)
+        × (due w (At @@ (Hear f) ∷ H) ≡ due w H ++ acknowledgment w answer.Busy r ∷ []) }
     ensures to_all { (w : Who) (H : List Call) (f : FrameRecord) (r : Asked) → asked w (holds w H f.stamp) f ≡ Some r
-        → r.destination ≢ w.address → due w (Hear f ∷ H) ≡ due w H }
+        → r.destination ≢ w.address → due w (At @@ (Hear f) ∷ H) ≡ due w H }
     ensures no_request { (w : Who) (H : List Call) (f : FrameRecord) → asked w (holds w H f.stamp) f ≡ None
-        → (requests w (Hear f ∷ H) ≡ requests w H) × (due w (Hear f ∷ H) ≡ due w H) }
+        → (requests w (At @@ (Hear f) ∷ H) ≡ requests w H) × (due w (At @@ (Hear f) ∷ H) ≡ due w H) }
     ensures in_order { (w : Who) (H : List Call) (c : Controller) → Is w H c → IsFront (handed H) (requests w H) }
     ensures all { (w : Who) (H : List Call) (c : Controller) → Is w (TakeRequest None ∷ H) c → handed H ≡ requests w H }
 {}
@@ -199,34 +200,34 @@ pub fn requests()
 pub fn acknowledgments()
     ensures in_order { (w : Who) (H : List Call) (c : Controller) → Is w H c → IsFront (acknowledged H) (due w H) }
     ensures first { (w : Who) (H : List Call) (c : Controller) (now : ℕ) (f : FrameRecord)
-        → Is w (TakeFrame now (Some f) ∷ H) c → pgn_of f.id ≢ address_claimed_group → pgn_of f.id ≢ acknowledgment_group
+        → Is w (At now (TakeFrame (Some f)) ∷ H) c → pgn_of f.id ≢ address_claimed_group → pgn_of f.id ≢ acknowledgment_group
         → acknowledged H ≡ due w H }
     ensures accepts { (w : Who) (H : List Call) (c : Controller) (now : ℕ) (r : Asked) (a : Answer) (result : Result (Unit {0}) Refused)
-        → Is w (Acknowledge now r a result ∷ H) c → IsTrue (holds w H now) → r.destination ≡ w.address
+        → Is w (At now (Acknowledge r a result) ∷ H) c → IsTrue (holds w H now) → r.destination ≡ w.address
         → length (due w H) < length (acknowledged H) + 16 → result ≡ Ok tt }
     ensures only { (w : Who) (H : List Call) (c : Controller) (now : ℕ) (r : Asked) (a : Answer)
-        → Is w (Acknowledge now r a (Ok tt) ∷ H) c → IsTrue (holds w H now) × (r.destination ≡ w.address) }
+        → Is w (At now (Acknowledge r a (Ok tt)) ∷ H) c → IsTrue (holds w H now) × (r.destination ≡ w.address) }
 {}
 
 /// What `broadcast` answers: `NoAddress` where no address is held, `BadValue` where the message can't be broadcast, `Full` where one
 /// is accepted and not told (or as many as there are tokens were accepted), and else the next token.
 pub fn broadcast_means()
     ensures no_address { (w : Who) (H : List Call) (c : Controller) (now group : ℕ) (bytes : List ℕ) (answer : Result ℕ Refused)
-        → Is w (Broadcast now group bytes answer ∷ H) c → (answer ≡ Err refused.NoAddress ↔ (IsTrue (holds w H now) → ⊥)) }
+        → Is w (At now (Broadcast group bytes answer) ∷ H) c → (answer ≡ Err refused.NoAddress ↔ (IsTrue (holds w H now) → ⊥)) }
     ensures bad_value { (w : Who) (H : List Call) (c : Controller) (now group : ℕ) (bytes : List ℕ) (answer : Result ℕ Refused)
-        → Is w (Broadcast now group bytes answer ∷ H) c
+        → Is w (At now (Broadcast group bytes answer) ∷ H) c
         → (answer ≡ Err refused.BadValue ↔ (IsTrue (holds w H now) × (IsTrue (can_broadcast group bytes) → ⊥))) }
     ensures full { (w : Who) (H : List Call) (c : Controller) (now group : ℕ) (bytes : List ℕ) (answer : Result ℕ Refused)
-        → Is w (Broadcast now group bytes answer ∷ H) c
+        → Is w (At now (Broadcast group bytes answer) ∷ H) c
         → (answer ≡ Err refused.Full
         ↔ (IsTrue (holds w H now) × IsTrue (can_broadcast group bytes)
         × ((length (broadcasts w H) ≡ length (told_broadcasts H) + 1) ⊎ (length (broadcasts w H) ≡ 18446744073709551615)))) }
     ensures accepts { (w : Who) (H : List Call) (c : Controller) (now group : ℕ) (bytes : List ℕ) (answer : Result ℕ Refused)
-        → Is w (Broadcast now group bytes answer ∷ H) c → IsTrue (holds w H now) → IsTrue (can_broadcast group bytes)
+        → Is w (At now (Broadcast group bytes answer) ∷ H) c → IsTrue (holds w H now) → IsTrue (can_broadcast group bytes)
         → length (broadcasts w H) ≡ length (told_broadcasts H) → length (broadcasts w H) < 18446744073709551615
         → answer ≡ Ok (length (broadcasts w H)) }
     ensures token { (w : Who) (H : List Call) (c : Controller) (now group k : ℕ) (bytes : List ℕ)
-        → Is w (Broadcast now group bytes (Ok k) ∷ H) c → k ≡ length (broadcasts w H) }
+        → Is w (At now (Broadcast group bytes (Ok k)) ∷ H) c → k ≡ length (broadcasts w H) }
 {}
 
 /// The frames of packets that are taken since a broadcast was accepted are its announcement and packets, in order, and no others are
@@ -237,17 +238,17 @@ pub fn packets_mean()
         → open_broadcast w H ≡ Some (k, m)
         → (slice_get (broadcasts w H) k ≡ Some m) × (packets H ≡ first_frames m (length (packets H))) }
     ensures only { (w : Who) (H : List Call) (c : Controller) (now : ℕ) (f : FrameRecord)
-        → Is w (TakeFrame now (Some f) ∷ H) c → IsTrue (is_packet f)
+        → Is w (At now (TakeFrame (Some f)) ∷ H) c → IsTrue (is_packet f)
         → (k : ℕ) × (m : MessageRecord) × (open_broadcast w H ≡ Some (k, m))
         × (message_of f ≡ frame_of m (length (packets H))) × (length (packets H) ≤ packets_of m) }
     ensures behind { (w : Who) (H : List Call) (c : Controller) (now : ℕ) (f : FrameRecord)
-        → Is w (TakeFrame now (Some f) ∷ H) c → IsTrue (is_packet f)
+        → Is w (At now (TakeFrame (Some f)) ∷ H) c → IsTrue (is_packet f)
         → IsTrue (holds w H now) × (length (sent H) ≡ length (accepted w H)) × (acknowledged H ≡ due w H) }
     ensures spaced { (w : Who) (H later : List Call) (c : Controller) (now at : ℕ) (f g : FrameRecord)
-        → Is w (TakeFrame now (Some g) ∷ later ++ TakeFrame at (Some f) ∷ H) c
+        → Is w (At now (TakeFrame (Some g)) ∷ later ++ At at (TakeFrame (Some f)) ∷ H) c
         → IsTrue (is_packet f) → IsTrue (is_packet g)
-        → 50000 ≤ passed_in (TakeFrame now (Some g) ∷ later) (TakeFrame at (Some f) ∷ H) }
-    ensures waits { (w : Who) (H : List Call) (c : Controller) (now : ℕ) → Is w (TakeFrame now None ∷ H) c
+        → 50000 ≤ passed_in (At now (TakeFrame (Some g)) ∷ later) (At at (TakeFrame (Some f)) ∷ H) }
+    ensures waits { (w : Who) (H : List Call) (c : Controller) (now : ℕ) → Is w (At now (TakeFrame None) ∷ H) c
         → IsTrue (holds w H now) → IsTrue (has_packets w H) → (e : ℕ) × PacketSince H e × (e + step H now < 50000) }
 {}
 
@@ -277,13 +278,13 @@ pub fn transfers_received()
     ensures got { (w : Who) (H : List Call) (c : Controller) (answer : Bool) → Is w (ReleaseTransfer answer ∷ H) c
         → (answer ≡ true ↔ ((x : ℕ × MessageRecord) × ((reception w H).waits ≡ Some x))) }
     ensures of_one { (w : Who) (H : List Call) (f : FrameRecord) (m : MessageRecord) → whole w H f ≡ Some m
-        → CameFromOne w (Hear f ∷ H) m }
+        → CameFromOne w (At @@ (Hear f) ∷ H) m }
     ensures begins { (w : Who) (H : List Call) (f : FrameRecord) (size packets most pgn : ℕ) → IsTrue (holds w H f.stamp)
         → (reception w H).waits ≡ None → (reception w H).session ≡ None
         → said_to w.address f ≡ Some (RequestToSend size packets most pgn)
-        → (r : ReceptionRecord) × (x : ToSend) × ((reception w (Hear f ∷ H)).session ≡ Some r)
+        → (r : ReceptionRecord) × (x : ToSend) × ((reception w (At @@ (Hear f) ∷ H)).session ≡ Some r)
         × (r.message.source ≡ source_of f.id) × (slice_get x.bytes 0 ≡ Some 17)
-        × ((reception w (Hear f ∷ H)).replies ≡ replied w.address (source_of f.id) (Some x) (reception w H).replies) }
+        × ((reception w (At @@ (Hear f) ∷ H)).replies ≡ replied w.address (source_of f.id) (Some x) (reception w H).replies) }
 {}
 
 /// What the receiver says to a frame waits in place of what it said to that address before. It says an end-of-message acknowledgment
@@ -291,7 +292,7 @@ pub fn transfers_received()
 /// program, or was got.
 pub fn acknowledged_is_there()
     ensures says { (w : Who) (H : List Call) (f : FrameRecord) → IsTrue (holds w H f.stamp) → claim_of f ≡ None
-        → (reception w (Hear f ∷ H)).replies ≡ replied w.address (source_of f.id) (says w H f) (reception w H).replies }
+        → (reception w (At @@ (Hear f) ∷ H)).replies ≡ replied w.address (source_of f.id) (says w H f) (reception w H).replies }
     ensures whole { (w : Who) (H : List Call) (f : FrameRecord) (m : MessageRecord) → whole w H f ≡ Some m
         → (x : ToSend) × (says w H f ≡ Some x) × (slice_get x.bytes 0 ≡ Some 19) }
     ensures only { (w : Who) (H : List Call) (f : FrameRecord) (x : ToSend) → says w H f ≡ Some x
@@ -302,14 +303,14 @@ pub fn acknowledged_is_there()
 /// behind claims and acknowledgments and before all else, and each is taken once. From an address that is lost nothing is said.
 pub fn replies_mean()
     ensures first { (w : Who) (H : List Call) (c : Controller) (now : ℕ) (f : FrameRecord)
-        → Is w (TakeFrame now (Some f) ∷ H) c → IsTrue (is_transfer f) → is_move w H f ≡ false
+        → Is w (At now (TakeFrame (Some f)) ∷ H) c → IsTrue (is_transfer f) → is_move w H f ≡ false
         → IsTrue (holds w H now) × (source_of f.id ≡ w.address) × (slice_get (reception w H).replies 0 ≡ Some (message_of f))
         × (slice_get (due w H) (length (acknowledged H)) ≡ None) }
     ensures before { (w : Who) (H : List Call) (c : Controller) (now : ℕ) (f : FrameRecord) (m : Message)
-        → Is w (TakeFrame now (Some f) ∷ H) c → slice_get (reception w H).replies 0 ≡ Some m
+        → Is w (At now (TakeFrame (Some f)) ∷ H) c → slice_get (reception w H).replies 0 ≡ Some m
         → is_claim f ≡ false → is_acknowledgment f ≡ false → message_of f ≡ m }
     ensures once { (w : Who) (H : List Call) (now : ℕ) (f : FrameRecord) → is_claim f ≡ false → is_acknowledgment f ≡ false
-        → (reception w (TakeFrame now (Some f) ∷ H)).replies ≡ drop 1 (reception w H).replies }
+        → (reception w (At now (TakeFrame (Some f)) ∷ H)).replies ≡ drop 1 (reception w H).replies }
     ensures lost { (w : Who) (H : List Call) → IsTrue (is_lost (address_after w H))
         → ((reception w H).session ≡ None) × ((reception w H).replies ≡ []) }
 {}
@@ -320,41 +321,41 @@ pub fn replies_mean()
 pub fn strangers()
     ensures to_others { (w : Who) (H : List Call) (f : FrameRecord) → is_smaller w (claim_of f) ≡ false
         → ((r : ReceptionRecord) → (reception w H).session ≡ Some r
-        → holder w (Hear f ∷ H) r.message.source ≡ holder w H r.message.source)
-        → destination_of f.id ≢ Some w.address → reception w (Hear f ∷ H) ≡ reception w H }
+        → holder w (At @@ (Hear f) ∷ H) r.message.source ≡ holder w H r.message.source)
+        → destination_of f.id ≢ Some w.address → reception w (At @@ (Hear f) ∷ H) ≡ reception w H }
     ensures from_others { (w : Who) (H : List Call) (f : FrameRecord) (r : ReceptionRecord)
-        → is_lost (address_after w (Hear f ∷ H)) ≡ false → holder w (Hear f ∷ H) r.message.source ≡ holder w H r.message.source
-        → (reception w H).session ≡ Some r → source_of f.id ≢ r.message.source → (reception w (Hear f ∷ H)).session ≡ Some r }
+        → is_lost (address_after w (At @@ (Hear f) ∷ H)) ≡ false → holder w (At @@ (Hear f) ∷ H) r.message.source ≡ holder w H r.message.source
+        → (reception w H).session ≡ Some r → source_of f.id ≢ r.message.source → (reception w (At @@ (Hear f) ∷ H)).session ≡ Some r }
     ensures waits { (w : Who) (H : List Call) (f : FrameRecord)
         → ((r : ReceptionRecord) → (reception w H).session ≡ Some r → source_of f.id ≢ r.message.source)
-        → (reception w (Hear f ∷ H)).waits ≡ (reception w H).waits }
+        → (reception w (At @@ (Hear f) ∷ H)).waits ≡ (reception w H).waits }
     ensures replies { (w : Who) (H : List Call) (f : FrameRecord) → claim_of f ≡ None
-        → without (source_of f.id) (reception w (Hear f ∷ H)).replies ≡ without (source_of f.id) (reception w H).replies }
+        → without (source_of f.id) (reception w (At @@ (Hear f) ∷ H)).replies ≡ without (source_of f.id) (reception w H).replies }
 {}
 
 /// What is heard accepts nothing, sends nothing and tells no end. A frame that doesn't go to its address, and is neither a claim nor a
 /// request, changes nothing of what is sent: at any moment the next frame is the one where time alone passed, and none was taken.
 pub fn strangers_and_sending()
-    ensures accepted { (w : Who) (H : List Call) (f : FrameRecord) → (accepted w (Hear f ∷ H) ≡ accepted w H)
-        × (broadcasts w (Hear f ∷ H) ≡ broadcasts w H) × (transfers w (Hear f ∷ H) ≡ transfers w H) × (asks (Hear f ∷ H) ≡ asks H) }
-    ensures sent { (w : Who) (H : List Call) (f : FrameRecord) → (sent (Hear f ∷ H) ≡ sent H) × (packets (Hear f ∷ H) ≡ packets H)
-        × (moves w (Hear f ∷ H) ≡ moves w H) × (acknowledged (Hear f ∷ H) ≡ acknowledged H) }
-    ensures told { (H : List Call) (f : FrameRecord) → (told (Hear f ∷ H) ≡ told H) × (told_broadcasts (Hear f ∷ H) ≡ told_broadcasts H)
-        × (told_transfers (Hear f ∷ H) ≡ told_transfers H) × (told_asks (Hear f ∷ H) ≡ told_asks H) }
-    ensures broadcast { (w : Who) (H : List Call) (f : FrameRecord) → open_broadcast w (Hear f ∷ H) ≡ open_broadcast w H }
+    ensures accepted { (w : Who) (H : List Call) (f : FrameRecord) → (accepted w (At @@ (Hear f) ∷ H) ≡ accepted w H)
+        × (broadcasts w (At @@ (Hear f) ∷ H) ≡ broadcasts w H) × (transfers w (At @@ (Hear f) ∷ H) ≡ transfers w H) × (asks (At @@ (Hear f) ∷ H) ≡ asks H) }
+    ensures sent { (w : Who) (H : List Call) (f : FrameRecord) → (sent (At @@ (Hear f) ∷ H) ≡ sent H) × (packets (At @@ (Hear f) ∷ H) ≡ packets H)
+        × (moves w (At @@ (Hear f) ∷ H) ≡ moves w H) × (acknowledged (At @@ (Hear f) ∷ H) ≡ acknowledged H) }
+    ensures told { (H : List Call) (f : FrameRecord) → (told (At @@ (Hear f) ∷ H) ≡ told H) × (told_broadcasts (At @@ (Hear f) ∷ H) ≡ told_broadcasts H)
+        × (told_transfers (At @@ (Hear f) ∷ H) ≡ told_transfers H) × (told_asks (At @@ (Hear f) ∷ H) ≡ told_asks H) }
+    ensures broadcast { (w : Who) (H : List Call) (f : FrameRecord) → open_broadcast w (At @@ (Hear f) ∷ H) ≡ open_broadcast w H }
     ensures next { (w : Who) (H : List Call) (c : Controller) (f : FrameRecord) (now : ℕ) → Is w H c → claim_of f ≡ None
         → asked_group f ≡ None → destination_of f.id ≢ Some w.address
-        → next_frame w (Hear f ∷ H) now ≡ next_frame w (TakeFrame f.stamp None ∷ H) now }
+        → next_frame w (At @@ (Hear f) ∷ H) now ≡ next_frame w (At f.stamp (TakeFrame None) ∷ H) now }
 {}
 
 /// Which frame others exchange, no claim, makes no difference to any answer, whatever comes later. Neither does it whether a tick stands
 /// in its place, unless a session (`ticks_wait`) or a request is out of time by it.
 pub fn strangers_unheard()
     ensures alike { (w : Who) (later H : List Call) (f g : FrameRecord) → IsAside w f → IsAside w g → f.stamp ≡ g.stamp
-        → AreAnswered w (later ++ Hear f ∷ H) → AreAnswered w (later ++ Hear g ∷ H) }
+        → AreAnswered w (later ++ At @@ (Hear f) ∷ H) → AreAnswered w (later ++ At @@ (Hear g) ∷ H) }
     ensures time { (w : Who) (later H : List Call) (f : FrameRecord) → IsAside w f
-        → reception w (Tick f.stamp ∷ H) ≡ reception w H → ended w (Hear f ∷ H) ≡ ended w H
-        → (AreAnswered w (later ++ Hear f ∷ H) ↔ AreAnswered w (later ++ Tick f.stamp ∷ H)) }
+        → reception w (At f.stamp Tick ∷ H) ≡ reception w H → ended w (At @@ (Hear f) ∷ H) ≡ ended w H
+        → (AreAnswered w (later ++ At @@ (Hear f) ∷ H) ↔ AreAnswered w (later ++ At f.stamp Tick ∷ H)) }
 {}
 
 /// While a message waits for the program, an RTS to its address is answered by abort 2, and none begins.
@@ -363,7 +364,7 @@ pub fn full_refuses()
         → (reception w H).waits ≡ Some x → IsTrue (holds w H f.stamp)
         → said_to w.address f ≡ Some (RequestToSend size packets most pgn)
         → length (without (source_of f.id) (reception w H).replies) < 16
-        → reception w (Hear f ∷ H) ≡ record {
+        → reception w (At @@ (Hear f) ∷ H) ≡ record {
           session = None;
           waits = Some x;
           replies = without (source_of f.id) (reception w H).replies
@@ -375,9 +376,9 @@ pub fn full_refuses()
 /// byte is 17 or 255) to the session's source.
 pub fn ticks_wait()
     ensures waits { (w : Who) (H : List Call) (now : ℕ) → heard_at H ≤ now → now < 10000000000000000
-        → ((t : ℕ) → next_tick w H ≡ Some t → now < t) → reception w (Tick now ∷ H) ≡ reception w H }
+        → ((t : ℕ) → next_tick w H ≡ Some t → now < t) → reception w (At now Tick ∷ H) ≡ reception w H }
     ensures says { (w : Who) (H : List Call) (now t : ℕ) (r : ReceptionRecord) → next_tick w H ≡ Some t
         → (reception w H).session ≡ Some r → t ≤ now → time_heard H + (t - heard_at H) < 10000000000000000
         → (x : ToSend) × ((slice_get x.bytes 0 ≡ Some 17) ⊎ (slice_get x.bytes 0 ≡ Some 255))
-        × ((reception w (Tick now ∷ H)).replies ≡ replied w.address r.message.source (Some x) (reception w H).replies) }
+        × ((reception w (At now Tick ∷ H)).replies ≡ replied w.address r.message.source (Some x) (reception w H).replies) }
 {}

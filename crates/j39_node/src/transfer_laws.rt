@@ -14,7 +14,8 @@ ghost use Rattle.j39_node.specs.declared.kinds.TransferEnding.TheVariants as end
 ghost use Rattle.j39_node.specs.declared.kinds.Refused.{Refused};
 ghost use Rattle.j39_node.specs.declared.kinds.Refused.TheVariants as refused;
 ghost use Rattle.j39_node.specs.History.{Who, Call, accepted, acknowledged, address_after, due, has_packets, holds, is_lost, is_smaller, message_of, sent, step, told_claims};
-ghost use Rattle.j39_node.specs.History.Call.{Hear, TakeFrame, TakeTransferEnded, Tick as Ticks, Transfer};
+ghost use Rattle.j39_node.specs.History.Call.{At, TakeTransferEnded};
+ghost use Rattle.j39_node.specs.History.Act.{Hear, TakeFrame, Tick as Ticks, Transfer};
 ghost use Rattle.j39_node.specs.Since.{PacketSince, ToldSince, passed_in};
 ghost use Rattle.j39_node.specs.Reception.{holder, is_move};
 ghost use Rattle.j39_node.specs.Transfers.{Running, can_transfer, clock_at, gives_up, is_over, is_replaced, is_resting, is_spent, next_transfer, next_transfer_ended, open_transfer, rests_after, said_to, told_transfers, transfers};
@@ -25,22 +26,22 @@ ghost use Rattle.j39_node.specs.Is.{Is, next_long};
 /// accepted and not told (or as many as there are tokens were accepted) or where it rests, and else the next token.
 pub fn transfer_means()
     ensures no_address { (w : Who) (H : List Call) (c : Controller) (now group to : ℕ) (bytes : List ℕ) (answer : Result ℕ Refused)
-        → Is w (Transfer now group to bytes answer ∷ H) c → (answer ≡ Err refused.NoAddress ↔ (IsTrue (holds w H now) → ⊥)) }
+        → Is w (At now (Transfer group to bytes answer) ∷ H) c → (answer ≡ Err refused.NoAddress ↔ (IsTrue (holds w H now) → ⊥)) }
     ensures bad_value { (w : Who) (H : List Call) (c : Controller) (now group to : ℕ) (bytes : List ℕ) (answer : Result ℕ Refused)
-        → Is w (Transfer now group to bytes answer ∷ H) c
+        → Is w (At now (Transfer group to bytes answer) ∷ H) c
         → (answer ≡ Err refused.BadValue ↔ (IsTrue (holds w H now) × (IsTrue (can_transfer w group to bytes) → ⊥))) }
     ensures full { (w : Who) (H : List Call) (c : Controller) (now group to : ℕ) (bytes : List ℕ) (answer : Result ℕ Refused)
-        → Is w (Transfer now group to bytes answer ∷ H) c
+        → Is w (At now (Transfer group to bytes answer) ∷ H) c
         → (answer ≡ Err refused.Full
         ↔ (IsTrue (holds w H now) × IsTrue (can_transfer w group to bytes)
         × ((length (transfers w H) ≡ length (told_transfers H) + 1)
         ⊎ ((length (transfers w H) ≡ 18446744073709551615) ⊎ IsTrue (is_resting w H now group to))))) }
     ensures accepts { (w : Who) (H : List Call) (c : Controller) (now group to : ℕ) (bytes : List ℕ) (answer : Result ℕ Refused)
-        → Is w (Transfer now group to bytes answer ∷ H) c → IsTrue (holds w H now) → IsTrue (can_transfer w group to bytes)
+        → Is w (At now (Transfer group to bytes answer) ∷ H) c → IsTrue (holds w H now) → IsTrue (can_transfer w group to bytes)
         → length (transfers w H) ≡ length (told_transfers H) → length (transfers w H) < 18446744073709551615
         → is_resting w H now group to ≡ false → answer ≡ Ok (length (transfers w H)) }
     ensures token { (w : Who) (H : List Call) (c : Controller) (now group to k : ℕ) (bytes : List ℕ)
-        → Is w (Transfer now group to bytes (Ok k) ∷ H) c → k ≡ length (transfers w H) }
+        → Is w (At now (Transfer group to bytes (Ok k)) ∷ H) c → k ≡ length (transfers w H) }
 {}
 
 /// A frame of a transfer that is taken is one of the transfer that was accepted last and isn't told: first its request to send, then
@@ -50,34 +51,34 @@ pub fn transfer_means()
 /// `j39_transport` defines.
 pub fn moves_mean()
     ensures only { (w : Who) (H : List Call) (c : Controller) (now : ℕ) (f : FrameRecord)
-        → Is w (TakeFrame now (Some f) ∷ H) c → IsTrue (is_move w H f)
+        → Is w (At now (TakeFrame (Some f)) ∷ H) c → IsTrue (is_move w H f)
         → (k to : ℕ) × (m : MessageRecord) × (slice_get (transfers w H) k ≡ Some (to, m)) × (k ≡ length (told_transfers H))
         × IsMove to m (moves w H) (message_of f) }
     ensures behind { (w : Who) (H : List Call) (c : Controller) (now : ℕ) (f : FrameRecord)
-        → Is w (TakeFrame now (Some f) ∷ H) c → IsTrue (is_move w H f)
+        → Is w (At now (TakeFrame (Some f)) ∷ H) c → IsTrue (is_move w H f)
         → IsTrue (holds w H now) × (length (sent H) ≡ length (accepted w H)) × (acknowledged H ≡ due w H) }
     ensures after_broadcasts { (w : Who) (H : List Call) (c : Controller) (now : ℕ) (f : FrameRecord)
-        → Is w (TakeFrame now (Some f) ∷ H) c → IsTrue (is_move w H f) → IsTrue (has_packets w H)
+        → Is w (At now (TakeFrame (Some f)) ∷ H) c → IsTrue (is_move w H f) → IsTrue (has_packets w H)
         → (e : ℕ) × PacketSince H e × (e + step H now < 50000) }
-    ensures waits { (w : Who) (H : List Call) (c : Controller) (now : ℕ) → Is w (TakeFrame now None ∷ H) c → IsTrue (holds w H now)
+    ensures waits { (w : Who) (H : List Call) (c : Controller) (now : ℕ) → Is w (At now (TakeFrame None) ∷ H) c → IsTrue (holds w H now)
         → next_transfer w H now ≡ None }
     ensures gives_up { (w : Who) (H : List Call) (c : Controller) (now : ℕ) (f : FrameRecord) (t : Running)
-        → Is w (TakeFrame now (Some f) ∷ H) c → IsTrue (is_move w H f) → open_transfer w H ≡ Some t → IsTrue (gives_up t)
+        → Is w (At now (TakeFrame (Some f)) ∷ H) c → IsTrue (is_move w H f) → open_transfer w H ≡ Some t → IsTrue (gives_up t)
         → message_of f ≡ abort_move t.sender.destination t.sender.message 5 }
     ensures patient { (w : Who) (H : List Call) (c : Controller) (now : ℕ) (f : FrameRecord) (t : Running)
-        → Is w (TakeFrame now (Some f) ∷ H) c → IsTrue (is_move w H f) → open_transfer w H ≡ Some t
+        → Is w (At now (TakeFrame (Some f)) ∷ H) c → IsTrue (is_move w H f) → open_transfer w H ≡ Some t
         → message_of f ≡ abort_move t.sender.destination t.sender.message 5 → (65 ≤ t.spent) × (65 ≤ clears w H) }
     ensures bounded { (w : Who) (H : List Call) (c : Controller) (t : Running) → Is w H c → open_transfer w H ≡ Some t
         → clears w H ≤ packets_of t.sender.message + 65 }
     ensures hears { (w : Who) (H : List Call) (f : FrameRecord) (t : Running) → open_transfer w H ≡ Some t
-        → is_lost (address_after w (Hear f ∷ H)) ≡ false
-        → is_replaced (holder w H t.sender.destination) (holder w (Hear f ∷ H) t.sender.destination) ≡ false
+        → is_lost (address_after w (At @@ (Hear f) ∷ H)) ≡ false
+        → is_replaced (holder w H t.sender.destination) (holder w (At @@ (Hear f) ∷ H) t.sender.destination) ≡ false
         → t.gone ≡ false → is_spent t ≡ false
-        → (x : Running) × (open_transfer w (Hear f ∷ H) ≡ Some x)
+        → (x : Running) × (open_transfer w (At @@ (Hear f) ∷ H) ≡ Some x)
         × (x.sender ≡ (send_step t.sender (Heard f) (clock_at H f.stamp)).after) }
     ensures takes { (w : Who) (H : List Call) (now : ℕ) (f : FrameRecord) (t : Running) → open_transfer w H ≡ Some t
         → IsTrue (is_move w H f) → gives_up t ≡ false
-        → (x : Running) × (open_transfer w (TakeFrame now (Some f) ∷ H) ≡ Some x)
+        → (x : Running) × (open_transfer w (At now (TakeFrame (Some f)) ∷ H) ≡ Some x)
         × (x.sender ≡ (send_step t.sender Tick (clock_at H now)).after) }
 {}
 
@@ -93,10 +94,10 @@ pub fn transfer_done_means()
         → Is w (TakeTransferEnded (Some (k, ending.Done)) ∷ H) c
         → (to : ℕ) × (m : MessageRecord) × (slice_get (transfers w H) k ≡ Some (to, m)) × Happened (Acknowledges w to m) H }
     ensures acknowledged { (w : Who) (H later : List Call) (c : Controller) (f : FrameRecord) (t : Running) (answer : Option (ℕ × TransferEnding))
-        → Is w (TakeTransferEnded answer ∷ later ++ Hear f ∷ H) c → NoneEnds later → open_transfer w H ≡ Some t
+        → Is w (TakeTransferEnded answer ∷ later ++ At @@ (Hear f) ∷ H) c → NoneEnds later → open_transfer w H ≡ Some t
         → IsTrue (is_waiting t.sender.state) → t.sender.highest ≡ packets_of t.sender.message → t.gone ≡ false → is_spent t ≡ false
-        → is_lost (address_after w (Hear f ∷ H)) ≡ false
-        → is_replaced (holder w H t.sender.destination) (holder w (Hear f ∷ H) t.sender.destination) ≡ false
+        → is_lost (address_after w (At @@ (Hear f) ∷ H)) ≡ false
+        → is_replaced (holder w H t.sender.destination) (holder w (At @@ (Hear f) ∷ H) t.sender.destination) ≡ false
         → said_to t.sender f
         ≡ Some (Acknowledgment (length t.sender.message.bytes) (packets_of t.sender.message) t.sender.message.pgn)
         → answer ≡ Some (t.token, ending.Done) }
@@ -107,9 +108,9 @@ pub fn transfer_done_means()
         → Is w (TakeTransferEnded (Some (k, ending.Gone)) ∷ H) c
         → (to : ℕ) × (m : MessageRecord) × (slice_get (transfers w H) k ≡ Some (to, m)) × Happened (Replaces w to) H }
     ensures replaced { (w : Who) (H later : List Call) (c : Controller) (f : FrameRecord) (t : Running) (answer : Option (ℕ × TransferEnding))
-        → Is w (TakeTransferEnded answer ∷ later ++ Hear f ∷ H) c → NoneEnds later → open_transfer w H ≡ Some t → is_over t ≡ false
-        → is_lost (address_after w (Hear f ∷ H)) ≡ false
-        → is_replaced (holder w H t.sender.destination) (holder w (Hear f ∷ H) t.sender.destination) ≡ true
+        → Is w (TakeTransferEnded answer ∷ later ++ At @@ (Hear f) ∷ H) c → NoneEnds later → open_transfer w H ≡ Some t → is_over t ≡ false
+        → is_lost (address_after w (At @@ (Hear f) ∷ H)) ≡ false
+        → is_replaced (holder w H t.sender.destination) (holder w (At @@ (Hear f) ∷ H) t.sender.destination) ≡ true
         → answer ≡ Some (t.token, ending.Gone) }
     ensures withdrawn { (w : Who) (H : List Call) (c : Controller) (k : ℕ)
         → Is w (TakeTransferEnded (Some (k, ending.Withdrawn)) ∷ H) c → IsTrue (is_lost (address_after w H)) }
@@ -125,16 +126,16 @@ pub fn transfer_done_means()
 pub fn strangers_and_transfers()
     ensures transfer { (w : Who) (H : List Call) (c : Controller) (f : FrameRecord) (t : Running) → Is w H c → open_transfer w H ≡ Some t
         → (source_of f.id ≢ t.sender.destination) ⊎ (destination_of f.id ≢ Some w.address)
-        → is_replaced (holder w H t.sender.destination) (holder w (Hear f ∷ H) t.sender.destination) ≡ false
-        → open_transfer w (Hear f ∷ H) ≡ Some t }
+        → is_replaced (holder w H t.sender.destination) (holder w (At @@ (Hear f) ∷ H) t.sender.destination) ≡ false
+        → open_transfer w (At @@ (Hear f) ∷ H) ≡ Some t }
     ensures next { (w : Who) (H : List Call) (c : Controller) (f : FrameRecord) (t : Running) (now : ℕ) → Is w H c
         → open_transfer w H ≡ Some t → (source_of f.id ≢ t.sender.destination) ⊎ (destination_of f.id ≢ Some w.address)
-        → is_replaced (holder w H t.sender.destination) (holder w (Hear f ∷ H) t.sender.destination) ≡ false
-        → next_long w (Hear f ∷ H) now ≡ next_long w (Ticks f.stamp ∷ H) now }
+        → is_replaced (holder w H t.sender.destination) (holder w (At @@ (Hear f) ∷ H) t.sender.destination) ≡ false
+        → next_long w (At @@ (Hear f) ∷ H) now ≡ next_long w (At f.stamp Ticks ∷ H) now }
     ensures ends { (w : Who) (H : List Call) (c : Controller) (f : FrameRecord) (t : Running) → Is w H c → open_transfer w H ≡ Some t
         → (source_of f.id ≢ t.sender.destination) ⊎ (destination_of f.id ≢ Some w.address)
-        → is_replaced (holder w H t.sender.destination) (holder w (Hear f ∷ H) t.sender.destination) ≡ false
-        → is_smaller w (claim_of f) ≡ false → next_transfer_ended w (Hear f ∷ H) ≡ next_transfer_ended w (Ticks f.stamp ∷ H) }
+        → is_replaced (holder w H t.sender.destination) (holder w (At @@ (Hear f) ∷ H) t.sender.destination) ≡ false
+        → is_smaller w (claim_of f) ≡ false → next_transfer_ended w (At @@ (Hear f) ∷ H) ≡ next_transfer_ended w (At f.stamp Ticks ∷ H) }
 {}
 
 /// A transfer rests for 4 seconds after the end of one of its group to its destination was told that wasn't acknowledged, whatever

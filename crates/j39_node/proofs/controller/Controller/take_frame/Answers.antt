@@ -1,6 +1,7 @@
 use Rattle.std.proofs.Common.{◌≡◌, ◌∙◌, ap, sym, refl, ℕ, Some, Option, List, ◌∷◌, true, not, subst, length}
 use Rattle.j39_frame.specs.Frame.{FrameRecord}
-use Rattle.j39_node.specs.History.Call.{TakeFrame}
+use Rattle.j39_node.specs.History.Call.{At}
+use Rattle.j39_node.specs.History.Act.{TakeFrame}
 use Rattle.j39_node.specs.History.{Who, acknowledged, due}
 use Rattle.j39_node.specs.Is.{refusal_by, said_by, Is, port_of}
 use Rattle.j39_node.specs.Reception.{reception}
@@ -44,7 +45,7 @@ pub returns-in_err-frame-in-None-frame : goal.returns-in_err-frame-in-None-frame
 returns-in_err-frame-in-None-frame c = λ w H h.
     let p = passed_is w H (stamp_micros c.args.now) c.args.self.now.hold c.passed-self.result h.hold c.passed-self.ensures in
     let b = sym (holds_is w H (stamp_micros c.args.now) c.passed-self.result c.is_held.result p c.is_held.ensures) ∙ c.if-not-is_held.false in
-    subst (λ (r : Option FrameRecord). Is w (TakeFrame (stamp_micros c.args.now) r ∷ H) (record c.args.self.now { hold = c.passed-self.result }))
+    subst (λ (r : Option FrameRecord). Is w (At (stamp_micros c.args.now) (TakeFrame r) ∷ H) (record c.args.self.now { hold = c.passed-self.result }))
     (sym c.from_residual-in_err-frame-in-None-frame.ensures)
     (taken_none w H c.args.self.now _ (stamp_micros c.args.now) h p (sym c.is_claim_due.ensures ∙ c.if-is_claim_due.false) b
     (none_left _ _ c.is_empty.ensures c.if-not-is_empty.false) (none_left _ _ c.is_empty-2.ensures c.if-not-is_empty-2.false) (read_none c.as_slice.result.now _ _ c.as_slice.ensures.value c.in-None.ensures.lookup.3)
