@@ -44,7 +44,7 @@ int32_t j39_controller_new(j1939_handle *controller, uint64_t name, uint8_t addr
                            size_t count);
 int32_t j39_controller_new_subscribed(j1939_handle *controller, uint64_t name, uint8_t address, const uint32_t *served,
                                       size_t count, const uint32_t *wanted, size_t wanted_count);
-int32_t j39_controller_hear(j1939_handle *controller, const j1939_frame *frame);
+int32_t j39_controller_hear(j1939_handle *controller, const j1939_frame *frame, uint64_t micros);
 int32_t j39_controller_tick(j1939_handle *controller, uint64_t micros);
 int32_t j39_controller_next_tick(j1939_handle *controller, uint64_t *due);
 int32_t j39_controller_take_frame(j1939_handle *controller, uint64_t micros, j1939_frame *out);
@@ -256,8 +256,8 @@ int32_t j1939_controller_new_subscribed(j1939_controller *controller, uint64_t n
                                          wanted ? wanted : none, wanted_count);
 }
 
-int32_t j1939_controller_hear(j1939_controller *controller, const j1939_frame *frame) {
-    return controller && frame ? j39_controller_hear(&controller->handle, frame) : J1939_NULL;
+int32_t j1939_controller_hear(j1939_controller *controller, const j1939_frame *frame, uint64_t micros) {
+    return controller && frame ? j39_controller_hear(&controller->handle, frame, micros) : J1939_NULL;
 }
 
 int32_t j1939_controller_tick(j1939_controller *controller, uint64_t micros) {

@@ -378,7 +378,8 @@ int32_t j1939_sender_close(j1939_sender *sender);
 /* ---- a controller (J1939-21, J1939-81)
  *
  * It claims one address, defends it, and sends and receives from there. A frame is made when it is taken: so what
- * j1939_controller_take_frame hands out is to go out at once. The loop:
+ * j1939_controller_take_frame hands out is to go out at once. Each moment that is handed in is that of the call, by one
+ * clock that isn't set back. The loop:
  *  - at each frame that another controller sent, j1939_controller_hear, and then .._take_received, .._take_request and
  *    .._take_news until they answer 0;
  *  - at the sooner of j1939_controller_next_tick and .._next_due, after each frame that is heard, and after what is
@@ -408,9 +409,10 @@ int32_t j1939_controller_new_subscribed(j1939_controller *controller, uint64_t n
                                         const uint32_t *served, size_t count, const uint32_t *wanted,
                                         size_t wanted_count);
 
-/** Shows it a frame that another controller sent, of any group, at the frame's own moment.
+/** Shows it a frame that another controller sent, of any group, at the moment of this call. The frame's own stamp may be
+ * of another clock: it is handed on with what is received, and is no moment.
  * @return 0, J1939_BAD_VALUE, J1939_NO_PART */
-int32_t j1939_controller_hear(j1939_controller *controller, const j1939_frame *frame);
+int32_t j1939_controller_hear(j1939_controller *controller, const j1939_frame *frame, uint64_t micros);
 
 /** Lets time pass: so an address comes to be held, and of what comes in packets to it, it asks again for what is late,
  * or gives it up.

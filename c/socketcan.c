@@ -238,7 +238,7 @@ static void hear(station *s, const j1939_frame *frame) {
     j1939_request request;
     uint8_t priority;
     int32_t kind;
-    sure(j1939_controller_hear(&s->controller, frame));
+    sure(j1939_controller_hear(&s->controller, frame, moment()));
     while ((kind = sure(j1939_controller_take_received(&s->controller, &message, &priority))) != 0) {
         if (kind == J1939_RECEIVED_FRAME) continue;
         s->received++;

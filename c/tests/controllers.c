@@ -296,7 +296,7 @@ static void turns(int self) {
     struct node *node = &nodes[self];
     j1939_frame frame;
     while (comes(self, &frame)) {
-        EXPECT(j1939_controller_hear(&node->controller, &frame) == 0);
+        EXPECT(j1939_controller_hear(&node->controller, &frame, frame.micros) == 0);
         takes_all(self);
     }
     moves(self);

@@ -75,7 +75,7 @@ static void null_pointers(void) {
     EXPECT(j1939_controller_new_subscribed(NULL, 0, 0, NULL, 0, NULL, 0) == J1939_NULL);
     EXPECT(j1939_controller_new_subscribed(&controller, 0, 0, NULL, 1, NULL, 0) == J1939_NULL);
     EXPECT(j1939_controller_new_subscribed(&controller, 0, 0, NULL, 0, NULL, 1) == J1939_NULL);
-    EXPECT(j1939_controller_hear(&controller, NULL) == J1939_NULL);
+    EXPECT(j1939_controller_hear(&controller, NULL, 0) == J1939_NULL);
     EXPECT(j1939_controller_tick(NULL, 0) == J1939_NULL);
     EXPECT(j1939_controller_next_tick(&controller, NULL) == J1939_NULL);
     EXPECT(j1939_controller_take_frame(&controller, 0, NULL) == J1939_NULL);
@@ -362,7 +362,7 @@ static void no_controller(j1939_controller *controller) {
     j1939_ended ended;
     uint64_t number;
     uint8_t byte;
-    EXPECT(j1939_controller_hear(controller, &bam) == J1939_NO_PART);
+    EXPECT(j1939_controller_hear(controller, &bam, bam.micros) == J1939_NO_PART);
     EXPECT(j1939_controller_tick(controller, 0) == J1939_NO_PART);
     EXPECT(j1939_controller_next_tick(controller, &number) == J1939_NO_PART);
     EXPECT(j1939_controller_take_frame(controller, 0, &out) == J1939_NO_PART);
@@ -390,8 +390,8 @@ static void controller_in_range(j1939_controller *controller) {
     j1939_frame late = {.micros = LATE}, long_one = {.len = 9};
     j1939_request request = {65260, 3, 0x80}, no_group = {1u << 18, 3, 0x80};
     uint64_t token = 9;
-    EXPECT(j1939_controller_hear(controller, &late) == J1939_BAD_VALUE);
-    EXPECT(j1939_controller_hear(controller, &long_one) == J1939_BAD_VALUE);
+    EXPECT(j1939_controller_hear(controller, &late, late.micros) == J1939_BAD_VALUE);
+    EXPECT(j1939_controller_hear(controller, &long_one, long_one.micros) == J1939_BAD_VALUE);
     EXPECT(j1939_controller_tick(controller, LATE) == J1939_BAD_VALUE);
     EXPECT(j1939_controller_take_frame(controller, LATE, &out) == J1939_BAD_VALUE);
     EXPECT(j1939_controller_peek_frame(controller, LATE, &out) == J1939_BAD_VALUE);
@@ -498,7 +498,7 @@ static void ends_of(j1939_controller *controller) {
     EXPECT(j1939_controller_take_ended(controller, &ended) == J1939_ENDED_REQUEST && ended.token == 16);
     EXPECT(ended.ending == J1939_ENDED_TIMED_OUT && ended.detail == 0);
     EXPECT(j1939_controller_ask(controller, 4500000, 65260, 3, &token) == 1 && token == 17);
-    EXPECT(taken(controller, 4500000) == 0x18EA0380 && j1939_controller_hear(controller, &refusal) == 0);
+    EXPECT(taken(controller, 4500000) == 0x18EA0380 && j1939_controller_hear(controller, &refusal, refusal.micros) == 0);
     EXPECT(j1939_controller_take_ended(controller, &ended) == J1939_ENDED_MESSAGE && ended.token == 17);
     EXPECT(j1939_controller_take_ended(controller, &ended) == J1939_ENDED_REQUEST && ended.token == 17);
     EXPECT(ended.ending == J1939_ENDED_ACKNOWLEDGED && ended.detail == J1939_DENIED);
@@ -512,7 +512,7 @@ static void hearing_of(j1939_controller *controller) {
     uint64_t count = 9;
     uint8_t priority = 9;
     while (j1939_controller_take_received(controller, &message, &priority)) continue; /* the refusal */
-    EXPECT(j1939_controller_hear(controller, &asks) == 0);
+    EXPECT(j1939_controller_hear(controller, &asks, asks.micros) == 0);
     EXPECT(j1939_controller_take_request(controller, &request) == 1);
     EXPECT(request.pgn == 65260 && request.source == 0x81 && request.destination == 0x80);
     EXPECT(j1939_controller_take_request(controller, &request) == 0);
@@ -521,10 +521,10 @@ static void hearing_of(j1939_controller *controller) {
     request.destination = 255;
     EXPECT(j1939_controller_acknowledge(controller, 7000000, &request, J1939_BUSY) == J1939_BAD_VALUE);
     asks.data[0] = 0xEB; /* a group that isn't served is refused */
-    EXPECT(j1939_controller_hear(controller, &asks) == 0);
+    EXPECT(j1939_controller_hear(controller, &asks, asks.micros) == 0);
     EXPECT(taken(controller, 7000000) == 0x18E8FF80 && out.data[0] == 1 && out.data[5] == 0xEB);
     EXPECT(j1939_controller_take_request(controller, &request) == 0 && taken(controller, 7000000) == 0);
-    for (int k = 0; k < 17; k++) EXPECT(j1939_controller_hear(controller, &single) == 0);
+    for (int k = 0; k < 17; k++) EXPECT(j1939_controller_hear(controller, &single, single.micros) == 0);
     EXPECT(j1939_controller_take_news(controller) == J1939_NEWS_MISSED && !j1939_controller_take_news(controller));
     EXPECT(j1939_controller_missed(controller, &count) == 0 && count == 1);
     for (int k = 0; k < 16; k++)
@@ -532,7 +532,7 @@ static void hearing_of(j1939_controller *controller) {
     EXPECT(message.source == 0x81 && message.pgn == 61444 && message.len == 5 && message.data[4] == 5 && priority == 3);
     EXPECT(!message.is_addressed && !message.is_named && message.micros == 7000000);
     single.id = 0x18EF8081;
-    EXPECT(j1939_controller_hear(controller, &single) == 0);
+    EXPECT(j1939_controller_hear(controller, &single, single.micros) == 0);
     EXPECT(j1939_controller_take_received(controller, &message, &priority) == J1939_RECEIVED_FRAME);
     EXPECT(message.is_addressed && message.destination == 0x80 && priority == 6);
     EXPECT(j1939_controller_take_received(controller, &message, &priority) == 0);
@@ -544,28 +544,28 @@ static void packets_of(j1939_controller *controller) {
     uint64_t due;
     uint8_t priority = 9;
     announcement.id = 0x1CECFF81, announcement.micros = 7000001;
-    EXPECT(j1939_controller_hear(controller, &announcement) == 0);
+    EXPECT(j1939_controller_hear(controller, &announcement, announcement.micros) == 0);
     for (uint8_t k = 1; k <= 3; k++) {
         next = packet(k);
         next.id = 0x1CEBFF81, next.micros += 7000001;
-        EXPECT(j1939_controller_hear(controller, &next) == 0);
+        EXPECT(j1939_controller_hear(controller, &next, next.micros) == 0);
     }
     EXPECT(j1939_controller_take_received(controller, &message, &priority) == J1939_RECEIVED_BROADCAST);
     EXPECT(message.source == 0x81 && message.pgn == 65260 && message.len == 20 && !message.is_named && priority == 9);
     EXPECT(message.micros == 7150006 && !message.is_addressed);
     EXPECT(j1939_controller_take_received(controller, &message, &priority) == 0);
     rts = announcement, rts.id = 0x1CEC8081, rts.data[0] = 0x10, rts.data[4] = 0xFF, rts.micros = 7300000;
-    EXPECT(j1939_controller_hear(controller, &rts) == 0);
+    EXPECT(j1939_controller_hear(controller, &rts, rts.micros) == 0);
     EXPECT(j1939_controller_next_tick(controller, &due) == 1 && due == 8550001);
     EXPECT(taken(controller, 7300000) == 0x1CEC8180 && out.data[0] == 0x11);
     for (uint8_t k = 1; k <= 3; k++) {
         next = packet(k);
         next.id = 0x1CEB8081, next.micros += 7300000;
-        EXPECT(j1939_controller_hear(controller, &next) == 0);
+        EXPECT(j1939_controller_hear(controller, &next, next.micros) == 0);
     }
     EXPECT(taken(controller, 7500000) == 0x1CEC8180 && out.data[0] == 0x13);
     rts.micros = 7500000;
-    EXPECT(j1939_controller_hear(controller, &rts) == 0);
+    EXPECT(j1939_controller_hear(controller, &rts, rts.micros) == 0);
     EXPECT(taken(controller, 7500000) == 0x1CEC8180 && out.data[0] == 0xFF && out.data[1] == 2);
     EXPECT(j1939_controller_take_received(controller, &message, &priority) == J1939_RECEIVED_TRANSFER);
     EXPECT(message.len == 20 && message.data[7] == 'A' && message.micros == 7450005 && priority == 9);
@@ -579,14 +579,14 @@ static void loss_of(j1939_controller *controller) {
     j1939_ended ended;
     uint64_t token = 9;
     uint8_t own = 9, priority;
-    EXPECT(j1939_controller_hear(controller, &other) == 0);
+    EXPECT(j1939_controller_hear(controller, &other, other.micros) == 0);
     EXPECT(j1939_controller_take_news(controller) == J1939_NEWS_ANOTHER);
     EXPECT(j1939_controller_take_received(controller, &message, &priority) == J1939_RECEIVED_FRAME);
     EXPECT(j1939_controller_send(controller, 7800000, 6, 65262, 255, payload, 8, &token) == 1 && token == 18);
     EXPECT(j1939_controller_broadcast(controller, 7800000, 65260, payload, 9, &token) == 1 && token == 1);
     EXPECT(j1939_controller_transfer(controller, 7800000, 65260, 3, payload, 9, &token) == 1 && token == 1);
     EXPECT(j1939_controller_ask(controller, 7800000, 65260, 3, &token) == 1 && token == 19);
-    EXPECT(j1939_controller_hear(controller, &claim) == 0);
+    EXPECT(j1939_controller_hear(controller, &claim, claim.micros) == 0);
     EXPECT(j1939_controller_status(controller, &own) == J1939_CANNOT && own == 254);
     EXPECT(j1939_controller_take_news(controller) == J1939_NEWS_LOST && !j1939_controller_take_news(controller));
     EXPECT(j1939_controller_take_ended(controller, &ended) == J1939_ENDED_MESSAGE && ended.token == 18);
@@ -606,7 +606,7 @@ static void move_of(j1939_controller *controller) {
     j1939_frame single = {.micros = 9000000, .id = 0x18FEEE81, .len = 8};
     uint64_t token = 9;
     uint8_t own = 9, priority;
-    EXPECT(j1939_controller_hear(controller, &single) == 0);
+    EXPECT(j1939_controller_hear(controller, &single, single.micros) == 0);
     EXPECT(j1939_controller_free_address(controller, &own) == 1 && own == 0x81);
     EXPECT(j1939_controller_move_to(controller, own) == 0);
     EXPECT(j1939_controller_take_received(controller, &message, &priority) == J1939_RECEIVED_FRAME);
@@ -661,10 +661,10 @@ static void subscribed(void) {
     EXPECT(j1939_controller_new_subscribed(&controller, 1, 0x80, NULL, 0, no_group, 1) == J1939_BAD_VALUE);
     EXPECT(j1939_controller_new_subscribed(&controller, 1, 0x80, NULL, 0, wanted, 64) == 0);
     EXPECT(j1939_controller_new_subscribed(&controller, 1, 0x80, NULL, 0, wanted, 64) == J1939_IN_USE);
-    EXPECT(j1939_controller_hear(&controller, &heard) == 0);
+    EXPECT(j1939_controller_hear(&controller, &heard, heard.micros) == 0);
     EXPECT(j1939_controller_take_received(&controller, &message, &priority) == 0);
     heard.id = 0x18FEEE81;
-    EXPECT(j1939_controller_hear(&controller, &heard) == 0);
+    EXPECT(j1939_controller_hear(&controller, &heard, heard.micros) == 0);
     EXPECT(j1939_controller_take_received(&controller, &message, &priority) == J1939_RECEIVED_FRAME);
     EXPECT(message.pgn == 65262 && j1939_controller_close(&controller) == 0);
 }

@@ -48,10 +48,10 @@ static void node_on(void) { EXPECT(j1939_node_on(&node, &claim, &out) == 0); }
 static void receiver_tick(void) { EXPECT(j1939_receiver_tick(&receiver, 5, &out) == 0); }
 static void sender_tick(void) { EXPECT(j1939_sender_tick(&sender, 5, &out) >= 0); }
 static void controller_tick(void) { EXPECT(j1939_controller_tick(&controller, 300000) == 0); }
-static void controller_hear(void) { EXPECT(j1939_controller_hear(&controller, &claim) == 0); }
+static void controller_hear(void) { EXPECT(j1939_controller_hear(&controller, &claim, claim.micros) == 0); }
 static void controller_hear_other(void) {
     uint8_t priority;
-    EXPECT(j1939_controller_hear(&controller, &other) == 0);
+    EXPECT(j1939_controller_hear(&controller, &other, other.micros) == 0);
     EXPECT(j1939_controller_take_received(&controller, &message, &priority) == 1);
 }
 static void controller_send(void) {

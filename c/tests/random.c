@@ -101,7 +101,7 @@ static void call_handles(size_t i, uint8_t address) {
 /* Hands the frame that a controller sent to the others. */
 static void tell_others(const j1939_controller *controller) {
     for (size_t i = 0; i < PARTS; i++) {
-        if (&controllers[i] != controller) answered(j1939_controller_hear(&controllers[i], &out), J1939_NO_PART, 0);
+        if (&controllers[i] != controller) answered(j1939_controller_hear(&controllers[i], &out, out.micros), J1939_NO_PART, 0);
     }
 }
 
@@ -177,7 +177,7 @@ static void call_controller(j1939_controller *controller, uint8_t address) {
     case 7: told(j1939_controller_broadcast(controller, now, 65260, payload, size, &token)); break;
     case 8: told(j1939_controller_transfer(controller, now, 65260, address, payload, size, &token)); break;
     case 9: empty_controller(controller); break;
-    default: answered(j1939_controller_hear(controller, &frame), J1939_NO_PART, 0);
+    default: answered(j1939_controller_hear(controller, &frame, frame.micros), J1939_NO_PART, 0);
     }
 }
 

@@ -8,7 +8,8 @@ use Rattle.j39_address.specs.declared.status.Status.TheVariants.{Idle, Claiming,
 use Rattle.j39_transport.specs.Message.{MessageRecord}
 use Rattle.j39_node.specs.declared.controller.Controller.{Controller}
 use Rattle.j39_node.specs.History.{Who, Call}
-use Rattle.j39_node.specs.History.Call.{Hear, Tick, TakeFrame, Send, Broadcast, Transfer, TakeEnded, TakeBroadcastEnded, TakeTransferEnded, TakeReceived, TakeNews, ReleaseTransfer, ReleaseBroadcast}
+use Rattle.j39_node.specs.History.Call.{At, TakeEnded, TakeBroadcastEnded, TakeTransferEnded, TakeReceived, TakeNews, ReleaseTransfer, ReleaseBroadcast}
+use Rattle.j39_node.specs.History.Act.{Hear, Tick, TakeFrame, Send, Broadcast, Transfer}
 use Rattle.j39_node.specs.Is.{Is, status_after}
 
 -- this call was made, whatever was called before
@@ -33,21 +34,21 @@ is_taking call = false
 
 -- time passed, and what ended was taken
 abbrev pub Ticked : ℕ → Controller → Controller → Type 0
-Ticked micros old new = (ticked : Controller) × Continues (Tick micros) old ticked × Calls is_taking ticked new
+Ticked micros old new = (ticked : Controller) × Continues (At micros Tick) old ticked × Calls is_taking ticked new
 
 -- a frame was heard, and what came of it for the program was taken
 abbrev pub Heard : FrameRecord → Controller → Controller → Type 0
-Heard f old new = (heard : Controller) × Continues (Hear f) old heard × Calls is_taking heard new
+Heard f old new = (heard : Controller) × Continues (At f.stamp (Hear f)) old heard × Calls is_taking heard new
 
 -- this frame was taken out, or there was none, and what ended by that was taken
 abbrev pub Takes : ℕ → Option FrameRecord → Controller → Controller → Type 0
-Takes micros frame old new = (taken : Controller) × Continues (TakeFrame micros frame) old taken × Calls is_taking taken new
+Takes micros frame old new = (taken : Controller) × Continues (At micros (TakeFrame frame)) old taken × Calls is_taking taken new
 
 -- it hands in a message at this moment
 abbrev pub is_handing : ℕ → Call → Bool
-is_handing micros (Send now draft answer) = now == micros
-is_handing micros (Broadcast now group bytes answer) = now == micros
-is_handing micros (Transfer now group to bytes answer) = now == micros
+is_handing micros (At now (Send draft answer)) = now == micros
+is_handing micros (At now (Broadcast group bytes answer)) = now == micros
+is_handing micros (At now (Transfer group to bytes answer)) = now == micros
 is_handing micros call = false
 
 -- the address that a controller holds

@@ -5,7 +5,8 @@ use Rattle.j39_frame.specs.Pgn.{pgn_raw}
 use Rattle.j39_frame.specs.Stamp.{stamp_micros}
 use Rattle.j39_transport.specs.Message.{MessageRecord}
 use Rattle.j39_node.specs.History.{Who, Call}
-use Rattle.j39_node.specs.History.Call.{Hear}
+use Rattle.j39_node.specs.History.Call.{At}
+use Rattle.j39_node.specs.History.Act.{Hear}
 use Rattle.j39_node.specs.Reception.{reception}
 use Rattle.j39_node.specs.Transfers.{next_transfer_ended}
 use Rattle.j39_node.specs.declared.kinds.TransferEnding.{TransferEnding}
@@ -31,5 +32,5 @@ done_by ended number = []
 
 -- the message in packets that lies there once the frame was heard is noted, and the transfer that is then done
 pub record IsNoted (w : Who) (H : List Call) (f : FrameRecord) (number : Option ℕ) (old new : Book) : Type 0 where
-  pub delivered : delivered_in new ≡ delivered_in old ++ listed (reception w (Hear f ∷ H)).waits
-  pub done : new.done.items ≡ old.done.items ++ done_by (next_transfer_ended w (Hear f ∷ H)) number
+  pub delivered : delivered_in new ≡ delivered_in old ++ listed (reception w (At f.stamp (Hear f) ∷ H)).waits
+  pub done : new.done.items ≡ old.done.items ++ done_by (next_transfer_ended w (At f.stamp (Hear f) ∷ H)) number

@@ -7,8 +7,8 @@ use Rattle.j39_address.specs.Holder.{IsHolderAfter}
 use Rattle.j39_address.specs.Node.{IsLeastFree, NoneFree}
 use Rattle.j39_frame.specs.Address.{IsAddress}
 use Rattle.j39_transport.specs.Message.{MessageRecord}
-use Rattle.j39_node.specs.History.{Asked, Call, Message, Who, missed, told_claims}
-use Rattle.j39_node.specs.History.Call.{ReleaseBroadcast, ReleaseTransfer, TakeAskEnded, TakeBroadcastEnded, TakeEnded, TakeReceived, TakeTransferEnded}
+use Rattle.j39_node.specs.History.{Act, Asked, Call, Message, Who, missed, told_claims}
+use Rattle.j39_node.specs.History.Call.{At, ReleaseBroadcast, ReleaseTransfer, TakeAskEnded, TakeBroadcastEnded, TakeEnded, TakeReceived, TakeTransferEnded}
 use Rattle.j39_node.specs.Hearing.{unheard, waiting}
 use Rattle.j39_node.specs.Is.{Is}
 use Rattle.j39_node.specs.Moving.{IsSettled, moved}
@@ -126,10 +126,10 @@ IsTaken code (Err why) = IsRefusal why code
 -- a call that hands something to the controller of a handle, which holds `old` before it and `new` after it: `fits` says that the
 -- values it is given are in range, `is_told` which answer of the controller it tells
 pub record Offers {A : Type 0} (fits : Type 0) (old : Option Part) (code : ℤ) (new : Option Part)
-    (call : Result A Refused → Call) (is_told : Result A Refused → Type 0) : Type 0 where
+    (micros : ℕ) (act : Result A Refused → Act) (is_told : Result A Refused → Type 0) : Type 0 where
   -- the history goes on by the call, with its answer
   pub done : fits → IfSome (controller_in old) (λ o. (answer : Result A Refused) × is_told answer
-      × IsSomeAnd (controller_in new) (λ n. Continues (call answer) o n))
+      × IsSomeAnd (controller_in new) (λ n. Continues (At micros (act answer)) o n))
   -- the handle holds no controller: it is as it was
   pub foreign : fits → controller_in old ≡ None → (code ≡ no_part) × (new ≡ old)
   -- a value is out of its range: the handle is as it was

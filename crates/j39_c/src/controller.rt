@@ -6,7 +6,8 @@ ghost use Rattle.j39_address.specs.Claimer.{status_of};
 ghost use Rattle.j39_address.specs.Holder.{IsHolderAfter};
 ghost use Rattle.j39_frame.specs.Pgn.{pgn_raw};
 ghost use Rattle.j39_node.specs.History.{told_claims};
-ghost use Rattle.j39_node.specs.History.Call.{Hear, TakeFrame, TakeNews, Tick};
+ghost use Rattle.j39_node.specs.History.Call.{At, TakeNews};
+ghost use Rattle.j39_node.specs.History.Act.{Hear, TakeFrame, Tick};
 ghost use Rattle.j39_node.specs.Is.{next_claims_request, next_frame, stamped, status_after};
 ghost use Rattle.j39_node.specs.Reception.{next_tick};
 ghost use Rattle.j39_node.specs.Transfers.{next_due};
@@ -86,7 +87,7 @@ pub extern "C" fn j39_controller_new_subscribed(
 #[unsafe(no_mangle)]
 pub extern "C" fn j39_controller_tick(alloc: Global, controller: &mut Handle, micros: u64) -> i32
     ensures asks { Asks controller_in (micros < 10 ^ 16) controller.old.part result controller.new.part
-        (λ old new. (result ≡ pos 0) × Continues (Tick micros) old new) Never }
+        (λ old new. (result ≡ pos 0) × Continues (At micros Tick) old new) Never }
     ensures answers { Answers 0 (bad_value ∷ no_part ∷ []) result }
 {
     let Some(now) = Stamp::new(micros) else {
@@ -98,23 +99,27 @@ pub extern "C" fn j39_controller_tick(alloc: Global, controller: &mut Handle, mi
     })
 }
 
-/// Shows a controller a frame that another one sent, at its own moment: 0. -1 for a frame that is out of range, -2
-/// where the handle holds no controller.
+/// Shows a controller a frame that another one sent: 0. -1 for a frame that is out of range, or a moment of 10^16
+/// microseconds and above, -2 where the handle holds no controller.
 #[unsafe(no_mangle)]
 pub extern "C" fn j39_controller_hear(
     alloc: Global,
     controller: &mut Handle,
     frame: &CanFrame,
+    micros: u64,
 ) -> i32
-    ensures asks { Asks controller_in (Fits frame.now) controller.old.part result controller.new.part
-        (λ old new. (result ≡ pos 0) × Continues (Hear (frame_of frame.now)) old new) Never }
+    ensures asks { Asks controller_in (Fits frame.now × (micros < 10 ^ 16)) controller.old.part result controller.new.part
+        (λ old new. (result ≡ pos 0) × Continues (At micros (Hear (frame_of frame.now))) old new) Never }
     ensures answers { Answers 0 (bad_value ∷ no_part ∷ []) result }
 {
     let Some(heard) = frame_in(frame) else {
         return Refusal::BadValue.code();
     };
+    let Some(now) = Stamp::new(micros) else {
+        return Refusal::BadValue.code();
+    };
     ask!(alloc, controller, Controlling(held) => {
-        held.hear(&heard);
+        held.hear(&heard, now);
         0
     })
 }
@@ -129,7 +134,7 @@ pub extern "C" fn j39_controller_take_frame(
     out: &mut CanFrame,
 ) -> i32
     ensures asks { Asks controller_in (micros < 10 ^ 16) controller.old.part result controller.new.part
-        (λ old new. Continues (TakeFrame micros (sent result out.new)) old new) Never }
+        (λ old new. Continues (At micros (TakeFrame (sent result out.new))) old new) Never }
     ensures refused { IsRefused result → controller.new.part ≡ controller.old.part }
     ensures answers { Answers 1 (bad_value ∷ no_part ∷ []) result }
     ensures fills { Fills (pos 1 ∷ []) result (out.new ≡ out.old) }

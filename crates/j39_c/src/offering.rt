@@ -3,7 +3,7 @@ ghost use Rattle.std.specs.Prelude.{◌≡◌, ◌<◌, ◌^◌, ◌∷◌, [], 
 ghost use Rattle.j39_frame.specs.Pgn.{pgn_raw};
 ghost use Rattle.j39_frame.specs.Stamp.{stamp_micros};
 ghost use Rattle.j39_node.specs.declared.kinds.Answer.{Answer};
-ghost use Rattle.j39_node.specs.History.Call.{Acknowledge, Ask, Broadcast, Send, Transfer};
+ghost use Rattle.j39_node.specs.History.Act.{Acknowledge, Ask, Broadcast, Send, Transfer};
 ghost use Rattle.j39_c.specs.Calls.{Answers, Fills};
 ghost use Rattle.j39_c.specs.Codes.{bad_value, full, no_address, no_part};
 ghost use Rattle.j39_c.specs.Controllers.{IsAccepted, IsAt, IsTaken, Offers, answer_in, request_in};
@@ -31,7 +31,7 @@ pub extern "C" fn j39_controller_send(
     token: &mut u64,
 ) -> i32
     ensures offers { Offers (IsAt pgn micros) controller.old.part result controller.new.part
-        (Send micros (record { priority = priority; group = pgn; to = to; bytes = payload.now }))
+        micros (Send (record { priority = priority; group = pgn; to = to; bytes = payload.now }))
         (IsAccepted result token.new) }
     ensures answers { Answers 1 (bad_value ∷ no_part ∷ no_address ∷ full ∷ []) result }
     ensures fills { Fills (pos 1 ∷ []) result (token.new ≡ token.old) }
@@ -55,7 +55,7 @@ pub extern "C" fn j39_controller_broadcast(
     token: &mut u64,
 ) -> i32
     ensures offers { Offers (IsAt pgn micros) controller.old.part result controller.new.part
-        (Broadcast micros pgn payload.now) (IsAccepted result token.new) }
+        micros (Broadcast pgn payload.now) (IsAccepted result token.new) }
     ensures answers { Answers 1 (bad_value ∷ no_part ∷ no_address ∷ full ∷ []) result }
     ensures fills { Fills (pos 1 ∷ []) result (token.new ≡ token.old) }
 {
@@ -79,7 +79,7 @@ pub extern "C" fn j39_controller_transfer(
     token: &mut u64,
 ) -> i32
     ensures offers { Offers (IsAt pgn micros) controller.old.part result controller.new.part
-        (Transfer micros pgn to payload.now) (IsAccepted result token.new) }
+        micros (Transfer pgn to payload.now) (IsAccepted result token.new) }
     ensures answers { Answers 1 (bad_value ∷ no_part ∷ no_address ∷ full ∷ []) result }
     ensures fills { Fills (pos 1 ∷ []) result (token.new ≡ token.old) }
 {
@@ -102,7 +102,7 @@ pub extern "C" fn j39_controller_ask(
     token: &mut u64,
 ) -> i32
     ensures offers { Offers (IsAt pgn micros) controller.old.part result controller.new.part
-        (Ask micros pgn to) (IsAccepted result token.new) }
+        micros (Ask pgn to) (IsAccepted result token.new) }
     ensures answers { Answers 1 (bad_value ∷ no_part ∷ no_address ∷ full ∷ []) result }
     ensures fills { Fills (pos 1 ∷ []) result (token.new ≡ token.old) }
 {
@@ -125,7 +125,7 @@ pub extern "C" fn j39_controller_acknowledge(
 ) -> i32
     ensures offers { (kind : Answer) → answer_in answer ≡ Some kind → Offers (IsAt request.now.pgn micros)
         controller.old.part result controller.new.part
-        (Acknowledge micros (request_in request.now) kind) (IsTaken result) }
+        micros (Acknowledge (request_in request.now) kind) (IsTaken result) }
     ensures bad { answer_in answer ≡ None → (result ≡ bad_value) × (controller.new.part ≡ controller.old.part) }
     ensures answers { Answers 0 (bad_value ∷ no_part ∷ no_address ∷ full ∷ []) result }
 {

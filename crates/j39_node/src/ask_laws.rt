@@ -80,10 +80,10 @@ pub fn ask_done_means()
     ensures acknowledged { (w : Who) (H : List Call) (c : Controller) (k : ℕ) (a : Answer) (q : Question)
         → Is w (TakeAskEnded (Some (k, ending.Acknowledged a)) ∷ H) c → open_ask H ≡ Some q
         → HeardFirst w H q (ending.Acknowledged a) }
-    ensures heard { (w : Who) (H later : List Call) (c : Controller) (f : FrameRecord) (q : Question) (e : AskEnding)
-        (answer : Option (ℕ × AskEnding)) → Is w (TakeAskEnded answer ∷ later ++ At @@ (Hear f) ∷ H) c → NoneEnds later
-        → open_ask H ≡ Some q → IsTrue (is_taken q H) → ended w H ≡ None → step H f.stamp < wait H
-        → is_lost (address_after w (At @@ (Hear f) ∷ H)) ≡ false → says_to w q f (made w H f) ≡ Some e → answer ≡ Some (q.token, e) }
+    ensures heard { (w : Who) (H later : List Call) (c : Controller) (now : ℕ) (f : FrameRecord) (q : Question) (e : AskEnding)
+        (answer : Option (ℕ × AskEnding)) → Is w (TakeAskEnded answer ∷ later ++ At now (Hear f) ∷ H) c → NoneEnds later
+        → open_ask H ≡ Some q → IsTrue (is_taken q H) → ended w H ≡ None → step H now < wait H
+        → is_lost (address_after w (At now (Hear f) ∷ H)) ≡ false → says_to w q f (made w H now f) ≡ Some e → answer ≡ Some (q.token, e) }
     ensures timed_out { (w : Who) (H : List Call) (c : Controller) (k : ℕ) (q : Question)
         → Is w (TakeAskEnded (Some (k, ending.TimedOut)) ∷ H) c → open_ask H ≡ Some q
         → (e : ℕ) × AskedSince H q e × (1250000 ≤ e) }
@@ -99,22 +99,22 @@ pub fn ask_done_means()
 /// A message in packets, of the group and from whom was asked (from anybody where all were), answers a request by the frame that makes
 /// it whole: one to this address, or a broadcast that is heard, which `announcements_heard` tells.
 pub fn packets_answer()
-    ensures transfer { (w : Who) (H : List Call) (f : FrameRecord) (m : MessageRecord) (q : Question) → whole w H f ≡ Some m
-        → m.pgn ≡ q.group → (q.to ≡ global_address) ⊎ (m.source ≡ q.to) → says_to w q f (made w H f) ≡ Some ending.Answered }
-    ensures broadcast { (w : Who) (H : List Call) (f : FrameRecord) (x : ℕ × MessageRecord) (q : Question) → IsAddress w.address
-        → made_whole w H f ≡ Some x → x.1.pgn ≡ q.group → (q.to ≡ global_address) ⊎ (x.1.source ≡ q.to)
-        → says_to w q f (made w H f) ≡ Some ending.Answered }
+    ensures transfer { (w : Who) (H : List Call) (now : ℕ) (f : FrameRecord) (m : MessageRecord) (q : Question) → whole w H now f ≡ Some m
+        → m.pgn ≡ q.group → (q.to ≡ global_address) ⊎ (m.source ≡ q.to) → says_to w q f (made w H now f) ≡ Some ending.Answered }
+    ensures broadcast { (w : Who) (H : List Call) (now : ℕ) (f : FrameRecord) (x : ℕ × MessageRecord) (q : Question) → IsAddress w.address
+        → made_whole w H now f ≡ Some x → x.1.pgn ≡ q.group → (q.to ≡ global_address) ⊎ (x.1.source ≡ q.to)
+        → says_to w q f (made w H now f) ≡ Some ending.Answered }
 {}
 
 /// A frame of who wasn't asked, unless all were, says nothing to a request, and neither does one that goes to another address. What says
 /// nothing tells no end but that of a tick at the same moment, unless by it the address is lost.
 pub fn strangers_and_requests()
-    ensures of_another { (w : Who) (H : List Call) (f : FrameRecord) (q : Question) → q.to ≢ global_address → source_of f.id ≢ q.to
-        → says_to w q f (made w H f) ≡ None }
-    ensures to_another { (w : Who) (H : List Call) (f : FrameRecord) (q : Question) (a : ℕ) → destination_of f.id ≡ Some a
-        → a ≢ global_address → a ≢ w.address → says_to w q f (made w H f) ≡ None }
-    ensures ends { (w : Who) (H : List Call) (f : FrameRecord) (q : Question) → open_ask H ≡ Some q → says_to w q f (made w H f) ≡ None
-        → is_smaller w (claim_of f) ≡ false → next_ask_ended w (At @@ (Hear f) ∷ H) ≡ next_ask_ended w (At f.stamp Tick ∷ H) }
+    ensures of_another { (w : Who) (H : List Call) (now : ℕ) (f : FrameRecord) (q : Question) → q.to ≢ global_address → source_of f.id ≢ q.to
+        → says_to w q f (made w H now f) ≡ None }
+    ensures to_another { (w : Who) (H : List Call) (now : ℕ) (f : FrameRecord) (q : Question) (a : ℕ) → destination_of f.id ≡ Some a
+        → a ≢ global_address → a ≢ w.address → says_to w q f (made w H now f) ≡ None }
+    ensures ends { (w : Who) (H : List Call) (now : ℕ) (f : FrameRecord) (q : Question) → open_ask H ≡ Some q → says_to w q f (made w H now f) ≡ None
+        → is_smaller w (claim_of f) ≡ false → next_ask_ended w (At now (Hear f) ∷ H) ≡ next_ask_ended w (At now Tick ∷ H) }
 {}
 
 /// All answers of this history are those that a controller gives: requests are answered, one in packets to all; one is refused, and one

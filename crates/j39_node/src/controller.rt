@@ -244,11 +244,12 @@ impl Controller {
         self.incoming.next_tick()
     }
 
-    /// Hears a frame of another controller, at its stamp.
-    pub fn hear(&mut self, frame: &Frame)
-        ensures { (w : Who) (H : List Call) → Is w H self.old → Is w (At @@ (Hear frame.now) ∷ H) self.new }
+    /// Hears a frame of another controller, at the moment of this call. The frame's own stamp goes into what is received, and is
+    /// no moment: it may be of another clock.
+    pub fn hear(&mut self, frame: &Frame, now: Stamp)
+        ensures { (w : Who) (H : List Call) → Is w H self.old → Is w (At (stamp_micros now) (Hear frame.now) ∷ H) self.new }
     {
-        self.hold = self.hold.passed(frame.stamp);
+        self.hold = self.hold.passed(now);
         let is_held = self.hold.is_held();
         let wanted = self.own.is_for_program(is_held, frame);
         let misses = self.inbox.misses(wanted);
@@ -261,7 +262,7 @@ impl Controller {
         let waited = self.hearing.is_waiting();
         let drives_away = self.own.is_driven_away(frame);
         self.incoming
-            .hear(&mut self.holders, drives_away, is_held, frame);
+            .hear(&mut self.holders, drives_away, is_held, frame, now);
         let transferred = self.incoming.made(has_place);
         let is_replaced = is_replaced(before, self.peer());
         let is_left = !is_same(speaker, self.speaker());

@@ -19,21 +19,21 @@ pub fn broadcasts_received()
     ensures in_order { (w : Who) (H : List Call) → whole_broadcasts w H ≡ got_broadcasts w H ++ listed (waiting w H) }
     ensures got { (w : Who) (H : List Call) (c : Controller) (answer : Bool) → Is w (ReleaseBroadcast answer ∷ H) c
         → (answer ≡ true ↔ ((x : ℕ × MessageRecord) × (waiting w H ≡ Some x))) }
-    ensures of_one { (w : Who) (H : List Call) (f : FrameRecord) (x : ℕ × MessageRecord) → made_whole w H f ≡ Some x
-        → WasBroadcast w (At @@ (Hear f) ∷ H) x.1 }
+    ensures of_one { (w : Who) (H : List Call) (now : ℕ) (f : FrameRecord) (x : ℕ × MessageRecord) → made_whole w H now f ≡ Some x
+        → WasBroadcast w (At now (Hear f) ∷ H) x.1 }
 {}
 
 /// An announcement of a message for the program, of a group that is subscribed, is heard or counted. It is counted only where one waits, or
 /// one of another source is open and in time. What isn't for the program is never counted, nor whole.
 pub fn announcements_heard()
-    ensures heard { (w : Who) (H : List Call) (f : FrameRecord) → announces f ≡ true → is_own_group (pgn_named f) ≡ false
+    ensures heard { (w : Who) (H : List Call) (now : ℕ) (f : FrameRecord) → announces f ≡ true → is_own_group (pgn_named f) ≡ false
         → IsTrue (is_subscribed w (pgn_named f))
-        → (hearing w (At @@ (Hear f) ∷ H) ≡ Some (begun (time_heard (At @@ (Hear f) ∷ H)) f)) ⊎ (unheard w (At @@ (Hear f) ∷ H) ≡ suc (unheard w H)) }
-    ensures counted { (w : Who) (H : List Call) (f : FrameRecord) → unheard w (At @@ (Hear f) ∷ H) ≢ unheard w H
+        → (hearing w (At now (Hear f) ∷ H) ≡ Some (begun (time_heard (At now (Hear f) ∷ H)) f)) ⊎ (unheard w (At now (Hear f) ∷ H) ≡ suc (unheard w H)) }
+    ensures counted { (w : Who) (H : List Call) (now : ℕ) (f : FrameRecord) → unheard w (At now (Hear f) ∷ H) ≢ unheard w H
         → IsTrue (announces f) × IsTrue (is_subscribed w (pgn_named f)) × (is_own_group (pgn_named f) ≡ false)
-        × ((x : OpenBroadcast) × (found w H f ≡ Some x)
-        × (IsTrue (is_whole x) ⊎ ((source_of f.id ≢ x.source) × (is_late (time_heard (At @@ (Hear f) ∷ H)) x ≡ false)))) }
-    ensures subscribed { (w : Who) (H : List Call) (f : FrameRecord) (x : ℕ × MessageRecord) → made_whole w H f ≡ Some x
+        × ((x : OpenBroadcast) × (found w H now f ≡ Some x)
+        × (IsTrue (is_whole x) ⊎ ((source_of f.id ≢ x.source) × (is_late (time_heard (At now (Hear f) ∷ H)) x ≡ false)))) }
+    ensures subscribed { (w : Who) (H : List Call) (now : ℕ) (f : FrameRecord) (x : ℕ × MessageRecord) → made_whole w H now f ≡ Some x
         → IsTrue (is_subscribed w x.1.pgn) × (is_own_group x.1.pgn ≡ false) }
     ensures news { (w : Who) (H : List Call) → IsTrue (unheard_news w H) → 0 < unheard w H }
 {}
@@ -43,31 +43,31 @@ pub fn announcements_heard()
 /// of its source changes nothing; neither does, in time, any frame of another source, unless by it the source has another holder; nor a
 /// frame taken that is no claim.
 pub fn packets_heard()
-    ensures next { (w : Who) (H : List Call) (f : FrameRecord) (x : OpenBroadcast) → claim_of f ≡ None → announces f ≡ false → IsTrue (packs f)
-        → hearing w H ≡ Some x → is_whole x ≡ false → source_of f.id ≡ x.source → is_late (time_heard (At @@ (Hear f) ∷ H)) x ≡ false
-        → slice_index f.bytes 0 ≡ suc x.count → hearing w (At @@ (Hear f) ∷ H) ≡ Some (grown (time_heard (At @@ (Hear f) ∷ H)) f x) }
-    ensures whole { (w : Who) (H : List Call) (f : FrameRecord) (x : OpenBroadcast) → claim_of f ≡ None → announces f ≡ false → IsTrue (packs f)
-        → hearing w H ≡ Some x → is_whole x ≡ false → source_of f.id ≡ x.source → is_late (time_heard (At @@ (Hear f) ∷ H)) x ≡ false
+    ensures next { (w : Who) (H : List Call) (now : ℕ) (f : FrameRecord) (x : OpenBroadcast) → claim_of f ≡ None → announces f ≡ false → IsTrue (packs f)
+        → hearing w H ≡ Some x → is_whole x ≡ false → source_of f.id ≡ x.source → is_late (time_heard (At now (Hear f) ∷ H)) x ≡ false
+        → slice_index f.bytes 0 ≡ suc x.count → hearing w (At now (Hear f) ∷ H) ≡ Some (grown (time_heard (At now (Hear f) ∷ H)) f x) }
+    ensures whole { (w : Who) (H : List Call) (now : ℕ) (f : FrameRecord) (x : OpenBroadcast) → claim_of f ≡ None → announces f ≡ false → IsTrue (packs f)
+        → hearing w H ≡ Some x → is_whole x ≡ false → source_of f.id ≡ x.source → is_late (time_heard (At now (Hear f) ∷ H)) x ≡ false
         → slice_index f.bytes 0 ≡ suc x.count → x.size ≤ length x.bytes + 7
-        → made_whole w H f ≡ Some (
+        → made_whole w H now f ≡ Some (
           f.stamp,
           record
               { source = x.source; pgn = x.group; bytes = take x.size (x.bytes ++ drop 1 f.bytes) },
         ) }
-    ensures other { (w : Who) (H : List Call) (f : FrameRecord) (x : OpenBroadcast) → claim_of f ≡ None → announces f ≡ false → IsTrue (packs f)
-        → hearing w H ≡ Some x → is_whole x ≡ false → source_of f.id ≡ x.source → is_late (time_heard (At @@ (Hear f) ∷ H)) x ≡ false
-        → slice_index f.bytes 0 ≢ suc x.count → hearing w (At @@ (Hear f) ∷ H) ≡ Some (touched (time_heard (At @@ (Hear f) ∷ H)) f x) }
-    ensures late { (w : Who) (H : List Call) (f : FrameRecord) (x : OpenBroadcast) → claim_of f ≡ None → announces f ≡ false → IsTrue (packs f)
-        → hearing w H ≡ Some x → is_whole x ≡ false → source_of f.id ≡ x.source → IsTrue (is_late (time_heard (At @@ (Hear f) ∷ H)) x)
-        → hearing w (At @@ (Hear f) ∷ H) ≡ None }
-    ensures left { (w : Who) (H : List Call) (f : FrameRecord) (x : OpenBroadcast) → hearing w H ≡ Some x → is_whole x ≡ false
-        → holder w (At @@ (Hear f) ∷ H) x.source ≢ holder w H x.source → found w H f ≡ None }
-    ensures strangers { (w : Who) (H : List Call) (f : FrameRecord) → claim_of f ≡ None → announces f ≡ false
+    ensures other { (w : Who) (H : List Call) (now : ℕ) (f : FrameRecord) (x : OpenBroadcast) → claim_of f ≡ None → announces f ≡ false → IsTrue (packs f)
+        → hearing w H ≡ Some x → is_whole x ≡ false → source_of f.id ≡ x.source → is_late (time_heard (At now (Hear f) ∷ H)) x ≡ false
+        → slice_index f.bytes 0 ≢ suc x.count → hearing w (At now (Hear f) ∷ H) ≡ Some (touched (time_heard (At now (Hear f) ∷ H)) f x) }
+    ensures late { (w : Who) (H : List Call) (now : ℕ) (f : FrameRecord) (x : OpenBroadcast) → claim_of f ≡ None → announces f ≡ false → IsTrue (packs f)
+        → hearing w H ≡ Some x → is_whole x ≡ false → source_of f.id ≡ x.source → IsTrue (is_late (time_heard (At now (Hear f) ∷ H)) x)
+        → hearing w (At now (Hear f) ∷ H) ≡ None }
+    ensures left { (w : Who) (H : List Call) (now : ℕ) (f : FrameRecord) (x : OpenBroadcast) → hearing w H ≡ Some x → is_whole x ≡ false
+        → holder w (At now (Hear f) ∷ H) x.source ≢ holder w H x.source → found w H now f ≡ None }
+    ensures strangers { (w : Who) (H : List Call) (now : ℕ) (f : FrameRecord) → claim_of f ≡ None → announces f ≡ false
         → (packs f ≡ false) ⊎ ((x : OpenBroadcast) → hearing w H ≡ Some x → source_of f.id ≢ x.source)
-        → hearing w (At @@ (Hear f) ∷ H) ≡ hearing w H }
-    ensures others { (w : Who) (H : List Call) (f : FrameRecord) (x : OpenBroadcast) → hearing w H ≡ Some x
-        → holder w (At @@ (Hear f) ∷ H) x.source ≡ holder w H x.source → source_of f.id ≢ x.source
-        → is_late (time_heard (At @@ (Hear f) ∷ H)) x ≡ false → hearing w (At @@ (Hear f) ∷ H) ≡ Some x }
+        → hearing w (At now (Hear f) ∷ H) ≡ hearing w H }
+    ensures others { (w : Who) (H : List Call) (now : ℕ) (f : FrameRecord) (x : OpenBroadcast) → hearing w H ≡ Some x
+        → holder w (At now (Hear f) ∷ H) x.source ≡ holder w H x.source → source_of f.id ≢ x.source
+        → is_late (time_heard (At now (Hear f) ∷ H)) x ≡ false → hearing w (At now (Hear f) ∷ H) ≡ Some x }
     ensures own { (w : Who) (H : List Call) (now : ℕ) (f : FrameRecord) → is_claim f ≡ false
         → hearing w (At now (TakeFrame (Some f)) ∷ H) ≡ hearing w H }
 {}

@@ -114,12 +114,19 @@ impl Incoming {
 
     /// A frame was heard: it may be a claim, by which the source of the session has another holder or the address is lost, or one
     /// of a session, if the address is held.
-    pub(crate) fn hear(&mut self, holders: &mut Claims, is_lost: bool, is_held: bool, frame: &Frame)
+    pub(crate) fn hear(
+        &mut self,
+        holders: &mut Claims,
+        is_lost: bool,
+        is_held: bool,
+        frame: &Frame,
+        now: Stamp,
+    )
         ensures knows { (F : List FrameRecord) → Knows holders.old F → Knows holders.new (F ++ frame.now ∷ []) }
         ensures heard { self.old.receiver.has_box ≡ true → IsApart (incoming_of self.old).reception → incoming_of self.new
-            ≡ hears is_lost is_held frame.now (holder_in holders.old) (holder_in holders.new) (incoming_of self.old) }
+            ≡ hears is_lost is_held (stamp_micros now) frame.now (holder_in holders.old) (holder_in holders.new) (incoming_of self.old) }
     {
-        self.pass(frame.stamp);
+        self.pass(now);
         self.note(holders, frame);
         if is_lost {
             self.lose();

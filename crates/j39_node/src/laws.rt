@@ -108,19 +108,19 @@ pub fn received()
     ensures in_order { (w : Who) (H : List Call) (c : Controller) → Is w H c → IsFront (got H) (kept w H) }
     ensures all { (w : Who) (H : List Call) (c : Controller) → Is w (TakeReceived None ∷ H) c → got H ≡ kept w H }
     ensures counted { (w : Who) (H : List Call) → length (kept w H) + missed w H ≡ length (heard w H) }
-    ensures room { (w : Who) (H : List Call) (f : FrameRecord) → missed w (At @@ (Hear f) ∷ H) ≢ missed w H
+    ensures room { (w : Who) (H : List Call) (now : ℕ) (f : FrameRecord) → missed w (At now (Hear f) ∷ H) ≢ missed w H
         → length (got H) + 16 ≤ length (kept w H) }
-    ensures subscribed { (w : Who) (H : List Call) (f : FrameRecord) → is_subscribed w (pgn_of f.id) ≡ false
-        → (kept w (At @@ (Hear f) ∷ H) ≡ kept w H) × (missed w (At @@ (Hear f) ∷ H) ≡ missed w H) }
+    ensures subscribed { (w : Who) (H : List Call) (now : ℕ) (f : FrameRecord) → is_subscribed w (pgn_of f.id) ≡ false
+        → (kept w (At now (Hear f) ∷ H) ≡ kept w H) × (missed w (At now (Hear f) ∷ H) ≡ missed w H) }
 {}
 
 /// After a frame was heard that a claim answers (another's claim of the address, or a request for claims), the next frame taken
 /// is its claim, or 'cannot claim' where the address is lost. A claim is taken only where one is owed.
 pub fn claims()
-    ensures next { (w : Who) (H later : List Call) (c : Controller) (now : ℕ) (f g : FrameRecord)
-        → Is w (At now (TakeFrame (Some g)) ∷ later ++ At @@ (Hear f) ∷ H) c → frames later ≡ []
+    ensures next { (w : Who) (H later : List Call) (c : Controller) (now t : ℕ) (f g : FrameRecord)
+        → Is w (At now (TakeFrame (Some g)) ∷ later ++ At t (Hear f) ∷ H) c → frames later ≡ []
         → IsTrue (calls_for_claim w (is_lost (address_after w H)) f)
-        → message_of g ≡ claim_from w (claim_address w (address_after w (later ++ At @@ (Hear f) ∷ H))) }
+        → message_of g ≡ claim_from w (claim_address w (address_after w (later ++ At t (Hear f) ∷ H))) }
     ensures at_once { (w : Who) (H : List Call) (c : Controller) (now : ℕ) (answer : Option FrameRecord)
         → Is w (At now (TakeFrame answer) ∷ H) c → IsTrue (owes_claim w H) → answer ≢ None }
     ensures only { (w : Who) (H : List Call) (c : Controller) (now : ℕ) (f : FrameRecord)
@@ -174,23 +174,23 @@ pub fn an_example()
 /// is handed it, once, in order, and nothing is sent. A request to its address for what isn't served is refused by a NACK without
 /// the program, and one for which there is no room by 'cannot respond'. A request to all is never acknowledged.
 pub fn requests()
-    ensures handed { (w : Who) (H : List Call) (f : FrameRecord) (r : Asked) → asked w (holds w H f.stamp) f ≡ Some r
+    ensures handed { (w : Who) (H : List Call) (now : ℕ) (f : FrameRecord) (r : Asked) → asked w (holds w H now) f ≡ Some r
         → IsTrue (is_served w r.group) → length (requests w H) < length (handed H) + 16
-        → (requests w (At @@ (Hear f) ∷ H) ≡ requests w H ++ r ∷ []) × (due w (At @@ (Hear f) ∷ H) ≡ due w H) }
-    ensures refused { (w : Who) (H : List Call) (f : FrameRecord) (r : Asked) → asked w (holds w H f.stamp) f ≡ Some r
+        → (requests w (At now (Hear f) ∷ H) ≡ requests w H ++ r ∷ []) × (due w (At now (Hear f) ∷ H) ≡ due w H) }
+    ensures refused { (w : Who) (H : List Call) (now : ℕ) (f : FrameRecord) (r : Asked) → asked w (holds w H now) f ≡ Some r
         → r.destination ≡ w.address → (IsTrue (is_served w r.group) → ⊥)
         → length (due w H) < length (acknowledged H) + 16
-        → (requests w (At @@ (Hear f) ∷ H) ≡ requests w H)
-        × (due w (At @@ (Hear f) ∷ H) ≡ due w H ++ acknowledgment w answer.Nack r ∷ []) }
-    ensures no_room { (w : Who) (H : List Call) (f : FrameRecord) (r : Asked) → asked w (holds w H f.stamp) f ≡ Some r
+        → (requests w (At now (Hear f) ∷ H) ≡ requests w H)
+        × (due w (At now (Hear f) ∷ H) ≡ due w H ++ acknowledgment w answer.Nack r ∷ []) }
+    ensures no_room { (w : Who) (H : List Call) (now : ℕ) (f : FrameRecord) (r : Asked) → asked w (holds w H now) f ≡ Some r
         → r.destination ≡ w.address → IsTrue (is_served w r.group) → length (handed H) + 16 ≤ length (requests w H)
         → length (due w H) < length (acknowledged H) + 16
-        → (requests w (At @@ (Hear f) ∷ H) ≡ requests w H)
-        × (due w (At @@ (Hear f) ∷ H) ≡ due w H ++ acknowledgment w answer.Busy r ∷ []) }
-    ensures to_all { (w : Who) (H : List Call) (f : FrameRecord) (r : Asked) → asked w (holds w H f.stamp) f ≡ Some r
-        → r.destination ≢ w.address → due w (At @@ (Hear f) ∷ H) ≡ due w H }
-    ensures no_request { (w : Who) (H : List Call) (f : FrameRecord) → asked w (holds w H f.stamp) f ≡ None
-        → (requests w (At @@ (Hear f) ∷ H) ≡ requests w H) × (due w (At @@ (Hear f) ∷ H) ≡ due w H) }
+        → (requests w (At now (Hear f) ∷ H) ≡ requests w H)
+        × (due w (At now (Hear f) ∷ H) ≡ due w H ++ acknowledgment w answer.Busy r ∷ []) }
+    ensures to_all { (w : Who) (H : List Call) (now : ℕ) (f : FrameRecord) (r : Asked) → asked w (holds w H now) f ≡ Some r
+        → r.destination ≢ w.address → due w (At now (Hear f) ∷ H) ≡ due w H }
+    ensures no_request { (w : Who) (H : List Call) (now : ℕ) (f : FrameRecord) → asked w (holds w H now) f ≡ None
+        → (requests w (At now (Hear f) ∷ H) ≡ requests w H) × (due w (At now (Hear f) ∷ H) ≡ due w H) }
     ensures in_order { (w : Who) (H : List Call) (c : Controller) → Is w H c → IsFront (handed H) (requests w H) }
     ensures all { (w : Who) (H : List Call) (c : Controller) → Is w (TakeRequest None ∷ H) c → handed H ≡ requests w H }
 {}
@@ -277,26 +277,26 @@ pub fn transfers_received()
     ensures in_order { (w : Who) (H : List Call) → delivered w H ≡ got_transfers w H ++ listed (reception w H).waits }
     ensures got { (w : Who) (H : List Call) (c : Controller) (answer : Bool) → Is w (ReleaseTransfer answer ∷ H) c
         → (answer ≡ true ↔ ((x : ℕ × MessageRecord) × ((reception w H).waits ≡ Some x))) }
-    ensures of_one { (w : Who) (H : List Call) (f : FrameRecord) (m : MessageRecord) → whole w H f ≡ Some m
-        → CameFromOne w (At @@ (Hear f) ∷ H) m }
-    ensures begins { (w : Who) (H : List Call) (f : FrameRecord) (size packets most pgn : ℕ) → IsTrue (holds w H f.stamp)
+    ensures of_one { (w : Who) (H : List Call) (now : ℕ) (f : FrameRecord) (m : MessageRecord) → whole w H now f ≡ Some m
+        → CameFromOne w (At now (Hear f) ∷ H) m }
+    ensures begins { (w : Who) (H : List Call) (now : ℕ) (f : FrameRecord) (size packets most pgn : ℕ) → IsTrue (holds w H now)
         → (reception w H).waits ≡ None → (reception w H).session ≡ None
         → said_to w.address f ≡ Some (RequestToSend size packets most pgn)
-        → (r : ReceptionRecord) × (x : ToSend) × ((reception w (At @@ (Hear f) ∷ H)).session ≡ Some r)
+        → (r : ReceptionRecord) × (x : ToSend) × ((reception w (At now (Hear f) ∷ H)).session ≡ Some r)
         × (r.message.source ≡ source_of f.id) × (slice_get x.bytes 0 ≡ Some 17)
-        × ((reception w (At @@ (Hear f) ∷ H)).replies ≡ replied w.address (source_of f.id) (Some x) (reception w H).replies) }
+        × ((reception w (At now (Hear f) ∷ H)).replies ≡ replied w.address (source_of f.id) (Some x) (reception w H).replies) }
 {}
 
 /// What the receiver says to a frame waits in place of what it said to that address before. It says an end-of-message acknowledgment
 /// (J1939-21, 5.10.3.3: its first byte is 19) of what this frame makes whole, and of nothing else: so what is acknowledged waits for the
 /// program, or was got.
 pub fn acknowledged_is_there()
-    ensures says { (w : Who) (H : List Call) (f : FrameRecord) → IsTrue (holds w H f.stamp) → claim_of f ≡ None
-        → (reception w (At @@ (Hear f) ∷ H)).replies ≡ replied w.address (source_of f.id) (says w H f) (reception w H).replies }
-    ensures whole { (w : Who) (H : List Call) (f : FrameRecord) (m : MessageRecord) → whole w H f ≡ Some m
-        → (x : ToSend) × (says w H f ≡ Some x) × (slice_get x.bytes 0 ≡ Some 19) }
-    ensures only { (w : Who) (H : List Call) (f : FrameRecord) (x : ToSend) → says w H f ≡ Some x
-        → slice_get x.bytes 0 ≡ Some 19 → (m : MessageRecord) × (whole w H f ≡ Some m) }
+    ensures says { (w : Who) (H : List Call) (now : ℕ) (f : FrameRecord) → IsTrue (holds w H now) → claim_of f ≡ None
+        → (reception w (At now (Hear f) ∷ H)).replies ≡ replied w.address (source_of f.id) (says w H now f) (reception w H).replies }
+    ensures whole { (w : Who) (H : List Call) (now : ℕ) (f : FrameRecord) (m : MessageRecord) → whole w H now f ≡ Some m
+        → (x : ToSend) × (says w H now f ≡ Some x) × (slice_get x.bytes 0 ≡ Some 19) }
+    ensures only { (w : Who) (H : List Call) (now : ℕ) (f : FrameRecord) (x : ToSend) → says w H now f ≡ Some x
+        → slice_get x.bytes 0 ≡ Some 19 → (m : MessageRecord) × (whole w H now f ≡ Some m) }
 {}
 
 /// A frame taken that belongs to a session, goes to an address and is none of the open transfer is the first reply that waits: it comes from the address that is held,
@@ -319,52 +319,52 @@ pub fn replies_mean()
 /// unless by it the address is lost or the session's source gets another holder; nor of the message that waits. What is said to others
 /// than its source stays, unless it is a claim.
 pub fn strangers()
-    ensures to_others { (w : Who) (H : List Call) (f : FrameRecord) → is_smaller w (claim_of f) ≡ false
+    ensures to_others { (w : Who) (H : List Call) (now : ℕ) (f : FrameRecord) → is_smaller w (claim_of f) ≡ false
         → ((r : ReceptionRecord) → (reception w H).session ≡ Some r
-        → holder w (At @@ (Hear f) ∷ H) r.message.source ≡ holder w H r.message.source)
-        → destination_of f.id ≢ Some w.address → reception w (At @@ (Hear f) ∷ H) ≡ reception w H }
-    ensures from_others { (w : Who) (H : List Call) (f : FrameRecord) (r : ReceptionRecord)
-        → is_lost (address_after w (At @@ (Hear f) ∷ H)) ≡ false → holder w (At @@ (Hear f) ∷ H) r.message.source ≡ holder w H r.message.source
-        → (reception w H).session ≡ Some r → source_of f.id ≢ r.message.source → (reception w (At @@ (Hear f) ∷ H)).session ≡ Some r }
-    ensures waits { (w : Who) (H : List Call) (f : FrameRecord)
+        → holder w (At now (Hear f) ∷ H) r.message.source ≡ holder w H r.message.source)
+        → destination_of f.id ≢ Some w.address → reception w (At now (Hear f) ∷ H) ≡ reception w H }
+    ensures from_others { (w : Who) (H : List Call) (now : ℕ) (f : FrameRecord) (r : ReceptionRecord)
+        → is_lost (address_after w (At now (Hear f) ∷ H)) ≡ false → holder w (At now (Hear f) ∷ H) r.message.source ≡ holder w H r.message.source
+        → (reception w H).session ≡ Some r → source_of f.id ≢ r.message.source → (reception w (At now (Hear f) ∷ H)).session ≡ Some r }
+    ensures waits { (w : Who) (H : List Call) (now : ℕ) (f : FrameRecord)
         → ((r : ReceptionRecord) → (reception w H).session ≡ Some r → source_of f.id ≢ r.message.source)
-        → (reception w (At @@ (Hear f) ∷ H)).waits ≡ (reception w H).waits }
-    ensures replies { (w : Who) (H : List Call) (f : FrameRecord) → claim_of f ≡ None
-        → without (source_of f.id) (reception w (At @@ (Hear f) ∷ H)).replies ≡ without (source_of f.id) (reception w H).replies }
+        → (reception w (At now (Hear f) ∷ H)).waits ≡ (reception w H).waits }
+    ensures replies { (w : Who) (H : List Call) (now : ℕ) (f : FrameRecord) → claim_of f ≡ None
+        → without (source_of f.id) (reception w (At now (Hear f) ∷ H)).replies ≡ without (source_of f.id) (reception w H).replies }
 {}
 
 /// What is heard accepts nothing, sends nothing and tells no end. A frame that doesn't go to its address, and is neither a claim nor a
 /// request, changes nothing of what is sent: at any moment the next frame is the one where time alone passed, and none was taken.
 pub fn strangers_and_sending()
-    ensures accepted { (w : Who) (H : List Call) (f : FrameRecord) → (accepted w (At @@ (Hear f) ∷ H) ≡ accepted w H)
-        × (broadcasts w (At @@ (Hear f) ∷ H) ≡ broadcasts w H) × (transfers w (At @@ (Hear f) ∷ H) ≡ transfers w H) × (asks (At @@ (Hear f) ∷ H) ≡ asks H) }
-    ensures sent { (w : Who) (H : List Call) (f : FrameRecord) → (sent (At @@ (Hear f) ∷ H) ≡ sent H) × (packets (At @@ (Hear f) ∷ H) ≡ packets H)
-        × (moves w (At @@ (Hear f) ∷ H) ≡ moves w H) × (acknowledged (At @@ (Hear f) ∷ H) ≡ acknowledged H) }
-    ensures told { (H : List Call) (f : FrameRecord) → (told (At @@ (Hear f) ∷ H) ≡ told H) × (told_broadcasts (At @@ (Hear f) ∷ H) ≡ told_broadcasts H)
-        × (told_transfers (At @@ (Hear f) ∷ H) ≡ told_transfers H) × (told_asks (At @@ (Hear f) ∷ H) ≡ told_asks H) }
-    ensures broadcast { (w : Who) (H : List Call) (f : FrameRecord) → open_broadcast w (At @@ (Hear f) ∷ H) ≡ open_broadcast w H }
-    ensures next { (w : Who) (H : List Call) (c : Controller) (f : FrameRecord) (now : ℕ) → Is w H c → claim_of f ≡ None
+    ensures accepted { (w : Who) (H : List Call) (now : ℕ) (f : FrameRecord) → (accepted w (At now (Hear f) ∷ H) ≡ accepted w H)
+        × (broadcasts w (At now (Hear f) ∷ H) ≡ broadcasts w H) × (transfers w (At now (Hear f) ∷ H) ≡ transfers w H) × (asks (At now (Hear f) ∷ H) ≡ asks H) }
+    ensures sent { (w : Who) (H : List Call) (now : ℕ) (f : FrameRecord) → (sent (At now (Hear f) ∷ H) ≡ sent H) × (packets (At now (Hear f) ∷ H) ≡ packets H)
+        × (moves w (At now (Hear f) ∷ H) ≡ moves w H) × (acknowledged (At now (Hear f) ∷ H) ≡ acknowledged H) }
+    ensures told { (H : List Call) (now : ℕ) (f : FrameRecord) → (told (At now (Hear f) ∷ H) ≡ told H) × (told_broadcasts (At now (Hear f) ∷ H) ≡ told_broadcasts H)
+        × (told_transfers (At now (Hear f) ∷ H) ≡ told_transfers H) × (told_asks (At now (Hear f) ∷ H) ≡ told_asks H) }
+    ensures broadcast { (w : Who) (H : List Call) (now : ℕ) (f : FrameRecord) → open_broadcast w (At now (Hear f) ∷ H) ≡ open_broadcast w H }
+    ensures next { (w : Who) (H : List Call) (c : Controller) (t : ℕ) (f : FrameRecord) (now : ℕ) → Is w H c → claim_of f ≡ None
         → asked_group f ≡ None → destination_of f.id ≢ Some w.address
-        → next_frame w (At @@ (Hear f) ∷ H) now ≡ next_frame w (At f.stamp (TakeFrame None) ∷ H) now }
+        → next_frame w (At t (Hear f) ∷ H) now ≡ next_frame w (At t (TakeFrame None) ∷ H) now }
 {}
 
 /// Which frame others exchange, no claim, makes no difference to any answer, whatever comes later. Neither does it whether a tick stands
 /// in its place, unless a session (`ticks_wait`) or a request is out of time by it.
 pub fn strangers_unheard()
-    ensures alike { (w : Who) (later H : List Call) (f g : FrameRecord) → IsAside w f → IsAside w g → f.stamp ≡ g.stamp
-        → AreAnswered w (later ++ At @@ (Hear f) ∷ H) → AreAnswered w (later ++ At @@ (Hear g) ∷ H) }
-    ensures time { (w : Who) (later H : List Call) (f : FrameRecord) → IsAside w f
-        → reception w (At f.stamp Tick ∷ H) ≡ reception w H → ended w (At @@ (Hear f) ∷ H) ≡ ended w H
-        → (AreAnswered w (later ++ At @@ (Hear f) ∷ H) ↔ AreAnswered w (later ++ At f.stamp Tick ∷ H)) }
+    ensures alike { (w : Who) (later H : List Call) (now : ℕ) (f g : FrameRecord) → IsAside w f → IsAside w g
+        → AreAnswered w (later ++ At now (Hear f) ∷ H) → AreAnswered w (later ++ At now (Hear g) ∷ H) }
+    ensures time { (w : Who) (later H : List Call) (now : ℕ) (f : FrameRecord) → IsAside w f
+        → reception w (At now Tick ∷ H) ≡ reception w H → ended w (At now (Hear f) ∷ H) ≡ ended w H
+        → (AreAnswered w (later ++ At now (Hear f) ∷ H) ↔ AreAnswered w (later ++ At now Tick ∷ H)) }
 {}
 
 /// While a message waits for the program, an RTS to its address is answered by abort 2, and none begins.
 pub fn full_refuses()
-    ensures { (w : Who) (H : List Call) (f : FrameRecord) (x : ℕ × MessageRecord) (size packets most pgn : ℕ)
-        → (reception w H).waits ≡ Some x → IsTrue (holds w H f.stamp)
+    ensures { (w : Who) (H : List Call) (now : ℕ) (f : FrameRecord) (x : ℕ × MessageRecord) (size packets most pgn : ℕ)
+        → (reception w H).waits ≡ Some x → IsTrue (holds w H now)
         → said_to w.address f ≡ Some (RequestToSend size packets most pgn)
         → length (without (source_of f.id) (reception w H).replies) < 16
-        → reception w (At @@ (Hear f) ∷ H) ≡ record {
+        → reception w (At now (Hear f) ∷ H) ≡ record {
           session = None;
           waits = Some x;
           replies = without (source_of f.id) (reception w H).replies

@@ -70,12 +70,12 @@ pub fn moves_mean()
         → message_of f ≡ abort_move t.sender.destination t.sender.message 5 → (65 ≤ t.spent) × (65 ≤ clears w H) }
     ensures bounded { (w : Who) (H : List Call) (c : Controller) (t : Running) → Is w H c → open_transfer w H ≡ Some t
         → clears w H ≤ packets_of t.sender.message + 65 }
-    ensures hears { (w : Who) (H : List Call) (f : FrameRecord) (t : Running) → open_transfer w H ≡ Some t
-        → is_lost (address_after w (At @@ (Hear f) ∷ H)) ≡ false
-        → is_replaced (holder w H t.sender.destination) (holder w (At @@ (Hear f) ∷ H) t.sender.destination) ≡ false
+    ensures hears { (w : Who) (H : List Call) (now : ℕ) (f : FrameRecord) (t : Running) → open_transfer w H ≡ Some t
+        → is_lost (address_after w (At now (Hear f) ∷ H)) ≡ false
+        → is_replaced (holder w H t.sender.destination) (holder w (At now (Hear f) ∷ H) t.sender.destination) ≡ false
         → t.gone ≡ false → is_spent t ≡ false
-        → (x : Running) × (open_transfer w (At @@ (Hear f) ∷ H) ≡ Some x)
-        × (x.sender ≡ (send_step t.sender (Heard f) (clock_at H f.stamp)).after) }
+        → (x : Running) × (open_transfer w (At now (Hear f) ∷ H) ≡ Some x)
+        × (x.sender ≡ (send_step t.sender (Heard f) (clock_at H now)).after) }
     ensures takes { (w : Who) (H : List Call) (now : ℕ) (f : FrameRecord) (t : Running) → open_transfer w H ≡ Some t
         → IsTrue (is_move w H f) → gives_up t ≡ false
         → (x : Running) × (open_transfer w (At now (TakeFrame (Some f)) ∷ H) ≡ Some x)
@@ -93,11 +93,11 @@ pub fn transfer_done_means()
     ensures done { (w : Who) (H : List Call) (c : Controller) (k : ℕ)
         → Is w (TakeTransferEnded (Some (k, ending.Done)) ∷ H) c
         → (to : ℕ) × (m : MessageRecord) × (slice_get (transfers w H) k ≡ Some (to, m)) × Happened (Acknowledges w to m) H }
-    ensures acknowledged { (w : Who) (H later : List Call) (c : Controller) (f : FrameRecord) (t : Running) (answer : Option (ℕ × TransferEnding))
-        → Is w (TakeTransferEnded answer ∷ later ++ At @@ (Hear f) ∷ H) c → NoneEnds later → open_transfer w H ≡ Some t
+    ensures acknowledged { (w : Who) (H later : List Call) (c : Controller) (now : ℕ) (f : FrameRecord) (t : Running) (answer : Option (ℕ × TransferEnding))
+        → Is w (TakeTransferEnded answer ∷ later ++ At now (Hear f) ∷ H) c → NoneEnds later → open_transfer w H ≡ Some t
         → IsTrue (is_waiting t.sender.state) → t.sender.highest ≡ packets_of t.sender.message → t.gone ≡ false → is_spent t ≡ false
-        → is_lost (address_after w (At @@ (Hear f) ∷ H)) ≡ false
-        → is_replaced (holder w H t.sender.destination) (holder w (At @@ (Hear f) ∷ H) t.sender.destination) ≡ false
+        → is_lost (address_after w (At now (Hear f) ∷ H)) ≡ false
+        → is_replaced (holder w H t.sender.destination) (holder w (At now (Hear f) ∷ H) t.sender.destination) ≡ false
         → said_to t.sender f
         ≡ Some (Acknowledgment (length t.sender.message.bytes) (packets_of t.sender.message) t.sender.message.pgn)
         → answer ≡ Some (t.token, ending.Done) }
@@ -107,10 +107,10 @@ pub fn transfer_done_means()
     ensures gone { (w : Who) (H : List Call) (c : Controller) (k : ℕ)
         → Is w (TakeTransferEnded (Some (k, ending.Gone)) ∷ H) c
         → (to : ℕ) × (m : MessageRecord) × (slice_get (transfers w H) k ≡ Some (to, m)) × Happened (Replaces w to) H }
-    ensures replaced { (w : Who) (H later : List Call) (c : Controller) (f : FrameRecord) (t : Running) (answer : Option (ℕ × TransferEnding))
-        → Is w (TakeTransferEnded answer ∷ later ++ At @@ (Hear f) ∷ H) c → NoneEnds later → open_transfer w H ≡ Some t → is_over t ≡ false
-        → is_lost (address_after w (At @@ (Hear f) ∷ H)) ≡ false
-        → is_replaced (holder w H t.sender.destination) (holder w (At @@ (Hear f) ∷ H) t.sender.destination) ≡ true
+    ensures replaced { (w : Who) (H later : List Call) (c : Controller) (now : ℕ) (f : FrameRecord) (t : Running) (answer : Option (ℕ × TransferEnding))
+        → Is w (TakeTransferEnded answer ∷ later ++ At now (Hear f) ∷ H) c → NoneEnds later → open_transfer w H ≡ Some t → is_over t ≡ false
+        → is_lost (address_after w (At now (Hear f) ∷ H)) ≡ false
+        → is_replaced (holder w H t.sender.destination) (holder w (At now (Hear f) ∷ H) t.sender.destination) ≡ true
         → answer ≡ Some (t.token, ending.Gone) }
     ensures withdrawn { (w : Who) (H : List Call) (c : Controller) (k : ℕ)
         → Is w (TakeTransferEnded (Some (k, ending.Withdrawn)) ∷ H) c → IsTrue (is_lost (address_after w H)) }
@@ -124,18 +124,18 @@ pub fn transfer_done_means()
 /// destination's address is left or lost by its holder. So what is sent next in packets is what a tick at the same moment leaves, and the
 /// end too, unless by the frame the address is lost.
 pub fn strangers_and_transfers()
-    ensures transfer { (w : Who) (H : List Call) (c : Controller) (f : FrameRecord) (t : Running) → Is w H c → open_transfer w H ≡ Some t
+    ensures transfer { (w : Who) (H : List Call) (c : Controller) (now : ℕ) (f : FrameRecord) (t : Running) → Is w H c → open_transfer w H ≡ Some t
         → (source_of f.id ≢ t.sender.destination) ⊎ (destination_of f.id ≢ Some w.address)
-        → is_replaced (holder w H t.sender.destination) (holder w (At @@ (Hear f) ∷ H) t.sender.destination) ≡ false
-        → open_transfer w (At @@ (Hear f) ∷ H) ≡ Some t }
-    ensures next { (w : Who) (H : List Call) (c : Controller) (f : FrameRecord) (t : Running) (now : ℕ) → Is w H c
+        → is_replaced (holder w H t.sender.destination) (holder w (At now (Hear f) ∷ H) t.sender.destination) ≡ false
+        → open_transfer w (At now (Hear f) ∷ H) ≡ Some t }
+    ensures next { (w : Who) (H : List Call) (c : Controller) (t : ℕ) (f : FrameRecord) (t : Running) (now : ℕ) → Is w H c
         → open_transfer w H ≡ Some t → (source_of f.id ≢ t.sender.destination) ⊎ (destination_of f.id ≢ Some w.address)
-        → is_replaced (holder w H t.sender.destination) (holder w (At @@ (Hear f) ∷ H) t.sender.destination) ≡ false
-        → next_long w (At @@ (Hear f) ∷ H) now ≡ next_long w (At f.stamp Ticks ∷ H) now }
-    ensures ends { (w : Who) (H : List Call) (c : Controller) (f : FrameRecord) (t : Running) → Is w H c → open_transfer w H ≡ Some t
+        → is_replaced (holder w H t.sender.destination) (holder w (At t (Hear f) ∷ H) t.sender.destination) ≡ false
+        → next_long w (At t (Hear f) ∷ H) now ≡ next_long w (At t Ticks ∷ H) now }
+    ensures ends { (w : Who) (H : List Call) (c : Controller) (now : ℕ) (f : FrameRecord) (t : Running) → Is w H c → open_transfer w H ≡ Some t
         → (source_of f.id ≢ t.sender.destination) ⊎ (destination_of f.id ≢ Some w.address)
-        → is_replaced (holder w H t.sender.destination) (holder w (At @@ (Hear f) ∷ H) t.sender.destination) ≡ false
-        → is_smaller w (claim_of f) ≡ false → next_transfer_ended w (At @@ (Hear f) ∷ H) ≡ next_transfer_ended w (At f.stamp Ticks ∷ H) }
+        → is_replaced (holder w H t.sender.destination) (holder w (At now (Hear f) ∷ H) t.sender.destination) ≡ false
+        → is_smaller w (claim_of f) ≡ false → next_transfer_ended w (At now (Hear f) ∷ H) ≡ next_transfer_ended w (At now Ticks ∷ H) }
 {}
 
 /// A transfer rests for 4 seconds after the end of one of its group to its destination was told that wasn't acknowledged, whatever

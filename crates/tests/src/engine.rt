@@ -41,7 +41,7 @@ impl Engine {
 pub fn turn(engine: &mut Engine, heard: Option<&Frame>, now: Stamp) -> Option<Frame> {
     let controller = &mut engine.controller;
     match heard {
-        Some(frame) => controller.hear(frame),
+        Some(frame) => controller.hear(frame, now),
         None => controller.tick(now),
     }
     let is_holding = matches!(&controller.status(), Status::Holding(_));

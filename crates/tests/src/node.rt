@@ -226,6 +226,13 @@ pub(crate) fn frame(line: &str) -> Option<Frame> {
     }
 }
 
+/// Shows the controller the frame of this line, at its stamp.
+pub(crate) fn hear_line(node: &mut Controller, line: &str) -> Option<()> {
+    let heard = frame(line)?;
+    node.hear(&heard, heard.stamp);
+    Some(())
+}
+
 /// Whether what is given is the frame of this line, or nothing where there is no line.
 pub(crate) fn is_line(given: Option<Frame>, wanted: Option<&str>) -> Option<bool> {
     let bus = Bus::new(b"can0")?;
@@ -239,7 +246,7 @@ pub(crate) fn is_line(given: Option<Frame>, wanted: Option<&str>) -> Option<bool
 fn does(node: &mut Controller, step: &Step) -> Option<bool> {
     match step {
         Hears(line) => {
-            node.hear(&frame(line)?);
+            hear_line(node, line)?;
             Some(true)
         }
         Gives(micros, wanted) => is_line(node.take_frame(Stamp::new(*micros)?), *wanted),

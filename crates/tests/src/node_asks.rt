@@ -1,5 +1,5 @@
 //! A controller at 80 that asks others for groups: its requests, and how they end.
-use crate::node::{frame, is_line};
+use crate::node::{hear_line, is_line};
 use j39_address::Name;
 use j39_frame::{Pgn, Stamp};
 use j39_node::{Answer, AskEnding, Controller, Ending, Refused};
@@ -182,7 +182,7 @@ static STEPS: &[Step] = &[
 fn does(node: &mut Controller, step: &Step) -> Option<bool> {
     match step {
         Hears(line) => {
-            node.hear(&frame(line)?);
+            hear_line(node, line)?;
             Some(true)
         }
         Gives(micros, wanted) => {

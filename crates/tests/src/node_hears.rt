@@ -1,5 +1,5 @@
 //! A controller that hears broadcasts in packets: what it has, frames as the lines that a standard's reader would write.
-use crate::node::frame;
+use crate::node::hear_line;
 use j39_address::Name;
 use j39_frame::Stamp;
 use j39_node::{Controller, News};
@@ -100,7 +100,7 @@ static STEPS: &[Step] = &[
 fn does(node: &mut Controller, step: &Step) -> Option<bool> {
     match step {
         Hears(line) => {
-            node.hear(&frame(line)?);
+            hear_line(node, line)?;
             Some(true)
         }
         Gives(micros) => Some(node.take_frame(Stamp::new(*micros)?).is_some()),

@@ -1,5 +1,5 @@
 //! A controller that is sent messages in packets: what it answers, frames as the lines that a standard's reader would write.
-use crate::node::{frame, is_line};
+use crate::node::{hear_line, is_line};
 use crate::transfers::VIN;
 use j39_address::Name;
 use j39_frame::Stamp;
@@ -113,7 +113,7 @@ static STEPS: &[Step] = &[
 fn does(node: &mut Controller, step: &Step) -> Option<bool> {
     match step {
         Hears(line) => {
-            node.hear(&frame(line)?);
+            hear_line(node, line)?;
             Some(true)
         }
         Gives(micros, wanted) => is_line(node.take_frame(Stamp::new(*micros)?), *wanted),

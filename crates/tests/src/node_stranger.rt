@@ -89,10 +89,10 @@ impl Pair {
         let now = Stamp::new(self.now)?;
         for _turn in 0..4 {
             if let Some(frame) = self.sender.take_frame(now) {
-                self.receiver.hear(&frame);
+                self.receiver.hear(&frame, now);
             }
             if let Some(frame) = self.receiver.take_frame(now) {
-                self.sender.hear(&frame);
+                self.sender.hear(&frame, now);
             }
         }
         Some(())
@@ -111,8 +111,8 @@ impl Pair {
         self.now = self.now.saturating_add(STEP);
         let now = Stamp::new(self.now)?;
         let frame = noise(random, now)?;
-        self.sender.hear(&frame);
-        self.receiver.hear(&frame);
+        self.sender.hear(&frame, now);
+        self.receiver.hear(&frame, now);
         self.sender.tick(now);
         self.receiver.tick(now);
         self.exchange()?;

@@ -1,5 +1,5 @@
 //! Transfers of a controller to one address: from 80 to 0B, of the group 65226.
-use crate::node::{frame, is_line};
+use crate::node::{frame, hear_line, is_line};
 use j39_address::Name;
 use j39_frame::{Pgn, Stamp};
 use j39_node::{Controller, Refused, TransferEnding};
@@ -180,13 +180,13 @@ static LOST: &[Step] = &[
 fn does(node: &mut Controller, step: &Step) -> Option<bool> {
     match step {
         Hears(line) => {
-            node.hear(&frame(line)?);
+            hear_line(node, line)?;
             Some(true)
         }
         HearsOften(times, line) => {
             let heard = frame(line)?;
             for _time in 0..*times {
-                node.hear(&heard);
+                node.hear(&heard, heard.stamp);
             }
             Some(true)
         }
@@ -254,12 +254,12 @@ fn delivered(
         };
         match receiver.on(&sent, now) {
             Reply::Nothing => {}
-            Reply::Send(id, data) => node.hear(&j39_frame::Frame::new(now, id, &data)?),
+            Reply::Send(id, data) => node.hear(&j39_frame::Frame::new(now, id, &data)?, now),
             Reply::Delivered(message, id, data) => {
                 if message.payload == bytes {
                     got = message.payload.len().saturating_add(got);
                 }
-                node.hear(&j39_frame::Frame::new(now, id, &data)?);
+                node.hear(&j39_frame::Frame::new(now, id, &data)?, now);
             }
         }
     }

@@ -221,7 +221,7 @@ impl Station {
             → IsNoted w H frame.now self.old.transfer book.old book.new) }
         ensures count { length book.new.handed.items ≡ length book.old.handed.items }
     {
-        self.controller.hear(frame);
+        self.controller.hear(frame, frame.stamp);
         self.settle(book)?;
         self.deliver(book)?;
         self.withdraw(book);

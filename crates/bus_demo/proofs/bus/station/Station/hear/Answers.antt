@@ -1,6 +1,7 @@
 -- The frame was heard, what it ended and made whole was noted, and all else was taken.
 use Rattle.std.proofs.Common.{◌++◌, ◌∷◌, ◌∙◌, ap, map, refl}
-use Rattle.j39_node.specs.History.Call.{Hear, ReleaseTransfer, TakeTransferEnded}
+use Rattle.j39_node.specs.History.Call.{At, ReleaseTransfer, TakeTransferEnded}
+use Rattle.j39_node.specs.History.Act.{Hear}
 use Rattle.j39_node.specs.Reception.{reception}
 use Rattle.bus_demo.specs.Calls.{is_taking}
 use Rattle.bus_demo.specs.Noted.{listed, told_by}
@@ -26,7 +27,7 @@ returns-clause-hears c =
 
 pub returns-clause-noted : goal.returns-clause-noted
 returns-clause-noted c = λ w H is.
-    let K = Hear c.args.frame.now ∷ H in
+    let K = At c.args.frame.now.stamp (Hear c.args.frame.now) ∷ H in
     let heard = c.hear.ensures w H is in
     let ended = c.settle.ensures.calls in
     let settled = ended.1 w K heard in
