@@ -136,17 +136,17 @@ hears_with w f a held time holds found r s = record (passes f.stamp s) {
   hearing = hears_it w time f found;
   ended =
       first s.ended
-      (end_at w s.ask (length s.sent) (s.wait - (t - s.moment)) (is_lost a) f
+      (end_at w s.ask (length s.sent) (s.wait - (when - s.moment)) (is_lost a) f
       (option_or (made_of (whole_by w.address (is_smaller w (claim_of f)) held f time r))
       (made_of (option_map (λ (x : ℕ × MessageRecord). x.1) (newly (whole_of s.hearing) (whole_of (hears_it w time f found)))))));
-  transfer = hears_if (is_lost a) (λ b. is_replaced (s.holder b) (holds b)) f (clock (s.age + (t - s.moment))) s.transfer;
+  transfer = hears_if (is_lost a) (λ b. is_replaced (s.holder b) (holds b)) f (clock (s.age + (when - s.moment))) s.transfer;
 }
 
 abbrev heard : Who → FrameRecord → State → State
 heard w f s =
     let holds : ℕ → Option ℕ = λ b. held_then b (claim_of f) (s.holder b) in
-    hears_with w f (if is_smaller w (claim_of f) then Lost else older (t - s.moment) s.address) (is_held (older (t - s.moment) s.address))
-    (later s.time (t - s.heard_at)) holds (leaves_it (changes s.holder holds s.hearing) s.hearing)
+    hears_with w f (if is_smaller w (claim_of f) then Lost else older (when - s.moment) s.address) (is_held (older (when - s.moment) s.address))
+    (later s.time (when - s.heard_at)) holds (leaves_it (changes s.holder holds s.hearing) s.hearing)
     (left (leaves s.holder holds s.reception.session) s.reception) s
 
 abbrev takes_with : ℕ → FrameRecord → (ℕ → Option ℕ) → State → State
@@ -165,7 +165,7 @@ takes_with now f holds s = record (passes now s) {
 }
 
 abbrev next : Who → Call → State → State
-next w (At t (Hear f)) s = heard w f s
+next w (At when (Hear f)) s = heard w f s
 next w (At now Tick) s = record (passes now s) {
   heard_at = now;
   time = later s.time (now - s.heard_at);
@@ -293,7 +293,7 @@ Answers w s (At now (Ask group to answer)) =
     else Err NoAddress)
 Answers w s (TakeAskEnded answer) = answer ≡ ask_end s.ask (length s.sent) s.ended s.wait (is_lost s.address)
 Answers w s (ReleaseBroadcast answer) = answer ≡ not (has_place (whole_of s.hearing))
-Answers w s (At t (Hear f)) = Unit {0}
+Answers w s (At when (Hear f)) = Unit {0}
 Answers w s (At now Tick) = Unit {0}
 
 answered : (w : Who) (H : List Call) (call : Call) → IsAnswered w H call → Answers w (state w H) call
@@ -411,9 +411,9 @@ module _ (w : Who) (f : FrameRecord) (a : IsAside w f) where
   mine : is_smaller w (claim_of f) ≡ false
   mine = ap (is_smaller w) a.claims
 
-  pub aside_is : (H : List Call) → AreAnswered w H → state w (At t (Hear f) ∷ H) ≡ aside w f.stamp (state w H)
+  pub aside_is : (H : List Call) → AreAnswered w H → state w (At when (Hear f) ∷ H) ≡ aside w f.stamp (state w H)
   aside_is H right =
-      λ i. record (state w (At t (Hear f) ∷ H)) {
+      λ i. record (state w (At when (Hear f) ∷ H)) {
         address = lives i;
         owes = owes i;
         kept = keeps i;
@@ -427,70 +427,70 @@ module _ (w : Who) (f : FrameRecord) (a : IsAside w f) where
         reception = receives i;
         hearing = hearing_laws.strangers w H f a.claims unannounced (inl unpacked) i;
         ended = ends i;
-        transfer = open_stays w H t f right a.claims (elsewhere w.address a.not_here) i;
+        transfer = open_stays w H when f right a.claims (elsewhere w.address a.not_here) i;
       }
     where
       held : Bool
-      held = holds w H t
+      held = holds w H when
 
-      lives : address_after w (At t (Hear f) ∷ H) ≡ older (step H t) (address_after w H)
-      lives = ap (λ (b : Bool). if b then Lost else older (step H t) (address_after w H)) mine
+      lives : address_after w (At when (Hear f) ∷ H) ≡ older (step H when) (address_after w H)
+      lives = ap (λ (b : Bool). if b then Lost else older (step H when) (address_after w H)) mine
 
-      owes : owes_claim w (At t (Hear f) ∷ H) ≡ owes_claim w H
+      owes : owes_claim w (At when (Hear f) ∷ H) ≡ owes_claim w H
       owes = ap (λ (b : Bool). owes_claim w H || b) (uncalled (is_lost (address_after w H))) ∙ no_more (owes_claim w H)
 
-      keeps : kept w (At t (Hear f) ∷ H) ≡ kept w H
+      keeps : kept w (At when (Hear f) ∷ H) ≡ kept w H
       keeps = ap (λ (b : Bool). if b && nat_lt (length (kept w H) - length (got H)) 16 then kept w H ++ (f.stamp, message_of f) ∷ [] else kept w H) (unwanted held)
 
-      loses : lost_news w (At t (Hear f) ∷ H) ≡ lost_news w H
+      loses : lost_news w (At when (Hear f) ∷ H) ≡ lost_news w H
       loses = ap (λ (b : Bool). lost_news w H || (b && not (is_lost (address_after w H)))) mine ∙ no_more (lost_news w H)
 
-      others : another_news w (At t (Hear f) ∷ H) ≡ another_news w H
+      others : another_news w (At when (Hear f) ∷ H) ≡ another_news w H
       others = ap (λ (b : Bool). another_news w H || b) (not_mine held) ∙ no_more (another_news w H)
 
-      misses : missed_news w (At t (Hear f) ∷ H) ≡ missed_news w H
+      misses : missed_news w (At when (Hear f) ∷ H) ≡ missed_news w H
       misses = ap (λ (b : Bool). missed_news w H || (b && not (nat_lt (length (kept w H) - length (got H)) 16))) (unwanted held) ∙ no_more (missed_news w H)
 
-      unheard : unheard_news w (At t (Hear f) ∷ H) ≡ unheard_news w H
-      unheard = ap (λ (b : Bool). unheard_news w H || (b && (not (is_ignored w (frames.pgn_named f)) && not (has_room (time_heard (At t (Hear f) ∷ H)) (source_of f.id) (found w H t f))))) unannounced
+      unheard : unheard_news w (At when (Hear f) ∷ H) ≡ unheard_news w H
+      unheard = ap (λ (b : Bool). unheard_news w H || (b && (not (is_ignored w (frames.pgn_named f)) && not (has_room (time_heard (At when (Hear f) ∷ H)) (source_of f.id) (found w H when f))))) unannounced
           ∙ no_more (unheard_news w H)
 
-      receives : reception w (At t (Hear f) ∷ H) ≡ reception w H
-      receives = to_others w H t f mine (λ r z. unclaimed w H t f r.message.source a.claims) (elsewhere w.address a.not_here)
+      receives : reception w (At when (Hear f) ∷ H) ≡ reception w H
+      receives = to_others w H when f mine (λ r z. unclaimed w H when f r.message.source a.claims) (elsewhere w.address a.not_here)
 
-      silent : (o : Option Question) (n left : ℕ) (lost : Bool) → end_at w o n left lost f (made w H t f) ≡ silence_of o n left lost
+      silent : (o : Option Question) (n left : ℕ) (lost : Bool) → end_at w o n left lost f (made w H when f) ≡ silence_of o n left lost
       silent None n left lost = refl
       silent (Some q) n left lost =
           ap (λ (x : Option AskEnding). first (silent_end (nat_lt q.token n) left lost) (if nat_lt q.token n then x else None))
-          (to_another w H t f q a.to a.goes a.not_all a.not_here) ∙ go (silent_end (nat_lt q.token n) left lost) (nat_lt q.token n)
+          (to_another w H when f q a.to a.goes a.not_all a.not_here) ∙ go (silent_end (nat_lt q.token n) left lost) (nat_lt q.token n)
         where
           go : (x : Option AskEnding) (t : Bool) → first x (if t then None else None) ≡ x
           go (Some e) t = refl
           go None true = refl
           go None false = refl
 
-      ends : ended w (At t (Hear f) ∷ H) ≡ first (ended w H) (silence_of (open_ask H) (length (sent H)) (wait H - step H t) (is_lost (older (step H t) (address_after w H))))
+      ends : ended w (At when (Hear f) ∷ H) ≡ first (ended w H) (silence_of (open_ask H) (length (sent H)) (wait H - step H when) (is_lost (older (step H when) (address_after w H))))
       ends =
-          ap (λ (x : Address). first (ended w H) (end_at w (open_ask H) (length (sent H)) (wait H - step H t) (is_lost x) f (made w H t f))) lives
-          ∙ ap (first (ended w H)) (silent (open_ask H) (length (sent H)) (wait H - step H t) (is_lost (older (step H t) (address_after w H))))
+          ap (λ (x : Address). first (ended w H) (end_at w (open_ask H) (length (sent H)) (wait H - step H when) (is_lost x) f (made w H when f))) lives
+          ∙ ap (first (ended w H)) (silent (open_ask H) (length (sent H)) (wait H - step H when) (is_lost (older (step H when) (address_after w H))))
 
 -- ---- so no answer tells which it was
 
-pub alike : (w : Who) (later H : List Call) (t : ℕ) (f g : FrameRecord) → IsAside w f → IsAside w g → f.stamp ≡ g.stamp → AreAnswered w (later ++ At t (Hear f) ∷ H)
-    → AreAnswered w (later ++ At u (Hear g) ∷ H)
-alike w later H t f g a b e h =
-    let right = (before w later (At t (Hear f) ∷ H) h).0 in
-    same_answers w later (At t (Hear f) ∷ H) (At u (Hear g) ∷ H)
+pub alike : (w : Who) (later H : List Call) (when : ℕ) (f g : FrameRecord) → IsAside w f → IsAside w g → f.stamp ≡ g.stamp → AreAnswered w (later ++ At when (Hear f) ∷ H)
+    → AreAnswered w (later ++ At next (Hear g) ∷ H)
+alike w later H when f g a b e h =
+    let right = (before w later (At when (Hear f) ∷ H) h).0 in
+    same_answers w later (At when (Hear f) ∷ H) (At next (Hear g) ∷ H)
     (aside_is w f a H right ∙ (ap (λ (n : ℕ). aside w n (state w H)) e ∙ sym (aside_is w g b H right))) (λ r. r) h
 
-pub timely : (w : Who) (later H : List Call) (t : ℕ) (f : FrameRecord) → IsAside w f → reception w (At t Tick ∷ H) ≡ reception w H → ended w (At t (Hear f) ∷ H) ≡ ended w H
-    → (AreAnswered w (later ++ At t (Hear f) ∷ H) ↔ AreAnswered w (later ++ At t Tick ∷ H))
-timely w later H t f a quiet none = (
-  λ h. same_answers w later (At t (Hear f) ∷ H) (At t Tick ∷ H) (same (before w later (At t (Hear f) ∷ H) h).0) (λ r. r) h,
-  λ h. same_answers w later (At t Tick ∷ H) (At t (Hear f) ∷ H) (sym (same (before w later (At t Tick ∷ H) h).0)) (λ r. r) h,
+pub timely : (w : Who) (later H : List Call) (when : ℕ) (f : FrameRecord) → IsAside w f → reception w (At when Tick ∷ H) ≡ reception w H → ended w (At when (Hear f) ∷ H) ≡ ended w H
+    → (AreAnswered w (later ++ At when (Hear f) ∷ H) ↔ AreAnswered w (later ++ At when Tick ∷ H))
+timely w later H when f a quiet none = (
+  λ h. same_answers w later (At when (Hear f) ∷ H) (At when Tick ∷ H) (same (before w later (At when (Hear f) ∷ H) h).0) (λ r. r) h,
+  λ h. same_answers w later (At when Tick ∷ H) (At when (Hear f) ∷ H) (sym (same (before w later (At when Tick ∷ H) h).0)) (λ r. r) h,
 )
   where
-    same : AreAnswered w H → state w (At t (Hear f) ∷ H) ≡ state w (At t Tick ∷ H)
+    same : AreAnswered w H → state w (At when (Hear f) ∷ H) ≡ state w (At when Tick ∷ H)
     same right =
         (λ i. record (aside_is w f a H right i) { ended = none i })
-        ∙ λ i. record (state w (At t Tick ∷ H)) { reception = sym quiet i }
+        ∙ λ i. record (state w (At when Tick ∷ H)) { reception = sym quiet i }

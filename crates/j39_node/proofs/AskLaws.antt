@@ -204,6 +204,7 @@ later_outcome : (w : Who) (H : List Call) (call : Call) (q : Question) (e : AskE
     → Outcome w H q e → Outcome w (call ∷ H) q e
 later_outcome w H call q e l (by_word k h) = by_word k (record {
   later = call ∷ h.later;
+  at = h.at;
   frame = h.frame;
   earlier = h.earlier;
   is = ap (λ G. call ∷ G) h.is;
@@ -244,16 +245,17 @@ not_over taken left lost z = go taken (nat_eq left 0) lost refl refl refl z
     go false b false p r s z = (s, λ t. absurd (let y : false ≡ true = sym p ∙ t in cc))
 
 -- a frame ends it
-ends_by : (w : Who) (H : List Call) (t : ℕ) (f : FrameRecord) (q : Question) (e : AskEnding) → AreAnswered w H → open_ask H ≡ Some q → ended w H ≡ None
-    → end_at w (Some q) (length (sent H)) (wait H - step H t) (is_lost (address_after w (At t (Hear f) ∷ H))) f (made w H t f) ≡ Some e → Outcome w (At t (Hear f) ∷ H) q e
-ends_by w H t f q e right o n z = go (silent_end (is_taken q H) (wait H - step H t) (is_lost (address_after w (At t (Hear f) ∷ H)))) (is_taken q H) refl refl z
+ends_by : (w : Who) (H : List Call) (when : ℕ) (f : FrameRecord) (q : Question) (e : AskEnding) → AreAnswered w H → open_ask H ≡ Some q → ended w H ≡ None
+    → end_at w (Some q) (length (sent H)) (wait H - step H when) (is_lost (address_after w (At when (Hear f) ∷ H))) f (made w H when f) ≡ Some e → Outcome w (At when (Hear f) ∷ H) q e
+ends_by w H when f q e right o n z = go (silent_end (is_taken q H) (wait H - step H when) (is_lost (address_after w (At when (Hear f) ∷ H)))) (is_taken q H) refl refl z
   where
-    timely : is_taken q H ≡ true → 0 < wait H - step H t → says_to w q f (made w H t f) ≡ Some e → Outcome w (At t (Hear f) ∷ H) q e
+    timely : is_taken q H ≡ true → 0 < wait H - step H when → says_to w q f (made w H when f) ≡ Some e → Outcome w (At when (Hear f) ∷ H) q e
     timely t l s =
         let a = waits w H right q o t in
         let b = a.2 in
-        by_word (says_word w q f (made w H t f) e s) (record {
+        by_word (says_word w q f (made w H when f) e s) (record {
           later = [];
+          at = when;
           frame = f;
           earlier = H;
           is = refl;
@@ -265,15 +267,15 @@ ends_by w H t f q e right o n z = go (silent_end (is_taken q H) (wait H - step H
           says = s;
         })
 
-    out : is_taken q H ≡ true → wait H - step H t ≡ 0 → e ≡ TimedOut → Outcome w (At t (Hear f) ∷ H) q e
+    out : is_taken q H ≡ true → wait H - step H when ≡ 0 → e ≡ TimedOut → Outcome w (At when (Hear f) ∷ H) q e
     out t l y =
         let a = waits w H right q o t in
         let b = a.2 in
-        by_time (a.0 + step H t) y (later_asked H (At t (Hear f)) q a.0 a.1) (omega (arith, b, l))
+        by_time (a.0 + step H when) y (later_asked H (At when (Hear f)) q a.0 a.1) (omega (arith, b, l))
 
-    go : (s : Option AskEnding) (b : Bool) → silent_end (is_taken q H) (wait H - step H t) (is_lost (address_after w (At t (Hear f) ∷ H))) ≡ s → is_taken q H ≡ b
-        → first s (if b then says_to w q f (made w H t f) else None) ≡ Some e → Outcome w (At t (Hear f) ∷ H) q e
-    go (Some x) b p r z = silently w (At t (Hear f) ∷ H) q e _ _ _ (p ∙ z) out (λ l y. by_loss y l)
+    go : (s : Option AskEnding) (b : Bool) → silent_end (is_taken q H) (wait H - step H when) (is_lost (address_after w (At when (Hear f) ∷ H))) ≡ s → is_taken q H ≡ b
+        → first s (if b then says_to w q f (made w H when f) else None) ≡ Some e → Outcome w (At when (Hear f) ∷ H) q e
+    go (Some x) b p r z = silently w (At when (Hear f) ∷ H) q e _ _ _ (p ∙ z) out (λ l y. by_loss y l)
     go None true p r z = timely r ((not_over (is_taken q H) _ _ p).1 r) z
     go None false p r z = absurd (cc)
 
@@ -281,17 +283,17 @@ outcome : (w : Who) (H : List Call) → AreAnswered w H → (q : Question) (e : 
 outcome w [] right q e o z = absurd (cc)
 outcome w (call ∷ H) right q e o z = go call (λ i k. outcome w H right.0 q e i k) o z
   where
-    hears : (t : ℕ) (f : FrameRecord) (b : Option AskEnding) → (open_ask H ≡ Some q → ended w H ≡ Some e → Outcome w H q e) → open_ask H ≡ Some q → ended w H ≡ b
-        → first b (end_at w (open_ask H) (length (sent H)) (wait H - step H t) (is_lost (address_after w (At t (Hear f) ∷ H))) f (made w H t f)) ≡ Some e → Outcome w (At t (Hear f) ∷ H) q e
-    hears t f (Some x) prior o p z = later_outcome w H (At t (Hear f)) q e (stays_lost (is_smaller w (claim_of f)) (step H t) (address_after w H)) (prior o (p ∙ z))
-    hears t f None prior o p z = ends_by w H t f q e right.0 o p
-        (sym (ap (λ (x : Option Question). end_at w x (length (sent H)) (wait H - step H t) (is_lost (address_after w (At t (Hear f) ∷ H))) f (made w H t f)) o) ∙ z)
+    hears : (when : ℕ) (f : FrameRecord) (b : Option AskEnding) → (open_ask H ≡ Some q → ended w H ≡ Some e → Outcome w H q e) → open_ask H ≡ Some q → ended w H ≡ b
+        → first b (end_at w (open_ask H) (length (sent H)) (wait H - step H when) (is_lost (address_after w (At when (Hear f) ∷ H))) f (made w H when f)) ≡ Some e → Outcome w (At when (Hear f) ∷ H) q e
+    hears when f (Some x) prior o p z = later_outcome w H (At when (Hear f)) q e (stays_lost (is_smaller w (claim_of f)) (step H when) (address_after w H)) (prior o (p ∙ z))
+    hears when f None prior o p z = ends_by w H when f q e right.0 o p
+        (sym (ap (λ (x : Option Question). end_at w x (length (sent H)) (wait H - step H when) (is_lost (address_after w (At when (Hear f) ∷ H))) f (made w H when f)) o) ∙ z)
 
     go : (call : Call) → (open_ask H ≡ Some q → ended w H ≡ Some e → Outcome w H q e) → open_ask (call ∷ H) ≡ Some q → ended w (call ∷ H) ≡ Some e
         → Outcome w (call ∷ H) q e
     go (At now (Ask group to (Ok k))) prior o z = absurd (cc)
     go (TakeAskEnded (Some x)) prior o z = absurd (cc)
-    go (At t (Hear f)) prior o z = hears t f (ended w H) prior o refl z
+    go (At when (Hear f)) prior o z = hears when f (ended w H) prior o refl z
     go (At now (TakeFrame (Some f))) prior o z =
         later_outcome w H (At now (TakeFrame (Some f))) q e (stays_lost_claimed (is_claim f) (step H now) (address_after w H)) (prior o z)
     go call prior o z =
@@ -495,28 +497,28 @@ stays w (call ∷ later) H q e n o z = go call n.0 (stays w later H q e n.1 o z)
         → (open_ask (call ∷ later ++ H) ≡ Some q) × (ended w (call ∷ later ++ H) ≡ Some e)
     go (At now (Ask group to (Ok k))) x h = absurd (cc)
     go (TakeAskEnded (Some y)) x h = absurd (cc)
-    go (At t (Hear f)) x h = (
+    go (At when (Hear f)) x h = (
       h.0,
-      ap (λ (o : Option AskEnding). first o (end_at w (open_ask (later ++ H)) (length (sent (later ++ H))) (wait (later ++ H) - step (later ++ H) t)
-          (is_lost (address_after w (At t (Hear f) ∷ later ++ H))) f (made w (later ++ H) t f))) h.1,
+      ap (λ (o : Option AskEnding). first o (end_at w (open_ask (later ++ H)) (length (sent (later ++ H))) (wait (later ++ H) - step (later ++ H) when)
+          (is_lost (address_after w (At when (Hear f) ∷ later ++ H))) f (made w (later ++ H) when f))) h.1,
     )
     go call x h = h
 
 some_left : (a b : ℕ) → b < a → nat_eq (a - b) 0 ≡ false
 some_left a b g = grind arith
 
-pub first_stands : (w : Who) (H later : List Call) (c : Controller) (t : ℕ) (f : FrameRecord) (q : Question) (e : AskEnding) (answer : Option (ℕ × AskEnding))
-    → Is w (TakeAskEnded answer ∷ later ++ At t (Hear f) ∷ H) c → NoneEnds later → open_ask H ≡ Some q → IsTrue (is_taken q H) → ended w H ≡ None
-    → step H t < wait H → is_lost (address_after w (At t (Hear f) ∷ H)) ≡ false → says_to w q f (made w H t f) ≡ Some e → answer ≡ Some (q.token, e)
-first_stands w H later c t f q e answer is n o t none l kept says =
-    let G = later ++ At t (Hear f) ∷ H in
-    let now : ended w (At t (Hear f) ∷ H) ≡ Some e =
-    ap (λ (x : Option AskEnding). first x (end_at w (open_ask H) (length (sent H)) (wait H - step H t) (is_lost (address_after w (At t (Hear f) ∷ H))) f (made w H t f))) none
-    ∙ (ap (λ (x : Option Question). end_at w x (length (sent H)) (wait H - step H t) (is_lost (address_after w (At t (Hear f) ∷ H))) f (made w H t f)) o
-    ∙ (ap (λ (b : Bool). first (silent_end b (wait H - step H t) (is_lost (address_after w (At t (Hear f) ∷ H)))) (if b then says_to w q f (made w H t f) else None)) t
-    ∙ (ap (λ (b : Bool). first (if b then Some TimedOut else if is_lost (address_after w (At t (Hear f) ∷ H)) then Some Withdrawn else None) (says_to w q f (made w H t f))) (some_left (wait H) (step H t) l)
-    ∙ (ap (λ (b : Bool). first (if b then Some Withdrawn else None) (says_to w q f (made w H t f))) kept ∙ says)))) in
-    let s = stays w later (At t (Hear f) ∷ H) q e n o now in
+pub first_stands : (w : Who) (H later : List Call) (c : Controller) (when : ℕ) (f : FrameRecord) (q : Question) (e : AskEnding) (answer : Option (ℕ × AskEnding))
+    → Is w (TakeAskEnded answer ∷ later ++ At when (Hear f) ∷ H) c → NoneEnds later → open_ask H ≡ Some q → IsTrue (is_taken q H) → ended w H ≡ None
+    → step H when < wait H → is_lost (address_after w (At when (Hear f) ∷ H)) ≡ false → says_to w q f (made w H when f) ≡ Some e → answer ≡ Some (q.token, e)
+first_stands w H later c when f q e answer is n o t none l kept says =
+    let G = later ++ At when (Hear f) ∷ H in
+    let now : ended w (At when (Hear f) ∷ H) ≡ Some e =
+    ap (λ (x : Option AskEnding). first x (end_at w (open_ask H) (length (sent H)) (wait H - step H when) (is_lost (address_after w (At when (Hear f) ∷ H))) f (made w H when f))) none
+    ∙ (ap (λ (x : Option Question). end_at w x (length (sent H)) (wait H - step H when) (is_lost (address_after w (At when (Hear f) ∷ H))) f (made w H when f)) o
+    ∙ (ap (λ (b : Bool). first (silent_end b (wait H - step H when) (is_lost (address_after w (At when (Hear f) ∷ H)))) (if b then says_to w q f (made w H when f) else None)) t
+    ∙ (ap (λ (b : Bool). first (if b then Some TimedOut else if is_lost (address_after w (At when (Hear f) ∷ H)) then Some Withdrawn else None) (says_to w q f (made w H when f))) (some_left (wait H) (step H when) l)
+    ∙ (ap (λ (b : Bool). first (if b then Some Withdrawn else None) (says_to w q f (made w H when f))) kept ∙ says)))) in
+    let s = stays w later (At when (Hear f) ∷ H) q e n o now in
     is.answered.1
     ∙ (ap (λ (x : Option Question). ask_end x (length (sent G)) (ended w G) (wait G) (is_lost (address_after w G))) s.0
     ∙ ap (λ (x : Option AskEnding). ask_end (Some q) (length (sent G)) x (wait G) (is_lost (address_after w G))) s.1)

@@ -164,21 +164,21 @@ incoming_replied w H now f e g =
     λ i. record { moment = heard_at H; clock = time_heard H; own = w.address; has_box = true; reception = sym (taken_is w H now f false false e g) i }
 
 -- a frame is heard
-incoming_heard : (w : Who) (H : List Call) (old : Controller) (t : ℕ) (f : FrameRecord) (table : Claims) (new : Incoming) (gone held : Bool) → Is w H old
-    → Knows table (told_claims w (At t (Hear f) ∷ H)) → gone ≡ is_smaller w (claim_of f) → held ≡ holds w H t
+incoming_heard : (w : Who) (H : List Call) (old : Controller) (when : ℕ) (f : FrameRecord) (table : Claims) (new : Incoming) (gone held : Bool) → Is w H old
+    → Knows table (told_claims w (At when (Hear f) ∷ H)) → gone ≡ is_smaller w (claim_of f) → held ≡ holds w H when
     → (old.incoming.receiver.has_box ≡ true → IsApart (incoming_of old.incoming).reception
-    → incoming_of new ≡ hears gone held t f (holder_in old.holders) (holder_in table) (incoming_of old.incoming))
-    → incoming_of new ≡ incoming_after w (At t (Hear f) ∷ H)
-incoming_heard w H old t f table new gone held h knows away stays does =
+    → incoming_of new ≡ hears gone held when f (holder_in old.holders) (holder_in table) (incoming_of old.incoming))
+    → incoming_of new ≡ incoming_after w (At when (Hear f) ∷ H)
+incoming_heard w H old when f table new gone held h knows away stays does =
     does (ap (λ (x : IncomingRecord). x.has_box) h.incoming) (subst (λ (x : IncomingRecord). IsApart x.reception) (sym h.incoming) (tidy w H).apart)
-    ∙ (ap (hears gone held t f (holder_in old.holders) (holder_in table)) h.incoming
-    ∙ (ap (λ (b : Bool). with_reception (heard_by w.address gone held f (time_heard (At t (Hear f) ∷ H)) (left b (reception w H))) (incoming_now w H f))
-    (leaves_is w old.holders table H (At t (Hear f) ∷ H) (reception w H).session h.holders knows)
-    ∙ λ i. with_reception (heard_by w.address (away i) (stays i) f (time_heard (At t (Hear f) ∷ H))
-    (left (leaves (holder w H) (holder w (At t (Hear f) ∷ H)) (reception w H).session) (reception w H))) (incoming_now w H f)))
+    ∙ (ap (hears gone held when f (holder_in old.holders) (holder_in table)) h.incoming
+    ∙ (ap (λ (b : Bool). with_reception (heard_by w.address gone held f (time_heard (At when (Hear f) ∷ H)) (left b (reception w H))) (incoming_now w H f))
+    (leaves_is w old.holders table H (At when (Hear f) ∷ H) (reception w H).session h.holders knows)
+    ∙ λ i. with_reception (heard_by w.address (away i) (stays i) f (time_heard (At when (Hear f) ∷ H))
+    (left (leaves (holder w H) (holder w (At when (Hear f) ∷ H)) (reception w H).session) (reception w H))) (incoming_now w H f)))
   where
     incoming_now : Who → List Call → FrameRecord → IncomingRecord
-    incoming_now w H f = record { moment = f.stamp; clock = time_heard (At t (Hear f) ∷ H); own = w.address; has_box = true; reception = reception w H }
+    incoming_now w H f = record { moment = f.stamp; clock = time_heard (At when (Hear f) ∷ H); own = w.address; has_box = true; reception = reception w H }
 
 pub transfer_next : (w : Who) (H : List Call) (c : Controller) (now time : ℕ) → Is w H c → time ≡ min (age H + step H now) 18446744073709551615
     → transfer_by (port_of c.transfers).current (clock time) ≡ next_transfer w H now
@@ -649,8 +649,8 @@ cast_by None (Some x) = refl
 cast_by (Some y) None = refl
 cast_by (Some y) (Some x) = refl
 
-pub heard_more : (w : Who) (H : List Call) (old new : Controller) (t : ℕ) (f : FrameRecord) (mid : Hold) (held wanted away gone calls replaced unheard : Bool) (o : Option Asked) → Is w H old
-    → Passed w H t mid → held ≡ stands mid.standing → wanted ≡ is_for_program (who_of w.known old.own) held f
+pub heard_more : (w : Who) (H : List Call) (old new : Controller) (when : ℕ) (f : FrameRecord) (mid : Hold) (held wanted away gone calls replaced unheard : Bool) (o : Option Asked) → Is w H old
+    → Passed w H when mid → held ≡ stands mid.standing → wanted ≡ is_for_program (who_of w.known old.own) held f
     → map received_by new.inbox.unread.items ≡ offered wanted (stamped f) (map received_by old.inbox.unread.items)
     → new.inbox.missed ≡ counted wanted (map received_by old.inbox.unread.items) old.inbox.missed
     → gone ≡ is_smaller (who_of w.known old.own) (claim_of f) → away ≡ lost mid.standing → calls ≡ calls_for_claim (who_of w.known old.own) away f
@@ -668,7 +668,7 @@ pub heard_more : (w : Who) (H : List Call) (old new : Controller) (t : ℕ) (f :
     }
     → new.hold ≡ heard gone calls mid → new.own ≡ old.own → new.outgoing ≡ old.outgoing → new.taken ≡ old.taken → new.next_token ≡ old.next_token → new.lane ≡ old.lane
     → (old.incoming.receiver.has_box ≡ true → IsApart (incoming_of old.incoming).reception
-    → incoming_of new.incoming ≡ hears gone held t f (holder_in old.holders) (holder_in new.holders) (incoming_of old.incoming))
+    → incoming_of new.incoming ≡ hears gone held when f (holder_in old.holders) (holder_in new.holders) (incoming_of old.incoming))
     → IfSome (port_of old.transfers).current (λ x. replaced ≡ is_replaced (holder_in old.holders x.sender.destination) (holder_in new.holders x.sender.destination))
     → ((r : ℕ → Bool) → IfSome (port_of old.transfers).current (λ x. replaced ≡ r x.sender.destination)
     → (port_of new.transfers).current ≡ hears_if (lost new.hold.standing) r f (min new.hold.age 9999999999999999) (port_of old.transfers).current)
@@ -682,15 +682,15 @@ pub heard_more : (w : Who) (H : List Call) (old new : Controller) (t : ℕ) (f :
     → m.current ≡ leaves_it left_by (hearing_of old.hearing).current → m.missed ≡ old.hearing.missed
     → unheard ≡ is_unheard (who_of w.known old.own) (stamp_micros new.incoming.clock) f m.current
     → new.hearing.missed ≡ (if unheard then min (m.missed + 1) 18446744073709551615 else m.missed)
-    → (IsFit m.current → (hearing_of new.hearing).current ≡ hears_it (who_of w.known old.own) (stamp_micros new.incoming.clock) f m.current) → Is w (At t (Hear f) ∷ H) new
-heard_more w H old new t f mid held wanted away gone calls replaced unheard o h p e1 e2 e3 e4 e5 e6 e7 q1 q2 q3 q4 q5 e8 s1 s2 s3 s4 s5 s9 s6 s7 s8 s10 whole_now m1 cast_now m2 a1 left_by p1 p2 m t1 t2 t3 t4 t5 t6 t7 t8 =
+    → (IsFit m.current → (hearing_of new.hearing).current ≡ hears_it (who_of w.known old.own) (stamp_micros new.incoming.clock) f m.current) → Is w (At when (Hear f) ∷ H) new
+heard_more w H old new when f mid held wanted away gone calls replaced unheard o h p e1 e2 e3 e4 e5 e6 e7 q1 q2 q3 q4 q5 e8 s1 s2 s3 s4 s5 s9 s6 s7 s8 s10 whole_now m1 cast_now m2 a1 left_by p1 p2 m t1 t2 t3 t4 t5 t6 t7 t8 =
     let s = sound w H h.answered in
-    let wants : wanted ≡ is_for_program w (holds w H t) f =
-    e2 ∙ (ap (λ (v : Who). is_for_program v held f) h.who ∙ ap (λ (b : Bool). is_for_program w b f) (holds_is w H t mid held p e1)) in
+    let wants : wanted ≡ is_for_program w (holds w H when) f =
+    e2 ∙ (ap (λ (v : Who). is_for_program v held f) h.who ∙ ap (λ (b : Bool). is_for_program w b f) (holds_is w H when mid held p e1)) in
     let lost_before : away ≡ is_lost (address_after w H) =
-    e6 ∙ (ap lost p.standing ∙ (lost_is (older (step H t) (address_after w H)) ∙ lost_older (step H t) (address_after w H))) in
-    let asks_for : o ≡ asked w (holds w H t) f =
-    q3 ∙ (ap (λ (v : Who). asked v held f) h.who ∙ ap (λ (b : Bool). asked w b f) (holds_is w H t mid held p e1)) in
+    e6 ∙ (ap lost p.standing ∙ (lost_is (older (step H when) (address_after w H)) ∙ lost_older (step H when) (address_after w H))) in
+    let asks_for : o ≡ asked w (holds w H when) f =
+    q3 ∙ (ap (λ (v : Who). asked v held f) h.who ∙ ap (λ (b : Bool). asked w b f) (holds_is w H when mid held p e1)) in
     let room : nat_lt (length old.desk.waiting.items) 16 ≡ nat_lt (length (requests w H) - length (handed H)) 16 =
     ap (λ (n : ℕ). nat_lt n 16) (length_rest request_by old.desk.waiting.items (length (handed H)) (requests w H) h.requests) in
     let place : nat_lt (length old.desk.due.items) 16 ≡ nat_lt (length (due w H) - length (acknowledged H)) 16 =
@@ -698,27 +698,27 @@ heard_more w H old new t f mid held wanted away gone calls replaced unheard o h 
     let goes : gone ≡ is_smaller w (claim_of f) = e5 ∙ ap (λ (v : Who). is_smaller v (claim_of f)) h.who in
     let asks : calls ≡ calls_for_claim w (is_lost (address_after w H)) f =
     e7 ∙ (ap (λ (v : Who). calls_for_claim v away f) h.who ∙ ap (λ (b : Bool). calls_for_claim w b f) lost_before) in
-    let r : ℕ → Bool = λ a. is_replaced (holder w H a) (holder w (At t (Hear f) ∷ H) a) in
+    let r : ℕ → Bool = λ a. is_replaced (holder w H a) (holder w (At when (Hear f) ∷ H) a) in
     let current : (port_of old.transfers).current ≡ open_transfer w H = ap (λ (t : PortRecord). t.current) h.port in
-    let stands_now : new.hold.standing ≡ standing_of (address_after w (At t (Hear f) ∷ H)) =
+    let stands_now : new.hold.standing ≡ standing_of (address_after w (At when (Hear f) ∷ H)) =
     ap (λ (k : Hold). k.standing) e8 ∙ (ap (λ (b : Bool). if b then standing.Lost else mid.standing) goes
     ∙ (ap (λ (x : Standing). if is_smaller w (claim_of f) then standing.Lost else x) p.standing
-    ∙ heard_standing (is_smaller w (claim_of f)) (step H t) (address_after w H))) in
-    let hears_in : incoming_of new.incoming ≡ incoming_after w (At t (Hear f) ∷ H) =
-    incoming_heard w H old t f new.holders new.incoming gone held h (q4 (told_claims w H) h.holders) goes (holds_is w H t mid held p e1) s9 in
-    let on = heard_on w H t f old.holders new.holders left_by unheard (stamp_micros new.incoming.clock) p1 p2 (hearing_of old.hearing) m (hearing_of new.hearing) h.hearing
+    ∙ heard_standing (is_smaller w (claim_of f)) (step H when) (address_after w H))) in
+    let hears_in : incoming_of new.incoming ≡ incoming_after w (At when (Hear f) ∷ H) =
+    incoming_heard w H old when f new.holders new.incoming gone held h (q4 (told_claims w H) h.holders) goes (holds_is w H when mid held p e1) s9 in
+    let on = heard_on w H when f old.holders new.holders left_by unheard (stamp_micros new.incoming.clock) p1 p2 (hearing_of old.hearing) m (hearing_of new.hearing) h.hearing
     h.holders (q4 (told_claims w H) h.holders) (ap (λ (x : IncomingRecord). x.clock) hears_in) t1 t2 t3 t4 t5
     (t6 ∙ ap (λ (v : Who). is_unheard v (stamp_micros new.incoming.clock) f m.current) h.who) t7
     (λ fits. t8 fits ∙ ap (λ (v : Who). hears_it v (stamp_micros new.incoming.clock) f m.current) h.who) in
-    let whole_is : whole_now ≡ made_of (whole w H t f) =
+    let whole_is : whole_now ≡ made_of (whole w H when f) =
     m1 ∙ (ap (λ (x : IncomingRecord). made_by (has_place x.reception.waits) (incoming_of new.incoming).reception.waits) h.incoming
-    ∙ (ap (λ (x : IncomingRecord). made_by (has_place (reception w H).waits) x.reception.waits) hears_in ∙ made_is w H t f)) in
-    let cast_is : cast_now ≡ made_of (option_map (λ (x : ℕ × MessageRecord). x.1) (made_whole w H t f)) =
+    ∙ (ap (λ (x : IncomingRecord). made_by (has_place (reception w H).waits) x.reception.waits) hears_in ∙ made_is w H when f)) in
+    let cast_is : cast_now ≡ made_of (option_map (λ (x : ℕ × MessageRecord). x.1) (made_whole w H when f)) =
     m2 ∙ (ap (λ (x : HearingRecord). made_by (not (not (has_place (whole_of x.current)))) (whole_of (hearing_of new.hearing).current)) h.hearing
     ∙ (ap (λ (x : HearingRecord). made_by (not (not (has_place (waiting w H)))) (whole_of x.current)) on.hearing
-    ∙ cast_by (waiting w H) (waiting w (At t (Hear f) ∷ H)))) in
-    let made_now : option_or whole_now cast_now ≡ made w H t f =
-    ap (λ (o : Option (ℕ × ℕ)). option_or o cast_now) whole_is ∙ ap (option_or (made_of (whole w H t f))) cast_is in
+    ∙ cast_by (waiting w H) (waiting w (At when (Hear f) ∷ H)))) in
+    let made_now : option_or whole_now cast_now ≡ made w H when f =
+    ap (λ (o : Option (ℕ × ℕ)). option_or o cast_now) whole_is ∙ ap (option_or (made_of (whole w H when f))) cast_is in
     record {
       who = ap (who_of w.known) s1 ∙ h.who;
       answered = (h.answered, tt);
@@ -729,52 +729,52 @@ heard_more w H old new t f mid held wanted away gone calls replaced unheard o h 
       taken = s3 ∙ h.taken;
       token = s4 ∙ h.token;
       asking = a1 ∙ (ap (λ (v : Who). option_map (hears_with v (lost new.hold.standing) new.hold.wait f (option_or whole_now cast_now)) (asking_of old.asking)) h.who
-          ∙ (ap (λ (b : Bool). option_map (hears_with w b new.hold.wait f (option_or whole_now cast_now)) (asking_of old.asking)) (ap lost stands_now ∙ lost_is (address_after w (At t (Hear f) ∷ H)))
-          ∙ (ap (λ (n : ℕ). option_map (hears_with w (is_lost (address_after w (At t (Hear f) ∷ H))) n f (option_or whole_now cast_now)) (asking_of old.asking)) (ap (λ (k : Hold). k.wait) e8 ∙ p.wait)
-          ∙ (ap (λ (o : Option (ℕ × ℕ)). option_map (hears_with w (is_lost (address_after w (At t (Hear f) ∷ H))) (wait H - step H t) f o) (asking_of old.asking)) made_now
-          ∙ (ap (option_map (hears_with w (is_lost (address_after w (At t (Hear f) ∷ H))) (wait H - step H t) f (made w H t f))) h.asking
-          ∙ ask_heard w (open_ask H) (length (sent H)) (wait H - step H t) (ended w H) (is_lost (address_after w (At t (Hear f) ∷ H))) f (made w H t f))))));
+          ∙ (ap (λ (b : Bool). option_map (hears_with w b new.hold.wait f (option_or whole_now cast_now)) (asking_of old.asking)) (ap lost stands_now ∙ lost_is (address_after w (At when (Hear f) ∷ H)))
+          ∙ (ap (λ (n : ℕ). option_map (hears_with w (is_lost (address_after w (At when (Hear f) ∷ H))) n f (option_or whole_now cast_now)) (asking_of old.asking)) (ap (λ (k : Hold). k.wait) e8 ∙ p.wait)
+          ∙ (ap (λ (o : Option (ℕ × ℕ)). option_map (hears_with w (is_lost (address_after w (At when (Hear f) ∷ H))) (wait H - step H when) f o) (asking_of old.asking)) made_now
+          ∙ (ap (option_map (hears_with w (is_lost (address_after w (At when (Hear f) ∷ H))) (wait H - step H when) f (made w H when f))) h.asking
+          ∙ ask_heard w (open_ask H) (length (sent H)) (wait H - step H when) (ended w H) (is_lost (address_after w (At when (Hear f) ∷ H))) f (made w H when f))))));
       unread = e3 ∙ (ap (λ (b : Bool). offered b (stamped f) (map received_by old.inbox.unread.items)) wants
-          ∙ kept_rest (is_for_program w (holds w H t) f) (kept w H) _ (length (got H)) (stamped f) (read w H s) h.unread);
+          ∙ kept_rest (is_for_program w (holds w H when) f) (kept w H) _ (length (got H)) (stamped f) (read w H s) h.unread);
       requests = q1 ∙ (ap (λ (v : Who). with_request v (nat_lt (length old.desk.waiting.items) 16) o (map request_by old.desk.waiting.items)) h.who
           ∙ (ap (λ (b : Bool). with_request w b o (map request_by old.desk.waiting.items)) room
           ∙ (ap (λ (x : Option Asked). with_request w (nat_lt (length (requests w H) - length (handed H)) 16) x (map request_by old.desk.waiting.items)) asks_for
-          ∙ request_rest w (nat_lt (length (requests w H) - length (handed H)) 16) (asked w (holds w H t) f) (requests w H) (map request_by old.desk.waiting.items) (length (handed H)) (front_length (handed H) (requests w H) s.desk.2) h.requests)));
+          ∙ request_rest w (nat_lt (length (requests w H) - length (handed H)) 16) (asked w (holds w H when) f) (requests w H) (map request_by old.desk.waiting.items) (length (handed H)) (front_length (handed H) (requests w H) s.desk.2) h.requests)));
       acknowledgments = ap (λ (v : Who). map (refusal_by v) new.desk.due.items) (sym h.who)
           ∙ (q2 ∙ (ap (λ (v : Who). with_refusal v (nat_lt (length old.desk.waiting.items) 16) (nat_lt (length old.desk.due.items) 16) o (map (refusal_by v) old.desk.due.items)) h.who
           ∙ (ap (λ (b : Bool). with_refusal w b (nat_lt (length old.desk.due.items) 16) o (map (refusal_by w) old.desk.due.items)) room
           ∙ (ap (λ (b : Bool). with_refusal w (nat_lt (length (requests w H) - length (handed H)) 16) b o (map (refusal_by w) old.desk.due.items)) place
           ∙ (ap (λ (x : Option Asked). with_refusal w (nat_lt (length (requests w H) - length (handed H)) 16) (nat_lt (length (due w H) - length (acknowledged H)) 16) x (map (refusal_by w) old.desk.due.items)) asks_for
-          ∙ refusal_rest w (nat_lt (length (requests w H) - length (handed H)) 16) (nat_lt (length (due w H) - length (acknowledged H)) 16) (asked w (holds w H t) f) (due w H) (map (refusal_by w) old.desk.due.items) (length (acknowledged H)) (front_length (acknowledged H) (due w H) s.desk.1) h.acknowledgments)))));
+          ∙ refusal_rest w (nat_lt (length (requests w H) - length (handed H)) 16) (nat_lt (length (due w H) - length (acknowledged H)) 16) (asked w (holds w H when) f) (due w H) (map (refusal_by w) old.desk.due.items) (length (acknowledged H)) (front_length (acknowledged H) (due w H) s.desk.1) h.acknowledgments)))));
       holders = q4 (told_claims w H) h.holders;
       news = q5 ∙ is_news _ _
           (ap (λ (u : Untold). u.lost || (gone && not away)) h.news
           ∙ (ap (λ (b : Bool). lost_news w H || (b && not away)) goes ∙ ap (λ (b : Bool). lost_news w H || (is_smaller w (claim_of f) && not b)) lost_before))
           (ap (λ (u : Untold). u.another || is_another (who_of w.known old.own) held f) h.news
           ∙ (ap (λ (v : Who). another_news w H || is_another v held f) h.who
-          ∙ ap (λ (b : Bool). another_news w H || is_another w b f) (holds_is w H t mid held p e1)))
+          ∙ ap (λ (b : Bool). another_news w H || is_another w b f) (holds_is w H when mid held p e1)))
           (ap (λ (u : Untold). u.missed || ((wanted && not (nat_lt (length old.inbox.unread.items) 16)) || unheard)) h.news
           ∙ (ap (λ (b : Bool). (missed_news w H || unheard_news w H) || ((b && not (nat_lt (length old.inbox.unread.items) 16)) || unheard)) wants
-          ∙ (ap (λ (n : ℕ). (missed_news w H || unheard_news w H) || ((is_for_program w (holds w H t) f && not (nat_lt n 16)) || unheard))
+          ∙ (ap (λ (n : ℕ). (missed_news w H || unheard_news w H) || ((is_for_program w (holds w H when) f && not (nat_lt n 16)) || unheard))
           (length_rest received_by old.inbox.unread.items (length (got H)) (kept w H) h.unread)
-          ∙ (ap (λ (b : Bool). (missed_news w H || unheard_news w H) || ((is_for_program w (holds w H t) f && not (nat_lt (length (kept w H) - length (got H)) 16)) || b)) on.unheard
+          ∙ (ap (λ (b : Bool). (missed_news w H || unheard_news w H) || ((is_for_program w (holds w H when) f && not (nat_lt (length (kept w H) - length (got H)) 16)) || b)) on.unheard
           ∙ either_news (missed_news w H) (unheard_news w H) _ _))));
       missed = e4 ∙ (ap (λ (b : Bool). counted b (map received_by old.inbox.unread.items) old.inbox.missed) wants
-          ∙ missed_rest (is_for_program w (holds w H t) f) (kept w H) _ (length (got H)) (missed w H) _ h.unread h.missed);
+          ∙ missed_rest (is_for_program w (holds w H when) f) (kept w H) _ (length (got H)) (missed w H) _ h.unread h.missed);
       lane = ap (lane_of w) s5 ∙ h.lane;
       incoming = hears_in;
       hearing = on.hearing;
       port = is_port _ _
-          (s7 (λ a. is_replaced (holder w H a) (holder w (At t (Hear f) ∷ H) a))
-          (subst (λ (o : Option Running). IfSome o (λ x. replaced ≡ is_replaced (holder w H x.sender.destination) (holder w (At t (Hear f) ∷ H) x.sender.destination)))
+          (s7 (λ a. is_replaced (holder w H a) (holder w (At when (Hear f) ∷ H) a))
+          (subst (λ (o : Option Running). IfSome o (λ x. replaced ≡ is_replaced (holder w H x.sender.destination) (holder w (At when (Hear f) ∷ H) x.sender.destination)))
           (sym current)
-          (replaced_is w H t f old.holders new.holders replaced (open_transfer w H) (ported w H h.answered) h.holders (q4 (told_claims w H) h.holders)
+          (replaced_is w H when f old.holders new.holders replaced (open_transfer w H) (ported w H h.answered) h.holders (q4 (told_claims w H) h.holders)
           (subst (λ (o : Option Running). IfSome o (λ x. replaced ≡ is_replaced (holder_in old.holders x.sender.destination) (holder_in new.holders x.sender.destination))) current s6)))
           ∙ (ap (λ (b : Bool). hears_if b r f (min new.hold.age 9999999999999999) (port_of old.transfers).current)
-          (ap lost stands_now ∙ lost_is (address_after w (At t (Hear f) ∷ H)))
-          ∙ (ap (λ (n : ℕ). hears_if (is_lost (address_after w (At t (Hear f) ∷ H))) r f n (port_of old.transfers).current)
-          (ap (λ (n : ℕ). min n 9999999999999999) (ap (λ (k : Hold). k.age) e8 ∙ p.age) ∙ clock_is (age H + step H t))
-          ∙ ap (hears_if (is_lost (address_after w (At t (Hear f) ∷ H))) r f (clock_at H t)) current)))
+          (ap lost stands_now ∙ lost_is (address_after w (At when (Hear f) ∷ H)))
+          ∙ (ap (λ (n : ℕ). hears_if (is_lost (address_after w (At when (Hear f) ∷ H))) r f n (port_of old.transfers).current)
+          (ap (λ (n : ℕ). min n 9999999999999999) (ap (λ (k : Hold). k.age) e8 ∙ p.age) ∙ clock_is (age H + step H when))
+          ∙ ap (hears_if (is_lost (address_after w (At when (Hear f) ∷ H))) r f (clock_at H when)) current)))
           (s8 ∙ ap (λ (t : PortRecord). t.next_token) h.port) (ap resting_by s10 ∙ ap (λ (t : PortRecord). t.resting) h.port);
     }
 

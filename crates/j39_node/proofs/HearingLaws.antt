@@ -68,9 +68,9 @@ list_more (Some p) b W G e h = append-nil W ∙ (e ∙ ap (λ z. G ++ listed z) 
 
 pub in_order : (who : Who) (H : List Call) → whole_broadcasts who H ≡ got_broadcasts who H ++ listed (waiting who H)
 in_order who [] = refl
-in_order who (At t (Hear f) ∷ H) =
-    list_more (waiting who H) (waiting who (At t (Hear f) ∷ H)) (whole_broadcasts who H) (got_broadcasts who H) (in_order who H)
-    (λ p e. ap whole_of (whole_stays who (changes (holder who H) (holder who (At t (Hear f) ∷ H)) (hearing who H)) (time_heard (At t (Hear f) ∷ H)) f (hearing who H) p e))
+in_order who (At when (Hear f) ∷ H) =
+    list_more (waiting who H) (waiting who (At when (Hear f) ∷ H)) (whole_broadcasts who H) (got_broadcasts who H) (in_order who H)
+    (λ p e. ap whole_of (whole_stays who (changes (holder who H) (holder who (At when (Hear f) ∷ H)) (hearing who H)) (time_heard (At when (Hear f) ∷ H)) f (hearing who H) p e))
 in_order who (At now (TakeFrame (Some f)) ∷ H) =
     in_order who H ∙ ap (λ z. got_broadcasts who H ++ listed z) (sym (whole_of_left (changes (holder who H) (holder who (At now (TakeFrame (Some f)) ∷ H)) (hearing who H)) (hearing who H)))
 in_order who (ReleaseBroadcast true ∷ H) = in_order who H ∙ sym (append-nil (got_broadcasts who H ++ listed (waiting who H)))
@@ -95,48 +95,48 @@ not_ignored who group e = go (is_own_group group) (is_subscribed who group) e
     go false true e = (refl, refl)
     go false false e = absurd (cc)
 
-pub heard_or_counted : (who : Who) (H : List Call) (t : ℕ) (f : FrameRecord) → announces f ≡ true → is_own_group (pgn_named f) ≡ false → IsTrue (is_subscribed who (pgn_named f))
-    → (hearing who (At t (Hear f) ∷ H) ≡ Some (begun (time_heard (At t (Hear f) ∷ H)) f)) ⊎ (unheard who (At t (Hear f) ∷ H) ≡ suc (unheard who H))
-heard_or_counted who H t f e own listed = by (has_room (time_heard (At t (Hear f) ∷ H)) (source_of f.id) (found who H t f)) refl
+pub heard_or_counted : (who : Who) (H : List Call) (when : ℕ) (f : FrameRecord) → announces f ≡ true → is_own_group (pgn_named f) ≡ false → IsTrue (is_subscribed who (pgn_named f))
+    → (hearing who (At when (Hear f) ∷ H) ≡ Some (begun (time_heard (At when (Hear f) ∷ H)) f)) ⊎ (unheard who (At when (Hear f) ∷ H) ≡ suc (unheard who H))
+heard_or_counted who H when f e own listed = by (has_room (time_heard (At when (Hear f) ∷ H)) (source_of f.id) (found who H when f)) refl
   where
     g : is_ignored who (pgn_named f) ≡ false
     g = λ i. own i || not (listed i)
 
     hears_by : Bool → Bool → Bool → Option OpenBroadcast
     hears_by a r o =
-        if a then (if r then (if o then None else Some (begun (time_heard (At t (Hear f) ∷ H)) f)) else found who H t f) else if packs f
-        then packed (time_heard (At t (Hear f) ∷ H)) f (found who H t f) else found who H t f
+        if a then (if r then (if o then None else Some (begun (time_heard (At when (Hear f) ∷ H)) f)) else found who H when f) else if packs f
+        then packed (time_heard (At when (Hear f) ∷ H)) f (found who H when f) else found who H when f
 
     counts_by : Bool → Bool → Bool → ℕ
     counts_by a r o = if a && (not o && not r) then suc (unheard who H) else unheard who H
 
-    by : (r : Bool) → has_room (time_heard (At t (Hear f) ∷ H)) (source_of f.id) (found who H t f) ≡ r
-        → (hearing who (At t (Hear f) ∷ H) ≡ Some (begun (time_heard (At t (Hear f) ∷ H)) f)) ⊎ (unheard who (At t (Hear f) ∷ H) ≡ suc (unheard who H))
+    by : (r : Bool) → has_room (time_heard (At when (Hear f) ∷ H)) (source_of f.id) (found who H when f) ≡ r
+        → (hearing who (At when (Hear f) ∷ H) ≡ Some (begun (time_heard (At when (Hear f) ∷ H)) f)) ⊎ (unheard who (At when (Hear f) ∷ H) ≡ suc (unheard who H))
     by true k = inl (λ i. hears_by (e i) (k i) (g i))
     by false k = inr (λ i. counts_by (e i) (k i) (g i))
 
-pub counted_only : (who : Who) (H : List Call) (t : ℕ) (f : FrameRecord) → unheard who (At t (Hear f) ∷ H) ≢ unheard who H
+pub counted_only : (who : Who) (H : List Call) (when : ℕ) (f : FrameRecord) → unheard who (At when (Hear f) ∷ H) ≢ unheard who H
     → IsTrue (announces f) × IsTrue (is_subscribed who (pgn_named f)) × (is_own_group (pgn_named f) ≡ false)
-    × ((x : OpenBroadcast) × (found who H t f ≡ Some x)
-    × (IsTrue (is_whole x) ⊎ ((source_of f.id ≢ x.source) × (is_late (time_heard (At t (Hear f) ∷ H)) x ≡ false))))
-counted_only who H t f n = go (announces f) (is_ignored who (pgn_named f)) refl refl (found who H t f) refl n
+    × ((x : OpenBroadcast) × (found who H when f ≡ Some x)
+    × (IsTrue (is_whole x) ⊎ ((source_of f.id ≢ x.source) × (is_late (time_heard (At when (Hear f) ∷ H)) x ≡ false))))
+counted_only who H when f n = go (announces f) (is_ignored who (pgn_named f)) refl refl (found who H when f) refl n
   where
-    no_room : (x : OpenBroadcast) (a b c : Bool) → is_whole x ≡ a → nat_eq (source_of f.id) x.source ≡ b → is_late (time_heard (At t (Hear f) ∷ H)) x ≡ c
-        → (not a && (b || c)) ≡ false → IsTrue (is_whole x) ⊎ ((source_of f.id ≢ x.source) × (is_late (time_heard (At t (Hear f) ∷ H)) x ≡ false))
+    no_room : (x : OpenBroadcast) (a b c : Bool) → is_whole x ≡ a → nat_eq (source_of f.id) x.source ≡ b → is_late (time_heard (At when (Hear f) ∷ H)) x ≡ c
+        → (not a && (b || c)) ≡ false → IsTrue (is_whole x) ⊎ ((source_of f.id ≢ x.source) × (is_late (time_heard (At when (Hear f) ∷ H)) x ≡ false))
     no_room x true b c e g k i = inl e
     no_room x false true c e g k i = absurd (cc)
     no_room x false false true e g k i = absurd (cc)
     no_room x false false false e g k i = inr (λ s. (let z : false ≡ true = sym g ∙ eq-eqb _ _ s in absurd (cc)), k)
 
-    go : (a o : Bool) → announces f ≡ a → is_ignored who (pgn_named f) ≡ o → (z : Option OpenBroadcast) → found who H t f ≡ z
-        → ((if a && (not o && not (has_room (time_heard (At t (Hear f) ∷ H)) (source_of f.id) z)) then suc (unheard who H) else unheard who H) ≢ unheard who H)
+    go : (a o : Bool) → announces f ≡ a → is_ignored who (pgn_named f) ≡ o → (z : Option OpenBroadcast) → found who H when f ≡ z
+        → ((if a && (not o && not (has_room (time_heard (At when (Hear f) ∷ H)) (source_of f.id) z)) then suc (unheard who H) else unheard who H) ≢ unheard who H)
         → IsTrue (announces f) × IsTrue (is_subscribed who (pgn_named f)) × (is_own_group (pgn_named f) ≡ false)
-        × ((x : OpenBroadcast) × (found who H t f ≡ Some x)
-        × (IsTrue (is_whole x) ⊎ ((source_of f.id ≢ x.source) × (is_late (time_heard (At t (Hear f) ∷ H)) x ≡ false))))
+        × ((x : OpenBroadcast) × (found who H when f ≡ Some x)
+        × (IsTrue (is_whole x) ⊎ ((source_of f.id ≢ x.source) × (is_late (time_heard (At when (Hear f) ∷ H)) x ≡ false))))
     go false o e i z g m = absurd (m refl)
     go true true e i z g m = absurd (m refl)
     go true false e i None g m = absurd (m refl)
-    go true false e i (Some x) g m = (e, (not_ignored who (pgn_named f) i).0, (not_ignored who (pgn_named f) i).1, (x, g, no_room x _ _ _ refl refl refl (not_room (has_room (time_heard (At t (Hear f) ∷ H)) (source_of f.id) (Some x)) m)))
+    go true false e i (Some x) g m = (e, (not_ignored who (pgn_named f) i).0, (not_ignored who (pgn_named f) i).1, (x, g, no_room x _ _ _ refl refl refl (not_room (has_room (time_heard (At when (Hear f) ∷ H)) (source_of f.id) (Some x)) m)))
       where
         not_room : (r : Bool) → ((if not r then suc (unheard who H) else unheard who H) ≢ unheard who H) → r ≡ false
         not_room true q = absurd (q refl)
@@ -156,9 +156,9 @@ one_more false m e = absurd (cc)
 
 pub some_unheard : (who : Who) (H : List Call) → IsTrue (unheard_news who H) → 0 < unheard who H
 some_unheard who [] e = absurd (cc)
-some_unheard who (At t (Hear f) ∷ H) e =
-    elim (either (unheard_news who H) (is_unheard who (time_heard (At t (Hear f) ∷ H)) f (found who H t f)) e) [
-      | inl z ↦ still (is_unheard who (time_heard (At t (Hear f) ∷ H)) f (found who H t f)) (unheard who H) (some_unheard who H z)
+some_unheard who (At when (Hear f) ∷ H) e =
+    elim (either (unheard_news who H) (is_unheard who (time_heard (At when (Hear f) ∷ H)) f (found who H when f)) e) [
+      | inl z ↦ still (is_unheard who (time_heard (At when (Hear f) ∷ H)) f (found who H when f)) (unheard who H) (some_unheard who H z)
       | inr z ↦ one_more _ (unheard who H) z
     ]
 some_unheard who (TakeNews (Some MessagesMissed) ∷ H) e = absurd (cc)
@@ -203,14 +203,14 @@ wanted_hears who now f o h = go (announces f) (packs f) (has_room now (source_of
 
 wanted : (w : Who) (H : List Call) → IsWanted w (hearing w H)
 wanted w [] = tt
-wanted w (At t (Hear f) ∷ H) = wanted_hears w (time_heard (At t (Hear f) ∷ H)) f (found w H t f) (wanted_left w (changes (holder w H) (holder w (At t (Hear f) ∷ H)) (hearing w H)) (hearing w H) (wanted w H))
+wanted w (At when (Hear f) ∷ H) = wanted_hears w (time_heard (At when (Hear f) ∷ H)) f (found w H when f) (wanted_left w (changes (holder w H) (holder w (At when (Hear f) ∷ H)) (hearing w H)) (hearing w H) (wanted w H))
 wanted w (At now (TakeFrame (Some f)) ∷ H) = wanted_left w (changes (holder w H) (holder w (At now (TakeFrame (Some f)) ∷ H)) (hearing w H)) (hearing w H) (wanted w H)
 wanted w (ReleaseBroadcast true ∷ H) = tt
 wanted w (call ∷ H) = wanted w H
 
-pub is_wanted : (who : Who) (H : List Call) (t : ℕ) (f : FrameRecord) (p : ℕ × MessageRecord) → made_whole who H t f ≡ Some p
+pub is_wanted : (who : Who) (H : List Call) (when : ℕ) (f : FrameRecord) (p : ℕ × MessageRecord) → made_whole who H when f ≡ Some p
     → IsTrue (is_subscribed who p.1.pgn) × (is_own_group p.1.pgn ≡ false)
-is_wanted who H t f p e = not_ignored who p.1.pgn (go (waiting who H) e)
+is_wanted who H when f p e = not_ignored who p.1.pgn (go (waiting who H) e)
   where
     by : (o : Option OpenBroadcast) → IsWanted who o → whole_of o ≡ Some p → is_ignored who p.1.pgn ≡ false
     by None h i = absurd (cc)
@@ -220,19 +220,19 @@ is_wanted who H t f p e = not_ignored who p.1.pgn (go (waiting who H) e)
         all true j = let q : message_by x ≡ p = cc in subst (λ (r : ℕ × MessageRecord). is_ignored who r.1.pgn ≡ false) q h
         all false j = absurd (cc)
 
-    go : (o : Option (ℕ × MessageRecord)) → newly o (waiting who (At t (Hear f) ∷ H)) ≡ Some p → is_ignored who p.1.pgn ≡ false
-    go None i = by (hearing who (At t (Hear f) ∷ H)) (wanted who (At t (Hear f) ∷ H)) i
+    go : (o : Option (ℕ × MessageRecord)) → newly o (waiting who (At when (Hear f) ∷ H)) ≡ Some p → is_ignored who p.1.pgn ≡ false
+    go None i = by (hearing who (At when (Hear f) ∷ H)) (wanted who (At when (Hear f) ∷ H)) i
     go (Some q) i = absurd (cc)
 
 -- ---- packets
 
 -- what is no claim leaves who holds an address
-unclaimed : (who : Who) (H : List Call) (t : ℕ) (f : FrameRecord) → claim_of f ≡ None → found who H t f ≡ hearing who H
-unclaimed who H t f e = left_same (holder who H) (holder who (At t (Hear f) ∷ H)) (hearing who H) (λ a. ap (λ (o : Option Claim). held_then a o (holder who H a)) e)
+unclaimed : (who : Who) (H : List Call) (when : ℕ) (f : FrameRecord) → claim_of f ≡ None → found who H when f ≡ hearing who H
+unclaimed who H when f e = left_same (holder who H) (holder who (At when (Hear f) ∷ H)) (hearing who H) (λ a. ap (λ (o : Option Claim). held_then a o (holder who H a)) e)
 
-hears_found : (who : Who) (H : List Call) (t : ℕ) (f : FrameRecord) (o : Option OpenBroadcast) → claim_of f ≡ None → hearing who H ≡ o
-    → hearing who (At t (Hear f) ∷ H) ≡ hears who (time_heard (At t (Hear f) ∷ H)) f o
-hears_found who H t f o e g = ap (hears who (time_heard (At t (Hear f) ∷ H)) f) (unclaimed who H t f e ∙ g)
+hears_found : (who : Who) (H : List Call) (when : ℕ) (f : FrameRecord) (o : Option OpenBroadcast) → claim_of f ≡ None → hearing who H ≡ o
+    → hearing who (At when (Hear f) ∷ H) ≡ hears who (time_heard (At when (Hear f) ∷ H)) f o
+hears_found who H when f o e g = ap (hears who (time_heard (At when (Hear f) ∷ H)) f) (unclaimed who H when f e ∙ g)
 
 packed_by : (who : Who) (now : ℕ) (f : FrameRecord) (x : OpenBroadcast) (a b c d : Bool) → announces f ≡ false → packs f ≡ true → is_whole x ≡ a
     → nat_eq (source_of f.id) x.source ≡ b → is_late now x ≡ c → nat_eq (slice_index f.bytes 0) (suc x.count) ≡ d
@@ -245,63 +245,63 @@ packed_by who now f x a b c d e g k l m n =
         if e then (if has_room now (source_of f.id) (Some x) then opens who now f else Some x) else if g
         then (if k || not l then Some x else if m then None else Some (if n then grown now f x else touched now f x)) else Some x
 
-pub next_appended : (who : Who) (H : List Call) (t : ℕ) (f : FrameRecord) (x : OpenBroadcast) → claim_of f ≡ None → announces f ≡ false → IsTrue (packs f)
-    → hearing who H ≡ Some x → is_whole x ≡ false → source_of f.id ≡ x.source → is_late (time_heard (At t (Hear f) ∷ H)) x ≡ false
-    → slice_index f.bytes 0 ≡ suc x.count → hearing who (At t (Hear f) ∷ H) ≡ Some (grown (time_heard (At t (Hear f) ∷ H)) f x)
-next_appended who H t f x e g k l m n o p =
-    hears_found who H t f (Some x) e l ∙ packed_by who (time_heard (At t (Hear f) ∷ H)) f x false true false true g k m (eq-eqb _ _ n) o (eq-eqb _ _ p)
+pub next_appended : (who : Who) (H : List Call) (when : ℕ) (f : FrameRecord) (x : OpenBroadcast) → claim_of f ≡ None → announces f ≡ false → IsTrue (packs f)
+    → hearing who H ≡ Some x → is_whole x ≡ false → source_of f.id ≡ x.source → is_late (time_heard (At when (Hear f) ∷ H)) x ≡ false
+    → slice_index f.bytes 0 ≡ suc x.count → hearing who (At when (Hear f) ∷ H) ≡ Some (grown (time_heard (At when (Hear f) ∷ H)) f x)
+next_appended who H when f x e g k l m n o p =
+    hears_found who H when f (Some x) e l ∙ packed_by who (time_heard (At when (Hear f) ∷ H)) f x false true false true g k m (eq-eqb _ _ n) o (eq-eqb _ _ p)
 
-pub late_ends : (who : Who) (H : List Call) (t : ℕ) (f : FrameRecord) (x : OpenBroadcast) → claim_of f ≡ None → announces f ≡ false → IsTrue (packs f)
-    → hearing who H ≡ Some x → is_whole x ≡ false → source_of f.id ≡ x.source → IsTrue (is_late (time_heard (At t (Hear f) ∷ H)) x)
-    → hearing who (At t (Hear f) ∷ H) ≡ None
-late_ends who H t f x e g k l m n o =
-    hears_found who H t f (Some x) e l ∙ packed_by who (time_heard (At t (Hear f) ∷ H)) f x false true true _ g k m (eq-eqb _ _ n) o refl
+pub late_ends : (who : Who) (H : List Call) (when : ℕ) (f : FrameRecord) (x : OpenBroadcast) → claim_of f ≡ None → announces f ≡ false → IsTrue (packs f)
+    → hearing who H ≡ Some x → is_whole x ≡ false → source_of f.id ≡ x.source → IsTrue (is_late (time_heard (At when (Hear f) ∷ H)) x)
+    → hearing who (At when (Hear f) ∷ H) ≡ None
+late_ends who H when f x e g k l m n o =
+    hears_found who H when f (Some x) e l ∙ packed_by who (time_heard (At when (Hear f) ∷ H)) f x false true true _ g k m (eq-eqb _ _ n) o refl
 
-pub strangers : (who : Who) (H : List Call) (t : ℕ) (f : FrameRecord) → claim_of f ≡ None → announces f ≡ false
+pub strangers : (who : Who) (H : List Call) (when : ℕ) (f : FrameRecord) → claim_of f ≡ None → announces f ≡ false
     → (packs f ≡ false) ⊎ ((x : OpenBroadcast) → hearing who H ≡ Some x → source_of f.id ≢ x.source)
-    → hearing who (At t (Hear f) ∷ H) ≡ hearing who H
-strangers who H t f e g (inl k) =
-    hears_found who H t f (hearing who H) e refl
-    ∙ λ i. if g i then (if has_room (time_heard (At t (Hear f) ∷ H)) (source_of f.id) (hearing who H) then opens who (time_heard (At t (Hear f) ∷ H)) f else hearing who H) else if k i
-    then packed (time_heard (At t (Hear f) ∷ H)) f (hearing who H) else hearing who H
-strangers who H t f e g (inr k) = go (hearing who H) refl
+    → hearing who (At when (Hear f) ∷ H) ≡ hearing who H
+strangers who H when f e g (inl k) =
+    hears_found who H when f (hearing who H) e refl
+    ∙ λ i. if g i then (if has_room (time_heard (At when (Hear f) ∷ H)) (source_of f.id) (hearing who H) then opens who (time_heard (At when (Hear f) ∷ H)) f else hearing who H) else if k i
+    then packed (time_heard (At when (Hear f) ∷ H)) f (hearing who H) else hearing who H
+strangers who H when f e g (inr k) = go (hearing who H) refl
   where
     other : (x : OpenBroadcast) → (source_of f.id ≢ x.source) → (b : Bool) → nat_eq (source_of f.id) x.source ≡ b → b ≡ false
     other x n true i = absurd (n (eqb-true _ _ i))
     other x n false i = refl
 
-    go : (o : Option OpenBroadcast) → hearing who H ≡ o → hearing who (At t (Hear f) ∷ H) ≡ o
-    go None l = hears_found who H t f None e l ∙ none (announces f) (packs f) g
+    go : (o : Option OpenBroadcast) → hearing who H ≡ o → hearing who (At when (Hear f) ∷ H) ≡ o
+    go None l = hears_found who H when f None e l ∙ none (announces f) (packs f) g
       where
-        none : (a b : Bool) → a ≡ false → (if a then opens who (time_heard (At t (Hear f) ∷ H)) f else if b then None else None) ≡ None
+        none : (a b : Bool) → a ≡ false → (if a then opens who (time_heard (At when (Hear f) ∷ H)) f else if b then None else None) ≡ None
         none true b i = absurd (cc)
         none false true i = refl
         none false false i = refl
-    go (Some x) l = hears_found who H t f (Some x) e l ∙ some (packs f) refl
+    go (Some x) l = hears_found who H when f (Some x) e l ∙ some (packs f) refl
       where
-        some : (p : Bool) → packs f ≡ p → hears who (time_heard (At t (Hear f) ∷ H)) f (Some x) ≡ Some x
+        some : (p : Bool) → packs f ≡ p → hears who (time_heard (At when (Hear f) ∷ H)) f (Some x) ≡ Some x
         some true q =
-            packed_by who (time_heard (At t (Hear f) ∷ H)) f x _ false _ _ g q refl (let z : nat_eq (source_of f.id) x.source ≡ false = other x (k x l) _ refl in z) refl refl
+            packed_by who (time_heard (At when (Hear f) ∷ H)) f x _ false _ _ g q refl (let z : nat_eq (source_of f.id) x.source ≡ false = other x (k x l) _ refl in z) refl refl
             ∙ stays (is_whole x)
           where
-            stays : (w : Bool) → (if w || true then Some x else if is_late (time_heard (At t (Hear f) ∷ H)) x then None else Some (goes_on (time_heard (At t (Hear f) ∷ H)) f x)) ≡ Some x
+            stays : (w : Bool) → (if w || true then Some x else if is_late (time_heard (At when (Hear f) ∷ H)) x then None else Some (goes_on (time_heard (At when (Hear f) ∷ H)) f x)) ≡ Some x
             stays true = refl
             stays false = refl
         some false q =
-            λ i. if g i then (if has_room (time_heard (At t (Hear f) ∷ H)) (source_of f.id) (Some x) then opens who (time_heard (At t (Hear f) ∷ H)) f else Some x) else if q i
-            then packed (time_heard (At t (Hear f) ∷ H)) f (Some x) else Some x
+            λ i. if g i then (if has_room (time_heard (At when (Hear f) ∷ H)) (source_of f.id) (Some x) then opens who (time_heard (At when (Hear f) ∷ H)) f else Some x) else if q i
+            then packed (time_heard (At when (Hear f) ∷ H)) f (Some x) else Some x
 
 -- in time, a frame of another source
-pub others_leave : (who : Who) (H : List Call) (t : ℕ) (f : FrameRecord) (x : OpenBroadcast) → hearing who H ≡ Some x
-    → holder who (At t (Hear f) ∷ H) x.source ≡ holder who H x.source → source_of f.id ≢ x.source → is_late (time_heard (At t (Hear f) ∷ H)) x ≡ false
-    → hearing who (At t (Hear f) ∷ H) ≡ Some x
-others_leave who H t f x e held n late =
-    ap (λ (o : Option OpenBroadcast). hears who now f (left (changes (holder who H) (holder who (At t (Hear f) ∷ H)) o) o)) e
+pub others_leave : (who : Who) (H : List Call) (when : ℕ) (f : FrameRecord) (x : OpenBroadcast) → hearing who H ≡ Some x
+    → holder who (At when (Hear f) ∷ H) x.source ≡ holder who H x.source → source_of f.id ≢ x.source → is_late (time_heard (At when (Hear f) ∷ H)) x ≡ false
+    → hearing who (At when (Hear f) ∷ H) ≡ Some x
+others_leave who H when f x e held n late =
+    ap (λ (o : Option OpenBroadcast). hears who now f (left (changes (holder who H) (holder who (At when (Hear f) ∷ H)) o) o)) e
     ∙ (ap (λ (b : Bool). hears who now f (if not b && not (is_whole x) then None else Some x)) (ap (is_same (holder who H x.source)) held ∙ same_same (holder who H x.source))
     ∙ ((λ i. all (other i) (late i)) ∙ go (announces f) (packs f) (is_whole x)))
   where
     now : ℕ
-    now = time_heard (At t (Hear f) ∷ H)
+    now = time_heard (At when (Hear f) ∷ H)
 
     other : nat_eq (source_of f.id) x.source ≡ false
     other = by (nat_eq (source_of f.id) x.source) refl
@@ -331,6 +331,7 @@ own_frames who H now f e = sym (ap (λ (r : HearingRecord). r.current) (hearing_
 -- an open broadcast, and the calls since its announcement
 record Begun (who : Who) (H : List Call) (x : OpenBroadcast) : Type 0 where
   pub later : List Call
+  pub at : ℕ
   pub first : FrameRecord
   pub earlier : List Call
   pub is : H ≡ later ++ At at (Hear first) ∷ earlier
@@ -354,9 +355,10 @@ abbrev AreBegun : Who → List Call → Option OpenBroadcast → Type 0
 AreBegun who H None = Unit {0}
 AreBegun who H (Some x) = (is_whole x ≡ true) ⊎ Begun who H x
 
-anew : (who : Who) (H : List Call) (now : ℕ) (t : ℕ) (f : FrameRecord) → announces f ≡ true → Begun who (At t (Hear f) ∷ H) (begun now f)
-anew who H now t f e = record {
+anew : (who : Who) (H : List Call) (now : ℕ) (when : ℕ) (f : FrameRecord) → announces f ≡ true → Begun who (At when (Hear f) ∷ H) (begun now f)
+anew who H now when f e = record {
   later = [];
+  at = when;
   first = f;
   earlier = H;
   is = refl;
@@ -382,6 +384,7 @@ rests : (who : Who) (call : Call) (H : List Call) (x : OpenBroadcast) → ((G : 
     → holder who (call ∷ H) x.source ≡ holder who H x.source → Begun who H x → Begun who (call ∷ H) x
 rests who call H x quiet k h = record {
   later = call ∷ h.later;
+  at = h.at;
   first = h.first;
   earlier = h.earlier;
   is = ap (λ G. call ∷ G) h.is;
@@ -399,13 +402,14 @@ rests who call H x quiet k h = record {
 }
 
 -- a frame that is ignored
-ignores : (who : Who) (H : List Call) (t : ℕ) (f : FrameRecord) (x : OpenBroadcast) (stamp now : ℕ) → holder who (At t (Hear f) ∷ H) x.source ≡ holder who H x.source → Begun who H x
-    → Begun who (At t (Hear f) ∷ H) (record x { stamp = stamp; time = now })
-ignores who H t f x stamp now k h = record {
-  later = At t (Hear f) ∷ h.later;
+ignores : (who : Who) (H : List Call) (when : ℕ) (f : FrameRecord) (x : OpenBroadcast) (stamp now : ℕ) → holder who (At when (Hear f) ∷ H) x.source ≡ holder who H x.source → Begun who H x
+    → Begun who (At when (Hear f) ∷ H) (record x { stamp = stamp; time = now })
+ignores who H when f x stamp now k h = record {
+  later = At when (Hear f) ∷ h.later;
+  at = h.at;
   first = h.first;
   earlier = h.earlier;
-  is = ap (λ G. At t (Hear f) ∷ G) h.is;
+  is = ap (λ G. At when (Hear f) ∷ G) h.is;
   packets = h.packets;
   part = passed f h.packets (frames_heard h.later) h.part;
   source = h.source;
@@ -416,7 +420,7 @@ ignores who H t f x stamp now k h = record {
   numbered = h.numbered;
   bytes = h.bytes;
   few = h.few;
-  one = keeps_on who (At t (Hear f)) H x h k;
+  one = keeps_on who (At when (Hear f)) H x h k;
 }
 
 numbered_more : (k : Key) (n : ℕ) (fs : List FrameRecord) (f : FrameRecord) → AreNumbered k n fs → is_packet k f ≡ true → slice_index f.bytes 0 ≡ n + length fs
@@ -439,13 +443,14 @@ not_whole x e = go x.size (length x.bytes) e
     go m n i = grind arith
 
 -- a packet is appended
-appends : (who : Who) (H : List Call) (t : ℕ) (f : FrameRecord) (x : OpenBroadcast) (now : ℕ) → holder who (At t (Hear f) ∷ H) x.source ≡ holder who H x.source → packs f ≡ true
-    → source_of f.id ≡ x.source → slice_index f.bytes 0 ≡ suc x.count → is_whole x ≡ false → Begun who H x → Begun who (At t (Hear f) ∷ H) (grown now f x)
-appends who H t f x now k p s n w h = record {
-  later = At t (Hear f) ∷ h.later;
+appends : (who : Who) (H : List Call) (when : ℕ) (f : FrameRecord) (x : OpenBroadcast) (now : ℕ) → holder who (At when (Hear f) ∷ H) x.source ≡ holder who H x.source → packs f ≡ true
+    → source_of f.id ≡ x.source → slice_index f.bytes 0 ≡ suc x.count → is_whole x ≡ false → Begun who H x → Begun who (At when (Hear f) ∷ H) (grown now f x)
+appends who H when f x now k p s n w h = record {
+  later = At when (Hear f) ∷ h.later;
+  at = h.at;
   first = h.first;
   earlier = h.earlier;
-  is = ap (λ G. At t (Hear f) ∷ G) h.is;
+  is = ap (λ G. At when (Hear f) ∷ G) h.is;
   packets = h.packets ++ f ∷ [];
   part = chosen f h.packets (frames_heard h.later) h.part;
   source = h.source;
@@ -456,7 +461,7 @@ appends who H t f x now k p s n w h = record {
   numbered = numbered_more (by x.source) 1 h.packets f h.numbered (subst (λ (a : ℕ). is_packet (by a) f ≡ true) s p) (let c = h.count in omega (arith, n, c));
   bytes = joined_more h.packets f ∙ ap (λ z. z ++ drop 1 f.bytes) h.bytes;
   few = (let a = length_two x.bytes (drop 1 f.bytes) in let b = drop_one f.bytes (packs_eight f p) in let c = not_whole x w in omega (arith, a, b, c));
-  one = keeps_on who (At t (Hear f)) H x h k;
+  one = keeps_on who (At when (Hear f)) H x h k;
 }
 
 same_is : (o p : Option ℕ) → is_same o p ≡ true → p ≡ o
@@ -466,51 +471,51 @@ same_is (Some m) None e = absurd (cc)
 same_is (Some m) (Some n) e = ap Some (sym (eqb-true m n e))
 
 -- a frame is heard where none waits
-heard_open : (who : Who) (H : List Call) (now : ℕ) (t : ℕ) (f : FrameRecord) (o : Option OpenBroadcast) → AllBegun who H o → whole_of o ≡ None
-    → AllBegun who (At t (Hear f) ∷ H) (hears who now f (left (changes (holder who H) (holder who (At t (Hear f) ∷ H)) o) o))
-heard_open who H now t f None h n = go (announces f) (packs f) (is_ignored who (pgn_named f)) refl
+heard_open : (who : Who) (H : List Call) (now : ℕ) (when : ℕ) (f : FrameRecord) (o : Option OpenBroadcast) → AllBegun who H o → whole_of o ≡ None
+    → AllBegun who (At when (Hear f) ∷ H) (hears who now f (left (changes (holder who H) (holder who (At when (Hear f) ∷ H)) o) o))
+heard_open who H now when f None h n = go (announces f) (packs f) (is_ignored who (pgn_named f)) refl
   where
-    go : (a b c : Bool) → announces f ≡ a → AllBegun who (At t (Hear f) ∷ H) (if a then (if c then None else Some (begun now f)) else if b then None else None)
+    go : (a b c : Bool) → announces f ≡ a → AllBegun who (At when (Hear f) ∷ H) (if a then (if c then None else Some (begun now f)) else if b then None else None)
     go true b true e = tt
-    go true b false e = anew who H now t f e
+    go true b false e = anew who H now when f e
     go false true c e = tt
     go false false c e = tt
-heard_open who H now t f (Some x) h n = by (is_same (holder who H x.source) (holder who (At t (Hear f) ∷ H) x.source)) refl (is_whole x) refl
+heard_open who H now when f (Some x) h n = by (is_same (holder who H x.source) (holder who (At when (Hear f) ∷ H) x.source)) refl (is_whole x) refl
   where
     open_one : (w : Bool) → is_whole x ≡ w → whole_of (Some x) ≡ None → w ≡ false
     open_one true e i = absurd (let z : Some (message_by x) ≡ None = sym (ap (λ (v : Bool). if v then Some (message_by x) else None) e) ∙ i in cc)
     open_one false e i = refl
 
-    gone : (a b c : Bool) → announces f ≡ a → AllBegun who (At t (Hear f) ∷ H) (if a then (if c then None else Some (begun now f)) else if b then None else None)
+    gone : (a b c : Bool) → announces f ≡ a → AllBegun who (At when (Hear f) ∷ H) (if a then (if c then None else Some (begun now f)) else if b then None else None)
     gone true b true e = tt
-    gone true b false e = anew who H now t f e
+    gone true b false e = anew who H now when f e
     gone false true c e = tt
     gone false false c e = tt
 
-    stays : holder who (At t (Hear f) ∷ H) x.source ≡ holder who H x.source → is_whole x ≡ false → (a b c d e g k : Bool) → announces f ≡ a → packs f ≡ b
+    stays : holder who (At when (Hear f) ∷ H) x.source ≡ holder who H x.source → is_whole x ≡ false → (a b c d e g k : Bool) → announces f ≡ a → packs f ≡ b
         → nat_eq (source_of f.id) x.source ≡ d → nat_eq (slice_index f.bytes 0) (suc x.count) ≡ k
-        → AllBegun who (At t (Hear f) ∷ H) (if a then (if e then (if c then None else Some (begun now f)) else Some x) else if b
+        → AllBegun who (At when (Hear f) ∷ H) (if a then (if e then (if c then None else Some (begun now f)) else Some x) else if b
         then (if false || not d then Some x else if g then None else Some (if k then grown now f x else touched now f x)) else Some x)
     stays q w true b true d true g k i j l m = tt
-    stays q w true b false d true g k i j l m = anew who H now t f i
-    stays q w true b c d false g k i j l m = ignores who H t f x x.stamp x.time q h
-    stays q w false true c false e g k i j l m = ignores who H t f x x.stamp x.time q h
+    stays q w true b false d true g k i j l m = anew who H now when f i
+    stays q w true b c d false g k i j l m = ignores who H when f x x.stamp x.time q h
+    stays q w false true c false e g k i j l m = ignores who H when f x x.stamp x.time q h
     stays q w false true c true e true k i j l m = tt
-    stays q w false true c true e false true i j l m = appends who H t f x now q j (eqb-true _ _ l) (eqb-true _ _ m) w h
-    stays q w false true c true e false false i j l m = ignores who H t f x f.stamp now q h
-    stays q w false false c d e g k i j l m = ignores who H t f x x.stamp x.time q h
+    stays q w false true c true e false true i j l m = appends who H when f x now q j (eqb-true _ _ l) (eqb-true _ _ m) w h
+    stays q w false true c true e false false i j l m = ignores who H when f x f.stamp now q h
+    stays q w false false c d e g k i j l m = ignores who H when f x x.stamp x.time q h
 
     hears_by : Bool → Option OpenBroadcast
     hears_by w =
         if announces f then (if has_room now (source_of f.id) (Some x) then opens who now f else Some x) else if packs f
         then (if w || not (nat_eq (source_of f.id) x.source) then Some x else if is_late now x then None else Some (goes_on now f x)) else Some x
 
-    by : (b : Bool) → is_same (holder who H x.source) (holder who (At t (Hear f) ∷ H) x.source) ≡ b → (w : Bool) → is_whole x ≡ w
-        → AllBegun who (At t (Hear f) ∷ H) (hears who now f (if not b && not w then None else Some x))
+    by : (b : Bool) → is_same (holder who H x.source) (holder who (At when (Hear f) ∷ H) x.source) ≡ b → (w : Bool) → is_whole x ≡ w
+        → AllBegun who (At when (Hear f) ∷ H) (hears who now f (if not b && not w then None else Some x))
     by b e true i = absurd (let z : true ≡ false = open_one true i n in cc)
     by false e false i = gone (announces f) (packs f) (is_ignored who (pgn_named f)) refl
     by true e false i =
-        subst (λ (v : Bool). AllBegun who (At t (Hear f) ∷ H) (hears_by v)) (sym i)
+        subst (λ (v : Bool). AllBegun who (At when (Hear f) ∷ H) (hears_by v)) (sym i)
         (stays (same_is _ _ e) i (announces f) (packs f) (is_ignored who (pgn_named f)) (nat_eq (source_of f.id) x.source)
         (has_room now (source_of f.id) (Some x)) (is_late now x) (nat_eq (slice_index f.bytes 0) (suc x.count)) refl refl refl refl)
 
@@ -523,11 +528,11 @@ become : (who : Who) (H : List Call) (o : Option OpenBroadcast) → AllBegun who
 become who H None h = tt
 become who H (Some x) h = inr h
 
-heard_more : (who : Who) (H : List Call) (now : ℕ) (t : ℕ) (f : FrameRecord) (o : Option OpenBroadcast) → AreBegun who H o
-    → AreBegun who (At t (Hear f) ∷ H) (hears who now f (left (changes (holder who H) (holder who (At t (Hear f) ∷ H)) o) o))
-heard_more who H now t f o h = go (whole_of o) refl
+heard_more : (who : Who) (H : List Call) (now : ℕ) (when : ℕ) (f : FrameRecord) (o : Option OpenBroadcast) → AreBegun who H o
+    → AreBegun who (At when (Hear f) ∷ H) (hears who now f (left (changes (holder who H) (holder who (At when (Hear f) ∷ H)) o) o))
+heard_more who H now when f o h = go (whole_of o) refl
   where
-    kept : (z : Option OpenBroadcast) (p : ℕ × MessageRecord) → whole_of z ≡ Some p → AreBegun who (At t (Hear f) ∷ H) z
+    kept : (z : Option OpenBroadcast) (p : ℕ × MessageRecord) → whole_of z ≡ Some p → AreBegun who (At when (Hear f) ∷ H) z
     kept None p e = tt
     kept (Some x) p e = inl (w (is_whole x) e)
       where
@@ -535,9 +540,9 @@ heard_more who H now t f o h = go (whole_of o) refl
         w true i = refl
         w false i = absurd (cc)
 
-    go : (p : Option (ℕ × MessageRecord)) → whole_of o ≡ p → AreBegun who (At t (Hear f) ∷ H) (hears who now f (left (changes (holder who H) (holder who (At t (Hear f) ∷ H)) o) o))
-    go None e = become who (At t (Hear f) ∷ H) _ (heard_open who H now t f o (open_ones who H o h e) e)
-    go (Some p) e = subst (AreBegun who (At t (Hear f) ∷ H)) (sym (whole_stays who (changes (holder who H) (holder who (At t (Hear f) ∷ H)) o) now f o p e)) (kept o p e)
+    go : (p : Option (ℕ × MessageRecord)) → whole_of o ≡ p → AreBegun who (At when (Hear f) ∷ H) (hears who now f (left (changes (holder who H) (holder who (At when (Hear f) ∷ H)) o) o))
+    go None e = become who (At when (Hear f) ∷ H) _ (heard_open who H now when f o (open_ones who H o h e) e)
+    go (Some p) e = subst (AreBegun who (At when (Hear f) ∷ H)) (sym (whole_stays who (changes (holder who H) (holder who (At when (Hear f) ∷ H)) o) now f o p e)) (kept o p e)
 
 quiet_more : (who : Who) (call : Call) (H : List Call) (o : Option OpenBroadcast) → ((G : List Call) → frames_heard (call ∷ G) ≡ frames_heard G)
     → ((a : ℕ) → holder who (call ∷ H) a ≡ holder who H a) → AreBegun who H o → AreBegun who (call ∷ H) o
@@ -560,7 +565,7 @@ taken_more who H now f (Some x) (inr h) = by (is_same (holder who H x.source) (h
 
 are_begun : (who : Who) (H : List Call) → AreBegun who H (hearing who H)
 are_begun who [] = tt
-are_begun who (At t (Hear f) ∷ H) = heard_more who H (time_heard (At t (Hear f) ∷ H)) t f (hearing who H) (are_begun who H)
+are_begun who (At when (Hear f) ∷ H) = heard_more who H (time_heard (At when (Hear f) ∷ H)) when f (hearing who H) (are_begun who H)
 are_begun who (At now (TakeFrame (Some f)) ∷ H) = taken_more who H now f (hearing who H) (are_begun who H)
 are_begun who (ReleaseBroadcast true ∷ H) = tt
 are_begun who (call ∷ H) = quiet_more who call H (hearing who H) (λ G. refl) (λ a. refl) (are_begun who H)
@@ -577,6 +582,7 @@ done who H x h w seven =
     let facts = announcement_facts (by (source_of h.first.id)) h.first h.announced in
     record {
       later = h.later;
+      at = h.at;
       first = h.first;
       earlier = h.earlier;
       is = h.is;
@@ -597,23 +603,23 @@ done who H x h w seven =
       };
     }
 
-pub came : (who : Who) (H : List Call) (t : ℕ) (f : FrameRecord) (p : ℕ × MessageRecord) → made_whole who H t f ≡ Some p → WasBroadcast who (At t (Hear f) ∷ H) p.1
-came who H t f p e = go (waiting who H) refl e
+pub came : (who : Who) (H : List Call) (when : ℕ) (f : FrameRecord) (p : ℕ × MessageRecord) → made_whole who H when f ≡ Some p → WasBroadcast who (At when (Hear f) ∷ H) p.1
+came who H when f p e = go (waiting who H) refl e
   where
-    last : (o : Option OpenBroadcast) → AllBegun who (At t (Hear f) ∷ H) o → IsFit o → whole_of o ≡ Some p → WasBroadcast who (At t (Hear f) ∷ H) p.1
+    last : (o : Option OpenBroadcast) → AllBegun who (At when (Hear f) ∷ H) o → IsFit o → whole_of o ≡ Some p → WasBroadcast who (At when (Hear f) ∷ H) p.1
     last None h fits i = absurd (cc)
     last (Some x) h fits i =
         let whole : is_whole x ≡ true = all_true (is_whole x) i in
         let z : Some (message_by x) ≡ Some p = sym (ap (λ (v : Bool). if v then Some (message_by x) else None) whole) ∙ i in
         let q : message_by x ≡ p = cc in
-        subst (λ (r : ℕ × MessageRecord). WasBroadcast who (At t (Hear f) ∷ H) r.1) q (done who (At t (Hear f) ∷ H) x h whole fits.0)
+        subst (λ (r : ℕ × MessageRecord). WasBroadcast who (At when (Hear f) ∷ H) r.1) q (done who (At when (Hear f) ∷ H) x h whole fits.0)
       where
         all_true : (v : Bool) → (if v then Some (message_by x) else None) ≡ Some p → v ≡ true
         all_true true j = refl
         all_true false j = absurd (cc)
 
-    go : (o : Option (ℕ × MessageRecord)) → waiting who H ≡ o → newly o (waiting who (At t (Hear f) ∷ H)) ≡ Some p → WasBroadcast who (At t (Hear f) ∷ H) p.1
-    go None i k = last (hearing who (At t (Hear f) ∷ H)) (heard_open who H (time_heard (At t (Hear f) ∷ H)) t f (hearing who H) (open_ones who H (hearing who H) (are_begun who H) i) i) (fit who (At t (Hear f) ∷ H)) k
+    go : (o : Option (ℕ × MessageRecord)) → waiting who H ≡ o → newly o (waiting who (At when (Hear f) ∷ H)) ≡ Some p → WasBroadcast who (At when (Hear f) ∷ H) p.1
+    go None i k = last (hearing who (At when (Hear f) ∷ H)) (heard_open who H (time_heard (At when (Hear f) ∷ H)) when f (hearing who H) (open_ones who H (hearing who H) (are_begun who H) i) i) (fit who (At when (Hear f) ∷ H)) k
     go (Some q) i k = absurd (cc)
 
 -- ---- what a packet and a claim do
@@ -628,32 +634,32 @@ unequal m n h = go (nat_eq m n) refl
     go true e = absurd (h (eqb-true m n e))
     go false e = refl
 
-pub last_makes_whole : (who : Who) (H : List Call) (t : ℕ) (f : FrameRecord) (x : OpenBroadcast) → claim_of f ≡ None → announces f ≡ false → IsTrue (packs f)
-    → hearing who H ≡ Some x → is_whole x ≡ false → source_of f.id ≡ x.source → is_late (time_heard (At t (Hear f) ∷ H)) x ≡ false
+pub last_makes_whole : (who : Who) (H : List Call) (when : ℕ) (f : FrameRecord) (x : OpenBroadcast) → claim_of f ≡ None → announces f ≡ false → IsTrue (packs f)
+    → hearing who H ≡ Some x → is_whole x ≡ false → source_of f.id ≡ x.source → is_late (time_heard (At when (Hear f) ∷ H)) x ≡ false
     → slice_index f.bytes 0 ≡ suc x.count → x.size ≤ length x.bytes + 7
-    → made_whole who H t f ≡ Some (message_by (grown (time_heard (At t (Hear f) ∷ H)) f x))
-last_makes_whole who H t f x e g k l m n o p q =
-    let y = grown (time_heard (At t (Hear f) ∷ H)) f x in
+    → made_whole who H when f ≡ Some (message_by (grown (time_heard (At when (Hear f) ∷ H)) f x))
+last_makes_whole who H when f x e g k l m n o p q =
+    let y = grown (time_heard (At when (Hear f) ∷ H)) f x in
     let whole : is_whole y ≡ true =
     at_most x.size (length (x.bytes ++ drop 1 f.bytes)) (let a = length_two x.bytes (drop 1 f.bytes) in let b = drop_one f.bytes (packs_eight f k) in omega (arith, a, b, q)) in
     let before : waiting who H ≡ None = ap whole_of l ∙ ap (λ (v : Bool). if v then Some (message_by x) else None) m in
-    let after : waiting who (At t (Hear f) ∷ H) ≡ Some (message_by y) =
-    ap whole_of (next_appended who H t f x e g k l m n o p) ∙ ap (λ (v : Bool). if v then Some (message_by y) else None) whole in
+    let after : waiting who (At when (Hear f) ∷ H) ≡ Some (message_by y) =
+    ap whole_of (next_appended who H when f x e g k l m n o p) ∙ ap (λ (v : Bool). if v then Some (message_by y) else None) whole in
     λ i. newly (before i) (after i)
 
-pub other_adds_none : (who : Who) (H : List Call) (t : ℕ) (f : FrameRecord) (x : OpenBroadcast) → claim_of f ≡ None → announces f ≡ false → IsTrue (packs f)
-    → hearing who H ≡ Some x → is_whole x ≡ false → source_of f.id ≡ x.source → is_late (time_heard (At t (Hear f) ∷ H)) x ≡ false
-    → (slice_index f.bytes 0 ≢ suc x.count) → hearing who (At t (Hear f) ∷ H) ≡ Some (touched (time_heard (At t (Hear f) ∷ H)) f x)
-other_adds_none who H t f x e g k l m n o p =
-    hears_found who H t f (Some x) e l ∙ packed_by who (time_heard (At t (Hear f) ∷ H)) f x false true false false g k m (eq-eqb _ _ n) o (unequal _ _ p)
+pub other_adds_none : (who : Who) (H : List Call) (when : ℕ) (f : FrameRecord) (x : OpenBroadcast) → claim_of f ≡ None → announces f ≡ false → IsTrue (packs f)
+    → hearing who H ≡ Some x → is_whole x ≡ false → source_of f.id ≡ x.source → is_late (time_heard (At when (Hear f) ∷ H)) x ≡ false
+    → (slice_index f.bytes 0 ≢ suc x.count) → hearing who (At when (Hear f) ∷ H) ≡ Some (touched (time_heard (At when (Hear f) ∷ H)) f x)
+other_adds_none who H when f x e g k l m n o p =
+    hears_found who H when f (Some x) e l ∙ packed_by who (time_heard (At when (Hear f) ∷ H)) f x false true false false g k m (eq-eqb _ _ n) o (unequal _ _ p)
 
-pub left_ends : (who : Who) (H : List Call) (t : ℕ) (f : FrameRecord) (x : OpenBroadcast) → hearing who H ≡ Some x → is_whole x ≡ false
-    → (holder who (At t (Hear f) ∷ H) x.source ≢ holder who H x.source) → found who H t f ≡ None
-left_ends who H t f x e w h =
-    ap (λ (o : Option OpenBroadcast). left (changes (holder who H) (holder who (At t (Hear f) ∷ H)) o) o) e
-    ∙ go (is_same (holder who H x.source) (holder who (At t (Hear f) ∷ H) x.source)) refl (is_whole x) w
+pub left_ends : (who : Who) (H : List Call) (when : ℕ) (f : FrameRecord) (x : OpenBroadcast) → hearing who H ≡ Some x → is_whole x ≡ false
+    → (holder who (At when (Hear f) ∷ H) x.source ≢ holder who H x.source) → found who H when f ≡ None
+left_ends who H when f x e w h =
+    ap (λ (o : Option OpenBroadcast). left (changes (holder who H) (holder who (At when (Hear f) ∷ H)) o) o) e
+    ∙ go (is_same (holder who H x.source) (holder who (At when (Hear f) ∷ H) x.source)) refl (is_whole x) w
   where
-    go : (b : Bool) → is_same (holder who H x.source) (holder who (At t (Hear f) ∷ H) x.source) ≡ b → (v : Bool) → v ≡ false → (if not b && not v then None else Some x) ≡ None
+    go : (b : Bool) → is_same (holder who H x.source) (holder who (At when (Hear f) ∷ H) x.source) ≡ b → (v : Bool) → v ≡ false → (if not b && not v then None else Some x) ≡ None
     go true i v j = absurd (h (same_is _ _ i))
     go false i true j = absurd (cc)
     go false i false j = refl

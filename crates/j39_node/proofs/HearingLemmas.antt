@@ -110,7 +110,7 @@ fit_hears w now f o h = go (announces f) (packs f) (has_room now (source_of f.id
 
 pub fit : (w : Who) (H : List Call) → IsFit (hearing w H)
 fit w [] = tt
-fit w (At t (Hear f) ∷ H) = fit_hears w (time_heard (At t (Hear f) ∷ H)) f (found w H t f) (fit_left (changes (holder w H) (holder w (At t (Hear f) ∷ H)) (hearing w H)) (hearing w H) (fit w H))
+fit w (At when (Hear f) ∷ H) = fit_hears w (time_heard (At when (Hear f) ∷ H)) f (found w H when f) (fit_left (changes (holder w H) (holder w (At when (Hear f) ∷ H)) (hearing w H)) (hearing w H) (fit w H))
 fit w (At now (TakeFrame (Some f)) ∷ H) = fit_left (changes (holder w H) (holder w (At now (TakeFrame (Some f)) ∷ H)) (hearing w H)) (hearing w H) (fit w H)
 fit w (ReleaseBroadcast true ∷ H) = tt
 fit w (call ∷ H) = fit w H
@@ -139,21 +139,21 @@ missed_more false c m e = e
 
 -- what a frame makes of it
 pub record HeardOn (w : Who) (H : List Call) (f : FrameRecord) (u : Bool) (y : HearingRecord) : Type 0 where
-  pub unheard : u ≡ is_unheard w (time_heard (At t (Hear f) ∷ H)) f (found w H t f)
-  pub hearing : y ≡ hearing_after w (At t (Hear f) ∷ H)
+  pub unheard : u ≡ is_unheard w (time_heard (At when (Hear f) ∷ H)) f (found w H when f)
+  pub hearing : y ≡ hearing_after w (At when (Hear f) ∷ H)
 
-pub heard_on : (w : Who) (H : List Call) (t : ℕ) (f : FrameRecord) (old new : Claims) (b u : Bool) (now : ℕ) (p q : Option ℕ) (x m y : HearingRecord) → x ≡ hearing_after w H
-    → Knows old (told_claims w H) → Knows new (told_claims w (At t (Hear f) ∷ H)) → now ≡ time_heard (At t (Hear f) ∷ H)
+pub heard_on : (w : Who) (H : List Call) (when : ℕ) (f : FrameRecord) (old new : Claims) (b u : Bool) (now : ℕ) (p q : Option ℕ) (x m y : HearingRecord) → x ≡ hearing_after w H
+    → Knows old (told_claims w H) → Knows new (told_claims w (At when (Hear f) ∷ H)) → now ≡ time_heard (At when (Hear f) ∷ H)
     → IfSome x.current (λ z. p ≡ holder_in old z.source) → IfSome x.current (λ z. q ≡ holder_in new z.source) → b ≡ not (is_same p q)
     → m.current ≡ left b x.current → m.missed ≡ x.missed → u ≡ is_unheard w now f m.current
     → y.missed ≡ (if u then min (m.missed + 1) 18446744073709551615 else m.missed) → (IsFit m.current → y.current ≡ hears w now f m.current)
     → HeardOn w H f u y
-heard_on w H t f old new b u now p q x m y h k l t e1 e2 e3 e4 e5 e6 e7 e8 =
-    let G = At t (Hear f) ∷ H in
+heard_on w H when f old new b u now p q x m y h k l t e1 e2 e3 e4 e5 e6 e7 e8 =
+    let G = At when (Hear f) ∷ H in
     let o : x.current ≡ hearing w H = ap (λ (r : HearingRecord). r.current) h in
-    let mid : m.current ≡ found w H t f =
+    let mid : m.current ≡ found w H when f =
     e4 ∙ (left_is w H G old new b p q x.current k l e1 e2 e3 ∙ ap (λ (z : Option OpenBroadcast). left (changes (holder w H) (holder w G) z) z) o) in
-    let says : u ≡ is_unheard w (time_heard G) f (found w H t f) = e6 ∙ (ap (λ (n : ℕ). is_unheard w n f m.current) t ∙ ap (is_unheard w (time_heard G) f) mid) in
+    let says : u ≡ is_unheard w (time_heard G) f (found w H when f) = e6 ∙ (ap (λ (n : ℕ). is_unheard w n f m.current) t ∙ ap (is_unheard w (time_heard G) f) mid) in
     let fits : IsFit m.current = subst IsFit (sym mid) (fit_left (changes (holder w H) (holder w G) (hearing w H)) (hearing w H) (fit w H)) in
     record {
       unheard = says;

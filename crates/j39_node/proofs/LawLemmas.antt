@@ -293,12 +293,12 @@ count_one false r xs ys x m e = e
 
 pub counted : (w : Who) (H : List Call) → length (kept w H) + missed w H ≡ length (heard w H)
 counted w [] = refl
-counted w (At t (Hear f) ∷ H) = count_one (is_for_program w (holds w H t) f) (nat_lt (length (kept w H) - length (got H)) 16) (heard w H) (kept w H) (f.stamp, message_of f) (missed w H) (counted w H)
+counted w (At when (Hear f) ∷ H) = count_one (is_for_program w (holds w H when) f) (nat_lt (length (kept w H) - length (got H)) 16) (heard w H) (kept w H) (f.stamp, message_of f) (missed w H) (counted w H)
 counted w (call ∷ H) = counted w H
 
-pub not_subscribed : (w : Who) (H : List Call) (t : ℕ) (f : FrameRecord) → is_subscribed w (pgn_of f.id) ≡ false
-    → (kept w (At t (Hear f) ∷ H) ≡ kept w H) × (missed w (At t (Hear f) ∷ H) ≡ missed w H)
-not_subscribed w H t f e = (
+pub not_subscribed : (w : Who) (H : List Call) (when : ℕ) (f : FrameRecord) → is_subscribed w (pgn_of f.id) ≡ false
+    → (kept w (At when (Hear f) ∷ H) ≡ kept w H) × (missed w (At when (Hear f) ∷ H) ≡ missed w H)
+not_subscribed w H when f e = (
   ap (λ (b : Bool). if b && nat_lt (length (kept w H) - length (got H)) 16 then kept w H ++ (f.stamp, message_of f) ∷ [] else kept w H) none,
   ap (λ (b : Bool). if b && not (nat_lt (length (kept w H) - length (got H)) 16) then suc (missed w H) else missed w H) none,
 )
@@ -307,14 +307,14 @@ not_subscribed w H t f e = (
     nothing true = refl
     nothing false = refl
 
-    none : is_for_program w (holds w H t) f ≡ false
+    none : is_for_program w (holds w H when) f ≡ false
     none =
         ap (λ (s : Bool). nat_lt (source_of f.id) null_address && ((s && not (is_own_group (pgn_of f.id) || nat_eq (pgn_of f.id) request_group))
-        && (is_none (destination_of f.id) || (is_some (destination_of f.id) global_address || (is_some (destination_of f.id) w.address && holds w H t))))) e
+        && (is_none (destination_of f.id) || (is_some (destination_of f.id) global_address || (is_some (destination_of f.id) w.address && holds w H when))))) e
         ∙ nothing (nat_lt (source_of f.id) null_address)
 
-pub missed_full : (w : Who) (H : List Call) (t : ℕ) (f : FrameRecord) → missed w (At t (Hear f) ∷ H) ≢ missed w H → length (got H) + 16 ≤ length (kept w H)
-missed_full w H t f n = go (is_for_program w (holds w H t) f) (nat_lt (length (kept w H) - length (got H)) 16) refl n
+pub missed_full : (w : Who) (H : List Call) (when : ℕ) (f : FrameRecord) → missed w (At when (Hear f) ∷ H) ≢ missed w H → length (got H) + 16 ≤ length (kept w H)
+missed_full w H when f n = go (is_for_program w (holds w H when) f) (nat_lt (length (kept w H) - length (got H)) 16) refl n
   where
     not_lt : (k g : ℕ) → nat_lt (k - g) 16 ≡ false → g + 16 ≤ k
     not_lt k g e = grind arith
@@ -346,16 +346,16 @@ or_right false b e = e
 -- what is owed stays owed until a frame is taken
 still_owed : (w : Who) (later H : List Call) → frames later ≡ [] → owes_claim w H ≡ true → owes_claim w (later ++ H) ≡ true
 still_owed w [] H e o = o
-still_owed w (At t (Hear f) ∷ later) H e o = or_true _ _ (still_owed w later H e o)
+still_owed w (At when (Hear f) ∷ later) H e o = or_true _ _ (still_owed w later H e o)
 still_owed w (At now (TakeFrame (Some f)) ∷ later) H e o = absurd (let a = ap length e in let b = length_one_more (frames later) f in omega (arith, a, b))
 still_owed w (call ∷ later) H e o = still_owed w later H e o
 
-pub next_claim : (w : Who) (H later : List Call) (c : Controller) (now : ℕ) (t : ℕ) (f g : FrameRecord)
-    → Is w (At now (TakeFrame (Some g)) ∷ later ++ At t (Hear f) ∷ H) c → frames later ≡ []
+pub next_claim : (w : Who) (H later : List Call) (c : Controller) (now : ℕ) (when : ℕ) (f g : FrameRecord)
+    → Is w (At now (TakeFrame (Some g)) ∷ later ++ At when (Hear f) ∷ H) c → frames later ≡ []
     → IsTrue (calls_for_claim w (is_lost (address_after w H)) f)
-    → message_of g ≡ claim_from w (claim_address w (address_after w (later ++ At t (Hear f) ∷ H)))
-next_claim w H later c now t f g is none calls =
-    owed w _ now g (frame w (later ++ At t (Hear f) ∷ H) c now g is) (still_owed w later (At t (Hear f) ∷ H) none (or_right (owes_claim w H) _ calls))
+    → message_of g ≡ claim_from w (claim_address w (address_after w (later ++ At when (Hear f) ∷ H)))
+next_claim w H later c now when f g is none calls =
+    owed w _ now g (frame w (later ++ At when (Hear f) ∷ H) c now g is) (still_owed w later (At when (Hear f) ∷ H) none (or_right (owes_claim w H) _ calls))
 
 pub claims_at_once : (w : Who) (H : List Call) (c : Controller) (now : ℕ) (answer : Option FrameRecord) → Is w (At now (TakeFrame answer) ∷ H) c
     → IsTrue (owes_claim w H) → answer ≢ None
@@ -420,13 +420,13 @@ cannot w H = cannot_is w (address_after w H)
 
 -- ---- requests
 
-request_case : (w : Who) (H : List Call) (t : ℕ) (f : FrameRecord) (o : Option Asked) → asked w (holds w H t) f ≡ o
-    → requests w (At t (Hear f) ∷ H) ≡ with_request w (nat_lt (length (requests w H) - length (handed H)) 16) o (requests w H)
-request_case w H t f o e = ap (λ x. with_request w (nat_lt (length (requests w H) - length (handed H)) 16) x (requests w H)) e
+request_case : (w : Who) (H : List Call) (when : ℕ) (f : FrameRecord) (o : Option Asked) → asked w (holds w H when) f ≡ o
+    → requests w (At when (Hear f) ∷ H) ≡ with_request w (nat_lt (length (requests w H) - length (handed H)) 16) o (requests w H)
+request_case w H when f o e = ap (λ x. with_request w (nat_lt (length (requests w H) - length (handed H)) 16) x (requests w H)) e
 
-refusal_case : (w : Who) (H : List Call) (t : ℕ) (f : FrameRecord) (o : Option Asked) → asked w (holds w H t) f ≡ o
-    → due w (At t (Hear f) ∷ H) ≡ with_refusal w (nat_lt (length (requests w H) - length (handed H)) 16) (nat_lt (length (due w H) - length (acknowledged H)) 16) o (due w H)
-refusal_case w H t f o e = ap (λ x. with_refusal w (nat_lt (length (requests w H) - length (handed H)) 16) (nat_lt (length (due w H) - length (acknowledged H)) 16) x (due w H)) e
+refusal_case : (w : Who) (H : List Call) (when : ℕ) (f : FrameRecord) (o : Option Asked) → asked w (holds w H when) f ≡ o
+    → due w (At when (Hear f) ∷ H) ≡ with_refusal w (nat_lt (length (requests w H) - length (handed H)) 16) (nat_lt (length (due w H) - length (acknowledged H)) 16) o (due w H)
+refusal_case w H when f o e = ap (λ x. with_refusal w (nat_lt (length (requests w H) - length (handed H)) 16) (nat_lt (length (due w H) - length (acknowledged H)) 16) x (due w H)) e
 
 has_room : (a b : ℕ) → a < b + 16 → nat_lt (a - b) 16 ≡ true
 has_room a b l = lt-ltb _ _ (omega (arith, l))
@@ -451,52 +451,52 @@ off : (b c : Bool) → (b && not (true && true)) ≡ false
 off true c = refl
 off false c = refl
 
-pub is_handed : (w : Who) (H : List Call) (t : ℕ) (f : FrameRecord) (r : Asked) → asked w (holds w H t) f ≡ Some r → IsTrue (is_served w r.group)
-    → length (requests w H) < length (handed H) + 16 → (requests w (At t (Hear f) ∷ H) ≡ requests w H ++ r ∷ []) × (due w (At t (Hear f) ∷ H) ≡ due w H)
-is_handed w H t f r e served l =
+pub is_handed : (w : Who) (H : List Call) (when : ℕ) (f : FrameRecord) (r : Asked) → asked w (holds w H when) f ≡ Some r → IsTrue (is_served w r.group)
+    → length (requests w H) < length (handed H) + 16 → (requests w (At when (Hear f) ∷ H) ≡ requests w H ++ r ∷ []) × (due w (At when (Hear f) ∷ H) ≡ due w H)
+is_handed w H when f r e served l =
     let room = has_room _ _ l in (
-      request_case w H t f (Some r) e ∙ (ap (λ (b : Bool). with_request w b (Some r) (requests w H)) room ∙ with_it w r (requests w H) true true served),
-      refusal_case w H t f (Some r) e
+      request_case w H when f (Some r) e ∙ (ap (λ (b : Bool). with_request w b (Some r) (requests w H)) room ∙ with_it w r (requests w H) true true served),
+      refusal_case w H when f (Some r) e
           ∙ (ap (λ (b : Bool). with_refusal w b (nat_lt (length (due w H) - length (acknowledged H)) 16) (Some r) (due w H)) room
           ∙ (refused_it w r (due w H) true true (nat_lt (length (due w H) - length (acknowledged H)) 16) (nat_eq r.destination w.address) served refl
           ∙ ap (λ (b : Bool). if b then due w H ++ acknowledgment w Busy r ∷ [] else due w H)
           (off (nat_eq r.destination w.address && nat_lt (length (due w H) - length (acknowledged H)) 16) true))),
     )
 
-pub is_refused : (w : Who) (H : List Call) (t : ℕ) (f : FrameRecord) (r : Asked) → asked w (holds w H t) f ≡ Some r → r.destination ≡ w.address
+pub is_refused : (w : Who) (H : List Call) (when : ℕ) (f : FrameRecord) (r : Asked) → asked w (holds w H when) f ≡ Some r → r.destination ≡ w.address
     → (IsTrue (is_served w r.group) → ⊥) → length (due w H) < length (acknowledged H) + 16
-    → (requests w (At t (Hear f) ∷ H) ≡ requests w H) × (due w (At t (Hear f) ∷ H) ≡ due w H ++ acknowledgment w Nack r ∷ [])
-is_refused w H t f r e at n l =
+    → (requests w (At when (Hear f) ∷ H) ≡ requests w H) × (due w (At when (Hear f) ∷ H) ≡ due w H ++ acknowledgment w Nack r ∷ [])
+is_refused w H when f r e at n l =
     let s = is_false _ n in
     let room = nat_lt (length (requests w H) - length (handed H)) 16 in (
-      request_case w H t f (Some r) e ∙ with_it w r (requests w H) false room s,
-      refusal_case w H t f (Some r) e
+      request_case w H when f (Some r) e ∙ with_it w r (requests w H) false room s,
+      refusal_case w H when f (Some r) e
           ∙ (ap (λ (b : Bool). with_refusal w room b (Some r) (due w H)) (has_room _ _ l)
           ∙ refused_it w r (due w H) false room true true s (eq-eqb _ _ at)),
     )
 
-pub is_busy : (w : Who) (H : List Call) (t : ℕ) (f : FrameRecord) (r : Asked) → asked w (holds w H t) f ≡ Some r → r.destination ≡ w.address
+pub is_busy : (w : Who) (H : List Call) (when : ℕ) (f : FrameRecord) (r : Asked) → asked w (holds w H when) f ≡ Some r → r.destination ≡ w.address
     → IsTrue (is_served w r.group) → length (handed H) + 16 ≤ length (requests w H) → length (due w H) < length (acknowledged H) + 16
-    → (requests w (At t (Hear f) ∷ H) ≡ requests w H) × (due w (At t (Hear f) ∷ H) ≡ due w H ++ acknowledgment w Busy r ∷ [])
-is_busy w H t f r e at served k l =
+    → (requests w (At when (Hear f) ∷ H) ≡ requests w H) × (due w (At when (Hear f) ∷ H) ≡ due w H ++ acknowledgment w Busy r ∷ [])
+is_busy w H when f r e at served k l =
     let none = has_none _ _ k in (
-      request_case w H t f (Some r) e ∙ (ap (λ (b : Bool). with_request w b (Some r) (requests w H)) none ∙ with_it w r (requests w H) true false served),
-      refusal_case w H t f (Some r) e
+      request_case w H when f (Some r) e ∙ (ap (λ (b : Bool). with_request w b (Some r) (requests w H)) none ∙ with_it w r (requests w H) true false served),
+      refusal_case w H when f (Some r) e
           ∙ (ap (λ (b : Bool). with_refusal w b (nat_lt (length (due w H) - length (acknowledged H)) 16) (Some r) (due w H)) none
           ∙ (ap (λ (b : Bool). with_refusal w false b (Some r) (due w H)) (has_room _ _ l)
           ∙ refused_it w r (due w H) true false true true served (eq-eqb _ _ at))),
     )
 
-pub never_to_all : (w : Who) (H : List Call) (t : ℕ) (f : FrameRecord) (r : Asked) → asked w (holds w H t) f ≡ Some r → r.destination ≢ w.address
-    → due w (At t (Hear f) ∷ H) ≡ due w H
-never_to_all w H t f r e n =
-    refusal_case w H t f (Some r) e
+pub never_to_all : (w : Who) (H : List Call) (when : ℕ) (f : FrameRecord) (r : Asked) → asked w (holds w H when) f ≡ Some r → r.destination ≢ w.address
+    → due w (At when (Hear f) ∷ H) ≡ due w H
+never_to_all w H when f r e n =
+    refusal_case w H when f (Some r) e
     ∙ refused_it w r (due w H) (is_served w r.group) (nat_lt (length (requests w H) - length (handed H)) 16) (nat_lt (length (due w H) - length (acknowledged H)) 16) false refl
     (is_false _ (λ z. n (eqb-true _ _ z)))
 
-pub no_request : (w : Who) (H : List Call) (t : ℕ) (f : FrameRecord) → asked w (holds w H t) f ≡ None
-    → (requests w (At t (Hear f) ∷ H) ≡ requests w H) × (due w (At t (Hear f) ∷ H) ≡ due w H)
-no_request w H t f e = (request_case w H t f None e, refusal_case w H t f None e)
+pub no_request : (w : Who) (H : List Call) (when : ℕ) (f : FrameRecord) → asked w (holds w H when) f ≡ None
+    → (requests w (At when (Hear f) ∷ H) ≡ requests w H) × (due w (At when (Hear f) ∷ H) ≡ due w H)
+no_request w H when f e = (request_case w H when f None e, refusal_case w H when f None e)
 
 pub handed_in_order : (w : Who) (H : List Call) (c : Controller) → Is w H c → IsFront (handed H) (requests w H)
 handed_in_order w H c is = (sound w H is.answered).desk.2
@@ -774,9 +774,9 @@ is_driven false c s a e = absurd (cc)
 
 pub lost_is_lost : (w : Who) (H : List Call) → IsTrue (lost_news w H) → IsTrue (is_lost (address_after w H))
 lost_is_lost w [] e = absurd (cc)
-lost_is_lost w (At t (Hear f) ∷ H) e = elim (either (lost_news w H) (is_smaller w (claim_of f) && not (is_lost (address_after w H))) e) [
-  | inl z ↦ stays_lost (is_smaller w (claim_of f)) (step H t) (address_after w H) (lost_is_lost w H z)
-  | inr z ↦ is_driven (is_smaller w (claim_of f)) _ (step H t) (address_after w H) z
+lost_is_lost w (At when (Hear f) ∷ H) e = elim (either (lost_news w H) (is_smaller w (claim_of f) && not (is_lost (address_after w H))) e) [
+  | inl z ↦ stays_lost (is_smaller w (claim_of f)) (step H when) (address_after w H) (lost_is_lost w H z)
+  | inr z ↦ is_driven (is_smaller w (claim_of f)) _ (step H when) (address_after w H) z
 ]
 lost_is_lost w (At now (TakeFrame (Some f)) ∷ H) e = stays_lost_claimed (is_claim f) (step H now) (address_after w H) (lost_is_lost w H e)
 lost_is_lost w (TakeNews (Some AddressLost) ∷ H) e = absurd (cc)
@@ -792,9 +792,9 @@ one_missed false m e = absurd (cc)
 
 pub some_missed : (w : Who) (H : List Call) → IsTrue (missed_news w H) → 0 < missed w H
 some_missed w [] e = absurd (cc)
-some_missed w (At t (Hear f) ∷ H) e =
-    elim (either (missed_news w H) (is_for_program w (holds w H t) f && not (nat_lt (length (kept w H) - length (got H)) 16)) e) [
-      | inl z ↦ still_missed (is_for_program w (holds w H t) f && not (nat_lt (length (kept w H) - length (got H)) 16)) (missed w H) (some_missed w H z)
+some_missed w (At when (Hear f) ∷ H) e =
+    elim (either (missed_news w H) (is_for_program w (holds w H when) f && not (nat_lt (length (kept w H) - length (got H)) 16)) e) [
+      | inl z ↦ still_missed (is_for_program w (holds w H when) f && not (nat_lt (length (kept w H) - length (got H)) 16)) (missed w H) (some_missed w H z)
       | inr z ↦ one_missed _ (missed w H) z
     ]
 some_missed w (TakeNews (Some MessagesMissed) ∷ H) e = absurd (cc)

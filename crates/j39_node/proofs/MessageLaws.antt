@@ -61,12 +61,12 @@ module _ (w : Who) (B : List Call) (g k : ℕ) where
   passes later now p = ap (λ (n : ℕ). n + step (later ++ B) now) p
 
   one_more : (call : Call) (later : List Call) → IsAnswered w (later ++ B) call → Stands later → Stands (call ∷ later)
-  one_more (At t (Hear f)) later a h = record { among = h.among; course = go h.course }
+  one_more (At when (Hear f)) later a h = record { among = h.among; course = go h.course }
     where
-      go : Course later → Course (At t (Hear f) ∷ later)
+      go : Course later → Course (At when (Hear f) ∷ later)
       go (taken l) = taken l
-      go (gone e) = gone (lost_heard w (later ++ B) t f e)
-      go (waits e p) = elim (keeps_heard w (later ++ B) t f e) [ inl z ↦ gone z | inr z ↦ waits z (passes later f.stamp p) ]
+      go (gone e) = gone (lost_heard w (later ++ B) when f e)
+      go (waits e p) = elim (keeps_heard w (later ++ B) when f e) [ inl z ↦ gone z | inr z ↦ waits z (passes later f.stamp p) ]
   one_more (At now (TakeFrame (Some f))) later a h = record { among = h.among; course = go h.course }
     where
       go : Course later → Course (At now (TakeFrame (Some f)) ∷ later)

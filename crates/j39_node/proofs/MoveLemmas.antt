@@ -116,8 +116,8 @@ moved_new m to = record { state = refl; taken = λ i l k. absurd (omega (arith, 
 
 pub moved : (w : Who) (H : List Call) → AreAnswered w H → MovedIf (open_transfer w H) (moves w H)
 moved w [] e = tt
-moved w (At t (Hear f) ∷ H) e =
-    moved_hears (is_lost (address_after w (At t (Hear f) ∷ H))) (λ a. is_replaced (holder w H a) (holder w (At t (Hear f) ∷ H) a)) f (clock_at H t) (open_transfer w H) (moves w H)
+moved w (At when (Hear f) ∷ H) e =
+    moved_hears (is_lost (address_after w (At when (Hear f) ∷ H))) (λ a. is_replaced (holder w H a) (holder w (At when (Hear f) ∷ H) a)) f (clock_at H when) (open_transfer w H) (moves w H)
     (moved w H e.0)
 moved w (At now (TakeFrame (Some f)) ∷ H) e = moved_frame w H now f e.0 (frame_case w H now f e.1) (moved w H e.0) (is_move w H f) refl
 moved w (At now (Transfer group to bytes (Ok k)) ∷ H) e = moved_new (broadcast_from w group bytes) to
@@ -194,8 +194,8 @@ last_closes told all (Some t) lost x h e = let a = h.token in let b = h.count in
 
 pub last_one : (w : Who) (H : List Call) → AreAnswered w H → LastIf (length (told_transfers H)) (all_transfers w H) (open_transfer w H)
 last_one w [] e = refl
-last_one w (At t (Hear f) ∷ H) e =
-    last_hears _ _ (is_lost (address_after w (At t (Hear f) ∷ H))) (λ a. is_replaced (holder w H a) (holder w (At t (Hear f) ∷ H) a)) f (clock_at H t) (open_transfer w H)
+last_one w (At when (Hear f) ∷ H) e =
+    last_hears _ _ (is_lost (address_after w (At when (Hear f) ∷ H))) (λ a. is_replaced (holder w H a) (holder w (At when (Hear f) ∷ H) a)) f (clock_at H when) (open_transfer w H)
     (last_one w H e.0)
 last_one w (At now (TakeFrame (Some f)) ∷ H) e = last_sends _ _ (is_move w H f) (clock_at H now) (open_transfer w H) (last_one w H e.0)
 last_one w (At now (Transfer group to bytes (Ok k)) ∷ H) e = last_opens w H now group to k bytes (transfer_case w H now group to bytes (Ok k) e.1) (last_one w H e.0)
@@ -225,8 +225,8 @@ now_so So H call s = record { later = []; call = call; earlier = H; is = refl; s
 pub record Arises (w : Who) (Q : Running → Type 0) (So : ℕ → MessageRecord → List Call → Call → Type 0) : Type 0 where
   pub begins_not : (token : ℕ) (m : MessageRecord) (to : ℕ) → Q (begun token m to) → ⊥
   pub by_hearing : (H : List Call) (f : FrameRecord) (t : Running) → AreAnswered w H → open_transfer w H ≡ Some t
-      → Q (hears (is_lost (address_after w (At t (Hear f) ∷ H))) (is_replaced (holder w H t.sender.destination) (holder w (At t (Hear f) ∷ H) t.sender.destination)) f (clock_at H t) t)
-      → Q t ⊎ So t.sender.destination t.sender.message H (At t (Hear f))
+      → Q (hears (is_lost (address_after w (At when (Hear f) ∷ H))) (is_replaced (holder w H t.sender.destination) (holder w (At when (Hear f) ∷ H) t.sender.destination)) f (clock_at H when) t)
+      → Q t ⊎ So t.sender.destination t.sender.message H (At when (Hear f))
   pub by_sending : (H : List Call) (now : ℕ) (f : FrameRecord) (t : Running) (a : Signal) → AreAnswered w H → open_transfer w H ≡ Some t
       → signal_by t (clock_at H now) ≡ Some a → message_of f ≡ says t.sender a → Q (sends (clock_at H now) t)
       → Q t ⊎ So t.sender.destination t.sender.message H (At now (TakeFrame (Some f)))
@@ -240,20 +240,20 @@ traced_same So new old H s h =
     subst (λ (m : MessageRecord). Happened (So new.sender.destination m) H) (sym s.0)
     (subst (λ (d : ℕ). Happened (So d old.sender.message) H) (sym s.1) h)
 
-trace_hears : (w : Who) (Q : Running → Type 0) (So : ℕ → MessageRecord → List Call → Call → Type 0) (H : List Call) (t : ℕ) (f : FrameRecord) (t : Running) (o : Option Running)
+trace_hears : (w : Who) (Q : Running → Type 0) (So : ℕ → MessageRecord → List Call → Call → Type 0) (H : List Call) (when : ℕ) (f : FrameRecord) (t : Running) (o : Option Running)
     → Arises w Q So → AreAnswered w H → open_transfer w H ≡ o
-    → hears_if (is_lost (address_after w (At t (Hear f) ∷ H))) (λ a. is_replaced (holder w H a) (holder w (At t (Hear f) ∷ H) a)) f (clock_at H t) o ≡ Some t → Q t
-    → ((u : Running) → open_transfer w H ≡ Some u → Q u → Traced So u H) → Traced So t (At t (Hear f) ∷ H)
-trace_hears w Q So H t f t None arises right e g q rec = absurd (cc)
-trace_hears w Q So H t f t (Some u) arises right e g q rec =
-    let lost = is_lost (address_after w (At t (Hear f) ∷ H)) in
-    let replaced = is_replaced (holder w H u.sender.destination) (holder w (At t (Hear f) ∷ H) u.sender.destination) in
-    let z : hears lost replaced f (clock_at H t) u ≡ t = cc in
-    subst (λ (x : Running). Traced So x (At t (Hear f) ∷ H)) z
-    (traced_same So (hears lost replaced f (clock_at H t) u) u (At t (Hear f) ∷ H) (hears_same lost replaced f (clock_at H t) u)
+    → hears_if (is_lost (address_after w (At when (Hear f) ∷ H))) (λ a. is_replaced (holder w H a) (holder w (At when (Hear f) ∷ H) a)) f (clock_at H when) o ≡ Some t → Q t
+    → ((u : Running) → open_transfer w H ≡ Some u → Q u → Traced So u H) → Traced So t (At when (Hear f) ∷ H)
+trace_hears w Q So H when f t None arises right e g q rec = absurd (cc)
+trace_hears w Q So H when f t (Some u) arises right e g q rec =
+    let lost = is_lost (address_after w (At when (Hear f) ∷ H)) in
+    let replaced = is_replaced (holder w H u.sender.destination) (holder w (At when (Hear f) ∷ H) u.sender.destination) in
+    let z : hears lost replaced f (clock_at H when) u ≡ t = cc in
+    subst (λ (x : Running). Traced So x (At when (Hear f) ∷ H)) z
+    (traced_same So (hears lost replaced f (clock_at H when) u) u (At when (Hear f) ∷ H) (hears_same lost replaced f (clock_at H when) u)
     (elim (arises.by_hearing H f u right e (subst Q (sym z) q)) [
-      | inl x ↦ later_on (So u.sender.destination u.sender.message) H (At t (Hear f)) refl (rec u e x)
-      | inr x ↦ now_so (So u.sender.destination u.sender.message) H (At t (Hear f)) x
+      | inl x ↦ later_on (So u.sender.destination u.sender.message) H (At when (Hear f)) refl (rec u e x)
+      | inr x ↦ now_so (So u.sender.destination u.sender.message) H (At when (Hear f)) x
     ]))
 
 trace_sends : (w : Who) (Q : Running → Type 0) (So : ℕ → MessageRecord → List Call → Call → Type 0) (H : List Call) (now : ℕ) (f : FrameRecord) (t : Running) (b : Bool)
@@ -276,7 +276,7 @@ trace_sends w Q So H now f t true arises right case e g q rec =
 pub traced : (w : Who) (Q : Running → Type 0) (So : ℕ → MessageRecord → List Call → Call → Type 0) → Arises w Q So → (H : List Call) (t : Running) → AreAnswered w H
     → open_transfer w H ≡ Some t → Q t → Happened (So t.sender.destination t.sender.message) H
 traced w Q So arises [] t right e q = absurd (cc)
-traced w Q So arises (At t (Hear f) ∷ H) t right e q = trace_hears w Q So H t f t (open_transfer w H) arises right.0 refl e q (λ u k. traced w Q So arises H u right.0 k)
+traced w Q So arises (At when (Hear f) ∷ H) t right e q = trace_hears w Q So H when f t (open_transfer w H) arises right.0 refl e q (λ u k. traced w Q So arises H u right.0 k)
 traced w Q So arises (At now (TakeFrame (Some f)) ∷ H) t right e q =
     trace_sends w Q So H now f t (is_move w H f) arises right.0 (frame_case w H now f right.1) refl e q (λ u k. traced w Q So arises H u right.0 k)
 traced w Q So arises (At now (Transfer group to bytes (Ok k)) ∷ H) t right e q =

@@ -45,11 +45,11 @@ answers_by w q f m o e g (inr a) =
     either true = refl
     either false = refl
 
-pub transfer_answers : (w : Who) (H : List Call) (t : ℕ) (f : FrameRecord) (m : MessageRecord) (q : Question) → whole w H t f ≡ Some m → m.pgn ≡ q.group
-    → (q.to ≡ 255) ⊎ (m.source ≡ q.to) → says_to w q f (made w H t f) ≡ Some Answered
-transfer_answers w H t f m q e g a =
-    answers_by w q f m (made w H t f)
-    (ap (λ (o : Option MessageRecord). option_or (made_of o) (made_of (option_map (λ (x : ℕ × MessageRecord). x.1) (made_whole w H t f)))) e) g a
+pub transfer_answers : (w : Who) (H : List Call) (when : ℕ) (f : FrameRecord) (m : MessageRecord) (q : Question) → whole w H when f ≡ Some m → m.pgn ≡ q.group
+    → (q.to ≡ 255) ⊎ (m.source ≡ q.to) → says_to w q f (made w H when f) ≡ Some Answered
+transfer_answers w H when f m q e g a =
+    answers_by w q f m (made w H when f)
+    (ap (λ (o : Option MessageRecord). option_or (made_of o) (made_of (option_map (λ (x : ℕ × MessageRecord). x.1) (made_whole w H when f)))) e) g a
 
 -- ---- a broadcast is made whole by _ a _ packet to all
 
@@ -73,14 +73,14 @@ whole_by_packet who now f o p none e = go (announces f) (packs f) (has_room now 
     go false true c d i k z = k
     go false false c d i k z = absurd (let y : None ≡ Some p = sym none ∙ z in cc)
 
-pub made_by_packet : (who : Who) (H : List Call) (t : ℕ) (f : FrameRecord) (p : ℕ × MessageRecord) → made_whole who H t f ≡ Some p → packs f ≡ true
-made_by_packet who H t f p e = go (waiting who H) refl e
+pub made_by_packet : (who : Who) (H : List Call) (when : ℕ) (f : FrameRecord) (p : ℕ × MessageRecord) → made_whole who H when f ≡ Some p → packs f ≡ true
+made_by_packet who H when f p e = go (waiting who H) refl e
   where
     b : Bool
-    b = changes (holder who H) (holder who (At t (Hear f) ∷ H)) (hearing who H)
+    b = changes (holder who H) (holder who (At when (Hear f) ∷ H)) (hearing who H)
 
-    go : (o : Option (ℕ × MessageRecord)) → waiting who H ≡ o → newly o (waiting who (At t (Hear f) ∷ H)) ≡ Some p → packs f ≡ true
-    go None i z = whole_by_packet who (time_heard (At t (Hear f) ∷ H)) f (leaves_it b (hearing who H)) p (whole_of_left b (hearing who H) ∙ i) z
+    go : (o : Option (ℕ × MessageRecord)) → waiting who H ≡ o → newly o (waiting who (At when (Hear f) ∷ H)) ≡ Some p → packs f ≡ true
+    go None i z = whole_by_packet who (time_heard (At when (Hear f) ∷ H)) f (leaves_it b (hearing who H)) p (whole_of_left b (hearing who H) ∙ i) z
     go (Some x) i z = absurd (cc)
 
 pub packs_to_all : (f : FrameRecord) → packs f ≡ true → destination_of f.id ≡ Some 255
@@ -101,12 +101,12 @@ none_whole own false true f now r e = ap (λ (x : RecvResult). x.delivers) (quie
 to_another : (own : ℕ) (d : Option ℕ) → own < 254 → d ≡ Some 255 → d ≡ Some own → ⊥
 to_another own d l e g = absurd (let z : Some 255 ≡ Some own = sym e ∙ g in let y : 255 ≡ own = cc in omega (arith, y, l))
 
-pub broadcast_answers : (w : Who) (H : List Call) (t : ℕ) (f : FrameRecord) (x : ℕ × MessageRecord) (q : Question) → w.address < 254 → made_whole w H t f ≡ Some x
-    → x.1.pgn ≡ q.group → (q.to ≡ 255) ⊎ (x.1.source ≡ q.to) → says_to w q f (made w H t f) ≡ Some Answered
-broadcast_answers w H t f x q l e g a =
-    let to_all = packs_to_all f (made_by_packet w H t f x e) in
-    let none : whole w H t f ≡ None =
-    none_whole w.address (is_smaller w (claim_of f)) (holds w H t) f (time_heard (At t (Hear f) ∷ H))
-    (left (leaves (holder w H) (holder w (At t (Hear f) ∷ H)) (reception w H).session) (reception w H))
+pub broadcast_answers : (w : Who) (H : List Call) (when : ℕ) (f : FrameRecord) (x : ℕ × MessageRecord) (q : Question) → w.address < 254 → made_whole w H when f ≡ Some x
+    → x.1.pgn ≡ q.group → (q.to ≡ 255) ⊎ (x.1.source ≡ q.to) → says_to w q f (made w H when f) ≡ Some Answered
+broadcast_answers w H when f x q l e g a =
+    let to_all = packs_to_all f (made_by_packet w H when f x e) in
+    let none : whole w H when f ≡ None =
+    none_whole w.address (is_smaller w (claim_of f)) (holds w H when) f (time_heard (At when (Hear f) ∷ H))
+    (left (leaves (holder w H) (holder w (At when (Hear f) ∷ H)) (reception w H).session) (reception w H))
     (not_said w.address f (to_another w.address (destination_of f.id) l to_all)) in
-    answers_by w q f x.1 (made w H t f) (λ i. option_or (made_of (none i)) (made_of (option_map (λ (y : ℕ × MessageRecord). y.1) (e i)))) g a
+    answers_by w q f x.1 (made w H when f) (λ i. option_or (made_of (none i)) (made_of (option_map (λ (y : ℕ × MessageRecord). y.1) (e i)))) g a

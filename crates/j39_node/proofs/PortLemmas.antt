@@ -126,8 +126,8 @@ ported_opens w H now group to k bytes (opens a b f e) =
 
 pub ported : (w : Who) (H : List Call) → AreAnswered w H → Ported w (open_transfer w H)
 ported w [] e = tt
-ported w (At t (Hear f) ∷ H) e =
-    ported_hears w (is_lost (address_after w (At t (Hear f) ∷ H))) (λ a. is_replaced (holder w H a) (holder w (At t (Hear f) ∷ H) a)) f (clock_at H t) (open_transfer w H)
+ported w (At when (Hear f) ∷ H) e =
+    ported_hears w (is_lost (address_after w (At when (Hear f) ∷ H))) (λ a. is_replaced (holder w H a) (holder w (At when (Hear f) ∷ H) a)) f (clock_at H when) (open_transfer w H)
     (ported w H e.0)
 ported w (At now (TakeFrame (Some f)) ∷ H) e = ported_sends w (is_move w H f) (clock_at H now) (open_transfer w H) (ported w H e.0)
 ported w (At now (Transfer group to bytes (Ok k)) ∷ H) e = ported_opens w H now group to k bytes (transfer_case w H now group to bytes (Ok k) e.1)
@@ -172,14 +172,14 @@ peers_are None b p q old new e f g = tt
 peers_are (Some t) b p q old new e f g = g ∙ (ap (λ (o : Option ℕ). is_replaced o q) e ∙ ap (is_replaced (holder_in old t.sender.destination)) f)
 
 -- whether a frame that is heard replaces the holder of the destination's address
-pub replaced_is : (w : Who) (H : List Call) (t : ℕ) (f : FrameRecord) (old new : Claims) (b : Bool) (o : Option Running) → Ported w o
-    → Knows old (told_claims w H) → Knows new (told_claims w (At t (Hear f) ∷ H))
+pub replaced_is : (w : Who) (H : List Call) (when : ℕ) (f : FrameRecord) (old new : Claims) (b : Bool) (o : Option Running) → Ported w o
+    → Knows old (told_claims w H) → Knows new (told_claims w (At when (Hear f) ∷ H))
     → IfSome o (λ x. b ≡ is_replaced (holder_in old x.sender.destination) (holder_in new x.sender.destination))
-    → IfSome o (λ x. b ≡ is_replaced (holder w H x.sender.destination) (holder w (At t (Hear f) ∷ H) x.sender.destination))
-replaced_is w H t f old new b None h k l e = e
-replaced_is w H t f old new b (Some t) h k l e =
+    → IfSome o (λ x. b ≡ is_replaced (holder w H x.sender.destination) (holder w (At when (Hear f) ∷ H) x.sender.destination))
+replaced_is w H when f old new b None h k l e = e
+replaced_is w H when f old new b (Some t) h k l e =
     e ∙ (ap (λ (o : Option ℕ). is_replaced o (holder_in new t.sender.destination)) (holder_known w H old t.sender.destination h.directed k)
-    ∙ ap (is_replaced (holder w H t.sender.destination)) (holder_known w (At t (Hear f) ∷ H) new t.sender.destination h.directed l))
+    ∙ ap (is_replaced (holder w H t.sender.destination)) (holder_known w (At when (Hear f) ∷ H) new t.sender.destination h.directed l))
 
 -- ---- what a controller has of it
 

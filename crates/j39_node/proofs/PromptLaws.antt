@@ -29,14 +29,14 @@ held_claimed NotClaimed e = absurd (cc)
 held_claimed (Claimed n) e = e
 held_claimed Lost e = absurd (cc)
 
-pub keeps_heard : (w : Who) (H : List Call) (t : ℕ) (f : FrameRecord) → is_held (address_after w H) ≡ true
-    → (is_lost (address_after w (At t (Hear f) ∷ H)) ≡ true) ⊎ (is_held (address_after w (At t (Hear f) ∷ H)) ≡ true)
-keeps_heard w H t f e = go (is_smaller w (claim_of f))
+pub keeps_heard : (w : Who) (H : List Call) (when : ℕ) (f : FrameRecord) → is_held (address_after w H) ≡ true
+    → (is_lost (address_after w (At when (Hear f) ∷ H)) ≡ true) ⊎ (is_held (address_after w (At when (Hear f) ∷ H)) ≡ true)
+keeps_heard w H when f e = go (is_smaller w (claim_of f))
   where
-    go : (b : Bool) → (is_lost (if b then Lost else older (step H t) (address_after w H)) ≡ true)
-        ⊎ (is_held (if b then Lost else older (step H t) (address_after w H)) ≡ true)
+    go : (b : Bool) → (is_lost (if b then Lost else older (step H when) (address_after w H)) ≡ true)
+        ⊎ (is_held (if b then Lost else older (step H when) (address_after w H)) ≡ true)
     go true = inl refl
-    go false = inr (held_older (step H t) (address_after w H) e)
+    go false = inr (held_older (step H when) (address_after w H) e)
 
 pub keeps_taken : (w : Who) (H : List Call) (now : ℕ) (f : FrameRecord) → is_held (address_after w H) ≡ true
     → is_held (address_after w (At now (TakeFrame (Some f)) ∷ H)) ≡ true
@@ -47,12 +47,12 @@ keeps_taken w H now f e = go (is_claim f)
     go false = held_older (step H now) (address_after w H) e
 
 -- what is lost stays lost
-pub lost_heard : (w : Who) (H : List Call) (t : ℕ) (f : FrameRecord) → is_lost (address_after w H) ≡ true → is_lost (address_after w (At t (Hear f) ∷ H)) ≡ true
-lost_heard w H t f e = go (is_smaller w (claim_of f))
+pub lost_heard : (w : Who) (H : List Call) (when : ℕ) (f : FrameRecord) → is_lost (address_after w H) ≡ true → is_lost (address_after w (At when (Hear f) ∷ H)) ≡ true
+lost_heard w H when f e = go (is_smaller w (claim_of f))
   where
-    go : (b : Bool) → is_lost (if b then Lost else older (step H t) (address_after w H)) ≡ true
+    go : (b : Bool) → is_lost (if b then Lost else older (step H when) (address_after w H)) ≡ true
     go true = refl
-    go false = lost_older (step H t) (address_after w H) ∙ e
+    go false = lost_older (step H when) (address_after w H) ∙ e
 
 pub lost_taken : (w : Who) (H : List Call) (now : ℕ) (f : FrameRecord) → is_lost (address_after w H) ≡ true
     → is_lost (address_after w (At now (TakeFrame (Some f)) ∷ H)) ≡ true
@@ -118,15 +118,15 @@ module _ (w : Who) (B : List Call) (g k : ℕ) (m : MessageRecord) where
     pub course : Course later
 
   -- a frame is heard
-  hears_one : (f : FrameRecord) (later : List Call) → Stands later → Stands (At t (Hear f) ∷ later)
+  hears_one : (f : FrameRecord) (later : List Call) → Stands later → Stands (At when (Hear f) ∷ later)
   hears_one f later h = record { broadcast = h.broadcast; course = go h.course }
     where
-      go : Course later → Course (At t (Hear f) ∷ later)
+      go : Course later → Course (At when (Hear f) ∷ later)
       go (over l) = over l
-      go (gone e) = gone (lost_heard w (later ++ B) t f e)
-      go (runs e t) = elim (keeps_heard w (later ++ B) t f e) [
+      go (gone e) = gone (lost_heard w (later ++ B) when f e)
+      go (runs e t) = elim (keeps_heard w (later ++ B) when f e) [
         | inl z ↦ gone z
-        | inr z ↦ runs z (passes g _ _ _ _ (step (later ++ B) t) t)
+        | inr z ↦ runs z (passes g _ _ _ _ (step (later ++ B) when) t)
       ]
 
   -- a frame is taken
@@ -205,7 +205,7 @@ module _ (w : Who) (B : List Call) (g k : ℕ) (m : MessageRecord) where
 
   one_more : (call : Call) (later : List Call) → IsAnswered w (later ++ B) call → tells_broadcast call ≡ false
       → waited_in later B + step (later ++ B) (moment (call ∷ later ++ B)) ≤ g → Stands later → Stands (call ∷ later)
-  one_more (At t (Hear f)) later a n p h = hears_one f later h
+  one_more (At when (Hear f)) later a n p h = hears_one f later h
   one_more (At now (TakeFrame (Some f))) later a n p h = takes_one now f later p h
   one_more (At now (TakeFrame None)) later a n p h = takes_no_frame now later a h
   one_more (At now (Broadcast group bytes (Ok j))) later a n p h =

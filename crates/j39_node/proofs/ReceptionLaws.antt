@@ -73,27 +73,27 @@ in_order_heard own lost held b f now r done got t e =
     ∙ ap listed (sym (waits_after own lost held f now q)))))
 
 -- what waits after a frame, where nothing waited, is what it makes whole
-pub made_is : (w : Who) (H : List Call) (t : ℕ) (f : FrameRecord) → made_by (has_place (reception w H).waits) (reception w (At t (Hear f) ∷ H)).waits ≡ made_of (whole w H t f)
-made_is w H t f = go (reception w H).waits refl
+pub made_is : (w : Who) (H : List Call) (when : ℕ) (f : FrameRecord) → made_by (has_place (reception w H).waits) (reception w (At when (Hear f) ∷ H)).waits ≡ made_of (whole w H when f)
+made_is w H when f = go (reception w H).waits refl
   where
     left_one : Reception
-    left_one = left (leaves (holder w H) (holder w (At t (Hear f) ∷ H)) (reception w H).session) (reception w H)
+    left_one = left (leaves (holder w H) (holder w (At when (Hear f) ∷ H)) (reception w H).session) (reception w H)
 
     kept_one : (o : Option MessageRecord) → made_by true (keeps f.stamp o None) ≡ made_of o
     kept_one None = refl
     kept_one (Some m) = refl
 
-    go : (x : Option (ℕ × MessageRecord)) → (reception w H).waits ≡ x → made_by (has_place (reception w H).waits) (reception w (At t (Hear f) ∷ H)).waits ≡ made_of (whole w H t f)
+    go : (x : Option (ℕ × MessageRecord)) → (reception w H).waits ≡ x → made_by (has_place (reception w H).waits) (reception w (At when (Hear f) ∷ H)).waits ≡ made_of (whole w H when f)
     go None e =
-        ap (λ (y : Option (ℕ × MessageRecord)). made_by (has_place y) (reception w (At t (Hear f) ∷ H)).waits) e
-        ∙ (ap (made_by true) (waits_after w.address (is_smaller w (claim_of f)) (holds w H t) f (time_heard (At t (Hear f) ∷ H)) left_one)
-        ∙ (ap (λ (y : Option (ℕ × MessageRecord)). made_by true (keeps f.stamp (whole w H t f) y))
-        (left_waits (leaves (holder w H) (holder w (At t (Hear f) ∷ H)) (reception w H).session) (reception w H) ∙ e) ∙ kept_one (whole w H t f)))
+        ap (λ (y : Option (ℕ × MessageRecord)). made_by (has_place y) (reception w (At when (Hear f) ∷ H)).waits) e
+        ∙ (ap (made_by true) (waits_after w.address (is_smaller w (claim_of f)) (holds w H when) f (time_heard (At when (Hear f) ∷ H)) left_one)
+        ∙ (ap (λ (y : Option (ℕ × MessageRecord)). made_by true (keeps f.stamp (whole w H when f) y))
+        (left_waits (leaves (holder w H) (holder w (At when (Hear f) ∷ H)) (reception w H).session) (reception w H) ∙ e) ∙ kept_one (whole w H when f)))
     go (Some y) e =
-        ap (λ (z : Option (ℕ × MessageRecord)). made_by (has_place z) (reception w (At t (Hear f) ∷ H)).waits) e
-        ∙ sym (ap made_of (no_whole w.address (is_smaller w (claim_of f)) (holds w H t) f (time_heard (At t (Hear f) ∷ H)) left_one y
-        (tidy_left w.address (leaves (holder w H) (holder w (At t (Hear f) ∷ H)) (reception w H).session) (reception w H) (tidy w H)).apart
-        (left_waits (leaves (holder w H) (holder w (At t (Hear f) ∷ H)) (reception w H).session) (reception w H) ∙ e)))
+        ap (λ (z : Option (ℕ × MessageRecord)). made_by (has_place z) (reception w (At when (Hear f) ∷ H)).waits) e
+        ∙ sym (ap made_of (no_whole w.address (is_smaller w (claim_of f)) (holds w H when) f (time_heard (At when (Hear f) ∷ H)) left_one y
+        (tidy_left w.address (leaves (holder w H) (holder w (At when (Hear f) ∷ H)) (reception w H).session) (reception w H) (tidy w H)).apart
+        (left_waits (leaves (holder w H) (holder w (At when (Hear f) ∷ H)) (reception w H).session) (reception w H) ∙ e)))
 
 taken_waits : (a b l : Bool) (r : Reception) → (taken_by a b l r).waits ≡ r.waits
 taken_waits true b l r = left_waits l r
@@ -106,8 +106,8 @@ keeps_same stamp (Some m) x e = absurd (cc)
 
 pub in_order : (w : Who) (H : List Call) → delivered w H ≡ got_transfers w H ++ listed (reception w H).waits
 in_order w [] = refl
-in_order w (At t (Hear f) ∷ H) =
-    in_order_heard w.address (is_smaller w (claim_of f)) (holds w H t) (leaves (holder w H) (holder w (At t (Hear f) ∷ H)) (reception w H).session) f (time_heard (At t (Hear f) ∷ H))
+in_order w (At when (Hear f) ∷ H) =
+    in_order_heard w.address (is_smaller w (claim_of f)) (holds w H when) (leaves (holder w H) (holder w (At when (Hear f) ∷ H)) (reception w H).session) f (time_heard (At when (Hear f) ∷ H))
     (reception w H) (delivered w H) (got_transfers w H) (tidy w H) (in_order w H)
 in_order w (At now Tick ∷ H) =
     in_order w H ∙ ap (λ x. got_transfers w H ++ listed x)
@@ -132,6 +132,7 @@ released w H c answer is = go (reception w H).waits answer refl is.answered.1
 -- a session, and the calls since its RTS
 record Begun (w : Who) (H : List Call) (r : ReceptionRecord) : Type 0 where
   pub later : List Call
+  pub at : ℕ
   pub first : FrameRecord
   pub earlier : List Call
   pub is : H ≡ later ++ At at (Hear first) ∷ earlier
@@ -148,6 +149,7 @@ goes_on : (w : Who) (H : List Call) (call : Call) (r s : ReceptionRecord) (h : B
     → IsReceived w.address (frames_heard (call ∷ h.later ++ At h.at (Hear h.first) ∷ [])) s → Begun w (call ∷ H) s
 goes_on w H call r s h same keeps stands = record {
   later = call ∷ h.later;
+  at = h.at;
   first = h.first;
   earlier = h.earlier;
   is = ap (λ G. call ∷ G) h.is;
@@ -247,10 +249,10 @@ none_delivered r f now found e = ap (λ o. (takes_signal (Directed (frames.sourc
 -- ---- the session after each call
 
 -- a frame is heard at the address that is held
-begun_by : (w : Who) (H : List Call) (t : ℕ) (f : FrameRecord) (now : ℕ) (found : Bool) (o : Option ReceptionRecord) → AreBegun w H o
-    → ((r : ReceptionRecord) → o ≡ Some r → holder w (At t (Hear f) ∷ H) r.message.source ≡ holder w H r.message.source)
-    → AreBegun w (At t (Hear f) ∷ H) (recv_step (record { own = w.address; session = o }) (Heard f) now found).after.session
-begun_by w H t f now found None h keeps =
+begun_by : (w : Who) (H : List Call) (when : ℕ) (f : FrameRecord) (now : ℕ) (found : Bool) (o : Option ReceptionRecord) → AreBegun w H o
+    → ((r : ReceptionRecord) → o ≡ Some r → holder w (At when (Hear f) ∷ H) r.message.source ≡ holder w H r.message.source)
+    → AreBegun w (At when (Hear f) ∷ H) (recv_step (record { own = w.address; session = o }) (Heard f) now found).after.session
+begun_by w H when f now found None h keeps =
     go (recv_step (record { own = w.address; session = None }) (Heard f) now found).after.session
     (own_stands [] None (stands_heard [] (record { own = w.address; session = None }) f now found tt))
   where
@@ -260,34 +262,34 @@ begun_by w H t f now found None h keeps =
     own_stands E o k = subst (λ (a : ℕ). AreReceived a (E ++ f ∷ []) (recv_step (record { own = w.address; session = o }) (Heard f) now found).after.session)
         (own_after (record { own = w.address; session = o }) f now found) k
 
-    go : (s : Option ReceptionRecord) → AreReceived w.address (f ∷ []) s → AreBegun w (At t (Hear f) ∷ H) s
+    go : (s : Option ReceptionRecord) → AreReceived w.address (f ∷ []) s → AreBegun w (At when (Hear f) ∷ H) s
     go None k = tt
-    go (Some r) k = record { later = []; first = f; earlier = H; is = refl; stands = k; one = tt }
-begun_by w H t f now found (Some x) h keeps =
+    go (Some r) k = record { later = []; at = when; first = f; earlier = H; is = refl; stands = k; one = tt }
+begun_by w H when f now found (Some x) h keeps =
     go (recv_step (record { own = w.address; session = Some x }) (Heard f) now found).after.session (heard_kept w.address x f now found).fits
     (subst (λ (a : ℕ). AreReceived a (frames_heard (h.later ++ At h.at (Hear h.first) ∷ []) ++ f ∷ []) (recv_step (record { own = w.address; session = Some x }) (Heard f) now found).after.session)
     (own_after (record { own = w.address; session = Some x }) f now found)
     (stands_heard (frames_heard (h.later ++ At h.at (Hear h.first) ∷ [])) (record { own = w.address; session = Some x }) f now found h.stands))
   where
     go : (s : Option ReceptionRecord) → Fits (λ a. a ≡ x.message.source) s → AreReceived w.address (frames_heard (h.later ++ At h.at (Hear h.first) ∷ []) ++ f ∷ []) s
-        → AreBegun w (At t (Hear f) ∷ H) s
+        → AreBegun w (At when (Hear f) ∷ H) s
     go None e k = tt
-    go (Some r) e k = goes_on w H (At t (Hear f)) x r h e (keeps x refl) k
+    go (Some r) e k = goes_on w H (At when (Hear f)) x r h e (keeps x refl) k
 
 -- a frame that isn't heard there
-heard_aside : (w : Who) (H : List Call) (t : ℕ) (f : FrameRecord) (o : Option ReceptionRecord) → AreBegun w H o
-    → ((r : ReceptionRecord) → o ≡ Some r → holder w (At t (Hear f) ∷ H) r.message.source ≡ holder w H r.message.source) → AreBegun w (At t (Hear f) ∷ H) o
-heard_aside w H t f None h keeps = tt
-heard_aside w H t f (Some r) h keeps =
-    goes_on w H (At t (Hear f)) r r h refl (keeps r refl) (record { packets_are = h.stands.packets_are; joined_are = passed _ f _ _ h.stands.joined_are })
+heard_aside : (w : Who) (H : List Call) (when : ℕ) (f : FrameRecord) (o : Option ReceptionRecord) → AreBegun w H o
+    → ((r : ReceptionRecord) → o ≡ Some r → holder w (At when (Hear f) ∷ H) r.message.source ≡ holder w H r.message.source) → AreBegun w (At when (Hear f) ∷ H) o
+heard_aside w H when f None h keeps = tt
+heard_aside w H when f (Some r) h keeps =
+    goes_on w H (At when (Hear f)) r r h refl (keeps r refl) (record { packets_are = h.stands.packets_are; joined_are = passed _ f _ _ h.stands.joined_are })
 
-begun_heard : (w : Who) (H : List Call) (lost held b : Bool) (t : ℕ) (f : FrameRecord) (now : ℕ) (r : Reception) → leaves (holder w H) (holder w (At t (Hear f) ∷ H)) r.session ≡ b
-    → AreBegun w H r.session → AreBegun w (At t (Hear f) ∷ H) (heard_by w.address lost held f now (left b r)).session
-begun_heard w H true held b t f now r e h = tt
-begun_heard w H false true true t f now r e h = begun_by w H t f now (has_place r.waits) None tt (λ x i. absurd (cc))
-begun_heard w H false true false t f now r e h = begun_by w H t f now (has_place r.waits) r.session h (λ x i. not_left (holder w H) (holder w (At t (Hear f) ∷ H)) r.session false x e refl i)
-begun_heard w H false false true t f now r e h = tt
-begun_heard w H false false false t f now r e h = heard_aside w H t f r.session h (λ x i. not_left (holder w H) (holder w (At t (Hear f) ∷ H)) r.session false x e refl i)
+begun_heard : (w : Who) (H : List Call) (lost held b : Bool) (when : ℕ) (f : FrameRecord) (now : ℕ) (r : Reception) → leaves (holder w H) (holder w (At when (Hear f) ∷ H)) r.session ≡ b
+    → AreBegun w H r.session → AreBegun w (At when (Hear f) ∷ H) (heard_by w.address lost held f now (left b r)).session
+begun_heard w H true held b when f now r e h = tt
+begun_heard w H false true true when f now r e h = begun_by w H when f now (has_place r.waits) None tt (λ x i. absurd (cc))
+begun_heard w H false true false when f now r e h = begun_by w H when f now (has_place r.waits) r.session h (λ x i. not_left (holder w H) (holder w (At when (Hear f) ∷ H)) r.session false x e refl i)
+begun_heard w H false false true when f now r e h = tt
+begun_heard w H false false false when f now r e h = heard_aside w H when f r.session h (λ x i. not_left (holder w H) (holder w (At when (Hear f) ∷ H)) r.session false x e refl i)
 
 begun_ticked : (w : Who) (H : List Call) (now time : ℕ) (o : Option ReceptionRecord) → AreBegun w H o
     → AreBegun w (At now Tick ∷ H) (recv_step (record { own = w.address; session = o }) Ticks time true).after.session
@@ -323,7 +325,7 @@ same_released false r = refl
 
 begun : (w : Who) (H : List Call) → AreBegun w H (reception w H).session
 begun w [] = tt
-begun w (At t (Hear f) ∷ H) = begun_heard w H (is_smaller w (claim_of f)) (holds w H t) _ t f (time_heard (At t (Hear f) ∷ H)) (reception w H) refl (begun w H)
+begun w (At when (Hear f) ∷ H) = begun_heard w H (is_smaller w (claim_of f)) (holds w H when) _ when f (time_heard (At when (Hear f) ∷ H)) (reception w H) refl (begun w H)
 begun w (At now Tick ∷ H) = begun_ticked w H now (time_heard (At now Tick ∷ H)) (reception w H).session (begun w H)
 begun w (At now (TakeFrame (Some f)) ∷ H) = begun_taken w H now f (is_claim f) (is_acknowledgment f) _ (reception w H) refl refl (begun w H)
 begun w (ReleaseTransfer answer ∷ H) =
@@ -332,40 +334,41 @@ begun w (call ∷ H) = stays w H call (reception w H).session (λ G. refl) (λ r
 
 -- ---- what is made whole
 
-whole_came : (w : Who) (H : List Call) (t : ℕ) (f : FrameRecord) (now : ℕ) (found : Bool) (o : Option ReceptionRecord) (m : MessageRecord) → AreBegun w H o
-    → ((r : ReceptionRecord) → o ≡ Some r → holder w (At t (Hear f) ∷ H) r.message.source ≡ holder w H r.message.source)
-    → (recv_step (record { own = w.address; session = o }) (Heard f) now found).delivers ≡ Some m → CameFromOne w (At t (Hear f) ∷ H) m
-whole_came w H t f now found None m h keeps e =
+whole_came : (w : Who) (H : List Call) (when : ℕ) (f : FrameRecord) (now : ℕ) (found : Bool) (o : Option ReceptionRecord) (m : MessageRecord) → AreBegun w H o
+    → ((r : ReceptionRecord) → o ≡ Some r → holder w (At when (Hear f) ∷ H) r.message.source ≡ holder w H r.message.source)
+    → (recv_step (record { own = w.address; session = o }) (Heard f) now found).delivers ≡ Some m → CameFromOne w (At when (Hear f) ∷ H) m
+whole_came w H when f now found None m h keeps e =
     absurd (let z = none_delivered (record { own = w.address; session = None }) f now found refl in let y : None ≡ Some m = sym z ∙ e in cc)
-whole_came w H t f now found (Some x) m h keeps e =
+whole_came w H when f now found (Some x) m h keeps e =
     let r : ReceiverRecord = record { own = w.address; session = Some x } in
     let from : m.source ≡ x.message.source = gives (recv_step r (Heard f) now found).delivers e (heard_kept w.address x f now found).gives in
     record {
-      later = At t (Hear f) ∷ h.later;
+      later = At when (Hear f) ∷ h.later;
+      at = h.at;
       first = h.first;
       earlier = h.earlier;
-      is = ap (λ G. At t (Hear f) ∷ G) h.is;
+      is = ap (λ G. At when (Hear f) ∷ G) h.is;
       handed = subst (WereHanded w.address (frames_heard (h.later ++ At h.at (Hear h.first) ∷ []) ++ f ∷ [])) e
           (were_handed (frames_heard (h.later ++ At h.at (Hear h.first) ∷ [])) r f now found (answer_in (recv_step r (Heard f) now found)) refl h.stands);
-      one = subst (λ (a : ℕ). KeepsHolder w a (At t (Hear f) ∷ h.later) (At h.at (Hear h.first) ∷ h.earlier)) (sym from)
-          (subst (λ (G : List Call). holder w (At t (Hear f) ∷ G) x.message.source ≡ holder w G x.message.source) h.is (keeps x refl), h.one);
+      one = subst (λ (a : ℕ). KeepsHolder w a (At when (Hear f) ∷ h.later) (At h.at (Hear h.first) ∷ h.earlier)) (sym from)
+          (subst (λ (G : List Call). holder w (At when (Hear f) ∷ G) x.message.source ≡ holder w G x.message.source) h.is (keeps x refl), h.one);
     }
   where
     gives : (d : Option MessageRecord) → d ≡ Some m → Gives (λ a. a ≡ x.message.source) d → m.source ≡ x.message.source
     gives None i k = absurd (cc)
     gives (Some y) i k = let z : y ≡ m = cc in ap (λ (u : MessageRecord). u.source) (sym z) ∙ k
 
-came_by : (w : Who) (H : List Call) (lost held b : Bool) (t : ℕ) (f : FrameRecord) (now : ℕ) (r : Reception) (m : MessageRecord)
-    → leaves (holder w H) (holder w (At t (Hear f) ∷ H)) r.session ≡ b → AreBegun w H r.session → whole_by w.address lost held f now (left b r) ≡ Some m
-    → CameFromOne w (At t (Hear f) ∷ H) m
-came_by w H true held b t f now r m e h g = absurd (cc)
-came_by w H false false b t f now r m e h g = absurd (cc)
-came_by w H false true true t f now r m e h g = whole_came w H t f now (has_place r.waits) None m tt (λ x i. absurd (cc)) g
-came_by w H false true false t f now r m e h g =
-    whole_came w H t f now (has_place r.waits) r.session m h (λ x i. not_left (holder w H) (holder w (At t (Hear f) ∷ H)) r.session false x e refl i) g
+came_by : (w : Who) (H : List Call) (lost held b : Bool) (when : ℕ) (f : FrameRecord) (now : ℕ) (r : Reception) (m : MessageRecord)
+    → leaves (holder w H) (holder w (At when (Hear f) ∷ H)) r.session ≡ b → AreBegun w H r.session → whole_by w.address lost held f now (left b r) ≡ Some m
+    → CameFromOne w (At when (Hear f) ∷ H) m
+came_by w H true held b when f now r m e h g = absurd (cc)
+came_by w H false false b when f now r m e h g = absurd (cc)
+came_by w H false true true when f now r m e h g = whole_came w H when f now (has_place r.waits) None m tt (λ x i. absurd (cc)) g
+came_by w H false true false when f now r m e h g =
+    whole_came w H when f now (has_place r.waits) r.session m h (λ x i. not_left (holder w H) (holder w (At when (Hear f) ∷ H)) r.session false x e refl i) g
 
-pub came : (w : Who) (H : List Call) (t : ℕ) (f : FrameRecord) (m : MessageRecord) → whole w H t f ≡ Some m → CameFromOne w (At t (Hear f) ∷ H) m
-came w H t f m e = came_by w H (is_smaller w (claim_of f)) (holds w H t) _ t f (time_heard (At t (Hear f) ∷ H)) (reception w H) m refl (begun w H) e
+pub came : (w : Who) (H : List Call) (when : ℕ) (f : FrameRecord) (m : MessageRecord) → whole w H when f ≡ Some m → CameFromOne w (At when (Hear f) ∷ H) m
+came w H when f m e = came_by w H (is_smaller w (claim_of f)) (holds w H when) _ when f (time_heard (At when (Hear f) ∷ H)) (reception w H) m refl (begun w H) e
 
 -- ---- what is said
 
@@ -466,11 +469,11 @@ claim_lost false s a e = sym (lost_older s a) ∙ e
 
 silent : (w : Who) (H : List Call) → is_lost (address_after w H) ≡ true → Silent (reception w H)
 silent w [] e = record { session = refl; replies = refl }
-silent w (At t (Hear f) ∷ H) e =
-    silent_heard w.address (is_smaller w (claim_of f)) (holds w H t) f (time_heard (At t (Hear f) ∷ H)) _
-    (λ i. not_held (step H t) (address_after w H) (lost_before (is_smaller w (claim_of f)) (step H t) (address_after w H) e i))
-    (λ i. silent_left (leaves (holder w H) (holder w (At t (Hear f) ∷ H)) (reception w H).session) (reception w H)
-    (silent w H (lost_before (is_smaller w (claim_of f)) (step H t) (address_after w H) e i)))
+silent w (At when (Hear f) ∷ H) e =
+    silent_heard w.address (is_smaller w (claim_of f)) (holds w H when) f (time_heard (At when (Hear f) ∷ H)) _
+    (λ i. not_held (step H when) (address_after w H) (lost_before (is_smaller w (claim_of f)) (step H when) (address_after w H) e i))
+    (λ i. silent_left (leaves (holder w H) (holder w (At when (Hear f) ∷ H)) (reception w H).session) (reception w H)
+    (silent w H (lost_before (is_smaller w (claim_of f)) (step H when) (address_after w H) e i)))
 silent w (At now Tick ∷ H) e = silent_tick w.address now (time_heard (At now Tick ∷ H)) (reception w H) (silent w H (sym (lost_older (step H now) (address_after w H)) ∙ e))
 silent w (At now (TakeFrame (Some f)) ∷ H) e =
     silent_taken (is_claim f) (is_acknowledgment f) _ (reception w H) (silent w H (claim_lost (is_claim f) (step H now) (address_after w H) e))
@@ -492,8 +495,8 @@ never_left before after None h = refl
 never_left before after (Some r) h =
     ap (λ (x : Option ℕ). not (is_same (before r.message.source) x)) (h r.message.source) ∙ ap not (same_self (before r.message.source))
 
-pub not_left_by : (w : Who) (H : List Call) (t : ℕ) (f : FrameRecord) → claim_of f ≡ None → leaves (holder w H) (holder w (At t (Hear f) ∷ H)) (reception w H).session ≡ false
-not_left_by w H t f e = never_left (holder w H) (holder w (At t (Hear f) ∷ H)) (reception w H).session (λ a. ap (λ (c : Option Claim). held_then a c (holder w H a)) e)
+pub not_left_by : (w : Who) (H : List Call) (when : ℕ) (f : FrameRecord) → claim_of f ≡ None → leaves (holder w H) (holder w (At when (Hear f) ∷ H)) (reception w H).session ≡ false
+not_left_by w H when f e = never_left (holder w H) (holder w (At when (Hear f) ∷ H)) (reception w H).session (λ a. ap (λ (c : Option Claim). held_then a c (holder w H a)) e)
 
 not_driven : (w : Who) (f : FrameRecord) → claim_of f ≡ None → is_smaller w (claim_of f) ≡ false
 not_driven w f e = ap (is_smaller w) e
@@ -546,12 +549,12 @@ stays_with before after None h = refl
 stays_with before after (Some r) h =
     ap (λ (x : Option ℕ). not (is_same (before r.message.source) x)) (h r refl) ∙ ap not (same_self (before r.message.source))
 
-pub to_others : (w : Who) (H : List Call) (t : ℕ) (f : FrameRecord) → is_smaller w (claim_of f) ≡ false
-    → ((r : ReceptionRecord) → (reception w H).session ≡ Some r → holder w (At t (Hear f) ∷ H) r.message.source ≡ holder w H r.message.source)
-    → destination_of f.id ≢ Some w.address → reception w (At t (Hear f) ∷ H) ≡ reception w H
-to_others w H t f e same n =
-    aside w.address (is_smaller w (claim_of f)) (holds w H t) (leaves (holder w H) (holder w (At t (Hear f) ∷ H)) (reception w H).session) f (time_heard (At t (Hear f) ∷ H))
-    (reception w H) e (stays_with (holder w H) (holder w (At t (Hear f) ∷ H)) (reception w H).session same) (not_said w.address f n)
+pub to_others : (w : Who) (H : List Call) (when : ℕ) (f : FrameRecord) → is_smaller w (claim_of f) ≡ false
+    → ((r : ReceptionRecord) → (reception w H).session ≡ Some r → holder w (At when (Hear f) ∷ H) r.message.source ≡ holder w H r.message.source)
+    → destination_of f.id ≢ Some w.address → reception w (At when (Hear f) ∷ H) ≡ reception w H
+to_others w H when f e same n =
+    aside w.address (is_smaller w (claim_of f)) (holds w H when) (leaves (holder w H) (holder w (At when (Hear f) ∷ H)) (reception w H).session) f (time_heard (At when (Hear f) ∷ H))
+    (reception w H) e (stays_with (holder w H) (holder w (At when (Hear f) ∷ H)) (reception w H).session same) (not_said w.address f n)
 
 -- another's frame leaves the session
 other_signal : (source own : ℕ) (s : Option Signal) (now : ℕ) (found : Bool) (x : ReceptionRecord) → (source ≡ x.message.source → ⊥)
@@ -591,12 +594,12 @@ not_lost : (b : Bool) (a : Address) → is_lost (if b then Lost else a) ≡ fals
 not_lost true a e = absurd (cc)
 not_lost false a e = refl
 
-pub from_others : (w : Who) (H : List Call) (t : ℕ) (f : FrameRecord) (r : ReceptionRecord) → is_lost (address_after w (At t (Hear f) ∷ H)) ≡ false
-    → holder w (At t (Hear f) ∷ H) r.message.source ≡ holder w H r.message.source → (reception w H).session ≡ Some r → source_of f.id ≢ r.message.source
-    → (reception w (At t (Hear f) ∷ H)).session ≡ Some r
-from_others w H t f r own same i n =
-    others_by w.address (is_smaller w (claim_of f)) (holds w H t) (leaves (holder w H) (holder w (At t (Hear f) ∷ H)) (reception w H).session) f (time_heard (At t (Hear f) ∷ H))
-    (reception w H) r (not_lost (is_smaller w (claim_of f)) _ own) (holder_stays (holder w H) (holder w (At t (Hear f) ∷ H)) (reception w H).session r i same) i n
+pub from_others : (w : Who) (H : List Call) (when : ℕ) (f : FrameRecord) (r : ReceptionRecord) → is_lost (address_after w (At when (Hear f) ∷ H)) ≡ false
+    → holder w (At when (Hear f) ∷ H) r.message.source ≡ holder w H r.message.source → (reception w H).session ≡ Some r → source_of f.id ≢ r.message.source
+    → (reception w (At when (Hear f) ∷ H)).session ≡ Some r
+from_others w H when f r own same i n =
+    others_by w.address (is_smaller w (claim_of f)) (holds w H when) (leaves (holder w H) (holder w (At when (Hear f) ∷ H)) (reception w H).session) f (time_heard (At when (Hear f) ∷ H))
+    (reception w H) r (not_lost (is_smaller w (claim_of f)) _ own) (holder_stays (holder w H) (holder w (At when (Hear f) ∷ H)) (reception w H).session r i same) i n
 
 -- ---- while a message waits
 
@@ -656,18 +659,18 @@ no_session : (r : Reception) (x : ℕ × MessageRecord) → IsApart r → r.wait
 no_session r x (inl a) e = absurd (let z : None ≡ Some x = sym a ∙ e in cc)
 no_session r x (inr a) e = a
 
-pub full_refuses : (w : Who) (H : List Call) (t : ℕ) (f : FrameRecord) (x : ℕ × MessageRecord) (size count most pgn : ℕ) → (reception w H).waits ≡ Some x
-    → IsTrue (holds w H t) → said_to w.address f ≡ Some (RequestToSend size count most pgn)
+pub full_refuses : (w : Who) (H : List Call) (when : ℕ) (f : FrameRecord) (x : ℕ × MessageRecord) (size count most pgn : ℕ) → (reception w H).waits ≡ Some x
+    → IsTrue (holds w H when) → said_to w.address f ≡ Some (RequestToSend size count most pgn)
     → length (without (source_of f.id) (reception w H).replies) < 16
-    → reception w (At t (Hear f) ∷ H) ≡ record {
+    → reception w (At when (Hear f) ∷ H) ≡ record {
       session = None;
       waits = Some x;
       replies = without (source_of f.id) (reception w H).replies ++ reply_from w.address (source_of f.id) (255 ∷ 2 ∷ 255 ∷ 255 ∷ 255 ∷ little_bytes 3 pgn) ∷ [];
     }
-full_refuses w H t f x size count most pgn e held said l =
+full_refuses w H when f x size count most pgn e held said l =
     let none = said_no_claim w.address f (RequestToSend size count most pgn) said in
-    refuses_by w.address (is_smaller w (claim_of f)) (holds w H t) (leaves (holder w H) (holder w (At t (Hear f) ∷ H)) (reception w H).session) f (time_heard (At t (Hear f) ∷ H))
-    (reception w H) x size count most pgn (not_driven w f none) held (not_left_by w H t f none) (no_session (reception w H) x (tidy w H).apart e) e said l
+    refuses_by w.address (is_smaller w (claim_of f)) (holds w H when) (leaves (holder w H) (holder w (At when (Hear f) ∷ H)) (reception w H).session) f (time_heard (At when (Hear f) ∷ H))
+    (reception w H) x size count most pgn (not_driven w f none) held (not_left_by w H when f none) (no_session (reception w H) x (tidy w H).apart e) e said l
 
 -- ---- a session begins
 
@@ -688,26 +691,26 @@ begin_step own f now size count most pgn e =
     subst (λ (s : Option Signal). Begins own (source_of f.id) (result_of own (source_of f.id) (takes_signal (Directed (source_of f.id) own) s now true None))) (sym e)
     (record { session = _; is = refl; source_is = refl; frame = _; sends_it = refl; clears = refl; own_is = refl })
 
-pub session_begins : (w : Who) (H : List Call) (t : ℕ) (f : FrameRecord) (size count most pgn : ℕ) → holds w H t ≡ true → (reception w H).waits ≡ None → (reception w H).session ≡ None
+pub session_begins : (w : Who) (H : List Call) (when : ℕ) (f : FrameRecord) (size count most pgn : ℕ) → holds w H when ≡ true → (reception w H).waits ≡ None → (reception w H).session ≡ None
     → said_to w.address f ≡ Some (RequestToSend size count most pgn)
-    → (r : ReceptionRecord) × (x : ToSend) × ((reception w (At t (Hear f) ∷ H)).session ≡ Some r) × (r.message.source ≡ source_of f.id) × (slice_get x.bytes 0 ≡ Some 17)
-    × ((reception w (At t (Hear f) ∷ H)).replies ≡ replied w.address (source_of f.id) (Some x) (reception w H).replies)
-session_begins w H t f size count most pgn held room free said =
-    by (is_smaller w (claim_of f)) (holds w H t) (leaves (holder w H) (holder w (At t (Hear f) ∷ H)) (reception w H).session) (not_driven w f none) held (not_left_by w H t f none)
+    → (r : ReceptionRecord) × (x : ToSend) × ((reception w (At when (Hear f) ∷ H)).session ≡ Some r) × (r.message.source ≡ source_of f.id) × (slice_get x.bytes 0 ≡ Some 17)
+    × ((reception w (At when (Hear f) ∷ H)).replies ≡ replied w.address (source_of f.id) (Some x) (reception w H).replies)
+session_begins w H when f size count most pgn held room free said =
+    by (is_smaller w (claim_of f)) (holds w H when) (leaves (holder w H) (holder w (At when (Hear f) ∷ H)) (reception w H).session) (not_driven w f none) held (not_left_by w H when f none)
   where
     none : claim_of f ≡ None
     none = said_no_claim w.address f (RequestToSend size count most pgn) said
 
-    step_is : step_at w.address f (time_heard (At t (Hear f) ∷ H)) (reception w H) ≡ recv_step (record { own = w.address; session = None }) (Heard f) (time_heard (At t (Hear f) ∷ H)) true
-    step_is = λ j. recv_step (record { own = w.address; session = free j }) (Heard f) (time_heard (At t (Hear f) ∷ H)) (ap has_place room j)
+    step_is : step_at w.address f (time_heard (At when (Hear f) ∷ H)) (reception w H) ≡ recv_step (record { own = w.address; session = None }) (Heard f) (time_heard (At when (Hear f) ∷ H)) true
+    step_is = λ j. recv_step (record { own = w.address; session = free j }) (Heard f) (time_heard (At when (Hear f) ∷ H)) (ap has_place room j)
 
-    x : Begins w.address (source_of f.id) (step_at w.address f (time_heard (At t (Hear f) ∷ H)) (reception w H))
-    x = subst (Begins w.address (source_of f.id)) (sym step_is) (begin_step w.address f (time_heard (At t (Hear f) ∷ H)) size count most pgn said)
+    x : Begins w.address (source_of f.id) (step_at w.address f (time_heard (At when (Hear f) ∷ H)) (reception w H))
+    x = subst (Begins w.address (source_of f.id)) (sym step_is) (begin_step w.address f (time_heard (At when (Hear f) ∷ H)) size count most pgn said)
 
     by : (a b c : Bool) → a ≡ false → b ≡ true → c ≡ false
-        → (r : ReceptionRecord) × (y : ToSend) × ((heard_by w.address a b f (time_heard (At t (Hear f) ∷ H)) (left c (reception w H))).session ≡ Some r)
+        → (r : ReceptionRecord) × (y : ToSend) × ((heard_by w.address a b f (time_heard (At when (Hear f) ∷ H)) (left c (reception w H))).session ≡ Some r)
         × (r.message.source ≡ source_of f.id) × (slice_get y.bytes 0 ≡ Some 17)
-        × ((heard_by w.address a b f (time_heard (At t (Hear f) ∷ H)) (left c (reception w H))).replies ≡ replied w.address (source_of f.id) (Some y) (reception w H).replies)
+        × ((heard_by w.address a b f (time_heard (At when (Hear f) ∷ H)) (left c (reception w H))).replies ≡ replied w.address (source_of f.id) (Some y) (reception w H).replies)
     by true b c e g i = absurd (cc)
     by false false c e g i = absurd (cc)
     by false true true e g i = absurd (cc)
@@ -717,7 +720,7 @@ session_begins w H t f size count most pgn held room free said =
       x.is,
       x.source_is,
       x.clears,
-      ap (λ (o : Option ToSend). replied (step_at w.address f (time_heard (At t (Hear f) ∷ H)) (reception w H)).after.own (source_of f.id) o (reception w H).replies) x.sends_it
+      ap (λ (o : Option ToSend). replied (step_at w.address f (time_heard (At when (Hear f) ∷ H)) (reception w H)).after.own (source_of f.id) o (reception w H).replies) x.sends_it
           ∙ ap (λ (a : ℕ). replied a (source_of f.id) (Some x.frame) (reception w H).replies) x.own_is,
     )
 
@@ -842,32 +845,32 @@ tells_by own true held f now r = refl
 tells_by own false false f now r = refl
 tells_by own false true f now r = step_tells (receiver_at own r) f now (has_place r.waits)
 
-pub acknowledged_is : (w : Who) (H : List Call) (t : ℕ) (f : FrameRecord) (m : MessageRecord) → whole w H t f ≡ Some m → (x : ToSend) × (says w H t f ≡ Some x) × (slice_get x.bytes 0 ≡ Some 19)
-acknowledged_is w H t f m e = go (says w H t f) refl (tells_by w.address (is_smaller w (claim_of f)) (holds w H t) f (time_heard (At t (Hear f) ∷ H)) _)
+pub acknowledged_is : (w : Who) (H : List Call) (when : ℕ) (f : FrameRecord) (m : MessageRecord) → whole w H when f ≡ Some m → (x : ToSend) × (says w H when f ≡ Some x) × (slice_get x.bytes 0 ≡ Some 19)
+acknowledged_is w H when f m e = go (says w H when f) refl (tells_by w.address (is_smaller w (claim_of f)) (holds w H when) f (time_heard (At when (Hear f) ∷ H)) _)
   where
-    go : (o : Option ToSend) → says w H t f ≡ o → Tells o (whole w H t f) → (x : ToSend) × (says w H t f ≡ Some x) × (slice_get x.bytes 0 ≡ Some 19)
+    go : (o : Option ToSend) → says w H when f ≡ o → Tells o (whole w H when f) → (x : ToSend) × (says w H when f ≡ Some x) × (slice_get x.bytes 0 ≡ Some 19)
     go None i t = absurd (let z : None ≡ Some m = sym t ∙ e in cc)
     go (Some x) i t = (x, i, t.1 (m, e))
 
-pub only_whole : (w : Who) (H : List Call) (t : ℕ) (f : FrameRecord) (x : ToSend) → says w H t f ≡ Some x → slice_get x.bytes 0 ≡ Some 19 → (m : MessageRecord) × (whole w H t f ≡ Some m)
-only_whole w H t f x e b = go (says w H t f) refl (tells_by w.address (is_smaller w (claim_of f)) (holds w H t) f (time_heard (At t (Hear f) ∷ H)) _)
+pub only_whole : (w : Who) (H : List Call) (when : ℕ) (f : FrameRecord) (x : ToSend) → says w H when f ≡ Some x → slice_get x.bytes 0 ≡ Some 19 → (m : MessageRecord) × (whole w H when f ≡ Some m)
+only_whole w H when f x e b = go (says w H when f) refl (tells_by w.address (is_smaller w (claim_of f)) (holds w H when) f (time_heard (At when (Hear f) ∷ H)) _)
   where
-    go : (o : Option ToSend) → says w H t f ≡ o → Tells o (whole w H t f) → (m : MessageRecord) × (whole w H t f ≡ Some m)
+    go : (o : Option ToSend) → says w H when f ≡ o → Tells o (whole w H when f) → (m : MessageRecord) × (whole w H when f ≡ Some m)
     go None i t = absurd (let z : None ≡ Some x = sym i ∙ e in cc)
     go (Some y) i t = let z : Some y ≡ Some x = sym i ∙ e in let k : y ≡ x = cc in t.0 (ap (λ (u : ToSend). slice_get u.bytes 0) k ∙ b)
 
 -- what is said waits
-pub says_it : (w : Who) (H : List Call) (t : ℕ) (f : FrameRecord) → holds w H t ≡ true → claim_of f ≡ None
-    → (reception w (At t (Hear f) ∷ H)).replies ≡ replied w.address (source_of f.id) (says w H t f) (reception w H).replies
-says_it w H t f held none =
-    by (is_smaller w (claim_of f)) (holds w H t) (leaves (holder w H) (holder w (At t (Hear f) ∷ H)) (reception w H).session) (not_driven w f none) held (not_left_by w H t f none)
+pub says_it : (w : Who) (H : List Call) (when : ℕ) (f : FrameRecord) → holds w H when ≡ true → claim_of f ≡ None
+    → (reception w (At when (Hear f) ∷ H)).replies ≡ replied w.address (source_of f.id) (says w H when f) (reception w H).replies
+says_it w H when f held none =
+    by (is_smaller w (claim_of f)) (holds w H when) (leaves (holder w H) (holder w (At when (Hear f) ∷ H)) (reception w H).session) (not_driven w f none) held (not_left_by w H when f none)
   where
     by : (a b c : Bool) → a ≡ false → b ≡ true → c ≡ false
-        → (heard_by w.address a b f (time_heard (At t (Hear f) ∷ H)) (left c (reception w H))).replies
-        ≡ replied w.address (source_of f.id) (says_by w.address a b f (time_heard (At t (Hear f) ∷ H)) (left c (reception w H))) (reception w H).replies
+        → (heard_by w.address a b f (time_heard (At when (Hear f) ∷ H)) (left c (reception w H))).replies
+        ≡ replied w.address (source_of f.id) (says_by w.address a b f (time_heard (At when (Hear f) ∷ H)) (left c (reception w H))) (reception w H).replies
     by true b c e g i = absurd (cc)
     by false false c e g i = absurd (cc)
     by false true true e g i = absurd (cc)
     by false true false e g i =
-        ap (λ (a : ℕ). replied a (source_of f.id) (step_at w.address f (time_heard (At t (Hear f) ∷ H)) (reception w H)).sends (reception w H).replies)
-        (own_after (receiver_at w.address (reception w H)) f (time_heard (At t (Hear f) ∷ H)) (has_place (reception w H).waits))
+        ap (λ (a : ℕ). replied a (source_of f.id) (step_at w.address f (time_heard (At when (Hear f) ∷ H)) (reception w H)).sends (reception w H).replies)
+        (own_after (receiver_at w.address (reception w H)) f (time_heard (At when (Hear f) ∷ H)) (has_place (reception w H).waits))

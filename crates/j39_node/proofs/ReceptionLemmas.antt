@@ -279,9 +279,9 @@ tidy_released own true r h = record { fits = h.fits; apart = inl refl; replies =
 
 pub tidy : (w : Who) (H : List Call) → Tidy w.address (reception w H)
 tidy w [] = record { fits = tt; apart = inl refl; replies = tt }
-tidy w (At t (Hear f) ∷ H) =
-    tidy_heard w.address (is_smaller w (claim_of f)) (holds w H t) f (time_heard (At t (Hear f) ∷ H)) _
-    (tidy_left w.address (leaves (holder w H) (holder w (At t (Hear f) ∷ H)) (reception w H).session) (reception w H) (tidy w H))
+tidy w (At when (Hear f) ∷ H) =
+    tidy_heard w.address (is_smaller w (claim_of f)) (holds w H when) f (time_heard (At when (Hear f) ∷ H)) _
+    (tidy_left w.address (leaves (holder w H) (holder w (At when (Hear f) ∷ H)) (reception w H).session) (reception w H) (tidy w H))
 tidy w (At now Tick ∷ H) = tidy_ticked w.address now (time_heard (At now Tick ∷ H)) (reception w H) (tidy w H)
 tidy w (At now (TakeFrame (Some f)) ∷ H) = tidy_taken w.address (is_claim f) (is_acknowledgment f) _ (reception w H) (tidy w H)
 tidy w (ReleaseTransfer answer ∷ H) = tidy_released w.address answer (reception w H) (tidy w H)
@@ -355,7 +355,7 @@ known_more F (f ∷ E) a o h =
 
 pub holders : (w : Who) (H : List Call) (a : ℕ) → HolderOf (told_claims w H) a (holder w H a)
 holders w [] a = known_more [] w.known a None (record { is = λ n h. absurd h; none = λ e. refl })
-holders w (At t (Hear f) ∷ H) a = one_holder_more (told_claims w H) f a (holder w H a) true (holders w H a)
+holders w (At when (Hear f) ∷ H) a = one_holder_more (told_claims w H) f a (holder w H a) true (holders w H a)
 holders w (At now (TakeFrame (Some f)) ∷ H) a = one_holder_more (told_claims w H) f a (holder w H a) (is_claim f) (holders w H a)
 holders w (call ∷ H) a = holders w H a
 

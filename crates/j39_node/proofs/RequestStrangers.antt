@@ -84,25 +84,25 @@ cast_source who now f o p none e = go (announces f) (has_room now (source_of f.i
     go false c d true i z = packed_source now f o p none z
     go false c d false i z = absurd (cc)
 
-broadcast_source : (who : Who) (H : List Call) (t : ℕ) (f : FrameRecord) (p : ℕ × MessageRecord) → made_whole who H t f ≡ Some p → p.1.source ≡ source_of f.id
-broadcast_source who H t f p e = go (waiting who H) refl e
+broadcast_source : (who : Who) (H : List Call) (when : ℕ) (f : FrameRecord) (p : ℕ × MessageRecord) → made_whole who H when f ≡ Some p → p.1.source ≡ source_of f.id
+broadcast_source who H when f p e = go (waiting who H) refl e
   where
     b : Bool
-    b = changes (holder who H) (holder who (At t (Hear f) ∷ H)) (hearing who H)
+    b = changes (holder who H) (holder who (At when (Hear f) ∷ H)) (hearing who H)
 
-    go : (o : Option (ℕ × MessageRecord)) → waiting who H ≡ o → newly o (waiting who (At t (Hear f) ∷ H)) ≡ Some p → p.1.source ≡ source_of f.id
-    go None i z = cast_source who (time_heard (At t (Hear f) ∷ H)) f (leaves_it b (hearing who H)) p (whole_of_left b (hearing who H) ∙ i) z
+    go : (o : Option (ℕ × MessageRecord)) → waiting who H ≡ o → newly o (waiting who (At when (Hear f) ∷ H)) ≡ Some p → p.1.source ≡ source_of f.id
+    go None i z = cast_source who (time_heard (At when (Hear f) ∷ H)) f (leaves_it b (hearing who H)) p (whole_of_left b (hearing who H) ∙ i) z
     go (Some x) i z = absurd (cc)
 
-made_source : (w : Who) (H : List Call) (t : ℕ) (f : FrameRecord) (x : ℕ × ℕ) → made w H t f ≡ Some x → x.0 ≡ source_of f.id
-made_source w H t f x e = go (whole w H t f) (made_whole w H t f) refl refl e
+made_source : (w : Who) (H : List Call) (when : ℕ) (f : FrameRecord) (x : ℕ × ℕ) → made w H when f ≡ Some x → x.0 ≡ source_of f.id
+made_source w H when f x e = go (whole w H when f) (made_whole w H when f) refl refl e
   where
-    go : (a : Option MessageRecord) (b : Option (ℕ × MessageRecord)) → whole w H t f ≡ a → made_whole w H t f ≡ b
+    go : (a : Option MessageRecord) (b : Option (ℕ × MessageRecord)) → whole w H when f ≡ a → made_whole w H when f ≡ b
         → option_or (made_of a) (made_of (option_map (λ (y : ℕ × MessageRecord). y.1) b)) ≡ Some x → x.0 ≡ source_of f.id
     go (Some m) b i k z =
         let y : (m.source, m.pgn) ≡ x = cc in
-        ap (λ (u : ℕ × ℕ). u.0) (sym y) ∙ whole_source w.address (is_smaller w (claim_of f)) (holds w H t) f (time_heard (At t (Hear f) ∷ H)) (left (leaves (holder w H) (holder w (At t (Hear f) ∷ H)) (reception w H).session) (reception w H)) m i
-    go None (Some p) i k z = let y : (p.1.source, p.1.pgn) ≡ x = cc in ap (λ (u : ℕ × ℕ). u.0) (sym y) ∙ broadcast_source w H t f p k
+        ap (λ (u : ℕ × ℕ). u.0) (sym y) ∙ whole_source w.address (is_smaller w (claim_of f)) (holds w H when) f (time_heard (At when (Hear f) ∷ H)) (left (leaves (holder w H) (holder w (At when (Hear f) ∷ H)) (reception w H).session) (reception w H)) m i
+    go None (Some p) i k z = let y : (p.1.source, p.1.pgn) ≡ x = cc in ap (λ (u : ℕ × ℕ). u.0) (sym y) ∙ broadcast_source w H when f p k
     go None None i k z = absurd (cc)
 
 -- ---- another says nothing
@@ -130,21 +130,21 @@ silent_by w q f o a b c = (λ i. by (a i) (b i) (c i)) ∙ none (reaches w f)
     none true = refl
     none false = refl
 
-pub of_another : (w : Who) (H : List Call) (t : ℕ) (f : FrameRecord) (q : Question) → q.to ≢ 255 → source_of f.id ≢ q.to → says_to w q f (made w H t f) ≡ None
-of_another w H t f q n m =
-    silent_by w q f (made w H t f) (whole_one (made w H t f) refl)
+pub of_another : (w : Who) (H : List Call) (when : ℕ) (f : FrameRecord) (q : Question) → q.to ≢ 255 → source_of f.id ≢ q.to → says_to w q f (made w H when f) ≡ None
+of_another w H when f q n m =
+    silent_by w q f (made w H when f) (whole_one (made w H when f) refl)
     ((λ i. nat_eq (pgn_of f.id) q.group && (unequal q.to 255 n i || unequal (source_of f.id) q.to m i)) ∙ and_false (nat_eq (pgn_of f.id) q.group))
     (ap (λ (b : Bool). is_acknowledgment f && (b && is_of w.address q.group f.bytes)) (unequal (source_of f.id) q.to m) ∙ and_false (is_acknowledgment f))
   where
-    whole_one : (o : Option (ℕ × ℕ)) → made w H t f ≡ o → is_whole q o ≡ false
+    whole_one : (o : Option (ℕ × ℕ)) → made w H when f ≡ o → is_whole q o ≡ false
     whole_one None e = refl
     whole_one (Some x) e =
-        (λ i. nat_eq x.1 q.group && (unequal q.to 255 n i || (ap (λ (a : ℕ). nat_eq a q.to) (made_source w H t f x e) ∙ unequal (source_of f.id) q.to m) i))
+        (λ i. nat_eq x.1 q.group && (unequal q.to 255 n i || (ap (λ (a : ℕ). nat_eq a q.to) (made_source w H when f x e) ∙ unequal (source_of f.id) q.to m) i))
         ∙ and_false (nat_eq x.1 q.group)
 
-pub to_another : (w : Who) (H : List Call) (t : ℕ) (f : FrameRecord) (q : Question) (a : ℕ) → destination_of f.id ≡ Some a → a ≢ 255 → a ≢ w.address
-    → says_to w q f (made w H t f) ≡ None
-to_another w H t f q a d n m =
+pub to_another : (w : Who) (H : List Call) (when : ℕ) (f : FrameRecord) (q : Question) (a : ℕ) → destination_of f.id ≡ Some a → a ≢ 255 → a ≢ w.address
+    → says_to w q f (made w H when f) ≡ None
+to_another w H when f q a d n m =
     ap (says_to w q f) none_made ∙ ap (λ (b : Bool). if b then (if is_answer q f then Some Answered else if is_reply w q f then said_by (slice_get f.bytes 0) else None) else None) unreached
   where
     elsewhere : (b : ℕ) → a ≢ b → destination_of f.id ≢ Some b
@@ -154,40 +154,40 @@ to_another w H t f q a d n m =
     unreached = (λ i. nat_lt (source_of f.id) 254 && (is_none (d i) || (is_some (d i) 255 || is_some (d i) w.address)))
         ∙ ((λ i. nat_lt (source_of f.id) 254 && (unequal a 255 n i || unequal a w.address m i)) ∙ and_false (nat_lt (source_of f.id) 254))
 
-    none_to : whole w H t f ≡ None
+    none_to : whole w H when f ≡ None
     none_to =
-        none_whole w.address (is_smaller w (claim_of f)) (holds w H t) f (time_heard (At t (Hear f) ∷ H))
-        (left (leaves (holder w H) (holder w (At t (Hear f) ∷ H)) (reception w H).session) (reception w H))
+        none_whole w.address (is_smaller w (claim_of f)) (holds w H when) f (time_heard (At when (Hear f) ∷ H))
+        (left (leaves (holder w H) (holder w (At when (Hear f) ∷ H)) (reception w H).session) (reception w H))
         (not_said w.address f (elsewhere w.address m))
 
-    none_cast : made_whole w H t f ≡ None
-    none_cast = go (made_whole w H t f) refl
+    none_cast : made_whole w H when f ≡ None
+    none_cast = go (made_whole w H when f) refl
       where
-        go : (o : Option (ℕ × MessageRecord)) → made_whole w H t f ≡ o → o ≡ None
+        go : (o : Option (ℕ × MessageRecord)) → made_whole w H when f ≡ o → o ≡ None
         go None e = refl
-        go (Some p) e = absurd (elsewhere 255 n (packs_to_all f (made_by_packet w H t f p e)))
+        go (Some p) e = absurd (elsewhere 255 n (packs_to_all f (made_by_packet w H when f p e)))
 
-    none_made : made w H t f ≡ None
+    none_made : made w H when f ≡ None
     none_made = λ i. option_or (made_of (none_to i)) (made_of (option_map (λ (y : ℕ × MessageRecord). y.1) (none_cast i)))
 
 -- ---- what says nothing ends nothing
 
-pub ends : (w : Who) (H : List Call) (t : ℕ) (f : FrameRecord) (q : Question) → open_ask H ≡ Some q → says_to w q f (made w H t f) ≡ None
-    → is_smaller w (claim_of f) ≡ false → next_ask_ended w (At t (Hear f) ∷ H) ≡ next_ask_ended w (At t Tick ∷ H)
-ends w H t f q o none mine =
-    (λ i. ask_end (o i) (length (sent H)) (first (ended w H) (end_at w (o i) (length (sent H)) left_over (lost i) f (made w H t f))) left_over (lost i))
+pub ends : (w : Who) (H : List Call) (when : ℕ) (f : FrameRecord) (q : Question) → open_ask H ≡ Some q → says_to w q f (made w H when f) ≡ None
+    → is_smaller w (claim_of f) ≡ false → next_ask_ended w (At when (Hear f) ∷ H) ≡ next_ask_ended w (At when Tick ∷ H)
+ends w H when f q o none mine =
+    (λ i. ask_end (o i) (length (sent H)) (first (ended w H) (end_at w (o i) (length (sent H)) left_over (lost i) f (made w H when f))) left_over (lost i))
     ∙ (ap (λ (x : Option AskEnding). option_map (λ e. (q.token, e)) (first (first (ended w H) (first silence (if taken then x else None))) silence)) none
     ∙ (ap (λ (x : Option AskEnding). option_map (λ e. (q.token, e)) x) (once (ended w H) silence taken)
     ∙ λ i. ask_end (sym o i) (length (sent H)) (ended w H) left_over lost_now))
   where
     left_over : ℕ
-    left_over = wait H - step H t
+    left_over = wait H - step H when
 
     lost_now : Bool
-    lost_now = is_lost (older (step H t) (address_after w H))
+    lost_now = is_lost (older (step H when) (address_after w H))
 
-    lost : is_lost (address_after w (At t (Hear f) ∷ H)) ≡ lost_now
-    lost = ap (λ (b : Bool). is_lost (if b then Lost else older (step H t) (address_after w H))) mine
+    lost : is_lost (address_after w (At when (Hear f) ∷ H)) ≡ lost_now
+    lost = ap (λ (b : Bool). is_lost (if b then Lost else older (step H when) (address_after w H))) mine
 
     taken : Bool
     taken = nat_lt q.token (length (sent H))

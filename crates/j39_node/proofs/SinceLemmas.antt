@@ -96,9 +96,9 @@ taken w H now d f right case h true (Claimed n) k i e =
 
 pub claimed_since : (w : Who) (H : List Call) (d : ℕ) → AreAnswered w H → address_after w H ≡ Claimed d → ClaimedSince w H d
 claimed_since w [] d right e = absurd (cc)
-claimed_since w (At t (Hear f) ∷ H) d right e =
-    let n = not_driven (is_smaller w (claim_of f)) (step H t) d (address_after w H) e in
-    passes w H (At t (Hear f)) d (λ k i. claimed_since w H k right.0 i) n.0 n.1
+claimed_since w (At when (Hear f) ∷ H) d right e =
+    let n = not_driven (is_smaller w (claim_of f)) (step H when) d (address_after w H) e in
+    passes w H (At when (Hear f)) d (λ k i. claimed_since w H k right.0 i) n.0 n.1
 claimed_since w (At now (TakeFrame (Some f)) ∷ H) d right e =
     taken w H now d f right.0 (frame_case w H now f right.1) (λ k i. claimed_since w H k right.0 i) (is_claim f) (address_after w H) refl refl e
 claimed_since w (call ∷ H) d right e =
@@ -143,10 +143,10 @@ first_claim true Lost e = gone refl
 stands_since : (w : Who) (later E : List Call) (at : ℕ) (f : FrameRecord) → is_claim f ≡ true → NoneDrivesAway w later
     → Stands (address_after w (later ++ At at (TakeFrame (Some f)) ∷ E)) (passed_in later (At at (TakeFrame (Some f)) ∷ E))
 stands_since w [] E at f k d = first_claim (is_claim f) (older (step E at) (address_after w E)) k
-stands_since w (At u (Hear g) ∷ later) E at f k d =
+stands_since w (At next (Hear g) ∷ later) E at f k d =
     let H = later ++ At at (TakeFrame (Some f)) ∷ E in
-    ages (address_after w H) _ (step H u) _ (stands_since w later E at f k d.1)
-    (ap (λ (b : Bool). if b then Lost else older (step H u) (address_after w H)) d.0)
+    ages (address_after w H) _ (step H next) _ (stands_since w later E at f k d.1)
+    (ap (λ (b : Bool). if b then Lost else older (step H next) (address_after w H)) d.0)
 stands_since w (At now (TakeFrame (Some g)) ∷ later) E at f k d =
     let H = later ++ At at (TakeFrame (Some f)) ∷ E in
     claims_again (is_claim g) (older (step H now) (address_after w H)) _ (ages (address_after w H) _ (step H now) _ (stands_since w later E at f k d.1) refl)

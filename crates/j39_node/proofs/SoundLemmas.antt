@@ -589,20 +589,20 @@ request_front w room (Some r) xs ys h = go (is_served w r.group && room)
     go true = front_append ys xs r h
     go false = h
 
-heard_desk : (w : Who) (H : List Call) (t : ℕ) (f : FrameRecord) → Desked w H → Desked w (At t (Hear f) ∷ H)
-heard_desk w H t f h =
+heard_desk : (w : Who) (H : List Call) (when : ℕ) (f : FrameRecord) → Desked w H → Desked w (At when (Hear f) ∷ H)
+heard_desk w H when f h =
     let room = nat_lt (length (requests w H) - length (handed H)) 16 in
     let place = nat_lt (length (due w H) - length (acknowledged H)) 16 in
-    let o = asked w (holds w H t) f in (
+    let o = asked w (holds w H when) f in (
       refusal_due w room place o (due w H) h.0,
       refusal_front w room place o (due w H) (acknowledged H) h.1,
       request_front w room o (requests w H) (handed H) h.2,
     )
 
 sound_more : (w : Who) (H : List Call) (call : Call) → AreAnswered w H → IsAnswered w H call → Sound w H → Sound w (call ∷ H)
-sound_more w H (At t (Hear f)) right e h = rests w H _ refl refl refl (lost_if w (is_smaller w (claim_of f)) (step H t) (address_after w H))
+sound_more w H (At when (Hear f)) right e h = rests w H _ refl refl refl (lost_if w (is_smaller w (claim_of f)) (step H when) (address_after w H))
     (kept_grows _ (kept w H) (f.stamp, message_of f) (got H) h.reads)
-    (heard_desk w H t f h.desk) h
+    (heard_desk w H when f h.desk) h
 sound_more w H (At now (TakeFrame (Some f))) right e h = sound_frame w H now f right (frame_case w H now f e) h
 sound_more w H (At now (Send d (Ok k))) right e h = go (send_case w H now d (Ok k) e)
   where

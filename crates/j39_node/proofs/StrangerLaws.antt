@@ -73,34 +73,34 @@ open_same w lost replaced f now t own other kept = ap Some (go lost (replaced t.
 own_source : (w : Who) (H : List Call) (t : Running) → AreAnswered w H → open_transfer w H ≡ Some t → t.sender.message.source ≡ w.address
 own_source w H t right e = (subst (Ported w) e (ported w H right)).source
 
-transfer_left : (w : Who) (H : List Call) (t : ℕ) (f : FrameRecord) (t : Running) → AreAnswered w H → open_transfer w H ≡ Some t
+transfer_left : (w : Who) (H : List Call) (when : ℕ) (f : FrameRecord) (t : Running) → AreAnswered w H → open_transfer w H ≡ Some t
     → (source_of f.id ≢ t.sender.destination) ⊎ (destination_of f.id ≢ Some w.address)
-    → is_replaced (holder w H t.sender.destination) (holder w (At t (Hear f) ∷ H) t.sender.destination) ≡ false → open_transfer w (At t (Hear f) ∷ H) ≡ Some t
-transfer_left w H t f t right e other kept =
-    ap (hears_if (is_lost (address_after w (At t (Hear f) ∷ H))) (λ a. is_replaced (holder w H a) (holder w (At t (Hear f) ∷ H) a)) f (clock_at H t)) e
-    ∙ open_same w (is_lost (address_after w (At t (Hear f) ∷ H))) (λ a. is_replaced (holder w H a) (holder w (At t (Hear f) ∷ H) a)) f (clock_at H t) t
+    → is_replaced (holder w H t.sender.destination) (holder w (At when (Hear f) ∷ H) t.sender.destination) ≡ false → open_transfer w (At when (Hear f) ∷ H) ≡ Some t
+transfer_left w H when f t right e other kept =
+    ap (hears_if (is_lost (address_after w (At when (Hear f) ∷ H))) (λ a. is_replaced (holder w H a) (holder w (At when (Hear f) ∷ H) a)) f (clock_at H when)) e
+    ∙ open_same w (is_lost (address_after w (At when (Hear f) ∷ H))) (λ a. is_replaced (holder w H a) (holder w (At when (Hear f) ∷ H) a)) f (clock_at H when) t
     (own_source w H t right e) other kept
 
-pub transfer_stays : (w : Who) (H : List Call) (c : Controller) (t : ℕ) (f : FrameRecord) (t : Running) → Is w H c → open_transfer w H ≡ Some t
+pub transfer_stays : (w : Who) (H : List Call) (c : Controller) (when : ℕ) (f : FrameRecord) (t : Running) → Is w H c → open_transfer w H ≡ Some t
     → (source_of f.id ≢ t.sender.destination) ⊎ (destination_of f.id ≢ Some w.address)
-    → is_replaced (holder w H t.sender.destination) (holder w (At t (Hear f) ∷ H) t.sender.destination) ≡ false → open_transfer w (At t (Hear f) ∷ H) ≡ Some t
-transfer_stays w H c t f t is e other kept = transfer_left w H t f t is.answered e other kept
+    → is_replaced (holder w H t.sender.destination) (holder w (At when (Hear f) ∷ H) t.sender.destination) ≡ false → open_transfer w (At when (Hear f) ∷ H) ≡ Some t
+transfer_stays w H c when f t is e other kept = transfer_left w H when f t is.answered e other kept
 
-pub next_stays : (w : Who) (H : List Call) (c : Controller) (t : ℕ) (f : FrameRecord) (t : Running) (now : ℕ) → Is w H c → open_transfer w H ≡ Some t
+pub next_stays : (w : Who) (H : List Call) (c : Controller) (when : ℕ) (f : FrameRecord) (t : Running) (now : ℕ) → Is w H c → open_transfer w H ≡ Some t
     → (source_of f.id ≢ t.sender.destination) ⊎ (destination_of f.id ≢ Some w.address)
-    → is_replaced (holder w H t.sender.destination) (holder w (At t (Hear f) ∷ H) t.sender.destination) ≡ false
-    → next_long w (At t (Hear f) ∷ H) now ≡ next_long w (At t Tick ∷ H) now
-next_stays w H c t f t now is e other kept =
-    ap (λ (o : Option Running). long_by (next_packet w (At t (Hear f) ∷ H) now) (transfer_by o (clock_at (At t (Hear f) ∷ H) now)))
-    (transfer_stays w H c t f t is e other kept ∙ sym e)
+    → is_replaced (holder w H t.sender.destination) (holder w (At when (Hear f) ∷ H) t.sender.destination) ≡ false
+    → next_long w (At when (Hear f) ∷ H) now ≡ next_long w (At when Tick ∷ H) now
+next_stays w H c when f t now is e other kept =
+    ap (λ (o : Option Running). long_by (next_packet w (At when (Hear f) ∷ H) now) (transfer_by o (clock_at (At when (Hear f) ∷ H) now)))
+    (transfer_stays w H c when f t is e other kept ∙ sym e)
 
-pub end_stays : (w : Who) (H : List Call) (c : Controller) (t : ℕ) (f : FrameRecord) (t : Running) → Is w H c → open_transfer w H ≡ Some t
+pub end_stays : (w : Who) (H : List Call) (c : Controller) (when : ℕ) (f : FrameRecord) (t : Running) → Is w H c → open_transfer w H ≡ Some t
     → (source_of f.id ≢ t.sender.destination) ⊎ (destination_of f.id ≢ Some w.address)
-    → is_replaced (holder w H t.sender.destination) (holder w (At t (Hear f) ∷ H) t.sender.destination) ≡ false → is_smaller w (claim_of f) ≡ false
-    → next_transfer_ended w (At t (Hear f) ∷ H) ≡ next_transfer_ended w (At t Tick ∷ H)
-end_stays w H c t f t is e other kept mine =
-    ap (λ (o : Option Running). transfer_end o (is_lost (address_after w (At t (Hear f) ∷ H)))) (transfer_stays w H c t f t is e other kept ∙ sym e)
-    ∙ ap (λ (b : Bool). transfer_end (open_transfer w H) (is_lost (if b then Lost else older (step H t) (address_after w H)))) mine
+    → is_replaced (holder w H t.sender.destination) (holder w (At when (Hear f) ∷ H) t.sender.destination) ≡ false → is_smaller w (claim_of f) ≡ false
+    → next_transfer_ended w (At when (Hear f) ∷ H) ≡ next_transfer_ended w (At when Tick ∷ H)
+end_stays w H c when f t is e other kept mine =
+    ap (λ (o : Option Running). transfer_end o (is_lost (address_after w (At when (Hear f) ∷ H)))) (transfer_stays w H c when f t is e other kept ∙ sym e)
+    ∙ ap (λ (b : Bool). transfer_end (open_transfer w H) (is_lost (if b then Lost else older (step H when) (address_after w H)))) mine
 
 -- ---- the next frame
 
@@ -109,19 +109,19 @@ same_held None = refl
 same_held (Some n) = ap not (eq-eqb n n refl)
 
 -- what is no claim leaves who holds an address
-pub unclaimed : (w : Who) (H : List Call) (t : ℕ) (f : FrameRecord) (a : ℕ) → claim_of f ≡ None → holder w (At t (Hear f) ∷ H) a ≡ holder w H a
-unclaimed w H t f a e = ap (λ (o : Option Claim). held_then a o (holder w H a)) e
+pub unclaimed : (w : Who) (H : List Call) (when : ℕ) (f : FrameRecord) (a : ℕ) → claim_of f ≡ None → holder w (At when (Hear f) ∷ H) a ≡ holder w H a
+unclaimed w H when f a e = ap (λ (o : Option Claim). held_then a o (holder w H a)) e
 
-pub open_stays : (w : Who) (H : List Call) (t : ℕ) (f : FrameRecord) → AreAnswered w H → claim_of f ≡ None → destination_of f.id ≢ Some w.address
-    → open_transfer w (At t (Hear f) ∷ H) ≡ open_transfer w H
-open_stays w H t f right e n = go (open_transfer w H) refl
+pub open_stays : (w : Who) (H : List Call) (when : ℕ) (f : FrameRecord) → AreAnswered w H → claim_of f ≡ None → destination_of f.id ≢ Some w.address
+    → open_transfer w (At when (Hear f) ∷ H) ≡ open_transfer w H
+open_stays w H when f right e n = go (open_transfer w H) refl
   where
-    go : (o : Option Running) → open_transfer w H ≡ o → open_transfer w (At t (Hear f) ∷ H) ≡ o
+    go : (o : Option Running) → open_transfer w H ≡ o → open_transfer w (At when (Hear f) ∷ H) ≡ o
     go None i =
-        ap (hears_if (is_lost (address_after w (At t (Hear f) ∷ H))) (λ a. is_replaced (holder w H a) (holder w (At t (Hear f) ∷ H) a)) f (clock_at H t)) i
+        ap (hears_if (is_lost (address_after w (At when (Hear f) ∷ H))) (λ a. is_replaced (holder w H a) (holder w (At when (Hear f) ∷ H) a)) f (clock_at H when)) i
     go (Some t) i =
-        transfer_left w H t f t right i (inr n)
-        (ap (is_replaced (holder w H t.sender.destination)) (unclaimed w H t f t.sender.destination e) ∙ same_held (holder w H t.sender.destination))
+        transfer_left w H when f t right i (inr n)
+        (ap (is_replaced (holder w H t.sender.destination)) (unclaimed w H when f t.sender.destination e) ∙ same_held (holder w H t.sender.destination))
 
 no_more : (b : Bool) → (b || false) ≡ b
 no_more true = refl
@@ -131,40 +131,40 @@ none_asked : (w : Who) (held : Bool) (f : FrameRecord) (d : Option ℕ) → aske
 none_asked w held f None = refl
 none_asked w held f (Some to) = refl
 
-pub frame_stays : (w : Who) (H : List Call) (c : Controller) (t : ℕ) (f : FrameRecord) (now : ℕ) → Is w H c → claim_of f ≡ None → asked_group f ≡ None
-    → destination_of f.id ≢ Some w.address → next_frame w (At t (Hear f) ∷ H) now ≡ next_frame w (At t (TakeFrame None) ∷ H) now
-frame_stays w H c t f now is e g n =
+pub frame_stays : (w : Who) (H : List Call) (c : Controller) (when : ℕ) (f : FrameRecord) (now : ℕ) → Is w H c → claim_of f ≡ None → asked_group f ≡ None
+    → destination_of f.id ≢ Some w.address → next_frame w (At when (Hear f) ∷ H) now ≡ next_frame w (At when (TakeFrame None) ∷ H) now
+frame_stays w H c when f now is e g n =
     λ i. by (owes i) (lives i) (owed i) (said i) (moved i)
   where
     by : Bool → Address → List Message → List Message → Option Running → Option (ℕ × Message)
     by b a acks replies t =
         if b then Some (now, claim_from w (claim_address w a))
-        else if is_held (older (step (At t (Hear f) ∷ H) now) a)
+        else if is_held (older (step (At when (Hear f) ∷ H) now) a)
         then option_map (λ m. (now, m)) (first_of (control_of (slice_get acks (length (acknowledged H))) (slice_get replies 0))
-        (slice_get (accepted w H) (length (sent H))) (long_by (next_packet w (At t (Hear f) ∷ H) now) (transfer_by t (clock_at (At t (Hear f) ∷ H) now)))) else None
+        (slice_get (accepted w H) (length (sent H))) (long_by (next_packet w (At when (Hear f) ∷ H) now) (transfer_by t (clock_at (At when (Hear f) ∷ H) now)))) else None
 
     calls : calls_for_claim w (is_lost (address_after w H)) f ≡ false
     calls = λ i. ((is_smaller w (e i) || is_larger w (e i)) && not (is_lost (address_after w H)))
         || (is_some (g i) 60928 && (is_some (destination_of f.id) 255 || (is_some (destination_of f.id) w.address && not (is_lost (address_after w H)))))
 
-    owes : owes_claim w (At t (Hear f) ∷ H) ≡ owes_claim w H
+    owes : owes_claim w (At when (Hear f) ∷ H) ≡ owes_claim w H
     owes = ap (λ (b : Bool). owes_claim w H || b) calls ∙ no_more (owes_claim w H)
 
     mine : is_smaller w (claim_of f) ≡ false
     mine = ap (is_smaller w) e
 
-    lives : address_after w (At t (Hear f) ∷ H) ≡ older (step H t) (address_after w H)
-    lives = ap (λ (b : Bool). if b then Lost else older (step H t) (address_after w H)) mine
+    lives : address_after w (At when (Hear f) ∷ H) ≡ older (step H when) (address_after w H)
+    lives = ap (λ (b : Bool). if b then Lost else older (step H when) (address_after w H)) mine
 
-    owed : due w (At t (Hear f) ∷ H) ≡ due w H
+    owed : due w (At when (Hear f) ∷ H) ≡ due w H
     owed = ap (λ (o : Option Asked). with_refusal w (nat_lt (length (requests w H) - length (handed H)) 16) (nat_lt (length (due w H) - length (acknowledged H)) 16) o (due w H))
-        (ap (asked_with w (holds w H t) f (destination_of f.id)) g ∙ none_asked w (holds w H t) f (destination_of f.id))
+        (ap (asked_with w (holds w H when) f (destination_of f.id)) g ∙ none_asked w (holds w H when) f (destination_of f.id))
 
-    said : (reception w (At t (Hear f) ∷ H)).replies ≡ (reception w H).replies
-    said = ap (λ (r : Reception). r.replies) (to_others w H t f mine (λ r z. unclaimed w H t f r.message.source e) n)
+    said : (reception w (At when (Hear f) ∷ H)).replies ≡ (reception w H).replies
+    said = ap (λ (r : Reception). r.replies) (to_others w H when f mine (λ r z. unclaimed w H when f r.message.source e) n)
 
-    moved : open_transfer w (At t (Hear f) ∷ H) ≡ open_transfer w H
-    moved = open_stays w H t f is.answered e n
+    moved : open_transfer w (At when (Hear f) ∷ H) ≡ open_transfer w H
+    moved = open_stays w H when f is.answered e n
 
 -- ---- what is received
 
@@ -204,14 +204,14 @@ whole_by_none own false false b f now r n = refl
 whole_by_none own false true true f now r n = none_whole own f now (has_place r.waits) None (λ x z. absurd (cc))
 whole_by_none own false true false f now r n = none_whole own f now (has_place r.waits) r.session n
 
-pub waits_stay : (w : Who) (H : List Call) (t : ℕ) (f : FrameRecord)
+pub waits_stay : (w : Who) (H : List Call) (when : ℕ) (f : FrameRecord)
     → ((r : ReceptionRecord) → (reception w H).session ≡ Some r → source_of f.id ≢ r.message.source)
-    → (reception w (At t (Hear f) ∷ H)).waits ≡ (reception w H).waits
-waits_stay w H t f n =
-    let b = leaves (holder w H) (holder w (At t (Hear f) ∷ H)) (reception w H).session in
-    waits_after w.address (is_smaller w (claim_of f)) (holds w H t) f (time_heard (At t (Hear f) ∷ H)) (left b (reception w H))
+    → (reception w (At when (Hear f) ∷ H)).waits ≡ (reception w H).waits
+waits_stay w H when f n =
+    let b = leaves (holder w H) (holder w (At when (Hear f) ∷ H)) (reception w H).session in
+    waits_after w.address (is_smaller w (claim_of f)) (holds w H when) f (time_heard (At when (Hear f) ∷ H)) (left b (reception w H))
     ∙ (ap (λ (o : Option MessageRecord). keeps f.stamp o (left b (reception w H)).waits)
-    (whole_by_none w.address (is_smaller w (claim_of f)) (holds w H t) b f (time_heard (At t (Hear f) ∷ H)) (reception w H) n)
+    (whole_by_none w.address (is_smaller w (claim_of f)) (holds w H when) b f (time_heard (At when (Hear f) ∷ H)) (reception w H) n)
     ∙ left_waits b (reception w H))
 
 -- ---- what is said
@@ -237,16 +237,16 @@ to_others_stay own a (Some x) xs = go (nat_lt (length (without a xs)) 16)
     go true = without_one a (without a xs) (reply_from own a x.bytes) (eq-eqb a a refl) ∙ without_twice a xs
     go false = without_twice a xs
 
-pub replies_stay : (w : Who) (H : List Call) (t : ℕ) (f : FrameRecord) → claim_of f ≡ None
-    → without (source_of f.id) (reception w (At t (Hear f) ∷ H)).replies ≡ without (source_of f.id) (reception w H).replies
-replies_stay w H t f e = go (holds w H t) refl
+pub replies_stay : (w : Who) (H : List Call) (when : ℕ) (f : FrameRecord) → claim_of f ≡ None
+    → without (source_of f.id) (reception w (At when (Hear f) ∷ H)).replies ≡ without (source_of f.id) (reception w H).replies
+replies_stay w H when f e = go (holds w H when) refl
   where
-    go : (b : Bool) → holds w H t ≡ b → without (source_of f.id) (reception w (At t (Hear f) ∷ H)).replies ≡ without (source_of f.id) (reception w H).replies
-    go true h = ap (without (source_of f.id)) (says_it w H t f h e) ∙ to_others_stay w.address (source_of f.id) (says w H t f) (reception w H).replies
-    go false h = ap (without (source_of f.id)) (idle (is_smaller w (claim_of f)) (holds w H t) (leaves (holder w H) (holder w (At t (Hear f) ∷ H)) (reception w H).session) (ap (is_smaller w) e) h (not_left_by w H t f e))
+    go : (b : Bool) → holds w H when ≡ b → without (source_of f.id) (reception w (At when (Hear f) ∷ H)).replies ≡ without (source_of f.id) (reception w H).replies
+    go true h = ap (without (source_of f.id)) (says_it w H when f h e) ∙ to_others_stay w.address (source_of f.id) (says w H when f) (reception w H).replies
+    go false h = ap (without (source_of f.id)) (idle (is_smaller w (claim_of f)) (holds w H when) (leaves (holder w H) (holder w (At when (Hear f) ∷ H)) (reception w H).session) (ap (is_smaller w) e) h (not_left_by w H when f e))
       where
         idle : (a b c : Bool) → a ≡ false → b ≡ false → c ≡ false
-            → (heard_by w.address a b f (time_heard (At t (Hear f) ∷ H)) (left c (reception w H))).replies ≡ (reception w H).replies
+            → (heard_by w.address a b f (time_heard (At when (Hear f) ∷ H)) (left c (reception w H))).replies ≡ (reception w H).replies
         idle true b c x y z = absurd (cc)
         idle false true c x y z = absurd (cc)
         idle false false true x y z = absurd (cc)

@@ -282,8 +282,8 @@ budget_sends true now (Some t) n h = record {
 
 pub budgeted : (w : Who) (H : List Call) → BudgetedIf (open_transfer w H) (clears w H)
 budgeted w [] = tt
-budgeted w (At t (Hear f) ∷ H) =
-    budget_hears_if (is_lost (address_after w (At t (Hear f) ∷ H))) (λ a. is_replaced (holder w H a) (holder w (At t (Hear f) ∷ H) a)) f (clock_at H t) (open_transfer w H)
+budgeted w (At when (Hear f) ∷ H) =
+    budget_hears_if (is_lost (address_after w (At when (Hear f) ∷ H))) (λ a. is_replaced (holder w H a) (holder w (At when (Hear f) ∷ H) a)) f (clock_at H when) (open_transfer w H)
     (clears w H) (budgeted w H)
 budgeted w (At now (TakeFrame (Some f)) ∷ H) = budget_sends (is_move w H f) (clock_at H now) (open_transfer w H) (clears w H) (budgeted w H)
 budgeted w (At now (Transfer group to bytes (Ok k)) ∷ H) = record { count = omega arith; granted = omega arith; spent = omega arith; heard = omega arith }
@@ -339,19 +339,19 @@ patient w H c now f t is p e five = go (gives_up t) refl
 
 -- ---- its sender takes the steps of the standard's
 
-pub heeds : (w : Who) (H : List Call) (t : ℕ) (f : FrameRecord) (t : Running) → open_transfer w H ≡ Some t → is_lost (address_after w (At t (Hear f) ∷ H)) ≡ false
-    → is_replaced (holder w H t.sender.destination) (holder w (At t (Hear f) ∷ H) t.sender.destination) ≡ false → t.gone ≡ false → is_spent t ≡ false
-    → (x : Running) × (open_transfer w (At t (Hear f) ∷ H) ≡ Some x) × (x.sender ≡ (send_step t.sender (Heard f) (clock_at H t)).after)
-heeds w H t f t e own held here room =
+pub heeds : (w : Who) (H : List Call) (when : ℕ) (f : FrameRecord) (t : Running) → open_transfer w H ≡ Some t → is_lost (address_after w (At when (Hear f) ∷ H)) ≡ false
+    → is_replaced (holder w H t.sender.destination) (holder w (At when (Hear f) ∷ H) t.sender.destination) ≡ false → t.gone ≡ false → is_spent t ≡ false
+    → (x : Running) × (open_transfer w (At when (Hear f) ∷ H) ≡ Some x) × (x.sender ≡ (send_step t.sender (Heard f) (clock_at H when)).after)
+heeds w H when f t e own held here room =
     subst (λ (o : Option Running). (x : Running)
-    × (hears_if (is_lost (address_after w (At t (Hear f) ∷ H))) (λ a. is_replaced (holder w H a) (holder w (At t (Hear f) ∷ H) a)) f (clock_at H t) o ≡ Some x)
-    × (x.sender ≡ (send_step t.sender (Heard f) (clock_at H t)).after))
+    × (hears_if (is_lost (address_after w (At when (Hear f) ∷ H))) (λ a. is_replaced (holder w H a) (holder w (At when (Hear f) ∷ H) a)) f (clock_at H when) o ≡ Some x)
+    × (x.sender ≡ (send_step t.sender (Heard f) (clock_at H when)).after))
     (sym e) (heard _ _ _ own held (ap (λ (b : Bool). b || is_spent t) here ∙ room))
   where
     heard : (a b g : Bool) → a ≡ false → b ≡ false → g ≡ false
-        → (x : Running) × (Some (if a then t else if b then record t { gone = true } else if g then t else listens f (clock_at H t) t) ≡ Some x)
-        × (x.sender ≡ (send_step t.sender (Heard f) (clock_at H t)).after)
-    heard false false false p q r = (listens f (clock_at H t) t, refl, refl)
+        → (x : Running) × (Some (if a then t else if b then record t { gone = true } else if g then t else listens f (clock_at H when) t) ≡ Some x)
+        × (x.sender ≡ (send_step t.sender (Heard f) (clock_at H when)).after)
+    heard false false false p q r = (listens f (clock_at H when) t, refl, refl)
     heard true b g p q r = absurd (cc)
     heard false true g p q r = absurd (cc)
     heard false false true p q r = absurd (cc)
@@ -468,11 +468,11 @@ done_arises w = record {
   where
     heard : (H : List Call) (f : FrameRecord) (t : Running) (lost replaced : Bool) (now : ℕ) → AreAnswered w H → open_transfer w H ≡ Some t
         → (hears lost replaced f now t).sender.state ≡ sending.Done
-        → (t.sender.state ≡ sending.Done) ⊎ Acknowledges w t.sender.destination t.sender.message H (At t (Hear f))
+        → (t.sender.state ≡ sending.Done) ⊎ Acknowledges w t.sender.destination t.sender.message H (At when (Hear f))
     heard H f t true replaced now right e = λ q. inl q
     heard H f t false true now right e = λ q. inl q
     heard H f t false false now right e = cond_both (t.gone || is_spent t) t (listens f now t)
-        (λ (u : Running). u.sender.state ≡ sending.Done → (t.sender.state ≡ sending.Done) ⊎ Acknowledges w t.sender.destination t.sender.message H (At t (Hear f)))
+        (λ (u : Running). u.sender.state ≡ sending.Done → (t.sender.state ≡ sending.Done) ⊎ Acknowledges w t.sender.destination t.sender.message H (At when (Hear f)))
         (λ z q. inl q)
         (λ z q. elim (done_heard t.sender f now q) [
           | inl x ↦ inl x
@@ -483,11 +483,11 @@ done_arises w = record {
         ])
 
     hearing : (H : List Call) (f : FrameRecord) (t : Running) → AreAnswered w H → open_transfer w H ≡ Some t
-        → (hears (is_lost (address_after w (At t (Hear f) ∷ H))) (is_replaced (holder w H t.sender.destination) (holder w (At t (Hear f) ∷ H) t.sender.destination)) f (clock_at H t) t).sender.state
+        → (hears (is_lost (address_after w (At when (Hear f) ∷ H))) (is_replaced (holder w H t.sender.destination) (holder w (At when (Hear f) ∷ H) t.sender.destination)) f (clock_at H when) t).sender.state
         ≡ sending.Done
-        → (t.sender.state ≡ sending.Done) ⊎ Acknowledges w t.sender.destination t.sender.message H (At t (Hear f))
+        → (t.sender.state ≡ sending.Done) ⊎ Acknowledges w t.sender.destination t.sender.message H (At when (Hear f))
     hearing H f t right e q =
-        heard H f t (is_lost (address_after w (At t (Hear f) ∷ H))) (is_replaced (holder w H t.sender.destination) (holder w (At t (Hear f) ∷ H) t.sender.destination)) (clock_at H t) right e q
+        heard H f t (is_lost (address_after w (At when (Hear f) ∷ H))) (is_replaced (holder w H t.sender.destination) (holder w (At when (Hear f) ∷ H) t.sender.destination)) (clock_at H when) right e q
 
 failed_arises : (w : Who) (r : ℕ) → Arises w (λ t. t.sender.state ≡ sending.Failed r) (Aborts w r)
 unfolding new_sender
@@ -499,20 +499,20 @@ failed_arises w r = record {
   where
     heard : (H : List Call) (f : FrameRecord) (t : Running) (lost replaced : Bool) (now : ℕ) → AreAnswered w H → open_transfer w H ≡ Some t
         → (hears lost replaced f now t).sender.state ≡ sending.Failed r
-        → (t.sender.state ≡ sending.Failed r) ⊎ Aborts w r t.sender.destination t.sender.message H (At t (Hear f))
+        → (t.sender.state ≡ sending.Failed r) ⊎ Aborts w r t.sender.destination t.sender.message H (At when (Hear f))
     heard H f t true replaced now right e = λ q. inl q
     heard H f t false true now right e = λ q. inl q
     heard H f t false false now right e = cond_both (t.gone || is_spent t) t (listens f now t)
-        (λ (u : Running). u.sender.state ≡ sending.Failed r → (t.sender.state ≡ sending.Failed r) ⊎ Aborts w r t.sender.destination t.sender.message H (At t (Hear f)))
+        (λ (u : Running). u.sender.state ≡ sending.Failed r → (t.sender.state ≡ sending.Failed r) ⊎ Aborts w r t.sender.destination t.sender.message H (At when (Hear f)))
         (λ z q. inl q)
         (λ z q. elim (failed_heard t.sender f now r q) [ inl x ↦ inl x | inr x ↦ inr (said_own w H t f _ right e x) ])
 
     hearing : (H : List Call) (f : FrameRecord) (t : Running) → AreAnswered w H → open_transfer w H ≡ Some t
-        → (hears (is_lost (address_after w (At t (Hear f) ∷ H))) (is_replaced (holder w H t.sender.destination) (holder w (At t (Hear f) ∷ H) t.sender.destination)) f (clock_at H t) t).sender.state
+        → (hears (is_lost (address_after w (At when (Hear f) ∷ H))) (is_replaced (holder w H t.sender.destination) (holder w (At when (Hear f) ∷ H) t.sender.destination)) f (clock_at H when) t).sender.state
         ≡ sending.Failed r
-        → (t.sender.state ≡ sending.Failed r) ⊎ Aborts w r t.sender.destination t.sender.message H (At t (Hear f))
+        → (t.sender.state ≡ sending.Failed r) ⊎ Aborts w r t.sender.destination t.sender.message H (At when (Hear f))
     hearing H f t right e q =
-        heard H f t (is_lost (address_after w (At t (Hear f) ∷ H))) (is_replaced (holder w H t.sender.destination) (holder w (At t (Hear f) ∷ H) t.sender.destination)) (clock_at H t) right e q
+        heard H f t (is_lost (address_after w (At when (Hear f) ∷ H))) (is_replaced (holder w H t.sender.destination) (holder w (At when (Hear f) ∷ H) t.sender.destination)) (clock_at H when) right e q
 
     aborts : (t : Running) (f : FrameRecord) (a : Signal) → message_of f ≡ says t.sender a → a ≡ Abort r t.sender.message.pgn
         → message_of f ≡ abort_move t.sender.destination t.sender.message r
@@ -536,17 +536,17 @@ gone_arises : (w : Who) → Arises w (λ t. t.gone ≡ true) (λ to m. Replaces 
 gone_arises w = record {
   begins_not = λ token m to q. absurd (cc);
   by_hearing = λ H f t right e q.
-      heard H f t (is_lost (address_after w (At t (Hear f) ∷ H))) (is_replaced (holder w H t.sender.destination) (holder w (At t (Hear f) ∷ H) t.sender.destination)) (clock_at H t) refl q;
+      heard H f t (is_lost (address_after w (At when (Hear f) ∷ H))) (is_replaced (holder w H t.sender.destination) (holder w (At when (Hear f) ∷ H) t.sender.destination)) (clock_at H when) refl q;
   by_sending = λ H now f t a right e g k q. inl q;
 }
   where
     heard : (H : List Call) (f : FrameRecord) (t : Running) (lost replaced : Bool) (now : ℕ)
-        → is_replaced (holder w H t.sender.destination) (holder w (At t (Hear f) ∷ H) t.sender.destination) ≡ replaced → (hears lost replaced f now t).gone ≡ true
-        → (t.gone ≡ true) ⊎ Replaces w t.sender.destination H (At t (Hear f))
+        → is_replaced (holder w H t.sender.destination) (holder w (At when (Hear f) ∷ H) t.sender.destination) ≡ replaced → (hears lost replaced f now t).gone ≡ true
+        → (t.gone ≡ true) ⊎ Replaces w t.sender.destination H (At when (Hear f))
     heard H f t true replaced now e = λ q. inl q
     heard H f t false true now e = λ q. inr e
     heard H f t false false now e = cond_both (t.gone || is_spent t) t (listens f now t)
-        (λ (u : Running). u.gone ≡ true → (t.gone ≡ true) ⊎ Replaces w t.sender.destination H (At t (Hear f))) (λ z q. inl q) (λ z q. inl q)
+        (λ (u : Running). u.gone ≡ true → (t.gone ≡ true) ⊎ Replaces w t.sender.destination H (At when (Hear f))) (λ z q. inl q) (λ z q. inl q)
 
 of_token : (w : Who) (H : List Call) (c : Controller) (k : ℕ) (e : TransferEnding) (is : Is w (TakeTransferEnded (Some (k, e)) ∷ H) c) (x : Ended w H k e)
     → slice_get (all_transfers w H) k ≡ Some (x.running.sender.destination, x.running.sender.message)
@@ -644,9 +644,9 @@ done_sends token true now o h = subst (λ (x : Option Running). IsDone token (se
 
 stays_done : (w : Who) (token : ℕ) (later E : List Call) → NoneEnds later → IsDone token (open_transfer w E) → IsDone token (open_transfer w (later ++ E))
 stays_done w token [] E n h = h
-stays_done w token (At t (Hear f) ∷ later) E n h =
+stays_done w token (At when (Hear f) ∷ later) E n h =
     let G = later ++ E in
-    done_hears token (is_lost (address_after w (At t (Hear f) ∷ G))) (λ a. is_replaced (holder w G a) (holder w (At t (Hear f) ∷ G) a)) f (clock_at G t) (open_transfer w G)
+    done_hears token (is_lost (address_after w (At when (Hear f) ∷ G))) (λ a. is_replaced (holder w G a) (holder w (At when (Hear f) ∷ G) a)) f (clock_at G when) (open_transfer w G)
     (stays_done w token later E n.1 h)
 stays_done w token (At now (TakeFrame (Some f)) ∷ later) E n h =
     done_sends token (is_move w (later ++ E) f) (clock_at (later ++ E) now) (open_transfer w (later ++ E)) (stays_done w token later E n.1 h)
@@ -666,28 +666,28 @@ acks s now f e g k =
     four : (a b c d : Bool) → a ≡ true → b ≡ true → c ≡ true → d ≡ true → (a && b && c && d) ≡ true
     four a b c d p q r t = λ i. p i && q i && r i && t i
 
-pub is_done : (w : Who) (H later : List Call) (c : Controller) (t : ℕ) (f : FrameRecord) (t : Running) (answer : Option (ℕ × TransferEnding))
-    → Is w (TakeTransferEnded answer ∷ later ++ At t (Hear f) ∷ H) c → NoneEnds later → open_transfer w H ≡ Some t
+pub is_done : (w : Who) (H later : List Call) (c : Controller) (when : ℕ) (f : FrameRecord) (t : Running) (answer : Option (ℕ × TransferEnding))
+    → Is w (TakeTransferEnded answer ∷ later ++ At when (Hear f) ∷ H) c → NoneEnds later → open_transfer w H ≡ Some t
     → IsTrue (is_waiting t.sender.state) → t.sender.highest ≡ packets_of t.sender.message → t.gone ≡ false → is_spent t ≡ false
-    → is_lost (address_after w (At t (Hear f) ∷ H)) ≡ false
-    → is_replaced (holder w H t.sender.destination) (holder w (At t (Hear f) ∷ H) t.sender.destination) ≡ false
+    → is_lost (address_after w (At when (Hear f) ∷ H)) ≡ false
+    → is_replaced (holder w H t.sender.destination) (holder w (At when (Hear f) ∷ H) t.sender.destination) ≡ false
     → said_to t.sender f ≡ Some (Acknowledgment (length t.sender.message.bytes) (packets_of t.sender.message) t.sender.message.pgn)
     → answer ≡ Some (t.token, Done)
-is_done w H later c t f t answer is n e waiting highest here room own held says =
-    let d = stays_done w t.token later (At t (Hear f) ∷ H) n first in
-    is.answered.1 ∙ (ap (λ (o : Option Running). transfer_end o (is_lost (address_after w (later ++ At t (Hear f) ∷ H)))) d.is
-    ∙ (ap (λ (u : SendState). option_map (λ y. (d.running.token, y)) (ending_by u d.running.gone (is_lost (address_after w (later ++ At t (Hear f) ∷ H))))) d.done
+is_done w H later c when f t answer is n e waiting highest here room own held says =
+    let d = stays_done w t.token later (At when (Hear f) ∷ H) n first in
+    is.answered.1 ∙ (ap (λ (o : Option Running). transfer_end o (is_lost (address_after w (later ++ At when (Hear f) ∷ H)))) d.is
+    ∙ (ap (λ (u : SendState). option_map (λ y. (d.running.token, y)) (ending_by u d.running.gone (is_lost (address_after w (later ++ At when (Hear f) ∷ H))))) d.done
     ∙ ap (λ (k : ℕ). (let o : Option (ℕ × TransferEnding) = Some (k, Done) in o)) d.token_is))
   where
     heard : (a b g : Bool) → a ≡ false → b ≡ false → g ≡ false
-        → IsDone t.token (Some (if a then t else if b then record t { gone = true } else if g then t else listens f (clock_at H t) t))
-    heard false false false p q r = record { running = listens f (clock_at H t) t; is = refl; token_is = refl; done = acks t.sender (clock_at H t) f waiting highest says }
+        → IsDone t.token (Some (if a then t else if b then record t { gone = true } else if g then t else listens f (clock_at H when) t))
+    heard false false false p q r = record { running = listens f (clock_at H when) t; is = refl; token_is = refl; done = acks t.sender (clock_at H when) f waiting highest says }
     heard true b g p q r = absurd (cc)
     heard false true g p q r = absurd (cc)
     heard false false true p q r = absurd (cc)
 
-    first : IsDone t.token (open_transfer w (At t (Hear f) ∷ H))
-    first = subst (λ (o : Option Running). IsDone t.token (hears_if (is_lost (address_after w (At t (Hear f) ∷ H))) (λ a. is_replaced (holder w H a) (holder w (At t (Hear f) ∷ H) a)) f (clock_at H t) o))
+    first : IsDone t.token (open_transfer w (At when (Hear f) ∷ H))
+    first = subst (λ (o : Option Running). IsDone t.token (hears_if (is_lost (address_after w (At when (Hear f) ∷ H))) (λ a. is_replaced (holder w H a) (holder w (At when (Hear f) ∷ H) a)) f (clock_at H when) o))
         (sym e) (heard _ _ _ own held (ap (λ (b : Bool). b || is_spent t) here ∙ room))
 
 -- ---- another holder makes it gone
@@ -733,9 +733,9 @@ gone_sends w H token now f true right e h = absurd (silent h.running.gone h.gone
 stays_gone : (w : Who) (token : ℕ) (later E : List Call) → AreAnswered w (later ++ E) → NoneEnds later → IsGone token (open_transfer w E)
     → IsGone token (open_transfer w (later ++ E))
 stays_gone w token [] E r n h = h
-stays_gone w token (At t (Hear f) ∷ later) E r n h =
+stays_gone w token (At when (Hear f) ∷ later) E r n h =
     let G = later ++ E in
-    gone_hears token (is_lost (address_after w (At t (Hear f) ∷ G))) (λ a. is_replaced (holder w G a) (holder w (At t (Hear f) ∷ G) a)) f (clock_at G t) (open_transfer w G)
+    gone_hears token (is_lost (address_after w (At when (Hear f) ∷ G))) (λ a. is_replaced (holder w G a) (holder w (At when (Hear f) ∷ G) a)) f (clock_at G when) (open_transfer w G)
     (stays_gone w token later E r.0 n.1 h)
 stays_gone w token (At now (TakeFrame (Some f)) ∷ later) E r n h =
     gone_sends w (later ++ E) token now f (is_move w (later ++ E) f) r refl (stays_gone w token later E r.0 n.1 h)
@@ -743,14 +743,14 @@ stays_gone w token (At now (Transfer group to bytes (Ok k)) ∷ later) E r n h =
 stays_gone w token (TakeTransferEnded (Some x) ∷ later) E r n h = absurd (let z = n.0 in cc)
 stays_gone w token (call ∷ later) E r n h = stays_gone w token later E r.0 n.1 h
 
-pub is_gone : (w : Who) (H later : List Call) (c : Controller) (t : ℕ) (f : FrameRecord) (t : Running) (answer : Option (ℕ × TransferEnding))
-    → Is w (TakeTransferEnded answer ∷ later ++ At t (Hear f) ∷ H) c → NoneEnds later → open_transfer w H ≡ Some t → is_over t ≡ false
-    → is_lost (address_after w (At t (Hear f) ∷ H)) ≡ false
-    → is_replaced (holder w H t.sender.destination) (holder w (At t (Hear f) ∷ H) t.sender.destination) ≡ true → answer ≡ Some (t.token, Gone)
-is_gone w H later c t f t answer is n e going own left =
-    let d = stays_gone w t.token later (At t (Hear f) ∷ H) is.answered.0 n first in
-    is.answered.1 ∙ (ap (λ (o : Option Running). transfer_end o (is_lost (address_after w (later ++ At t (Hear f) ∷ H)))) d.is
-    ∙ (ap (λ (b : Bool). option_map (λ y. (d.running.token, y)) (ending_by d.running.sender.state b (is_lost (address_after w (later ++ At t (Hear f) ∷ H))))) d.gone
+pub is_gone : (w : Who) (H later : List Call) (c : Controller) (when : ℕ) (f : FrameRecord) (t : Running) (answer : Option (ℕ × TransferEnding))
+    → Is w (TakeTransferEnded answer ∷ later ++ At when (Hear f) ∷ H) c → NoneEnds later → open_transfer w H ≡ Some t → is_over t ≡ false
+    → is_lost (address_after w (At when (Hear f) ∷ H)) ≡ false
+    → is_replaced (holder w H t.sender.destination) (holder w (At when (Hear f) ∷ H) t.sender.destination) ≡ true → answer ≡ Some (t.token, Gone)
+is_gone w H later c when f t answer is n e going own left =
+    let d = stays_gone w t.token later (At when (Hear f) ∷ H) is.answered.0 n first in
+    is.answered.1 ∙ (ap (λ (o : Option Running). transfer_end o (is_lost (address_after w (later ++ At when (Hear f) ∷ H)))) d.is
+    ∙ (ap (λ (b : Bool). option_map (λ y. (d.running.token, y)) (ending_by d.running.sender.state b (is_lost (address_after w (later ++ At when (Hear f) ∷ H))))) d.gone
     ∙ (ap (option_map (λ (y : TransferEnding). (d.running.token, y))) (gone d.running.sender.state _ d.unended)
     ∙ ap (λ (k : ℕ). (let o : Option (ℕ × TransferEnding) = Some (k, Gone) in o)) d.token_is)))
   where
@@ -765,13 +765,13 @@ is_gone w H later c t f t answer is n e going own left =
     gone sending.Done lost k = absurd (cc)
     gone (sending.Failed r) lost k = absurd (cc)
 
-    heard : (a b : Bool) → a ≡ false → b ≡ true → IsGone t.token (Some (hears a b f (clock_at H t) t))
+    heard : (a b : Bool) → a ≡ false → b ≡ true → IsGone t.token (Some (hears a b f (clock_at H when) t))
     heard true b p q = absurd (cc)
     heard false false p q = absurd (cc)
     heard false true p q = record { running = record t { gone = true }; is = refl; token_is = refl; gone = refl; unended = second t.gone _ going }
 
-    first : IsGone t.token (open_transfer w (At t (Hear f) ∷ H))
-    first = subst (λ (o : Option Running). IsGone t.token (hears_if (is_lost (address_after w (At t (Hear f) ∷ H))) (λ a. is_replaced (holder w H a) (holder w (At t (Hear f) ∷ H) a)) f (clock_at H t) o))
+    first : IsGone t.token (open_transfer w (At when (Hear f) ∷ H))
+    first = subst (λ (o : Option Running). IsGone t.token (hears_if (is_lost (address_after w (At when (Hear f) ∷ H))) (λ a. is_replaced (holder w H a) (holder w (At when (Hear f) ∷ H) a)) f (clock_at H when) o))
         (sym e) (heard _ _ own left)
 
 -- ---- where none is told

@@ -117,10 +117,10 @@ pub fn received()
 /// After a frame was heard that a claim answers (another's claim of the address, or a request for claims), the next frame taken
 /// is its claim, or 'cannot claim' where the address is lost. A claim is taken only where one is owed.
 pub fn claims()
-    ensures next { (w : Who) (H later : List Call) (c : Controller) (now t : ℕ) (f g : FrameRecord)
-        → Is w (At now (TakeFrame (Some g)) ∷ later ++ At t (Hear f) ∷ H) c → frames later ≡ []
+    ensures next { (w : Who) (H later : List Call) (c : Controller) (now when : ℕ) (f g : FrameRecord)
+        → Is w (At now (TakeFrame (Some g)) ∷ later ++ At when (Hear f) ∷ H) c → frames later ≡ []
         → IsTrue (calls_for_claim w (is_lost (address_after w H)) f)
-        → message_of g ≡ claim_from w (claim_address w (address_after w (later ++ At t (Hear f) ∷ H))) }
+        → message_of g ≡ claim_from w (claim_address w (address_after w (later ++ At when (Hear f) ∷ H))) }
     ensures at_once { (w : Who) (H : List Call) (c : Controller) (now : ℕ) (answer : Option FrameRecord)
         → Is w (At now (TakeFrame answer) ∷ H) c → IsTrue (owes_claim w H) → answer ≢ None }
     ensures only { (w : Who) (H : List Call) (c : Controller) (now : ℕ) (f : FrameRecord)
@@ -343,9 +343,9 @@ pub fn strangers_and_sending()
     ensures told { (H : List Call) (now : ℕ) (f : FrameRecord) → (told (At now (Hear f) ∷ H) ≡ told H) × (told_broadcasts (At now (Hear f) ∷ H) ≡ told_broadcasts H)
         × (told_transfers (At now (Hear f) ∷ H) ≡ told_transfers H) × (told_asks (At now (Hear f) ∷ H) ≡ told_asks H) }
     ensures broadcast { (w : Who) (H : List Call) (now : ℕ) (f : FrameRecord) → open_broadcast w (At now (Hear f) ∷ H) ≡ open_broadcast w H }
-    ensures next { (w : Who) (H : List Call) (c : Controller) (t : ℕ) (f : FrameRecord) (now : ℕ) → Is w H c → claim_of f ≡ None
+    ensures next { (w : Who) (H : List Call) (c : Controller) (when : ℕ) (f : FrameRecord) (now : ℕ) → Is w H c → claim_of f ≡ None
         → asked_group f ≡ None → destination_of f.id ≢ Some w.address
-        → next_frame w (At t (Hear f) ∷ H) now ≡ next_frame w (At t (TakeFrame None) ∷ H) now }
+        → next_frame w (At when (Hear f) ∷ H) now ≡ next_frame w (At when (TakeFrame None) ∷ H) now }
 {}
 
 /// Which frame others exchange, no claim, makes no difference to any answer, whatever comes later. Neither does it whether a tick stands

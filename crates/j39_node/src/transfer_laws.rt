@@ -128,10 +128,10 @@ pub fn strangers_and_transfers()
         → (source_of f.id ≢ t.sender.destination) ⊎ (destination_of f.id ≢ Some w.address)
         → is_replaced (holder w H t.sender.destination) (holder w (At now (Hear f) ∷ H) t.sender.destination) ≡ false
         → open_transfer w (At now (Hear f) ∷ H) ≡ Some t }
-    ensures next { (w : Who) (H : List Call) (c : Controller) (t : ℕ) (f : FrameRecord) (t : Running) (now : ℕ) → Is w H c
+    ensures next { (w : Who) (H : List Call) (c : Controller) (when : ℕ) (f : FrameRecord) (t : Running) (now : ℕ) → Is w H c
         → open_transfer w H ≡ Some t → (source_of f.id ≢ t.sender.destination) ⊎ (destination_of f.id ≢ Some w.address)
-        → is_replaced (holder w H t.sender.destination) (holder w (At t (Hear f) ∷ H) t.sender.destination) ≡ false
-        → next_long w (At t (Hear f) ∷ H) now ≡ next_long w (At t Ticks ∷ H) now }
+        → is_replaced (holder w H t.sender.destination) (holder w (At when (Hear f) ∷ H) t.sender.destination) ≡ false
+        → next_long w (At when (Hear f) ∷ H) now ≡ next_long w (At when Ticks ∷ H) now }
     ensures ends { (w : Who) (H : List Call) (c : Controller) (now : ℕ) (f : FrameRecord) (t : Running) → Is w H c → open_transfer w H ≡ Some t
         → (source_of f.id ≢ t.sender.destination) ⊎ (destination_of f.id ≢ Some w.address)
         → is_replaced (holder w H t.sender.destination) (holder w (At now (Hear f) ∷ H) t.sender.destination) ≡ false

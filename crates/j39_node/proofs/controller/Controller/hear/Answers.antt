@@ -16,9 +16,9 @@ use Rattle.j39_node.proofs.controller.Controller.hear.Goals as goal
 pub returns : goal.returns
 returns c = λ w H h.
     let f = c.args.frame.now in
-    let p = passed_is w H t c.args.self.now.hold c.passed-self.result h.hold
+    let p = passed_is w H when c.args.self.now.hold c.passed-self.result h.hold
     (c.passed-self.ensures ∙ ap (λ (g : FrameRecord). passed g.stamp c.args.self.now.hold) c.frame.view_is) in
-    heard_more w H c.args.self.now _ t f c.passed-self.result c.is_held-is_held.result c.is_for_program-wanted.result c.is_lost-is_lost.result
+    heard_more w H c.args.self.now _ when f c.passed-self.result c.is_held-is_held.result c.is_for_program-wanted.result c.is_lost-is_lost.result
     c.is_driven_away-drives_away.result c.calls_for_claim-calls.result c.is_replaced-is_replaced.result c.hear-unheard.result (option_map request_by c.asked-request.result) h p c.is_held-is_held.ensures c.is_for_program-wanted.ensures
     c.offer.ensures.unread c.offer.ensures.missed (c.is_driven_away-drives_away.ensures ∙ smaller_known w.known c.args.self.now.own (claim_of f)) c.is_lost-is_lost.ensures (c.calls_for_claim-calls.ensures ∙ calls_known w.known c.args.self.now.own c.is_lost-is_lost.result f)
     (c.hear.ensures.waiting ∙ request_known w.known c.args.self.now.own _ (option_map request_by c.asked-request.result) _) (c.hear.ensures.due ∙ refusal_known w.known c.args.self.now.own _ _ (option_map request_by c.asked-request.result) _) (c.asked-request.ensures ∙ asked_known w.known c.args.self.now.own c.is_held-is_held.result f) c.hear-2.ensures.knows
