@@ -11,7 +11,7 @@ use Rattle.j39_node.specs.History.{Act, Asked, Call, Message, Who, missed, told_
 use Rattle.j39_node.specs.History.Call.{At, ReleaseBroadcast, ReleaseTransfer, TakeAskEnded, TakeBroadcastEnded, TakeEnded, TakeReceived, TakeTransferEnded}
 use Rattle.j39_node.specs.Hearing.{unheard, waiting}
 use Rattle.j39_node.specs.Is.{Is}
-use Rattle.j39_node.specs.Moving.{IsSettled, moved}
+use Rattle.j39_node.specs.Moving.{HasMoved, IsSettled}
 use Rattle.j39_node.specs.Reception.{reception}
 use Rattle.j39_node.specs.declared.controller.Controller.{Controller}
 use Rattle.j39_node.specs.declared.kinds.Answer.{Answer}
@@ -97,7 +97,7 @@ count_missed w H = min (missed w H + unheard w H) 18446744073709551615
 abbrev pub Moves : ℕ → ℤ → Controller → Controller → Type 0
 Moves address (pos zero) old new = (new ≡ old) × Says (λ w H. IsAddress address × IsSettled w H → ⊥) old
 Moves address (pos (suc n)) old new =
-    (w : Who) (H : List Call) → Is w H old → IsAddress address × IsSettled w H × Is (moved w H address) [] new
+    (w : Who) (H : List Call) → Is w H old → IsAddress address × IsSettled w H × HasMoved w H address new
 Moves address (negsuc n) old new = ⊥
 
 -- ---- messages are handed in

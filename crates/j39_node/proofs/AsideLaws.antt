@@ -18,7 +18,8 @@ use Rattle.j39_node.specs.History.Call.{At, TakeAskEnded, TakeEnded, TakeReceive
 use Rattle.j39_node.specs.History.Act.{Ask, Hear, Tick, TakeFrame, Send, Acknowledge, Broadcast, Transfer}
 use Rattle.j39_node.specs.Reception.{Reception, has_place, heard_at, heard_by, held_then, holder, later, leaves, left, none_waits, reception, released_by, taken_by, ticked, time_heard, whole_by}
 use Rattle.j39_node.specs.Hearing.{OpenBroadcast, announces, changes, found, has_room, hearing, is_ignored, hears as hears_it, is_unheard, left as leaves_it, newly, packs, unheard_news, whole_of}
-use Rattle.j39_node.specs.Transfers.{Resting, Running, age, begun, can_transfer, clock, hears_if, holds_back, is_engaged, is_replaced, joined, open_transfer, rest, resting, rests_after, sends_if, transfer_by, transfer_end, transfers}
+use Rattle.j39_node.specs.Transfers.{Running, age, begun, can_transfer, clock, hears_if, holds_back, is_engaged, is_replaced, joined, open_transfer, rest, resting, rests_after, sends_if, transfer_by, transfer_end, transfers}
+use Rattle.j39_node.specs.History.{Resting}
 use Rattle.j39_node.specs.Asking.{Question, ask_end, can_ask, end_at, ended, first, has_token, made, is_asking, is_message, made_of, open_ask, question, silent_end, wait}
 use Rattle.j39_transport.specs.Frames as frames
 use Rattle.j39_transport.specs.Key.{Broadcast as by}
@@ -99,7 +100,7 @@ state w H = record {
   wait = wait H;
   ended = ended w H;
   age = age H;
-  rest = rest H;
+  rest = rest w H;
   resting = resting w H;
   transfer = open_transfer w H;
   transfers = transfers w H;

@@ -75,7 +75,7 @@ pub record Passed (w : Who) (H : List Call) (now : ℕ) (h : Hold) : Type 0 wher
   pub pause : h.pause ≡ pause H - step H now
   pub age : h.age ≡ min (age H + step H now) 18446744073709551615
   pub wait : h.wait ≡ wait H - step H now
-  pub rest : h.rest ≡ rest H - step H now
+  pub rest : h.rest ≡ rest w H - step H now
 
 saturates : (a s : ℕ) → min (min a 18446744073709551615 + s) 18446744073709551615 ≡ min (a + s) 18446744073709551615
 saturates a s = omega arith
@@ -119,7 +119,7 @@ lane_same : (w : Who) (H : List Call) (now : ℕ) (f : FrameRecord) → is_packe
 lane_same w H now f e = ap (λ (xs : List Message). record (lane_after w H) { count = length xs }) (sym (packets_is H now f false e))
 
 pub packet_next : (w : Who) (H : List Call) (c : Controller) (now left : ℕ) → Is w H c → left ≡ pause H - step H now
-    → packet_by (lane_of (who_of w.known c.own) c.lane).current c.lane.count left ≡ next_packet w H now
+    → packet_by (lane_of (who_of w.brought c.own) c.lane).current c.lane.count left ≡ next_packet w H now
 packet_next w H c now left h e =
     ap (λ (v : Who). packet_by (lane_of v c.lane).current c.lane.count left) h.who
     ∙ (ap (λ (l : LaneRecord). packet_by l.current l.count left) h.lane ∙ ap (packet_by (open_broadcast w H) (length (packets H))) e)
@@ -188,7 +188,7 @@ transfer_next w H c now time h e =
 
 pub long_next : (w : Who) (H : List Call) (c : Controller) (now left time : ℕ) → Is w H c → left ≡ pause H - step H now
     → time ≡ min (age H + step H now) 18446744073709551615
-    → long_by (packet_by (lane_of (who_of w.known c.own) c.lane).current c.lane.count left) (transfer_by (port_of c.transfers).current (clock time)) ≡ next_long w H now
+    → long_by (packet_by (lane_of (who_of w.brought c.own) c.lane).current c.lane.count left) (transfer_by (port_of c.transfers).current (clock time)) ≡ next_long w H now
 long_next w H c now left time h e f =
     ap (λ (o : Option Message). long_by o (transfer_by (port_of c.transfers).current (clock time))) (packet_next w H c now left h e)
     ∙ ap (long_by (next_packet w H now)) (transfer_next w H c now time h f)
@@ -248,7 +248,7 @@ taken w H old new now (Some f) x mid h p owes held none quiet g m e d request a1
     let more = sent_is H now f false false false n l one in
     let number = s.numbered (length (sent H)) (posted x) i in
     record {
-      who = ap (λ c. who_of w.known c.own) e ∙ h.who;
+      who = ap (λ c. who_of w.brought c.own) e ∙ h.who;
       answered = (h.answered, ap Some k ∙ sym (next_is w H now None (Some (posted x)) (sym p.owes ∙ owes) held (none_steered w H old h none quiet) i));
       hold = a3 ∙ is_hold _ _ p.rest p.moment (p.standing ∙ ap standing_of (sym (address_is w H now f false n))) owes (p.pause ∙ sym (pause_is H now f false (no_packet f one))) p.age
           (ap (λ (k : ℕ). if request then 1250000 else k) p.wait
@@ -274,7 +274,7 @@ taken w H old new now (Some f) x mid h p owes held none quiet g m e d request a1
 pub taken_none : (w : Who) (H : List Call) (old new : Controller) (now : ℕ) → Is w H old
     → Passed w H now new.hold → new.hold.owes_claim ≡ false → holds w H now ≡ true → length old.desk.due.items ≡ 0
     → length old.incoming.replies.items ≡ 0 → slice_get old.outgoing.items old.taken ≡ None
-    → (let none : Option (ℕ × Message) = None in none) ≡ option_map (at_now now) (packet_by (lane_of (who_of w.known old.own) old.lane).current old.lane.count new.hold.pause)
+    → (let none : Option (ℕ × Message) = None in none) ≡ option_map (at_now now) (packet_by (lane_of (who_of w.brought old.own) old.lane).current old.lane.count new.hold.pause)
     → (let none : Option (ℕ × Message) = None in none) ≡ option_map (at_now now) (transfer_by (port_of old.transfers).current (clock new.hold.age))
     → new ≡ record old { hold = new.hold } → Is w (At now (TakeFrame None) ∷ H) new
 taken_none w H old new now h p owes held none quiet g m u e =
@@ -282,7 +282,7 @@ taken_none w H old new now h p owes held none quiet g m u e =
     let t = s.in_turn (holding_not_lost w H now held) in
     let i = not_in_rest posted old.outgoing.items (accepted w H) (length (told H)) (length (sent H)) old.taken h.outgoing h.taken t g in
     record {
-      who = ap (λ c. who_of w.known c.own) e ∙ h.who;
+      who = ap (λ c. who_of w.brought c.own) e ∙ h.who;
       answered = (
         h.answered,
         ap (option_map (at_now now)) (sym (ap (λ o. long_by o (transfer_by (port_of old.transfers).current (clock new.hold.age))) (no_message now _ m) ∙ no_message now _ u))
@@ -309,7 +309,7 @@ taken_none w H old new now h p owes held none quiet g m u e =
 pub taken_packet : (w : Who) (H : List Call) (old new : Controller) (now : ℕ) (f : FrameRecord) (mid : Hold) → Is w H old
     → Passed w H now mid → mid.owes_claim ≡ false → holds w H now ≡ true → length old.desk.due.items ≡ 0
     → length old.incoming.replies.items ≡ 0 → slice_get old.outgoing.items old.taken ≡ None
-    → Some (stamped f) ≡ option_map (at_now now) (packet_by (lane_of (who_of w.known old.own) old.lane).current old.lane.count mid.pause)
+    → Some (stamped f) ≡ option_map (at_now now) (packet_by (lane_of (who_of w.brought old.own) old.lane).current old.lane.count mid.pause)
     → new ≡ record old { hold = new.hold; lane = new.lane } → new.hold ≡ paused mid → new.lane ≡ record old.lane { count = new.lane.count }
     → new.lane.count ≡ suc old.lane.count → Is w (At now (TakeFrame (Some f)) ∷ H) new
 taken_packet w H old new now f mid h p owes held none quiet g m e e0 e1 more =
@@ -324,7 +324,7 @@ taken_packet w H old new now f mid h p owes held none quiet g m e e0 e1 more =
         let k : stamped f ≡ (now, y) = cc in
         let is = packet_taken f now y (open_broadcast w H) (length (packets H)) (pause H - step H now) k q in
         record {
-          who = ap (λ c. who_of w.known c.own) e ∙ h.who;
+          who = ap (λ c. who_of w.brought c.own) e ∙ h.who;
           answered = (
             h.answered,
             i ∙ (ap (λ o. option_map (at_now now) (long_by o (next_transfer w H now))) (sym q)
@@ -354,7 +354,7 @@ taken_packet w H old new now f mid h p owes held none quiet g m e e0 e1 more =
 pub taken_transfer : (w : Who) (H : List Call) (old new : Controller) (now : ℕ) (f : FrameRecord) (mid : Hold) → Is w H old
     → Passed w H now mid → mid.owes_claim ≡ false → holds w H now ≡ true → length old.desk.due.items ≡ 0 → length old.incoming.replies.items ≡ 0
     → slice_get old.outgoing.items old.taken ≡ None
-    → (let none : Option (ℕ × Message) = None in none) ≡ option_map (at_now now) (packet_by (lane_of (who_of w.known old.own) old.lane).current old.lane.count mid.pause)
+    → (let none : Option (ℕ × Message) = None in none) ≡ option_map (at_now now) (packet_by (lane_of (who_of w.brought old.own) old.lane).current old.lane.count mid.pause)
     → Some (stamped f) ≡ option_map (at_now now) (transfer_by (port_of old.transfers).current (clock mid.age))
     → new ≡ record old { hold = mid; transfers = new.transfers }
     → (port_of new.transfers).current ≡ sends_if true (clock mid.age) (port_of old.transfers).current → new.transfers.next_token ≡ old.transfers.next_token
@@ -374,7 +374,7 @@ taken_transfer w H old new now f mid h p owes held none quiet g m u e e0 e1 e2 =
         let k : stamped f ≡ (now, y) = cc in
         let is = transfer_taken w H now f y h.answered k q in
         record {
-          who = ap (λ c. who_of w.known c.own) e ∙ h.who;
+          who = ap (λ c. who_of w.brought c.own) e ∙ h.who;
           answered = (
             h.answered,
             i ∙ (ap (option_map (at_now now)) (sym (ap (λ o. long_by o (next_transfer w H now)) no_packets ∙ q))
@@ -414,7 +414,7 @@ taken_due w H old new now (Some f) x h p owes held first m e =
     let is = due_taken w f now (refusal_by w x) k (due_get w (due w H) (length (acknowledged H)) (refusal_by w x) s.desk.0 first.is) in
     let more = acknowledged_is H now f false true is.0 is.1 in
     record {
-      who = ap (λ c. who_of w.known c.own) e ∙ h.who;
+      who = ap (λ c. who_of w.brought c.own) e ∙ h.who;
       answered = (h.answered, ap Some k ∙ sym (next_is w H now (Some (refusal_by w x)) _ (sym p.owes ∙ owes) held (steered_due w H (refusal_by w x) first.is) refl));
       hold = is_hold _ _ p.rest p.moment (p.standing ∙ ap standing_of (sym (address_is w H now f false is.0))) owes (p.pause ∙ sym (pause_is H now f false (no_packet f is.2))) p.age (p.wait ∙ wait_same H now f false true false is.0 is.1 is.2 refl);
       outgoing = ap (λ c. map posted c.outgoing.items) e ∙ h.outgoing;
@@ -447,7 +447,7 @@ taken_reply w H old new now (Some f) x h p owes held none first m e e0 =
     let at : slice_get (reception w H).replies 0 ≡ Some (said_by w.address x) = first.is ∙ ap (λ (a : ℕ). Some (said_by a x)) own in
     let is = reply_taken w.address f now (said_by w.address x) k (replied_get w.address (reception w H).replies 0 _ (tidy w H).replies at) in
     record {
-      who = ap (λ c. who_of w.known c.own) e ∙ h.who;
+      who = ap (λ c. who_of w.brought c.own) e ∙ h.who;
       answered = (
         h.answered,
         ap Some k ∙ sym (next_is w H now (Some (said_by w.address x)) _ (sym p.owes ∙ owes) held (steered_by w H None _ (none_due w H old h none) at) refl),
@@ -478,7 +478,7 @@ pub told_done : (w : Who) (H : List Call) (old new : Controller) (x : Outgoing) 
     → First posted new.outgoing.items x (length (told H)) (accepted w H) → 0 < old.taken → new.taken + 1 ≡ old.taken
     → new.own ≡ old.own → new.hold ≡ old.hold → new.next_token ≡ old.next_token → new.inbox ≡ old.inbox → new.desk ≡ old.desk → new.holders ≡ old.holders → new.news ≡ old.news → new.lane ≡ old.lane → new.incoming ≡ old.incoming → new.transfers ≡ old.transfers → new.asking ≡ old.asking → new.hearing ≡ old.hearing → Is w (TakeEnded (Some (x.token, Done)) ∷ H) new
 told_done w H old new x h f some less e1 e2 e3 e4 e5 e6 e7 e8 e9 e10 e11 e12 = record {
-  who = ap (who_of w.known) e1 ∙ h.who;
+  who = ap (who_of w.brought) e1 ∙ h.who;
   answered = (
     h.answered,
     sym (ap (λ (b : Bool). end_of b (is_lost (address_after w H)) (slice_get (accepted w H) (length (told H)))) before
@@ -511,7 +511,7 @@ pub told_withdrawn : (w : Who) (H : List Call) (old new : Controller) (x : Outgo
     → First posted new.outgoing.items x (length (told H)) (accepted w H) → old.taken ≡ 0 → lost old.hold.standing ≡ true → new.taken ≡ old.taken
     → new.own ≡ old.own → new.hold ≡ old.hold → new.next_token ≡ old.next_token → new.inbox ≡ old.inbox → new.desk ≡ old.desk → new.holders ≡ old.holders → new.news ≡ old.news → new.lane ≡ old.lane → new.incoming ≡ old.incoming → new.transfers ≡ old.transfers → new.asking ≡ old.asking → new.hearing ≡ old.hearing → Is w (TakeEnded (Some (x.token, Withdrawn)) ∷ H) new
 told_withdrawn w H old new x h f none is_away same e1 e2 e3 e4 e5 e6 e7 e8 e9 e10 e11 e12 = record {
-  who = ap (who_of w.known) e1 ∙ h.who;
+  who = ap (who_of w.brought) e1 ∙ h.who;
   answered = (
     h.answered,
     sym (ap (λ (b : Bool). end_of b (is_lost (address_after w H)) (slice_get (accepted w H) (length (told H)))) after
@@ -555,7 +555,7 @@ pub posts : (w : Who) (H : List Call) (old new : Controller) (now : ℕ) (d : Dr
 posts w H old new now d x h p held can room is e0 e1 e2 e3 e4 e5 e6 e7 e8 e9 e10 e11 e12 =
     let s = sound w H h.answered in
     record {
-      who = ap (who_of w.known) e2 ∙ h.who;
+      who = ap (who_of w.brought) e2 ∙ h.who;
       answered = (h.answered, ap Ok h.token ∙ sym (answer (holds w H now) (can_send w d) (is_full w H) held can (sym (full_is w H old h) ∙ room)));
       hold = is_hold _ _ p.rest p.moment p.standing p.owes p.pause p.age p.wait;
       outgoing = ap (map posted) e0 ∙ (map_append posted old.outgoing.items x
@@ -650,20 +650,20 @@ cast_by (Some y) None = refl
 cast_by (Some y) (Some x) = refl
 
 pub heard_more : (w : Who) (H : List Call) (old new : Controller) (when : ℕ) (f : FrameRecord) (mid : Hold) (held wanted away gone calls replaced unheard : Bool) (o : Option Asked) → Is w H old
-    → Passed w H when mid → held ≡ stands mid.standing → wanted ≡ is_for_program (who_of w.known old.own) held f
+    → Passed w H when mid → held ≡ stands mid.standing → wanted ≡ is_for_program (who_of w.brought old.own) held f
     → map received_by new.inbox.unread.items ≡ offered wanted (stamped f) (map received_by old.inbox.unread.items)
     → new.inbox.missed ≡ counted wanted (map received_by old.inbox.unread.items) old.inbox.missed
-    → gone ≡ is_smaller (who_of w.known old.own) (claim_of f) → away ≡ lost mid.standing → calls ≡ calls_for_claim (who_of w.known old.own) away f
+    → gone ≡ is_smaller (who_of w.brought old.own) (claim_of f) → away ≡ lost mid.standing → calls ≡ calls_for_claim (who_of w.brought old.own) away f
     → map request_by new.desk.waiting.items
-    ≡ with_request (who_of w.known old.own) (nat_lt (length old.desk.waiting.items) 16) o (map request_by old.desk.waiting.items)
-    → map (refusal_by (who_of w.known old.own)) new.desk.due.items
-    ≡ with_refusal (who_of w.known old.own) (nat_lt (length old.desk.waiting.items) 16) (nat_lt (length old.desk.due.items) 16) o
-    (map (refusal_by (who_of w.known old.own)) old.desk.due.items)
-    → o ≡ asked (who_of w.known old.own) held f
+    ≡ with_request (who_of w.brought old.own) (nat_lt (length old.desk.waiting.items) 16) o (map request_by old.desk.waiting.items)
+    → map (refusal_by (who_of w.brought old.own)) new.desk.due.items
+    ≡ with_refusal (who_of w.brought old.own) (nat_lt (length old.desk.waiting.items) 16) (nat_lt (length old.desk.due.items) 16) o
+    (map (refusal_by (who_of w.brought old.own)) old.desk.due.items)
+    → o ≡ asked (who_of w.brought old.own) held f
     → ((F : List FrameRecord) → Knows old.holders F → Knows new.holders (F ++ f ∷ []))
     → new.news ≡ record {
       lost = old.news.lost || (gone && not away);
-      another = old.news.another || is_another (who_of w.known old.own) held f;
+      another = old.news.another || is_another (who_of w.brought old.own) held f;
       missed = old.news.missed || ((wanted && not (nat_lt (length old.inbox.unread.items) 16)) || unheard);
     }
     → new.hold ≡ heard gone calls mid → new.own ≡ old.own → new.outgoing ≡ old.outgoing → new.taken ≡ old.taken → new.next_token ≡ old.next_token → new.lane ≡ old.lane
@@ -676,13 +676,13 @@ pub heard_more : (w : Who) (H : List Call) (old new : Controller) (when : ℕ) (
     → (whole_now : Option (ℕ × ℕ)) → whole_now ≡ made_by (has_place (incoming_of old.incoming).reception.waits) (incoming_of new.incoming).reception.waits
     → (cast_now : Option (ℕ × ℕ))
     → cast_now ≡ made_by (not (not (has_place (whole_of (hearing_of old.hearing).current)))) (whole_of (hearing_of new.hearing).current)
-    → asking_of new.asking ≡ option_map (hears_with (who_of w.known old.own) (lost new.hold.standing) new.hold.wait f (option_or whole_now cast_now)) (asking_of old.asking)
+    → asking_of new.asking ≡ option_map (hears_with (who_of w.brought old.own) (lost new.hold.standing) new.hold.wait f (option_or whole_now cast_now)) (asking_of old.asking)
     → (left_by : Bool) (p1 p2 : Option ℕ) (m : HearingRecord) → IfSome (hearing_of old.hearing).current (λ z. p1 ≡ holder_in old.holders z.source)
     → IfSome (hearing_of old.hearing).current (λ z. p2 ≡ holder_in new.holders z.source) → left_by ≡ not (is_same p1 p2)
     → m.current ≡ leaves_it left_by (hearing_of old.hearing).current → m.missed ≡ old.hearing.missed
-    → unheard ≡ is_unheard (who_of w.known old.own) (stamp_micros new.incoming.clock) f m.current
+    → unheard ≡ is_unheard (who_of w.brought old.own) (stamp_micros new.incoming.clock) f m.current
     → new.hearing.missed ≡ (if unheard then min (m.missed + 1) 18446744073709551615 else m.missed)
-    → (IsFit m.current → (hearing_of new.hearing).current ≡ hears_it (who_of w.known old.own) (stamp_micros new.incoming.clock) f m.current) → Is w (At when (Hear f) ∷ H) new
+    → (IsFit m.current → (hearing_of new.hearing).current ≡ hears_it (who_of w.brought old.own) (stamp_micros new.incoming.clock) f m.current) → Is w (At when (Hear f) ∷ H) new
 heard_more w H old new when f mid held wanted away gone calls replaced unheard o h p e1 e2 e3 e4 e5 e6 e7 q1 q2 q3 q4 q5 e8 s1 s2 s3 s4 s5 s9 s6 s7 s8 s10 whole_now m1 cast_now m2 a1 left_by p1 p2 m t1 t2 t3 t4 t5 t6 t7 t8 =
     let s = sound w H h.answered in
     let wants : wanted ≡ is_for_program w (holds w H when) f =
@@ -720,7 +720,7 @@ heard_more w H old new when f mid held wanted away gone calls replaced unheard o
     let made_now : option_or whole_now cast_now ≡ made w H when f =
     ap (λ (o : Option (ℕ × ℕ)). option_or o cast_now) whole_is ∙ ap (option_or (made_of (whole w H when f))) cast_is in
     record {
-      who = ap (who_of w.known) s1 ∙ h.who;
+      who = ap (who_of w.brought) s1 ∙ h.who;
       answered = (h.answered, tt);
       hold = is_hold _ _ (ap (λ (k : Hold). k.rest) e8 ∙ p.rest) (ap (λ (k : Hold). k.moment) e8 ∙ p.moment) stands_now
           (ap (λ (k : Hold). k.owes_claim) e8 ∙ (ap (λ (b : Bool). b || calls) p.owes ∙ ap (λ (b : Bool). owes_claim w H || b) asks))
@@ -750,7 +750,7 @@ heard_more w H old new when f mid held wanted away gone calls replaced unheard o
       news = q5 ∙ is_news _ _
           (ap (λ (u : Untold). u.lost || (gone && not away)) h.news
           ∙ (ap (λ (b : Bool). lost_news w H || (b && not away)) goes ∙ ap (λ (b : Bool). lost_news w H || (is_smaller w (claim_of f) && not b)) lost_before))
-          (ap (λ (u : Untold). u.another || is_another (who_of w.known old.own) held f) h.news
+          (ap (λ (u : Untold). u.another || is_another (who_of w.brought old.own) held f) h.news
           ∙ (ap (λ (v : Who). another_news w H || is_another v held f) h.who
           ∙ ap (λ (b : Bool). another_news w H || is_another w b f) (holds_is w H when mid held p e1)))
           (ap (λ (u : Untold). u.missed || ((wanted && not (nat_lt (length old.inbox.unread.items) 16)) || unheard)) h.news
@@ -784,7 +784,7 @@ pub handed_more : (w : Who) (H : List Call) (old new : Controller) (x : Request)
     → First request_by new.desk.waiting.items x (length (handed H)) (requests w H)
     → new ≡ record old { desk = record { waiting = new.desk.waiting; due = old.desk.due } } → Is w (TakeRequest (Some (request_by x)) ∷ H) new
 handed_more w H old new x h first e = record {
-  who = ap (λ c. who_of w.known c.own) e ∙ h.who;
+  who = ap (λ c. who_of w.brought c.own) e ∙ h.who;
   answered = (h.answered, sym first.is);
   hold = ap (λ c. c.hold) e ∙ h.hold;
   outgoing = ap (λ c. map posted c.outgoing.items) e ∙ h.outgoing;
@@ -819,7 +819,7 @@ pub due_more : (w : Who) (H : List Call) (old new : Controller) (now : ℕ) (ans
 due_more w H old new now answer x h p right a g e =
     let s = sound w H h.answered in
     record {
-      who = ap (λ c. who_of w.known c.own) e ∙ h.who;
+      who = ap (λ c. who_of w.brought c.own) e ∙ h.who;
       answered = (h.answered, right);
       hold = is_hold _ _ p.rest p.moment p.standing p.owes p.pause p.age p.wait;
       outgoing = ap (λ c. map posted c.outgoing.items) e ∙ h.outgoing;
@@ -846,7 +846,7 @@ due_more w H old new now answer x h p right a g e =
 pub refuses_send : (w : Who) (H : List Call) (old new : Controller) (now : ℕ) (d : Draft) (r : Refused) → Is w H old → Passed w H now new.hold
     → Err r ≡ answer_to_send w H now d → new ≡ record old { hold = new.hold } → Is w (At now (Send d (Err r)) ∷ H) new
 refuses_send w H old new now d r h p answer e = record {
-  who = ap (λ c. who_of w.known c.own) e ∙ h.who;
+  who = ap (λ c. who_of w.brought c.own) e ∙ h.who;
   answered = (h.answered, answer);
   hold = is_hold _ _ p.rest p.moment p.standing p.owes p.pause p.age p.wait;
   outgoing = ap (λ c. map posted c.outgoing.items) e ∙ h.outgoing;
@@ -946,7 +946,7 @@ claims_after Lost = refl
 
 pub claims_more : (w : Who) (H : List Call) (old new : Controller) (now : ℕ) (f : FrameRecord) (mid : Hold) (a : ℕ) → Is w H old → Passed w H now mid
     → mid.owes_claim ≡ true → new.hold ≡ record { moment = mid.moment; standing = claims mid.standing; owes_claim = false; pause = mid.pause; age = mid.age; wait = mid.wait; rest = mid.rest }
-    → Some (stamped f) ≡ Some (now, claim_from (who_of w.known old.own) a) → a ≡ (if lost mid.standing then 254 else old.own.address)
+    → Some (stamped f) ≡ Some (now, claim_from (who_of w.brought old.own) a) → a ≡ (if lost mid.standing then 254 else old.own.address)
     → ((F : List FrameRecord) → Knows old.holders F → Knows new.holders (F ++ f ∷ []))
     → incoming_of new.incoming ≡ with_reception (left (leaves (holder_in old.holders) (holder_in new.holders) (incoming_of old.incoming).reception.session)
     (incoming_of old.incoming).reception) (incoming_of old.incoming)
@@ -955,17 +955,17 @@ pub claims_more : (w : Who) (H : List Call) (old new : Controller) (now : ℕ) (
     → (hearing_of new.hearing).current ≡ leaves_it left_by (hearing_of old.hearing).current → new.hearing.missed ≡ old.hearing.missed
     → new ≡ record old { hold = new.hold; holders = new.holders; incoming = new.incoming; hearing = new.hearing } → Is w (At now (TakeFrame (Some f)) ∷ H) new
 claims_more w H old new now f mid a h p owes e0 m at knows drops left_by p1 p2 t1 t2 t3 t4 t5 e =
-    let from : claim_from (who_of w.known old.own) a ≡ claim_from w (claim_address w (address_after w H)) =
+    let from : claim_from (who_of w.brought old.own) a ≡ claim_from w (claim_address w (address_after w H)) =
     ap (λ (v : Who). claim_from v a) h.who
     ∙ ap (claim_from w) (at ∙ (ap (λ (x : Standing). if lost x then 254 else old.own.address) p.standing
     ∙ (ap (λ (n : ℕ). if lost (standing_of (older (step H now) (address_after w H))) then 254 else n) (ap (λ (v : Who). v.address) h.who)
     ∙ told_address (step H now) (address_after w H)))) in
-    let k : stamped f ≡ (now, claim_from (who_of w.known old.own) a) = cc in
+    let k : stamped f ≡ (now, claim_from (who_of w.brought old.own) a) = cc in
     let j : stamped f ≡ (now, claim_from w (claim_address w (address_after w H))) = k ∙ ap (λ (x : Message). (now, x)) from in
     let n = claim_taken f now w (claim_address w (address_after w H)) j in
     let due_claim : owes_claim w H ≡ true = sym p.owes ∙ owes in
     record {
-      who = ap (λ c. who_of w.known c.own) e ∙ h.who;
+      who = ap (λ c. who_of w.brought c.own) e ∙ h.who;
       answered = (
         h.answered,
         ap Some j ∙ sym (ap (λ (b : Bool). frame_by b (holds w H now) (next_control w H) (slice_get (accepted w H) (length (sent H))) (next_long w H now)
@@ -1002,7 +1002,7 @@ owes_is : (w : Who) (H : List Call) (c : Controller) (b : Bool) → Is w H c →
 owes_is w H c b h e = sym (ap (λ (k : Hold). k.owes_claim) h.hold) ∙ e
 
 claim_told : (w : Who) (H : List Call) (c : Controller) (a : ℕ) → Is w H c → a ≡ (if lost c.hold.standing then 254 else c.own.address)
-    → claim_from (who_of w.known c.own) a ≡ claim_from w (claim_address w (address_after w H))
+    → claim_from (who_of w.brought c.own) a ≡ claim_from w (claim_address w (address_after w H))
 claim_told w H c a h e =
     ap (λ (v : Who). claim_from v a) h.who
     ∙ ap (claim_from w) (e ∙ (ap (λ (k : Hold). if lost k.standing then 254 else c.own.address) h.hold
@@ -1014,7 +1014,7 @@ claim_told w H c a h e =
     told_address Lost = refl
 
 pub peeks_claim : (w : Who) (H : List Call) (c : Controller) (now a : ℕ) (r : Option FrameRecord) → Is w H c → c.hold.owes_claim ≡ true
-    → option_map stamped r ≡ Some (now, claim_from (who_of w.known c.own) a) → a ≡ (if lost c.hold.standing then 254 else c.own.address)
+    → option_map stamped r ≡ Some (now, claim_from (who_of w.brought c.own) a) → a ≡ (if lost c.hold.standing then 254 else c.own.address)
     → option_map stamped r ≡ next_frame w H now
 peeks_claim w H c now a r h owes m e =
     m ∙ (ap (λ (x : Message). Some (now, x)) (claim_told w H c a h e)
@@ -1068,7 +1068,7 @@ pub peeks_message : (w : Who) (H : List Call) (c : Controller) (now left time : 
     → holds w H now ≡ true → slice_get c.desk.due.items 0 ≡ None → slice_get (reception w H).replies 0 ≡ None → left ≡ pause H - step H now → time ≡ min (age H + step H now) 18446744073709551615
     → option_map stamped r ≡ option_map (at_now now)
     (first_of None (option_map posted (slice_get c.outgoing.items c.taken))
-    (long_by (packet_by (lane_of (who_of w.known c.own) c.lane).current c.lane.count left) (transfer_by (port_of c.transfers).current (clock time))))
+    (long_by (packet_by (lane_of (who_of w.brought c.own) c.lane).current c.lane.count left) (transfer_by (port_of c.transfers).current (clock time))))
     → option_map stamped r ≡ next_frame w H now
 peeks_message w H c now left time r h owes held g quiet e a m =
     let t = (sound w H h.answered).in_turn (holding_not_lost w H now held) in
@@ -1101,7 +1101,7 @@ pub refuses_broadcast : (w : Who) (H : List Call) (old new : Controller) (now gr
     → Passed w H now new.hold → Err r ≡ answer_to_broadcast w H now group bytes → new ≡ record old { hold = new.hold }
     → Is w (At now (Broadcast group bytes (Err r)) ∷ H) new
 refuses_broadcast w H old new now group bytes r h p answer e = record {
-  who = ap (λ c. who_of w.known c.own) e ∙ h.who;
+  who = ap (λ c. who_of w.brought c.own) e ∙ h.who;
   answered = (h.answered, answer);
   hold = is_hold _ _ p.rest p.moment p.standing p.owes p.pause p.age p.wait;
   outgoing = ap (λ c. map posted c.outgoing.items) e ∙ h.outgoing;
@@ -1125,7 +1125,7 @@ pub begins : (w : Who) (H : List Call) (old new : Controller) (now group : ℕ) 
     → new ≡ record old { hold = new.hold; lane = new.lane } → new.lane.current ≡ Some x → new.lane.count ≡ 0
     → new.lane.next_token ≡ suc old.lane.next_token → Is w (At now (Broadcast group bytes (Ok old.lane.next_token)) ∷ H) new
 begins w H old new now group bytes x h p answer is e e0 e1 e2 = record {
-  who = ap (λ c. who_of w.known c.own) e ∙ h.who;
+  who = ap (λ c. who_of w.brought c.own) e ∙ h.who;
   answered = (h.answered, answer);
   hold = is_hold _ _ p.rest p.moment p.standing p.owes p.pause p.age p.wait;
   outgoing = ap (λ c. map posted c.outgoing.items) e ∙ h.outgoing;
@@ -1173,7 +1173,7 @@ pub refuses_transfer : (w : Who) (H : List Call) (old new : Controller) (now gro
     → Passed w H now new.hold → Err r ≡ answer_to_transfer w H now group to bytes → new ≡ record old { hold = new.hold }
     → Is w (At now (Transfer group to bytes (Err r)) ∷ H) new
 refuses_transfer w H old new now group to bytes r h p answer e = record {
-  who = ap (λ c. who_of w.known c.own) e ∙ h.who;
+  who = ap (λ c. who_of w.brought c.own) e ∙ h.who;
   answered = (h.answered, answer);
   hold = is_hold _ _ p.rest p.moment p.standing p.owes p.pause p.age p.wait;
   outgoing = ap (λ c. map posted c.outgoing.items) e ∙ h.outgoing;
@@ -1199,7 +1199,7 @@ pub transfer_begins : (w : Who) (H : List Call) (old new : Controller) (now grou
     → new.transfers.next_token ≡ suc old.transfers.next_token → new.transfers.resting ≡ old.transfers.resting
     → Is w (At now (Transfer group to bytes (Ok old.transfers.next_token)) ∷ H) new
 transfer_begins w H old new now group to bytes x mid h p answer is e e0 e1 e2 e3 = record {
-  who = ap (λ c. who_of w.known c.own) e ∙ h.who;
+  who = ap (λ c. who_of w.brought c.own) e ∙ h.who;
   answered = (h.answered, answer);
   hold = e0 ∙ is_hold _ _ p.rest p.moment p.standing p.owes p.pause refl p.wait;
   outgoing = ap (λ c. map posted c.outgoing.items) e ∙ h.outgoing;
@@ -1230,7 +1230,7 @@ pub transfer_ends : (w : Who) (H : List Call) (old new : Controller) (x : ℕ ×
     → b ≡ rests_after x.1 → new ≡ record old { hold = new.hold; transfers = new.transfers } → new.hold ≡ rested b old.hold
     → port_of new.transfers ≡ closed b old.hold.rest (port_of old.transfers) → Is w (TakeTransferEnded (Some x) ∷ H) new
 transfer_ends w H old new x b h answer rests e e0 e1 = record {
-  who = ap (λ c. who_of w.known c.own) e ∙ h.who;
+  who = ap (λ c. who_of w.brought c.own) e ∙ h.who;
   answered = (h.answered, answer);
   hold = e0 ∙ (ap (rested b) h.hold ∙ ap (λ (y : Bool). rested y (hold_after w H)) rests);
   outgoing = ap (λ c. map posted c.outgoing.items) e ∙ h.outgoing;
@@ -1246,6 +1246,6 @@ transfer_ends w H old new x b h answer rests e e0 e1 = record {
   lane = ap (λ c. lane_of w c.lane) e ∙ h.lane;
   hearing = ap (λ c. hearing_of c.hearing) e ∙ h.hearing;
   port = e1 ∙ (ap (closed b old.hold.rest) h.port
-      ∙ (ap (λ (n : ℕ). closed b n (port_after w H)) (ap (λ (k : Hold). k.rest) h.hold) ∙ ap (λ (y : Bool). closed y (rest H) (port_after w H)) rests));
+      ∙ (ap (λ (n : ℕ). closed b n (port_after w H)) (ap (λ (k : Hold). k.rest) h.hold) ∙ ap (λ (y : Bool). closed y (rest w H) (port_after w H)) rests));
   incoming = ap (λ c. incoming_of c.incoming) e ∙ h.incoming;
 }

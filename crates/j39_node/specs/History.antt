@@ -20,14 +20,31 @@ use Rattle.j39_node.specs.declared.kinds.Answer.{Answer}
 use Rattle.j39_node.specs.declared.kinds.Answer.TheVariants.{Ack, Nack, Denied, Busy}
 use Rattle.std.specs.List.{list_any}
 
+-- which transfers rest: none, those of a group to a destination, or all
+pub data Resting : Type 0 where
+  NoneRests : Resting
+  PairRests : ℕ → ℕ → Resting
+  AllRest : Resting
+
+-- what a controller that moved brought along: the frames by which it knew who holds which address, which transfers rest, and until
+-- which moment
+pub record Brought : Type 0 where
+  pub known : List FrameRecord
+  pub resting : Resting
+  pub rests_until : ℕ
+
+-- one that didn't move
+abbrev pub nothing : Brought
+nothing = record { known = []; resting = NoneRests; rests_until = 0 }
+
 -- the NAME of a controller, the address that it claims, the groups that its program serves, those that it subscribed (none told:
--- all), and the frames by which it knew before its history who holds which address: none, unless it moved
+-- all), and what it brought along
 pub record Who : Type 0 where
   pub name : ℕ
   pub address : ℕ
   pub served : List ℕ
   pub subscribed : Option (List ℕ)
-  pub known : List FrameRecord
+  pub brought : Brought
 
 -- what a frame carries: who sends it, to whom (none for a group of PF 240 and up), and what
 pub record Message : Type 0 where
@@ -516,7 +533,7 @@ due w (call ∷ H) = due w H
 
 -- the frames that tell it: those known before, all that were heard, and its own claims that were taken
 abbrev pub told_claims : Who → List Call → List FrameRecord
-told_claims w [] = w.known
+told_claims w [] = w.brought.known
 told_claims w (At now (Hear f) ∷ H) = told_claims w H ++ f ∷ []
 told_claims w (At now (TakeFrame (Some f)) ∷ H) = if is_claim f then told_claims w H ++ f ∷ [] else told_claims w H
 told_claims w (call ∷ H) = told_claims w H

@@ -40,6 +40,14 @@ heard drives_away calls h = record {
   rest = h.rest;
 }
 
+-- nothing was claimed, and the first claim is owed
+abbrev pub first : Hold
+first = record { moment = 0; standing = standing.Idle; owes_claim = true; pause = 0; age = 0; wait = 0; rest = 0 }
+
+-- it moves: it begins anew at the same moment, and what rests goes on to rest
+abbrev pub moved : Hold → Hold
+moved h = record (passed h.moment first) { rest = h.rest }
+
 abbrev pub claims : Standing → Standing
 claims standing.Idle = standing.Claimed 250000
 claims (standing.Claimed left) = standing.Claimed left

@@ -34,7 +34,7 @@ use Rattle.j39_node.specs.declared.kinds.News.TheVariants.{AddressLost, AnotherA
 use Rattle.j39_node.specs.declared.kinds.Refused.{Refused}
 use Rattle.j39_node.specs.declared.kinds.Refused.TheVariants.{NoAddress, BadValue, Full}
 use Rattle.j39_node.specs.Hold.{standing_of}
-use Rattle.j39_node.specs.History.{Who, Message, Draft, Call, Address, carried, message_of, moment, address_after, holds, is_lost, claim_address, claim_from, owes_claim, can_send, accepted, sent, told, is_full, got, kept, missed, Asked, requests, handed, due, acknowledged, acknowledgment, told_claims, lost_news, another_news, missed_news, broadcast_from, broadcasts, can_broadcast, frame_of, is_busy, open_broadcast, packets, pause, step}
+use Rattle.j39_node.specs.History.{Brought, Who, Message, Draft, Call, Address, carried, message_of, moment, address_after, holds, is_lost, claim_address, claim_from, owes_claim, can_send, accepted, sent, told, is_full, got, kept, missed, Asked, requests, handed, due, acknowledged, acknowledgment, told_claims, lost_news, another_news, missed_news, broadcast_from, broadcasts, can_broadcast, frame_of, is_busy, open_broadcast, packets, pause, step}
 use Rattle.j39_node.specs.History.Call.{At, TakeAskEnded, TakeEnded, TakeReceived, TakeRequest, TakeNews, TakeBroadcastEnded, ReleaseTransfer, TakeTransferEnded, ReleaseBroadcast}
 use Rattle.j39_node.specs.History.Act.{Ask, TakeFrame, Send, Acknowledge, Broadcast, Transfer}
 use Rattle.j39_node.specs.History.Address.{NotClaimed, Claimed, Lost}
@@ -51,7 +51,8 @@ use Rattle.j39_node.specs.declared.hearing.Heard.{Heard as Bytes}
 use Rattle.j39_node.specs.declared.hearing.Hearing.{Hearing}
 use Rattle.j39_transport.specs.Cutting.{ToSend}
 use Rattle.j39_transport.specs.Receiving.{BoxedReceiver, Heard, recv_step}
-use Rattle.j39_node.specs.Transfers.{Resting, NoneRests, PairRests, AllRest, Running, joined, rest, resting, age, answer_to_transfer, next_transfer, next_transfer_ended, open_transfer, transfers as all_transfers}
+use Rattle.j39_node.specs.Transfers.{Running, joined, rest, resting, age, answer_to_transfer, next_transfer, next_transfer_ended, open_transfer, transfers as all_transfers}
+use Rattle.j39_node.specs.History.{Resting, NoneRests, PairRests, AllRest}
 
 -- ---- the answers that a history asks for
 
@@ -203,14 +204,14 @@ status_after w H = status_of w (address_after w H)
 
 -- ---- the controller that it leads to
 
--- what it knew before is no part of the code's state
-abbrev pub who_of : List FrameRecord → Own → Who
-who_of known own = record {
+-- what it brought along is no part of the code's state
+abbrev pub who_of : Brought → Own → Who
+who_of brought own = record {
   name = name_raw own.name;
   address = own.address;
   served = own.served.items;
   subscribed = option_map (λ groups. groups.items) own.subscribed;
-  known = known;
+  brought = brought;
 }
 
 abbrev pub hold_after : Who → List Call → Hold
@@ -221,7 +222,7 @@ hold_after w H = record {
   pause = pause H;
   age = min (age H) 18446744073709551615;
   wait = wait H;
-  rest = rest H;
+  rest = rest w H;
 }
 
 -- the open broadcast, how many of its frames were taken, and the next token
@@ -427,7 +428,7 @@ is_out now source (Some x) = not (is_whole x || not (nat_eq source x.source)) &&
 
 -- c was made for w and called as H says
 pub record Is (w : Who) (H : List Call) (c : Controller) : Type 0 where
-  pub who : who_of w.known c.own ≡ w
+  pub who : who_of w.brought c.own ≡ w
   pub answered : AreAnswered w H
   pub hold : c.hold ≡ hold_after w H
   pub outgoing : map posted c.outgoing.items ≡ drop (length (told H)) (accepted w H)

@@ -11,12 +11,12 @@ ghost use Rattle.j39_address.specs.Claims.{holder_in};
 ghost use Rattle.j39_address.specs.Holder.{IsHolderAfter};
 ghost use Rattle.j39_address.specs.Node.{IsLeastFree, NoneFree};
 ghost use Rattle.j39_transport.specs.ReceiverModel.{message_shown};
-ghost use Rattle.j39_node.specs.History.{Who, Call, is_left, missed, told_claims};
+ghost use Rattle.j39_node.specs.History.{Who, Call, is_left, missed, told_claims, nothing};
 ghost use Rattle.j39_node.specs.Reception.{next_tick, reception};
 ghost use Rattle.j39_node.specs.Hearing.{unheard, waiting};
 ghost use Rattle.j39_node.specs.Transfers.{clock, is_replaced, next_due, packet_in, packets_in, sooner, transfer_by, transfer_in};
 ghost use Rattle.j39_node.specs.Hold.{lost, stands};
-ghost use Rattle.j39_node.specs.Moving.{IsSettled, has_given, has_told, moved};
+ghost use Rattle.j39_node.specs.Moving.{HasMoved, IsSettled, has_given, has_told};
 ghost use Rattle.j39_node.specs.History.Call.{At, TakeAskEnded, TakeEnded, TakeReceived, TakeRequest, TakeNews, TakeBroadcastEnded, ReleaseTransfer, TakeTransferEnded, ReleaseBroadcast};
 ghost use Rattle.j39_node.specs.History.Act.{Ask, Hear, Tick, TakeFrame, Send, Acknowledge, Broadcast, Transfer};
 ghost use Rattle.j39_node.specs.Asking.{is_asking};
@@ -87,7 +87,7 @@ impl Controller {
           address = address;
           served = map pgn_raw served.now;
           subscribed = option_map (λ g. map pgn_raw g.now) subscribed.entry;
-          known = [];
+          brought = nothing;
         }) [] c)) }
         ensures refused { OnErr result (IsAddress address × (length served.now ≤ 16)
             × AreFew (option_map (λ g. map pgn_raw g.now) subscribed.entry)) }
@@ -184,31 +184,31 @@ impl Controller {
     }
 
     /// Begins anew at another address, which it will claim: with the same NAME and groups, with what it knows of who holds
-    /// which address, and with nothing else, as a controller that `new` gives. What was due is dropped, a session too, without a
-    /// frame. False, where nothing changes, for an address above 253, or as long as something that was accepted isn't told to have
+    /// which address and which transfers rest, and with nothing else, as a controller that `new` gives. What was due is dropped, a
+    /// session too, without a frame. False, where nothing changes, for an address above 253, or as long as something that was accepted isn't told to have
     /// ended, or something received or news wasn't taken.
     ///
     /// A command to move (J1939-81, 4.2.3) is received as a broadcast in packets: `j39_address::commanded_of` reads it.
     pub fn move_to(&mut self, address: u8) -> bool
         ensures known { (w : Who) (H : List Call) → Is w H self.old
             → (IsTrue result ↔ (IsAddress address × IsSettled w H)) }
-        ensures moved { result ≡ true → (w : Who) (H : List Call) → Is w H self.old → Is (moved w H address) [] self.new }
+        ensures moved { result ≡ true → (w : Who) (H : List Call) → Is w H self.old → HasMoved w H address self.new }
         ensures stays { result ≡ false → self.new ≡ self.old }
     {
         if !self.is_settled() {
             return false;
         }
-        if !self.incoming.move_to(address) {
+        if !self.incoming.move_to(address, self.hold.moment) {
             return false;
         }
         self.own.address = address;
-        self.hold = Hold::new();
+        self.hold = self.hold.moved();
         self.taken = 0;
         self.next_token = 0;
         self.inbox.missed = 0;
         self.desk.due.clear();
         self.lane = Lane::new();
-        self.transfers = Transfers::new();
+        self.transfers.begin_anew();
         self.hearing = Hearing::new();
         true
     }
@@ -678,7 +678,7 @@ impl Controller {
     fn peek_message(&self, hold: Hold, now: Stamp) -> Option<Frame>
         ensures { option_map stamped result ≡ option_map (λ m. (stamp_micros now, m))
             (first_of None (option_map posted (slice_get self.now.outgoing.items self.now.taken))
-            (long_by (packet_by (lane_of (who_of [] self.now.own) self.now.lane).current self.now.lane.count hold.pause)
+            (long_by (packet_by (lane_of (who_of nothing self.now.own) self.now.lane).current self.now.lane.count hold.pause)
             (transfer_by (port_of self.now.transfers).current (clock hold.age)))) }
     {
         match self.outgoing.as_slice().get(self.taken) {

@@ -4,7 +4,7 @@ ghost use Rattle.std.specs.Option.{option_map};
 ghost use Rattle.j39_frame.specs.Stamp.{stamp_micros};
 ghost use Rattle.j39_node.specs.History.{stamp_at};
 ghost use Rattle.j39_node.specs.declared.hold.Standing.TheVariants as standing;
-ghost use Rattle.j39_node.specs.Hold.{asked, passed, heard, claimed, paused, renewed, rested, stands, lost, less, claims, left_at};
+ghost use Rattle.j39_node.specs.Hold.{asked, first, passed, heard, moved, claimed, paused, renewed, rested, stands, lost, less, claims, left_at};
 
 use j39_frame::Stamp;
 
@@ -71,7 +71,7 @@ pub(crate) struct Hold {
 impl Hold {
     /// Nothing was claimed; the first claim is owed.
     pub(crate) fn new() -> Hold
-        ensures { result ≡ record { moment = 0; standing = standing.Idle; owes_claim = true; pause = 0; age = 0; wait = 0; rest = 0 } }
+        ensures { result ≡ first }
     {
         Hold {
             moment: 0,
@@ -84,13 +84,28 @@ impl Hold {
         }
     }
 
+    /// Begins anew at another address, at the same moment. What rests goes on to rest.
+    pub(crate) fn moved(self) -> Hold
+        ensures { result ≡ moved self }
+    {
+        let mut hold = Hold::new().passed_to(self.moment);
+        hold.rest = self.rest;
+        hold
+    }
+
     /// At this moment: time that goes back is no time.
     pub(crate) fn passed(self, now: Stamp) -> Hold
         ensures { result ≡ passed (stamp_micros now) self }
     {
-        let step = now.micros().saturating_sub(self.moment);
+        self.passed_to(now.micros())
+    }
+
+    fn passed_to(self, moment: u64) -> Hold
+        ensures { result ≡ passed moment self }
+    {
+        let step = moment.saturating_sub(self.moment);
         Hold {
-            moment: now.micros(),
+            moment,
             standing: self.standing.less(step),
             owes_claim: self.owes_claim,
             pause: self.pause.saturating_sub(step),

@@ -18,7 +18,7 @@ ghost use Rattle.j39_node.specs.declared.kinds.News.{News};
 ghost use Rattle.j39_node.specs.declared.kinds.News.TheVariants as news;
 ghost use Rattle.j39_node.specs.declared.kinds.Refused.{Refused};
 ghost use Rattle.j39_node.specs.declared.kinds.Refused.TheVariants as refused;
-ghost use Rattle.j39_node.specs.History.{Who, is_smaller, Asked, Call, Message, Draft, IsFront, accepted, acknowledgment, acknowledgment_group, asked, asked_group, handed, is_served, requests, lost_news, another_news, missed_news, address_after, calls_for_claim, can_send, claim_address, claim_from, content, acknowledged, due, frames, got, heard, holds, is_held, is_lost, is_subscribed, kept, message_of, missed, moment, owes_claim, sent, step, told, all_frames, broadcasts, can_broadcast, first_frames, frame_of, has_packets, is_acknowledgment, is_claim, is_packet, is_transfer, open_broadcast, packets, told_broadcasts};
+ghost use Rattle.j39_node.specs.History.{Act, Who, is_smaller, Asked, Call, Message, Draft, IsFront, accepted, acknowledgment, acknowledgment_group, asked, asked_group, handed, is_served, requests, lost_news, another_news, missed_news, address_after, calls_for_claim, can_send, claim_address, claim_from, content, acknowledged, due, frames, got, heard, holds, is_held, is_lost, is_subscribed, kept, message_of, missed, moment, owes_claim, sent, step, told, all_frames, broadcasts, can_broadcast, first_frames, frame_of, has_packets, is_acknowledgment, is_claim, is_packet, is_transfer, open_broadcast, packets, told_broadcasts};
 ghost use Rattle.j39_node.specs.History.Call.{At, TakeBroadcastEnded, ReleaseTransfer, TakeNews, TakeRequest, TakeEnded, TakeReceived, TakeTransferEnded};
 ghost use Rattle.j39_node.specs.History.Act.{Acknowledge, Broadcast, Hear, Tick, TakeFrame, Send, Transfer};
 ghost use Rattle.j39_node.specs.Reception.{CameFromOne, delivered, got_transfers, heard_at, holder, is_move, listed, next_tick, reception, replied, reply_from, says, time_heard, whole, without};
@@ -31,7 +31,7 @@ ghost use Rattle.j39_node.specs.Transfers.{age, next_due, told_transfers, transf
 ghost use Rattle.j39_node.specs.Moves.{moves};
 ghost use Rattle.j39_node.specs.Asking.{asks, ended, told_asks};
 ghost use Rattle.j39_node.specs.Aside.{IsAside};
-ghost use Rattle.j39_node.specs.Since.{ClaimedSince, PacketSince, passed_in};
+ghost use Rattle.j39_node.specs.Since.{ClaimedSince, NeverBack, PacketSince, passed_in};
 ghost use Rattle.j39_node.specs.Example.{example, two};
 ghost use Rattle.j39_node.specs.Is.{AreAnswered, Is, next_frame, status_after};
 
@@ -44,6 +44,16 @@ pub fn sources()
         → Is w (At now (TakeFrame (Some f)) ∷ H) c
         → (message_of f ≡ claim_from w (claim_address w (address_after w H)))
         ⊎ (IsTrue (holds w H now) × (source_of f.id ≡ w.address) × (pgn_of f.id ≢ address_claimed_group)) }
+{}
+
+/// Between calls whose moments never go back the difference of their moments passes. Where a clock is set back, that call counts as no
+/// time, and from its moment on time goes on.
+pub fn time()
+    ensures difference { (later earlier : List Call) → NeverBack later earlier
+        → moment earlier + passed_in later earlier ≡ moment (later ++ earlier) }
+    ensures set_back { (later earlier : List Call) (now : ℕ) (act : Act) → now ≤ moment (later ++ earlier)
+        → (passed_in (At now act ∷ later) earlier ≡ passed_in later earlier) × (moment (At now act ∷ later ++ earlier) ≡ now) }
+    ensures behind { (later earlier : List Call) → moment (later ++ earlier) ≤ moment earlier + passed_in later earlier }
 {}
 
 /// Where an address is held, a claim of it was taken, no smaller NAME's claim of it was heard since, and 250 ms or more passed; and
