@@ -1,5 +1,5 @@
 -- A call more.
-use Rattle.std.proofs.Common.{◌≡◌, ℕ, suc, ◌+◌, ◌-◌, ◌<◌, ◌≤◌, List, [], ◌∷◌, ◌++◌, length, map, drop, min, Option, Some, None, IfSome, Result, Ok, Err, Bool, true, false, not, ◌&&◌, ◌||◌, if◌then◌else◌, nat_eq, nat_lt, nat_le, refl, sym, ap, ◌∙◌, subst, arith, lt-ltb}
+use Rattle.std.proofs.Common.{◌≡◌, ℕ, suc, ◌+◌, ◌-◌, ◌<◌, ◌≤◌, List, [], ◌∷◌, ◌++◌, length, map, drop, min, Option, Some, None, IfSome, Result, Ok, Err, Bool, true, false, not, ◌&&◌, ◌||◌, if◌then◌else◌, nat_eq, nat_lt, nat_le, refl, sym, ap, ◌∙◌, subst, arith, lt-ltb, eqb-true}
 use Rattle.std.specs.List.{slice_get}
 use Rattle.std.specs.Option.{option_map, option_or}
 use Rattle.j39_frame.specs.Frame.{FrameRecord}
@@ -26,8 +26,8 @@ use Rattle.j39_node.specs.declared.kinds.Refused.TheVariants.{NoAddress, BadValu
 use Rattle.j39_node.specs.Asking.{made, made_of, ended, has_token, open_ask, wait}
 use Rattle.j39_node.proofs.AskLemmas.{ask_heard, ask_more, ask_same, takes, wait_more, wait_same}
 use Rattle.j39_node.specs.Is.{AskRecord, made_by, asking_of, hears_with}
-use Rattle.j39_node.specs.Hold.{rested, asked as hold_asked, standing_of, less, passed, heard, claims, paused, stands, lost, left_at}
-use Rattle.j39_node.specs.History.{Who, Message, Draft, Call, Address, message_of, older, claimed, address_after, holds, is_lost, is_held, is_smaller, claim_address, claim_from, owes_claim, calls_for_claim, can_send, message_from, accepted, sent, told, is_full, step, moment, is_for_program, kept, got, missed, Asked, asked, acknowledgment, acknowledged, due, handed, requests, is_served, with_request, with_refusal, stamp_at, held_at, told_claims, is_another, is_acknowledgment, is_claim, lost_news, another_news, missed_news, broadcasts, broadcast_from, can_broadcast, has_packets, is_busy, is_left, is_open, is_packet, open_broadcast, packets, pause}
+use Rattle.j39_node.specs.Hold.{acknowledged as hold_acknowledged, claimed as hold_claimed, rested, spoken as hold_spoken, asked as hold_asked, standing_of, less, passed, heard, claims, paused, stands, lost, left_at}
+use Rattle.j39_node.specs.History.{nothing, turns, Who, Message, Draft, Call, Address, message_of, older, claimed, address_after, holds, is_lost, is_held, is_smaller, claim_address, claim_from, owes_claim, calls_for_claim, can_send, message_from, accepted, sent, told, is_full, step, moment, is_for_program, kept, got, missed, Asked, asked, acknowledgment, acknowledged, due, handed, requests, is_served, with_request, with_refusal, stamp_at, held_at, told_claims, is_another, is_acknowledgment, is_claim, lost_news, another_news, missed_news, broadcasts, broadcast_from, can_broadcast, has_packets, is_busy, is_left, is_open, is_packet, open_broadcast, packets, pause}
 use Rattle.j39_node.specs.History.Call.{At, TakeEnded, TakeRequest, TakeTransferEnded}
 use Rattle.j39_node.specs.History.Act.{Hear, TakeFrame, Send, Acknowledge, Broadcast, Transfer}
 use Rattle.j39_node.proofs.ReceptionLaws.{made_is}
@@ -38,7 +38,7 @@ use Rattle.j39_address.specs.declared.claims.Claims.{Claims}
 use Rattle.j39_node.proofs.ReceptionLemmas.{leaves_is, none_taken, replied_get, taken_is, tidy}
 use Rattle.j39_node.specs.Transfers.{holds_back, is_resting, rest, resting, rests_after, Running, age, answer_to_transfer, at_in, begun, can_transfer, clock, clock_at, is_engaged, next_due, next_transfer, next_transfer_ended, hears_if, is_replaced, open_transfer, packet_in, packets_in, sends_if, sooner, transfer_by, transfer_end, transfer_in, transfers as all_transfers}
 use Rattle.j39_node.specs.History.Address.{NotClaimed, Claimed, Lost}
-use Rattle.j39_node.specs.Is.{Is, stamped, next_frame, end_of, answer_to_send, answer_to_acknowledge, hold_after, who_of, posted, received_by, request_by, refusal_by, first_of, offered, counted, LaneRecord, opened, lane_of, lane_after, packet_by, next_control, control_of, next_packet, IncomingRecord, incoming_of, incoming_after, said_by, with_reception, with_replies, hears, answer_to_broadcast, broadcast_end, next_broadcast_ended, long_by, next_long, PortRecord, closed, port_after, port_of, resting_by, running, HearingRecord, hearing_of}
+use Rattle.j39_node.specs.Is.{Is, claim_goes, gives_way, is_there, next_acknowledgment, next_other, stamped, next_frame, end_of, answer_to_send, answer_to_acknowledge, hold_after, who_of, posted, received_by, request_by, refusal_by, first_of, offered, counted, LaneRecord, opened, lane_of, lane_after, packet_by, next_control, control_of, next_packet, IncomingRecord, incoming_of, incoming_after, said_by, with_reception, with_replies, hears, answer_to_broadcast, broadcast_end, next_broadcast_ended, long_by, next_long, PortRecord, closed, port_after, port_of, resting_by, running, HearingRecord, hearing_of}
 use Rattle.j39_frame.specs.Stamp.{stamp_micros}
 use Rattle.j39_node.specs.Hearing.{IsFit, hears as hears_it, is_unheard, left as leaves_it, made_whole, newly, unheard_news, waiting, whole_of}
 use Rattle.j39_node.proofs.HearingLemmas.{claimed_on, either_news, hearing_same, heard_on}
@@ -72,6 +72,7 @@ pub record Passed (w : Who) (H : List Call) (now : ℕ) (h : Hold) : Type 0 wher
   pub moment : h.moment ≡ now
   pub standing : h.standing ≡ standing_of (older (step H now) (address_after w H))
   pub owes : h.owes_claim ≡ owes_claim w H
+  pub turns : h.turns ≡ min (turns H) 2
   pub pause : h.pause ≡ pause H - step H now
   pub age : h.age ≡ min (age H + step H now) 18446744073709551615
   pub wait : h.wait ≡ wait H - step H now
@@ -87,6 +88,7 @@ passed_is w H now old new e f =
       moment = ap (λ (h : Hold). h.moment) g;
       standing = ap (λ (h : Hold). h.standing) g ∙ less_is (step H now) (address_after w H);
       owes = ap (λ (h : Hold). h.owes_claim) g;
+      turns = ap (λ (h : Hold). h.turns) g;
       pause = ap (λ (h : Hold). h.pause) g;
       age = ap (λ (h : Hold). h.age) g ∙ saturates (age H) (step H now);
       wait = ap (λ (h : Hold). h.wait) g;
@@ -96,15 +98,10 @@ passed_is w H now old new e f =
 pub holds_is : (w : Who) (H : List Call) (now : ℕ) (h : Hold) (b : Bool) → Passed w H now h → b ≡ stands h.standing → b ≡ holds w H now
 holds_is w H now h b p e = e ∙ (ap stands p.standing ∙ stands_is (older (step H now) (address_after w H)))
 
-pub is_hold : (h k : Hold) → h.rest ≡ k.rest → h.moment ≡ k.moment → h.standing ≡ k.standing → h.owes_claim ≡ k.owes_claim → h.pause ≡ k.pause → h.age ≡ k.age → h.wait ≡ k.wait → h ≡ k
-is_hold h k r e f g i j l =
-    ap (λ (x : ℕ). record h { moment = x }) e
-    ∙ (ap (λ (x : Standing). record h { moment = k.moment; standing = x }) f
-    ∙ (ap (λ (x : Bool). record h { moment = k.moment; standing = k.standing; owes_claim = x }) g
-    ∙ (ap (λ (x : ℕ). record h { moment = k.moment; standing = k.standing; owes_claim = k.owes_claim; pause = x }) i
-    ∙ (ap (λ (x : ℕ). record h { moment = k.moment; standing = k.standing; owes_claim = k.owes_claim; pause = k.pause; age = x }) j
-    ∙ (ap (λ (x : ℕ). record h { moment = k.moment; standing = k.standing; owes_claim = k.owes_claim; pause = k.pause; age = k.age; wait = x }) l
-    ∙ ap (λ (x : ℕ). record k { rest = x }) r)))))
+pub is_hold : (h k : Hold) → h.turns ≡ k.turns → h.rest ≡ k.rest → h.moment ≡ k.moment → h.standing ≡ k.standing → h.owes_claim ≡ k.owes_claim → h.pause ≡ k.pause
+    → h.age ≡ k.age → h.wait ≡ k.wait → h ≡ k
+is_hold h k d r e f g i j l = λ t. (let x : Hold = record
+    { turns = d t; rest = r t; moment = e t; standing = f t; owes_claim = g t; pause = i t; age = j t; wait = l t } in x)
 
 -- ---- the lane
 
@@ -206,22 +203,109 @@ none_due w H c h e =
     slice_get_past (due w H) (length (acknowledged H)) (omega (arith, a, e))
 
 -- what is to be said first, of an acknowledgment and a reply
-steered_by : (w : Who) (H : List Call) (a b : Option Message) → slice_get (due w H) (length (acknowledged H)) ≡ a → slice_get (reception w H).replies 0 ≡ b
-    → next_control w H ≡ control_of a b
-steered_by w H a b e f = ap (λ (x : Option Message). control_of x (slice_get (reception w H).replies 0)) e ∙ ap (control_of a) f
+steered_by : (w : Who) (H : List Call) (now : ℕ) (a b : Option Message) → next_acknowledgment w H now ≡ a → slice_get (reception w H).replies 0 ≡ b
+    → next_control w H now ≡ control_of a b
+steered_by w H now a b e f = ap (λ (x : Option Message). control_of x (slice_get (reception w H).replies 0)) e ∙ ap (control_of a) f
 
-steered_due : (w : Who) (H : List Call) (m : Message) → slice_get (due w H) (length (acknowledged H)) ≡ Some m → next_control w H ≡ Some m
-steered_due w H m e = steered_by w H (Some m) _ e refl
+steered_due : (w : Who) (H : List Call) (now : ℕ) (m : Message) → next_acknowledgment w H now ≡ Some m → next_control w H now ≡ Some m
+steered_due w H now m e = steered_by w H now (Some m) _ e refl
 
-none_steered : (w : Who) (H : List Call) (c : Controller) → Is w H c → length c.desk.due.items ≡ 0 → length c.incoming.replies.items ≡ 0 → next_control w H ≡ None
-none_steered w H c h e f = steered_by w H None None (none_due w H c h e) (ap (λ (xs : List Message). slice_get xs 0) (none_replied w H c h f))
+none_steered : (w : Who) (H : List Call) (now : ℕ) (c : Controller) → Is w H c → next_acknowledgment w H now ≡ None → length c.incoming.replies.items ≡ 0
+    → next_control w H now ≡ None
+none_steered w H now c h e f = steered_by w H now None None e (ap (λ (xs : List Message). slice_get xs 0) (none_replied w H c h f))
 
-next_is : (w : Who) (H : List Call) (now : ℕ) (a : Option Message) (o : Option (ℕ × Message)) → owes_claim w H ≡ false → holds w H now ≡ true
-    → next_control w H ≡ a → slice_get (accepted w H) (length (sent H)) ≡ o
+-- ---- who gives way
+
+pub turns_same : (H : List Call) (now : ℕ) (f : FrameRecord) → is_claim f ≡ false → is_acknowledgment f ≡ false → 0 ≡ min (turns (At now (TakeFrame (Some f)) ∷ H)) 2
+turns_same H now f n l = ap (λ (b : Bool). min (if b then suc (turns H) else 0) 2) (sym (ap (λ (b : Bool). b || is_acknowledgment f) n ∙ l))
+
+pub turns_more : (H : List Call) (now : ℕ) (f : FrameRecord) (t : ℕ) → (is_claim f || is_acknowledgment f) ≡ true → t ≡ min (turns H) 2
+    → min (suc t) 2 ≡ min (turns (At now (TakeFrame (Some f)) ∷ H)) 2
+turns_more H now f t e g = more (turns H) t g ∙ ap (λ (b : Bool). min (if b then suc (turns H) else 0) 2) (sym e)
+  where
+    more : (n t : ℕ) → t ≡ min n 2 → min (suc t) 2 ≡ min (suc n) 2
+    more n t g = omega (arith, g)
+
+owes_same : (w : Who) (H : List Call) (now : ℕ) (f : FrameRecord) → is_claim f ≡ false → owes_claim w H ≡ owes_claim w (At now (TakeFrame (Some f)) ∷ H)
+owes_same w H now f n = ap (λ (b : Bool). if b then false else owes_claim w H) (sym n)
+
+-- the next reply or message
+pub message_next : (w : Who) (H : List Call) (c : Controller) → Is w H c → is_lost (address_after w H) ≡ false
+    → option_map posted (slice_get c.outgoing.items c.taken) ≡ slice_get (accepted w H) (length (sent H))
+message_next w H c h l = next (slice_get c.outgoing.items c.taken) refl ((sound w H h.answered).in_turn l)
+  where
+    next : (o : Option Outgoing) → slice_get c.outgoing.items c.taken ≡ o → length (told H) ≤ length (sent H)
+        → option_map posted o ≡ slice_get (accepted w H) (length (sent H))
+    next None e t = sym (not_in_rest posted c.outgoing.items (accepted w H) (length (told H)) (length (sent H)) c.taken h.outgoing h.taken t e)
+    next (Some y) e t = sym (in_rest posted c.outgoing.items y (accepted w H) (length (told H)) (length (sent H)) c.taken h.outgoing h.taken t e)
+
+two_turns : (t n : ℕ) → t ≡ min n 2 → nat_le 2 t ≡ nat_le 2 n
+two_turns t n e = go (nat_le 2 n) refl
+  where
+    less : (t n : ℕ) → t ≡ min n 2 → nat_le 2 n ≡ true → nat_le 2 t ≡ true
+    less t n e f = grind (arith, e)
+
+    not_less : (t n : ℕ) → t ≡ min n 2 → nat_le 2 n ≡ false → nat_le 2 t ≡ false
+    not_less t n e f = grind (arith, e)
+
+    go : (b : Bool) → nat_le 2 n ≡ b → nat_le 2 t ≡ nat_le 2 n
+    go true f = less t n e f ∙ sym f
+    go false f = not_less t n e f ∙ sym f
+
+pub gives_is : (w : Who) (H : List Call) (c : Controller) (now : ℕ) (k : Hold) (b : Bool) → Is w H c → Passed w H now k
+    → b ≡ (nat_le 2 k.turns && (stands k.standing && is_there (first_of (slice_get (incoming_of c.incoming).reception.replies 0)
+    (option_map posted (slice_get c.outgoing.items c.taken))
+    (long_by (packet_by (lane_of (who_of nothing c.own) c.lane).current c.lane.count k.pause) (transfer_by (port_of c.transfers).current (clock k.age))))))
+    → b ≡ gives_way w H now
+gives_is w H c now k b h p e =
+    e ∙ ((λ i. two_turns k.turns (turns H) p.turns i && (holds_is w H now k (stands k.standing) p refl i && is_there (first_of
+    (slice_get (replies_is w H c h i) 0) (option_map posted (slice_get c.outgoing.items c.taken))
+    (long_next w H c now k.pause k.age h p.pause p.age i))))
+    ∙ ap (λ (b : Bool). nat_le 2 (turns H) && b) (go (holds w H now) refl))
+  where
+    go : (b : Bool) → holds w H now ≡ b
+        → (holds w H now && is_there (first_of (slice_get (reception w H).replies 0) (option_map posted (slice_get c.outgoing.items c.taken)) (next_long w H now)))
+        ≡ is_there (next_other w H now)
+    go true i =
+        (λ j. i j && is_there (first_of (slice_get (reception w H).replies 0) (message_next w H c h (holding_not_lost w H now i) j) (next_long w H now)))
+        ∙ ap (λ (b : Bool). is_there (if b then first_of (slice_get (reception w H).replies 0) (slice_get (accepted w H) (length (sent H))) (next_long w H now) else None)) (sym i)
+    go false i =
+        (λ j. i j && is_there (first_of (slice_get (reception w H).replies 0) (option_map posted (slice_get c.outgoing.items c.taken)) (next_long w H now)))
+        ∙ ap (λ (b : Bool). is_there (if b then first_of (slice_get (reception w H).replies 0) (slice_get (accepted w H) (length (sent H))) (next_long w H now) else None)) (sym i)
+
+pub goes_is : (w : Who) (H : List Call) (now : ℕ) (k : Hold) (gives b : Bool) → Passed w H now k → gives ≡ gives_way w H now → (k.owes_claim && not gives) ≡ b
+    → claim_goes w H now ≡ b
+goes_is w H now k gives b p g e = sym ((λ i. p.owes i && not (g i))) ∙ e
+
+-- no acknowledgment goes, or the first that is due
+pub none_acknowledged : (w : Who) (H : List Call) (c : Controller) (now : ℕ) (gives : Bool) → Is w H c → gives ≡ gives_way w H now
+    → (not gives && not (nat_eq (length c.desk.due.items) 0)) ≡ false → next_acknowledgment w H now ≡ None
+none_acknowledged w H c now true h g e = ap (λ (b : Bool). if b then None else slice_get (due w H) (length (acknowledged H))) (sym g)
+none_acknowledged w H c now false h g e =
+    ap (λ (b : Bool). if b then None else slice_get (due w H) (length (acknowledged H))) (sym g) ∙ none_due w H c h (none (length c.desk.due.items) e)
+  where
+    none : (n : ℕ) → not (nat_eq n 0) ≡ false → n ≡ 0
+    none n e = go (nat_eq n 0) refl e
+      where
+        go : (b : Bool) → nat_eq n 0 ≡ b → not b ≡ false → n ≡ 0
+        go true i f = eqb-true n 0 i
+        go false i f = absurd (cc)
+
+pub due_there : (gives : Bool) (n : ℕ) → (not gives && not (nat_eq n 0)) ≡ true → not (nat_eq n 0) ≡ true
+due_there true n e = absurd (cc)
+due_there false n e = e
+
+pub one_acknowledged : (w : Who) (H : List Call) (now : ℕ) (gives b : Bool) (m : Message) → gives ≡ gives_way w H now → (not gives && b) ≡ true
+    → slice_get (due w H) (length (acknowledged H)) ≡ Some m → next_acknowledgment w H now ≡ Some m
+one_acknowledged w H now true b m g e i = absurd (cc)
+one_acknowledged w H now false b m g e i = ap (λ (b : Bool). if b then None else slice_get (due w H) (length (acknowledged H))) (sym g) ∙ i
+
+next_is : (w : Who) (H : List Call) (now : ℕ) (a : Option Message) (o : Option (ℕ × Message)) → claim_goes w H now ≡ false → holds w H now ≡ true
+    → next_control w H now ≡ a → slice_get (accepted w H) (length (sent H)) ≡ o
     → next_frame w H now ≡ option_map (λ m. (now, m)) (first_of a o (next_long w H now))
 next_is w H now a o e f g k =
-    ap (λ (b : Bool). frame_by b (holds w H now) (next_control w H) (slice_get (accepted w H) (length (sent H))) (next_long w H now) claim now) e
-    ∙ (ap (λ (b : Bool). frame_by false b (next_control w H) (slice_get (accepted w H) (length (sent H))) (next_long w H now) claim now) f
+    ap (λ (b : Bool). frame_by b (holds w H now) (next_control w H now) (slice_get (accepted w H) (length (sent H))) (next_long w H now) claim now) e
+    ∙ (ap (λ (b : Bool). frame_by false b (next_control w H now) (slice_get (accepted w H) (length (sent H))) (next_long w H now) claim now) f
     ∙ (ap (λ (x : Option Message). frame_by false true x (slice_get (accepted w H) (length (sent H))) (next_long w H now) claim now) g
     ∙ ap (λ (x : Option (ℕ × Message)). frame_by false true a x (next_long w H now) claim now) k))
   where
@@ -229,7 +313,7 @@ next_is w H now a o e f g k =
     claim = claim_from w (claim_address w (address_after w H))
 
 pub taken : (w : Who) (H : List Call) (old new : Controller) (now : ℕ) (r : Option FrameRecord) (x : Outgoing) (mid : Hold) → Is w H old
-    → Passed w H now mid → mid.owes_claim ≡ false → holds w H now ≡ true → length old.desk.due.items ≡ 0
+    → Passed w H now mid → claim_goes w H now ≡ false → holds w H now ≡ true → next_acknowledgment w H now ≡ None
     → length old.incoming.replies.items ≡ 0 → slice_get old.outgoing.items old.taken ≡ Some x → option_map stamped r ≡ Some (now, (posted x).1)
     → new ≡ record old { hold = new.hold; taken = new.taken; asking = new.asking } → new.taken ≡ suc old.taken → (request : Bool)
     → asking_of new.asking ≡ option_map (takes x.token) (asking_of old.asking)
@@ -249,8 +333,8 @@ taken w H old new now (Some f) x mid h p owes held none quiet g m e d request a1
     let number = s.numbered (length (sent H)) (posted x) i in
     record {
       who = ap (λ c. who_of w.brought c.own) e ∙ h.who;
-      answered = (h.answered, ap Some k ∙ sym (next_is w H now None (Some (posted x)) (sym p.owes ∙ owes) held (none_steered w H old h none quiet) i));
-      hold = a3 ∙ is_hold _ _ p.rest p.moment (p.standing ∙ ap standing_of (sym (address_is w H now f false n))) owes (p.pause ∙ sym (pause_is H now f false (no_packet f one))) p.age
+      answered = (h.answered, ap Some k ∙ sym (next_is w H now None (Some (posted x)) owes held (none_steered w H now old h none quiet) i));
+      hold = a3 ∙ is_hold _ _ (turns_same H now f n l) p.rest p.moment (p.standing ∙ ap standing_of (sym (address_is w H now f false n))) (p.owes ∙ owes_same w H now f n) (p.pause ∙ sym (pause_is H now f false (no_packet f one))) p.age
           (ap (λ (k : ℕ). if request then 1250000 else k) p.wait
           ∙ wait_more w H now x.token f request n l one number (a2 ∙ ap (λ (o : Option AskRecord). has_token (option_map (λ (y : AskRecord). y.question) o) x.token) h.asking));
       asking = a1 ∙ (ap (option_map (takes x.token)) h.asking ∙ ask_more w H now x.token f number more);
@@ -272,7 +356,7 @@ taken w H old new now (Some f) x mid h p owes held none quiet g m e d request a1
     }
 
 pub taken_none : (w : Who) (H : List Call) (old new : Controller) (now : ℕ) → Is w H old
-    → Passed w H now new.hold → new.hold.owes_claim ≡ false → holds w H now ≡ true → length old.desk.due.items ≡ 0
+    → Passed w H now new.hold → claim_goes w H now ≡ false → holds w H now ≡ true → next_acknowledgment w H now ≡ None
     → length old.incoming.replies.items ≡ 0 → slice_get old.outgoing.items old.taken ≡ None
     → (let none : Option (ℕ × Message) = None in none) ≡ option_map (at_now now) (packet_by (lane_of (who_of w.brought old.own) old.lane).current old.lane.count new.hold.pause)
     → (let none : Option (ℕ × Message) = None in none) ≡ option_map (at_now now) (transfer_by (port_of old.transfers).current (clock new.hold.age))
@@ -287,9 +371,9 @@ taken_none w H old new now h p owes held none quiet g m u e =
         h.answered,
         ap (option_map (at_now now)) (sym (ap (λ o. long_by o (transfer_by (port_of old.transfers).current (clock new.hold.age))) (no_message now _ m) ∙ no_message now _ u))
             ∙ (ap (option_map (at_now now)) (long_next w H old now new.hold.pause new.hold.age h p.pause p.age)
-            ∙ sym (next_is w H now None None (sym p.owes ∙ owes) held (none_steered w H old h none quiet) i)),
+            ∙ sym (next_is w H now None None owes held (none_steered w H now old h none quiet) i)),
       );
-      hold = is_hold _ _ p.rest p.moment p.standing p.owes p.pause p.age p.wait;
+      hold = is_hold _ _ p.turns p.rest p.moment p.standing p.owes p.pause p.age p.wait;
       outgoing = ap (λ c. map posted c.outgoing.items) e ∙ h.outgoing;
       taken = ap (λ c. c.taken) e ∙ h.taken;
       token = ap (λ c. c.next_token) e ∙ h.token;
@@ -307,7 +391,7 @@ taken_none w H old new now h p owes held none quiet g m u e =
     }
 
 pub taken_packet : (w : Who) (H : List Call) (old new : Controller) (now : ℕ) (f : FrameRecord) (mid : Hold) → Is w H old
-    → Passed w H now mid → mid.owes_claim ≡ false → holds w H now ≡ true → length old.desk.due.items ≡ 0
+    → Passed w H now mid → claim_goes w H now ≡ false → holds w H now ≡ true → next_acknowledgment w H now ≡ None
     → length old.incoming.replies.items ≡ 0 → slice_get old.outgoing.items old.taken ≡ None
     → Some (stamped f) ≡ option_map (at_now now) (packet_by (lane_of (who_of w.brought old.own) old.lane).current old.lane.count mid.pause)
     → new ≡ record old { hold = new.hold; lane = new.lane } → new.hold ≡ paused mid → new.lane ≡ record old.lane { count = new.lane.count }
@@ -328,9 +412,9 @@ taken_packet w H old new now f mid h p owes held none quiet g m e e0 e1 more =
           answered = (
             h.answered,
             i ∙ (ap (λ o. option_map (at_now now) (long_by o (next_transfer w H now))) (sym q)
-                ∙ sym (next_is w H now None None (sym p.owes ∙ owes) held (none_steered w H old h none quiet) past)),
+                ∙ sym (next_is w H now None None owes held (none_steered w H now old h none quiet) past)),
           );
-          hold = e0 ∙ is_hold _ _ p.rest p.moment (p.standing ∙ ap standing_of (sym (address_is w H now f false is.0))) owes (sym (pause_is H now f true is.2)) p.age (p.wait ∙ wait_same H now f false false true is.0 is.1 (packet_session f is.2).0 refl);
+          hold = e0 ∙ is_hold _ _ (turns_same H now f is.0 is.1) p.rest p.moment (p.standing ∙ ap standing_of (sym (address_is w H now f false is.0))) (p.owes ∙ owes_same w H now f is.0) (sym (pause_is H now f true is.2)) p.age (p.wait ∙ wait_same H now f false false true is.0 is.1 (packet_session f is.2).0 refl);
           outgoing = ap (λ c. map posted c.outgoing.items) e ∙ h.outgoing;
           taken = ap (λ c. c.taken) e ∙ (h.taken ∙ ap (λ (xs : List Message). length xs - length (told H)) (sym (sent_is H now f false false true is.0 is.1 (packet_session f is.2).0)));
           token = ap (λ c. c.next_token) e ∙ h.token;
@@ -352,11 +436,11 @@ taken_packet w H old new now f mid h p owes held none quiet g m e e0 e1 more =
         }
 
 pub taken_transfer : (w : Who) (H : List Call) (old new : Controller) (now : ℕ) (f : FrameRecord) (mid : Hold) → Is w H old
-    → Passed w H now mid → mid.owes_claim ≡ false → holds w H now ≡ true → length old.desk.due.items ≡ 0 → length old.incoming.replies.items ≡ 0
+    → Passed w H now mid → claim_goes w H now ≡ false → holds w H now ≡ true → next_acknowledgment w H now ≡ None → length old.incoming.replies.items ≡ 0
     → slice_get old.outgoing.items old.taken ≡ None
     → (let none : Option (ℕ × Message) = None in none) ≡ option_map (at_now now) (packet_by (lane_of (who_of w.brought old.own) old.lane).current old.lane.count mid.pause)
     → Some (stamped f) ≡ option_map (at_now now) (transfer_by (port_of old.transfers).current (clock mid.age))
-    → new ≡ record old { hold = mid; transfers = new.transfers }
+    → new ≡ record old { hold = hold_spoken mid; transfers = new.transfers }
     → (port_of new.transfers).current ≡ sends_if true (clock mid.age) (port_of old.transfers).current → new.transfers.next_token ≡ old.transfers.next_token
     → new.transfers.resting ≡ old.transfers.resting → Is w (At now (TakeFrame (Some f)) ∷ H) new
 taken_transfer w H old new now f mid h p owes held none quiet g m u e e0 e1 e2 =
@@ -378,9 +462,9 @@ taken_transfer w H old new now f mid h p owes held none quiet g m u e e0 e1 e2 =
           answered = (
             h.answered,
             i ∙ (ap (option_map (at_now now)) (sym (ap (λ o. long_by o (next_transfer w H now)) no_packets ∙ q))
-                ∙ sym (next_is w H now None None (sym p.owes ∙ owes) held (none_steered w H old h none quiet) past)),
+                ∙ sym (next_is w H now None None owes held (none_steered w H now old h none quiet) past)),
           );
-          hold = ap (λ c. c.hold) e ∙ is_hold _ _ p.rest p.moment (p.standing ∙ ap standing_of (sym (address_is w H now f false is.claim))) owes
+          hold = ap (λ c. c.hold) e ∙ is_hold _ _ (turns_same H now f is.claim is.plain) p.rest p.moment (p.standing ∙ ap standing_of (sym (address_is w H now f false is.claim))) (p.owes ∙ owes_same w H now f is.claim)
               (p.pause ∙ sym (pause_is H now f false is.packet)) p.age (p.wait ∙ wait_same H now f false false true is.claim is.plain is.session refl);
           outgoing = ap (λ c. map posted c.outgoing.items) e ∙ h.outgoing;
           taken = ap (λ c. c.taken) e ∙ (h.taken ∙ ap (λ (xs : List Message). length xs - length (told H)) (sym (sent_is H now f false false true is.claim is.plain is.session)));
@@ -398,25 +482,25 @@ taken_transfer w H old new now f mid h p owes held none quiet g m u e e0 e1 e2 =
           hearing = ap (λ c. hearing_of c.hearing) e ∙ (h.hearing ∙ hearing_same w H now f is.claim);
           port = is_port _ _
               (e0 ∙ (ap (λ (n : ℕ). sends_if true n (port_of old.transfers).current) (ap clock p.age ∙ clock_is (age H + step H now))
-              ∙ (ap (λ (t : PortRecord). sends_if true (clock_at H now) t.current) h.port ∙ port_more w H now f (is_moved w H f is.transfer (none_steers (slice_get (due w H) (length (acknowledged H))) _ (none_steered w H old h none quiet)).1))))
+              ∙ (ap (λ (t : PortRecord). sends_if true (clock_at H now) t.current) h.port ∙ port_more w H now f (is_moved w H f is.transfer (none_steers (next_acknowledgment w H now) _ (none_steered w H now old h none quiet)).1))))
               (e1 ∙ ap (λ (t : PortRecord). t.next_token) h.port) (ap resting_by e2 ∙ ap (λ (t : PortRecord). t.resting) h.port);
           incoming = ap (λ c. incoming_of c.incoming) e ∙ (h.incoming ∙ incoming_same w H now f (none_taken w H now f is.claim is.plain (none_replied w H old h quiet)));
         }
 
-pub taken_due : (w : Who) (H : List Call) (old new : Controller) (now : ℕ) (r : Option FrameRecord) (x : Due) → Is w H old
-    → Passed w H now new.hold → new.hold.owes_claim ≡ false → holds w H now ≡ true
-    → First (refusal_by w) new.desk.due.items x (length (acknowledged H)) (due w H) → option_map stamped r ≡ Some (now, refusal_by w x)
-    → new ≡ record old { hold = new.hold; desk = record { waiting = old.desk.waiting; due = new.desk.due } } → Is w (At now (TakeFrame r) ∷ H) new
-taken_due w H old new now None x h p owes held first m e = absurd (cc)
-taken_due w H old new now (Some f) x h p owes held first m e =
+pub taken_due : (w : Who) (H : List Call) (old new : Controller) (now : ℕ) (r : Option FrameRecord) (x : Due) (mid : Hold) → Is w H old
+    → Passed w H now mid → claim_goes w H now ≡ false → holds w H now ≡ true
+    → next_acknowledgment w H now ≡ Some (refusal_by w x) → First (refusal_by w) new.desk.due.items x (length (acknowledged H)) (due w H) → option_map stamped r ≡ Some (now, refusal_by w x)
+    → new ≡ record old { hold = new.hold; desk = record { waiting = old.desk.waiting; due = new.desk.due } } → new.hold ≡ hold_acknowledged mid → Is w (At now (TakeFrame r) ∷ H) new
+taken_due w H old new now None x mid h p owes held next first m e e0 = absurd (cc)
+taken_due w H old new now (Some f) x mid h p owes held next first m e e0 =
     let s = sound w H h.answered in
     let k : stamped f ≡ (now, refusal_by w x) = cc in
     let is = due_taken w f now (refusal_by w x) k (due_get w (due w H) (length (acknowledged H)) (refusal_by w x) s.desk.0 first.is) in
     let more = acknowledged_is H now f false true is.0 is.1 in
     record {
       who = ap (λ c. who_of w.brought c.own) e ∙ h.who;
-      answered = (h.answered, ap Some k ∙ sym (next_is w H now (Some (refusal_by w x)) _ (sym p.owes ∙ owes) held (steered_due w H (refusal_by w x) first.is) refl));
-      hold = is_hold _ _ p.rest p.moment (p.standing ∙ ap standing_of (sym (address_is w H now f false is.0))) owes (p.pause ∙ sym (pause_is H now f false (no_packet f is.2))) p.age (p.wait ∙ wait_same H now f false true false is.0 is.1 is.2 refl);
+      answered = (h.answered, ap Some k ∙ sym (next_is w H now (Some (refusal_by w x)) _ owes held (steered_due w H now (refusal_by w x) next) refl));
+      hold = e0 ∙ is_hold _ _ (turns_more H now f mid.turns (ap (λ (b : Bool). b || is_acknowledgment f) is.0 ∙ is.1) p.turns) p.rest p.moment (p.standing ∙ ap standing_of (sym (address_is w H now f false is.0))) (p.owes ∙ owes_same w H now f is.0) (p.pause ∙ sym (pause_is H now f false (no_packet f is.2))) p.age (p.wait ∙ wait_same H now f false true false is.0 is.1 is.2 refl);
       outgoing = ap (λ c. map posted c.outgoing.items) e ∙ h.outgoing;
       taken = ap (λ c. c.taken) e ∙ (h.taken ∙ ap (λ (xs : List Message). length xs - length (told H)) (sym (sent_is H now f false true false is.0 is.1 is.2)));
       token = ap (λ c. c.next_token) e ∙ h.token;
@@ -434,14 +518,14 @@ taken_due w H old new now (Some f) x h p owes held first m e =
       port = ap (λ c. port_of c.transfers) e ∙ (h.port ∙ port_same w H now f (no_move w H f (no_transfer f is.2)));
     }
 
-pub taken_reply : (w : Who) (H : List Call) (old new : Controller) (now : ℕ) (r : Option FrameRecord) (x : Said) → Is w H old → Passed w H now new.hold
-    → new.hold.owes_claim ≡ false → holds w H now ≡ true → length old.desk.due.items ≡ 0
+pub taken_reply : (w : Who) (H : List Call) (old new : Controller) (now : ℕ) (r : Option FrameRecord) (x : Said) (mid : Hold) → Is w H old → Passed w H now mid
+    → claim_goes w H now ≡ false → holds w H now ≡ true → next_acknowledgment w H now ≡ None
     → First (said_by old.incoming.receiver.state.own) new.incoming.replies.items x 0 (reception w H).replies
     → option_map stamped r ≡ Some (now, said_by w.address x)
-    → new ≡ record old { hold = new.hold; incoming = new.incoming } → new.incoming ≡ record old.incoming { replies = new.incoming.replies }
+    → new ≡ record old { hold = new.hold; incoming = new.incoming } → new.incoming ≡ record old.incoming { replies = new.incoming.replies } → new.hold ≡ hold_spoken mid
     → Is w (At now (TakeFrame r) ∷ H) new
-taken_reply w H old new now None x h p owes held none first m e e0 = absurd (cc)
-taken_reply w H old new now (Some f) x h p owes held none first m e e0 =
+taken_reply w H old new now None x mid h p owes held none first m e e0 e1 = absurd (cc)
+taken_reply w H old new now (Some f) x mid h p owes held none first m e e0 e1 =
     let own : old.incoming.receiver.state.own ≡ w.address = ap (λ (y : IncomingRecord). y.own) h.incoming in
     let k : stamped f ≡ (now, said_by w.address x) = cc in
     let at : slice_get (reception w H).replies 0 ≡ Some (said_by w.address x) = first.is ∙ ap (λ (a : ℕ). Some (said_by a x)) own in
@@ -450,9 +534,9 @@ taken_reply w H old new now (Some f) x h p owes held none first m e e0 =
       who = ap (λ c. who_of w.brought c.own) e ∙ h.who;
       answered = (
         h.answered,
-        ap Some k ∙ sym (next_is w H now (Some (said_by w.address x)) _ (sym p.owes ∙ owes) held (steered_by w H None _ (none_due w H old h none) at) refl),
+        ap Some k ∙ sym (next_is w H now (Some (said_by w.address x)) _ owes held (steered_by w H now None _ none at) refl),
       );
-      hold = is_hold _ _ p.rest p.moment (p.standing ∙ ap standing_of (sym (address_is w H now f false is.0))) owes (p.pause ∙ sym (pause_is H now f false is.3)) p.age (p.wait ∙ wait_same H now f false false true is.0 is.1 is.2 refl);
+      hold = e1 ∙ is_hold _ _ (turns_same H now f is.0 is.1) p.rest p.moment (p.standing ∙ ap standing_of (sym (address_is w H now f false is.0))) (p.owes ∙ owes_same w H now f is.0) (p.pause ∙ sym (pause_is H now f false is.3)) p.age (p.wait ∙ wait_same H now f false false true is.0 is.1 is.2 refl);
       outgoing = ap (λ c. map posted c.outgoing.items) e ∙ h.outgoing;
       taken = ap (λ c. c.taken) e ∙ (h.taken ∙ ap (λ (xs : List Message). length xs - length (told H)) (sym (sent_is H now f false false true is.0 is.1 is.2)));
       token = ap (λ c. c.next_token) e ∙ h.token;
@@ -557,7 +641,7 @@ posts w H old new now d x h p held can room is e0 e1 e2 e3 e4 e5 e6 e7 e8 e9 e10
     record {
       who = ap (who_of w.brought) e2 ∙ h.who;
       answered = (h.answered, ap Ok h.token ∙ sym (answer (holds w H now) (can_send w d) (is_full w H) held can (sym (full_is w H old h) ∙ room)));
-      hold = is_hold _ _ p.rest p.moment p.standing p.owes p.pause p.age p.wait;
+      hold = is_hold _ _ p.turns p.rest p.moment p.standing p.owes p.pause p.age p.wait;
       outgoing = ap (map posted) e0 ∙ (map_append posted old.outgoing.items x
           ∙ (ap (λ l. l ++ posted x ∷ []) h.outgoing ∙ (ap (λ (y : ℕ × Message). drop (length (told H)) (accepted w H) ++ y ∷ []) is
           ∙ sym (drop_append (length (told H)) (accepted w H) (old.next_token, message_from w d) s.within))));
@@ -722,7 +806,7 @@ heard_more w H old new when f mid held wanted away gone calls replaced unheard o
     record {
       who = ap (who_of w.brought) s1 ∙ h.who;
       answered = (h.answered, tt);
-      hold = is_hold _ _ (ap (λ (k : Hold). k.rest) e8 ∙ p.rest) (ap (λ (k : Hold). k.moment) e8 ∙ p.moment) stands_now
+      hold = is_hold _ _ (ap (λ (k : Hold). k.turns) e8 ∙ p.turns) (ap (λ (k : Hold). k.rest) e8 ∙ p.rest) (ap (λ (k : Hold). k.moment) e8 ∙ p.moment) stands_now
           (ap (λ (k : Hold). k.owes_claim) e8 ∙ (ap (λ (b : Bool). b || calls) p.owes ∙ ap (λ (b : Bool). owes_claim w H || b) asks))
           (ap (λ (k : Hold). k.pause) e8 ∙ p.pause) (ap (λ (k : Hold). k.age) e8 ∙ p.age) (ap (λ (k : Hold). k.wait) e8 ∙ p.wait);
       outgoing = ap (λ o. map posted o.items) s2 ∙ h.outgoing;
@@ -821,7 +905,7 @@ due_more w H old new now answer x h p right a g e =
     record {
       who = ap (λ c. who_of w.brought c.own) e ∙ h.who;
       answered = (h.answered, right);
-      hold = is_hold _ _ p.rest p.moment p.standing p.owes p.pause p.age p.wait;
+      hold = is_hold _ _ p.turns p.rest p.moment p.standing p.owes p.pause p.age p.wait;
       outgoing = ap (λ c. map posted c.outgoing.items) e ∙ h.outgoing;
       taken = ap (λ c. c.taken) e ∙ h.taken;
       token = ap (λ c. c.next_token) e ∙ h.token;
@@ -848,7 +932,7 @@ pub refuses_send : (w : Who) (H : List Call) (old new : Controller) (now : ℕ) 
 refuses_send w H old new now d r h p answer e = record {
   who = ap (λ c. who_of w.brought c.own) e ∙ h.who;
   answered = (h.answered, answer);
-  hold = is_hold _ _ p.rest p.moment p.standing p.owes p.pause p.age p.wait;
+  hold = is_hold _ _ p.turns p.rest p.moment p.standing p.owes p.pause p.age p.wait;
   outgoing = ap (λ c. map posted c.outgoing.items) e ∙ h.outgoing;
   taken = ap (λ c. c.taken) e ∙ h.taken;
   token = ap (λ c. c.next_token) e ∙ h.token;
@@ -945,7 +1029,7 @@ claims_after (Claimed e) = refl
 claims_after Lost = refl
 
 pub claims_more : (w : Who) (H : List Call) (old new : Controller) (now : ℕ) (f : FrameRecord) (mid : Hold) (a : ℕ) → Is w H old → Passed w H now mid
-    → mid.owes_claim ≡ true → new.hold ≡ record { moment = mid.moment; standing = claims mid.standing; owes_claim = false; pause = mid.pause; age = mid.age; wait = mid.wait; rest = mid.rest }
+    → claim_goes w H now ≡ true → new.hold ≡ hold_claimed mid
     → Some (stamped f) ≡ Some (now, claim_from (who_of w.brought old.own) a) → a ≡ (if lost mid.standing then 254 else old.own.address)
     → ((F : List FrameRecord) → Knows old.holders F → Knows new.holders (F ++ f ∷ []))
     → incoming_of new.incoming ≡ with_reception (left (leaves (holder_in old.holders) (holder_in new.holders) (incoming_of old.incoming).reception.session)
@@ -963,16 +1047,15 @@ claims_more w H old new now f mid a h p owes e0 m at knows drops left_by p1 p2 t
     let k : stamped f ≡ (now, claim_from (who_of w.brought old.own) a) = cc in
     let j : stamped f ≡ (now, claim_from w (claim_address w (address_after w H))) = k ∙ ap (λ (x : Message). (now, x)) from in
     let n = claim_taken f now w (claim_address w (address_after w H)) j in
-    let due_claim : owes_claim w H ≡ true = sym p.owes ∙ owes in
     record {
       who = ap (λ c. who_of w.brought c.own) e ∙ h.who;
       answered = (
         h.answered,
-        ap Some j ∙ sym (ap (λ (b : Bool). frame_by b (holds w H now) (next_control w H) (slice_get (accepted w H) (length (sent H))) (next_long w H now)
-            (claim_from w (claim_address w (address_after w H))) now) due_claim),
+        ap Some j ∙ sym (ap (λ (b : Bool). frame_by b (holds w H now) (next_control w H now) (slice_get (accepted w H) (length (sent H))) (next_long w H now)
+            (claim_from w (claim_address w (address_after w H))) now) owes),
       );
-      hold = e0 ∙ is_hold _ _ p.rest p.moment
-          (ap claims p.standing ∙ (claims_after (older (step H now) (address_after w H)) ∙ ap standing_of (sym (address_is w H now f true n)))) refl
+      hold = e0 ∙ is_hold _ _ (turns_more H now f mid.turns (ap (λ (b : Bool). b || is_acknowledgment f) n) p.turns) p.rest p.moment
+          (ap claims p.standing ∙ (claims_after (older (step H now) (address_after w H)) ∙ ap standing_of (sym (address_is w H now f true n)))) (sym (ap (λ (b : Bool). if b then false else owes_claim w H) n))
           (p.pause ∙ sym (pause_is H now f false (no_packet f (claim_single f n)))) p.age (p.wait ∙ wait_same H now f true _ _ n refl refl refl);
       outgoing = ap (λ c. map posted c.outgoing.items) e ∙ h.outgoing;
       taken = ap (λ c. c.taken) e ∙ (h.taken ∙ ap (λ (xs : List Message). length xs - length (told H)) (sym (sent_is H now f true _ _ n refl refl)));
@@ -998,9 +1081,6 @@ claims_more w H old new now f mid a h p owes e0 m at knows drops left_by p1 p2 t
 
 -- ---- which frame would be taken
 
-owes_is : (w : Who) (H : List Call) (c : Controller) (b : Bool) → Is w H c → c.hold.owes_claim ≡ b → owes_claim w H ≡ b
-owes_is w H c b h e = sym (ap (λ (k : Hold). k.owes_claim) h.hold) ∙ e
-
 claim_told : (w : Who) (H : List Call) (c : Controller) (a : ℕ) → Is w H c → a ≡ (if lost c.hold.standing then 254 else c.own.address)
     → claim_from (who_of w.brought c.own) a ≡ claim_from w (claim_address w (address_after w H))
 claim_told w H c a h e =
@@ -1013,28 +1093,39 @@ claim_told w H c a h e =
     told_address (Claimed n) = refl
     told_address Lost = refl
 
-pub peeks_claim : (w : Who) (H : List Call) (c : Controller) (now a : ℕ) (r : Option FrameRecord) → Is w H c → c.hold.owes_claim ≡ true
+pub peeks_claim : (w : Who) (H : List Call) (c : Controller) (now a : ℕ) (r : Option FrameRecord) → Is w H c → claim_goes w H now ≡ true
     → option_map stamped r ≡ Some (now, claim_from (who_of w.brought c.own) a) → a ≡ (if lost c.hold.standing then 254 else c.own.address)
     → option_map stamped r ≡ next_frame w H now
 peeks_claim w H c now a r h owes m e =
     m ∙ (ap (λ (x : Message). Some (now, x)) (claim_told w H c a h e)
-    ∙ sym (ap (λ (b : Bool). frame_by b (holds w H now) (next_control w H) (slice_get (accepted w H) (length (sent H))) (next_long w H now)
-    (claim_from w (claim_address w (address_after w H))) now) (owes_is w H c true h owes)))
+    ∙ sym (ap (λ (b : Bool). frame_by b (holds w H now) (next_control w H now) (slice_get (accepted w H) (length (sent H))) (next_long w H now)
+    (claim_from w (claim_address w (address_after w H))) now) owes))
 
-pub peeks_none : (w : Who) (H : List Call) (c : Controller) (now : ℕ) → Is w H c → c.hold.owes_claim ≡ false → holds w H now ≡ false
+pub peeks_none : (w : Who) (H : List Call) (c : Controller) (now : ℕ) → Is w H c → claim_goes w H now ≡ false → holds w H now ≡ false
     → (let none : Option (ℕ × Message) = None in none) ≡ next_frame w H now
 peeks_none w H c now h owes held =
-    sym (ap (λ (b : Bool). frame_by b (holds w H now) (next_control w H) (slice_get (accepted w H) (length (sent H))) (next_long w H now)
-    (claim_from w (claim_address w (address_after w H))) now) (owes_is w H c false h owes)
-    ∙ ap (λ (b : Bool). frame_by false b (next_control w H) (slice_get (accepted w H) (length (sent H))) (next_long w H now)
+    sym (ap (λ (b : Bool). frame_by b (holds w H now) (next_control w H now) (slice_get (accepted w H) (length (sent H))) (next_long w H now)
+    (claim_from w (claim_address w (address_after w H))) now) owes
+    ∙ ap (λ (b : Bool). frame_by false b (next_control w H now) (slice_get (accepted w H) (length (sent H))) (next_long w H now)
     (claim_from w (claim_address w (address_after w H))) now) held)
 
-pub peeks_due : (w : Who) (H : List Call) (c : Controller) (now : ℕ) (r : Option FrameRecord) (x : Due) → Is w H c → c.hold.owes_claim ≡ false
-    → holds w H now ≡ true → slice_get c.desk.due.items 0 ≡ Some x → option_map stamped r ≡ Some (now, refusal_by w x)
+pub peeks_due : (w : Who) (H : List Call) (c : Controller) (now : ℕ) (r : Option FrameRecord) (x : Due) → Is w H c → claim_goes w H now ≡ false
+    → holds w H now ≡ true → next_acknowledgment w H now ≡ Some (refusal_by w x) → option_map stamped r ≡ Some (now, refusal_by w x)
     → option_map stamped r ≡ next_frame w H now
 peeks_due w H c now r x h owes held g m =
-    let i = in_rest (refusal_by w) c.desk.due.items x (due w H) (length (acknowledged H)) (length (acknowledged H)) 0 h.acknowledgments (omega arith) (omega arith) g in
-    m ∙ sym (next_is w H now (Some (refusal_by w x)) _ (owes_is w H c false h owes) held (steered_due w H (refusal_by w x) i) refl)
+    m ∙ sym (next_is w H now (Some (refusal_by w x)) _ owes held (steered_due w H now (refusal_by w x) g) refl)
+
+pub first_acknowledged : (w : Who) (H : List Call) (c : Controller) (now : ℕ) (gives : Bool) (o : Option Due) → Is w H c → gives ≡ gives_way w H now
+    → o ≡ (if gives then None else slice_get c.desk.due.items 0) → next_acknowledgment w H now ≡ option_map (refusal_by w) o
+first_acknowledged w H c now true o h g e =
+    ap (λ (b : Bool). if b then None else slice_get (due w H) (length (acknowledged H))) (sym g) ∙ sym (ap (option_map (refusal_by w)) e)
+first_acknowledged w H c now false o h g e =
+    ap (λ (b : Bool). if b then None else slice_get (due w H) (length (acknowledged H))) (sym g)
+    ∙ (sym (due_next (slice_get c.desk.due.items 0) refl) ∙ sym (ap (option_map (refusal_by w)) e))
+  where
+    due_next : (o : Option Due) → slice_get c.desk.due.items 0 ≡ o → option_map (refusal_by w) o ≡ slice_get (due w H) (length (acknowledged H))
+    due_next None e = sym (not_in_rest (refusal_by w) c.desk.due.items (due w H) (length (acknowledged H)) (length (acknowledged H)) 0 h.acknowledgments (omega arith) (omega arith) e)
+    due_next (Some x) e = sym (in_rest (refusal_by w) c.desk.due.items x (due w H) (length (acknowledged H)) (length (acknowledged H)) 0 h.acknowledgments (omega arith) (omega arith) e)
 
 -- the first reply that waits
 pub no_reply : (w : Who) (H : List Call) (c : Controller) (now : ℕ) → Is w H c → (r : Option FrameRecord)
@@ -1057,30 +1148,22 @@ a_reply w H c now h f e = go (slice_get (reception w H).replies 0) refl
     go None i g = absurd (cc)
     go (Some m) i g = (m, i, g)
 
-pub peeks_reply : (w : Who) (H : List Call) (c : Controller) (now : ℕ) (r : Option FrameRecord) (m : Message) → Is w H c → c.hold.owes_claim ≡ false
-    → holds w H now ≡ true → slice_get c.desk.due.items 0 ≡ None → slice_get (reception w H).replies 0 ≡ Some m → option_map stamped r ≡ Some (now, m)
+pub peeks_reply : (w : Who) (H : List Call) (c : Controller) (now : ℕ) (r : Option FrameRecord) (m : Message) → Is w H c → claim_goes w H now ≡ false
+    → holds w H now ≡ true → next_acknowledgment w H now ≡ None → slice_get (reception w H).replies 0 ≡ Some m → option_map stamped r ≡ Some (now, m)
     → option_map stamped r ≡ next_frame w H now
 peeks_reply w H c now r m h owes held g at e =
-    let i = not_in_rest (refusal_by w) c.desk.due.items (due w H) (length (acknowledged H)) (length (acknowledged H)) 0 h.acknowledgments (omega arith) (omega arith) g in
-    e ∙ sym (next_is w H now (Some m) _ (owes_is w H c false h owes) held (steered_by w H None (Some m) i at) refl)
+    e ∙ sym (next_is w H now (Some m) _ owes held (steered_by w H now None (Some m) g at) refl)
 
-pub peeks_message : (w : Who) (H : List Call) (c : Controller) (now left time : ℕ) (r : Option FrameRecord) → Is w H c → c.hold.owes_claim ≡ false
-    → holds w H now ≡ true → slice_get c.desk.due.items 0 ≡ None → slice_get (reception w H).replies 0 ≡ None → left ≡ pause H - step H now → time ≡ min (age H + step H now) 18446744073709551615
+pub peeks_message : (w : Who) (H : List Call) (c : Controller) (now left time : ℕ) (r : Option FrameRecord) → Is w H c → claim_goes w H now ≡ false
+    → holds w H now ≡ true → next_acknowledgment w H now ≡ None → slice_get (reception w H).replies 0 ≡ None → left ≡ pause H - step H now → time ≡ min (age H + step H now) 18446744073709551615
     → option_map stamped r ≡ option_map (at_now now)
     (first_of None (option_map posted (slice_get c.outgoing.items c.taken))
     (long_by (packet_by (lane_of (who_of w.brought c.own) c.lane).current c.lane.count left) (transfer_by (port_of c.transfers).current (clock time))))
     → option_map stamped r ≡ next_frame w H now
 peeks_message w H c now left time r h owes held g quiet e a m =
-    let t = (sound w H h.answered).in_turn (holding_not_lost w H now held) in
-    let i = not_in_rest (refusal_by w) c.desk.due.items (due w H) (length (acknowledged H)) (length (acknowledged H)) 0 h.acknowledgments (omega arith) (omega arith) g in
     m ∙ (ap (λ p. option_map (at_now now) (first_of None (option_map posted (slice_get c.outgoing.items c.taken)) p)) (long_next w H c now left time h e a)
-    ∙ (ap (λ o. option_map (at_now now) (first_of None o (next_long w H now))) (next (slice_get c.outgoing.items c.taken) refl t)
-    ∙ sym (next_is w H now None _ (owes_is w H c false h owes) held (steered_by w H None None i quiet) refl)))
-  where
-    next : (o : Option Outgoing) → slice_get c.outgoing.items c.taken ≡ o → length (told H) ≤ length (sent H)
-        → option_map posted o ≡ slice_get (accepted w H) (length (sent H))
-    next None e t = sym (not_in_rest posted c.outgoing.items (accepted w H) (length (told H)) (length (sent H)) c.taken h.outgoing h.taken t e)
-    next (Some y) e t = sym (in_rest posted c.outgoing.items y (accepted w H) (length (told H)) (length (sent H)) c.taken h.outgoing h.taken t e)
+    ∙ (ap (λ o. option_map (at_now now) (first_of None o (next_long w H now))) (message_next w H c h (holding_not_lost w H now held))
+    ∙ sym (next_is w H now None _ owes held (steered_by w H now None None g quiet) refl)))
 
 -- ---- broadcasts
 
@@ -1103,7 +1186,7 @@ pub refuses_broadcast : (w : Who) (H : List Call) (old new : Controller) (now gr
 refuses_broadcast w H old new now group bytes r h p answer e = record {
   who = ap (λ c. who_of w.brought c.own) e ∙ h.who;
   answered = (h.answered, answer);
-  hold = is_hold _ _ p.rest p.moment p.standing p.owes p.pause p.age p.wait;
+  hold = is_hold _ _ p.turns p.rest p.moment p.standing p.owes p.pause p.age p.wait;
   outgoing = ap (λ c. map posted c.outgoing.items) e ∙ h.outgoing;
   taken = ap (λ c. c.taken) e ∙ h.taken;
   token = ap (λ c. c.next_token) e ∙ h.token;
@@ -1127,7 +1210,7 @@ pub begins : (w : Who) (H : List Call) (old new : Controller) (now group : ℕ) 
 begins w H old new now group bytes x h p answer is e e0 e1 e2 = record {
   who = ap (λ c. who_of w.brought c.own) e ∙ h.who;
   answered = (h.answered, answer);
-  hold = is_hold _ _ p.rest p.moment p.standing p.owes p.pause p.age p.wait;
+  hold = is_hold _ _ p.turns p.rest p.moment p.standing p.owes p.pause p.age p.wait;
   outgoing = ap (λ c. map posted c.outgoing.items) e ∙ h.outgoing;
   taken = ap (λ c. c.taken) e ∙ h.taken;
   token = ap (λ c. c.next_token) e ∙ h.token;
@@ -1175,7 +1258,7 @@ pub refuses_transfer : (w : Who) (H : List Call) (old new : Controller) (now gro
 refuses_transfer w H old new now group to bytes r h p answer e = record {
   who = ap (λ c. who_of w.brought c.own) e ∙ h.who;
   answered = (h.answered, answer);
-  hold = is_hold _ _ p.rest p.moment p.standing p.owes p.pause p.age p.wait;
+  hold = is_hold _ _ p.turns p.rest p.moment p.standing p.owes p.pause p.age p.wait;
   outgoing = ap (λ c. map posted c.outgoing.items) e ∙ h.outgoing;
   taken = ap (λ c. c.taken) e ∙ h.taken;
   token = ap (λ c. c.next_token) e ∙ h.token;
@@ -1201,7 +1284,7 @@ pub transfer_begins : (w : Who) (H : List Call) (old new : Controller) (now grou
 transfer_begins w H old new now group to bytes x mid h p answer is e e0 e1 e2 e3 = record {
   who = ap (λ c. who_of w.brought c.own) e ∙ h.who;
   answered = (h.answered, answer);
-  hold = e0 ∙ is_hold _ _ p.rest p.moment p.standing p.owes p.pause refl p.wait;
+  hold = e0 ∙ is_hold _ _ p.turns p.rest p.moment p.standing p.owes p.pause refl p.wait;
   outgoing = ap (λ c. map posted c.outgoing.items) e ∙ h.outgoing;
   taken = ap (λ c. c.taken) e ∙ h.taken;
   token = ap (λ c. c.next_token) e ∙ h.token;

@@ -178,12 +178,12 @@ withdrawn_means w H c k e is z = (told_is w H c k e is).withdrawn z
 pub none_waits : (w : Who) (H : List Call) (c : Controller) (now : ℕ) → Is w (At now (TakeFrame None) ∷ H) c → IsTrue (holds w H now)
     → (length (sent H) ≡ length (accepted w H)) × (length (acknowledged H) ≡ length (due w H))
 none_waits w H c now is held =
-    go (owes_claim w H) (holds w H now) (next_control w H) (slice_get (accepted w H) (length (sent H))) held refl refl is.answered.1
+    go (claim_goes w H now) (holds w H now) (next_control w H now) (slice_get (accepted w H) (length (sent H))) held refl refl is.answered.1
   where
     p : Option Message
     p = next_long w H now
 
-    go : (o q : Bool) (a : Option Message) (z : Option (ℕ × Message)) → q ≡ true → next_control w H ≡ a
+    go : (o q : Bool) (a : Option Message) (z : Option (ℕ × Message)) → q ≡ true → next_control w H now ≡ a
         → slice_get (accepted w H) (length (sent H)) ≡ z
         → (let none : Option (ℕ × Message) = None in none) ≡ frame_by o q a z p (claim_from w (claim_address w (address_after w H))) now
         → (length (sent H) ≡ length (accepted w H)) × (length (acknowledged H) ≡ length (due w H))
@@ -361,7 +361,7 @@ pub claims_at_once : (w : Who) (H : List Call) (c : Controller) (now : ℕ) (ans
     → IsTrue (owes_claim w H) → answer ≢ None
 claims_at_once w H c now (Some f) is o z = absurd (cc)
 claims_at_once w H c now None is o z =
-    go (owes_claim w H) (next_control w H) (slice_get (accepted w H) (length (sent H))) o is.answered.1
+    go (owes_claim w H) (next_control w H now) (slice_get (accepted w H) (length (sent H))) o is.answered.1
   where
     go : (b : Bool) (a : Option Message) (y : Option (ℕ × Message)) → b ≡ true
         → (let none : Option (ℕ × Message) = None in none) ≡ frame_by b (holds w H now) a y (next_long w H now) (claim_from w (claim_address w (address_after w H))) now → ⊥
@@ -594,7 +594,7 @@ past L n e = slice_get_past L n (not_lt n (length L) e)
     not_lt : (i k : ℕ) → nat_lt i k ≡ false → k ≤ i
     not_lt i k f = grind arith
 
-no_control : (w : Who) (H : List Call) → slice_get (due w H) (length (acknowledged H)) ≡ None → slice_get (reception w H).replies 0 ≡ None → next_control w H ≡ None
+no_control : (w : Who) (H : List Call) → slice_get (due w H) (length (acknowledged H)) ≡ None → slice_get (reception w H).replies 0 ≡ None → next_control w H now ≡ None
 no_control w H e f = ap (λ (x : Option Message). control_of x (slice_get (reception w H).replies 0)) e ∙ f
 
 none_by : (h : Bool) (x : Option Message) (y : Option (ℕ × Message)) (p : Option Message) (m : Message) (now : ℕ)
@@ -626,7 +626,7 @@ still_waits w H now n l m q e = go (nat_lt (moment H + n) 10000000000000000) ref
 nothing_taken : (w : Who) (H : List Call) (now : ℕ) → moment H ≤ now → now < 10000000000000000 → Quiet w H now → next_frame w H now ≡ None
 unfolding Quiet
 nothing_taken w H now l m q =
-    ap (λ (b : Bool). frame_by b (holds w H now) (next_control w H) (slice_get (accepted w H) (length (sent H))) (next_long w H now) c now) o.0
+    ap (λ (b : Bool). frame_by b (holds w H now) (next_control w H now) (slice_get (accepted w H) (length (sent H))) (next_long w H now) c now) o.0
     ∙ none_by (holds w H now) _ _ _ c now (held (is_held (address_after w H)) refl)
   where
     c : Message
@@ -642,7 +642,7 @@ nothing_taken w H now l m q =
     long z = quiet_long w H now (λ k f. still_waits w H now k l m q (due_later w H true n z ∙ ap (at_in (moment H)) f))
 
     held : (b : Bool) → is_held (address_after w H) ≡ b
-        → (holds w H now ≡ false) ⊎ ((next_control w H ≡ None) × (slice_get (accepted w H) (length (sent H)) ≡ None) × (next_long w H now ≡ None))
+        → (holds w H now ≡ false) ⊎ ((next_control w H now ≡ None) × (slice_get (accepted w H) (length (sent H)) ≡ None) × (next_long w H now ≡ None))
     held false z = inl (not_held_yet w H now (address_after w H) l m (λ t e. q t (due_later w H false n z ∙ e)) z)
     held true z =
         let v = or_false _ _ (sym (ap (λ (b : Bool). b && is_waiting w H) z) ∙ o.1) in
@@ -698,8 +698,8 @@ none_taken : (w : Who) (H : List Call) (c : Controller) (now : ℕ) → Is w (At
 none_taken w H c now is long later = go (owes_claim w H) (is_held (address_after w H)) (is_waiting w H) refl refl refl
   where
     by : (owes_claim w H ≡ true)
-        ⊎ ((holds w H now ≡ true) × ((next_control w H ≡ None) × (slice_get (accepted w H) (length (sent H)) ≡ None) × (next_long w H now ≡ None) → ⊥)) → ⊥
-    by x = some_by (owes_claim w H) (holds w H now) (next_control w H) (slice_get (accepted w H) (length (sent H))) (next_long w H now)
+        ⊎ ((holds w H now ≡ true) × ((next_control w H now ≡ None) × (slice_get (accepted w H) (length (sent H)) ≡ None) × (next_long w H now ≡ None) → ⊥)) → ⊥
+    by x = some_by (claim_goes w H now) (holds w H now) (next_control w H now) (slice_get (accepted w H) (length (sent H))) (next_long w H now)
         (claim_from w (claim_address w (address_after w H))) now x is.answered.1
 
     none : (h x : Bool) → owes_claim w H ≡ false → is_held (address_after w H) ≡ h → is_waiting w H ≡ x → (h && x) ≡ false

@@ -23,7 +23,7 @@ use Rattle.j39_node.proofs.SoundLemmas.SendCase.{no_address, bad_value, full, ac
 none_waits : (w : Who) (H : List Call) (now : ℕ) → holds w H now ≡ true → (let none : Option (ℕ × Message) = None in none) ≡ next_frame w H now
     → slice_get (accepted w H) (length (sent H)) ≡ None
 none_waits w H now held e =
-    none (owes_claim w H) (holds w H now) (next_control w H) (slice_get (accepted w H) (length (sent H))) (next_long w H now) held e
+    none (claim_goes w H now) (holds w H now) (next_control w H now) (slice_get (accepted w H) (length (sent H))) (next_long w H now) held e
   where
     none : (o q : Bool) (a : Option Message) (z : Option (ℕ × Message)) (p : Option Message) → q ≡ true
         → (let none : Option (ℕ × Message) = None in none) ≡ frame_by o q a z p (claim_from w (claim_address w (address_after w H))) now → z ≡ None

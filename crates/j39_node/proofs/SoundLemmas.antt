@@ -19,7 +19,7 @@ use Rattle.j39_node.specs.History.Act.{Ask, Hear, TakeFrame, Send, Acknowledge}
 use Rattle.j39_node.specs.Reception.{is_move, none_waits, reception}
 use Rattle.j39_node.proofs.ReceptionLemmas.{IsReply, replied_get, tidy}
 use Rattle.j39_node.specs.History.Address.{NotClaimed, Claimed, Lost}
-use Rattle.j39_node.specs.Is.{AreAnswered, IsAnswered, control_of, stamped, first_of, packet_by, next_control, next_packet, next_frame, next_ended, end_of, answer_to_send, long_by}
+use Rattle.j39_node.specs.Is.{claim_goes, gives_way, next_acknowledgment, AreAnswered, IsAnswered, control_of, stamped, first_of, packet_by, next_control, next_packet, next_frame, next_ended, end_of, answer_to_send, long_by}
 use Rattle.j39_node.specs.Transfers.{next_transfer, open_transfer, clock_at}
 use Rattle.j39_node.specs.Asking.{can_ask}
 use Rattle.j39_node.proofs.AskCases.{AskCase, ask_case, homeless, unfit, busy, asks, sendable}
@@ -68,17 +68,25 @@ none_steers (Some m) b e = absurd (cc)
 
 -- ---- which frame was taken
 
+-- an acknowledgment that goes is due
+acknowledged_is_due : (w : Who) (H : List Call) (now : ℕ) (m : Message) → next_acknowledgment w H now ≡ Some m → slice_get (due w H) (length (acknowledged H)) ≡ Some m
+acknowledged_is_due w H now m e = go (gives_way w H now) e
+  where
+    go : (b : Bool) → (if b then None else slice_get (due w H) (length (acknowledged H))) ≡ Some m → slice_get (due w H) (length (acknowledged H)) ≡ Some m
+    go true e = absurd (cc)
+    go false e = e
+
 pub data FrameCase (w : Who) (H : List Call) (now : ℕ) (f : FrameRecord) : Type 0 where
-  claims : owes_claim w H ≡ true → stamped f ≡ (now, claim_from w (claim_address w (address_after w H))) → FrameCase w H now f
-  acknowledges : (m : Message) → owes_claim w H ≡ false → holds w H now ≡ true → slice_get (due w H) (length (acknowledged H)) ≡ Some m
+  claims : claim_goes w H now ≡ true → stamped f ≡ (now, claim_from w (claim_address w (address_after w H))) → FrameCase w H now f
+  acknowledges : (m : Message) → claim_goes w H now ≡ false → holds w H now ≡ true → slice_get (due w H) (length (acknowledged H)) ≡ Some m
       → stamped f ≡ (now, m) → FrameCase w H now f
-  replies : (m : Message) → owes_claim w H ≡ false → holds w H now ≡ true → slice_get (due w H) (length (acknowledged H)) ≡ None
+  replies : (m : Message) → claim_goes w H now ≡ false → holds w H now ≡ true → next_acknowledgment w H now ≡ None
       → slice_get (reception w H).replies 0 ≡ Some m → stamped f ≡ (now, m) → FrameCase w H now f
-  sends : (x : ℕ × Message) → owes_claim w H ≡ false → holds w H now ≡ true → next_control w H ≡ None
+  sends : (x : ℕ × Message) → claim_goes w H now ≡ false → holds w H now ≡ true → next_control w H now ≡ None
       → slice_get (accepted w H) (length (sent H)) ≡ Some x → stamped f ≡ (now, x.1) → FrameCase w H now f
-  packs : (m : Message) → owes_claim w H ≡ false → holds w H now ≡ true → next_control w H ≡ None
+  packs : (m : Message) → claim_goes w H now ≡ false → holds w H now ≡ true → next_control w H now ≡ None
       → slice_get (accepted w H) (length (sent H)) ≡ None → next_packet w H now ≡ Some m → stamped f ≡ (now, m) → FrameCase w H now f
-  transfers : (m : Message) → owes_claim w H ≡ false → holds w H now ≡ true → next_control w H ≡ None
+  transfers : (m : Message) → claim_goes w H now ≡ false → holds w H now ≡ true → next_control w H now ≡ None
       → slice_get (accepted w H) (length (sent H)) ≡ None → next_packet w H now ≡ None → next_transfer w H now ≡ Some m → stamped f ≡ (now, m)
       → FrameCase w H now f
 
@@ -88,24 +96,24 @@ frame_by owes held a o p claim now = if owes then Some (now, claim) else if held
 
 pub frame_case : (w : Who) (H : List Call) (now : ℕ) (f : FrameRecord) → Some (stamped f) ≡ next_frame w H now → FrameCase w H now f
 frame_case w H now f e =
-    go (owes_claim w H) (holds w H now) (next_control w H) (slice_get (accepted w H) (length (sent H))) (next_packet w H now) (next_transfer w H now)
+    go (claim_goes w H now) (holds w H now) (next_control w H now) (slice_get (accepted w H) (length (sent H))) (next_packet w H now) (next_transfer w H now)
     refl refl refl refl refl refl e
   where
-    go : (b h : Bool) (a : Option Message) (o : Option (ℕ × Message)) (y z : Option Message) → owes_claim w H ≡ b → holds w H now ≡ h
-        → next_control w H ≡ a → slice_get (accepted w H) (length (sent H)) ≡ o → next_packet w H now ≡ y → next_transfer w H now ≡ z
+    go : (b h : Bool) (a : Option Message) (o : Option (ℕ × Message)) (y z : Option Message) → claim_goes w H now ≡ b → holds w H now ≡ h
+        → next_control w H now ≡ a → slice_get (accepted w H) (length (sent H)) ≡ o → next_packet w H now ≡ y → next_transfer w H now ≡ z
         → Some (stamped f) ≡ frame_by b h a o (long_by y z) (claim_from w (claim_address w (address_after w H))) now → FrameCase w H now f
     go true h a o y z p q k r s t i = claims p (let u : stamped f ≡ (now, claim_from w (claim_address w (address_after w H))) = cc in u)
     go false false a o y z p q k r s t i = absurd (cc)
     go false true (Some m) o y z p q k r s t i =
-        steers (slice_get (due w H) (length (acknowledged H))) (slice_get (reception w H).replies 0) refl refl
+        steers (next_acknowledgment w H now) (slice_get (reception w H).replies 0) refl refl
       where
         is : stamped f ≡ (now, m)
         is = (let u : stamped f ≡ (now, m) = cc in u)
 
-        steers : (a b : Option Message) → slice_get (due w H) (length (acknowledged H)) ≡ a → slice_get (reception w H).replies 0 ≡ b → FrameCase w H now f
+        steers : (a b : Option Message) → next_acknowledgment w H now ≡ a → slice_get (reception w H).replies 0 ≡ b → FrameCase w H now f
         steers (Some x) b u v =
             let same : x ≡ m = some_is x m (sym (ap (λ (z : Option Message). control_of z (slice_get (reception w H).replies 0)) u) ∙ k) in
-            acknowledges m p q (u ∙ ap Some same) is
+            acknowledges m p q (acknowledged_is_due w H now m (u ∙ ap Some same)) is
         steers None b u v =
             replies m p q u (sym (ap (λ (z : Option Message). control_of z (slice_get (reception w H).replies 0)) u) ∙ k) is
     go false true None None None None p q k r s t i = absurd (cc)

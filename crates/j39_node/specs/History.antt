@@ -217,11 +217,11 @@ is_asked w lost f =
 abbrev pub calls_for_claim : Who → Bool → FrameRecord → Bool
 calls_for_claim w lost f = ((is_smaller w (claim_of f) || is_larger w (claim_of f)) && not lost) || is_asked w lost f
 
--- a claim is owed: the first, or since a frame was taken last something was heard that is answered by one
+-- a claim is owed: the first, or since a claim was taken last something was heard that is answered by one
 abbrev pub owes_claim : Who → List Call → Bool
 owes_claim w [] = true
 owes_claim w (At now (Hear f) ∷ H) = owes_claim w H || calls_for_claim w (is_lost (address_after w H)) f
-owes_claim w (At now (TakeFrame (Some f)) ∷ H) = false
+owes_claim w (At now (TakeFrame (Some f)) ∷ H) = if is_claim f then false else owes_claim w H
 owes_claim w (call ∷ H) = owes_claim w H
 
 -- ---- messages out
@@ -279,6 +279,12 @@ accepted w (call ∷ H) = accepted w H
 
 abbrev pub is_acknowledgment : FrameRecord → Bool
 is_acknowledgment f = nat_eq (pgn_of f.id) acknowledgment_group
+
+-- how many of the frames that were taken last, in a row, were claims or acknowledgments
+abbrev pub turns : List Call → ℕ
+turns [] = 0
+turns (At now (TakeFrame (Some f)) ∷ H) = if is_claim f || is_acknowledgment f then suc (turns H) else 0
+turns (call ∷ H) = turns H
 
 -- a frame of a message in packets
 abbrev pub is_session : FrameRecord → Bool

@@ -1,5 +1,5 @@
 -- How far a controller is with its address, in its own counts.
-use Rattle.std.specs.Prelude.{ℕ, min, ◌+◌, ◌-◌, nat_lt, Option, None, ◌||◌, nat_eq, Bool, true, false, if◌then◌else◌}
+use Rattle.std.specs.Prelude.{ℕ, suc, min, ◌+◌, ◌-◌, nat_lt, Option, None, ◌||◌, nat_eq, Bool, true, false, if◌then◌else◌}
 use Rattle.j39_transport.specs.Protocol.{gap}
 use Rattle.j39_node.specs.declared.hold.Hold.{Hold}
 use Rattle.j39_node.specs.declared.hold.Standing.{Standing}
@@ -23,6 +23,7 @@ passed now h = record {
   moment = now;
   standing = less (now - h.moment) h.standing;
   owes_claim = h.owes_claim;
+  turns = h.turns;
   pause = h.pause - (now - h.moment);
   age = min (h.age + (now - h.moment)) 18446744073709551615;
   wait = h.wait - (now - h.moment);
@@ -34,6 +35,7 @@ heard drives_away calls h = record {
   moment = h.moment;
   standing = if drives_away then standing.Lost else h.standing;
   owes_claim = h.owes_claim || calls;
+  turns = h.turns;
   pause = h.pause;
   age = h.age;
   wait = h.wait;
@@ -42,7 +44,7 @@ heard drives_away calls h = record {
 
 -- nothing was claimed, and the first claim is owed
 abbrev pub first : Hold
-first = record { moment = 0; standing = standing.Idle; owes_claim = true; pause = 0; age = 0; wait = 0; rest = 0 }
+first = record { moment = 0; standing = standing.Idle; owes_claim = true; turns = 0; pause = 0; age = 0; wait = 0; rest = 0 }
 
 -- it moves: it begins anew at the same moment, and what rests goes on to rest
 abbrev pub moved : Hold → Hold
@@ -53,12 +55,19 @@ claims standing.Idle = standing.Claimed 250000
 claims (standing.Claimed left) = standing.Claimed left
 claims standing.Lost = standing.Lost
 
+-- a claim was taken; an acknowledgment; another frame
 abbrev pub claimed : Hold → Hold
-claimed h = record h { standing = claims h.standing; owes_claim = false }
+claimed h = record h { standing = claims h.standing; owes_claim = false; turns = min (suc h.turns) 2 }
+
+abbrev pub acknowledged : Hold → Hold
+acknowledged h = record h { turns = min (suc h.turns) 2 }
+
+abbrev pub spoken : Hold → Hold
+spoken h = record h { turns = 0 }
 
 -- a frame of packets was taken
 abbrev pub paused : Hold → Hold
-paused h = record h { pause = gap }
+paused h = record h { turns = 0; pause = gap }
 
 -- a transfer was accepted
 abbrev pub renewed : Hold → Hold
@@ -66,7 +75,7 @@ renewed h = record h { age = 0 }
 
 -- a message was taken: whether it was the request
 abbrev pub asked : Bool → Hold → Hold
-asked b h = record h { wait = if b then 1250000 else h.wait }
+asked b h = record h { turns = 0; wait = if b then 1250000 else h.wait }
 
 -- the end of a transfer was told: whether one rests by it
 abbrev pub rested : Bool → Hold → Hold

@@ -1,5 +1,5 @@
 //! A controller.
-ghost use Rattle.std.specs.Prelude.{IsTrue, true, ◌≡◌, ℕ, List, [], ◌∷◌, ◌↔◌, ◌&&◌, ◌||◌, ◌==◌, ◌+◌, nat_eq, nat_lt, if◌then◌else◌, min, IsSome, IfSome, Some, None, length, map, ◌<◌, ◌≤◌, false};
+ghost use Rattle.std.specs.Prelude.{IsTrue, true, ◌≡◌, ℕ, List, [], ◌∷◌, ◌↔◌, ◌&&◌, ◌||◌, ◌==◌, ◌+◌, nat_eq, nat_lt, nat_le, not, if◌then◌else◌, min, IsSome, IfSome, Some, None, length, map, ◌<◌, ◌≤◌, false};
 ghost use Rattle.std.specs.List.{slice_get};
 ghost use Rattle.std.specs.Option.{option_map};
 ghost use Rattle.j39_frame.specs.Address.{IsAddress, null_address};
@@ -20,7 +20,7 @@ ghost use Rattle.j39_node.specs.Moving.{HasMoved, IsSettled, has_given, has_told
 ghost use Rattle.j39_node.specs.History.Call.{At, TakeAskEnded, TakeEnded, TakeReceived, TakeRequest, TakeNews, TakeBroadcastEnded, ReleaseTransfer, TakeTransferEnded, ReleaseBroadcast};
 ghost use Rattle.j39_node.specs.History.Act.{Ask, Hear, Tick, TakeFrame, Send, Acknowledge, Broadcast, Transfer};
 ghost use Rattle.j39_node.specs.Asking.{is_asking};
-ghost use Rattle.j39_node.specs.Is.{asking_of, Is, next_claims_request, first_of, lane_of, next_frame, packet_by, posted, received_by, request_by, stamped, status_after, who_of, long_by, port_of, hearing_of};
+ghost use Rattle.j39_node.specs.Is.{asking_of, is_there, Is, next_claims_request, first_of, lane_of, next_frame, packet_by, posted, received_by, request_by, stamped, status_after, who_of, long_by, port_of, hearing_of};
 
 use crate::asking::{self, Asking};
 use crate::hearing::Hearing;
@@ -295,15 +295,16 @@ impl Controller {
         ensures { (w : Who) (H : List Call) → Is w H self.now
             → option_map stamped result ≡ next_frame w H (stamp_micros now) }
     {
-        if self.is_claim_due() {
+        let hold = self.hold.passed(now);
+        let gives_way = self.gives_way(hold, now);
+        if self.is_claim_due(gives_way) {
             let address = self.claim_address();
             return self.own.claim(address, now);
         }
-        let hold = self.hold.passed(now);
         if !hold.is_held() {
             return None;
         }
-        match self.desk.due.as_slice().get(0) {
+        match self.first_due(gives_way) {
             Some(due) => self.own.acknowledgment(due, now),
             None => match self.incoming.frame(now) {
                 Some(reply) => Some(reply),
@@ -317,7 +318,8 @@ impl Controller {
         ensures { (w : Who) (H : List Call) → Is w H self.old → Is w (At (stamp_micros now) (TakeFrame result) ∷ H) self.new }
     {
         self.hold = self.hold.passed(now);
-        if self.is_claim_due() {
+        let gives_way = self.gives_way(self.hold, now);
+        if self.is_claim_due(gives_way) {
             let address = self.claim_address();
             self.hold = self.hold.claimed();
             let claim = self.own.claim(address, now)?;
@@ -330,10 +332,12 @@ impl Controller {
         if !self.hold.is_held() {
             return None;
         }
-        if !self.desk.due.is_empty() {
+        if self.is_acknowledgment_due(gives_way) {
+            self.hold = self.hold.acknowledged();
             return self.own.acknowledgment(&self.desk.due.remove(0), now);
         }
         if !self.incoming.replies.is_empty() {
+            self.hold = self.hold.spoken();
             return self.incoming.replies.remove(0).frame(self.own.address, now);
         }
         match self.outgoing.as_slice().get(self.taken) {
@@ -354,6 +358,7 @@ impl Controller {
                     let clock = self.hold.clock();
                     let frame = self.transfers.frame(clock, now)?;
                     self.transfers.taken(clock);
+                    self.hold = self.hold.spoken();
                     Some(frame)
                 }
             },
@@ -718,7 +723,7 @@ impl Controller {
             && (nat_lt self.now.taken (length self.now.outgoing.items) || (nat_lt 0 (length self.now.desk.due.items)
             || nat_lt 0 (length self.now.incoming.replies.items))))) }
     {
-        self.is_claim_due() || (self.hold.is_held() && self.is_waiting())
+        self.hold.owes_claim || (self.hold.is_held() && self.is_waiting())
     }
 
     /// In how long a frame of packets can be taken.
@@ -745,11 +750,42 @@ impl Controller {
             || 0 < self.incoming.replies.len()
     }
 
-    /// A claim goes before all else.
-    fn is_claim_due(&self) -> bool
-        ensures { result ≡ self.now.hold.owes_claim }
+    /// Two claims or acknowledgments were taken in a row, and another frame can be taken, which goes first.
+    fn gives_way(&self, hold: Hold, now: Stamp) -> bool
+        ensures { result ≡ (nat_le 2 hold.turns && (stands hold.standing && is_there (first_of
+            (slice_get (incoming_of self.now.incoming).reception.replies 0)
+            (option_map posted (slice_get self.now.outgoing.items self.now.taken))
+            (long_by (packet_by (lane_of (who_of nothing self.now.own) self.now.lane).current self.now.lane.count hold.pause)
+            (transfer_by (port_of self.now.transfers).current (clock hold.age)))))) }
     {
-        self.hold.owes_claim
+        hold.turns >= 2
+            && hold.is_held()
+            && (self.incoming.frame(now).is_some() || self.peek_message(hold, now).is_some())
+    }
+
+    /// A claim goes before all else, unless it gives way.
+    fn is_claim_due(&self, gives_way: bool) -> bool
+        ensures { result ≡ (self.now.hold.owes_claim && not gives_way) }
+    {
+        self.hold.owes_claim && !gives_way
+    }
+
+    /// An acknowledgment goes before what is left, unless it gives way.
+    fn is_acknowledgment_due(&self, gives_way: bool) -> bool
+        ensures { result ≡ (not gives_way && not (nat_eq (length self.now.desk.due.items) 0)) }
+    {
+        !gives_way && !self.desk.due.is_empty()
+    }
+
+    /// The acknowledgment that goes now.
+    fn first_due(&self, gives_way: bool) -> Option<&Due>
+        ensures { option_map (λ d. d.now) result ≡ (if gives_way then None else slice_get self.now.desk.due.items 0) }
+    {
+        if gives_way {
+            None
+        } else {
+            self.desk.due.as_slice().get(0)
+        }
     }
 
     /// The address that its claim tells.

@@ -4,7 +4,7 @@ ghost use Rattle.std.specs.Option.{option_map};
 ghost use Rattle.j39_frame.specs.Stamp.{stamp_micros};
 ghost use Rattle.j39_node.specs.History.{stamp_at};
 ghost use Rattle.j39_node.specs.declared.hold.Standing.TheVariants as standing;
-ghost use Rattle.j39_node.specs.Hold.{asked, first, passed, heard, moved, claimed, paused, renewed, rested, stands, lost, less, claims, left_at};
+ghost use Rattle.j39_node.specs.Hold.{acknowledged, asked, first, passed, heard, moved, claimed, paused, renewed, rested, spoken, stands, lost, less, claims, left_at};
 
 use j39_frame::Stamp;
 
@@ -58,6 +58,8 @@ pub(crate) struct Hold {
     pub(crate) moment: u64,
     pub(crate) standing: Standing,
     pub(crate) owes_claim: bool,
+    /// How many of the frames taken last were claims or acknowledgments, up to two.
+    pub(crate) turns: u8,
     /// What is left of the time between two frames of packets.
     pub(crate) pause: u64,
     /// How long ago a transfer was accepted last.
@@ -77,6 +79,7 @@ impl Hold {
             moment: 0,
             standing: Standing::Idle,
             owes_claim: true,
+            turns: 0,
             pause: 0,
             age: 0,
             wait: 0,
@@ -108,6 +111,7 @@ impl Hold {
             moment,
             standing: self.standing.less(step),
             owes_claim: self.owes_claim,
+            turns: self.turns,
             pause: self.pause.saturating_sub(step),
             age: self.age.saturating_add(step),
             wait: self.wait.saturating_sub(step),
@@ -128,6 +132,7 @@ impl Hold {
             moment: self.moment,
             standing,
             owes_claim: self.owes_claim || calls,
+            turns: self.turns,
             pause: self.pause,
             age: self.age,
             wait: self.wait,
@@ -143,11 +148,28 @@ impl Hold {
             moment: self.moment,
             standing: self.standing.claimed(),
             owes_claim: false,
+            turns: self.turns.saturating_add(1).min(2),
             pause: self.pause,
             age: self.age,
             wait: self.wait,
             rest: self.rest,
         }
+    }
+
+    /// An acknowledgment was taken.
+    pub(crate) fn acknowledged(mut self) -> Hold
+        ensures { result ≡ acknowledged self }
+    {
+        self.turns = self.turns.saturating_add(1).min(2);
+        self
+    }
+
+    /// A frame was taken that is neither a claim nor an acknowledgment.
+    pub(crate) fn spoken(mut self) -> Hold
+        ensures { result ≡ spoken self }
+    {
+        self.turns = 0;
+        self
     }
 
     /// A frame of packets was taken.
@@ -158,6 +180,7 @@ impl Hold {
             moment: self.moment,
             standing: self.standing,
             owes_claim: self.owes_claim,
+            turns: 0,
             pause: PACKET_TIME,
             age: self.age,
             wait: self.wait,
@@ -173,6 +196,7 @@ impl Hold {
             moment: self.moment,
             standing: self.standing,
             owes_claim: self.owes_claim,
+            turns: self.turns,
             pause: self.pause,
             age: 0,
             wait: self.wait,
@@ -189,6 +213,7 @@ impl Hold {
             moment: self.moment,
             standing: self.standing,
             owes_claim: self.owes_claim,
+            turns: 0,
             pause: self.pause,
             age: self.age,
             wait,
@@ -205,6 +230,7 @@ impl Hold {
             moment: self.moment,
             standing: self.standing,
             owes_claim: self.owes_claim,
+            turns: self.turns,
             pause: self.pause,
             age: self.age,
             wait: self.wait,
