@@ -15,8 +15,8 @@
  * Storage. j1939_node, j1939_claims and j1939_broadcast are plain data in your own memory: make them by their .._init.
  * They take no memory besides, need no close, and may be copied. A j1939_controller, a j1939_listener, a
  * j1939_assembler, a j1939_receiver and a j1939_sender are handles: set one to J1939_EMPTY, open it by its .._new,
- * close it by its .._close. What it holds lies on the heap and is the library's. Frames, messages, readings and texts
- * are your own, and are copied.
+ * close it by its .._close. What it holds lies on the heap and is the library's; a call that takes a const handle
+ * changes nothing of it. Frames, messages, readings and texts are your own, and are copied.
  *
  * A j1939_controller is a node, a receiver, a sender and its broadcasts in one. Take the others where you write a loop
  * of your own, or listen only.
@@ -293,7 +293,7 @@ int32_t j1939_listener_feed(j1939_listener *listener, const j1939_frame *frame, 
 
 /** Who holds an address, by the claims that it heard: 1 and the NAME, or 0.
  * @return 0, 1, J1939_NO_PART */
-int32_t j1939_listener_holder(j1939_listener *listener, uint8_t address, uint64_t *name);
+int32_t j1939_listener_holder(const j1939_listener *listener, uint8_t address, uint64_t *name);
 
 /** Closes it. Closing an empty one does nothing.
  * @return 0 */
@@ -336,7 +336,7 @@ int32_t j1939_receiver_tick(j1939_receiver *receiver, uint64_t micros, j1939_fra
 
 /** Whether a session is open: 1 or 0.
  * @return 0, 1, J1939_NO_PART */
-int32_t j1939_receiver_busy(j1939_receiver *receiver);
+int32_t j1939_receiver_busy(const j1939_receiver *receiver);
 
 /** Closes it. Closing an empty one does nothing.
  * @return 0 */
@@ -369,7 +369,7 @@ int32_t j1939_sender_on(j1939_sender *sender, const j1939_frame *frame);
 
 /** J1939_SEND_IDLE and so on, and the reason where it is J1939_SEND_FAILED.
  * @return 0 to 4, J1939_NO_PART */
-int32_t j1939_sender_state(j1939_sender *sender, uint8_t *reason);
+int32_t j1939_sender_state(const j1939_sender *sender, uint8_t *reason);
 
 /** Closes it. Closing an empty one does nothing.
  * @return 0 */
@@ -419,7 +419,7 @@ int32_t j1939_controller_tick(j1939_controller *controller, uint64_t micros);
 
 /** When the next tick is due, if no frame is heard till then: 1 and the moment, or 0.
  * @return 0, 1, J1939_NO_PART */
-int32_t j1939_controller_next_tick(j1939_controller *controller, uint64_t *due);
+int32_t j1939_controller_next_tick(const j1939_controller *controller, uint64_t *due);
 
 /** Takes the frame that goes out now; by this it counts as sent: 1 where *out goes out, else 0. First go claims, then
  * acknowledgments, what it says as a receiver, messages of one frame, broadcasts, and transfers. The first call claims
@@ -430,36 +430,37 @@ int32_t j1939_controller_take_frame(j1939_controller *controller, uint64_t micro
 /** The frame that .._take_frame would hand out now; nothing changes by it. A driver whose queue may be full takes it
  * once it lies there.
  * @return 0, 1, J1939_BAD_VALUE, J1939_NO_PART */
-int32_t j1939_controller_peek_frame(j1939_controller *controller, uint64_t micros, j1939_frame *out);
+int32_t j1939_controller_peek_frame(const j1939_controller *controller, uint64_t micros, j1939_frame *out);
 
 /** A request for the claims of all (255), or of an address, from the null address: 1 where *out may go at once, else 0:
  * where an address is held, and for 254. It may go at any moment, before the first claim too. What answers it is shown by
  * .._hear like any claim; then .._free_address tells where to move.
  * @return 0, 1, J1939_BAD_VALUE, J1939_NO_PART */
-int32_t j1939_controller_claims_request(j1939_controller *controller, uint64_t micros, uint8_t to, j1939_frame *out);
+int32_t j1939_controller_claims_request(const j1939_controller *controller, uint64_t micros, uint8_t to,
+                                        j1939_frame *out);
 
 /** Before which moment .._take_frame answers 0, if nothing is heard or handed in till then: 1 and the moment, which is
  * that of the last call where a frame can be taken already; or 0. No time passes by .._peek_frame.
  * @return 0, 1, J1939_NO_PART */
-int32_t j1939_controller_next_due(j1939_controller *controller, uint64_t *due);
+int32_t j1939_controller_next_due(const j1939_controller *controller, uint64_t *due);
 
 /** How far it is with its address at the moment of the last call: J1939_IDLE (its first claim wasn't taken),
  * J1939_CLAIMING, J1939_HOLDING, J1939_CANNOT (it was lost), and the address, 254 where there is none.
  * @return 0 to 3, J1939_NO_PART */
-int32_t j1939_controller_status(j1939_controller *controller, uint8_t *address);
+int32_t j1939_controller_status(const j1939_controller *controller, uint8_t *address);
 
 /** Who holds an address, by the claims heard and its own that were taken: 1 and the NAME, or 0.
  * @return 0, 1, J1939_NO_PART */
-int32_t j1939_controller_holder(j1939_controller *controller, uint8_t address, uint64_t *name);
+int32_t j1939_controller_holder(const j1939_controller *controller, uint8_t address, uint64_t *name);
 
 /** The address that a NAME holds, by the same claims: 1 and the address, or 0.
  * @return 0, 1, J1939_NO_PART */
-int32_t j1939_controller_address_of(j1939_controller *controller, uint64_t name, uint8_t *address);
+int32_t j1939_controller_address_of(const j1939_controller *controller, uint64_t name, uint8_t *address);
 
 /** The least address of 128 to 247 that nobody holds, by the same claims: 1 and the address, or 0. A controller that
  * lost its address may move there, if its NAME is arbitrary.
  * @return 0, 1, J1939_NO_PART */
-int32_t j1939_controller_free_address(j1939_controller *controller, uint8_t *address);
+int32_t j1939_controller_free_address(const j1939_controller *controller, uint8_t *address);
 
 /** Begins anew at another address, which it will claim, with what it knows of who holds which, and with nothing else;
  * tokens begin with 0 again. 1 where it does. 0, where nothing changes, for an address above 253, and until all that
@@ -543,7 +544,7 @@ int32_t j1939_controller_take_received(j1939_controller *controller, j1939_messa
 
 /** How many messages were missed, since 16 lay unread, or another broadcast in packets lay there or was heard: *count.
  * @return 0, J1939_NO_PART */
-int32_t j1939_controller_missed(j1939_controller *controller, uint64_t *count);
+int32_t j1939_controller_missed(const j1939_controller *controller, uint64_t *count);
 
 /** A request for a group (J1939-21, 5.4.2). */
 typedef struct {
