@@ -12,6 +12,10 @@
  * stands in the parameters that it wrote to. A call's answers stand behind its @return; what it doesn't write at one of
  * them is as it was. J1939_NULL comes of each call with a pointer, and isn't named there.
  *
+ * Where two apply. J1939_NULL goes first. A call that opens a handle answers J1939_IN_USE before J1939_BAD_VALUE, and
+ * that before J1939_NO_MEMORY. Each other call answers J1939_BAD_VALUE for a frame, a moment, a group of 2^18 and above
+ * or an acknowledgment out of its range before J1939_NO_PART, and that before all the rest.
+ *
  * Storage. j1939_node, j1939_claims and j1939_broadcast are plain data in your own memory: make them by their .._init.
  * They take no memory besides, need no close, and may be copied. A j1939_controller, a j1939_listener, a
  * j1939_assembler, a j1939_receiver and a j1939_sender are handles: set one to J1939_EMPTY, open it by its .._new,
@@ -388,9 +392,10 @@ int32_t j1939_sender_close(j1939_sender *sender);
  * What it hands out waits for you: 16 messages of one frame, 16 requests, and one message in packets of each kind. What
  * comes beyond is refused, or told by j1939_controller_missed.
  *
- * A call with a handle that holds no controller answers J1939_NO_PART, but for .._new and .._close. Where a message is
- * not accepted, by J1939_BAD_VALUE for a moment or a group out of range nothing has changed, and else time alone has
- * passed. J1939_NO_ADDRESS comes where no address is held. */
+ * A call with a handle that holds no controller answers J1939_NO_PART, but for .._new and .._close, and where a frame,
+ * a moment, a group or an acknowledgment is out of its range. Where a message is not accepted, by J1939_BAD_VALUE for
+ * one of these nothing has changed, and else time alone has passed. J1939_NO_ADDRESS comes where no address is held,
+ * before each other J1939_BAD_VALUE; J1939_FULL comes last. */
 
 /** Opens a controller of this NAME, that will claim this address, and whose program serves these groups: a request for
  * another group is refused. J1939_BAD_VALUE for an address above 253, more than 16 groups, or one of 2^18 and above.
