@@ -12,6 +12,9 @@
  * stands in the parameters that it wrote to. A call's answers stand behind its @return; what it doesn't write at one of
  * them is as it was. J1939_NULL comes of each call with a pointer, and isn't named there.
  *
+ * What a call answers, or writes to a field, has a named enum where it is one of several. In a switch over
+ * (enum j1939_news)answer the compiler's -Wswitch finds the one that is forgotten.
+ *
  * Where two apply. J1939_NULL goes first. A call that opens a handle answers J1939_IN_USE before J1939_BAD_VALUE, and
  * that before J1939_NO_MEMORY. Each other call answers J1939_BAD_VALUE for a frame, a moment, a group of 2^18 and above
  * or an acknowledgment out of its range before J1939_NO_PART, and that before all the rest.
@@ -48,7 +51,7 @@ extern "C" {
 #endif
 
 /** Why a call did nothing. */
-enum {
+enum j1939_refusal {
     J1939_BAD_VALUE = -1, /**< a number is out of its range */
     J1939_NO_PART = -2,   /**< the handle is empty, or holds another kind of part */
     J1939_NO_MEMORY = -3, /**< memory is refused */
@@ -128,7 +131,7 @@ int32_t j1939_name_compose(const j1939_name_fields *fields, uint64_t *name);
 /* ---- readings (J1939-71) */
 
 /** What a reading is. */
-enum {
+enum j1939_reading_kind {
     J1939_NUMBER = 0,    /**< a number */
     J1939_ON = 1,        /**< a switch that is on */
     J1939_OFF = 2,       /**< a switch that is off */
@@ -224,7 +227,7 @@ typedef struct {
 } j1939_node;
 
 /** How far a node is. */
-enum { J1939_IDLE = 0, J1939_CLAIMING = 1, J1939_HOLDING = 2, J1939_CANNOT = 3 };
+enum j1939_status { J1939_IDLE = 0, J1939_CLAIMING = 1, J1939_HOLDING = 2, J1939_CANNOT = 3 };
 
 /** An idle node of this NAME, to start with this address; J1939_BAD_VALUE for an address above 253.
  * @return 0, J1939_BAD_VALUE */
@@ -349,7 +352,7 @@ int32_t j1939_receiver_close(j1939_receiver *receiver);
 /* ---- the sending end of directed transfers (J1939-21, 5.10.3) */
 
 /** How far a sender is. */
-enum {
+enum j1939_send_state {
     J1939_SEND_IDLE = 0,    /**< it has sent nothing */
     J1939_SEND_WAITING = 1, /**< it waits for an answer */
     J1939_SEND_SENDING = 2, /**< it has packets to send, one a tick */
@@ -504,7 +507,7 @@ int32_t j1939_controller_transfer(j1939_controller *controller, uint64_t micros,
 int32_t j1939_controller_ask(j1939_controller *controller, uint64_t micros, uint32_t pgn, uint8_t to, uint64_t *token);
 
 /** What ended. */
-enum {
+enum j1939_ended_kind {
     J1939_ENDED_MESSAGE = 1,   /**< a message of one frame */
     J1939_ENDED_BROADCAST = 2, /**< a message in packets to all */
     J1939_ENDED_TRANSFER = 3,  /**< one to an address */
@@ -512,7 +515,7 @@ enum {
 };
 
 /** How it ended. */
-enum {
+enum j1939_ending {
     J1939_ENDED_DONE = 1,         /**< its frames were taken; a transfer was acknowledged; a group came in answer */
     J1939_ENDED_WITHDRAWN = 2,    /**< the address was lost before */
     J1939_ENDED_FAILED = 3,       /**< a transfer was aborted, as detail says: by the receiver for its reason, for 3
@@ -535,7 +538,7 @@ typedef struct {
 int32_t j1939_controller_take_ended(j1939_controller *controller, j1939_ended *ended);
 
 /** What was received. */
-enum {
+enum j1939_received_kind {
     J1939_RECEIVED_FRAME = 1,    /**< a message of 0 to 8 bytes, to all or to its address */
     J1939_RECEIVED_TRANSFER = 2, /**< one in packets to its address */
     J1939_RECEIVED_BROADCAST = 3 /**< one in packets to all */
@@ -564,7 +567,7 @@ typedef struct {
 int32_t j1939_controller_take_request(j1939_controller *controller, j1939_request *request);
 
 /** How a request is acknowledged (J1939-21, 5.4.4). */
-enum { J1939_ACK = 0, J1939_NACK = 1, J1939_DENIED = 2, J1939_BUSY = 3 };
+enum j1939_acknowledgment { J1939_ACK = 0, J1939_NACK = 1, J1939_DENIED = 2, J1939_BUSY = 3 };
 
 /** Acknowledges a request to its address. J1939_BAD_VALUE for one to all, which is never acknowledged, another answer,
  * a group of 2^18 and above, or a moment of 10^16 and above. J1939_FULL while 16 are due.
@@ -573,7 +576,7 @@ int32_t j1939_controller_acknowledge(j1939_controller *controller, uint64_t micr
                                      uint8_t answer);
 
 /** What happened. */
-enum {
+enum j1939_news {
     J1939_NEWS_LOST = 1,    /**< a smaller NAME claimed its address */
     J1939_NEWS_ANOTHER = 2, /**< another sends from the address that it holds, and no claim */
     J1939_NEWS_MISSED = 3   /**< messages were missed (j1939_controller_missed) */
