@@ -50,6 +50,9 @@
 extern "C" {
 #endif
 
+/** The version of the library that this header is of. */
+#define J1939_VERSION "0.2.0"
+
 /** Why a call did nothing. */
 enum j1939_refusal {
     J1939_BAD_VALUE = -1, /**< a number is out of its range */
