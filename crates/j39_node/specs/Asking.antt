@@ -1,5 +1,5 @@
 -- Asking others for groups (J1939-21, 5.4.2 and 5.4.4): what a history says of it.
-use Rattle.std.specs.Prelude.{◌≡◌, ◌<◌, ℕ, ◌+◌, ◌-◌, ◌%◌, ◌/◌, ◌++◌, ◌&&◌, ◌||◌, nat_lt, nat_eq, not, Bool, true, false, IsTrue, List, [], ◌∷◌, length, Option, Some, None, Result, Ok, Err, if◌then◌else◌}
+use Rattle.std.specs.Prelude.{◌≡◌, ◌⊎◌, ◌<◌, ◌≤◌, ℕ, ◌+◌, ◌-◌, ◌%◌, ◌/◌, ◌++◌, ◌&&◌, ◌||◌, nat_lt, nat_eq, not, Bool, true, false, IsTrue, List, [], ◌∷◌, length, Option, Some, None, Result, Ok, Err, if◌then◌else◌}
 use Rattle.std.specs.List.{slice_get}
 use Rattle.std.specs.Option.{option_map, option_or}
 use Rattle.j39_frame.specs.Address.{null_address, global_address}
@@ -11,13 +11,14 @@ use Rattle.j39_node.specs.declared.kinds.AskEnding.{AskEnding}
 use Rattle.j39_node.specs.declared.kinds.AskEnding.TheVariants.{Answered, Acknowledged, TimedOut, Withdrawn}
 use Rattle.j39_node.specs.declared.kinds.Refused.{Refused}
 use Rattle.j39_node.specs.declared.kinds.Refused.TheVariants.{NoAddress, BadValue, Full}
-use Rattle.j39_node.specs.History.{Who, Call, accepted, address_after, holds, is_acknowledgment, is_claim, is_full, is_lost, is_none, is_sendable, is_session, is_some, sent, step}
+use Rattle.j39_node.specs.History.{Who, Call, accepted, address_after, holds, is_acknowledgment, is_claim, is_full, is_lost, is_none, is_sendable, is_session, is_some, moment, sent, stamp_at, step}
 use Rattle.j39_node.specs.History.Call.{At, TakeAskEnded}
 use Rattle.j39_node.specs.History.Act.{Ask, Hear, TakeFrame}
 use Rattle.j39_node.specs.Since.{passed_in}
-use Rattle.j39_node.specs.Reception.{whole}
-use Rattle.j39_node.specs.Hearing.{made_whole}
+use Rattle.j39_node.specs.Reception.{reception, time_heard, whole}
+use Rattle.j39_node.specs.Hearing.{OpenBroadcast, hearing, is_late, is_whole, made_whole}
 use Rattle.j39_transport.specs.Message.{MessageRecord}
+use Rattle.j39_transport.specs.Reception.{ReceptionRecord}
 
 -- a group that may be sent, or that of claims (J1939-81, 4.2.1), of all or of the address of another
 abbrev pub can_ask : Who → ℕ → ℕ → Bool
@@ -110,17 +111,37 @@ made_of (Some m) = Some (m.source, m.pgn)
 abbrev pub made : Who → List Call → ℕ → FrameRecord → Option (ℕ × ℕ)
 made w H now f = option_or (made_of (whole w H now f)) (made_of (option_map (λ x. x.1) (made_whole w H now f)))
 
-abbrev pub is_whole : Question → Option (ℕ × ℕ) → Bool
-is_whole q None = false
-is_whole q (Some x) = nat_eq x.1 q.group && (nat_eq q.to global_address || nat_eq x.0 q.to)
+-- a message of this source and group is of the group, and of whom was asked
+abbrev pub seeks : Question → Option (ℕ × ℕ) → Bool
+seeks q None = false
+seeks q (Some x) = nat_eq x.1 q.group && (nat_eq q.to global_address || nat_eq x.0 q.to)
 
 abbrev pub says_to : Who → Question → FrameRecord → Option (ℕ × ℕ) → Option AskEnding
 says_to w q f made =
-    if is_whole q made
+    if seeks q made
     then Some Answered
     else if reaches w f
     then (if is_answer q f then Some Answered else if is_reply w q f then said_by (slice_get f.bytes 0) else None)
     else None
+
+-- ---- an answer in packets on its way (J1939-21, 5.12.3: the 1,250 ms are for its begin)
+
+-- the source and the group of the message of an open session, and of a broadcast that isn't whole, and in time
+abbrev pub in_session : Option ReceptionRecord → Option (ℕ × ℕ)
+in_session None = None
+in_session (Some r) = Some (r.message.source, r.message.group)
+
+abbrev pub in_broadcast : ℕ → Option OpenBroadcast → Option (ℕ × ℕ)
+in_broadcast time None = None
+in_broadcast time (Some x) = if is_whole x || is_late time x then None else Some (x.source, x.group)
+
+abbrev pub is_coming : Option Question → Option (ℕ × ℕ) → Option (ℕ × ℕ) → Bool
+is_coming None session broadcast = false
+is_coming (Some q) session broadcast = seeks q session || seeks q broadcast
+
+-- at this time, by which a broadcast may be late, one to the open request is on its way
+abbrev pub comes : Who → List Call → ℕ → Bool
+comes w H time = is_coming (open_ask H) (in_session (reception w H).session) (in_broadcast time (hearing w H))
 
 -- ---- how it ends
 
@@ -128,23 +149,25 @@ abbrev pub first : Option AskEnding → Option AskEnding → Option AskEnding
 first None later = later
 first (Some e) later = Some e
 
--- without a word: by time, or as the address is lost
-abbrev pub silent_end : Bool → ℕ → Bool → Option AskEnding
-silent_end taken left lost =
-    if taken && nat_eq left 0 then Some TimedOut else if lost then Some Withdrawn else None
+-- without a word: by time, unless an answer is coming, or as the address is lost
+abbrev pub silent_end : Bool → ℕ → Bool → Bool → Option AskEnding
+silent_end taken left coming lost =
+    if taken && (nat_eq left 0 && not coming) then Some TimedOut else if lost then Some Withdrawn else None
 
--- by a frame that is heard while so much is left, and the address is lost or not by it
-abbrev pub end_at : Who → Option Question → ℕ → ℕ → Bool → FrameRecord → Option (ℕ × ℕ) → Option AskEnding
-end_at w None n left lost f made = None
-end_at w (Some q) n left lost f made =
-    first (silent_end (nat_lt q.token n) left lost) (if nat_lt q.token n then says_to w q f made else None)
+-- by a frame that is heard while so much is left, an answer is coming or not before it, and the address is lost or not by it: a late
+-- one begins no answer
+abbrev pub end_at : Who → Option Question → ℕ → ℕ → Bool → Bool → FrameRecord → Option (ℕ × ℕ) → Option AskEnding
+end_at w None n left coming lost f made = None
+end_at w (Some q) n left coming lost f made =
+    first (silent_end (nat_lt q.token n) left coming lost) (if nat_lt q.token n then says_to w q f made else None)
 
 -- how the open request ended by what was heard: what came first stands
 abbrev pub ended : Who → List Call → Option AskEnding
 ended w [] = None
 ended w (At now (Hear f) ∷ H) =
     first (ended w H)
-    (end_at w (open_ask H) (length (sent H)) (wait H - step H now) (is_lost (address_after w (At now (Hear f) ∷ H))) f (made w H now f))
+    (end_at w (open_ask H) (length (sent H)) (wait H - step H now) (comes w H (time_heard (At now (Hear f) ∷ H)))
+    (is_lost (address_after w (At now (Hear f) ∷ H))) f (made w H now f))
 ended w (At now (Ask group to (Ok token)) ∷ H) = None
 ended w (call ∷ H) = ended w H
 
@@ -162,13 +185,30 @@ answer_to_ask w H now group to =
     else Err BadValue)
     else Err NoAddress
 
-abbrev pub ask_end : Option Question → ℕ → Option AskEnding → ℕ → Bool → Option (ℕ × AskEnding)
-ask_end None n heard left lost = None
-ask_end (Some q) n heard left lost =
-    option_map (λ e. (q.token, e)) (first heard (silent_end (nat_lt q.token n) left lost))
+abbrev pub ask_end : Option Question → ℕ → Option AskEnding → ℕ → Bool → Bool → Option (ℕ × AskEnding)
+ask_end None n heard left coming lost = None
+ask_end (Some q) n heard left coming lost =
+    option_map (λ e. (q.token, e)) (first heard (silent_end (nat_lt q.token n) left coming lost))
 
 abbrev pub next_ask_ended : Who → List Call → Option (ℕ × AskEnding)
-next_ask_ended w H = ask_end (open_ask H) (length (sent H)) (ended w H) (wait H) (is_lost (address_after w H))
+next_ask_ended w H =
+    ask_end (open_ask H) (length (sent H)) (ended w H) (wait H) (comes w H (time_heard H)) (is_lost (address_after w H))
+
+-- its frame was taken, nothing ended it, and no answer is coming
+abbrev pub lacks_answer : Bool → Option AskEnding → Bool → Bool
+lacks_answer taken None coming = taken && not coming
+lacks_answer taken (Some e) coming = false
+
+abbrev pub is_waiting : Option Question → ℕ → Option AskEnding → Bool → Bool
+is_waiting None n heard coming = false
+is_waiting (Some q) n heard coming = lacks_answer (nat_lt q.token n) heard coming
+
+-- when it times out: what is left counts from the last call
+abbrev pub out_at : Bool → ℕ → ℕ → Option ℕ
+out_at waited last left = if waited then stamp_at (last + left) else None
+
+abbrev pub request_tick : Who → List Call → Option ℕ
+request_tick w H = out_at (is_waiting (open_ask H) (length (sent H)) (ended w H) (comes w H (time_heard H))) (moment H) (wait H)
 
 -- ---- by places of the history
 
@@ -183,7 +223,7 @@ pub record AskedSince (H : List Call) (q : Question) (e : ℕ) : Type 0 where
   pub request : IsTrue (is_request earlier frame)
   pub passed : e ≡ passed_in later (At at (TakeFrame (Some frame)) ∷ earlier)
 
--- at a call of H, after its frame was taken less than 1,250 ms before, this was heard first
+-- at a call of H, after its frame was taken less than 1,250 ms before, or while an answer was coming, this was heard first
 pub record HeardFirst (w : Who) (H : List Call) (q : Question) (ending : AskEnding) : Type 0 where
   pub later : List Call
   pub at : ℕ
@@ -194,8 +234,22 @@ pub record HeardFirst (w : Who) (H : List Call) (q : Question) (ending : AskEndi
   pub none : ended w earlier ≡ None
   pub since : ℕ
   pub asked : AskedSince earlier q since
-  pub in_time : since + step earlier at < 1250000
+  pub in_time : (since + step earlier at < 1250000) ⊎ IsTrue (comes w earlier (time_heard (At at (Hear frame) ∷ earlier)))
   pub says : says_to w q frame (made w earlier at frame) ≡ Some ending
+
+-- at a call of H 1,250 ms and more had passed since its frame was taken, and no answer was coming: by it, or before the frame that it hears
+abbrev pub found_coming : Who → List Call → Bool
+found_coming w (At now (Hear f) ∷ H) = comes w H (time_heard (At now (Hear f) ∷ H))
+found_coming w H = comes w H (time_heard H)
+
+pub record RanOut (w : Who) (H : List Call) (q : Question) : Type 0 where
+  pub later : List Call
+  pub earlier : List Call
+  pub is : H ≡ later ++ earlier
+  pub since : ℕ
+  pub asked : AskedSince earlier q since
+  pub out : 1250000 ≤ since
+  pub none : (comes w earlier (time_heard earlier) ≡ false) ⊎ (found_coming w earlier ≡ false)
 
 -- none is accepted or told
 abbrev pub ends : Call → Bool

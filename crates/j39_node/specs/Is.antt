@@ -39,7 +39,7 @@ use Rattle.j39_node.specs.History.Call.{At, TakeAskEnded, TakeEnded, TakeReceive
 use Rattle.j39_node.specs.History.Act.{Ask, TakeFrame, Send, Acknowledge, Broadcast, Transfer}
 use Rattle.j39_node.specs.History.Address.{NotClaimed, Claimed, Lost}
 use Rattle.j39_node.specs.Reception.{Reception, time_heard, has_place, heard_at, heard_by, keeps, later, leaves, left, reception, reply_from, ticked}
-use Rattle.j39_node.specs.Asking.{Question, answer_to_ask, ended, first, next_ask_ended, open_ask, question, says_to, silent_end, wait}
+use Rattle.j39_node.specs.Asking.{Question, answer_to_ask, ended, first, lacks_answer, next_ask_ended, open_ask, question, says_to, silent_end, wait}
 use Rattle.j39_node.specs.declared.kinds.AskEnding.{AskEnding}
 use Rattle.j39_node.specs.declared.asking.Asking.{Asking}
 use Rattle.j39_node.specs.declared.asking.Open as asking
@@ -375,18 +375,27 @@ made_by true (Some x) = Some (x.1.source, x.1.pgn)
 made_by true None = None
 made_by false x = None
 
--- a frame is heard, and the end is told
-abbrev pub hears_with : Who → Bool → ℕ → FrameRecord → Option (ℕ × ℕ) → AskRecord → AskRecord
-hears_with w lost left f made x = record {
+-- a frame is heard, before which it ended so or not without a word
+abbrev pub silence : ℕ → Bool → Bool → Option AskRecord → Option AskEnding
+silence left coming lost None = None
+silence left coming lost (Some x) = silent_end x.taken left coming lost
+
+abbrev pub hears_with : Who → Option AskEnding → FrameRecord → Option (ℕ × ℕ) → AskRecord → AskRecord
+hears_with w silent f made x = record {
   question = x.question;
   taken = x.taken;
-  ending = first x.ending (first (silent_end x.taken left lost) (if x.taken then says_to w x.question f made else None));
+  ending = first x.ending (first silent (if x.taken then says_to w x.question f made else None));
 }
 
-abbrev pub ended_with : Bool → ℕ → Option AskRecord → Option (ℕ × AskEnding)
-ended_with lost left None = None
-ended_with lost left (Some x) =
-    option_map (λ e. (x.question.token, e)) (first x.ending (silent_end x.taken left lost))
+-- it waits for an answer that isn't coming
+abbrev pub waits_with : Bool → Option AskRecord → Bool
+waits_with coming None = false
+waits_with coming (Some x) = lacks_answer x.taken x.ending coming
+
+-- the end is told
+abbrev pub ended_with : Option AskEnding → Option AskRecord → Option (ℕ × AskEnding)
+ended_with silent None = None
+ended_with silent (Some x) = option_map (λ e. (x.question.token, e)) (first x.ending silent)
 
 abbrev pub asking_after : Who → List Call → Option AskRecord
 asking_after w H = asked_by (open_ask H) (length (sent H)) (ended w H)

@@ -11,6 +11,8 @@ pub mod Transfers
 pub mod Moves
 -- asking others for groups
 pub mod Asking
+-- the moments of ticks
+pub mod Ticks
 -- the histories that a controller can have had
 pub mod Is
 -- a driver that is prompt

@@ -8,7 +8,7 @@ ghost use Rattle.j39_node.specs.History.{carried, is_some, message_from, request
 ghost use Rattle.j39_frame.specs.Identifier.{id_raw};
 ghost use Rattle.j39_frame.specs.Stamp.{stamp_micros};
 ghost use Rattle.j39_node.specs.Is.{claims_request, posted, stamped, who_of};
-ghost use Rattle.j39_node.specs.Asking.{can_ask, first, is_answer, is_of, is_reply, is_whole, question, reaches, said_by, says_to, silent_end};
+ghost use Rattle.j39_node.specs.Asking.{can_ask, first, is_answer, is_of, is_reply, question, reaches, said_by, says_to, seeks, silent_end};
 
 use crate::outgoing::{Outgoing, is_sendable};
 use crate::own::{ACKNOWLEDGMENT, ADDRESS_CLAIMED, Own, REQUEST, is_to, is_undirected};
@@ -44,11 +44,17 @@ impl Open {
         }
     }
 
-    /// A frame is heard while so much is left of its time, and the address is lost or not by it.
-    fn hear(&mut self, own: &Own, is_lost: bool, left: u64, frame: &Frame, made: Option<(u8, u32)>)
+    /// A frame is heard, before which it ended so without a word, or not.
+    fn hear(
+        &mut self,
+        own: &Own,
+        silence: Option<AskEnding>,
+        frame: &Frame,
+        made: Option<(u8, u32)>,
+    )
         ensures question { (ask_record self.new).question ≡ (ask_record self.old).question }
         ensures taken { self.new.is_taken ≡ self.old.is_taken }
-        ensures ending { self.new.ending ≡ first self.old.ending (first (silent_end self.old.is_taken left is_lost)
+        ensures ending { self.new.ending ≡ first self.old.ending (first silence
             (if self.old.is_taken then says_to (who_of nothing own.now) (ask_record self.old).question frame.now made else None)) }
     {
         let heard = if self.is_taken {
@@ -56,21 +62,14 @@ impl Open {
         } else {
             None
         };
-        self.ending = first(self.ending_at(is_lost, left), heard);
-    }
-
-    /// How it ended, with so much left of its time.
-    fn ending_at(&self, is_lost: bool, left: u64) -> Option<AskEnding>
-        ensures { result ≡ first self.now.ending (silent_end self.now.is_taken left is_lost) }
-    {
-        first(self.ending, silent_end(self.is_taken, left, is_lost))
+        self.ending = first(self.ending, first(silence, heard));
     }
 
     /// What a frame says to it.
     fn says(&self, own: &Own, frame: &Frame, made: Option<(u8, u32)>) -> Option<AskEnding>
         ensures { result ≡ says_to (who_of nothing own.now) (ask_record self.now).question frame.now made }
     {
-        if self.is_whole(made) {
+        if self.seeks(made) {
             Some(AskEnding::Answered)
         } else if !reaches(own, frame) {
             None
@@ -83,11 +82,11 @@ impl Open {
         }
     }
 
-    /// Whether the message in packets that a frame makes whole, of this source and group, answers it.
-    fn is_whole(&self, made: Option<(u8, u32)>) -> bool
-        ensures { result ≡ is_whole (ask_record self.now).question made }
+    /// Whether a message in packets of this source and group answers it.
+    fn seeks(&self, message: Option<(u8, u32)>) -> bool
+        ensures { result ≡ seeks (ask_record self.now).question message }
     {
-        match made {
+        match message {
             Some((source, group)) => {
                 group == self.group.raw() && (self.to == GLOBAL_ADDRESS || source == self.to)
             }
@@ -118,8 +117,8 @@ pub(crate) struct Asking {
 }
 
 impl Asking {
-    ghost use Rattle.j39_node.specs.Asking.{has_token, is_asking};
-    ghost use Rattle.j39_node.specs.Is.{ended_with, hears_with};
+    ghost use Rattle.j39_node.specs.Asking.{has_token, is_asking, is_coming};
+    ghost use Rattle.j39_node.specs.Is.{ended_with, hears_with, silence, waits_with};
     ghost use Rattle.j39_node.specs.Is.{AskRecord, asking_of, ask_record};
 
     /// None was accepted.
@@ -153,33 +152,69 @@ impl Asking {
         }
     }
 
-    /// A frame is heard while so much is left of its time, and the address is lost or not by it.
+    /// Whether an answer to the open request is on its way, in the session or the broadcast of this source and group.
+    pub(crate) fn is_coming(
+        &self,
+        session: Option<(u8, u32)>,
+        broadcast: Option<(u8, u32)>,
+    ) -> bool
+        ensures { result ≡ is_coming (option_map (λ x. x.question) (asking_of self.now)) session broadcast }
+    {
+        match &self.current {
+            Some(open) => open.seeks(session) || open.seeks(broadcast),
+            None => false,
+        }
+    }
+
+    /// How the open request ended without a word, with so much left of its time.
+    pub(crate) fn silence(&self, left: u64, is_coming: bool, is_lost: bool) -> Option<AskEnding>
+        ensures { result ≡ silence left is_coming is_lost (asking_of self.now) }
+    {
+        match &self.current {
+            Some(open) => silent_end(open.is_taken, left, is_coming, is_lost),
+            None => None,
+        }
+    }
+
+    /// A frame is heard, before which the open request ended so without a word, or not.
     pub(crate) fn hear(
         &mut self,
         own: &Own,
-        is_lost: bool,
-        left: u64,
+        silence: Option<AskEnding>,
         frame: &Frame,
         made: Option<(u8, u32)>,
     )
         ensures { asking_of self.new
-            ≡ option_map (hears_with (who_of nothing own.now) is_lost left frame.now made) (asking_of self.old) }
+            ≡ option_map (hears_with (who_of nothing own.now) silence frame.now made) (asking_of self.old) }
     {
         if let Some(open) = &mut self.current {
-            open.hear(own, is_lost, left, frame, made);
+            open.hear(own, silence, frame, made);
         }
     }
 
-    /// How the open request ended, with so much left of its time.
-    pub(crate) fn ended(&self, is_lost: bool, left: u64) -> Option<(u64, AskEnding)>
-        ensures { result ≡ ended_with is_lost left (asking_of self.now) }
+    /// How the open request ended: so without a word, if no other end came before.
+    pub(crate) fn ended(&self, silence: Option<AskEnding>) -> Option<(u64, AskEnding)>
+        ensures { result ≡ ended_with silence (asking_of self.now) }
     {
         match &self.current {
             Some(open) => {
-                let ending = open.ending_at(is_lost, left)?;
+                let ending = first(open.ending, silence)?;
                 Some((open.token, ending))
             }
             None => None,
+        }
+    }
+
+    /// Whether the open request waits for an answer, and none is coming.
+    pub(crate) fn is_waiting(&self, is_coming: bool) -> bool
+        ensures { result ≡ waits_with is_coming (asking_of self.now) }
+    {
+        match &self.current {
+            Some(open) => match open.ending {
+                Some(_ending) => false,
+                None => open.is_taken && !is_coming,
+            },
+            None => false,
         }
     }
 }
@@ -224,10 +259,10 @@ fn first(one: Option<AskEnding>, later: Option<AskEnding>) -> Option<AskEnding>
 }
 
 /// How a request ended without a word.
-fn silent_end(is_taken: bool, left: u64, is_lost: bool) -> Option<AskEnding>
-    ensures { result ≡ silent_end is_taken left is_lost }
+fn silent_end(is_taken: bool, left: u64, is_coming: bool, is_lost: bool) -> Option<AskEnding>
+    ensures { result ≡ silent_end is_taken left is_coming is_lost }
 {
-    if is_taken && left == 0 {
+    if is_taken && left == 0 && !is_coming {
         Some(AskEnding::TimedOut)
     } else if is_lost {
         Some(AskEnding::Withdrawn)

@@ -12,15 +12,16 @@ ghost use Rattle.j39_address.specs.Holder.{IsHolderAfter};
 ghost use Rattle.j39_address.specs.Node.{IsLeastFree, NoneFree};
 ghost use Rattle.j39_transport.specs.ReceiverModel.{message_shown};
 ghost use Rattle.j39_node.specs.History.{Who, Call, is_left, missed, told_claims, nothing};
-ghost use Rattle.j39_node.specs.Reception.{next_tick, reception};
+ghost use Rattle.j39_node.specs.Reception.{later, reception};
+ghost use Rattle.j39_node.specs.Ticks.{next_tick};
 ghost use Rattle.j39_node.specs.Hearing.{unheard, waiting};
 ghost use Rattle.j39_node.specs.Transfers.{clock, is_replaced, next_due, packet_in, packets_in, sooner, transfer_by, transfer_in};
 ghost use Rattle.j39_node.specs.Hold.{lost, stands};
 ghost use Rattle.j39_node.specs.Moving.{HasMoved, IsSettled, has_given, has_told};
 ghost use Rattle.j39_node.specs.History.Call.{At, TakeAskEnded, TakeEnded, TakeReceived, TakeRequest, TakeNews, TakeBroadcastEnded, ReleaseTransfer, TakeTransferEnded, ReleaseBroadcast};
 ghost use Rattle.j39_node.specs.History.Act.{Ask, Hear, Tick, TakeFrame, Send, Acknowledge, Broadcast, Transfer};
-ghost use Rattle.j39_node.specs.Asking.{is_asking};
-ghost use Rattle.j39_node.specs.Is.{asking_of, is_there, Is, next_claims_request, first_of, lane_of, next_frame, packet_by, posted, received_by, request_by, stamped, status_after, who_of, long_by, port_of, hearing_of};
+ghost use Rattle.j39_node.specs.Asking.{in_broadcast, in_session, is_asking, is_coming, out_at};
+ghost use Rattle.j39_node.specs.Is.{asking_of, is_there, Is, next_claims_request, first_of, lane_of, next_frame, packet_by, posted, received_by, request_by, silence, stamped, status_after, who_of, long_by, port_of, hearing_of, waits_with};
 
 use crate::asking::{self, Asking};
 use crate::hearing::Hearing;
@@ -236,12 +237,12 @@ impl Controller {
         }
     }
 
-    /// The moment before which `tick` does nothing but let time pass, if no frame is heard till then: a session waits, and asks again
-    /// or is aborted at it. `None` where no session is open.
+    /// The moment before which `tick` does nothing but let time pass, if no frame is heard till then: at it a session that waits asks
+    /// again or is aborted, or a request is out of time. `None` where neither waits.
     pub fn next_tick(&self) -> Option<Stamp>
         ensures { (w : Who) (H : List Call) → Is w H self.now → option_map stamp_micros result ≡ next_tick w H }
     {
-        self.incoming.next_tick()
+        sooner_stamp(self.incoming.next_tick(), self.request_tick())
     }
 
     /// Hears a frame of another controller, at the moment of this call. The frame's own stamp goes into what is received, and is
@@ -250,6 +251,7 @@ impl Controller {
         ensures { (w : Who) (H : List Call) → Is w H self.old → Is w (At (stamp_micros now) (Hear frame.now) ∷ H) self.new }
     {
         self.hold = self.hold.passed(now);
+        let is_coming = self.is_coming(self.incoming.clock_at(now));
         let is_held = self.hold.is_held();
         let wanted = self.own.is_for_program(is_held, frame);
         let misses = self.inbox.misses(wanted);
@@ -279,7 +281,8 @@ impl Controller {
         self.hold = self.hold.heard(drives_away, calls);
         self.transfers
             .hear(self.hold.is_lost(), is_replaced, frame, self.hold.clock());
-        self.asking.hear(&self.own, self.hold.is_lost(), self.hold.wait, frame, made);
+        let silence = self.silence(is_coming);
+        self.asking.hear(&self.own, silence, frame, made);
     }
 
     /// Time passes.
@@ -540,8 +543,8 @@ impl Controller {
     pub fn take_ask_ended(&mut self) -> Option<(u64, AskEnding)>
         ensures { (w : Who) (H : List Call) → Is w H self.old → Is w (TakeAskEnded result ∷ H) self.new }
     {
-        let is_lost = self.hold.is_lost();
-        let ended = self.asking.ended(is_lost, self.hold.wait)?;
+        let silence = self.silence(self.is_coming(self.incoming.clock));
+        let ended = self.asking.ended(silence)?;
         self.asking.current = None;
         Some(ended)
     }
@@ -695,6 +698,39 @@ impl Controller {
         }
     }
 
+    /// An answer to the open request is on its way, at this time.
+    fn is_coming(&self, time: Stamp) -> bool
+        ensures { result ≡ is_coming (option_map (λ x. x.question) (asking_of self.now.asking))
+            (in_session (incoming_of self.now.incoming).reception.session)
+            (in_broadcast (stamp_micros time) (hearing_of self.now.hearing).current) }
+    {
+        let session = self.incoming.session();
+        let broadcast = self.hearing.broadcast(time);
+        self.asking.is_coming(session, broadcast)
+    }
+
+    /// How the open request ended without a word.
+    fn silence(&self, is_coming: bool) -> Option<AskEnding>
+        ensures { result ≡ silence self.now.hold.wait is_coming (lost self.now.hold.standing) (asking_of self.now.asking) }
+    {
+        self.asking
+            .silence(self.hold.wait, is_coming, self.hold.is_lost())
+    }
+
+    /// When the open request times out.
+    fn request_tick(&self) -> Option<Stamp>
+        ensures { option_map stamp_micros result ≡ out_at (waits_with (is_coming (option_map (λ x. x.question) (asking_of self.now.asking))
+            (in_session (incoming_of self.now.incoming).reception.session)
+            (in_broadcast (incoming_of self.now.incoming).clock (hearing_of self.now.hearing).current)) (asking_of self.now.asking))
+            self.now.hold.moment self.now.hold.wait }
+    {
+        if self.asking.is_waiting(self.is_coming(self.incoming.clock)) {
+            self.hold.later(self.hold.wait)
+        } else {
+            None
+        }
+    }
+
     /// The NAME that holds the address to which the open transfer goes.
     fn peer(&self) -> Option<Name>
         ensures { IfSome (port_of self.now.transfers).current (λ x.
@@ -824,6 +860,16 @@ fn sooner(one: Option<u64>, other: Option<u64>) -> Option<u64>
         (None, _) => other,
         (Some(_), None) => one,
         (Some(m), Some(n)) => Some(m.min(n)),
+    }
+}
+
+fn sooner_stamp(one: Option<Stamp>, other: Option<Stamp>) -> Option<Stamp>
+    ensures { option_map stamp_micros result ≡ sooner (option_map stamp_micros one) (option_map stamp_micros other) }
+{
+    match (one, other) {
+        (None, _) => other,
+        (Some(_), None) => one,
+        (Some(m), Some(n)) => Some(if m.micros() <= n.micros() { m } else { n }),
     }
 }
 

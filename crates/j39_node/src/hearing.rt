@@ -9,6 +9,7 @@ ghost use Rattle.j39_transport.specs.Key.{Broadcast, is_key};
 ghost use Rattle.j39_transport.specs.ReceiverModel.{message_shown};
 ghost use Rattle.j39_node.specs.Reception.{has_place};
 ghost use Rattle.j39_node.specs.Hearing.{IsFit, announces, goes_on, has_room, begun, hears, is_late, is_ignored, is_unheard, is_whole, left, opens, packed, packs, whole_of};
+ghost use Rattle.j39_node.specs.Asking.{in_broadcast};
 ghost use Rattle.j39_node.specs.History.{nothing};
 ghost use Rattle.j39_node.specs.Is.{broadcast_by, hearing_of, is_out, made_by, who_of};
 
@@ -139,6 +140,22 @@ impl Hearing {
     {
         match &self.current {
             Some(heard) => Some(heard.source),
+            None => None,
+        }
+    }
+
+    /// The source and the group of the one that isn't whole, and in time.
+    pub(crate) fn broadcast(&self, time: Stamp) -> Option<(u8, u32)>
+        ensures { result ≡ in_broadcast (stamp_micros time) (hearing_of self.now).current }
+    {
+        match &self.current {
+            Some(heard) => {
+                if heard.is_whole() || heard.is_late(time) {
+                    None
+                } else {
+                    Some((heard.source, heard.group.raw()))
+                }
+            }
             None => None,
         }
     }

@@ -1,5 +1,5 @@
 //! Messages that come in packets to the address that is held (J1939-21, 5.10.3).
-ghost use Rattle.std.specs.Prelude.{IsTrue, ◌≡◌, ◌≤◌, ◌↔◌, ◌++◌, ◌∷◌, [], ℕ, List, length, true, false, IsSome, IfSome, IsSomeAnd, IfOk, OnErr, Some, None};
+ghost use Rattle.std.specs.Prelude.{IsTrue, ◌≡◌, ◌≤◌, ◌-◌, ◌↔◌, ◌++◌, ◌∷◌, [], ℕ, List, length, true, false, IsSome, IfSome, IsSomeAnd, IfOk, OnErr, Some, None};
 ghost use Rattle.std.specs.List.{slice_get};
 ghost use Rattle.std.specs.Option.{option_map};
 ghost use Rattle.j39_frame.specs.Address.{IsAddress};
@@ -12,6 +12,7 @@ ghost use Rattle.j39_transport.specs.Cutting.{to_send};
 ghost use Rattle.j39_transport.specs.ReceiverModel.{message_shown};
 ghost use Rattle.j39_node.specs.History.{carried};
 ghost use Rattle.j39_node.specs.Reception.{has_place, IsApart, heard_by, is_same, later, leaves, left, no_reception, replied, reply_from, tick_at, without};
+ghost use Rattle.j39_node.specs.Asking.{in_session};
 ghost use Rattle.j39_node.specs.Is.{made_by, Receives, hears, incoming_of, kept_by, passed_to, said_by, stamped, ticks, with_reception, with_replies};
 
 use crate::own::TRANSPORT_CONTROL;
@@ -222,6 +223,21 @@ impl Incoming {
         Stamp::new(self.moment.saturating_add(left))
     }
 
+    /// The source and the group of the message whose session is open.
+    pub(crate) fn session(&self) -> Option<(u8, u32)>
+        ensures { result ≡ in_session (incoming_of self.now).reception.session }
+    {
+        self.receiver.message()
+    }
+
+    /// The receiver's time at this moment: time that goes back is no time.
+    pub(crate) fn clock_at(&self, now: Stamp) -> Stamp
+        ensures { stamp_micros result ≡ later (incoming_of self.now).clock (stamp_micros now - (incoming_of self.now).moment) }
+    {
+        let step = now.micros().saturating_sub(self.moment);
+        later(self.clock, step)
+    }
+
     /// The first reply's frame.
     pub(crate) fn frame(&self, now: Stamp) -> Option<Frame>
         ensures { option_map stamped result
@@ -249,12 +265,11 @@ impl Incoming {
         }
     }
 
-    /// To this moment: time that goes back is no time.
+    /// To this moment.
     fn pass(&mut self, now: Stamp)
         ensures { incoming_of self.new ≡ passed_to (stamp_micros now) (incoming_of self.old) }
     {
-        let step = now.micros().saturating_sub(self.moment);
-        self.clock = later(self.clock, step);
+        self.clock = self.clock_at(now);
         self.moment = now.micros();
     }
 

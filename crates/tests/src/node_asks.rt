@@ -1,7 +1,7 @@
 //! A controller at 80 that asks others for groups: its requests, and how they end.
 use crate::node::{hear_line, is_line};
 use j39_address::Name;
-use j39_frame::{Pgn, Stamp};
+use j39_frame::{Frame, Id, Pgn, Stamp};
 use j39_node::{Answer, AskEnding, Controller, Ending, Refused};
 use std::test::Fail;
 
@@ -15,6 +15,8 @@ enum Step {
     Asks(u64, u32, u8, Result<u64, Refused>),
     /// It tells this end of a request.
     Ends(Option<(u64, AskEnding)>),
+    /// It hears the packets of these numbers, which 11 sends to this address (255: all) 50 ms apart, the first at this moment.
+    HearsPackets(u64, u8, u8, u8),
     /// It makes room for a broadcast, and one lay there.
     Releases(bool),
     /// It tells this end of a message.
@@ -23,10 +25,12 @@ enum Step {
     Ticks(u64),
     /// Its next frame is due at this moment.
     IsDue(Option<u64>),
+    /// A tick does something at this moment.
+    Wakes(Option<u64>),
 }
 
 use AskEnding::{Acknowledged, Answered, TimedOut, Withdrawn};
-use Step::{Asks, Ends, Gives, Hears, IsDue, IsSent, Releases, Ticks};
+use Step::{Asks, Ends, Gives, Hears, HearsPackets, IsDue, IsSent, Releases, Ticks, Wakes};
 
 static STEPS: &[Step] = &[
     Gives(
@@ -178,6 +182,108 @@ static STEPS: &[Step] = &[
     Asks(3_300_000, 65_226, 11, Err(Refused::NoAddress)),
 ];
 
+/// Answers of 210 bytes: group 65227 (DM2) in 30 packets.
+static LONG: &[Step] = &[
+    Gives(
+        0,
+        Some("(0000000000.000000) can0 18EEFF80#0200000000000000"),
+    ),
+    // Its begin is in time, and its end is the answer.
+    Asks(1_000_000, 65_227, 11, Ok(0)),
+    Wakes(None),
+    Gives(1_000_000, Some("(0000000001.000000) can0 18EA0B80#CBFE00")),
+    Wakes(Some(2_250_000)),
+    Hears("(1.020000) can0 1CECFF0B#20D2001EFFCBFE00"),
+    HearsPackets(1_070_000, 255, 1, 24),
+    Ticks(2_250_000),
+    Ends(None),
+    HearsPackets(2_270_000, 255, 25, 29),
+    Ends(None),
+    HearsPackets(2_520_000, 255, 30, 30),
+    Ends(Some((0, Answered))),
+    Releases(true),
+    // It breaks off: no packet for more than 750 ms.
+    Asks(3_000_000, 65_227, 11, Ok(1)),
+    Gives(3_000_000, Some("(0000000003.000000) can0 18EA0B80#CBFE00")),
+    Hears("(3.020000) can0 1CECFF0B#20D2001EFFCBFE00"),
+    HearsPackets(3_070_000, 255, 1, 24),
+    Ticks(4_970_000),
+    Ends(None),
+    Ticks(4_970_001),
+    Ends(Some((1, TimedOut))),
+    // It breaks off before, and begins anew in time.
+    Asks(6_000_000, 65_227, 11, Ok(2)),
+    Gives(6_000_000, Some("(0000000006.000000) can0 18EA0B80#CBFE00")),
+    Hears("(6.020000) can0 1CECFF0B#20D2001EFFCBFE00"),
+    HearsPackets(6_070_000, 255, 1, 5),
+    Ticks(7_100_000),
+    Ends(None),
+    Wakes(Some(7_250_000)),
+    Hears("(7.200000) can0 1CECFF0B#20D2001EFFCBFE00"),
+    Ticks(7_300_000),
+    Ends(None),
+    // A packet after more than 750 ms carries nothing on.
+    HearsPackets(7_950_001, 255, 1, 1),
+    Ends(Some((2, TimedOut))),
+    // What is announced too late is no answer, nor what another announces, or of another group.
+    Asks(9_000_000, 65_227, 11, Ok(3)),
+    Gives(9_000_000, Some("(0000000009.000000) can0 18EA0B80#CBFE00")),
+    Hears("(10.300000) can0 1CECFF0B#20D2001EFFCBFE00"),
+    Ends(Some((3, TimedOut))),
+    Asks(12_000_000, 65_227, 11, Ok(4)),
+    Gives(12_000_000, Some("(0000000012.000000) can0 18EA0B80#CBFE00")),
+    Hears("(13.200000) can0 1CECFF0C#20D2001EFFCBFE00"),
+    Ticks(13_250_000),
+    Ends(Some((4, TimedOut))),
+    Asks(15_000_000, 65_227, 11, Ok(5)),
+    Gives(15_000_000, Some("(0000000015.000000) can0 18EA0B80#CBFE00")),
+    Hears("(16.200000) can0 1CECFF0B#20D2001EFFECFE00"),
+    Ticks(16_250_000),
+    Ends(Some((5, TimedOut))),
+    // To this address it breaks off once its session is aborted.
+    Asks(20_000_000, 65_227, 255, Ok(6)),
+    Gives(20_000_000, Some("(0000000020.000000) can0 18EAFF80#CBFE00")),
+    Wakes(Some(21_250_000)),
+    Hears("(20.020000) can0 1CEC800B#10D2001EFFCBFE00"),
+    Wakes(Some(21_270_001)),
+    HearsPackets(20_070_000, 128, 1, 24),
+    Ticks(21_970_001),
+    Ends(None),
+    Ticks(23_220_002),
+    Ends(None),
+    Wakes(Some(24_470_003)),
+    Ticks(24_470_003),
+    Ends(Some((6, TimedOut))),
+    Wakes(None),
+    // A bus that is quiet.
+    Asks(30_000_000, 65_227, 11, Ok(7)),
+    Gives(
+        30_000_000,
+        Some("(0000000030.000000) can0 1CEC0B80#FF03FFFFFFCBFE00"),
+    ),
+    Gives(30_000_000, Some("(0000000030.000000) can0 18EA0B80#CBFE00")),
+    Wakes(Some(31_250_000)),
+    Ticks(31_249_999),
+    Ends(None),
+    Wakes(Some(31_250_000)),
+    Ticks(31_250_000),
+    Wakes(Some(31_250_000)),
+    Ends(Some((7, TimedOut))),
+    Wakes(None),
+    // Whole, to this address.
+    Asks(40_000_000, 65_227, 11, Ok(8)),
+    Gives(40_000_000, Some("(0000000040.000000) can0 18EA0B80#CBFE00")),
+    Hears("(40.020000) can0 1CEC800B#10D2001EFFCBFE00"),
+    Gives(
+        40_020_000,
+        Some("(0000000040.020000) can0 1CEC0B80#111E01FFFFCBFE00"),
+    ),
+    HearsPackets(40_070_000, 128, 1, 29),
+    Ends(None),
+    HearsPackets(41_520_000, 128, 30, 30),
+    Ends(Some((8, Answered))),
+];
+
 /// Whether the controller does as the step says; `None` where the step isn't one.
 fn does(node: &mut Controller, step: &Step) -> Option<bool> {
     match step {
@@ -195,6 +301,14 @@ fn does(node: &mut Controller, step: &Step) -> Option<bool> {
             Some(answer == *wanted)
         }
         Ends(wanted) => Some(node.take_ask_ended() == *wanted),
+        HearsPackets(micros, to, first, last) => {
+            let id = Id::compose(7, Pgn::new(60_160)?, *to, 11)?;
+            for number in *first..=*last {
+                let now = Stamp::new(*micros + 50_000 * u64::from(number - *first))?;
+                node.hear(&Frame::new(now, id, &[number, 0, 0, 0, 0, 0, 0, 0])?, now);
+            }
+            Some(true)
+        }
         Releases(wanted) => Some(node.release_broadcast() == *wanted),
         IsSent(wanted) => Some(node.take_ended() == *wanted),
         Ticks(micros) => {
@@ -202,18 +316,30 @@ fn does(node: &mut Controller, step: &Step) -> Option<bool> {
             Some(true)
         }
         IsDue(wanted) => Some(node.next_due().map(Stamp::micros) == *wanted),
+        Wakes(wanted) => Some(node.next_tick().map(Stamp::micros) == *wanted),
     }
+}
+
+/// The place of the first step that the controller doesn't do.
+fn wrong_step(node: &mut Controller, steps: &[Step]) -> Option<usize> {
+    for (place, step) in steps.iter().enumerate() {
+        if does(node, step) != Some(true) {
+            return Some(place);
+        }
+    }
+    None
 }
 
 #[test]
 fn node_asks(rt: HostRuntime) -> Result<(), Fail> {
     let mut node = Controller::new(rt.alloc(), Name::new(2), 128, &[], None)?.ok_or("node")?;
-    let mut wrong = None;
-    for (place, step) in STEPS.iter().enumerate() {
-        if wrong.is_none() && does(&mut node, step) != Some(true) {
-            wrong = Some(place);
-        }
-    }
-    assert_eq!(rt; wrong, None);
+    assert_eq!(rt; wrong_step(&mut node, STEPS), None);
+    Ok(())
+}
+
+#[test]
+fn node_asks_for_long_messages(rt: HostRuntime) -> Result<(), Fail> {
+    let mut node = Controller::new(rt.alloc(), Name::new(2), 128, &[], None)?.ok_or("node")?;
+    assert_eq!(rt; wrong_step(&mut node, LONG), None);
     Ok(())
 }
