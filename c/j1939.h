@@ -425,12 +425,13 @@ int32_t j1939_controller_new_subscribed(j1939_controller *controller, uint64_t n
  * @return 0, J1939_BAD_VALUE, J1939_NO_PART */
 int32_t j1939_controller_hear(j1939_controller *controller, const j1939_frame *frame, uint64_t micros);
 
-/** Lets time pass: so an address comes to be held, and of what comes in packets to it, it asks again for what is late,
- * or gives it up.
+/** Lets time pass: so an address comes to be held, a request times out, and of what comes in packets to it, it asks
+ * again for what is late, or gives it up.
  * @return 0, J1939_BAD_VALUE, J1939_NO_PART */
 int32_t j1939_controller_tick(j1939_controller *controller, uint64_t micros);
 
-/** When the next tick is due, if no frame is heard till then: 1 and the moment, or 0.
+/** When the next tick is due, if no frame is heard till then, for what comes in packets to it or for a request: 1 and
+ * the moment, or 0.
  * @return 0, 1, J1939_NO_PART */
 int32_t j1939_controller_next_tick(const j1939_controller *controller, uint64_t *due);
 
@@ -528,7 +529,8 @@ enum j1939_ending {
                                        arrived */
     J1939_ENDED_GONE = 4,         /**< who held the address that a transfer went to no longer does */
     J1939_ENDED_ACKNOWLEDGED = 5, /**< a request was acknowledged, as detail says: J1939_ACK and so on */
-    J1939_ENDED_TIMED_OUT = 6     /**< a request had no answer for 1,250 ms after its frame was taken */
+    J1939_ENDED_TIMED_OUT = 6     /**< a request had no answer for 1,250 ms after its frame was taken, and none was coming
+                                       in packets */
 };
 
 /** How something ended that was accepted. */

@@ -20,7 +20,7 @@ use Rattle.j39_node.specs.Reception.{Reception, has_place, heard_at, heard_by, h
 use Rattle.j39_node.specs.Hearing.{OpenBroadcast, announces, changes, found, has_room, hearing, is_ignored, hears as hears_it, is_unheard, left as leaves_it, newly, packs, unheard_news, whole_of}
 use Rattle.j39_node.specs.Transfers.{Running, age, begun, can_transfer, clock, hears_if, holds_back, is_engaged, is_replaced, joined, open_transfer, rest, resting, rests_after, sends_if, transfer_by, transfer_end, transfers}
 use Rattle.j39_node.specs.History.{Resting}
-use Rattle.j39_node.specs.Asking.{Question, ask_end, can_ask, end_at, ended, first, has_token, made, is_asking, is_message, made_of, open_ask, question, silent_end, wait}
+use Rattle.j39_node.specs.Asking.{Question, ask_end, can_ask, comes, end_at, ended, first, has_token, in_broadcast, in_session, made, is_asking, is_coming, is_message, made_of, open_ask, question, silent_end, wait}
 use Rattle.j39_transport.specs.Frames as frames
 use Rattle.j39_transport.specs.Key.{Broadcast as by}
 use Rattle.j39_frame.specs.Network.{transport_control_group}
@@ -118,6 +118,10 @@ passes now s = record s {
   rest = s.rest - (now - s.moment);
 }
 
+-- an answer is coming
+abbrev comes_at : ℕ → State → Bool
+comes_at time s = is_coming s.ask (in_session s.reception.session) (in_broadcast time s.hearing)
+
 -- the address is lost or held, the time, who holds what, and the broadcast that is found
 abbrev hears_with : Who → ℕ → FrameRecord → Address → Bool → ℕ → (ℕ → Option ℕ) → Option OpenBroadcast → Reception → State → State
 hears_with w when f a held time holds found r s = record (passes when s) {
@@ -137,7 +141,7 @@ hears_with w when f a held time holds found r s = record (passes when s) {
   hearing = hears_it w time f found;
   ended =
       first s.ended
-      (end_at w s.ask (length s.sent) (s.wait - (when - s.moment)) (is_lost a) f
+      (end_at w s.ask (length s.sent) (s.wait - (when - s.moment)) (comes_at time s) (is_lost a) f
       (option_or (made_of (whole_by w.address (is_smaller w (claim_of f)) held f time r))
       (made_of (option_map (λ (x : ℕ × MessageRecord). x.1) (newly (whole_of s.hearing) (whole_of (hears_it w time f found)))))));
   transfer = hears_if (is_lost a) (λ b. is_replaced (s.holder b) (holds b)) f (clock (s.age + (when - s.moment))) s.transfer;
@@ -292,7 +296,7 @@ Answers w s (At now (Ask group to answer)) =
     ≡ (if holds_at s now
     then (if can_ask w group to then (if full_by s || is_asking s.ask then Err Full else Ok (length s.accepted)) else Err BadValue)
     else Err NoAddress)
-Answers w s (TakeAskEnded answer) = answer ≡ ask_end s.ask (length s.sent) s.ended s.wait (is_lost s.address)
+Answers w s (TakeAskEnded answer) = answer ≡ ask_end s.ask (length s.sent) s.ended s.wait (comes_at s.time s) (is_lost s.address)
 Answers w s (ReleaseBroadcast answer) = answer ≡ not (has_place (whole_of s.hearing))
 Answers w s (At when (Hear f)) = Unit {0}
 Answers w s (At now Tick) = Unit {0}
@@ -326,15 +330,15 @@ before w (call ∷ later) A h = before w later A h.0
 -- ---- a frame that others exchange
 
 -- time passes, by which a request may end
-abbrev silence_of : Option Question → ℕ → ℕ → Bool → Option AskEnding
-silence_of None n left lost = None
-silence_of (Some q) n left lost = silent_end (nat_lt q.token n) left lost
+abbrev silence_of : Option Question → ℕ → ℕ → Bool → Bool → Option AskEnding
+silence_of None n left coming lost = None
+silence_of (Some q) n left coming lost = silent_end (nat_lt q.token n) left coming lost
 
 abbrev aside : Who → ℕ → State → State
 aside w now s = record (passes now s) {
   heard_at = now;
   time = later s.time (now - s.heard_at);
-  ended = first s.ended (silence_of s.ask (length s.sent) (s.wait - (now - s.moment)) (is_lost (older (now - s.moment) s.address)));
+  ended = first s.ended (silence_of s.ask (length s.sent) (s.wait - (now - s.moment)) (comes_at (later s.time (now - s.heard_at)) s) (is_lost (older (now - s.moment) s.address)));
 }
 
 unequal : (m n : ℕ) → m ≢ n → nat_eq m n ≡ false
@@ -459,21 +463,24 @@ module _ (w : Who) (f : FrameRecord) (a : IsAside w f) where
       receives : reception w (At when (Hear f) ∷ H) ≡ reception w H
       receives = to_others w H when f mine (λ r z. unclaimed w H when f r.message.source a.claims) (elsewhere w.address a.not_here)
 
-      silent : (o : Option Question) (n left : ℕ) (lost : Bool) → end_at w o n left lost f (made w H when f) ≡ silence_of o n left lost
-      silent None n left lost = refl
-      silent (Some q) n left lost =
-          ap (λ (x : Option AskEnding). first (silent_end (nat_lt q.token n) left lost) (if nat_lt q.token n then x else None))
-          (to_another w H when f q a.to a.goes a.not_all a.not_here) ∙ go (silent_end (nat_lt q.token n) left lost) (nat_lt q.token n)
+      silent : (o : Option Question) (n left : ℕ) (coming lost : Bool) → end_at w o n left coming lost f (made w H when f) ≡ silence_of o n left coming lost
+      silent None n left coming lost = refl
+      silent (Some q) n left coming lost =
+          ap (λ (x : Option AskEnding). first (silent_end (nat_lt q.token n) left coming lost) (if nat_lt q.token n then x else None))
+          (to_another w H when f q a.to a.goes a.not_all a.not_here) ∙ go (silent_end (nat_lt q.token n) left coming lost) (nat_lt q.token n)
         where
           go : (x : Option AskEnding) (t : Bool) → first x (if t then None else None) ≡ x
           go (Some e) t = refl
           go None true = refl
           go None false = refl
 
-      ends : ended w (At when (Hear f) ∷ H) ≡ first (ended w H) (silence_of (open_ask H) (length (sent H)) (wait H - step H when) (is_lost (older (step H when) (address_after w H))))
+      coming : Bool
+      coming = comes w H (time_heard (At when (Hear f) ∷ H))
+
+      ends : ended w (At when (Hear f) ∷ H) ≡ first (ended w H) (silence_of (open_ask H) (length (sent H)) (wait H - step H when) coming (is_lost (older (step H when) (address_after w H))))
       ends =
-          ap (λ (x : Address). first (ended w H) (end_at w (open_ask H) (length (sent H)) (wait H - step H when) (is_lost x) f (made w H when f))) lives
-          ∙ ap (first (ended w H)) (silent (open_ask H) (length (sent H)) (wait H - step H when) (is_lost (older (step H when) (address_after w H))))
+          ap (λ (x : Address). first (ended w H) (end_at w (open_ask H) (length (sent H)) (wait H - step H when) coming (is_lost x) f (made w H when f))) lives
+          ∙ ap (first (ended w H)) (silent (open_ask H) (length (sent H)) (wait H - step H when) coming (is_lost (older (step H when) (address_after w H))))
 
 -- ---- so no answer tells which it was
 

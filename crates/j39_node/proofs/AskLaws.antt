@@ -15,7 +15,8 @@ use Rattle.j39_node.specs.History.Call.{At, TakeAskEnded}
 use Rattle.j39_node.specs.History.Act.{Ask, Hear, Send, TakeFrame}
 use Rattle.j39_address.specs.Claim.{claim_of}
 use Rattle.j39_node.specs.Since.{passed_in}
-use Rattle.j39_node.specs.Asking.{is_whole, made, AskedSince, HeardFirst, NoneEnds, Question, ask_end, asks, can_ask, end_at, ended, ends, first, has_token, is_answer, is_asking, is_message, is_reply, is_request, is_taken, open_ask, question, reaches, said_by, says_to, silent_end, told_asks, wait}
+use Rattle.j39_node.specs.Reception.{time_heard}
+use Rattle.j39_node.specs.Asking.{seeks, made, AskedSince, HeardFirst, NoneEnds, Question, RanOut, ask_end, asks, can_ask, comes, end_at, ended, ends, first, has_token, is_answer, is_asking, is_message, is_reply, is_request, is_taken, open_ask, question, reaches, said_by, says_to, silent_end, told_asks, wait}
 use Rattle.j39_node.specs.Is.{AreAnswered, Is, IsAnswered}
 use Rattle.j39_node.proofs.AskCases.{AskCase, ask_case, homeless, unfit, busy, asks as accepts}
 use Rattle.j39_node.proofs.QueueLemmas.{get_append, length_one_more}
@@ -52,15 +53,15 @@ listed w (call ∷ H) e = go call e.1 (listed w H e.0)
         (subst (λ (n : ℕ). slice_get (asks H ++ q ∷ []) n ≡ Some q) h (get_last (asks H) q), length_one_more (asks H) q ∙ ap suc h)
     new (Some p) q z h = absurd (cc)
 
-    over : (o : Option Question) (n left : ℕ) (b : Option AskEnding) (l : Bool) (x : ℕ × AskEnding) → Some x ≡ ask_end o n b left l
+    over : (o : Option Question) (n left : ℕ) (b : Option AskEnding) (c l : Bool) (x : ℕ × AskEnding) → Some x ≡ ask_end o n b left c l
         → Listed (length (told_asks H)) (asks H) o → length (asks H) ≡ length (told_asks H ++ x ∷ [])
-    over None n left b l x z h = absurd (cc)
-    over (Some q) n left b l x z h = h.1 ∙ sym (length_one_more (told_asks H) x)
+    over None n left b c l x z h = absurd (cc)
+    over (Some q) n left b c l x z h = h.1 ∙ sym (length_one_more (told_asks H) x)
 
     go : (call : Call) → IsAnswered w H call → Listed (length (told_asks H)) (asks H) (open_ask H)
         → Listed (length (told_asks (call ∷ H))) (asks (call ∷ H)) (open_ask (call ∷ H))
     go (At now (Ask group to (Ok k))) right h = new (open_ask H) (question k group to) (opens w H now group to k (ask_case w H now group to (Ok k) right)).1 h
-    go (TakeAskEnded (Some x)) right h = over (open_ask H) (length (sent H)) (wait H) (ended w H) (is_lost (address_after w H)) x right h
+    go (TakeAskEnded (Some x)) right h = over (open_ask H) (length (sent H)) (wait H) (ended w H) (comes w H (time_heard H)) (is_lost (address_after w H)) x right h
     go call right h = h
 
 -- ---- what it sends
@@ -182,7 +183,7 @@ said_word (Some c) e g = go (nat_eq c 0) (nat_eq c 1) (nat_eq c 2) (nat_eq c 3) 
     go false false false false z = absurd (cc)
 
 says_word : (w : Who) (q : Question) (f : FrameRecord) (m : Option (ℕ × ℕ)) (e : AskEnding) → says_to w q f m ≡ Some e → is_word e ≡ true
-says_word w q f m e g = go (is_whole q m) (reaches w f) (is_answer q f) (is_reply w q f) g
+says_word w q f m e g = go (seeks q m) (reaches w f) (is_answer q f) (is_reply w q f) g
   where
     answered : Some Answered ≡ Some e → is_word e ≡ true
     answered z = let y : Answered ≡ e = cc in sym (ap is_word y)
@@ -197,7 +198,7 @@ says_word w q f m e g = go (is_whole q m) (reaches w f) (is_answer q f) (is_repl
 -- how it ended, and what was before
 data Outcome (w : Who) (H : List Call) (q : Question) (e : AskEnding) : Type 0 where
   by_word : is_word e ≡ true → HeardFirst w H q e → Outcome w H q e
-  by_time : (n : ℕ) → e ≡ TimedOut → AskedSince H q n → 1250000 ≤ n → Outcome w H q e
+  by_time : e ≡ TimedOut → RanOut w H q → Outcome w H q e
   by_loss : e ≡ Withdrawn → is_lost (address_after w H) ≡ true → Outcome w H q e
 
 later_outcome : (w : Who) (H : List Call) (call : Call) (q : Question) (e : AskEnding) → (is_lost (address_after w H) ≡ true → is_lost (address_after w (call ∷ H)) ≡ true)
@@ -215,44 +216,64 @@ later_outcome w H call q e l (by_word k h) = by_word k (record {
   in_time = h.in_time;
   says = h.says;
 })
-later_outcome w H call q e l (by_time n z h m) = by_time (n + step H (moment (call ∷ H))) z (later_asked H call q n h) (omega (arith, m))
+later_outcome w H call q e l (by_time z h) = by_time z (record {
+  later = call ∷ h.later;
+  earlier = h.earlier;
+  is = ap (λ G. call ∷ G) h.is;
+  since = h.since;
+  asked = h.asked;
+  out = h.out;
+  none = h.none;
+})
 later_outcome w H call q e l (by_loss z h) = by_loss z (l h)
 
 -- without a word
-silently : (w : Who) (H : List Call) (q : Question) (e : AskEnding) (taken : Bool) (left : ℕ) (lost : Bool) → silent_end taken left lost ≡ Some e
-    → (taken ≡ true → left ≡ 0 → e ≡ TimedOut → Outcome w H q e) → (lost ≡ true → e ≡ Withdrawn → Outcome w H q e) → Outcome w H q e
-silently w H q e taken left lost z time loss = go taken (nat_eq left 0) lost refl refl refl z
+silently : (w : Who) (H : List Call) (q : Question) (e : AskEnding) (taken : Bool) (left : ℕ) (coming lost : Bool) → silent_end taken left coming lost ≡ Some e
+    → (taken ≡ true → left ≡ 0 → coming ≡ false → e ≡ TimedOut → Outcome w H q e) → (lost ≡ true → e ≡ Withdrawn → Outcome w H q e) → Outcome w H q e
+silently w H q e taken left coming lost z time loss = go taken (nat_eq left 0) coming lost refl refl refl refl z
   where
-    go : (a b c : Bool) → taken ≡ a → nat_eq left 0 ≡ b → lost ≡ c → (if a && b then Some TimedOut else if c then Some Withdrawn else None) ≡ Some e → Outcome w H q e
-    go true true c p r s z = time p (eqb-true left 0 r) (let y : TimedOut ≡ e = cc in sym y)
-    go true false true p r s z = loss s (let y : Withdrawn ≡ e = cc in sym y)
-    go true false false p r s z = absurd (cc)
-    go false b true p r s z = loss s (let y : Withdrawn ≡ e = cc in sym y)
-    go false b false p r s z = absurd (cc)
+    go : (a b d c : Bool) → taken ≡ a → nat_eq left 0 ≡ b → coming ≡ d → lost ≡ c → (if a && (b && not d) then Some TimedOut else if c then Some Withdrawn else None) ≡ Some e
+        → Outcome w H q e
+    go true true false c p r v s z = time p (eqb-true left 0 r) v (let y : TimedOut ≡ e = cc in sym y)
+    go true true true true p r v s z = loss s (let y : Withdrawn ≡ e = cc in sym y)
+    go true true true false p r v s z = absurd (cc)
+    go true false d true p r v s z = loss s (let y : Withdrawn ≡ e = cc in sym y)
+    go true false d false p r v s z = absurd (cc)
+    go false b d true p r v s z = loss s (let y : Withdrawn ≡ e = cc in sym y)
+    go false b d false p r v s z = absurd (cc)
 
-not_over : (taken : Bool) (left : ℕ) (lost : Bool) → silent_end taken left lost ≡ None → (lost ≡ false) × (taken ≡ true → 0 < left)
-not_over taken left lost z = go taken (nat_eq left 0) lost refl refl refl z
+not_over : (taken : Bool) (left : ℕ) (coming lost : Bool) → silent_end taken left coming lost ≡ None
+    → (lost ≡ false) × (taken ≡ true → (0 < left) ⊎ (coming ≡ true))
+not_over taken left coming lost z = go taken (nat_eq left 0) coming lost refl refl refl refl z
   where
     some : (n : ℕ) → nat_eq n 0 ≡ false → 0 < n
     some n e = grind arith
 
-    go : (a b c : Bool) → taken ≡ a → nat_eq left 0 ≡ b → lost ≡ c → (if a && b then Some TimedOut else if c then Some Withdrawn else None) ≡ None
-        → (lost ≡ false) × (taken ≡ true → 0 < left)
-    go true true c p r s z = absurd (cc)
-    go true false true p r s z = absurd (cc)
-    go true false false p r s z = (s, λ t. some left r)
-    go false b true p r s z = absurd (cc)
-    go false b false p r s z = (s, λ t. absurd (let y : false ≡ true = sym p ∙ t in cc))
+    go : (a b d c : Bool) → taken ≡ a → nat_eq left 0 ≡ b → coming ≡ d → lost ≡ c → (if a && (b && not d) then Some TimedOut else if c then Some Withdrawn else None) ≡ None
+        → (lost ≡ false) × (taken ≡ true → (0 < left) ⊎ (coming ≡ true))
+    go true true false c p r v s z = absurd (cc)
+    go true true true true p r v s z = absurd (cc)
+    go true true true false p r v s z = (s, λ t. inr v)
+    go true false d true p r v s z = absurd (cc)
+    go true false d false p r v s z = (s, λ t. inl (some left r))
+    go false b d true p r v s z = absurd (cc)
+    go false b d false p r v s z = (s, λ t. absurd (let y : false ≡ true = sym p ∙ t in cc))
 
 -- a frame ends it
 ends_by : (w : Who) (H : List Call) (when : ℕ) (f : FrameRecord) (q : Question) (e : AskEnding) → AreAnswered w H → open_ask H ≡ Some q → ended w H ≡ None
-    → end_at w (Some q) (length (sent H)) (wait H - step H when) (is_lost (address_after w (At when (Hear f) ∷ H))) f (made w H when f) ≡ Some e → Outcome w (At when (Hear f) ∷ H) q e
-ends_by w H when f q e right o n z = go (silent_end (is_taken q H) (wait H - step H when) (is_lost (address_after w (At when (Hear f) ∷ H)))) (is_taken q H) refl refl z
+    → end_at w (Some q) (length (sent H)) (wait H - step H when) (comes w H (time_heard (At when (Hear f) ∷ H))) (is_lost (address_after w (At when (Hear f) ∷ H))) f (made w H when f) ≡ Some e
+    → Outcome w (At when (Hear f) ∷ H) q e
+ends_by w H when f q e right o n z =
+    go (silent_end (is_taken q H) (wait H - step H when) (comes w H (time_heard (At when (Hear f) ∷ H))) (is_lost (address_after w (At when (Hear f) ∷ H)))) (is_taken q H) refl refl z
   where
-    timely : is_taken q H ≡ true → 0 < wait H - step H when → says_to w q f (made w H when f) ≡ Some e → Outcome w (At when (Hear f) ∷ H) q e
+    in_time : (n : ℕ) → wait H ≡ 1250000 - n → (0 < wait H - step H when) ⊎ (comes w H (time_heard (At when (Hear f) ∷ H)) ≡ true)
+        → (n + step H when < 1250000) ⊎ IsTrue (comes w H (time_heard (At when (Hear f) ∷ H)))
+    in_time n b (inl l) = inl (omega (arith, b, l))
+    in_time n b (inr c) = inr c
+
+    timely : is_taken q H ≡ true → (0 < wait H - step H when) ⊎ (comes w H (time_heard (At when (Hear f) ∷ H)) ≡ true) → says_to w q f (made w H when f) ≡ Some e → Outcome w (At when (Hear f) ∷ H) q e
     timely t l s =
         let a = waits w H right q o t in
-        let b = a.2 in
         by_word (says_word w q f (made w H when f) e s) (record {
           later = [];
           at = when;
@@ -263,20 +284,29 @@ ends_by w H when f q e right o n z = go (silent_end (is_taken q H) (wait H - ste
           none = n;
           since = a.0;
           asked = a.1;
-          in_time = omega (arith, b, l);
+          in_time = in_time a.0 a.2 l;
           says = s;
         })
 
-    out : is_taken q H ≡ true → wait H - step H when ≡ 0 → e ≡ TimedOut → Outcome w (At when (Hear f) ∷ H) q e
-    out t l y =
+    out : is_taken q H ≡ true → wait H - step H when ≡ 0 → comes w H (time_heard (At when (Hear f) ∷ H)) ≡ false → e ≡ TimedOut → Outcome w (At when (Hear f) ∷ H) q e
+    out t l d y =
         let a = waits w H right q o t in
         let b = a.2 in
-        by_time (a.0 + step H when) y (later_asked H (At when (Hear f)) q a.0 a.1) (omega (arith, b, l))
+        by_time y (record {
+          later = [];
+          earlier = At when (Hear f) ∷ H;
+          is = refl;
+          since = a.0 + step H when;
+          asked = later_asked H (At when (Hear f)) q a.0 a.1;
+          out = omega (arith, b, l);
+          none = inr d;
+        })
 
-    go : (s : Option AskEnding) (b : Bool) → silent_end (is_taken q H) (wait H - step H when) (is_lost (address_after w (At when (Hear f) ∷ H))) ≡ s → is_taken q H ≡ b
+    go : (s : Option AskEnding) (b : Bool) → silent_end (is_taken q H) (wait H - step H when) (comes w H (time_heard (At when (Hear f) ∷ H))) (is_lost (address_after w (At when (Hear f) ∷ H))) ≡ s
+        → is_taken q H ≡ b
         → first s (if b then says_to w q f (made w H when f) else None) ≡ Some e → Outcome w (At when (Hear f) ∷ H) q e
-    go (Some x) b p r z = silently w (At when (Hear f) ∷ H) q e _ _ _ (p ∙ z) out (λ l y. by_loss y l)
-    go None true p r z = timely r ((not_over (is_taken q H) _ _ p).1 r) z
+    go (Some x) b p r z = silently w (At when (Hear f) ∷ H) q e _ _ _ _ (p ∙ z) out (λ l y. by_loss y l)
+    go None true p r z = timely r ((not_over (is_taken q H) _ _ _ p).1 r) z
     go None false p r z = absurd (cc)
 
 outcome : (w : Who) (H : List Call) → AreAnswered w H → (q : Question) (e : AskEnding) → open_ask H ≡ Some q → ended w H ≡ Some e → Outcome w H q e
@@ -284,10 +314,10 @@ outcome w [] right q e o z = absurd (cc)
 outcome w (call ∷ H) right q e o z = go call (λ i k. outcome w H right.0 q e i k) o z
   where
     hears : (when : ℕ) (f : FrameRecord) (b : Option AskEnding) → (open_ask H ≡ Some q → ended w H ≡ Some e → Outcome w H q e) → open_ask H ≡ Some q → ended w H ≡ b
-        → first b (end_at w (open_ask H) (length (sent H)) (wait H - step H when) (is_lost (address_after w (At when (Hear f) ∷ H))) f (made w H when f)) ≡ Some e → Outcome w (At when (Hear f) ∷ H) q e
+        → first b (end_at w (open_ask H) (length (sent H)) (wait H - step H when) (comes w H (time_heard (At when (Hear f) ∷ H))) (is_lost (address_after w (At when (Hear f) ∷ H))) f (made w H when f)) ≡ Some e → Outcome w (At when (Hear f) ∷ H) q e
     hears when f (Some x) prior o p z = later_outcome w H (At when (Hear f)) q e (stays_lost (is_smaller w (claim_of f)) (step H when) (address_after w H)) (prior o (p ∙ z))
     hears when f None prior o p z = ends_by w H when f q e right.0 o p
-        (sym (ap (λ (x : Option Question). end_at w x (length (sent H)) (wait H - step H when) (is_lost (address_after w (At when (Hear f) ∷ H))) f (made w H when f)) o) ∙ z)
+        (sym (ap (λ (x : Option Question). end_at w x (length (sent H)) (wait H - step H when) (comes w H (time_heard (At when (Hear f) ∷ H))) (is_lost (address_after w (At when (Hear f) ∷ H))) f (made w H when f)) o) ∙ z)
 
     go : (call : Call) → (open_ask H ≡ Some q → ended w H ≡ Some e → Outcome w H q e) → open_ask (call ∷ H) ≡ Some q → ended w (call ∷ H) ≡ Some e
         → Outcome w (call ∷ H) q e
@@ -299,6 +329,14 @@ outcome w (call ∷ H) right q e o z = go call (λ i k. outcome w H right.0 q e 
     go call prior o z =
         later_outcome w H call q e (λ l. let y = lost_older (step H (moment (call ∷ H))) (address_after w H) in cc) (prior o z)
 
+-- it ran out now
+ran_out : (w : Who) (H : List Call) (q : Question) → AreAnswered w H → open_ask H ≡ Some q → is_taken q H ≡ true → wait H ≡ 0 → comes w H (time_heard H) ≡ false
+    → RanOut w H q
+ran_out w H q right o t l d =
+    let a = waits w H right q o t in
+    let b = a.2 in
+    record { later = []; earlier = H; is = refl; since = a.0; asked = a.1; out = omega (arith, b, l); none = inl d }
+
 -- the end that is told
 record Told (w : Who) (H : List Call) (k : ℕ) (e : AskEnding) : Type 0 where
   pub question : Question
@@ -309,20 +347,19 @@ record Told (w : Who) (H : List Call) (k : ℕ) (e : AskEnding) : Type 0 where
 told_is : (w : Who) (H : List Call) (c : Controller) (k : ℕ) (e : AskEnding) → Is w (TakeAskEnded (Some (k, e)) ∷ H) c → Told w H k e
 told_is w H c k e is = go (open_ask H) (ended w H) refl refl is.answered.1
   where
-    out : (q : Question) (h : Option AskEnding) → open_ask H ≡ Some q → ended w H ≡ h → first h (silent_end (is_taken q H) (wait H) (is_lost (address_after w H))) ≡ Some e
+    out : (q : Question) (h : Option AskEnding) → open_ask H ≡ Some q → ended w H ≡ h → first h (silent_end (is_taken q H) (wait H) (comes w H (time_heard H)) (is_lost (address_after w H))) ≡ Some e
         → Outcome w H q e
     out q (Some x) o p z = outcome w H is.answered.0 q e o (p ∙ z)
-    out q None o p z = silently w H q e _ _ _ z
-        (λ t l y. let a = waits w H is.answered.0 q o t in let b = a.2 in by_time a.0 y a.1 (omega (arith, b, l))) (λ l y. by_loss y l)
+    out q None o p z = silently w H q e _ _ _ _ z (λ t l d y. by_time y (ran_out w H q is.answered.0 o t l d)) (λ l y. by_loss y l)
 
     by : (q : Question) (o : Option AskEnding) (x : ℕ × AskEnding) → Some x ≡ option_map (λ (y : AskEnding). (q.token, y)) o → (q.token ≡ x.0) × (o ≡ Some x.1)
     by q None x z = absurd (cc)
     by q (Some y) x z = let u : x ≡ (q.token, y) = cc in (sym (ap (λ (v : ℕ × AskEnding). v.0) u), sym (ap (λ (v : ℕ × AskEnding). Some v.1) u))
 
-    go : (o : Option Question) (h : Option AskEnding) → open_ask H ≡ o → ended w H ≡ h → Some (k, e) ≡ ask_end o (length (sent H)) h (wait H) (is_lost (address_after w H)) → Told w H k e
+    go : (o : Option Question) (h : Option AskEnding) → open_ask H ≡ o → ended w H ≡ h → Some (k, e) ≡ ask_end o (length (sent H)) h (wait H) (comes w H (time_heard H)) (is_lost (address_after w H)) → Told w H k e
     go None h o p z = absurd (cc)
     go (Some q) h o p z =
-        let b = by q (first h (silent_end (is_taken q H) (wait H) (is_lost (address_after w H)))) (k, e) z in
+        let b = by q (first h (silent_end (is_taken q H) (wait H) (comes w H (time_heard H)) (is_lost (address_after w H)))) (k, e) z in
         record { question = q; current = o; token = b.0; out = out q h o p b.1 }
 
 -- ---- what ask answers
@@ -458,7 +495,7 @@ out_of w H c k e q is o =
 
 word_of : (w : Who) (H : List Call) (q : Question) (e : AskEnding) → is_word e ≡ true → Outcome w H q e → HeardFirst w H q e
 word_of w H q e k (by_word l h) = h
-word_of w H q e k (by_time n z h m) = absurd (let y : false ≡ true = sym (ap is_word z) ∙ k in cc)
+word_of w H q e k (by_time z h) = absurd (let y : false ≡ true = sym (ap is_word z) ∙ k in cc)
 word_of w H q e k (by_loss z h) = absurd (let y : false ≡ true = sym (ap is_word z) ∙ k in cc)
 
 pub answered_means : (w : Who) (H : List Call) (c : Controller) (k : ℕ) (q : Question) → Is w (TakeAskEnded (Some (k, Answered)) ∷ H) c → open_ask H ≡ Some q
@@ -470,12 +507,12 @@ pub acknowledged_means : (w : Who) (H : List Call) (c : Controller) (k : ℕ) (a
 acknowledged_means w H c k a q is o = word_of w H q (Acknowledged a) refl (out_of w H c k (Acknowledged a) q is o)
 
 pub timed_out_means : (w : Who) (H : List Call) (c : Controller) (k : ℕ) (q : Question) → Is w (TakeAskEnded (Some (k, TimedOut)) ∷ H) c → open_ask H ≡ Some q
-    → (e : ℕ) × AskedSince H q e × (1250000 ≤ e)
+    → RanOut w H q
 timed_out_means w H c k q is o = go (out_of w H c k TimedOut q is o)
   where
-    go : Outcome w H q TimedOut → (e : ℕ) × AskedSince H q e × (1250000 ≤ e)
+    go : Outcome w H q TimedOut → RanOut w H q
     go (by_word l h) = absurd (cc)
-    go (by_time n z h m) = (n, h, m)
+    go (by_time z h) = h
     go (by_loss z h) = absurd (cc)
 
 pub withdrawn_means : (w : Who) (H : List Call) (c : Controller) (k : ℕ) → Is w (TakeAskEnded (Some (k, Withdrawn)) ∷ H) c → IsTrue (is_lost (address_after w H))
@@ -483,7 +520,7 @@ withdrawn_means w H c k is = let t = told_is w H c k Withdrawn is in go t.questi
   where
     go : (q : Question) → Outcome w H q Withdrawn → IsTrue (is_lost (address_after w H))
     go q (by_word l h) = absurd (cc)
-    go q (by_time n z h m) = absurd (cc)
+    go q (by_time z h) = absurd (cc)
     go q (by_loss z h) = h
 
 -- ---- what was heard first stands
@@ -500,61 +537,108 @@ stays w (call ∷ later) H q e n o z = go call n.0 (stays w later H q e n.1 o z)
     go (At when (Hear f)) x h = (
       h.0,
       ap (λ (o : Option AskEnding). first o (end_at w (open_ask (later ++ H)) (length (sent (later ++ H))) (wait (later ++ H) - step (later ++ H) when)
-          (is_lost (address_after w (At when (Hear f) ∷ later ++ H))) f (made w (later ++ H) when f))) h.1,
+          (comes w (later ++ H) (time_heard (At when (Hear f) ∷ later ++ H))) (is_lost (address_after w (At when (Hear f) ∷ later ++ H))) f (made w (later ++ H) when f))) h.1,
     )
     go call x h = h
 
-some_left : (a b : ℕ) → b < a → nat_eq (a - b) 0 ≡ false
-some_left a b g = grind arith
+not_silent : (left : ℕ) (coming : Bool) → (0 < left) ⊎ IsTrue coming → silent_end true left coming false ≡ None
+not_silent left coming (inl l) = ap (λ (b : Bool). if b && not coming then Some TimedOut else None) (some left l)
+  where
+    some : (n : ℕ) → 0 < n → nat_eq n 0 ≡ false
+    some n g = grind arith
+not_silent left coming (inr c) = ap (λ (b : Bool). if nat_eq left 0 && not b then Some TimedOut else None) c ∙ never (nat_eq left 0)
+  where
+    never : (b : Bool) → (let none : Option AskEnding = None in if b && false then Some TimedOut else none) ≡ None
+    never true = refl
+    never false = refl
 
 pub first_stands : (w : Who) (H later : List Call) (c : Controller) (when : ℕ) (f : FrameRecord) (q : Question) (e : AskEnding) (answer : Option (ℕ × AskEnding))
     → Is w (TakeAskEnded answer ∷ later ++ At when (Hear f) ∷ H) c → NoneEnds later → open_ask H ≡ Some q → IsTrue (is_taken q H) → ended w H ≡ None
-    → step H when < wait H → is_lost (address_after w (At when (Hear f) ∷ H)) ≡ false → says_to w q f (made w H when f) ≡ Some e → answer ≡ Some (q.token, e)
+    → (step H when < wait H) ⊎ IsTrue (comes w H (time_heard (At when (Hear f) ∷ H))) → is_lost (address_after w (At when (Hear f) ∷ H)) ≡ false
+    → says_to w q f (made w H when f) ≡ Some e → answer ≡ Some (q.token, e)
 first_stands w H later c when f q e answer is n o t none l kept says =
     let G = later ++ At when (Hear f) ∷ H in
+    let d = comes w H (time_heard (At when (Hear f) ∷ H)) in
     let now : ended w (At when (Hear f) ∷ H) ≡ Some e =
-    ap (λ (x : Option AskEnding). first x (end_at w (open_ask H) (length (sent H)) (wait H - step H when) (is_lost (address_after w (At when (Hear f) ∷ H))) f (made w H when f))) none
-    ∙ (ap (λ (x : Option Question). end_at w x (length (sent H)) (wait H - step H when) (is_lost (address_after w (At when (Hear f) ∷ H))) f (made w H when f)) o
-    ∙ (ap (λ (b : Bool). first (silent_end b (wait H - step H when) (is_lost (address_after w (At when (Hear f) ∷ H)))) (if b then says_to w q f (made w H when f) else None)) t
-    ∙ (ap (λ (b : Bool). first (if b then Some TimedOut else if is_lost (address_after w (At when (Hear f) ∷ H)) then Some Withdrawn else None) (says_to w q f (made w H when f))) (some_left (wait H) (step H when) l)
-    ∙ (ap (λ (b : Bool). first (if b then Some Withdrawn else None) (says_to w q f (made w H when f))) kept ∙ says)))) in
+    (λ i. first (none i) (end_at w (o i) (length (sent H)) (wait H - step H when) d (kept i) f (made w H when f)))
+    ∙ (ap (λ (b : Bool). first (silent_end b (wait H - step H when) d false) (if b then says_to w q f (made w H when f) else None)) t
+    ∙ (ap (λ (x : Option AskEnding). first x (says_to w q f (made w H when f))) (not_silent (wait H - step H when) d (left l)) ∙ says)) in
     let s = stays w later (At when (Hear f) ∷ H) q e n o now in
     is.answered.1
-    ∙ (ap (λ (x : Option Question). ask_end x (length (sent G)) (ended w G) (wait G) (is_lost (address_after w G))) s.0
-    ∙ ap (λ (x : Option AskEnding). ask_end (Some q) (length (sent G)) x (wait G) (is_lost (address_after w G))) s.1)
+    ∙ (ap (λ (x : Option Question). ask_end x (length (sent G)) (ended w G) (wait G) (comes w G (time_heard G)) (is_lost (address_after w G))) s.0
+    ∙ ap (λ (x : Option AskEnding). ask_end (Some q) (length (sent G)) x (wait G) (comes w G (time_heard G)) (is_lost (address_after w G))) s.1)
+  where
+    left : (step H when < wait H) ⊎ IsTrue (comes w H (time_heard (At when (Hear f) ∷ H))) → (0 < wait H - step H when) ⊎ IsTrue (comes w H (time_heard (At when (Hear f) ∷ H)))
+    left (inl g) = inl (omega (arith, g))
+    left (inr g) = inr g
+
+-- ---- out of time
+
+pub over_told : (w : Who) (H : List Call) (q : Question) (h : Option AskEnding) → (h ≡ None) ⊎ (h ≡ Some TimedOut) → open_ask H ≡ Some q → is_taken q H ≡ true
+    → wait H ≡ 0 → comes w H (time_heard H) ≡ false → ask_end (open_ask H) (length (sent H)) h (wait H) (comes w H (time_heard H)) (is_lost (address_after w H)) ≡ Some (q.token, TimedOut)
+over_told w H q h g o t l d =
+    (λ i. ask_end (o i) (length (sent H)) h (l i) (d i) (is_lost (address_after w H)))
+    ∙ (ap (λ (b : Bool). of_it (first h (silent_end b 0 false (is_lost (address_after w H))))) t ∙ by h g)
+  where
+    of_it : Option AskEnding → Option (ℕ × AskEnding)
+    of_it = option_map (λ (e : AskEnding). (q.token, e))
+
+    by : (h : Option AskEnding) → (h ≡ None) ⊎ (h ≡ Some TimedOut) → of_it (first h (Some TimedOut)) ≡ of_it (Some TimedOut)
+    by None g = refl
+    by (Some e) (inl g) = absurd (cc)
+    by (Some e) (inr g) = ap of_it g
+
+pub times_out : (w : Who) (H : List Call) (c : Controller) (q : Question) (answer : Option (ℕ × AskEnding)) → Is w (TakeAskEnded answer ∷ H) c → open_ask H ≡ Some q
+    → IsTrue (is_taken q H) → wait H ≡ 0 → comes w H (time_heard H) ≡ false → is_lost (address_after w H) ≡ false → ((e : AskEnding) → HeardFirst w H q e → ⊥)
+    → answer ≡ Some (q.token, TimedOut)
+times_out w H c q answer is o t l d kept silent = is.answered.1 ∙ over_told w H q (ended w H) (go (ended w H) refl) o t l d
+  where
+    by : (e : AskEnding) → Outcome w H q e → e ≡ TimedOut
+    by e (by_word k h) = absurd (silent e h)
+    by e (by_time z h) = z
+    by e (by_loss z h) = absurd (let y : true ≡ false = sym h ∙ kept in cc)
+
+    go : (h : Option AskEnding) → ended w H ≡ h → (h ≡ None) ⊎ (h ≡ Some TimedOut)
+    go None p = inl refl
+    go (Some e) p = inr (ap Some (by e (outcome w H is.answered.0 q e o p)))
 
 -- ---- where none is told
 
+abbrev Pending : Who → List Call → Question → Type 0
+Pending w H q = (is_taken q H ≡ false) ⊎ (((e : ℕ) × AskedSince H q e × (e < 1250000)) ⊎ IsTrue (comes w H (time_heard H)))
+
 pub all_told : (w : Who) (H : List Call) (c : Controller) → Is w (TakeAskEnded None ∷ H) c
     → (length (told_asks H) ≡ length (asks H))
-    ⊎ ((q : Question) × (open_ask H ≡ Some q) × ((is_taken q H ≡ false) ⊎ ((e : ℕ) × AskedSince H q e × (e < 1250000)))
-    × (IsTrue (is_lost (address_after w H)) → ⊥))
+    ⊎ ((q : Question) × (open_ask H ≡ Some q) × Pending w H q × (IsTrue (is_lost (address_after w H)) → ⊥))
 all_told w H c is = go (open_ask H) refl (listed w H is.answered.0) is.answered.1
   where
     Goal : Type 0
     Goal =
         (length (told_asks H) ≡ length (asks H))
-        ⊎ ((q : Question) × (open_ask H ≡ Some q) × ((is_taken q H ≡ false) ⊎ ((e : ℕ) × AskedSince H q e × (e < 1250000)))
-        × (IsTrue (is_lost (address_after w H)) → ⊥))
+        ⊎ ((q : Question) × (open_ask H ≡ Some q) × Pending w H q × (IsTrue (is_lost (address_after w H)) → ⊥))
 
-    waiting : (q : Question) → open_ask H ≡ Some q → (is_taken q H ≡ true → 0 < wait H) → (is_taken q H ≡ false) ⊎ ((e : ℕ) × AskedSince H q e × (e < 1250000))
+    waiting : (q : Question) → open_ask H ≡ Some q → (is_taken q H ≡ true → (0 < wait H) ⊎ (comes w H (time_heard H) ≡ true)) → Pending w H q
     waiting q o l = by (is_taken q H) refl
       where
-        by : (b : Bool) → is_taken q H ≡ b → (is_taken q H ≡ false) ⊎ ((e : ℕ) × AskedSince H q e × (e < 1250000))
-        by false t = inl t
-        by true t = let a = waits w H is.answered.0 q o t in let b = a.2 in let d = l t in inr (a.0, a.1, omega (arith, b, d))
+        since : (t : is_taken q H ≡ true) → (0 < wait H) ⊎ (comes w H (time_heard H) ≡ true) → Pending w H q
+        since t (inl d) = let a = waits w H is.answered.0 q o t in let b = a.2 in inr (inl (a.0, a.1, omega (arith, b, d)))
+        since t (inr d) = inr (inr d)
 
-    silent : (q : Question) (h : Option AskEnding) → (let none : Option (ℕ × AskEnding) = None in none) ≡ ask_end (Some q) (length (sent H)) h (wait H) (is_lost (address_after w H))
-        → silent_end (is_taken q H) (wait H) (is_lost (address_after w H)) ≡ None
+        by : (b : Bool) → is_taken q H ≡ b → Pending w H q
+        by false t = inl t
+        by true t = since t (l t)
+
+    silent : (q : Question) (h : Option AskEnding) → (let none : Option (ℕ × AskEnding) = None in none) ≡ ask_end (Some q) (length (sent H)) h (wait H) (comes w H (time_heard H)) (is_lost (address_after w H))
+        → silent_end (is_taken q H) (wait H) (comes w H (time_heard H)) (is_lost (address_after w H)) ≡ None
     silent q (Some x) z = absurd (cc)
-    silent q None z = by (silent_end (is_taken q H) (wait H) (is_lost (address_after w H))) z
+    silent q None z = by (silent_end (is_taken q H) (wait H) (comes w H (time_heard H)) (is_lost (address_after w H))) z
       where
         by : (o : Option AskEnding) → (let none : Option (ℕ × AskEnding) = None in none) ≡ option_map (λ (y : AskEnding). (q.token, y)) o → o ≡ None
         by None g = refl
         by (Some y) g = absurd (cc)
 
     go : (o : Option Question) → open_ask H ≡ o → Listed (length (told_asks H)) (asks H) o
-        → (let none : Option (ℕ × AskEnding) = None in none) ≡ ask_end o (length (sent H)) (ended w H) (wait H) (is_lost (address_after w H)) → Goal
+        → (let none : Option (ℕ × AskEnding) = None in none) ≡ ask_end o (length (sent H)) (ended w H) (wait H) (comes w H (time_heard H)) (is_lost (address_after w H)) → Goal
     go None o h z = inl (sym h)
     go (Some q) o h z =
-        let n = not_over (is_taken q H) (wait H) (is_lost (address_after w H)) (silent q (ended w H) z) in inr (q, o, waiting q o n.1, not_both _ n.0)
+        let n = not_over (is_taken q H) (wait H) (comes w H (time_heard H)) (is_lost (address_after w H)) (silent q (ended w H) z) in inr (q, o, waiting q o n.1, not_both _ n.0)

@@ -7,7 +7,7 @@ use Rattle.j39_node.specs.History.{Who, Message, Call, is_acknowledgment, is_cla
 use Rattle.j39_node.specs.History.Call.{At}
 use Rattle.j39_node.specs.History.Act.{TakeFrame}
 use Rattle.j39_node.specs.Asking.{Question, end_at, ended, first, has_token, is_asking, is_message, is_request, open_ask, wait, ask_end}
-use Rattle.j39_node.specs.Is.{AskRecord, asked_by, asking_after, ended_with, hears_with}
+use Rattle.j39_node.specs.Is.{AskRecord, asked_by, asking_after, ended_with, hears_with, silence}
 use Rattle.j39_node.proofs.SoundLemmas.{sent_is}
 use Rattle.j39_node.proofs.QueueLemmas.{length_one_more}
 
@@ -61,15 +61,16 @@ ask_more w H now k f t e = go (open_ask H) ∙ ap (λ (n : ℕ). asked_by (open_
         (ap (λ (n : ℕ). nat_lt q.token (length (sent H)) || nat_eq q.token n) t ∙ lt_more q.token (length (sent H)))
 
 -- a frame is heard
-pub ask_heard : (w : Who) (o : Option Question) (n left : ℕ) (e : Option AskEnding) (lost : Bool) (f : FrameRecord) (m : Option (ℕ × ℕ))
-    → option_map (hears_with w lost left f m) (asked_by o n e) ≡ asked_by o n (first e (end_at w o n left lost f m))
-ask_heard w None n left e lost f m = refl
-ask_heard w (Some q) n left e lost f m = refl
+pub ask_heard : (w : Who) (o : Option Question) (n left : ℕ) (e : Option AskEnding) (coming lost : Bool) (f : FrameRecord) (m : Option (ℕ × ℕ))
+    → option_map (hears_with w (silence left coming lost (asked_by o n e)) f m) (asked_by o n e) ≡ asked_by o n (first e (end_at w o n left coming lost f m))
+ask_heard w None n left e coming lost f m = refl
+ask_heard w (Some q) n left e coming lost f m = refl
 
 -- the end is told
-pub ask_ended : (o : Option Question) (n left : ℕ) (e : Option AskEnding) (lost : Bool) → ended_with lost left (asked_by o n e) ≡ ask_end o n e left lost
-ask_ended None n left e lost = refl
-ask_ended (Some q) n left e lost = refl
+pub ask_ended : (o : Option Question) (n left : ℕ) (e : Option AskEnding) (coming lost : Bool)
+    → ended_with (silence left coming lost (asked_by o n e)) (asked_by o n e) ≡ ask_end o n e left coming lost
+ask_ended None n left e coming lost = refl
+ask_ended (Some q) n left e coming lost = refl
 
 -- none is open, or one
 pub asking_is : (o : Option Question) (n : ℕ) (e : Option AskEnding) → is_asking (option_map (λ (x : AskRecord). x.question) (asked_by o n e)) ≡ is_asking o

@@ -23,15 +23,16 @@ use Rattle.j39_node.specs.declared.kinds.Answer.TheVariants.{Nack, Busy}
 use Rattle.j39_node.specs.declared.kinds.Ending.TheVariants.{Done, Withdrawn}
 use Rattle.j39_node.specs.declared.kinds.Refused.{Refused}
 use Rattle.j39_node.specs.declared.kinds.Refused.TheVariants.{NoAddress, BadValue, Full}
-use Rattle.j39_node.specs.Asking.{made, made_of, ended, has_token, open_ask, wait}
-use Rattle.j39_node.proofs.AskLemmas.{ask_heard, ask_more, ask_same, takes, wait_more, wait_same}
-use Rattle.j39_node.specs.Is.{AskRecord, made_by, asking_of, hears_with}
+use Rattle.j39_node.specs.declared.kinds.AskEnding.{AskEnding}
+use Rattle.j39_node.specs.Asking.{Question, comes, in_broadcast, in_session, is_coming, made, made_of, ended, has_token, open_ask, wait}
+use Rattle.j39_node.proofs.AskLemmas.{ask_heard, ask_more, ask_same, takes, token_of, wait_more, wait_same}
+use Rattle.j39_node.specs.Is.{AskRecord, made_by, asking_of, hears_with, silence}
 use Rattle.j39_node.specs.Hold.{acknowledged as hold_acknowledged, claimed as hold_claimed, rested, spoken as hold_spoken, asked as hold_asked, standing_of, less, passed, heard, claims, paused, stands, lost, left_at}
 use Rattle.j39_node.specs.History.{nothing, turns, Who, Message, Draft, Call, Address, message_of, older, claimed, address_after, holds, is_lost, is_held, is_smaller, claim_address, claim_from, owes_claim, calls_for_claim, can_send, message_from, accepted, sent, told, is_full, step, moment, is_for_program, kept, got, missed, Asked, asked, acknowledgment, acknowledged, due, handed, requests, is_served, with_request, with_refusal, stamp_at, held_at, told_claims, is_another, is_acknowledgment, is_claim, lost_news, another_news, missed_news, broadcasts, broadcast_from, can_broadcast, has_packets, is_busy, is_left, is_open, is_packet, open_broadcast, packets, pause}
 use Rattle.j39_node.specs.History.Call.{At, TakeEnded, TakeRequest, TakeTransferEnded}
 use Rattle.j39_node.specs.History.Act.{Hear, TakeFrame, Send, Acknowledge, Broadcast, Transfer}
 use Rattle.j39_node.proofs.ReceptionLaws.{made_is}
-use Rattle.j39_node.specs.Reception.{has_place, IsApart, heard_at, heard_by, holder, is_same, is_waiting, leaves, left, reception, time_heard, whole}
+use Rattle.j39_node.specs.Reception.{has_place, IsApart, heard_at, heard_by, holder, is_same, is_waiting, later, leaves, left, reception, time_heard, whole}
 use Rattle.j39_node.specs.declared.incoming.Incoming.{Incoming}
 use Rattle.j39_node.specs.declared.incoming.Said.{Said}
 use Rattle.j39_address.specs.declared.claims.Claims.{Claims}
@@ -40,7 +41,7 @@ use Rattle.j39_node.specs.Transfers.{holds_back, is_resting, rest, resting, rest
 use Rattle.j39_node.specs.History.Address.{NotClaimed, Claimed, Lost}
 use Rattle.j39_node.specs.Is.{Is, claim_goes, gives_way, is_there, next_acknowledgment, next_other, stamped, next_frame, end_of, answer_to_send, answer_to_acknowledge, hold_after, who_of, posted, received_by, request_by, refusal_by, first_of, offered, counted, LaneRecord, opened, lane_of, lane_after, packet_by, next_control, control_of, next_packet, IncomingRecord, incoming_of, incoming_after, said_by, with_reception, with_replies, hears, answer_to_broadcast, broadcast_end, next_broadcast_ended, long_by, next_long, PortRecord, closed, port_after, port_of, resting_by, running, HearingRecord, hearing_of}
 use Rattle.j39_frame.specs.Stamp.{stamp_micros}
-use Rattle.j39_node.specs.Hearing.{IsFit, hears as hears_it, is_unheard, left as leaves_it, made_whole, newly, unheard_news, waiting, whole_of}
+use Rattle.j39_node.specs.Hearing.{IsFit, hearing, hears as hears_it, is_unheard, left as leaves_it, made_whole, newly, unheard_news, waiting, whole_of}
 use Rattle.j39_node.proofs.HearingLemmas.{claimed_on, either_news, hearing_same, heard_on}
 use Rattle.j39_node.proofs.QueueLemmas.{length_one_more, length_map, map_append, length_rest, in_rest, not_in_rest, First, drop_append, length_drop}
 use Rattle.j39_node.proofs.SoundLemmas.{sound, own_get, due_get, due_taken, claim_taken, message_taken, plain_taken, sent_is, acknowledged_is, address_is, frame_by, front_length, held_not_lost, holding_not_lost, lost_older, read, single_taken, claim_single, no_packet, packet_session, reply_taken, packet_taken, packets_is, pause_is, no_packet, no_transfer, transfer_taken, no_move, reply_no_move, is_moved, none_steers}
@@ -733,6 +734,14 @@ cast_by None (Some x) = refl
 cast_by (Some y) None = refl
 cast_by (Some y) (Some x) = refl
 
+-- an answer is coming
+pub coming_is : (w : Who) (H : List Call) (c : Controller) (t time : ℕ) → Is w H c → t ≡ time
+    → is_coming (option_map (λ (x : AskRecord). x.question) (asking_of c.asking)) (in_session (incoming_of c.incoming).reception.session) (in_broadcast t (hearing_of c.hearing).current)
+    ≡ comes w H time
+coming_is w H c t time h e =
+    (λ i. is_coming (option_map (λ (x : AskRecord). x.question) (h.asking i)) (in_session (h.incoming i).reception.session) (in_broadcast (e i) (h.hearing i).current))
+    ∙ ap (λ (o : Option Question). is_coming o (in_session (reception w H).session) (in_broadcast time (hearing w H))) (token_of (open_ask H) (length (sent H)) (ended w H))
+
 pub heard_more : (w : Who) (H : List Call) (old new : Controller) (when : ℕ) (f : FrameRecord) (mid : Hold) (held wanted away gone calls replaced unheard : Bool) (o : Option Asked) → Is w H old
     → Passed w H when mid → held ≡ stands mid.standing → wanted ≡ is_for_program (who_of w.brought old.own) held f
     → map received_by new.inbox.unread.items ≡ offered wanted (stamped f) (map received_by old.inbox.unread.items)
@@ -760,14 +769,17 @@ pub heard_more : (w : Who) (H : List Call) (old new : Controller) (when : ℕ) (
     → (whole_now : Option (ℕ × ℕ)) → whole_now ≡ made_by (has_place (incoming_of old.incoming).reception.waits) (incoming_of new.incoming).reception.waits
     → (cast_now : Option (ℕ × ℕ))
     → cast_now ≡ made_by (not (not (has_place (whole_of (hearing_of old.hearing).current)))) (whole_of (hearing_of new.hearing).current)
-    → asking_of new.asking ≡ option_map (hears_with (who_of w.brought old.own) (lost new.hold.standing) new.hold.wait f (option_or whole_now cast_now)) (asking_of old.asking)
+    → (coming : Bool) (silent : Option AskEnding) → coming ≡ is_coming (option_map (λ (x : AskRecord). x.question) (asking_of old.asking)) (in_session (incoming_of old.incoming).reception.session)
+    (in_broadcast (later (incoming_of old.incoming).clock (when - (incoming_of old.incoming).moment)) (hearing_of old.hearing).current)
+    → silent ≡ silence new.hold.wait coming (lost new.hold.standing) (asking_of old.asking)
+    → asking_of new.asking ≡ option_map (hears_with (who_of w.brought old.own) silent f (option_or whole_now cast_now)) (asking_of old.asking)
     → (left_by : Bool) (p1 p2 : Option ℕ) (m : HearingRecord) → IfSome (hearing_of old.hearing).current (λ z. p1 ≡ holder_in old.holders z.source)
     → IfSome (hearing_of old.hearing).current (λ z. p2 ≡ holder_in new.holders z.source) → left_by ≡ not (is_same p1 p2)
     → m.current ≡ leaves_it left_by (hearing_of old.hearing).current → m.missed ≡ old.hearing.missed
     → unheard ≡ is_unheard (who_of w.brought old.own) (stamp_micros new.incoming.clock) f m.current
     → new.hearing.missed ≡ (if unheard then min (m.missed + 1) 18446744073709551615 else m.missed)
     → (IsFit m.current → (hearing_of new.hearing).current ≡ hears_it (who_of w.brought old.own) (stamp_micros new.incoming.clock) f m.current) → Is w (At when (Hear f) ∷ H) new
-heard_more w H old new when f mid held wanted away gone calls replaced unheard o h p e1 e2 e3 e4 e5 e6 e7 q1 q2 q3 q4 q5 e8 s1 s2 s3 s4 s5 s9 s6 s7 s8 s10 whole_now m1 cast_now m2 a1 left_by p1 p2 m t1 t2 t3 t4 t5 t6 t7 t8 =
+heard_more w H old new when f mid held wanted away gone calls replaced unheard o h p e1 e2 e3 e4 e5 e6 e7 q1 q2 q3 q4 q5 e8 s1 s2 s3 s4 s5 s9 s6 s7 s8 s10 whole_now m1 cast_now m2 coming silent a2 a3 a1 left_by p1 p2 m t1 t2 t3 t4 t5 t6 t7 t8 =
     let s = sound w H h.answered in
     let wants : wanted ≡ is_for_program w (holds w H when) f =
     e2 ∙ (ap (λ (v : Who). is_for_program v held f) h.who ∙ ap (λ (b : Bool). is_for_program w b f) (holds_is w H when mid held p e1)) in
@@ -801,6 +813,13 @@ heard_more w H old new when f mid held wanted away gone calls replaced unheard o
     m2 ∙ (ap (λ (x : HearingRecord). made_by (not (not (has_place (whole_of x.current)))) (whole_of (hearing_of new.hearing).current)) h.hearing
     ∙ (ap (λ (x : HearingRecord). made_by (not (not (has_place (waiting w H)))) (whole_of x.current)) on.hearing
     ∙ cast_by (waiting w H) (waiting w (At when (Hear f) ∷ H)))) in
+    let lost_now = is_lost (address_after w (At when (Hear f) ∷ H)) in
+    let comes_now = comes w H (time_heard (At when (Hear f) ∷ H)) in
+    let silent_is : silent ≡ silence (wait H - step H when) comes_now lost_now (asking_of old.asking) =
+    a3 ∙ λ i. silence ((ap (λ (k : Hold). k.wait) e8 ∙ p.wait) i)
+    ((a2 ∙ coming_is w H old (later (incoming_of old.incoming).clock (when - (incoming_of old.incoming).moment)) (time_heard (At when (Hear f) ∷ H)) h
+    (ap (λ (x : IncomingRecord). later x.clock (when - x.moment)) h.incoming)) i)
+    ((ap lost stands_now ∙ lost_is (address_after w (At when (Hear f) ∷ H))) i) (asking_of old.asking) in
     let made_now : option_or whole_now cast_now ≡ made w H when f =
     ap (λ (o : Option (ℕ × ℕ)). option_or o cast_now) whole_is ∙ ap (option_or (made_of (whole w H when f))) cast_is in
     record {
@@ -812,12 +831,11 @@ heard_more w H old new when f mid held wanted away gone calls replaced unheard o
       outgoing = ap (λ o. map posted o.items) s2 ∙ h.outgoing;
       taken = s3 ∙ h.taken;
       token = s4 ∙ h.token;
-      asking = a1 ∙ (ap (λ (v : Who). option_map (hears_with v (lost new.hold.standing) new.hold.wait f (option_or whole_now cast_now)) (asking_of old.asking)) h.who
-          ∙ (ap (λ (b : Bool). option_map (hears_with w b new.hold.wait f (option_or whole_now cast_now)) (asking_of old.asking)) (ap lost stands_now ∙ lost_is (address_after w (At when (Hear f) ∷ H)))
-          ∙ (ap (λ (n : ℕ). option_map (hears_with w (is_lost (address_after w (At when (Hear f) ∷ H))) n f (option_or whole_now cast_now)) (asking_of old.asking)) (ap (λ (k : Hold). k.wait) e8 ∙ p.wait)
-          ∙ (ap (λ (o : Option (ℕ × ℕ)). option_map (hears_with w (is_lost (address_after w (At when (Hear f) ∷ H))) (wait H - step H when) f o) (asking_of old.asking)) made_now
-          ∙ (ap (option_map (hears_with w (is_lost (address_after w (At when (Hear f) ∷ H))) (wait H - step H when) f (made w H when f))) h.asking
-          ∙ ask_heard w (open_ask H) (length (sent H)) (wait H - step H when) (ended w H) (is_lost (address_after w (At when (Hear f) ∷ H))) f (made w H when f))))));
+      asking = a1 ∙ (ap (λ (v : Who). option_map (hears_with v silent f (option_or whole_now cast_now)) (asking_of old.asking)) h.who
+          ∙ (ap (λ (o : Option (ℕ × ℕ)). option_map (hears_with w silent f o) (asking_of old.asking)) made_now
+          ∙ (ap (λ (e : Option AskEnding). option_map (hears_with w e f (made w H when f)) (asking_of old.asking)) silent_is
+          ∙ (ap (λ (o : Option AskRecord). option_map (hears_with w (silence (wait H - step H when) comes_now lost_now o) f (made w H when f)) o) h.asking
+          ∙ ask_heard w (open_ask H) (length (sent H)) (wait H - step H when) (ended w H) comes_now lost_now f (made w H when f)))));
       unread = e3 ∙ (ap (λ (b : Bool). offered b (stamped f) (map received_by old.inbox.unread.items)) wants
           ∙ kept_rest (is_for_program w (holds w H when) f) (kept w H) _ (length (got H)) (stamped f) (read w H s) h.unread);
       requests = q1 ∙ (ap (λ (v : Who). with_request v (nat_lt (length old.desk.waiting.items) 16) o (map request_by old.desk.waiting.items)) h.who

@@ -22,6 +22,8 @@ pub mod CallLemmas
 -- what a call does to the open request
 -- the laws of requests
 pub mod AskLaws
+-- when a tick does something
+pub mod TickLemmas
 -- a call of `ask` more
 pub mod AskCalls
 -- when frames of packets are due

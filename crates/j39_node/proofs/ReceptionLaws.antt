@@ -25,7 +25,7 @@ use Rattle.j39_node.specs.History.Act.{Ask, Hear, Tick, TakeFrame, Send, Acknowl
 use Rattle.j39_node.specs.Is.{Is}
 use Rattle.j39_node.specs.Asking.{made_of}
 use Rattle.j39_node.specs.Is.{made_by}
-use Rattle.j39_node.specs.Reception.{CameFromOne, IsApart, KeepsHolder, Reception, time_heard, delivered, frames_heard, got_transfers, has_place, heard_at, heard_by, is_move, held_then, holder, is_same, keeps, later, leaves, left, listed, next_tick, receiver_at, reception, released_by, replied, reply_from, says, says_by, step_at, taken_by, takes, tick_at, ticked, whole, whole_by, without}
+use Rattle.j39_node.specs.Reception.{CameFromOne, IsApart, KeepsHolder, Reception, time_heard, delivered, frames_heard, got_transfers, has_place, heard_at, heard_by, is_move, held_then, holder, is_same, keeps, later, leaves, left, listed, session_tick, receiver_at, reception, released_by, replied, reply_from, says, says_by, step_at, taken_by, takes, tick_at, ticked, whole, whole_by, without}
 use Rattle.j39_node.proofs.SoundLemmas.{FrameCase, frame_case, sound, own_get, due_get, due_taken, single_taken, packet_taken, claim_taken, is_moved, none_steers, lost_older, lost_claimed}
 use Rattle.j39_node.proofs.SoundLemmas.FrameCase.{claims, acknowledges, replies, sends, packs, transfers}
 use Rattle.j39_node.proofs.ReceptionLemmas.{Acknowledges, Fits, Gives, Tidy, own_after, refused_step, replied_get, taken_is, tame_signal, tame_tick, tick_quiet, tidy, tidy_left}
@@ -760,7 +760,7 @@ before_limit (Some y) last time now l m q x e = go (nat_lt (last + (suc (y.messa
     go false g = subst (λ (z : ReceptionRecord). later time (now - last) ≤ z.message.last + limit_of z) same
         (within (y.message.last + limit_of y) (let z = ltb-false _ _ g in omega (arith, z, m)))
 
-pub tick_waits : (w : Who) (H : List Call) (now : ℕ) → heard_at H ≤ now → now < 10000000000000000 → ((t : ℕ) → next_tick w H ≡ Some t → now < t)
+pub tick_waits : (w : Who) (H : List Call) (now : ℕ) → heard_at H ≤ now → now < 10000000000000000 → ((t : ℕ) → session_tick w H ≡ Some t → now < t)
     → reception w (At now Tick ∷ H) ≡ reception w H
 tick_waits w H now l m q =
     quiet_tick w.address now (time_heard (At now Tick ∷ H)) (reception w H) (reception w H).session refl (before_limit (reception w H).session (heard_at H) (time_heard H) now l m q)
@@ -800,7 +800,7 @@ after_limit x last time t now e l m = go (nat_lt (last + (suc (x.message.last + 
     go true g = over (x.message.last + limit_of x) (let z : last + (suc (x.message.last + limit_of x) - time) ≡ t = cc in z)
     go false g = absurd (cc)
 
-pub tick_says : (w : Who) (H : List Call) (now t : ℕ) (r : ReceptionRecord) → next_tick w H ≡ Some t → (reception w H).session ≡ Some r → t ≤ now
+pub tick_says : (w : Who) (H : List Call) (now t : ℕ) (r : ReceptionRecord) → session_tick w H ≡ Some t → (reception w H).session ≡ Some r → t ≤ now
     → time_heard H + (t - heard_at H) < 10000000000000000
     → (x : ToSend) × ((slice_get x.bytes 0 ≡ Some 17) ⊎ (slice_get x.bytes 0 ≡ Some 255))
     × ((reception w (At now Tick ∷ H)).replies ≡ replied w.address r.message.source (Some x) (reception w H).replies)

@@ -17,7 +17,7 @@ use Rattle.j39_node.specs.History.Call.{At}
 use Rattle.j39_node.specs.History.Act.{Hear, Tick}
 use Rattle.j39_node.specs.Reception.{Reception, has_place, holder, leaves, left, reception, time_heard, whole, whole_by}
 use Rattle.j39_node.specs.Hearing.{OpenBroadcast, announces, begun, changes, grown, has_room, hearing, hears, is_ignored, is_late, is_whole as is_full, left as leaves_it, made_whole, message_by, newly, packed, packs, touched, waiting, whole_of}
-use Rattle.j39_node.specs.Asking.{Question, ask_end, end_at, ended, first, is_answer, is_of, is_reply, is_whole, made, made_of, next_ask_ended, open_ask, reaches, said_by, says_to, silent_end, wait}
+use Rattle.j39_node.specs.Asking.{Question, ask_end, end_at, ended, first, comes, is_answer, is_of, is_reply, made, made_of, next_ask_ended, open_ask, reaches, said_by, says_to, seeks, silent_end, wait}
 use Rattle.j39_node.proofs.HearingLaws.{whole_of_left}
 use Rattle.j39_node.proofs.PacketsAnswer.{made_by_packet, none_whole, packs_to_all, whole_by_packet}
 use Rattle.j39_node.proofs.ReceptionLaws.{heard_kept, none_delivered, not_said}
@@ -118,7 +118,7 @@ and_false : (b : Bool) → (b && false) ≡ false
 and_false true = refl
 and_false false = refl
 
-silent_by : (w : Who) (q : Question) (f : FrameRecord) (o : Option (ℕ × ℕ)) → is_whole q o ≡ false → is_answer q f ≡ false → is_reply w q f ≡ false
+silent_by : (w : Who) (q : Question) (f : FrameRecord) (o : Option (ℕ × ℕ)) → seeks q o ≡ false → is_answer q f ≡ false → is_reply w q f ≡ false
     → says_to w q f o ≡ None
 silent_by w q f o a b c = (λ i. by (a i) (b i) (c i)) ∙ none (reaches w f)
   where
@@ -136,7 +136,7 @@ of_another w H when f q n m =
     ((λ i. nat_eq (pgn_of f.id) q.group && (unequal q.to 255 n i || unequal (source_of f.id) q.to m i)) ∙ and_false (nat_eq (pgn_of f.id) q.group))
     (ap (λ (b : Bool). is_acknowledgment f && (b && is_of w.address q.group f.bytes)) (unequal (source_of f.id) q.to m) ∙ and_false (is_acknowledgment f))
   where
-    whole_one : (o : Option (ℕ × ℕ)) → made w H when f ≡ o → is_whole q o ≡ false
+    whole_one : (o : Option (ℕ × ℕ)) → made w H when f ≡ o → seeks q o ≡ false
     whole_one None e = refl
     whole_one (Some x) e =
         (λ i. nat_eq x.1 q.group && (unequal q.to 255 n i || (ap (λ (a : ℕ). nat_eq a q.to) (made_source w H when f x e) ∙ unequal (source_of f.id) q.to m) i))
@@ -173,15 +173,20 @@ to_another w H when f q a d n m =
 -- ---- what says nothing ends nothing
 
 pub ends : (w : Who) (H : List Call) (when : ℕ) (f : FrameRecord) (q : Question) → open_ask H ≡ Some q → says_to w q f (made w H when f) ≡ None
-    → is_smaller w (claim_of f) ≡ false → next_ask_ended w (At when (Hear f) ∷ H) ≡ next_ask_ended w (At when Tick ∷ H)
-ends w H when f q o none mine =
-    (λ i. ask_end (o i) (length (sent H)) (first (ended w H) (end_at w (o i) (length (sent H)) left_over (lost i) f (made w H when f))) left_over (lost i))
+    → is_smaller w (claim_of f) ≡ false → comes w (At when (Hear f) ∷ H) (time_heard (At when Tick ∷ H)) ≡ comes w H (time_heard (At when Tick ∷ H))
+    → comes w (At when Tick ∷ H) (time_heard (At when Tick ∷ H)) ≡ comes w H (time_heard (At when Tick ∷ H))
+    → next_ask_ended w (At when (Hear f) ∷ H) ≡ next_ask_ended w (At when Tick ∷ H)
+ends w H when f q o none mine by_frame by_tick =
+    (λ i. ask_end (o i) (length (sent H)) (first (ended w H) (end_at w (o i) (length (sent H)) left_over coming (lost i) f (made w H when f))) left_over (by_frame i) (lost i))
     ∙ (ap (λ (x : Option AskEnding). option_map (λ e. (q.token, e)) (first (first (ended w H) (first silence (if taken then x else None))) silence)) none
     ∙ (ap (λ (x : Option AskEnding). option_map (λ e. (q.token, e)) x) (once (ended w H) silence taken)
-    ∙ λ i. ask_end (sym o i) (length (sent H)) (ended w H) left_over lost_now))
+    ∙ λ i. ask_end (sym o i) (length (sent H)) (ended w H) left_over (sym by_tick i) lost_now))
   where
     left_over : ℕ
     left_over = wait H - step H when
+
+    coming : Bool
+    coming = comes w H (time_heard (At when Tick ∷ H))
 
     lost_now : Bool
     lost_now = is_lost (older (step H when) (address_after w H))
@@ -193,7 +198,7 @@ ends w H when f q o none mine =
     taken = nat_lt q.token (length (sent H))
 
     silence : Option AskEnding
-    silence = silent_end taken left_over lost_now
+    silence = silent_end taken left_over coming lost_now
 
     once : (a b : Option AskEnding) (t : Bool) → first (first a (first b (if t then None else None))) b ≡ first a b
     once (Some x) b t = refl

@@ -15,9 +15,9 @@ ghost use Rattle.j39_node.specs.declared.kinds.Refused.TheVariants as refused;
 ghost use Rattle.j39_node.specs.History.{Who, Call, accepted, address_after, holds, is_lost, is_smaller, message_of, sent, step, told};
 ghost use Rattle.j39_node.specs.History.Call.{At, TakeAskEnded};
 ghost use Rattle.j39_node.specs.History.Act.{Ask, Hear, TakeFrame, Tick};
-ghost use Rattle.j39_node.specs.Reception.{whole};
+ghost use Rattle.j39_node.specs.Reception.{reception, time_heard, whole};
 ghost use Rattle.j39_node.specs.Hearing.{made_whole};
-ghost use Rattle.j39_node.specs.Asking.{AskedSince, HeardFirst, NoneEnds, Question, asks, can_ask, ended, is_request, is_taken, made, next_ask_ended, open_ask, says_to, told_asks, wait};
+ghost use Rattle.j39_node.specs.Asking.{AskedSince, HeardFirst, NoneEnds, Question, RanOut, asks, can_ask, comes, ended, is_request, is_taken, made, next_ask_ended, open_ask, says_to, told_asks, wait};
 ghost use Rattle.j39_node.specs.AskExample.{ask_example};
 ghost use Rattle.j39_node.specs.Example.{two};
 ghost use Rattle.j39_node.specs.Is.{AreAnswered, Is};
@@ -68,9 +68,10 @@ pub fn request_means()
 {}
 
 /// Each request is told at most once, in order: as answered or acknowledged only where that was heard first, after its frame was taken
-/// and less than 1,250 ms later; and where it was, it is so told. As timed out only 1,250 ms or more after its frame was taken; as
-/// withdrawn only where the address is lost. Where none is told, all are, or one is open, the address isn't lost, and its frame wasn't
-/// taken, or less than 1,250 ms ago.
+/// and less than 1,250 ms later, or while an answer in packets was coming; and where it was, it is so told. As timed out only where
+/// 1,250 ms or more had passed since its frame was taken and no answer was coming; and where that is so, nothing was heard first and the
+/// address isn't lost, it is so told. As withdrawn only where the address is lost. Where none is told, all are, or one is open, the
+/// address isn't lost, and its frame wasn't taken, or less than 1,250 ms ago, or an answer is coming.
 pub fn ask_done_means()
     ensures told { (w : Who) (H : List Call) (c : Controller) (k : ℕ) (e : AskEnding)
         → Is w (TakeAskEnded (Some (k, e)) ∷ H) c
@@ -82,17 +83,21 @@ pub fn ask_done_means()
         → HeardFirst w H q (ending.Acknowledged a) }
     ensures heard { (w : Who) (H later : List Call) (c : Controller) (now : ℕ) (f : FrameRecord) (q : Question) (e : AskEnding)
         (answer : Option (ℕ × AskEnding)) → Is w (TakeAskEnded answer ∷ later ++ At now (Hear f) ∷ H) c → NoneEnds later
-        → open_ask H ≡ Some q → IsTrue (is_taken q H) → ended w H ≡ None → step H now < wait H
+        → open_ask H ≡ Some q → IsTrue (is_taken q H) → ended w H ≡ None
+        → (step H now < wait H) ⊎ IsTrue (comes w H (time_heard (At now (Hear f) ∷ H)))
         → is_lost (address_after w (At now (Hear f) ∷ H)) ≡ false → says_to w q f (made w H now f) ≡ Some e → answer ≡ Some (q.token, e) }
     ensures timed_out { (w : Who) (H : List Call) (c : Controller) (k : ℕ) (q : Question)
-        → Is w (TakeAskEnded (Some (k, ending.TimedOut)) ∷ H) c → open_ask H ≡ Some q
-        → (e : ℕ) × AskedSince H q e × (1250000 ≤ e) }
+        → Is w (TakeAskEnded (Some (k, ending.TimedOut)) ∷ H) c → open_ask H ≡ Some q → RanOut w H q }
+    ensures times_out { (w : Who) (H : List Call) (c : Controller) (q : Question) (answer : Option (ℕ × AskEnding))
+        → Is w (TakeAskEnded answer ∷ H) c → open_ask H ≡ Some q → IsTrue (is_taken q H) → wait H ≡ 0
+        → comes w H (time_heard H) ≡ false → is_lost (address_after w H) ≡ false → ((e : AskEnding) → HeardFirst w H q e → ⊥)
+        → answer ≡ Some (q.token, ending.TimedOut) }
     ensures withdrawn { (w : Who) (H : List Call) (c : Controller) (k : ℕ)
         → Is w (TakeAskEnded (Some (k, ending.Withdrawn)) ∷ H) c → IsTrue (is_lost (address_after w H)) }
     ensures all { (w : Who) (H : List Call) (c : Controller) → Is w (TakeAskEnded None ∷ H) c
         → (length (told_asks H) ≡ length (asks H))
         ⊎ ((q : Question) × (open_ask H ≡ Some q)
-        × ((is_taken q H ≡ false) ⊎ ((e : ℕ) × AskedSince H q e × (e < 1250000)))
+        × ((is_taken q H ≡ false) ⊎ (((e : ℕ) × AskedSince H q e × (e < 1250000)) ⊎ IsTrue (comes w H (time_heard H))))
         × (IsTrue (is_lost (address_after w H)) → ⊥)) }
 {}
 
@@ -107,14 +112,18 @@ pub fn packets_answer()
 {}
 
 /// A frame of who wasn't asked, unless all were, says nothing to a request, and neither does one that goes to another address. What says
-/// nothing tells no end but that of a tick at the same moment, unless by it the address is lost.
+/// nothing tells no end but that of a tick at the same moment, unless by it the address is lost, or an answer in packets begins or ends
+/// by it or by that tick.
 pub fn strangers_and_requests()
     ensures of_another { (w : Who) (H : List Call) (now : ℕ) (f : FrameRecord) (q : Question) → q.to ≢ global_address → source_of f.id ≢ q.to
         → says_to w q f (made w H now f) ≡ None }
     ensures to_another { (w : Who) (H : List Call) (now : ℕ) (f : FrameRecord) (q : Question) (a : ℕ) → destination_of f.id ≡ Some a
         → a ≢ global_address → a ≢ w.address → says_to w q f (made w H now f) ≡ None }
     ensures ends { (w : Who) (H : List Call) (now : ℕ) (f : FrameRecord) (q : Question) → open_ask H ≡ Some q → says_to w q f (made w H now f) ≡ None
-        → is_smaller w (claim_of f) ≡ false → next_ask_ended w (At now (Hear f) ∷ H) ≡ next_ask_ended w (At now Tick ∷ H) }
+        → is_smaller w (claim_of f) ≡ false
+        → comes w (At now (Hear f) ∷ H) (time_heard (At now Tick ∷ H)) ≡ comes w H (time_heard (At now Tick ∷ H))
+        → comes w (At now Tick ∷ H) (time_heard (At now Tick ∷ H)) ≡ comes w H (time_heard (At now Tick ∷ H))
+        → next_ask_ended w (At now (Hear f) ∷ H) ≡ next_ask_ended w (At now Tick ∷ H) }
 {}
 
 /// All answers of this history are those that a controller gives: requests are answered, one in packets to all; one is refused, and one

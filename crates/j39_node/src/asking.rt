@@ -262,7 +262,7 @@ fn first(one: Option<AskEnding>, later: Option<AskEnding>) -> Option<AskEnding>
 fn silent_end(is_taken: bool, left: u64, is_coming: bool, is_lost: bool) -> Option<AskEnding>
     ensures { result ≡ silent_end is_taken left is_coming is_lost }
 {
-    if is_taken && left == 0 && !is_coming {
+    if is_taken && (left == 0 && !is_coming) {
         Some(AskEnding::TimedOut)
     } else if is_lost {
         Some(AskEnding::Withdrawn)

@@ -21,7 +21,7 @@ ghost use Rattle.j39_node.specs.Moving.{HasMoved, IsSettled, has_given, has_told
 ghost use Rattle.j39_node.specs.History.Call.{At, TakeAskEnded, TakeEnded, TakeReceived, TakeRequest, TakeNews, TakeBroadcastEnded, ReleaseTransfer, TakeTransferEnded, ReleaseBroadcast};
 ghost use Rattle.j39_node.specs.History.Act.{Ask, Hear, Tick, TakeFrame, Send, Acknowledge, Broadcast, Transfer};
 ghost use Rattle.j39_node.specs.Asking.{in_broadcast, in_session, is_asking, is_coming, out_at};
-ghost use Rattle.j39_node.specs.Is.{asking_of, is_there, Is, next_claims_request, first_of, lane_of, next_frame, packet_by, posted, received_by, request_by, silence, stamped, status_after, who_of, long_by, port_of, hearing_of, waits_with};
+ghost use Rattle.j39_node.specs.Is.{asking_of, is_there, Is, next_claims_request, first_of, lane_of, next_frame, packet_by, posted, received_by, request_by, silence, stamped, status_after, who_of, long_by, port_of, hearing_of, incoming_of, waits_with};
 
 use crate::asking::{self, Asking};
 use crate::hearing::Hearing;
@@ -516,6 +516,7 @@ impl Controller {
     /// `take_ended` tells that its frame was taken. `Full` while one is accepted and not told by `take_ask_ended`, or sixteen
     /// messages are. The answer itself is received like any message: subscribe its group, unless it comes by a transfer. One
     /// that is broadcast in packets counts if it is heard: if its group is subscribed, and no other broadcast lies there or is open.
+    /// Where one in packets comes, its end is waited for, even if the 1,250 ms of the request are over before.
     pub fn ask(&mut self, now: Stamp, group: Pgn, to: u8) -> Result<u64, Refused>
         ensures { (w : Who) (H : List Call) → Is w H self.old
             → Is w (At (stamp_micros now) (Ask (pgn_raw group) to result) ∷ H) self.new }

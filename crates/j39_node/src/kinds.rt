@@ -47,7 +47,7 @@ pub enum AskEnding {
     Answered,
     /// Whom was asked acknowledged it: `Ack` is positive, all others refuse.
     Acknowledged(Answer),
-    /// None of this came within 1,250 ms after its frame was taken.
+    /// None of this came within 1,250 ms after its frame was taken, nor was coming in packets.
     TimedOut,
     /// The address was lost before.
     Withdrawn,

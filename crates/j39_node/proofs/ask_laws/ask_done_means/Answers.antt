@@ -16,6 +16,9 @@ returns-clause-heard c = law.first_stands
 pub returns-clause-timed_out : goal.returns-clause-timed_out
 returns-clause-timed_out c = law.timed_out_means
 
+pub returns-clause-times_out : goal.returns-clause-times_out
+returns-clause-times_out c = law.times_out
+
 pub returns-clause-withdrawn : goal.returns-clause-withdrawn
 returns-clause-withdrawn c = law.withdrawn_means
 

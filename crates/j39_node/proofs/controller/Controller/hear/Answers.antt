@@ -1,9 +1,10 @@
 use Rattle.std.proofs.Common.{◌∙◌, ap, refl, not, Bool, ℕ, Option}
 use Rattle.j39_frame.specs.Stamp.{stamp_micros}
-use Rattle.j39_node.specs.Is.{asking_of, hears_with, port_of, request_by, who_of, hearing_of, incoming_of, made_by}
+use Rattle.j39_node.specs.Asking.{in_broadcast, in_session, is_coming}
+use Rattle.j39_node.specs.Is.{AskRecord, asking_of, hears_with, port_of, request_by, who_of, hearing_of, incoming_of, made_by}
 use Rattle.j39_node.specs.Hearing.{whole_of}
 use Rattle.j39_node.specs.Transfers.{hears_if}
-use Rattle.std.specs.Option.{option_map, option_or}
+use Rattle.std.specs.Option.{option_map}
 use Rattle.j39_node.specs.Hold.{lost}
 use Rattle.j39_address.specs.Name.{name_raw}
 use Rattle.j39_address.specs.Claim.{claim_of}
@@ -33,8 +34,11 @@ returns c = λ w H h.
     (c.made-transferred.ensures ∙ ap (λ (b : Bool). made_by b (incoming_of c.hear-2.new.self).reception.waits) c.has_place-has_place.ensures)
     c.made-broadcast.result
     (c.made-broadcast.ensures ∙ ap (λ (b : Bool). made_by (not b) (whole_of (hearing_of c.hear-unheard.new.self).current)) c.is_waiting-waited.ensures)
-    (c.hear-4.ensures ∙ (ap (λ (o : Option (ℕ × ℕ)). option_map (hears_with (who_of w.brought c.args.self.now.own) c.is_lost-2.result c.heard-self-2.result.wait f o) (asking_of c.args.self.now.asking)) c.or-made.ensures
-    ∙ ap (λ (b : Bool). option_map (hears_with (who_of w.brought c.args.self.now.own) b c.heard-self-2.result.wait f (option_or c.made-transferred.result c.made-broadcast.result)) (asking_of c.args.self.now.asking)) c.is_lost-2.ensures))
+    c.is_coming-is_coming.result c.silence-silence.result
+    (c.is_coming-is_coming.ensures ∙ ap (λ (n : ℕ). is_coming (option_map (λ (x : AskRecord). x.question) (asking_of c.args.self.now.asking))
+    (in_session (incoming_of c.args.self.now.incoming).reception.session) (in_broadcast n (hearing_of c.args.self.now.hearing).current)) c.clock_at.ensures)
+    c.silence-silence.ensures
+    (c.hear-4.ensures ∙ ap (λ (o : Option (ℕ × ℕ)). option_map (hears_with (who_of w.brought c.args.self.now.own) c.silence-silence.result f o) (asking_of c.args.self.now.asking)) c.or-made.ensures)
     (not c.is_same-is_left.result) (option_map name_raw c.speaker-speaker.result) (option_map name_raw c.speaker.result) (hearing_of c.leave.new.self)
     c.speaker-speaker.ensures c.speaker.ensures (ap not c.is_same-is_left.ensures) c.leave.ensures.current c.leave.ensures.missed
     c.hear-unheard.ensures.unheard c.hear-unheard.ensures.missed c.hear-unheard.ensures.current

@@ -1,0 +1,119 @@
+-- When a tick does something.
+use Rattle.std.proofs.Common.{◌≡◌, ◌⊎◌, ℕ, ◌+◌, ◌-◌, ◌<◌, ◌≤◌, ◌==◌, List, [], ◌∷◌, length, min, Option, Some, None, Bool, true, false, not, ◌&&◌, ◌||◌, if◌then◌else◌, nat_lt, refl, sym, ap, ◌∙◌, inl, inr, arith, ltb-true, lt-ltb}
+use Rattle.std.proofs.lemmas.Bool.{cond_both}
+use Rattle.j39_transport.specs.Protocol.{broadcast_limit}
+use Rattle.j39_transport.specs.Reception.{ReceptionRecord, Reaction, asks_again, granted_at, grants, limit_of, takes_tick}
+use Rattle.j39_transport.specs.Receiving.{ReceiverRecord, Tick as Ticks, recv_step}
+use Rattle.j39_node.specs.declared.controller.Controller.{Controller}
+use Rattle.j39_node.specs.declared.kinds.AskEnding.{AskEnding}
+use Rattle.j39_node.specs.declared.kinds.AskEnding.TheVariants.{TimedOut}
+use Rattle.j39_node.specs.History.{Who, Call, moment, sent}
+use Rattle.j39_node.specs.History.Call.{At, TakeAskEnded}
+use Rattle.j39_node.specs.History.Act.{Hear, Tick}
+use Rattle.j39_node.specs.Reception.{heard_at, later, reception, receiver_at, session_tick, time_heard}
+use Rattle.j39_node.specs.Hearing.{OpenBroadcast, hearing, is_late, is_whole}
+use Rattle.j39_node.specs.Asking.{Question, comes, ended, in_broadcast, in_session, is_coming, is_taken, is_waiting, open_ask, out_at, request_tick, seeks, wait}
+use Rattle.j39_node.specs.Is.{Is}
+use Rattle.j39_node.specs.Ticks.{next_tick}
+use Rattle.j39_node.specs.Transfers.{sooner}
+use Rattle.j39_node.proofs.AskLaws.{over_told}
+
+-- a moment before the sooner of two is before each
+before_each : (now : ℕ) (one other : Option ℕ) → ((t : ℕ) → sooner one other ≡ Some t → now < t)
+    → ((t : ℕ) → one ≡ Some t → now < t) × ((t : ℕ) → other ≡ Some t → now < t)
+before_each now None other q = (λ t e. absurd (cc), q)
+before_each now (Some m) None q = (q, λ t e. absurd (cc))
+before_each now (Some m) (Some n) q =
+    let l : now < min m n = q (min m n) refl in (
+      λ t e. let z : m ≡ t = cc in omega (arith, l, z),
+      λ t e. let z : n ≡ t = cc in omega (arith, l, z),
+    )
+
+pub before_both : (w : Who) (H : List Call) (now : ℕ) → ((t : ℕ) → next_tick w H ≡ Some t → now < t)
+    → ((t : ℕ) → session_tick w H ≡ Some t → now < t) × ((t : ℕ) → request_tick w H ≡ Some t → now < t)
+before_both w H now q = before_each now (session_tick w H) (request_tick w H) q
+
+-- ---- by a tick no answer begins
+
+time_fits : (H : List Call) → time_heard H ≤ 9999999999999999
+time_fits [] = omega arith
+time_fits (call ∷ H) = go call (time_fits H)
+  where
+    go : (call : Call) → time_heard H ≤ 9999999999999999 → time_heard (call ∷ H) ≤ 9999999999999999
+    go (At now (Hear f)) h = omega arith
+    go (At now Tick) h = omega arith
+    go call h = h
+
+-- what comes in a session goes on to come, or ends
+session_left : (r : ReceiverRecord) (now : ℕ) → (in_session (recv_step r Ticks now true).after.session ≡ in_session r.session) ⊎ (in_session (recv_step r Ticks now true).after.session ≡ None)
+unfolding recv_step takes_tick asks_again grants granted_at
+session_left r now = go r.session
+  where
+    Left : ReceptionRecord → Reaction → Type 0
+    Left x y = (in_session y.session ≡ in_session (Some x)) ⊎ (in_session y.session ≡ None)
+
+    go : (o : Option ReceptionRecord) → (in_session (takes_tick now o).session ≡ in_session o) ⊎ (in_session (takes_tick now o).session ≡ None)
+    go None = inl refl
+    go (Some x) =
+        cond_both (nat_lt (x.message.last + limit_of x) now) _ _ (Left x)
+        (λ t. cond_both (x.asks == 2) _ _ (Left x) (λ t. inr refl) (λ t. inl refl)) (λ t. inl refl)
+
+broadcast_left : (t s : ℕ) (o : Option OpenBroadcast) → t ≤ s → (in_broadcast s o ≡ in_broadcast t o) ⊎ (in_broadcast s o ≡ None)
+broadcast_left t s None l = inl refl
+broadcast_left t s (Some x) l = go (is_whole x) (is_late t x) (is_late s x) refl refl refl
+  where
+    after : (n : ℕ) → nat_lt n t ≡ true → nat_lt n s ≡ true
+    after n e = let g = ltb-true n t e in lt-ltb n s (omega (arith, g, l))
+
+    by : (a b : Bool) → Option (ℕ × ℕ)
+    by a b = if a || b then None else Some (x.source, x.group)
+
+    go : (a b c : Bool) → is_whole x ≡ a → is_late t x ≡ b → is_late s x ≡ c → (in_broadcast s (Some x) ≡ in_broadcast t (Some x)) ⊎ (in_broadcast s (Some x) ≡ None)
+    go true b c i j k = inr (λ z. by (i z) (is_late s x))
+    go false b true i j k = inr (λ z. by (i z) (k z))
+    go false true false i j k = absurd (let z : true ≡ false = sym (after (x.time + broadcast_limit) j) ∙ k in cc)
+    go false false false i j k = inl ((λ z. by (is_whole x) (k z)) ∙ λ z. by (is_whole x) (sym j z))
+
+none_begins : (o : Option Question) (a b c d : Option (ℕ × ℕ)) → (b ≡ a) ⊎ (b ≡ None) → (d ≡ c) ⊎ (d ≡ None) → is_coming o a c ≡ false → is_coming o b d ≡ false
+none_begins None a b c d i j e = refl
+none_begins (Some q) a b c d i j e = (λ z. one a b i (split (seeks q a) (seeks q c) e).0 z || one c d j (split (seeks q a) (seeks q c) e).1 z)
+  where
+    one : (a b : Option (ℕ × ℕ)) → (b ≡ a) ⊎ (b ≡ None) → seeks q a ≡ false → seeks q b ≡ false
+    one a b (inl i) e = ap (seeks q) i ∙ e
+    one a b (inr i) e = ap (seeks q) i
+
+    split : (x y : Bool) → (x || y) ≡ false → (x ≡ false) × (y ≡ false)
+    split false false e = (refl, refl)
+    split false true e = absurd (cc)
+    split true y e = absurd (cc)
+
+none_comes : (w : Who) (H : List Call) (now : ℕ) → comes w H (time_heard H) ≡ false → comes w (At now Tick ∷ H) (time_heard (At now Tick ∷ H)) ≡ false
+none_comes w H now e =
+    let l = time_fits H in
+    none_begins (open_ask H) _ _ _ _ (session_left (receiver_at w.address (reception w H)) (time_heard (At now Tick ∷ H)))
+    (broadcast_left (time_heard H) (time_heard (At now Tick ∷ H)) (hearing w H) (omega (arith, l))) e
+
+-- ---- at a tick from its moment on a request is told as timed out
+
+pub request_ends : (w : Who) (H : List Call) (c : Controller) (now t : ℕ) (answer : Option (ℕ × AskEnding)) → request_tick w H ≡ Some t → t ≤ now
+    → Is w (TakeAskEnded answer ∷ At now Tick ∷ H) c → (q : Question) × (open_ask H ≡ Some q) × (answer ≡ Some (q.token, TimedOut))
+request_ends w H c now t answer e l is = go (open_ask H) (ended w H) (comes w H (time_heard H)) refl refl refl e
+  where
+    Goal : Type 0
+    Goal = (q : Question) × (open_ask H ≡ Some q) × (answer ≡ Some (q.token, TimedOut))
+
+    over : (q : Question) → open_ask H ≡ Some q → ended w H ≡ None → comes w H (time_heard H) ≡ false → is_taken q H ≡ true → moment H + wait H ≡ t → Goal
+    over q o n d k m =
+        (q, o, is.answered.1 ∙ over_told w (At now Tick ∷ H) q (ended w H) (inl n) o k (omega (arith, m, l)) (none_comes w H now d))
+
+    go : (o : Option Question) (h : Option AskEnding) (d : Bool) → open_ask H ≡ o → ended w H ≡ h → comes w H (time_heard H) ≡ d
+        → out_at (is_waiting o (length (sent H)) h d) (moment H) (wait H) ≡ Some t → Goal
+    go None h d i j k z = absurd (cc)
+    go (Some q) (Some x) d i j k z = absurd (cc)
+    go (Some q) None d i j k z = by (is_taken q H) d (nat_lt (moment H + wait H) 10000000000000000) refl k z
+      where
+        by : (a b c : Bool) → is_taken q H ≡ a → comes w H (time_heard H) ≡ b → (if a && not b then (if c then Some (moment H + wait H) else None) else None) ≡ Some t → Goal
+        by true false true u v y = over q i j v u (let m : moment H + wait H ≡ t = cc in m)
+        by true false false u v y = absurd (cc)
+        by true true c u v y = absurd (cc)
+        by false b c u v y = absurd (cc)
