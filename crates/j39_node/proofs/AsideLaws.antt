@@ -1,5 +1,5 @@
 -- Which frame others exchange makes no difference to any answer, whatever comes later.
-use Rattle.std.proofs.Common.{◌≡◌, ◌≢◌, ◌↔◌, ℕ, ◌+◌, ◌-◌, List, [], ◌∷◌, ◌++◌, length, Option, Some, None, Ok, Err, Bool, true, false, not, ◌&&◌, ◌||◌, if◌then◌else◌, nat_eq, nat_lt, refl, sym, ap, ◌∙◌, subst, inl, eqb-true, arith}
+use Rattle.std.proofs.Common.{◌≡◌, ◌≢◌, ◌↔◌, ℕ, ◌+◌, ◌-◌, List, [], ◌∷◌, ◌++◌, length, Option, Some, None, Ok, Err, Bool, true, false, not, ◌&&◌, ◌||◌, if◌then◌else◌, nat_eq, nat_lt, nat_le, suc, refl, sym, ap, ◌∙◌, subst, inl, eqb-true, arith}
 use Rattle.std.specs.List.{slice_get}
 use Rattle.std.specs.Option.{option_map, option_or}
 use Rattle.j39_frame.specs.Frame.{FrameRecord}
@@ -12,7 +12,7 @@ use Rattle.j39_node.specs.declared.kinds.Ending.{Ending}
 use Rattle.j39_node.specs.declared.kinds.News.TheVariants.{AddressLost, AnotherAtAddress, MessagesMissed}
 use Rattle.j39_node.specs.declared.kinds.Refused.TheVariants.{NoAddress, BadValue, Full}
 use Rattle.j39_node.specs.Aside.{IsAside}
-use Rattle.j39_node.specs.History.{Who, Message, Call, Address, Asked, accepted, acknowledged, acknowledgment, address_after, another_news, asked, asked_group, asked_with, broadcast_from, broadcasts, calls_for_claim, is_larger, is_own_group, is_subscribed, can_broadcast, can_send, claim_address, claim_from, claimed, due, got, handed, holds, is_acknowledgment, is_another, is_claim, is_for_program, is_held, is_lost, is_none, is_open, is_packet, is_session, is_smaller, is_some, is_transfer, kept, lost_news, message_from, message_of, missed_news, moment, older, open_broadcast, owes_claim, packets, pause, request_for, requests, sent, step, told, with_refusal, with_request}
+use Rattle.j39_node.specs.History.{turns, Who, Message, Call, Address, Asked, accepted, acknowledged, acknowledgment, address_after, another_news, asked, asked_group, asked_with, broadcast_from, broadcasts, calls_for_claim, is_larger, is_own_group, is_subscribed, can_broadcast, can_send, claim_address, claim_from, claimed, due, got, handed, holds, is_acknowledgment, is_another, is_claim, is_for_program, is_held, is_lost, is_none, is_open, is_packet, is_session, is_smaller, is_some, is_transfer, kept, lost_news, message_from, message_of, missed_news, moment, older, open_broadcast, owes_claim, packets, pause, request_for, requests, sent, step, told, with_refusal, with_request}
 use Rattle.j39_node.specs.History.Address.{Lost}
 use Rattle.j39_node.specs.History.Call.{At, TakeAskEnded, TakeEnded, TakeReceived, TakeRequest, TakeNews, TakeBroadcastEnded, ReleaseTransfer, TakeTransferEnded, ReleaseBroadcast}
 use Rattle.j39_node.specs.History.Act.{Ask, Hear, Tick, TakeFrame, Send, Acknowledge, Broadcast, Transfer}
@@ -30,7 +30,7 @@ use Rattle.j39_node.proofs.PacketsAnswer.{packs_to_all}
 use Rattle.j39_node.proofs.ReceptionLaws.{goes_there, to_others}
 use Rattle.j39_node.proofs.RequestStrangers.{to_another}
 use Rattle.j39_node.proofs.StrangerLaws.{open_stays, unclaimed}
-use Rattle.j39_node.specs.Is.{AreAnswered, IsAnswered, broadcast_end, control_of, end_of, first_of, long_by, news_of, packet_by, stamped}
+use Rattle.j39_node.specs.Is.{is_there, AreAnswered, IsAnswered, broadcast_end, control_of, end_of, first_of, long_by, news_of, packet_by, stamped}
 
 -- ---- all that an answer hangs on
 
@@ -38,6 +38,7 @@ record State : Type 0 where
   pub moment : ℕ
   pub address : Address
   pub owes : Bool
+  pub turns : ℕ
   pub accepted : List (ℕ × Message)
   pub sent : List Message
   pub told : List (ℕ × Ending)
@@ -74,6 +75,7 @@ state w H = record {
   moment = moment H;
   address = address_after w H;
   owes = owes_claim w H;
+  turns = turns H;
   accepted = accepted w H;
   sent = sent H;
   told = told H;
@@ -153,7 +155,8 @@ heard w when f s =
 abbrev takes_with : ℕ → FrameRecord → (ℕ → Option ℕ) → State → State
 takes_with now f holds s = record (passes now s) {
   address = if is_claim f then claimed (older (now - s.moment) s.address) else older (now - s.moment) s.address;
-  owes = false;
+  owes = if is_claim f then false else s.owes;
+  turns = if is_claim f || is_acknowledgment f then suc s.turns else 0;
   sent = if is_claim f || (is_acknowledgment f || is_session f) then s.sent else s.sent ++ message_of f ∷ [];
   packets = if is_packet f then s.packets ++ message_of f ∷ [] else s.packets;
   pause = if is_packet f then gap else s.pause - (now - s.moment);
@@ -246,11 +249,14 @@ holds_at s now = is_held (older (now - s.moment) s.address)
 
 abbrev frame_by : Who → State → ℕ → Option (ℕ × Message)
 frame_by w s now =
-    if s.owes then Some (now, claim_from w (claim_address w s.address))
+    let message = slice_get s.accepted (length s.sent) in
+    let long =
+    long_by (packet_by s.broadcast (length s.packets) (s.pause - (now - s.moment))) (transfer_by s.transfer (clock (s.age + (now - s.moment)))) in
+    let gives = nat_le 2 s.turns && is_there (if holds_at s now then first_of (slice_get s.reception.replies 0) message long else None) in
+    if s.owes && not gives then Some (now, claim_from w (claim_address w s.address))
     else if holds_at s now
-    then option_map (λ m. (now, m)) (first_of (control_of (slice_get s.due (length s.acknowledged)) (slice_get s.reception.replies 0))
-    (slice_get s.accepted (length s.sent)) (long_by (packet_by s.broadcast (length s.packets) (s.pause - (now - s.moment)))
-    (transfer_by s.transfer (clock (s.age + (now - s.moment))))))
+    then option_map (λ m. (now, m)) (first_of (control_of (if gives then None else slice_get s.due (length s.acknowledged)) (slice_get s.reception.replies 0))
+    message long)
     else None
 
 abbrev full_by : State → Bool

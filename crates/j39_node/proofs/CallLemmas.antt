@@ -277,6 +277,10 @@ pub goes_is : (w : Who) (H : List Call) (now : ℕ) (k : Hold) (gives b : Bool) 
     → claim_goes w H now ≡ b
 goes_is w H now k gives b p g e = sym ((λ i. p.owes i && not (g i))) ∙ e
 
+pub still_goes : (w : Who) (H : List Call) (c : Controller) (now : ℕ) (gives b : Bool) → Is w H c → gives ≡ gives_way w H now
+    → (c.hold.owes_claim && not gives) ≡ b → claim_goes w H now ≡ b
+still_goes w H c now gives b h g e = sym ((λ i. (h.hold i).owes_claim && not (g i))) ∙ e
+
 -- no acknowledgment goes, or the first that is due
 pub none_acknowledged : (w : Who) (H : List Call) (c : Controller) (now : ℕ) (gives : Bool) → Is w H c → gives ≡ gives_way w H now
     → (not gives && not (nat_eq (length c.desk.due.items) 0)) ≡ false → next_acknowledgment w H now ≡ None
@@ -291,9 +295,9 @@ none_acknowledged w H c now false h g e =
         go true i f = eqb-true n 0 i
         go false i f = absurd (cc)
 
-pub due_there : (gives : Bool) (n : ℕ) → (not gives && not (nat_eq n 0)) ≡ true → not (nat_eq n 0) ≡ true
+pub due_there : (gives : Bool) (n : ℕ) → (not gives && not (nat_eq n 0)) ≡ true → 0 < n
 due_there true n e = absurd (cc)
-due_there false n e = e
+due_there false n e = grind (arith, e)
 
 pub one_acknowledged : (w : Who) (H : List Call) (now : ℕ) (gives b : Bool) (m : Message) → gives ≡ gives_way w H now → (not gives && b) ≡ true
     → slice_get (due w H) (length (acknowledged H)) ≡ Some m → next_acknowledgment w H now ≡ Some m
@@ -440,10 +444,10 @@ pub taken_transfer : (w : Who) (H : List Call) (old new : Controller) (now : ℕ
     → slice_get old.outgoing.items old.taken ≡ None
     → (let none : Option (ℕ × Message) = None in none) ≡ option_map (at_now now) (packet_by (lane_of (who_of w.brought old.own) old.lane).current old.lane.count mid.pause)
     → Some (stamped f) ≡ option_map (at_now now) (transfer_by (port_of old.transfers).current (clock mid.age))
-    → new ≡ record old { hold = hold_spoken mid; transfers = new.transfers }
+    → new ≡ record old { hold = new.hold; transfers = new.transfers }
     → (port_of new.transfers).current ≡ sends_if true (clock mid.age) (port_of old.transfers).current → new.transfers.next_token ≡ old.transfers.next_token
-    → new.transfers.resting ≡ old.transfers.resting → Is w (At now (TakeFrame (Some f)) ∷ H) new
-taken_transfer w H old new now f mid h p owes held none quiet g m u e e0 e1 e2 =
+    → new.transfers.resting ≡ old.transfers.resting → new.hold ≡ hold_spoken mid → Is w (At now (TakeFrame (Some f)) ∷ H) new
+taken_transfer w H old new now f mid h p owes held none quiet g m u e e0 e1 e2 e3 =
     go (next_transfer w H now) refl (u ∙ ap (option_map (at_now now)) (transfer_next w H old now mid.age h p.age))
   where
     no_packets : next_packet w H now ≡ None
@@ -464,7 +468,7 @@ taken_transfer w H old new now f mid h p owes held none quiet g m u e e0 e1 e2 =
             i ∙ (ap (option_map (at_now now)) (sym (ap (λ o. long_by o (next_transfer w H now)) no_packets ∙ q))
                 ∙ sym (next_is w H now None None owes held (none_steered w H now old h none quiet) past)),
           );
-          hold = ap (λ c. c.hold) e ∙ is_hold _ _ (turns_same H now f is.claim is.plain) p.rest p.moment (p.standing ∙ ap standing_of (sym (address_is w H now f false is.claim))) (p.owes ∙ owes_same w H now f is.claim)
+          hold = e3 ∙ is_hold _ _ (turns_same H now f is.claim is.plain) p.rest p.moment (p.standing ∙ ap standing_of (sym (address_is w H now f false is.claim))) (p.owes ∙ owes_same w H now f is.claim)
               (p.pause ∙ sym (pause_is H now f false is.packet)) p.age (p.wait ∙ wait_same H now f false false true is.claim is.plain is.session refl);
           outgoing = ap (λ c. map posted c.outgoing.items) e ∙ h.outgoing;
           taken = ap (λ c. c.taken) e ∙ (h.taken ∙ ap (λ (xs : List Message). length xs - length (told H)) (sym (sent_is H now f false false true is.claim is.plain is.session)));

@@ -20,7 +20,7 @@ ghost use Rattle.j39_node.specs.Moving.{HasMoved, IsSettled, has_given, has_told
 ghost use Rattle.j39_node.specs.History.Call.{At, TakeAskEnded, TakeEnded, TakeReceived, TakeRequest, TakeNews, TakeBroadcastEnded, ReleaseTransfer, TakeTransferEnded, ReleaseBroadcast};
 ghost use Rattle.j39_node.specs.History.Act.{Ask, Hear, Tick, TakeFrame, Send, Acknowledge, Broadcast, Transfer};
 ghost use Rattle.j39_node.specs.Asking.{is_asking};
-ghost use Rattle.j39_node.specs.Is.{asking_of, is_there, Is, next_claims_request, first_of, lane_of, next_frame, packet_by, posted, received_by, request_by, stamped, status_after, who_of, long_by, port_of, hearing_of};
+ghost use Rattle.j39_node.specs.Is.{asking_of, incoming_of, is_there, Is, next_claims_request, first_of, lane_of, next_frame, packet_by, posted, received_by, request_by, stamped, status_after, who_of, long_by, port_of, hearing_of};
 
 use crate::asking::{self, Asking};
 use crate::hearing::Hearing;
