@@ -12,7 +12,7 @@ use Rattle.j39_node.specs.declared.kinds.Ending.{Ending}
 use Rattle.j39_node.specs.declared.kinds.News.TheVariants.{AddressLost, AnotherAtAddress, MessagesMissed}
 use Rattle.j39_node.specs.declared.kinds.Refused.TheVariants.{NoAddress, BadValue, Full}
 use Rattle.j39_node.specs.Aside.{IsAside}
-use Rattle.j39_node.specs.History.{turns, Who, Message, Call, Address, Asked, accepted, acknowledged, acknowledgment, address_after, another_news, asked, asked_group, asked_with, broadcast_from, broadcasts, calls_for_claim, is_larger, is_own_group, is_subscribed, can_broadcast, can_send, claim_address, claim_from, claimed, due, got, handed, holds, is_acknowledgment, is_another, is_claim, is_for_program, is_held, is_lost, is_none, is_open, is_packet, is_session, is_smaller, is_some, is_transfer, kept, lost_news, message_from, message_of, missed_news, moment, older, open_broadcast, owes_claim, packets, pause, request_for, requests, sent, step, told, with_refusal, with_request}
+use Rattle.j39_node.specs.History.{patience, turns, Who, Message, Call, Address, Asked, accepted, acknowledged, acknowledgment, address_after, another_news, asked, asked_group, asked_with, broadcast_from, broadcasts, calls_for_claim, is_larger, is_own_group, is_subscribed, can_broadcast, can_send, claim_address, claim_from, claimed, due, got, handed, holds, is_acknowledgment, is_another, is_claim, is_for_program, is_held, is_lost, is_none, is_open, is_packet, is_session, is_smaller, is_some, is_transfer, kept, lost_news, message_from, message_of, missed_news, moment, older, open_broadcast, owes_claim, packets, pause, request_for, requests, sent, step, told, with_refusal, with_request}
 use Rattle.j39_node.specs.History.Address.{Lost}
 use Rattle.j39_node.specs.History.Call.{At, TakeAskEnded, TakeEnded, TakeReceived, TakeRequest, TakeNews, TakeBroadcastEnded, ReleaseTransfer, TakeTransferEnded, ReleaseBroadcast}
 use Rattle.j39_node.specs.History.Act.{Ask, Hear, Tick, TakeFrame, Send, Acknowledge, Broadcast, Transfer}
@@ -39,6 +39,7 @@ record State : Type 0 where
   pub address : Address
   pub owes : Bool
   pub turns : ℕ
+  pub patience : ℕ
   pub accepted : List (ℕ × Message)
   pub sent : List Message
   pub told : List (ℕ × Ending)
@@ -76,6 +77,7 @@ state w H = record {
   address = address_after w H;
   owes = owes_claim w H;
   turns = turns H;
+  patience = patience w H;
   accepted = accepted w H;
   sent = sent H;
   told = told H;
@@ -114,6 +116,7 @@ abbrev passes : ℕ → State → State
 passes now s = record s {
   moment = now;
   address = older (now - s.moment) s.address;
+  patience = s.patience - (now - s.moment);
   pause = s.pause - (now - s.moment);
   wait = s.wait - (now - s.moment);
   age = s.age + (now - s.moment);
@@ -124,7 +127,8 @@ passes now s = record s {
 abbrev hears_with : Who → ℕ → FrameRecord → Address → Bool → ℕ → (ℕ → Option ℕ) → Option OpenBroadcast → Reception → State → State
 hears_with w when f a held time holds found r s = record (passes when s) {
   address = a;
-  owes = s.owes || calls_for_claim w (is_lost s.address) f;
+  owes = s.owes || (calls_for_claim w (is_lost s.address) f || (is_another w held f && nat_eq (s.patience - (when - s.moment)) 0));
+  patience = if is_another w held f && nat_eq (s.patience - (when - s.moment)) 0 then 5000000 else s.patience - (when - s.moment);
   kept = if is_for_program w held f && nat_lt (length s.kept - length s.got) 16 then s.kept ++ (f.stamp, message_of f) ∷ [] else s.kept;
   requests = with_request w (nat_lt (length s.requests - length s.handed) 16) (asked w held f) s.requests;
   due = with_refusal w (nat_lt (length s.requests - length s.handed) 16) (nat_lt (length s.due - length s.acknowledged) 16) (asked w held f) s.due;
@@ -423,6 +427,7 @@ module _ (w : Who) (f : FrameRecord) (a : IsAside w f) where
       λ i. record (state w (At when (Hear f) ∷ H)) {
         address = lives i;
         owes = owes i;
+        patience = waits i;
         kept = keeps i;
         requests = with_request w (nat_lt (length (requests w H) - length (handed H)) 16) (unasked held i) (requests w H);
         due = with_refusal w (nat_lt (length (requests w H) - length (handed H)) 16) (nat_lt (length (due w H) - length (acknowledged H)) 16) (unasked held i) (due w H);
@@ -444,7 +449,10 @@ module _ (w : Who) (f : FrameRecord) (a : IsAside w f) where
       lives = ap (λ (b : Bool). if b then Lost else older (step H when) (address_after w H)) mine
 
       owes : owes_claim w (At when (Hear f) ∷ H) ≡ owes_claim w H
-      owes = ap (λ (b : Bool). owes_claim w H || b) (uncalled (is_lost (address_after w H))) ∙ no_more (owes_claim w H)
+      owes = (λ i. owes_claim w H || (uncalled (is_lost (address_after w H)) i || (not_mine held i && nat_eq (patience w H - step H when) 0))) ∙ no_more (owes_claim w H)
+
+      waits : patience w (At when (Hear f) ∷ H) ≡ patience w H - step H when
+      waits = ap (λ (b : Bool). if b && nat_eq (patience w H - step H when) 0 then 5000000 else patience w H - step H when) (not_mine held)
 
       keeps : kept w (At when (Hear f) ∷ H) ≡ kept w H
       keeps = ap (λ (b : Bool). if b && nat_lt (length (kept w H) - length (got H)) 16 then kept w H ++ (f.stamp, message_of f) ∷ [] else kept w H) (unwanted held)

@@ -18,13 +18,14 @@ use Rattle.j39_node.specs.declared.kinds.News.{News}
 use Rattle.j39_node.specs.declared.kinds.News.TheVariants.{AddressLost, AnotherAtAddress, MessagesMissed}
 use Rattle.j39_node.specs.declared.kinds.Refused.{Refused}
 use Rattle.j39_node.specs.declared.kinds.Refused.TheVariants.{NoAddress, BadValue, Full}
-use Rattle.j39_node.specs.History.{is_acknowledgment, turns, Who, Message, Draft, Call, Address, IsFront, accepted, address_after, calls_for_claim, can_send, claim_address, claim_from, content, frames, got, heard, holds, is_claim, is_smaller, claimed, is_for_program, is_held, is_lost, is_none, is_own_group, is_some, is_subscribed, kept, message_of, missed, moment, older, owes_claim, sent, step, told, Asked, asked, acknowledgment, acknowledgment_group, acknowledged, due, handed, requests, is_served, with_request, with_refusal, stamp_at, held_at, lost_news, another_news, missed_news, open_broadcast, packets, pause}
+use Rattle.j39_node.specs.History.{answers_another, calls, is_acknowledgment, patience, turns, Who, Message, Draft, Call, Address, IsFront, accepted, address_after, calls_for_claim, can_send, claim_address, claim_from, content, frames, got, heard, holds, is_claim, is_smaller, claimed, is_for_program, is_held, is_lost, is_none, is_own_group, is_some, is_subscribed, kept, message_of, missed, moment, older, owes_claim, sent, step, told, Asked, asked, acknowledgment, acknowledgment_group, acknowledged, due, handed, requests, is_served, with_request, with_refusal, stamp_at, held_at, lost_news, another_news, missed_news, open_broadcast, packets, pause}
 use Rattle.j39_node.specs.History.Call.{At, TakeEnded, TakeReceived, TakeRequest, TakeNews}
 use Rattle.j39_node.specs.History.Act.{Hear, Tick, TakeFrame, Send, Acknowledge}
 use Rattle.j39_node.specs.Reception.{is_waiting, reception}
 use Rattle.j39_node.proofs.ReceptionLemmas.{replied_get, tidy}
 use Rattle.j39_node.specs.History.Address.{NotClaimed, Claimed, Lost}
 use Rattle.j39_node.specs.Hearing.{unheard_news}
+use Rattle.j39_node.specs.Since.{passed_in}
 use Rattle.j39_node.specs.Is.{AreAnswered, Is, claim_goes, gives_way, is_there, next_acknowledgment, next_other, first_of, stamped, control_of, next_control, next_frame, end_of, status_of, status_after, news_of, next_long}
 use Rattle.j39_node.specs.Transfers.{age, at_in, next_due}
 use Rattle.j39_node.proofs.DueLemmas.{from_long, quiet_long, then_long}
@@ -362,11 +363,11 @@ claimed_or_not w H c now g is o = go (gives_way w H now) refl
 
 pub next_claim : (w : Who) (H later : List Call) (c : Controller) (now : ℕ) (when : ℕ) (f g : FrameRecord)
     → Is w (At now (TakeFrame (Some g)) ∷ later ++ At when (Hear f) ∷ H) c → frames later ≡ []
-    → IsTrue (calls_for_claim w (is_lost (address_after w H)) f)
+    → IsTrue (calls w H when f)
     → IsTrue (gives_way w (later ++ At when (Hear f) ∷ H) now)
     ⊎ (message_of g ≡ claim_from w (claim_address w (address_after w (later ++ At when (Hear f) ∷ H))))
-next_claim w H later c now when f g is none calls = claimed_or_not w (later ++ At when (Hear f) ∷ H) c now g is
-    (still_owed w later (At when (Hear f) ∷ H) none (or_right (owes_claim w H) _ calls))
+next_claim w H later c now when f g is none called = claimed_or_not w (later ++ At when (Hear f) ∷ H) c now g is
+    (still_owed w later (At when (Hear f) ∷ H) none (or_right (owes_claim w H) _ called))
 
 answered_before : (w : Who) (later H : List Call) → AreAnswered w (later ++ H) → AreAnswered w H
 answered_before w [] H h = h
@@ -393,9 +394,9 @@ other_plain w H now f right (transfers m o h k past nothing i e) g = let t = tra
 -- and the one after it does, where it gave way
 pub second_claim : (w : Who) (H later between : List Call) (c : Controller) (last now when : ℕ) (f g i : FrameRecord)
     → Is w (At last (TakeFrame (Some i)) ∷ between ++ (At now (TakeFrame (Some g)) ∷ later ++ At when (Hear f) ∷ H)) c → frames later ≡ [] → frames between ≡ []
-    → IsTrue (calls_for_claim w (is_lost (address_after w H)) f) → IsTrue (gives_way w (later ++ At when (Hear f) ∷ H) now)
+    → IsTrue (calls w H when f) → IsTrue (gives_way w (later ++ At when (Hear f) ∷ H) now)
     → message_of i ≡ claim_from w (claim_address w (address_after w (between ++ (At now (TakeFrame (Some g)) ∷ later ++ At when (Hear f) ∷ H))))
-second_claim w H later between c last now when f g i is none none_between calls gives =
+second_claim w H later between c last now when f g i is none none_between called gives =
     elim (claimed_or_not w (between ++ (At now (TakeFrame (Some g)) ∷ later ++ At when (Hear f) ∷ H)) c last i is (still_owed w between (At now (TakeFrame (Some g)) ∷ later ++ At when (Hear f) ∷ H) none_between still)) [
       | inl again ↦ absurd (few (turns (between ++ (At now (TakeFrame (Some g)) ∷ later ++ At when (Hear f) ∷ H))) (and_parts (nat_le 2 (turns (between ++ (At now (TakeFrame (Some g)) ∷ later ++ At when (Hear f) ∷ H)))) _ again).0 (same_turns between (At now (TakeFrame (Some g)) ∷ later ++ At when (Hear f) ∷ H) none_between ∙ over))
       | inr claim ↦ claim
@@ -411,10 +412,37 @@ second_claim w H later between c last now when f g i is none none_between calls 
     plain = other_plain w (later ++ At when (Hear f) ∷ H) now g right.0 (frame_case w (later ++ At when (Hear f) ∷ H) now g right.1) gives
 
     still : owes_claim w (At now (TakeFrame (Some g)) ∷ later ++ At when (Hear f) ∷ H) ≡ true
-    still = ap (λ (b : Bool). if b then false else owes_claim w (later ++ At when (Hear f) ∷ H)) plain.0 ∙ still_owed w later (At when (Hear f) ∷ H) none (or_right (owes_claim w H) _ calls)
+    still = ap (λ (b : Bool). if b then false else owes_claim w (later ++ At when (Hear f) ∷ H)) plain.0 ∙ still_owed w later (At when (Hear f) ∷ H) none (or_right (owes_claim w H) _ called)
 
     over : turns (At now (TakeFrame (Some g)) ∷ later ++ At when (Hear f) ∷ H) ≡ 0
     over = ap (λ (b : Bool). if b then suc (turns (later ++ At when (Hear f) ∷ H)) else 0) (ap (λ (b : Bool). b || is_acknowledgment g) plain.0 ∙ plain.1)
+
+-- another at the address isn't answered again for 5 seconds
+pub answered_once : (w : Who) (H later : List Call) (when now : ℕ) (f g : FrameRecord) → IsTrue (answers_another w H when f)
+    → passed_in later (At when (Hear f) ∷ H) + step (later ++ At when (Hear f) ∷ H) now < 5000000
+    → answers_another w (later ++ At when (Hear f) ∷ H) now g ≡ false
+answered_once w H later when now f g e l =
+    let p = patient later in
+    never (is_another w (holds w (later ++ At when (Hear f) ∷ H) now) g) (patience w (later ++ At when (Hear f) ∷ H) - step (later ++ At when (Hear f) ∷ H) now)
+    (omega (arith, p, l))
+  where
+    begins : 5000000 ≤ patience w (At when (Hear f) ∷ H)
+    begins = let z = ap (λ (b : Bool). if b then 5000000 else patience w H - step H when) e in omega (arith, z)
+
+    more : (b : Bool) (p s q : ℕ) → 5000000 ≤ p + q → 5000000 ≤ (if b then 5000000 else p - s) + (q + s)
+    more true p s q l = omega arith
+    more false p s q l = omega (arith, l)
+
+    patient : (later : List Call) → 5000000 ≤ patience w (later ++ At when (Hear f) ∷ H) + passed_in later (At when (Hear f) ∷ H)
+    patient [] = let b = begins in omega (arith, b)
+    patient (At now (Hear g) ∷ later) =
+        more (answers_another w (later ++ At when (Hear f) ∷ H) now g) (patience w (later ++ At when (Hear f) ∷ H)) (step (later ++ At when (Hear f) ∷ H) now)
+        (passed_in later (At when (Hear f) ∷ H)) (patient later)
+    patient (call ∷ later) = let h = patient later in omega (arith, h)
+
+    never : (b : Bool) (n : ℕ) → 0 < n → (b && nat_eq n 0) ≡ false
+    never true n l = grind (arith, l)
+    never false n l = refl
 
 -- ---- none is silenced
 

@@ -17,7 +17,7 @@ use Rattle.j39_transport.specs.Sending.{hears as listens_to, send_step}
 use Rattle.j39_transport.specs.SenderNext.{granted_by}
 use Rattle.j39_transport.specs.Signals.{Signal, BroadcastAnnounce, RequestToSend, ClearToSend, Acknowledgment, Abort, Packet, said_between, said_by}
 use Rattle.j39_node.specs.declared.controller.Controller.{Controller}
-use Rattle.j39_node.specs.History.{turns, Who, Message, Call, Address, Asked, accepted, acknowledged, address_after, asked_group, asked_with, calls_for_claim, claim_address, claim_from, due, handed, holds, is_held, is_larger, is_lost, is_some, is_smaller, older, owes_claim, requests, sent, step, with_refusal}
+use Rattle.j39_node.specs.History.{is_another, is_claim, patience, turns, Who, Message, Call, Address, Asked, accepted, acknowledged, address_after, asked_group, asked_with, calls_for_claim, claim_address, claim_from, due, handed, holds, is_held, is_larger, is_lost, is_some, is_smaller, older, owes_claim, requests, sent, step, with_refusal}
 use Rattle.j39_node.specs.History.Address.{Lost}
 use Rattle.j39_node.specs.History.Call.{At}
 use Rattle.j39_node.specs.History.Act.{Hear, Tick, TakeFrame}
@@ -132,8 +132,8 @@ none_asked w held f None = refl
 none_asked w held f (Some to) = refl
 
 pub frame_stays : (w : Who) (H : List Call) (c : Controller) (when : ℕ) (f : FrameRecord) (now : ℕ) → Is w H c → claim_of f ≡ None → asked_group f ≡ None
-    → destination_of f.id ≢ Some w.address → next_frame w (At when (Hear f) ∷ H) now ≡ next_frame w (At when (TakeFrame None) ∷ H) now
-frame_stays w H c when f now is e g n =
+    → destination_of f.id ≢ Some w.address → source_of f.id ≢ w.address → next_frame w (At when (Hear f) ∷ H) now ≡ next_frame w (At when (TakeFrame None) ∷ H) now
+frame_stays w H c when f now is e g n m =
     λ i. by (owes i) (lives i) (owed i) (said i) (moved i)
   where
     by : Bool → Address → List Message → List Message → Option Running → Option (ℕ × Message)
@@ -147,12 +147,23 @@ frame_stays w H c when f now is e g n =
         then option_map (λ m. (now, m)) (first_of (control_of (if gives then None else slice_get acks (length (acknowledged H))) (slice_get replies 0))
         message long) else None
 
+    never : (b : Bool) → (b && false) ≡ false
+    never true = refl
+    never false = refl
+
+    differs : (b : Bool) → nat_eq (source_of f.id) w.address ≡ b → nat_eq (source_of f.id) w.address ≡ false
+    differs true i = absurd (m (eqb-true _ _ i))
+    differs false i = i
+
+    not_here : (held : Bool) → is_another w held f ≡ false
+    not_here held = ap (λ (b : Bool). held && (b && not (is_claim f))) (differs (nat_eq (source_of f.id) w.address) refl) ∙ never held
+
     calls : calls_for_claim w (is_lost (address_after w H)) f ≡ false
     calls = λ i. ((is_smaller w (e i) || is_larger w (e i)) && not (is_lost (address_after w H)))
         || (is_some (g i) 60928 && (is_some (destination_of f.id) 255 || (is_some (destination_of f.id) w.address && not (is_lost (address_after w H)))))
 
     owes : owes_claim w (At when (Hear f) ∷ H) ≡ owes_claim w H
-    owes = ap (λ (b : Bool). owes_claim w H || b) calls ∙ no_more (owes_claim w H)
+    owes = (λ i. owes_claim w H || (calls i || (not_here (holds w H when) i && nat_eq (patience w H - step H when) 0))) ∙ no_more (owes_claim w H)
 
     mine : is_smaller w (claim_of f) ≡ false
     mine = ap (is_smaller w) e

@@ -18,7 +18,7 @@ ghost use Rattle.j39_node.specs.declared.kinds.News.{News};
 ghost use Rattle.j39_node.specs.declared.kinds.News.TheVariants as news;
 ghost use Rattle.j39_node.specs.declared.kinds.Refused.{Refused};
 ghost use Rattle.j39_node.specs.declared.kinds.Refused.TheVariants as refused;
-ghost use Rattle.j39_node.specs.History.{Act, Who, is_smaller, Asked, Call, Message, Draft, IsFront, accepted, acknowledgment, acknowledgment_group, asked, asked_group, handed, is_served, requests, lost_news, another_news, missed_news, address_after, calls_for_claim, can_send, claim_address, claim_from, content, acknowledged, due, frames, got, heard, holds, is_held, is_lost, is_subscribed, kept, message_of, missed, moment, owes_claim, sent, step, told, all_frames, broadcasts, can_broadcast, first_frames, frame_of, has_packets, is_acknowledgment, is_claim, is_packet, is_transfer, open_broadcast, packets, told_broadcasts};
+ghost use Rattle.j39_node.specs.History.{Act, Who, is_smaller, Asked, Call, Message, Draft, IsFront, accepted, acknowledgment, acknowledgment_group, asked, asked_group, handed, is_served, requests, lost_news, another_news, missed_news, address_after, answers_another, calls, can_send, claim_address, claim_from, content, acknowledged, due, frames, got, heard, holds, is_held, is_lost, is_subscribed, kept, message_of, missed, moment, owes_claim, sent, step, told, all_frames, broadcasts, can_broadcast, first_frames, frame_of, has_packets, is_acknowledgment, is_claim, is_packet, is_transfer, open_broadcast, packets, told_broadcasts};
 ghost use Rattle.j39_node.specs.History.Call.{At, TakeBroadcastEnded, ReleaseTransfer, TakeNews, TakeRequest, TakeEnded, TakeReceived, TakeTransferEnded};
 ghost use Rattle.j39_node.specs.History.Act.{Acknowledge, Broadcast, Hear, Tick, TakeFrame, Send, Transfer};
 ghost use Rattle.j39_node.specs.Reception.{CameFromOne, delivered, got_transfers, heard_at, holder, is_move, listed, next_tick, reception, replied, reply_from, says, time_heard, whole, without};
@@ -124,21 +124,24 @@ pub fn received()
         → (kept w (At now (Hear f) ∷ H) ≡ kept w H) × (missed w (At now (Hear f) ∷ H) ≡ missed w H) }
 {}
 
-/// After a frame was heard that a claim answers (another's claim of the address, or a request for claims), the next frame taken
-/// is its claim, or 'cannot claim' where the address is lost, unless that gives way; then the one after it is. A claim is taken only
+/// After a frame was heard that a claim answers (another's claim of the address, a request for claims, or another's frame from the
+/// address that is held, unless such a one was answered in the 5 seconds before), the next frame taken is its claim, or 'cannot claim' where the address is lost, unless that gives way; then the one after it is. A claim is taken only
 /// where one is owed.
 pub fn claims()
     ensures next { (w : Who) (H later : List Call) (c : Controller) (now when : ℕ) (f g : FrameRecord)
         → Is w (At now (TakeFrame (Some g)) ∷ later ++ At when (Hear f) ∷ H) c → frames later ≡ []
-        → IsTrue (calls_for_claim w (is_lost (address_after w H)) f)
+        → IsTrue (calls w H when f)
         → IsTrue (gives_way w (later ++ At when (Hear f) ∷ H) now)
         ⊎ (message_of g ≡ claim_from w (claim_address w (address_after w (later ++ At when (Hear f) ∷ H)))) }
     ensures second { (w : Who) (H later between : List Call) (c : Controller) (last now when : ℕ) (f g i : FrameRecord)
         → Is w (At last (TakeFrame (Some i)) ∷ between ++ (At now (TakeFrame (Some g)) ∷ later ++ At when (Hear f) ∷ H)) c
-        → frames later ≡ [] → frames between ≡ [] → IsTrue (calls_for_claim w (is_lost (address_after w H)) f)
+        → frames later ≡ [] → frames between ≡ [] → IsTrue (calls w H when f)
         → IsTrue (gives_way w (later ++ At when (Hear f) ∷ H) now)
         → message_of i ≡ claim_from w (claim_address w (address_after w
         (between ++ (At now (TakeFrame (Some g)) ∷ later ++ At when (Hear f) ∷ H)))) }
+    ensures once { (w : Who) (H later : List Call) (when now : ℕ) (f g : FrameRecord) → IsTrue (answers_another w H when f)
+        → passed_in later (At when (Hear f) ∷ H) + step (later ++ At when (Hear f) ∷ H) now < 5000000
+        → answers_another w (later ++ At when (Hear f) ∷ H) now g ≡ false }
     ensures at_once { (w : Who) (H : List Call) (c : Controller) (now : ℕ) (answer : Option FrameRecord)
         → Is w (At now (TakeFrame answer) ∷ H) c → IsTrue (owes_claim w H) → answer ≢ None }
     ensures only { (w : Who) (H : List Call) (c : Controller) (now : ℕ) (f : FrameRecord)
@@ -375,7 +378,7 @@ pub fn strangers_and_sending()
         × (told_transfers (At now (Hear f) ∷ H) ≡ told_transfers H) × (told_asks (At now (Hear f) ∷ H) ≡ told_asks H) }
     ensures broadcast { (w : Who) (H : List Call) (now : ℕ) (f : FrameRecord) → open_broadcast w (At now (Hear f) ∷ H) ≡ open_broadcast w H }
     ensures next { (w : Who) (H : List Call) (c : Controller) (when : ℕ) (f : FrameRecord) (now : ℕ) → Is w H c → claim_of f ≡ None
-        → asked_group f ≡ None → destination_of f.id ≢ Some w.address
+        → asked_group f ≡ None → destination_of f.id ≢ Some w.address → source_of f.id ≢ w.address
         → next_frame w (At when (Hear f) ∷ H) now ≡ next_frame w (At when (TakeFrame None) ∷ H) now }
 {}
 

@@ -12,3 +12,6 @@ returns-clause-only c = law.claims_only
 
 pub returns-clause-second : goal.returns-clause-second
 returns-clause-second c = law.second_claim
+
+pub returns-clause-once : goal.returns-clause-once
+returns-clause-once c = law.answered_once
