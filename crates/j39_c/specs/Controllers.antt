@@ -7,7 +7,7 @@ use Rattle.j39_address.specs.Holder.{IsHolderAfter}
 use Rattle.j39_address.specs.Node.{IsLeastFree, NoneFree}
 use Rattle.j39_frame.specs.Address.{IsAddress}
 use Rattle.j39_transport.specs.Message.{MessageRecord}
-use Rattle.j39_node.specs.History.{Act, Asked, Call, Message, Who, missed, told_claims}
+use Rattle.j39_node.specs.History.{Act, Asked, Call, Message, Who, nothing, missed, told_claims}
 use Rattle.j39_node.specs.History.Call.{At, ReleaseBroadcast, ReleaseTransfer, TakeAskEnded, TakeBroadcastEnded, TakeEnded, TakeReceived, TakeTransferEnded}
 use Rattle.j39_node.specs.Hearing.{unheard, waiting}
 use Rattle.j39_node.specs.Is.{Is}
@@ -69,7 +69,7 @@ pub record CanServe (address : ℕ) (served : List ℕ) (subscribed : Option (Li
 -- a controller that begins so
 abbrev pub IsNew : ℕ → ℕ → List ℕ → Option (List ℕ) → Controller → Type 0
 IsNew name address served subscribed c = Is (record
-    { name = name; address = address; served = served; subscribed = subscribed; known = [] }) [] c
+    { name = name; address = address; served = served; subscribed = subscribed; brought = nothing }) [] c
 
 -- why there is no controller of them
 abbrev pub IsMakeRefusal : ℕ → List ℕ → Option (List ℕ) → Refusal → Type 0

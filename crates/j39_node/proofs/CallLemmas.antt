@@ -28,7 +28,7 @@ use Rattle.j39_node.specs.Asking.{Question, comes, in_broadcast, in_session, is_
 use Rattle.j39_node.proofs.AskLemmas.{ask_heard, ask_more, ask_same, takes, token_of, wait_more, wait_same}
 use Rattle.j39_node.specs.Is.{AskRecord, made_by, asking_of, hears_with, silence}
 use Rattle.j39_node.specs.Hold.{acknowledged as hold_acknowledged, claimed as hold_claimed, rested, spoken as hold_spoken, asked as hold_asked, standing_of, less, passed, heard, claims, paused, stands, lost, left_at}
-use Rattle.j39_node.specs.History.{nothing, turns, Who, Message, Draft, Call, Address, message_of, older, claimed, address_after, holds, is_lost, is_held, is_smaller, claim_address, claim_from, owes_claim, calls_for_claim, can_send, message_from, accepted, sent, told, is_full, step, moment, is_for_program, kept, got, missed, Asked, asked, acknowledgment, acknowledged, due, handed, requests, is_served, with_request, with_refusal, stamp_at, held_at, told_claims, is_another, is_acknowledgment, is_claim, lost_news, another_news, missed_news, broadcasts, broadcast_from, can_broadcast, has_packets, is_busy, is_left, is_open, is_packet, open_broadcast, packets, pause}
+use Rattle.j39_node.specs.History.{nothing, patience, turns, Who, Message, Draft, Call, Address, message_of, older, claimed, address_after, holds, is_lost, is_held, is_smaller, claim_address, claim_from, owes_claim, calls_for_claim, can_send, message_from, accepted, sent, told, is_full, step, moment, is_for_program, kept, got, missed, Asked, asked, acknowledgment, acknowledged, due, handed, requests, is_served, with_request, with_refusal, stamp_at, held_at, told_claims, is_another, is_acknowledgment, is_claim, lost_news, another_news, missed_news, broadcasts, broadcast_from, can_broadcast, has_packets, is_busy, is_left, is_open, is_packet, open_broadcast, packets, pause}
 use Rattle.j39_node.specs.History.Call.{At, TakeEnded, TakeRequest, TakeTransferEnded}
 use Rattle.j39_node.specs.History.Act.{Hear, TakeFrame, Send, Acknowledge, Broadcast, Transfer}
 use Rattle.j39_node.proofs.ReceptionLaws.{made_is}
@@ -74,6 +74,7 @@ pub record Passed (w : Who) (H : List Call) (now : ℕ) (h : Hold) : Type 0 wher
   pub standing : h.standing ≡ standing_of (older (step H now) (address_after w H))
   pub owes : h.owes_claim ≡ owes_claim w H
   pub turns : h.turns ≡ min (turns H) 2
+  pub patience : h.patience ≡ patience w H - step H now
   pub pause : h.pause ≡ pause H - step H now
   pub age : h.age ≡ min (age H + step H now) 18446744073709551615
   pub wait : h.wait ≡ wait H - step H now
@@ -90,6 +91,7 @@ passed_is w H now old new e f =
       standing = ap (λ (h : Hold). h.standing) g ∙ less_is (step H now) (address_after w H);
       owes = ap (λ (h : Hold). h.owes_claim) g;
       turns = ap (λ (h : Hold). h.turns) g;
+      patience = ap (λ (h : Hold). h.patience) g;
       pause = ap (λ (h : Hold). h.pause) g;
       age = ap (λ (h : Hold). h.age) g ∙ saturates (age H) (step H now);
       wait = ap (λ (h : Hold). h.wait) g;
@@ -99,10 +101,10 @@ passed_is w H now old new e f =
 pub holds_is : (w : Who) (H : List Call) (now : ℕ) (h : Hold) (b : Bool) → Passed w H now h → b ≡ stands h.standing → b ≡ holds w H now
 holds_is w H now h b p e = e ∙ (ap stands p.standing ∙ stands_is (older (step H now) (address_after w H)))
 
-pub is_hold : (h k : Hold) → h.turns ≡ k.turns → h.rest ≡ k.rest → h.moment ≡ k.moment → h.standing ≡ k.standing → h.owes_claim ≡ k.owes_claim → h.pause ≡ k.pause
+pub is_hold : (h k : Hold) → h.turns ≡ k.turns → h.patience ≡ k.patience → h.rest ≡ k.rest → h.moment ≡ k.moment → h.standing ≡ k.standing → h.owes_claim ≡ k.owes_claim → h.pause ≡ k.pause
     → h.age ≡ k.age → h.wait ≡ k.wait → h ≡ k
-is_hold h k d r e f g i j l = λ t. (let x : Hold = record
-    { turns = d t; rest = r t; moment = e t; standing = f t; owes_claim = g t; pause = i t; age = j t; wait = l t } in x)
+is_hold h k d q r e f g i j l = λ t. (let x : Hold = record
+    { turns = d t; patience = q t; rest = r t; moment = e t; standing = f t; owes_claim = g t; pause = i t; age = j t; wait = l t } in x)
 
 -- ---- the lane
 
@@ -278,6 +280,10 @@ pub goes_is : (w : Who) (H : List Call) (now : ℕ) (k : Hold) (gives b : Bool) 
     → claim_goes w H now ≡ b
 goes_is w H now k gives b p g e = sym ((λ i. p.owes i && not (g i))) ∙ e
 
+pub still_goes : (w : Who) (H : List Call) (c : Controller) (now : ℕ) (gives b : Bool) → Is w H c → gives ≡ gives_way w H now
+    → (c.hold.owes_claim && not gives) ≡ b → claim_goes w H now ≡ b
+still_goes w H c now gives b h g e = sym ((λ i. (h.hold i).owes_claim && not (g i))) ∙ e
+
 -- no acknowledgment goes, or the first that is due
 pub none_acknowledged : (w : Who) (H : List Call) (c : Controller) (now : ℕ) (gives : Bool) → Is w H c → gives ≡ gives_way w H now
     → (not gives && not (nat_eq (length c.desk.due.items) 0)) ≡ false → next_acknowledgment w H now ≡ None
@@ -292,9 +298,9 @@ none_acknowledged w H c now false h g e =
         go true i f = eqb-true n 0 i
         go false i f = absurd (cc)
 
-pub due_there : (gives : Bool) (n : ℕ) → (not gives && not (nat_eq n 0)) ≡ true → not (nat_eq n 0) ≡ true
+pub due_there : (gives : Bool) (n : ℕ) → (not gives && not (nat_eq n 0)) ≡ true → 0 < n
 due_there true n e = absurd (cc)
-due_there false n e = e
+due_there false n e = grind (arith, e)
 
 pub one_acknowledged : (w : Who) (H : List Call) (now : ℕ) (gives b : Bool) (m : Message) → gives ≡ gives_way w H now → (not gives && b) ≡ true
     → slice_get (due w H) (length (acknowledged H)) ≡ Some m → next_acknowledgment w H now ≡ Some m
@@ -335,7 +341,7 @@ taken w H old new now (Some f) x mid h p owes held none quiet g m e d request a1
     record {
       who = ap (λ c. who_of w.brought c.own) e ∙ h.who;
       answered = (h.answered, ap Some k ∙ sym (next_is w H now None (Some (posted x)) owes held (none_steered w H now old h none quiet) i));
-      hold = a3 ∙ is_hold _ _ (turns_same H now f n l) p.rest p.moment (p.standing ∙ ap standing_of (sym (address_is w H now f false n))) (p.owes ∙ owes_same w H now f n) (p.pause ∙ sym (pause_is H now f false (no_packet f one))) p.age
+      hold = a3 ∙ is_hold _ _ (turns_same H now f n l) p.patience p.rest p.moment (p.standing ∙ ap standing_of (sym (address_is w H now f false n))) (p.owes ∙ owes_same w H now f n) (p.pause ∙ sym (pause_is H now f false (no_packet f one))) p.age
           (ap (λ (k : ℕ). if request then 1250000 else k) p.wait
           ∙ wait_more w H now x.token f request n l one number (a2 ∙ ap (λ (o : Option AskRecord). has_token (option_map (λ (y : AskRecord). y.question) o) x.token) h.asking));
       asking = a1 ∙ (ap (option_map (takes x.token)) h.asking ∙ ask_more w H now x.token f number more);
@@ -374,7 +380,7 @@ taken_none w H old new now h p owes held none quiet g m u e =
             ∙ (ap (option_map (at_now now)) (long_next w H old now new.hold.pause new.hold.age h p.pause p.age)
             ∙ sym (next_is w H now None None owes held (none_steered w H now old h none quiet) i)),
       );
-      hold = is_hold _ _ p.turns p.rest p.moment p.standing p.owes p.pause p.age p.wait;
+      hold = is_hold _ _ p.turns p.patience p.rest p.moment p.standing p.owes p.pause p.age p.wait;
       outgoing = ap (λ c. map posted c.outgoing.items) e ∙ h.outgoing;
       taken = ap (λ c. c.taken) e ∙ h.taken;
       token = ap (λ c. c.next_token) e ∙ h.token;
@@ -415,7 +421,7 @@ taken_packet w H old new now f mid h p owes held none quiet g m e e0 e1 more =
             i ∙ (ap (λ o. option_map (at_now now) (long_by o (next_transfer w H now))) (sym q)
                 ∙ sym (next_is w H now None None owes held (none_steered w H now old h none quiet) past)),
           );
-          hold = e0 ∙ is_hold _ _ (turns_same H now f is.0 is.1) p.rest p.moment (p.standing ∙ ap standing_of (sym (address_is w H now f false is.0))) (p.owes ∙ owes_same w H now f is.0) (sym (pause_is H now f true is.2)) p.age (p.wait ∙ wait_same H now f false false true is.0 is.1 (packet_session f is.2).0 refl);
+          hold = e0 ∙ is_hold _ _ (turns_same H now f is.0 is.1) p.patience p.rest p.moment (p.standing ∙ ap standing_of (sym (address_is w H now f false is.0))) (p.owes ∙ owes_same w H now f is.0) (sym (pause_is H now f true is.2)) p.age (p.wait ∙ wait_same H now f false false true is.0 is.1 (packet_session f is.2).0 refl);
           outgoing = ap (λ c. map posted c.outgoing.items) e ∙ h.outgoing;
           taken = ap (λ c. c.taken) e ∙ (h.taken ∙ ap (λ (xs : List Message). length xs - length (told H)) (sym (sent_is H now f false false true is.0 is.1 (packet_session f is.2).0)));
           token = ap (λ c. c.next_token) e ∙ h.token;
@@ -441,10 +447,10 @@ pub taken_transfer : (w : Who) (H : List Call) (old new : Controller) (now : ℕ
     → slice_get old.outgoing.items old.taken ≡ None
     → (let none : Option (ℕ × Message) = None in none) ≡ option_map (at_now now) (packet_by (lane_of (who_of w.brought old.own) old.lane).current old.lane.count mid.pause)
     → Some (stamped f) ≡ option_map (at_now now) (transfer_by (port_of old.transfers).current (clock mid.age))
-    → new ≡ record old { hold = hold_spoken mid; transfers = new.transfers }
+    → new ≡ record old { hold = new.hold; transfers = new.transfers }
     → (port_of new.transfers).current ≡ sends_if true (clock mid.age) (port_of old.transfers).current → new.transfers.next_token ≡ old.transfers.next_token
-    → new.transfers.resting ≡ old.transfers.resting → Is w (At now (TakeFrame (Some f)) ∷ H) new
-taken_transfer w H old new now f mid h p owes held none quiet g m u e e0 e1 e2 =
+    → new.transfers.resting ≡ old.transfers.resting → new.hold ≡ hold_spoken mid → Is w (At now (TakeFrame (Some f)) ∷ H) new
+taken_transfer w H old new now f mid h p owes held none quiet g m u e e0 e1 e2 e3 =
     go (next_transfer w H now) refl (u ∙ ap (option_map (at_now now)) (transfer_next w H old now mid.age h p.age))
   where
     no_packets : next_packet w H now ≡ None
@@ -465,7 +471,7 @@ taken_transfer w H old new now f mid h p owes held none quiet g m u e e0 e1 e2 =
             i ∙ (ap (option_map (at_now now)) (sym (ap (λ o. long_by o (next_transfer w H now)) no_packets ∙ q))
                 ∙ sym (next_is w H now None None owes held (none_steered w H now old h none quiet) past)),
           );
-          hold = ap (λ c. c.hold) e ∙ is_hold _ _ (turns_same H now f is.claim is.plain) p.rest p.moment (p.standing ∙ ap standing_of (sym (address_is w H now f false is.claim))) (p.owes ∙ owes_same w H now f is.claim)
+          hold = e3 ∙ is_hold _ _ (turns_same H now f is.claim is.plain) p.patience p.rest p.moment (p.standing ∙ ap standing_of (sym (address_is w H now f false is.claim))) (p.owes ∙ owes_same w H now f is.claim)
               (p.pause ∙ sym (pause_is H now f false is.packet)) p.age (p.wait ∙ wait_same H now f false false true is.claim is.plain is.session refl);
           outgoing = ap (λ c. map posted c.outgoing.items) e ∙ h.outgoing;
           taken = ap (λ c. c.taken) e ∙ (h.taken ∙ ap (λ (xs : List Message). length xs - length (told H)) (sym (sent_is H now f false false true is.claim is.plain is.session)));
@@ -501,7 +507,7 @@ taken_due w H old new now (Some f) x mid h p owes held next first m e e0 =
     record {
       who = ap (λ c. who_of w.brought c.own) e ∙ h.who;
       answered = (h.answered, ap Some k ∙ sym (next_is w H now (Some (refusal_by w x)) _ owes held (steered_due w H now (refusal_by w x) next) refl));
-      hold = e0 ∙ is_hold _ _ (turns_more H now f mid.turns (ap (λ (b : Bool). b || is_acknowledgment f) is.0 ∙ is.1) p.turns) p.rest p.moment (p.standing ∙ ap standing_of (sym (address_is w H now f false is.0))) (p.owes ∙ owes_same w H now f is.0) (p.pause ∙ sym (pause_is H now f false (no_packet f is.2))) p.age (p.wait ∙ wait_same H now f false true false is.0 is.1 is.2 refl);
+      hold = e0 ∙ is_hold _ _ (turns_more H now f mid.turns (ap (λ (b : Bool). b || is_acknowledgment f) is.0 ∙ is.1) p.turns) p.patience p.rest p.moment (p.standing ∙ ap standing_of (sym (address_is w H now f false is.0))) (p.owes ∙ owes_same w H now f is.0) (p.pause ∙ sym (pause_is H now f false (no_packet f is.2))) p.age (p.wait ∙ wait_same H now f false true false is.0 is.1 is.2 refl);
       outgoing = ap (λ c. map posted c.outgoing.items) e ∙ h.outgoing;
       taken = ap (λ c. c.taken) e ∙ (h.taken ∙ ap (λ (xs : List Message). length xs - length (told H)) (sym (sent_is H now f false true false is.0 is.1 is.2)));
       token = ap (λ c. c.next_token) e ∙ h.token;
@@ -537,7 +543,7 @@ taken_reply w H old new now (Some f) x mid h p owes held none first m e e0 e1 =
         h.answered,
         ap Some k ∙ sym (next_is w H now (Some (said_by w.address x)) _ owes held (steered_by w H now None _ none at) refl),
       );
-      hold = e1 ∙ is_hold _ _ (turns_same H now f is.0 is.1) p.rest p.moment (p.standing ∙ ap standing_of (sym (address_is w H now f false is.0))) (p.owes ∙ owes_same w H now f is.0) (p.pause ∙ sym (pause_is H now f false is.3)) p.age (p.wait ∙ wait_same H now f false false true is.0 is.1 is.2 refl);
+      hold = e1 ∙ is_hold _ _ (turns_same H now f is.0 is.1) p.patience p.rest p.moment (p.standing ∙ ap standing_of (sym (address_is w H now f false is.0))) (p.owes ∙ owes_same w H now f is.0) (p.pause ∙ sym (pause_is H now f false is.3)) p.age (p.wait ∙ wait_same H now f false false true is.0 is.1 is.2 refl);
       outgoing = ap (λ c. map posted c.outgoing.items) e ∙ h.outgoing;
       taken = ap (λ c. c.taken) e ∙ (h.taken ∙ ap (λ (xs : List Message). length xs - length (told H)) (sym (sent_is H now f false false true is.0 is.1 is.2)));
       token = ap (λ c. c.next_token) e ∙ h.token;
@@ -642,7 +648,7 @@ posts w H old new now d x h p held can room is e0 e1 e2 e3 e4 e5 e6 e7 e8 e9 e10
     record {
       who = ap (who_of w.brought) e2 ∙ h.who;
       answered = (h.answered, ap Ok h.token ∙ sym (answer (holds w H now) (can_send w d) (is_full w H) held can (sym (full_is w H old h) ∙ room)));
-      hold = is_hold _ _ p.turns p.rest p.moment p.standing p.owes p.pause p.age p.wait;
+      hold = is_hold _ _ p.turns p.patience p.rest p.moment p.standing p.owes p.pause p.age p.wait;
       outgoing = ap (map posted) e0 ∙ (map_append posted old.outgoing.items x
           ∙ (ap (λ l. l ++ posted x ∷ []) h.outgoing ∙ (ap (λ (y : ℕ × Message). drop (length (told H)) (accepted w H) ++ y ∷ []) is
           ∙ sym (drop_append (length (told H)) (accepted w H) (old.next_token, message_from w d) s.within))));
@@ -742,11 +748,12 @@ coming_is w H c t time h e =
     (λ i. is_coming (option_map (λ (x : AskRecord). x.question) (h.asking i)) (in_session (h.incoming i).reception.session) (in_broadcast (e i) (h.hearing i).current))
     ∙ ap (λ (o : Option Question). is_coming o (in_session (reception w H).session) (in_broadcast time (hearing w H))) (token_of (open_ask H) (length (sent H)) (ended w H))
 
-pub heard_more : (w : Who) (H : List Call) (old new : Controller) (when : ℕ) (f : FrameRecord) (mid : Hold) (held wanted away gone calls replaced unheard : Bool) (o : Option Asked) → Is w H old
+pub heard_more : (w : Who) (H : List Call) (old new : Controller) (when : ℕ) (f : FrameRecord) (mid : Hold) (held wanted away gone calls another replaced unheard : Bool) (o : Option Asked) → Is w H old
     → Passed w H when mid → held ≡ stands mid.standing → wanted ≡ is_for_program (who_of w.brought old.own) held f
     → map received_by new.inbox.unread.items ≡ offered wanted (stamped f) (map received_by old.inbox.unread.items)
     → new.inbox.missed ≡ counted wanted (map received_by old.inbox.unread.items) old.inbox.missed
     → gone ≡ is_smaller (who_of w.brought old.own) (claim_of f) → away ≡ lost mid.standing → calls ≡ calls_for_claim (who_of w.brought old.own) away f
+    → another ≡ is_another (who_of w.brought old.own) held f
     → map request_by new.desk.waiting.items
     ≡ with_request (who_of w.brought old.own) (nat_lt (length old.desk.waiting.items) 16) o (map request_by old.desk.waiting.items)
     → map (refusal_by (who_of w.brought old.own)) new.desk.due.items
@@ -759,7 +766,7 @@ pub heard_more : (w : Who) (H : List Call) (old new : Controller) (when : ℕ) (
       another = old.news.another || is_another (who_of w.brought old.own) held f;
       missed = old.news.missed || ((wanted && not (nat_lt (length old.inbox.unread.items) 16)) || unheard);
     }
-    → new.hold ≡ heard gone calls mid → new.own ≡ old.own → new.outgoing ≡ old.outgoing → new.taken ≡ old.taken → new.next_token ≡ old.next_token → new.lane ≡ old.lane
+    → new.hold ≡ heard gone calls another mid → new.own ≡ old.own → new.outgoing ≡ old.outgoing → new.taken ≡ old.taken → new.next_token ≡ old.next_token → new.lane ≡ old.lane
     → (old.incoming.receiver.has_box ≡ true → IsApart (incoming_of old.incoming).reception
     → incoming_of new.incoming ≡ hears gone held when f (holder_in old.holders) (holder_in new.holders) (incoming_of old.incoming))
     → IfSome (port_of old.transfers).current (λ x. replaced ≡ is_replaced (holder_in old.holders x.sender.destination) (holder_in new.holders x.sender.destination))
@@ -779,7 +786,7 @@ pub heard_more : (w : Who) (H : List Call) (old new : Controller) (when : ℕ) (
     → unheard ≡ is_unheard (who_of w.brought old.own) (stamp_micros new.incoming.clock) f m.current
     → new.hearing.missed ≡ (if unheard then min (m.missed + 1) 18446744073709551615 else m.missed)
     → (IsFit m.current → (hearing_of new.hearing).current ≡ hears_it (who_of w.brought old.own) (stamp_micros new.incoming.clock) f m.current) → Is w (At when (Hear f) ∷ H) new
-heard_more w H old new when f mid held wanted away gone calls replaced unheard o h p e1 e2 e3 e4 e5 e6 e7 q1 q2 q3 q4 q5 e8 s1 s2 s3 s4 s5 s9 s6 s7 s8 s10 whole_now m1 cast_now m2 coming silent a2 a3 a1 left_by p1 p2 m t1 t2 t3 t4 t5 t6 t7 t8 =
+heard_more w H old new when f mid held wanted away gone calls another replaced unheard o h p e1 e2 e3 e4 e5 e6 e7 e9 q1 q2 q3 q4 q5 e8 s1 s2 s3 s4 s5 s9 s6 s7 s8 s10 whole_now m1 cast_now m2 coming silent a2 a3 a1 left_by p1 p2 m t1 t2 t3 t4 t5 t6 t7 t8 =
     let s = sound w H h.answered in
     let wants : wanted ≡ is_for_program w (holds w H when) f =
     e2 ∙ (ap (λ (v : Who). is_for_program v held f) h.who ∙ ap (λ (b : Bool). is_for_program w b f) (holds_is w H when mid held p e1)) in
@@ -794,6 +801,8 @@ heard_more w H old new when f mid held wanted away gone calls replaced unheard o
     let goes : gone ≡ is_smaller w (claim_of f) = e5 ∙ ap (λ (v : Who). is_smaller v (claim_of f)) h.who in
     let asks : calls ≡ calls_for_claim w (is_lost (address_after w H)) f =
     e7 ∙ (ap (λ (v : Who). calls_for_claim v away f) h.who ∙ ap (λ (b : Bool). calls_for_claim w b f) lost_before) in
+    let others : another ≡ is_another w (holds w H when) f =
+    e9 ∙ (ap (λ (v : Who). is_another v held f) h.who ∙ ap (λ (b : Bool). is_another w b f) (holds_is w H when mid held p e1)) in
     let r : ℕ → Bool = λ a. is_replaced (holder w H a) (holder w (At when (Hear f) ∷ H) a) in
     let current : (port_of old.transfers).current ≡ open_transfer w H = ap (λ (t : PortRecord). t.current) h.port in
     let stands_now : new.hold.standing ≡ standing_of (address_after w (At when (Hear f) ∷ H)) =
@@ -825,8 +834,9 @@ heard_more w H old new when f mid held wanted away gone calls replaced unheard o
     record {
       who = ap (who_of w.brought) s1 ∙ h.who;
       answered = (h.answered, tt);
-      hold = is_hold _ _ (ap (λ (k : Hold). k.turns) e8 ∙ p.turns) (ap (λ (k : Hold). k.rest) e8 ∙ p.rest) (ap (λ (k : Hold). k.moment) e8 ∙ p.moment) stands_now
-          (ap (λ (k : Hold). k.owes_claim) e8 ∙ (ap (λ (b : Bool). b || calls) p.owes ∙ ap (λ (b : Bool). owes_claim w H || b) asks))
+      hold = is_hold _ _ (ap (λ (k : Hold). k.turns) e8 ∙ p.turns)
+          (ap (λ (k : Hold). k.patience) e8 ∙ λ i. if others i && nat_eq (p.patience i) 0 then 5000000 else p.patience i) (ap (λ (k : Hold). k.rest) e8 ∙ p.rest) (ap (λ (k : Hold). k.moment) e8 ∙ p.moment) stands_now
+          (ap (λ (k : Hold). k.owes_claim) e8 ∙ (λ i. p.owes i || (asks i || (others i && nat_eq (p.patience i) 0))))
           (ap (λ (k : Hold). k.pause) e8 ∙ p.pause) (ap (λ (k : Hold). k.age) e8 ∙ p.age) (ap (λ (k : Hold). k.wait) e8 ∙ p.wait);
       outgoing = ap (λ o. map posted o.items) s2 ∙ h.outgoing;
       taken = s3 ∙ h.taken;
@@ -923,7 +933,7 @@ due_more w H old new now answer x h p right a g e =
     record {
       who = ap (λ c. who_of w.brought c.own) e ∙ h.who;
       answered = (h.answered, right);
-      hold = is_hold _ _ p.turns p.rest p.moment p.standing p.owes p.pause p.age p.wait;
+      hold = is_hold _ _ p.turns p.patience p.rest p.moment p.standing p.owes p.pause p.age p.wait;
       outgoing = ap (λ c. map posted c.outgoing.items) e ∙ h.outgoing;
       taken = ap (λ c. c.taken) e ∙ h.taken;
       token = ap (λ c. c.next_token) e ∙ h.token;
@@ -950,7 +960,7 @@ pub refuses_send : (w : Who) (H : List Call) (old new : Controller) (now : ℕ) 
 refuses_send w H old new now d r h p answer e = record {
   who = ap (λ c. who_of w.brought c.own) e ∙ h.who;
   answered = (h.answered, answer);
-  hold = is_hold _ _ p.turns p.rest p.moment p.standing p.owes p.pause p.age p.wait;
+  hold = is_hold _ _ p.turns p.patience p.rest p.moment p.standing p.owes p.pause p.age p.wait;
   outgoing = ap (λ c. map posted c.outgoing.items) e ∙ h.outgoing;
   taken = ap (λ c. c.taken) e ∙ h.taken;
   token = ap (λ c. c.next_token) e ∙ h.token;
@@ -1072,7 +1082,7 @@ claims_more w H old new now f mid a h p owes e0 m at knows drops left_by p1 p2 t
         ap Some j ∙ sym (ap (λ (b : Bool). frame_by b (holds w H now) (next_control w H now) (slice_get (accepted w H) (length (sent H))) (next_long w H now)
             (claim_from w (claim_address w (address_after w H))) now) owes),
       );
-      hold = e0 ∙ is_hold _ _ (turns_more H now f mid.turns (ap (λ (b : Bool). b || is_acknowledgment f) n) p.turns) p.rest p.moment
+      hold = e0 ∙ is_hold _ _ (turns_more H now f mid.turns (ap (λ (b : Bool). b || is_acknowledgment f) n) p.turns) p.patience p.rest p.moment
           (ap claims p.standing ∙ (claims_after (older (step H now) (address_after w H)) ∙ ap standing_of (sym (address_is w H now f true n)))) (sym (ap (λ (b : Bool). if b then false else owes_claim w H) n))
           (p.pause ∙ sym (pause_is H now f false (no_packet f (claim_single f n)))) p.age (p.wait ∙ wait_same H now f true _ _ n refl refl refl);
       outgoing = ap (λ c. map posted c.outgoing.items) e ∙ h.outgoing;
@@ -1204,7 +1214,7 @@ pub refuses_broadcast : (w : Who) (H : List Call) (old new : Controller) (now gr
 refuses_broadcast w H old new now group bytes r h p answer e = record {
   who = ap (λ c. who_of w.brought c.own) e ∙ h.who;
   answered = (h.answered, answer);
-  hold = is_hold _ _ p.turns p.rest p.moment p.standing p.owes p.pause p.age p.wait;
+  hold = is_hold _ _ p.turns p.patience p.rest p.moment p.standing p.owes p.pause p.age p.wait;
   outgoing = ap (λ c. map posted c.outgoing.items) e ∙ h.outgoing;
   taken = ap (λ c. c.taken) e ∙ h.taken;
   token = ap (λ c. c.next_token) e ∙ h.token;
@@ -1228,7 +1238,7 @@ pub begins : (w : Who) (H : List Call) (old new : Controller) (now group : ℕ) 
 begins w H old new now group bytes x h p answer is e e0 e1 e2 = record {
   who = ap (λ c. who_of w.brought c.own) e ∙ h.who;
   answered = (h.answered, answer);
-  hold = is_hold _ _ p.turns p.rest p.moment p.standing p.owes p.pause p.age p.wait;
+  hold = is_hold _ _ p.turns p.patience p.rest p.moment p.standing p.owes p.pause p.age p.wait;
   outgoing = ap (λ c. map posted c.outgoing.items) e ∙ h.outgoing;
   taken = ap (λ c. c.taken) e ∙ h.taken;
   token = ap (λ c. c.next_token) e ∙ h.token;
@@ -1276,7 +1286,7 @@ pub refuses_transfer : (w : Who) (H : List Call) (old new : Controller) (now gro
 refuses_transfer w H old new now group to bytes r h p answer e = record {
   who = ap (λ c. who_of w.brought c.own) e ∙ h.who;
   answered = (h.answered, answer);
-  hold = is_hold _ _ p.turns p.rest p.moment p.standing p.owes p.pause p.age p.wait;
+  hold = is_hold _ _ p.turns p.patience p.rest p.moment p.standing p.owes p.pause p.age p.wait;
   outgoing = ap (λ c. map posted c.outgoing.items) e ∙ h.outgoing;
   taken = ap (λ c. c.taken) e ∙ h.taken;
   token = ap (λ c. c.next_token) e ∙ h.token;
@@ -1302,7 +1312,7 @@ pub transfer_begins : (w : Who) (H : List Call) (old new : Controller) (now grou
 transfer_begins w H old new now group to bytes x mid h p answer is e e0 e1 e2 e3 = record {
   who = ap (λ c. who_of w.brought c.own) e ∙ h.who;
   answered = (h.answered, answer);
-  hold = e0 ∙ is_hold _ _ p.turns p.rest p.moment p.standing p.owes p.pause refl p.wait;
+  hold = e0 ∙ is_hold _ _ p.turns p.patience p.rest p.moment p.standing p.owes p.pause refl p.wait;
   outgoing = ap (λ c. map posted c.outgoing.items) e ∙ h.outgoing;
   taken = ap (λ c. c.taken) e ∙ h.taken;
   token = ap (λ c. c.next_token) e ∙ h.token;

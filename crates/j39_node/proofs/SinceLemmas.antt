@@ -71,7 +71,7 @@ begins w H now f right (claims o e) k a = record {
   stays = tt;
   passed = refl;
 }
-begins w H now f right (acknowledges m o h g e) k a =
+begins w H now f right (acknowledges m o h g e way) k a =
     absurd (let z = (due_taken w f now m e (due_get w _ _ m (sound w H right).desk.0 g)).0 in let y : true ≡ false = sym k ∙ z in cc)
 begins w H now f right (replies m o h n g e) k a =
     absurd (let z = (reply_taken w.address f now m e (replied_get w.address (reception w H).replies 0 m (tidy w H).replies g)).0 in let y : true ≡ false = sym k ∙ z in cc)

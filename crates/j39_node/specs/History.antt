@@ -217,10 +217,29 @@ is_asked w lost f =
 abbrev pub calls_for_claim : Who → Bool → FrameRecord → Bool
 calls_for_claim w lost f = ((is_smaller w (claim_of f) || is_larger w (claim_of f)) && not lost) || is_asked w lost f
 
+-- another sends from the address that is held, and it is no claim
+abbrev pub is_another : Who → Bool → FrameRecord → Bool
+is_another w held f = held && (nat_eq (source_of f.id) w.address && not (is_claim f))
+
+-- what is left of the 5 seconds behind such a frame that was answered (own)
+abbrev pub patience : Who → List Call → ℕ
+patience w [] = 0
+patience w (At now (Hear f) ∷ H) =
+    if is_another w (holds w H now) f && nat_eq (patience w H - step H now) 0 then 5000000 else patience w H - step H now
+patience w (At now act ∷ H) = patience w H - step H now
+patience w (call ∷ H) = patience w H
+
+abbrev pub answers_another : Who → List Call → ℕ → FrameRecord → Bool
+answers_another w H now f = is_another w (holds w H now) f && nat_eq (patience w H - step H now) 0
+
+-- the frame is answered by a claim, for one of these reasons
+abbrev pub calls : Who → List Call → ℕ → FrameRecord → Bool
+calls w H now f = calls_for_claim w (is_lost (address_after w H)) f || answers_another w H now f
+
 -- a claim is owed: the first, or since a claim was taken last something was heard that is answered by one
 abbrev pub owes_claim : Who → List Call → Bool
 owes_claim w [] = true
-owes_claim w (At now (Hear f) ∷ H) = owes_claim w H || calls_for_claim w (is_lost (address_after w H)) f
+owes_claim w (At now (Hear f) ∷ H) = owes_claim w H || calls w H now f
 owes_claim w (At now (TakeFrame (Some f)) ∷ H) = if is_claim f then false else owes_claim w H
 owes_claim w (call ∷ H) = owes_claim w H
 
@@ -552,10 +571,6 @@ lost_news w [] = false
 lost_news w (At now (Hear f) ∷ H) = lost_news w H || (is_smaller w (claim_of f) && not (is_lost (address_after w H)))
 lost_news w (TakeNews (Some AddressLost) ∷ H) = false
 lost_news w (call ∷ H) = lost_news w H
-
--- another sends from the address that is held, and it is no claim
-abbrev pub is_another : Who → Bool → FrameRecord → Bool
-is_another w held f = held && (nat_eq (source_of f.id) w.address && not (is_claim f))
 
 abbrev pub another_news : Who → List Call → Bool
 another_news w [] = false

@@ -278,7 +278,7 @@ impl Controller {
         self.news = self
             .news
             .heard(drives_away, is_lost, another, misses, unheard);
-        self.hold = self.hold.heard(drives_away, calls);
+        self.hold = self.hold.heard(drives_away, calls, another);
         self.transfers
             .hear(self.hold.is_lost(), is_replaced, frame, self.hold.clock());
         let silence = self.silence(is_coming);

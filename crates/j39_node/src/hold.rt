@@ -20,6 +20,9 @@ const ANSWER_TIME: u64 = 1_250_000;
 /// How long a transfer rests after an end without acknowledgment, in microseconds (own).
 const REST_TIME: u64 = 4_000_000;
 
+/// How long another at the address isn't answered again, in microseconds (own).
+const PATIENCE: u64 = 5_000_000;
+
 /// How far the address is.
 #[derive(Clone, Copy)]
 pub(crate) enum Standing {
@@ -60,6 +63,8 @@ pub(crate) struct Hold {
     pub(crate) owes_claim: bool,
     /// How many of the frames taken last were claims or acknowledgments, up to two.
     pub(crate) turns: u8,
+    /// What is left of the time in which another at its address isn't answered again.
+    pub(crate) patience: u64,
     /// What is left of the time between two frames of packets.
     pub(crate) pause: u64,
     /// How long ago a transfer was accepted last.
@@ -80,6 +85,7 @@ impl Hold {
             standing: Standing::Idle,
             owes_claim: true,
             turns: 0,
+            patience: 0,
             pause: 0,
             age: 0,
             wait: 0,
@@ -112,6 +118,7 @@ impl Hold {
             standing: self.standing.less(step),
             owes_claim: self.owes_claim,
             turns: self.turns,
+            patience: self.patience.saturating_sub(step),
             pause: self.pause.saturating_sub(step),
             age: self.age.saturating_add(step),
             wait: self.wait.saturating_sub(step),
@@ -119,10 +126,12 @@ impl Hold {
         }
     }
 
-    /// A frame was heard that drives away from the address, or that is answered by a claim.
-    pub(crate) fn heard(self, drives_away: bool, calls: bool) -> Hold
-        ensures { result ≡ heard drives_away calls self }
+    /// A frame was heard that drives away from the address, or that is answered by a claim, or is another's from the address.
+    pub(crate) fn heard(self, drives_away: bool, calls: bool, another: bool) -> Hold
+        ensures { result ≡ heard drives_away calls another self }
     {
+        let answers = another && self.patience == 0;
+        let patience = if answers { PATIENCE } else { self.patience };
         let standing = if drives_away {
             Standing::Lost
         } else {
@@ -131,8 +140,9 @@ impl Hold {
         Hold {
             moment: self.moment,
             standing,
-            owes_claim: self.owes_claim || calls,
+            owes_claim: self.owes_claim || calls || answers,
             turns: self.turns,
+            patience,
             pause: self.pause,
             age: self.age,
             wait: self.wait,
@@ -149,6 +159,7 @@ impl Hold {
             standing: self.standing.claimed(),
             owes_claim: false,
             turns: self.turns.saturating_add(1).min(2),
+            patience: self.patience,
             pause: self.pause,
             age: self.age,
             wait: self.wait,
@@ -181,6 +192,7 @@ impl Hold {
             standing: self.standing,
             owes_claim: self.owes_claim,
             turns: 0,
+            patience: self.patience,
             pause: PACKET_TIME,
             age: self.age,
             wait: self.wait,
@@ -197,6 +209,7 @@ impl Hold {
             standing: self.standing,
             owes_claim: self.owes_claim,
             turns: self.turns,
+            patience: self.patience,
             pause: self.pause,
             age: 0,
             wait: self.wait,
@@ -214,6 +227,7 @@ impl Hold {
             standing: self.standing,
             owes_claim: self.owes_claim,
             turns: 0,
+            patience: self.patience,
             pause: self.pause,
             age: self.age,
             wait,
@@ -231,6 +245,7 @@ impl Hold {
             standing: self.standing,
             owes_claim: self.owes_claim,
             turns: self.turns,
+            patience: self.patience,
             pause: self.pause,
             age: self.age,
             wait: self.wait,

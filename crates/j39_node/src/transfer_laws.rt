@@ -21,7 +21,7 @@ ghost use Rattle.j39_node.specs.Moving.{begun, moved};
 ghost use Rattle.j39_node.specs.Reception.{holder, is_move};
 ghost use Rattle.j39_node.specs.Transfers.{Running, can_transfer, clock_at, gives_up, is_over, is_replaced, is_resting, is_spent, next_transfer, next_transfer_ended, open_transfer, rests_after, said_to, told_transfers, transfers};
 ghost use Rattle.j39_node.specs.Moves.{Aborts, Acknowledges, Happened, IsMove, NoneEnds, Replaces, abort_move, clears, moves};
-ghost use Rattle.j39_node.specs.Is.{Is, next_long};
+ghost use Rattle.j39_node.specs.Is.{Is, gives_way, next_long};
 
 /// What `transfer` answers: `NoAddress` where no address is held, `BadValue` where the message can't be sent so, `Full` where one is
 /// accepted and not told (or as many as there are tokens were accepted) or where it rests, and else the next token.
@@ -57,7 +57,7 @@ pub fn moves_mean()
         × IsMove to m (moves w H) (message_of f) }
     ensures behind { (w : Who) (H : List Call) (c : Controller) (now : ℕ) (f : FrameRecord)
         → Is w (At now (TakeFrame (Some f)) ∷ H) c → IsTrue (is_move w H f)
-        → IsTrue (holds w H now) × (length (sent H) ≡ length (accepted w H)) × (acknowledged H ≡ due w H) }
+        → IsTrue (holds w H now) × (length (sent H) ≡ length (accepted w H)) × (IsTrue (gives_way w H now) ⊎ (acknowledged H ≡ due w H)) }
     ensures after_broadcasts { (w : Who) (H : List Call) (c : Controller) (now : ℕ) (f : FrameRecord)
         → Is w (At now (TakeFrame (Some f)) ∷ H) c → IsTrue (is_move w H f) → IsTrue (has_packets w H)
         → (e : ℕ) × PacketSince H e × (e + step H now < 50000) }

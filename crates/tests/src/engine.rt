@@ -68,7 +68,10 @@ fn answer(controller: &mut Controller, request: Request, now: Stamp) {
         let _refused = controller.acknowledge(now, request, Answer::Denied);
     } else if request.destination == GLOBAL_ADDRESS {
         let _token = controller.broadcast(now, request.group, vin);
-    } else if controller.transfer(now, request.group, request.source, vin).is_err() {
+    } else if controller
+        .transfer(now, request.group, request.source, vin)
+        .is_err()
+    {
         let _refused = controller.acknowledge(now, request, Answer::Busy);
     }
 }

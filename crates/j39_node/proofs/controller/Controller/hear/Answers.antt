@@ -19,8 +19,8 @@ returns c = λ w H h.
     let t = stamp_micros c.args.now in
     let p = passed_is w H t c.args.self.now.hold c.passed-self.result h.hold c.passed-self.ensures in
     heard_more w H c.args.self.now _ t f c.passed-self.result c.is_held-is_held.result c.is_for_program-wanted.result c.is_lost-is_lost.result
-    c.is_driven_away-drives_away.result c.calls_for_claim-calls.result c.is_replaced-is_replaced.result c.hear-unheard.result (option_map request_by c.asked-request.result) h p c.is_held-is_held.ensures c.is_for_program-wanted.ensures
-    c.offer.ensures.unread c.offer.ensures.missed (c.is_driven_away-drives_away.ensures ∙ smaller_known w.brought c.args.self.now.own (claim_of f)) c.is_lost-is_lost.ensures (c.calls_for_claim-calls.ensures ∙ calls_known w.brought c.args.self.now.own c.is_lost-is_lost.result f)
+    c.is_driven_away-drives_away.result c.calls_for_claim-calls.result c.is_another-another.result c.is_replaced-is_replaced.result c.hear-unheard.result (option_map request_by c.asked-request.result) h p c.is_held-is_held.ensures c.is_for_program-wanted.ensures
+    c.offer.ensures.unread c.offer.ensures.missed (c.is_driven_away-drives_away.ensures ∙ smaller_known w.brought c.args.self.now.own (claim_of f)) c.is_lost-is_lost.ensures (c.calls_for_claim-calls.ensures ∙ calls_known w.brought c.args.self.now.own c.is_lost-is_lost.result f) c.is_another-another.ensures
     (c.hear.ensures.waiting ∙ request_known w.brought c.args.self.now.own _ (option_map request_by c.asked-request.result) _) (c.hear.ensures.due ∙ refusal_known w.brought c.args.self.now.own _ _ (option_map request_by c.asked-request.result) _) (c.asked-request.ensures ∙ asked_known w.brought c.args.self.now.own c.is_held-is_held.result f) c.hear-2.ensures.knows
     (news_heard c.args.self.now.news _ _ _ _ _ _ _ c.heard-self.ensures c.is_another-another.ensures c.misses-misses.ensures)
     c.heard-self-2.ensures refl refl refl refl refl c.hear-2.ensures.heard

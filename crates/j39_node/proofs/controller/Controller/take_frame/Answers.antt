@@ -1,4 +1,4 @@
-use Rattle.std.proofs.Common.{◌≡◌, ◌∙◌, ap, sym, refl, ℕ, Some, Option, List, ◌∷◌, true, not, subst, length}
+use Rattle.std.proofs.Common.{◌≡◌, ◌∙◌, ap, sym, refl, ℕ, Some, Option, List, ◌∷◌, true, not, subst, length, false}
 use Rattle.j39_frame.specs.Frame.{FrameRecord}
 use Rattle.j39_node.specs.History.Call.{At}
 use Rattle.j39_node.specs.History.Act.{TakeFrame}
@@ -42,7 +42,7 @@ returns-in_ok-frame-in-None-frame c = λ w H h.
     c.in-None-frame.ensures.frame
     (c.in_ok-frame-in-None-frame.ensures
     ∙ ap (λ (n : ℕ). option_map (at_now (stamp_micros c.args.now)) (transfer_by (port_of c.args.self.now.transfers).current n)) c.clock-clock.ensures)
-    refl (c.taken.ensures.current ∙ ap (λ (n : ℕ). sends_if true n (port_of c.args.self.now.transfers).current) c.clock-clock.ensures) c.taken.ensures.token c.taken.ensures.resting
+    refl (c.taken.ensures.current ∙ ap (λ (n : ℕ). sends_if true n (port_of c.args.self.now.transfers).current) c.clock-clock.ensures) c.taken.ensures.token c.taken.ensures.resting c.spoken-self-in-None-frame.ensures
 
 pub returns-in_err-frame-in-None-frame : goal.returns-in_err-frame-in-None-frame
 returns-in_err-frame-in-None-frame c = λ w H h.
@@ -64,7 +64,7 @@ returns-then-is_acknowledgment_due c = λ w H h.
     let g = gives_is w H c.args.self.now (stamp_micros c.args.now) c.passed-self.result c.gives_way-gives_way.result h p c.gives_way-gives_way.ensures in
     let b = sym (holds_is w H (stamp_micros c.args.now) c.passed-self.result c.is_held.result p c.is_held.ensures) ∙ c.if-not-is_held.false in
     let f = first (refusal_by w) _ _ c.remove.result (length (acknowledged H)) (due w H) h.acknowledgments
-    (not_empty _ _ refl (due_there _ _ (sym c.is_acknowledgment_due.ensures ∙ c.if-is_acknowledgment_due.true))) c.remove.ensures.value c.remove.ensures.items in
+    (due_there _ _ (sym c.is_acknowledgment_due.ensures ∙ c.if-is_acknowledgment_due.true)) c.remove.ensures.value c.remove.ensures.items in
     taken_due w H c.args.self.now _ (stamp_micros c.args.now) _ c.remove.result c.passed-self.result h p (goes_is w H (stamp_micros c.args.now) c.passed-self.result c.gives_way-gives_way.result false p g (sym c.is_claim_due.ensures ∙ c.if-is_claim_due.false)) b
     (one_acknowledged w H (stamp_micros c.args.now) c.gives_way-gives_way.result _ _ g (sym c.is_acknowledgment_due.ensures ∙ c.if-is_acknowledgment_due.true) f.is) f
     (c.acknowledgment.ensures ∙ ap (λ (v : Who). Some (stamp_micros c.args.now, refusal_by v c.remove.result)) h.who) refl c.acknowledged-self.ensures
