@@ -1,5 +1,5 @@
 -- A message in packets answers a request by the frame that makes it whole, be it to this address or to all.
-use Rattle.std.proofs.Common.{◌≡◌, ◌⊎◌, ℕ, ◌<◌, ◌≤◌, ◌==◌, List, ◌∷◌, length, Option, Some, None, Bool, true, false, ◌&&◌, ◌||◌, if◌then◌else◌, nat_eq, nat_le, refl, sym, ap, ◌∙◌, inl, inr, arith, eq-eqb, eqb-true}
+use Rattle.std.proofs.Common.{◌≡◌, ◌⊎◌, ◌↔◌, IsTrue, ℕ, ◌<◌, ◌≤◌, ◌==◌, List, ◌∷◌, length, Option, Some, None, Bool, true, false, ◌&&◌, ◌||◌, if◌then◌else◌, nat_eq, nat_le, refl, sym, ap, ◌∙◌, inl, inr, arith, eq-eqb, eqb-true}
 use Rattle.std.proofs.lemmas.Bool.{and_parts}
 use Rattle.std.specs.Option.{option_map, option_or}
 use Rattle.j39_frame.specs.Frame.{FrameRecord}
@@ -9,6 +9,7 @@ use Rattle.j39_address.specs.Claim.{claim_of}
 use Rattle.j39_transport.specs.Frames as frames
 use Rattle.j39_transport.specs.Key.{Broadcast as by, is_key}
 use Rattle.j39_transport.specs.Message.{MessageRecord}
+use Rattle.j39_transport.specs.Reception.{ReceptionRecord}
 use Rattle.j39_transport.specs.Receiving.{RecvResult, said_to}
 use Rattle.j39_transport.proofs.FrameFacts.{announcement_facts}
 use Rattle.j39_node.specs.declared.kinds.AskEnding.{AskEnding}
@@ -17,33 +18,25 @@ use Rattle.j39_node.specs.History.{Who, Call, holds, is_smaller}
 use Rattle.j39_node.specs.History.Call.{At}
 use Rattle.j39_node.specs.History.Act.{Hear}
 use Rattle.j39_node.specs.Reception.{Reception, has_place, holder, leaves, left, receiver_at, reception, time_heard, whole, whole_by}
-use Rattle.j39_node.specs.Hearing.{OpenBroadcast, announces, begun, changes, has_room, hearing, hears, is_ignored, left as leaves_it, made_whole, newly, packed, packs, waiting, whole_of}
-use Rattle.j39_node.specs.Asking.{Question, made, made_of, says_to}
+use Rattle.j39_node.specs.Hearing.{OpenBroadcast, announces, begun, changes, has_room, hearing, hears, is_ignored, is_late, is_whole, left as leaves_it, made_whole, newly, packed, packs, waiting, whole_of}
+use Rattle.j39_node.specs.Asking.{Question, comes, in_broadcast, in_session, is_coming, made, made_of, open_ask, says_to, seeks}
 use Rattle.j39_node.proofs.HearingLaws.{whole_of_left}
 use Rattle.j39_node.proofs.ReceptionLaws.{goes_there, not_said, quiet_step}
 
 -- ---- a message of the group, from whom was asked, answers
 
+or_true : (b : Bool) → (b || true) ≡ true
+or_true true = refl
+or_true false = refl
+
+seeks_by : (q : Question) (source group : ℕ) → group ≡ q.group → (q.to ≡ 255) ⊎ (source ≡ q.to) → seeks q (Some (source, group)) ≡ true
+seeks_by q source group g (inl a) = λ i. eq-eqb _ _ g i && (eq-eqb _ _ a i || nat_eq source q.to)
+seeks_by q source group g (inr a) = (λ i. eq-eqb _ _ g i && (nat_eq q.to 255 || eq-eqb _ _ a i)) ∙ or_true (nat_eq q.to 255)
+
 answers_by : (w : Who) (q : Question) (f : FrameRecord) (m : MessageRecord) (o : Option (ℕ × ℕ)) → o ≡ Some (m.source, m.pgn) → m.pgn ≡ q.group
     → (q.to ≡ 255) ⊎ (m.source ≡ q.to) → says_to w q f o ≡ Some Answered
-answers_by w q f m o e g (inl a) =
-    ap (says_to w q f) e
-    ∙ (ap (λ (b : Bool). says_by (b && (nat_eq q.to 255 || nat_eq m.source q.to))) (eq-eqb _ _ g)
-    ∙ ap (λ (b : Bool). says_by (b || nat_eq m.source q.to)) (eq-eqb _ _ a))
-  where
-    says_by : Bool → Option AskEnding
-    says_by b = if b then Some Answered else says_to w q f None
-answers_by w q f m o e g (inr a) =
-    ap (says_to w q f) e
-    ∙ (ap (λ (b : Bool). says_by (b && (nat_eq q.to 255 || nat_eq m.source q.to))) (eq-eqb _ _ g)
-    ∙ (ap (λ (b : Bool). says_by (nat_eq q.to 255 || b)) (eq-eqb _ _ a) ∙ either (nat_eq q.to 255)))
-  where
-    says_by : Bool → Option AskEnding
-    says_by b = if b then Some Answered else says_to w q f None
-
-    either : (b : Bool) → says_by (b || true) ≡ Some Answered
-    either true = refl
-    either false = refl
+answers_by w q f m o e g a =
+    ap (says_to w q f) e ∙ ap (λ (b : Bool). if b then Some Answered else says_to w q f None) (seeks_by q m.source m.pgn g a)
 
 pub transfer_answers : (w : Who) (H : List Call) (when : ℕ) (f : FrameRecord) (m : MessageRecord) (q : Question) → whole w H when f ≡ Some m → m.pgn ≡ q.group
     → (q.to ≡ 255) ⊎ (m.source ≡ q.to) → says_to w q f (made w H when f) ≡ Some Answered
@@ -110,3 +103,59 @@ broadcast_answers w H when f x q l e g a =
     (left (leaves (holder w H) (holder w (At when (Hear f) ∷ H)) (reception w H).session) (reception w H))
     (not_said w.address f (to_another w.address (destination_of f.id) l to_all)) in
     answers_by w q f x.1 (made w H when f) (λ i. option_or (made_of (none i)) (made_of (option_map (λ (y : ℕ × MessageRecord). y.1) (e i)))) g a
+
+-- ---- one that is on its way
+
+seeks_from : (q : Question) (source group : ℕ) → seeks q (Some (source, group)) ≡ true → (group ≡ q.group) × ((q.to ≡ 255) ⊎ (source ≡ q.to))
+seeks_from q source group e = go (nat_eq group q.group) (nat_eq q.to 255) (nat_eq source q.to) refl refl refl e
+  where
+    go : (a b c : Bool) → nat_eq group q.group ≡ a → nat_eq q.to 255 ≡ b → nat_eq source q.to ≡ c → (a && (b || c)) ≡ true
+        → (group ≡ q.group) × ((q.to ≡ 255) ⊎ (source ≡ q.to))
+    go true true c i j k z = (eqb-true _ _ i, inl (eqb-true _ _ j))
+    go true false true i j k z = (eqb-true _ _ i, inr (eqb-true _ _ k))
+    go true false false i j k z = absurd (cc)
+    go false b c i j k z = absurd (cc)
+
+abbrev InSession : Who → List Call → Question → Type 0
+InSession w H q =
+    (r : ReceptionRecord) × ((reception w H).session ≡ Some r) × (r.message.group ≡ q.group) × ((q.to ≡ 255) ⊎ (r.message.source ≡ q.to))
+
+abbrev InBroadcast : Who → List Call → ℕ → Question → Type 0
+InBroadcast w H time q =
+    (x : OpenBroadcast) × (hearing w H ≡ Some x) × (is_whole x ≡ false) × (is_late time x ≡ false) × (x.group ≡ q.group)
+    × ((q.to ≡ 255) ⊎ (x.source ≡ q.to))
+
+pub comes_means : (w : Who) (H : List Call) (time : ℕ) (q : Question) → open_ask H ≡ Some q → (IsTrue (comes w H time) ↔ (InSession w H q ⊎ InBroadcast w H time q))
+comes_means w H time q o = (
+  λ z. split (seeks q (in_session (reception w H).session)) (seeks q (in_broadcast time (hearing w H))) refl refl
+      (sym (ap (λ (x : Option Question). is_coming x (in_session (reception w H).session) (in_broadcast time (hearing w H))) o) ∙ z),
+  from,
+)
+  where
+    by_session : (s : Option ReceptionRecord) → (reception w H).session ≡ s → seeks q (in_session s) ≡ true → InSession w H q
+    by_session None i e = absurd (cc)
+    by_session (Some r) i e = let s = seeks_from q r.message.source r.message.group e in (r, i, s.0, s.1)
+
+    by_broadcast : (b : Option OpenBroadcast) → hearing w H ≡ b → seeks q (in_broadcast time b) ≡ true → InBroadcast w H time q
+    by_broadcast None i e = absurd (cc)
+    by_broadcast (Some x) i e = go (is_whole x) (is_late time x) refl refl e
+      where
+        go : (a b : Bool) → is_whole x ≡ a → is_late time x ≡ b → seeks q (if a || b then None else Some (x.source, x.group)) ≡ true → InBroadcast w H time q
+        go true b j k e = absurd (cc)
+        go false true j k e = absurd (cc)
+        go false false j k e = let s = seeks_from q x.source x.group e in (x, i, j, k, s.0, s.1)
+
+    split : (a b : Bool) → seeks q (in_session (reception w H).session) ≡ a → seeks q (in_broadcast time (hearing w H)) ≡ b → (a || b) ≡ true → InSession w H q ⊎ InBroadcast w H time q
+    split true b i j z = inl (by_session (reception w H).session refl i)
+    split false true i j z = inr (by_broadcast (hearing w H) refl j)
+    split false false i j z = absurd (cc)
+
+    from : InSession w H q ⊎ InBroadcast w H time q → IsTrue (comes w H time)
+    from (inl (r, i, g, a)) =
+        (λ z. is_coming (o z) (in_session (i z)) (in_broadcast time (hearing w H)))
+        ∙ ap (λ (b : Bool). b || seeks q (in_broadcast time (hearing w H))) (seeks_by q r.message.source r.message.group g a)
+    from (inr (x, i, n, l, g, a)) =
+        (λ z. is_coming (o z) (in_session (reception w H).session) (in_broadcast time (i z)))
+        ∙ ((λ z. seeks q (in_session (reception w H).session) || seeks q (if n z || l z then None else Some (x.source, x.group)))
+        ∙ (ap (λ (b : Bool). seeks q (in_session (reception w H).session) || b) (seeks_by q x.source x.group g a)
+        ∙ or_true (seeks q (in_session (reception w H).session))))

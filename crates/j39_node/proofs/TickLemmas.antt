@@ -1,22 +1,25 @@
 -- When a tick does something.
-use Rattle.std.proofs.Common.{◌≡◌, ◌⊎◌, ℕ, ◌+◌, ◌-◌, ◌<◌, ◌≤◌, ◌==◌, List, [], ◌∷◌, length, min, Option, Some, None, Bool, true, false, not, ◌&&◌, ◌||◌, if◌then◌else◌, nat_lt, refl, sym, ap, ◌∙◌, inl, inr, arith, ltb-true, lt-ltb}
+use Rattle.std.proofs.Common.{◌≡◌, ◌⊎◌, ℕ, ◌+◌, ◌-◌, ◌<◌, ◌≤◌, ◌==◌, List, [], ◌∷◌, length, min, Option, Some, None, Bool, true, false, not, ◌&&◌, ◌||◌, if◌then◌else◌, nat_eq, nat_lt, refl, sym, ap, ◌∙◌, inl, inr, arith, ltb-false, ltb-true, lt-ltb}
+use Rattle.std.specs.Option.{option_map}
 use Rattle.std.proofs.lemmas.Bool.{cond_both}
 use Rattle.j39_transport.specs.Protocol.{broadcast_limit}
 use Rattle.j39_transport.specs.Reception.{ReceptionRecord, Reaction, asks_again, granted_at, grants, limit_of, takes_tick}
 use Rattle.j39_transport.specs.Receiving.{ReceiverRecord, Tick as Ticks, recv_step}
 use Rattle.j39_node.specs.declared.controller.Controller.{Controller}
 use Rattle.j39_node.specs.declared.kinds.AskEnding.{AskEnding}
-use Rattle.j39_node.specs.declared.kinds.AskEnding.TheVariants.{TimedOut}
-use Rattle.j39_node.specs.History.{Who, Call, moment, sent}
+use Rattle.j39_node.specs.declared.kinds.AskEnding.TheVariants.{TimedOut, Withdrawn}
+use Rattle.j39_node.specs.History.{Who, Call, address_after, is_lost, moment, sent}
 use Rattle.j39_node.specs.History.Call.{At, TakeAskEnded}
 use Rattle.j39_node.specs.History.Act.{Hear, Tick}
-use Rattle.j39_node.specs.Reception.{heard_at, later, reception, receiver_at, session_tick, time_heard}
+use Rattle.j39_node.specs.Reception.{heard_at, reception, receiver_at, session_tick, time_heard}
 use Rattle.j39_node.specs.Hearing.{OpenBroadcast, hearing, is_late, is_whole}
-use Rattle.j39_node.specs.Asking.{Question, comes, ended, in_broadcast, in_session, is_coming, is_taken, is_waiting, open_ask, out_at, request_tick, seeks, wait}
+use Rattle.j39_node.specs.Asking.{Question, ask_end, comes, ended, in_broadcast, in_session, is_coming, is_taken, is_waiting, next_ask_ended, open_ask, out_at, request_tick, seeks, wait}
 use Rattle.j39_node.specs.Is.{Is}
 use Rattle.j39_node.specs.Ticks.{next_tick}
 use Rattle.j39_node.specs.Transfers.{sooner}
 use Rattle.j39_node.proofs.AskLaws.{over_told}
+use Rattle.j39_node.proofs.ReceptionLaws.{tick_waits}
+use Rattle.j39_node.proofs.SoundLemmas.{lost_older}
 
 -- a moment before the sooner of two is before each
 before_each : (now : ℕ) (one other : Option ℕ) → ((t : ℕ) → sooner one other ≡ Some t → now < t)
@@ -117,3 +120,41 @@ request_ends w H c now t answer e l is = go (open_ask H) (ended w H) (comes w H 
         by true false false u v y = absurd (cc)
         by true true c u v y = absurd (cc)
         by false b c u v y = absurd (cc)
+
+-- ---- before it none is
+
+not_yet : (last left now : ℕ) → now < last + left → nat_eq (left - (now - last)) 0 ≡ nat_eq left 0
+not_yet last left now l = grind arith
+
+pub none_ends : (w : Who) (H : List Call) (now : ℕ) → heard_at H ≤ now → now < 10000000000000000 → ((t : ℕ) → next_tick w H ≡ Some t → now < t)
+    → in_broadcast (time_heard (At now Tick ∷ H)) (hearing w H) ≡ in_broadcast (time_heard H) (hearing w H) → next_ask_ended w (At now Tick ∷ H) ≡ next_ask_ended w H
+none_ends w H now l m q e =
+    let b = before_both w H now q in
+    (λ i. ask_end (open_ask H) (length (sent H)) (ended w H) (wait H - (now - moment H))
+    (is_coming (open_ask H) (in_session (tick_waits w H now l m b.0 i).session) (e i)) (lost_older (now - moment H) (address_after w H) i))
+    ∙ go (open_ask H) (ended w H) (comes w H (time_heard H)) b.1
+  where
+    lost : Bool
+    lost = is_lost (address_after w H)
+
+    silent : Bool → Bool → Bool → Option AskEnding
+    silent a b d = if a && (b && not d) then Some TimedOut else if lost then Some Withdrawn else None
+
+    same : (a d : Bool) → ((t : ℕ) → out_at (a && not d) (moment H) (wait H) ≡ Some t → now < t) → silent a (nat_eq (wait H - (now - moment H)) 0) d ≡ silent a (nat_eq (wait H) 0) d
+    same false d k = refl
+    same true true k = ap (λ (b : Bool). if b then Some TimedOut else if lost then Some Withdrawn else None) (never (nat_eq (wait H - (now - moment H)) 0) ∙ sym (never (nat_eq (wait H) 0)))
+      where
+        never : (b : Bool) → (b && false) ≡ false
+        never true = refl
+        never false = refl
+    same true false k = ap (λ (b : Bool). silent true b false) (not_yet (moment H) (wait H) now (by (nat_lt (moment H + wait H) 10000000000000000) refl))
+      where
+        by : (c : Bool) → nat_lt (moment H + wait H) 10000000000000000 ≡ c → now < moment H + wait H
+        by true g = k (moment H + wait H) (ap (λ (b : Bool). if b then Some (moment H + wait H) else None) g)
+        by false g = let z = ltb-false _ _ g in omega (arith, z, m)
+
+    go : (o : Option Question) (h : Option AskEnding) (d : Bool) → ((t : ℕ) → out_at (is_waiting o (length (sent H)) h d) (moment H) (wait H) ≡ Some t → now < t)
+        → ask_end o (length (sent H)) h (wait H - (now - moment H)) d lost ≡ ask_end o (length (sent H)) h (wait H) d lost
+    go None h d k = refl
+    go (Some p) (Some x) d k = refl
+    go (Some p) None d k = ap (option_map (λ (x : AskEnding). (let y : ℕ × AskEnding = (p.token, x) in y))) (same (is_taken p H) d k)

@@ -16,7 +16,8 @@ ghost use Rattle.j39_node.specs.History.{Who, Call, accepted, address_after, hol
 ghost use Rattle.j39_node.specs.History.Call.{At, TakeAskEnded};
 ghost use Rattle.j39_node.specs.History.Act.{Ask, Hear, TakeFrame, Tick};
 ghost use Rattle.j39_node.specs.Reception.{reception, time_heard, whole};
-ghost use Rattle.j39_node.specs.Hearing.{made_whole};
+ghost use Rattle.j39_node.specs.Hearing.{OpenBroadcast, hearing, is_late, is_whole, made_whole};
+ghost use Rattle.j39_transport.specs.Reception.{ReceptionRecord};
 ghost use Rattle.j39_node.specs.Asking.{AskedSince, HeardFirst, NoneEnds, Question, RanOut, asks, can_ask, comes, ended, is_request, is_taken, made, next_ask_ended, open_ask, says_to, told_asks, wait};
 ghost use Rattle.j39_node.specs.AskExample.{ask_example};
 ghost use Rattle.j39_node.specs.Example.{two};
@@ -102,13 +103,19 @@ pub fn ask_done_means()
 {}
 
 /// A message in packets, of the group and from whom was asked (from anybody where all were), answers a request by the frame that makes
-/// it whole: one to this address, or a broadcast that is heard, which `announcements_heard` tells.
+/// it whole: one to this address, or a broadcast that is heard, which `announcements_heard` tells. It is coming from its begin on: while
+/// its session is open, or the broadcast isn't whole, nor late.
 pub fn packets_answer()
     ensures transfer { (w : Who) (H : List Call) (now : ℕ) (f : FrameRecord) (m : MessageRecord) (q : Question) → whole w H now f ≡ Some m
         → m.pgn ≡ q.group → (q.to ≡ global_address) ⊎ (m.source ≡ q.to) → says_to w q f (made w H now f) ≡ Some ending.Answered }
     ensures broadcast { (w : Who) (H : List Call) (now : ℕ) (f : FrameRecord) (x : ℕ × MessageRecord) (q : Question) → IsAddress w.address
         → made_whole w H now f ≡ Some x → x.1.pgn ≡ q.group → (q.to ≡ global_address) ⊎ (x.1.source ≡ q.to)
         → says_to w q f (made w H now f) ≡ Some ending.Answered }
+    ensures coming { (w : Who) (H : List Call) (time : ℕ) (q : Question) → open_ask H ≡ Some q → (IsTrue (comes w H time)
+        ↔ (((r : ReceptionRecord) × ((reception w H).session ≡ Some r) × (r.message.group ≡ q.group)
+        × ((q.to ≡ global_address) ⊎ (r.message.source ≡ q.to)))
+        ⊎ ((x : OpenBroadcast) × (hearing w H ≡ Some x) × (is_whole x ≡ false) × (is_late time x ≡ false) × (x.group ≡ q.group)
+        × ((q.to ≡ global_address) ⊎ (x.source ≡ q.to))))) }
 {}
 
 /// A frame of who wasn't asked, unless all were, says nothing to a request, and neither does one that goes to another address. What says

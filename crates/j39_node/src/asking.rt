@@ -153,11 +153,7 @@ impl Asking {
     }
 
     /// Whether an answer to the open request is on its way, in the session or the broadcast of this source and group.
-    pub(crate) fn is_coming(
-        &self,
-        session: Option<(u8, u32)>,
-        broadcast: Option<(u8, u32)>,
-    ) -> bool
+    pub(crate) fn is_coming(&self, session: Option<(u8, u32)>, broadcast: Option<(u8, u32)>) -> bool
         ensures { result ≡ is_coming (option_map (λ x. x.question) (asking_of self.now)) session broadcast }
     {
         match &self.current {

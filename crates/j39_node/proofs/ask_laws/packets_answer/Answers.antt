@@ -6,3 +6,6 @@ returns-clause-transfer c = law.transfer_answers
 
 pub returns-clause-broadcast : goal.returns-clause-broadcast
 returns-clause-broadcast c = law.broadcast_answers
+
+pub returns-clause-coming : goal.returns-clause-coming
+returns-clause-coming c = law.comes_means
