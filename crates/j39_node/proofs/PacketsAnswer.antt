@@ -12,7 +12,6 @@ use Rattle.j39_transport.specs.Message.{MessageRecord}
 use Rattle.j39_transport.specs.Reception.{ReceptionRecord}
 use Rattle.j39_transport.specs.Receiving.{RecvResult, said_to}
 use Rattle.j39_transport.proofs.FrameFacts.{announcement_facts}
-use Rattle.j39_node.specs.declared.kinds.AskEnding.{AskEnding}
 use Rattle.j39_node.specs.declared.kinds.AskEnding.TheVariants.{Answered}
 use Rattle.j39_node.specs.History.{Who, Call, holds, is_smaller}
 use Rattle.j39_node.specs.History.Call.{At}
