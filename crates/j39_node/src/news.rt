@@ -30,7 +30,7 @@ impl Untold {
     }
 
     /// A frame was heard: it drives away from the address, which was lost before or not; another sent it from the address; it
-    /// was missed, or announces what isn't heard.
+    /// was missed, or a broadcast is by it.
     pub(crate) fn heard(
         self,
         drives_away: bool,
