@@ -118,8 +118,8 @@ passes now s = record s {
 }
 
 -- the address is lost or held, the time, who holds what, and the broadcast that is found
-abbrev hears_with : Who → FrameRecord → Address → Bool → ℕ → (ℕ → Option ℕ) → Option OpenBroadcast → Reception → State → State
-hears_with w f a held time holds found r s = record (passes f.stamp s) {
+abbrev hears_with : Who → ℕ → FrameRecord → Address → Bool → ℕ → (ℕ → Option ℕ) → Option OpenBroadcast → Reception → State → State
+hears_with w when f a held time holds found r s = record (passes when s) {
   address = a;
   owes = s.owes || calls_for_claim w (is_lost s.address) f;
   kept = if is_for_program w held f && nat_lt (length s.kept - length s.got) 16 then s.kept ++ (f.stamp, message_of f) ∷ [] else s.kept;
@@ -129,7 +129,7 @@ hears_with w f a held time holds found r s = record (passes f.stamp s) {
   another = s.another || is_another w held f;
   missed = s.missed || (is_for_program w held f && not (nat_lt (length s.kept - length s.got) 16));
   unheard = s.unheard || is_unheard w time f found;
-  heard_at = f.stamp;
+  heard_at = when;
   time = time;
   holder = holds;
   reception = heard_by w.address (is_smaller w (claim_of f)) held f time r;
@@ -142,10 +142,10 @@ hears_with w f a held time holds found r s = record (passes f.stamp s) {
   transfer = hears_if (is_lost a) (λ b. is_replaced (s.holder b) (holds b)) f (clock (s.age + (when - s.moment))) s.transfer;
 }
 
-abbrev heard : Who → FrameRecord → State → State
-heard w f s =
+abbrev heard : Who → ℕ → FrameRecord → State → State
+heard w when f s =
     let holds : ℕ → Option ℕ = λ b. held_then b (claim_of f) (s.holder b) in
-    hears_with w f (if is_smaller w (claim_of f) then Lost else older (when - s.moment) s.address) (is_held (older (when - s.moment) s.address))
+    hears_with w when f (if is_smaller w (claim_of f) then Lost else older (when - s.moment) s.address) (is_held (older (when - s.moment) s.address))
     (later s.time (when - s.heard_at)) holds (leaves_it (changes s.holder holds s.hearing) s.hearing)
     (left (leaves s.holder holds s.reception.session) s.reception) s
 
@@ -165,7 +165,7 @@ takes_with now f holds s = record (passes now s) {
 }
 
 abbrev next : Who → Call → State → State
-next w (At when (Hear f)) s = heard w f s
+next w (At when (Hear f)) s = heard w when f s
 next w (At now Tick) s = record (passes now s) {
   heard_at = now;
   time = later s.time (now - s.heard_at);
@@ -411,8 +411,8 @@ module _ (w : Who) (f : FrameRecord) (a : IsAside w f) where
   mine : is_smaller w (claim_of f) ≡ false
   mine = ap (is_smaller w) a.claims
 
-  pub aside_is : (H : List Call) → AreAnswered w H → state w (At when (Hear f) ∷ H) ≡ aside w f.stamp (state w H)
-  aside_is H right =
+  pub aside_is : (H : List Call) (when : ℕ) → AreAnswered w H → state w (At when (Hear f) ∷ H) ≡ aside w when (state w H)
+  aside_is H when right =
       λ i. record (state w (At when (Hear f) ∷ H)) {
         address = lives i;
         owes = owes i;
@@ -425,7 +425,7 @@ module _ (w : Who) (f : FrameRecord) (a : IsAside w f) where
         unheard = unheard i;
         holder = λ b. held_then b (a.claims i) (holder w H b);
         reception = receives i;
-        hearing = hearing_laws.strangers w H f a.claims unannounced (inl unpacked) i;
+        hearing = hearing_laws.strangers w H when f a.claims unannounced (inl unpacked) i;
         ended = ends i;
         transfer = open_stays w H when f right a.claims (elsewhere w.address a.not_here) i;
       }
@@ -476,12 +476,12 @@ module _ (w : Who) (f : FrameRecord) (a : IsAside w f) where
 
 -- ---- so no answer tells which it was
 
-pub alike : (w : Who) (later H : List Call) (when : ℕ) (f g : FrameRecord) → IsAside w f → IsAside w g → f.stamp ≡ g.stamp → AreAnswered w (later ++ At when (Hear f) ∷ H)
-    → AreAnswered w (later ++ At next (Hear g) ∷ H)
-alike w later H when f g a b e h =
+pub alike : (w : Who) (later H : List Call) (when : ℕ) (f g : FrameRecord) → IsAside w f → IsAside w g → AreAnswered w (later ++ At when (Hear f) ∷ H)
+    → AreAnswered w (later ++ At when (Hear g) ∷ H)
+alike w later H when f g a b h =
     let right = (before w later (At when (Hear f) ∷ H) h).0 in
-    same_answers w later (At when (Hear f) ∷ H) (At next (Hear g) ∷ H)
-    (aside_is w f a H right ∙ (ap (λ (n : ℕ). aside w n (state w H)) e ∙ sym (aside_is w g b H right))) (λ r. r) h
+    same_answers w later (At when (Hear f) ∷ H) (At when (Hear g) ∷ H)
+    (aside_is w f a H when right ∙ sym (aside_is w g b H when right)) (λ r. r) h
 
 pub timely : (w : Who) (later H : List Call) (when : ℕ) (f : FrameRecord) → IsAside w f → reception w (At when Tick ∷ H) ≡ reception w H → ended w (At when (Hear f) ∷ H) ≡ ended w H
     → (AreAnswered w (later ++ At when (Hear f) ∷ H) ↔ AreAnswered w (later ++ At when Tick ∷ H))
@@ -492,5 +492,5 @@ timely w later H when f a quiet none = (
   where
     same : AreAnswered w H → state w (At when (Hear f) ∷ H) ≡ state w (At when Tick ∷ H)
     same right =
-        (λ i. record (aside_is w f a H right i) { ended = none i })
+        (λ i. record (aside_is w f a H when right i) { ended = none i })
         ∙ λ i. record (state w (At when Tick ∷ H)) { reception = sym quiet i }

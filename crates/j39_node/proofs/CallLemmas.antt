@@ -172,13 +172,13 @@ incoming_heard : (w : Who) (H : List Call) (old : Controller) (when : ℕ) (f : 
 incoming_heard w H old when f table new gone held h knows away stays does =
     does (ap (λ (x : IncomingRecord). x.has_box) h.incoming) (subst (λ (x : IncomingRecord). IsApart x.reception) (sym h.incoming) (tidy w H).apart)
     ∙ (ap (hears gone held when f (holder_in old.holders) (holder_in table)) h.incoming
-    ∙ (ap (λ (b : Bool). with_reception (heard_by w.address gone held f (time_heard (At when (Hear f) ∷ H)) (left b (reception w H))) (incoming_now w H f))
+    ∙ (ap (λ (b : Bool). with_reception (heard_by w.address gone held f (time_heard (At when (Hear f) ∷ H)) (left b (reception w H))) (incoming_now w H when f))
     (leaves_is w old.holders table H (At when (Hear f) ∷ H) (reception w H).session h.holders knows)
     ∙ λ i. with_reception (heard_by w.address (away i) (stays i) f (time_heard (At when (Hear f) ∷ H))
-    (left (leaves (holder w H) (holder w (At when (Hear f) ∷ H)) (reception w H).session) (reception w H))) (incoming_now w H f)))
+    (left (leaves (holder w H) (holder w (At when (Hear f) ∷ H)) (reception w H).session) (reception w H))) (incoming_now w H when f)))
   where
-    incoming_now : Who → List Call → FrameRecord → IncomingRecord
-    incoming_now w H f = record { moment = f.stamp; clock = time_heard (At when (Hear f) ∷ H); own = w.address; has_box = true; reception = reception w H }
+    incoming_now : Who → List Call → ℕ → FrameRecord → IncomingRecord
+    incoming_now w H when f = record { moment = when; clock = time_heard (At when (Hear f) ∷ H); own = w.address; has_box = true; reception = reception w H }
 
 pub transfer_next : (w : Who) (H : List Call) (c : Controller) (now time : ℕ) → Is w H c → time ≡ min (age H + step H now) 18446744073709551615
     → transfer_by (port_of c.transfers).current (clock time) ≡ next_transfer w H now

@@ -163,17 +163,17 @@ module _ (w : Who) (B : List Call) (g k : ℕ) (m : MessageRecord) (few : packet
           (passes g h.running.granted h.running.spent (age (later ++ B)) (waited_in later B) (step (later ++ B) (moment (call ∷ later ++ B))) h.running.sender t)))
 
   -- a frame is heard
-  heard_so : (later : List Call) (f : FrameRecord) (h : Stands later) (lost replaced : Bool) → is_lost (address_after w (At when (Hear f) ∷ later ++ B)) ≡ lost
+  heard_so : (later : List Call) (when : ℕ) (f : FrameRecord) (h : Stands later) (lost replaced : Bool) → is_lost (address_after w (At when (Hear f) ∷ later ++ B)) ≡ lost
       → waited_in later B + step (later ++ B) when ≤ g → (u : Bool) → (is_idle h.running.sender.state || is_running h.running.sender.state) ≡ u → Course later h.running
       → Course (At when (Hear f) ∷ later) (hears lost replaced f (clock_at (later ++ B) when) h.running)
   unfolding send_step
-  heard_so later f h true replaced l p u z c = gone l
-  heard_so later f h false replaced l p u z (over x) = over (over_hears false replaced f (clock_at (later ++ B) when) h.running x)
-  heard_so later f h false replaced l p u z (gone x) = absurd (let y : true ≡ false = sym (lost_heard w (later ++ B) when f x) ∙ l in cc)
-  heard_so later f h false true l p u z (runs e n t) = over (inl refl)
-  heard_so later f h false false l p false z (runs e n t) = over (over_hears false false f (clock_at (later ++ B) when) h.running (inr z))
-  heard_so later f h false false l p true z (runs e n t) =
-      subst (λ (now : ℕ). Course (At when (Hear f) ∷ later) (hears false false f now h.running)) (sym (clock_goes later h f.stamp p t z)) (go (keeps_heard w (later ++ B) when f e))
+  heard_so later when f h true replaced l p u z c = gone l
+  heard_so later when f h false replaced l p u z (over x) = over (over_hears false replaced f (clock_at (later ++ B) when) h.running x)
+  heard_so later when f h false replaced l p u z (gone x) = absurd (let y : true ≡ false = sym (lost_heard w (later ++ B) when f x) ∙ l in cc)
+  heard_so later when f h false true l p u z (runs e n t) = over (inl refl)
+  heard_so later when f h false false l p false z (runs e n t) = over (over_hears false false f (clock_at (later ++ B) when) h.running (inr z))
+  heard_so later when f h false false l p true z (runs e n t) =
+      subst (λ (now : ℕ). Course (At when (Hear f) ∷ later) (hears false false f now h.running)) (sym (clock_goes later h when p t z)) (go (keeps_heard w (later ++ B) when f e))
     where
       now : ℕ
       now = age (later ++ B) + step (later ++ B) when
@@ -196,8 +196,8 @@ module _ (w : Who) (B : List Call) (g k : ℕ) (m : MessageRecord) (few : packet
             | inr x ↦ runs y n x
           ])
 
-  hears_one : (f : FrameRecord) (later : List Call) → waited_in later B + step (later ++ B) when ≤ g → Stands later → Stands (At when (Hear f) ∷ later)
-  hears_one f later p h =
+  hears_one : (when : ℕ) (f : FrameRecord) (later : List Call) → waited_in later B + step (later ++ B) when ≤ g → Stands later → Stands (At when (Hear f) ∷ later)
+  hears_one when f later p h =
       let G = later ++ B in
       let l = is_lost (address_after w (At when (Hear f) ∷ G)) in
       let r : ℕ → Bool = λ a. is_replaced (holder w G a) (holder w (At when (Hear f) ∷ G) a) in
@@ -207,7 +207,7 @@ module _ (w : Who) (B : List Call) (g k : ℕ) (m : MessageRecord) (few : packet
         token = hears_token l (r h.running.sender.destination) f (clock_at G when) h.running ∙ h.token;
         message = (hears_same l (r h.running.sender.destination) f (clock_at G when) h.running).0 ∙ h.message;
         aged = ap (λ (n : ℕ). n + step G when) h.aged;
-        course = heard_so later f h l (r h.running.sender.destination) refl p _ refl h.course;
+        course = heard_so later when f h l (r h.running.sender.destination) refl p _ refl h.course;
       }
 
   -- a frame is taken
@@ -324,7 +324,7 @@ module _ (w : Who) (B : List Call) (g k : ℕ) (m : MessageRecord) (few : packet
 
   one_more : (call : Call) (later : List Call) → IsAnswered w (later ++ B) call → tells_transfer call ≡ false
       → waited_in later B + step (later ++ B) (moment (call ∷ later ++ B)) ≤ g → Stands later → Stands (call ∷ later)
-  one_more (At when (Hear f)) later a n p h = hears_one f later p h
+  one_more (At when (Hear f)) later a n p h = hears_one when f later p h
   one_more (At now (TakeFrame (Some f))) later a n p h = takes_one now f later p h
   one_more (At now (TakeFrame None)) later a n p h = takes_no_frame now later a p h
   one_more (At now (Transfer group to bytes (Ok j))) later a n p h =

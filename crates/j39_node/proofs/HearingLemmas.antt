@@ -138,7 +138,7 @@ missed_more true c m e = ap (λ (k : ℕ). min (k + 1) 18446744073709551615) e �
 missed_more false c m e = e
 
 -- what a frame makes of it
-pub record HeardOn (w : Who) (H : List Call) (f : FrameRecord) (u : Bool) (y : HearingRecord) : Type 0 where
+pub record HeardOn (w : Who) (H : List Call) (when : ℕ) (f : FrameRecord) (u : Bool) (y : HearingRecord) : Type 0 where
   pub unheard : u ≡ is_unheard w (time_heard (At when (Hear f) ∷ H)) f (found w H when f)
   pub hearing : y ≡ hearing_after w (At when (Hear f) ∷ H)
 
@@ -147,7 +147,7 @@ pub heard_on : (w : Who) (H : List Call) (when : ℕ) (f : FrameRecord) (old new
     → IfSome x.current (λ z. p ≡ holder_in old z.source) → IfSome x.current (λ z. q ≡ holder_in new z.source) → b ≡ not (is_same p q)
     → m.current ≡ left b x.current → m.missed ≡ x.missed → u ≡ is_unheard w now f m.current
     → y.missed ≡ (if u then min (m.missed + 1) 18446744073709551615 else m.missed) → (IsFit m.current → y.current ≡ hears w now f m.current)
-    → HeardOn w H f u y
+    → HeardOn w H when f u y
 heard_on w H when f old new b u now p q x m y h k l t e1 e2 e3 e4 e5 e6 e7 e8 =
     let G = At when (Hear f) ∷ H in
     let o : x.current ≡ hearing w H = ap (λ (r : HearingRecord). r.current) h in

@@ -66,7 +66,7 @@ module _ (w : Who) (B : List Call) (g k : ℕ) where
       go : Course later → Course (At when (Hear f) ∷ later)
       go (taken l) = taken l
       go (gone e) = gone (lost_heard w (later ++ B) when f e)
-      go (waits e p) = elim (keeps_heard w (later ++ B) when f e) [ inl z ↦ gone z | inr z ↦ waits z (passes later f.stamp p) ]
+      go (waits e p) = elim (keeps_heard w (later ++ B) when f e) [ inl z ↦ gone z | inr z ↦ waits z (passes later when p) ]
   one_more (At now (TakeFrame (Some f))) later a h = record { among = h.among; course = go h.course }
     where
       go : Course later → Course (At now (TakeFrame (Some f)) ∷ later)

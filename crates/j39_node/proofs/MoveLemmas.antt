@@ -224,7 +224,7 @@ now_so So H call s = record { later = []; call = call; earlier = H; is = refl; s
 -- what isn't so of a transfer that begins, and is so after a call where it was before, or where the call says so
 pub record Arises (w : Who) (Q : Running → Type 0) (So : ℕ → MessageRecord → List Call → Call → Type 0) : Type 0 where
   pub begins_not : (token : ℕ) (m : MessageRecord) (to : ℕ) → Q (begun token m to) → ⊥
-  pub by_hearing : (H : List Call) (f : FrameRecord) (t : Running) → AreAnswered w H → open_transfer w H ≡ Some t
+  pub by_hearing : (H : List Call) (when : ℕ) (f : FrameRecord) (t : Running) → AreAnswered w H → open_transfer w H ≡ Some t
       → Q (hears (is_lost (address_after w (At when (Hear f) ∷ H))) (is_replaced (holder w H t.sender.destination) (holder w (At when (Hear f) ∷ H) t.sender.destination)) f (clock_at H when) t)
       → Q t ⊎ So t.sender.destination t.sender.message H (At when (Hear f))
   pub by_sending : (H : List Call) (now : ℕ) (f : FrameRecord) (t : Running) (a : Signal) → AreAnswered w H → open_transfer w H ≡ Some t
@@ -251,7 +251,7 @@ trace_hears w Q So H when f t (Some u) arises right e g q rec =
     let z : hears lost replaced f (clock_at H when) u ≡ t = cc in
     subst (λ (x : Running). Traced So x (At when (Hear f) ∷ H)) z
     (traced_same So (hears lost replaced f (clock_at H when) u) u (At when (Hear f) ∷ H) (hears_same lost replaced f (clock_at H when) u)
-    (elim (arises.by_hearing H f u right e (subst Q (sym z) q)) [
+    (elim (arises.by_hearing H when f u right e (subst Q (sym z) q)) [
       | inl x ↦ later_on (So u.sender.destination u.sender.message) H (At when (Hear f)) refl (rec u e x)
       | inr x ↦ now_so (So u.sender.destination u.sender.message) H (At when (Hear f)) x
     ]))

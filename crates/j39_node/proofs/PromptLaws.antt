@@ -118,8 +118,8 @@ module _ (w : Who) (B : List Call) (g k : ℕ) (m : MessageRecord) where
     pub course : Course later
 
   -- a frame is heard
-  hears_one : (f : FrameRecord) (later : List Call) → Stands later → Stands (At when (Hear f) ∷ later)
-  hears_one f later h = record { broadcast = h.broadcast; course = go h.course }
+  hears_one : (when : ℕ) (f : FrameRecord) (later : List Call) → Stands later → Stands (At when (Hear f) ∷ later)
+  hears_one when f later h = record { broadcast = h.broadcast; course = go h.course }
     where
       go : Course later → Course (At when (Hear f) ∷ later)
       go (over l) = over l
@@ -205,7 +205,7 @@ module _ (w : Who) (B : List Call) (g k : ℕ) (m : MessageRecord) where
 
   one_more : (call : Call) (later : List Call) → IsAnswered w (later ++ B) call → tells_broadcast call ≡ false
       → waited_in later B + step (later ++ B) (moment (call ∷ later ++ B)) ≤ g → Stands later → Stands (call ∷ later)
-  one_more (At when (Hear f)) later a n p h = hears_one f later h
+  one_more (At when (Hear f)) later a n p h = hears_one when f later h
   one_more (At now (TakeFrame (Some f))) later a n p h = takes_one now f later p h
   one_more (At now (TakeFrame None)) later a n p h = takes_no_frame now later a h
   one_more (At now (Broadcast group bytes (Ok j))) later a n p h =

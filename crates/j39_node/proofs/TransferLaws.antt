@@ -466,12 +466,12 @@ done_arises w = record {
       (λ (r : SenderRecord). r.state ≡ sending.Done → t.sender.state ≡ sending.Done) (λ z. done_given_up t.sender 5) (λ z. done_ticked t.sender (clock_at H now)) q);
 }
   where
-    heard : (H : List Call) (f : FrameRecord) (t : Running) (lost replaced : Bool) (now : ℕ) → AreAnswered w H → open_transfer w H ≡ Some t
+    heard : (H : List Call) (when : ℕ) (f : FrameRecord) (t : Running) (lost replaced : Bool) (now : ℕ) → AreAnswered w H → open_transfer w H ≡ Some t
         → (hears lost replaced f now t).sender.state ≡ sending.Done
         → (t.sender.state ≡ sending.Done) ⊎ Acknowledges w t.sender.destination t.sender.message H (At when (Hear f))
-    heard H f t true replaced now right e = λ q. inl q
-    heard H f t false true now right e = λ q. inl q
-    heard H f t false false now right e = cond_both (t.gone || is_spent t) t (listens f now t)
+    heard H when f t true replaced now right e = λ q. inl q
+    heard H when f t false true now right e = λ q. inl q
+    heard H when f t false false now right e = cond_both (t.gone || is_spent t) t (listens f now t)
         (λ (u : Running). u.sender.state ≡ sending.Done → (t.sender.state ≡ sending.Done) ⊎ Acknowledges w t.sender.destination t.sender.message H (At when (Hear f)))
         (λ z q. inl q)
         (λ z q. elim (done_heard t.sender f now q) [
@@ -482,12 +482,12 @@ done_arises w = record {
           )
         ])
 
-    hearing : (H : List Call) (f : FrameRecord) (t : Running) → AreAnswered w H → open_transfer w H ≡ Some t
+    hearing : (H : List Call) (when : ℕ) (f : FrameRecord) (t : Running) → AreAnswered w H → open_transfer w H ≡ Some t
         → (hears (is_lost (address_after w (At when (Hear f) ∷ H))) (is_replaced (holder w H t.sender.destination) (holder w (At when (Hear f) ∷ H) t.sender.destination)) f (clock_at H when) t).sender.state
         ≡ sending.Done
         → (t.sender.state ≡ sending.Done) ⊎ Acknowledges w t.sender.destination t.sender.message H (At when (Hear f))
-    hearing H f t right e q =
-        heard H f t (is_lost (address_after w (At when (Hear f) ∷ H))) (is_replaced (holder w H t.sender.destination) (holder w (At when (Hear f) ∷ H) t.sender.destination)) (clock_at H when) right e q
+    hearing H when f t right e q =
+        heard H when f t (is_lost (address_after w (At when (Hear f) ∷ H))) (is_replaced (holder w H t.sender.destination) (holder w (At when (Hear f) ∷ H) t.sender.destination)) (clock_at H when) right e q
 
 failed_arises : (w : Who) (r : ℕ) → Arises w (λ t. t.sender.state ≡ sending.Failed r) (Aborts w r)
 unfolding new_sender
@@ -497,22 +497,22 @@ failed_arises w r = record {
   by_sending = sending_one;
 }
   where
-    heard : (H : List Call) (f : FrameRecord) (t : Running) (lost replaced : Bool) (now : ℕ) → AreAnswered w H → open_transfer w H ≡ Some t
+    heard : (H : List Call) (when : ℕ) (f : FrameRecord) (t : Running) (lost replaced : Bool) (now : ℕ) → AreAnswered w H → open_transfer w H ≡ Some t
         → (hears lost replaced f now t).sender.state ≡ sending.Failed r
         → (t.sender.state ≡ sending.Failed r) ⊎ Aborts w r t.sender.destination t.sender.message H (At when (Hear f))
-    heard H f t true replaced now right e = λ q. inl q
-    heard H f t false true now right e = λ q. inl q
-    heard H f t false false now right e = cond_both (t.gone || is_spent t) t (listens f now t)
+    heard H when f t true replaced now right e = λ q. inl q
+    heard H when f t false true now right e = λ q. inl q
+    heard H when f t false false now right e = cond_both (t.gone || is_spent t) t (listens f now t)
         (λ (u : Running). u.sender.state ≡ sending.Failed r → (t.sender.state ≡ sending.Failed r) ⊎ Aborts w r t.sender.destination t.sender.message H (At when (Hear f)))
         (λ z q. inl q)
         (λ z q. elim (failed_heard t.sender f now r q) [ inl x ↦ inl x | inr x ↦ inr (said_own w H t f _ right e x) ])
 
-    hearing : (H : List Call) (f : FrameRecord) (t : Running) → AreAnswered w H → open_transfer w H ≡ Some t
+    hearing : (H : List Call) (when : ℕ) (f : FrameRecord) (t : Running) → AreAnswered w H → open_transfer w H ≡ Some t
         → (hears (is_lost (address_after w (At when (Hear f) ∷ H))) (is_replaced (holder w H t.sender.destination) (holder w (At when (Hear f) ∷ H) t.sender.destination)) f (clock_at H when) t).sender.state
         ≡ sending.Failed r
         → (t.sender.state ≡ sending.Failed r) ⊎ Aborts w r t.sender.destination t.sender.message H (At when (Hear f))
-    hearing H f t right e q =
-        heard H f t (is_lost (address_after w (At when (Hear f) ∷ H))) (is_replaced (holder w H t.sender.destination) (holder w (At when (Hear f) ∷ H) t.sender.destination)) (clock_at H when) right e q
+    hearing H when f t right e q =
+        heard H when f t (is_lost (address_after w (At when (Hear f) ∷ H))) (is_replaced (holder w H t.sender.destination) (holder w (At when (Hear f) ∷ H) t.sender.destination)) (clock_at H when) right e q
 
     aborts : (t : Running) (f : FrameRecord) (a : Signal) → message_of f ≡ says t.sender a → a ≡ Abort r t.sender.message.pgn
         → message_of f ≡ abort_move t.sender.destination t.sender.message r
@@ -535,17 +535,17 @@ failed_arises w r = record {
 gone_arises : (w : Who) → Arises w (λ t. t.gone ≡ true) (λ to m. Replaces w to)
 gone_arises w = record {
   begins_not = λ token m to q. absurd (cc);
-  by_hearing = λ H f t right e q.
-      heard H f t (is_lost (address_after w (At when (Hear f) ∷ H))) (is_replaced (holder w H t.sender.destination) (holder w (At when (Hear f) ∷ H) t.sender.destination)) (clock_at H when) refl q;
+  by_hearing = λ H when f t right e q.
+      heard H when f t (is_lost (address_after w (At when (Hear f) ∷ H))) (is_replaced (holder w H t.sender.destination) (holder w (At when (Hear f) ∷ H) t.sender.destination)) (clock_at H when) refl q;
   by_sending = λ H now f t a right e g k q. inl q;
 }
   where
-    heard : (H : List Call) (f : FrameRecord) (t : Running) (lost replaced : Bool) (now : ℕ)
+    heard : (H : List Call) (when : ℕ) (f : FrameRecord) (t : Running) (lost replaced : Bool) (now : ℕ)
         → is_replaced (holder w H t.sender.destination) (holder w (At when (Hear f) ∷ H) t.sender.destination) ≡ replaced → (hears lost replaced f now t).gone ≡ true
         → (t.gone ≡ true) ⊎ Replaces w t.sender.destination H (At when (Hear f))
-    heard H f t true replaced now e = λ q. inl q
-    heard H f t false true now e = λ q. inr e
-    heard H f t false false now e = cond_both (t.gone || is_spent t) t (listens f now t)
+    heard H when f t true replaced now e = λ q. inl q
+    heard H when f t false true now e = λ q. inr e
+    heard H when f t false false now e = cond_both (t.gone || is_spent t) t (listens f now t)
         (λ (u : Running). u.gone ≡ true → (t.gone ≡ true) ⊎ Replaces w t.sender.destination H (At when (Hear f))) (λ z q. inl q) (λ z q. inl q)
 
 of_token : (w : Who) (H : List Call) (c : Controller) (k : ℕ) (e : TransferEnding) (is : Is w (TakeTransferEnded (Some (k, e)) ∷ H) c) (x : Ended w H k e)

@@ -13,7 +13,7 @@ use Rattle.j39_node.specs.declared.kinds.Refused.{Refused}
 use Rattle.j39_node.specs.declared.kinds.Refused.TheVariants.{NoAddress, BadValue, Full}
 use Rattle.j39_node.specs.History.{Who, Call, accepted, address_after, holds, is_acknowledgment, is_claim, is_full, is_lost, is_none, is_sendable, is_session, is_some, sent, step}
 use Rattle.j39_node.specs.History.Call.{At, TakeAskEnded}
-use Rattle.j39_node.specs.History.Act.{Ask, Hear, Tick, TakeFrame, Send, Acknowledge, Broadcast, Transfer}
+use Rattle.j39_node.specs.History.Act.{Ask, Hear, TakeFrame}
 use Rattle.j39_node.specs.Since.{passed_in}
 use Rattle.j39_node.specs.Reception.{whole}
 use Rattle.j39_node.specs.Hearing.{made_whole}

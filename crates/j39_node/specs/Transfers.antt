@@ -15,7 +15,7 @@ use Rattle.j39_node.specs.declared.kinds.Refused.TheVariants.{NoAddress, BadValu
 use Rattle.j39_node.specs.History.{Who, Message, Call, address_after, broadcast_from, can_broadcast, has_packets, held_at, holds, is_held, is_lost, is_some, moment, owes_claim, pause, stamp_at, step}
 use Rattle.j39_node.specs.Reception.{holder, is_move, is_waiting}
 use Rattle.j39_node.specs.History.Call.{At, TakeTransferEnded}
-use Rattle.j39_node.specs.History.Act.{Ask, Hear, Tick as Ticks, TakeFrame, Send, Acknowledge, Broadcast, Transfer}
+use Rattle.j39_node.specs.History.Act.{Hear, TakeFrame, Transfer}
 
 -- what may be transferred: what may be broadcast, to the address of another
 abbrev pub can_transfer : Who → ℕ → ℕ → List ℕ → Bool

@@ -1,11 +1,10 @@
 use Rattle.std.proofs.Common.{◌∙◌, ap, refl, not, Bool, ℕ, Option}
-use Rattle.j39_frame.specs.Frame.{FrameRecord}
 use Rattle.j39_frame.specs.Stamp.{stamp_micros}
 use Rattle.j39_node.specs.Is.{asking_of, hears_with, port_of, request_by, who_of, hearing_of, incoming_of, made_by}
 use Rattle.j39_node.specs.Hearing.{whole_of}
 use Rattle.j39_node.specs.Transfers.{hears_if}
 use Rattle.std.specs.Option.{option_map, option_or}
-use Rattle.j39_node.specs.Hold.{lost, passed}
+use Rattle.j39_node.specs.Hold.{lost}
 use Rattle.j39_address.specs.Name.{name_raw}
 use Rattle.j39_address.specs.Claim.{claim_of}
 use Rattle.j39_node.proofs.PortLemmas.{peers_are}
@@ -16,9 +15,9 @@ use Rattle.j39_node.proofs.controller.Controller.hear.Goals as goal
 pub returns : goal.returns
 returns c = λ w H h.
     let f = c.args.frame.now in
-    let p = passed_is w H when c.args.self.now.hold c.passed-self.result h.hold
-    (c.passed-self.ensures ∙ ap (λ (g : FrameRecord). passed g.stamp c.args.self.now.hold) c.frame.view_is) in
-    heard_more w H c.args.self.now _ when f c.passed-self.result c.is_held-is_held.result c.is_for_program-wanted.result c.is_lost-is_lost.result
+    let t = stamp_micros c.args.now in
+    let p = passed_is w H t c.args.self.now.hold c.passed-self.result h.hold c.passed-self.ensures in
+    heard_more w H c.args.self.now _ t f c.passed-self.result c.is_held-is_held.result c.is_for_program-wanted.result c.is_lost-is_lost.result
     c.is_driven_away-drives_away.result c.calls_for_claim-calls.result c.is_replaced-is_replaced.result c.hear-unheard.result (option_map request_by c.asked-request.result) h p c.is_held-is_held.ensures c.is_for_program-wanted.ensures
     c.offer.ensures.unread c.offer.ensures.missed (c.is_driven_away-drives_away.ensures ∙ smaller_known w.known c.args.self.now.own (claim_of f)) c.is_lost-is_lost.ensures (c.calls_for_claim-calls.ensures ∙ calls_known w.known c.args.self.now.own c.is_lost-is_lost.result f)
     (c.hear.ensures.waiting ∙ request_known w.known c.args.self.now.own _ (option_map request_by c.asked-request.result) _) (c.hear.ensures.due ∙ refusal_known w.known c.args.self.now.own _ _ (option_map request_by c.asked-request.result) _) (c.asked-request.ensures ∙ asked_known w.known c.args.self.now.own c.is_held-is_held.result f) c.hear-2.ensures.knows
