@@ -17,7 +17,7 @@ use Rattle.j39_node.specs.History.Address.{Lost}
 use Rattle.j39_node.specs.History.Call.{At, TakeAskEnded, TakeEnded, TakeReceived, TakeRequest, TakeNews, TakeBroadcastEnded, ReleaseTransfer, TakeTransferEnded, ReleaseBroadcast}
 use Rattle.j39_node.specs.History.Act.{Ask, Hear, Tick, TakeFrame, Send, Acknowledge, Broadcast, Transfer}
 use Rattle.j39_node.specs.Reception.{Reception, has_place, heard_at, heard_by, held_then, holder, later, leaves, left, none_waits, reception, released_by, taken_by, ticked, time_heard, whole_by}
-use Rattle.j39_node.specs.Hearing.{OpenBroadcast, announces, changes, found, has_room, hearing, is_ignored, hears as hears_it, is_unheard, left as leaves_it, newly, packs, unheard_news, whole_of}
+use Rattle.j39_node.specs.Hearing.{OpenBroadcast, announces, breaks, changes, ends_by, found, hearing, hears as hears_it, in_time, is_out, is_over, is_unheard, left as leaves_it, newly, packs, unheard_news, whole_of}
 use Rattle.j39_node.specs.Transfers.{Resting, Running, age, begun, can_transfer, clock, hears_if, holds_back, is_engaged, is_replaced, joined, open_transfer, rest, resting, rests_after, sends_if, transfer_by, transfer_end, transfers}
 use Rattle.j39_node.specs.Asking.{Question, ask_end, can_ask, end_at, ended, first, has_token, made, is_asking, is_message, made_of, open_ask, question, silent_end, wait}
 use Rattle.j39_transport.specs.Frames as frames
@@ -25,6 +25,7 @@ use Rattle.j39_transport.specs.Key.{Broadcast as by}
 use Rattle.j39_frame.specs.Network.{transport_control_group}
 use Rattle.j39_transport.proofs.FrameFacts.{announcement_facts}
 use Rattle.j39_node.proofs.HearingLaws as hearing_laws
+use Rattle.j39_node.proofs.HearingLemmas.{unchanged, unheard_is}
 use Rattle.j39_node.proofs.PacketsAnswer.{packs_to_all}
 use Rattle.j39_node.proofs.ReceptionLaws.{goes_there, to_others}
 use Rattle.j39_node.proofs.RequestStrangers.{to_another}
@@ -117,9 +118,9 @@ passes now s = record s {
   rest = s.rest - (now - s.moment);
 }
 
--- the address is lost or held, the time, who holds what, and the broadcast that is found
-abbrev hears_with : Who → ℕ → FrameRecord → Address → Bool → ℕ → (ℕ → Option ℕ) → Option OpenBroadcast → Reception → State → State
-hears_with w when f a held time holds found r s = record (passes when s) {
+-- the address is lost or held, the time, who holds what, whether a broadcast ends, and the one that is found
+abbrev hears_with : Who → ℕ → FrameRecord → Address → Bool → ℕ → (ℕ → Option ℕ) → Bool → Option OpenBroadcast → Reception → State → State
+hears_with w when f a held time holds ends found r s = record (passes when s) {
   address = a;
   owes = s.owes || calls_for_claim w (is_lost s.address) f;
   kept = if is_for_program w held f && nat_lt (length s.kept - length s.got) 16 then s.kept ++ (f.stamp, message_of f) ∷ [] else s.kept;
@@ -128,7 +129,7 @@ hears_with w when f a held time holds found r s = record (passes when s) {
   lost = s.lost || (is_smaller w (claim_of f) && not (is_lost s.address));
   another = s.another || is_another w held f;
   missed = s.missed || (is_for_program w held f && not (nat_lt (length s.kept - length s.got) 16));
-  unheard = s.unheard || is_unheard w time f found;
+  unheard = (ends || is_unheard w f found) || s.unheard;
   heard_at = when;
   time = time;
   holder = holds;
@@ -146,7 +147,8 @@ abbrev heard : Who → ℕ → FrameRecord → State → State
 heard w when f s =
     let holds : ℕ → Option ℕ = λ b. held_then b (claim_of f) (s.holder b) in
     hears_with w when f (if is_smaller w (claim_of f) then Lost else older (when - s.moment) s.address) (is_held (older (when - s.moment) s.address))
-    (later s.time (when - s.heard_at)) holds (leaves_it (changes s.holder holds s.hearing) s.hearing)
+    (later s.time (when - s.heard_at)) holds (breaks (is_over s.holder holds (later s.time (when - s.heard_at)) s.hearing) s.hearing)
+    (leaves_it (is_over s.holder holds (later s.time (when - s.heard_at)) s.hearing) s.hearing)
     (left (leaves s.holder holds s.reception.session) s.reception) s
 
 abbrev takes_with : ℕ → FrameRecord → (ℕ → Option ℕ) → State → State
@@ -160,6 +162,7 @@ takes_with now f holds s = record (passes now s) {
   wait = if is_message f && has_token s.ask (length s.sent) then 1250000 else s.wait - (now - s.moment);
   holder = holds;
   reception = taken_by (is_claim f) (is_acknowledgment f) (leaves s.holder holds s.reception.session) s.reception;
+  unheard = (breaks (changes s.holder holds s.hearing) s.hearing || false) || s.unheard;
   hearing = leaves_it (changes s.holder holds s.hearing) s.hearing;
   transfer = sends_if (is_transfer f && none_waits s.reception.replies) (clock (s.age + (now - s.moment))) s.transfer;
 }
@@ -170,6 +173,8 @@ next w (At now Tick) s = record (passes now s) {
   heard_at = now;
   time = later s.time (now - s.heard_at);
   reception = ticked w.address now (later s.time (now - s.heard_at)) s.reception;
+  unheard = (breaks (is_out (later s.time (now - s.heard_at)) s.hearing) s.hearing || false) || s.unheard;
+  hearing = in_time (later s.time (now - s.heard_at)) s.hearing;
 }
 next w (At now (TakeFrame None)) s = passes now s
 next w (At now (TakeFrame (Some f))) s = takes_with now f (λ b. if is_claim f then held_then b (claim_of f) (s.holder b) else s.holder b) s
@@ -333,6 +338,8 @@ abbrev aside : Who → ℕ → State → State
 aside w now s = record (passes now s) {
   heard_at = now;
   time = later s.time (now - s.heard_at);
+  unheard = (breaks (is_out (later s.time (now - s.heard_at)) s.hearing) s.hearing || false) || s.unheard;
+  hearing = in_time (later s.time (now - s.heard_at)) s.hearing;
   ended = first s.ended (silence_of s.ask (length s.sent) (s.wait - (now - s.moment)) (is_lost (older (now - s.moment) s.address)));
 }
 
@@ -451,9 +458,9 @@ module _ (w : Who) (f : FrameRecord) (a : IsAside w f) where
       misses : missed_news w (At when (Hear f) ∷ H) ≡ missed_news w H
       misses = ap (λ (b : Bool). missed_news w H || (b && not (nat_lt (length (kept w H) - length (got H)) 16))) (unwanted held) ∙ no_more (missed_news w H)
 
-      unheard : unheard_news w (At when (Hear f) ∷ H) ≡ unheard_news w H
-      unheard = ap (λ (b : Bool). unheard_news w H || (b && (not (is_ignored w (frames.pgn_named f)) && not (has_room (time_heard (At when (Hear f) ∷ H)) (source_of f.id) (found w H when f))))) unannounced
-          ∙ no_more (unheard_news w H)
+      unheard : unheard_news w (At when (Hear f) ∷ H) ≡ (ends_by w H (At when Tick) || false) || unheard_news w H
+      unheard = λ i. (breaks (unchanged (holder w H) (holder w (At when (Hear f) ∷ H)) (hearing w H) (λ b. unclaimed w H when f b a.claims) i || is_out (time_heard (At when Tick ∷ H)) (hearing w H)) (hearing w H)
+          || unheard_is w f (found w H when f) false false unannounced unpacked i) || unheard_news w H
 
       receives : reception w (At when (Hear f) ∷ H) ≡ reception w H
       receives = to_others w H when f mine (λ r z. unclaimed w H when f r.message.source a.claims) (elsewhere w.address a.not_here)

@@ -271,8 +271,8 @@ impl Controller {
         let is_replaced = is_replaced(before, self.peer());
         let is_left = !is_same(speaker, self.speaker());
         let time = self.incoming.clock;
-        let is_out = self.hearing.is_out(time);
-        let breaks = self.hearing.leave(is_left || is_out);
+        let is_over = self.hearing.is_over(is_left, time);
+        let breaks = self.hearing.leave(is_over);
         let unheard = self.hearing.hear(&self.own, frame, time);
         let broadcast = self.hearing.made(waited);
         let made = transferred.or(broadcast);
@@ -281,7 +281,8 @@ impl Controller {
         let another = self.own.is_another(is_held, frame);
         self.news = self
             .news
-            .heard(drives_away, is_lost, another, misses, breaks || unheard);
+            .heard(drives_away, is_lost, another, misses, unheard);
+        self.news = self.news.with_missed(breaks);
         self.hold = self.hold.heard(drives_away, calls);
         self.transfers
             .hear(self.hold.is_lost(), is_replaced, frame, self.hold.clock());
@@ -296,7 +297,7 @@ impl Controller {
         self.incoming.tick(now);
         let is_out = self.hearing.is_out(self.incoming.clock);
         let breaks = self.hearing.leave(is_out);
-        self.news.missed = breaks || self.news.missed;
+        self.news = self.news.with_missed(breaks);
     }
 
     /// The frame that `take_frame` would give now: for a driver whose queue may be full, which takes it once it lies there.
@@ -334,7 +335,7 @@ impl Controller {
             self.incoming.note(&mut self.holders, &claim);
             let is_left = !is_same(speaker, self.speaker());
             let breaks = self.hearing.leave(is_left);
-            self.news.missed = breaks || self.news.missed;
+            self.news = self.news.with_missed(breaks);
             return Some(claim);
         }
         if !self.hold.is_held() {

@@ -162,9 +162,16 @@ impl Hearing {
         let breaks = is_over && self.is_partial();
         if breaks {
             self.current = None;
-            self.missed = self.missed.saturating_add(1);
+            self.miss();
         }
         breaks
+    }
+
+    /// Its source has another holder, or it is out of time.
+    pub(crate) fn is_over(&self, is_left: bool, time: Stamp) -> bool
+        ensures { result ≡ (is_left || is_out (stamp_micros time) (hearing_of self.now).current) }
+    {
+        is_left || self.is_out(time)
     }
 
     /// More than 750 ms passed since its last packet, or its announcement.
@@ -319,9 +326,15 @@ impl Hearing {
             return breaks;
         }
         if !is_ignored {
-            self.missed = self.missed.saturating_add(1);
+            self.miss();
         }
         !is_ignored
+    }
+
+    fn miss(&mut self)
+        ensures { self.new ≡ record self.old { missed = min (self.old.missed + 1) 18446744073709551615 } }
+    {
+        self.missed = self.missed.saturating_add(1);
     }
 
     /// A packet to all; whether it leaves a gap.

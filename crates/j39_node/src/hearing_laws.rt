@@ -35,7 +35,7 @@ pub fn announcements_heard()
         → IsTrue (is_subscribed w (pgn_named f)) → hearing w (At now (Hear f) ∷ H) ≢ Some (begun (time_heard (At now (Hear f) ∷ H)) f)
         → (x : OpenBroadcast) × (found w H now f ≡ Some x)
         × (IsTrue (is_whole x) ⊎ ((source_of f.id ≢ x.source) × (is_late (time_heard (At now (Hear f) ∷ H)) x ≡ false))) }
-    ensures exact { (w : Who) (H : List Call)
+    ensures exact { (w : Who) (H : List Call) (c : Controller) → Is w H c
         → announced w H ≡ length (whole_broadcasts w H) + unheard w H + more (is_partial (hearing w H)) 0 }
     ensures subscribed { (w : Who) (H : List Call) (now : ℕ) (f : FrameRecord) (x : ℕ × MessageRecord) → made_whole w H now f ≡ Some x
         → IsTrue (is_subscribed w x.1.pgn) × (is_own_group x.1.pgn ≡ false) }
