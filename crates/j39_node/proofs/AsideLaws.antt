@@ -25,11 +25,12 @@ use Rattle.j39_transport.specs.Key.{Broadcast as by}
 use Rattle.j39_frame.specs.Network.{transport_control_group}
 use Rattle.j39_transport.proofs.FrameFacts.{announcement_facts}
 use Rattle.j39_node.proofs.HearingLaws as hearing_laws
+use Rattle.j39_node.proofs.HearingLaws.{unequal}
 use Rattle.j39_node.proofs.HearingLemmas.{unchanged, unheard_is}
 use Rattle.j39_node.proofs.PacketsAnswer.{packs_to_all}
 use Rattle.j39_node.proofs.ReceptionLaws.{goes_there, to_others}
-use Rattle.j39_node.proofs.RequestStrangers.{to_another}
-use Rattle.j39_node.proofs.StrangerLaws.{open_stays, unclaimed}
+use Rattle.j39_node.proofs.RequestStrangers.{and_false, to_another}
+use Rattle.j39_node.proofs.StrangerLaws.{no_more, open_stays, unclaimed}
 use Rattle.j39_node.specs.Is.{AreAnswered, IsAnswered, broadcast_end, control_of, end_of, first_of, long_by, news_of, packet_by, stamped}
 
 -- ---- all that an answer hangs on
@@ -343,21 +344,6 @@ aside w now s = record (passes now s) {
   ended = first s.ended (silence_of s.ask (length s.sent) (s.wait - (now - s.moment)) (is_lost (older (now - s.moment) s.address)));
 }
 
-unequal : (m n : ℕ) → m ≢ n → nat_eq m n ≡ false
-unequal m n h = go (nat_eq m n) refl
-  where
-    go : (b : Bool) → nat_eq m n ≡ b → b ≡ false
-    go true e = absurd (h (eqb-true m n e))
-    go false e = refl
-
-no_more : (b : Bool) → (b || false) ≡ b
-no_more true = refl
-no_more false = refl
-
-never : (b : Bool) → (b && false) ≡ false
-never true = refl
-never false = refl
-
 -- no announcement and no packet to all
 announced_to_all : (f : FrameRecord) → announces f ≡ true → destination_of f.id ≡ Some 255
 unfolding frames.group_of frames.destination_of
@@ -391,15 +377,15 @@ module _ (w : Who) (f : FrameRecord) (a : IsAside w f) where
   uncalled lost =
       (λ i. ((is_smaller w (a.claims i) || is_larger w (a.claims i)) && not lost)
       || (is_some (asked_group f) 60928 && (is_some (a.goes i) 255 || (is_some (a.goes i) w.address && not lost))))
-      ∙ ((λ i. is_some (asked_group f) 60928 && (all i || (here i && not lost))) ∙ never (is_some (asked_group f) 60928))
+      ∙ ((λ i. is_some (asked_group f) 60928 && (all i || (here i && not lost))) ∙ and_false (is_some (asked_group f) 60928))
 
   unwanted : (held : Bool) → is_for_program w held f ≡ false
   unwanted held =
       (λ i. nat_lt (source_of f.id) 254 && ((is_subscribed w (pgn_of f.id) && not (is_own_group (pgn_of f.id) || nat_eq (pgn_of f.id) 59904))
       && (is_none (a.goes i) || (is_some (a.goes i) 255 || (is_some (a.goes i) w.address && held)))))
       ∙ ((λ i. nat_lt (source_of f.id) 254 && ((is_subscribed w (pgn_of f.id) && not (is_own_group (pgn_of f.id) || nat_eq (pgn_of f.id) 59904)) && (all i || (here i && held))))
-      ∙ (ap (λ (b : Bool). nat_lt (source_of f.id) 254 && b) (never (is_subscribed w (pgn_of f.id) && not (is_own_group (pgn_of f.id) || nat_eq (pgn_of f.id) 59904)))
-      ∙ never (nat_lt (source_of f.id) 254)))
+      ∙ (ap (λ (b : Bool). nat_lt (source_of f.id) 254 && b) (and_false (is_subscribed w (pgn_of f.id) && not (is_own_group (pgn_of f.id) || nat_eq (pgn_of f.id) 59904)))
+      ∙ and_false (nat_lt (source_of f.id) 254)))
 
   unasked : (held : Bool) → asked w held f ≡ None
   unasked held = ap (λ (d : Option ℕ). asked_with w held f d (asked_group f)) a.goes ∙ go (asked_group f)
@@ -409,11 +395,11 @@ module _ (w : Who) (f : FrameRecord) (a : IsAside w f) where
       go (Some group) =
           ap (λ (b : Bool). if b then Some (record { source = source_of f.id; destination = a.to; group = group }) else None)
           ((λ i. (held && nat_lt (source_of f.id) 254) && ((nat_lt group 262144 && not (nat_eq group 60928)) && (all i || here i)))
-          ∙ (ap (λ (b : Bool). (held && nat_lt (source_of f.id) 254) && b) (never (nat_lt group 262144 && not (nat_eq group 60928)))
-          ∙ never (held && nat_lt (source_of f.id) 254)))
+          ∙ (ap (λ (b : Bool). (held && nat_lt (source_of f.id) 254) && b) (and_false (nat_lt group 262144 && not (nat_eq group 60928)))
+          ∙ and_false (held && nat_lt (source_of f.id) 254)))
 
   not_mine : (held : Bool) → is_another w held f ≡ false
-  not_mine held = ap (λ (b : Bool). held && (b && not (is_claim f))) (unequal (source_of f.id) w.address a.source) ∙ never held
+  not_mine held = ap (λ (b : Bool). held && (b && not (is_claim f))) (unequal (source_of f.id) w.address a.source) ∙ and_false held
 
   mine : is_smaller w (claim_of f) ≡ false
   mine = ap (is_smaller w) a.claims

@@ -1,7 +1,7 @@
 -- The laws of broadcasts in packets that are heard.
 use Rattle.std.proofs.Common.{◌≡◌, ◌≢◌, ◌⊎◌, ◌↔◌, ℕ, suc, ◌+◌, ◌-◌, ◌*◌, ◌<◌, ◌≤◌, List, [], ◌∷◌, ◌++◌, length, take, drop, slice_index, Option, Some, None, IfSome, Bool, true, false, not, ◌&&◌, ◌||◌, if◌then◌else◌, nat_eq, nat_le, nat_lt, IsTrue, refl, sym, ap, ◌∙◌, subst, inl, inr, arith, append-nil, append_assoc, eq-eqb, eqb-true}
 use Rattle.std.proofs.lemmas.Bool.{leb-true}
-use Rattle.std.proofs.lemmas.List.{take-append-drop}
+use Rattle.std.proofs.lemmas.List.{length-append, take-append-drop}
 use Rattle.j39_frame.specs.Frame.{FrameRecord}
 use Rattle.j39_frame.specs.Identifier.{source_of}
 use Rattle.j39_address.specs.Claim.{Claim, claim_of}
@@ -20,8 +20,8 @@ use Rattle.j39_node.specs.Hearing.{IsFit, IsPartOf, ended, passed, chosen, OpenB
 use Rattle.j39_node.specs.Is.{AreAnswered, HearingRecord, Is}
 use Rattle.j39_node.specs.Reception.{KeepsHolder, frames_heard, has_place, heard_at, held_then, holder, is_same, later, listed, time_heard}
 use Rattle.j39_node.proofs.QueueLemmas.{length_drop}
-use Rattle.j39_node.proofs.ReceptionLaws.{before_moment, after_moment}
-use Rattle.j39_node.proofs.HearingLemmas.{Effect, begins, ends, grows, stays, effect, fit, hearing_same, left_none, same_same, unchanged, length_two, packs_eight, drop_one}
+use Rattle.j39_node.proofs.ReceptionLaws.{after_moment, before_moment, same_is}
+use Rattle.j39_node.proofs.HearingLemmas.{Effect, begins, ends, grows, stays, effect, fit, hearing_same, left_none, same_same, unchanged, packs_eight, drop_one}
 
 -- ---- each once, in order
 
@@ -249,15 +249,11 @@ exact who (At when (Hear f) ∷ H) h =
     let l = left_counts (is_over (holder who H) (holder who G) (time_heard G) (hearing who H)) (hearing who H) in
     let d = heard_counts who (time_heard G) f (found who H when f) _ _ _ (effect who (time_heard G) f (found who H when f)) in
     let k = ap (λ (o : Option (ℕ × MessageRecord)). length (listed (newly o (waiting who G)))) (whole_of_left (is_over (holder who H) (holder who G) (time_heard G) (hearing who H)) (hearing who H)) in
-    let m = length_pairs (whole_broadcasts who H) (listed (made_whole who H when f)) in
+    let m = length-append (whole_broadcasts who H) (listed (made_whole who H when f)) in
     let p = more_is (is_wanted who f) (announced who H) in
     let q = more_is (unheard_by who H (At when (Hear f))) (more (ends_by who H (At when (Hear f))) (unheard who H)) in
     let r = more_is (ends_by who H (At when (Hear f))) (unheard who H) in
     omega (arith, n, l, d, k, m, p, q, r)
-  where
-    length_pairs : (xs ys : List (ℕ × MessageRecord)) → length (xs ++ ys) ≡ length xs + length ys
-    length_pairs [] ys = omega arith
-    length_pairs (x ∷ xs) ys = let e = length_pairs xs ys in omega (arith, e)
 exact who (At now Tick ∷ H) h =
     let n = exact who H h.0 in
     let l = left_counts (is_out (time_heard (At now Tick ∷ H)) (hearing who H)) (hearing who H) in
@@ -340,7 +336,7 @@ wanted_whole who H when f p e = not_ignored who p.1.pgn (go (waiting who H) e)
     go None i = by (hearing who (At when (Hear f) ∷ H)) (wanted who (At when (Hear f) ∷ H)) i
     go (Some q) i = absurd (cc)
 
-unequal : (m n : ℕ) → (m ≢ n) → nat_eq m n ≡ false
+pub unequal : (m n : ℕ) → (m ≢ n) → nat_eq m n ≡ false
 unequal m n h = go (nat_eq m n) refl
   where
     go : (b : Bool) → nat_eq m n ≡ b → b ≡ false
@@ -462,6 +458,17 @@ own_frames who H now f e = sym (ap (λ (r : HearingRecord). r.current) (hearing_
 
 -- ---- of one sender
 
+-- its announcement and the packets that came
+record Came (x : OpenBroadcast) (first : FrameRecord) (packets : List FrameRecord) : Type 0 where
+  pub source : x.source ≡ source_of first.id
+  pub announced : announces first ≡ true
+  pub group : x.group ≡ pgn_named first
+  pub size : x.size ≡ size_named first
+  pub count : length packets ≡ x.count
+  pub numbered : AreNumbered (by x.source) 1 packets
+  pub bytes : joined packets ≡ x.bytes
+  pub few : length x.bytes < x.size + 7
+
 -- an open broadcast, and the calls since its announcement
 record Begun (who : Who) (H : List Call) (x : OpenBroadcast) : Type 0 where
   pub later : List Call
@@ -471,14 +478,7 @@ record Begun (who : Who) (H : List Call) (x : OpenBroadcast) : Type 0 where
   pub is : H ≡ later ++ At at (Hear first) ∷ earlier
   pub packets : List FrameRecord
   pub part : IsPartOf x.source packets (frames_heard later)
-  pub source : x.source ≡ source_of first.id
-  pub announced : announces first ≡ true
-  pub group : x.group ≡ pgn_named first
-  pub size : x.size ≡ size_named first
-  pub count : length packets ≡ x.count
-  pub numbered : AreNumbered (by x.source) 1 packets
-  pub bytes : joined packets ≡ x.bytes
-  pub few : length x.bytes < x.size + 7
+  pub came : Came x first packets
   pub one : KeepsHolder who x.source later (At at (Hear first) ∷ earlier)
 
 -- each that isn't whole, and it stands before a call that leaves the holder of its source
@@ -497,63 +497,24 @@ anew who H now when f e = record {
   is = refl;
   packets = [];
   part = ended;
-  source = refl;
-  announced = e;
-  group = refl;
-  size = refl;
-  count = refl;
-  numbered = tt;
-  bytes = refl;
-  few = omega arith;
+  came = record { source = refl; announced = e; group = refl; size = refl; count = refl; numbered = tt; bytes = refl; few = omega arith };
   one = tt;
 }
 
-keeps_on : (who : Who) (call : Call) (H : List Call) (x : OpenBroadcast) (h : Begun who H x) → holder who (call ∷ H) x.source ≡ holder who H x.source
-    → KeepsHolder who x.source (call ∷ h.later) (At h.at (Hear h.first) ∷ h.earlier)
-keeps_on who call H x h k = (subst (λ (G : List Call). holder who (call ∷ G) x.source ≡ holder who G x.source) h.is k, h.one)
-
--- a call that isn't heard
-rests : (who : Who) (call : Call) (H : List Call) (x : OpenBroadcast) → ((G : List Call) → frames_heard (call ∷ G) ≡ frames_heard G)
-    → holder who (call ∷ H) x.source ≡ holder who H x.source → Begun who H x → Begun who (call ∷ H) x
-rests who call H x quiet k h = record {
+-- a call later
+goes_on : (who : Who) (call : Call) (H : List Call) (x y : OpenBroadcast) (h : Begun who H x) → holder who (call ∷ H) x.source ≡ holder who H x.source → y.source ≡ x.source
+    → (packets : List FrameRecord) → IsPartOf y.source packets (frames_heard (call ∷ h.later)) → Came y h.first packets → Begun who (call ∷ H) y
+goes_on who call H x y h k s packets part came = record {
   later = call ∷ h.later;
   at = h.at;
   first = h.first;
   earlier = h.earlier;
   is = ap (λ G. call ∷ G) h.is;
-  packets = h.packets;
-  part = subst (IsPartOf x.source h.packets) (sym (quiet h.later)) h.part;
-  source = h.source;
-  announced = h.announced;
-  group = h.group;
-  size = h.size;
-  count = h.count;
-  numbered = h.numbered;
-  bytes = h.bytes;
-  few = h.few;
-  one = keeps_on who call H x h k;
-}
-
--- a frame that is ignored
-ignores : (who : Who) (H : List Call) (when : ℕ) (f : FrameRecord) (x : OpenBroadcast) → holder who (At when (Hear f) ∷ H) x.source ≡ holder who H x.source
-    → is_beside x.source x.count f ≡ true → Begun who H x → Begun who (At when (Hear f) ∷ H) x
-ignores who H when f x k b h = record {
-  later = At when (Hear f) ∷ h.later;
-  at = h.at;
-  first = h.first;
-  earlier = h.earlier;
-  is = ap (λ G. At when (Hear f) ∷ G) h.is;
-  packets = h.packets;
-  part = passed f h.packets (frames_heard h.later) (ap (λ (n : ℕ). is_beside x.source n f) h.count ∙ b) h.part;
-  source = h.source;
-  announced = h.announced;
-  group = h.group;
-  size = h.size;
-  count = h.count;
-  numbered = h.numbered;
-  bytes = h.bytes;
-  few = h.few;
-  one = keeps_on who (At when (Hear f)) H x h k;
+  packets = packets;
+  part = part;
+  came = came;
+  one = subst (λ (a : ℕ). KeepsHolder who a (call ∷ h.later) (At h.at (Hear h.first) ∷ h.earlier)) (sym s)
+      (subst (λ (G : List Call). holder who (call ∷ G) x.source ≡ holder who G x.source) h.is k, h.one);
 }
 
 numbered_more : (k : Key) (n : ℕ) (fs : List FrameRecord) (f : FrameRecord) → AreNumbered k n fs → is_packet k f ≡ true → slice_index f.bytes 0 ≡ n + length fs
@@ -565,10 +526,6 @@ joined_more : (fs : List FrameRecord) (f : FrameRecord) → joined (fs ++ f ∷ 
 joined_more [] f = append-nil (drop 1 f.bytes)
 joined_more (x ∷ fs) f = ap (λ z. drop 1 x.bytes ++ z) (joined_more fs f) ∙ sym (append_assoc (drop 1 x.bytes) (joined fs) (drop 1 f.bytes))
 
-length_more : (fs : List FrameRecord) (f : FrameRecord) → length (fs ++ f ∷ []) ≡ suc (length fs)
-length_more [] f = refl
-length_more (x ∷ fs) f = let e = length_more fs f in omega (arith, e)
-
 not_whole : (x : OpenBroadcast) → is_whole x ≡ false → length x.bytes < x.size
 not_whole x e = go x.size (length x.bytes) e
   where
@@ -578,30 +535,17 @@ not_whole x e = go x.size (length x.bytes) e
 -- a packet is appended
 appends : (who : Who) (H : List Call) (when : ℕ) (f : FrameRecord) (x : OpenBroadcast) (now : ℕ) → holder who (At when (Hear f) ∷ H) x.source ≡ holder who H x.source → packs f ≡ true
     → source_of f.id ≡ x.source → slice_index f.bytes 0 ≡ suc x.count → is_whole x ≡ false → Begun who H x → Begun who (At when (Hear f) ∷ H) (grown now f x)
-appends who H when f x now k p s n w h = record {
-  later = At when (Hear f) ∷ h.later;
-  at = h.at;
-  first = h.first;
-  earlier = h.earlier;
-  is = ap (λ G. At when (Hear f) ∷ G) h.is;
-  packets = h.packets ++ f ∷ [];
-  part = chosen f h.packets (frames_heard h.later) h.part;
-  source = h.source;
-  announced = h.announced;
-  group = h.group;
-  size = h.size;
-  count = length_more h.packets f ∙ ap suc h.count;
-  numbered = numbered_more (by x.source) 1 h.packets f h.numbered (subst (λ (a : ℕ). is_packet (by a) f ≡ true) s p) (let c = h.count in omega (arith, n, c));
-  bytes = joined_more h.packets f ∙ ap (λ z. z ++ drop 1 f.bytes) h.bytes;
-  few = (let a = length_two x.bytes (drop 1 f.bytes) in let b = drop_one f.bytes (packs_eight f p) in let c = not_whole x w in omega (arith, a, b, c));
-  one = keeps_on who (At when (Hear f)) H x h k;
-}
-
-same_is : (o p : Option ℕ) → is_same o p ≡ true → p ≡ o
-same_is None None e = refl
-same_is None (Some n) e = absurd (cc)
-same_is (Some m) None e = absurd (cc)
-same_is (Some m) (Some n) e = ap Some (sym (eqb-true m n e))
+appends who H when f x now k p s n w h =
+    goes_on who (At when (Hear f)) H x (grown now f x) h k refl (h.packets ++ f ∷ []) (chosen f h.packets (frames_heard h.later) h.part) (record {
+      source = h.came.source;
+      announced = h.came.announced;
+      group = h.came.group;
+      size = h.came.size;
+      count = (let a = length-append h.packets (f ∷ []) in let c = h.came.count in omega (arith, a, c));
+      numbered = numbered_more (by x.source) 1 h.packets f h.came.numbered (subst (λ (a : ℕ). is_packet (by a) f ≡ true) s p) (let c = h.came.count in omega (arith, n, c));
+      bytes = joined_more h.packets f ∙ ap (λ z. z ++ drop 1 f.bytes) h.came.bytes;
+      few = (let a = length-append x.bytes (drop 1 f.bytes) in let b = drop_one f.bytes (packs_eight f p) in let c = not_whole x w in omega (arith, a, b, c));
+    })
 
 -- one that isn't whole
 not_full : (x : OpenBroadcast) → whole_of (Some x) ≡ None → is_whole x ≡ false
@@ -627,7 +571,8 @@ heard_open who H when now f o y a b h n (grows x e1 e2 e3 e4 e5 e6 e7 e8 e9) =
 heard_open who H when now f o y a b h n (stays x e1 e2 e3 e4) =
     let w = not_full x (sym (ap whole_of e1) ∙ n) in
     let k = open_one who (At when (Hear f)) H x (subst (AreKept who (At when (Hear f)) H) e1 h) w in
-    subst (λ (z : Option OpenBroadcast). IfSome z (Begun who (At when (Hear f) ∷ H))) (sym e4) (ignores who H when f x k.1 (none_of x w e3) k.0)
+    subst (λ (z : Option OpenBroadcast). IfSome z (Begun who (At when (Hear f) ∷ H))) (sym e4) (goes_on who (At when (Hear f)) H x x k.0 k.1 refl k.0.packets
+    (passed f k.0.packets (frames_heard k.0.later) (ap (λ (n : ℕ). is_beside x.source n f) k.0.came.count ∙ none_of x w e3) k.0.part) k.0.came)
   where
     none_of : (x : OpenBroadcast) → is_whole x ≡ false → (is_whole x ≡ true) ⊎ (is_beside x.source x.count f ≡ true) → is_beside x.source x.count f ≡ true
     none_of x w (inl i) = absurd (let z : true ≡ false = sym i ∙ w in cc)
@@ -663,7 +608,7 @@ quiet_more : (who : Who) (call : Call) (H : List Call) (o : Option OpenBroadcast
     → AreKept who call H o → AreBegun who (call ∷ H) o
 quiet_more who call H None quiet h = tt
 quiet_more who call H (Some x) quiet (inl w) = inl w
-quiet_more who call H (Some x) quiet (inr h) = inr (rests who call H x quiet h.1 h.0)
+quiet_more who call H (Some x) quiet (inr h) = inr (goes_on who call H x x h.0 h.1 refl h.0.packets (subst (IsPartOf x.source h.0.packets) (sym (quiet h.0.later)) h.0.part) h.0.came)
 
 -- it isn't over, so its source has the holder that it had
 unchanged_by : (before after : ℕ → Option ℕ) (o : Option OpenBroadcast) → IfSome o (λ x. changes before after o ≡ false → after x.source ≡ before x.source)
@@ -710,14 +655,14 @@ are_begun who (call ∷ H) =
 
 length_taken : (n : ℕ) (xs : List ℕ) → n ≤ length xs → length (take n xs) ≡ n
 length_taken n xs l =
-    let e = ap length (take-append-drop n xs) in let a = length_two (take n xs) (drop n xs) in let b = length_drop n xs in omega (arith, e, a, b, l)
+    let e = ap length (take-append-drop n xs) in let a = length-append (take n xs) (drop n xs) in let b = length_drop n xs in omega (arith, e, a, b, l)
 
 -- all its packets came
 done : (who : Who) (H : List Call) (x : OpenBroadcast) → Begun who H x → is_whole x ≡ true → length x.bytes ≡ 7 * x.count → WasBroadcast who H (message_by x).1
 done who H x h w seven =
     let enough : x.size ≤ length x.bytes = leb-true _ _ w in
     let size : length (take x.size x.bytes) ≡ x.size = length_taken x.size x.bytes enough in
-    let facts = announcement_facts (by (source_of h.first.id)) h.first h.announced in
+    let facts = announcement_facts (by (source_of h.first.id)) h.first h.came.announced in
     record {
       later = h.later;
       at = h.at;
@@ -728,16 +673,16 @@ done who H x h w seven =
       part = h.part;
       one = h.one;
       carries = record {
-        long = (let a = facts.large in let b = h.size in omega (arith, a, b, size));
+        long = (let a = facts.large in let b = h.came.size in omega (arith, a, b, size));
         source = refl;
-        announced = subst (λ (a : ℕ). is_announcement (by a) h.first ≡ true) (sym h.source) h.announced;
-        size = sym h.size ∙ sym size;
-        pgn = sym h.group;
-        count = (let a = facts.count in let b = h.size in let c = h.count in let d = h.few in omega (arith, a, b, c, d, seven, enough));
-        numbered = h.numbered;
+        announced = subst (λ (a : ℕ). is_announcement (by a) h.first ≡ true) (sym h.came.source) h.came.announced;
+        size = sym h.came.size ∙ sym size;
+        pgn = sym h.came.group;
+        count = (let a = facts.count in let b = h.came.size in let c = h.came.count in let d = h.came.few in omega (arith, a, b, c, d, seven, enough));
+        numbered = h.came.numbered;
         padding = drop x.size x.bytes;
-        few = (let d = h.few in let l = length_drop x.size x.bytes in omega (arith, d, l, enough));
-        joined_are = h.bytes ∙ sym (take-append-drop x.size x.bytes);
+        few = (let d = h.came.few in let l = length_drop x.size x.bytes in omega (arith, d, l, enough));
+        joined_are = h.came.bytes ∙ sym (take-append-drop x.size x.bytes);
       };
     }
 
@@ -775,7 +720,7 @@ pub last_makes_whole : (who : Who) (H : List Call) (when : ℕ) (f : FrameRecord
 last_makes_whole who H when f x e g k l m n o p q =
     let y = grown (time_heard (At when (Hear f) ∷ H)) f x in
     let whole : is_whole y ≡ true =
-    enough x.size (length (x.bytes ++ drop 1 f.bytes)) (let a = length_two x.bytes (drop 1 f.bytes) in let b = drop_one f.bytes (packs_eight f k) in omega (arith, a, b, q)) in
+    enough x.size (length (x.bytes ++ drop 1 f.bytes)) (let a = length-append x.bytes (drop 1 f.bytes) in let b = drop_one f.bytes (packs_eight f k) in omega (arith, a, b, q)) in
     let before : waiting who H ≡ None = ap whole_of l ∙ ap (λ (v : Bool). if v then Some (message_by x) else None) m in
     let after : waiting who (At when (Hear f) ∷ H) ≡ Some (message_by y) =
     ap whole_of (next_appended who H when f x e g k l m n o p) ∙ ap (λ (v : Bool). if v then Some (message_by y) else None) whole in

@@ -1,6 +1,7 @@
 -- Broadcasts in packets that are heard, call by call.
 use Rattle.std.proofs.Common.{◌≡◌, ◌⊎◌, ℕ, suc, ◌+◌, ◌*◌, ◌<◌, ◌≤◌, List, [], ◌∷◌, ◌++◌, length, drop, slice_index, min, Option, Some, None, IfSome, Bool, true, false, not, ◌&&◌, ◌||◌, if◌then◌else◌, nat_eq, nat_lt, nat_le, refl, sym, ap, ◌∙◌, subst, inl, inr, arith, eq-eqb, eqb-true}
 use Rattle.std.proofs.lemmas.Bool.{and_parts}
+use Rattle.std.proofs.lemmas.List.{length-append}
 use Rattle.j39_frame.specs.Frame.{FrameRecord}
 use Rattle.j39_frame.specs.Identifier.{source_of}
 use Rattle.j39_address.specs.Claims.{Knows, holder_in}
@@ -201,10 +202,6 @@ pub drop_one : (xs : List ℕ) → length xs ≡ 8 → length (drop 1 xs) ≡ 7
 drop_one [] e = absurd (cc)
 drop_one (x ∷ xs) e = omega (arith, e)
 
-pub length_two : (xs ys : List ℕ) → length (xs ++ ys) ≡ length xs + length ys
-length_two [] ys = omega arith
-length_two (x ∷ xs) ys = let e = length_two xs ys in omega (arith, e)
-
 pub packs_eight : (f : FrameRecord) → packs f ≡ true → length f.bytes ≡ 8
 unfolding is_packet goes
 packs_eight f e = eqb-true _ _ (and_parts _ _ (and_parts _ _ e).1).1
@@ -215,7 +212,7 @@ fit_effect w now f o y a b (ends e1 e2 e3 e4 e5) h = subst IsFit (sym e5) tt
 fit_effect w now f o y a b (grows x e1 e2 e3 e4 e5 e6 e7 e8 e9) h =
     let g = subst IsFit e1 h in
     subst IsFit (sym e9)
-    ((let l = length_two x.bytes (drop 1 f.bytes) in let k = drop_one f.bytes (packs_eight f e2) in let m = g.0 in omega (arith, l, k, m)), g.1)
+    ((let l = length-append x.bytes (drop 1 f.bytes) in let k = drop_one f.bytes (packs_eight f e2) in let m = g.0 in omega (arith, l, k, m)), g.1)
 fit_effect w now f o y a b (stays x e1 e2 e3 e4) h = subst IsFit (sym e4) (subst IsFit e1 h)
 
 pub fit : (w : Who) (H : List Call) → IsFit (hearing w H)

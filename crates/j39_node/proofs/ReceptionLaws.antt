@@ -165,7 +165,7 @@ stays w H call None heard keeps h = tt
 stays w H call (Some r) heard keeps h =
     goes_on w H call r r h refl (keeps r refl) (subst (λ (E : List FrameRecord). IsReceived w.address E r) (sym (heard (h.later ++ At h.at (Hear h.first) ∷ []))) h.stands)
 
-same_is : (o p : Option ℕ) → is_same o p ≡ true → p ≡ o
+pub same_is : (o p : Option ℕ) → is_same o p ≡ true → p ≡ o
 same_is None None e = refl
 same_is None (Some n) e = absurd (cc)
 same_is (Some m) None e = absurd (cc)

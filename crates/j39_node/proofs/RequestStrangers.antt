@@ -17,6 +17,7 @@ use Rattle.j39_node.specs.History.Act.{Hear, Tick}
 use Rattle.j39_node.specs.Reception.{Reception, has_place, holder, leaves, left, reception, time_heard, whole, whole_by}
 use Rattle.j39_node.specs.Hearing.{made_whole}
 use Rattle.j39_node.specs.Asking.{Question, ask_end, end_at, ended, first, is_answer, is_of, is_reply, is_whole, made, made_of, next_ask_ended, open_ask, reaches, said_by, says_to, silent_end, wait}
+use Rattle.j39_node.proofs.HearingLaws.{unequal}
 use Rattle.j39_node.proofs.PacketsAnswer.{made_by_packet, none_whole, packs_to_all}
 use Rattle.j39_node.proofs.ReceptionLaws.{heard_kept, none_delivered, not_said}
 use Rattle.j39_node.proofs.ReceptionLemmas.{Gives}
@@ -58,14 +59,7 @@ made_source w H when f x e = go (whole w H when f) (made_whole w H when f) refl 
 
 -- ---- another says nothing
 
-unequal : (m n : ℕ) → m ≢ n → nat_eq m n ≡ false
-unequal m n h = go (nat_eq m n) refl
-  where
-    go : (b : Bool) → nat_eq m n ≡ b → b ≡ false
-    go true e = absurd (h (eqb-true m n e))
-    go false e = refl
-
-and_false : (b : Bool) → (b && false) ≡ false
+pub and_false : (b : Bool) → (b && false) ≡ false
 and_false true = refl
 and_false false = refl
 

@@ -123,7 +123,7 @@ open_stays w H when f right e n = go (open_transfer w H) refl
         transfer_left w H when f t right i (inr n)
         (ap (is_replaced (holder w H t.sender.destination)) (unclaimed w H when f t.sender.destination e) ∙ same_held (holder w H t.sender.destination))
 
-no_more : (b : Bool) → (b || false) ≡ b
+pub no_more : (b : Bool) → (b || false) ≡ b
 no_more true = refl
 no_more false = refl
 
