@@ -32,6 +32,8 @@ use Rattle.j39_node.proofs.ReceptionLaws.{goes_there, to_others}
 use Rattle.j39_node.proofs.RequestStrangers.{and_false, to_another}
 use Rattle.j39_node.proofs.StrangerLaws.{no_more, open_stays, unclaimed}
 use Rattle.j39_node.specs.Is.{AreAnswered, IsAnswered, broadcast_end, control_of, end_of, first_of, long_by, news_of, packet_by, stamped}
+use Rattle.j39_node.proofs.LawLemmas.{is_false as not_so}
+use Rattle.j39_node.proofs.PromptLaws.{answered_from as before}
 
 -- ---- all that an answer hangs on
 
@@ -324,10 +326,6 @@ same_answers w (call ∷ later) A B e first h = (
   answers w (later ++ B) call (subst (λ (s : State). Answers w s call) (same_on w later A B e) (answered w (later ++ A) call h.1)),
 )
 
-before : (w : Who) (later A : List Call) → AreAnswered w (later ++ A) → AreAnswered w A
-before w [] A h = h
-before w (call ∷ later) A h = before w later A h.0
-
 -- ---- a frame that others exchange
 
 -- time passes, by which a request may end
@@ -352,10 +350,6 @@ announced_to_all f e =
     let group : pgn_of f.id ≡ transport_control_group = facts.pgn in
     let to : ps_of f.id ≡ 255 = facts.destination in
     goes_there f transport_control_group (omega arith) group ∙ ap Some to
-
-not_so : (b : Bool) → (b ≡ true → ⊥) → b ≡ false
-not_so true h = absurd (h refl)
-not_so false h = refl
 
 module _ (w : Who) (f : FrameRecord) (a : IsAside w f) where
   elsewhere : (b : ℕ) → a.to ≢ b → destination_of f.id ≢ Some b

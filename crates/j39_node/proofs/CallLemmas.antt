@@ -41,7 +41,7 @@ use Rattle.j39_node.specs.History.Address.{NotClaimed, Claimed, Lost}
 use Rattle.j39_node.specs.Is.{Is, stamped, next_frame, end_of, answer_to_send, answer_to_acknowledge, hold_after, who_of, posted, received_by, request_by, refusal_by, first_of, offered, counted, LaneRecord, opened, lane_of, lane_after, packet_by, next_control, control_of, next_packet, IncomingRecord, incoming_of, incoming_after, said_by, with_reception, with_replies, hears, answer_to_broadcast, broadcast_end, next_broadcast_ended, long_by, next_long, PortRecord, closed, port_after, port_of, resting_by, running, HearingRecord, hearing_of, news_after, ticks}
 use Rattle.j39_frame.specs.Stamp.{stamp_micros}
 use Rattle.j39_node.specs.Hearing.{IsFit, OpenBroadcast, breaks as breaks_it, hears as hears_it, is_out, is_unheard, left as leaves_it, made_whole, newly, unheard_news, waiting, whole_of}
-use Rattle.j39_node.proofs.HearingLemmas.{always, broken_news, claimed_on, either_news, hearing_same, heard_on, is_hearing, leaves_on, news_same}
+use Rattle.j39_node.proofs.HearingLemmas.{always, broken_news, claimed_on, either_news, hearing_same, heard_on, is_hearing, leaves_on, news_same, missed_one}
 use Rattle.j39_node.proofs.QueueLemmas.{length_one_more, length_map, map_append, length_rest, in_rest, not_in_rest, First, drop_append, length_drop}
 use Rattle.j39_node.proofs.SoundLemmas.{sound, own_get, due_get, due_taken, claim_taken, message_taken, plain_taken, sent_is, acknowledged_is, address_is, frame_by, front_length, held_not_lost, holding_not_lost, lost_older, read, single_taken, claim_single, no_packet, packet_session, reply_taken, packet_taken, packets_is, pause_is, no_packet, no_transfer, transfer_taken, no_move, reply_no_move, is_moved, none_steers}
 use Rattle.j39_node.proofs.FrameLemmas.{at_now}
@@ -598,9 +598,6 @@ kept_rest wanted K unread n x l e =
     go : (b : Bool) → (if b then drop n K ++ x ∷ [] else drop n K) ≡ drop n (if b then K ++ x ∷ [] else K)
     go true = sym (drop_append n K x l)
     go false = refl
-
-missed_one : (m : ℕ) → min (min m 18446744073709551615 + 1) 18446744073709551615 ≡ min (suc m) 18446744073709551615
-missed_one m = omega arith
 
 missed_rest : (wanted : Bool) (K unread : List (ℕ × Message)) (n m c : ℕ) → unread ≡ drop n K → c ≡ min m 18446744073709551615
     → counted wanted unread c ≡ min (if wanted && not (nat_lt (length K - n) 16) then suc m else m) 18446744073709551615
@@ -1192,12 +1189,6 @@ begins w H old new now group bytes x h p answer is e e0 e1 e2 = record {
   hearing = ap (λ c. hearing_of c.hearing) e ∙ h.hearing;
   port = ap (λ c. port_of c.transfers) e ∙ h.port;
 }
-
-pub ended_is : (w : Who) (H : List Call) (c : Controller) (b : Bool) → Is w H c → b ≡ lost c.hold.standing
-    → broadcast_end (lane_of w c.lane).current c.lane.count b ≡ next_broadcast_ended w H
-ended_is w H c b h e =
-    ap (λ (l : LaneRecord). broadcast_end l.current l.count b) h.lane
-    ∙ ap (broadcast_end (open_broadcast w H) (length (packets H))) (e ∙ (ap (λ (k : Hold). lost k.standing) h.hold ∙ lost_is (address_after w H)))
 
 -- ---- transfers
 

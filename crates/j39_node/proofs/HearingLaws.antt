@@ -1,7 +1,8 @@
 -- The laws of broadcasts in packets that are heard.
-use Rattle.std.proofs.Common.{◌≡◌, ◌≢◌, ◌⊎◌, ◌↔◌, ℕ, suc, ◌+◌, ◌-◌, ◌*◌, ◌<◌, ◌≤◌, List, [], ◌∷◌, ◌++◌, length, take, drop, slice_index, Option, Some, None, IfSome, Bool, true, false, not, ◌&&◌, ◌||◌, if◌then◌else◌, nat_eq, nat_le, nat_lt, IsTrue, refl, sym, ap, ◌∙◌, subst, inl, inr, arith, append-nil, append_assoc, eq-eqb, eqb-true}
-use Rattle.std.proofs.lemmas.Bool.{leb-true}
-use Rattle.std.proofs.lemmas.List.{length-append, take-append-drop}
+use Rattle.std.proofs.Common.{◌≡◌, ◌≢◌, ◌⊎◌, ◌↔◌, ℕ, suc, ◌+◌, ◌-◌, ◌*◌, ◌<◌, ◌≤◌, List, [], ◌∷◌, ◌++◌, length, take, drop, slice_index, Option, Some, None, IfSome, Bool, true, false, not, ◌&&◌, ◌||◌, if◌then◌else◌, nat_eq, nat_le, nat_lt, IsTrue, refl, sym, ap, ◌∙◌, subst, inl, inr, arith, append-nil, append_assoc, eq-eqb, eqb-true, lt-ltb}
+use Rattle.std.proofs.lemmas.Bool.{leb-false, leb-true, lt-leb}
+use Rattle.std.proofs.lemmas.Grind.{flat_map-append}
+use Rattle.std.proofs.lemmas.List.{length-append, length-take-le, take-append-drop}
 use Rattle.j39_frame.specs.Frame.{FrameRecord}
 use Rattle.j39_frame.specs.Identifier.{source_of}
 use Rattle.j39_address.specs.Claim.{Claim, claim_of}
@@ -22,6 +23,7 @@ use Rattle.j39_node.specs.Reception.{KeepsHolder, frames_heard, has_place, heard
 use Rattle.j39_node.proofs.QueueLemmas.{length_drop}
 use Rattle.j39_node.proofs.ReceptionLaws.{after_moment, before_moment, same_is}
 use Rattle.j39_node.proofs.HearingLemmas.{Effect, begins, ends, grows, stays, effect, fit, hearing_same, left_none, same_same, unchanged, packs_eight, drop_one}
+use Rattle.j39_node.proofs.FrameLemmas.{le_true, lt_false}
 
 -- ---- each once, in order
 
@@ -47,7 +49,7 @@ whole_is (Some x) p e = (x, refl, go (is_whole x) e)
     go true i = refl
     go false i = absurd (cc)
 
-none_is : (o : Option (ℕ × MessageRecord)) (p : ℕ × MessageRecord) → o ≡ None → o ≡ Some p → ⊥
+pub none_is : (o : Option (ℕ × MessageRecord)) (p : ℕ × MessageRecord) → o ≡ None → o ≡ Some p → ⊥
 none_is o p e g = absurd (let z : None ≡ Some p = sym e ∙ g in cc)
 
 open_none : (x : OpenBroadcast) → is_whole x ≡ false → whole_of (Some x) ≡ None
@@ -116,16 +118,17 @@ module _ (who : Who) (H : List Call) (when : ℕ) (f : FrameRecord) (e : announc
   broken b (Some x) k = ap (λ (v : Bool). if v then None else Some x) k
 
   -- it begins, or finds one that stays, and is counted
-  begins_or : (hearing who G ≡ Some (begun (time_heard G) f))
+  abbrev Outcome : Type 0
+  Outcome = (hearing who G ≡ Some (begun (time_heard G) f))
       ⊎ ((x : OpenBroadcast) × (found who H when f ≡ Some x) × ((is_whole x ≡ true) ⊎ (is_beside x.source x.count f ≡ true)) × (unheard who G ≡ suc (unheard who H)))
+
+  begins_or : Outcome
   begins_or = go (ends_by who H (At when (Hear f))) refl (effect who (time_heard G) f (found who H when f))
     where
       not_for : {T : Type 0} → is_wanted who f ≡ false → T
       not_for k = absurd (let z : true ≡ false = sym is_for ∙ k in cc)
 
-      go : (b : Bool) → ends_by who H (At when (Hear f)) ≡ b → Effect who (time_heard G) f (found who H when f) (is_wanted who f) (is_unheard who f (found who H when f)) (hearing who G)
-          → (hearing who G ≡ Some (begun (time_heard G) f))
-          ⊎ ((x : OpenBroadcast) × (found who H when f ≡ Some x) × ((is_whole x ≡ true) ⊎ (is_beside x.source x.count f ≡ true)) × (unheard who G ≡ suc (unheard who H)))
+      go : (b : Bool) → ends_by who H (At when (Hear f)) ≡ b → Effect who (time_heard G) f (found who H when f) (is_wanted who f) (is_unheard who f (found who H when f)) (hearing who G) → Outcome
       go true i h = inl (ap (hears who (time_heard G) f) (broken _ (hearing who H) i)
           ∙ λ j. if e j then (if for_program j then None else Some (begun (time_heard G) f)) else if packs f then None else None)
       go false i (begins e1 e2 e3 e4 e5 e6 e7) = inl e7
@@ -191,11 +194,8 @@ left_counts b (Some x) = go b (is_whole x) refl
     go true false e = ap (λ (v : Bool). one (not v)) e ∙ more_is true 0
     go false v e = nothing (one (is_partial (Some x)))
 
-small_bytes : (n : ℕ) → 9 ≤ n → nat_le n 0 ≡ false
-small_bytes n l = grind arith
-
 pub begun_open : (now : ℕ) (f : FrameRecord) → announces f ≡ true → is_whole (begun now f) ≡ false
-begun_open now f e = small_bytes _ (announcement_facts (by (source_of f.id)) f e).large
+begun_open now f e = lt-leb _ 0 (let l = (announcement_facts (by (source_of f.id)) f e).large in omega (arith, l))
 
 newly_same : (o : Option (ℕ × MessageRecord)) → length (listed (newly o o)) ≡ 0
 newly_same None = refl
@@ -379,14 +379,16 @@ module _ (who : Who) (H : List Call) (when : ℕ) (f : FrameRecord) where
       λ i. if e i then (if has_room (source_of f.id) (Some x) then opens who now f else Some x) else if p i
       then (if w i || not (eq-eqb _ _ s i) then Some x else if k i then None else if l i then Some (grown now f x) else Some x) else Some x
 
-  at_most : (m n : ℕ) → m ≤ n → nat_le m n ≡ true
-  at_most m n l = grind arith
-
   none_skipped : (n c : ℕ) → n ≡ suc c → nat_lt (suc c) n ≡ false
   none_skipped n c e = grind arith
 
-  skipped : (n c : ℕ) → suc c < n → nat_lt (suc c) n ≡ true
-  skipped n c l = grind arith
+  always : (b : Bool) → (b || true) ≡ true
+  always true = refl
+  always false = refl
+
+  over_ends : (x : OpenBroadcast) → hearing who H ≡ Some x → is_whole x ≡ false → is_over (holder who H) (holder who K) now (Some x) ≡ true → found who H when f ≡ None
+  over_ends x e w l =
+      ap (λ (o : Option OpenBroadcast). left (is_over (holder who H) (holder who K) now o) o) e ∙ λ i. if l i && not (w i) then None else Some x
 
   pub next_appended : (x : OpenBroadcast) → claim_of f ≡ None → announces f ≡ false → IsTrue (packs f) → hearing who H ≡ Some x → is_whole x ≡ false
       → source_of f.id ≡ x.source → is_late now x ≡ false → slice_index f.bytes 0 ≡ suc x.count → hearing who K ≡ Some (grown now f x)
@@ -394,28 +396,24 @@ module _ (who : Who) (H : List Call) (when : ℕ) (f : FrameRecord) where
 
   pub gap_ends : (x : OpenBroadcast) → claim_of f ≡ None → announces f ≡ false → IsTrue (packs f) → hearing who H ≡ Some x → is_whole x ≡ false
       → source_of f.id ≡ x.source → is_late now x ≡ false → suc x.count < slice_index f.bytes 0 → hearing who K ≡ None
-  gap_ends x e g k l m n o p = hears_found x e l o ∙ packed_by x true _ g k m n (skipped _ _ p) refl
+  gap_ends x e g k l m n o p = hears_found x e l o ∙ packed_by x true _ g k m n (lt-ltb _ _ p) refl
 
   pub repeat_ignored : (x : OpenBroadcast) → claim_of f ≡ None → announces f ≡ false → IsTrue (packs f) → hearing who H ≡ Some x → is_whole x ≡ false
       → source_of f.id ≡ x.source → is_late now x ≡ false → slice_index f.bytes 0 ≤ x.count → hearing who K ≡ Some x
   repeat_ignored x e g k l m n o p =
       hears_found x e l o
-      ∙ beside x _ _ _ ((λ i. not (nat_eq (source_of f.id) x.source) || (not (g i) && (not (k i) || at_most _ _ p i))) ∙ always (not (nat_eq (source_of f.id) x.source)))
+      ∙ beside x _ _ _ ((λ i. not (nat_eq (source_of f.id) x.source) || (not (g i) && (not (k i) || le_true _ _ p i))) ∙ always (not (nat_eq (source_of f.id) x.source)))
       (effect who now f (Some x))
-    where
-      always : (b : Bool) → (b || true) ≡ true
-      always true = refl
-      always false = refl
 
   pub late_ends : (x : OpenBroadcast) → hearing who H ≡ Some x → is_whole x ≡ false → IsTrue (is_late now x) → found who H when f ≡ None
-  late_ends x e w l =
-      ap (λ (o : Option OpenBroadcast). left (is_over (holder who H) (holder who K) now o) o) e
-      ∙ ((λ i. if (changes (holder who H) (holder who K) (Some x) || l i) && not (w i) then None else Some x)
-      ∙ go (changes (holder who H) (holder who K) (Some x)))
+  late_ends x e w l = over_ends x e w (ap (λ (b : Bool). changes (holder who H) (holder who K) (Some x) || b) l ∙ always _)
+
+  pub left_ends : (x : OpenBroadcast) → hearing who H ≡ Some x → is_whole x ≡ false → holder who K x.source ≢ holder who H x.source → found who H when f ≡ None
+  left_ends x e w h = over_ends x e w (ap (λ (b : Bool). not b || is_late now x) (other (is_same (holder who H x.source) (holder who K x.source)) refl))
     where
-      go : (b : Bool) → (if (b || true) && true then None else Some x) ≡ None
-      go true = refl
-      go false = refl
+      other : (b : Bool) → is_same (holder who H x.source) (holder who K x.source) ≡ b → is_same (holder who H x.source) (holder who K x.source) ≡ false
+      other true i = absurd (h (same_is _ _ i))
+      other false i = i
 
   pub strangers : claim_of f ≡ None → announces f ≡ false → (packs f ≡ false) ⊎ ((x : OpenBroadcast) → hearing who H ≡ Some x → source_of f.id ≢ x.source)
       → hearing who K ≡ in_time now (hearing who H)
@@ -430,11 +428,7 @@ module _ (who : Who) (H : List Call) (when : ℕ) (f : FrameRecord) where
 
       apart : (x : OpenBroadcast) → hearing who H ≡ Some x → (packs f ≡ false) ⊎ ((x : OpenBroadcast) → hearing who H ≡ Some x → source_of f.id ≢ x.source)
           → is_beside x.source x.count f ≡ true
-      apart x i (inl p) = (λ j. not (nat_eq (source_of f.id) x.source) || (not (g j) && (not (p j) || nat_le (slice_index f.bytes 0) x.count))) ∙ all (not (nat_eq (source_of f.id) x.source))
-        where
-          all : (b : Bool) → (b || true) ≡ true
-          all true = refl
-          all false = refl
+      apart x i (inl p) = (λ j. not (nat_eq (source_of f.id) x.source) || (not (g j) && (not (p j) || nat_le (slice_index f.bytes 0) x.count))) ∙ always (not (nat_eq (source_of f.id) x.source))
       apart x i (inr n) = ap (λ (b : Bool). not b || (not (announces f) && (not (packs f) || nat_le (slice_index f.bytes 0) x.count))) (unequal _ _ (n x i))
 
       go : (o : Option OpenBroadcast) → hearing who H ≡ o → hears who now f (in_time now o) ≡ in_time now o
@@ -522,16 +516,6 @@ numbered_more : (k : Key) (n : ℕ) (fs : List FrameRecord) (f : FrameRecord) �
 numbered_more k n [] f h e g = (e, (omega (arith, g)), tt)
 numbered_more k n (x ∷ fs) f h e g = (h.0, h.1, numbered_more k (n + 1) fs f h.2 e (omega (arith, g)))
 
-joined_more : (fs : List FrameRecord) (f : FrameRecord) → joined (fs ++ f ∷ []) ≡ joined fs ++ drop 1 f.bytes
-joined_more [] f = append-nil (drop 1 f.bytes)
-joined_more (x ∷ fs) f = ap (λ z. drop 1 x.bytes ++ z) (joined_more fs f) ∙ sym (append_assoc (drop 1 x.bytes) (joined fs) (drop 1 f.bytes))
-
-not_whole : (x : OpenBroadcast) → is_whole x ≡ false → length x.bytes < x.size
-not_whole x e = go x.size (length x.bytes) e
-  where
-    go : (m n : ℕ) → nat_le m n ≡ false → n < m
-    go m n i = grind arith
-
 -- a packet is appended
 appends : (who : Who) (H : List Call) (when : ℕ) (f : FrameRecord) (x : OpenBroadcast) (now : ℕ) → holder who (At when (Hear f) ∷ H) x.source ≡ holder who H x.source → packs f ≡ true
     → source_of f.id ≡ x.source → slice_index f.bytes 0 ≡ suc x.count → is_whole x ≡ false → Begun who H x → Begun who (At when (Hear f) ∷ H) (grown now f x)
@@ -543,8 +527,8 @@ appends who H when f x now k p s n w h =
       size = h.came.size;
       count = (let a = length-append h.packets (f ∷ []) in let c = h.came.count in omega (arith, a, c));
       numbered = numbered_more (by x.source) 1 h.packets f h.came.numbered (subst (λ (a : ℕ). is_packet (by a) f ≡ true) s p) (let c = h.came.count in omega (arith, n, c));
-      bytes = joined_more h.packets f ∙ ap (λ z. z ++ drop 1 f.bytes) h.came.bytes;
-      few = (let a = length-append x.bytes (drop 1 f.bytes) in let b = drop_one f.bytes (packs_eight f p) in let c = not_whole x w in omega (arith, a, b, c));
+      bytes = flat_map-append (λ g. drop 1 g.bytes) h.packets (f ∷ []) ∙ ap (λ z. joined h.packets ++ z) (append-nil (drop 1 f.bytes)) ∙ ap (λ z. z ++ drop 1 f.bytes) h.came.bytes;
+      few = (let a = length-append x.bytes (drop 1 f.bytes) in let b = drop_one f.bytes (packs_eight f p) in let c = leb-false _ _ w in omega (arith, a, b, c));
     })
 
 -- one that isn't whole
@@ -653,15 +637,11 @@ are_begun who (call ∷ H) =
     quiet_more who call H (hearing who H) (λ G. refl)
     (subst (AreKept who call H) (left_none (hearing who H)) (left_more who call H false (hearing who H) (same_holders who call H false (hearing who H) (λ a. refl)) (are_begun who H)))
 
-length_taken : (n : ℕ) (xs : List ℕ) → n ≤ length xs → length (take n xs) ≡ n
-length_taken n xs l =
-    let e = ap length (take-append-drop n xs) in let a = length-append (take n xs) (drop n xs) in let b = length_drop n xs in omega (arith, e, a, b, l)
-
 -- all its packets came
 done : (who : Who) (H : List Call) (x : OpenBroadcast) → Begun who H x → is_whole x ≡ true → length x.bytes ≡ 7 * x.count → WasBroadcast who H (message_by x).1
 done who H x h w seven =
     let enough : x.size ≤ length x.bytes = leb-true _ _ w in
-    let size : length (take x.size x.bytes) ≡ x.size = length_taken x.size x.bytes enough in
+    let size : length (take x.size x.bytes) ≡ x.size = length-take-le x.size x.bytes enough in
     let facts = announcement_facts (by (source_of h.first.id)) h.first h.came.announced in
     record {
       later = h.later;
@@ -710,9 +690,6 @@ came who H when f p e = go (waiting who H) refl e
 
 -- ---- what a packet and a claim do
 
-enough : (m n : ℕ) → m ≤ n → nat_le m n ≡ true
-enough m n l = grind arith
-
 pub last_makes_whole : (who : Who) (H : List Call) (when : ℕ) (f : FrameRecord) (x : OpenBroadcast) → claim_of f ≡ None → announces f ≡ false → IsTrue (packs f)
     → hearing who H ≡ Some x → is_whole x ≡ false → source_of f.id ≡ x.source → is_late (time_heard (At when (Hear f) ∷ H)) x ≡ false
     → slice_index f.bytes 0 ≡ suc x.count → x.size ≤ length x.bytes + 7
@@ -720,24 +697,11 @@ pub last_makes_whole : (who : Who) (H : List Call) (when : ℕ) (f : FrameRecord
 last_makes_whole who H when f x e g k l m n o p q =
     let y = grown (time_heard (At when (Hear f) ∷ H)) f x in
     let whole : is_whole y ≡ true =
-    enough x.size (length (x.bytes ++ drop 1 f.bytes)) (let a = length-append x.bytes (drop 1 f.bytes) in let b = drop_one f.bytes (packs_eight f k) in omega (arith, a, b, q)) in
+    le_true x.size (length (x.bytes ++ drop 1 f.bytes)) (let a = length-append x.bytes (drop 1 f.bytes) in let b = drop_one f.bytes (packs_eight f k) in omega (arith, a, b, q)) in
     let before : waiting who H ≡ None = ap whole_of l ∙ ap (λ (v : Bool). if v then Some (message_by x) else None) m in
     let after : waiting who (At when (Hear f) ∷ H) ≡ Some (message_by y) =
     ap whole_of (next_appended who H when f x e g k l m n o p) ∙ ap (λ (v : Bool). if v then Some (message_by y) else None) whole in
     λ i. newly (before i) (after i)
-
-pub left_ends : (who : Who) (H : List Call) (when : ℕ) (f : FrameRecord) (x : OpenBroadcast) → hearing who H ≡ Some x → is_whole x ≡ false
-    → (holder who (At when (Hear f) ∷ H) x.source ≢ holder who H x.source) → found who H when f ≡ None
-left_ends who H when f x e w h =
-    ap (λ (o : Option OpenBroadcast). left (is_over (holder who H) (holder who G) (time_heard G) o) o) e
-    ∙ go (is_same (holder who H x.source) (holder who G x.source)) refl
-  where
-    G : List Call
-    G = At when (Hear f) ∷ H
-
-    go : (b : Bool) → is_same (holder who H x.source) (holder who G x.source) ≡ b → (if (not b || is_late (time_heard G) x) && not (is_whole x) then None else Some x) ≡ None
-    go true i = absurd (h (same_is _ _ i))
-    go false i = ap (λ (v : Bool). if not v then None else Some x) w
 
 -- ---- a tick
 
@@ -746,9 +710,6 @@ pub tick_keeps : (who : Who) (H : List Call) (now : ℕ) → heard_at H ≤ now 
     → hearing who (At now Tick ∷ H) ≡ hearing who H
 tick_keeps who H now l m q = go (hearing who H) q
   where
-    in_limit : (m n : ℕ) → n ≤ m → nat_lt m n ≡ false
-    in_limit m n k = grind arith
-
     go : (o : Option OpenBroadcast) → ((t : ℕ) → late_at o (heard_at H) (time_heard H) ≡ Some t → now < t) → in_time (time_heard (At now Tick ∷ H)) o ≡ o
     go None k = refl
     go (Some x) k = by (is_whole x) refl
@@ -757,7 +718,7 @@ tick_keeps who H now l m q = go (hearing who H) q
         by true w = left_whole _ x w
         by false w =
             ap (λ (b : Bool). left b (Some x))
-            (in_limit _ _ (before_moment (x.time + broadcast_limit) (heard_at H) (time_heard H) now l m
+            (lt_false _ _ (before_moment (x.time + broadcast_limit) (heard_at H) (time_heard H) now l m
             (λ t e. k t (ap (λ (v : Bool). if v then None else stamp_at (heard_at H + (suc (x.time + broadcast_limit) - time_heard H))) w ∙ e))))
 
 -- from it on it is over
@@ -765,9 +726,6 @@ pub tick_ends : (who : Who) (H : List Call) (now t : ℕ) → hearing_tick who H
     → hearing who (At now Tick ∷ H) ≡ None
 tick_ends who H now t e l m = go (hearing who H) e
   where
-    over_limit : (m n : ℕ) → m < n → nat_lt m n ≡ true
-    over_limit m n k = grind arith
-
     go : (o : Option OpenBroadcast) → late_at o (heard_at H) (time_heard H) ≡ Some t → in_time (time_heard (At now Tick ∷ H)) o ≡ None
     go None k = refl
     go (Some x) k = by (is_whole x) refl k
@@ -776,4 +734,4 @@ tick_ends who H now t e l m = go (hearing who H) e
             → in_time (time_heard (At now Tick ∷ H)) (Some x) ≡ None
         by true w i = absurd (cc)
         by false w i =
-            λ j. if over_limit _ _ (after_moment (x.time + broadcast_limit) (heard_at H) (time_heard H) t now i l m) j && not (w j) then None else Some x
+            λ j. if lt-ltb _ _ (after_moment (x.time + broadcast_limit) (heard_at H) (time_heard H) t now i l m) j && not (w j) then None else Some x

@@ -114,7 +114,7 @@ pub is_hearing : (x y : HearingRecord) → x.current ≡ y.current → x.missed 
 is_hearing x y e f =
     ap (λ (o : Option OpenBroadcast). record x { current = o }) e ∙ ap (λ (n : ℕ). record x { current = y.current; missed = n }) f
 
-missed_one : (m : ℕ) → min (min m 18446744073709551615 + 1) 18446744073709551615 ≡ min (suc m) 18446744073709551615
+pub missed_one : (m : ℕ) → min (min m 18446744073709551615 + 1) 18446744073709551615 ≡ min (suc m) 18446744073709551615
 missed_one m = omega arith
 
 missed_more : (b c : Bool) (n m : ℕ) → n ≡ min m 18446744073709551615 → b ≡ c

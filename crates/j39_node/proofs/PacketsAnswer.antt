@@ -19,7 +19,7 @@ use Rattle.j39_node.specs.History.Act.{Hear}
 use Rattle.j39_node.specs.Reception.{Reception, has_place, holder, leaves, left, receiver_at, reception, time_heard, whole, whole_by}
 use Rattle.j39_node.specs.Hearing.{OpenBroadcast, announces, begun, found, grown, hearing, is_over, is_whole as is_full, made_whole, message_by, newly, packs, waiting, whole_of}
 use Rattle.j39_node.specs.Asking.{Question, made, made_of, says_to}
-use Rattle.j39_node.proofs.HearingLaws.{begun_open, whole_is, whole_of_left}
+use Rattle.j39_node.proofs.HearingLaws.{begun_open, whole_is, whole_of_left, none_is as not_both}
 use Rattle.j39_node.proofs.HearingLemmas.{Effect, begins, ends, grows, stays, effect}
 use Rattle.j39_node.proofs.ReceptionLaws.{goes_there, not_said, quiet_step}
 
@@ -53,9 +53,6 @@ transfer_answers w H when f m q e g a =
     (ap (λ (o : Option MessageRecord). option_or (made_of o) (made_of (option_map (λ (x : ℕ × MessageRecord). x.1) (made_whole w H when f)))) e) g a
 
 -- ---- a broadcast is made whole by _ a _ packet to all
-
-not_both : (o : Option (ℕ × MessageRecord)) (p : ℕ × MessageRecord) → o ≡ None → o ≡ Some p → ⊥
-not_both o p e g = absurd (let z : None ≡ Some p = sym e ∙ g in cc)
 
 by_packet : (who : Who) (now : ℕ) (f : FrameRecord) (o y : Option OpenBroadcast) (a b : Bool) (p : ℕ × MessageRecord) → Effect who now f o a b y → whole_of o ≡ None
     → whole_of y ≡ Some p → (packs f ≡ true) × (p.1.source ≡ source_of f.id)

@@ -18,6 +18,7 @@ use Rattle.j39_node.specs.Is.{AreAnswered, PortRecord, port_after}
 use Rattle.j39_node.specs.Transfers.{Resting, is_resting, resting, Running, answer_to_transfer, can_transfer, clock_at, gives_up, hears, hears_if, is_engaged, is_replaced, is_spent, listens, open_transfer, says, sends, sends_if, signal_by, transfer_by, transfers}
 use Rattle.j39_address.specs.Claims.{Knows, holder_in}
 use Rattle.j39_address.specs.declared.claims.Claims.{Claims}
+use Rattle.std.proofs.lemmas.Bool.{and_parts as both}
 
 -- ---- a step keeps message and destination
 
@@ -107,10 +108,6 @@ ported_sends : (w : Who) (b : Bool) (now : ℕ) (o : Option Running) → Ported 
 ported_sends w false now o h = h
 ported_sends w true now None h = h
 ported_sends w true now (Some t) h = between_same w _ t (sends_same now t) h
-
-both : (x y : Bool) → (x && y) ≡ true → (x ≡ true) × (y ≡ true)
-both true y e = (refl, e)
-both false y e = absurd (cc)
 
 not_all : (n : ℕ) → n < 254 → nat_eq n 255 ≡ false
 not_all n e = grind arith

@@ -28,7 +28,8 @@ use Rattle.j39_node.specs.Is.{made_by}
 use Rattle.j39_node.specs.Reception.{CameFromOne, IsApart, KeepsHolder, Reception, time_heard, delivered, frames_heard, got_transfers, has_place, heard_at, heard_by, is_move, held_then, holder, is_same, keeps, later, leaves, left, listed, receiver_at, reception, released_by, replied, reply_from, says, says_by, session_tick, step_at, taken_by, takes, tick_at, ticked, whole, whole_by, without}
 use Rattle.j39_node.proofs.SoundLemmas.{FrameCase, frame_case, sound, own_get, due_get, due_taken, single_taken, packet_taken, claim_taken, is_moved, none_steers, lost_older, lost_claimed}
 use Rattle.j39_node.proofs.SoundLemmas.FrameCase.{claims, acknowledges, replies, sends, packs, transfers}
-use Rattle.j39_node.proofs.ReceptionLemmas.{Acknowledges, Fits, Gives, Tidy, own_after, refused_step, replied_get, taken_is, tame_signal, tame_tick, tick_quiet, tidy, tidy_left}
+use Rattle.j39_node.proofs.ReceptionLemmas.{Acknowledges, Fits, Gives, Tidy, own_after, refused_step, replied_get, taken_is, tame_signal, tame_tick, tick_quiet, tidy, tidy_left, own_ticked as own_kept}
+use Rattle.j39_node.proofs.HearingLemmas.{same_same as same_self}
 
 -- ---- each once, in order
 
@@ -226,10 +227,6 @@ tick_kept own x now = (tame_tick (λ a. a ≡ x.message.source) now (Some x) ref
 tick_rests : (own now : ℕ) → (recv_step (record { own = own; session = None }) Ticks now true).after.session ≡ None
 unfolding recv_step takes_tick
 tick_rests own now = refl
-
-own_kept : (r : ReceiverRecord) (now : ℕ) → (recv_step r Ticks now true).after.own ≡ r.own
-unfolding recv_step
-own_kept r now = refl
 
 -- with no session none is delivered
 pub none_delivered : (r : ReceiverRecord) (f : FrameRecord) (now : ℕ) (found : Bool) → r.session ≡ None → (recv_step r (Heard f) now found).delivers ≡ None
@@ -486,10 +483,6 @@ lost_is_silent w H e = let s = silent w H e in (s.session, s.replies)
 -- ---- frames that are not for a session
 
 -- what no frame changes of who holds an address
-same_self : (o : Option ℕ) → is_same o o ≡ true
-same_self None = refl
-same_self (Some n) = eq-eqb n n refl
-
 never_left : (before after : ℕ → Option ℕ) (o : Option ReceptionRecord) → ((a : ℕ) → after a ≡ before a) → leaves before after o ≡ false
 never_left before after None h = refl
 never_left before after (Some r) h =

@@ -70,7 +70,7 @@ open_same w lost replaced f now t own other kept = ap Some (go lost (replaced t.
     go false false e true = refl
     go false false e false = still
 
-own_source : (w : Who) (H : List Call) (t : Running) → AreAnswered w H → open_transfer w H ≡ Some t → t.sender.message.source ≡ w.address
+pub own_source : (w : Who) (H : List Call) (t : Running) → AreAnswered w H → open_transfer w H ≡ Some t → t.sender.message.source ≡ w.address
 own_source w H t right e = (subst (Ported w) e (ported w H right)).source
 
 transfer_left : (w : Who) (H : List Call) (when : ℕ) (f : FrameRecord) (t : Running) → AreAnswered w H → open_transfer w H ≡ Some t
