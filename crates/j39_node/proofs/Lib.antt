@@ -51,8 +51,6 @@ pub mod AsideLaws
 pub mod MovingLemmas
 -- the laws of a driver that is prompt
 pub mod PromptLaws
--- the moments of ticks
-pub mod TickLemmas
 pub mod RestLaws
 pub mod EndSteps
 pub mod EndLaws

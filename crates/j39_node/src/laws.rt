@@ -27,7 +27,6 @@ ghost use Rattle.j39_transport.specs.Receiving.{said_to};
 ghost use Rattle.j39_transport.specs.Signals.{RequestToSend};
 ghost use Rattle.byteorder.specs.Endian.{little_bytes};
 ghost use Rattle.j39_node.specs.Hearing.{hearing, hearing_tick, unheard_news};
-ghost use Rattle.j39_node.specs.Ticks.{next_tick};
 ghost use Rattle.j39_node.specs.Transfers.{age, next_due, told_transfers, transfers};
 ghost use Rattle.j39_node.specs.Moves.{moves};
 ghost use Rattle.j39_node.specs.Asking.{asks, ended, told_asks};
@@ -373,16 +372,18 @@ pub fn full_refuses()
         } }
 {}
 
-/// Before the moment that `next_tick` tells, a tick says nothing, and ends no session and no broadcast; from the session's moment on one
-/// says a CTS or an abort (its first byte is 17 or 255) to the session's source, and from the broadcast's one ends it.
+/// `next_tick` tells the sooner of two moments. Before the session's a tick says nothing and ends no session; from then on one says a CTS
+/// or an abort (its first byte is 17 or 255) to the session's source. Before the broadcast's a tick leaves what is heard; from then on
+/// one ends the broadcast, and its place is free.
 pub fn ticks_wait()
     ensures waits { (w : Who) (H : List Call) (now : ℕ) → heard_at H ≤ now → now < 10000000000000000
-        → ((t : ℕ) → next_tick w H ≡ Some t → now < t)
-        → (reception w (At now Tick ∷ H) ≡ reception w H) × (hearing w (At now Tick ∷ H) ≡ hearing w H) }
+        → ((t : ℕ) → session_tick w H ≡ Some t → now < t) → reception w (At now Tick ∷ H) ≡ reception w H }
     ensures says { (w : Who) (H : List Call) (now t : ℕ) (r : ReceptionRecord) → session_tick w H ≡ Some t
         → (reception w H).session ≡ Some r → t ≤ now → time_heard H + (t - heard_at H) < 10000000000000000
         → (x : ToSend) × ((slice_get x.bytes 0 ≡ Some 17) ⊎ (slice_get x.bytes 0 ≡ Some 255))
         × ((reception w (At now Tick ∷ H)).replies ≡ replied w.address r.message.source (Some x) (reception w H).replies) }
+    ensures keeps { (w : Who) (H : List Call) (now : ℕ) → heard_at H ≤ now → now < 10000000000000000
+        → ((t : ℕ) → hearing_tick w H ≡ Some t → now < t) → hearing w (At now Tick ∷ H) ≡ hearing w H }
     ensures ends { (w : Who) (H : List Call) (now t : ℕ) → hearing_tick w H ≡ Some t → t ≤ now
         → time_heard H + (t - heard_at H) < 10000000000000000 → hearing w (At now Tick ∷ H) ≡ None }
 {}
