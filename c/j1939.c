@@ -172,8 +172,11 @@ int32_t j1939_listener_feed(j1939_listener *listener, const j1939_frame *frame, 
     return listener && frame && out ? j39_listener_feed(&listener->handle, frame, out) : J1939_NULL;
 }
 
-int32_t j1939_listener_holder(j1939_listener *listener, uint8_t address, uint64_t *name) {
-    return listener && name ? j39_listener_holder(&listener->handle, address, name) : J1939_NULL;
+/* Each call with a const handle hands on a copy of it, since the proved one takes the part out, and puts it back. */
+int32_t j1939_listener_holder(const j1939_listener *listener, uint8_t address, uint64_t *name) {
+    if (!listener || !name) return J1939_NULL;
+    j1939_handle held = listener->handle;
+    return j39_listener_holder(&held, address, name);
 }
 
 int32_t j1939_listener_close(j1939_listener *listener) {
@@ -211,8 +214,10 @@ int32_t j1939_receiver_tick(j1939_receiver *receiver, uint64_t micros, j1939_fra
     return receiver && out ? j39_receiver_tick(&receiver->handle, micros, out) : J1939_NULL;
 }
 
-int32_t j1939_receiver_busy(j1939_receiver *receiver) {
-    return receiver ? j39_receiver_busy(&receiver->handle) : J1939_NULL;
+int32_t j1939_receiver_busy(const j1939_receiver *receiver) {
+    if (!receiver) return J1939_NULL;
+    j1939_handle held = receiver->handle;
+    return j39_receiver_busy(&held);
 }
 
 int32_t j1939_receiver_close(j1939_receiver *receiver) {
@@ -232,8 +237,10 @@ int32_t j1939_sender_on(j1939_sender *sender, const j1939_frame *frame) {
     return sender && frame ? j39_sender_on(&sender->handle, frame) : J1939_NULL;
 }
 
-int32_t j1939_sender_state(j1939_sender *sender, uint8_t *reason) {
-    return sender && reason ? j39_sender_state(&sender->handle, reason) : J1939_NULL;
+int32_t j1939_sender_state(const j1939_sender *sender, uint8_t *reason) {
+    if (!sender || !reason) return J1939_NULL;
+    j1939_handle held = sender->handle;
+    return j39_sender_state(&held, reason);
 }
 
 int32_t j1939_sender_close(j1939_sender *sender) {
@@ -264,40 +271,57 @@ int32_t j1939_controller_tick(j1939_controller *controller, uint64_t micros) {
     return controller ? j39_controller_tick(&controller->handle, micros) : J1939_NULL;
 }
 
-int32_t j1939_controller_next_tick(j1939_controller *controller, uint64_t *due) {
-    return controller && due ? j39_controller_next_tick(&controller->handle, due) : J1939_NULL;
+int32_t j1939_controller_next_tick(const j1939_controller *controller, uint64_t *due) {
+    if (!controller || !due) return J1939_NULL;
+    j1939_handle held = controller->handle;
+    return j39_controller_next_tick(&held, due);
 }
 
 int32_t j1939_controller_take_frame(j1939_controller *controller, uint64_t micros, j1939_frame *out) {
     return controller && out ? j39_controller_take_frame(&controller->handle, micros, out) : J1939_NULL;
 }
 
-int32_t j1939_controller_peek_frame(j1939_controller *controller, uint64_t micros, j1939_frame *out) {
-    return controller && out ? j39_controller_peek_frame(&controller->handle, micros, out) : J1939_NULL;
+int32_t j1939_controller_peek_frame(const j1939_controller *controller, uint64_t micros, j1939_frame *out) {
+    if (!controller || !out) return J1939_NULL;
+    j1939_handle held = controller->handle;
+    return j39_controller_peek_frame(&held, micros, out);
 }
 
-int32_t j1939_controller_claims_request(j1939_controller *controller, uint64_t micros, uint8_t to, j1939_frame *out) {
-    return controller && out ? j39_controller_claims_request(&controller->handle, micros, to, out) : J1939_NULL;
+int32_t j1939_controller_claims_request(const j1939_controller *controller, uint64_t micros, uint8_t to,
+                                        j1939_frame *out) {
+    if (!controller || !out) return J1939_NULL;
+    j1939_handle held = controller->handle;
+    return j39_controller_claims_request(&held, micros, to, out);
 }
 
-int32_t j1939_controller_next_due(j1939_controller *controller, uint64_t *due) {
-    return controller && due ? j39_controller_next_due(&controller->handle, due) : J1939_NULL;
+int32_t j1939_controller_next_due(const j1939_controller *controller, uint64_t *due) {
+    if (!controller || !due) return J1939_NULL;
+    j1939_handle held = controller->handle;
+    return j39_controller_next_due(&held, due);
 }
 
-int32_t j1939_controller_status(j1939_controller *controller, uint8_t *address) {
-    return controller && address ? j39_controller_status(&controller->handle, address) : J1939_NULL;
+int32_t j1939_controller_status(const j1939_controller *controller, uint8_t *address) {
+    if (!controller || !address) return J1939_NULL;
+    j1939_handle held = controller->handle;
+    return j39_controller_status(&held, address);
 }
 
-int32_t j1939_controller_holder(j1939_controller *controller, uint8_t address, uint64_t *name) {
-    return controller && name ? j39_controller_holder(&controller->handle, address, name) : J1939_NULL;
+int32_t j1939_controller_holder(const j1939_controller *controller, uint8_t address, uint64_t *name) {
+    if (!controller || !name) return J1939_NULL;
+    j1939_handle held = controller->handle;
+    return j39_controller_holder(&held, address, name);
 }
 
-int32_t j1939_controller_address_of(j1939_controller *controller, uint64_t name, uint8_t *address) {
-    return controller && address ? j39_controller_address_of(&controller->handle, name, address) : J1939_NULL;
+int32_t j1939_controller_address_of(const j1939_controller *controller, uint64_t name, uint8_t *address) {
+    if (!controller || !address) return J1939_NULL;
+    j1939_handle held = controller->handle;
+    return j39_controller_address_of(&held, name, address);
 }
 
-int32_t j1939_controller_free_address(j1939_controller *controller, uint8_t *address) {
-    return controller && address ? j39_controller_free_address(&controller->handle, address) : J1939_NULL;
+int32_t j1939_controller_free_address(const j1939_controller *controller, uint8_t *address) {
+    if (!controller || !address) return J1939_NULL;
+    j1939_handle held = controller->handle;
+    return j39_controller_free_address(&held, address);
 }
 
 int32_t j1939_controller_move_to(j1939_controller *controller, uint8_t address) {
@@ -339,8 +363,10 @@ int32_t j1939_controller_take_received(j1939_controller *controller, j1939_messa
                : J1939_NULL;
 }
 
-int32_t j1939_controller_missed(j1939_controller *controller, uint64_t *count) {
-    return controller && count ? j39_controller_missed(&controller->handle, count) : J1939_NULL;
+int32_t j1939_controller_missed(const j1939_controller *controller, uint64_t *count) {
+    if (!controller || !count) return J1939_NULL;
+    j1939_handle held = controller->handle;
+    return j39_controller_missed(&held, count);
 }
 
 int32_t j1939_controller_take_request(j1939_controller *controller, j1939_request *request) {

@@ -12,11 +12,18 @@
  * stands in the parameters that it wrote to. A call's answers stand behind its @return; what it doesn't write at one of
  * them is as it was. J1939_NULL comes of each call with a pointer, and isn't named there.
  *
+ * What a call answers, or writes to a field, has a named enum where it is one of several. In a switch over
+ * (enum j1939_news)answer the compiler's -Wswitch finds the one that is forgotten.
+ *
+ * Where two apply. J1939_NULL goes first. A call that opens a handle answers J1939_IN_USE before J1939_BAD_VALUE, and
+ * that before J1939_NO_MEMORY. Each other call answers J1939_BAD_VALUE for a frame, a moment, a group of 2^18 and above
+ * or an acknowledgment out of its range before J1939_NO_PART, and that before all the rest.
+ *
  * Storage. j1939_node, j1939_claims and j1939_broadcast are plain data in your own memory: make them by their .._init.
  * They take no memory besides, need no close, and may be copied. A j1939_controller, a j1939_listener, a
  * j1939_assembler, a j1939_receiver and a j1939_sender are handles: set one to J1939_EMPTY, open it by its .._new,
- * close it by its .._close. What it holds lies on the heap and is the library's. Frames, messages, readings and texts
- * are your own, and are copied.
+ * close it by its .._close. What it holds lies on the heap and is the library's; a call that takes a const handle
+ * changes nothing of it. Frames, messages, readings and texts are your own, and are copied.
  *
  * A j1939_controller is a node, a receiver, a sender and its broadcasts in one. Take the others where you write a loop
  * of your own, or listen only.
@@ -43,8 +50,11 @@
 extern "C" {
 #endif
 
+/** The version of the library that this header is of. */
+#define J1939_VERSION "0.2.0"
+
 /** Why a call did nothing. */
-enum {
+enum j1939_refusal {
     J1939_BAD_VALUE = -1, /**< a number is out of its range */
     J1939_NO_PART = -2,   /**< the handle is empty, or holds another kind of part */
     J1939_NO_MEMORY = -3, /**< memory is refused */
@@ -124,7 +134,7 @@ int32_t j1939_name_compose(const j1939_name_fields *fields, uint64_t *name);
 /* ---- readings (J1939-71) */
 
 /** What a reading is. */
-enum {
+enum j1939_reading_kind {
     J1939_NUMBER = 0,    /**< a number */
     J1939_ON = 1,        /**< a switch that is on */
     J1939_OFF = 2,       /**< a switch that is off */
@@ -220,7 +230,7 @@ typedef struct {
 } j1939_node;
 
 /** How far a node is. */
-enum { J1939_IDLE = 0, J1939_CLAIMING = 1, J1939_HOLDING = 2, J1939_CANNOT = 3 };
+enum j1939_status { J1939_IDLE = 0, J1939_CLAIMING = 1, J1939_HOLDING = 2, J1939_CANNOT = 3 };
 
 /** An idle node of this NAME, to start with this address; J1939_BAD_VALUE for an address above 253.
  * @return 0, J1939_BAD_VALUE */
@@ -293,7 +303,7 @@ int32_t j1939_listener_feed(j1939_listener *listener, const j1939_frame *frame, 
 
 /** Who holds an address, by the claims that it heard: 1 and the NAME, or 0.
  * @return 0, 1, J1939_NO_PART */
-int32_t j1939_listener_holder(j1939_listener *listener, uint8_t address, uint64_t *name);
+int32_t j1939_listener_holder(const j1939_listener *listener, uint8_t address, uint64_t *name);
 
 /** Closes it. Closing an empty one does nothing.
  * @return 0 */
@@ -336,7 +346,7 @@ int32_t j1939_receiver_tick(j1939_receiver *receiver, uint64_t micros, j1939_fra
 
 /** Whether a session is open: 1 or 0.
  * @return 0, 1, J1939_NO_PART */
-int32_t j1939_receiver_busy(j1939_receiver *receiver);
+int32_t j1939_receiver_busy(const j1939_receiver *receiver);
 
 /** Closes it. Closing an empty one does nothing.
  * @return 0 */
@@ -345,7 +355,7 @@ int32_t j1939_receiver_close(j1939_receiver *receiver);
 /* ---- the sending end of directed transfers (J1939-21, 5.10.3) */
 
 /** How far a sender is. */
-enum {
+enum j1939_send_state {
     J1939_SEND_IDLE = 0,    /**< it has sent nothing */
     J1939_SEND_WAITING = 1, /**< it waits for an answer */
     J1939_SEND_SENDING = 2, /**< it has packets to send, one a tick */
@@ -369,7 +379,7 @@ int32_t j1939_sender_on(j1939_sender *sender, const j1939_frame *frame);
 
 /** J1939_SEND_IDLE and so on, and the reason where it is J1939_SEND_FAILED.
  * @return 0 to 4, J1939_NO_PART */
-int32_t j1939_sender_state(j1939_sender *sender, uint8_t *reason);
+int32_t j1939_sender_state(const j1939_sender *sender, uint8_t *reason);
 
 /** Closes it. Closing an empty one does nothing.
  * @return 0 */
@@ -389,9 +399,10 @@ int32_t j1939_sender_close(j1939_sender *sender);
  * What it hands out waits for you: 16 messages of one frame, 16 requests, and one message in packets of each kind. What
  * comes beyond is refused, or told by j1939_controller_missed.
  *
- * A call with a handle that holds no controller answers J1939_NO_PART, but for .._new and .._close. Where a message is
- * not accepted, by J1939_BAD_VALUE for a moment or a group out of range nothing has changed, and else time alone has
- * passed. J1939_NO_ADDRESS comes where no address is held. */
+ * A call with a handle that holds no controller answers J1939_NO_PART, but for .._new and .._close, and where a frame,
+ * a moment, a group or an acknowledgment is out of its range. Where a message is not accepted, by J1939_BAD_VALUE for
+ * one of these nothing has changed, and else time alone has passed. J1939_NO_ADDRESS comes where no address is held,
+ * before each other J1939_BAD_VALUE; J1939_FULL comes last. */
 
 /** Opens a controller of this NAME, that will claim this address, and whose program serves these groups: a request for
  * another group is refused. J1939_BAD_VALUE for an address above 253, more than 16 groups, or one of 2^18 and above.
@@ -421,7 +432,7 @@ int32_t j1939_controller_tick(j1939_controller *controller, uint64_t micros);
 
 /** When the next tick is due, if no frame is heard till then: 1 and the moment, or 0.
  * @return 0, 1, J1939_NO_PART */
-int32_t j1939_controller_next_tick(j1939_controller *controller, uint64_t *due);
+int32_t j1939_controller_next_tick(const j1939_controller *controller, uint64_t *due);
 
 /** Takes the frame that goes out now; by this it counts as sent: 1 where *out goes out, else 0. First go claims, then
  * acknowledgments, what it says as a receiver, messages of one frame, broadcasts, and transfers. The first call claims
@@ -432,36 +443,37 @@ int32_t j1939_controller_take_frame(j1939_controller *controller, uint64_t micro
 /** The frame that .._take_frame would hand out now; nothing changes by it. A driver whose queue may be full takes it
  * once it lies there.
  * @return 0, 1, J1939_BAD_VALUE, J1939_NO_PART */
-int32_t j1939_controller_peek_frame(j1939_controller *controller, uint64_t micros, j1939_frame *out);
+int32_t j1939_controller_peek_frame(const j1939_controller *controller, uint64_t micros, j1939_frame *out);
 
 /** A request for the claims of all (255), or of an address, from the null address: 1 where *out may go at once, else 0:
  * where an address is held, and for 254. It may go at any moment, before the first claim too. What answers it is shown by
  * .._hear like any claim; then .._free_address tells where to move.
  * @return 0, 1, J1939_BAD_VALUE, J1939_NO_PART */
-int32_t j1939_controller_claims_request(j1939_controller *controller, uint64_t micros, uint8_t to, j1939_frame *out);
+int32_t j1939_controller_claims_request(const j1939_controller *controller, uint64_t micros, uint8_t to,
+                                        j1939_frame *out);
 
 /** Before which moment .._take_frame answers 0, if nothing is heard or handed in till then: 1 and the moment, which is
  * that of the last call where a frame can be taken already; or 0. No time passes by .._peek_frame.
  * @return 0, 1, J1939_NO_PART */
-int32_t j1939_controller_next_due(j1939_controller *controller, uint64_t *due);
+int32_t j1939_controller_next_due(const j1939_controller *controller, uint64_t *due);
 
 /** How far it is with its address at the moment of the last call: J1939_IDLE (its first claim wasn't taken),
  * J1939_CLAIMING, J1939_HOLDING, J1939_CANNOT (it was lost), and the address, 254 where there is none.
  * @return 0 to 3, J1939_NO_PART */
-int32_t j1939_controller_status(j1939_controller *controller, uint8_t *address);
+int32_t j1939_controller_status(const j1939_controller *controller, uint8_t *address);
 
 /** Who holds an address, by the claims heard and its own that were taken: 1 and the NAME, or 0.
  * @return 0, 1, J1939_NO_PART */
-int32_t j1939_controller_holder(j1939_controller *controller, uint8_t address, uint64_t *name);
+int32_t j1939_controller_holder(const j1939_controller *controller, uint8_t address, uint64_t *name);
 
 /** The address that a NAME holds, by the same claims: 1 and the address, or 0.
  * @return 0, 1, J1939_NO_PART */
-int32_t j1939_controller_address_of(j1939_controller *controller, uint64_t name, uint8_t *address);
+int32_t j1939_controller_address_of(const j1939_controller *controller, uint64_t name, uint8_t *address);
 
 /** The least address of 128 to 247 that nobody holds, by the same claims: 1 and the address, or 0. A controller that
  * lost its address may move there, if its NAME is arbitrary.
  * @return 0, 1, J1939_NO_PART */
-int32_t j1939_controller_free_address(j1939_controller *controller, uint8_t *address);
+int32_t j1939_controller_free_address(const j1939_controller *controller, uint8_t *address);
 
 /** Begins anew at another address, which it will claim, with what it knows of who holds which, and with nothing else;
  * tokens begin with 0 again. 1 where it does. 0, where nothing changes, for an address above 253, and until all that
@@ -500,7 +512,7 @@ int32_t j1939_controller_transfer(j1939_controller *controller, uint64_t micros,
 int32_t j1939_controller_ask(j1939_controller *controller, uint64_t micros, uint32_t pgn, uint8_t to, uint64_t *token);
 
 /** What ended. */
-enum {
+enum j1939_ended_kind {
     J1939_ENDED_MESSAGE = 1,   /**< a message of one frame */
     J1939_ENDED_BROADCAST = 2, /**< a message in packets to all */
     J1939_ENDED_TRANSFER = 3,  /**< one to an address */
@@ -508,7 +520,7 @@ enum {
 };
 
 /** How it ended. */
-enum {
+enum j1939_ending {
     J1939_ENDED_DONE = 1,         /**< its frames were taken; a transfer was acknowledged; a group came in answer */
     J1939_ENDED_WITHDRAWN = 2,    /**< the address was lost before */
     J1939_ENDED_FAILED = 3,       /**< a transfer was aborted, as detail says: by the receiver for its reason, for 3
@@ -531,7 +543,7 @@ typedef struct {
 int32_t j1939_controller_take_ended(j1939_controller *controller, j1939_ended *ended);
 
 /** What was received. */
-enum {
+enum j1939_received_kind {
     J1939_RECEIVED_FRAME = 1,    /**< a message of 0 to 8 bytes, to all or to its address */
     J1939_RECEIVED_TRANSFER = 2, /**< one in packets to its address */
     J1939_RECEIVED_BROADCAST = 3 /**< one in packets to all */
@@ -546,7 +558,7 @@ int32_t j1939_controller_take_received(j1939_controller *controller, j1939_messa
 /** How many messages were missed, since 16 lay unread, or another broadcast in packets lay there or was heard, or it broke
  * off: *count.
  * @return 0, J1939_NO_PART */
-int32_t j1939_controller_missed(j1939_controller *controller, uint64_t *count);
+int32_t j1939_controller_missed(const j1939_controller *controller, uint64_t *count);
 
 /** A request for a group (J1939-21, 5.4.2). */
 typedef struct {
@@ -561,7 +573,7 @@ typedef struct {
 int32_t j1939_controller_take_request(j1939_controller *controller, j1939_request *request);
 
 /** How a request is acknowledged (J1939-21, 5.4.4). */
-enum { J1939_ACK = 0, J1939_NACK = 1, J1939_DENIED = 2, J1939_BUSY = 3 };
+enum j1939_acknowledgment { J1939_ACK = 0, J1939_NACK = 1, J1939_DENIED = 2, J1939_BUSY = 3 };
 
 /** Acknowledges a request to its address. J1939_BAD_VALUE for one to all, which is never acknowledged, another answer,
  * a group of 2^18 and above, or a moment of 10^16 and above. J1939_FULL while 16 are due.
@@ -570,7 +582,7 @@ int32_t j1939_controller_acknowledge(j1939_controller *controller, uint64_t micr
                                      uint8_t answer);
 
 /** What happened. */
-enum {
+enum j1939_news {
     J1939_NEWS_LOST = 1,    /**< a smaller NAME claimed its address */
     J1939_NEWS_ANOTHER = 2, /**< another sends from the address that it holds, and no claim */
     J1939_NEWS_MISSED = 3   /**< messages were missed (j1939_controller_missed) */

@@ -3,6 +3,8 @@
  * it has a destination it sends that its VIN once, and asks for the other's until it came. Where it loses its address
  * it goes on at a free one, if its NAME may choose; and it obeys a commanded address. What it sends is printed as
  * candump -L writes it, once the interface took it: where its queue is full the frame waits, and is handed over again.
+ * Where the interface goes down it waits for its return, and claims its address anew: at once, where nothing waits to
+ * be sent, else behind that.
  *
  *   socketcan INTERFACE NAME ADDRESS [DESTINATION]   on an interface, until SIGINT or SIGTERM: NAME and the addresses
  *                                                    are hex
@@ -31,8 +33,9 @@
 #include <unistd.h>
 
 /* In microseconds: the time between two values, between two messages of fault codes, between two requests; how long it
- * waits for others to come before it sends anything but claims, and for room in a full queue. */
-static const uint64_t VALUES = 100000, FAULTS = 1000000, AGAIN = 500000, PATIENCE = 1000000, ROOM = 2000;
+ * waits for others to come before it sends anything but claims, for room in a full queue, and for an interface that is
+ * down. */
+static const uint64_t VALUES = 100000, FAULTS = 1000000, AGAIN = 500000, PATIENCE = 1000000, ROOM = 2000, DOWN = 100000;
 
 /* The groups of vehicle identification, of the engine speed and its parameter (J1939-71), of active fault codes
  * (J1939-73), and of a commanded address (J1939-81). */
@@ -42,7 +45,7 @@ static const uint32_t SERVED[] = {VIN_GROUP, DM1};
 
 typedef struct {
     const char *bus;        /* what the bus is called where frames are printed */
-    int socket;
+    int socket;             /* -1 while the interface is down */
     uint64_t name, start;   /* when it came to the bus */
     uint64_t begins;        /* how long it waits before it claims */
     uint8_t destination;    /* whom it sends its message to; NOBODY for nobody */
@@ -97,10 +100,53 @@ static int accepted(int32_t answer) {
 
 /* ---- the bus */
 
-/* Ends the program where the interface or standard output is gone. */
+/* Ends the program where standard output is gone, or a socket for another reason than its interface. */
 static void fail(void) {
     perror("socketcan");
     exit(1);
+}
+
+/* Makes of a socket that of an interface which is up: data frames of 29 bits, and what is told of the bus itself. */
+static int attach(int at, const char *name) {
+    struct ifreq request = {0};
+    struct sockaddr_can address = {.can_family = AF_CAN};
+    struct can_filter wanted = {.can_id = CAN_EFF_FLAG, .can_mask = CAN_EFF_FLAG | CAN_RTR_FLAG};
+    can_err_mask_t told = CAN_ERR_BUSOFF | CAN_ERR_RESTARTED;
+    snprintf(request.ifr_name, sizeof request.ifr_name, "%s", name);
+    if (ioctl(at, SIOCGIFINDEX, &request) != 0) return 0;
+    address.can_ifindex = request.ifr_ifindex;
+    if (ioctl(at, SIOCGIFFLAGS, &request) != 0) return 0;
+    errno = ENETDOWN;
+    if (!(request.ifr_flags & IFF_UP)) return 0;
+    if (setsockopt(at, SOL_CAN_RAW, CAN_RAW_FILTER, &wanted, sizeof wanted) != 0) return 0;
+    if (setsockopt(at, SOL_CAN_RAW, CAN_RAW_ERR_FILTER, &told, sizeof told) != 0) return 0;
+    return bind(at, (const struct sockaddr *)&address, sizeof address) == 0;
+}
+
+/* A socket of an interface; -1 where that isn't there, or is down. */
+static int open_interface(const char *name) {
+    int at = socket(PF_CAN, SOCK_RAW, CAN_RAW);
+    if (at < 0 || attach(at, name)) return at;
+    int why = errno;
+    close(at);
+    errno = why;
+    return -1;
+}
+
+/* Lets go of an interface that went down or was taken away. The address is to be claimed anew: others heard nothing of
+ * it, and it nothing of them. */
+static void lose_interface(station *s) {
+    if (errno != ENETDOWN && errno != ENODEV && errno != ENXIO) fail();
+    fprintf(stderr, "%.16s: the interface is down\n", s->bus);
+    close(s->socket);
+    s->socket = -1;
+    if (s->wanted == NOBODY) sure(j1939_controller_status(&s->controller, &s->wanted));
+}
+
+/* Looks whether the interface is up again. */
+static void regain_interface(station *s) {
+    s->socket = open_interface(s->bus);
+    if (s->socket >= 0) fprintf(stderr, "%.16s: the interface is up again\n", s->bus);
 }
 
 /* Prints a frame that was sent, with the moment just before: so an answer to it has a later one. */
@@ -114,13 +160,14 @@ static void print(const station *s, const j1939_frame *frame, uint64_t now) {
     if (write(STDOUT_FILENO, line, (size_t)size) != size) fail();
 }
 
-/* Hands a frame to the interface, and prints it; 0 where there is no room for it now. */
-static int say(const station *s, const j1939_frame *frame) {
+/* Hands a frame to the interface, and prints it; 0 where that has no room for it now, or is down. */
+static int say(station *s, const j1939_frame *frame) {
     struct can_frame can = {.can_id = frame->id | CAN_EFF_FLAG, .can_dlc = frame->len};
     uint64_t now = micros_of(CLOCK_REALTIME);
+    if (s->socket < 0) return 0;
     memcpy(can.data, frame->data, frame->len);
     if (send(s->socket, &can, sizeof can, MSG_DONTWAIT) != sizeof can) {
-        if (errno != ENOBUFS && errno != EAGAIN && errno != EINTR) fail();
+        if (errno != ENOBUFS && errno != EAGAIN && errno != EINTR) lose_interface(s);
         return 0;
     }
     print(s, frame, now);
@@ -128,13 +175,13 @@ static int say(const station *s, const j1939_frame *frame) {
 }
 
 /* Waits for a frame until this moment at most; 0 where none came, or one that is none of J1939's. */
-static int next_frame(const station *s, uint64_t due, j1939_frame *frame) {
+static int next_frame(station *s, uint64_t due, j1939_frame *frame) {
     struct pollfd ready = {.fd = s->socket, .events = POLLIN};
     struct can_frame can;
     uint64_t now = moment();
     if (poll(&ready, 1, now < due ? (int)((due - now + 999) / 1000) : 0) != 1) return 0;
     if (recv(s->socket, &can, sizeof can, MSG_DONTWAIT) != sizeof can) {
-        if (errno != EAGAIN && errno != EINTR) fail();
+        if (errno != EAGAIN && errno != EINTR) lose_interface(s);
         return 0;
     }
     if (can.can_id & CAN_ERR_FLAG) {
@@ -300,28 +347,14 @@ static void run(station *s, uint8_t preferred, uint64_t last) {
     s->values_due = s->faults_due = s->request_due = s->start + PATIENCE;
     sure(j1939_controller_new(&s->controller, s->name, preferred, SERVED, sizeof SERVED / sizeof SERVED[0]));
     while ((now = moment()) < last && !is_over) {
+        if (s->socket < 0) regain_interface(s);
         due = now < s->start + s->begins ? s->start + s->begins : turn(s, now);
-        due = sooner(due, last);
+        due = sooner(s->socket < 0 ? now + DOWN : due, last);
         if (next_frame(s, due, &frame)) hear(s, &frame);
     }
 }
 
 /* ---- the program */
-
-/* A socket of an interface: data frames of 29 bits, and what is told of the bus itself. */
-static int open_interface(const char *name) {
-    struct ifreq request = {0};
-    struct sockaddr_can address = {.can_family = AF_CAN};
-    struct can_filter wanted = {.can_id = CAN_EFF_FLAG, .can_mask = CAN_EFF_FLAG | CAN_RTR_FLAG};
-    can_err_mask_t told = CAN_ERR_BUSOFF | CAN_ERR_RESTARTED;
-    int at = socket(PF_CAN, SOCK_RAW, CAN_RAW);
-    snprintf(request.ifr_name, sizeof request.ifr_name, "%s", name);
-    if (at < 0 || ioctl(at, SIOCGIFINDEX, &request) != 0) return -1;
-    if (setsockopt(at, SOL_CAN_RAW, CAN_RAW_FILTER, &wanted, sizeof wanted) != 0) return -1;
-    if (setsockopt(at, SOL_CAN_RAW, CAN_RAW_ERR_FILTER, &told, sizeof told) != 0) return -1;
-    address.can_ifindex = request.ifr_ifindex;
-    return bind(at, (const struct sockaddr *)&address, sizeof address) == 0 ? at : -1;
-}
 
 /* Plays one of two controllers; whether all went well. The second has the smaller NAME, and comes later; it sends the
  * first its VIN, and asks for the first's. */

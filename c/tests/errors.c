@@ -356,7 +356,7 @@ static void broadcasts(void) {
     EXPECT(j1939_broadcast_poll(&broadcast, 1, 65260, payload, 9, 900000, &out, &due) == 2);
 }
 
-/* Each call on a handle that holds no controller, and with numbers out of range. */
+/* Each call on a handle that holds no controller. */
 static void no_controller(j1939_controller *controller) {
     j1939_request request = {65260, 3, 0x80};
     j1939_ended ended;
@@ -386,6 +386,7 @@ static void no_controller(j1939_controller *controller) {
     EXPECT(j1939_controller_move_to(controller, 3) == J1939_NO_PART);
 }
 
+/* Numbers out of range, whatever the handle holds. */
 static void controller_in_range(j1939_controller *controller) {
     j1939_frame late = {.micros = LATE}, long_one = {.len = 9};
     j1939_request request = {65260, 3, 0x80}, no_group = {1u << 18, 3, 0x80};
@@ -434,6 +435,7 @@ static void claim_of(j1939_controller *controller) {
     EXPECT(j1939_controller_claims_request(controller, 1000000, 254, &out) == 0);
     EXPECT(j1939_controller_next_due(controller, &due) == 1 && due == 1250000);
     EXPECT(j1939_controller_broadcast(controller, 1249999, 65260, payload, 9, &token) == J1939_NO_ADDRESS);
+    EXPECT(j1939_controller_broadcast(controller, 1249999, 65260, payload, 8, &token) == J1939_NO_ADDRESS);
     EXPECT(j1939_controller_holder(controller, 0x80, &token) == 1 && token == 1);
     EXPECT(j1939_controller_holder(controller, 0x81, &token) == 0 && token == 1);
     EXPECT(j1939_controller_address_of(controller, 1, &own) == 1 && own == 0x80);
@@ -456,6 +458,7 @@ static void messages_of(j1939_controller *controller) {
     for (uint64_t k = 0; k < 16; k++)
         EXPECT(j1939_controller_send(controller, 1300000, 6, 0xEF00, 3, payload, k % 9, &token) == 1 && token == k);
     EXPECT(j1939_controller_send(controller, 1300000, 6, 65262, 255, payload, 8, &token) == J1939_FULL);
+    EXPECT(j1939_controller_send(controller, 1300000, 8, 65262, 255, payload, 8, &token) == J1939_BAD_VALUE);
     EXPECT(j1939_controller_ask(controller, 1300000, 65260, 3, &token) == J1939_FULL && token == 15);
     EXPECT(j1939_controller_take_ended(controller, &ended) == 0);
     for (uint64_t k = 0; k < 16; k++) {
@@ -632,6 +635,7 @@ static void controllers(void) {
     EXPECT(j1939_listener_new(&foreign) == 0);
     no_controller(&controller);
     no_controller((j1939_controller *)&foreign);
+    controller_in_range((j1939_controller *)&foreign);
     EXPECT(j1939_controller_new((j1939_controller *)&foreign, 1, 254, NULL, 0) == J1939_IN_USE);
     EXPECT(j1939_listener_close(&foreign) == 0);
     EXPECT(j1939_controller_new(&controller, 1, 0x80, served, 16) == 0);
@@ -649,6 +653,28 @@ static void controllers(void) {
     EXPECT(j1939_controller_close(&controller) == 0 && j1939_controller_close(&controller) == 0);
     controller_in_range(&controller);
     no_controller(&controller);
+}
+
+/* What takes a const handle doesn't write it: these lie where nothing can be written. */
+static void const_handles(void) {
+    static const j1939_listener listener = J1939_EMPTY;
+    static const j1939_receiver receiver = J1939_EMPTY;
+    static const j1939_sender sender = J1939_EMPTY;
+    static const j1939_controller controller = J1939_EMPTY;
+    uint64_t number;
+    uint8_t byte;
+    EXPECT(j1939_listener_holder(&listener, 0, &number) == J1939_NO_PART);
+    EXPECT(j1939_receiver_busy(&receiver) == J1939_NO_PART);
+    EXPECT(j1939_sender_state(&sender, &byte) == J1939_NO_PART);
+    EXPECT(j1939_controller_next_tick(&controller, &number) == J1939_NO_PART);
+    EXPECT(j1939_controller_peek_frame(&controller, 0, &out) == J1939_NO_PART);
+    EXPECT(j1939_controller_claims_request(&controller, 0, 255, &out) == J1939_NO_PART);
+    EXPECT(j1939_controller_next_due(&controller, &number) == J1939_NO_PART);
+    EXPECT(j1939_controller_status(&controller, &byte) == J1939_NO_PART);
+    EXPECT(j1939_controller_holder(&controller, 0, &number) == J1939_NO_PART);
+    EXPECT(j1939_controller_address_of(&controller, 1, &byte) == J1939_NO_PART);
+    EXPECT(j1939_controller_free_address(&controller, &byte) == J1939_NO_PART);
+    EXPECT(j1939_controller_missed(&controller, &number) == J1939_NO_PART);
 }
 
 /* Of two groups it subscribes one. */
@@ -681,5 +707,6 @@ int main(void) {
     broadcasts();
     controllers();
     subscribed();
+    const_handles();
     return 0;
 }

@@ -7,16 +7,16 @@ use Rattle.j39_address.specs.declared.status.Status.TheVariants.{Cannot}
 use Rattle.j39_node.specs.declared.controller.Controller.{Controller}
 use Rattle.j39_node.specs.History.{Who, Call, told_claims}
 use Rattle.j39_node.specs.Is.{Is, status_after}
-use Rattle.j39_node.specs.Moving.{IsSettled, moved}
+use Rattle.j39_node.specs.Moving.{HasMoved, IsSettled}
 
 -- it begins anew at this address
 abbrev pub MovesTo : ℕ → Controller → Controller → Type 0
-MovesTo address old new = (w : Who) (H : List Call) → Is w H old → Is (moved w H address) [] new
+MovesTo address old new = (w : Who) (H : List Call) → Is w H old → HasMoved w H address new
 
 -- the least free address, to which it moves, or there is none
 abbrev pub MovesFree : Who → List Call → Controller → Controller → Type 0
 MovesFree w H old new =
-    ((address : ℕ) × IsLeastFree (claims_of (told_claims w H)) address × Is (moved w H address) [] new)
+    ((address : ℕ) × IsLeastFree (claims_of (told_claims w H)) address × HasMoved w H address new)
     ⊎ (NoneFree (claims_of (told_claims w H)) × (new ≡ old))
 
 -- where its address is lost, and nothing is left to be told or taken, it moves to a free one; else nothing happens

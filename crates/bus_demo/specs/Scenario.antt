@@ -1,12 +1,13 @@
 -- The four controllers of the demo, each with its NAME and the address that it claims.
 use Rattle.std.specs.Prelude.{◌≡◌, ◌∷◌, ℕ, [], List, None}
+use Rattle.j39_node.specs.History.{nothing}
 use Rattle.j39_node.specs.Is.{Is}
 use Rattle.bus_demo.specs.Playing.{controller_of}
 use Rattle.bus_demo.specs.declared.bus.player.Player.{Player}
 
 -- a player that has claimed nothing yet, of this NAME and address
 abbrev pub IsPlayed : ℕ → ℕ → Player → Type 0
-IsPlayed name preferred player = Is (record { name = name; address = preferred; served = []; subscribed = None; known = [] }) [] (controller_of player)
+IsPlayed name preferred player = Is (record { name = name; address = preferred; served = []; subscribed = None; brought = nothing }) [] (controller_of player)
 
 -- the engine, its rival, the gearbox and the tool
 pub record PlaysAll (players : List Player) : Type 0 where

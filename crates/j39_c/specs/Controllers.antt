@@ -7,11 +7,11 @@ use Rattle.j39_address.specs.Holder.{IsHolderAfter}
 use Rattle.j39_address.specs.Node.{IsLeastFree, NoneFree}
 use Rattle.j39_frame.specs.Address.{IsAddress}
 use Rattle.j39_transport.specs.Message.{MessageRecord}
-use Rattle.j39_node.specs.History.{Act, Asked, Call, Message, Who, missed, told_claims}
+use Rattle.j39_node.specs.History.{Act, Asked, Call, Message, Who, nothing, missed, told_claims}
 use Rattle.j39_node.specs.History.Call.{At, ReleaseBroadcast, ReleaseTransfer, TakeAskEnded, TakeBroadcastEnded, TakeEnded, TakeReceived, TakeTransferEnded}
 use Rattle.j39_node.specs.Hearing.{unheard, waiting}
 use Rattle.j39_node.specs.Is.{Is}
-use Rattle.j39_node.specs.Moving.{IsSettled, moved}
+use Rattle.j39_node.specs.Moving.{HasMoved, IsSettled}
 use Rattle.j39_node.specs.Reception.{reception}
 use Rattle.j39_node.specs.declared.controller.Controller.{Controller}
 use Rattle.j39_node.specs.declared.kinds.Answer.{Answer}
@@ -69,7 +69,7 @@ pub record CanServe (address : ℕ) (served : List ℕ) (subscribed : Option (Li
 -- a controller that begins so
 abbrev pub IsNew : ℕ → ℕ → List ℕ → Option (List ℕ) → Controller → Type 0
 IsNew name address served subscribed c = Is (record
-    { name = name; address = address; served = served; subscribed = subscribed; known = [] }) [] c
+    { name = name; address = address; served = served; subscribed = subscribed; brought = nothing }) [] c
 
 -- why there is no controller of them
 abbrev pub IsMakeRefusal : ℕ → List ℕ → Option (List ℕ) → Refusal → Type 0
@@ -97,7 +97,7 @@ count_missed w H = min (missed w H + unheard w H) 18446744073709551615
 abbrev pub Moves : ℕ → ℤ → Controller → Controller → Type 0
 Moves address (pos zero) old new = (new ≡ old) × Says (λ w H. IsAddress address × IsSettled w H → ⊥) old
 Moves address (pos (suc n)) old new =
-    (w : Who) (H : List Call) → Is w H old → IsAddress address × IsSettled w H × Is (moved w H address) [] new
+    (w : Who) (H : List Call) → Is w H old → IsAddress address × IsSettled w H × HasMoved w H address new
 Moves address (negsuc n) old new = ⊥
 
 -- ---- messages are handed in

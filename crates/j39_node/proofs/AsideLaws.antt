@@ -1,5 +1,5 @@
 -- Which frame others exchange makes no difference to any answer, whatever comes later.
-use Rattle.std.proofs.Common.{◌≡◌, ◌≢◌, ◌↔◌, ℕ, ◌+◌, ◌-◌, List, [], ◌∷◌, ◌++◌, length, Option, Some, None, Ok, Err, Bool, true, false, not, ◌&&◌, ◌||◌, if◌then◌else◌, nat_eq, nat_lt, refl, sym, ap, ◌∙◌, subst, inl, eqb-true, arith}
+use Rattle.std.proofs.Common.{◌≡◌, ◌≢◌, ◌↔◌, ℕ, ◌+◌, ◌-◌, List, [], ◌∷◌, ◌++◌, length, Option, Some, None, Ok, Err, Bool, true, false, not, ◌&&◌, ◌||◌, if◌then◌else◌, nat_eq, nat_lt, nat_le, suc, refl, sym, ap, ◌∙◌, subst, inl, eqb-true, arith}
 use Rattle.std.specs.List.{slice_get}
 use Rattle.std.specs.Option.{option_map, option_or}
 use Rattle.j39_frame.specs.Frame.{FrameRecord}
@@ -12,13 +12,14 @@ use Rattle.j39_node.specs.declared.kinds.Ending.{Ending}
 use Rattle.j39_node.specs.declared.kinds.News.TheVariants.{AddressLost, AnotherAtAddress, MessagesMissed}
 use Rattle.j39_node.specs.declared.kinds.Refused.TheVariants.{NoAddress, BadValue, Full}
 use Rattle.j39_node.specs.Aside.{IsAside}
-use Rattle.j39_node.specs.History.{Who, Message, Call, Address, Asked, accepted, acknowledged, acknowledgment, address_after, another_news, asked, asked_group, asked_with, broadcast_from, broadcasts, calls_for_claim, is_larger, is_own_group, is_subscribed, can_broadcast, can_send, claim_address, claim_from, claimed, due, got, handed, holds, is_acknowledgment, is_another, is_claim, is_for_program, is_held, is_lost, is_none, is_open, is_packet, is_session, is_smaller, is_some, is_transfer, kept, lost_news, message_from, message_of, missed_news, moment, older, open_broadcast, owes_claim, packets, pause, request_for, requests, sent, step, told, with_refusal, with_request}
+use Rattle.j39_node.specs.History.{patience, turns, Who, Message, Call, Address, Asked, accepted, acknowledged, acknowledgment, address_after, another_news, asked, asked_group, asked_with, broadcast_from, broadcasts, calls_for_claim, is_larger, is_own_group, is_subscribed, can_broadcast, can_send, claim_address, claim_from, claimed, due, got, handed, holds, is_acknowledgment, is_another, is_claim, is_for_program, is_held, is_lost, is_none, is_open, is_packet, is_session, is_smaller, is_some, is_transfer, kept, lost_news, message_from, message_of, missed_news, moment, older, open_broadcast, owes_claim, packets, pause, request_for, requests, sent, step, told, with_refusal, with_request}
 use Rattle.j39_node.specs.History.Address.{Lost}
 use Rattle.j39_node.specs.History.Call.{At, TakeAskEnded, TakeEnded, TakeReceived, TakeRequest, TakeNews, TakeBroadcastEnded, ReleaseTransfer, TakeTransferEnded, ReleaseBroadcast}
 use Rattle.j39_node.specs.History.Act.{Ask, Hear, Tick, TakeFrame, Send, Acknowledge, Broadcast, Transfer}
 use Rattle.j39_node.specs.Reception.{Reception, has_place, heard_at, heard_by, held_then, holder, later, leaves, left, none_waits, reception, released_by, taken_by, ticked, time_heard, whole_by}
 use Rattle.j39_node.specs.Hearing.{OpenBroadcast, announces, breaks, changes, ends_by, found, hearing, hears as hears_it, in_time, is_out, is_over, is_unheard, left as leaves_it, newly, packs, unheard_news, whole_of}
-use Rattle.j39_node.specs.Transfers.{Resting, Running, age, begun, can_transfer, clock, hears_if, holds_back, is_engaged, is_replaced, joined, open_transfer, rest, resting, rests_after, sends_if, transfer_by, transfer_end, transfers}
+use Rattle.j39_node.specs.Transfers.{Running, age, begun, can_transfer, clock, hears_if, holds_back, is_engaged, is_replaced, joined, open_transfer, rest, resting, rests_after, sends_if, transfer_by, transfer_end, transfers}
+use Rattle.j39_node.specs.History.{Resting}
 use Rattle.j39_node.specs.Asking.{Question, ask_end, can_ask, end_at, ended, first, has_token, made, is_asking, is_message, made_of, open_ask, question, silent_end, wait}
 use Rattle.j39_transport.specs.Frames as frames
 use Rattle.j39_transport.specs.Key.{Broadcast as by}
@@ -31,7 +32,7 @@ use Rattle.j39_node.proofs.PacketsAnswer.{packs_to_all}
 use Rattle.j39_node.proofs.ReceptionLaws.{goes_there, to_others}
 use Rattle.j39_node.proofs.RequestStrangers.{and_false, to_another}
 use Rattle.j39_node.proofs.StrangerLaws.{no_more, open_stays, unclaimed}
-use Rattle.j39_node.specs.Is.{AreAnswered, IsAnswered, broadcast_end, control_of, end_of, first_of, long_by, news_of, packet_by, stamped}
+use Rattle.j39_node.specs.Is.{is_there, AreAnswered, IsAnswered, broadcast_end, control_of, end_of, first_of, long_by, news_of, packet_by, stamped}
 use Rattle.j39_node.proofs.LawLemmas.{is_false as not_so}
 use Rattle.j39_node.proofs.PromptLaws.{answered_from as before}
 
@@ -41,6 +42,8 @@ record State : Type 0 where
   pub moment : ℕ
   pub address : Address
   pub owes : Bool
+  pub turns : ℕ
+  pub patience : ℕ
   pub accepted : List (ℕ × Message)
   pub sent : List Message
   pub told : List (ℕ × Ending)
@@ -77,6 +80,8 @@ state w H = record {
   moment = moment H;
   address = address_after w H;
   owes = owes_claim w H;
+  turns = turns H;
+  patience = patience w H;
   accepted = accepted w H;
   sent = sent H;
   told = told H;
@@ -103,7 +108,7 @@ state w H = record {
   wait = wait H;
   ended = ended w H;
   age = age H;
-  rest = rest H;
+  rest = rest w H;
   resting = resting w H;
   transfer = open_transfer w H;
   transfers = transfers w H;
@@ -115,6 +120,7 @@ abbrev passes : ℕ → State → State
 passes now s = record s {
   moment = now;
   address = older (now - s.moment) s.address;
+  patience = s.patience - (now - s.moment);
   pause = s.pause - (now - s.moment);
   wait = s.wait - (now - s.moment);
   age = s.age + (now - s.moment);
@@ -125,7 +131,8 @@ passes now s = record s {
 abbrev hears_with : Who → ℕ → FrameRecord → Address → Bool → ℕ → (ℕ → Option ℕ) → Bool → Option OpenBroadcast → Reception → State → State
 hears_with w when f a held time holds ends found r s = record (passes when s) {
   address = a;
-  owes = s.owes || calls_for_claim w (is_lost s.address) f;
+  owes = s.owes || (calls_for_claim w (is_lost s.address) f || (is_another w held f && nat_eq (s.patience - (when - s.moment)) 0));
+  patience = if is_another w held f && nat_eq (s.patience - (when - s.moment)) 0 then 5000000 else s.patience - (when - s.moment);
   kept = if is_for_program w held f && nat_lt (length s.kept - length s.got) 16 then s.kept ++ (f.stamp, message_of f) ∷ [] else s.kept;
   requests = with_request w (nat_lt (length s.requests - length s.handed) 16) (asked w held f) s.requests;
   due = with_refusal w (nat_lt (length s.requests - length s.handed) 16) (nat_lt (length s.due - length s.acknowledged) 16) (asked w held f) s.due;
@@ -157,7 +164,8 @@ heard w when f s =
 abbrev takes_with : ℕ → FrameRecord → (ℕ → Option ℕ) → State → State
 takes_with now f holds s = record (passes now s) {
   address = if is_claim f then claimed (older (now - s.moment) s.address) else older (now - s.moment) s.address;
-  owes = false;
+  owes = if is_claim f then false else s.owes;
+  turns = if is_claim f || is_acknowledgment f then suc s.turns else 0;
   sent = if is_claim f || (is_acknowledgment f || is_session f) then s.sent else s.sent ++ message_of f ∷ [];
   packets = if is_packet f then s.packets ++ message_of f ∷ [] else s.packets;
   pause = if is_packet f then gap else s.pause - (now - s.moment);
@@ -253,11 +261,14 @@ holds_at s now = is_held (older (now - s.moment) s.address)
 
 abbrev frame_by : Who → State → ℕ → Option (ℕ × Message)
 frame_by w s now =
-    if s.owes then Some (now, claim_from w (claim_address w s.address))
+    let message = slice_get s.accepted (length s.sent) in
+    let long =
+    long_by (packet_by s.broadcast (length s.packets) (s.pause - (now - s.moment))) (transfer_by s.transfer (clock (s.age + (now - s.moment)))) in
+    let gives = nat_le 2 s.turns && is_there (if holds_at s now then first_of (slice_get s.reception.replies 0) message long else None) in
+    if s.owes && not gives then Some (now, claim_from w (claim_address w s.address))
     else if holds_at s now
-    then option_map (λ m. (now, m)) (first_of (control_of (slice_get s.due (length s.acknowledged)) (slice_get s.reception.replies 0))
-    (slice_get s.accepted (length s.sent)) (long_by (packet_by s.broadcast (length s.packets) (s.pause - (now - s.moment)))
-    (transfer_by s.transfer (clock (s.age + (now - s.moment))))))
+    then option_map (λ m. (now, m)) (first_of (control_of (if gives then None else slice_get s.due (length s.acknowledged)) (slice_get s.reception.replies 0))
+    message long)
     else None
 
 abbrev full_by : State → Bool
@@ -403,6 +414,7 @@ module _ (w : Who) (f : FrameRecord) (a : IsAside w f) where
       λ i. record (state w (At when (Hear f) ∷ H)) {
         address = lives i;
         owes = owes i;
+        patience = waits i;
         kept = keeps i;
         requests = with_request w (nat_lt (length (requests w H) - length (handed H)) 16) (unasked held i) (requests w H);
         due = with_refusal w (nat_lt (length (requests w H) - length (handed H)) 16) (nat_lt (length (due w H) - length (acknowledged H)) 16) (unasked held i) (due w H);
@@ -424,7 +436,10 @@ module _ (w : Who) (f : FrameRecord) (a : IsAside w f) where
       lives = ap (λ (b : Bool). if b then Lost else older (step H when) (address_after w H)) mine
 
       owes : owes_claim w (At when (Hear f) ∷ H) ≡ owes_claim w H
-      owes = ap (λ (b : Bool). owes_claim w H || b) (uncalled (is_lost (address_after w H))) ∙ no_more (owes_claim w H)
+      owes = (λ i. owes_claim w H || (uncalled (is_lost (address_after w H)) i || (not_mine held i && nat_eq (patience w H - step H when) 0))) ∙ no_more (owes_claim w H)
+
+      waits : patience w (At when (Hear f) ∷ H) ≡ patience w H - step H when
+      waits = ap (λ (b : Bool). if b && nat_eq (patience w H - step H when) 0 then 5000000 else patience w H - step H when) (not_mine held)
 
       keeps : kept w (At when (Hear f) ∷ H) ≡ kept w H
       keeps = ap (λ (b : Bool). if b && nat_lt (length (kept w H) - length (got H)) 16 then kept w H ++ (f.stamp, message_of f) ∷ [] else kept w H) (unwanted held)

@@ -29,9 +29,9 @@ busy_is w H c h =
 pub refuses_ask : (w : Who) (H : List Call) (old new : Controller) (now group to : ℕ) (r : Refused) → Is w H old → Passed w H now new.hold
     → Err r ≡ answer_to_ask w H now group to → new ≡ record old { hold = new.hold } → Is w (At now (Ask group to (Err r)) ∷ H) new
 refuses_ask w H old new now group to r h p answer e = record {
-  who = ap (λ c. who_of w.known c.own) e ∙ h.who;
+  who = ap (λ c. who_of w.brought c.own) e ∙ h.who;
   answered = (h.answered, answer);
-  hold = is_hold _ _ p.rest p.moment p.standing p.owes p.pause p.age p.wait;
+  hold = is_hold _ _ p.turns p.patience p.rest p.moment p.standing p.owes p.pause p.age p.wait;
   outgoing = ap (λ c. map posted c.outgoing.items) e ∙ h.outgoing;
   taken = ap (λ c. c.taken) e ∙ h.taken;
   token = ap (λ c. c.next_token) e ∙ h.token;
@@ -60,9 +60,9 @@ asks_one w H old new now group to x q h p answer is e e0 e1 e2 e3 =
     let s = sound w H h.answered in
     let m = message_from w (request_for group to) in
     record {
-      who = ap (λ c. who_of w.known c.own) e ∙ h.who;
+      who = ap (λ c. who_of w.brought c.own) e ∙ h.who;
       answered = (h.answered, answer);
-      hold = is_hold _ _ p.rest p.moment p.standing p.owes p.pause p.age p.wait;
+      hold = is_hold _ _ p.turns p.patience p.rest p.moment p.standing p.owes p.pause p.age p.wait;
       outgoing = ap (map posted) e0 ∙ (map_append posted old.outgoing.items x
           ∙ (ap (λ l. l ++ posted x ∷ []) h.outgoing ∙ (ap (λ (y : ℕ × Message). drop (length (told H)) (accepted w H) ++ y ∷ []) is
           ∙ sym (drop_append (length (told H)) (accepted w H) (old.next_token, m) s.within))));

@@ -1,5 +1,5 @@
 -- A call more.
-use Rattle.std.proofs.Common.{◌≡◌, ℕ, suc, ◌+◌, ◌-◌, ◌<◌, ◌≤◌, List, [], ◌∷◌, ◌++◌, length, map, drop, min, Option, Some, None, IfSome, Result, Ok, Err, Bool, true, false, not, ◌&&◌, ◌||◌, if◌then◌else◌, nat_eq, nat_lt, nat_le, refl, sym, ap, ◌∙◌, subst, arith, lt-ltb}
+use Rattle.std.proofs.Common.{◌≡◌, ℕ, suc, ◌+◌, ◌-◌, ◌<◌, ◌≤◌, List, [], ◌∷◌, ◌++◌, length, map, drop, min, Option, Some, None, IfSome, Result, Ok, Err, Bool, true, false, not, ◌&&◌, ◌||◌, if◌then◌else◌, nat_eq, nat_lt, nat_le, refl, sym, ap, ◌∙◌, subst, arith, lt-ltb, eqb-true}
 use Rattle.std.specs.List.{slice_get}
 use Rattle.std.specs.Option.{option_map, option_or}
 use Rattle.j39_frame.specs.Frame.{FrameRecord}
@@ -26,8 +26,8 @@ use Rattle.j39_node.specs.declared.kinds.Refused.TheVariants.{NoAddress, BadValu
 use Rattle.j39_node.specs.Asking.{made, made_of, ended, has_token, open_ask, wait}
 use Rattle.j39_node.proofs.AskLemmas.{ask_heard, ask_more, ask_same, takes, wait_more, wait_same}
 use Rattle.j39_node.specs.Is.{AskRecord, made_by, asking_of, hears_with}
-use Rattle.j39_node.specs.Hold.{rested, asked as hold_asked, standing_of, less, passed, heard, claims, paused, stands, lost, left_at}
-use Rattle.j39_node.specs.History.{Who, Message, Draft, Call, Address, message_of, older, claimed, address_after, holds, is_lost, is_held, is_smaller, claim_address, claim_from, owes_claim, calls_for_claim, can_send, message_from, accepted, sent, told, is_full, step, moment, is_for_program, kept, got, missed, Asked, asked, acknowledgment, acknowledged, due, handed, requests, is_served, with_request, with_refusal, stamp_at, held_at, told_claims, is_another, is_acknowledgment, is_claim, lost_news, another_news, missed_news, broadcasts, broadcast_from, can_broadcast, has_packets, is_busy, is_left, is_open, is_packet, open_broadcast, packets, pause}
+use Rattle.j39_node.specs.Hold.{acknowledged as hold_acknowledged, claimed as hold_claimed, rested, spoken as hold_spoken, asked as hold_asked, standing_of, less, passed, heard, claims, paused, stands, lost, left_at}
+use Rattle.j39_node.specs.History.{nothing, patience, turns, Who, Message, Draft, Call, Address, message_of, older, claimed, address_after, holds, is_lost, is_held, is_smaller, claim_address, claim_from, owes_claim, calls_for_claim, can_send, message_from, accepted, sent, told, is_full, step, moment, is_for_program, kept, got, missed, Asked, asked, acknowledgment, acknowledged, due, handed, requests, is_served, with_request, with_refusal, stamp_at, held_at, told_claims, is_another, is_acknowledgment, is_claim, lost_news, another_news, missed_news, broadcasts, broadcast_from, can_broadcast, has_packets, is_busy, is_left, is_open, is_packet, open_broadcast, packets, pause}
 use Rattle.j39_node.specs.History.Call.{At, TakeEnded, TakeRequest, TakeTransferEnded}
 use Rattle.j39_node.specs.History.Act.{Hear, Tick, TakeFrame, Send, Acknowledge, Broadcast, Transfer}
 use Rattle.j39_node.proofs.ReceptionLaws.{made_is}
@@ -38,7 +38,7 @@ use Rattle.j39_address.specs.declared.claims.Claims.{Claims}
 use Rattle.j39_node.proofs.ReceptionLemmas.{leaves_is, none_taken, replied_get, taken_is, tidy}
 use Rattle.j39_node.specs.Transfers.{holds_back, is_resting, rest, resting, rests_after, Running, age, answer_to_transfer, at_in, begun, can_transfer, clock, clock_at, is_engaged, next_due, next_transfer, next_transfer_ended, hears_if, is_replaced, open_transfer, packet_in, packets_in, sends_if, sooner, transfer_by, transfer_end, transfer_in, transfers as all_transfers}
 use Rattle.j39_node.specs.History.Address.{NotClaimed, Claimed, Lost}
-use Rattle.j39_node.specs.Is.{Is, stamped, next_frame, end_of, answer_to_send, answer_to_acknowledge, hold_after, who_of, posted, received_by, request_by, refusal_by, first_of, offered, counted, LaneRecord, opened, lane_of, lane_after, packet_by, next_control, control_of, next_packet, IncomingRecord, incoming_of, incoming_after, said_by, with_reception, with_replies, hears, answer_to_broadcast, broadcast_end, next_broadcast_ended, long_by, next_long, PortRecord, closed, port_after, port_of, resting_by, running, HearingRecord, hearing_of, news_after, ticks}
+use Rattle.j39_node.specs.Is.{Is, claim_goes, gives_way, is_there, next_acknowledgment, next_other, stamped, next_frame, end_of, answer_to_send, answer_to_acknowledge, hold_after, who_of, posted, received_by, request_by, refusal_by, first_of, offered, counted, LaneRecord, opened, lane_of, lane_after, packet_by, next_control, control_of, next_packet, IncomingRecord, incoming_of, incoming_after, said_by, with_reception, with_replies, hears, answer_to_broadcast, broadcast_end, next_broadcast_ended, long_by, next_long, PortRecord, closed, port_after, port_of, resting_by, running, HearingRecord, hearing_of, news_after, ticks}
 use Rattle.j39_frame.specs.Stamp.{stamp_micros}
 use Rattle.j39_node.specs.Hearing.{IsFit, OpenBroadcast, breaks as breaks_it, hears as hears_it, is_out, is_unheard, left as leaves_it, made_whole, newly, unheard_news, waiting, whole_of}
 use Rattle.j39_node.proofs.HearingLemmas.{always, broken_news, claimed_on, either_news, hearing_same, heard_on, is_hearing, leaves_on, news_same, missed_one}
@@ -72,10 +72,12 @@ pub record Passed (w : Who) (H : List Call) (now : ℕ) (h : Hold) : Type 0 wher
   pub moment : h.moment ≡ now
   pub standing : h.standing ≡ standing_of (older (step H now) (address_after w H))
   pub owes : h.owes_claim ≡ owes_claim w H
+  pub turns : h.turns ≡ min (turns H) 2
+  pub patience : h.patience ≡ patience w H - step H now
   pub pause : h.pause ≡ pause H - step H now
   pub age : h.age ≡ min (age H + step H now) 18446744073709551615
   pub wait : h.wait ≡ wait H - step H now
-  pub rest : h.rest ≡ rest H - step H now
+  pub rest : h.rest ≡ rest w H - step H now
 
 saturates : (a s : ℕ) → min (min a 18446744073709551615 + s) 18446744073709551615 ≡ min (a + s) 18446744073709551615
 saturates a s = omega arith
@@ -87,6 +89,8 @@ passed_is w H now old new e f =
       moment = ap (λ (h : Hold). h.moment) g;
       standing = ap (λ (h : Hold). h.standing) g ∙ less_is (step H now) (address_after w H);
       owes = ap (λ (h : Hold). h.owes_claim) g;
+      turns = ap (λ (h : Hold). h.turns) g;
+      patience = ap (λ (h : Hold). h.patience) g;
       pause = ap (λ (h : Hold). h.pause) g;
       age = ap (λ (h : Hold). h.age) g ∙ saturates (age H) (step H now);
       wait = ap (λ (h : Hold). h.wait) g;
@@ -96,15 +100,10 @@ passed_is w H now old new e f =
 pub holds_is : (w : Who) (H : List Call) (now : ℕ) (h : Hold) (b : Bool) → Passed w H now h → b ≡ stands h.standing → b ≡ holds w H now
 holds_is w H now h b p e = e ∙ (ap stands p.standing ∙ stands_is (older (step H now) (address_after w H)))
 
-pub is_hold : (h k : Hold) → h.rest ≡ k.rest → h.moment ≡ k.moment → h.standing ≡ k.standing → h.owes_claim ≡ k.owes_claim → h.pause ≡ k.pause → h.age ≡ k.age → h.wait ≡ k.wait → h ≡ k
-is_hold h k r e f g i j l =
-    ap (λ (x : ℕ). record h { moment = x }) e
-    ∙ (ap (λ (x : Standing). record h { moment = k.moment; standing = x }) f
-    ∙ (ap (λ (x : Bool). record h { moment = k.moment; standing = k.standing; owes_claim = x }) g
-    ∙ (ap (λ (x : ℕ). record h { moment = k.moment; standing = k.standing; owes_claim = k.owes_claim; pause = x }) i
-    ∙ (ap (λ (x : ℕ). record h { moment = k.moment; standing = k.standing; owes_claim = k.owes_claim; pause = k.pause; age = x }) j
-    ∙ (ap (λ (x : ℕ). record h { moment = k.moment; standing = k.standing; owes_claim = k.owes_claim; pause = k.pause; age = k.age; wait = x }) l
-    ∙ ap (λ (x : ℕ). record k { rest = x }) r)))))
+pub is_hold : (h k : Hold) → h.turns ≡ k.turns → h.patience ≡ k.patience → h.rest ≡ k.rest → h.moment ≡ k.moment → h.standing ≡ k.standing → h.owes_claim ≡ k.owes_claim → h.pause ≡ k.pause
+    → h.age ≡ k.age → h.wait ≡ k.wait → h ≡ k
+is_hold h k d q r e f g i j l = λ t. (let x : Hold = record
+    { turns = d t; patience = q t; rest = r t; moment = e t; standing = f t; owes_claim = g t; pause = i t; age = j t; wait = l t } in x)
 
 -- ---- the lane
 
@@ -119,7 +118,7 @@ lane_same : (w : Who) (H : List Call) (now : ℕ) (f : FrameRecord) → is_packe
 lane_same w H now f e = ap (λ (xs : List Message). record (lane_after w H) { count = length xs }) (sym (packets_is H now f false e))
 
 pub packet_next : (w : Who) (H : List Call) (c : Controller) (now left : ℕ) → Is w H c → left ≡ pause H - step H now
-    → packet_by (lane_of (who_of w.known c.own) c.lane).current c.lane.count left ≡ next_packet w H now
+    → packet_by (lane_of (who_of w.brought c.own) c.lane).current c.lane.count left ≡ next_packet w H now
 packet_next w H c now left h e =
     ap (λ (v : Who). packet_by (lane_of v c.lane).current c.lane.count left) h.who
     ∙ (ap (λ (l : LaneRecord). packet_by l.current l.count left) h.lane ∙ ap (packet_by (open_broadcast w H) (length (packets H))) e)
@@ -188,7 +187,7 @@ transfer_next w H c now time h e =
 
 pub long_next : (w : Who) (H : List Call) (c : Controller) (now left time : ℕ) → Is w H c → left ≡ pause H - step H now
     → time ≡ min (age H + step H now) 18446744073709551615
-    → long_by (packet_by (lane_of (who_of w.known c.own) c.lane).current c.lane.count left) (transfer_by (port_of c.transfers).current (clock time)) ≡ next_long w H now
+    → long_by (packet_by (lane_of (who_of w.brought c.own) c.lane).current c.lane.count left) (transfer_by (port_of c.transfers).current (clock time)) ≡ next_long w H now
 long_next w H c now left time h e f =
     ap (λ (o : Option Message). long_by o (transfer_by (port_of c.transfers).current (clock time))) (packet_next w H c now left h e)
     ∙ ap (long_by (next_packet w H now)) (transfer_next w H c now time h f)
@@ -206,22 +205,113 @@ none_due w H c h e =
     slice_get_past (due w H) (length (acknowledged H)) (omega (arith, a, e))
 
 -- what is to be said first, of an acknowledgment and a reply
-steered_by : (w : Who) (H : List Call) (a b : Option Message) → slice_get (due w H) (length (acknowledged H)) ≡ a → slice_get (reception w H).replies 0 ≡ b
-    → next_control w H ≡ control_of a b
-steered_by w H a b e f = ap (λ (x : Option Message). control_of x (slice_get (reception w H).replies 0)) e ∙ ap (control_of a) f
+steered_by : (w : Who) (H : List Call) (now : ℕ) (a b : Option Message) → next_acknowledgment w H now ≡ a → slice_get (reception w H).replies 0 ≡ b
+    → next_control w H now ≡ control_of a b
+steered_by w H now a b e f = ap (λ (x : Option Message). control_of x (slice_get (reception w H).replies 0)) e ∙ ap (control_of a) f
 
-steered_due : (w : Who) (H : List Call) (m : Message) → slice_get (due w H) (length (acknowledged H)) ≡ Some m → next_control w H ≡ Some m
-steered_due w H m e = steered_by w H (Some m) _ e refl
+steered_due : (w : Who) (H : List Call) (now : ℕ) (m : Message) → next_acknowledgment w H now ≡ Some m → next_control w H now ≡ Some m
+steered_due w H now m e = steered_by w H now (Some m) _ e refl
 
-none_steered : (w : Who) (H : List Call) (c : Controller) → Is w H c → length c.desk.due.items ≡ 0 → length c.incoming.replies.items ≡ 0 → next_control w H ≡ None
-none_steered w H c h e f = steered_by w H None None (none_due w H c h e) (ap (λ (xs : List Message). slice_get xs 0) (none_replied w H c h f))
+none_steered : (w : Who) (H : List Call) (now : ℕ) (c : Controller) → Is w H c → next_acknowledgment w H now ≡ None → length c.incoming.replies.items ≡ 0
+    → next_control w H now ≡ None
+none_steered w H now c h e f = steered_by w H now None None e (ap (λ (xs : List Message). slice_get xs 0) (none_replied w H c h f))
 
-next_is : (w : Who) (H : List Call) (now : ℕ) (a : Option Message) (o : Option (ℕ × Message)) → owes_claim w H ≡ false → holds w H now ≡ true
-    → next_control w H ≡ a → slice_get (accepted w H) (length (sent H)) ≡ o
+-- ---- who gives way
+
+pub turns_same : (H : List Call) (now : ℕ) (f : FrameRecord) → is_claim f ≡ false → is_acknowledgment f ≡ false → 0 ≡ min (turns (At now (TakeFrame (Some f)) ∷ H)) 2
+turns_same H now f n l = ap (λ (b : Bool). min (if b then suc (turns H) else 0) 2) (sym (ap (λ (b : Bool). b || is_acknowledgment f) n ∙ l))
+
+pub turns_more : (H : List Call) (now : ℕ) (f : FrameRecord) (t : ℕ) → (is_claim f || is_acknowledgment f) ≡ true → t ≡ min (turns H) 2
+    → min (suc t) 2 ≡ min (turns (At now (TakeFrame (Some f)) ∷ H)) 2
+turns_more H now f t e g = more (turns H) t g ∙ ap (λ (b : Bool). min (if b then suc (turns H) else 0) 2) (sym e)
+  where
+    more : (n t : ℕ) → t ≡ min n 2 → min (suc t) 2 ≡ min (suc n) 2
+    more n t g = omega (arith, g)
+
+owes_same : (w : Who) (H : List Call) (now : ℕ) (f : FrameRecord) → is_claim f ≡ false → owes_claim w H ≡ owes_claim w (At now (TakeFrame (Some f)) ∷ H)
+owes_same w H now f n = ap (λ (b : Bool). if b then false else owes_claim w H) (sym n)
+
+-- the next reply or message
+pub message_next : (w : Who) (H : List Call) (c : Controller) → Is w H c → is_lost (address_after w H) ≡ false
+    → option_map posted (slice_get c.outgoing.items c.taken) ≡ slice_get (accepted w H) (length (sent H))
+message_next w H c h l = next (slice_get c.outgoing.items c.taken) refl ((sound w H h.answered).in_turn l)
+  where
+    next : (o : Option Outgoing) → slice_get c.outgoing.items c.taken ≡ o → length (told H) ≤ length (sent H)
+        → option_map posted o ≡ slice_get (accepted w H) (length (sent H))
+    next None e t = sym (not_in_rest posted c.outgoing.items (accepted w H) (length (told H)) (length (sent H)) c.taken h.outgoing h.taken t e)
+    next (Some y) e t = sym (in_rest posted c.outgoing.items y (accepted w H) (length (told H)) (length (sent H)) c.taken h.outgoing h.taken t e)
+
+two_turns : (t n : ℕ) → t ≡ min n 2 → nat_le 2 t ≡ nat_le 2 n
+two_turns t n e = go (nat_le 2 n) refl
+  where
+    less : (t n : ℕ) → t ≡ min n 2 → nat_le 2 n ≡ true → nat_le 2 t ≡ true
+    less t n e f = grind (arith, e)
+
+    not_less : (t n : ℕ) → t ≡ min n 2 → nat_le 2 n ≡ false → nat_le 2 t ≡ false
+    not_less t n e f = grind (arith, e)
+
+    go : (b : Bool) → nat_le 2 n ≡ b → nat_le 2 t ≡ nat_le 2 n
+    go true f = less t n e f ∙ sym f
+    go false f = not_less t n e f ∙ sym f
+
+pub gives_is : (w : Who) (H : List Call) (c : Controller) (now : ℕ) (k : Hold) (b : Bool) → Is w H c → Passed w H now k
+    → b ≡ (nat_le 2 k.turns && (stands k.standing && is_there (first_of (slice_get (incoming_of c.incoming).reception.replies 0)
+    (option_map posted (slice_get c.outgoing.items c.taken))
+    (long_by (packet_by (lane_of (who_of nothing c.own) c.lane).current c.lane.count k.pause) (transfer_by (port_of c.transfers).current (clock k.age))))))
+    → b ≡ gives_way w H now
+gives_is w H c now k b h p e =
+    e ∙ ((λ i. two_turns k.turns (turns H) p.turns i && (holds_is w H now k (stands k.standing) p refl i && is_there (first_of
+    (slice_get (replies_is w H c h i) 0) (option_map posted (slice_get c.outgoing.items c.taken))
+    (long_next w H c now k.pause k.age h p.pause p.age i))))
+    ∙ ap (λ (b : Bool). nat_le 2 (turns H) && b) (go (holds w H now) refl))
+  where
+    go : (b : Bool) → holds w H now ≡ b
+        → (holds w H now && is_there (first_of (slice_get (reception w H).replies 0) (option_map posted (slice_get c.outgoing.items c.taken)) (next_long w H now)))
+        ≡ is_there (next_other w H now)
+    go true i =
+        (λ j. i j && is_there (first_of (slice_get (reception w H).replies 0) (message_next w H c h (holding_not_lost w H now i) j) (next_long w H now)))
+        ∙ ap (λ (b : Bool). is_there (if b then first_of (slice_get (reception w H).replies 0) (slice_get (accepted w H) (length (sent H))) (next_long w H now) else None)) (sym i)
+    go false i =
+        (λ j. i j && is_there (first_of (slice_get (reception w H).replies 0) (option_map posted (slice_get c.outgoing.items c.taken)) (next_long w H now)))
+        ∙ ap (λ (b : Bool). is_there (if b then first_of (slice_get (reception w H).replies 0) (slice_get (accepted w H) (length (sent H))) (next_long w H now) else None)) (sym i)
+
+pub goes_is : (w : Who) (H : List Call) (now : ℕ) (k : Hold) (gives b : Bool) → Passed w H now k → gives ≡ gives_way w H now → (k.owes_claim && not gives) ≡ b
+    → claim_goes w H now ≡ b
+goes_is w H now k gives b p g e = sym ((λ i. p.owes i && not (g i))) ∙ e
+
+pub still_goes : (w : Who) (H : List Call) (c : Controller) (now : ℕ) (gives b : Bool) → Is w H c → gives ≡ gives_way w H now
+    → (c.hold.owes_claim && not gives) ≡ b → claim_goes w H now ≡ b
+still_goes w H c now gives b h g e = sym ((λ i. (h.hold i).owes_claim && not (g i))) ∙ e
+
+-- no acknowledgment goes, or the first that is due
+pub none_acknowledged : (w : Who) (H : List Call) (c : Controller) (now : ℕ) (gives : Bool) → Is w H c → gives ≡ gives_way w H now
+    → (not gives && not (nat_eq (length c.desk.due.items) 0)) ≡ false → next_acknowledgment w H now ≡ None
+none_acknowledged w H c now true h g e = ap (λ (b : Bool). if b then None else slice_get (due w H) (length (acknowledged H))) (sym g)
+none_acknowledged w H c now false h g e =
+    ap (λ (b : Bool). if b then None else slice_get (due w H) (length (acknowledged H))) (sym g) ∙ none_due w H c h (none (length c.desk.due.items) e)
+  where
+    none : (n : ℕ) → not (nat_eq n 0) ≡ false → n ≡ 0
+    none n e = go (nat_eq n 0) refl e
+      where
+        go : (b : Bool) → nat_eq n 0 ≡ b → not b ≡ false → n ≡ 0
+        go true i f = eqb-true n 0 i
+        go false i f = absurd (cc)
+
+pub due_there : (gives : Bool) (n : ℕ) → (not gives && not (nat_eq n 0)) ≡ true → 0 < n
+due_there true n e = absurd (cc)
+due_there false n e = grind (arith, e)
+
+pub one_acknowledged : (w : Who) (H : List Call) (now : ℕ) (gives b : Bool) (m : Message) → gives ≡ gives_way w H now → (not gives && b) ≡ true
+    → slice_get (due w H) (length (acknowledged H)) ≡ Some m → next_acknowledgment w H now ≡ Some m
+one_acknowledged w H now true b m g e i = absurd (cc)
+one_acknowledged w H now false b m g e i = ap (λ (b : Bool). if b then None else slice_get (due w H) (length (acknowledged H))) (sym g) ∙ i
+
+next_is : (w : Who) (H : List Call) (now : ℕ) (a : Option Message) (o : Option (ℕ × Message)) → claim_goes w H now ≡ false → holds w H now ≡ true
+    → next_control w H now ≡ a → slice_get (accepted w H) (length (sent H)) ≡ o
     → next_frame w H now ≡ option_map (λ m. (now, m)) (first_of a o (next_long w H now))
 next_is w H now a o e f g k =
-    ap (λ (b : Bool). frame_by b (holds w H now) (next_control w H) (slice_get (accepted w H) (length (sent H))) (next_long w H now) claim now) e
-    ∙ (ap (λ (b : Bool). frame_by false b (next_control w H) (slice_get (accepted w H) (length (sent H))) (next_long w H now) claim now) f
+    ap (λ (b : Bool). frame_by b (holds w H now) (next_control w H now) (slice_get (accepted w H) (length (sent H))) (next_long w H now) claim now) e
+    ∙ (ap (λ (b : Bool). frame_by false b (next_control w H now) (slice_get (accepted w H) (length (sent H))) (next_long w H now) claim now) f
     ∙ (ap (λ (x : Option Message). frame_by false true x (slice_get (accepted w H) (length (sent H))) (next_long w H now) claim now) g
     ∙ ap (λ (x : Option (ℕ × Message)). frame_by false true a x (next_long w H now) claim now) k))
   where
@@ -229,7 +319,7 @@ next_is w H now a o e f g k =
     claim = claim_from w (claim_address w (address_after w H))
 
 pub taken : (w : Who) (H : List Call) (old new : Controller) (now : ℕ) (r : Option FrameRecord) (x : Outgoing) (mid : Hold) → Is w H old
-    → Passed w H now mid → mid.owes_claim ≡ false → holds w H now ≡ true → length old.desk.due.items ≡ 0
+    → Passed w H now mid → claim_goes w H now ≡ false → holds w H now ≡ true → next_acknowledgment w H now ≡ None
     → length old.incoming.replies.items ≡ 0 → slice_get old.outgoing.items old.taken ≡ Some x → option_map stamped r ≡ Some (now, (posted x).1)
     → new ≡ record old { hold = new.hold; taken = new.taken; asking = new.asking } → new.taken ≡ suc old.taken → (request : Bool)
     → asking_of new.asking ≡ option_map (takes x.token) (asking_of old.asking)
@@ -248,9 +338,9 @@ taken w H old new now (Some f) x mid h p owes held none quiet g m e d request a1
     let more = sent_is H now f false false false n l one in
     let number = s.numbered (length (sent H)) (posted x) i in
     record {
-      who = ap (λ c. who_of w.known c.own) e ∙ h.who;
-      answered = (h.answered, ap Some k ∙ sym (next_is w H now None (Some (posted x)) (sym p.owes ∙ owes) held (none_steered w H old h none quiet) i));
-      hold = a3 ∙ is_hold _ _ p.rest p.moment (p.standing ∙ ap standing_of (sym (address_is w H now f false n))) owes (p.pause ∙ sym (pause_is H now f false (no_packet f one))) p.age
+      who = ap (λ c. who_of w.brought c.own) e ∙ h.who;
+      answered = (h.answered, ap Some k ∙ sym (next_is w H now None (Some (posted x)) owes held (none_steered w H now old h none quiet) i));
+      hold = a3 ∙ is_hold _ _ (turns_same H now f n l) p.patience p.rest p.moment (p.standing ∙ ap standing_of (sym (address_is w H now f false n))) (p.owes ∙ owes_same w H now f n) (p.pause ∙ sym (pause_is H now f false (no_packet f one))) p.age
           (ap (λ (k : ℕ). if request then 1250000 else k) p.wait
           ∙ wait_more w H now x.token f request n l one number (a2 ∙ ap (λ (o : Option AskRecord). has_token (option_map (λ (y : AskRecord). y.question) o) x.token) h.asking));
       asking = a1 ∙ (ap (option_map (takes x.token)) h.asking ∙ ask_more w H now x.token f number more);
@@ -272,9 +362,9 @@ taken w H old new now (Some f) x mid h p owes held none quiet g m e d request a1
     }
 
 pub taken_none : (w : Who) (H : List Call) (old new : Controller) (now : ℕ) → Is w H old
-    → Passed w H now new.hold → new.hold.owes_claim ≡ false → holds w H now ≡ true → length old.desk.due.items ≡ 0
+    → Passed w H now new.hold → claim_goes w H now ≡ false → holds w H now ≡ true → next_acknowledgment w H now ≡ None
     → length old.incoming.replies.items ≡ 0 → slice_get old.outgoing.items old.taken ≡ None
-    → (let none : Option (ℕ × Message) = None in none) ≡ option_map (at_now now) (packet_by (lane_of (who_of w.known old.own) old.lane).current old.lane.count new.hold.pause)
+    → (let none : Option (ℕ × Message) = None in none) ≡ option_map (at_now now) (packet_by (lane_of (who_of w.brought old.own) old.lane).current old.lane.count new.hold.pause)
     → (let none : Option (ℕ × Message) = None in none) ≡ option_map (at_now now) (transfer_by (port_of old.transfers).current (clock new.hold.age))
     → new ≡ record old { hold = new.hold } → Is w (At now (TakeFrame None) ∷ H) new
 taken_none w H old new now h p owes held none quiet g m u e =
@@ -282,14 +372,14 @@ taken_none w H old new now h p owes held none quiet g m u e =
     let t = s.in_turn (holding_not_lost w H now held) in
     let i = not_in_rest posted old.outgoing.items (accepted w H) (length (told H)) (length (sent H)) old.taken h.outgoing h.taken t g in
     record {
-      who = ap (λ c. who_of w.known c.own) e ∙ h.who;
+      who = ap (λ c. who_of w.brought c.own) e ∙ h.who;
       answered = (
         h.answered,
         ap (option_map (at_now now)) (sym (ap (λ o. long_by o (transfer_by (port_of old.transfers).current (clock new.hold.age))) (no_message now _ m) ∙ no_message now _ u))
             ∙ (ap (option_map (at_now now)) (long_next w H old now new.hold.pause new.hold.age h p.pause p.age)
-            ∙ sym (next_is w H now None None (sym p.owes ∙ owes) held (none_steered w H old h none quiet) i)),
+            ∙ sym (next_is w H now None None owes held (none_steered w H now old h none quiet) i)),
       );
-      hold = is_hold _ _ p.rest p.moment p.standing p.owes p.pause p.age p.wait;
+      hold = is_hold _ _ p.turns p.patience p.rest p.moment p.standing p.owes p.pause p.age p.wait;
       outgoing = ap (λ c. map posted c.outgoing.items) e ∙ h.outgoing;
       taken = ap (λ c. c.taken) e ∙ h.taken;
       token = ap (λ c. c.next_token) e ∙ h.token;
@@ -307,9 +397,9 @@ taken_none w H old new now h p owes held none quiet g m u e =
     }
 
 pub taken_packet : (w : Who) (H : List Call) (old new : Controller) (now : ℕ) (f : FrameRecord) (mid : Hold) → Is w H old
-    → Passed w H now mid → mid.owes_claim ≡ false → holds w H now ≡ true → length old.desk.due.items ≡ 0
+    → Passed w H now mid → claim_goes w H now ≡ false → holds w H now ≡ true → next_acknowledgment w H now ≡ None
     → length old.incoming.replies.items ≡ 0 → slice_get old.outgoing.items old.taken ≡ None
-    → Some (stamped f) ≡ option_map (at_now now) (packet_by (lane_of (who_of w.known old.own) old.lane).current old.lane.count mid.pause)
+    → Some (stamped f) ≡ option_map (at_now now) (packet_by (lane_of (who_of w.brought old.own) old.lane).current old.lane.count mid.pause)
     → new ≡ record old { hold = new.hold; lane = new.lane } → new.hold ≡ paused mid → new.lane ≡ record old.lane { count = new.lane.count }
     → new.lane.count ≡ suc old.lane.count → Is w (At now (TakeFrame (Some f)) ∷ H) new
 taken_packet w H old new now f mid h p owes held none quiet g m e e0 e1 more =
@@ -324,13 +414,13 @@ taken_packet w H old new now f mid h p owes held none quiet g m e e0 e1 more =
         let k : stamped f ≡ (now, y) = cc in
         let is = packet_taken f now y (open_broadcast w H) (length (packets H)) (pause H - step H now) k q in
         record {
-          who = ap (λ c. who_of w.known c.own) e ∙ h.who;
+          who = ap (λ c. who_of w.brought c.own) e ∙ h.who;
           answered = (
             h.answered,
             i ∙ (ap (λ o. option_map (at_now now) (long_by o (next_transfer w H now))) (sym q)
-                ∙ sym (next_is w H now None None (sym p.owes ∙ owes) held (none_steered w H old h none quiet) past)),
+                ∙ sym (next_is w H now None None owes held (none_steered w H now old h none quiet) past)),
           );
-          hold = e0 ∙ is_hold _ _ p.rest p.moment (p.standing ∙ ap standing_of (sym (address_is w H now f false is.0))) owes (sym (pause_is H now f true is.2)) p.age (p.wait ∙ wait_same H now f false false true is.0 is.1 (packet_session f is.2).0 refl);
+          hold = e0 ∙ is_hold _ _ (turns_same H now f is.0 is.1) p.patience p.rest p.moment (p.standing ∙ ap standing_of (sym (address_is w H now f false is.0))) (p.owes ∙ owes_same w H now f is.0) (sym (pause_is H now f true is.2)) p.age (p.wait ∙ wait_same H now f false false true is.0 is.1 (packet_session f is.2).0 refl);
           outgoing = ap (λ c. map posted c.outgoing.items) e ∙ h.outgoing;
           taken = ap (λ c. c.taken) e ∙ (h.taken ∙ ap (λ (xs : List Message). length xs - length (told H)) (sym (sent_is H now f false false true is.0 is.1 (packet_session f is.2).0)));
           token = ap (λ c. c.next_token) e ∙ h.token;
@@ -352,14 +442,14 @@ taken_packet w H old new now f mid h p owes held none quiet g m e e0 e1 more =
         }
 
 pub taken_transfer : (w : Who) (H : List Call) (old new : Controller) (now : ℕ) (f : FrameRecord) (mid : Hold) → Is w H old
-    → Passed w H now mid → mid.owes_claim ≡ false → holds w H now ≡ true → length old.desk.due.items ≡ 0 → length old.incoming.replies.items ≡ 0
+    → Passed w H now mid → claim_goes w H now ≡ false → holds w H now ≡ true → next_acknowledgment w H now ≡ None → length old.incoming.replies.items ≡ 0
     → slice_get old.outgoing.items old.taken ≡ None
-    → (let none : Option (ℕ × Message) = None in none) ≡ option_map (at_now now) (packet_by (lane_of (who_of w.known old.own) old.lane).current old.lane.count mid.pause)
+    → (let none : Option (ℕ × Message) = None in none) ≡ option_map (at_now now) (packet_by (lane_of (who_of w.brought old.own) old.lane).current old.lane.count mid.pause)
     → Some (stamped f) ≡ option_map (at_now now) (transfer_by (port_of old.transfers).current (clock mid.age))
-    → new ≡ record old { hold = mid; transfers = new.transfers }
+    → new ≡ record old { hold = new.hold; transfers = new.transfers }
     → (port_of new.transfers).current ≡ sends_if true (clock mid.age) (port_of old.transfers).current → new.transfers.next_token ≡ old.transfers.next_token
-    → new.transfers.resting ≡ old.transfers.resting → Is w (At now (TakeFrame (Some f)) ∷ H) new
-taken_transfer w H old new now f mid h p owes held none quiet g m u e e0 e1 e2 =
+    → new.transfers.resting ≡ old.transfers.resting → new.hold ≡ hold_spoken mid → Is w (At now (TakeFrame (Some f)) ∷ H) new
+taken_transfer w H old new now f mid h p owes held none quiet g m u e e0 e1 e2 e3 =
     go (next_transfer w H now) refl (u ∙ ap (option_map (at_now now)) (transfer_next w H old now mid.age h p.age))
   where
     no_packets : next_packet w H now ≡ None
@@ -374,13 +464,13 @@ taken_transfer w H old new now f mid h p owes held none quiet g m u e e0 e1 e2 =
         let k : stamped f ≡ (now, y) = cc in
         let is = transfer_taken w H now f y h.answered k q in
         record {
-          who = ap (λ c. who_of w.known c.own) e ∙ h.who;
+          who = ap (λ c. who_of w.brought c.own) e ∙ h.who;
           answered = (
             h.answered,
             i ∙ (ap (option_map (at_now now)) (sym (ap (λ o. long_by o (next_transfer w H now)) no_packets ∙ q))
-                ∙ sym (next_is w H now None None (sym p.owes ∙ owes) held (none_steered w H old h none quiet) past)),
+                ∙ sym (next_is w H now None None owes held (none_steered w H now old h none quiet) past)),
           );
-          hold = ap (λ c. c.hold) e ∙ is_hold _ _ p.rest p.moment (p.standing ∙ ap standing_of (sym (address_is w H now f false is.claim))) owes
+          hold = e3 ∙ is_hold _ _ (turns_same H now f is.claim is.plain) p.patience p.rest p.moment (p.standing ∙ ap standing_of (sym (address_is w H now f false is.claim))) (p.owes ∙ owes_same w H now f is.claim)
               (p.pause ∙ sym (pause_is H now f false is.packet)) p.age (p.wait ∙ wait_same H now f false false true is.claim is.plain is.session refl);
           outgoing = ap (λ c. map posted c.outgoing.items) e ∙ h.outgoing;
           taken = ap (λ c. c.taken) e ∙ (h.taken ∙ ap (λ (xs : List Message). length xs - length (told H)) (sym (sent_is H now f false false true is.claim is.plain is.session)));
@@ -398,25 +488,25 @@ taken_transfer w H old new now f mid h p owes held none quiet g m u e e0 e1 e2 =
           hearing = ap (λ c. hearing_of c.hearing) e ∙ (h.hearing ∙ hearing_same w H now f is.claim);
           port = is_port _ _
               (e0 ∙ (ap (λ (n : ℕ). sends_if true n (port_of old.transfers).current) (ap clock p.age ∙ clock_is (age H + step H now))
-              ∙ (ap (λ (t : PortRecord). sends_if true (clock_at H now) t.current) h.port ∙ port_more w H now f (is_moved w H f is.transfer (none_steers (slice_get (due w H) (length (acknowledged H))) _ (none_steered w H old h none quiet)).1))))
+              ∙ (ap (λ (t : PortRecord). sends_if true (clock_at H now) t.current) h.port ∙ port_more w H now f (is_moved w H f is.transfer (none_steers (next_acknowledgment w H now) _ (none_steered w H now old h none quiet)).1))))
               (e1 ∙ ap (λ (t : PortRecord). t.next_token) h.port) (ap resting_by e2 ∙ ap (λ (t : PortRecord). t.resting) h.port);
           incoming = ap (λ c. incoming_of c.incoming) e ∙ (h.incoming ∙ incoming_same w H now f (none_taken w H now f is.claim is.plain (none_replied w H old h quiet)));
         }
 
-pub taken_due : (w : Who) (H : List Call) (old new : Controller) (now : ℕ) (r : Option FrameRecord) (x : Due) → Is w H old
-    → Passed w H now new.hold → new.hold.owes_claim ≡ false → holds w H now ≡ true
-    → First (refusal_by w) new.desk.due.items x (length (acknowledged H)) (due w H) → option_map stamped r ≡ Some (now, refusal_by w x)
-    → new ≡ record old { hold = new.hold; desk = record { waiting = old.desk.waiting; due = new.desk.due } } → Is w (At now (TakeFrame r) ∷ H) new
-taken_due w H old new now None x h p owes held first m e = absurd (cc)
-taken_due w H old new now (Some f) x h p owes held first m e =
+pub taken_due : (w : Who) (H : List Call) (old new : Controller) (now : ℕ) (r : Option FrameRecord) (x : Due) (mid : Hold) → Is w H old
+    → Passed w H now mid → claim_goes w H now ≡ false → holds w H now ≡ true
+    → next_acknowledgment w H now ≡ Some (refusal_by w x) → First (refusal_by w) new.desk.due.items x (length (acknowledged H)) (due w H) → option_map stamped r ≡ Some (now, refusal_by w x)
+    → new ≡ record old { hold = new.hold; desk = record { waiting = old.desk.waiting; due = new.desk.due } } → new.hold ≡ hold_acknowledged mid → Is w (At now (TakeFrame r) ∷ H) new
+taken_due w H old new now None x mid h p owes held next first m e e0 = absurd (cc)
+taken_due w H old new now (Some f) x mid h p owes held next first m e e0 =
     let s = sound w H h.answered in
     let k : stamped f ≡ (now, refusal_by w x) = cc in
     let is = due_taken w f now (refusal_by w x) k (due_get w (due w H) (length (acknowledged H)) (refusal_by w x) s.desk.0 first.is) in
     let more = acknowledged_is H now f false true is.0 is.1 in
     record {
-      who = ap (λ c. who_of w.known c.own) e ∙ h.who;
-      answered = (h.answered, ap Some k ∙ sym (next_is w H now (Some (refusal_by w x)) _ (sym p.owes ∙ owes) held (steered_due w H (refusal_by w x) first.is) refl));
-      hold = is_hold _ _ p.rest p.moment (p.standing ∙ ap standing_of (sym (address_is w H now f false is.0))) owes (p.pause ∙ sym (pause_is H now f false (no_packet f is.2))) p.age (p.wait ∙ wait_same H now f false true false is.0 is.1 is.2 refl);
+      who = ap (λ c. who_of w.brought c.own) e ∙ h.who;
+      answered = (h.answered, ap Some k ∙ sym (next_is w H now (Some (refusal_by w x)) _ owes held (steered_due w H now (refusal_by w x) next) refl));
+      hold = e0 ∙ is_hold _ _ (turns_more H now f mid.turns (ap (λ (b : Bool). b || is_acknowledgment f) is.0 ∙ is.1) p.turns) p.patience p.rest p.moment (p.standing ∙ ap standing_of (sym (address_is w H now f false is.0))) (p.owes ∙ owes_same w H now f is.0) (p.pause ∙ sym (pause_is H now f false (no_packet f is.2))) p.age (p.wait ∙ wait_same H now f false true false is.0 is.1 is.2 refl);
       outgoing = ap (λ c. map posted c.outgoing.items) e ∙ h.outgoing;
       taken = ap (λ c. c.taken) e ∙ (h.taken ∙ ap (λ (xs : List Message). length xs - length (told H)) (sym (sent_is H now f false true false is.0 is.1 is.2)));
       token = ap (λ c. c.next_token) e ∙ h.token;
@@ -434,25 +524,25 @@ taken_due w H old new now (Some f) x h p owes held first m e =
       port = ap (λ c. port_of c.transfers) e ∙ (h.port ∙ port_same w H now f (no_move w H f (no_transfer f is.2)));
     }
 
-pub taken_reply : (w : Who) (H : List Call) (old new : Controller) (now : ℕ) (r : Option FrameRecord) (x : Said) → Is w H old → Passed w H now new.hold
-    → new.hold.owes_claim ≡ false → holds w H now ≡ true → length old.desk.due.items ≡ 0
+pub taken_reply : (w : Who) (H : List Call) (old new : Controller) (now : ℕ) (r : Option FrameRecord) (x : Said) (mid : Hold) → Is w H old → Passed w H now mid
+    → claim_goes w H now ≡ false → holds w H now ≡ true → next_acknowledgment w H now ≡ None
     → First (said_by old.incoming.receiver.state.own) new.incoming.replies.items x 0 (reception w H).replies
     → option_map stamped r ≡ Some (now, said_by w.address x)
-    → new ≡ record old { hold = new.hold; incoming = new.incoming } → new.incoming ≡ record old.incoming { replies = new.incoming.replies }
+    → new ≡ record old { hold = new.hold; incoming = new.incoming } → new.incoming ≡ record old.incoming { replies = new.incoming.replies } → new.hold ≡ hold_spoken mid
     → Is w (At now (TakeFrame r) ∷ H) new
-taken_reply w H old new now None x h p owes held none first m e e0 = absurd (cc)
-taken_reply w H old new now (Some f) x h p owes held none first m e e0 =
+taken_reply w H old new now None x mid h p owes held none first m e e0 e1 = absurd (cc)
+taken_reply w H old new now (Some f) x mid h p owes held none first m e e0 e1 =
     let own : old.incoming.receiver.state.own ≡ w.address = ap (λ (y : IncomingRecord). y.own) h.incoming in
     let k : stamped f ≡ (now, said_by w.address x) = cc in
     let at : slice_get (reception w H).replies 0 ≡ Some (said_by w.address x) = first.is ∙ ap (λ (a : ℕ). Some (said_by a x)) own in
     let is = reply_taken w.address f now (said_by w.address x) k (replied_get w.address (reception w H).replies 0 _ (tidy w H).replies at) in
     record {
-      who = ap (λ c. who_of w.known c.own) e ∙ h.who;
+      who = ap (λ c. who_of w.brought c.own) e ∙ h.who;
       answered = (
         h.answered,
-        ap Some k ∙ sym (next_is w H now (Some (said_by w.address x)) _ (sym p.owes ∙ owes) held (steered_by w H None _ (none_due w H old h none) at) refl),
+        ap Some k ∙ sym (next_is w H now (Some (said_by w.address x)) _ owes held (steered_by w H now None _ none at) refl),
       );
-      hold = is_hold _ _ p.rest p.moment (p.standing ∙ ap standing_of (sym (address_is w H now f false is.0))) owes (p.pause ∙ sym (pause_is H now f false is.3)) p.age (p.wait ∙ wait_same H now f false false true is.0 is.1 is.2 refl);
+      hold = e1 ∙ is_hold _ _ (turns_same H now f is.0 is.1) p.patience p.rest p.moment (p.standing ∙ ap standing_of (sym (address_is w H now f false is.0))) (p.owes ∙ owes_same w H now f is.0) (p.pause ∙ sym (pause_is H now f false is.3)) p.age (p.wait ∙ wait_same H now f false false true is.0 is.1 is.2 refl);
       outgoing = ap (λ c. map posted c.outgoing.items) e ∙ h.outgoing;
       taken = ap (λ c. c.taken) e ∙ (h.taken ∙ ap (λ (xs : List Message). length xs - length (told H)) (sym (sent_is H now f false false true is.0 is.1 is.2)));
       token = ap (λ c. c.next_token) e ∙ h.token;
@@ -478,7 +568,7 @@ pub told_done : (w : Who) (H : List Call) (old new : Controller) (x : Outgoing) 
     → First posted new.outgoing.items x (length (told H)) (accepted w H) → 0 < old.taken → new.taken + 1 ≡ old.taken
     → new.own ≡ old.own → new.hold ≡ old.hold → new.next_token ≡ old.next_token → new.inbox ≡ old.inbox → new.desk ≡ old.desk → new.holders ≡ old.holders → new.news ≡ old.news → new.lane ≡ old.lane → new.incoming ≡ old.incoming → new.transfers ≡ old.transfers → new.asking ≡ old.asking → new.hearing ≡ old.hearing → Is w (TakeEnded (Some (x.token, Done)) ∷ H) new
 told_done w H old new x h f some less e1 e2 e3 e4 e5 e6 e7 e8 e9 e10 e11 e12 = record {
-  who = ap (who_of w.known) e1 ∙ h.who;
+  who = ap (who_of w.brought) e1 ∙ h.who;
   answered = (
     h.answered,
     sym (ap (λ (b : Bool). end_of b (is_lost (address_after w H)) (slice_get (accepted w H) (length (told H)))) before
@@ -511,7 +601,7 @@ pub told_withdrawn : (w : Who) (H : List Call) (old new : Controller) (x : Outgo
     → First posted new.outgoing.items x (length (told H)) (accepted w H) → old.taken ≡ 0 → lost old.hold.standing ≡ true → new.taken ≡ old.taken
     → new.own ≡ old.own → new.hold ≡ old.hold → new.next_token ≡ old.next_token → new.inbox ≡ old.inbox → new.desk ≡ old.desk → new.holders ≡ old.holders → new.news ≡ old.news → new.lane ≡ old.lane → new.incoming ≡ old.incoming → new.transfers ≡ old.transfers → new.asking ≡ old.asking → new.hearing ≡ old.hearing → Is w (TakeEnded (Some (x.token, Withdrawn)) ∷ H) new
 told_withdrawn w H old new x h f none is_away same e1 e2 e3 e4 e5 e6 e7 e8 e9 e10 e11 e12 = record {
-  who = ap (who_of w.known) e1 ∙ h.who;
+  who = ap (who_of w.brought) e1 ∙ h.who;
   answered = (
     h.answered,
     sym (ap (λ (b : Bool). end_of b (is_lost (address_after w H)) (slice_get (accepted w H) (length (told H)))) after
@@ -555,9 +645,9 @@ pub posts : (w : Who) (H : List Call) (old new : Controller) (now : ℕ) (d : Dr
 posts w H old new now d x h p held can room is e0 e1 e2 e3 e4 e5 e6 e7 e8 e9 e10 e11 e12 =
     let s = sound w H h.answered in
     record {
-      who = ap (who_of w.known) e2 ∙ h.who;
+      who = ap (who_of w.brought) e2 ∙ h.who;
       answered = (h.answered, ap Ok h.token ∙ sym (answer (holds w H now) (can_send w d) (is_full w H) held can (sym (full_is w H old h) ∙ room)));
-      hold = is_hold _ _ p.rest p.moment p.standing p.owes p.pause p.age p.wait;
+      hold = is_hold _ _ p.turns p.patience p.rest p.moment p.standing p.owes p.pause p.age p.wait;
       outgoing = ap (map posted) e0 ∙ (map_append posted old.outgoing.items x
           ∙ (ap (λ l. l ++ posted x ∷ []) h.outgoing ∙ (ap (λ (y : ℕ × Message). drop (length (told H)) (accepted w H) ++ y ∷ []) is
           ∙ sym (drop_append (length (told H)) (accepted w H) (old.next_token, message_from w d) s.within))));
@@ -667,9 +757,9 @@ ticked_more w H old new now broken h p r t1 t2 t3 u e =
     (hearing_of old.hearing) (hearing_of new.hearing) h.hearing
     (always (hearing_of old.hearing).current (ap (λ (x : IncomingRecord). is_out x.clock (hearing_of old.hearing).current) later_on)) t1 t2 t3 in
     record {
-      who = ap (λ c. who_of w.known c.own) e ∙ h.who;
+      who = ap (λ c. who_of w.brought c.own) e ∙ h.who;
       answered = (h.answered, tt);
-      hold = is_hold _ _ p.rest p.moment p.standing p.owes p.pause p.age p.wait;
+      hold = is_hold _ _ p.turns p.patience p.rest p.moment p.standing p.owes p.pause p.age p.wait;
       outgoing = ap (λ c. map posted c.outgoing.items) e ∙ h.outgoing;
       taken = ap (λ c. c.taken) e ∙ h.taken;
       token = ap (λ c. c.next_token) e ∙ h.token;
@@ -686,24 +776,25 @@ ticked_more w H old new now broken h p r t1 t2 t3 u e =
       port = ap (λ c. port_of c.transfers) e ∙ h.port;
     }
 
-pub heard_more : (w : Who) (H : List Call) (old new : Controller) (when : ℕ) (f : FrameRecord) (mid : Hold) (held wanted away gone calls replaced broken unheard : Bool) (o : Option Asked) → Is w H old
-    → Passed w H when mid → held ≡ stands mid.standing → wanted ≡ is_for_program (who_of w.known old.own) held f
+pub heard_more : (w : Who) (H : List Call) (old new : Controller) (when : ℕ) (f : FrameRecord) (mid : Hold) (held wanted away gone calls another replaced broken unheard : Bool) (o : Option Asked) → Is w H old
+    → Passed w H when mid → held ≡ stands mid.standing → wanted ≡ is_for_program (who_of w.brought old.own) held f
     → map received_by new.inbox.unread.items ≡ offered wanted (stamped f) (map received_by old.inbox.unread.items)
     → new.inbox.missed ≡ counted wanted (map received_by old.inbox.unread.items) old.inbox.missed
-    → gone ≡ is_smaller (who_of w.known old.own) (claim_of f) → away ≡ lost mid.standing → calls ≡ calls_for_claim (who_of w.known old.own) away f
+    → gone ≡ is_smaller (who_of w.brought old.own) (claim_of f) → away ≡ lost mid.standing → calls ≡ calls_for_claim (who_of w.brought old.own) away f
+    → another ≡ is_another (who_of w.brought old.own) held f
     → map request_by new.desk.waiting.items
-    ≡ with_request (who_of w.known old.own) (nat_lt (length old.desk.waiting.items) 16) o (map request_by old.desk.waiting.items)
-    → map (refusal_by (who_of w.known old.own)) new.desk.due.items
-    ≡ with_refusal (who_of w.known old.own) (nat_lt (length old.desk.waiting.items) 16) (nat_lt (length old.desk.due.items) 16) o
-    (map (refusal_by (who_of w.known old.own)) old.desk.due.items)
-    → o ≡ asked (who_of w.known old.own) held f
+    ≡ with_request (who_of w.brought old.own) (nat_lt (length old.desk.waiting.items) 16) o (map request_by old.desk.waiting.items)
+    → map (refusal_by (who_of w.brought old.own)) new.desk.due.items
+    ≡ with_refusal (who_of w.brought old.own) (nat_lt (length old.desk.waiting.items) 16) (nat_lt (length old.desk.due.items) 16) o
+    (map (refusal_by (who_of w.brought old.own)) old.desk.due.items)
+    → o ≡ asked (who_of w.brought old.own) held f
     → ((F : List FrameRecord) → Knows old.holders F → Knows new.holders (F ++ f ∷ []))
     → new.news ≡ record {
       lost = old.news.lost || (gone && not away);
-      another = old.news.another || is_another (who_of w.known old.own) held f;
+      another = old.news.another || is_another (who_of w.brought old.own) held f;
       missed = broken || (old.news.missed || ((wanted && not (nat_lt (length old.inbox.unread.items) 16)) || unheard));
     }
-    → new.hold ≡ heard gone calls mid → new.own ≡ old.own → new.outgoing ≡ old.outgoing → new.taken ≡ old.taken → new.next_token ≡ old.next_token → new.lane ≡ old.lane
+    → new.hold ≡ heard gone calls another mid → new.own ≡ old.own → new.outgoing ≡ old.outgoing → new.taken ≡ old.taken → new.next_token ≡ old.next_token → new.lane ≡ old.lane
     → (old.incoming.receiver.has_box ≡ true → IsApart (incoming_of old.incoming).reception
     → incoming_of new.incoming ≡ hears gone held when f (holder_in old.holders) (holder_in new.holders) (incoming_of old.incoming))
     → IfSome (port_of old.transfers).current (λ x. replaced ≡ is_replaced (holder_in old.holders x.sender.destination) (holder_in new.holders x.sender.destination))
@@ -713,17 +804,17 @@ pub heard_more : (w : Who) (H : List Call) (old new : Controller) (when : ℕ) (
     → (whole_now : Option (ℕ × ℕ)) → whole_now ≡ made_by (has_place (incoming_of old.incoming).reception.waits) (incoming_of new.incoming).reception.waits
     → (cast_now : Option (ℕ × ℕ))
     → cast_now ≡ made_by (not (not (has_place (whole_of (hearing_of old.hearing).current)))) (whole_of (hearing_of new.hearing).current)
-    → asking_of new.asking ≡ option_map (hears_with (who_of w.known old.own) (lost new.hold.standing) new.hold.wait f (option_or whole_now cast_now)) (asking_of old.asking)
+    → asking_of new.asking ≡ option_map (hears_with (who_of w.brought old.own) (lost new.hold.standing) new.hold.wait f (option_or whole_now cast_now)) (asking_of old.asking)
     → (left_by over_by : Bool) (p1 p2 : Option ℕ) (m : HearingRecord) → IfSome (hearing_of old.hearing).current (λ z. p1 ≡ holder_in old.holders z.source)
     → IfSome (hearing_of old.hearing).current (λ z. p2 ≡ holder_in new.holders z.source) → left_by ≡ not (is_same p1 p2)
     → over_by ≡ (left_by || is_out (stamp_micros new.incoming.clock) (hearing_of old.hearing).current)
     → broken ≡ breaks_it over_by (hearing_of old.hearing).current
     → m.missed ≡ (if broken then min (old.hearing.missed + 1) 18446744073709551615 else old.hearing.missed)
     → m.current ≡ leaves_it over_by (hearing_of old.hearing).current
-    → unheard ≡ is_unheard (who_of w.known old.own) f m.current
+    → unheard ≡ is_unheard (who_of w.brought old.own) f m.current
     → new.hearing.missed ≡ (if unheard then min (m.missed + 1) 18446744073709551615 else m.missed)
-    → (IsFit m.current → (hearing_of new.hearing).current ≡ hears_it (who_of w.known old.own) (stamp_micros new.incoming.clock) f m.current) → Is w (At when (Hear f) ∷ H) new
-heard_more w H old new when f mid held wanted away gone calls replaced broken unheard o h p e1 e2 e3 e4 e5 e6 e7 q1 q2 q3 q4 q5 e8 s1 s2 s3 s4 s5 s9 s6 s7 s8 s10 whole_now m1 cast_now m2 a1 left_by over_by p1 p2 m t1 t2 t3 t4 t5 t9 t10 t6 t7 t8 =
+    → (IsFit m.current → (hearing_of new.hearing).current ≡ hears_it (who_of w.brought old.own) (stamp_micros new.incoming.clock) f m.current) → Is w (At when (Hear f) ∷ H) new
+heard_more w H old new when f mid held wanted away gone calls another replaced broken unheard o h p e1 e2 e3 e4 e5 e6 e7 e9 q1 q2 q3 q4 q5 e8 s1 s2 s3 s4 s5 s9 s6 s7 s8 s10 whole_now m1 cast_now m2 a1 left_by over_by p1 p2 m t1 t2 t3 t4 t5 t9 t10 t6 t7 t8 =
     let s = sound w H h.answered in
     let wants : wanted ≡ is_for_program w (holds w H when) f =
     e2 ∙ (ap (λ (v : Who). is_for_program v held f) h.who ∙ ap (λ (b : Bool). is_for_program w b f) (holds_is w H when mid held p e1)) in
@@ -738,6 +829,8 @@ heard_more w H old new when f mid held wanted away gone calls replaced broken un
     let goes : gone ≡ is_smaller w (claim_of f) = e5 ∙ ap (λ (v : Who). is_smaller v (claim_of f)) h.who in
     let asks : calls ≡ calls_for_claim w (is_lost (address_after w H)) f =
     e7 ∙ (ap (λ (v : Who). calls_for_claim v away f) h.who ∙ ap (λ (b : Bool). calls_for_claim w b f) lost_before) in
+    let others : another ≡ is_another w (holds w H when) f =
+    e9 ∙ (ap (λ (v : Who). is_another v held f) h.who ∙ ap (λ (b : Bool). is_another w b f) (holds_is w H when mid held p e1)) in
     let r : ℕ → Bool = λ a. is_replaced (holder w H a) (holder w (At when (Hear f) ∷ H) a) in
     let current : (port_of old.transfers).current ≡ open_transfer w H = ap (λ (t : PortRecord). t.current) h.port in
     let stands_now : new.hold.standing ≡ standing_of (address_after w (At when (Hear f) ∷ H)) =
@@ -760,10 +853,11 @@ heard_more w H old new when f mid held wanted away gone calls replaced broken un
     let made_now : option_or whole_now cast_now ≡ made w H when f =
     ap (λ (o : Option (ℕ × ℕ)). option_or o cast_now) whole_is ∙ ap (option_or (made_of (whole w H when f))) cast_is in
     record {
-      who = ap (who_of w.known) s1 ∙ h.who;
+      who = ap (who_of w.brought) s1 ∙ h.who;
       answered = (h.answered, tt);
-      hold = is_hold _ _ (ap (λ (k : Hold). k.rest) e8 ∙ p.rest) (ap (λ (k : Hold). k.moment) e8 ∙ p.moment) stands_now
-          (ap (λ (k : Hold). k.owes_claim) e8 ∙ (ap (λ (b : Bool). b || calls) p.owes ∙ ap (λ (b : Bool). owes_claim w H || b) asks))
+      hold = is_hold _ _ (ap (λ (k : Hold). k.turns) e8 ∙ p.turns)
+          (ap (λ (k : Hold). k.patience) e8 ∙ λ i. if others i && nat_eq (p.patience i) 0 then 5000000 else p.patience i) (ap (λ (k : Hold). k.rest) e8 ∙ p.rest) (ap (λ (k : Hold). k.moment) e8 ∙ p.moment) stands_now
+          (ap (λ (k : Hold). k.owes_claim) e8 ∙ (λ i. p.owes i || (asks i || (others i && nat_eq (p.patience i) 0))))
           (ap (λ (k : Hold). k.pause) e8 ∙ p.pause) (ap (λ (k : Hold). k.age) e8 ∙ p.age) (ap (λ (k : Hold). k.wait) e8 ∙ p.wait);
       outgoing = ap (λ o. map posted o.items) s2 ∙ h.outgoing;
       taken = s3 ∙ h.taken;
@@ -790,7 +884,7 @@ heard_more w H old new when f mid held wanted away gone calls replaced broken un
       news = q5 ∙ is_news _ _
           (ap (λ (u : Untold). u.lost || (gone && not away)) h.news
           ∙ (ap (λ (b : Bool). lost_news w H || (b && not away)) goes ∙ ap (λ (b : Bool). lost_news w H || (is_smaller w (claim_of f) && not b)) lost_before))
-          (ap (λ (u : Untold). u.another || is_another (who_of w.known old.own) held f) h.news
+          (ap (λ (u : Untold). u.another || is_another (who_of w.brought old.own) held f) h.news
           ∙ (ap (λ (v : Who). another_news w H || is_another v held f) h.who
           ∙ ap (λ (b : Bool). another_news w H || is_another w b f) (holds_is w H when mid held p e1)))
           (ap (λ (u : Untold). broken || (u.missed || ((wanted && not (nat_lt (length old.inbox.unread.items) 16)) || unheard))) h.news
@@ -824,7 +918,7 @@ pub handed_more : (w : Who) (H : List Call) (old new : Controller) (x : Request)
     → First request_by new.desk.waiting.items x (length (handed H)) (requests w H)
     → new ≡ record old { desk = record { waiting = new.desk.waiting; due = old.desk.due } } → Is w (TakeRequest (Some (request_by x)) ∷ H) new
 handed_more w H old new x h first e = record {
-  who = ap (λ c. who_of w.known c.own) e ∙ h.who;
+  who = ap (λ c. who_of w.brought c.own) e ∙ h.who;
   answered = (h.answered, sym first.is);
   hold = ap (λ c. c.hold) e ∙ h.hold;
   outgoing = ap (λ c. map posted c.outgoing.items) e ∙ h.outgoing;
@@ -859,9 +953,9 @@ pub due_more : (w : Who) (H : List Call) (old new : Controller) (now : ℕ) (ans
 due_more w H old new now answer x h p right a g e =
     let s = sound w H h.answered in
     record {
-      who = ap (λ c. who_of w.known c.own) e ∙ h.who;
+      who = ap (λ c. who_of w.brought c.own) e ∙ h.who;
       answered = (h.answered, right);
-      hold = is_hold _ _ p.rest p.moment p.standing p.owes p.pause p.age p.wait;
+      hold = is_hold _ _ p.turns p.patience p.rest p.moment p.standing p.owes p.pause p.age p.wait;
       outgoing = ap (λ c. map posted c.outgoing.items) e ∙ h.outgoing;
       taken = ap (λ c. c.taken) e ∙ h.taken;
       token = ap (λ c. c.next_token) e ∙ h.token;
@@ -886,9 +980,9 @@ due_more w H old new now answer x h p right a g e =
 pub refuses_send : (w : Who) (H : List Call) (old new : Controller) (now : ℕ) (d : Draft) (r : Refused) → Is w H old → Passed w H now new.hold
     → Err r ≡ answer_to_send w H now d → new ≡ record old { hold = new.hold } → Is w (At now (Send d (Err r)) ∷ H) new
 refuses_send w H old new now d r h p answer e = record {
-  who = ap (λ c. who_of w.known c.own) e ∙ h.who;
+  who = ap (λ c. who_of w.brought c.own) e ∙ h.who;
   answered = (h.answered, answer);
-  hold = is_hold _ _ p.rest p.moment p.standing p.owes p.pause p.age p.wait;
+  hold = is_hold _ _ p.turns p.patience p.rest p.moment p.standing p.owes p.pause p.age p.wait;
   outgoing = ap (λ c. map posted c.outgoing.items) e ∙ h.outgoing;
   taken = ap (λ c. c.taken) e ∙ h.taken;
   token = ap (λ c. c.next_token) e ∙ h.token;
@@ -985,8 +1079,8 @@ claims_after (Claimed e) = refl
 claims_after Lost = refl
 
 pub claims_more : (w : Who) (H : List Call) (old new : Controller) (now : ℕ) (f : FrameRecord) (mid : Hold) (a : ℕ) → Is w H old → Passed w H now mid
-    → mid.owes_claim ≡ true → new.hold ≡ record { moment = mid.moment; standing = claims mid.standing; owes_claim = false; pause = mid.pause; age = mid.age; wait = mid.wait; rest = mid.rest }
-    → Some (stamped f) ≡ Some (now, claim_from (who_of w.known old.own) a) → a ≡ (if lost mid.standing then 254 else old.own.address)
+    → claim_goes w H now ≡ true → new.hold ≡ hold_claimed mid
+    → Some (stamped f) ≡ Some (now, claim_from (who_of w.brought old.own) a) → a ≡ (if lost mid.standing then 254 else old.own.address)
     → ((F : List FrameRecord) → Knows old.holders F → Knows new.holders (F ++ f ∷ []))
     → incoming_of new.incoming ≡ with_reception (left (leaves (holder_in old.holders) (holder_in new.holders) (incoming_of old.incoming).reception.session)
     (incoming_of old.incoming).reception) (incoming_of old.incoming)
@@ -999,25 +1093,24 @@ pub claims_more : (w : Who) (H : List Call) (old new : Controller) (now : ℕ) (
     → new ≡ record old { hold = new.hold; holders = new.holders; incoming = new.incoming; hearing = new.hearing; news = new.news }
     → Is w (At now (TakeFrame (Some f)) ∷ H) new
 claims_more w H old new now f mid a h p owes e0 m at knows drops left_by broken p1 p2 t1 t2 t3 t4 t5 t6 u e =
-    let from : claim_from (who_of w.known old.own) a ≡ claim_from w (claim_address w (address_after w H)) =
+    let from : claim_from (who_of w.brought old.own) a ≡ claim_from w (claim_address w (address_after w H)) =
     ap (λ (v : Who). claim_from v a) h.who
     ∙ ap (claim_from w) (at ∙ (ap (λ (x : Standing). if lost x then 254 else old.own.address) p.standing
     ∙ (ap (λ (n : ℕ). if lost (standing_of (older (step H now) (address_after w H))) then 254 else n) (ap (λ (v : Who). v.address) h.who)
     ∙ told_address (step H now) (address_after w H)))) in
-    let k : stamped f ≡ (now, claim_from (who_of w.known old.own) a) = cc in
+    let k : stamped f ≡ (now, claim_from (who_of w.brought old.own) a) = cc in
     let j : stamped f ≡ (now, claim_from w (claim_address w (address_after w H))) = k ∙ ap (λ (x : Message). (now, x)) from in
     let n = claim_taken f now w (claim_address w (address_after w H)) j in
-    let due_claim : owes_claim w H ≡ true = sym p.owes ∙ owes in
     let on = claimed_on w H now f old.holders new.holders left_by broken p1 p2 (hearing_of old.hearing) (hearing_of new.hearing) h.hearing h.holders (subst (Knows new.holders) (sym (told_is w H now f n)) (knows (told_claims w H) h.holders)) t1 t2 t3 t4 t5 t6 in
     record {
-      who = ap (λ c. who_of w.known c.own) e ∙ h.who;
+      who = ap (λ c. who_of w.brought c.own) e ∙ h.who;
       answered = (
         h.answered,
-        ap Some j ∙ sym (ap (λ (b : Bool). frame_by b (holds w H now) (next_control w H) (slice_get (accepted w H) (length (sent H))) (next_long w H now)
-            (claim_from w (claim_address w (address_after w H))) now) due_claim),
+        ap Some j ∙ sym (ap (λ (b : Bool). frame_by b (holds w H now) (next_control w H now) (slice_get (accepted w H) (length (sent H))) (next_long w H now)
+            (claim_from w (claim_address w (address_after w H))) now) owes),
       );
-      hold = e0 ∙ is_hold _ _ p.rest p.moment
-          (ap claims p.standing ∙ (claims_after (older (step H now) (address_after w H)) ∙ ap standing_of (sym (address_is w H now f true n)))) refl
+      hold = e0 ∙ is_hold _ _ (turns_more H now f mid.turns (ap (λ (b : Bool). b || is_acknowledgment f) n) p.turns) p.patience p.rest p.moment
+          (ap claims p.standing ∙ (claims_after (older (step H now) (address_after w H)) ∙ ap standing_of (sym (address_is w H now f true n)))) (sym (ap (λ (b : Bool). if b then false else owes_claim w H) n))
           (p.pause ∙ sym (pause_is H now f false (no_packet f (claim_single f n)))) p.age (p.wait ∙ wait_same H now f true _ _ n refl refl refl);
       outgoing = ap (λ c. map posted c.outgoing.items) e ∙ h.outgoing;
       taken = ap (λ c. c.taken) e ∙ (h.taken ∙ ap (λ (xs : List Message). length xs - length (told H)) (sym (sent_is H now f true _ _ n refl refl)));
@@ -1043,11 +1136,8 @@ claims_more w H old new now f mid a h p owes e0 m at knows drops left_by broken 
 
 -- ---- which frame would be taken
 
-owes_is : (w : Who) (H : List Call) (c : Controller) (b : Bool) → Is w H c → c.hold.owes_claim ≡ b → owes_claim w H ≡ b
-owes_is w H c b h e = sym (ap (λ (k : Hold). k.owes_claim) h.hold) ∙ e
-
 claim_told : (w : Who) (H : List Call) (c : Controller) (a : ℕ) → Is w H c → a ≡ (if lost c.hold.standing then 254 else c.own.address)
-    → claim_from (who_of w.known c.own) a ≡ claim_from w (claim_address w (address_after w H))
+    → claim_from (who_of w.brought c.own) a ≡ claim_from w (claim_address w (address_after w H))
 claim_told w H c a h e =
     ap (λ (v : Who). claim_from v a) h.who
     ∙ ap (claim_from w) (e ∙ (ap (λ (k : Hold). if lost k.standing then 254 else c.own.address) h.hold
@@ -1058,28 +1148,39 @@ claim_told w H c a h e =
     told_address (Claimed n) = refl
     told_address Lost = refl
 
-pub peeks_claim : (w : Who) (H : List Call) (c : Controller) (now a : ℕ) (r : Option FrameRecord) → Is w H c → c.hold.owes_claim ≡ true
-    → option_map stamped r ≡ Some (now, claim_from (who_of w.known c.own) a) → a ≡ (if lost c.hold.standing then 254 else c.own.address)
+pub peeks_claim : (w : Who) (H : List Call) (c : Controller) (now a : ℕ) (r : Option FrameRecord) → Is w H c → claim_goes w H now ≡ true
+    → option_map stamped r ≡ Some (now, claim_from (who_of w.brought c.own) a) → a ≡ (if lost c.hold.standing then 254 else c.own.address)
     → option_map stamped r ≡ next_frame w H now
 peeks_claim w H c now a r h owes m e =
     m ∙ (ap (λ (x : Message). Some (now, x)) (claim_told w H c a h e)
-    ∙ sym (ap (λ (b : Bool). frame_by b (holds w H now) (next_control w H) (slice_get (accepted w H) (length (sent H))) (next_long w H now)
-    (claim_from w (claim_address w (address_after w H))) now) (owes_is w H c true h owes)))
+    ∙ sym (ap (λ (b : Bool). frame_by b (holds w H now) (next_control w H now) (slice_get (accepted w H) (length (sent H))) (next_long w H now)
+    (claim_from w (claim_address w (address_after w H))) now) owes))
 
-pub peeks_none : (w : Who) (H : List Call) (c : Controller) (now : ℕ) → Is w H c → c.hold.owes_claim ≡ false → holds w H now ≡ false
+pub peeks_none : (w : Who) (H : List Call) (c : Controller) (now : ℕ) → Is w H c → claim_goes w H now ≡ false → holds w H now ≡ false
     → (let none : Option (ℕ × Message) = None in none) ≡ next_frame w H now
 peeks_none w H c now h owes held =
-    sym (ap (λ (b : Bool). frame_by b (holds w H now) (next_control w H) (slice_get (accepted w H) (length (sent H))) (next_long w H now)
-    (claim_from w (claim_address w (address_after w H))) now) (owes_is w H c false h owes)
-    ∙ ap (λ (b : Bool). frame_by false b (next_control w H) (slice_get (accepted w H) (length (sent H))) (next_long w H now)
+    sym (ap (λ (b : Bool). frame_by b (holds w H now) (next_control w H now) (slice_get (accepted w H) (length (sent H))) (next_long w H now)
+    (claim_from w (claim_address w (address_after w H))) now) owes
+    ∙ ap (λ (b : Bool). frame_by false b (next_control w H now) (slice_get (accepted w H) (length (sent H))) (next_long w H now)
     (claim_from w (claim_address w (address_after w H))) now) held)
 
-pub peeks_due : (w : Who) (H : List Call) (c : Controller) (now : ℕ) (r : Option FrameRecord) (x : Due) → Is w H c → c.hold.owes_claim ≡ false
-    → holds w H now ≡ true → slice_get c.desk.due.items 0 ≡ Some x → option_map stamped r ≡ Some (now, refusal_by w x)
+pub peeks_due : (w : Who) (H : List Call) (c : Controller) (now : ℕ) (r : Option FrameRecord) (x : Due) → Is w H c → claim_goes w H now ≡ false
+    → holds w H now ≡ true → next_acknowledgment w H now ≡ Some (refusal_by w x) → option_map stamped r ≡ Some (now, refusal_by w x)
     → option_map stamped r ≡ next_frame w H now
 peeks_due w H c now r x h owes held g m =
-    let i = in_rest (refusal_by w) c.desk.due.items x (due w H) (length (acknowledged H)) (length (acknowledged H)) 0 h.acknowledgments (omega arith) (omega arith) g in
-    m ∙ sym (next_is w H now (Some (refusal_by w x)) _ (owes_is w H c false h owes) held (steered_due w H (refusal_by w x) i) refl)
+    m ∙ sym (next_is w H now (Some (refusal_by w x)) _ owes held (steered_due w H now (refusal_by w x) g) refl)
+
+pub first_acknowledged : (w : Who) (H : List Call) (c : Controller) (now : ℕ) (gives : Bool) (o : Option Due) → Is w H c → gives ≡ gives_way w H now
+    → o ≡ (if gives then None else slice_get c.desk.due.items 0) → next_acknowledgment w H now ≡ option_map (refusal_by w) o
+first_acknowledged w H c now true o h g e =
+    ap (λ (b : Bool). if b then None else slice_get (due w H) (length (acknowledged H))) (sym g) ∙ sym (ap (option_map (refusal_by w)) e)
+first_acknowledged w H c now false o h g e =
+    ap (λ (b : Bool). if b then None else slice_get (due w H) (length (acknowledged H))) (sym g)
+    ∙ (sym (due_next (slice_get c.desk.due.items 0) refl) ∙ sym (ap (option_map (refusal_by w)) e))
+  where
+    due_next : (o : Option Due) → slice_get c.desk.due.items 0 ≡ o → option_map (refusal_by w) o ≡ slice_get (due w H) (length (acknowledged H))
+    due_next None e = sym (not_in_rest (refusal_by w) c.desk.due.items (due w H) (length (acknowledged H)) (length (acknowledged H)) 0 h.acknowledgments (omega arith) (omega arith) e)
+    due_next (Some x) e = sym (in_rest (refusal_by w) c.desk.due.items x (due w H) (length (acknowledged H)) (length (acknowledged H)) 0 h.acknowledgments (omega arith) (omega arith) e)
 
 -- the first reply that waits
 pub no_reply : (w : Who) (H : List Call) (c : Controller) (now : ℕ) → Is w H c → (r : Option FrameRecord)
@@ -1102,30 +1203,22 @@ a_reply w H c now h f e = go (slice_get (reception w H).replies 0) refl
     go None i g = absurd (cc)
     go (Some m) i g = (m, i, g)
 
-pub peeks_reply : (w : Who) (H : List Call) (c : Controller) (now : ℕ) (r : Option FrameRecord) (m : Message) → Is w H c → c.hold.owes_claim ≡ false
-    → holds w H now ≡ true → slice_get c.desk.due.items 0 ≡ None → slice_get (reception w H).replies 0 ≡ Some m → option_map stamped r ≡ Some (now, m)
+pub peeks_reply : (w : Who) (H : List Call) (c : Controller) (now : ℕ) (r : Option FrameRecord) (m : Message) → Is w H c → claim_goes w H now ≡ false
+    → holds w H now ≡ true → next_acknowledgment w H now ≡ None → slice_get (reception w H).replies 0 ≡ Some m → option_map stamped r ≡ Some (now, m)
     → option_map stamped r ≡ next_frame w H now
 peeks_reply w H c now r m h owes held g at e =
-    let i = not_in_rest (refusal_by w) c.desk.due.items (due w H) (length (acknowledged H)) (length (acknowledged H)) 0 h.acknowledgments (omega arith) (omega arith) g in
-    e ∙ sym (next_is w H now (Some m) _ (owes_is w H c false h owes) held (steered_by w H None (Some m) i at) refl)
+    e ∙ sym (next_is w H now (Some m) _ owes held (steered_by w H now None (Some m) g at) refl)
 
-pub peeks_message : (w : Who) (H : List Call) (c : Controller) (now left time : ℕ) (r : Option FrameRecord) → Is w H c → c.hold.owes_claim ≡ false
-    → holds w H now ≡ true → slice_get c.desk.due.items 0 ≡ None → slice_get (reception w H).replies 0 ≡ None → left ≡ pause H - step H now → time ≡ min (age H + step H now) 18446744073709551615
+pub peeks_message : (w : Who) (H : List Call) (c : Controller) (now left time : ℕ) (r : Option FrameRecord) → Is w H c → claim_goes w H now ≡ false
+    → holds w H now ≡ true → next_acknowledgment w H now ≡ None → slice_get (reception w H).replies 0 ≡ None → left ≡ pause H - step H now → time ≡ min (age H + step H now) 18446744073709551615
     → option_map stamped r ≡ option_map (at_now now)
     (first_of None (option_map posted (slice_get c.outgoing.items c.taken))
-    (long_by (packet_by (lane_of (who_of w.known c.own) c.lane).current c.lane.count left) (transfer_by (port_of c.transfers).current (clock time))))
+    (long_by (packet_by (lane_of (who_of w.brought c.own) c.lane).current c.lane.count left) (transfer_by (port_of c.transfers).current (clock time))))
     → option_map stamped r ≡ next_frame w H now
 peeks_message w H c now left time r h owes held g quiet e a m =
-    let t = (sound w H h.answered).in_turn (holding_not_lost w H now held) in
-    let i = not_in_rest (refusal_by w) c.desk.due.items (due w H) (length (acknowledged H)) (length (acknowledged H)) 0 h.acknowledgments (omega arith) (omega arith) g in
     m ∙ (ap (λ p. option_map (at_now now) (first_of None (option_map posted (slice_get c.outgoing.items c.taken)) p)) (long_next w H c now left time h e a)
-    ∙ (ap (λ o. option_map (at_now now) (first_of None o (next_long w H now))) (next (slice_get c.outgoing.items c.taken) refl t)
-    ∙ sym (next_is w H now None _ (owes_is w H c false h owes) held (steered_by w H None None i quiet) refl)))
-  where
-    next : (o : Option Outgoing) → slice_get c.outgoing.items c.taken ≡ o → length (told H) ≤ length (sent H)
-        → option_map posted o ≡ slice_get (accepted w H) (length (sent H))
-    next None e t = sym (not_in_rest posted c.outgoing.items (accepted w H) (length (told H)) (length (sent H)) c.taken h.outgoing h.taken t e)
-    next (Some y) e t = sym (in_rest posted c.outgoing.items y (accepted w H) (length (told H)) (length (sent H)) c.taken h.outgoing h.taken t e)
+    ∙ (ap (λ o. option_map (at_now now) (first_of None o (next_long w H now))) (message_next w H c h (holding_not_lost w H now held))
+    ∙ sym (next_is w H now None _ owes held (steered_by w H now None None g quiet) refl)))
 
 -- ---- broadcasts
 
@@ -1146,9 +1239,9 @@ pub refuses_broadcast : (w : Who) (H : List Call) (old new : Controller) (now gr
     → Passed w H now new.hold → Err r ≡ answer_to_broadcast w H now group bytes → new ≡ record old { hold = new.hold }
     → Is w (At now (Broadcast group bytes (Err r)) ∷ H) new
 refuses_broadcast w H old new now group bytes r h p answer e = record {
-  who = ap (λ c. who_of w.known c.own) e ∙ h.who;
+  who = ap (λ c. who_of w.brought c.own) e ∙ h.who;
   answered = (h.answered, answer);
-  hold = is_hold _ _ p.rest p.moment p.standing p.owes p.pause p.age p.wait;
+  hold = is_hold _ _ p.turns p.patience p.rest p.moment p.standing p.owes p.pause p.age p.wait;
   outgoing = ap (λ c. map posted c.outgoing.items) e ∙ h.outgoing;
   taken = ap (λ c. c.taken) e ∙ h.taken;
   token = ap (λ c. c.next_token) e ∙ h.token;
@@ -1170,9 +1263,9 @@ pub begins : (w : Who) (H : List Call) (old new : Controller) (now group : ℕ) 
     → new ≡ record old { hold = new.hold; lane = new.lane } → new.lane.current ≡ Some x → new.lane.count ≡ 0
     → new.lane.next_token ≡ suc old.lane.next_token → Is w (At now (Broadcast group bytes (Ok old.lane.next_token)) ∷ H) new
 begins w H old new now group bytes x h p answer is e e0 e1 e2 = record {
-  who = ap (λ c. who_of w.known c.own) e ∙ h.who;
+  who = ap (λ c. who_of w.brought c.own) e ∙ h.who;
   answered = (h.answered, answer);
-  hold = is_hold _ _ p.rest p.moment p.standing p.owes p.pause p.age p.wait;
+  hold = is_hold _ _ p.turns p.patience p.rest p.moment p.standing p.owes p.pause p.age p.wait;
   outgoing = ap (λ c. map posted c.outgoing.items) e ∙ h.outgoing;
   taken = ap (λ c. c.taken) e ∙ h.taken;
   token = ap (λ c. c.next_token) e ∙ h.token;
@@ -1212,9 +1305,9 @@ pub refuses_transfer : (w : Who) (H : List Call) (old new : Controller) (now gro
     → Passed w H now new.hold → Err r ≡ answer_to_transfer w H now group to bytes → new ≡ record old { hold = new.hold }
     → Is w (At now (Transfer group to bytes (Err r)) ∷ H) new
 refuses_transfer w H old new now group to bytes r h p answer e = record {
-  who = ap (λ c. who_of w.known c.own) e ∙ h.who;
+  who = ap (λ c. who_of w.brought c.own) e ∙ h.who;
   answered = (h.answered, answer);
-  hold = is_hold _ _ p.rest p.moment p.standing p.owes p.pause p.age p.wait;
+  hold = is_hold _ _ p.turns p.patience p.rest p.moment p.standing p.owes p.pause p.age p.wait;
   outgoing = ap (λ c. map posted c.outgoing.items) e ∙ h.outgoing;
   taken = ap (λ c. c.taken) e ∙ h.taken;
   token = ap (λ c. c.next_token) e ∙ h.token;
@@ -1238,9 +1331,9 @@ pub transfer_begins : (w : Who) (H : List Call) (old new : Controller) (now grou
     → new.transfers.next_token ≡ suc old.transfers.next_token → new.transfers.resting ≡ old.transfers.resting
     → Is w (At now (Transfer group to bytes (Ok old.transfers.next_token)) ∷ H) new
 transfer_begins w H old new now group to bytes x mid h p answer is e e0 e1 e2 e3 = record {
-  who = ap (λ c. who_of w.known c.own) e ∙ h.who;
+  who = ap (λ c. who_of w.brought c.own) e ∙ h.who;
   answered = (h.answered, answer);
-  hold = e0 ∙ is_hold _ _ p.rest p.moment p.standing p.owes p.pause refl p.wait;
+  hold = e0 ∙ is_hold _ _ p.turns p.patience p.rest p.moment p.standing p.owes p.pause refl p.wait;
   outgoing = ap (λ c. map posted c.outgoing.items) e ∙ h.outgoing;
   taken = ap (λ c. c.taken) e ∙ h.taken;
   token = ap (λ c. c.next_token) e ∙ h.token;
@@ -1269,7 +1362,7 @@ pub transfer_ends : (w : Who) (H : List Call) (old new : Controller) (x : ℕ ×
     → b ≡ rests_after x.1 → new ≡ record old { hold = new.hold; transfers = new.transfers } → new.hold ≡ rested b old.hold
     → port_of new.transfers ≡ closed b old.hold.rest (port_of old.transfers) → Is w (TakeTransferEnded (Some x) ∷ H) new
 transfer_ends w H old new x b h answer rests e e0 e1 = record {
-  who = ap (λ c. who_of w.known c.own) e ∙ h.who;
+  who = ap (λ c. who_of w.brought c.own) e ∙ h.who;
   answered = (h.answered, answer);
   hold = e0 ∙ (ap (rested b) h.hold ∙ ap (λ (y : Bool). rested y (hold_after w H)) rests);
   outgoing = ap (λ c. map posted c.outgoing.items) e ∙ h.outgoing;
@@ -1285,6 +1378,6 @@ transfer_ends w H old new x b h answer rests e e0 e1 = record {
   lane = ap (λ c. lane_of w c.lane) e ∙ h.lane;
   hearing = ap (λ c. hearing_of c.hearing) e ∙ h.hearing;
   port = e1 ∙ (ap (closed b old.hold.rest) h.port
-      ∙ (ap (λ (n : ℕ). closed b n (port_after w H)) (ap (λ (k : Hold). k.rest) h.hold) ∙ ap (λ (y : Bool). closed y (rest H) (port_after w H)) rests));
+      ∙ (ap (λ (n : ℕ). closed b n (port_after w H)) (ap (λ (k : Hold). k.rest) h.hold) ∙ ap (λ (y : Bool). closed y (rest w H) (port_after w H)) rests));
   incoming = ap (λ c. incoming_of c.incoming) e ∙ h.incoming;
 }

@@ -8,11 +8,11 @@ use Rattle.j39_node.specs.declared.kinds.Ending.{Ending}
 use Rattle.j39_node.specs.declared.kinds.Ending.TheVariants.{Done, Withdrawn}
 use Rattle.j39_node.specs.declared.kinds.Refused.{Refused}
 use Rattle.j39_node.specs.declared.kinds.Refused.TheVariants.{NoAddress, BadValue, Full}
-use Rattle.j39_node.specs.History.{Who, Message, Call, accepted, acknowledged, address_after, all_frames, broadcasts, can_broadcast, claim_address, claim_from, due, first_frames, frame_of, has_packets, holds, is_busy, is_left, is_lost, is_open, is_packet, message_of, moment, open_broadcast, owes_claim, packets, pause, sent, step, told_broadcasts}
+use Rattle.j39_node.specs.History.{Who, Message, Call, accepted, acknowledged, address_after, all_frames, broadcasts, can_broadcast, claim_address, claim_from, due, first_frames, frame_of, has_packets, holds, is_busy, is_left, is_lost, is_open, is_packet, message_of, moment, open_broadcast, packets, pause, sent, step, told_broadcasts}
 use Rattle.j39_node.specs.History.Call.{At, TakeBroadcastEnded}
 use Rattle.j39_node.specs.History.Act.{TakeFrame, Broadcast}
 use Rattle.j39_node.specs.Reception.{reception}
-use Rattle.j39_node.specs.Is.{AreAnswered, Is, broadcast_end, next_control, next_packet, packet_by, long_by, next_frame, next_long}
+use Rattle.j39_node.specs.Is.{claim_goes, gives_way, next_acknowledgment, AreAnswered, Is, broadcast_end, next_control, next_packet, packet_by, long_by, next_frame, next_long}
 use Rattle.j39_node.specs.Transfers.{next_transfer}
 use Rattle.j39_node.specs.Since.{PacketSince, passed_in}
 use Rattle.j39_node.proofs.QueueLemmas.{length_one_more}
@@ -22,7 +22,7 @@ use Rattle.j39_node.proofs.SoundLemmas.FrameCase.{claims, acknowledges, replies,
 use Rattle.j39_node.proofs.LaneLemmas.{BroadcastCase, broadcast_case, LaneEnd, lane_end, Opened, Laned, laned, closed, stands_open, opened_by}
 use Rattle.j39_node.proofs.LaneLemmas.BroadcastCase.{homeless, unfit, busy, opens}
 use Rattle.j39_node.proofs.LaneLemmas.LaneEnd.{complete, broken}
-use Rattle.j39_node.proofs.LawLemmas.{not_both, past_end, sent_within, whole, either, or_false as neither}
+use Rattle.j39_node.proofs.LawLemmas.{all_acknowledged, not_both, past_end, sent_within, either, or_false as neither}
 
 -- ---- what broadcast answers
 
@@ -121,7 +121,7 @@ record Packed (w : Who) (H : List Call) (now : ℕ) (f : FrameRecord) : Type 0 w
   pub is : message_of f ≡ frame_of message (length (packets H))
   pub within : length (packets H) ≤ packets_of message
   pub held : holds w H now ≡ true
-  pub none_due : slice_get (due w H) (length (acknowledged H)) ≡ None
+  pub none_due : next_acknowledgment w H now ≡ None
   pub none_waits : slice_get (accepted w H) (length (sent H)) ≡ None
   pub over : pause H - step H now ≡ 0
 
@@ -133,7 +133,7 @@ packed w H c now f is p = go (frame_case w H now f is.answered.1)
 
     go : FrameCase w H now f → Packed w H now f
     go (claims o e) = absurd (not_both _ (no_packet f (claim_single f (claim_taken f now w _ e))) p)
-    go (acknowledges m o k g e) = absurd (not_both _ (no_packet f (due_taken w f now m e (due_get w (due w H) (length (acknowledged H)) m (sound w H right).desk.0 g)).2) p)
+    go (acknowledges m o k g e way) = absurd (not_both _ (no_packet f (due_taken w f now m e (due_get w (due w H) (length (acknowledged H)) m (sound w H right).desk.0 g)).2) p)
     go (replies m o k n g e) = absurd (not_both _ (reply_taken w.address f now m e (replied_get w.address (reception w H).replies 0 m (tidy w H).replies g)).3 p)
     go (sends x o k n g e) = absurd (not_both _ (no_packet f (single_taken w f now x e (own_get w (accepted w H) (length (sent H)) x (sound w H right).own g))) p)
     go (transfers m o k n past nothing g e) = absurd (not_both _ (transfer_taken w H now f m right e g).packet p)
@@ -146,7 +146,7 @@ packed w H c now f is p = go (frame_case w H now f is.answered.1)
           is = ap (λ (y : ℕ × Message). y.1) e ∙ x.frame;
           within = x.within;
           held = k;
-          none_due = (none_steers _ (slice_get (reception w H).replies 0) n).0;
+          none_due = (none_steers (next_acknowledgment w H now) (slice_get (reception w H).replies 0) n).0;
           none_waits = past;
           over = x.over;
         }
@@ -156,13 +156,13 @@ pub only : (w : Who) (H : List Call) (c : Controller) (now : ℕ) (f : FrameReco
 only w H c now f is p = let x = packed w H c now f is p in (x.token, x.message, x.current, x.is, x.within)
 
 pub behind : (w : Who) (H : List Call) (c : Controller) (now : ℕ) (f : FrameRecord) → Is w (At now (TakeFrame (Some f)) ∷ H) c → IsTrue (is_packet f)
-    → IsTrue (holds w H now) × (length (sent H) ≡ length (accepted w H)) × (acknowledged H ≡ due w H)
+    → IsTrue (holds w H now) × (length (sent H) ≡ length (accepted w H)) × (IsTrue (gives_way w H now) ⊎ (acknowledged H ≡ due w H))
 behind w H c now f is p =
     let x = packed w H c now f is p in
     let s = sound w H is.answered.0 in
     let a = past_end (accepted w H) (length (sent H)) x.none_waits in
     let b = sent_within w H s in
-    (x.held, omega (arith, a, b), whole (acknowledged H) (due w H) s.desk.1 (past_end (due w H) (length (acknowledged H)) x.none_due))
+    (x.held, omega (arith, a, b), all_acknowledged w H now is.answered.0 x.none_due)
 
 -- ---- their spacing
 
@@ -240,7 +240,7 @@ no_frame (Some x) i (suc left) e f = omega arith
 -- where no frame is taken from an address that is held, none of packets is next
 pub none_long : (w : Who) (H : List Call) (now : ℕ) → holds w H now ≡ true → (let none : Option (ℕ × Message) = None in none) ≡ next_frame w H now → next_long w H now ≡ None
 none_long w H now held e =
-    none (owes_claim w H) (holds w H now) (next_control w H) (slice_get (accepted w H) (length (sent H))) (next_long w H now) held e
+    none (claim_goes w H now) (holds w H now) (next_control w H now) (slice_get (accepted w H) (length (sent H))) (next_long w H now) held e
   where
     none : (o q : Bool) (a : Option Message) (z : Option (ℕ × Message)) (p : Option Message) → q ≡ true
         → (let none : Option (ℕ × Message) = None in none) ≡ frame_by o q a z p (claim_from w (claim_address w (address_after w H))) now → p ≡ None

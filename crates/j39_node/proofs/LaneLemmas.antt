@@ -121,7 +121,7 @@ lane_frame w H now f right case h = go case
 
     go : FrameCase w H now f → Laned w (length (told_broadcasts H)) (broadcasts w H) (packets (At now (TakeFrame (Some f)) ∷ H)) (open_broadcast w H)
     go (claims o e) = same (no_packet f (claim_single f (claim_taken f now w _ e)))
-    go (acknowledges m o k g e) = same (no_packet f (due_taken w f now m e (due_get w (due w H) (length (acknowledged H)) m (sound w H right).desk.0 g)).2)
+    go (acknowledges m o k g e way) = same (no_packet f (due_taken w f now m e (due_get w (due w H) (length (acknowledged H)) m (sound w H right).desk.0 g)).2)
     go (replies m o k n g e) = same (reply_taken w.address f now m e (replied_get w.address (reception w H).replies 0 m (tidy w H).replies g)).3
     go (sends x o k n g e) = same (no_packet f (single_taken w f now x e (own_get w (accepted w H) (length (sent H)) x (sound w H right).own g)))
     go (transfers m o k n past nothing g e) = same (transfer_taken w H now f m right e g).packet

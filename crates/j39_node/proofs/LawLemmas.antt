@@ -1,5 +1,6 @@
 -- The laws.
 use Rattle.std.proofs.Common.{◌≡◌, ◌≢◌, ◌⊎◌, ◌↔◌, ℕ, zero, suc, ◌+◌, ◌-◌, ◌<◌, ◌≤◌, List, [], ◌∷◌, ◌++◌, length, map, Option, Some, None, Result, Ok, Err, Bool, true, false, not, ◌&&◌, ◌||◌, if◌then◌else◌, nat_eq, nat_lt, nat_le, IsTrue, refl, sym, ap, ◌∙◌, inl, inr, arith, length-append, append-nil, eqb-true, eq-eqb, ltb-true, lt-ltb}
+use Rattle.std.proofs.lemmas.Bool.{and_from, and_parts}
 use Rattle.std.specs.List.{slice_get}
 use Rattle.std.proofs.lemmas.Option.{slice_get_past}
 use Rattle.j39_frame.specs.Frame.{FrameRecord}
@@ -17,18 +18,19 @@ use Rattle.j39_node.specs.declared.kinds.News.{News}
 use Rattle.j39_node.specs.declared.kinds.News.TheVariants.{AddressLost, AnotherAtAddress, MessagesMissed}
 use Rattle.j39_node.specs.declared.kinds.Refused.{Refused}
 use Rattle.j39_node.specs.declared.kinds.Refused.TheVariants.{NoAddress, BadValue, Full}
-use Rattle.j39_node.specs.History.{Who, Message, Draft, Call, Address, IsFront, accepted, address_after, calls_for_claim, can_send, claim_address, claim_from, content, frames, got, heard, holds, is_claim, is_smaller, claimed, is_for_program, is_held, is_lost, is_none, is_own_group, is_some, is_subscribed, kept, message_of, missed, moment, older, owes_claim, sent, step, told, Asked, asked, acknowledgment, acknowledgment_group, acknowledged, due, handed, requests, is_served, with_request, with_refusal, stamp_at, held_at, lost_news, another_news, missed_news, open_broadcast, packets, pause}
+use Rattle.j39_node.specs.History.{answers_another, calls, is_another, is_acknowledgment, patience, turns, Who, Message, Draft, Call, Address, IsFront, accepted, address_after, can_send, claim_address, claim_from, content, frames, got, heard, holds, is_claim, is_smaller, claimed, is_for_program, is_held, is_lost, is_none, is_own_group, is_some, is_subscribed, kept, message_of, missed, moment, older, owes_claim, sent, step, told, Asked, asked, acknowledgment, acknowledgment_group, acknowledged, due, handed, requests, is_served, with_request, with_refusal, stamp_at, held_at, lost_news, another_news, missed_news, open_broadcast, packets, pause}
 use Rattle.j39_node.specs.History.Call.{At, TakeEnded, TakeReceived, TakeRequest, TakeNews}
 use Rattle.j39_node.specs.History.Act.{Hear, Tick, TakeFrame, Send, Acknowledge}
 use Rattle.j39_node.specs.Reception.{is_waiting, reception}
 use Rattle.j39_node.proofs.ReceptionLemmas.{replied_get, tidy}
 use Rattle.j39_node.specs.History.Address.{NotClaimed, Claimed, Lost}
 use Rattle.j39_node.specs.Hearing.{unheard_news}
-use Rattle.j39_node.specs.Is.{Is, control_of, next_control, next_frame, end_of, status_of, status_after, news_of, next_long}
+use Rattle.j39_node.specs.Since.{passed_in}
+use Rattle.j39_node.specs.Is.{AreAnswered, Is, claim_goes, gives_way, is_there, next_acknowledgment, next_other, first_of, stamped, control_of, next_control, next_frame, end_of, status_of, status_after, news_of, next_long}
 use Rattle.j39_node.specs.Transfers.{age, at_in, next_due}
 use Rattle.j39_node.proofs.DueLemmas.{from_long, quiet_long, then_long}
 use Rattle.j39_node.proofs.QueueLemmas.{get_within, length_one_more, length_map}
-use Rattle.j39_node.proofs.SoundLemmas.{EndCase, FrameCase, SendCase, Sound, claim_taken, due_get, due_taken, end_case, frame_by, frame_case, front_length, held_older, lost_claimed, lost_older, message_taken, none_steers, own_get, packet_case, packet_taken, reply_taken, send_case, sound, transfer_taken}
+use Rattle.j39_node.proofs.SoundLemmas.{claim_is, due_is, given_way, none_acknowledged, none_due_goes, none_gives, plain_taken, EndCase, FrameCase, SendCase, Sound, claim_taken, due_get, due_taken, end_case, frame_by, frame_case, front_length, held_older, lost_claimed, lost_older, message_taken, none_steers, own_get, packet_case, packet_taken, reply_taken, send_case, sound, transfer_taken}
 use Rattle.j39_node.proofs.LaneLemmas.{laned, opened_by}
 use Rattle.j39_node.proofs.CallLemmas.{acknowledge_is, acknowledges_by, due_by}
 use Rattle.j39_node.proofs.SoundLemmas.FrameCase.{claims, acknowledges, replies, sends, packs, transfers}
@@ -45,7 +47,7 @@ moments w H c now f is = go (frame w H c now f is)
   where
     go : FrameCase w H now f → f.stamp ≡ now
     go (claims o e) = ap (λ (x : ℕ × Message). x.0) e
-    go (acknowledges m o h g e) = ap (λ (y : ℕ × Message). y.0) e
+    go (acknowledges m o h g e way) = ap (λ (y : ℕ × Message). y.0) e
     go (replies m o h k g e) = ap (λ (y : ℕ × Message). y.0) e
     go (sends x o h k g e) = ap (λ (y : ℕ × Message). y.0) e
     go (packs m o h k past g e) = ap (λ (y : ℕ × Message). y.0) e
@@ -59,7 +61,7 @@ sources w H c now f is = go (frame w H c now f is)
     go : FrameCase w H now f → (message_of f ≡ claim_from w (claim_address w (address_after w H)))
         ⊎ (IsTrue (holds w H now) × (source_of f.id ≡ w.address) × (pgn_of f.id ≢ address_claimed_group))
     go (claims o e) = inl (ap content e)
-    go (acknowledges m o h g e) =
+    go (acknowledges m o h g e way) =
         let is_due = due_get w (due w H) (length (acknowledged H)) m (sound w H is.answered.0).desk.0 g in
         inr (
           h,
@@ -178,12 +180,12 @@ withdrawn_means w H c k e is z = (told_is w H c k e is).withdrawn z
 pub none_waits : (w : Who) (H : List Call) (c : Controller) (now : ℕ) → Is w (At now (TakeFrame None) ∷ H) c → IsTrue (holds w H now)
     → (length (sent H) ≡ length (accepted w H)) × (length (acknowledged H) ≡ length (due w H))
 none_waits w H c now is held =
-    go (owes_claim w H) (holds w H now) (next_control w H) (slice_get (accepted w H) (length (sent H))) held refl refl is.answered.1
+    go (claim_goes w H now) (holds w H now) (next_control w H now) (slice_get (accepted w H) (length (sent H))) held refl refl is.answered.1
   where
     p : Option Message
     p = next_long w H now
 
-    go : (o q : Bool) (a : Option Message) (z : Option (ℕ × Message)) → q ≡ true → next_control w H ≡ a
+    go : (o q : Bool) (a : Option Message) (z : Option (ℕ × Message)) → q ≡ true → next_control w H now ≡ a
         → slice_get (accepted w H) (length (sent H)) ≡ z
         → (let none : Option (ℕ × Message) = None in none) ≡ frame_by o q a z p (claim_from w (claim_address w (address_after w H))) now
         → (length (sent H) ≡ length (accepted w H)) × (length (acknowledged H) ≡ length (due w H))
@@ -195,7 +197,7 @@ none_waits w H c now is held =
         let s = sound w H is.answered.0 in
         let x = past_end (accepted w H) (length (sent H)) f in
         let y = sent_within w H s in
-        let u = past_end (due w H) (length (acknowledged H)) (none_steers _ (slice_get (reception w H).replies 0) d).0 in
+        let u = past_end (due w H) (length (acknowledged H)) (sym (due_is w H now (none_gives w H now is.answered.1)) ∙ (none_steers (next_acknowledgment w H now) (slice_get (reception w H).replies 0) d).0) in
         let v = front_length (acknowledged H) (due w H) s.desk.1 in
         (omega (arith, x, y), omega (arith, u, v))
 
@@ -327,10 +329,10 @@ missed_full w H when f n = go (is_for_program w (holds w H when) f) (nat_lt (len
 
 -- ---- claims
 
-owed : (w : Who) (H : List Call) (now : ℕ) (f : FrameRecord) → FrameCase w H now f → owes_claim w H ≡ true
+owed : (w : Who) (H : List Call) (now : ℕ) (f : FrameRecord) → FrameCase w H now f → claim_goes w H now ≡ true
     → message_of f ≡ claim_from w (claim_address w (address_after w H))
 owed w H now f (claims o e) p = ap content e
-owed w H now f (acknowledges m o h g e) p = absurd (not_both _ o p)
+owed w H now f (acknowledges m o h g e way) p = absurd (not_both _ o p)
 owed w H now f (replies m o h k g e) p = absurd (not_both _ o p)
 owed w H now f (sends x o h k g e) p = absurd (not_both _ o p)
 owed w H now f (packs m o h k past g e) p = absurd (not_both _ o p)
@@ -350,18 +352,141 @@ still_owed w (At when (Hear f) ∷ later) H e o = or_true _ _ (still_owed w late
 still_owed w (At now (TakeFrame (Some f)) ∷ later) H e o = absurd (let a = ap length e in let b = length_one_more (frames later) f in omega (arith, a, b))
 still_owed w (call ∷ later) H e o = still_owed w later H e o
 
+-- it goes now, or gives way
+claimed_or_not : (w : Who) (H : List Call) (c : Controller) (now : ℕ) (g : FrameRecord) → Is w (At now (TakeFrame (Some g)) ∷ H) c → owes_claim w H ≡ true
+    → IsTrue (gives_way w H now) ⊎ (message_of g ≡ claim_from w (claim_address w (address_after w H)))
+claimed_or_not w H c now g is o = go (gives_way w H now) refl
+  where
+    go : (b : Bool) → gives_way w H now ≡ b → IsTrue (gives_way w H now) ⊎ (message_of g ≡ claim_from w (claim_address w (address_after w H)))
+    go true e = inl e
+    go false e = inr (owed w H now g (frame w H c now g is) (claim_is w H now e ∙ o))
+
 pub next_claim : (w : Who) (H later : List Call) (c : Controller) (now : ℕ) (when : ℕ) (f g : FrameRecord)
     → Is w (At now (TakeFrame (Some g)) ∷ later ++ At when (Hear f) ∷ H) c → frames later ≡ []
-    → IsTrue (calls_for_claim w (is_lost (address_after w H)) f)
-    → message_of g ≡ claim_from w (claim_address w (address_after w (later ++ At when (Hear f) ∷ H)))
-next_claim w H later c now when f g is none calls =
-    owed w _ now g (frame w (later ++ At when (Hear f) ∷ H) c now g is) (still_owed w later (At when (Hear f) ∷ H) none (or_right (owes_claim w H) _ calls))
+    → IsTrue (calls w H when f)
+    → IsTrue (gives_way w (later ++ At when (Hear f) ∷ H) now)
+    ⊎ (message_of g ≡ claim_from w (claim_address w (address_after w (later ++ At when (Hear f) ∷ H))))
+next_claim w H later c now when f g is none called = claimed_or_not w (later ++ At when (Hear f) ∷ H) c now g is
+    (still_owed w later (At when (Hear f) ∷ H) none (or_right (owes_claim w H) _ called))
+
+answered_before : (w : Who) (later H : List Call) → AreAnswered w (later ++ H) → AreAnswered w H
+answered_before w [] H h = h
+answered_before w (call ∷ later) H h = answered_before w later H h.0
+
+-- no frame is taken between
+same_turns : (later H : List Call) → frames later ≡ [] → turns (later ++ H) ≡ turns H
+same_turns [] H e = refl
+same_turns (At now (TakeFrame (Some f)) ∷ later) H e = absurd (let a = ap length e in let b = length_one_more (frames later) f in omega (arith, a, b))
+same_turns (call ∷ later) H e = same_turns later H e
+
+-- what goes where others give way is neither a claim nor an acknowledgment
+other_plain : (w : Who) (H : List Call) (now : ℕ) (f : FrameRecord) → AreAnswered w H → FrameCase w H now f → gives_way w H now ≡ true
+    → (is_claim f ≡ false) × (is_acknowledgment f ≡ false)
+other_plain w H now f right (claims o e) g = absurd (not_both _ (ap not g) (and_parts (owes_claim w H) (not (gives_way w H now)) o).1)
+other_plain w H now f right (acknowledges m o h k e way) g = absurd (not_both _ way g)
+other_plain w H now f right (replies m o h k i e) g = let r = reply_taken w.address f now m e (replied_get w.address (reception w H).replies 0 m (tidy w H).replies i) in (r.0, r.1)
+other_plain w H now f right (sends x o h k i e) g =
+    let own = own_get w (accepted w H) (length (sent H)) x (sound w H right).own i in (message_taken w f now x e own, plain_taken w f now x e own)
+other_plain w H now f right (packs m o h k past i e) g =
+    let p = packet_taken f now m (open_broadcast w H) (length (packets H)) (pause H - step H now) e i in (p.0, p.1)
+other_plain w H now f right (transfers m o h k past nothing i e) g = let t = transfer_taken w H now f m right e i in (t.claim, t.plain)
+
+-- and the one after it does, where it gave way
+pub second_claim : (w : Who) (H later between : List Call) (c : Controller) (last now when : ℕ) (f g i : FrameRecord)
+    → Is w (At last (TakeFrame (Some i)) ∷ between ++ (At now (TakeFrame (Some g)) ∷ later ++ At when (Hear f) ∷ H)) c → frames later ≡ [] → frames between ≡ []
+    → IsTrue (calls w H when f) → IsTrue (gives_way w (later ++ At when (Hear f) ∷ H) now)
+    → message_of i ≡ claim_from w (claim_address w (address_after w (between ++ (At now (TakeFrame (Some g)) ∷ later ++ At when (Hear f) ∷ H))))
+second_claim w H later between c last now when f g i is none none_between called gives =
+    elim (claimed_or_not w (between ++ (At now (TakeFrame (Some g)) ∷ later ++ At when (Hear f) ∷ H)) c last i is (still_owed w between (At now (TakeFrame (Some g)) ∷ later ++ At when (Hear f) ∷ H) none_between still)) [
+      | inl again ↦ absurd (few (turns (between ++ (At now (TakeFrame (Some g)) ∷ later ++ At when (Hear f) ∷ H))) (and_parts (nat_le 2 (turns (between ++ (At now (TakeFrame (Some g)) ∷ later ++ At when (Hear f) ∷ H)))) _ again).0 (same_turns between (At now (TakeFrame (Some g)) ∷ later ++ At when (Hear f) ∷ H) none_between ∙ over))
+      | inr claim ↦ claim
+    ]
+  where
+    few : (n : ℕ) → nat_le 2 n ≡ true → n ≡ 0 → ⊥
+    few n e z = grind (arith, z)
+
+    right : AreAnswered w (At now (TakeFrame (Some g)) ∷ later ++ At when (Hear f) ∷ H)
+    right = answered_before w between (At now (TakeFrame (Some g)) ∷ later ++ At when (Hear f) ∷ H) is.answered.0
+
+    plain : (is_claim g ≡ false) × (is_acknowledgment g ≡ false)
+    plain = other_plain w (later ++ At when (Hear f) ∷ H) now g right.0 (frame_case w (later ++ At when (Hear f) ∷ H) now g right.1) gives
+
+    still : owes_claim w (At now (TakeFrame (Some g)) ∷ later ++ At when (Hear f) ∷ H) ≡ true
+    still = ap (λ (b : Bool). if b then false else owes_claim w (later ++ At when (Hear f) ∷ H)) plain.0 ∙ still_owed w later (At when (Hear f) ∷ H) none (or_right (owes_claim w H) _ called)
+
+    over : turns (At now (TakeFrame (Some g)) ∷ later ++ At when (Hear f) ∷ H) ≡ 0
+    over = ap (λ (b : Bool). if b then suc (turns (later ++ At when (Hear f) ∷ H)) else 0) (ap (λ (b : Bool). b || is_acknowledgment g) plain.0 ∙ plain.1)
+
+-- another at the address isn't answered again for 5 seconds
+pub answered_once : (w : Who) (H later : List Call) (when now : ℕ) (f g : FrameRecord) → IsTrue (answers_another w H when f)
+    → passed_in later (At when (Hear f) ∷ H) + step (later ++ At when (Hear f) ∷ H) now < 5000000
+    → answers_another w (later ++ At when (Hear f) ∷ H) now g ≡ false
+answered_once w H later when now f g e l =
+    let p = patient later in
+    never (is_another w (holds w (later ++ At when (Hear f) ∷ H) now) g) (patience w (later ++ At when (Hear f) ∷ H) - step (later ++ At when (Hear f) ∷ H) now)
+    (omega (arith, p, l))
+  where
+    begins : 5000000 ≤ patience w (At when (Hear f) ∷ H)
+    begins = let z = ap (λ (b : Bool). if b then 5000000 else patience w H - step H when) e in omega (arith, z)
+
+    more : (b : Bool) (p s q : ℕ) → 5000000 ≤ p + q → 5000000 ≤ (if b then 5000000 else p - s) + (q + s)
+    more true p s q l = omega arith
+    more false p s q l = omega (arith, l)
+
+    patient : (later : List Call) → 5000000 ≤ patience w (later ++ At when (Hear f) ∷ H) + passed_in later (At when (Hear f) ∷ H)
+    patient [] = let b = begins in omega (arith, b)
+    patient (At now (Hear g) ∷ later) =
+        more (answers_another w (later ++ At when (Hear f) ∷ H) now g) (patience w (later ++ At when (Hear f) ∷ H)) (step (later ++ At when (Hear f) ∷ H) now)
+        (passed_in later (At when (Hear f) ∷ H)) (patient later)
+    patient (call ∷ later) = let h = patient later in omega (arith, h)
+
+    never : (b : Bool) (n : ℕ) → 0 < n → (b && nat_eq n 0) ≡ false
+    never true n l = grind (arith, l)
+    never false n l = refl
+
+-- ---- none is silenced
+
+-- behind two claims or acknowledgments in a row goes what else is due
+pub takes_turns : (w : Who) (H later between : List Call) (c : Controller) (last second first : ℕ) (f g i : FrameRecord) (m : Message)
+    → Is w (At last (TakeFrame (Some i)) ∷ between ++ (At second (TakeFrame (Some g)) ∷ later ++ At first (TakeFrame (Some f)) ∷ H)) c
+    → frames later ≡ [] → frames between ≡ [] → IsTrue (is_claim f || is_acknowledgment f) → IsTrue (is_claim g || is_acknowledgment g)
+    → next_other w (between ++ (At second (TakeFrame (Some g)) ∷ later ++ At first (TakeFrame (Some f)) ∷ H)) last ≡ Some m → message_of i ≡ m
+takes_turns w H later between c last second first f g i m is none none_between p q e =
+    let x = given_way w (between ++ (At second (TakeFrame (Some g)) ∷ later ++ At first (TakeFrame (Some f)) ∷ H)) last (and_from (nat_le 2 (turns (between ++ (At second (TakeFrame (Some g)) ∷ later ++ At first (TakeFrame (Some f)) ∷ H)))) (is_there (next_other w (between ++ (At second (TakeFrame (Some g)) ∷ later ++ At first (TakeFrame (Some f)) ∷ H)) last)) two (ap is_there e)) in
+    let s : Some (stamped i) ≡ Some (last, x.0) = is.answered.1 ∙ x.2 in
+    let y : Some x.0 ≡ Some m = sym x.1 ∙ e in
+    let z : x.0 ≡ m = cc in
+    let t : stamped i ≡ (last, x.0) = cc in ap (λ (y : ℕ × Message). y.1) t ∙ z
+  where
+    twice : (n k m : ℕ) → n ≡ k → k ≡ suc (suc m) → nat_le 2 n ≡ true
+    twice n k m e f = grind (arith, e, f)
+
+    two : nat_le 2 (turns (between ++ (At second (TakeFrame (Some g)) ∷ later ++ At first (TakeFrame (Some f)) ∷ H))) ≡ true
+    two = twice (turns (between ++ (At second (TakeFrame (Some g)) ∷ later ++ At first (TakeFrame (Some f)) ∷ H))) (turns (At second (TakeFrame (Some g)) ∷ later ++ At first (TakeFrame (Some f)) ∷ H)) (turns H) (same_turns between (At second (TakeFrame (Some g)) ∷ later ++ At first (TakeFrame (Some f)) ∷ H) none_between)
+        (ap (λ (b : Bool). if b then suc (turns (later ++ At first (TakeFrame (Some f)) ∷ H)) else 0) q
+        ∙ ap suc (same_turns later (At first (TakeFrame (Some f)) ∷ H) none ∙ ap (λ (b : Bool). if b then suc (turns H) else 0) p))
+
+-- a message or a reply that waits is due, and so is a frame of packets
+pub others_due : (w : Who) (H : List Call) (now : ℕ) → IsTrue (holds w H now)
+    → (length (sent H) < length (accepted w H)) ⊎ (((reception w H).replies ≢ []) ⊎ (next_long w H now ≢ None)) → next_other w H now ≢ None
+others_due w H now held one e = go (reception w H).replies (slice_get (accepted w H) (length (sent H))) (next_long w H now) refl refl refl
+    (sym (ap (λ (b : Bool). if b then first_of (slice_get (reception w H).replies 0) (slice_get (accepted w H) (length (sent H))) (next_long w H now) else None) held) ∙ e)
+  where
+    go : (R : List Message) (o : Option (ℕ × Message)) (p : Option Message) → (reception w H).replies ≡ R → slice_get (accepted w H) (length (sent H)) ≡ o
+        → next_long w H now ≡ p → first_of (slice_get R 0) o p ≡ None → ⊥
+    go (m ∷ R) o p i j k z = absurd (cc)
+    go [] (Some x) p i j k z = absurd (cc)
+    go [] None (Some m) i j k z = absurd (cc)
+    go [] None None i j k z = elim one [
+      | inl s ↦ (let a = past_end (accepted w H) (length (sent H)) j in omega (arith, s, a))
+      | inr y ↦ elim y [ inl r ↦ r i | inr l ↦ l k ]
+    ]
 
 pub claims_at_once : (w : Who) (H : List Call) (c : Controller) (now : ℕ) (answer : Option FrameRecord) → Is w (At now (TakeFrame answer) ∷ H) c
     → IsTrue (owes_claim w H) → answer ≢ None
 claims_at_once w H c now (Some f) is o z = absurd (cc)
 claims_at_once w H c now None is o z =
-    go (owes_claim w H) (next_control w H) (slice_get (accepted w H) (length (sent H))) o is.answered.1
+    go (claim_goes w H now) (next_control w H now) (slice_get (accepted w H) (length (sent H))) (claim_is w H now (none_gives w H now is.answered.1) ∙ o) is.answered.1
   where
     go : (b : Bool) (a : Option Message) (y : Option (ℕ × Message)) → b ≡ true
         → (let none : Option (ℕ × Message) = None in none) ≡ frame_by b (holds w H now) a y (next_long w H now) (claim_from w (claim_address w (address_after w H))) now → ⊥
@@ -373,8 +498,8 @@ pub claims_only : (w : Who) (H : List Call) (c : Controller) (now : ℕ) (f : Fr
 claims_only w H c now f is z = go (frame w H c now f is)
   where
     go : FrameCase w H now f → owes_claim w H ≡ true
-    go (claims o e) = o
-    go (acknowledges m o h g e) =
+    go (claims o e) = (and_parts (owes_claim w H) (not (gives_way w H now)) o).0
+    go (acknowledges m o h g e way) =
         absurd (not_both _ (due_taken w f now m e (due_get w (due w H) (length (acknowledged H)) m (sound w H is.answered.0).desk.0 g)).0 (eq-eqb (pgn_of f.id) address_claimed_group z))
     go (replies m o h k g e) =
         absurd (not_both _ (reply_taken w.address f now m e (replied_get w.address (reception w H).replies 0 m (tidy w H).replies g)).0 (eq-eqb (pgn_of f.id) address_claimed_group z))
@@ -509,21 +634,28 @@ all_handed w H c is = whole (handed H) (requests w H) (sound w H is.answered.0).
 pub acknowledged_in_order : (w : Who) (H : List Call) (c : Controller) → Is w H c → IsFront (acknowledged H) (due w H)
 acknowledged_in_order w H c is = (sound w H is.answered).desk.1
 
+pub all_acknowledged : (w : Who) (H : List Call) (now : ℕ) → AreAnswered w H → next_acknowledgment w H now ≡ None
+    → IsTrue (gives_way w H now) ⊎ (acknowledged H ≡ due w H)
+all_acknowledged w H now right e = elim (none_acknowledged w H now e) [
+  | inl g ↦ inl g
+  | inr n ↦ inr (whole (acknowledged H) (due w H) (sound w H right).desk.1 (past_end (due w H) (length (acknowledged H)) n))
+]
+
 pub acknowledged_first : (w : Who) (H : List Call) (c : Controller) (now : ℕ) (f : FrameRecord) → Is w (At now (TakeFrame (Some f)) ∷ H) c
-    → pgn_of f.id ≢ address_claimed_group → pgn_of f.id ≢ acknowledgment_group → acknowledged H ≡ due w H
+    → pgn_of f.id ≢ address_claimed_group → pgn_of f.id ≢ acknowledgment_group → IsTrue (gives_way w H now) ⊎ (acknowledged H ≡ due w H)
 acknowledged_first w H c now f is n m = go (frame w H c now f is)
   where
-    go : FrameCase w H now f → acknowledged H ≡ due w H
+    go : FrameCase w H now f → IsTrue (gives_way w H now) ⊎ (acknowledged H ≡ due w H)
     go (claims o e) = absurd (n (eqb-true _ _ (claim_taken f now w _ e)))
-    go (acknowledges x o h g e) =
+    go (acknowledges x o h g e way) =
         absurd (m (ap (λ (y : ℕ × Message). y.1.group) e ∙ (due_get w (due w H) (length (acknowledged H)) x (sound w H is.answered.0).desk.0 g).group))
-    go (replies m o h k g e) = whole (acknowledged H) (due w H) (sound w H is.answered.0).desk.1 (past_end (due w H) (length (acknowledged H)) k)
+    go (replies m o h k g e) = all_acknowledged w H now is.answered.0 k
     go (sends x o h k g e) =
-        whole (acknowledged H) (due w H) (sound w H is.answered.0).desk.1 (past_end (due w H) (length (acknowledged H)) (none_steers _ (slice_get (reception w H).replies 0) k).0)
+        all_acknowledged w H now is.answered.0 (none_steers (next_acknowledgment w H now) (slice_get (reception w H).replies 0) k).0
     go (packs x o h k past g e) =
-        whole (acknowledged H) (due w H) (sound w H is.answered.0).desk.1 (past_end (due w H) (length (acknowledged H)) (none_steers _ (slice_get (reception w H).replies 0) k).0)
+        all_acknowledged w H now is.answered.0 (none_steers (next_acknowledgment w H now) (slice_get (reception w H).replies 0) k).0
     go (transfers x o h k past nothing g e) =
-        whole (acknowledged H) (due w H) (sound w H is.answered.0).desk.1 (past_end (due w H) (length (acknowledged H)) (none_steers _ (slice_get (reception w H).replies 0) k).0)
+        all_acknowledged w H now is.answered.0 (none_steers (next_acknowledgment w H now) (slice_get (reception w H).replies 0) k).0
 
 pub is_acknowledged : (w : Who) (H : List Call) (c : Controller) (now : ℕ) (r : Asked) (a : Answer) (result : Result (Unit {0}) Refused)
     → Is w (At now (Acknowledge r a result) ∷ H) c → IsTrue (holds w H now) → r.destination ≡ w.address → length (due w H) < length (acknowledged H) + 16
@@ -590,8 +722,9 @@ past L n e = slice_get_past L n (not_lt n (length L) e)
     not_lt : (i k : ℕ) → nat_lt i k ≡ false → k ≤ i
     not_lt i k f = grind arith
 
-no_control : (w : Who) (H : List Call) → slice_get (due w H) (length (acknowledged H)) ≡ None → slice_get (reception w H).replies 0 ≡ None → next_control w H ≡ None
-no_control w H e f = ap (λ (x : Option Message). control_of x (slice_get (reception w H).replies 0)) e ∙ f
+no_control : (w : Who) (H : List Call) (now : ℕ) → slice_get (due w H) (length (acknowledged H)) ≡ None → slice_get (reception w H).replies 0 ≡ None
+    → next_control w H now ≡ None
+no_control w H now e f = ap (λ (x : Option Message). control_of x (slice_get (reception w H).replies 0)) (none_due_goes w H now e) ∙ f
 
 none_by : (h : Bool) (x : Option Message) (y : Option (ℕ × Message)) (p : Option Message) (m : Message) (now : ℕ)
     → (h ≡ false) ⊎ ((x ≡ None) × (y ≡ None) × (p ≡ None)) → frame_by false h x y p m now ≡ None
@@ -622,7 +755,7 @@ still_waits w H now n l m q e = go (nat_lt (moment H + n) 10000000000000000) ref
 nothing_taken : (w : Who) (H : List Call) (now : ℕ) → moment H ≤ now → now < 10000000000000000 → Quiet w H now → next_frame w H now ≡ None
 unfolding Quiet
 nothing_taken w H now l m q =
-    ap (λ (b : Bool). frame_by b (holds w H now) (next_control w H) (slice_get (accepted w H) (length (sent H))) (next_long w H now) c now) o.0
+    ap (λ (b : Bool). frame_by b (holds w H now) (next_control w H now) (slice_get (accepted w H) (length (sent H))) (next_long w H now) c now) (ap (λ (b : Bool). b && not (gives_way w H now)) o.0)
     ∙ none_by (holds w H now) _ _ _ c now (held (is_held (address_after w H)) refl)
   where
     c : Message
@@ -638,12 +771,12 @@ nothing_taken w H now l m q =
     long z = quiet_long w H now (λ k f. still_waits w H now k l m q (due_later w H true n z ∙ ap (at_in (moment H)) f))
 
     held : (b : Bool) → is_held (address_after w H) ≡ b
-        → (holds w H now ≡ false) ⊎ ((next_control w H ≡ None) × (slice_get (accepted w H) (length (sent H)) ≡ None) × (next_long w H now ≡ None))
+        → (holds w H now ≡ false) ⊎ ((next_control w H now ≡ None) × (slice_get (accepted w H) (length (sent H)) ≡ None) × (next_long w H now ≡ None))
     held false z = inl (not_held_yet w H now (address_after w H) l m (λ t e. q t (due_later w H false n z ∙ e)) z)
     held true z =
         let v = or_false _ _ (sym (ap (λ (b : Bool). b && is_waiting w H) z) ∙ o.1) in
         let u = or_false _ _ v.1 in
-        inr (no_control w H (past (due w H) (length (acknowledged H)) u.0) (past (reception w H).replies 0 u.1), past (accepted w H) (length (sent H)) v.0, long z)
+        inr (no_control w H now (past (due w H) (length (acknowledged H)) u.0) (past (reception w H).replies 0 u.1), past (accepted w H) (length (sent H)) v.0, long z)
 
 pub quiet : (w : Who) (H : List Call) (c : Controller) (now : ℕ) (answer : Option FrameRecord) → Is w (At now (TakeFrame answer) ∷ H) c → moment H ≤ now
     → now < 10000000000000000 → ((t : ℕ) → next_due w H ≡ Some t → now < t) → answer ≡ None
@@ -693,10 +826,13 @@ none_taken : (w : Who) (H : List Call) (c : Controller) (now : ℕ) → Is w (At
     → (next_due w H ≡ due_by w H false false → is_held (address_after w H) ≡ false → ⊥) → ⊥
 none_taken w H c now is long later = go (owes_claim w H) (is_held (address_after w H)) (is_waiting w H) refl refl refl
   where
+    stays : gives_way w H now ≡ false
+    stays = none_gives w H now is.answered.1
+
     by : (owes_claim w H ≡ true)
-        ⊎ ((holds w H now ≡ true) × ((next_control w H ≡ None) × (slice_get (accepted w H) (length (sent H)) ≡ None) × (next_long w H now ≡ None) → ⊥)) → ⊥
-    by x = some_by (owes_claim w H) (holds w H now) (next_control w H) (slice_get (accepted w H) (length (sent H))) (next_long w H now)
-        (claim_from w (claim_address w (address_after w H))) now x is.answered.1
+        ⊎ ((holds w H now ≡ true) × ((next_control w H now ≡ None) × (slice_get (accepted w H) (length (sent H)) ≡ None) × (next_long w H now ≡ None) → ⊥)) → ⊥
+    by x = some_by (claim_goes w H now) (holds w H now) (next_control w H now) (slice_get (accepted w H) (length (sent H))) (next_long w H now)
+        (claim_from w (claim_address w (address_after w H))) now (elim x [ inl o ↦ inl (claim_is w H now stays ∙ o) | inr r ↦ inr r ]) is.answered.1
 
     none : (h x : Bool) → owes_claim w H ≡ false → is_held (address_after w H) ≡ h → is_waiting w H ≡ x → (h && x) ≡ false
         → (owes_claim w H || (is_held (address_after w H) && is_waiting w H)) ≡ false
@@ -706,8 +842,8 @@ none_taken w H c now is long later = go (owes_claim w H) (is_held (address_after
     go true h x p q r = by (inl p)
     go false true true p q r = by (inr (
       held_older _ (address_after w H) q,
-      λ n. (let k = none_steers _ (slice_get (reception w H).replies 0) n.0 in
-          let a = there (due w H) (length (acknowledged H)) k.0 in let b = there (accepted w H) (length (sent H)) n.1 in let v = there (reception w H).replies 0 k.1 in
+      λ n. (let k = none_steers (next_acknowledgment w H now) (slice_get (reception w H).replies 0) n.0 in
+          let a = there (due w H) (length (acknowledged H)) (sym (due_is w H now stays) ∙ k.0) in let b = there (accepted w H) (length (sent H)) n.1 in let v = there (reception w H).replies 0 k.1 in
           let d : is_waiting w H ≡ false =
           ap (λ (u : Bool). u || (nat_lt (length (acknowledged H)) (length (due w H)) || nat_lt 0 (length (reception w H).replies))) b
           ∙ (ap (λ (u : Bool). u || nat_lt 0 (length (reception w H).replies)) a ∙ v) in

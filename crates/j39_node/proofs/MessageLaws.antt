@@ -5,10 +5,10 @@ use Rattle.j39_frame.specs.Frame.{FrameRecord}
 use Rattle.j39_node.specs.declared.controller.Controller.{Controller}
 use Rattle.j39_node.specs.declared.kinds.Ending.{Ending}
 use Rattle.j39_node.specs.declared.kinds.Ending.TheVariants.{Done, Withdrawn}
-use Rattle.j39_node.specs.History.{Who, Message, Draft, Call, accepted, address_after, claim_address, claim_from, holds, is_acknowledgment, is_claim, is_held, is_lost, is_session, message_from, message_of, moment, owes_claim, request_for, sent, step, told}
+use Rattle.j39_node.specs.History.{Who, Message, Draft, Call, accepted, address_after, claim_address, claim_from, holds, is_acknowledgment, is_claim, is_held, is_lost, is_session, message_from, message_of, moment, request_for, sent, step, told}
 use Rattle.j39_node.specs.History.Call.{At}
 use Rattle.j39_node.specs.History.Act.{Ask, Hear, Send, TakeFrame}
-use Rattle.j39_node.specs.Is.{AreAnswered, Is, IsAnswered, end_of, next_control, next_ended, next_frame, next_long}
+use Rattle.j39_node.specs.Is.{claim_goes, AreAnswered, Is, IsAnswered, end_of, next_control, next_ended, next_frame, next_long}
 use Rattle.j39_node.specs.Prompt.{IsPrompt, waited_in}
 use Rattle.j39_node.specs.Since.{passed_in}
 use Rattle.j39_node.proofs.AskCases.{AskCase, ask_case}
@@ -23,7 +23,7 @@ use Rattle.j39_node.proofs.SoundLemmas.SendCase.{no_address, bad_value, full, ac
 none_waits : (w : Who) (H : List Call) (now : ℕ) → holds w H now ≡ true → (let none : Option (ℕ × Message) = None in none) ≡ next_frame w H now
     → slice_get (accepted w H) (length (sent H)) ≡ None
 none_waits w H now held e =
-    none (owes_claim w H) (holds w H now) (next_control w H) (slice_get (accepted w H) (length (sent H))) (next_long w H now) held e
+    none (claim_goes w H now) (holds w H now) (next_control w H now) (slice_get (accepted w H) (length (sent H))) (next_long w H now) held e
   where
     none : (o q : Bool) (a : Option Message) (z : Option (ℕ × Message)) (p : Option Message) → q ≡ true
         → (let none : Option (ℕ × Message) = None in none) ≡ frame_by o q a z p (claim_from w (claim_address w (address_after w H))) now → z ≡ None

@@ -11,7 +11,7 @@ use Rattle.j39_node.specs.declared.kinds.TransferEnding.{TransferEnding}
 use Rattle.j39_node.specs.History.{Who, Message, Call, accepted, acknowledged, address_after, broadcast_from, due, holds, is_lost, message_of, open_broadcast, packets, pause, sent, step}
 use Rattle.j39_node.specs.History.Call.{At, TakeTransferEnded}
 use Rattle.j39_node.specs.History.Act.{Hear, TakeFrame, Transfer}
-use Rattle.j39_node.specs.Is.{AreAnswered, next_packet}
+use Rattle.j39_node.specs.Is.{AreAnswered, next_packet, next_acknowledgment}
 use Rattle.j39_node.specs.Transfers.{is_resting, Running, begun, clock_at, gives_up, hears, hears_if, is_engaged, is_replaced, is_spent, listens, open_transfer, says, sends, sends_if, signal_by, told_transfers, transfer_by, transfer_end, transfers as all_transfers}
 use Rattle.j39_node.specs.Reception.{holder, is_move, reception}
 use Rattle.j39_node.specs.Moves.{Happened, begins, moves}
@@ -33,12 +33,12 @@ pub record Sent (w : Who) (H : List Call) (now : ℕ) (f : FrameRecord) : Type 0
   pub said : signal_by running (clock_at H now) ≡ Some signal
   pub frame : message_of f ≡ says running.sender signal
   pub held : holds w H now ≡ true
-  pub none_due : slice_get (due w H) (length (acknowledged H)) ≡ None
+  pub none_due : next_acknowledgment w H now ≡ None
   pub none_waits : slice_get (accepted w H) (length (sent H)) ≡ None
   pub no_packet : next_packet w H now ≡ None
 
 said_by : (w : Who) (H : List Call) (now : ℕ) (f : FrameRecord) (m : Message) (o : Option Running) → open_transfer w H ≡ o → transfer_by o (clock_at H now) ≡ Some m
-    → message_of f ≡ m → holds w H now ≡ true → slice_get (due w H) (length (acknowledged H)) ≡ None → slice_get (accepted w H) (length (sent H)) ≡ None
+    → message_of f ≡ m → holds w H now ≡ true → next_acknowledgment w H now ≡ None → slice_get (accepted w H) (length (sent H)) ≡ None
     → next_packet w H now ≡ None → Sent w H now f
 said_by w H now f m None e g k a b c d = absurd (cc)
 said_by w H now f m (Some t) e g k a b c d = go (signal_by t (clock_at H now)) refl g
@@ -59,7 +59,7 @@ said_by w H now f m (Some t) e g k a b c d = go (signal_by t (clock_at H now)) r
 
 pub sent_case : (w : Who) (H : List Call) (now : ℕ) (f : FrameRecord) → AreAnswered w H → FrameCase w H now f → is_move w H f ≡ true → Sent w H now f
 sent_case w H now f right (claims o e) p = absurd (not_both _ (no_move w H f (no_transfer f (claim_single f (claim_taken f now w _ e)))) p)
-sent_case w H now f right (acknowledges m o k g e) p =
+sent_case w H now f right (acknowledges m o k g e way) p =
     absurd (not_both _ (no_move w H f (no_transfer f (due_taken w f now m e (due_get w (due w H) (length (acknowledged H)) m (sound w H right).desk.0 g)).2)) p)
 sent_case w H now f right (replies m o k n g e) p = absurd (not_both _ (reply_no_move w H f m g) p)
 sent_case w H now f right (sends_one x o k n g e) p =
@@ -67,7 +67,7 @@ sent_case w H now f right (sends_one x o k n g e) p =
 sent_case w H now f right (packs m o k n past g e) p =
     absurd (not_both _ (no_move w H f (packet_session f (packet_taken f now m (open_broadcast w H) (length (packets H)) (pause H - step H now) e g).2).1) p)
 sent_case w H now f right (transfers m o k n past nothing g e) p =
-    said_by w H now f m (open_transfer w H) refl g (ap (λ (y : ℕ × Message). y.1) e) k (none_steers _ (slice_get (reception w H).replies 0) n).0 past nothing
+    said_by w H now f m (open_transfer w H) refl g (ap (λ (y : ℕ × Message). y.1) e) k (none_steers (next_acknowledgment w H now) (slice_get (reception w H).replies 0) n).0 past nothing
 
 -- ---- what was taken of the open transfer
 

@@ -1,10 +1,10 @@
 -- When a controller may move, by what it has; and what it is then.
-use Rattle.std.proofs.Common.{◌≡◌, ℕ, ◌-◌, ◌≤◌, ◌<◌, ◌≢◌, List, [], ◌∷◌, length, map, Option, Some, None, Bool, true, false, not, ◌&&◌, ◌||◌, nat_eq, refl, sym, ap, ◌∙◌, subst, arith, eq-eqb, eqb-true}
+use Rattle.std.proofs.Common.{◌≡◌, ℕ, ◌+◌, ◌-◌, ◌≤◌, ◌<◌, ◌≢◌, List, [], ◌∷◌, length, map, Option, Some, None, Bool, true, false, not, ◌&&◌, ◌||◌, nat_eq, refl, sym, ap, ◌∙◌, subst, arith, eq-eqb, eqb-true}
 use Rattle.std.proofs.lemmas.Bool.{and_parts, and_from}
 use Rattle.std.specs.Option.{is_some, option_map}
 use Rattle.j39_node.specs.declared.controller.Controller.{Controller}
+use Rattle.j39_node.specs.declared.hold.Hold.{Hold}
 use Rattle.j39_node.specs.declared.news.Untold.{Untold}
-use Rattle.j39_node.specs.declared.hold.Standing.TheVariants as standing
 use Rattle.j39_address.specs.Claim.{Claim}
 use Rattle.j39_address.specs.Claims.{Knows, holder_in}
 use Rattle.j39_address.specs.Holder.{IsHolderAfter}
@@ -12,14 +12,17 @@ use Rattle.j39_address.specs.Node.{IsLeastFree, NoneFree}
 use Rattle.j39_address.specs.declared.claims.Claims.{Claims}
 use Rattle.j39_address.proofs.HolderLemmas.{same_holder}
 use Rattle.j39_address.specs.Name.{name_raw}
-use Rattle.j39_node.specs.History.{Who, Call, accepted, got, handed, kept, open_broadcast, requests, told, told_claims}
-use Rattle.j39_node.specs.Reception.{has_place, no_reception, reception}
+use Rattle.j39_node.specs.History.{Who, Call, moment, accepted, got, handed, kept, open_broadcast, requests, told, told_claims}
+use Rattle.j39_node.specs.Reception.{has_place, later, no_reception, ticked, time_heard, reception}
 use Rattle.j39_node.specs.Hearing.{waiting, whole_of}
-use Rattle.j39_node.specs.Transfers.{NoneRests, open_transfer}
+use Rattle.j39_node.specs.Transfers.{open_transfer, rest}
+use Rattle.j39_node.specs.Hold.{moved as hold_moved}
+use Rattle.j39_transport.specs.Receiving.{recv_step}
+use Rattle.j39_transport.specs.Reception.{takes_tick}
 use Rattle.j39_node.specs.Asking.{Question}
 use Rattle.j39_node.specs.declared.kinds.AskEnding.{AskEnding}
-use Rattle.j39_node.specs.Is.{HearingRecord, IncomingRecord, Is, LaneRecord, PortRecord, asked_by, asking_of, hearing_of, incoming_of, lane_of, news_of, next_news, port_of, posted, received_by, refusal_by, request_by}
-use Rattle.j39_node.specs.Moving.{IsSettled, has_given, has_told, moved}
+use Rattle.j39_node.specs.Is.{hold_after, HearingRecord, IncomingRecord, Is, LaneRecord, PortRecord, asked_by, asking_of, hearing_of, incoming_of, lane_of, news_of, next_news, port_of, posted, received_by, refusal_by, request_by}
+use Rattle.j39_node.specs.Moving.{HasMoved, IsSettled, begun, has_given, has_told, moved}
 use Rattle.j39_node.proofs.QueueLemmas.{length_rest}
 use Rattle.j39_node.proofs.SoundLemmas.{front_length, read, sound}
 
@@ -165,15 +168,26 @@ none_untold u e = go u.lost u.another u.missed refl refl refl e
     go false false true i j k e = absurd (cc)
     go false false false i j k e = λ l. untold (i l) (j l) (k l)
 
+brought_on : (m r : ℕ) → r ≡ m + r - (m - 0)
+brought_on m r = omega arith
+
+none_less : (m : ℕ) → m ≡ m - 0
+none_less m = omega arith
+
+-- a tick without a session
+none_ticked : (own stamp now : ℕ) → no_reception ≡ ticked own stamp now no_reception
+unfolding recv_step takes_tick
+none_ticked own stamp now = refl
+
 pub begins_anew : (w : Who) (H : List Call) (old new : Controller) (a : ℕ) → Is w H old → (has_told old && has_given old) ≡ true
     → new.own.name ≡ old.own.name → new.own.address ≡ a → new.own.served.items ≡ old.own.served.items → new.own.subscribed ≡ old.own.subscribed
-    → new.hold ≡ record { moment = 0; standing = standing.Idle; owes_claim = true; pause = 0; age = 0; wait = 0; rest = 0 }
+    → new.hold ≡ hold_moved old.hold
     → new.outgoing ≡ old.outgoing → new.taken ≡ 0 → new.next_token ≡ 0 → new.asking ≡ old.asking → new.inbox.unread ≡ old.inbox.unread → new.inbox.missed ≡ 0
     → new.desk.waiting ≡ old.desk.waiting → new.desk.due.items ≡ [] → new.news ≡ old.news → new.holders ≡ old.holders
     → new.lane ≡ record { current = None; count = 0; next_token = 0 }
-    → incoming_of new.incoming ≡ record { moment = 0; clock = 0; own = a; has_box = true; reception = no_reception }
-    → port_of new.transfers ≡ record { current = None; next_token = 0; resting = NoneRests } → hearing_of new.hearing ≡ record { current = None; missed = 0 }
-    → Is (moved w H a) [] new
+    → incoming_of new.incoming ≡ record { moment = old.hold.moment; clock = later 0 old.hold.moment; own = a; has_box = true; reception = no_reception }
+    → port_of new.transfers ≡ record { current = None; next_token = 0; resting = (port_of old.transfers).resting } → hearing_of new.hearing ≡ record { current = None; missed = 0 }
+    → HasMoved w H a new
 begins_anew w H old new a h e o1 o2 o3 o4 q1 q2 q3 q4 q5 q6 q7 q8 q9 q10 q11 q12 q15 q16 q18 =
     let p = and_parts _ _ e in
     let t = and_parts _ _ p.0 in
@@ -182,11 +196,12 @@ begins_anew w H old new a h e o1 o2 o3 o4 q1 q2 q3 q4 q5 q6 q7 q8 q9 q10 q11 q12
     let g2 = and_parts _ _ g.1 in
     let g3 = and_parts _ _ g2.1 in
     let g4 = and_parts _ _ g3.1 in
+    let brought = (moved w H a).brought in
     record {
-      who = (λ i. let v : Who = record { name = name_raw (o1 i); address = o2 i; served = o3 i; subscribed = option_map (λ g. g.items) (o4 i); known = told_claims w H } in v)
-          ∙ ap (λ (v : Who). (let u : Who = record { name = v.name; address = a; served = v.served; subscribed = v.subscribed; known = told_claims w H } in u)) h.who;
-      answered = tt;
-      hold = q1;
+      who = (λ i. let v : Who = record { name = name_raw (o1 i); address = o2 i; served = o3 i; subscribed = option_map (λ g. g.items) (o4 i); brought = brought } in v)
+          ∙ ap (λ (v : Who). (let u : Who = record { name = v.name; address = a; served = v.served; subscribed = v.subscribed; brought = brought } in u)) h.who;
+      answered = (tt, tt);
+      hold = q1 ∙ (ap hold_moved h.hold ∙ (λ i. record (hold_after (moved w H a) (begun H)) { rest = brought_on (moment H) (rest w H) i }));
       outgoing = ap (λ x. map posted x.items) q2 ∙ nothing posted old.outgoing.items t.0;
       taken = q3;
       token = q4;
@@ -198,7 +213,9 @@ begins_anew w H old new a h e o1 o2 o3 o4 q1 q2 q3 q4 q5 q6 q7 q8 q9 q10 q11 q12
       holders = subst (λ t. Knows t (told_claims w H)) (sym q11) h.holders;
       missed = q7;
       lane = ap (lane_of (moved w H a)) q12;
-      incoming = q15;
-      port = q16;
+      incoming = q15
+          ∙ (ap (λ (m : ℕ). (let x : IncomingRecord = record { moment = m; clock = later 0 m; own = a; has_box = true; reception = no_reception } in x)) (ap (λ (k : Hold). k.moment) h.hold)
+          ∙ (λ i. (let x : IncomingRecord = record { moment = moment H; clock = later 0 (none_less (moment H) i); own = a; has_box = true; reception = none_ticked a (moment H) (time_heard (begun H)) i } in x)));
+      port = q16 ∙ ap (λ (p : PortRecord). (let q : PortRecord = record { current = None; next_token = 0; resting = p.resting } in q)) h.port;
       hearing = q18;
     }

@@ -15,7 +15,8 @@ use Rattle.j39_node.proofs.ReceptionLemmas.{table_is}
 use Rattle.j39_node.specs.History.Call.{At, TakeTransferEnded}
 use Rattle.j39_node.specs.History.Act.{Hear, TakeFrame, Transfer}
 use Rattle.j39_node.specs.Is.{AreAnswered, PortRecord, port_after}
-use Rattle.j39_node.specs.Transfers.{Resting, is_resting, resting, Running, answer_to_transfer, can_transfer, clock_at, gives_up, hears, hears_if, is_engaged, is_replaced, is_spent, listens, open_transfer, says, sends, sends_if, signal_by, transfer_by, transfers}
+use Rattle.j39_node.specs.Transfers.{is_resting, resting, Running, answer_to_transfer, can_transfer, clock_at, gives_up, hears, hears_if, is_engaged, is_replaced, is_spent, listens, open_transfer, says, sends, sends_if, signal_by, transfer_by, transfers}
+use Rattle.j39_node.specs.History.{Resting}
 use Rattle.j39_address.specs.Claims.{Knows, holder_in}
 use Rattle.j39_address.specs.declared.claims.Claims.{Claims}
 use Rattle.std.proofs.lemmas.Bool.{and_parts as both}

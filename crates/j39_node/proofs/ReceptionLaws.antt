@@ -22,7 +22,7 @@ use Rattle.j39_node.specs.History.{Who, Message, Call, Address, acknowledged, ad
 use Rattle.j39_node.specs.History.Address.{NotClaimed, Claimed, Lost}
 use Rattle.j39_node.specs.History.Call.{At, ReleaseTransfer}
 use Rattle.j39_node.specs.History.Act.{Ask, Hear, Tick, TakeFrame, Send, Acknowledge, Broadcast, Transfer}
-use Rattle.j39_node.specs.Is.{Is}
+use Rattle.j39_node.specs.Is.{Is, next_acknowledgment}
 use Rattle.j39_node.specs.Asking.{made_of}
 use Rattle.j39_node.specs.Is.{made_by}
 use Rattle.j39_node.specs.Reception.{CameFromOne, IsApart, KeepsHolder, Reception, time_heard, delivered, frames_heard, got_transfers, has_place, heard_at, heard_by, is_move, held_then, holder, is_same, keeps, later, leaves, left, listed, receiver_at, reception, released_by, replied, reply_from, says, says_by, session_tick, step_at, taken_by, takes, tick_at, ticked, whole, whole_by, without}
@@ -371,7 +371,7 @@ came w H when f m e = came_by w H (is_smaller w (claim_of f)) (holds w H when) _
 
 -- a reply that is taken, and what waits then
 pub replies_first : (w : Who) (H : List Call) (c : Controller) (now : ℕ) (f : FrameRecord) → Is w (At now (TakeFrame (Some f)) ∷ H) c → IsTrue (is_transfer f) → is_move w H f ≡ false
-    → IsTrue (holds w H now) × (source_of f.id ≡ w.address) × (slice_get (reception w H).replies 0 ≡ Some (message_of f)) × (slice_get (due w H) (length (acknowledged H)) ≡ None)
+    → IsTrue (holds w H now) × (source_of f.id ≡ w.address) × (slice_get (reception w H).replies 0 ≡ Some (message_of f)) × (next_acknowledgment w H now ≡ None)
 replies_first w H c now f is t away = go (frame_case w H now f is.answered.1)
   where
     k : (is_session f ≡ true) × (not (is_some (destination_of f.id) 255) ≡ true)
@@ -381,10 +381,10 @@ replies_first w H c now f is t away = go (frame_case w H now f is.answered.1)
     not_session e = (let z : true ≡ false = sym k.0 ∙ e in absurd (cc))
 
     go : FrameCase w H now f
-        → IsTrue (holds w H now) × (source_of f.id ≡ w.address) × (slice_get (reception w H).replies 0 ≡ Some (message_of f)) × (slice_get (due w H) (length (acknowledged H)) ≡ None)
+        → IsTrue (holds w H now) × (source_of f.id ≡ w.address) × (slice_get (reception w H).replies 0 ≡ Some (message_of f)) × (next_acknowledgment w H now ≡ None)
     go (claims o e) =
         absurd (not_session (ap (λ (g : ℕ). nat_eq g transport_control_group || nat_eq g transport_data_group) (eqb-true (pgn_of f.id) address_claimed_group (claim_taken f now w _ e))))
-    go (acknowledges m o h g e) = absurd (not_session (due_taken w f now m e (due_get w (due w H) (length (acknowledged H)) m (sound w H is.answered.0).desk.0 g)).2)
+    go (acknowledges m o h g e way) = absurd (not_session (due_taken w f now m e (due_get w (due w H) (length (acknowledged H)) m (sound w H is.answered.0).desk.0 g)).2)
     go (replies m o h n g e) = (
       h,
       ap (λ (y : ℕ × Message). y.1.source) e ∙ (replied_get w.address (reception w H).replies 0 m (tidy w H).replies g).source,
@@ -396,7 +396,7 @@ replies_first w H c now f is t away = go (frame_case w H now f is.answered.1)
         let p = and_parts (is_session f) _ (packet_taken f now m (open_broadcast w H) (length (packets H)) (pause H - step H now) e g).2 in
         absurd (let z : not true ≡ true = ap not (sym p.1) ∙ k.1 in cc)
     go (transfers m o h n past nothing g e) =
-        absurd (let y : true ≡ false = sym (is_moved w H f t (none_steers (slice_get (due w H) (length (acknowledged H))) _ n).1) ∙ away in cc)
+        absurd (let y : true ≡ false = sym (is_moved w H f t (none_steers (next_acknowledgment w H now) _ n).1) ∙ away in cc)
 
 -- one that waits goes before all but claims and acknowledgments
 pub replies_before : (w : Who) (H : List Call) (c : Controller) (now : ℕ) (f : FrameRecord) (m : Message) → Is w (At now (TakeFrame (Some f)) ∷ H) c
@@ -408,12 +408,12 @@ replies_before w H c now f m is at k a = go (frame_case w H now f is.answered.1)
 
     go : FrameCase w H now f → message_of f ≡ m
     go (claims o e) = absurd (let z : true ≡ false = sym (claim_taken f now w _ e) ∙ k in cc)
-    go (acknowledges x o h g e) =
+    go (acknowledges x o h g e way) =
         absurd (let z : true ≡ false = sym (due_taken w f now x e (due_get w (due w H) (length (acknowledged H)) x (sound w H is.answered.0).desk.0 g)).1 ∙ a in cc)
     go (replies x o h n g e) = let z : Some x ≡ Some m = sym g ∙ at in ap (λ (y : ℕ × Message). y.1) e ∙ (let y : x ≡ m = cc in y)
-    go (sends x o h n g e) = absurd (waits (none_steers (slice_get (due w H) (length (acknowledged H))) _ n).1)
-    go (packs x o h n past g e) = absurd (waits (none_steers (slice_get (due w H) (length (acknowledged H))) _ n).1)
-    go (transfers x o h n past nothing g e) = absurd (waits (none_steers (slice_get (due w H) (length (acknowledged H))) _ n).1)
+    go (sends x o h n g e) = absurd (waits (none_steers (next_acknowledgment w H now) _ n).1)
+    go (packs x o h n past g e) = absurd (waits (none_steers (next_acknowledgment w H now) _ n).1)
+    go (transfers x o h n past nothing g e) = absurd (waits (none_steers (next_acknowledgment w H now) _ n).1)
 
 pub taken_rest : (w : Who) (H : List Call) (now : ℕ) (f : FrameRecord) → is_claim f ≡ false → is_acknowledgment f ≡ false
     → (reception w (At now (TakeFrame (Some f)) ∷ H)).replies ≡ drop 1 (reception w H).replies

@@ -350,7 +350,7 @@ known_more F (f ∷ E) a o h =
     (known_more (F ++ f ∷ []) E a (held_then a (claim_of f) o) (one_holder_more F f a o true h))
 
 pub holders : (w : Who) (H : List Call) (a : ℕ) → HolderOf (told_claims w H) a (holder w H a)
-holders w [] a = known_more [] w.known a None (record { is = λ n h. absurd h; none = λ e. refl })
+holders w [] a = known_more [] w.brought.known a None (record { is = λ n h. absurd h; none = λ e. refl })
 holders w (At when (Hear f) ∷ H) a = one_holder_more (told_claims w H) f a (holder w H a) true (holders w H a)
 holders w (At now (TakeFrame (Some f)) ∷ H) a = one_holder_more (told_claims w H) f a (holder w H a) (is_claim f) (holders w H a)
 holders w (call ∷ H) a = holders w H a

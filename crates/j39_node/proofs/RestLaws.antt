@@ -1,57 +1,65 @@
 -- When a transfer rests.
-use Rattle.std.proofs.Common.{◌≡◌, ℕ, ◌+◌, ◌-◌, ◌<◌, ◌≤◌, List, [], ◌∷◌, ◌++◌, Option, Some, None, Ok, Bool, true, false, ◌&&◌, if◌then◌else◌, nat_eq, nat_lt, refl, sym, ap, ◌∙◌, arith, IsTrue, eq-eqb}
+use Rattle.std.proofs.Common.{◌≡◌, ℕ, ◌+◌, ◌-◌, ◌<◌, ◌≤◌, List, [], ◌∷◌, ◌++◌, Option, Some, None, Ok, Bool, true, false, ◌&&◌, if◌then◌else◌, nat_eq, nat_lt, refl, sym, ap, ◌∙◌, arith, IsTrue, eq-eqb, ◌⊎◌, inl, inr, append-nil}
 use Rattle.std.proofs.lemmas.Bool.{and_from, and_parts}
 use Rattle.j39_node.specs.declared.kinds.TransferEnding.{TransferEnding}
 use Rattle.j39_node.specs.History.{Who, Call, moment, step}
 use Rattle.j39_node.specs.History.Call.{TakeTransferEnded}
+use Rattle.j39_node.specs.Moving.{begun, moved}
 use Rattle.j39_node.specs.Since.{ToldSince, passed_in}
-use Rattle.j39_node.specs.Transfers.{Resting, NoneRests, PairRests, AllRest, Running, holds_back, is_resting, joined, open_transfer, rest, resting, rests_after, with_pair}
+use Rattle.j39_node.specs.Transfers.{Running, holds_back, is_resting, joined, open_transfer, rest, resting, rests_after, with_pair}
+use Rattle.j39_node.specs.History.{Resting, NoneRests, PairRests, AllRest}
 
--- ---- it rests only after such an end
+-- ---- it rests only after such an end, or where it did before its history
 
-record Rested (H : List Call) : Type 0 where
+record Rested (w : Who) (H : List Call) : Type 0 where
   pub ended : ℕ × TransferEnding
   pub age : ℕ
   pub told : ToldSince H ended age
   pub rests : rests_after ended.1 ≡ true
-  pub left : rest H + age ≤ 4000000
+  pub left : rest w H + age ≤ 4000000
+
+abbrev Brings : Who → List Call → Type 0
+Brings w H = rest w H + passed_in H [] ≤ w.brought.rests_until
+
+abbrev Rests : Who → List Call → Type 0
+Rests w H = 0 < rest w H → Rested w H ⊎ Brings w H
 
 -- a call more, after which less is left
-one_later : (H : List Call) (call : Call) → rest (call ∷ H) ≤ rest H - step H (moment (call ∷ H)) → (0 < rest H → Rested H) → 0 < rest (call ∷ H)
-    → Rested (call ∷ H)
-one_later H call e h l =
-    let r = h (omega (arith, e, l)) in
-    record {
-      ended = r.ended;
-      age = r.age + step H (moment (call ∷ H));
-      told = record {
-        later = call ∷ r.told.later;
-        earlier = r.told.earlier;
-        is = ap (λ G. call ∷ G) r.told.is;
-        passed = (let p = r.told.passed in let s = ap (λ (G : List Call). step G (moment (call ∷ G))) r.told.is in omega (arith, p, s));
-      };
-      rests = r.rests;
-      left = (let p = r.left in omega (arith, p, e, l));
-    }
+one_later : (w : Who) (H : List Call) (call : Call) → rest w (call ∷ H) ≤ rest w H - step H (moment (call ∷ H)) → Rests w H → Rests w (call ∷ H)
+one_later w H call e h l = elim (h (omega (arith, e, l))) [
+  | inl r ↦ inl (record {
+    ended = r.ended;
+    age = r.age + step H (moment (call ∷ H));
+    told = record {
+      later = call ∷ r.told.later;
+      earlier = r.told.earlier;
+      is = ap (λ G. call ∷ G) r.told.is;
+      passed = (let p = r.told.passed in let s = ap (λ (G : List Call). step G (moment (call ∷ G))) r.told.is in omega (arith, p, s));
+    };
+    rests = r.rests;
+    left = (let p = r.left in omega (arith, p, e, l));
+  })
+  | inr b ↦ inr (let s = ap (λ (G : List Call). step G (moment (call ∷ G))) (append-nil H) in omega (arith, b, e, l, s))
+]
 
-since_call : (call : Call) (H : List Call) → (0 < rest H → Rested H) → 0 < rest (call ∷ H) → Rested (call ∷ H)
-since_call (TakeTransferEnded (Some x)) H h l = go (rests_after x.1) refl
+since_call : (w : Who) (call : Call) (H : List Call) → Rests w H → Rests w (call ∷ H)
+since_call w (TakeTransferEnded (Some x)) H h = go (rests_after x.1) refl
   where
-    go : (b : Bool) → rests_after x.1 ≡ b → Rested (TakeTransferEnded (Some x) ∷ H)
-    go true e = record {
+    go : (b : Bool) → rests_after x.1 ≡ b → Rests w (TakeTransferEnded (Some x) ∷ H)
+    go true e l = inl (record {
       ended = x;
       age = 0;
       told = record { later = []; earlier = H; is = refl; passed = refl };
       rests = e;
-      left = (let z = ap (λ (c : Bool). if c then 4000000 else rest H) e in omega (arith, z));
-    }
-    go false e =
-        one_later H (TakeTransferEnded (Some x)) (let z = ap (λ (c : Bool). if c then 4000000 else rest H) e in omega (arith, z)) h l
-since_call call H h l = one_later H call (omega arith) h l
+      left = (let z = ap (λ (c : Bool). if c then 4000000 else rest w H) e in omega (arith, z));
+    })
+    go false e l =
+        one_later w H (TakeTransferEnded (Some x)) (let z = ap (λ (c : Bool). if c then 4000000 else rest w H) e in omega (arith, z)) h l
+since_call w call H h = one_later w H call (omega arith) h
 
-rested : (H : List Call) → 0 < rest H → Rested H
-rested [] l = absurd (omega (arith, l))
-rested (call ∷ H) l = since_call call H (rested H) l
+rested : (w : Who) (H : List Call) → Rests w H
+rested w [] l = inr (omega arith)
+rested w (call ∷ H) l = since_call w call H (rested w H) l
 
 less : (m n : ℕ) → nat_lt m n ≡ true → m < n
 less m n z = grind arith
@@ -60,10 +68,14 @@ less_is : (m n : ℕ) → m < n → nat_lt m n ≡ true
 less_is m n l = grind arith
 
 pub rests_only : (w : Who) (H : List Call) (now group to : ℕ) → IsTrue (is_resting w H now group to)
-    → (x : ℕ × TransferEnding) × (e : ℕ) × ToldSince H x e × IsTrue (rests_after x.1) × (e + step H now < 4000000)
+    → ((x : ℕ × TransferEnding) × (e : ℕ) × ToldSince H x e × IsTrue (rests_after x.1) × (e + step H now < 4000000))
+    ⊎ (passed_in H [] + step H now < w.brought.rests_until)
 rests_only w H now group to h =
-    let l = less 0 (rest H - step H now) (and_parts (nat_lt 0 (rest H - step H now)) (holds_back (resting w H) group to) h).0 in
-    let r = rested H (omega (arith, l)) in (r.ended, r.age, r.told, r.rests, (let p = r.left in omega (arith, p, l)))
+    let l = less 0 (rest w H - step H now) (and_parts (nat_lt 0 (rest w H - step H now)) (holds_back (resting w H) group to) h).0 in
+    elim (rested w H (omega (arith, l))) [
+      | inl r ↦ inl (r.ended, r.age, r.told, r.rests, (let p = r.left in omega (arith, p, l)))
+      | inr b ↦ inr (omega (arith, b, l))
+    ]
 
 -- ---- after such an end it rests
 
@@ -97,43 +109,65 @@ joins left r (Some t) group to l e = go (nat_eq left 0) refl
     go true z = absurd (some left z l)
     go false z = still_rests r t.sender.destination t.sender.message.pgn group to e
 
-module _ (w : Who) (B : List Call) (group to : ℕ) where
+-- so much is left to rest from the earlier calls on, at most 4 seconds
+module _ (w : Who) (B : List Call) (n group to : ℕ) (most : n ≤ 4000000) where
   record Holds (later : List Call) : Type 0 where
-    pub left : 4000000 ≤ rest (later ++ B) + passed_in later B
+    pub left : n ≤ rest w (later ++ B) + passed_in later B
     pub pair : holds_back (resting w (later ++ B)) group to ≡ true
 
-  more : (call : Call) (later : List Call) → passed_in later B < 4000000 → Holds later → Holds (call ∷ later)
+  more : (call : Call) (later : List Call) → passed_in later B < n → Holds later → Holds (call ∷ later)
   more (TakeTransferEnded (Some x)) later l h = go (rests_after x.1) refl
     where
+      G : List Call
+      G = later ++ B
+
       go : (b : Bool) → rests_after x.1 ≡ b → Holds (TakeTransferEnded (Some x) ∷ later)
       go true e = record {
-        left = (let z = ap (λ (c : Bool). if c then 4000000 else rest (later ++ B)) e in omega (arith, z));
-        pair = ap (λ (c : Bool). holds_back (if c then joined (rest (later ++ B)) (resting w (later ++ B)) (open_transfer w (later ++ B)) else resting w (later ++ B)) group to) e
-            ∙ joins (rest (later ++ B)) (resting w (later ++ B)) (open_transfer w (later ++ B)) group to (let a = h.left in omega (arith, a, l)) h.pair;
+        left = (let z = ap (λ (c : Bool). if c then 4000000 else rest w G) e in omega (arith, z, most));
+        pair = ap (λ (c : Bool). holds_back (if c then joined (rest w G) (resting w G) (open_transfer w G) else resting w G) group to) e
+            ∙ joins (rest w G) (resting w G) (open_transfer w G) group to (let a = h.left in omega (arith, a, l)) h.pair;
       }
       go false e = record {
-        left = (let z = ap (λ (c : Bool). if c then 4000000 else rest (later ++ B)) e in let a = h.left in omega (arith, z, a));
-        pair = ap (λ (c : Bool). holds_back (if c then joined (rest (later ++ B)) (resting w (later ++ B)) (open_transfer w (later ++ B)) else resting w (later ++ B)) group to) e
-            ∙ h.pair;
+        left = (let z = ap (λ (c : Bool). if c then 4000000 else rest w G) e in let a = h.left in omega (arith, z, a));
+        pair = ap (λ (c : Bool). holds_back (if c then joined (rest w G) (resting w G) (open_transfer w G) else resting w G) group to) e ∙ h.pair;
       }
   more call later l h = record { left = (let a = h.left in omega (arith, a)); pair = h.pair }
 
-  holds : (later : List Call) → Holds [] → passed_in later B < 4000000 → Holds later
+  holds : (later : List Call) → Holds [] → passed_in later B < n → Holds later
   holds [] h l = h
   holds (call ∷ later) h l = more call later (omega (arith, l)) (holds later h (omega (arith, l)))
 
-pub rests_so : (w : Who) (later earlier : List Call) (now group to : ℕ) (x : ℕ × TransferEnding) (t : Running) → IsTrue (rests_after x.1)
-    → open_transfer w earlier ≡ Some t → t.sender.destination ≡ to → t.sender.message.pgn ≡ group
-    → passed_in later (TakeTransferEnded (Some x) ∷ earlier) + step (later ++ TakeTransferEnded (Some x) ∷ earlier) now < 4000000
-    → IsTrue (is_resting w (later ++ TakeTransferEnded (Some x) ∷ earlier) now group to)
-rests_so w later earlier now group to x t r o d g l =
-    let B = TakeTransferEnded (Some x) ∷ earlier in
-    let h = holds w B group to later (record {
-      left = (let z = ap (λ (c : Bool). if c then 4000000 else rest earlier) r in omega (arith, z));
-      pair = ap (λ (c : Bool). holds_back (if c then joined (rest earlier) (resting w earlier) (open_transfer w earlier) else resting w earlier) group to) r
-          ∙ (ap (λ (y : Option Running). holds_back (joined (rest earlier) (resting w earlier) y) group to) o
-          ∙ ((λ i. holds_back (with_pair (if nat_eq (rest earlier) 0 then NoneRests else resting w earlier) (d i) (g i)) group to)
-          ∙ pair_rests (if nat_eq (rest earlier) 0 then NoneRests else resting w earlier) group to));
-    }) (omega (arith, l)) in
-    and_from (nat_lt 0 (rest (later ++ B) - step (later ++ B) now)) (holds_back (resting w (later ++ B)) group to)
-    (less_is 0 (rest (later ++ B) - step (later ++ B) now) (let a = h.left in omega (arith, a, l))) h.pair
+  still : (later : List Call) (now : ℕ) → n ≤ rest w B → holds_back (resting w B) group to ≡ true → passed_in later B + step (later ++ B) now < n
+      → IsTrue (is_resting w (later ++ B) now group to)
+  still later now e p l =
+      let h = holds later (record { left = omega (arith, e); pair = p }) (omega (arith, l)) in
+      and_from (nat_lt 0 (rest w (later ++ B) - step (later ++ B) now)) (holds_back (resting w (later ++ B)) group to)
+      (less_is 0 (rest w (later ++ B) - step (later ++ B) now) (let a = h.left in omega (arith, a, l))) h.pair
+
+-- the end of a transfer is told, by which it rests
+module _ (w : Who) (earlier : List Call) (group to : ℕ) (x : ℕ × TransferEnding) (t : Running) (r : IsTrue (rests_after x.1))
+    (o : open_transfer w earlier ≡ Some t) (d : t.sender.destination ≡ to) (g : t.sender.message.pgn ≡ group) where
+  abbrev pub E : List Call
+  E = TakeTransferEnded (Some x) ∷ earlier
+
+  begins : 4000000 ≤ rest w E
+  begins = let z = ap (λ (c : Bool). if c then 4000000 else rest w earlier) r in omega (arith, z)
+
+  pairs : holds_back (resting w E) group to ≡ true
+  pairs =
+      ap (λ (c : Bool). holds_back (if c then joined (rest w earlier) (resting w earlier) (open_transfer w earlier) else resting w earlier) group to) r
+      ∙ (ap (λ (y : Option Running). holds_back (joined (rest w earlier) (resting w earlier) y) group to) o
+      ∙ ((λ i. holds_back (with_pair (if nat_eq (rest w earlier) 0 then NoneRests else resting w earlier) (d i) (g i)) group to)
+      ∙ pair_rests (if nat_eq (rest w earlier) 0 then NoneRests else resting w earlier) group to))
+
+  pub rests_so : (later : List Call) (now : ℕ) → passed_in later E + step (later ++ E) now < 4000000 → IsTrue (is_resting w (later ++ E) now group to)
+  rests_so later now l = still w E 4000000 group to (omega arith) later now begins pairs l
+
+  -- it moved since
+  pub rests_on : (later H G : List Call) (now a : ℕ) → G ≡ later ++ E → passed_in later E + (passed_in H (begun G) + step (H ++ begun G) now) < 4000000
+      → IsTrue (is_resting (moved w G a) (H ++ begun G) now group to)
+  rests_on later H G now a e l =
+      let h = holds w E 4000000 group to (omega arith) later (record { left = (let b = begins in omega (arith, b)); pair = pairs }) (omega (arith, l)) in
+      let r = ap (rest w) e in
+      still (moved w G a) (begun G) (4000000 - passed_in later E) group to (omega arith) H now (let b = h.left in omega (arith, b, r))
+      (ap (λ (F : List Call). holds_back (resting w F) group to) e ∙ h.pair) (omega (arith, l))

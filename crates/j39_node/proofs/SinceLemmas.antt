@@ -4,12 +4,12 @@ use Rattle.j39_frame.specs.Frame.{FrameRecord}
 use Rattle.j39_frame.specs.Network.{address_claimed_group}
 use Rattle.j39_address.specs.Claim.{claim_of}
 use Rattle.j39_node.specs.declared.controller.Controller.{Controller}
-use Rattle.j39_node.specs.History.{Who, Call, Message, Address, address_after, claim_address, claim_from, claimed, content, holds, is_claim, is_held, is_lost, is_smaller, moment, older, open_broadcast, packets, pause, step}
+use Rattle.j39_node.specs.History.{Act, Who, Call, Message, Address, address_after, claim_address, claim_from, claimed, content, holds, is_claim, is_held, is_lost, is_smaller, moment, older, open_broadcast, packets, pause, step}
 use Rattle.j39_node.specs.History.Call.{At}
 use Rattle.j39_node.specs.History.Act.{Hear, TakeFrame}
 use Rattle.j39_node.specs.History.Address.{NotClaimed, Claimed, Lost}
 use Rattle.j39_node.specs.Is.{Is, AreAnswered}
-use Rattle.j39_node.specs.Since.{ClaimedSince, NoneDrivesAway, drives_away, passed_in}
+use Rattle.j39_node.specs.Since.{ClaimedSince, NeverBack, NoneDrivesAway, drives_away, passed_in}
 use Rattle.j39_node.specs.Reception.{reception}
 use Rattle.j39_node.proofs.ReceptionLemmas.{replied_get, tidy}
 use Rattle.j39_node.proofs.SoundLemmas.{FrameCase, frame_case, own_get, due_get, due_taken, message_taken, packet_taken, reply_taken, sound, transfer_taken}
@@ -71,7 +71,7 @@ begins w H now f right (claims o e) k a = record {
   stays = tt;
   passed = refl;
 }
-begins w H now f right (acknowledges m o h g e) k a =
+begins w H now f right (acknowledges m o h g e way) k a =
     absurd (let z = (due_taken w f now m e (due_get w _ _ m (sound w H right).desk.0 g)).0 in let y : true ≡ false = sym k ∙ z in cc)
 begins w H now f right (replies m o h n g e) k a =
     absurd (let z = (reply_taken w.address f now m e (replied_get w.address (reception w H).replies 0 m (tidy w H).replies g)).0 in let y : true ≡ false = sym k ∙ z in cc)
@@ -169,3 +169,17 @@ held_in_time w H now e h n l =
     let s = stands_since w h.later h.earlier h.at h.claim k h.stays in
     let z = subst (λ (G : List Call). Stands (address_after w G) (passed_in h.later (At h.at (TakeFrame (Some h.claim)) ∷ h.earlier))) (sym h.is) s in
     in_time (step H now) e (address_after w H) (subst (Stands (address_after w H)) (sym h.passed) z) n l
+
+-- ---- time
+
+pub difference : (later earlier : List Call) → NeverBack later earlier → moment earlier + passed_in later earlier ≡ moment (later ++ earlier)
+difference [] earlier n = omega arith
+difference (call ∷ later) earlier n = let d = difference later earlier n.0 in let m = n.1 in omega (arith, d, m)
+
+pub set_back : (later earlier : List Call) (now : ℕ) (act : Act) → now ≤ moment (later ++ earlier)
+    → (passed_in (At now act ∷ later) earlier ≡ passed_in later earlier) × (moment (At now act ∷ later ++ earlier) ≡ now)
+set_back later earlier now act l = (omega (arith, l), refl)
+
+pub behind : (later earlier : List Call) → moment (later ++ earlier) ≤ moment earlier + passed_in later earlier
+behind [] earlier = omega arith
+behind (call ∷ later) earlier = let b = behind later earlier in omega (arith, b)

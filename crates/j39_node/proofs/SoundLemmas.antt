@@ -1,5 +1,6 @@
 -- What every answered history says of what was accepted, sent and told.
-use Rattle.std.proofs.Common.{◌≡◌, ℕ, zero, suc, ◌+◌, ◌-◌, ◌<◌, ◌≤◌, List, [], ◌∷◌, ◌++◌, length, map, Option, Some, None, Result, Ok, Err, Bool, true, false, not, ◌&&◌, ◌||◌, if◌then◌else◌, nat_eq, nat_lt, nat_le, ◌==◌, refl, sym, ap, ◌∙◌, subst, inl, inr, arith, append_assoc, length-append, eq-eqb, eqb-true, ltb-true, ◌⊎◌}
+use Rattle.std.proofs.Common.{◌≡◌, ℕ, zero, suc, ◌+◌, ◌-◌, ◌<◌, ◌≤◌, List, [], ◌∷◌, ◌++◌, length, map, Option, Some, None, Result, Ok, Err, Bool, true, false, not, ◌&&◌, ◌||◌, if◌then◌else◌, nat_eq, nat_lt, nat_le, ◌==◌, refl, sym, ap, ◌∙◌, subst, inl, inr, arith, append_assoc, length-append, eq-eqb, eqb-true, ltb-true, ◌⊎◌, IsTrue}
+use Rattle.std.proofs.lemmas.Bool.{and_parts}
 use Rattle.std.specs.List.{slice_get}
 use Rattle.std.specs.Option.{option_map}
 use Rattle.j39_frame.specs.Frame.{FrameRecord}
@@ -13,13 +14,13 @@ use Rattle.j39_node.specs.declared.kinds.Answer.{Answer}
 use Rattle.j39_node.specs.declared.kinds.Answer.TheVariants.{Nack, Busy}
 use Rattle.j39_node.specs.declared.kinds.Refused.{Refused}
 use Rattle.j39_node.specs.declared.kinds.Refused.TheVariants.{NoAddress, BadValue, Full}
-use Rattle.j39_node.specs.History.{Who, Message, Draft, Call, Address, IsFront, Asked, accepted, acknowledged, acknowledgment, acknowledgment_group, address_after, asked, can_send, claim_address, claim_from, claimed, content, due, frame_of, got, handed, holds, is_acknowledgment, is_claim, is_full, is_held, is_lost, is_own_group, is_packet, is_sendable, is_served, is_session, is_smaller, is_some, is_transfer, kept, message_from, message_of, moment, older, open_broadcast, owes_claim, packets, pause, request_for, requests, sent, step, told, with_refusal, with_request}
+use Rattle.j39_node.specs.History.{turns, Who, Message, Draft, Call, Address, IsFront, Asked, accepted, acknowledged, acknowledgment, acknowledgment_group, address_after, asked, can_send, claim_address, claim_from, claimed, content, due, frame_of, got, handed, holds, is_acknowledgment, is_claim, is_full, is_held, is_lost, is_own_group, is_packet, is_sendable, is_served, is_session, is_smaller, is_some, is_transfer, kept, message_from, message_of, moment, older, open_broadcast, owes_claim, packets, pause, request_for, requests, sent, step, told, with_refusal, with_request}
 use Rattle.j39_node.specs.History.Call.{At, TakeEnded, TakeReceived, TakeRequest}
 use Rattle.j39_node.specs.History.Act.{Ask, Hear, TakeFrame, Send, Acknowledge}
 use Rattle.j39_node.specs.Reception.{is_move, none_waits, reception}
 use Rattle.j39_node.proofs.ReceptionLemmas.{IsReply, replied_get, tidy}
 use Rattle.j39_node.specs.History.Address.{NotClaimed, Claimed, Lost}
-use Rattle.j39_node.specs.Is.{AreAnswered, IsAnswered, control_of, stamped, first_of, packet_by, next_control, next_packet, next_frame, next_ended, end_of, answer_to_send, long_by}
+use Rattle.j39_node.specs.Is.{claim_goes, gives_way, is_there, next_acknowledgment, next_long, next_other, AreAnswered, IsAnswered, control_of, stamped, first_of, packet_by, next_control, next_packet, next_frame, next_ended, end_of, answer_to_send, long_by}
 use Rattle.j39_node.specs.Transfers.{next_transfer, open_transfer, clock_at}
 use Rattle.j39_node.specs.Asking.{can_ask}
 use Rattle.j39_node.proofs.AskCases.{AskCase, ask_case, homeless, unfit, busy, asks, sendable}
@@ -68,17 +69,27 @@ none_steers (Some m) b e = absurd (cc)
 
 -- ---- which frame was taken
 
+-- an acknowledgment that goes is due
+acknowledged_is_due : (w : Who) (H : List Call) (now : ℕ) (m : Message) → next_acknowledgment w H now ≡ Some m
+    → (slice_get (due w H) (length (acknowledged H)) ≡ Some m) × (gives_way w H now ≡ false)
+acknowledged_is_due w H now m e = go (gives_way w H now) refl e
+  where
+    go : (b : Bool) → gives_way w H now ≡ b → (if b then None else slice_get (due w H) (length (acknowledged H))) ≡ Some m
+        → (slice_get (due w H) (length (acknowledged H)) ≡ Some m) × (gives_way w H now ≡ false)
+    go true g e = absurd (cc)
+    go false g e = (e, g)
+
 pub data FrameCase (w : Who) (H : List Call) (now : ℕ) (f : FrameRecord) : Type 0 where
-  claims : owes_claim w H ≡ true → stamped f ≡ (now, claim_from w (claim_address w (address_after w H))) → FrameCase w H now f
-  acknowledges : (m : Message) → owes_claim w H ≡ false → holds w H now ≡ true → slice_get (due w H) (length (acknowledged H)) ≡ Some m
-      → stamped f ≡ (now, m) → FrameCase w H now f
-  replies : (m : Message) → owes_claim w H ≡ false → holds w H now ≡ true → slice_get (due w H) (length (acknowledged H)) ≡ None
+  claims : claim_goes w H now ≡ true → stamped f ≡ (now, claim_from w (claim_address w (address_after w H))) → FrameCase w H now f
+  acknowledges : (m : Message) → claim_goes w H now ≡ false → holds w H now ≡ true → slice_get (due w H) (length (acknowledged H)) ≡ Some m
+      → stamped f ≡ (now, m) → gives_way w H now ≡ false → FrameCase w H now f
+  replies : (m : Message) → claim_goes w H now ≡ false → holds w H now ≡ true → next_acknowledgment w H now ≡ None
       → slice_get (reception w H).replies 0 ≡ Some m → stamped f ≡ (now, m) → FrameCase w H now f
-  sends : (x : ℕ × Message) → owes_claim w H ≡ false → holds w H now ≡ true → next_control w H ≡ None
+  sends : (x : ℕ × Message) → claim_goes w H now ≡ false → holds w H now ≡ true → next_control w H now ≡ None
       → slice_get (accepted w H) (length (sent H)) ≡ Some x → stamped f ≡ (now, x.1) → FrameCase w H now f
-  packs : (m : Message) → owes_claim w H ≡ false → holds w H now ≡ true → next_control w H ≡ None
+  packs : (m : Message) → claim_goes w H now ≡ false → holds w H now ≡ true → next_control w H now ≡ None
       → slice_get (accepted w H) (length (sent H)) ≡ None → next_packet w H now ≡ Some m → stamped f ≡ (now, m) → FrameCase w H now f
-  transfers : (m : Message) → owes_claim w H ≡ false → holds w H now ≡ true → next_control w H ≡ None
+  transfers : (m : Message) → claim_goes w H now ≡ false → holds w H now ≡ true → next_control w H now ≡ None
       → slice_get (accepted w H) (length (sent H)) ≡ None → next_packet w H now ≡ None → next_transfer w H now ≡ Some m → stamped f ≡ (now, m)
       → FrameCase w H now f
 
@@ -88,30 +99,93 @@ frame_by owes held a o p claim now = if owes then Some (now, claim) else if held
 
 pub frame_case : (w : Who) (H : List Call) (now : ℕ) (f : FrameRecord) → Some (stamped f) ≡ next_frame w H now → FrameCase w H now f
 frame_case w H now f e =
-    go (owes_claim w H) (holds w H now) (next_control w H) (slice_get (accepted w H) (length (sent H))) (next_packet w H now) (next_transfer w H now)
+    go (claim_goes w H now) (holds w H now) (next_control w H now) (slice_get (accepted w H) (length (sent H))) (next_packet w H now) (next_transfer w H now)
     refl refl refl refl refl refl e
   where
-    go : (b h : Bool) (a : Option Message) (o : Option (ℕ × Message)) (y z : Option Message) → owes_claim w H ≡ b → holds w H now ≡ h
-        → next_control w H ≡ a → slice_get (accepted w H) (length (sent H)) ≡ o → next_packet w H now ≡ y → next_transfer w H now ≡ z
+    go : (b h : Bool) (a : Option Message) (o : Option (ℕ × Message)) (y z : Option Message) → claim_goes w H now ≡ b → holds w H now ≡ h
+        → next_control w H now ≡ a → slice_get (accepted w H) (length (sent H)) ≡ o → next_packet w H now ≡ y → next_transfer w H now ≡ z
         → Some (stamped f) ≡ frame_by b h a o (long_by y z) (claim_from w (claim_address w (address_after w H))) now → FrameCase w H now f
     go true h a o y z p q k r s t i = claims p (let u : stamped f ≡ (now, claim_from w (claim_address w (address_after w H))) = cc in u)
     go false false a o y z p q k r s t i = absurd (cc)
     go false true (Some m) o y z p q k r s t i =
-        steers (slice_get (due w H) (length (acknowledged H))) (slice_get (reception w H).replies 0) refl refl
+        steers (next_acknowledgment w H now) (slice_get (reception w H).replies 0) refl refl
       where
         is : stamped f ≡ (now, m)
         is = (let u : stamped f ≡ (now, m) = cc in u)
 
-        steers : (a b : Option Message) → slice_get (due w H) (length (acknowledged H)) ≡ a → slice_get (reception w H).replies 0 ≡ b → FrameCase w H now f
+        steers : (a b : Option Message) → next_acknowledgment w H now ≡ a → slice_get (reception w H).replies 0 ≡ b → FrameCase w H now f
         steers (Some x) b u v =
             let same : x ≡ m = some_is x m (sym (ap (λ (z : Option Message). control_of z (slice_get (reception w H).replies 0)) u) ∙ k) in
-            acknowledges m p q (u ∙ ap Some same) is
+            let due_now = acknowledged_is_due w H now m (u ∙ ap Some same) in acknowledges m p q due_now.0 is due_now.1
         steers None b u v =
             replies m p q u (sym (ap (λ (z : Option Message). control_of z (slice_get (reception w H).replies 0)) u) ∙ k) is
     go false true None None None None p q k r s t i = absurd (cc)
     go false true None None None (Some m) p q k r s t i = transfers m p q k r s t (let u : stamped f ≡ (now, m) = cc in u)
     go false true None None (Some m) z p q k r s t i = packs m p q k r s (let u : stamped f ≡ (now, m) = cc in u)
     go false true None (Some x) y z p q k r s t i = sends x p q k r (let u : stamped f ≡ (now, x.1) = cc in u)
+
+-- ---- who gives way
+
+no_claim_goes : (owes : Bool) → (owes && false) ≡ false
+no_claim_goes true = refl
+no_claim_goes false = refl
+
+pub goes_on : (owes : Bool) → (owes && true) ≡ owes
+goes_on true = refl
+goes_on false = refl
+
+-- where something gives way the other frame goes
+pub given_way : (w : Who) (H : List Call) (now : ℕ) → gives_way w H now ≡ true → (m : Message) × (next_other w H now ≡ Some m) × (next_frame w H now ≡ Some (now, m))
+given_way w H now g = go (next_other w H now) (holds w H now) refl refl (and_parts (nat_le 2 (turns H)) (is_there (next_other w H now)) g).1
+  where
+    claim : Message
+    claim = claim_from w (claim_address w (address_after w H))
+
+    go : (o : Option Message) (h : Bool) → next_other w H now ≡ o → holds w H now ≡ h → is_there o ≡ true
+        → (m : Message) × (next_other w H now ≡ Some m) × (next_frame w H now ≡ Some (now, m))
+    go None h e i t = absurd (cc)
+    go (Some m) false e i t = absurd (let z : None ≡ Some m =
+        sym (ap (λ (b : Bool). if b then first_of (slice_get (reception w H).replies 0) (slice_get (accepted w H) (length (sent H))) (next_long w H now) else None) i) ∙ e in cc)
+    go (Some m) true e i t = (
+      m,
+      e,
+      ap (λ (b : Bool). frame_by (owes_claim w H && not b) (holds w H now) (control_of (if b then None else slice_get (due w H) (length (acknowledged H))) (slice_get (reception w H).replies 0))
+          (slice_get (accepted w H) (length (sent H))) (next_long w H now) claim now) g
+          ∙ (ap (λ (b : Bool). frame_by b (holds w H now) (slice_get (reception w H).replies 0) (slice_get (accepted w H) (length (sent H))) (next_long w H now) claim now) (no_claim_goes (owes_claim w H))
+          ∙ (ap (λ (b : Bool). frame_by false b (slice_get (reception w H).replies 0) (slice_get (accepted w H) (length (sent H))) (next_long w H now) claim now) i
+          ∙ ap (option_map (λ m. (now, m)))
+          (sym (ap (λ (b : Bool). if b then first_of (slice_get (reception w H).replies 0) (slice_get (accepted w H) (length (sent H))) (next_long w H now) else None) i) ∙ e))),
+    )
+
+-- where no frame goes nothing gives way: a claim that is owed goes, and an acknowledgment that is due
+pub none_gives : (w : Who) (H : List Call) (now : ℕ) → (let none : Option (ℕ × Message) = None in none) ≡ next_frame w H now → gives_way w H now ≡ false
+none_gives w H now e = go (gives_way w H now) refl
+  where
+    go : (b : Bool) → gives_way w H now ≡ b → b ≡ false
+    go true g = let x = given_way w H now g in absurd (let z : None ≡ Some (now, x.0) = e ∙ x.2 in cc)
+    go false g = refl
+
+pub claim_is : (w : Who) (H : List Call) (now : ℕ) → gives_way w H now ≡ false → claim_goes w H now ≡ owes_claim w H
+claim_is w H now g = ap (λ (b : Bool). owes_claim w H && not b) g ∙ goes_on (owes_claim w H)
+
+pub due_is : (w : Who) (H : List Call) (now : ℕ) → gives_way w H now ≡ false → next_acknowledgment w H now ≡ slice_get (due w H) (length (acknowledged H))
+due_is w H now g = ap (λ (b : Bool). if b then None else slice_get (due w H) (length (acknowledged H))) g
+
+pub none_acknowledged : (w : Who) (H : List Call) (now : ℕ) → next_acknowledgment w H now ≡ None
+    → IsTrue (gives_way w H now) ⊎ (slice_get (due w H) (length (acknowledged H)) ≡ None)
+none_acknowledged w H now e = go (gives_way w H now) refl
+  where
+    go : (b : Bool) → gives_way w H now ≡ b → IsTrue (gives_way w H now) ⊎ (slice_get (due w H) (length (acknowledged H)) ≡ None)
+    go true g = inl g
+    go false g = inr (sym (due_is w H now g) ∙ e)
+
+-- where none is due, none goes
+pub none_due_goes : (w : Who) (H : List Call) (now : ℕ) → slice_get (due w H) (length (acknowledged H)) ≡ None → next_acknowledgment w H now ≡ None
+none_due_goes w H now e = go (gives_way w H now)
+  where
+    go : (b : Bool) → (if b then None else slice_get (due w H) (length (acknowledged H))) ≡ None
+    go true = refl
+    go false = e
 
 -- which frame of a broadcast is next
 pub record PacketCase (o : Option (ℕ × MessageRecord)) (i left : ℕ) (m : Message) : Type 0 where
@@ -498,7 +572,7 @@ sound_send w H now f x e k n held g i h =
 
 sound_frame : (w : Who) (H : List Call) (now : ℕ) (f : FrameRecord) → AreAnswered w H → FrameCase w H now f → Sound w H → Sound w (At now (TakeFrame (Some f)) ∷ H)
 sound_frame w H now f right (claims owes e) h = sound_claim w H now f (claim_taken f now w _ e) h
-sound_frame w H now f right (acknowledges m owes held g e) h =
+sound_frame w H now f right (acknowledges m owes held g e way) h =
     let k = due_taken w f now m e (due_get w (due w H) (length (acknowledged H)) m h.desk.0 g) in
     sound_acknowledge w H now f m k.0 k.1 g e h
 sound_frame w H now f right (replies m owes held none g e) h =

@@ -1,5 +1,5 @@
 -- A frame of a stranger changes nothing of what is sent to others, received from others, or told to have ended.
-use Rattle.std.proofs.Common.{◌≡◌, ◌≢◌, ◌⊎◌, ℕ, ◌-◌, List, [], ◌∷◌, ◌++◌, length, Option, Some, None, Bool, true, false, not, ◌&&◌, ◌||◌, if◌then◌else◌, nat_eq, nat_lt, ◌==◌, refl, sym, ap, ◌∙◌, subst, inl, inr, arith, eqb-true, eq-eqb}
+use Rattle.std.proofs.Common.{◌≡◌, ◌≢◌, ◌⊎◌, ℕ, ◌-◌, List, [], ◌∷◌, ◌++◌, length, Option, Some, None, Bool, true, false, not, ◌&&◌, ◌||◌, if◌then◌else◌, nat_eq, nat_lt, ◌==◌, refl, sym, ap, ◌∙◌, subst, inl, inr, arith, eqb-true, eq-eqb, nat_le}
 use Rattle.std.proofs.lemmas.Bool.{cond_both, and_parts}
 use Rattle.std.specs.List.{slice_get}
 use Rattle.std.specs.Option.{option_map}
@@ -17,13 +17,13 @@ use Rattle.j39_transport.specs.Sending.{hears as listens_to, send_step}
 use Rattle.j39_transport.specs.SenderNext.{granted_by}
 use Rattle.j39_transport.specs.Signals.{Signal, BroadcastAnnounce, RequestToSend, ClearToSend, Acknowledgment, Abort, Packet, said_between, said_by}
 use Rattle.j39_node.specs.declared.controller.Controller.{Controller}
-use Rattle.j39_node.specs.History.{Who, Message, Call, Address, Asked, accepted, acknowledged, address_after, asked_group, asked_with, calls_for_claim, claim_address, claim_from, due, handed, holds, is_held, is_larger, is_lost, is_some, is_smaller, older, owes_claim, requests, sent, step, with_refusal}
+use Rattle.j39_node.specs.History.{is_another, is_claim, patience, turns, Who, Message, Call, Address, Asked, accepted, acknowledged, address_after, asked_group, asked_with, calls_for_claim, claim_address, claim_from, due, handed, holds, is_held, is_larger, is_lost, is_some, is_smaller, older, owes_claim, requests, sent, step, with_refusal}
 use Rattle.j39_node.specs.History.Address.{Lost}
 use Rattle.j39_node.specs.History.Call.{At}
 use Rattle.j39_node.specs.History.Act.{Hear, Tick, TakeFrame}
 use Rattle.j39_node.specs.Reception.{Reception, goes_to, has_place, heard_by, held_then, holder, keeps, leaves, left, reception, replied, reply_from, says, time_heard, whole_by, without}
 use Rattle.j39_node.specs.Transfers.{Running, clock_at, granted_after, hears_if, is_replaced, is_spent, listens, next_transfer_ended, open_transfer, spent_after, transfer_by, transfer_end}
-use Rattle.j39_node.specs.Is.{AreAnswered, Is, control_of, first_of, long_by, next_frame, next_long, next_packet}
+use Rattle.j39_node.specs.Is.{is_there, AreAnswered, Is, control_of, first_of, long_by, next_frame, next_long, next_packet}
 use Rattle.j39_node.proofs.PortLemmas.{Ported, ported}
 use Rattle.j39_node.proofs.ReceptionLaws.{goes_there, left_waits, none_delivered, not_left_by, says_it, to_others, waits_after}
 
@@ -132,23 +132,38 @@ none_asked w held f None = refl
 none_asked w held f (Some to) = refl
 
 pub frame_stays : (w : Who) (H : List Call) (c : Controller) (when : ℕ) (f : FrameRecord) (now : ℕ) → Is w H c → claim_of f ≡ None → asked_group f ≡ None
-    → destination_of f.id ≢ Some w.address → next_frame w (At when (Hear f) ∷ H) now ≡ next_frame w (At when (TakeFrame None) ∷ H) now
-frame_stays w H c when f now is e g n =
+    → destination_of f.id ≢ Some w.address → source_of f.id ≢ w.address → next_frame w (At when (Hear f) ∷ H) now ≡ next_frame w (At when (TakeFrame None) ∷ H) now
+frame_stays w H c when f now is e g n m =
     λ i. by (owes i) (lives i) (owed i) (said i) (moved i)
   where
     by : Bool → Address → List Message → List Message → Option Running → Option (ℕ × Message)
     by b a acks replies t =
-        if b then Some (now, claim_from w (claim_address w a))
-        else if is_held (older (step (At when (Hear f) ∷ H) now) a)
-        then option_map (λ m. (now, m)) (first_of (control_of (slice_get acks (length (acknowledged H))) (slice_get replies 0))
-        (slice_get (accepted w H) (length (sent H))) (long_by (next_packet w (At when (Hear f) ∷ H) now) (transfer_by t (clock_at (At when (Hear f) ∷ H) now)))) else None
+        let held = is_held (older (step (At when (Hear f) ∷ H) now) a) in
+        let message = slice_get (accepted w H) (length (sent H)) in
+        let long = long_by (next_packet w (At when (Hear f) ∷ H) now) (transfer_by t (clock_at (At when (Hear f) ∷ H) now)) in
+        let gives = nat_le 2 (turns H) && is_there (if held then first_of (slice_get replies 0) message long else None) in
+        if b && not gives then Some (now, claim_from w (claim_address w a))
+        else if held
+        then option_map (λ m. (now, m)) (first_of (control_of (if gives then None else slice_get acks (length (acknowledged H))) (slice_get replies 0))
+        message long) else None
+
+    never : (b : Bool) → (b && false) ≡ false
+    never true = refl
+    never false = refl
+
+    differs : (b : Bool) → nat_eq (source_of f.id) w.address ≡ b → nat_eq (source_of f.id) w.address ≡ false
+    differs true i = absurd (m (eqb-true _ _ i))
+    differs false i = i
+
+    not_here : (held : Bool) → is_another w held f ≡ false
+    not_here held = ap (λ (b : Bool). held && (b && not (is_claim f))) (differs (nat_eq (source_of f.id) w.address) refl) ∙ never held
 
     calls : calls_for_claim w (is_lost (address_after w H)) f ≡ false
     calls = λ i. ((is_smaller w (e i) || is_larger w (e i)) && not (is_lost (address_after w H)))
         || (is_some (g i) 60928 && (is_some (destination_of f.id) 255 || (is_some (destination_of f.id) w.address && not (is_lost (address_after w H)))))
 
     owes : owes_claim w (At when (Hear f) ∷ H) ≡ owes_claim w H
-    owes = ap (λ (b : Bool). owes_claim w H || b) calls ∙ no_more (owes_claim w H)
+    owes = (λ i. owes_claim w H || (calls i || (not_here (holds w H when) i && nat_eq (patience w H - step H when) 0))) ∙ no_more (owes_claim w H)
 
     mine : is_smaller w (claim_of f) ≡ false
     mine = ap (is_smaller w) e

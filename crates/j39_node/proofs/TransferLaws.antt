@@ -19,13 +19,13 @@ use Rattle.j39_node.specs.declared.kinds.Refused.TheVariants.{NoAddress, BadValu
 use Rattle.j39_node.specs.History.{Who, Message, Call, accepted, acknowledged, address_after, due, has_packets, holds, is_lost, message_of, packets, sent, step}
 use Rattle.j39_node.specs.History.Call.{At, TakeTransferEnded}
 use Rattle.j39_node.specs.History.Act.{Hear, TakeFrame, Transfer}
-use Rattle.j39_node.specs.Is.{AreAnswered, Is, long_by, next_packet}
+use Rattle.j39_node.specs.Is.{AreAnswered, Is, long_by, next_packet, gives_way}
 use Rattle.j39_node.specs.Since.{PacketSince}
 use Rattle.j39_node.specs.Transfers.{Running, broken_off, can_transfer, clock_at, ending_by, gives_up, granted_after, hears, hears_if, is_engaged, is_over, is_replaced, is_resting, is_spent, listens, next_transfer, open_transfer, said_to, says, sends, sends_if, signal_by, spent_after, told_transfers, transfer_end, transfers as all_transfers}
 use Rattle.j39_node.specs.Reception.{holder, is_move}
 use Rattle.j39_node.specs.Moves.{Aborts, Acknowledges, Happened, IsMove, NoneEnds, Replaces, abort_move, clears, clears_by, is_clear, moves, takes_clear}
 use Rattle.j39_node.proofs.SoundLemmas.{frame_case, sound}
-use Rattle.j39_node.proofs.LawLemmas.{not_both, past_end, sent_within, whole}
+use Rattle.j39_node.proofs.LawLemmas.{not_both, past_end, sent_within, all_acknowledged}
 use Rattle.j39_node.proofs.LaneLaws.{none_long, packet_waits}
 use Rattle.j39_node.proofs.PortLemmas.{TransferCase, transfer_case, Ported, ported, hears_same, sends_same}
 use Rattle.j39_node.proofs.PortLemmas.TransferCase.{homeless, unfit, busy, opens}
@@ -169,13 +169,13 @@ only w H c now f is p =
     )
 
 pub behind : (w : Who) (H : List Call) (c : Controller) (now : ℕ) (f : FrameRecord) → Is w (At now (TakeFrame (Some f)) ∷ H) c → IsTrue (is_move w H f)
-    → IsTrue (holds w H now) × (length (sent H) ≡ length (accepted w H)) × (acknowledged H ≡ due w H)
+    → IsTrue (holds w H now) × (length (sent H) ≡ length (accepted w H)) × (IsTrue (gives_way w H now) ⊎ (acknowledged H ≡ due w H))
 behind w H c now f is p =
     let x = sent_one w H c now f is p in
     let s = sound w H is.answered.0 in
     let a = past_end (accepted w H) (length (sent H)) x.none_waits in
     let b = sent_within w H s in
-    (x.held, omega (arith, a, b), whole (acknowledged H) (due w H) s.desk.1 (past_end (due w H) (length (acknowledged H)) x.none_due))
+    (x.held, omega (arith, a, b), all_acknowledged w H now is.answered.0 x.none_due)
 
 pub after_broadcasts : (w : Who) (H : List Call) (c : Controller) (now : ℕ) (f : FrameRecord) → Is w (At now (TakeFrame (Some f)) ∷ H) c → IsTrue (is_move w H f)
     → IsTrue (has_packets w H) → (e : ℕ) × PacketSince H e × (e + step H now < 50000)

@@ -6,13 +6,13 @@ use Rattle.j39_node.specs.declared.kinds.TransferEnding.TheVariants as transfer
 use Rattle.j39_node.specs.declared.kinds.Answer.TheVariants.{Ack}
 use Rattle.j39_node.specs.declared.kinds.News.TheVariants.{MessagesMissed}
 use Rattle.j39_node.specs.declared.kinds.Refused.TheVariants.{NoAddress, BadValue, Full}
-use Rattle.j39_node.specs.History.{Who, Asked, Draft, Call, message_of}
+use Rattle.j39_node.specs.History.{Who, Asked, Draft, Call, message_of, nothing}
 use Rattle.j39_node.specs.History.Call.{At, TakeBroadcastEnded, TakeRequest, TakeEnded, TakeNews, TakeReceived, ReleaseBroadcast, ReleaseTransfer, TakeTransferEnded}
 use Rattle.j39_node.specs.History.Act.{Acknowledge, Broadcast, Hear, Tick, TakeFrame, Send, Transfer}
 
 -- NAME 2 at address 128, whose program serves group 65259 and subscribes 0 and 65226
 abbrev pub two : Who
-two = record { name = 2; address = 128; served = 65259 ∷ []; subscribed = Some (0 ∷ 65226 ∷ []); known = [] }
+two = record { name = 2; address = 128; served = 65259 ∷ []; subscribed = Some (0 ∷ 65226 ∷ []); brought = nothing }
 
 -- its claim, and 'cannot claim'
 abbrev pub own_claim : ℕ → FrameRecord

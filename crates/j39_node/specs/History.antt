@@ -20,14 +20,31 @@ use Rattle.j39_node.specs.declared.kinds.Answer.{Answer}
 use Rattle.j39_node.specs.declared.kinds.Answer.TheVariants.{Ack, Nack, Denied, Busy}
 use Rattle.std.specs.List.{list_any}
 
+-- which transfers rest: none, those of a group to a destination, or all
+pub data Resting : Type 0 where
+  NoneRests : Resting
+  PairRests : ℕ → ℕ → Resting
+  AllRest : Resting
+
+-- what a controller that moved brought along: the frames by which it knew who holds which address, which transfers rest, and until
+-- which moment
+pub record Brought : Type 0 where
+  pub known : List FrameRecord
+  pub resting : Resting
+  pub rests_until : ℕ
+
+-- one that didn't move
+abbrev pub nothing : Brought
+nothing = record { known = []; resting = NoneRests; rests_until = 0 }
+
 -- the NAME of a controller, the address that it claims, the groups that its program serves, those that it subscribed (none told:
--- all), and the frames by which it knew before its history who holds which address: none, unless it moved
+-- all), and what it brought along
 pub record Who : Type 0 where
   pub name : ℕ
   pub address : ℕ
   pub served : List ℕ
   pub subscribed : Option (List ℕ)
-  pub known : List FrameRecord
+  pub brought : Brought
 
 -- what a frame carries: who sends it, to whom (none for a group of PF 240 and up), and what
 pub record Message : Type 0 where
@@ -200,11 +217,30 @@ is_asked w lost f =
 abbrev pub calls_for_claim : Who → Bool → FrameRecord → Bool
 calls_for_claim w lost f = ((is_smaller w (claim_of f) || is_larger w (claim_of f)) && not lost) || is_asked w lost f
 
--- a claim is owed: the first, or since a frame was taken last something was heard that is answered by one
+-- another sends from the address that is held, and it is no claim
+abbrev pub is_another : Who → Bool → FrameRecord → Bool
+is_another w held f = held && (nat_eq (source_of f.id) w.address && not (is_claim f))
+
+-- what is left of the 5 seconds behind such a frame that was answered (own)
+abbrev pub patience : Who → List Call → ℕ
+patience w [] = 0
+patience w (At now (Hear f) ∷ H) =
+    if is_another w (holds w H now) f && nat_eq (patience w H - step H now) 0 then 5000000 else patience w H - step H now
+patience w (At now act ∷ H) = patience w H - step H now
+patience w (call ∷ H) = patience w H
+
+abbrev pub answers_another : Who → List Call → ℕ → FrameRecord → Bool
+answers_another w H now f = is_another w (holds w H now) f && nat_eq (patience w H - step H now) 0
+
+-- the frame is answered by a claim, for one of these reasons
+abbrev pub calls : Who → List Call → ℕ → FrameRecord → Bool
+calls w H now f = calls_for_claim w (is_lost (address_after w H)) f || answers_another w H now f
+
+-- a claim is owed: the first, or since a claim was taken last something was heard that is answered by one
 abbrev pub owes_claim : Who → List Call → Bool
 owes_claim w [] = true
-owes_claim w (At now (Hear f) ∷ H) = owes_claim w H || calls_for_claim w (is_lost (address_after w H)) f
-owes_claim w (At now (TakeFrame (Some f)) ∷ H) = false
+owes_claim w (At now (Hear f) ∷ H) = owes_claim w H || calls w H now f
+owes_claim w (At now (TakeFrame (Some f)) ∷ H) = if is_claim f then false else owes_claim w H
 owes_claim w (call ∷ H) = owes_claim w H
 
 -- ---- messages out
@@ -262,6 +298,12 @@ accepted w (call ∷ H) = accepted w H
 
 abbrev pub is_acknowledgment : FrameRecord → Bool
 is_acknowledgment f = nat_eq (pgn_of f.id) acknowledgment_group
+
+-- how many of the frames that were taken last, in a row, were claims or acknowledgments
+abbrev pub turns : List Call → ℕ
+turns [] = 0
+turns (At now (TakeFrame (Some f)) ∷ H) = if is_claim f || is_acknowledgment f then suc (turns H) else 0
+turns (call ∷ H) = turns H
 
 -- a frame of a message in packets
 abbrev pub is_session : FrameRecord → Bool
@@ -516,7 +558,7 @@ due w (call ∷ H) = due w H
 
 -- the frames that tell it: those known before, all that were heard, and its own claims that were taken
 abbrev pub told_claims : Who → List Call → List FrameRecord
-told_claims w [] = w.known
+told_claims w [] = w.brought.known
 told_claims w (At now (Hear f) ∷ H) = told_claims w H ++ f ∷ []
 told_claims w (At now (TakeFrame (Some f)) ∷ H) = if is_claim f then told_claims w H ++ f ∷ [] else told_claims w H
 told_claims w (call ∷ H) = told_claims w H
@@ -529,10 +571,6 @@ lost_news w [] = false
 lost_news w (At now (Hear f) ∷ H) = lost_news w H || (is_smaller w (claim_of f) && not (is_lost (address_after w H)))
 lost_news w (TakeNews (Some AddressLost) ∷ H) = false
 lost_news w (call ∷ H) = lost_news w H
-
--- another sends from the address that is held, and it is no claim
-abbrev pub is_another : Who → Bool → FrameRecord → Bool
-is_another w held f = held && (nat_eq (source_of f.id) w.address && not (is_claim f))
 
 abbrev pub another_news : Who → List Call → Bool
 another_news w [] = false

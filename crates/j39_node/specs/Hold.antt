@@ -1,5 +1,5 @@
 -- How far a controller is with its address, in its own counts.
-use Rattle.std.specs.Prelude.{ℕ, min, ◌+◌, ◌-◌, nat_lt, Option, None, ◌||◌, nat_eq, Bool, true, false, if◌then◌else◌}
+use Rattle.std.specs.Prelude.{ℕ, suc, min, ◌+◌, ◌-◌, nat_lt, Option, None, ◌||◌, nat_eq, ◌&&◌, Bool, true, false, if◌then◌else◌}
 use Rattle.j39_transport.specs.Protocol.{gap}
 use Rattle.j39_node.specs.declared.hold.Hold.{Hold}
 use Rattle.j39_node.specs.declared.hold.Standing.{Standing}
@@ -23,34 +23,57 @@ passed now h = record {
   moment = now;
   standing = less (now - h.moment) h.standing;
   owes_claim = h.owes_claim;
+  turns = h.turns;
+  patience = h.patience - (now - h.moment);
   pause = h.pause - (now - h.moment);
   age = min (h.age + (now - h.moment)) 18446744073709551615;
   wait = h.wait - (now - h.moment);
   rest = h.rest - (now - h.moment);
 }
 
-abbrev pub heard : Bool → Bool → Hold → Hold
-heard drives_away calls h = record {
+-- a frame was heard: whether it drives away from the address, calls for a claim, or is another's from the address that is held
+abbrev pub answers : Bool → Hold → Bool
+answers another h = another && nat_eq h.patience 0
+
+abbrev pub heard : Bool → Bool → Bool → Hold → Hold
+heard drives_away calls another h = record {
   moment = h.moment;
   standing = if drives_away then standing.Lost else h.standing;
-  owes_claim = h.owes_claim || calls;
+  owes_claim = h.owes_claim || (calls || answers another h);
+  turns = h.turns;
+  patience = if answers another h then 5000000 else h.patience;
   pause = h.pause;
   age = h.age;
   wait = h.wait;
   rest = h.rest;
 }
 
+-- nothing was claimed, and the first claim is owed
+abbrev pub first : Hold
+first = record { moment = 0; standing = standing.Idle; owes_claim = true; turns = 0; patience = 0; pause = 0; age = 0; wait = 0; rest = 0 }
+
+-- it moves: it begins anew at the same moment, and what rests goes on to rest
+abbrev pub moved : Hold → Hold
+moved h = record (passed h.moment first) { rest = h.rest }
+
 abbrev pub claims : Standing → Standing
 claims standing.Idle = standing.Claimed 250000
 claims (standing.Claimed left) = standing.Claimed left
 claims standing.Lost = standing.Lost
 
+-- a claim was taken; an acknowledgment; another frame
 abbrev pub claimed : Hold → Hold
-claimed h = record h { standing = claims h.standing; owes_claim = false }
+claimed h = record h { standing = claims h.standing; owes_claim = false; turns = min (suc h.turns) 2 }
+
+abbrev pub acknowledged : Hold → Hold
+acknowledged h = record h { turns = min (suc h.turns) 2 }
+
+abbrev pub spoken : Hold → Hold
+spoken h = record h { turns = 0 }
 
 -- a frame of packets was taken
 abbrev pub paused : Hold → Hold
-paused h = record h { pause = gap }
+paused h = record h { turns = 0; pause = gap }
 
 -- a transfer was accepted
 abbrev pub renewed : Hold → Hold
@@ -58,7 +81,7 @@ renewed h = record h { age = 0 }
 
 -- a message was taken: whether it was the request
 abbrev pub asked : Bool → Hold → Hold
-asked b h = record h { wait = if b then 1250000 else h.wait }
+asked b h = record h { turns = 0; wait = if b then 1250000 else h.wait }
 
 -- the end of a transfer was told: whether one rests by it
 abbrev pub rested : Bool → Hold → Hold

@@ -34,7 +34,7 @@ use Rattle.j39_node.specs.declared.kinds.News.TheVariants.{AddressLost, AnotherA
 use Rattle.j39_node.specs.declared.kinds.Refused.{Refused}
 use Rattle.j39_node.specs.declared.kinds.Refused.TheVariants.{NoAddress, BadValue, Full}
 use Rattle.j39_node.specs.Hold.{standing_of}
-use Rattle.j39_node.specs.History.{Who, Message, Draft, Call, Address, carried, message_of, moment, address_after, holds, is_lost, claim_address, claim_from, owes_claim, can_send, accepted, sent, told, is_full, got, kept, missed, Asked, requests, handed, due, acknowledged, acknowledgment, told_claims, lost_news, another_news, missed_news, broadcast_from, broadcasts, can_broadcast, frame_of, is_busy, open_broadcast, packets, pause, step}
+use Rattle.j39_node.specs.History.{Brought, Who, Message, Draft, Call, Address, carried, message_of, moment, address_after, holds, is_lost, claim_address, claim_from, owes_claim, patience, turns, can_send, accepted, sent, told, is_full, got, kept, missed, Asked, requests, handed, due, acknowledged, acknowledgment, told_claims, lost_news, another_news, missed_news, broadcast_from, broadcasts, can_broadcast, frame_of, is_busy, open_broadcast, packets, pause, step}
 use Rattle.j39_node.specs.History.Call.{At, TakeAskEnded, TakeEnded, TakeReceived, TakeRequest, TakeNews, TakeBroadcastEnded, ReleaseTransfer, TakeTransferEnded, ReleaseBroadcast}
 use Rattle.j39_node.specs.History.Act.{Ask, TakeFrame, Send, Acknowledge, Broadcast, Transfer}
 use Rattle.j39_node.specs.History.Address.{NotClaimed, Claimed, Lost}
@@ -51,7 +51,8 @@ use Rattle.j39_node.specs.declared.hearing.Heard.{Heard as Bytes}
 use Rattle.j39_node.specs.declared.hearing.Hearing.{Hearing}
 use Rattle.j39_transport.specs.Cutting.{ToSend}
 use Rattle.j39_transport.specs.Receiving.{BoxedReceiver, Heard, recv_step}
-use Rattle.j39_node.specs.Transfers.{Resting, NoneRests, PairRests, AllRest, Running, joined, rest, resting, age, answer_to_transfer, next_transfer, next_transfer_ended, open_transfer, transfers as all_transfers}
+use Rattle.j39_node.specs.Transfers.{Running, joined, rest, resting, age, answer_to_transfer, next_transfer, next_transfer_ended, open_transfer, transfers as all_transfers}
+use Rattle.j39_node.specs.History.{Resting, NoneRests, PairRests, AllRest}
 
 -- ---- the answers that a history asks for
 
@@ -85,16 +86,38 @@ abbrev pub control_of : Option Message → Option Message → Option Message
 control_of (Some m) reply = Some m
 control_of None reply = reply
 
-abbrev pub next_control : Who → List Call → Option Message
-next_control w H = control_of (slice_get (due w H) (length (acknowledged H))) (slice_get (reception w H).replies 0)
+-- beside claims and acknowledgments: the first reply that waits, the first message that was accepted and wasn't taken, the next frame of
+-- the open broadcast, or of the open transfer
+abbrev pub next_other : Who → List Call → ℕ → Option Message
+next_other w H now =
+    if holds w H now
+    then first_of (slice_get (reception w H).replies 0) (slice_get (accepted w H) (length (sent H))) (next_long w H now)
+    else None
+
+abbrev pub is_there : Option Message → Bool
+is_there None = false
+is_there (Some m) = true
+
+-- behind two claims or acknowledgments in a row another frame goes first, where there is one
+abbrev pub gives_way : Who → List Call → ℕ → Bool
+gives_way w H now = nat_le 2 (turns H) && is_there (next_other w H now)
+
+abbrev pub claim_goes : Who → List Call → ℕ → Bool
+claim_goes w H now = owes_claim w H && not (gives_way w H now)
+
+abbrev pub next_acknowledgment : Who → List Call → ℕ → Option Message
+next_acknowledgment w H now = if gives_way w H now then None else slice_get (due w H) (length (acknowledged H))
+
+abbrev pub next_control : Who → List Call → ℕ → Option Message
+next_control w H now = control_of (next_acknowledgment w H now) (slice_get (reception w H).replies 0)
 
 -- the claim that is owed goes first; else, from an address that is held, the first acknowledgment that is due and wasn't taken,
--- the first reply that waits, the first message that was accepted and wasn't taken, the next frame of the open broadcast, or of the open transfer
+-- the first reply that waits, the first message that was accepted and wasn't taken, the next frame of packets
 abbrev pub next_frame : Who → List Call → ℕ → Option (ℕ × Message)
 next_frame w H now =
-    if owes_claim w H then Some (now, claim_from w (claim_address w (address_after w H)))
+    if claim_goes w H now then Some (now, claim_from w (claim_address w (address_after w H)))
     else if holds w H now
-    then option_map (λ m. (now, m)) (first_of (next_control w H) (slice_get (accepted w H) (length (sent H)))
+    then option_map (λ m. (now, m)) (first_of (next_control w H now) (slice_get (accepted w H) (length (sent H)))
     (next_long w H now))
     else None
 
@@ -203,14 +226,14 @@ status_after w H = status_of w (address_after w H)
 
 -- ---- the controller that it leads to
 
--- what it knew before is no part of the code's state
-abbrev pub who_of : List FrameRecord → Own → Who
-who_of known own = record {
+-- what it brought along is no part of the code's state
+abbrev pub who_of : Brought → Own → Who
+who_of brought own = record {
   name = name_raw own.name;
   address = own.address;
   served = own.served.items;
   subscribed = option_map (λ groups. groups.items) own.subscribed;
-  known = known;
+  brought = brought;
 }
 
 abbrev pub hold_after : Who → List Call → Hold
@@ -218,10 +241,12 @@ hold_after w H = record {
   moment = moment H;
   standing = standing_of (address_after w H);
   owes_claim = owes_claim w H;
+  turns = min (turns H) 2;
+  patience = patience w H;
   pause = pause H;
   age = min (age H) 18446744073709551615;
   wait = wait H;
-  rest = rest H;
+  rest = rest w H;
 }
 
 -- the open broadcast, how many of its frames were taken, and the next token
@@ -422,7 +447,7 @@ hearing_after w H = record { current = hearing w H; missed = min (unheard w H) 1
 
 -- c was made for w and called as H says
 pub record Is (w : Who) (H : List Call) (c : Controller) : Type 0 where
-  pub who : who_of w.known c.own ≡ w
+  pub who : who_of w.brought c.own ≡ w
   pub answered : AreAnswered w H
   pub hold : c.hold ≡ hold_after w H
   pub outgoing : map posted c.outgoing.items ≡ drop (length (told H)) (accepted w H)

@@ -1,13 +1,15 @@
 -- When a controller may move to another address, and what it is then.
-use Rattle.std.specs.Prelude.{◌≡◌, ℕ, ◌&&◌, ◌||◌, not, nat_eq, Bool, List, length, None}
+use Rattle.std.specs.Prelude.{◌≡◌, ℕ, ◌+◌, ◌&&◌, ◌||◌, not, nat_eq, Bool, List, [], ◌∷◌, length, None}
 use Rattle.std.specs.Option.{is_some}
 use Rattle.j39_node.specs.declared.controller.Controller.{Controller}
-use Rattle.j39_node.specs.History.{Who, Call, accepted, got, handed, kept, open_broadcast, requests, told, told_claims}
+use Rattle.j39_node.specs.History.{Who, Call, accepted, got, handed, kept, moment, open_broadcast, requests, told, told_claims}
 use Rattle.j39_node.specs.Reception.{has_place, reception}
 use Rattle.j39_node.specs.Hearing.{waiting, whole_of}
-use Rattle.j39_node.specs.Transfers.{open_transfer}
+use Rattle.j39_node.specs.Transfers.{open_transfer, rest, resting}
 use Rattle.j39_node.specs.Asking.{open_ask}
-use Rattle.j39_node.specs.Is.{hearing_of, incoming_of, next_news}
+use Rattle.j39_node.specs.History.Call.{At}
+use Rattle.j39_node.specs.History.Act.{Tick}
+use Rattle.j39_node.specs.Is.{Is, hearing_of, incoming_of, next_news}
 
 -- all that was accepted is told to have ended, all that was received is taken, and so is all news
 pub record IsSettled (w : Who) (H : List Call) : Type 0 where
@@ -21,10 +23,26 @@ pub record IsSettled (w : Who) (H : List Call) : Type 0 where
   pub received_broadcast : waiting w H ≡ None
   pub news : next_news w H ≡ None
 
--- the same controller at another address: it knows the claims told so far
+-- the same controller at another address: it knows the claims told so far, and what rests goes on to rest
 abbrev pub moved : Who → List Call → ℕ → Who
-moved w H address = record
-    { name = w.name; address = address; served = w.served; subscribed = w.subscribed; known = told_claims w H }
+moved w H address = record {
+  name = w.name;
+  address = address;
+  served = w.served;
+  subscribed = w.subscribed;
+  brought = record {
+    known = told_claims w H;
+    resting = resting w H;
+    rests_until = moment H + rest w H;
+  };
+}
+
+-- and its history begins with a tick at the moment of the last call
+abbrev pub begun : List Call → List Call
+begun H = At (moment H) Tick ∷ []
+
+abbrev pub HasMoved : Who → List Call → ℕ → Controller → Type 0
+HasMoved w H address c = Is (moved w H address) (begun H) c
 
 -- ---- by what the code has
 

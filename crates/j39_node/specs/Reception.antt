@@ -31,7 +31,7 @@ held_through a (f ∷ frames) holder = held_through a frames (held_then a (claim
 
 -- the NAME that holds it, by what was known before, the claims heard, and its own that were taken
 abbrev pub holder : Who → List Call → ℕ → Option ℕ
-holder w [] a = held_through a w.known None
+holder w [] a = held_through a w.brought.known None
 holder w (At now (Hear f) ∷ H) a = held_then a (claim_of f) (holder w H a)
 holder w (At now (TakeFrame (Some f)) ∷ H) a = if is_claim f then held_then a (claim_of f) (holder w H a) else holder w H a
 holder w (call ∷ H) a = holder w H a

@@ -1,5 +1,5 @@
 -- Since when an address is claimed, and since when a frame of packets was taken, by places of the history.
-use Rattle.std.specs.Prelude.{◌≡◌, ℕ, ◌+◌, Bool, false, List, [], ◌∷◌, ◌++◌, Some, IsTrue}
+use Rattle.std.specs.Prelude.{◌≡◌, ◌≤◌, ℕ, ◌+◌, Bool, false, List, [], ◌∷◌, ◌++◌, Some, IsTrue}
 use Rattle.j39_frame.specs.Frame.{FrameRecord}
 use Rattle.j39_address.specs.Claim.{claim_of}
 use Rattle.j39_node.specs.History.{Who, Call, claim_from, is_packet, is_smaller, message_of, moment, step}
@@ -11,6 +11,11 @@ use Rattle.j39_node.specs.declared.kinds.TransferEnding.{TransferEnding}
 abbrev pub passed_in : List Call → List Call → ℕ
 passed_in [] earlier = 0
 passed_in (call ∷ later) earlier = passed_in later earlier + step (later ++ earlier) (moment (call ∷ later ++ earlier))
+
+-- the moments of these calls never go back
+abbrev pub NeverBack : List Call → List Call → Type 0
+NeverBack [] earlier = Unit {0}
+NeverBack (call ∷ later) earlier = NeverBack later earlier × (moment (later ++ earlier) ≤ moment (call ∷ later ++ earlier))
 
 -- a smaller NAME's claim of the address is heard
 abbrev pub drives_away : Who → Call → Bool

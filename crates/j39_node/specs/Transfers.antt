@@ -12,7 +12,7 @@ use Rattle.j39_node.specs.declared.kinds.TransferEnding.{TransferEnding}
 use Rattle.j39_node.specs.declared.kinds.TransferEnding.TheVariants.{Done, Withdrawn, Failed, Gone}
 use Rattle.j39_node.specs.declared.kinds.Refused.{Refused}
 use Rattle.j39_node.specs.declared.kinds.Refused.TheVariants.{NoAddress, BadValue, Full}
-use Rattle.j39_node.specs.History.{Who, Message, Call, address_after, broadcast_from, can_broadcast, has_packets, held_at, holds, is_held, is_lost, is_some, moment, owes_claim, pause, stamp_at, step}
+use Rattle.j39_node.specs.History.{Who, Message, Call, Resting, NoneRests, PairRests, AllRest, address_after, broadcast_from, can_broadcast, has_packets, held_at, holds, is_held, is_lost, is_some, moment, owes_claim, pause, stamp_at, step}
 use Rattle.j39_node.specs.Reception.{holder, is_move, is_waiting}
 use Rattle.j39_node.specs.History.Call.{At, TakeTransferEnded}
 use Rattle.j39_node.specs.History.Act.{Hear, TakeFrame, Transfer}
@@ -189,17 +189,11 @@ rests_after (Failed reason) = true
 rests_after Gone = true
 
 -- what is left of them; time that goes back is no time
-abbrev pub rest : List Call → ℕ
-rest [] = 0
-rest (At now act ∷ H) = rest H - step H now
-rest (TakeTransferEnded (Some x) ∷ H) = if rests_after x.1 then 4000000 else rest H
-rest (call ∷ H) = rest H
-
--- which rest: none, those of a group to a destination, or all
-pub data Resting : Type 0 where
-  NoneRests : Resting
-  PairRests : ℕ → ℕ → Resting
-  AllRest : Resting
+abbrev pub rest : Who → List Call → ℕ
+rest w [] = w.brought.rests_until
+rest w (At now act ∷ H) = rest w H - step H now
+rest w (TakeTransferEnded (Some x) ∷ H) = if rests_after x.1 then 4000000 else rest w H
+rest w (call ∷ H) = rest w H
 
 -- where others still rest when one begins to, all do
 abbrev pub with_pair : Resting → ℕ → ℕ → Resting
@@ -213,9 +207,9 @@ joined left before (Some t) =
     with_pair (if nat_eq left 0 then NoneRests else before) t.sender.destination t.sender.message.pgn
 
 abbrev pub resting : Who → List Call → Resting
-resting w [] = NoneRests
+resting w [] = w.brought.resting
 resting w (TakeTransferEnded (Some x) ∷ H) =
-    if rests_after x.1 then joined (rest H) (resting w H) (open_transfer w H) else resting w H
+    if rests_after x.1 then joined (rest w H) (resting w H) (open_transfer w H) else resting w H
 resting w (call ∷ H) = resting w H
 
 abbrev pub holds_back : Resting → ℕ → ℕ → Bool
@@ -225,7 +219,7 @@ holds_back AllRest group to = true
 
 -- a transfer of the group to the destination rests at this moment
 abbrev pub is_resting : Who → List Call → ℕ → ℕ → ℕ → Bool
-is_resting w H now group to = nat_lt 0 (rest H - step H now) && holds_back (resting w H) group to
+is_resting w H now group to = nat_lt 0 (rest w H - step H now) && holds_back (resting w H) group to
 
 abbrev pub answer_to_transfer : Who → List Call → ℕ → ℕ → ℕ → List ℕ → Result ℕ Refused
 answer_to_transfer w H now group to bytes =

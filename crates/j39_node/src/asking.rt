@@ -4,7 +4,7 @@ ghost use Rattle.std.specs.List.{slice_get};
 ghost use Rattle.std.specs.Option.{option_map};
 ghost use Rattle.j39_frame.specs.Identifier.{source_of};
 ghost use Rattle.j39_frame.specs.Pgn.{pgn_raw};
-ghost use Rattle.j39_node.specs.History.{carried, is_some, message_from, request_for};
+ghost use Rattle.j39_node.specs.History.{carried, is_some, message_from, request_for, nothing};
 ghost use Rattle.j39_frame.specs.Identifier.{id_raw};
 ghost use Rattle.j39_frame.specs.Stamp.{stamp_micros};
 ghost use Rattle.j39_node.specs.Is.{claims_request, posted, stamped, who_of};
@@ -49,7 +49,7 @@ impl Open {
         ensures question { (ask_record self.new).question ≡ (ask_record self.old).question }
         ensures taken { self.new.is_taken ≡ self.old.is_taken }
         ensures ending { self.new.ending ≡ first self.old.ending (first (silent_end self.old.is_taken left is_lost)
-            (if self.old.is_taken then says_to (who_of [] own.now) (ask_record self.old).question frame.now made else None)) }
+            (if self.old.is_taken then says_to (who_of nothing own.now) (ask_record self.old).question frame.now made else None)) }
     {
         let heard = if self.is_taken {
             self.says(own, frame, made)
@@ -68,7 +68,7 @@ impl Open {
 
     /// What a frame says to it.
     fn says(&self, own: &Own, frame: &Frame, made: Option<(u8, u32)>) -> Option<AskEnding>
-        ensures { result ≡ says_to (who_of [] own.now) (ask_record self.now).question frame.now made }
+        ensures { result ≡ says_to (who_of nothing own.now) (ask_record self.now).question frame.now made }
     {
         if self.is_whole(made) {
             Some(AskEnding::Answered)
@@ -103,7 +103,7 @@ impl Open {
     }
 
     fn is_reply(&self, own: &Own, frame: &Frame) -> bool
-        ensures { result ≡ is_reply (who_of [] own.now) (ask_record self.now).question frame.now }
+        ensures { result ≡ is_reply (who_of nothing own.now) (ask_record self.now).question frame.now }
     {
         frame.id.pgn().raw() == ACKNOWLEDGMENT
             && (frame.id.source() == self.to
@@ -163,7 +163,7 @@ impl Asking {
         made: Option<(u8, u32)>,
     )
         ensures { asking_of self.new
-            ≡ option_map (hears_with (who_of [] own.now) is_lost left frame.now made) (asking_of self.old) }
+            ≡ option_map (hears_with (who_of nothing own.now) is_lost left frame.now made) (asking_of self.old) }
     {
         if let Some(open) = &mut self.current {
             open.hear(own, is_lost, left, frame, made);
@@ -186,9 +186,9 @@ impl Asking {
 
 /// The message that asks an address, or all (255), for a group; `None` where none may.
 pub(crate) fn request(token: u64, own: &Own, group: Pgn, to: u8) -> Option<Outgoing>
-    ensures known { IsSome result ↔ (can_ask (who_of [] own.now) (pgn_raw group) to ≡ true) }
+    ensures known { IsSome result ↔ (can_ask (who_of nothing own.now) (pgn_raw group) to ≡ true) }
     ensures value { IfSome result (λ x. posted x
-        ≡ (token, message_from (who_of [] own.now) (request_for (pgn_raw group) to))) }
+        ≡ (token, message_from (who_of nothing own.now) (request_for (pgn_raw group) to))) }
 {
     if !(is_sendable(group) || group.raw() == ADDRESS_CLAIMED) {
         return None;
@@ -238,7 +238,7 @@ fn silent_end(is_taken: bool, left: u64, is_lost: bool) -> Option<AskEnding>
 
 /// Whether an address sends the frame, to all or to this one.
 fn reaches(own: &Own, frame: &Frame) -> bool
-    ensures { result ≡ reaches (who_of [] own.now) frame.now }
+    ensures { result ≡ reaches (who_of nothing own.now) frame.now }
 {
     frame.id.source() < NULL_ADDRESS
         && (is_undirected(frame) || (is_to(frame, GLOBAL_ADDRESS) || is_to(frame, own.address)))

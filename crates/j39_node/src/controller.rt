@@ -1,5 +1,5 @@
 //! A controller.
-ghost use Rattle.std.specs.Prelude.{IsTrue, true, ◌≡◌, ℕ, List, [], ◌∷◌, ◌↔◌, ◌&&◌, ◌||◌, ◌==◌, ◌+◌, nat_eq, nat_lt, if◌then◌else◌, min, IsSome, IfSome, Some, None, length, map, ◌<◌, ◌≤◌, false};
+ghost use Rattle.std.specs.Prelude.{IsTrue, true, ◌≡◌, ℕ, List, [], ◌∷◌, ◌↔◌, ◌&&◌, ◌||◌, ◌==◌, ◌+◌, nat_eq, nat_lt, nat_le, not, if◌then◌else◌, min, IsSome, IfSome, Some, None, length, map, ◌<◌, ◌≤◌, false};
 ghost use Rattle.std.specs.List.{slice_get};
 ghost use Rattle.std.specs.Option.{option_map};
 ghost use Rattle.j39_frame.specs.Address.{IsAddress, null_address};
@@ -11,17 +11,17 @@ ghost use Rattle.j39_address.specs.Claims.{holder_in};
 ghost use Rattle.j39_address.specs.Holder.{IsHolderAfter};
 ghost use Rattle.j39_address.specs.Node.{IsLeastFree, NoneFree};
 ghost use Rattle.j39_transport.specs.ReceiverModel.{message_shown};
-ghost use Rattle.j39_node.specs.History.{Who, Call, is_left, missed, told_claims};
+ghost use Rattle.j39_node.specs.History.{Who, Call, is_left, missed, told_claims, nothing};
 ghost use Rattle.j39_node.specs.Reception.{reception};
 ghost use Rattle.j39_node.specs.Ticks.{next_tick};
 ghost use Rattle.j39_node.specs.Hearing.{unheard, waiting};
 ghost use Rattle.j39_node.specs.Transfers.{clock, is_replaced, next_due, packet_in, packets_in, sooner, transfer_by, transfer_in};
 ghost use Rattle.j39_node.specs.Hold.{lost, stands};
-ghost use Rattle.j39_node.specs.Moving.{IsSettled, has_given, has_told, moved};
+ghost use Rattle.j39_node.specs.Moving.{HasMoved, IsSettled, has_given, has_told};
 ghost use Rattle.j39_node.specs.History.Call.{At, TakeAskEnded, TakeEnded, TakeReceived, TakeRequest, TakeNews, TakeBroadcastEnded, ReleaseTransfer, TakeTransferEnded, ReleaseBroadcast};
 ghost use Rattle.j39_node.specs.History.Act.{Ask, Hear, Tick, TakeFrame, Send, Acknowledge, Broadcast, Transfer};
 ghost use Rattle.j39_node.specs.Asking.{is_asking};
-ghost use Rattle.j39_node.specs.Is.{asking_of, Is, next_claims_request, first_of, lane_of, next_frame, packet_by, posted, received_by, request_by, stamped, status_after, who_of, long_by, port_of, hearing_of};
+ghost use Rattle.j39_node.specs.Is.{asking_of, incoming_of, is_there, Is, next_claims_request, first_of, lane_of, next_frame, packet_by, posted, received_by, request_by, stamped, status_after, who_of, long_by, port_of, hearing_of};
 
 use crate::asking::{self, Asking};
 use crate::hearing::Hearing;
@@ -88,7 +88,7 @@ impl Controller {
           address = address;
           served = map pgn_raw served.now;
           subscribed = option_map (λ g. map pgn_raw g.now) subscribed.entry;
-          known = [];
+          brought = nothing;
         }) [] c)) }
         ensures refused { OnErr result (IsAddress address × (length served.now ≤ 16)
             × AreFew (option_map (λ g. map pgn_raw g.now) subscribed.entry)) }
@@ -185,31 +185,31 @@ impl Controller {
     }
 
     /// Begins anew at another address, which it will claim: with the same NAME and groups, with what it knows of who holds
-    /// which address, and with nothing else, as a controller that `new` gives. What was due is dropped, a session too, without a
-    /// frame. False, where nothing changes, for an address above 253, or as long as something that was accepted isn't told to have
+    /// which address and which transfers rest, and with nothing else, as a controller that `new` gives. What was due is dropped, a
+    /// session too, without a frame. False, where nothing changes, for an address above 253, or as long as something that was accepted isn't told to have
     /// ended, or something received or news wasn't taken.
     ///
     /// A command to move (J1939-81, 4.2.3) is received as a broadcast in packets: `j39_address::commanded_of` reads it.
     pub fn move_to(&mut self, address: u8) -> bool
         ensures known { (w : Who) (H : List Call) → Is w H self.old
             → (IsTrue result ↔ (IsAddress address × IsSettled w H)) }
-        ensures moved { result ≡ true → (w : Who) (H : List Call) → Is w H self.old → Is (moved w H address) [] self.new }
+        ensures moved { result ≡ true → (w : Who) (H : List Call) → Is w H self.old → HasMoved w H address self.new }
         ensures stays { result ≡ false → self.new ≡ self.old }
     {
         if !self.is_settled() {
             return false;
         }
-        if !self.incoming.move_to(address) {
+        if !self.incoming.move_to(address, self.hold.moment) {
             return false;
         }
         self.own.address = address;
-        self.hold = Hold::new();
+        self.hold = self.hold.moved();
         self.taken = 0;
         self.next_token = 0;
         self.inbox.missed = 0;
         self.desk.due.clear();
         self.lane = Lane::new();
-        self.transfers = Transfers::new();
+        self.transfers.begin_anew();
         self.hearing = Hearing::new();
         true
     }
@@ -283,7 +283,7 @@ impl Controller {
             .news
             .heard(drives_away, is_lost, another, misses, unheard);
         self.news = self.news.with_missed(breaks);
-        self.hold = self.hold.heard(drives_away, calls);
+        self.hold = self.hold.heard(drives_away, calls, another);
         self.transfers
             .hear(self.hold.is_lost(), is_replaced, frame, self.hold.clock());
         self.asking.hear(&self.own, self.hold.is_lost(), self.hold.wait, frame, made);
@@ -305,15 +305,16 @@ impl Controller {
         ensures { (w : Who) (H : List Call) → Is w H self.now
             → option_map stamped result ≡ next_frame w H (stamp_micros now) }
     {
-        if self.is_claim_due() {
+        let hold = self.hold.passed(now);
+        let gives_way = self.gives_way(hold, now);
+        if self.is_claim_due(gives_way) {
             let address = self.claim_address();
             return self.own.claim(address, now);
         }
-        let hold = self.hold.passed(now);
         if !hold.is_held() {
             return None;
         }
-        match self.desk.due.as_slice().get(0) {
+        match self.first_due(gives_way) {
             Some(due) => self.own.acknowledgment(due, now),
             None => match self.incoming.frame(now) {
                 Some(reply) => Some(reply),
@@ -327,7 +328,8 @@ impl Controller {
         ensures { (w : Who) (H : List Call) → Is w H self.old → Is w (At (stamp_micros now) (TakeFrame result) ∷ H) self.new }
     {
         self.hold = self.hold.passed(now);
-        if self.is_claim_due() {
+        let gives_way = self.gives_way(self.hold, now);
+        if self.is_claim_due(gives_way) {
             let address = self.claim_address();
             self.hold = self.hold.claimed();
             let claim = self.own.claim(address, now)?;
@@ -341,10 +343,12 @@ impl Controller {
         if !self.hold.is_held() {
             return None;
         }
-        if !self.desk.due.is_empty() {
+        if self.is_acknowledgment_due(gives_way) {
+            self.hold = self.hold.acknowledged();
             return self.own.acknowledgment(&self.desk.due.remove(0), now);
         }
         if !self.incoming.replies.is_empty() {
+            self.hold = self.hold.spoken();
             return self.incoming.replies.remove(0).frame(self.own.address, now);
         }
         match self.outgoing.as_slice().get(self.taken) {
@@ -365,6 +369,7 @@ impl Controller {
                     let clock = self.hold.clock();
                     let frame = self.transfers.frame(clock, now)?;
                     self.transfers.taken(clock);
+                    self.hold = self.hold.spoken();
                     Some(frame)
                 }
             },
@@ -689,7 +694,7 @@ impl Controller {
     fn peek_message(&self, hold: Hold, now: Stamp) -> Option<Frame>
         ensures { option_map stamped result ≡ option_map (λ m. (stamp_micros now, m))
             (first_of None (option_map posted (slice_get self.now.outgoing.items self.now.taken))
-            (long_by (packet_by (lane_of (who_of [] self.now.own) self.now.lane).current self.now.lane.count hold.pause)
+            (long_by (packet_by (lane_of (who_of nothing self.now.own) self.now.lane).current self.now.lane.count hold.pause)
             (transfer_by (port_of self.now.transfers).current (clock hold.age)))) }
     {
         match self.outgoing.as_slice().get(self.taken) {
@@ -729,7 +734,7 @@ impl Controller {
             && (nat_lt self.now.taken (length self.now.outgoing.items) || (nat_lt 0 (length self.now.desk.due.items)
             || nat_lt 0 (length self.now.incoming.replies.items))))) }
     {
-        self.is_claim_due() || (self.hold.is_held() && self.is_waiting())
+        self.hold.owes_claim || (self.hold.is_held() && self.is_waiting())
     }
 
     /// In how long a frame of packets can be taken.
@@ -756,11 +761,42 @@ impl Controller {
             || 0 < self.incoming.replies.len()
     }
 
-    /// A claim goes before all else.
-    fn is_claim_due(&self) -> bool
-        ensures { result ≡ self.now.hold.owes_claim }
+    /// Two claims or acknowledgments were taken in a row, and another frame can be taken, which goes first.
+    fn gives_way(&self, hold: Hold, now: Stamp) -> bool
+        ensures { result ≡ (nat_le 2 hold.turns && (stands hold.standing && is_there (first_of
+            (slice_get (incoming_of self.now.incoming).reception.replies 0)
+            (option_map posted (slice_get self.now.outgoing.items self.now.taken))
+            (long_by (packet_by (lane_of (who_of nothing self.now.own) self.now.lane).current self.now.lane.count hold.pause)
+            (transfer_by (port_of self.now.transfers).current (clock hold.age)))))) }
     {
-        self.hold.owes_claim
+        hold.turns >= 2
+            && hold.is_held()
+            && (self.incoming.frame(now).is_some() || self.peek_message(hold, now).is_some())
+    }
+
+    /// A claim goes before all else, unless it gives way.
+    fn is_claim_due(&self, gives_way: bool) -> bool
+        ensures { result ≡ (self.now.hold.owes_claim && not gives_way) }
+    {
+        self.hold.owes_claim && !gives_way
+    }
+
+    /// An acknowledgment goes before what is left, unless it gives way.
+    fn is_acknowledgment_due(&self, gives_way: bool) -> bool
+        ensures { result ≡ (not gives_way && not (nat_eq (length self.now.desk.due.items) 0)) }
+    {
+        !gives_way && !self.desk.due.is_empty()
+    }
+
+    /// The acknowledgment that goes now.
+    fn first_due(&self, gives_way: bool) -> Option<&Due>
+        ensures { option_map (λ d. d.now) result ≡ (if gives_way then None else slice_get self.now.desk.due.items 0) }
+    {
+        if gives_way {
+            None
+        } else {
+            self.desk.due.as_slice().get(0)
+        }
     }
 
     /// The address that its claim tells.

@@ -9,6 +9,7 @@ ghost use Rattle.j39_transport.specs.Key.{Broadcast, is_key};
 ghost use Rattle.j39_transport.specs.ReceiverModel.{message_shown};
 ghost use Rattle.j39_node.specs.Reception.{has_place};
 ghost use Rattle.j39_node.specs.Hearing.{IsFit, announces, begun, breaks, goes_on, grown, has_room, hears, is_gap, is_ignored, is_late, is_out, is_partial, is_unheard, is_whole, late_at, left, opens, packed, packs, passes_by, skips, whole_of};
+ghost use Rattle.j39_node.specs.History.{nothing};
 ghost use Rattle.j39_node.specs.Is.{broadcast_by, hearing_of, made_by, who_of};
 
 use crate::own::{Own, TRANSPORT_CONTROL, TRANSPORT_DATA, is_own_group};
@@ -202,11 +203,11 @@ impl Hearing {
 
     /// A frame was heard at this time; whether by it a message for the program breaks off, or isn't heard.
     pub(crate) fn hear(&mut self, own: &Own, frame: &Frame, time: Stamp) -> bool
-        ensures unheard { result ≡ is_unheard (who_of [] own.now) frame.now (hearing_of self.old).current }
+        ensures unheard { result ≡ is_unheard (who_of nothing own.now) frame.now (hearing_of self.old).current }
         ensures missed { self.new.missed
             ≡ (if result then min (self.old.missed + 1) 18446744073709551615 else self.old.missed) }
         ensures current { IsFit (hearing_of self.old).current → (hearing_of self.new).current
-            ≡ hears (who_of [] own.now) (stamp_micros time) frame.now (hearing_of self.old).current }
+            ≡ hears (who_of nothing own.now) (stamp_micros time) frame.now (hearing_of self.old).current }
     {
         match Announcement::of(frame) {
             Some(announcement) => self.announce(own, announcement, frame, time),
@@ -310,12 +311,12 @@ impl Hearing {
         requires group { pgn_raw announcement.group ≡ pgn_named frame.now }
         requires size { announcement.size ≡ size_named frame.now }
         ensures unheard { result ≡ (if has_room (source_of frame.now.id) (hearing_of self.old).current
-            then is_partial (hearing_of self.old).current else not (is_ignored (who_of [] own.now) (pgn_named frame.now))) }
+            then is_partial (hearing_of self.old).current else not (is_ignored (who_of nothing own.now) (pgn_named frame.now))) }
         ensures missed { self.new.missed
             ≡ (if result then min (self.old.missed + 1) 18446744073709551615 else self.old.missed) }
         ensures current { (hearing_of self.new).current
             ≡ (if has_room (source_of frame.now.id) (hearing_of self.old).current
-            then opens (who_of [] own.now) (stamp_micros time) frame.now else (hearing_of self.old).current) }
+            then opens (who_of nothing own.now) (stamp_micros time) frame.now else (hearing_of self.old).current) }
     {
         let is_ignored = is_own_group(announcement.group) || !own.is_subscribed(announcement.group);
         if self.has_room(frame.id.source()) {

@@ -4,7 +4,7 @@ ghost use Rattle.std.specs.Option.{option_map};
 ghost use Rattle.j39_frame.specs.Stamp.{stamp_micros};
 ghost use Rattle.j39_node.specs.History.{stamp_at};
 ghost use Rattle.j39_node.specs.declared.hold.Standing.TheVariants as standing;
-ghost use Rattle.j39_node.specs.Hold.{asked, passed, heard, claimed, paused, renewed, rested, stands, lost, less, claims, left_at};
+ghost use Rattle.j39_node.specs.Hold.{acknowledged, asked, first, passed, heard, moved, claimed, paused, renewed, rested, spoken, stands, lost, less, claims, left_at};
 
 use j39_frame::Stamp;
 
@@ -19,6 +19,9 @@ const ANSWER_TIME: u64 = 1_250_000;
 
 /// How long a transfer rests after an end without acknowledgment, in microseconds (own).
 const REST_TIME: u64 = 4_000_000;
+
+/// How long another at the address isn't answered again, in microseconds (own).
+const PATIENCE: u64 = 5_000_000;
 
 /// How far the address is.
 #[derive(Clone, Copy)]
@@ -58,6 +61,10 @@ pub(crate) struct Hold {
     pub(crate) moment: u64,
     pub(crate) standing: Standing,
     pub(crate) owes_claim: bool,
+    /// How many of the frames taken last were claims or acknowledgments, up to two.
+    pub(crate) turns: u8,
+    /// What is left of the time in which another at its address isn't answered again.
+    pub(crate) patience: u64,
     /// What is left of the time between two frames of packets.
     pub(crate) pause: u64,
     /// How long ago a transfer was accepted last.
@@ -71,12 +78,14 @@ pub(crate) struct Hold {
 impl Hold {
     /// Nothing was claimed; the first claim is owed.
     pub(crate) fn new() -> Hold
-        ensures { result ≡ record { moment = 0; standing = standing.Idle; owes_claim = true; pause = 0; age = 0; wait = 0; rest = 0 } }
+        ensures { result ≡ first }
     {
         Hold {
             moment: 0,
             standing: Standing::Idle,
             owes_claim: true,
+            turns: 0,
+            patience: 0,
             pause: 0,
             age: 0,
             wait: 0,
@@ -84,15 +93,32 @@ impl Hold {
         }
     }
 
+    /// Begins anew at another address, at the same moment. What rests goes on to rest.
+    pub(crate) fn moved(self) -> Hold
+        ensures { result ≡ moved self }
+    {
+        let mut hold = Hold::new().passed_to(self.moment);
+        hold.rest = self.rest;
+        hold
+    }
+
     /// At this moment: time that goes back is no time.
     pub(crate) fn passed(self, now: Stamp) -> Hold
         ensures { result ≡ passed (stamp_micros now) self }
     {
-        let step = now.micros().saturating_sub(self.moment);
+        self.passed_to(now.micros())
+    }
+
+    fn passed_to(self, moment: u64) -> Hold
+        ensures { result ≡ passed moment self }
+    {
+        let step = moment.saturating_sub(self.moment);
         Hold {
-            moment: now.micros(),
+            moment,
             standing: self.standing.less(step),
             owes_claim: self.owes_claim,
+            turns: self.turns,
+            patience: self.patience.saturating_sub(step),
             pause: self.pause.saturating_sub(step),
             age: self.age.saturating_add(step),
             wait: self.wait.saturating_sub(step),
@@ -100,10 +126,12 @@ impl Hold {
         }
     }
 
-    /// A frame was heard that drives away from the address, or that is answered by a claim.
-    pub(crate) fn heard(self, drives_away: bool, calls: bool) -> Hold
-        ensures { result ≡ heard drives_away calls self }
+    /// A frame was heard that drives away from the address, or that is answered by a claim, or is another's from the address.
+    pub(crate) fn heard(self, drives_away: bool, calls: bool, another: bool) -> Hold
+        ensures { result ≡ heard drives_away calls another self }
     {
+        let answers = another && self.patience == 0;
+        let patience = if answers { PATIENCE } else { self.patience };
         let standing = if drives_away {
             Standing::Lost
         } else {
@@ -112,7 +140,9 @@ impl Hold {
         Hold {
             moment: self.moment,
             standing,
-            owes_claim: self.owes_claim || calls,
+            owes_claim: self.owes_claim || calls || answers,
+            turns: self.turns,
+            patience,
             pause: self.pause,
             age: self.age,
             wait: self.wait,
@@ -128,11 +158,29 @@ impl Hold {
             moment: self.moment,
             standing: self.standing.claimed(),
             owes_claim: false,
+            turns: self.turns.saturating_add(1).min(2),
+            patience: self.patience,
             pause: self.pause,
             age: self.age,
             wait: self.wait,
             rest: self.rest,
         }
+    }
+
+    /// An acknowledgment was taken.
+    pub(crate) fn acknowledged(mut self) -> Hold
+        ensures { result ≡ acknowledged self }
+    {
+        self.turns = self.turns.saturating_add(1).min(2);
+        self
+    }
+
+    /// A frame was taken that is neither a claim nor an acknowledgment.
+    pub(crate) fn spoken(mut self) -> Hold
+        ensures { result ≡ spoken self }
+    {
+        self.turns = 0;
+        self
     }
 
     /// A frame of packets was taken.
@@ -143,6 +191,8 @@ impl Hold {
             moment: self.moment,
             standing: self.standing,
             owes_claim: self.owes_claim,
+            turns: 0,
+            patience: self.patience,
             pause: PACKET_TIME,
             age: self.age,
             wait: self.wait,
@@ -158,6 +208,8 @@ impl Hold {
             moment: self.moment,
             standing: self.standing,
             owes_claim: self.owes_claim,
+            turns: self.turns,
+            patience: self.patience,
             pause: self.pause,
             age: 0,
             wait: self.wait,
@@ -174,6 +226,8 @@ impl Hold {
             moment: self.moment,
             standing: self.standing,
             owes_claim: self.owes_claim,
+            turns: 0,
+            patience: self.patience,
             pause: self.pause,
             age: self.age,
             wait,
@@ -190,6 +244,8 @@ impl Hold {
             moment: self.moment,
             standing: self.standing,
             owes_claim: self.owes_claim,
+            turns: self.turns,
+            patience: self.patience,
             pause: self.pause,
             age: self.age,
             wait: self.wait,

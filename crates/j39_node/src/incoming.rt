@@ -135,19 +135,19 @@ impl Incoming {
         }
     }
 
-    /// Begins anew at another address: an open session is dropped, and what was to be said. The receiver's memory is kept. False
-    /// above 253, where nothing changes.
-    pub(crate) fn move_to(&mut self, own: u8) -> bool
+    /// Begins anew at another address, at this moment: an open session is dropped, and what was to be said. The receiver's memory is
+    /// kept. False above 253, where nothing changes.
+    pub(crate) fn move_to(&mut self, own: u8, moment: u64) -> bool
         ensures known { IsTrue result ↔ IsAddress own }
         ensures moved { result ≡ true → self.old.receiver.has_box ≡ true → incoming_of self.new ≡ record
-            { moment = 0; clock = 0; own = own; has_box = true; reception = no_reception } }
+            { moment = moment; clock = later 0 moment; own = own; has_box = true; reception = no_reception } }
         ensures stays { result ≡ false → self.new ≡ self.old }
     {
         if !self.receiver.move_to(own) {
             return false;
         }
-        self.moment = 0;
-        self.clock = Stamp::new(0).unwrap();
+        self.moment = moment;
+        self.clock = later(Stamp::new(0).unwrap(), moment);
         self.place = None;
         self.replies.clear();
         true

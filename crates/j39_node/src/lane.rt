@@ -6,7 +6,7 @@ ghost use Rattle.j39_frame.specs.Pgn.{pgn_raw};
 ghost use Rattle.j39_frame.specs.Stamp.{stamp_micros};
 ghost use Rattle.j39_frame.specs.Network.{transport_control_group, transport_data_group};
 ghost use Rattle.j39_transport.specs.Message.{packets_of};
-ghost use Rattle.j39_node.specs.History.{Who, broadcast_from, can_broadcast, carried, is_left, is_open};
+ghost use Rattle.j39_node.specs.History.{Who, broadcast_from, can_broadcast, carried, is_left, is_open, nothing};
 
 use crate::Ending;
 use crate::outgoing::is_sendable;
@@ -56,7 +56,7 @@ impl Open {
     /// Frame `count` of it; `None` past its last.
     fn frame(&self, own: &Own, count: u16, now: Stamp) -> Option<Frame>
         ensures { option_map stamped result ≡ option_map (λ m. (stamp_micros now, m))
-            (packet_by (Some (opened (who_of [] own.now) self.now)) count 0) }
+            (packet_by (Some (opened (who_of nothing own.now) self.now)) count 0) }
     {
         let cut = Cut::new(own.address, self.group, self.bytes.as_slice())?;
         let (_id, bytes) = cut.frame(count)?;
@@ -91,7 +91,7 @@ impl Lane {
     /// The next frame of the open broadcast, once nothing is left of the pause.
     pub(crate) fn frame(&self, own: &Own, pause: u64, now: Stamp) -> Option<Frame>
         ensures frame { option_map stamped result ≡ option_map (λ m. (stamp_micros now, m))
-            (packet_by (lane_of (who_of [] own.now) self.now).current self.now.count pause) }
+            (packet_by (lane_of (who_of nothing own.now) self.now).current self.now.count pause) }
         ensures count { IfSome result (λ f. self.now.count ≤ 255) }
     {
         if pause > 0 {

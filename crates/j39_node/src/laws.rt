@@ -18,7 +18,7 @@ ghost use Rattle.j39_node.specs.declared.kinds.News.{News};
 ghost use Rattle.j39_node.specs.declared.kinds.News.TheVariants as news;
 ghost use Rattle.j39_node.specs.declared.kinds.Refused.{Refused};
 ghost use Rattle.j39_node.specs.declared.kinds.Refused.TheVariants as refused;
-ghost use Rattle.j39_node.specs.History.{Who, is_smaller, Asked, Call, Message, Draft, IsFront, accepted, acknowledgment, acknowledgment_group, asked, asked_group, handed, is_served, requests, lost_news, another_news, missed_news, address_after, calls_for_claim, can_send, claim_address, claim_from, content, acknowledged, due, frames, got, heard, holds, is_held, is_lost, is_subscribed, kept, message_of, missed, moment, owes_claim, sent, step, told, all_frames, broadcasts, can_broadcast, first_frames, frame_of, has_packets, is_acknowledgment, is_claim, is_packet, is_transfer, open_broadcast, packets, told_broadcasts};
+ghost use Rattle.j39_node.specs.History.{Act, Who, is_smaller, Asked, Call, Message, Draft, IsFront, accepted, acknowledgment, acknowledgment_group, asked, asked_group, handed, is_served, requests, lost_news, another_news, missed_news, address_after, answers_another, calls, can_send, claim_address, claim_from, content, acknowledged, due, frames, got, heard, holds, is_held, is_lost, is_subscribed, kept, message_of, missed, moment, owes_claim, sent, step, told, all_frames, broadcasts, can_broadcast, first_frames, frame_of, has_packets, is_acknowledgment, is_claim, is_packet, is_transfer, open_broadcast, packets, told_broadcasts};
 ghost use Rattle.j39_node.specs.History.Call.{At, TakeBroadcastEnded, ReleaseTransfer, TakeNews, TakeRequest, TakeEnded, TakeReceived, TakeTransferEnded};
 ghost use Rattle.j39_node.specs.History.Act.{Acknowledge, Broadcast, Hear, Tick, TakeFrame, Send, Transfer};
 ghost use Rattle.j39_node.specs.Reception.{CameFromOne, delivered, got_transfers, heard_at, holder, is_move, listed, reception, session_tick, replied, reply_from, says, time_heard, whole, without};
@@ -31,9 +31,9 @@ ghost use Rattle.j39_node.specs.Transfers.{age, next_due, told_transfers, transf
 ghost use Rattle.j39_node.specs.Moves.{moves};
 ghost use Rattle.j39_node.specs.Asking.{asks, ended, told_asks};
 ghost use Rattle.j39_node.specs.Aside.{IsAside};
-ghost use Rattle.j39_node.specs.Since.{ClaimedSince, PacketSince, passed_in};
+ghost use Rattle.j39_node.specs.Since.{ClaimedSince, NeverBack, PacketSince, passed_in};
 ghost use Rattle.j39_node.specs.Example.{example, two};
-ghost use Rattle.j39_node.specs.Is.{AreAnswered, Is, next_frame, status_after};
+ghost use Rattle.j39_node.specs.Is.{AreAnswered, Is, gives_way, next_acknowledgment, next_frame, next_long, next_other, status_after};
 
 /// Each frame that is taken has the moment of its taking, and is the claim of its NAME, or comes from its address, which it
 /// holds at that moment, and is no claim.
@@ -44,6 +44,16 @@ pub fn sources()
         → Is w (At now (TakeFrame (Some f)) ∷ H) c
         → (message_of f ≡ claim_from w (claim_address w (address_after w H)))
         ⊎ (IsTrue (holds w H now) × (source_of f.id ≡ w.address) × (pgn_of f.id ≢ address_claimed_group)) }
+{}
+
+/// Between calls whose moments never go back the difference of their moments passes. Where a clock is set back, that call counts as no
+/// time, and from its moment on time goes on.
+pub fn time()
+    ensures difference { (later earlier : List Call) → NeverBack later earlier
+        → moment earlier + passed_in later earlier ≡ moment (later ++ earlier) }
+    ensures set_back { (later earlier : List Call) (now : ℕ) (act : Act) → now ≤ moment (later ++ earlier)
+        → (passed_in (At now act ∷ later) earlier ≡ passed_in later earlier) × (moment (At now act ∷ later ++ earlier) ≡ now) }
+    ensures behind { (later earlier : List Call) → moment (later ++ earlier) ≤ moment earlier + passed_in later earlier }
 {}
 
 /// Where an address is held, a claim of it was taken, no smaller NAME's claim of it was heard since, and 250 ms or more passed; and
@@ -114,17 +124,41 @@ pub fn received()
         → (kept w (At now (Hear f) ∷ H) ≡ kept w H) × (missed w (At now (Hear f) ∷ H) ≡ missed w H) }
 {}
 
-/// After a frame was heard that a claim answers (another's claim of the address, or a request for claims), the next frame taken
-/// is its claim, or 'cannot claim' where the address is lost. A claim is taken only where one is owed.
+/// After a frame was heard that a claim answers (another's claim of the address, a request for claims, or another's frame from the
+/// address that is held, unless such a one was answered in the 5 seconds before), the next frame taken is its claim, or 'cannot claim' where the address is lost, unless that gives way; then the one after it is. A claim is taken only
+/// where one is owed.
 pub fn claims()
     ensures next { (w : Who) (H later : List Call) (c : Controller) (now when : ℕ) (f g : FrameRecord)
         → Is w (At now (TakeFrame (Some g)) ∷ later ++ At when (Hear f) ∷ H) c → frames later ≡ []
-        → IsTrue (calls_for_claim w (is_lost (address_after w H)) f)
-        → message_of g ≡ claim_from w (claim_address w (address_after w (later ++ At when (Hear f) ∷ H))) }
+        → IsTrue (calls w H when f)
+        → IsTrue (gives_way w (later ++ At when (Hear f) ∷ H) now)
+        ⊎ (message_of g ≡ claim_from w (claim_address w (address_after w (later ++ At when (Hear f) ∷ H)))) }
+    ensures second { (w : Who) (H later between : List Call) (c : Controller) (last now when : ℕ) (f g i : FrameRecord)
+        → Is w (At last (TakeFrame (Some i)) ∷ between ++ (At now (TakeFrame (Some g)) ∷ later ++ At when (Hear f) ∷ H)) c
+        → frames later ≡ [] → frames between ≡ [] → IsTrue (calls w H when f)
+        → IsTrue (gives_way w (later ++ At when (Hear f) ∷ H) now)
+        → message_of i ≡ claim_from w (claim_address w (address_after w
+        (between ++ (At now (TakeFrame (Some g)) ∷ later ++ At when (Hear f) ∷ H)))) }
+    ensures once { (w : Who) (H later : List Call) (when now : ℕ) (f g : FrameRecord) → IsTrue (answers_another w H when f)
+        → passed_in later (At when (Hear f) ∷ H) + step (later ++ At when (Hear f) ∷ H) now < 5000000
+        → answers_another w (later ++ At when (Hear f) ∷ H) now g ≡ false }
     ensures at_once { (w : Who) (H : List Call) (c : Controller) (now : ℕ) (answer : Option FrameRecord)
         → Is w (At now (TakeFrame answer) ∷ H) c → IsTrue (owes_claim w H) → answer ≢ None }
     ensures only { (w : Who) (H : List Call) (c : Controller) (now : ℕ) (f : FrameRecord)
         → Is w (At now (TakeFrame (Some f)) ∷ H) c → pgn_of f.id ≡ address_claimed_group → IsTrue (owes_claim w H) }
+{}
+
+/// Whatever is heard: where two claims or acknowledgments were taken in a row and another frame is due, that goes next. A message that
+/// waits is due, a reply, and a frame of packets whose time has come.
+pub fn takes_turns()
+    ensures others { (w : Who) (H later between : List Call) (c : Controller) (last second first : ℕ) (f g i : FrameRecord) (m : Message)
+        → Is w (At last (TakeFrame (Some i)) ∷ between ++ (At second (TakeFrame (Some g)) ∷ later ++ At first (TakeFrame (Some f)) ∷ H)) c
+        → frames later ≡ [] → frames between ≡ []
+        → IsTrue (is_claim f || is_acknowledgment f) → IsTrue (is_claim g || is_acknowledgment g)
+        → next_other w (between ++ (At second (TakeFrame (Some g)) ∷ later ++ At first (TakeFrame (Some f)) ∷ H)) last ≡ Some m
+        → message_of i ≡ m }
+    ensures due { (w : Who) (H : List Call) (now : ℕ) → IsTrue (holds w H now)
+        → (length (sent H) < length (accepted w H)) ⊎ (((reception w H).replies ≢ []) ⊎ (next_long w H now ≢ None)) → next_other w H now ≢ None }
 {}
 
 /// No frame is taken before the moment that `next_due` tells, if nothing is heard or handed in till then; and one is taken at the
@@ -195,13 +229,13 @@ pub fn requests()
     ensures all { (w : Who) (H : List Call) (c : Controller) → Is w (TakeRequest None ∷ H) c → handed H ≡ requests w H }
 {}
 
-/// The acknowledgments that are taken are those that are due, in order, before any message. The program acknowledges a request to
+/// The acknowledgments that are taken are those that are due, in order, before any message, unless they give way. The program acknowledges a request to
 /// the address that it holds, unless sixteen are due, and no other.
 pub fn acknowledgments()
     ensures in_order { (w : Who) (H : List Call) (c : Controller) → Is w H c → IsFront (acknowledged H) (due w H) }
     ensures first { (w : Who) (H : List Call) (c : Controller) (now : ℕ) (f : FrameRecord)
         → Is w (At now (TakeFrame (Some f)) ∷ H) c → pgn_of f.id ≢ address_claimed_group → pgn_of f.id ≢ acknowledgment_group
-        → acknowledged H ≡ due w H }
+        → IsTrue (gives_way w H now) ⊎ (acknowledged H ≡ due w H) }
     ensures accepts { (w : Who) (H : List Call) (c : Controller) (now : ℕ) (r : Asked) (a : Answer) (result : Result (Unit {0}) Refused)
         → Is w (At now (Acknowledge r a result) ∷ H) c → IsTrue (holds w H now) → r.destination ≡ w.address
         → length (due w H) < length (acknowledged H) + 16 → result ≡ Ok tt }
@@ -243,7 +277,7 @@ pub fn packets_mean()
         × (message_of f ≡ frame_of m (length (packets H))) × (length (packets H) ≤ packets_of m) }
     ensures behind { (w : Who) (H : List Call) (c : Controller) (now : ℕ) (f : FrameRecord)
         → Is w (At now (TakeFrame (Some f)) ∷ H) c → IsTrue (is_packet f)
-        → IsTrue (holds w H now) × (length (sent H) ≡ length (accepted w H)) × (acknowledged H ≡ due w H) }
+        → IsTrue (holds w H now) × (length (sent H) ≡ length (accepted w H)) × (IsTrue (gives_way w H now) ⊎ (acknowledged H ≡ due w H)) }
     ensures spaced { (w : Who) (H later : List Call) (c : Controller) (now at : ℕ) (f g : FrameRecord)
         → Is w (At now (TakeFrame (Some g)) ∷ later ++ At at (TakeFrame (Some f)) ∷ H) c
         → IsTrue (is_packet f) → IsTrue (is_packet g)
@@ -305,7 +339,7 @@ pub fn replies_mean()
     ensures first { (w : Who) (H : List Call) (c : Controller) (now : ℕ) (f : FrameRecord)
         → Is w (At now (TakeFrame (Some f)) ∷ H) c → IsTrue (is_transfer f) → is_move w H f ≡ false
         → IsTrue (holds w H now) × (source_of f.id ≡ w.address) × (slice_get (reception w H).replies 0 ≡ Some (message_of f))
-        × (slice_get (due w H) (length (acknowledged H)) ≡ None) }
+        × (next_acknowledgment w H now ≡ None) }
     ensures before { (w : Who) (H : List Call) (c : Controller) (now : ℕ) (f : FrameRecord) (m : Message)
         → Is w (At now (TakeFrame (Some f)) ∷ H) c → slice_get (reception w H).replies 0 ≡ Some m
         → is_claim f ≡ false → is_acknowledgment f ≡ false → message_of f ≡ m }
@@ -344,7 +378,7 @@ pub fn strangers_and_sending()
         × (told_transfers (At now (Hear f) ∷ H) ≡ told_transfers H) × (told_asks (At now (Hear f) ∷ H) ≡ told_asks H) }
     ensures broadcast { (w : Who) (H : List Call) (now : ℕ) (f : FrameRecord) → open_broadcast w (At now (Hear f) ∷ H) ≡ open_broadcast w H }
     ensures next { (w : Who) (H : List Call) (c : Controller) (when : ℕ) (f : FrameRecord) (now : ℕ) → Is w H c → claim_of f ≡ None
-        → asked_group f ≡ None → destination_of f.id ≢ Some w.address
+        → asked_group f ≡ None → destination_of f.id ≢ Some w.address → source_of f.id ≢ w.address
         → next_frame w (At when (Hear f) ∷ H) now ≡ next_frame w (At when (TakeFrame None) ∷ H) now }
 {}
 

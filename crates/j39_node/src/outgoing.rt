@@ -3,7 +3,7 @@ ghost use Rattle.std.specs.Prelude.{◌≡◌, ◌↔◌, IsSome, IfSome, Some, 
 ghost use Rattle.std.specs.Option.{option_map};
 ghost use Rattle.j39_frame.specs.Pgn.{pgn_raw};
 ghost use Rattle.j39_frame.specs.Stamp.{stamp_micros};
-ghost use Rattle.j39_node.specs.History.{can_send, is_sendable, message_from, is_directed};
+ghost use Rattle.j39_node.specs.History.{can_send, is_sendable, message_from, is_directed, nothing};
 ghost use Rattle.j39_node.specs.Is.{who_of, posted, stamped};
 
 use crate::own::{ACKNOWLEDGMENT, Own, is_own_group};
@@ -38,11 +38,11 @@ impl Outgoing {
         to: u8,
         bytes: &[u8],
     ) -> Option<Outgoing>
-        ensures known { IsSome result ↔ (can_send (who_of [] own.now) (record
+        ensures known { IsSome result ↔ (can_send (who_of nothing own.now) (record
             { priority = priority; group = pgn_raw group; to = to; bytes = bytes.now }) ≡ true) }
         ensures value { IfSome result (λ x. posted x ≡ (
           token,
-          message_from (who_of [] own.now) (record
+          message_from (who_of nothing own.now) (record
               { priority = priority; group = pgn_raw group; to = to; bytes = bytes.now }),
         )) }
     {
@@ -68,7 +68,7 @@ impl Outgoing {
 }
 
 fn can_send(own: &Own, priority: u8, group: Pgn, to: u8, bytes: &[u8]) -> bool
-    ensures { result ≡ can_send (who_of [] own.now) (record
+    ensures { result ≡ can_send (who_of nothing own.now) (record
         { priority = priority; group = pgn_raw group; to = to; bytes = bytes.now }) }
 {
     priority < 8

@@ -6,7 +6,7 @@ ghost use Rattle.j39_frame.specs.Identifier.{pgn_of, id_raw, destination_of};
 ghost use Rattle.j39_frame.specs.Pgn.{pgn_raw};
 ghost use Rattle.j39_frame.specs.Stamp.{stamp_micros};
 ghost use Rattle.j39_address.specs.Claim.{claim_of};
-ghost use Rattle.j39_node.specs.History.{is_smaller, is_larger, asked_group, is_some, is_none, is_asked, calls_for_claim, is_for_program, is_own_group, is_subscribed, has_group, AreFew, claim_from, claim_with, carried, is_another, is_served};
+ghost use Rattle.j39_node.specs.History.{is_smaller, is_larger, asked_group, is_some, is_none, is_asked, calls_for_claim, is_for_program, is_own_group, is_subscribed, has_group, AreFew, claim_from, claim_with, carried, is_another, is_served, nothing};
 ghost use Rattle.j39_frame.specs.Address.{IsAddress};
 
 use crate::requests::Due;
@@ -45,7 +45,7 @@ impl Own {
 
     /// Whether a smaller NAME claims the address.
     pub(crate) fn is_driven_away(&self, frame: &Frame) -> bool
-        ensures { result ≡ is_smaller (who_of [] self.now) (claim_of frame.now) }
+        ensures { result ≡ is_smaller (who_of nothing self.now) (claim_of frame.now) }
     {
         match claim_of(frame) {
             Some((name, address)) => address == self.address && name.raw() < self.name.raw(),
@@ -55,7 +55,7 @@ impl Own {
 
     /// Whether a larger NAME claims the address.
     pub(crate) fn is_challenged(&self, frame: &Frame) -> bool
-        ensures { result ≡ is_larger (who_of [] self.now) (claim_of frame.now) }
+        ensures { result ≡ is_larger (who_of nothing self.now) (claim_of frame.now) }
     {
         match claim_of(frame) {
             Some((name, address)) => address == self.address && self.name.raw() < name.raw(),
@@ -65,7 +65,7 @@ impl Own {
 
     /// Whether the frame is a request for claims, to all or, unless the address is lost, to it.
     pub(crate) fn is_asked(&self, is_lost: bool, frame: &Frame) -> bool
-        ensures { result ≡ is_asked (who_of [] self.now) is_lost frame.now }
+        ensures { result ≡ is_asked (who_of nothing self.now) is_lost frame.now }
     {
         is_request_for(frame, ADDRESS_CLAIMED)
             && (is_to(frame, GLOBAL_ADDRESS) || (is_to(frame, self.address) && !is_lost))
@@ -73,7 +73,7 @@ impl Own {
 
     /// Whether a claim answers the frame.
     pub(crate) fn calls_for_claim(&self, is_lost: bool, frame: &Frame) -> bool
-        ensures { result ≡ calls_for_claim (who_of [] self.now) is_lost frame.now }
+        ensures { result ≡ calls_for_claim (who_of nothing self.now) is_lost frame.now }
     {
         let contested = self.is_driven_away(frame) || self.is_challenged(frame);
         (contested && !is_lost) || self.is_asked(is_lost, frame)
@@ -81,7 +81,7 @@ impl Own {
 
     /// Whether the frame is one for the program.
     pub(crate) fn is_for_program(&self, is_held: bool, frame: &Frame) -> bool
-        ensures { result ≡ is_for_program (who_of [] self.now) is_held frame.now }
+        ensures { result ≡ is_for_program (who_of nothing self.now) is_held frame.now }
     {
         frame.id.source() < NULL_ADDRESS
             && (self.is_subscribed(frame.id.pgn())
@@ -93,21 +93,21 @@ impl Own {
 
     /// Whether another sends the frame from the address that is held, and it is no claim.
     pub(crate) fn is_another(&self, is_held: bool, frame: &Frame) -> bool
-        ensures { result ≡ is_another (who_of [] self.now) is_held frame.now }
+        ensures { result ≡ is_another (who_of nothing self.now) is_held frame.now }
     {
         is_held && (frame.id.source() == self.address && !frame.id.is_address_claimed())
     }
 
     /// Whether its program serves the group.
     pub(crate) fn is_served(&self, group: Pgn) -> bool
-        ensures { result ≡ is_served (who_of [] self.now) (pgn_raw group) }
+        ensures { result ≡ is_served (who_of nothing self.now) (pgn_raw group) }
     {
         is_among(self.served.as_slice(), group.raw())
     }
 
     /// Whether its program subscribed the group.
     pub(crate) fn is_subscribed(&self, group: Pgn) -> bool
-        ensures { result ≡ is_subscribed (who_of [] self.now) (pgn_raw group) }
+        ensures { result ≡ is_subscribed (who_of nothing self.now) (pgn_raw group) }
     {
         match &self.subscribed {
             Some(groups) => is_among(groups.as_slice(), group.raw()),
@@ -117,7 +117,7 @@ impl Own {
 
     /// The acknowledgment of a request.
     pub(crate) fn acknowledgment(&self, due: &Due, now: Stamp) -> Option<Frame>
-        ensures { option_map stamped result ≡ Some (stamp_micros now, refusal_by (who_of [] self.now) due.now) }
+        ensures { option_map stamped result ≡ Some (stamp_micros now, refusal_by (who_of nothing self.now) due.now) }
     {
         let id = acknowledgment_id(self.address)?;
         let bytes = due.bytes();
@@ -126,7 +126,7 @@ impl Own {
 
     /// The claim of an address, or the word that none can be claimed where it is the null address.
     pub(crate) fn claim(&self, address: u8, now: Stamp) -> Option<Frame>
-        ensures { option_map stamped result ≡ Some (stamp_micros now, claim_from (who_of [] self.now) address) }
+        ensures { option_map stamped result ≡ Some (stamp_micros now, claim_from (who_of nothing self.now) address) }
     {
         let id = claim_id(address)?;
         Frame::new(now, id, self.name.bytes().as_slice())

@@ -3,7 +3,7 @@ ghost use Rattle.std.specs.Prelude.{◌≡◌, ◌∷◌, [], ◌%◌, ◌/◌, 
 ghost use Rattle.std.specs.Option.{option_map};
 ghost use Rattle.j39_frame.specs.Identifier.{destination_of};
 ghost use Rattle.j39_frame.specs.Pgn.{pgn_raw};
-ghost use Rattle.j39_node.specs.History.{asked, acknowledgment, with_refusal, with_request, asked_group, is_request};
+ghost use Rattle.j39_node.specs.History.{asked, acknowledgment, with_refusal, with_request, asked_group, is_request, nothing};
 ghost use Rattle.j39_node.specs.Is.{refusal_by, request_by, who_of};
 
 use crate::Answer;
@@ -52,7 +52,7 @@ impl Default for Due {
 impl Due {
     /// Its eight bytes.
     pub(crate) fn bytes(&self) -> [u8; 8]
-        ensures { (own : Own) → result ≡ (refusal_by (who_of [] own) self.now).bytes }
+        ensures { (own : Own) → result ≡ (refusal_by (who_of nothing own) self.now).bytes }
     {
         let [low, middle, high, _top] = self.request.group.raw().to_le_bytes();
         [
@@ -91,11 +91,11 @@ impl Desk {
     /// address.
     pub(crate) fn hear(&mut self, own: &Own, request: Option<Request>)
         ensures waiting { map request_by self.new.waiting.items
-            ≡ with_request (who_of [] own.now) (nat_lt (length self.old.waiting.items) 16) (option_map request_by request)
+            ≡ with_request (who_of nothing own.now) (nat_lt (length self.old.waiting.items) 16) (option_map request_by request)
             (map request_by self.old.waiting.items) }
-        ensures due { map (refusal_by (who_of [] own.now)) self.new.due.items
-            ≡ with_refusal (who_of [] own.now) (nat_lt (length self.old.waiting.items) 16) (nat_lt (length self.old.due.items) 16)
-            (option_map request_by request) (map (refusal_by (who_of [] own.now)) self.old.due.items) }
+        ensures due { map (refusal_by (who_of nothing own.now)) self.new.due.items
+            ≡ with_refusal (who_of nothing own.now) (nat_lt (length self.old.waiting.items) 16) (nat_lt (length self.old.due.items) 16)
+            (option_map request_by request) (map (refusal_by (who_of nothing own.now)) self.old.due.items) }
     {
         if let Some(request) = request {
             let is_served = own.is_served(request.group);
@@ -115,7 +115,7 @@ impl Desk {
 
 /// What a frame asks of the controller.
 pub(crate) fn asked(own: &Own, is_held: bool, frame: &Frame) -> Option<Request>
-    ensures { option_map request_by result ≡ asked (who_of [] own.now) is_held frame.now }
+    ensures { option_map request_by result ≡ asked (who_of nothing own.now) is_held frame.now }
 {
     let destination = frame.id.destination()?;
     let number = asked_group(frame)?;
@@ -143,7 +143,7 @@ fn asked_group(frame: &Frame) -> Option<u32>
 }
 
 fn is_request(own: &Own, is_held: bool, frame: &Frame, to: u8, group: u32) -> bool
-    ensures { result ≡ is_request (who_of [] own.now) is_held frame.now to group }
+    ensures { result ≡ is_request (who_of nothing own.now) is_held frame.now to group }
 {
     (is_held && frame.id.source() < NULL_ADDRESS)
         && (group < 262_144 && !(group == ADDRESS_CLAIMED))

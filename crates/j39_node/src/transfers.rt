@@ -6,8 +6,8 @@ ghost use Rattle.j39_frame.specs.Stamp.{stamp_micros};
 ghost use Rattle.j39_transport.specs.Cutting.{to_send};
 ghost use Rattle.j39_transport.specs.Sending.{is_running, sent_by};
 ghost use Rattle.j39_transport.specs.SenderModel.{IsSender};
-ghost use Rattle.j39_node.specs.History.{broadcast_from};
-ghost use Rattle.j39_node.specs.Transfers.{NoneRests, holds_back, joined, with_pair, begun, broken_off, can_transfer, gives_up, hears, hears_if, is_engaged, is_spent, sends, sends_if, signal_by, says, running_in, transfer_by, transfer_end, transfer_in};
+ghost use Rattle.j39_node.specs.History.{NoneRests, broadcast_from, nothing};
+ghost use Rattle.j39_node.specs.Transfers.{holds_back, joined, with_pair, begun, broken_off, can_transfer, gives_up, hears, hears_if, is_engaged, is_spent, sends, sends_if, signal_by, says, running_in, transfer_by, transfer_end, transfer_in};
 
 use crate::TransferEnding;
 use crate::outgoing::is_sendable;
@@ -39,9 +39,9 @@ impl Open {
 
     /// A message that is to be sent to an address; `None` where it can't be.
     pub(crate) fn new(token: u64, own: &Own, group: Pgn, to: u8, bytes: &[u8]) -> Option<Open>
-        ensures known { IsSome result ↔ (can_transfer (who_of [] own.now) (pgn_raw group) to bytes.now ≡ true) }
+        ensures known { IsSome result ↔ (can_transfer (who_of nothing own.now) (pgn_raw group) to bytes.now ≡ true) }
         ensures value { IfSome result (λ x. running x
-            ≡ begun token (broadcast_from (who_of [] own.now) (pgn_raw group) bytes.now) to) }
+            ≡ begun token (broadcast_from (who_of nothing own.now) (pgn_raw group) bytes.now) to) }
     {
         if !is_sendable(group) || to >= NULL_ADDRESS || to == own.address {
             return None;
@@ -224,6 +224,15 @@ impl Transfers {
             next_token: 0,
             resting: Resting::Nothing,
         }
+    }
+
+    /// No transfer was accepted yet; what rests goes on to rest.
+    pub(crate) fn begin_anew(&mut self)
+        ensures { port_of self.new ≡ record { current = None; next_token = 0; resting = (port_of self.old).resting } }
+    {
+        let resting = self.resting;
+        *self = Transfers::new();
+        self.resting = resting;
     }
 
     /// To whom the open transfer goes.

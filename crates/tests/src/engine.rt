@@ -18,9 +18,12 @@ pub struct Engine {
 }
 
 impl Engine {
-    /// One that serves these groups: a request for any other is refused without its program.
+    /// One that serves these groups: a request for any other is refused without its program. It receives engine speeds alone.
     pub fn new(alloc: Global, name: Name, served: &[Pgn]) -> Result<Option<Engine>, AllocError> {
-        let Some(controller) = Controller::new(alloc, name, 0, served, None)? else {
+        let Some(speeds) = Pgn::new(61_444) else {
+            return Ok(None);
+        };
+        let Some(controller) = Controller::new(alloc, name, 0, served, Some(&[speeds]))? else {
             return Ok(None);
         };
         Ok(Some(Engine {
@@ -54,25 +57,38 @@ pub fn turn(engine: &mut Engine, heard: Option<&Frame>, now: Stamp) -> Option<Fr
     if let Some(request) = controller.take_request() {
         answer(controller, request, now);
     }
-    controller.take_ended();
-    controller.take_broadcast_ended();
-    controller.take_transfer_ended();
-    if let Some(message) = controller.take_received() {
-        if message.group.raw() == 61_444 {
-            engine.other_speed = engine_speed(message.bytes.as_slice());
-        }
-    }
-    controller.take_frame(now)
+    take_in(engine);
+    engine.controller.take_frame(now)
 }
 
-/// Its VIN goes to all if all were asked, else to who asked. What else it serves it refuses now.
+/// Its VIN goes to all if all were asked, else to who asked, who is told if that can't be now. What else it serves it denies.
 fn answer(controller: &mut Controller, request: Request, now: Stamp) {
     let vin = b"1FUJA6CV12LK12345*";
     if request.group.raw() != 65_260 {
         let _refused = controller.acknowledge(now, request, Answer::Denied);
     } else if request.destination == GLOBAL_ADDRESS {
         let _token = controller.broadcast(now, request.group, vin);
-    } else {
-        let _token = controller.transfer(now, request.group, request.source, vin);
+    } else if controller
+        .transfer(now, request.group, request.source, vin)
+        .is_err()
+    {
+        let _refused = controller.acknowledge(now, request, Answer::Busy);
+    }
+}
+
+/// Takes all that waits, so that more can come. Without an address it moves to a free one.
+fn take_in(engine: &mut Engine) {
+    let controller = &mut engine.controller;
+    if let Some(message) = controller.take_received() {
+        engine.other_speed = engine_speed(message.bytes.as_slice());
+    }
+    controller.release_transfer();
+    controller.release_broadcast();
+    controller.take_ended();
+    controller.take_broadcast_ended();
+    controller.take_transfer_ended();
+    controller.take_news();
+    if let (Status::Cannot, Some(free)) = (controller.status(), controller.free_address()) {
+        controller.move_to(free);
     }
 }

@@ -35,6 +35,12 @@ const STEPS: &[Step] = &[
         320_000,
         Some("(0000000000.320000) can0 18E8FF00#01FFFFFF0BE5FE00"),
     ),
+    // 0C wants its VIN while that goes to 0B.
+    (
+        Some("(0.325000) can0 18EA000C#ECFE00"),
+        325_000,
+        Some("(0000000000.325000) can0 18E8FF00#03FFFFFF0CECFE00"),
+    ),
     // Another engine turns with 1,000 rpm.
     (
         Some("(0.330000) can0 0CF00401#FFFFFF401FFFFFFF"),
@@ -72,6 +78,33 @@ const STEPS: &[Step] = &[
         None,
         350_000,
         Some("(0000000000.350000) can0 0CF00400#FFFFFFE02EFFFFFF"),
+    ),
+    // What comes in packets makes room for the next.
+    (
+        Some("(0.351000) can0 1CEC000B#10090002FF00EF00"),
+        351_000,
+        Some("(0000000000.351000) can0 1CEC0B00#110201FFFF00EF00"),
+    ),
+    (
+        Some("(0.352000) can0 1CEB000B#0101020304050607"),
+        352_000,
+        None,
+    ),
+    (
+        Some("(0.353000) can0 1CEB000B#020809FFFFFFFFFF"),
+        353_000,
+        Some("(0000000000.353000) can0 1CEC0B00#13090002FF00EF00"),
+    ),
+    (
+        Some("(0.354000) can0 1CEC000B#10090002FF00EF00"),
+        354_000,
+        Some("(0000000000.354000) can0 1CEC0B00#110201FFFF00EF00"),
+    ),
+    // A smaller NAME has its address: when it was told what ended by that, it moves.
+    (
+        Some("(0.355000) can0 18EEFF00#0100000000000000"),
+        355_000,
+        Some("(0000000000.355000) can0 18EEFF80#0200000000000000"),
     ),
 ];
 

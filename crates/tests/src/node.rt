@@ -84,12 +84,20 @@ static STEPS: &[Step] = &[
         260_003,
         Some("(0000000000.260003) can0 18EEFF80#0200000000000000"),
     ),
-    // Another sends from its address.
+    // Another sends from its address, which is answered by its claim, and not again for five seconds.
     Tells(None),
     Hears("(0.270000) can0 18FEEE80#11"),
     Tells(Some(News::AnotherAtAddress)),
     Tells(None),
     HandsOut(128, 6, 65_262, &[0x11]),
+    Gives(
+        270_001,
+        Some("(0000000000.270001) can0 18EEFF80#0200000000000000"),
+    ),
+    Hears("(0.280000) can0 18FEEE80#12"),
+    Tells(Some(News::AnotherAtAddress)),
+    HandsOut(128, 6, 65_262, &[0x12]),
+    Gives(280_001, None),
     // To it, to all, and to another.
     Hears("(0.290000) can0 0C00800B#0102"),
     Hears("(0.290001) can0 18FEEE0B#11"),
@@ -219,6 +227,41 @@ static UNREAD: &[Step] = &[
     Missed(2),
 ];
 
+/// All ask for its claim, and one for what it doesn't serve, whenever it could send: its message goes third.
+static FLOOD: &[Step] = &[
+    Gives(
+        0,
+        Some("(0000000000.000000) can0 18EEFF80#0200000000000000"),
+    ),
+    Hears("(0.250000) can0 18EAFF0B#00EE00"),
+    Sends(250_001, 255, &[7], Ok(0)),
+    Gives(
+        250_001,
+        Some("(0000000000.250001) can0 18EEFF80#0200000000000000"),
+    ),
+    Hears("(0.250002) can0 18EAFF0C#00EE00"),
+    Hears("(0.250002) can0 18EA800B#ECFE00"),
+    WouldGive(250_003, Some("(0000000000.250003) can0 18FEF180#07")),
+    Gives(250_003, Some("(0000000000.250003) can0 18FEF180#07")),
+    Hears("(0.250004) can0 18EAFF0D#00EE00"),
+    Sends(250_005, 255, &[8], Ok(1)),
+    Gives(
+        250_005,
+        Some("(0000000000.250005) can0 18EEFF80#0200000000000000"),
+    ),
+    Gives(
+        250_006,
+        Some("(0000000000.250006) can0 18E8FF80#01FFFFFF0BECFE00"),
+    ),
+    Hears("(0.250006) can0 18EAFF0E#00EE00"),
+    Gives(250_007, Some("(0000000000.250007) can0 18FEF180#08")),
+    Gives(
+        250_008,
+        Some("(0000000000.250008) can0 18EEFF80#0200000000000000"),
+    ),
+    Gives(250_009, None),
+];
+
 pub(crate) fn frame(line: &str) -> Option<Frame> {
     match read_line(line.as_bytes()) {
         Line::Frame { frame, .. } => Some(frame),
@@ -310,6 +353,8 @@ fn node(rt: HostRuntime) -> Result<(), Fail> {
     assert_eq!(rt; wrong_step(&mut node, STEPS), None);
     let mut deaf = Controller::new(rt.alloc(), Name::new(2), 128, &served, None)?.ok_or("node")?;
     assert_eq!(rt; wrong_step(&mut deaf, UNREAD), None);
+    let mut asked = Controller::new(rt.alloc(), Name::new(2), 128, &served, None)?.ok_or("node")?;
+    assert_eq!(rt; wrong_step(&mut asked, FLOOD), None);
     Ok(())
 }
 

@@ -5,7 +5,7 @@ ghost use Rattle.j39_node.specs.declared.kinds.TransferEnding.{TransferEnding};
 ghost use Rattle.j39_frame.specs.Address.{IsAddress};
 ghost use Rattle.j39_frame.specs.Stamp.{stamp_micros};
 ghost use Rattle.j39_address.specs.Name.{name_raw};
-ghost use Rattle.j39_node.specs.History.{Who, Call};
+ghost use Rattle.j39_node.specs.History.{Who, Call, nothing};
 ghost use Rattle.j39_node.specs.History.Call.{ReleaseTransfer, TakeTransferEnded};
 ghost use Rattle.j39_node.specs.Hearing.{waiting};
 ghost use Rattle.j39_node.specs.Is.{Is, next_frame, stamped};
@@ -58,7 +58,7 @@ impl Station {
     pub fn new(alloc: Global, name: Name, address: u8) -> Result<Option<Station>, AllocError>
         ensures known { IfOk result (λ found. IsSome found ↔ IsAddress address) }
         ensures fresh { IfOk result (λ found. IfSome found (λ station. Is (record
-            { name = name_raw name; address = address; served = []; subscribed = None; known = [] }) [] station.controller)) }
+            { name = name_raw name; address = address; served = []; subscribed = None; brought = nothing }) [] station.controller)) }
     {
         let Some(controller) = Controller::new(alloc, name, address, &[], None)? else {
             return Ok(None);

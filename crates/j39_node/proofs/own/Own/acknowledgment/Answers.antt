@@ -1,5 +1,5 @@
 use Rattle.std.proofs.Common.{◌≡◌, ◌∙◌, ap, sym, refl, ℕ, List, length, arith}
-use Rattle.j39_node.specs.History.{Message, acknowledgment_group}
+use Rattle.j39_node.specs.History.{Message, acknowledgment_group, nothing}
 use Rattle.j39_node.specs.Is.{who_of, refusal_by}
 use Rattle.j39_node.proofs.FrameLemmas.{made}
 use Rattle.j39_node.proofs.own.Own.acknowledgment.Goals as goal
@@ -11,6 +11,6 @@ pub returns : goal.returns
 unfolding to_all
 returns c =
     let e = c.bytes-bytes.ensures c.args.self.now in
-    made c.new.result _ _ c.bytes-bytes.result (refusal_by (who_of Rattle.std.proofs.Common.[] c.args.self.now) c.args.due.now) c.new.ensures.known c.new.ensures.value
+    made c.new.result _ _ c.bytes-bytes.result (refusal_by (who_of nothing c.args.self.now) c.args.due.now) c.new.ensures.known c.new.ensures.value
     (let l = ap length e in omega (arith, l))
     (c.in_ok-id.ensures c.bytes-bytes.result ∙ ap (to_all c.args.self.now.address) e)
