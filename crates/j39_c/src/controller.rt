@@ -9,7 +9,7 @@ ghost use Rattle.j39_node.specs.History.{told_claims};
 ghost use Rattle.j39_node.specs.History.Call.{At, TakeNews};
 ghost use Rattle.j39_node.specs.History.Act.{Hear, TakeFrame, Tick};
 ghost use Rattle.j39_node.specs.Is.{next_claims_request, next_frame, stamped, status_after};
-ghost use Rattle.j39_node.specs.Reception.{next_tick};
+ghost use Rattle.j39_node.specs.Ticks.{next_tick};
 ghost use Rattle.j39_node.specs.Transfers.{next_due};
 ghost use Rattle.j39_c.specs.Calls.{Answers, Asks, Fills, Never, Opens};
 ghost use Rattle.j39_c.specs.Can.{Fits, frame_of};

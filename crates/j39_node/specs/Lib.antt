@@ -8,6 +8,8 @@ pub mod Reception
 pub mod Hearing
 -- transfers to one address
 pub mod Transfers
+-- the moments of ticks
+pub mod Ticks
 pub mod Moves
 -- asking others for groups
 pub mod Asking

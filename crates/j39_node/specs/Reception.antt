@@ -240,5 +240,5 @@ abbrev pub tick_at : Option ReceptionRecord → ℕ → ℕ → Option ℕ
 tick_at None last clock = None
 tick_at (Some r) last clock = stamp_at (last + (suc (r.message.last + limit_of r) - clock))
 
-abbrev pub next_tick : Who → List Call → Option ℕ
-next_tick w H = tick_at (reception w H).session (heard_at H) (time_heard H)
+abbrev pub session_tick : Who → List Call → Option ℕ
+session_tick w H = tick_at (reception w H).session (heard_at H) (time_heard H)

@@ -12,7 +12,8 @@ ghost use Rattle.j39_address.specs.Holder.{IsHolderAfter};
 ghost use Rattle.j39_address.specs.Node.{IsLeastFree, NoneFree};
 ghost use Rattle.j39_transport.specs.ReceiverModel.{message_shown};
 ghost use Rattle.j39_node.specs.History.{Who, Call, is_left, missed, told_claims, nothing};
-ghost use Rattle.j39_node.specs.Reception.{next_tick, reception};
+ghost use Rattle.j39_node.specs.Reception.{reception};
+ghost use Rattle.j39_node.specs.Ticks.{next_tick};
 ghost use Rattle.j39_node.specs.Hearing.{unheard, waiting};
 ghost use Rattle.j39_node.specs.Transfers.{clock, is_replaced, next_due, packet_in, packets_in, sooner, transfer_by, transfer_in};
 ghost use Rattle.j39_node.specs.Hold.{lost, stands};
@@ -213,8 +214,8 @@ impl Controller {
         true
     }
 
-    /// How many messages for the program were missed, since sixteen lay unread, or another broadcast in packets lay there or was
-    /// being heard.
+    /// How many messages for the program were missed, since sixteen lay unread, or of broadcasts in packets, since another lay there or
+    /// was being heard, or they broke off.
     pub fn missed(&self) -> u64
         ensures { (w : Who) (H : List Call) → Is w H self.now
             → result ≡ min (missed w H + unheard w H) 18446744073709551615 }
@@ -236,12 +237,15 @@ impl Controller {
         }
     }
 
-    /// The moment before which `tick` does nothing but let time pass, if no frame is heard till then: a session waits, and asks again
-    /// or is aborted at it. `None` where no session is open.
+    /// The moment before which `tick` does nothing but let time pass, if no frame is heard till then: at it a session that waits asks
+    /// again or is aborted, or a broadcast in packets is over. `None` where neither is open.
     pub fn next_tick(&self) -> Option<Stamp>
         ensures { (w : Who) (H : List Call) → Is w H self.now → option_map stamp_micros result ≡ next_tick w H }
     {
-        self.incoming.next_tick()
+        let broadcast = self
+            .hearing
+            .next_tick(self.incoming.moment, self.incoming.clock);
+        sooner_stamp(self.incoming.next_tick(), broadcast)
     }
 
     /// Hears a frame of another controller, at the moment of this call. The frame's own stamp goes into what is received, and is
@@ -266,8 +270,10 @@ impl Controller {
         let transferred = self.incoming.made(has_place);
         let is_replaced = is_replaced(before, self.peer());
         let is_left = !is_same(speaker, self.speaker());
-        self.hearing.leave(is_left);
-        let unheard = self.hearing.hear(&self.own, frame, self.incoming.clock);
+        let time = self.incoming.clock;
+        let is_over = self.hearing.is_over(is_left, time);
+        let breaks = self.hearing.leave(is_over);
+        let unheard = self.hearing.hear(&self.own, frame, time);
         let broadcast = self.hearing.made(waited);
         let made = transferred.or(broadcast);
         let is_lost = self.hold.is_lost();
@@ -276,6 +282,7 @@ impl Controller {
         self.news = self
             .news
             .heard(drives_away, is_lost, another, misses, unheard);
+        self.news = self.news.with_missed(breaks);
         self.hold = self.hold.heard(drives_away, calls, another);
         self.transfers
             .hear(self.hold.is_lost(), is_replaced, frame, self.hold.clock());
@@ -288,6 +295,9 @@ impl Controller {
     {
         self.hold = self.hold.passed(now);
         self.incoming.tick(now);
+        let is_out = self.hearing.is_out(self.incoming.clock);
+        let breaks = self.hearing.leave(is_out);
+        self.news = self.news.with_missed(breaks);
     }
 
     /// The frame that `take_frame` would give now: for a driver whose queue may be full, which takes it once it lies there.
@@ -326,7 +336,8 @@ impl Controller {
             let speaker = self.speaker();
             self.incoming.note(&mut self.holders, &claim);
             let is_left = !is_same(speaker, self.speaker());
-            self.hearing.leave(is_left);
+            let breaks = self.hearing.leave(is_left);
+            self.news = self.news.with_missed(breaks);
             return Some(claim);
         }
         if !self.hold.is_held() {
@@ -824,6 +835,16 @@ fn sooner(one: Option<u64>, other: Option<u64>) -> Option<u64>
         (None, _) => other,
         (Some(_), None) => one,
         (Some(m), Some(n)) => Some(m.min(n)),
+    }
+}
+
+fn sooner_stamp(one: Option<Stamp>, other: Option<Stamp>) -> Option<Stamp>
+    ensures { option_map stamp_micros result ≡ sooner (option_map stamp_micros one) (option_map stamp_micros other) }
+{
+    match (one, other) {
+        (None, _) => other,
+        (Some(_), None) => one,
+        (Some(m), Some(n)) => Some(if m.micros() <= n.micros() { m } else { n }),
     }
 }
 

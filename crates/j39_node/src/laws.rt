@@ -21,12 +21,12 @@ ghost use Rattle.j39_node.specs.declared.kinds.Refused.TheVariants as refused;
 ghost use Rattle.j39_node.specs.History.{Act, Who, is_smaller, Asked, Call, Message, Draft, IsFront, accepted, acknowledgment, acknowledgment_group, asked, asked_group, handed, is_served, requests, lost_news, another_news, missed_news, address_after, answers_another, calls, can_send, claim_address, claim_from, content, acknowledged, due, frames, got, heard, holds, is_held, is_lost, is_subscribed, kept, message_of, missed, moment, owes_claim, sent, step, told, all_frames, broadcasts, can_broadcast, first_frames, frame_of, has_packets, is_acknowledgment, is_claim, is_packet, is_transfer, open_broadcast, packets, told_broadcasts};
 ghost use Rattle.j39_node.specs.History.Call.{At, TakeBroadcastEnded, ReleaseTransfer, TakeNews, TakeRequest, TakeEnded, TakeReceived, TakeTransferEnded};
 ghost use Rattle.j39_node.specs.History.Act.{Acknowledge, Broadcast, Hear, Tick, TakeFrame, Send, Transfer};
-ghost use Rattle.j39_node.specs.Reception.{CameFromOne, delivered, got_transfers, heard_at, holder, is_move, listed, next_tick, reception, replied, reply_from, says, time_heard, whole, without};
+ghost use Rattle.j39_node.specs.Reception.{CameFromOne, delivered, got_transfers, heard_at, holder, is_move, listed, reception, session_tick, replied, reply_from, says, time_heard, whole, without};
 ghost use Rattle.j39_transport.specs.Cutting.{ToSend};
 ghost use Rattle.j39_transport.specs.Receiving.{said_to};
 ghost use Rattle.j39_transport.specs.Signals.{RequestToSend};
 ghost use Rattle.byteorder.specs.Endian.{little_bytes};
-ghost use Rattle.j39_node.specs.Hearing.{unheard_news};
+ghost use Rattle.j39_node.specs.Hearing.{hearing, hearing_tick, unheard_news};
 ghost use Rattle.j39_node.specs.Transfers.{age, next_due, told_transfers, transfers};
 ghost use Rattle.j39_node.specs.Moves.{moves};
 ghost use Rattle.j39_node.specs.Asking.{asks, ended, told_asks};
@@ -406,13 +406,18 @@ pub fn full_refuses()
         } }
 {}
 
-/// Before the moment that `next_tick` tells, a tick says nothing and ends no session; from then on one says a CTS or an abort (its first
-/// byte is 17 or 255) to the session's source.
+/// `next_tick` tells the sooner of two moments. Before the session's a tick says nothing and ends no session; from then on one says a CTS
+/// or an abort (its first byte is 17 or 255) to the session's source. Before the broadcast's a tick leaves what is heard; from then on
+/// one ends the broadcast, and its place is free.
 pub fn ticks_wait()
     ensures waits { (w : Who) (H : List Call) (now : ℕ) → heard_at H ≤ now → now < 10000000000000000
-        → ((t : ℕ) → next_tick w H ≡ Some t → now < t) → reception w (At now Tick ∷ H) ≡ reception w H }
-    ensures says { (w : Who) (H : List Call) (now t : ℕ) (r : ReceptionRecord) → next_tick w H ≡ Some t
+        → ((t : ℕ) → session_tick w H ≡ Some t → now < t) → reception w (At now Tick ∷ H) ≡ reception w H }
+    ensures says { (w : Who) (H : List Call) (now t : ℕ) (r : ReceptionRecord) → session_tick w H ≡ Some t
         → (reception w H).session ≡ Some r → t ≤ now → time_heard H + (t - heard_at H) < 10000000000000000
         → (x : ToSend) × ((slice_get x.bytes 0 ≡ Some 17) ⊎ (slice_get x.bytes 0 ≡ Some 255))
         × ((reception w (At now Tick ∷ H)).replies ≡ replied w.address r.message.source (Some x) (reception w H).replies) }
+    ensures keeps { (w : Who) (H : List Call) (now : ℕ) → heard_at H ≤ now → now < 10000000000000000
+        → ((t : ℕ) → hearing_tick w H ≡ Some t → now < t) → hearing w (At now Tick ∷ H) ≡ hearing w H }
+    ensures ends { (w : Who) (H : List Call) (now t : ℕ) → hearing_tick w H ≡ Some t → t ≤ now
+        → time_heard H + (t - heard_at H) < 10000000000000000 → hearing w (At now Tick ∷ H) ≡ None }
 {}

@@ -6,7 +6,7 @@ ghost use Rattle.j39_frame.specs.Stamp.{stamp_micros};
 ghost use Rattle.j39_address.specs.Name.{name_raw};
 ghost use Rattle.j39_node.specs.History.{Who, Call};
 ghost use Rattle.j39_node.specs.Is.{Is};
-ghost use Rattle.j39_node.specs.Reception.{next_tick};
+ghost use Rattle.j39_node.specs.Ticks.{next_tick};
 ghost use Rattle.bus_demo.specs.Calls.{Calls, Takes, held_after, is_handing};
 ghost use Rattle.bus_demo.specs.Fates.{IsOf};
 ghost use Rattle.bus_demo.specs.Moving.{Moves};

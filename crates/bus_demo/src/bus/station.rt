@@ -10,7 +10,8 @@ ghost use Rattle.j39_node.specs.History.Call.{ReleaseTransfer, TakeTransferEnded
 ghost use Rattle.j39_node.specs.Hearing.{waiting};
 ghost use Rattle.j39_node.specs.Is.{Is, next_frame, stamped};
 ghost use Rattle.j39_node.specs.Moving.{IsSettled};
-ghost use Rattle.j39_node.specs.Reception.{next_tick, reception};
+ghost use Rattle.j39_node.specs.Reception.{reception};
+ghost use Rattle.j39_node.specs.Ticks.{next_tick};
 ghost use Rattle.j39_node.specs.Transfers.{next_transfer_ended};
 ghost use Rattle.bus_demo.specs.Calls.{Calls, Continues, Heard, Takes, Ticked, command_to, held_after, is_handing, is_taking};
 ghost use Rattle.bus_demo.specs.Moving.{MovesIfLost, MovesTo};
