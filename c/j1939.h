@@ -426,7 +426,7 @@ int32_t j1939_controller_new_subscribed(j1939_controller *controller, uint64_t n
 int32_t j1939_controller_hear(j1939_controller *controller, const j1939_frame *frame, uint64_t micros);
 
 /** Lets time pass: so an address comes to be held, a request times out, and of what comes in packets to it, it asks
- * again for what is late, or gives it up.
+ * again for what is late, or gives it up; a broadcast that is late ends.
  * @return 0, J1939_BAD_VALUE, J1939_NO_PART */
 int32_t j1939_controller_tick(j1939_controller *controller, uint64_t micros);
 
@@ -557,7 +557,8 @@ enum j1939_received_kind {
  * @return 0 to 3, J1939_NO_PART */
 int32_t j1939_controller_take_received(j1939_controller *controller, j1939_message *message, uint8_t *priority);
 
-/** How many messages were missed, since 16 lay unread, or another broadcast in packets lay there or was heard: *count.
+/** How many messages were missed, since 16 lay unread, or another broadcast in packets lay there or was heard, or it broke
+ * off: *count.
  * @return 0, J1939_NO_PART */
 int32_t j1939_controller_missed(const j1939_controller *controller, uint64_t *count);
 

@@ -1,5 +1,5 @@
 -- Which frame others exchange makes no difference to any answer, whatever comes later.
-use Rattle.std.proofs.Common.{◌≡◌, ◌≢◌, ◌↔◌, ℕ, ◌+◌, ◌-◌, List, [], ◌∷◌, ◌++◌, length, Option, Some, None, Ok, Err, Bool, true, false, not, ◌&&◌, ◌||◌, if◌then◌else◌, nat_eq, nat_lt, nat_le, suc, refl, sym, ap, ◌∙◌, subst, inl, eqb-true, arith}
+use Rattle.std.proofs.Common.{◌≡◌, ◌≢◌, ◌↔◌, ℕ, ◌+◌, ◌-◌, List, [], ◌∷◌, ◌++◌, length, Option, Some, None, Ok, Err, Bool, true, false, not, ◌&&◌, ◌||◌, if◌then◌else◌, nat_eq, nat_lt, nat_le, suc, refl, sym, ap, ◌∙◌, subst, inl, arith}
 use Rattle.std.specs.List.{slice_get}
 use Rattle.std.specs.Option.{option_map, option_or}
 use Rattle.j39_frame.specs.Frame.{FrameRecord}
@@ -17,7 +17,7 @@ use Rattle.j39_node.specs.History.Address.{Lost}
 use Rattle.j39_node.specs.History.Call.{At, TakeAskEnded, TakeEnded, TakeReceived, TakeRequest, TakeNews, TakeBroadcastEnded, ReleaseTransfer, TakeTransferEnded, ReleaseBroadcast}
 use Rattle.j39_node.specs.History.Act.{Ask, Hear, Tick, TakeFrame, Send, Acknowledge, Broadcast, Transfer}
 use Rattle.j39_node.specs.Reception.{Reception, has_place, heard_at, heard_by, held_then, holder, later, leaves, left, none_waits, reception, released_by, taken_by, ticked, time_heard, whole_by}
-use Rattle.j39_node.specs.Hearing.{OpenBroadcast, announces, changes, found, has_room, hearing, is_ignored, hears as hears_it, is_unheard, left as leaves_it, newly, packs, unheard_news, whole_of}
+use Rattle.j39_node.specs.Hearing.{OpenBroadcast, announces, breaks, changes, ends_by, found, hearing, hears as hears_it, in_time, is_out, is_over, is_unheard, left as leaves_it, newly, packs, unheard_news, whole_of}
 use Rattle.j39_node.specs.Transfers.{Running, age, begun, can_transfer, clock, hears_if, holds_back, is_engaged, is_replaced, joined, open_transfer, rest, resting, rests_after, sends_if, transfer_by, transfer_end, transfers}
 use Rattle.j39_node.specs.History.{Resting}
 use Rattle.j39_node.specs.Asking.{Question, ask_end, can_ask, comes, end_at, ended, first, has_token, in_broadcast, in_session, made, is_asking, is_coming, is_message, made_of, open_ask, question, silent_end, wait}
@@ -26,11 +26,15 @@ use Rattle.j39_transport.specs.Key.{Broadcast as by}
 use Rattle.j39_frame.specs.Network.{transport_control_group}
 use Rattle.j39_transport.proofs.FrameFacts.{announcement_facts}
 use Rattle.j39_node.proofs.HearingLaws as hearing_laws
+use Rattle.j39_node.proofs.HearingLaws.{unequal}
+use Rattle.j39_node.proofs.HearingLemmas.{unchanged, unheard_is}
 use Rattle.j39_node.proofs.PacketsAnswer.{packs_to_all}
 use Rattle.j39_node.proofs.ReceptionLaws.{goes_there, to_others}
-use Rattle.j39_node.proofs.RequestStrangers.{to_another}
-use Rattle.j39_node.proofs.StrangerLaws.{open_stays, unclaimed}
+use Rattle.j39_node.proofs.RequestStrangers.{and_false, to_another}
+use Rattle.j39_node.proofs.StrangerLaws.{no_more, open_stays, unclaimed}
 use Rattle.j39_node.specs.Is.{is_there, AreAnswered, IsAnswered, broadcast_end, control_of, end_of, first_of, long_by, news_of, packet_by, stamped}
+use Rattle.j39_node.proofs.LawLemmas.{is_false as not_so}
+use Rattle.j39_node.proofs.PromptLaws.{answered_from as before}
 
 -- ---- all that an answer hangs on
 
@@ -127,9 +131,9 @@ passes now s = record s {
 abbrev comes_at : ℕ → State → Bool
 comes_at time s = is_coming s.ask (in_session s.reception.session) (in_broadcast time s.hearing)
 
--- the address is lost or held, the time, who holds what, and the broadcast that is found
-abbrev hears_with : Who → ℕ → FrameRecord → Address → Bool → ℕ → (ℕ → Option ℕ) → Option OpenBroadcast → Reception → State → State
-hears_with w when f a held time holds found r s = record (passes when s) {
+-- the address is lost or held, the time, who holds what, whether a broadcast ends, and the one that is found
+abbrev hears_with : Who → ℕ → FrameRecord → Address → Bool → ℕ → (ℕ → Option ℕ) → Bool → Option OpenBroadcast → Reception → State → State
+hears_with w when f a held time holds ends found r s = record (passes when s) {
   address = a;
   owes = s.owes || (calls_for_claim w (is_lost s.address) f || (is_another w held f && nat_eq (s.patience - (when - s.moment)) 0));
   patience = if is_another w held f && nat_eq (s.patience - (when - s.moment)) 0 then 5000000 else s.patience - (when - s.moment);
@@ -139,7 +143,7 @@ hears_with w when f a held time holds found r s = record (passes when s) {
   lost = s.lost || (is_smaller w (claim_of f) && not (is_lost s.address));
   another = s.another || is_another w held f;
   missed = s.missed || (is_for_program w held f && not (nat_lt (length s.kept - length s.got) 16));
-  unheard = s.unheard || is_unheard w time f found;
+  unheard = (ends || is_unheard w f found) || s.unheard;
   heard_at = when;
   time = time;
   holder = holds;
@@ -157,7 +161,8 @@ abbrev heard : Who → ℕ → FrameRecord → State → State
 heard w when f s =
     let holds : ℕ → Option ℕ = λ b. held_then b (claim_of f) (s.holder b) in
     hears_with w when f (if is_smaller w (claim_of f) then Lost else older (when - s.moment) s.address) (is_held (older (when - s.moment) s.address))
-    (later s.time (when - s.heard_at)) holds (leaves_it (changes s.holder holds s.hearing) s.hearing)
+    (later s.time (when - s.heard_at)) holds (breaks (is_over s.holder holds (later s.time (when - s.heard_at)) s.hearing) s.hearing)
+    (leaves_it (is_over s.holder holds (later s.time (when - s.heard_at)) s.hearing) s.hearing)
     (left (leaves s.holder holds s.reception.session) s.reception) s
 
 abbrev takes_with : ℕ → FrameRecord → (ℕ → Option ℕ) → State → State
@@ -172,6 +177,7 @@ takes_with now f holds s = record (passes now s) {
   wait = if is_message f && has_token s.ask (length s.sent) then 1250000 else s.wait - (now - s.moment);
   holder = holds;
   reception = taken_by (is_claim f) (is_acknowledgment f) (leaves s.holder holds s.reception.session) s.reception;
+  unheard = (breaks (changes s.holder holds s.hearing) s.hearing || false) || s.unheard;
   hearing = leaves_it (changes s.holder holds s.hearing) s.hearing;
   transfer = sends_if (is_transfer f && none_waits s.reception.replies) (clock (s.age + (now - s.moment))) s.transfer;
 }
@@ -182,6 +188,8 @@ next w (At now Tick) s = record (passes now s) {
   heard_at = now;
   time = later s.time (now - s.heard_at);
   reception = ticked w.address now (later s.time (now - s.heard_at)) s.reception;
+  unheard = (breaks (is_out (later s.time (now - s.heard_at)) s.hearing) s.hearing || false) || s.unheard;
+  hearing = in_time (later s.time (now - s.heard_at)) s.hearing;
 }
 next w (At now (TakeFrame None)) s = passes now s
 next w (At now (TakeFrame (Some f))) s = takes_with now f (λ b. if is_claim f then held_then b (claim_of f) (s.holder b) else s.holder b) s
@@ -333,10 +341,6 @@ same_answers w (call ∷ later) A B e first h = (
   answers w (later ++ B) call (subst (λ (s : State). Answers w s call) (same_on w later A B e) (answered w (later ++ A) call h.1)),
 )
 
-before : (w : Who) (later A : List Call) → AreAnswered w (later ++ A) → AreAnswered w A
-before w [] A h = h
-before w (call ∷ later) A h = before w later A h.0
-
 -- ---- a frame that others exchange
 
 -- time passes, by which a request may end
@@ -348,23 +352,10 @@ abbrev aside : Who → ℕ → State → State
 aside w now s = record (passes now s) {
   heard_at = now;
   time = later s.time (now - s.heard_at);
+  unheard = (breaks (is_out (later s.time (now - s.heard_at)) s.hearing) s.hearing || false) || s.unheard;
+  hearing = in_time (later s.time (now - s.heard_at)) s.hearing;
   ended = first s.ended (silence_of s.ask (length s.sent) (s.wait - (now - s.moment)) (comes_at (later s.time (now - s.heard_at)) s) (is_lost (older (now - s.moment) s.address)));
 }
-
-unequal : (m n : ℕ) → m ≢ n → nat_eq m n ≡ false
-unequal m n h = go (nat_eq m n) refl
-  where
-    go : (b : Bool) → nat_eq m n ≡ b → b ≡ false
-    go true e = absurd (h (eqb-true m n e))
-    go false e = refl
-
-no_more : (b : Bool) → (b || false) ≡ b
-no_more true = refl
-no_more false = refl
-
-never : (b : Bool) → (b && false) ≡ false
-never true = refl
-never false = refl
 
 -- no announcement and no packet to all
 announced_to_all : (f : FrameRecord) → announces f ≡ true → destination_of f.id ≡ Some 255
@@ -374,10 +365,6 @@ announced_to_all f e =
     let group : pgn_of f.id ≡ transport_control_group = facts.pgn in
     let to : ps_of f.id ≡ 255 = facts.destination in
     goes_there f transport_control_group (omega arith) group ∙ ap Some to
-
-not_so : (b : Bool) → (b ≡ true → ⊥) → b ≡ false
-not_so true h = absurd (h refl)
-not_so false h = refl
 
 module _ (w : Who) (f : FrameRecord) (a : IsAside w f) where
   elsewhere : (b : ℕ) → a.to ≢ b → destination_of f.id ≢ Some b
@@ -399,15 +386,15 @@ module _ (w : Who) (f : FrameRecord) (a : IsAside w f) where
   uncalled lost =
       (λ i. ((is_smaller w (a.claims i) || is_larger w (a.claims i)) && not lost)
       || (is_some (asked_group f) 60928 && (is_some (a.goes i) 255 || (is_some (a.goes i) w.address && not lost))))
-      ∙ ((λ i. is_some (asked_group f) 60928 && (all i || (here i && not lost))) ∙ never (is_some (asked_group f) 60928))
+      ∙ ((λ i. is_some (asked_group f) 60928 && (all i || (here i && not lost))) ∙ and_false (is_some (asked_group f) 60928))
 
   unwanted : (held : Bool) → is_for_program w held f ≡ false
   unwanted held =
       (λ i. nat_lt (source_of f.id) 254 && ((is_subscribed w (pgn_of f.id) && not (is_own_group (pgn_of f.id) || nat_eq (pgn_of f.id) 59904))
       && (is_none (a.goes i) || (is_some (a.goes i) 255 || (is_some (a.goes i) w.address && held)))))
       ∙ ((λ i. nat_lt (source_of f.id) 254 && ((is_subscribed w (pgn_of f.id) && not (is_own_group (pgn_of f.id) || nat_eq (pgn_of f.id) 59904)) && (all i || (here i && held))))
-      ∙ (ap (λ (b : Bool). nat_lt (source_of f.id) 254 && b) (never (is_subscribed w (pgn_of f.id) && not (is_own_group (pgn_of f.id) || nat_eq (pgn_of f.id) 59904)))
-      ∙ never (nat_lt (source_of f.id) 254)))
+      ∙ (ap (λ (b : Bool). nat_lt (source_of f.id) 254 && b) (and_false (is_subscribed w (pgn_of f.id) && not (is_own_group (pgn_of f.id) || nat_eq (pgn_of f.id) 59904)))
+      ∙ and_false (nat_lt (source_of f.id) 254)))
 
   unasked : (held : Bool) → asked w held f ≡ None
   unasked held = ap (λ (d : Option ℕ). asked_with w held f d (asked_group f)) a.goes ∙ go (asked_group f)
@@ -417,11 +404,11 @@ module _ (w : Who) (f : FrameRecord) (a : IsAside w f) where
       go (Some group) =
           ap (λ (b : Bool). if b then Some (record { source = source_of f.id; destination = a.to; group = group }) else None)
           ((λ i. (held && nat_lt (source_of f.id) 254) && ((nat_lt group 262144 && not (nat_eq group 60928)) && (all i || here i)))
-          ∙ (ap (λ (b : Bool). (held && nat_lt (source_of f.id) 254) && b) (never (nat_lt group 262144 && not (nat_eq group 60928)))
-          ∙ never (held && nat_lt (source_of f.id) 254)))
+          ∙ (ap (λ (b : Bool). (held && nat_lt (source_of f.id) 254) && b) (and_false (nat_lt group 262144 && not (nat_eq group 60928)))
+          ∙ and_false (held && nat_lt (source_of f.id) 254)))
 
   not_mine : (held : Bool) → is_another w held f ≡ false
-  not_mine held = ap (λ (b : Bool). held && (b && not (is_claim f))) (unequal (source_of f.id) w.address a.source) ∙ never held
+  not_mine held = ap (λ (b : Bool). held && (b && not (is_claim f))) (unequal (source_of f.id) w.address a.source) ∙ and_false held
 
   mine : is_smaller w (claim_of f) ≡ false
   mine = ap (is_smaller w) a.claims
@@ -470,9 +457,9 @@ module _ (w : Who) (f : FrameRecord) (a : IsAside w f) where
       misses : missed_news w (At when (Hear f) ∷ H) ≡ missed_news w H
       misses = ap (λ (b : Bool). missed_news w H || (b && not (nat_lt (length (kept w H) - length (got H)) 16))) (unwanted held) ∙ no_more (missed_news w H)
 
-      unheard : unheard_news w (At when (Hear f) ∷ H) ≡ unheard_news w H
-      unheard = ap (λ (b : Bool). unheard_news w H || (b && (not (is_ignored w (frames.pgn_named f)) && not (has_room (time_heard (At when (Hear f) ∷ H)) (source_of f.id) (found w H when f))))) unannounced
-          ∙ no_more (unheard_news w H)
+      unheard : unheard_news w (At when (Hear f) ∷ H) ≡ (ends_by w H (At when Tick) || false) || unheard_news w H
+      unheard = λ i. (breaks (unchanged (holder w H) (holder w (At when (Hear f) ∷ H)) (hearing w H) (λ b. unclaimed w H when f b a.claims) i || is_out (time_heard (At when Tick ∷ H)) (hearing w H)) (hearing w H)
+          || unheard_is w f (found w H when f) false false unannounced unpacked i) || unheard_news w H
 
       receives : reception w (At when (Hear f) ∷ H) ≡ reception w H
       receives = to_others w H when f mine (λ r z. unclaimed w H when f r.message.source a.claims) (elsewhere w.address a.not_here)

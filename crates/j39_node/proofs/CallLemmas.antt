@@ -30,7 +30,7 @@ use Rattle.j39_node.specs.Is.{AskRecord, made_by, asking_of, hears_with, silence
 use Rattle.j39_node.specs.Hold.{acknowledged as hold_acknowledged, claimed as hold_claimed, rested, spoken as hold_spoken, asked as hold_asked, standing_of, less, passed, heard, claims, paused, stands, lost, left_at}
 use Rattle.j39_node.specs.History.{nothing, patience, turns, Who, Message, Draft, Call, Address, message_of, older, claimed, address_after, holds, is_lost, is_held, is_smaller, claim_address, claim_from, owes_claim, calls_for_claim, can_send, message_from, accepted, sent, told, is_full, step, moment, is_for_program, kept, got, missed, Asked, asked, acknowledgment, acknowledged, due, handed, requests, is_served, with_request, with_refusal, stamp_at, held_at, told_claims, is_another, is_acknowledgment, is_claim, lost_news, another_news, missed_news, broadcasts, broadcast_from, can_broadcast, has_packets, is_busy, is_left, is_open, is_packet, open_broadcast, packets, pause}
 use Rattle.j39_node.specs.History.Call.{At, TakeEnded, TakeRequest, TakeTransferEnded}
-use Rattle.j39_node.specs.History.Act.{Hear, TakeFrame, Send, Acknowledge, Broadcast, Transfer}
+use Rattle.j39_node.specs.History.Act.{Hear, Tick, TakeFrame, Send, Acknowledge, Broadcast, Transfer}
 use Rattle.j39_node.proofs.ReceptionLaws.{made_is}
 use Rattle.j39_node.specs.Reception.{has_place, IsApart, heard_at, heard_by, holder, is_same, is_waiting, later, leaves, left, reception, time_heard, whole}
 use Rattle.j39_node.specs.declared.incoming.Incoming.{Incoming}
@@ -39,10 +39,10 @@ use Rattle.j39_address.specs.declared.claims.Claims.{Claims}
 use Rattle.j39_node.proofs.ReceptionLemmas.{leaves_is, none_taken, replied_get, taken_is, tidy}
 use Rattle.j39_node.specs.Transfers.{holds_back, is_resting, rest, resting, rests_after, Running, age, answer_to_transfer, at_in, begun, can_transfer, clock, clock_at, is_engaged, next_due, next_transfer, next_transfer_ended, hears_if, is_replaced, open_transfer, packet_in, packets_in, sends_if, sooner, transfer_by, transfer_end, transfer_in, transfers as all_transfers}
 use Rattle.j39_node.specs.History.Address.{NotClaimed, Claimed, Lost}
-use Rattle.j39_node.specs.Is.{Is, claim_goes, gives_way, is_there, next_acknowledgment, next_other, stamped, next_frame, end_of, answer_to_send, answer_to_acknowledge, hold_after, who_of, posted, received_by, request_by, refusal_by, first_of, offered, counted, LaneRecord, opened, lane_of, lane_after, packet_by, next_control, control_of, next_packet, IncomingRecord, incoming_of, incoming_after, said_by, with_reception, with_replies, hears, answer_to_broadcast, broadcast_end, next_broadcast_ended, long_by, next_long, PortRecord, closed, port_after, port_of, resting_by, running, HearingRecord, hearing_of}
+use Rattle.j39_node.specs.Is.{Is, claim_goes, gives_way, is_there, next_acknowledgment, next_other, stamped, next_frame, end_of, answer_to_send, answer_to_acknowledge, hold_after, who_of, posted, received_by, request_by, refusal_by, first_of, offered, counted, LaneRecord, opened, lane_of, lane_after, packet_by, next_control, control_of, next_packet, IncomingRecord, incoming_of, incoming_after, said_by, with_reception, with_replies, hears, answer_to_broadcast, long_by, next_long, PortRecord, closed, port_after, port_of, resting_by, running, HearingRecord, hearing_of, news_after, ticks}
 use Rattle.j39_frame.specs.Stamp.{stamp_micros}
-use Rattle.j39_node.specs.Hearing.{IsFit, hearing, hears as hears_it, is_unheard, left as leaves_it, made_whole, newly, unheard_news, waiting, whole_of}
-use Rattle.j39_node.proofs.HearingLemmas.{claimed_on, either_news, hearing_same, heard_on}
+use Rattle.j39_node.specs.Hearing.{IsFit, breaks as breaks_it, hearing, hears as hears_it, is_out, is_unheard, left as leaves_it, made_whole, newly, unheard_news, waiting, whole_of}
+use Rattle.j39_node.proofs.HearingLemmas.{always, broken_news, claimed_on, either_news, hearing_same, heard_on, is_hearing, leaves_on, news_same, missed_one}
 use Rattle.j39_node.proofs.QueueLemmas.{length_one_more, length_map, map_append, length_rest, in_rest, not_in_rest, First, drop_append, length_drop}
 use Rattle.j39_node.proofs.SoundLemmas.{sound, own_get, due_get, due_taken, claim_taken, message_taken, plain_taken, sent_is, acknowledged_is, address_is, frame_by, front_length, held_not_lost, holding_not_lost, lost_older, read, single_taken, claim_single, no_packet, packet_session, reply_taken, packet_taken, packets_is, pause_is, no_packet, no_transfer, transfer_taken, no_move, reply_no_move, is_moved, none_steers}
 use Rattle.j39_node.proofs.FrameLemmas.{at_now}
@@ -354,7 +354,7 @@ taken w H old new now (Some f) x mid h p owes held none quiet g m e d request a1
           ∙ ap (λ (xs : List Message). drop (length xs) (due w H)) (sym (acknowledged_is H now f false false n l)));
       holders = subst (λ t. Knows t (told_claims w (At now (TakeFrame (Some f)) ∷ H))) (sym (ap (λ c. c.holders) e))
           (subst (Knows old.holders) (sym (ap (λ (b : Bool). if b then told_claims w H ++ f ∷ [] else told_claims w H) n)) h.holders);
-      news = ap (λ c. c.news) e ∙ h.news;
+      news = ap (λ c. c.news) e ∙ (h.news ∙ news_same w H now f n);
       missed = ap (λ c. c.inbox.missed) e ∙ h.missed;
       lane = ap (λ c. lane_of w c.lane) e ∙ (h.lane ∙ lane_same w H now f (no_packet f one));
       incoming = ap (λ c. incoming_of c.incoming) e ∙ (h.incoming ∙ incoming_same w H now f (none_taken w H now f n l (none_replied w H old h quiet)));
@@ -432,7 +432,7 @@ taken_packet w H old new now f mid h p owes held none quiet g m e e0 e1 more =
               ∙ ap (λ (xs : List Message). drop (length xs) (due w H)) (sym (acknowledged_is H now f false false is.0 is.1)));
           holders = subst (λ t. Knows t (told_claims w (At now (TakeFrame (Some f)) ∷ H))) (sym (ap (λ c. c.holders) e))
               (subst (Knows old.holders) (sym (ap (λ (b : Bool). if b then told_claims w H ++ f ∷ [] else told_claims w H) is.0)) h.holders);
-          news = ap (λ c. c.news) e ∙ h.news;
+          news = ap (λ c. c.news) e ∙ (h.news ∙ news_same w H now f is.0);
           missed = ap (λ c. c.inbox.missed) e ∙ h.missed;
           lane = ap (lane_of w) e1 ∙ (ap (λ (l : LaneRecord). record l { count = new.lane.count }) h.lane
               ∙ ap (λ (n : ℕ). record (lane_after w H) { count = n })
@@ -483,7 +483,7 @@ taken_transfer w H old new now f mid h p owes held none quiet g m u e e0 e1 e2 e
               ∙ ap (λ (xs : List Message). drop (length xs) (due w H)) (sym (acknowledged_is H now f false false is.claim is.plain)));
           holders = subst (λ t. Knows t (told_claims w (At now (TakeFrame (Some f)) ∷ H))) (sym (ap (λ c. c.holders) e))
               (subst (Knows old.holders) (sym (ap (λ (b : Bool). if b then told_claims w H ++ f ∷ [] else told_claims w H) is.claim)) h.holders);
-          news = ap (λ c. c.news) e ∙ h.news;
+          news = ap (λ c. c.news) e ∙ (h.news ∙ news_same w H now f is.claim);
           missed = ap (λ c. c.inbox.missed) e ∙ h.missed;
           lane = ap (λ c. lane_of w c.lane) e ∙ (h.lane ∙ lane_same w H now f is.packet);
           hearing = ap (λ c. hearing_of c.hearing) e ∙ (h.hearing ∙ hearing_same w H now f is.claim);
@@ -517,7 +517,7 @@ taken_due w H old new now (Some f) x mid h p owes held next first m e e0 =
       acknowledgments = first.rest ∙ ap (λ (n : ℕ). drop n (due w H)) (sym (ap length more ∙ length_one_more (acknowledged H) (message_of f)));
       holders = subst (λ t. Knows t (told_claims w (At now (TakeFrame (Some f)) ∷ H))) (sym (ap (λ c. c.holders) e))
           (subst (Knows old.holders) (sym (ap (λ (b : Bool). if b then told_claims w H ++ f ∷ [] else told_claims w H) is.0)) h.holders);
-      news = ap (λ c. c.news) e ∙ h.news;
+      news = ap (λ c. c.news) e ∙ (h.news ∙ news_same w H now f is.0);
       missed = ap (λ c. c.inbox.missed) e ∙ h.missed;
       lane = ap (λ c. lane_of w c.lane) e ∙ (h.lane ∙ lane_same w H now f (no_packet f is.2));
       incoming = ap (λ c. incoming_of c.incoming) e ∙ (h.incoming ∙ incoming_same w H now f (taken_is w H now f false true is.0 is.1));
@@ -554,7 +554,7 @@ taken_reply w H old new now (Some f) x mid h p owes held none first m e e0 e1 =
           ∙ ap (λ (xs : List Message). drop (length xs) (due w H)) (sym (acknowledged_is H now f false false is.0 is.1)));
       holders = subst (λ t. Knows t (told_claims w (At now (TakeFrame (Some f)) ∷ H))) (sym (ap (λ c. c.holders) e))
           (subst (Knows old.holders) (sym (ap (λ (b : Bool). if b then told_claims w H ++ f ∷ [] else told_claims w H) is.0)) h.holders);
-      news = ap (λ c. c.news) e ∙ h.news;
+      news = ap (λ c. c.news) e ∙ (h.news ∙ news_same w H now f is.0);
       missed = ap (λ c. c.inbox.missed) e ∙ h.missed;
       lane = ap (λ c. lane_of w c.lane) e ∙ (h.lane ∙ lane_same w H now f is.3);
       incoming = ap incoming_of e0 ∙ (ap (λ (xs : List Message). with_replies xs (incoming_of old.incoming)) first.rest
@@ -690,9 +690,6 @@ kept_rest wanted K unread n x l e =
     go true = sym (drop_append n K x l)
     go false = refl
 
-missed_one : (m : ℕ) → min (min m 18446744073709551615 + 1) 18446744073709551615 ≡ min (suc m) 18446744073709551615
-missed_one m = omega arith
-
 missed_rest : (wanted : Bool) (K unread : List (ℕ × Message)) (n m c : ℕ) → unread ≡ drop n K → c ≡ min m 18446744073709551615
     → counted wanted unread c ≡ min (if wanted && not (nat_lt (length K - n) 16) then suc m else m) 18446744073709551615
 missed_rest wanted K unread n m c e f =
@@ -748,7 +745,47 @@ coming_is w H c t time h e =
     (λ i. is_coming (option_map (λ (x : AskRecord). x.question) (h.asking i)) (in_session (h.incoming i).reception.session) (in_broadcast (e i) (h.hearing i).current))
     ∙ ap (λ (o : Option Question). is_coming o (in_session (reception w H).session) (in_broadcast time (hearing w H))) (token_of (open_ask H) (length (sent H)) (ended w H))
 
-pub heard_more : (w : Who) (H : List Call) (old new : Controller) (when : ℕ) (f : FrameRecord) (mid : Hold) (held wanted away gone calls another replaced unheard : Bool) (o : Option Asked) → Is w H old
+-- a broadcast broke off, by a tick or its own claim
+is_broken : (w : Who) (H : List Call) (b c : Bool) (u : Untold) → u ≡ news_after w H → b ≡ c
+    → record u { missed = b || u.missed } ≡ record (news_after w H) { missed = missed_news w H || ((c || false) || unheard_news w H) }
+is_broken w H b c u e g =
+    (λ i. record (e i) { missed = g i || (e i).missed })
+    ∙ ap (λ (m : Bool). (let v : Untold = record (news_after w H) { missed = m } in v)) (broken_news c (missed_news w H) (unheard_news w H))
+
+pub ticked_more : (w : Who) (H : List Call) (old new : Controller) (now : ℕ) (broken : Bool) → Is w H old → Passed w H now new.hold
+    → incoming_of new.incoming ≡ ticks now (incoming_of old.incoming)
+    → broken ≡ breaks_it (is_out (stamp_micros new.incoming.clock) (hearing_of old.hearing).current) (hearing_of old.hearing).current
+    → new.hearing.missed ≡ (if broken then min (old.hearing.missed + 1) 18446744073709551615 else old.hearing.missed)
+    → (hearing_of new.hearing).current ≡ leaves_it (is_out (stamp_micros new.incoming.clock) (hearing_of old.hearing).current) (hearing_of old.hearing).current
+    → new.news ≡ record { lost = old.news.lost; another = old.news.another; missed = broken || old.news.missed }
+    → new ≡ record old { hold = new.hold; incoming = new.incoming; hearing = new.hearing; news = new.news }
+    → Is w (At now Tick ∷ H) new
+ticked_more w H old new now broken h p r t1 t2 t3 u e =
+    let later_on : incoming_of new.incoming ≡ incoming_after w (At now Tick ∷ H) = r ∙ ap (ticks now) h.incoming in
+    let on = leaves_on w H (is_out (stamp_micros new.incoming.clock) (hearing_of old.hearing).current) broken (is_out (time_heard (At now Tick ∷ H)))
+    (hearing_of old.hearing) (hearing_of new.hearing) h.hearing
+    (always (hearing_of old.hearing).current (ap (λ (x : IncomingRecord). is_out x.clock (hearing_of old.hearing).current) later_on)) t1 t2 t3 in
+    record {
+      who = ap (λ c. who_of w.brought c.own) e ∙ h.who;
+      answered = (h.answered, tt);
+      hold = is_hold _ _ p.turns p.patience p.rest p.moment p.standing p.owes p.pause p.age p.wait;
+      outgoing = ap (λ c. map posted c.outgoing.items) e ∙ h.outgoing;
+      taken = ap (λ c. c.taken) e ∙ h.taken;
+      token = ap (λ c. c.next_token) e ∙ h.token;
+      asking = ap (λ c. asking_of c.asking) e ∙ h.asking;
+      unread = ap (λ c. map received_by c.inbox.unread.items) e ∙ h.unread;
+      requests = ap (λ c. map request_by c.desk.waiting.items) e ∙ h.requests;
+      acknowledgments = ap (λ c. map (refusal_by w) c.desk.due.items) e ∙ h.acknowledgments;
+      holders = subst (λ t. Knows t (told_claims w H)) (sym (ap (λ c. c.holders) e)) h.holders;
+      news = u ∙ is_broken w H broken _ old.news h.news on.says;
+      missed = ap (λ c. c.inbox.missed) e ∙ h.missed;
+      lane = ap (λ c. lane_of w c.lane) e ∙ h.lane;
+      incoming = later_on;
+      hearing = is_hearing _ _ on.current on.missed;
+      port = ap (λ c. port_of c.transfers) e ∙ h.port;
+    }
+
+pub heard_more : (w : Who) (H : List Call) (old new : Controller) (when : ℕ) (f : FrameRecord) (mid : Hold) (held wanted away gone calls another replaced broken unheard : Bool) (o : Option Asked) → Is w H old
     → Passed w H when mid → held ≡ stands mid.standing → wanted ≡ is_for_program (who_of w.brought old.own) held f
     → map received_by new.inbox.unread.items ≡ offered wanted (stamped f) (map received_by old.inbox.unread.items)
     → new.inbox.missed ≡ counted wanted (map received_by old.inbox.unread.items) old.inbox.missed
@@ -764,7 +801,7 @@ pub heard_more : (w : Who) (H : List Call) (old new : Controller) (when : ℕ) (
     → new.news ≡ record {
       lost = old.news.lost || (gone && not away);
       another = old.news.another || is_another (who_of w.brought old.own) held f;
-      missed = old.news.missed || ((wanted && not (nat_lt (length old.inbox.unread.items) 16)) || unheard);
+      missed = broken || (old.news.missed || ((wanted && not (nat_lt (length old.inbox.unread.items) 16)) || unheard));
     }
     → new.hold ≡ heard gone calls another mid → new.own ≡ old.own → new.outgoing ≡ old.outgoing → new.taken ≡ old.taken → new.next_token ≡ old.next_token → new.lane ≡ old.lane
     → (old.incoming.receiver.has_box ≡ true → IsApart (incoming_of old.incoming).reception
@@ -780,13 +817,16 @@ pub heard_more : (w : Who) (H : List Call) (old new : Controller) (when : ℕ) (
     (in_broadcast (later (incoming_of old.incoming).clock (when - (incoming_of old.incoming).moment)) (hearing_of old.hearing).current)
     → silent ≡ silence new.hold.wait coming (lost new.hold.standing) (asking_of old.asking)
     → asking_of new.asking ≡ option_map (hears_with (who_of w.brought old.own) silent f (option_or whole_now cast_now)) (asking_of old.asking)
-    → (left_by : Bool) (p1 p2 : Option ℕ) (m : HearingRecord) → IfSome (hearing_of old.hearing).current (λ z. p1 ≡ holder_in old.holders z.source)
+    → (left_by over_by : Bool) (p1 p2 : Option ℕ) (m : HearingRecord) → IfSome (hearing_of old.hearing).current (λ z. p1 ≡ holder_in old.holders z.source)
     → IfSome (hearing_of old.hearing).current (λ z. p2 ≡ holder_in new.holders z.source) → left_by ≡ not (is_same p1 p2)
-    → m.current ≡ leaves_it left_by (hearing_of old.hearing).current → m.missed ≡ old.hearing.missed
-    → unheard ≡ is_unheard (who_of w.brought old.own) (stamp_micros new.incoming.clock) f m.current
+    → over_by ≡ (left_by || is_out (stamp_micros new.incoming.clock) (hearing_of old.hearing).current)
+    → broken ≡ breaks_it over_by (hearing_of old.hearing).current
+    → m.missed ≡ (if broken then min (old.hearing.missed + 1) 18446744073709551615 else old.hearing.missed)
+    → m.current ≡ leaves_it over_by (hearing_of old.hearing).current
+    → unheard ≡ is_unheard (who_of w.brought old.own) f m.current
     → new.hearing.missed ≡ (if unheard then min (m.missed + 1) 18446744073709551615 else m.missed)
     → (IsFit m.current → (hearing_of new.hearing).current ≡ hears_it (who_of w.brought old.own) (stamp_micros new.incoming.clock) f m.current) → Is w (At when (Hear f) ∷ H) new
-heard_more w H old new when f mid held wanted away gone calls another replaced unheard o h p e1 e2 e3 e4 e5 e6 e7 e9 q1 q2 q3 q4 q5 e8 s1 s2 s3 s4 s5 s9 s6 s7 s8 s10 whole_now m1 cast_now m2 coming silent a2 a3 a1 left_by p1 p2 m t1 t2 t3 t4 t5 t6 t7 t8 =
+heard_more w H old new when f mid held wanted away gone calls another replaced broken unheard o h p e1 e2 e3 e4 e5 e6 e7 e9 q1 q2 q3 q4 q5 e8 s1 s2 s3 s4 s5 s9 s6 s7 s8 s10 whole_now m1 cast_now m2 coming silent a2 a3 a1 left_by over_by p1 p2 m t1 t2 t3 t4 t5 t9 t10 t6 t7 t8 =
     let s = sound w H h.answered in
     let wants : wanted ≡ is_for_program w (holds w H when) f =
     e2 ∙ (ap (λ (v : Who). is_for_program v held f) h.who ∙ ap (λ (b : Bool). is_for_program w b f) (holds_is w H when mid held p e1)) in
@@ -811,9 +851,9 @@ heard_more w H old new when f mid held wanted away gone calls another replaced u
     ∙ heard_standing (is_smaller w (claim_of f)) (step H when) (address_after w H))) in
     let hears_in : incoming_of new.incoming ≡ incoming_after w (At when (Hear f) ∷ H) =
     incoming_heard w H old when f new.holders new.incoming gone held h (q4 (told_claims w H) h.holders) goes (holds_is w H when mid held p e1) s9 in
-    let on = heard_on w H when f old.holders new.holders left_by unheard (stamp_micros new.incoming.clock) p1 p2 (hearing_of old.hearing) m (hearing_of new.hearing) h.hearing
-    h.holders (q4 (told_claims w H) h.holders) (ap (λ (x : IncomingRecord). x.clock) hears_in) t1 t2 t3 t4 t5
-    (t6 ∙ ap (λ (v : Who). is_unheard v (stamp_micros new.incoming.clock) f m.current) h.who) t7
+    let on = heard_on w H when f old.holders new.holders left_by over_by broken unheard (stamp_micros new.incoming.clock) p1 p2 (hearing_of old.hearing) m (hearing_of new.hearing) h.hearing
+    h.holders (q4 (told_claims w H) h.holders) (ap (λ (x : IncomingRecord). x.clock) hears_in) t1 t2 t3 t4 t5 t9 t10
+    (t6 ∙ ap (λ (v : Who). is_unheard v f m.current) h.who) t7
     (λ fits. t8 fits ∙ ap (λ (v : Who). hears_it v (stamp_micros new.incoming.clock) f m.current) h.who) in
     let whole_is : whole_now ≡ made_of (whole w H when f) =
     m1 ∙ (ap (λ (x : IncomingRecord). made_by (has_place x.reception.waits) (incoming_of new.incoming).reception.waits) h.incoming
@@ -865,12 +905,12 @@ heard_more w H old new when f mid held wanted away gone calls another replaced u
           (ap (λ (u : Untold). u.another || is_another (who_of w.brought old.own) held f) h.news
           ∙ (ap (λ (v : Who). another_news w H || is_another v held f) h.who
           ∙ ap (λ (b : Bool). another_news w H || is_another w b f) (holds_is w H when mid held p e1)))
-          (ap (λ (u : Untold). u.missed || ((wanted && not (nat_lt (length old.inbox.unread.items) 16)) || unheard)) h.news
-          ∙ (ap (λ (b : Bool). (missed_news w H || unheard_news w H) || ((b && not (nat_lt (length old.inbox.unread.items) 16)) || unheard)) wants
-          ∙ (ap (λ (n : ℕ). (missed_news w H || unheard_news w H) || ((is_for_program w (holds w H when) f && not (nat_lt n 16)) || unheard))
+          (ap (λ (u : Untold). broken || (u.missed || ((wanted && not (nat_lt (length old.inbox.unread.items) 16)) || unheard))) h.news
+          ∙ (ap (λ (b : Bool). broken || ((missed_news w H || unheard_news w H) || ((b && not (nat_lt (length old.inbox.unread.items) 16)) || unheard))) wants
+          ∙ (ap (λ (n : ℕ). broken || ((missed_news w H || unheard_news w H) || ((is_for_program w (holds w H when) f && not (nat_lt n 16)) || unheard)))
           (length_rest received_by old.inbox.unread.items (length (got H)) (kept w H) h.unread)
-          ∙ (ap (λ (b : Bool). (missed_news w H || unheard_news w H) || ((is_for_program w (holds w H when) f && not (nat_lt (length (kept w H) - length (got H)) 16)) || b)) on.unheard
-          ∙ either_news (missed_news w H) (unheard_news w H) _ _))));
+          ∙ ((λ i. on.breaks i || ((missed_news w H || unheard_news w H) || ((is_for_program w (holds w H when) f && not (nat_lt (length (kept w H) - length (got H)) 16)) || on.unheard i)))
+          ∙ either_news _ (missed_news w H) (unheard_news w H) _ _))));
       missed = e4 ∙ (ap (λ (b : Bool). counted b (map received_by old.inbox.unread.items) old.inbox.missed) wants
           ∙ missed_rest (is_for_program w (holds w H when) f) (kept w H) _ (length (got H)) (missed w H) _ h.unread h.missed);
       lane = ap (lane_of w) s5 ∙ h.lane;
@@ -1062,11 +1102,15 @@ pub claims_more : (w : Who) (H : List Call) (old new : Controller) (now : ℕ) (
     → ((F : List FrameRecord) → Knows old.holders F → Knows new.holders (F ++ f ∷ []))
     → incoming_of new.incoming ≡ with_reception (left (leaves (holder_in old.holders) (holder_in new.holders) (incoming_of old.incoming).reception.session)
     (incoming_of old.incoming).reception) (incoming_of old.incoming)
-    → (left_by : Bool) (p1 p2 : Option ℕ) → IfSome (hearing_of old.hearing).current (λ z. p1 ≡ holder_in old.holders z.source)
+    → (left_by broken : Bool) (p1 p2 : Option ℕ) → IfSome (hearing_of old.hearing).current (λ z. p1 ≡ holder_in old.holders z.source)
     → IfSome (hearing_of old.hearing).current (λ z. p2 ≡ holder_in new.holders z.source) → left_by ≡ not (is_same p1 p2)
-    → (hearing_of new.hearing).current ≡ leaves_it left_by (hearing_of old.hearing).current → new.hearing.missed ≡ old.hearing.missed
-    → new ≡ record old { hold = new.hold; holders = new.holders; incoming = new.incoming; hearing = new.hearing } → Is w (At now (TakeFrame (Some f)) ∷ H) new
-claims_more w H old new now f mid a h p owes e0 m at knows drops left_by p1 p2 t1 t2 t3 t4 t5 e =
+    → broken ≡ breaks_it left_by (hearing_of old.hearing).current
+    → new.hearing.missed ≡ (if broken then min (old.hearing.missed + 1) 18446744073709551615 else old.hearing.missed)
+    → (hearing_of new.hearing).current ≡ leaves_it left_by (hearing_of old.hearing).current
+    → new.news ≡ record { lost = old.news.lost; another = old.news.another; missed = broken || old.news.missed }
+    → new ≡ record old { hold = new.hold; holders = new.holders; incoming = new.incoming; hearing = new.hearing; news = new.news }
+    → Is w (At now (TakeFrame (Some f)) ∷ H) new
+claims_more w H old new now f mid a h p owes e0 m at knows drops left_by broken p1 p2 t1 t2 t3 t4 t5 t6 u e =
     let from : claim_from (who_of w.brought old.own) a ≡ claim_from w (claim_address w (address_after w H)) =
     ap (λ (v : Who). claim_from v a) h.who
     ∙ ap (claim_from w) (at ∙ (ap (λ (x : Standing). if lost x then 254 else old.own.address) p.standing
@@ -1075,6 +1119,7 @@ claims_more w H old new now f mid a h p owes e0 m at knows drops left_by p1 p2 t
     let k : stamped f ≡ (now, claim_from (who_of w.brought old.own) a) = cc in
     let j : stamped f ≡ (now, claim_from w (claim_address w (address_after w H))) = k ∙ ap (λ (x : Message). (now, x)) from in
     let n = claim_taken f now w (claim_address w (address_after w H)) j in
+    let on = claimed_on w H now f old.holders new.holders left_by broken p1 p2 (hearing_of old.hearing) (hearing_of new.hearing) h.hearing h.holders (subst (Knows new.holders) (sym (told_is w H now f n)) (knows (told_claims w H) h.holders)) t1 t2 t3 t4 t5 t6 in
     record {
       who = ap (λ c. who_of w.brought c.own) e ∙ h.who;
       answered = (
@@ -1094,10 +1139,10 @@ claims_more w H old new now f mid a h p owes e0 m at knows drops left_by p1 p2 t
       acknowledgments = ap (λ c. map (refusal_by w) c.desk.due.items) e ∙ (h.acknowledgments
           ∙ ap (λ (xs : List Message). drop (length xs) (due w H)) (sym (acknowledged_is H now f true _ n refl)));
       holders = subst (Knows new.holders) (sym (ap (λ (b : Bool). if b then told_claims w H ++ f ∷ [] else told_claims w H) n)) (knows (told_claims w H) h.holders);
-      news = ap (λ c. c.news) e ∙ h.news;
+      news = u ∙ is_broken w H broken _ old.news h.news on.says;
       missed = ap (λ c. c.inbox.missed) e ∙ h.missed;
       lane = ap (λ c. lane_of w c.lane) e ∙ (h.lane ∙ lane_same w H now f (no_packet f (claim_single f n)));
-      hearing = claimed_on w H now f old.holders new.holders left_by p1 p2 (hearing_of old.hearing) (hearing_of new.hearing) h.hearing h.holders (subst (Knows new.holders) (sym (told_is w H now f n)) (knows (told_claims w H) h.holders)) t1 t2 t3 t4 t5;
+      hearing = is_hearing _ _ on.current on.missed;
       port = ap (λ c. port_of c.transfers) e ∙ (h.port ∙ port_same w H now f (no_move w H f (no_transfer f (claim_single f n))));
       incoming = drops ∙ incoming_claimed w H old now f new.holders h n (subst (Knows new.holders) (sym (told_is w H now f n)) (knows (told_claims w H) h.holders));
     }
@@ -1255,12 +1300,6 @@ begins w H old new now group bytes x h p answer is e e0 e1 e2 = record {
   hearing = ap (λ c. hearing_of c.hearing) e ∙ h.hearing;
   port = ap (λ c. port_of c.transfers) e ∙ h.port;
 }
-
-pub ended_is : (w : Who) (H : List Call) (c : Controller) (b : Bool) → Is w H c → b ≡ lost c.hold.standing
-    → broadcast_end (lane_of w c.lane).current c.lane.count b ≡ next_broadcast_ended w H
-ended_is w H c b h e =
-    ap (λ (l : LaneRecord). broadcast_end l.current l.count b) h.lane
-    ∙ ap (broadcast_end (open_broadcast w H) (length (packets H))) (e ∙ (ap (λ (k : Hold). lost k.standing) h.hold ∙ lost_is (address_after w H)))
 
 -- ---- transfers
 

@@ -17,13 +17,13 @@ pub made : (r : Option FrameRecord) (now id : ℕ) (bytes : List ℕ) (m : Messa
 made None now id bytes m known is l e = absurd (let z : false ≡ true = known.1 l in cc)
 made (Some f) now id bytes m known is l e = ap (λ g. Some (stamped g)) is ∙ ap (λ (x : Message). Some (now, x)) e
 
-le_true : (i n : ℕ) → i ≤ n → nat_le i n ≡ true
+pub le_true : (i n : ℕ) → i ≤ n → nat_le i n ≡ true
 le_true i n l = grind arith
 
 le_false : (i n : ℕ) → n < i → nat_le i n ≡ false
 le_false i n l = grind arith
 
-lt_false : (i n : ℕ) → i ≤ n → nat_lt n i ≡ false
+pub lt_false : (i n : ℕ) → i ≤ n → nat_lt n i ≡ false
 lt_false i n l = grind arith
 
 pub left_is : (o : Option (ℕ × MessageRecord)) (x : ℕ × MessageRecord) (i n : ℕ) → o ≡ Some x → n ≡ packets_of x.1 → nat_le i n ≡ is_left o i

@@ -1,7 +1,8 @@
 -- The laws of broadcasts in packets that are heard.
-use Rattle.std.proofs.Common.{◌≡◌, ◌≢◌, ◌⊎◌, ◌↔◌, ℕ, suc, ◌+◌, ◌*◌, ◌<◌, ◌≤◌, List, [], ◌∷◌, ◌++◌, length, take, drop, slice_index, Option, Some, None, Bool, true, false, not, ◌&&◌, ◌||◌, if◌then◌else◌, nat_eq, nat_le, IsTrue, refl, sym, ap, ◌∙◌, subst, inl, inr, arith, append-nil, append_assoc, eq-eqb, eqb-true}
-use Rattle.std.proofs.lemmas.Bool.{leb-true}
-use Rattle.std.proofs.lemmas.List.{take-append-drop}
+use Rattle.std.proofs.Common.{◌≡◌, ◌≢◌, ◌⊎◌, ◌↔◌, ℕ, suc, ◌+◌, ◌-◌, ◌*◌, ◌<◌, ◌≤◌, List, [], ◌∷◌, ◌++◌, length, take, drop, slice_index, Option, Some, None, IfSome, Bool, true, false, not, ◌&&◌, ◌||◌, if◌then◌else◌, nat_eq, nat_le, nat_lt, IsTrue, refl, sym, ap, ◌∙◌, subst, inl, inr, arith, append-nil, eq-eqb, eqb-true, lt-ltb}
+use Rattle.std.proofs.lemmas.Bool.{leb-false, leb-true, lt-leb}
+use Rattle.std.proofs.lemmas.Grind.{flat_map-append}
+use Rattle.std.proofs.lemmas.List.{length-append, length-take-le, take-append-drop}
 use Rattle.j39_frame.specs.Frame.{FrameRecord}
 use Rattle.j39_frame.specs.Identifier.{source_of}
 use Rattle.j39_address.specs.Claim.{Claim, claim_of}
@@ -9,17 +10,20 @@ use Rattle.j39_transport.specs.Carries.{AreNumbered, joined}
 use Rattle.j39_transport.specs.Frames.{is_announcement, is_packet, pgn_named, size_named}
 use Rattle.j39_transport.specs.Key.{Key, Broadcast as by}
 use Rattle.j39_transport.specs.Message.{MessageRecord}
+use Rattle.j39_transport.specs.Protocol.{broadcast_limit}
 use Rattle.j39_transport.proofs.FrameFacts.{announcement_facts}
 use Rattle.j39_node.specs.declared.controller.Controller.{Controller}
 use Rattle.j39_node.specs.declared.kinds.News.TheVariants.{MessagesMissed}
-use Rattle.j39_node.specs.History.{Who, Call, is_claim, is_own_group, is_subscribed}
+use Rattle.j39_node.specs.History.{Who, Call, is_claim, is_own_group, is_subscribed, stamp_at}
 use Rattle.j39_node.specs.History.Call.{At, TakeNews, ReleaseBroadcast}
-use Rattle.j39_node.specs.History.Act.{Hear, TakeFrame}
-use Rattle.j39_node.specs.Hearing.{IsFit, IsPartOf, ended, passed, chosen, OpenBroadcast, WasBroadcast, announces, begun, changes, found, goes_on, got_broadcasts, grown, has_room, hearing, hears, is_ignored, is_late, is_unheard, is_whole, left, made_whole, message_by, newly, opens, packed, packs, touched, unheard, unheard_news, waiting, whole_broadcasts, whole_of}
-use Rattle.j39_node.specs.Is.{HearingRecord, Is}
-use Rattle.j39_node.specs.Reception.{KeepsHolder, frames_heard, has_place, held_then, holder, is_same, listed, time_heard}
+use Rattle.j39_node.specs.History.Act.{Hear, Tick, TakeFrame}
+use Rattle.j39_node.specs.Hearing.{IsFit, IsPartOf, ended, passed, chosen, OpenBroadcast, WasBroadcast, announced, announces, begun, breaks, changes, ends_by, found, got_broadcasts, grown, has_room, hearing, hearing_tick, hears, in_time, is_beside, is_ignored, is_late, is_out, is_over, is_partial, is_unheard, is_wanted, is_whole, late_at, left, made_whole, message_by, more, newly, opens, packs, skips, unheard, unheard_by, unheard_news, waiting, whole_broadcasts, whole_of}
+use Rattle.j39_node.specs.Is.{AreAnswered, HearingRecord, Is}
+use Rattle.j39_node.specs.Reception.{KeepsHolder, frames_heard, has_place, heard_at, held_then, holder, is_same, listed, time_heard}
 use Rattle.j39_node.proofs.QueueLemmas.{length_drop}
-use Rattle.j39_node.proofs.HearingLemmas.{fit, hearing_same, left_same, same_same, length_two, packs_eight, drop_one}
+use Rattle.j39_node.proofs.ReceptionLaws.{after_moment, before_moment, same_is}
+use Rattle.j39_node.proofs.HearingLemmas.{Effect, begins, ends, grows, stays, effect, fit, hearing_same, left_none, same_same, unchanged, packs_eight, drop_one}
+use Rattle.j39_node.proofs.FrameLemmas.{le_true, lt_false}
 
 -- ---- each once, in order
 
@@ -27,17 +31,6 @@ use Rattle.j39_node.proofs.HearingLemmas.{fit, hearing_same, left_same, same_sam
 left_whole : (b : Bool) (x : OpenBroadcast) → is_whole x ≡ true → left b (Some x) ≡ Some x
 left_whole true x e = ap (λ (w : Bool). if not w then None else Some x) e
 left_whole false x e = refl
-
-hears_whole : (who : Who) (now : ℕ) (f : FrameRecord) (x : OpenBroadcast) → is_whole x ≡ true → hears who now f (Some x) ≡ Some x
-hears_whole who now f x e =
-    ap (λ (w : Bool). if announces f then (if not w && (nat_eq (source_of f.id) x.source || is_late now x) then opens who now f else Some x) else if packs f
-    then (if w || not (nat_eq (source_of f.id) x.source) then Some x else if is_late now x then None else Some (goes_on now f x)) else Some x) e
-    ∙ go (announces f) (packs f)
-  where
-    go : (a b : Bool) → (if a then Some x else if b then Some x else Some x) ≡ Some x
-    go true b = refl
-    go false true = refl
-    go false false = refl
 
 pub whole_of_left : (b : Bool) (o : Option OpenBroadcast) → whole_of (left b o) ≡ whole_of o
 whole_of_left b None = refl
@@ -48,7 +41,7 @@ whole_of_left b (Some x) = go b (is_whole x) refl
     go true false e = sym (ap (λ (v : Bool). if v then Some (message_by x) else None) e)
     go false w e = refl
 
-whole_is : (o : Option OpenBroadcast) (p : ℕ × MessageRecord) → whole_of o ≡ Some p → (x : OpenBroadcast) × (o ≡ Some x) × (is_whole x ≡ true)
+pub whole_is : (o : Option OpenBroadcast) (p : ℕ × MessageRecord) → whole_of o ≡ Some p → (x : OpenBroadcast) × (o ≡ Some x) × (is_whole x ≡ true)
 whole_is None p e = absurd (cc)
 whole_is (Some x) p e = (x, refl, go (is_whole x) e)
   where
@@ -56,10 +49,23 @@ whole_is (Some x) p e = (x, refl, go (is_whole x) e)
     go true i = refl
     go false i = absurd (cc)
 
+pub none_is : (o : Option (ℕ × MessageRecord)) (p : ℕ × MessageRecord) → o ≡ None → o ≡ Some p → ⊥
+none_is o p e g = absurd (let z : None ≡ Some p = sym e ∙ g in cc)
+
+open_none : (x : OpenBroadcast) → is_whole x ≡ false → whole_of (Some x) ≡ None
+open_none x e = ap (λ (v : Bool). if v then Some (message_by x) else None) e
+
+-- what a frame finds whole stays
+kept_whole : (who : Who) (now : ℕ) (f : FrameRecord) (o y : Option OpenBroadcast) (a b : Bool) (p : ℕ × MessageRecord) → Effect who now f o a b y → whole_of o ≡ Some p → y ≡ o
+kept_whole who now f o y a b p (begins e1 e2 e3 e4 e5 e6 e7) g = absurd (none_is _ p e5 g)
+kept_whole who now f o y a b p (ends e1 e2 e3 e4 e5) g = absurd (none_is _ p e3 g)
+kept_whole who now f o y a b p (grows x e1 e2 e3 e4 e5 e6 e7 e8 e9) g = absurd (none_is _ p (ap whole_of e1 ∙ open_none x e3) g)
+kept_whole who now f o y a b p (stays x e1 e2 e3 e4) g = e4 ∙ sym e1
+
 whole_stays : (who : Who) (b : Bool) (now : ℕ) (f : FrameRecord) (o : Option OpenBroadcast) (p : ℕ × MessageRecord) → whole_of o ≡ Some p → hears who now f (left b o) ≡ o
 whole_stays who b now f o p e =
     let x = whole_is o p e in
-    ap (λ (z : Option OpenBroadcast). hears who now f (left b z)) x.1 ∙ (ap (hears who now f) (left_whole b x.0 x.2) ∙ (hears_whole who now f x.0 x.2 ∙ sym x.1))
+    kept_whole who now f (left b o) _ _ _ p (effect who now f (left b o)) (whole_of_left b o ∙ e) ∙ (ap (left b) x.1 ∙ (left_whole b x.0 x.2 ∙ sym x.1))
 
 list_more : (a b : Option (ℕ × MessageRecord)) (W G : List (ℕ × MessageRecord)) → W ≡ G ++ listed a → ((p : ℕ × MessageRecord) → a ≡ Some p → b ≡ a)
     → W ++ listed (newly a b) ≡ G ++ listed b
@@ -70,7 +76,9 @@ pub in_order : (who : Who) (H : List Call) → whole_broadcasts who H ≡ got_br
 in_order who [] = refl
 in_order who (At when (Hear f) ∷ H) =
     list_more (waiting who H) (waiting who (At when (Hear f) ∷ H)) (whole_broadcasts who H) (got_broadcasts who H) (in_order who H)
-    (λ p e. ap whole_of (whole_stays who (changes (holder who H) (holder who (At when (Hear f) ∷ H)) (hearing who H)) (time_heard (At when (Hear f) ∷ H)) f (hearing who H) p e))
+    (λ p e. ap whole_of (whole_stays who (is_over (holder who H) (holder who (At when (Hear f) ∷ H)) (time_heard (At when (Hear f) ∷ H)) (hearing who H)) (time_heard (At when (Hear f) ∷ H)) f (hearing who H) p e))
+in_order who (At now Tick ∷ H) =
+    in_order who H ∙ ap (λ z. got_broadcasts who H ++ listed z) (sym (whole_of_left (is_out (time_heard (At now Tick ∷ H)) (hearing who H)) (hearing who H)))
 in_order who (At now (TakeFrame (Some f)) ∷ H) =
     in_order who H ∙ ap (λ z. got_broadcasts who H ++ listed z) (sym (whole_of_left (changes (holder who H) (holder who (At now (TakeFrame (Some f)) ∷ H)) (hearing who H)) (hearing who H)))
 in_order who (ReleaseBroadcast true ∷ H) = in_order who H ∙ sym (append-nil (got_broadcasts who H ++ listed (waiting who H)))
@@ -95,74 +103,193 @@ not_ignored who group e = go (is_own_group group) (is_subscribed who group) e
     go false true e = (refl, refl)
     go false false e = absurd (cc)
 
-pub heard_or_counted : (who : Who) (H : List Call) (when : ℕ) (f : FrameRecord) → announces f ≡ true → is_own_group (pgn_named f) ≡ false → IsTrue (is_subscribed who (pgn_named f))
-    → (hearing who (At when (Hear f) ∷ H) ≡ Some (begun (time_heard (At when (Hear f) ∷ H)) f)) ⊎ (unheard who (At when (Hear f) ∷ H) ≡ suc (unheard who H))
-heard_or_counted who H when f e own listed = by (has_room (time_heard (At when (Hear f) ∷ H)) (source_of f.id) (found who H when f)) refl
+module _ (who : Who) (H : List Call) (when : ℕ) (f : FrameRecord) (e : announces f ≡ true) (own : is_own_group (pgn_named f) ≡ false) (listed : IsTrue (is_subscribed who (pgn_named f))) where
+  abbrev G : List Call
+  G = At when (Hear f) ∷ H
+
+  for_program : is_ignored who (pgn_named f) ≡ false
+  for_program = λ i. own i || not (listed i)
+
+  is_for : is_wanted who f ≡ true
+  is_for = λ i. e i && not (for_program i)
+
+  broken : (b : Bool) (o : Option OpenBroadcast) → breaks b o ≡ true → left b o ≡ None
+  broken b None k = refl
+  broken b (Some x) k = ap (λ (v : Bool). if v then None else Some x) k
+
+  -- it begins, or finds one that stays, and is counted
+  abbrev Outcome : Type 0
+  Outcome = (hearing who G ≡ Some (begun (time_heard G) f))
+      ⊎ ((x : OpenBroadcast) × (found who H when f ≡ Some x) × ((is_whole x ≡ true) ⊎ (is_beside x.source x.count f ≡ true)) × (unheard who G ≡ suc (unheard who H)))
+
+  begins_or : Outcome
+  begins_or = go (ends_by who H (At when (Hear f))) refl (effect who (time_heard G) f (found who H when f))
+    where
+      not_for : {T : Type 0} → is_wanted who f ≡ false → T
+      not_for k = absurd (let z : true ≡ false = sym is_for ∙ k in cc)
+
+      go : (b : Bool) → ends_by who H (At when (Hear f)) ≡ b → Effect who (time_heard G) f (found who H when f) (is_wanted who f) (is_unheard who f (found who H when f)) (hearing who G) → Outcome
+      go true i h = inl (ap (hears who (time_heard G) f) (broken _ (hearing who H) i)
+          ∙ λ j. if e j then (if for_program j then None else Some (begun (time_heard G) f)) else if packs f then None else None)
+      go false i (begins e1 e2 e3 e4 e5 e6 e7) = inl e7
+      go false i (ends e1 e2 e3 e4 e5) = not_for e1
+      go false i (grows x e1 e2 e3 e4 e5 e6 e7 e8 e9) = not_for e6
+      go false i (stays x e1 e2 e3 e4) = inr (x, e1, e3, λ j. more ((e2 ∙ is_for) j) (more (i j) (unheard who H)))
+
+  pub heard_or_counted : (hearing who G ≡ Some (begun (time_heard G) f)) ⊎ (unheard who G ≡ suc (unheard who H))
+  heard_or_counted = elim begins_or [
+    | inl z ↦ inl z
+    | inr z ↦ inr z.3
+  ]
+
+  pub full : hearing who G ≢ Some (begun (time_heard G) f)
+      → (x : OpenBroadcast) × (found who H when f ≡ Some x) × (IsTrue (is_whole x) ⊎ ((source_of f.id ≢ x.source) × (is_late (time_heard G) x ≡ false)))
+  full n = elim begins_or [
+    | inl z ↦ absurd (n z)
+    | inr z ↦ (z.0, z.1, why z.0 z.1 (is_whole z.0) refl z.2)
+  ]
+    where
+      other : (x : OpenBroadcast) → is_beside x.source x.count f ≡ true → source_of f.id ≢ x.source
+      other x k s = absurd (let z : false ≡ true = (λ j. not (sym (eq-eqb _ _ s) j) || (not (sym e j) && (not (packs f) || nat_le (slice_index f.bytes 0) x.count))) ∙ k in cc)
+
+      timely : (c : Bool) (o : Option OpenBroadcast) (x : OpenBroadcast) → left (c || is_out (time_heard G) o) o ≡ Some x → is_whole x ≡ false → is_late (time_heard G) x ≡ false
+      timely c None x k w = absurd (cc)
+      timely c (Some y) x k w = by c (is_late (time_heard G) y) (is_whole y) refl refl k
+        where
+          same : (b : Bool) → is_late (time_heard G) y ≡ b → Some y ≡ Some x → is_late (time_heard G) x ≡ b
+          same b i j = let z : y ≡ x = cc in ap (is_late (time_heard G)) (sym z) ∙ i
+
+          by : (a b v : Bool) → is_late (time_heard G) y ≡ b → is_whole y ≡ v → (if (a || b) && not v then None else Some y) ≡ Some x → is_late (time_heard G) x ≡ false
+          by true b true i j l = absurd (let z : y ≡ x = cc in let q : true ≡ false = sym j ∙ (ap is_whole z ∙ w) in cc)
+          by true b false i j l = absurd (cc)
+          by false true true i j l = absurd (let z : y ≡ x = cc in let q : true ≡ false = sym j ∙ (ap is_whole z ∙ w) in cc)
+          by false true false i j l = absurd (cc)
+          by false false v i j l = same false i l
+
+      why : (x : OpenBroadcast) → found who H when f ≡ Some x → (v : Bool) → is_whole x ≡ v → (is_whole x ≡ true) ⊎ (is_beside x.source x.count f ≡ true)
+          → IsTrue (is_whole x) ⊎ ((source_of f.id ≢ x.source) × (is_late (time_heard G) x ≡ false))
+      why x g true w k = inl w
+      why x g false w (inl k) = inl k
+      why x g false w (inr k) = inr (other x k, timely (changes (holder who H) (holder who G) (hearing who H)) (hearing who H) x g w)
+
+-- ---- all that was announced is whole, counted or open
+
+-- one, or none
+abbrev one : Bool → ℕ
+one b = more b 0
+
+more_is : (b : Bool) (n : ℕ) → more b n ≡ n + one b
+more_is true n = omega arith
+more_is false n = omega arith
+
+left_counts : (b : Bool) (o : Option OpenBroadcast) → one (is_partial o) ≡ one (breaks b o) + one (is_partial (left b o))
+left_counts b None = omega arith
+left_counts b (Some x) = go b (is_whole x) refl
   where
-    g : is_ignored who (pgn_named f) ≡ false
-    g = λ i. own i || not (listed i)
+    nothing : (n : ℕ) → n ≡ 0 + n
+    nothing n = omega arith
 
-    hears_by : Bool → Bool → Bool → Option OpenBroadcast
-    hears_by a r o =
-        if a then (if r then (if o then None else Some (begun (time_heard (At when (Hear f) ∷ H)) f)) else found who H when f) else if packs f
-        then packed (time_heard (At when (Hear f) ∷ H)) f (found who H when f) else found who H when f
+    go : (c v : Bool) → is_whole x ≡ v → one (is_partial (Some x)) ≡ one (c && not v) + one (is_partial (if c && not v then None else Some x))
+    go true true e = nothing (one (is_partial (Some x)))
+    go true false e = ap (λ (v : Bool). one (not v)) e ∙ more_is true 0
+    go false v e = nothing (one (is_partial (Some x)))
 
-    counts_by : Bool → Bool → Bool → ℕ
-    counts_by a r o = if a && (not o && not r) then suc (unheard who H) else unheard who H
+pub begun_open : (now : ℕ) (f : FrameRecord) → announces f ≡ true → is_whole (begun now f) ≡ false
+begun_open now f e = lt-leb _ 0 (let l = (announcement_facts (by (source_of f.id)) f e).large in omega (arith, l))
 
-    by : (r : Bool) → has_room (time_heard (At when (Hear f) ∷ H)) (source_of f.id) (found who H when f) ≡ r
-        → (hearing who (At when (Hear f) ∷ H) ≡ Some (begun (time_heard (At when (Hear f) ∷ H)) f)) ⊎ (unheard who (At when (Hear f) ∷ H) ≡ suc (unheard who H))
-    by true k = inl (λ i. hears_by (e i) (k i) (g i))
-    by false k = inr (λ i. counts_by (e i) (k i) (g i))
+newly_same : (o : Option (ℕ × MessageRecord)) → length (listed (newly o o)) ≡ 0
+newly_same None = refl
+newly_same (Some x) = refl
 
-pub counted_only : (who : Who) (H : List Call) (when : ℕ) (f : FrameRecord) → unheard who (At when (Hear f) ∷ H) ≢ unheard who H
-    → IsTrue (announces f) × IsTrue (is_subscribed who (pgn_named f)) × (is_own_group (pgn_named f) ≡ false)
-    × ((x : OpenBroadcast) × (found who H when f ≡ Some x)
-    × (IsTrue (is_whole x) ⊎ ((source_of f.id ≢ x.source) × (is_late (time_heard (At when (Hear f) ∷ H)) x ≡ false))))
-counted_only who H when f n = go (announces f) (is_ignored who (pgn_named f)) refl refl (found who H when f) refl n
+heard_counts : (who : Who) (now : ℕ) (f : FrameRecord) (o y : Option OpenBroadcast) (a b : Bool) → Effect who now f o a b y
+    → one a + one (is_partial o) ≡ length (listed (newly (whole_of o) (whole_of y))) + (one b + one (is_partial y))
+heard_counts who now f o y a b (begins e1 e2 e3 e4 e5 e6 e7) =
+    let a_one = ap one e3 in
+    let p = ap one e4 in
+    let none = ap (λ (z : Option (ℕ × MessageRecord)). length (listed z)) ((λ i. newly (e5 i) (whole_of (e7 i))) ∙ open_none (begun now f) (begun_open now f e1)) in
+    let q = ap one (ap is_partial e7 ∙ ap not (begun_open now f e1)) in
+    omega (arith, a_one, p, none, q)
+heard_counts who now f o y a b (ends e1 e2 e3 e4 e5) =
+    let a_none = ap one e1 in
+    let p = ap one e2 in
+    let none : length (listed (newly (whole_of o) (whole_of y))) ≡ 0 = λ i. length (listed (newly (e3 i) (whole_of (e5 i)))) in
+    let q = ap (λ (z : Option OpenBroadcast). one (is_partial z)) e5 in
+    omega (arith, a_none, p, none, q)
+heard_counts who now f o y a b (grows x e1 e2 e3 e4 e5 e6 e7 e8 e9) =
+    let a_none = ap one e6 in
+    let b_none = ap one e7 in
+    let p = ap one (ap is_partial e1 ∙ ap not e3) in
+    let made = ap (λ (z : Option (ℕ × MessageRecord)). length (listed (newly z (whole_of y)))) (ap whole_of e1 ∙ open_none x e3) ∙ ap (λ (z : Option OpenBroadcast). length (listed (whole_of z))) e9 in
+    let q = ap (λ (z : Option OpenBroadcast). one (is_partial z)) e9 in
+    let all = either_one (is_whole (grown now f x)) in
+    omega (arith, a_none, b_none, p, made, q, all)
   where
-    no_room : (x : OpenBroadcast) (a b c : Bool) → is_whole x ≡ a → nat_eq (source_of f.id) x.source ≡ b → is_late (time_heard (At when (Hear f) ∷ H)) x ≡ c
-        → (not a && (b || c)) ≡ false → IsTrue (is_whole x) ⊎ ((source_of f.id ≢ x.source) × (is_late (time_heard (At when (Hear f) ∷ H)) x ≡ false))
-    no_room x true b c e g k i = inl e
-    no_room x false true c e g k i = absurd (cc)
-    no_room x false false true e g k i = absurd (cc)
-    no_room x false false false e g k i = inr (λ s. (let z : false ≡ true = sym g ∙ eq-eqb _ _ s in absurd (cc)), k)
+    either_one : (v : Bool) → length (listed (if v then Some (message_by (grown now f x)) else None)) + one (not v) ≡ 1
+    either_one true = omega arith
+    either_one false = omega arith
+heard_counts who now f o y a b (stays x e1 e2 e3 e4) =
+    let same = ap one e2 in
+    let none = ap (λ (z : Option OpenBroadcast). length (listed (newly (whole_of o) (whole_of z)))) (e4 ∙ sym e1) ∙ newly_same (whole_of o) in
+    let q = ap (λ (z : Option OpenBroadcast). one (is_partial z)) (e4 ∙ sym e1) in
+    omega (arith, same, none, q)
 
-    go : (a o : Bool) → announces f ≡ a → is_ignored who (pgn_named f) ≡ o → (z : Option OpenBroadcast) → found who H when f ≡ z
-        → ((if a && (not o && not (has_room (time_heard (At when (Hear f) ∷ H)) (source_of f.id) z)) then suc (unheard who H) else unheard who H) ≢ unheard who H)
-        → IsTrue (announces f) × IsTrue (is_subscribed who (pgn_named f)) × (is_own_group (pgn_named f) ≡ false)
-        × ((x : OpenBroadcast) × (found who H when f ≡ Some x)
-        × (IsTrue (is_whole x) ⊎ ((source_of f.id ≢ x.source) × (is_late (time_heard (At when (Hear f) ∷ H)) x ≡ false))))
-    go false o e i z g m = absurd (m refl)
-    go true true e i z g m = absurd (m refl)
-    go true false e i None g m = absurd (m refl)
-    go true false e i (Some x) g m = (e, (not_ignored who (pgn_named f) i).0, (not_ignored who (pgn_named f) i).1, (x, g, no_room x _ _ _ refl refl refl (not_room (has_room (time_heard (At when (Hear f) ∷ H)) (source_of f.id) (Some x)) m)))
-      where
-        not_room : (r : Bool) → ((if not r then suc (unheard who H) else unheard who H) ≢ unheard who H) → r ≡ false
-        not_room true q = absurd (q refl)
-        not_room false q = refl
+waits_whole : (o : Option OpenBroadcast) → true ≡ not (has_place (whole_of o)) → one (is_partial o) ≡ 0
+waits_whole None e = absurd (cc)
+waits_whole (Some x) e = go (is_whole x) refl e
+  where
+    go : (v : Bool) → is_whole x ≡ v → true ≡ not (has_place (if v then Some (message_by x) else None)) → one (not (is_whole x)) ≡ 0
+    go true i k = ap (λ (w : Bool). one (not w)) i
+    go false i k = absurd (cc)
 
-either : (a b : Bool) → (a || b) ≡ true → (a ≡ true) ⊎ (b ≡ true)
-either true b e = inl refl
-either false b e = inr e
+pub exact : (who : Who) (H : List Call) → AreAnswered who H → announced who H ≡ length (whole_broadcasts who H) + unheard who H + one (is_partial (hearing who H))
+exact who [] h = refl
+exact who (At when (Hear f) ∷ H) h =
+    let G = At when (Hear f) ∷ H in
+    let n = exact who H h.0 in
+    let l = left_counts (is_over (holder who H) (holder who G) (time_heard G) (hearing who H)) (hearing who H) in
+    let d = heard_counts who (time_heard G) f (found who H when f) _ _ _ (effect who (time_heard G) f (found who H when f)) in
+    let k = ap (λ (o : Option (ℕ × MessageRecord)). length (listed (newly o (waiting who G)))) (whole_of_left (is_over (holder who H) (holder who G) (time_heard G) (hearing who H)) (hearing who H)) in
+    let m = length-append (whole_broadcasts who H) (listed (made_whole who H when f)) in
+    let p = more_is (is_wanted who f) (announced who H) in
+    let q = more_is (unheard_by who H (At when (Hear f))) (more (ends_by who H (At when (Hear f))) (unheard who H)) in
+    let r = more_is (ends_by who H (At when (Hear f))) (unheard who H) in
+    omega (arith, n, l, d, k, m, p, q, r)
+exact who (At now Tick ∷ H) h =
+    let n = exact who H h.0 in
+    let l = left_counts (is_out (time_heard (At now Tick ∷ H)) (hearing who H)) (hearing who H) in
+    let r = more_is (ends_by who H (At now Tick)) (unheard who H) in
+    omega (arith, n, l, r)
+exact who (At now (TakeFrame (Some f)) ∷ H) h =
+    let n = exact who H h.0 in
+    let l = left_counts (changes (holder who H) (holder who (At now (TakeFrame (Some f)) ∷ H)) (hearing who H)) (hearing who H) in
+    let r = more_is (ends_by who H (At now (TakeFrame (Some f)))) (unheard who H) in
+    omega (arith, n, l, r)
+exact who (ReleaseBroadcast true ∷ H) h =
+    let n = exact who H h.0 in
+    let w = waits_whole (hearing who H) h.1 in
+    omega (arith, n, w)
+exact who (call ∷ H) h = exact who H h.0
 
-still : (b : Bool) (m : ℕ) → 0 < m → 0 < (if b then suc m else m)
-still true m l = omega (arith, l)
-still false m l = l
-
-one_more : (b : Bool) (m : ℕ) → b ≡ true → 0 < (if b then suc m else m)
-one_more true m e = omega arith
-one_more false m e = absurd (cc)
+-- ---- news
 
 pub some_unheard : (who : Who) (H : List Call) → IsTrue (unheard_news who H) → 0 < unheard who H
 some_unheard who [] e = absurd (cc)
-some_unheard who (At when (Hear f) ∷ H) e =
-    elim (either (unheard_news who H) (is_unheard who (time_heard (At when (Hear f) ∷ H)) f (found who H when f)) e) [
-      | inl z ↦ still (is_unheard who (time_heard (At when (Hear f) ∷ H)) f (found who H when f)) (unheard who H) (some_unheard who H z)
-      | inr z ↦ one_more _ (unheard who H) z
-    ]
 some_unheard who (TakeNews (Some MessagesMissed) ∷ H) e = absurd (cc)
-some_unheard who (call ∷ H) e = some_unheard who H e
+some_unheard who (call ∷ H) e = go (ends_by who H call) (unheard_by who H call) (unheard_news who H) (unheard who H) (some_unheard who H) e
+  where
+    go : (a b c : Bool) (n : ℕ) → (IsTrue c → 0 < n) → ((a || b) || c) ≡ true → 0 < more b (more a n)
+    go a true c n h i = omega arith
+    go true false c n h i = omega arith
+    go false false c n h i = h i
+
+pub is_told : (who : Who) (H : List Call) (call : Call) → unheard who (call ∷ H) ≢ unheard who H → IsTrue (unheard_news who (call ∷ H))
+is_told who H (TakeNews (Some MessagesMissed)) n = absurd (n refl)
+is_told who H call n = go (ends_by who H call) (unheard_by who H call) n
+  where
+    go : (a b : Bool) → (more b (more a (unheard who H)) ≢ unheard who H) → ((a || b) || unheard_news who H) ≡ true
+    go true b m = refl
+    go false true m = refl
+    go false false m = absurd (m refl)
 
 -- ---- what is heard is for the program
 
@@ -178,39 +305,24 @@ wanted_left who b (Some x) h = go (b && not (is_whole x))
     go true = tt
     go false = h
 
-wanted_hears : (who : Who) (now : ℕ) (f : FrameRecord) (o : Option OpenBroadcast) → IsWanted who o → IsWanted who (hears who now f o)
-wanted_hears who now f o h = go (announces f) (packs f) (has_room now (source_of f.id) o)
-  where
-    opened : (b : Bool) → is_ignored who (pgn_named f) ≡ b → IsWanted who (if b then None else Some (begun now f))
-    opened true e = tt
-    opened false e = e
-
-    grows : (z : Option OpenBroadcast) → IsWanted who z → IsWanted who (packed now f z)
-    grows None k = tt
-    grows (Some x) k = by (is_whole x || not (nat_eq (source_of f.id) x.source)) (is_late now x) (nat_eq (slice_index f.bytes 0) (suc x.count))
-      where
-        by : (a b c : Bool) → IsWanted who (if a then Some x else if b then None else Some (if c then grown now f x else touched now f x))
-        by true b c = k
-        by false true c = tt
-        by false false true = k
-        by false false false = k
-
-    go : (a b c : Bool) → IsWanted who (if a then (if c then opens who now f else o) else if b then packed now f o else o)
-    go true b true = opened (is_ignored who (pgn_named f)) refl
-    go true b false = h
-    go false true c = grows o h
-    go false false c = h
+wanted_effect : (who : Who) (now : ℕ) (f : FrameRecord) (o y : Option OpenBroadcast) (a b : Bool) → Effect who now f o a b y → IsWanted who o → IsWanted who y
+wanted_effect who now f o y a b (begins e1 e2 e3 e4 e5 e6 e7) h = subst (IsWanted who) (sym e7) e2
+wanted_effect who now f o y a b (ends e1 e2 e3 e4 e5) h = subst (IsWanted who) (sym e5) tt
+wanted_effect who now f o y a b (grows x e1 e2 e3 e4 e5 e6 e7 e8 e9) h = let g : is_ignored who x.group ≡ false = subst (IsWanted who) e1 h in subst (IsWanted who) (sym e9) g
+wanted_effect who now f o y a b (stays x e1 e2 e3 e4) h = subst (IsWanted who) (e1 ∙ sym e4) h
 
 wanted : (w : Who) (H : List Call) → IsWanted w (hearing w H)
 wanted w [] = tt
-wanted w (At when (Hear f) ∷ H) = wanted_hears w (time_heard (At when (Hear f) ∷ H)) f (found w H when f) (wanted_left w (changes (holder w H) (holder w (At when (Hear f) ∷ H)) (hearing w H)) (hearing w H) (wanted w H))
+wanted w (At when (Hear f) ∷ H) =
+    wanted_effect w (time_heard (At when (Hear f) ∷ H)) f _ _ _ _ (effect w (time_heard (At when (Hear f) ∷ H)) f (found w H when f)) (wanted_left w _ (hearing w H) (wanted w H))
+wanted w (At now Tick ∷ H) = wanted_left w (is_out (time_heard (At now Tick ∷ H)) (hearing w H)) (hearing w H) (wanted w H)
 wanted w (At now (TakeFrame (Some f)) ∷ H) = wanted_left w (changes (holder w H) (holder w (At now (TakeFrame (Some f)) ∷ H)) (hearing w H)) (hearing w H) (wanted w H)
 wanted w (ReleaseBroadcast true ∷ H) = tt
 wanted w (call ∷ H) = wanted w H
 
-pub is_wanted : (who : Who) (H : List Call) (when : ℕ) (f : FrameRecord) (p : ℕ × MessageRecord) → made_whole who H when f ≡ Some p
+pub wanted_whole : (who : Who) (H : List Call) (when : ℕ) (f : FrameRecord) (p : ℕ × MessageRecord) → made_whole who H when f ≡ Some p
     → IsTrue (is_subscribed who p.1.pgn) × (is_own_group p.1.pgn ≡ false)
-is_wanted who H when f p e = not_ignored who p.1.pgn (go (waiting who H) e)
+wanted_whole who H when f p e = not_ignored who p.1.pgn (go (waiting who H) e)
   where
     by : (o : Option OpenBroadcast) → IsWanted who o → whole_of o ≡ Some p → is_ignored who p.1.pgn ≡ false
     by None h i = absurd (cc)
@@ -224,109 +336,132 @@ is_wanted who H when f p e = not_ignored who p.1.pgn (go (waiting who H) e)
     go None i = by (hearing who (At when (Hear f) ∷ H)) (wanted who (At when (Hear f) ∷ H)) i
     go (Some q) i = absurd (cc)
 
+pub unequal : (m n : ℕ) → (m ≢ n) → nat_eq m n ≡ false
+unequal m n h = go (nat_eq m n) refl
+  where
+    go : (b : Bool) → nat_eq m n ≡ b → b ≡ false
+    go true e = absurd (h (eqb-true m n e))
+    go false e = refl
+
 -- ---- packets
 
--- what is no claim leaves who holds an address
-unclaimed : (who : Who) (H : List Call) (when : ℕ) (f : FrameRecord) → claim_of f ≡ None → found who H when f ≡ hearing who H
-unclaimed who H when f e = left_same (holder who H) (holder who (At when (Hear f) ∷ H)) (hearing who H) (λ a. ap (λ (o : Option Claim). held_then a o (holder who H a)) e)
+module _ (who : Who) (H : List Call) (when : ℕ) (f : FrameRecord) where
+  abbrev K : List Call
+  K = At when (Hear f) ∷ H
 
-hears_found : (who : Who) (H : List Call) (when : ℕ) (f : FrameRecord) (o : Option OpenBroadcast) → claim_of f ≡ None → hearing who H ≡ o
-    → hearing who (At when (Hear f) ∷ H) ≡ hears who (time_heard (At when (Hear f) ∷ H)) f o
-hears_found who H when f o e g = ap (hears who (time_heard (At when (Hear f) ∷ H)) f) (unclaimed who H when f e ∙ g)
+  abbrev now : ℕ
+  now = time_heard K
 
-packed_by : (who : Who) (now : ℕ) (f : FrameRecord) (x : OpenBroadcast) (a b c d : Bool) → announces f ≡ false → packs f ≡ true → is_whole x ≡ a
-    → nat_eq (source_of f.id) x.source ≡ b → is_late now x ≡ c → nat_eq (slice_index f.bytes 0) (suc x.count) ≡ d
-    → hears who now f (Some x) ≡ (if a || not b then Some x else if c then None else Some (if d then grown now f x else touched now f x))
-packed_by who now f x a b c d e g k l m n =
-    λ i. all (e i) (g i) (k i) (l i) (m i) (n i)
-  where
-    all : Bool → Bool → Bool → Bool → Bool → Bool → Option OpenBroadcast
-    all e g k l m n =
-        if e then (if has_room now (source_of f.id) (Some x) then opens who now f else Some x) else if g
-        then (if k || not l then Some x else if m then None else Some (if n then grown now f x else touched now f x)) else Some x
+  -- what is no claim leaves who holds an address
+  unclaimed : claim_of f ≡ None → found who H when f ≡ in_time now (hearing who H)
+  unclaimed e =
+      ap (λ (b : Bool). left (b || is_out now (hearing who H)) (hearing who H))
+      (unchanged (holder who H) (holder who K) (hearing who H) (λ a. ap (λ (o : Option Claim). held_then a o (holder who H a)) e))
 
-pub next_appended : (who : Who) (H : List Call) (when : ℕ) (f : FrameRecord) (x : OpenBroadcast) → claim_of f ≡ None → announces f ≡ false → IsTrue (packs f)
-    → hearing who H ≡ Some x → is_whole x ≡ false → source_of f.id ≡ x.source → is_late (time_heard (At when (Hear f) ∷ H)) x ≡ false
-    → slice_index f.bytes 0 ≡ suc x.count → hearing who (At when (Hear f) ∷ H) ≡ Some (grown (time_heard (At when (Hear f) ∷ H)) f x)
-next_appended who H when f x e g k l m n o p =
-    hears_found who H when f (Some x) e l ∙ packed_by who (time_heard (At when (Hear f) ∷ H)) f x false true false true g k m (eq-eqb _ _ n) o (eq-eqb _ _ p)
+  timely : (x : OpenBroadcast) → is_late now x ≡ false → in_time now (Some x) ≡ Some x
+  timely x e = ap (λ (b : Bool). left b (Some x)) e
 
-pub late_ends : (who : Who) (H : List Call) (when : ℕ) (f : FrameRecord) (x : OpenBroadcast) → claim_of f ≡ None → announces f ≡ false → IsTrue (packs f)
-    → hearing who H ≡ Some x → is_whole x ≡ false → source_of f.id ≡ x.source → IsTrue (is_late (time_heard (At when (Hear f) ∷ H)) x)
-    → hearing who (At when (Hear f) ∷ H) ≡ None
-late_ends who H when f x e g k l m n o =
-    hears_found who H when f (Some x) e l ∙ packed_by who (time_heard (At when (Hear f) ∷ H)) f x false true true _ g k m (eq-eqb _ _ n) o refl
+  hears_found : (x : OpenBroadcast) → claim_of f ≡ None → hearing who H ≡ Some x → is_late now x ≡ false → hearing who K ≡ hears who now f (Some x)
+  hears_found x e g l = ap (hears who now f) (unclaimed e ∙ (ap (in_time now) g ∙ timely x l))
 
-pub strangers : (who : Who) (H : List Call) (when : ℕ) (f : FrameRecord) → claim_of f ≡ None → announces f ≡ false
-    → (packs f ≡ false) ⊎ ((x : OpenBroadcast) → hearing who H ≡ Some x → source_of f.id ≢ x.source)
-    → hearing who (At when (Hear f) ∷ H) ≡ hearing who H
-strangers who H when f e g (inl k) =
-    hears_found who H when f (hearing who H) e refl
-    ∙ λ i. if g i then (if has_room (time_heard (At when (Hear f) ∷ H)) (source_of f.id) (hearing who H) then opens who (time_heard (At when (Hear f) ∷ H)) f else hearing who H) else if k i
-    then packed (time_heard (At when (Hear f) ∷ H)) f (hearing who H) else hearing who H
-strangers who H when f e g (inr k) = go (hearing who H) refl
-  where
-    other : (x : OpenBroadcast) → (source_of f.id ≢ x.source) → (b : Bool) → nat_eq (source_of f.id) x.source ≡ b → b ≡ false
-    other x n true i = absurd (n (eqb-true _ _ i))
-    other x n false i = refl
+  -- a frame that is none of it leaves it
+  beside : (x : OpenBroadcast) (y : Option OpenBroadcast) (a b : Bool) → is_beside x.source x.count f ≡ true → Effect who now f (Some x) a b y → y ≡ Some x
+  beside x y a b k (begins e1 e2 e3 e4 e5 e6 e7) = absurd (let z : true ≡ false = sym k ∙ e6 in cc)
+  beside x y a b k (ends e1 e2 e3 e4 e5) = absurd (let z : true ≡ false = sym k ∙ e4 in cc)
+  beside x y a b k (grows z e1 e2 e3 e4 e5 e6 e7 e8 e9) =
+      absurd (let s : x ≡ z = cc in let q : true ≡ false = sym k ∙ (ap (λ (u : OpenBroadcast). is_beside u.source u.count f) s ∙ e8) in cc)
+  beside x y a b k (stays z e1 e2 e3 e4) = e4 ∙ sym e1
 
-    go : (o : Option OpenBroadcast) → hearing who H ≡ o → hearing who (At when (Hear f) ∷ H) ≡ o
-    go None l = hears_found who H when f None e l ∙ none (announces f) (packs f) g
-      where
-        none : (a b : Bool) → a ≡ false → (if a then opens who (time_heard (At when (Hear f) ∷ H)) f else if b then None else None) ≡ None
-        none true b i = absurd (cc)
-        none false true i = refl
-        none false false i = refl
-    go (Some x) l = hears_found who H when f (Some x) e l ∙ some (packs f) refl
-      where
-        some : (p : Bool) → packs f ≡ p → hears who (time_heard (At when (Hear f) ∷ H)) f (Some x) ≡ Some x
-        some true q =
-            packed_by who (time_heard (At when (Hear f) ∷ H)) f x _ false _ _ g q refl (let z : nat_eq (source_of f.id) x.source ≡ false = other x (k x l) _ refl in z) refl refl
-            ∙ stays (is_whole x)
-          where
-            stays : (w : Bool) → (if w || true then Some x else if is_late (time_heard (At when (Hear f) ∷ H)) x then None else Some (goes_on (time_heard (At when (Hear f) ∷ H)) f x)) ≡ Some x
-            stays true = refl
-            stays false = refl
-        some false q =
-            λ i. if g i then (if has_room (time_heard (At when (Hear f) ∷ H)) (source_of f.id) (Some x) then opens who (time_heard (At when (Hear f) ∷ H)) f else Some x) else if q i
-            then packed (time_heard (At when (Hear f) ∷ H)) f (Some x) else Some x
+  packed_by : (x : OpenBroadcast) (g h : Bool) → announces f ≡ false → packs f ≡ true → is_whole x ≡ false → source_of f.id ≡ x.source
+      → skips f x ≡ g → nat_eq (slice_index f.bytes 0) (suc x.count) ≡ h
+      → hears who now f (Some x) ≡ (if g then None else if h then Some (grown now f x) else Some x)
+  packed_by x g h e p w s k l =
+      λ i. if e i then (if has_room (source_of f.id) (Some x) then opens who now f else Some x) else if p i
+      then (if w i || not (eq-eqb _ _ s i) then Some x else if k i then None else if l i then Some (grown now f x) else Some x) else Some x
 
--- in time, a frame of another source
-pub others_leave : (who : Who) (H : List Call) (when : ℕ) (f : FrameRecord) (x : OpenBroadcast) → hearing who H ≡ Some x
-    → holder who (At when (Hear f) ∷ H) x.source ≡ holder who H x.source → source_of f.id ≢ x.source → is_late (time_heard (At when (Hear f) ∷ H)) x ≡ false
-    → hearing who (At when (Hear f) ∷ H) ≡ Some x
-others_leave who H when f x e held n late =
-    ap (λ (o : Option OpenBroadcast). hears who now f (left (changes (holder who H) (holder who (At when (Hear f) ∷ H)) o) o)) e
-    ∙ (ap (λ (b : Bool). hears who now f (if not b && not (is_whole x) then None else Some x)) (ap (is_same (holder who H x.source)) held ∙ same_same (holder who H x.source))
-    ∙ ((λ i. all (other i) (late i)) ∙ go (announces f) (packs f) (is_whole x)))
-  where
-    now : ℕ
-    now = time_heard (At when (Hear f) ∷ H)
+  none_skipped : (n c : ℕ) → n ≡ suc c → nat_lt (suc c) n ≡ false
+  none_skipped n c e = grind arith
 
-    other : nat_eq (source_of f.id) x.source ≡ false
-    other = by (nat_eq (source_of f.id) x.source) refl
-      where
-        by : (b : Bool) → nat_eq (source_of f.id) x.source ≡ b → b ≡ false
-        by true i = absurd (n (eqb-true _ _ i))
-        by false i = refl
+  always : (b : Bool) → (b || true) ≡ true
+  always true = refl
+  always false = refl
 
-    all : Bool → Bool → Option OpenBroadcast
-    all own l =
-        if announces f then (if not (is_whole x) && (own || l) then opens who now f else Some x) else if packs f
-        then (if is_whole x || not own then Some x else if l then None else Some (goes_on now f x)) else Some x
+  over_ends : (x : OpenBroadcast) → hearing who H ≡ Some x → is_whole x ≡ false → is_over (holder who H) (holder who K) now (Some x) ≡ true → found who H when f ≡ None
+  over_ends x e w l =
+      ap (λ (o : Option OpenBroadcast). left (is_over (holder who H) (holder who K) now o) o) e ∙ λ i. if l i && not (w i) then None else Some x
 
-    go : (a b c : Bool) → (if a then (if not c && false then opens who now f else Some x) else if b
-        then (if c || true then Some x else Some (goes_on now f x)) else Some x) ≡ Some x
-    go true b true = refl
-    go true b false = refl
-    go false true true = refl
-    go false true false = refl
-    go false false c = refl
+  pub next_appended : (x : OpenBroadcast) → claim_of f ≡ None → announces f ≡ false → IsTrue (packs f) → hearing who H ≡ Some x → is_whole x ≡ false
+      → source_of f.id ≡ x.source → is_late now x ≡ false → slice_index f.bytes 0 ≡ suc x.count → hearing who K ≡ Some (grown now f x)
+  next_appended x e g k l m n o p = hears_found x e l o ∙ packed_by x false true g k m n (none_skipped _ _ p) (eq-eqb _ _ p)
+
+  pub gap_ends : (x : OpenBroadcast) → claim_of f ≡ None → announces f ≡ false → IsTrue (packs f) → hearing who H ≡ Some x → is_whole x ≡ false
+      → source_of f.id ≡ x.source → is_late now x ≡ false → suc x.count < slice_index f.bytes 0 → hearing who K ≡ None
+  gap_ends x e g k l m n o p = hears_found x e l o ∙ packed_by x true _ g k m n (lt-ltb _ _ p) refl
+
+  pub repeat_ignored : (x : OpenBroadcast) → claim_of f ≡ None → announces f ≡ false → IsTrue (packs f) → hearing who H ≡ Some x → is_whole x ≡ false
+      → source_of f.id ≡ x.source → is_late now x ≡ false → slice_index f.bytes 0 ≤ x.count → hearing who K ≡ Some x
+  repeat_ignored x e g k l m n o p =
+      hears_found x e l o
+      ∙ beside x _ _ _ ((λ i. not (nat_eq (source_of f.id) x.source) || (not (g i) && (not (k i) || le_true _ _ p i))) ∙ always (not (nat_eq (source_of f.id) x.source)))
+      (effect who now f (Some x))
+
+  pub late_ends : (x : OpenBroadcast) → hearing who H ≡ Some x → is_whole x ≡ false → IsTrue (is_late now x) → found who H when f ≡ None
+  late_ends x e w l = over_ends x e w (ap (λ (b : Bool). changes (holder who H) (holder who K) (Some x) || b) l ∙ always _)
+
+  pub left_ends : (x : OpenBroadcast) → hearing who H ≡ Some x → is_whole x ≡ false → holder who K x.source ≢ holder who H x.source → found who H when f ≡ None
+  left_ends x e w h = over_ends x e w (ap (λ (b : Bool). not b || is_late now x) (other (is_same (holder who H x.source) (holder who K x.source)) refl))
+    where
+      other : (b : Bool) → is_same (holder who H x.source) (holder who K x.source) ≡ b → is_same (holder who H x.source) (holder who K x.source) ≡ false
+      other true i = absurd (h (same_is _ _ i))
+      other false i = i
+
+  pub strangers : claim_of f ≡ None → announces f ≡ false → (packs f ≡ false) ⊎ ((x : OpenBroadcast) → hearing who H ≡ Some x → source_of f.id ≢ x.source)
+      → hearing who K ≡ in_time now (hearing who H)
+  strangers e g k = ap (hears who now f) (unclaimed e) ∙ go (hearing who H) refl
+    where
+      none : (b : Bool) → (let o : Option OpenBroadcast = None in if b then o else o) ≡ None
+      none true = refl
+      none false = refl
+
+      gone : hears who now f None ≡ None
+      gone = (λ i. if g i then opens who now f else if packs f then None else None) ∙ none (packs f)
+
+      apart : (x : OpenBroadcast) → hearing who H ≡ Some x → (packs f ≡ false) ⊎ ((x : OpenBroadcast) → hearing who H ≡ Some x → source_of f.id ≢ x.source)
+          → is_beside x.source x.count f ≡ true
+      apart x i (inl p) = (λ j. not (nat_eq (source_of f.id) x.source) || (not (g j) && (not (p j) || nat_le (slice_index f.bytes 0) x.count))) ∙ always (not (nat_eq (source_of f.id) x.source))
+      apart x i (inr n) = ap (λ (b : Bool). not b || (not (announces f) && (not (packs f) || nat_le (slice_index f.bytes 0) x.count))) (unequal _ _ (n x i))
+
+      go : (o : Option OpenBroadcast) → hearing who H ≡ o → hears who now f (in_time now o) ≡ in_time now o
+      go None i = gone
+      go (Some x) i = by (is_late now x && not (is_whole x))
+        where
+          by : (b : Bool) → hears who now f (if b then None else Some x) ≡ (if b then None else Some x)
+          by true = gone
+          by false = beside x _ _ _ (apart x i k) (effect who now f (Some x))
+
+  -- in time, a frame of another source
+  pub others_leave : (x : OpenBroadcast) → hearing who H ≡ Some x → holder who K x.source ≡ holder who H x.source → source_of f.id ≢ x.source → is_late now x ≡ false
+      → hearing who K ≡ Some x
+  others_leave x e held n late =
+      ap (λ (o : Option OpenBroadcast). hears who now f (left (is_over (holder who H) (holder who K) now o) o)) e
+      ∙ ((λ i. hears who now f (left (not ((ap (is_same (holder who H x.source)) held ∙ same_same (holder who H x.source)) i) || late i) (Some x)))
+      ∙ beside x _ _ _ (ap (λ (b : Bool). not b || (not (announces f) && (not (packs f) || nat_le (slice_index f.bytes 0) x.count))) (unequal _ _ n)) (effect who now f (Some x)))
 
 pub own_frames : (who : Who) (H : List Call) (now : ℕ) (f : FrameRecord) → is_claim f ≡ false → hearing who (At now (TakeFrame (Some f)) ∷ H) ≡ hearing who H
 own_frames who H now f e = sym (ap (λ (r : HearingRecord). r.current) (hearing_same who H now f e))
 
 -- ---- of one sender
+
+-- its announcement and the packets that came
+record Came (x : OpenBroadcast) (first : FrameRecord) (packets : List FrameRecord) : Type 0 where
+  pub source : x.source ≡ source_of first.id
+  pub announced : announces first ≡ true
+  pub group : x.group ≡ pgn_named first
+  pub size : x.size ≡ size_named first
+  pub count : length packets ≡ x.count
+  pub numbered : AreNumbered (by x.source) 1 packets
+  pub bytes : joined packets ≡ x.bytes
+  pub few : length x.bytes < x.size + 7
 
 -- an open broadcast, and the calls since its announcement
 record Begun (who : Who) (H : List Call) (x : OpenBroadcast) : Type 0 where
@@ -336,24 +471,16 @@ record Begun (who : Who) (H : List Call) (x : OpenBroadcast) : Type 0 where
   pub earlier : List Call
   pub is : H ≡ later ++ At at (Hear first) ∷ earlier
   pub packets : List FrameRecord
-  pub part : IsPartOf packets (frames_heard later)
-  pub source : x.source ≡ source_of first.id
-  pub announced : announces first ≡ true
-  pub group : x.group ≡ pgn_named first
-  pub size : x.size ≡ size_named first
-  pub count : length packets ≡ x.count
-  pub numbered : AreNumbered (by x.source) 1 packets
-  pub bytes : joined packets ≡ x.bytes
-  pub few : length x.bytes < x.size + 7
+  pub part : IsPartOf x.source packets (frames_heard later)
+  pub came : Came x first packets
   pub one : KeepsHolder who x.source later (At at (Hear first) ∷ earlier)
 
-abbrev AllBegun : Who → List Call → Option OpenBroadcast → Type 0
-AllBegun who H None = Unit {0}
-AllBegun who H (Some x) = Begun who H x
-
+-- each that isn't whole, and it stands before a call that leaves the holder of its source
 abbrev AreBegun : Who → List Call → Option OpenBroadcast → Type 0
-AreBegun who H None = Unit {0}
-AreBegun who H (Some x) = (is_whole x ≡ true) ⊎ Begun who H x
+AreBegun who H o = IfSome o (λ x. (is_whole x ≡ true) ⊎ Begun who H x)
+
+abbrev AreKept : Who → Call → List Call → Option OpenBroadcast → Type 0
+AreKept who call H o = IfSome o (λ x. (is_whole x ≡ true) ⊎ (Begun who H x × (holder who (call ∷ H) x.source ≡ holder who H x.source)))
 
 anew : (who : Who) (H : List Call) (now : ℕ) (when : ℕ) (f : FrameRecord) → announces f ≡ true → Begun who (At when (Hear f) ∷ H) (begun now f)
 anew who H now when f e = record {
@@ -364,63 +491,24 @@ anew who H now when f e = record {
   is = refl;
   packets = [];
   part = ended;
-  source = refl;
-  announced = e;
-  group = refl;
-  size = refl;
-  count = refl;
-  numbered = tt;
-  bytes = refl;
-  few = omega arith;
+  came = record { source = refl; announced = e; group = refl; size = refl; count = refl; numbered = tt; bytes = refl; few = omega arith };
   one = tt;
 }
 
-keeps_on : (who : Who) (call : Call) (H : List Call) (x : OpenBroadcast) (h : Begun who H x) → holder who (call ∷ H) x.source ≡ holder who H x.source
-    → KeepsHolder who x.source (call ∷ h.later) (At h.at (Hear h.first) ∷ h.earlier)
-keeps_on who call H x h k = (subst (λ (G : List Call). holder who (call ∷ G) x.source ≡ holder who G x.source) h.is k, h.one)
-
--- a call that isn't heard
-rests : (who : Who) (call : Call) (H : List Call) (x : OpenBroadcast) → ((G : List Call) → frames_heard (call ∷ G) ≡ frames_heard G)
-    → holder who (call ∷ H) x.source ≡ holder who H x.source → Begun who H x → Begun who (call ∷ H) x
-rests who call H x quiet k h = record {
+-- a call later
+goes_on : (who : Who) (call : Call) (H : List Call) (x y : OpenBroadcast) (h : Begun who H x) → holder who (call ∷ H) x.source ≡ holder who H x.source → y.source ≡ x.source
+    → (packets : List FrameRecord) → IsPartOf y.source packets (frames_heard (call ∷ h.later)) → Came y h.first packets → Begun who (call ∷ H) y
+goes_on who call H x y h k s packets part came = record {
   later = call ∷ h.later;
   at = h.at;
   first = h.first;
   earlier = h.earlier;
   is = ap (λ G. call ∷ G) h.is;
-  packets = h.packets;
-  part = subst (IsPartOf h.packets) (sym (quiet h.later)) h.part;
-  source = h.source;
-  announced = h.announced;
-  group = h.group;
-  size = h.size;
-  count = h.count;
-  numbered = h.numbered;
-  bytes = h.bytes;
-  few = h.few;
-  one = keeps_on who call H x h k;
-}
-
--- a frame that is ignored
-ignores : (who : Who) (H : List Call) (when : ℕ) (f : FrameRecord) (x : OpenBroadcast) (stamp now : ℕ) → holder who (At when (Hear f) ∷ H) x.source ≡ holder who H x.source → Begun who H x
-    → Begun who (At when (Hear f) ∷ H) (record x { stamp = stamp; time = now })
-ignores who H when f x stamp now k h = record {
-  later = At when (Hear f) ∷ h.later;
-  at = h.at;
-  first = h.first;
-  earlier = h.earlier;
-  is = ap (λ G. At when (Hear f) ∷ G) h.is;
-  packets = h.packets;
-  part = passed f h.packets (frames_heard h.later) h.part;
-  source = h.source;
-  announced = h.announced;
-  group = h.group;
-  size = h.size;
-  count = h.count;
-  numbered = h.numbered;
-  bytes = h.bytes;
-  few = h.few;
-  one = keeps_on who (At when (Hear f)) H x h k;
+  packets = packets;
+  part = part;
+  came = came;
+  one = subst (λ (a : ℕ). KeepsHolder who a (call ∷ h.later) (At h.at (Hear h.first) ∷ h.earlier)) (sym s)
+      (subst (λ (G : List Call). holder who (call ∷ G) x.source ≡ holder who G x.source) h.is k, h.one);
 }
 
 numbered_more : (k : Key) (n : ℕ) (fs : List FrameRecord) (f : FrameRecord) → AreNumbered k n fs → is_packet k f ≡ true → slice_index f.bytes 0 ≡ n + length fs
@@ -428,158 +516,133 @@ numbered_more : (k : Key) (n : ℕ) (fs : List FrameRecord) (f : FrameRecord) �
 numbered_more k n [] f h e g = (e, (omega (arith, g)), tt)
 numbered_more k n (x ∷ fs) f h e g = (h.0, h.1, numbered_more k (n + 1) fs f h.2 e (omega (arith, g)))
 
-joined_more : (fs : List FrameRecord) (f : FrameRecord) → joined (fs ++ f ∷ []) ≡ joined fs ++ drop 1 f.bytes
-joined_more [] f = append-nil (drop 1 f.bytes)
-joined_more (x ∷ fs) f = ap (λ z. drop 1 x.bytes ++ z) (joined_more fs f) ∙ sym (append_assoc (drop 1 x.bytes) (joined fs) (drop 1 f.bytes))
-
-length_more : (fs : List FrameRecord) (f : FrameRecord) → length (fs ++ f ∷ []) ≡ suc (length fs)
-length_more [] f = refl
-length_more (x ∷ fs) f = let e = length_more fs f in omega (arith, e)
-
-not_whole : (x : OpenBroadcast) → is_whole x ≡ false → length x.bytes < x.size
-not_whole x e = go x.size (length x.bytes) e
-  where
-    go : (m n : ℕ) → nat_le m n ≡ false → n < m
-    go m n i = grind arith
-
 -- a packet is appended
 appends : (who : Who) (H : List Call) (when : ℕ) (f : FrameRecord) (x : OpenBroadcast) (now : ℕ) → holder who (At when (Hear f) ∷ H) x.source ≡ holder who H x.source → packs f ≡ true
     → source_of f.id ≡ x.source → slice_index f.bytes 0 ≡ suc x.count → is_whole x ≡ false → Begun who H x → Begun who (At when (Hear f) ∷ H) (grown now f x)
-appends who H when f x now k p s n w h = record {
-  later = At when (Hear f) ∷ h.later;
-  at = h.at;
-  first = h.first;
-  earlier = h.earlier;
-  is = ap (λ G. At when (Hear f) ∷ G) h.is;
-  packets = h.packets ++ f ∷ [];
-  part = chosen f h.packets (frames_heard h.later) h.part;
-  source = h.source;
-  announced = h.announced;
-  group = h.group;
-  size = h.size;
-  count = length_more h.packets f ∙ ap suc h.count;
-  numbered = numbered_more (by x.source) 1 h.packets f h.numbered (subst (λ (a : ℕ). is_packet (by a) f ≡ true) s p) (let c = h.count in omega (arith, n, c));
-  bytes = joined_more h.packets f ∙ ap (λ z. z ++ drop 1 f.bytes) h.bytes;
-  few = (let a = length_two x.bytes (drop 1 f.bytes) in let b = drop_one f.bytes (packs_eight f p) in let c = not_whole x w in omega (arith, a, b, c));
-  one = keeps_on who (At when (Hear f)) H x h k;
-}
+appends who H when f x now k p s n w h =
+    goes_on who (At when (Hear f)) H x (grown now f x) h k refl (h.packets ++ f ∷ []) (chosen f h.packets (frames_heard h.later) h.part) (record {
+      source = h.came.source;
+      announced = h.came.announced;
+      group = h.came.group;
+      size = h.came.size;
+      count = (let a = length-append h.packets (f ∷ []) in let c = h.came.count in omega (arith, a, c));
+      numbered = numbered_more (by x.source) 1 h.packets f h.came.numbered (subst (λ (a : ℕ). is_packet (by a) f ≡ true) s p) (let c = h.came.count in omega (arith, n, c));
+      bytes = flat_map-append (λ g. drop 1 g.bytes) h.packets (f ∷ []) ∙ ap (λ z. joined h.packets ++ z) (append-nil (drop 1 f.bytes)) ∙ ap (λ z. z ++ drop 1 f.bytes) h.came.bytes;
+      few = (let a = length-append x.bytes (drop 1 f.bytes) in let b = drop_one f.bytes (packs_eight f p) in let c = leb-false _ _ w in omega (arith, a, b, c));
+    })
 
-same_is : (o p : Option ℕ) → is_same o p ≡ true → p ≡ o
-same_is None None e = refl
-same_is None (Some n) e = absurd (cc)
-same_is (Some m) None e = absurd (cc)
-same_is (Some m) (Some n) e = ap Some (sym (eqb-true m n e))
-
--- a frame is heard where none waits
-heard_open : (who : Who) (H : List Call) (now : ℕ) (when : ℕ) (f : FrameRecord) (o : Option OpenBroadcast) → AllBegun who H o → whole_of o ≡ None
-    → AllBegun who (At when (Hear f) ∷ H) (hears who now f (left (changes (holder who H) (holder who (At when (Hear f) ∷ H)) o) o))
-heard_open who H now when f None h n = go (announces f) (packs f) (is_ignored who (pgn_named f)) refl
+-- one that isn't whole
+not_full : (x : OpenBroadcast) → whole_of (Some x) ≡ None → is_whole x ≡ false
+not_full x e = go (is_whole x) e
   where
-    go : (a b c : Bool) → announces f ≡ a → AllBegun who (At when (Hear f) ∷ H) (if a then (if c then None else Some (begun now f)) else if b then None else None)
-    go true b true e = tt
-    go true b false e = anew who H now when f e
-    go false true c e = tt
-    go false false c e = tt
-heard_open who H now when f (Some x) h n = by (is_same (holder who H x.source) (holder who (At when (Hear f) ∷ H) x.source)) refl (is_whole x) refl
+    go : (v : Bool) → (if v then Some (message_by x) else None) ≡ None → v ≡ false
+    go true i = absurd (cc)
+    go false i = refl
+
+open_one : (who : Who) (call : Call) (H : List Call) (x : OpenBroadcast) → AreKept who call H (Some x) → is_whole x ≡ false
+    → Begun who H x × (holder who (call ∷ H) x.source ≡ holder who H x.source)
+open_one who call H x (inl i) w = absurd (let z : true ≡ false = sym i ∙ w in cc)
+open_one who call H x (inr h) w = h
+
+-- a frame is heard, where none waits
+heard_open : (who : Who) (H : List Call) (when now : ℕ) (f : FrameRecord) (o y : Option OpenBroadcast) (a b : Bool) → AreKept who (At when (Hear f)) H o → whole_of o ≡ None
+    → Effect who now f o a b y → IfSome y (Begun who (At when (Hear f) ∷ H))
+heard_open who H when now f o y a b h n (begins e1 e2 e3 e4 e5 e6 e7) = subst (λ (z : Option OpenBroadcast). IfSome z (Begun who (At when (Hear f) ∷ H))) (sym e7) (anew who H now when f e1)
+heard_open who H when now f o y a b h n (ends e1 e2 e3 e4 e5) = subst (λ (z : Option OpenBroadcast). IfSome z (Begun who (At when (Hear f) ∷ H))) (sym e5) tt
+heard_open who H when now f o y a b h n (grows x e1 e2 e3 e4 e5 e6 e7 e8 e9) =
+    let k = open_one who (At when (Hear f)) H x (subst (AreKept who (At when (Hear f)) H) e1 h) e3 in
+    subst (λ (z : Option OpenBroadcast). IfSome z (Begun who (At when (Hear f) ∷ H))) (sym e9) (appends who H when f x now k.1 e2 e4 e5 e3 k.0)
+heard_open who H when now f o y a b h n (stays x e1 e2 e3 e4) =
+    let w = not_full x (sym (ap whole_of e1) ∙ n) in
+    let k = open_one who (At when (Hear f)) H x (subst (AreKept who (At when (Hear f)) H) e1 h) w in
+    subst (λ (z : Option OpenBroadcast). IfSome z (Begun who (At when (Hear f) ∷ H))) (sym e4) (goes_on who (At when (Hear f)) H x x k.0 k.1 refl k.0.packets
+    (passed f k.0.packets (frames_heard k.0.later) (ap (λ (n : ℕ). is_beside x.source n f) k.0.came.count ∙ none_of x w e3) k.0.part) k.0.came)
   where
-    open_one : (w : Bool) → is_whole x ≡ w → whole_of (Some x) ≡ None → w ≡ false
-    open_one true e i = absurd (let z : Some (message_by x) ≡ None = sym (ap (λ (v : Bool). if v then Some (message_by x) else None) e) ∙ i in cc)
-    open_one false e i = refl
+    none_of : (x : OpenBroadcast) → is_whole x ≡ false → (is_whole x ≡ true) ⊎ (is_beside x.source x.count f ≡ true) → is_beside x.source x.count f ≡ true
+    none_of x w (inl i) = absurd (let z : true ≡ false = sym i ∙ w in cc)
+    none_of x w (inr i) = i
 
-    gone : (a b c : Bool) → announces f ≡ a → AllBegun who (At when (Hear f) ∷ H) (if a then (if c then None else Some (begun now f)) else if b then None else None)
-    gone true b true e = tt
-    gone true b false e = anew who H now when f e
-    gone false true c e = tt
-    gone false false c e = tt
+begun_ones : (who : Who) (H : List Call) (o : Option OpenBroadcast) → IfSome o (Begun who H) → AreBegun who H o
+begun_ones who H None h = tt
+begun_ones who H (Some x) h = inr h
 
-    stays : holder who (At when (Hear f) ∷ H) x.source ≡ holder who H x.source → is_whole x ≡ false → (a b c d e g k : Bool) → announces f ≡ a → packs f ≡ b
-        → nat_eq (source_of f.id) x.source ≡ d → nat_eq (slice_index f.bytes 0) (suc x.count) ≡ k
-        → AllBegun who (At when (Hear f) ∷ H) (if a then (if e then (if c then None else Some (begun now f)) else Some x) else if b
-        then (if false || not d then Some x else if g then None else Some (if k then grown now f x else touched now f x)) else Some x)
-    stays q w true b true d true g k i j l m = tt
-    stays q w true b false d true g k i j l m = anew who H now when f i
-    stays q w true b c d false g k i j l m = ignores who H when f x x.stamp x.time q h
-    stays q w false true c false e g k i j l m = ignores who H when f x x.stamp x.time q h
-    stays q w false true c true e true k i j l m = tt
-    stays q w false true c true e false true i j l m = appends who H when f x now q j (eqb-true _ _ l) (eqb-true _ _ m) w h
-    stays q w false true c true e false false i j l m = ignores who H when f x f.stamp now q h
-    stays q w false false c d e g k i j l m = ignores who H when f x x.stamp x.time q h
-
-    hears_by : Bool → Option OpenBroadcast
-    hears_by w =
-        if announces f then (if has_room now (source_of f.id) (Some x) then opens who now f else Some x) else if packs f
-        then (if w || not (nat_eq (source_of f.id) x.source) then Some x else if is_late now x then None else Some (goes_on now f x)) else Some x
-
-    by : (b : Bool) → is_same (holder who H x.source) (holder who (At when (Hear f) ∷ H) x.source) ≡ b → (w : Bool) → is_whole x ≡ w
-        → AllBegun who (At when (Hear f) ∷ H) (hears who now f (if not b && not w then None else Some x))
-    by b e true i = absurd (let z : true ≡ false = open_one true i n in cc)
-    by false e false i = gone (announces f) (packs f) (is_ignored who (pgn_named f)) refl
-    by true e false i =
-        subst (λ (v : Bool). AllBegun who (At when (Hear f) ∷ H) (hears_by v)) (sym i)
-        (stays (same_is _ _ e) i (announces f) (packs f) (is_ignored who (pgn_named f)) (nat_eq (source_of f.id) x.source)
-        (has_room now (source_of f.id) (Some x)) (is_late now x) (nat_eq (slice_index f.bytes 0) (suc x.count)) refl refl refl refl)
-
-open_ones : (who : Who) (H : List Call) (o : Option OpenBroadcast) → AreBegun who H o → whole_of o ≡ None → AllBegun who H o
-open_ones who H None h e = tt
-open_ones who H (Some x) (inl w) e = absurd (let z : Some (message_by x) ≡ None = sym (ap (λ (v : Bool). if v then Some (message_by x) else None) w) ∙ e in cc)
-open_ones who H (Some x) (inr h) e = h
-
-become : (who : Who) (H : List Call) (o : Option OpenBroadcast) → AllBegun who H o → AreBegun who H o
-become who H None h = tt
-become who H (Some x) h = inr h
-
-heard_more : (who : Who) (H : List Call) (now : ℕ) (when : ℕ) (f : FrameRecord) (o : Option OpenBroadcast) → AreBegun who H o
-    → AreBegun who (At when (Hear f) ∷ H) (hears who now f (left (changes (holder who H) (holder who (At when (Hear f) ∷ H)) o) o))
-heard_more who H now when f o h = go (whole_of o) refl
+heard_more : (who : Who) (H : List Call) (when now : ℕ) (f : FrameRecord) (o : Option OpenBroadcast) → AreKept who (At when (Hear f)) H o
+    → AreBegun who (At when (Hear f) ∷ H) (hears who now f o)
+heard_more who H when now f o h = go (whole_of o) refl
   where
-    kept : (z : Option OpenBroadcast) (p : ℕ × MessageRecord) → whole_of z ≡ Some p → AreBegun who (At when (Hear f) ∷ H) z
-    kept None p e = tt
-    kept (Some x) p e = inl (w (is_whole x) e)
-      where
-        w : (v : Bool) → (if v then Some (message_by x) else None) ≡ Some p → v ≡ true
-        w true i = refl
-        w false i = absurd (cc)
+    go : (p : Option (ℕ × MessageRecord)) → whole_of o ≡ p → AreBegun who (At when (Hear f) ∷ H) (hears who now f o)
+    go None e = begun_ones who (At when (Hear f) ∷ H) _ (heard_open who H when now f o _ _ _ h e (effect who now f o))
+    go (Some p) e =
+        let x = whole_is o p e in
+        subst (AreBegun who (At when (Hear f) ∷ H)) (sym (kept_whole who now f o _ _ _ p (effect who now f o) e ∙ x.1)) (inl x.2)
 
-    go : (p : Option (ℕ × MessageRecord)) → whole_of o ≡ p → AreBegun who (At when (Hear f) ∷ H) (hears who now f (left (changes (holder who H) (holder who (At when (Hear f) ∷ H)) o) o))
-    go None e = become who (At when (Hear f) ∷ H) _ (heard_open who H now when f o (open_ones who H o h e) e)
-    go (Some p) e = subst (AreBegun who (At when (Hear f) ∷ H)) (sym (whole_stays who (changes (holder who H) (holder who (At when (Hear f) ∷ H)) o) now f o p e)) (kept o p e)
+-- what a call leaves
+left_more : (who : Who) (call : Call) (H : List Call) (b : Bool) (o : Option OpenBroadcast)
+    → IfSome o (λ x. b ≡ false → holder who (call ∷ H) x.source ≡ holder who H x.source) → AreBegun who H o → AreKept who call H (left b o)
+left_more who call H b None k h = tt
+left_more who call H b (Some x) k (inl w) = subst (AreKept who call H) (sym (left_whole b x w)) (inl w)
+left_more who call H true (Some x) k (inr h) = go (is_whole x) refl
+  where
+    go : (w : Bool) → is_whole x ≡ w → AreKept who call H (if not w then None else Some x)
+    go true e = inl e
+    go false e = tt
+left_more who call H false (Some x) k (inr h) = inr (h, k refl)
 
 quiet_more : (who : Who) (call : Call) (H : List Call) (o : Option OpenBroadcast) → ((G : List Call) → frames_heard (call ∷ G) ≡ frames_heard G)
-    → ((a : ℕ) → holder who (call ∷ H) a ≡ holder who H a) → AreBegun who H o → AreBegun who (call ∷ H) o
-quiet_more who call H None quiet k h = tt
-quiet_more who call H (Some x) quiet k (inl w) = inl w
-quiet_more who call H (Some x) quiet k (inr h) = inr (rests who call H x quiet (k x.source) h)
+    → AreKept who call H o → AreBegun who (call ∷ H) o
+quiet_more who call H None quiet h = tt
+quiet_more who call H (Some x) quiet (inl w) = inl w
+quiet_more who call H (Some x) quiet (inr h) = inr (goes_on who call H x x h.0 h.1 refl h.0.packets (subst (IsPartOf x.source h.0.packets) (sym (quiet h.0.later)) h.0.part) h.0.came)
 
-taken_more : (who : Who) (H : List Call) (now : ℕ) (f : FrameRecord) (o : Option OpenBroadcast) → AreBegun who H o
-    → AreBegun who (At now (TakeFrame (Some f)) ∷ H) (left (changes (holder who H) (holder who (At now (TakeFrame (Some f)) ∷ H)) o) o)
-taken_more who H now f None h = tt
-taken_more who H now f (Some x) (inl w) =
-    subst (AreBegun who (At now (TakeFrame (Some f)) ∷ H)) (sym (left_whole (changes (holder who H) (holder who (At now (TakeFrame (Some f)) ∷ H)) (Some x)) x w)) (inl w)
-taken_more who H now f (Some x) (inr h) = by (is_same (holder who H x.source) (holder who (At now (TakeFrame (Some f)) ∷ H) x.source)) refl (is_whole x) refl
+-- it isn't over, so its source has the holder that it had
+unchanged_by : (before after : ℕ → Option ℕ) (o : Option OpenBroadcast) → IfSome o (λ x. changes before after o ≡ false → after x.source ≡ before x.source)
+unchanged_by before after None = tt
+unchanged_by before after (Some x) = go (is_same (before x.source) (after x.source)) refl
   where
-    by : (b : Bool) → is_same (holder who H x.source) (holder who (At now (TakeFrame (Some f)) ∷ H) x.source) ≡ b → (w : Bool) → is_whole x ≡ w
-        → AreBegun who (At now (TakeFrame (Some f)) ∷ H) (if not b && not w then None else Some x)
-    by false e false i = tt
-    by false e true i = inl i
-    by true e w i = inr (rests who (At now (TakeFrame (Some f))) H x (λ G. refl) (same_is _ _ e) h)
+    go : (b : Bool) → is_same (before x.source) (after x.source) ≡ b → not b ≡ false → after x.source ≡ before x.source
+    go true e g = same_is _ _ e
+    go false e g = absurd (cc)
+
+not_over : (before after : ℕ → Option ℕ) (now : ℕ) (o : Option OpenBroadcast) → IfSome o (λ x. is_over before after now o ≡ false → after x.source ≡ before x.source)
+not_over before after now None = tt
+not_over before after now (Some x) = go (changes before after (Some x)) (is_late now x) (unchanged_by before after (Some x))
+  where
+    go : (a b : Bool) → (a ≡ false → after x.source ≡ before x.source) → (a || b) ≡ false → after x.source ≡ before x.source
+    go true b h e = absurd (cc)
+    go false b h e = h refl
+
+same_holders : (who : Who) (call : Call) (H : List Call) (b : Bool) (o : Option OpenBroadcast) → ((a : ℕ) → holder who (call ∷ H) a ≡ holder who H a)
+    → IfSome o (λ x. b ≡ false → holder who (call ∷ H) x.source ≡ holder who H x.source)
+same_holders who call H b None k = tt
+same_holders who call H b (Some x) k = λ e. k x.source
+
+found_kept : (who : Who) (H : List Call) (when : ℕ) (f : FrameRecord) → AreBegun who H (hearing who H) → AreKept who (At when (Hear f)) H (found who H when f)
+found_kept who H when f h =
+    let G = At when (Hear f) ∷ H in
+    left_more who (At when (Hear f)) H (is_over (holder who H) (holder who G) (time_heard G) (hearing who H)) (hearing who H)
+    (not_over (holder who H) (holder who G) (time_heard G) (hearing who H)) h
 
 are_begun : (who : Who) (H : List Call) → AreBegun who H (hearing who H)
 are_begun who [] = tt
-are_begun who (At when (Hear f) ∷ H) = heard_more who H (time_heard (At when (Hear f) ∷ H)) when f (hearing who H) (are_begun who H)
-are_begun who (At now (TakeFrame (Some f)) ∷ H) = taken_more who H now f (hearing who H) (are_begun who H)
+are_begun who (At when (Hear f) ∷ H) = heard_more who H when (time_heard (At when (Hear f) ∷ H)) f (found who H when f) (found_kept who H when f (are_begun who H))
+are_begun who (At now Tick ∷ H) =
+    let b = is_out (time_heard (At now Tick ∷ H)) (hearing who H) in
+    quiet_more who (At now Tick) H _ (λ G. refl) (left_more who (At now Tick) H b (hearing who H) (same_holders who (At now Tick) H b (hearing who H) (λ a. refl)) (are_begun who H))
+are_begun who (At now (TakeFrame (Some f)) ∷ H) =
+    let G = At now (TakeFrame (Some f)) ∷ H in
+    quiet_more who (At now (TakeFrame (Some f))) H _ (λ G. refl)
+    (left_more who (At now (TakeFrame (Some f))) H (changes (holder who H) (holder who G) (hearing who H)) (hearing who H) (unchanged_by (holder who H) (holder who G) (hearing who H)) (are_begun who H))
 are_begun who (ReleaseBroadcast true ∷ H) = tt
-are_begun who (call ∷ H) = quiet_more who call H (hearing who H) (λ G. refl) (λ a. refl) (are_begun who H)
-
-length_taken : (n : ℕ) (xs : List ℕ) → n ≤ length xs → length (take n xs) ≡ n
-length_taken n xs l =
-    let e = ap length (take-append-drop n xs) in let a = length_two (take n xs) (drop n xs) in let b = length_drop n xs in omega (arith, e, a, b, l)
+are_begun who (call ∷ H) =
+    quiet_more who call H (hearing who H) (λ G. refl)
+    (subst (AreKept who call H) (left_none (hearing who H)) (left_more who call H false (hearing who H) (same_holders who call H false (hearing who H) (λ a. refl)) (are_begun who H)))
 
 -- all its packets came
 done : (who : Who) (H : List Call) (x : OpenBroadcast) → Begun who H x → is_whole x ≡ true → length x.bytes ≡ 7 * x.count → WasBroadcast who H (message_by x).1
 done who H x h w seven =
     let enough : x.size ≤ length x.bytes = leb-true _ _ w in
-    let size : length (take x.size x.bytes) ≡ x.size = length_taken x.size x.bytes enough in
-    let facts = announcement_facts (by (source_of h.first.id)) h.first h.announced in
+    let size : length (take x.size x.bytes) ≡ x.size = length-take-le x.size x.bytes enough in
+    let facts = announcement_facts (by (source_of h.first.id)) h.first h.came.announced in
     record {
       later = h.later;
       at = h.at;
@@ -590,49 +653,42 @@ done who H x h w seven =
       part = h.part;
       one = h.one;
       carries = record {
-        long = (let a = facts.large in let b = h.size in omega (arith, a, b, size));
+        long = (let a = facts.large in let b = h.came.size in omega (arith, a, b, size));
         source = refl;
-        announced = subst (λ (a : ℕ). is_announcement (by a) h.first ≡ true) (sym h.source) h.announced;
-        size = sym h.size ∙ sym size;
-        pgn = sym h.group;
-        count = (let a = facts.count in let b = h.size in let c = h.count in let d = h.few in omega (arith, a, b, c, d, seven, enough));
-        numbered = h.numbered;
+        announced = subst (λ (a : ℕ). is_announcement (by a) h.first ≡ true) (sym h.came.source) h.came.announced;
+        size = sym h.came.size ∙ sym size;
+        pgn = sym h.came.group;
+        count = (let a = facts.count in let b = h.came.size in let c = h.came.count in let d = h.came.few in omega (arith, a, b, c, d, seven, enough));
+        numbered = h.came.numbered;
         padding = drop x.size x.bytes;
-        few = (let d = h.few in let l = length_drop x.size x.bytes in omega (arith, d, l, enough));
-        joined_are = h.bytes ∙ sym (take-append-drop x.size x.bytes);
+        few = (let d = h.came.few in let l = length_drop x.size x.bytes in omega (arith, d, l, enough));
+        joined_are = h.came.bytes ∙ sym (take-append-drop x.size x.bytes);
       };
     }
 
 pub came : (who : Who) (H : List Call) (when : ℕ) (f : FrameRecord) (p : ℕ × MessageRecord) → made_whole who H when f ≡ Some p → WasBroadcast who (At when (Hear f) ∷ H) p.1
 came who H when f p e = go (waiting who H) refl e
   where
-    last : (o : Option OpenBroadcast) → AllBegun who (At when (Hear f) ∷ H) o → IsFit o → whole_of o ≡ Some p → WasBroadcast who (At when (Hear f) ∷ H) p.1
-    last None h fits i = absurd (cc)
-    last (Some x) h fits i =
-        let whole : is_whole x ≡ true = all_true (is_whole x) i in
-        let z : Some (message_by x) ≡ Some p = sym (ap (λ (v : Bool). if v then Some (message_by x) else None) whole) ∙ i in
-        let q : message_by x ≡ p = cc in
-        subst (λ (r : ℕ × MessageRecord). WasBroadcast who (At when (Hear f) ∷ H) r.1) q (done who (At when (Hear f) ∷ H) x h whole fits.0)
-      where
-        all_true : (v : Bool) → (if v then Some (message_by x) else None) ≡ Some p → v ≡ true
-        all_true true j = refl
-        all_true false j = absurd (cc)
+    G : List Call
+    G = At when (Hear f) ∷ H
 
-    go : (o : Option (ℕ × MessageRecord)) → waiting who H ≡ o → newly o (waiting who (At when (Hear f) ∷ H)) ≡ Some p → WasBroadcast who (At when (Hear f) ∷ H) p.1
-    go None i k = last (hearing who (At when (Hear f) ∷ H)) (heard_open who H (time_heard (At when (Hear f) ∷ H)) when f (hearing who H) (open_ones who H (hearing who H) (are_begun who H) i) i) (fit who (At when (Hear f) ∷ H)) k
+    last : (o : Option OpenBroadcast) → IfSome o (Begun who G) → IsFit o → whole_of o ≡ Some p → WasBroadcast who G p.1
+    last o h fits i =
+        let x = whole_is o p i in
+        let z : Some (message_by x.0) ≡ Some p = sym (ap whole_of x.1 ∙ ap (λ (v : Bool). if v then Some (message_by x.0) else None) x.2) ∙ i in
+        let q : message_by x.0 ≡ p = cc in
+        subst (λ (r : ℕ × MessageRecord). WasBroadcast who G r.1) q
+        (done who G x.0 (subst (λ (o : Option OpenBroadcast). IfSome o (Begun who G)) x.1 h) x.2 (subst IsFit x.1 fits).0)
+
+    go : (o : Option (ℕ × MessageRecord)) → waiting who H ≡ o → newly o (waiting who G) ≡ Some p → WasBroadcast who G p.1
+    go None i k =
+        last (hearing who G)
+        (heard_open who H when (time_heard G) f (found who H when f) _ _ _ (found_kept who H when f (are_begun who H))
+        (whole_of_left (is_over (holder who H) (holder who G) (time_heard G) (hearing who H)) (hearing who H) ∙ i) (effect who (time_heard G) f (found who H when f)))
+        (fit who G) k
     go (Some q) i k = absurd (cc)
 
 -- ---- what a packet and a claim do
-
-at_most : (m n : ℕ) → m ≤ n → nat_le m n ≡ true
-at_most m n l = grind arith
-
-unequal : (m n : ℕ) → (m ≢ n) → nat_eq m n ≡ false
-unequal m n h = go (nat_eq m n) refl
-  where
-    go : (b : Bool) → nat_eq m n ≡ b → b ≡ false
-    go true e = absurd (h (eqb-true m n e))
-    go false e = refl
 
 pub last_makes_whole : (who : Who) (H : List Call) (when : ℕ) (f : FrameRecord) (x : OpenBroadcast) → claim_of f ≡ None → announces f ≡ false → IsTrue (packs f)
     → hearing who H ≡ Some x → is_whole x ≡ false → source_of f.id ≡ x.source → is_late (time_heard (At when (Hear f) ∷ H)) x ≡ false
@@ -641,25 +697,41 @@ pub last_makes_whole : (who : Who) (H : List Call) (when : ℕ) (f : FrameRecord
 last_makes_whole who H when f x e g k l m n o p q =
     let y = grown (time_heard (At when (Hear f) ∷ H)) f x in
     let whole : is_whole y ≡ true =
-    at_most x.size (length (x.bytes ++ drop 1 f.bytes)) (let a = length_two x.bytes (drop 1 f.bytes) in let b = drop_one f.bytes (packs_eight f k) in omega (arith, a, b, q)) in
+    le_true x.size (length (x.bytes ++ drop 1 f.bytes)) (let a = length-append x.bytes (drop 1 f.bytes) in let b = drop_one f.bytes (packs_eight f k) in omega (arith, a, b, q)) in
     let before : waiting who H ≡ None = ap whole_of l ∙ ap (λ (v : Bool). if v then Some (message_by x) else None) m in
     let after : waiting who (At when (Hear f) ∷ H) ≡ Some (message_by y) =
     ap whole_of (next_appended who H when f x e g k l m n o p) ∙ ap (λ (v : Bool). if v then Some (message_by y) else None) whole in
     λ i. newly (before i) (after i)
 
-pub other_adds_none : (who : Who) (H : List Call) (when : ℕ) (f : FrameRecord) (x : OpenBroadcast) → claim_of f ≡ None → announces f ≡ false → IsTrue (packs f)
-    → hearing who H ≡ Some x → is_whole x ≡ false → source_of f.id ≡ x.source → is_late (time_heard (At when (Hear f) ∷ H)) x ≡ false
-    → (slice_index f.bytes 0 ≢ suc x.count) → hearing who (At when (Hear f) ∷ H) ≡ Some (touched (time_heard (At when (Hear f) ∷ H)) f x)
-other_adds_none who H when f x e g k l m n o p =
-    hears_found who H when f (Some x) e l ∙ packed_by who (time_heard (At when (Hear f) ∷ H)) f x false true false false g k m (eq-eqb _ _ n) o (unequal _ _ p)
+-- ---- a tick
 
-pub left_ends : (who : Who) (H : List Call) (when : ℕ) (f : FrameRecord) (x : OpenBroadcast) → hearing who H ≡ Some x → is_whole x ≡ false
-    → (holder who (At when (Hear f) ∷ H) x.source ≢ holder who H x.source) → found who H when f ≡ None
-left_ends who H when f x e w h =
-    ap (λ (o : Option OpenBroadcast). left (changes (holder who H) (holder who (At when (Hear f) ∷ H)) o) o) e
-    ∙ go (is_same (holder who H x.source) (holder who (At when (Hear f) ∷ H) x.source)) refl (is_whole x) w
+-- before the moment that is told nothing is over
+pub tick_keeps : (who : Who) (H : List Call) (now : ℕ) → heard_at H ≤ now → now < 10000000000000000 → ((t : ℕ) → hearing_tick who H ≡ Some t → now < t)
+    → hearing who (At now Tick ∷ H) ≡ hearing who H
+tick_keeps who H now l m q = go (hearing who H) q
   where
-    go : (b : Bool) → is_same (holder who H x.source) (holder who (At when (Hear f) ∷ H) x.source) ≡ b → (v : Bool) → v ≡ false → (if not b && not v then None else Some x) ≡ None
-    go true i v j = absurd (h (same_is _ _ i))
-    go false i true j = absurd (cc)
-    go false i false j = refl
+    go : (o : Option OpenBroadcast) → ((t : ℕ) → late_at o (heard_at H) (time_heard H) ≡ Some t → now < t) → in_time (time_heard (At now Tick ∷ H)) o ≡ o
+    go None k = refl
+    go (Some x) k = by (is_whole x) refl
+      where
+        by : (v : Bool) → is_whole x ≡ v → in_time (time_heard (At now Tick ∷ H)) (Some x) ≡ Some x
+        by true w = left_whole _ x w
+        by false w =
+            ap (λ (b : Bool). left b (Some x))
+            (lt_false _ _ (before_moment (x.time + broadcast_limit) (heard_at H) (time_heard H) now l m
+            (λ t e. k t (ap (λ (v : Bool). if v then None else stamp_at (heard_at H + (suc (x.time + broadcast_limit) - time_heard H))) w ∙ e))))
+
+-- from it on it is over
+pub tick_ends : (who : Who) (H : List Call) (now t : ℕ) → hearing_tick who H ≡ Some t → t ≤ now → time_heard H + (t - heard_at H) < 10000000000000000
+    → hearing who (At now Tick ∷ H) ≡ None
+tick_ends who H now t e l m = go (hearing who H) e
+  where
+    go : (o : Option OpenBroadcast) → late_at o (heard_at H) (time_heard H) ≡ Some t → in_time (time_heard (At now Tick ∷ H)) o ≡ None
+    go None k = refl
+    go (Some x) k = by (is_whole x) refl k
+      where
+        by : (v : Bool) → is_whole x ≡ v → (if v then None else stamp_at (heard_at H + (suc (x.time + broadcast_limit) - time_heard H))) ≡ Some t
+            → in_time (time_heard (At now Tick ∷ H)) (Some x) ≡ None
+        by true w i = absurd (cc)
+        by false w i =
+            λ j. if lt-ltb _ _ (after_moment (x.time + broadcast_limit) (heard_at H) (time_heard H) t now i l m) j && not (w j) then None else Some x

@@ -1,6 +1,7 @@
 -- Broadcasts in packets that are heard, call by call.
-use Rattle.std.proofs.Common.{◌≡◌, ℕ, suc, ◌+◌, ◌*◌, ◌<◌, ◌≤◌, List, [], ◌∷◌, ◌++◌, length, drop, min, Option, Some, None, IfSome, Bool, true, false, not, ◌&&◌, ◌||◌, if◌then◌else◌, nat_eq, nat_lt, nat_le, refl, sym, ap, ◌∙◌, subst, arith, eq-eqb, eqb-true}
+use Rattle.std.proofs.Common.{◌≡◌, ◌⊎◌, ℕ, suc, ◌+◌, List, [], ◌∷◌, length, drop, slice_index, min, Option, Some, None, IfSome, Bool, true, false, not, ◌&&◌, ◌||◌, if◌then◌else◌, nat_eq, nat_lt, nat_le, refl, sym, ap, ◌∙◌, subst, inl, inr, arith, eq-eqb, eqb-true}
 use Rattle.std.proofs.lemmas.Bool.{and_parts}
+use Rattle.std.proofs.lemmas.List.{length-append}
 use Rattle.j39_frame.specs.Frame.{FrameRecord}
 use Rattle.j39_frame.specs.Identifier.{source_of}
 use Rattle.j39_address.specs.Claims.{Knows, holder_in}
@@ -11,57 +12,181 @@ use Rattle.j39_frame.specs.Network.{transport_data_group}
 use Rattle.j39_transport.proofs.FrameFacts.{announcement_facts}
 use Rattle.j39_node.specs.History.{Who, Call, is_claim, told_claims}
 use Rattle.j39_node.specs.History.Call.{At, ReleaseBroadcast}
-use Rattle.j39_node.specs.History.Act.{Hear, TakeFrame}
-use Rattle.j39_node.specs.Hearing.{IsFit, OpenBroadcast, announces, begun, changes, found, grown, has_room, hearing, hears, is_ignored, is_late, is_unheard, is_whole, left, opens, packed, packs, touched, unheard}
+use Rattle.j39_node.specs.History.Act.{Hear, Tick, TakeFrame}
+use Rattle.j39_node.specs.Hearing.{IsFit, OpenBroadcast, announces, begun, breaks, changes, ends_by, found, grown, has_room, hearing, hears, is_beside, is_ignored, is_late, is_out, is_over, is_partial, is_unheard, is_wanted, is_whole, left, message_by, more, opens, packed, packs, skips, unheard, unheard_by, unheard_news, whole_of}
 use Rattle.j39_node.specs.Reception.{holder, is_same, time_heard}
-use Rattle.j39_node.specs.Is.{HearingRecord, hearing_after}
+use Rattle.j39_node.specs.Is.{HearingRecord, hearing_after, news_after}
+use Rattle.j39_node.specs.declared.news.Untold.{Untold}
 use Rattle.j39_node.proofs.ReceptionLemmas.{table_is}
 
--- ---- who holds its source
+-- ---- what a frame does to the broadcast that it finds
+
+pub data Effect (w : Who) (now : ℕ) (f : FrameRecord) (o : Option OpenBroadcast) (wanted unheard : Bool) (after : Option OpenBroadcast) : Type 0 where
+  begins : announces f ≡ true → is_ignored w (pgn_named f) ≡ false → wanted ≡ true → unheard ≡ is_partial o → whole_of o ≡ None
+      → IfSome o (λ x. is_beside x.source x.count f ≡ false) → after ≡ Some (begun now f) → Effect w now f o wanted unheard after
+  ends : wanted ≡ false → unheard ≡ is_partial o → whole_of o ≡ None → IfSome o (λ x. is_beside x.source x.count f ≡ false) → after ≡ None
+      → Effect w now f o wanted unheard after
+  grows : (x : OpenBroadcast) → o ≡ Some x → packs f ≡ true → is_whole x ≡ false → source_of f.id ≡ x.source → slice_index f.bytes 0 ≡ suc x.count
+      → wanted ≡ false → unheard ≡ false → is_beside x.source x.count f ≡ false → after ≡ Some (grown now f x) → Effect w now f o wanted unheard after
+  stays : (x : OpenBroadcast) → o ≡ Some x → unheard ≡ wanted → (is_whole x ≡ true) ⊎ (is_beside x.source x.count f ≡ true) → after ≡ Some x
+      → Effect w now f o wanted unheard after
+
+no_next : (n c : ℕ) → n ≡ suc c → nat_le n c ≡ false
+no_next n c e = grind arith
+
+no_gap : (n c : ℕ) → nat_lt (suc c) n ≡ false → nat_eq n (suc c) ≡ false → nat_le n c ≡ true
+no_gap n c e g = grind arith
+
+a_gap : (n c : ℕ) → nat_lt (suc c) n ≡ true → nat_le n c ≡ false
+a_gap n c e = grind arith
+
+pub effect : (w : Who) (now : ℕ) (f : FrameRecord) (o : Option OpenBroadcast) → Effect w now f o (is_wanted w f) (is_unheard w f o) (hears w now f o)
+effect w now f None = go (announces f) (packs f) (is_ignored w (pgn_named f)) refl refl
+  where
+    go : (a b c : Bool) → announces f ≡ a → is_ignored w (pgn_named f) ≡ c
+        → Effect w now f None (a && not c) (if a then false else b && false) (if a then (if c then None else Some (begun now f)) else if b then None else None)
+    go true b true e g = ends refl refl refl tt refl
+    go true b false e g = begins e g refl refl refl tt refl
+    go false true c e g = ends refl refl refl tt refl
+    go false false c e g = ends refl refl refl tt refl
+effect w now f (Some x) =
+    go (announces f) (packs f) (is_ignored w (pgn_named f)) (is_whole x) (nat_eq (source_of f.id) x.source) (skips f x) (nat_eq (slice_index f.bytes 0) (suc x.count))
+    refl refl refl refl refl refl refl
+  where
+    partial : is_whole x ≡ false → true ≡ is_partial (Some x)
+    partial m = sym (ap not m)
+
+    none : is_whole x ≡ false → whole_of (Some x) ≡ None
+    none m = ap (λ (v : Bool). if v then Some (message_by x) else None) m
+
+    beside : (a b e k : Bool) → announces f ≡ a → packs f ≡ b → nat_eq (source_of f.id) x.source ≡ e → nat_le (slice_index f.bytes 0) x.count ≡ k
+        → is_beside x.source x.count f ≡ (not e || (not a && (not b || k)))
+    beside a b e k p q r s = λ i. not (r i) || (not (p i) && (not (q i) || s i))
+
+    go : (a b c d e g h : Bool) → announces f ≡ a → packs f ≡ b → is_ignored w (pgn_named f) ≡ c → is_whole x ≡ d → nat_eq (source_of f.id) x.source ≡ e
+        → skips f x ≡ g → nat_eq (slice_index f.bytes 0) (suc x.count) ≡ h
+        → Effect w now f (Some x) (a && not c) (if a then (if not d && e then not d else not c) else b && (not (d || not e) && g))
+        (if a then (if not d && e then (if c then None else Some (begun now f)) else Some x) else if b
+        then (if d || not e then Some x else if g then None else if h then Some (grown now f x) else Some x) else Some x)
+    go true b c true e g h p q r m s t u = stays x refl refl (inl m) refl
+    go true b true false true g h p q r m s t u = ends refl (partial m) (none m) (beside true b true _ p q s refl) refl
+    go true b false false true g h p q r m s t u = begins p r refl (partial m) (none m) (beside true b true _ p q s refl) refl
+    go true b c false false g h p q r m s t u = stays x refl refl (inr (beside true b false _ p q s refl)) refl
+    go false false c d true g h p q r m s t u = stays x refl refl (inr (beside false false true _ p q s refl)) refl
+    go false false c d false g h p q r m s t u = stays x refl refl (inr (beside false false false _ p q s refl)) refl
+    go false true c true e g h p q r m s t u = stays x refl refl (inl m) refl
+    go false true c false false g h p q r m s t u = stays x refl refl (inr (beside false true false _ p q s refl)) refl
+    go false true c false true true h p q r m s t u = ends refl (partial m) (none m) (beside false true true false p q s (a_gap _ _ t)) refl
+    go false true c false true false true p q r m s t u =
+        grows x refl q m (eqb-true _ _ s) (eqb-true _ _ u) refl refl (beside false true true false p q s (no_next _ _ (eqb-true _ _ u))) refl
+    go false true c false true false false p q r m s t u = stays x refl refl (inr (beside false true true true p q s (no_gap _ _ t u))) refl
+
+-- ---- it is over, or not
+
+pub left_none : (o : Option OpenBroadcast) → left false o ≡ o
+left_none None = refl
+left_none (Some x) = refl
+
+breaks_none : (o : Option OpenBroadcast) → breaks false o ≡ false
+breaks_none None = refl
+breaks_none (Some x) = refl
 
 pub same_same : (o : Option ℕ) → is_same o o ≡ true
 same_same None = refl
 same_same (Some n) = eq-eqb n n refl
 
-pub left_same : (before after : ℕ → Option ℕ) (o : Option OpenBroadcast) → ((a : ℕ) → after a ≡ before a) → left (changes before after o) o ≡ o
-left_same before after None k = refl
-left_same before after (Some x) k =
-    ap (λ (p : Option ℕ). left (not (is_same (before x.source) p)) (Some x)) (k x.source)
-    ∙ ap (λ (b : Bool). left (not b) (Some x)) (same_same (before x.source))
+pub unchanged : (before after : ℕ → Option ℕ) (o : Option OpenBroadcast) → ((a : ℕ) → after a ≡ before a) → changes before after o ≡ false
+unchanged before after None k = refl
+unchanged before after (Some x) k =
+    ap (λ (p : Option ℕ). not (is_same (before x.source) p)) (k x.source) ∙ ap not (same_same (before x.source))
 
-pub left_is : (w : Who) (H G : List Call) (old new : Claims) (b : Bool) (p q : Option ℕ) (o : Option OpenBroadcast) → Knows old (told_claims w H) → Knows new (told_claims w G)
+pub changes_is : (w : Who) (H G : List Call) (old new : Claims) (b : Bool) (p q : Option ℕ) (o : Option OpenBroadcast) → Knows old (told_claims w H) → Knows new (told_claims w G)
     → IfSome o (λ x. p ≡ holder_in old x.source) → IfSome o (λ x. q ≡ holder_in new x.source) → b ≡ not (is_same p q)
-    → left b o ≡ left (changes (holder w H) (holder w G) o) o
-left_is w H G old new b p q None k l e f g = refl
-left_is w H G old new b p q (Some x) k l e f g =
-    ap (λ (c : Bool). left c (Some x)) g
-    ∙ λ i. left (not (is_same ((e ∙ table_is w old H x.source k) i) ((f ∙ table_is w new G x.source l) i))) (Some x)
+    → IfSome o (λ x. b ≡ changes (holder w H) (holder w G) o)
+changes_is w H G old new b p q None k l e f g = tt
+changes_is w H G old new b p q (Some x) k l e f g = g ∙ λ i. not (is_same ((e ∙ table_is w old H x.source k) i) ((f ∙ table_is w new G x.source l) i))
 
--- ---- a frame is taken
-
-pub hearing_same : (w : Who) (H : List Call) (now : ℕ) (f : FrameRecord) → is_claim f ≡ false → hearing_after w H ≡ hearing_after w (At now (TakeFrame (Some f)) ∷ H)
-hearing_same w H now f e =
-    ap (λ (o : Option OpenBroadcast). (let r : HearingRecord = record { current = o; missed = min (unheard w H) 18446744073709551615 } in r))
-    (sym (left_same (holder w H) (holder w (At now (TakeFrame (Some f)) ∷ H)) (hearing w H)
-    (λ a. cond (is_claim f) _ (holder w H a) e)))
-  where
-    cond : (b : Bool) (x y : Option ℕ) → b ≡ false → (if b then x else y) ≡ y
-    cond true x y e = absurd (cc)
-    cond false x y e = refl
+same_over : (b c : Bool) (o : Option OpenBroadcast) → IfSome o (λ x. b ≡ c) → (left b o ≡ left c o) × (breaks b o ≡ breaks c o)
+same_over b c None e = (refl, refl)
+same_over b c (Some x) e = (ap (λ (d : Bool). left d (Some x)) e, ap (λ (d : Bool). breaks d (Some x)) e)
 
 pub is_hearing : (x y : HearingRecord) → x.current ≡ y.current → x.missed ≡ y.missed → x ≡ y
 is_hearing x y e f =
     ap (λ (o : Option OpenBroadcast). record x { current = o }) e ∙ ap (λ (n : ℕ). record x { current = y.current; missed = n }) f
 
-pub claimed_on : (w : Who) (H : List Call) (now : ℕ) (f : FrameRecord) (old new : Claims) (b : Bool) (p q : Option ℕ) (x y : HearingRecord) → x ≡ hearing_after w H
+pub missed_one : (m : ℕ) → min (min m 18446744073709551615 + 1) 18446744073709551615 ≡ min (suc m) 18446744073709551615
+missed_one m = omega arith
+
+missed_more : (b c : Bool) (n m : ℕ) → n ≡ min m 18446744073709551615 → b ≡ c
+    → (if b then min (n + 1) 18446744073709551615 else n) ≡ min (more c m) 18446744073709551615
+missed_more b c n m e g = by b e ∙ ap (λ (d : Bool). min (more d m) 18446744073709551615) g
+  where
+    by : (b : Bool) → n ≡ min m 18446744073709551615 → (if b then min (n + 1) 18446744073709551615 else n) ≡ min (more b m) 18446744073709551615
+    by true i = ap (λ (k : ℕ). min (k + 1) 18446744073709551615) i ∙ missed_one m
+    by false i = i
+
+-- where it is over it ends and is counted
+pub record Leaves (w : Who) (H : List Call) (over result : Bool) (m : HearingRecord) : Type 0 where
+  pub says : result ≡ breaks over (hearing w H)
+  pub current : m.current ≡ left over (hearing w H)
+  pub missed : m.missed ≡ min (more (breaks over (hearing w H)) (unheard w H)) 18446744073709551615
+
+pub leaves_on : (w : Who) (H : List Call) (b result : Bool) (over : Option OpenBroadcast → Bool) (x m : HearingRecord) → x ≡ hearing_after w H
+    → IfSome x.current (λ z. b ≡ over x.current) → result ≡ breaks b x.current
+    → m.missed ≡ (if result then min (x.missed + 1) 18446744073709551615 else x.missed) → m.current ≡ left b x.current → Leaves w H (over (hearing w H)) result m
+leaves_on w H b result over x m h s e1 e2 e3 =
+    let o : x.current ≡ hearing w H = ap (λ (r : HearingRecord). r.current) h in
+    let k = same_over b (over x.current) x.current s in
+    let says : result ≡ breaks (over (hearing w H)) (hearing w H) = e1 ∙ (k.1 ∙ ap (λ (z : Option OpenBroadcast). breaks (over z) z) o) in
+    record {
+      says = says;
+      current = e3 ∙ (k.0 ∙ ap (λ (z : Option OpenBroadcast). left (over z) z) o);
+      missed = e2 ∙ missed_more result _ x.missed (unheard w H) (ap (λ (r : HearingRecord). r.missed) h) says;
+    }
+
+pub always : {T : Type 0} (o : Option OpenBroadcast) → T → IfSome o (λ x. T)
+always None e = tt
+always (Some x) e = e
+
+pub either_over : (a b c d e : Bool) (o : Option OpenBroadcast) → a ≡ (b || d) → IfSome o (λ x. b ≡ c) → d ≡ e → IfSome o (λ x. a ≡ (c || e))
+either_over a b c d e None h k l = tt
+either_over a b c d e (Some x) h k l = h ∙ λ i. k i || l i
+
+-- ---- a frame is taken, or time passes
+
+unclaimed : (w : Who) (H : List Call) (now : ℕ) (f : FrameRecord) → is_claim f ≡ false → changes (holder w H) (holder w (At now (TakeFrame (Some f)) ∷ H)) (hearing w H) ≡ false
+unclaimed w H now f e = unchanged (holder w H) (holder w (At now (TakeFrame (Some f)) ∷ H)) (hearing w H) (λ a. cond (is_claim f) _ (holder w H a) e)
+  where
+    cond : (b : Bool) (x y : Option ℕ) → b ≡ false → (if b then x else y) ≡ y
+    cond true x y e = absurd (cc)
+    cond false x y e = refl
+
+pub hearing_same : (w : Who) (H : List Call) (now : ℕ) (f : FrameRecord) → is_claim f ≡ false → hearing_after w H ≡ hearing_after w (At now (TakeFrame (Some f)) ∷ H)
+hearing_same w H now f e =
+    sym (is_hearing (hearing_after w (At now (TakeFrame (Some f)) ∷ H)) (hearing_after w H)
+    (ap (λ (b : Bool). left b (hearing w H)) (unclaimed w H now f e) ∙ left_none (hearing w H))
+    (ap (λ (b : Bool). min (more (breaks b (hearing w H)) (unheard w H)) 18446744073709551615) (unclaimed w H now f e)
+    ∙ ap (λ (b : Bool). min (more b (unheard w H)) 18446744073709551615) (breaks_none (hearing w H))))
+
+pub news_same : (w : Who) (H : List Call) (now : ℕ) (f : FrameRecord) → is_claim f ≡ false → news_after w H ≡ news_after w (At now (TakeFrame (Some f)) ∷ H)
+news_same w H now f e =
+    ap (λ (b : Bool). (let u : Untold = record (news_after w H) { missed = Rattle.j39_node.specs.History.missed_news w H || ((b || false) || unheard_news w H) } in u))
+    (sym (ap (λ (b : Bool). breaks b (hearing w H)) (unclaimed w H now f e) ∙ breaks_none (hearing w H)))
+
+-- what a tick or its own claim ends is news
+pub broken_news : (b m u : Bool) → (b || (m || u)) ≡ (m || ((b || false) || u))
+broken_news true true u = refl
+broken_news true false u = refl
+broken_news false m u = refl
+
+pub claimed_on : (w : Who) (H : List Call) (now : ℕ) (f : FrameRecord) (old new : Claims) (b result : Bool) (p q : Option ℕ) (x y : HearingRecord) → x ≡ hearing_after w H
     → Knows old (told_claims w H) → Knows new (told_claims w (At now (TakeFrame (Some f)) ∷ H))
     → IfSome x.current (λ z. p ≡ holder_in old z.source) → IfSome x.current (λ z. q ≡ holder_in new z.source) → b ≡ not (is_same p q)
-    → y.current ≡ left b x.current → y.missed ≡ x.missed → y ≡ hearing_after w (At now (TakeFrame (Some f)) ∷ H)
-claimed_on w H now f old new b p q x y h k l e1 e2 e3 e4 e5 =
-    let G = At now (TakeFrame (Some f)) ∷ H in
-    let o : x.current ≡ hearing w H = ap (λ (r : HearingRecord). r.current) h in
-    is_hearing _ _ (e4 ∙ (left_is w H G old new b p q x.current k l e1 e2 e3 ∙ ap (λ (z : Option OpenBroadcast). left (changes (holder w H) (holder w G) z) z) o))
-    (e5 ∙ ap (λ (r : HearingRecord). r.missed) h)
+    → result ≡ breaks b x.current → y.missed ≡ (if result then min (x.missed + 1) 18446744073709551615 else x.missed) → y.current ≡ left b x.current
+    → Leaves w H (changes (holder w H) (holder w (At now (TakeFrame (Some f)) ∷ H)) (hearing w H)) result y
+claimed_on w H now f old new b result p q x y h k l e1 e2 e3 e4 e5 e6 =
+    leaves_on w H b result (changes (holder w H) (holder w (At now (TakeFrame (Some f)) ∷ H))) x y h
+    (changes_is w H (At now (TakeFrame (Some f)) ∷ H) old new b p q x.current k l e1 e2 e3) e4 e5 e6
 
 -- ---- a frame is heard
 
@@ -77,50 +202,37 @@ pub drop_one : (xs : List ℕ) → length xs ≡ 8 → length (drop 1 xs) ≡ 7
 drop_one [] e = absurd (cc)
 drop_one (x ∷ xs) e = omega (arith, e)
 
-pub length_two : (xs ys : List ℕ) → length (xs ++ ys) ≡ length xs + length ys
-length_two [] ys = omega arith
-length_two (x ∷ xs) ys = let e = length_two xs ys in omega (arith, e)
-
 pub packs_eight : (f : FrameRecord) → packs f ≡ true → length f.bytes ≡ 8
 unfolding is_packet goes
 packs_eight f e = eqb-true _ _ (and_parts _ _ (and_parts _ _ e).1).1
 
-fit_packed : (now : ℕ) (f : FrameRecord) (o : Option OpenBroadcast) → length f.bytes ≡ 8 → IsFit o → IsFit (packed now f o)
-fit_packed now f None e h = tt
-fit_packed now f (Some x) e h = go (is_whole x || not (nat_eq (source_of f.id) x.source)) (is_late now x) (nat_eq (Rattle.std.proofs.Common.slice_index f.bytes 0) (suc x.count))
-  where
-    go : (a b c : Bool) → IsFit (if a then Some x else if b then None else Some (if c then grown now f x else touched now f x))
-    go true b c = h
-    go false true c = tt
-    go false false true = ((let l = length_two x.bytes (drop 1 f.bytes) in let k = drop_one f.bytes e in let m = h.0 in omega (arith, l, k, m)), h.1)
-    go false false false = h
-
-pub fit_hears : (w : Who) (now : ℕ) (f : FrameRecord) (o : Option OpenBroadcast) → IsFit o → IsFit (hears w now f o)
-fit_hears w now f o h = go (announces f) (packs f) (has_room now (source_of f.id) o) refl refl
-  where
-    opened : (b : Bool) → announces f ≡ true → IsFit (if b then None else Some (begun now f))
-    opened true e = tt
-    opened false e = (refl, (announcement_facts (by (source_of f.id)) f e).small)
-
-    go : (a b c : Bool) → announces f ≡ a → packs f ≡ b → IsFit (if a then (if c then opens w now f else o) else if b then packed now f o else o)
-    go true b true e g = opened (is_ignored w (pgn_named f)) e
-    go true b false e g = h
-    go false true c e g = fit_packed now f o (packs_eight f g) h
-    go false false c e g = h
+fit_effect : (w : Who) (now : ℕ) (f : FrameRecord) (o y : Option OpenBroadcast) (a b : Bool) → Effect w now f o a b y → IsFit o → IsFit y
+fit_effect w now f o y a b (begins e1 e2 e3 e4 e5 e6 e7) h = subst IsFit (sym e7) (refl, (announcement_facts (by (source_of f.id)) f e1).small)
+fit_effect w now f o y a b (ends e1 e2 e3 e4 e5) h = subst IsFit (sym e5) tt
+fit_effect w now f o y a b (grows x e1 e2 e3 e4 e5 e6 e7 e8 e9) h =
+    let g = subst IsFit e1 h in
+    subst IsFit (sym e9)
+    ((let l = length-append x.bytes (drop 1 f.bytes) in let k = drop_one f.bytes (packs_eight f e2) in let m = g.0 in omega (arith, l, k, m)), g.1)
+fit_effect w now f o y a b (stays x e1 e2 e3 e4) h = subst IsFit (sym e4) (subst IsFit e1 h)
 
 pub fit : (w : Who) (H : List Call) → IsFit (hearing w H)
 fit w [] = tt
-fit w (At when (Hear f) ∷ H) = fit_hears w (time_heard (At when (Hear f) ∷ H)) f (found w H when f) (fit_left (changes (holder w H) (holder w (At when (Hear f) ∷ H)) (hearing w H)) (hearing w H) (fit w H))
+fit w (At when (Hear f) ∷ H) =
+    fit_effect w (time_heard (At when (Hear f) ∷ H)) f _ _ _ _ (effect w (time_heard (At when (Hear f) ∷ H)) f (found w H when f)) (fit_left _ (hearing w H) (fit w H))
+fit w (At now Tick ∷ H) = fit_left (is_out (time_heard (At now Tick ∷ H)) (hearing w H)) (hearing w H) (fit w H)
 fit w (At now (TakeFrame (Some f)) ∷ H) = fit_left (changes (holder w H) (holder w (At now (TakeFrame (Some f)) ∷ H)) (hearing w H)) (hearing w H) (fit w H)
 fit w (ReleaseBroadcast true ∷ H) = tt
 fit w (call ∷ H) = fit w H
 
 -- by what it is
 pub hears_is : (w : Who) (now : ℕ) (f : FrameRecord) (o : Option OpenBroadcast) (a b : Bool) → announces f ≡ a → packs f ≡ b
-    → hears w now f o ≡ (if a then (if has_room now (source_of f.id) o then opens w now f else o) else if b then packed now f o else o)
-hears_is w now f o a b e g =
-    ap (λ (x : Bool). if x then (if has_room now (source_of f.id) o then opens w now f else o) else if packs f then packed now f o else o) e
-    ∙ ap (λ (x : Bool). if a then (if has_room now (source_of f.id) o then opens w now f else o) else if x then packed now f o else o) g
+    → hears w now f o ≡ (if a then (if has_room (source_of f.id) o then opens w now f else o) else if b then packed now f o else o)
+hears_is w now f o a b e g = λ i. if e i then (if has_room (source_of f.id) o then opens w now f else o) else if g i then packed now f o else o
+
+pub unheard_is : (w : Who) (f : FrameRecord) (o : Option OpenBroadcast) (a b : Bool) → announces f ≡ a → packs f ≡ b
+    → is_unheard w f o ≡ (if a then (if has_room (source_of f.id) o then is_partial o else not (is_ignored w (pgn_named f))) else b && Rattle.j39_node.specs.Hearing.is_gap f o)
+unheard_is w f o a b e g =
+    λ i. if e i then (if has_room (source_of f.id) o then is_partial o else not (is_ignored w (pgn_named f))) else g i && Rattle.j39_node.specs.Hearing.is_gap f o
 
 pub no_announcement : (b : Bool) → (b ≡ true → false ≡ true) → b ≡ false
 no_announcement true f = absurd (let z : false ≡ true = f refl in cc)
@@ -130,41 +242,42 @@ pub packs_is : (f : FrameRecord) (b : Bool) → b ≡ (is_key (by (source_of f.i
 unfolding is_packet
 packs_is f b e = sym e
 
-missed_one : (m : ℕ) → min (min m 18446744073709551615 + 1) 18446744073709551615 ≡ min (suc m) 18446744073709551615
-missed_one m = omega arith
-
-missed_more : (b : Bool) (c m : ℕ) → c ≡ min m 18446744073709551615 → (if b then min (c + 1) 18446744073709551615 else c) ≡ min (if b then suc m else m) 18446744073709551615
-missed_more true c m e = ap (λ (k : ℕ). min (k + 1) 18446744073709551615) e ∙ missed_one m
-missed_more false c m e = e
-
 -- what a frame makes of it
-pub record HeardOn (w : Who) (H : List Call) (when : ℕ) (f : FrameRecord) (u : Bool) (y : HearingRecord) : Type 0 where
-  pub unheard : u ≡ is_unheard w (time_heard (At when (Hear f) ∷ H)) f (found w H when f)
+pub record HeardOn (w : Who) (H : List Call) (when : ℕ) (f : FrameRecord) (broken u : Bool) (y : HearingRecord) : Type 0 where
+  pub breaks : broken ≡ ends_by w H (At when (Hear f))
+  pub unheard : u ≡ unheard_by w H (At when (Hear f))
   pub hearing : y ≡ hearing_after w (At when (Hear f) ∷ H)
 
-pub heard_on : (w : Who) (H : List Call) (when : ℕ) (f : FrameRecord) (old new : Claims) (b u : Bool) (now : ℕ) (p q : Option ℕ) (x m y : HearingRecord) → x ≡ hearing_after w H
+pub heard_on : (w : Who) (H : List Call) (when : ℕ) (f : FrameRecord) (old new : Claims) (b over broken u : Bool) (now : ℕ) (p q : Option ℕ) (x m y : HearingRecord) → x ≡ hearing_after w H
     → Knows old (told_claims w H) → Knows new (told_claims w (At when (Hear f) ∷ H)) → now ≡ time_heard (At when (Hear f) ∷ H)
-    → IfSome x.current (λ z. p ≡ holder_in old z.source) → IfSome x.current (λ z. q ≡ holder_in new z.source) → b ≡ not (is_same p q)
-    → m.current ≡ left b x.current → m.missed ≡ x.missed → u ≡ is_unheard w now f m.current
+    → IfSome x.current (λ z. p ≡ holder_in old z.source) → IfSome x.current (λ z. q ≡ holder_in new z.source) → b ≡ not (is_same p q) → over ≡ (b || is_out now x.current)
+    → broken ≡ breaks over x.current → m.missed ≡ (if broken then min (x.missed + 1) 18446744073709551615 else x.missed) → m.current ≡ left over x.current
+    → u ≡ is_unheard w f m.current
     → y.missed ≡ (if u then min (m.missed + 1) 18446744073709551615 else m.missed) → (IsFit m.current → y.current ≡ hears w now f m.current)
-    → HeardOn w H when f u y
-heard_on w H when f old new b u now p q x m y h k l t e1 e2 e3 e4 e5 e6 e7 e8 =
+    → HeardOn w H when f broken u y
+heard_on w H when f old new b over broken u now p q x m y h k l t e1 e2 e3 e4 e5 e6 e7 e8 e9 e10 =
     let G = At when (Hear f) ∷ H in
-    let o : x.current ≡ hearing w H = ap (λ (r : HearingRecord). r.current) h in
-    let mid : m.current ≡ found w H when f =
-    e4 ∙ (left_is w H G old new b p q x.current k l e1 e2 e3 ∙ ap (λ (z : Option OpenBroadcast). left (changes (holder w H) (holder w G) z) z) o) in
-    let says : u ≡ is_unheard w (time_heard G) f (found w H when f) = e6 ∙ (ap (λ (n : ℕ). is_unheard w n f m.current) t ∙ ap (is_unheard w (time_heard G) f) mid) in
-    let fits : IsFit m.current = subst IsFit (sym mid) (fit_left (changes (holder w H) (holder w G) (hearing w H)) (hearing w H) (fit w H)) in
+    let over_by : Option OpenBroadcast → Bool = λ o. is_over (holder w H) (holder w G) (time_heard G) o in
+    let on = leaves_on w H over broken over_by x m h
+    (either_over over b _ _ _ x.current e4 (changes_is w H G old new b p q x.current k l e1 e2 e3) (ap (λ (n : ℕ). is_out n x.current) t)) e5 e6 e7 in
+    let says : u ≡ is_unheard w f (found w H when f) = e8 ∙ ap (is_unheard w f) on.current in
+    let fits : IsFit m.current = subst IsFit (sym on.current) (fit_left (over_by (hearing w H)) (hearing w H) (fit w H)) in
     record {
+      breaks = on.says;
       unheard = says;
-      hearing = is_hearing _ _ (e8 fits ∙ (ap (λ (n : ℕ). hears w n f m.current) t ∙ ap (hears w (time_heard G) f) mid))
-          (e7 ∙ (missed_more u m.missed (unheard w H) (e5 ∙ ap (λ (r : HearingRecord). r.missed) h)
-          ∙ ap (λ (c : Bool). min (if c then suc (unheard w H) else unheard w H) 18446744073709551615) says));
+      hearing = is_hearing _ _ (e10 fits ∙ (ap (λ (n : ℕ). hears w n f m.current) t ∙ ap (hears w (time_heard G) f) on.current))
+          (e9 ∙ missed_more u _ m.missed (more (ends_by w H (At when (Hear f))) (unheard w H)) on.missed says);
     }
 
 -- news that stands, or is new: of messages of one frame, and of broadcasts
-pub either_news : (a b c d : Bool) → ((a || b) || (c || d)) ≡ ((a || c) || (b || d))
-either_news true b c d = refl
-either_news false true true d = refl
-either_news false true false d = refl
-either_news false false c d = refl
+pub either_news : (e a b c d : Bool) → (e || ((a || b) || (c || d))) ≡ ((a || c) || ((e || d) || b))
+either_news true true b c d = refl
+either_news true false b true d = refl
+either_news true false b false d = refl
+either_news false true b c d = refl
+either_news false false true true d = refl
+either_news false false true false true = refl
+either_news false false true false false = refl
+either_news false false false true d = refl
+either_news false false false false true = refl
+either_news false false false false false = refl

@@ -22,7 +22,7 @@ use Rattle.j39_node.proofs.SoundLemmas.FrameCase.{claims, acknowledges, replies,
 use Rattle.j39_node.proofs.LaneLemmas.{BroadcastCase, broadcast_case, LaneEnd, lane_end, Opened, Laned, laned, closed, stands_open, opened_by}
 use Rattle.j39_node.proofs.LaneLemmas.BroadcastCase.{homeless, unfit, busy, opens}
 use Rattle.j39_node.proofs.LaneLemmas.LaneEnd.{complete, broken}
-use Rattle.j39_node.proofs.LawLemmas.{all_acknowledged, not_both, past_end, sent_within}
+use Rattle.j39_node.proofs.LawLemmas.{all_acknowledged, not_both, past_end, sent_within, either, or_false as neither}
 
 -- ---- what broadcast answers
 
@@ -54,14 +54,6 @@ refused_value w H c now group bytes answer is = go (answers w H c now group byte
 -- one is accepted and not told, or there is no token left
 AtLimit : Who → List Call → Type 0
 AtLimit w H = (length (broadcasts w H) ≡ length (told_broadcasts H) + 1) ⊎ (length (broadcasts w H) ≡ 18446744073709551615)
-
-either : (a b : Bool) → (a || b) ≡ true → (a ≡ true) ⊎ (b ≡ true)
-either true b e = inl refl
-either false b e = inr e
-
-neither : (a b : Bool) → (a || b) ≡ false → (a ≡ false) × (b ≡ false)
-neither true b e = absurd (cc)
-neither false b e = (refl, e)
 
 limit : (w : Who) (H : List Call) → AreAnswered w H → is_busy w H ≡ true → AtLimit w H
 unfolding AtLimit

@@ -89,7 +89,7 @@ pub opened_by : (w : Who) (told : ℕ) (all : List MessageRecord) (taken : List 
     → Laned w told all taken o → o ≡ Some x → Opened w told all taken x
 opened_by w told all taken o x h e = subst (Laned w told all taken) e h
 
-get_last : {T : Type 0} (xs : List T) (x : T) → slice_get (xs ++ x ∷ []) (length xs) ≡ Some x
+pub get_last : {T : Type 0} (xs : List T) (x : T) → slice_get (xs ++ x ∷ []) (length xs) ≡ Some x
 get_last [] x = refl
 get_last (y ∷ xs) x = get_last xs x
 

@@ -712,13 +712,9 @@ not_held_yet w H now (Claimed n) l m q e = go (nat_lt (moment H + (250000 - n)) 
         far : (k : ℕ) → nat_lt k 10000000000000000 ≡ false → 10000000000000000 ≤ k
         far k g = grind arith
 
-or_false : (a b : Bool) → (a || b) ≡ false → (a ≡ false) × (b ≡ false)
+pub or_false : (a b : Bool) → (a || b) ≡ false → (a ≡ false) × (b ≡ false)
 or_false true b e = absurd (cc)
 or_false false b e = (refl, e)
-
-and_cases : (a b : Bool) → (a && b) ≡ false → (a ≡ false) ⊎ (b ≡ false)
-and_cases true b e = inr e
-and_cases false b e = inl refl
 
 past : {T : Type 0} (L : List T) (n : ℕ) → nat_lt n (length L) ≡ false → slice_get L n ≡ None
 past L n e = slice_get_past L n (not_lt n (length L) e)
@@ -892,7 +888,7 @@ no_news false false false e = (refl, refl, refl)
 pub none_told : (w : Who) (H : List Call) (c : Controller) → Is w (TakeNews None ∷ H) c → (lost_news w H ≡ false) × (another_news w H ≡ false) × ((missed_news w H || unheard_news w H) ≡ false)
 none_told w H c is = no_news _ _ _ is.answered.1
 
-either : (a b : Bool) → (a || b) ≡ true → (a ≡ true) ⊎ (b ≡ true)
+pub either : (a b : Bool) → (a || b) ≡ true → (a ≡ true) ⊎ (b ≡ true)
 either true b e = inl refl
 either false b e = inr e
 

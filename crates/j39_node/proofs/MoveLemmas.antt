@@ -21,9 +21,8 @@ use Rattle.j39_node.proofs.SoundLemmas.FrameCase.{claims, acknowledges, replies,
 use Rattle.j39_node.proofs.PortLemmas.{TransferCase, transfer_case, hears_same, sends_same}
 use Rattle.j39_node.proofs.PortLemmas.TransferCase.{homeless, unfit, busy, opens}
 use Rattle.j39_node.proofs.MoveSteps.{Moved, moved_given_up, moved_heard, moved_ticked}
-
-not_both : (b : Bool) → b ≡ false → b ≡ true → ⊥
-not_both b e f = let z : false ≡ true = sym e ∙ f in absurd (cc)
+use Rattle.j39_node.proofs.LaneLemmas.{get_last}
+use Rattle.j39_node.proofs.LawLemmas.{not_both}
 
 -- ---- a frame of the open transfer is taken
 
@@ -162,10 +161,6 @@ last_sends : (told : ℕ) (all : List (ℕ × MessageRecord)) (b : Bool) (now : 
 last_sends told all false now o h = h
 last_sends told all true now None h = h
 last_sends told all true now (Some t) h = last_same told all (sends now t) t refl (sends_same now t) h
-
-get_last : {T : Type 0} (xs : List T) (x : T) → slice_get (xs ++ x ∷ []) (length xs) ≡ Some x
-get_last [] x = refl
-get_last (y ∷ xs) x = get_last xs x
 
 not_engaged : (o : Option Running) (n told : ℕ) (all : List (ℕ × MessageRecord)) → LastIf told all o → is_engaged o n ≡ false → told ≡ length all
 not_engaged None n told all h e = h

@@ -1,5 +1,5 @@
 -- A message in packets answers a request by the frame that makes it whole, be it to this address or to all.
-use Rattle.std.proofs.Common.{◌≡◌, ◌⊎◌, ◌↔◌, IsTrue, ℕ, ◌<◌, ◌≤◌, ◌==◌, List, ◌∷◌, length, Option, Some, None, Bool, true, false, ◌&&◌, ◌||◌, if◌then◌else◌, nat_eq, nat_le, refl, sym, ap, ◌∙◌, inl, inr, arith, eq-eqb, eqb-true}
+use Rattle.std.proofs.Common.{◌≡◌, ◌⊎◌, ◌↔◌, IsTrue, ℕ, ◌<◌, ◌==◌, List, ◌∷◌, length, Option, Some, None, Bool, true, false, ◌&&◌, ◌||◌, if◌then◌else◌, nat_eq, refl, sym, ap, ◌∙◌, inl, inr, arith, eq-eqb, eqb-true}
 use Rattle.std.proofs.lemmas.Bool.{and_parts}
 use Rattle.std.specs.Option.{option_map, option_or}
 use Rattle.j39_frame.specs.Frame.{FrameRecord}
@@ -11,15 +11,15 @@ use Rattle.j39_transport.specs.Key.{Broadcast as by, is_key}
 use Rattle.j39_transport.specs.Message.{MessageRecord}
 use Rattle.j39_transport.specs.Reception.{ReceptionRecord}
 use Rattle.j39_transport.specs.Receiving.{RecvResult, said_to}
-use Rattle.j39_transport.proofs.FrameFacts.{announcement_facts}
 use Rattle.j39_node.specs.declared.kinds.AskEnding.TheVariants.{Answered}
 use Rattle.j39_node.specs.History.{Who, Call, holds, is_smaller}
 use Rattle.j39_node.specs.History.Call.{At}
 use Rattle.j39_node.specs.History.Act.{Hear}
 use Rattle.j39_node.specs.Reception.{Reception, has_place, holder, leaves, left, receiver_at, reception, time_heard, whole, whole_by}
-use Rattle.j39_node.specs.Hearing.{OpenBroadcast, announces, begun, changes, has_room, hearing, hears, is_ignored, is_late, is_whole, left as leaves_it, made_whole, newly, packed, packs, waiting, whole_of}
+use Rattle.j39_node.specs.Hearing.{OpenBroadcast, begun, found, grown, hearing, is_late, is_over, is_whole as is_full, made_whole, message_by, newly, packs, waiting, whole_of}
 use Rattle.j39_node.specs.Asking.{Question, comes, in_broadcast, in_session, is_coming, made, made_of, open_ask, says_to, seeks}
-use Rattle.j39_node.proofs.HearingLaws.{whole_of_left}
+use Rattle.j39_node.proofs.HearingLaws.{begun_open, whole_is, whole_of_left, none_is as not_both}
+use Rattle.j39_node.proofs.HearingLemmas.{Effect, begins, ends, grows, stays, effect}
 use Rattle.j39_node.proofs.ReceptionLaws.{goes_there, not_said, quiet_step}
 
 -- ---- a message of the group, from whom was asked, answers
@@ -45,34 +45,30 @@ transfer_answers w H when f m q e g a =
 
 -- ---- a broadcast is made whole by _ a _ packet to all
 
-some_bytes : (n : ℕ) → 9 ≤ n → nat_le n 0 ≡ false
-some_bytes n l = grind arith
+by_packet : (who : Who) (now : ℕ) (f : FrameRecord) (o y : Option OpenBroadcast) (a b : Bool) (p : ℕ × MessageRecord) → Effect who now f o a b y → whole_of o ≡ None
+    → whole_of y ≡ Some p → (packs f ≡ true) × (p.1.source ≡ source_of f.id)
+by_packet who now f o y a b p (begins e1 e2 e3 e4 e5 e6 e7) n e =
+    absurd (not_both _ p (ap whole_of e7 ∙ ap (λ (v : Bool). if v then Some (message_by (begun now f)) else None) (begun_open now f e1)) e)
+by_packet who now f o y a b p (ends e1 e2 e3 e4 e5) n e = absurd (not_both _ p (ap whole_of e5) e)
+by_packet who now f o y a b p (grows x e1 e2 e3 e4 e5 e6 e7 e8 e9) n e =
+    let z = whole_is y p e in
+    let s : z.0 ≡ grown now f x = (let q : Some z.0 ≡ Some (grown now f x) = sym z.1 ∙ e9 in cc) in
+    let k : Some (message_by z.0) ≡ Some p = sym (ap whole_of z.1 ∙ ap (λ (v : Bool). if v then Some (message_by z.0) else None) z.2) ∙ e in
+    let m : message_by z.0 ≡ p = cc in
+    (e2, ap (λ (u : ℕ × MessageRecord). u.1.source) (sym m) ∙ (ap (λ (u : OpenBroadcast). u.source) s ∙ sym e4))
+by_packet who now f o y a b p (stays x e1 e2 e3 e4) n e = absurd (not_both _ p (ap whole_of (e4 ∙ sym e1) ∙ n) e)
 
-pub whole_by_packet : (who : Who) (now : ℕ) (f : FrameRecord) (o : Option OpenBroadcast) (p : ℕ × MessageRecord) → whole_of o ≡ None
-    → whole_of (hears who now f o) ≡ Some p → packs f ≡ true
-whole_by_packet who now f o p none e = go (announces f) (packs f) (has_room now (source_of f.id) o) (is_ignored who (frames.pgn_named f)) refl refl e
-  where
-    go : (a b c d : Bool) → announces f ≡ a → packs f ≡ b
-        → whole_of (if a then (if c then (if d then None else Some (begun now f)) else o) else if b then packed now f o else o) ≡ Some p → packs f ≡ true
-    go true b true true i k z = absurd (cc)
-    go true b true false i k z =
-        let big = (announcement_facts (by (source_of f.id)) f i).large in
-        absurd (let y : None ≡ Some p = sym (ap (λ (v : Bool). whole_if v) (some_bytes _ big)) ∙ z in cc)
-      where
-        whole_if : Bool → Option (ℕ × MessageRecord)
-        whole_if v = if v then Some (Rattle.j39_node.specs.Hearing.message_by (begun now f)) else None
-    go true b false d i k z = absurd (let y : None ≡ Some p = sym none ∙ z in cc)
-    go false true c d i k z = k
-    go false false c d i k z = absurd (let y : None ≡ Some p = sym none ∙ z in cc)
-
-pub made_by_packet : (who : Who) (H : List Call) (when : ℕ) (f : FrameRecord) (p : ℕ × MessageRecord) → made_whole who H when f ≡ Some p → packs f ≡ true
+pub made_by_packet : (who : Who) (H : List Call) (when : ℕ) (f : FrameRecord) (p : ℕ × MessageRecord) → made_whole who H when f ≡ Some p
+    → (packs f ≡ true) × (p.1.source ≡ source_of f.id)
 made_by_packet who H when f p e = go (waiting who H) refl e
   where
-    b : Bool
-    b = changes (holder who H) (holder who (At when (Hear f) ∷ H)) (hearing who H)
+    G : List Call
+    G = At when (Hear f) ∷ H
 
-    go : (o : Option (ℕ × MessageRecord)) → waiting who H ≡ o → newly o (waiting who (At when (Hear f) ∷ H)) ≡ Some p → packs f ≡ true
-    go None i z = whole_by_packet who (time_heard (At when (Hear f) ∷ H)) f (leaves_it b (hearing who H)) p (whole_of_left b (hearing who H) ∙ i) z
+    go : (o : Option (ℕ × MessageRecord)) → waiting who H ≡ o → newly o (waiting who G) ≡ Some p → (packs f ≡ true) × (p.1.source ≡ source_of f.id)
+    go None i z =
+        by_packet who (time_heard G) f (found who H when f) _ _ _ p (effect who (time_heard G) f (found who H when f))
+        (whole_of_left (is_over (holder who H) (holder who G) (time_heard G) (hearing who H)) (hearing who H) ∙ i) z
     go (Some x) i z = absurd (cc)
 
 pub packs_to_all : (f : FrameRecord) → packs f ≡ true → destination_of f.id ≡ Some 255
@@ -96,7 +92,7 @@ to_another own d l e g = absurd (let z : Some 255 ≡ Some own = sym e ∙ g in 
 pub broadcast_answers : (w : Who) (H : List Call) (when : ℕ) (f : FrameRecord) (x : ℕ × MessageRecord) (q : Question) → w.address < 254 → made_whole w H when f ≡ Some x
     → x.1.pgn ≡ q.group → (q.to ≡ 255) ⊎ (x.1.source ≡ q.to) → says_to w q f (made w H when f) ≡ Some Answered
 broadcast_answers w H when f x q l e g a =
-    let to_all = packs_to_all f (made_by_packet w H when f x e) in
+    let to_all = packs_to_all f (made_by_packet w H when f x e).0 in
     let none : whole w H when f ≡ None =
     none_whole w.address (is_smaller w (claim_of f)) (holds w H when) f (time_heard (At when (Hear f) ∷ H))
     (left (leaves (holder w H) (holder w (At when (Hear f) ∷ H)) (reception w H).session) (reception w H))
@@ -121,7 +117,7 @@ InSession w H q =
 
 abbrev InBroadcast : Who → List Call → ℕ → Question → Type 0
 InBroadcast w H time q =
-    (x : OpenBroadcast) × (hearing w H ≡ Some x) × (is_whole x ≡ false) × (is_late time x ≡ false) × (x.group ≡ q.group)
+    (x : OpenBroadcast) × (hearing w H ≡ Some x) × (is_full x ≡ false) × (is_late time x ≡ false) × (x.group ≡ q.group)
     × ((q.to ≡ 255) ⊎ (x.source ≡ q.to))
 
 pub comes_means : (w : Who) (H : List Call) (time : ℕ) (q : Question) → open_ask H ≡ Some q → (IsTrue (comes w H time) ↔ (InSession w H q ⊎ InBroadcast w H time q))
@@ -137,9 +133,9 @@ comes_means w H time q o = (
 
     by_broadcast : (b : Option OpenBroadcast) → hearing w H ≡ b → seeks q (in_broadcast time b) ≡ true → InBroadcast w H time q
     by_broadcast None i e = absurd (cc)
-    by_broadcast (Some x) i e = go (is_whole x) (is_late time x) refl refl e
+    by_broadcast (Some x) i e = go (is_full x) (is_late time x) refl refl e
       where
-        go : (a b : Bool) → is_whole x ≡ a → is_late time x ≡ b → seeks q (if a || b then None else Some (x.source, x.group)) ≡ true → InBroadcast w H time q
+        go : (a b : Bool) → is_full x ≡ a → is_late time x ≡ b → seeks q (if a || b then None else Some (x.source, x.group)) ≡ true → InBroadcast w H time q
         go true b j k e = absurd (cc)
         go false true j k e = absurd (cc)
         go false false j k e = let s = seeks_from q x.source x.group e in (x, i, j, k, s.0, s.1)

@@ -1,5 +1,5 @@
 -- The open transfer of an answered history goes from the address to another's.
-use Rattle.std.proofs.Common.{◌≡◌, ◌⊎◌, ◌<◌, ◌||◌, ℕ, List, [], ◌∷◌, length, Option, Some, None, Result, Ok, Err, Bool, true, false, ◌&&◌, if◌then◌else◌, nat_lt, nat_eq, min, IfSome, subst, ltb-true, refl, sym, ap, ◌∙◌, inl, inr, arith}
+use Rattle.std.proofs.Common.{◌≡◌, ◌⊎◌, ◌<◌, ◌||◌, ℕ, List, [], ◌∷◌, length, Option, Some, None, Result, Ok, Err, Bool, true, false, if◌then◌else◌, nat_lt, nat_eq, min, IfSome, subst, ltb-true, refl, sym, ap, ◌∙◌, inl, inr, arith}
 use Rattle.std.specs.Option.{option_map}
 use Rattle.j39_frame.specs.Frame.{FrameRecord}
 use Rattle.j39_frame.specs.Network.{transport_control_group, transport_data_group}
@@ -19,6 +19,7 @@ use Rattle.j39_node.specs.Transfers.{is_resting, resting, Running, answer_to_tra
 use Rattle.j39_node.specs.History.{Resting}
 use Rattle.j39_address.specs.Claims.{Knows, holder_in}
 use Rattle.j39_address.specs.declared.claims.Claims.{Claims}
+use Rattle.std.proofs.lemmas.Bool.{and_parts as both}
 
 -- ---- a step keeps message and destination
 
@@ -108,10 +109,6 @@ ported_sends : (w : Who) (b : Bool) (now : ℕ) (o : Option Running) → Ported 
 ported_sends w false now o h = h
 ported_sends w true now None h = h
 ported_sends w true now (Some t) h = between_same w _ t (sends_same now t) h
-
-both : (x y : Bool) → (x && y) ≡ true → (x ≡ true) × (y ≡ true)
-both true y e = (refl, e)
-both false y e = absurd (cc)
 
 not_all : (n : ℕ) → n < 254 → nat_eq n 255 ≡ false
 not_all n e = grind arith

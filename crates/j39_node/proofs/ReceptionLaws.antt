@@ -18,17 +18,18 @@ use Rattle.j39_transport.specs.ReceiverStands.{AreReceived, IsReceived, Receiver
 use Rattle.j39_transport.specs.Signals.{Signal, BroadcastAnnounce, RequestToSend, ClearToSend, Acknowledgment, Abort, Packet, bytes_with, said_between, said_by, written}
 use Rattle.j39_transport.proofs.Handed.{has_heard, stands_still, were_handed}
 use Rattle.j39_node.specs.declared.controller.Controller.{Controller}
-use Rattle.j39_node.specs.History.{Who, Message, Call, Address, acknowledged, address_after, due, holds, is_acknowledgment, is_claim, is_held, is_lost, is_packet, is_session, is_smaller, is_some, is_transfer, message_of, moment, older, open_broadcast, packets, pause, step}
+use Rattle.j39_node.specs.History.{Who, Message, Call, Address, acknowledged, address_after, due, holds, is_acknowledgment, is_claim, is_held, is_lost, is_packet, is_session, is_smaller, is_some, is_transfer, message_of, moment, older, open_broadcast, packets, pause, stamp_at, step}
 use Rattle.j39_node.specs.History.Address.{NotClaimed, Claimed, Lost}
 use Rattle.j39_node.specs.History.Call.{At, ReleaseTransfer}
 use Rattle.j39_node.specs.History.Act.{Ask, Hear, Tick, TakeFrame, Send, Acknowledge, Broadcast, Transfer}
 use Rattle.j39_node.specs.Is.{Is, next_acknowledgment}
 use Rattle.j39_node.specs.Asking.{made_of}
 use Rattle.j39_node.specs.Is.{made_by}
-use Rattle.j39_node.specs.Reception.{CameFromOne, IsApart, KeepsHolder, Reception, time_heard, delivered, frames_heard, got_transfers, has_place, heard_at, heard_by, is_move, held_then, holder, is_same, keeps, later, leaves, left, listed, session_tick, receiver_at, reception, released_by, replied, reply_from, says, says_by, step_at, taken_by, takes, tick_at, ticked, whole, whole_by, without}
+use Rattle.j39_node.specs.Reception.{CameFromOne, IsApart, KeepsHolder, Reception, time_heard, delivered, frames_heard, got_transfers, has_place, heard_at, heard_by, is_move, held_then, holder, is_same, keeps, later, leaves, left, listed, receiver_at, reception, released_by, replied, reply_from, says, says_by, session_tick, step_at, taken_by, takes, tick_at, ticked, whole, whole_by, without}
 use Rattle.j39_node.proofs.SoundLemmas.{FrameCase, frame_case, sound, own_get, due_get, due_taken, single_taken, packet_taken, claim_taken, is_moved, none_steers, lost_older, lost_claimed}
 use Rattle.j39_node.proofs.SoundLemmas.FrameCase.{claims, acknowledges, replies, sends, packs, transfers}
-use Rattle.j39_node.proofs.ReceptionLemmas.{Acknowledges, Fits, Gives, Tidy, own_after, refused_step, replied_get, taken_is, tame_signal, tame_tick, tick_quiet, tidy, tidy_left}
+use Rattle.j39_node.proofs.ReceptionLemmas.{Acknowledges, Fits, Gives, Tidy, own_after, refused_step, replied_get, taken_is, tame_signal, tame_tick, tick_quiet, tidy, tidy_left, own_ticked as own_kept}
+use Rattle.j39_node.proofs.HearingLemmas.{same_same as same_self}
 
 -- ---- each once, in order
 
@@ -165,7 +166,7 @@ stays w H call None heard keeps h = tt
 stays w H call (Some r) heard keeps h =
     goes_on w H call r r h refl (keeps r refl) (subst (λ (E : List FrameRecord). IsReceived w.address E r) (sym (heard (h.later ++ At h.at (Hear h.first) ∷ []))) h.stands)
 
-same_is : (o p : Option ℕ) → is_same o p ≡ true → p ≡ o
+pub same_is : (o p : Option ℕ) → is_same o p ≡ true → p ≡ o
 same_is None None e = refl
 same_is None (Some n) e = absurd (cc)
 same_is (Some m) None e = absurd (cc)
@@ -226,10 +227,6 @@ tick_kept own x now = (tame_tick (λ a. a ≡ x.message.source) now (Some x) ref
 tick_rests : (own now : ℕ) → (recv_step (record { own = own; session = None }) Ticks now true).after.session ≡ None
 unfolding recv_step takes_tick
 tick_rests own now = refl
-
-own_kept : (r : ReceiverRecord) (now : ℕ) → (recv_step r Ticks now true).after.own ≡ r.own
-unfolding recv_step
-own_kept r now = refl
 
 -- with no session none is delivered
 pub none_delivered : (r : ReceiverRecord) (f : FrameRecord) (now : ℕ) (found : Bool) → r.session ≡ None → (recv_step r (Heard f) now found).delivers ≡ None
@@ -486,10 +483,6 @@ lost_is_silent w H e = let s = silent w H e in (s.session, s.replies)
 -- ---- frames that are not for a session
 
 -- what no frame changes of who holds an address
-same_self : (o : Option ℕ) → is_same o o ≡ true
-same_self None = refl
-same_self (Some n) = eq-eqb n n refl
-
 never_left : (before after : ℕ → Option ℕ) (o : Option ReceptionRecord) → ((a : ℕ) → after a ≡ before a) → leaves before after o ≡ false
 never_left before after None h = refl
 never_left before after (Some r) h =
@@ -742,23 +735,19 @@ quiet_tick own stamp now r (Some x) e h =
     ∙ (ap (λ (y : Reaction). takes stamp x.message.source (result_of own x.message.source y) r) (in_time x now (h x refl))
     ∙ λ i. record { session = sym e i; waits = r.waits; replies = r.replies })
 
--- a session's limit isn't over before the moment that is told
+-- a limit isn't over before the moment that is told
+pub before_moment : (limit last time now : ℕ) → last ≤ now → now < 10000000000000000 → ((t : ℕ) → stamp_at (last + (suc limit - time)) ≡ Some t → now < t)
+    → later time (now - last) ≤ limit
+before_moment limit last time now l m q = go (nat_lt (last + (suc limit - time)) 10000000000000000) refl
+  where
+    go : (b : Bool) → nat_lt (last + (suc limit - time)) 10000000000000000 ≡ b → later time (now - last) ≤ limit
+    go true g = let h = q _ (ap (λ (b : Bool). if b then Some (last + (suc limit - time)) else None) g) in omega (arith, h, l)
+    go false g = let z = ltb-false _ _ g in omega (arith, z, m, l)
+
 before_limit : (o : Option ReceptionRecord) (last time now : ℕ) → last ≤ now → now < 10000000000000000
     → ((t : ℕ) → tick_at o last time ≡ Some t → now < t) → (x : ReceptionRecord) → o ≡ Some x → later time (now - last) ≤ x.message.last + limit_of x
-before_limit None last time now l m q x e = absurd (cc)
-before_limit (Some y) last time now l m q x e = go (nat_lt (last + (suc (y.message.last + limit_of y) - time)) 10000000000000000) refl
-  where
-    same : y ≡ x
-    same = cc
-
-    within : (k : ℕ) → now < last + (suc k - time) → later time (now - last) ≤ k
-    within k g = omega (arith, g, l)
-
-    go : (b : Bool) → nat_lt (last + (suc (y.message.last + limit_of y) - time)) 10000000000000000 ≡ b → later time (now - last) ≤ x.message.last + limit_of x
-    go true g = subst (λ (z : ReceptionRecord). later time (now - last) ≤ z.message.last + limit_of z) same
-        (within (y.message.last + limit_of y) (q _ (ap (λ (b : Bool). if b then Some (last + (suc (y.message.last + limit_of y) - time)) else None) g)))
-    go false g = subst (λ (z : ReceptionRecord). later time (now - last) ≤ z.message.last + limit_of z) same
-        (within (y.message.last + limit_of y) (let z = ltb-false _ _ g in omega (arith, z, m)))
+before_limit o last time now l m q x e =
+    before_moment (x.message.last + limit_of x) last time now l m (λ t g. q t (ap (λ (p : Option ReceptionRecord). tick_at p last time) e ∙ g))
 
 pub tick_waits : (w : Who) (H : List Call) (now : ℕ) → heard_at H ≤ now → now < 10000000000000000 → ((t : ℕ) → session_tick w H ≡ Some t → now < t)
     → reception w (At now Tick ∷ H) ≡ reception w H
@@ -788,16 +777,13 @@ some_tick own stamp now r x e l =
           ∙ ap (λ (o : Option Signal). replied own x.message.source (option_map (written own x.message.source) o) r.replies) a.1),
     )
 
--- its limit is over from the moment on that is told
-after_limit : (x : ReceptionRecord) (last time t now : ℕ) → tick_at (Some x) last time ≡ Some t → t ≤ now → time + (t - last) < 10000000000000000
-    → x.message.last + limit_of x < later time (now - last)
-after_limit x last time t now e l m = go (nat_lt (last + (suc (x.message.last + limit_of x) - time)) 10000000000000000) e
+-- a limit is over from the moment on that is told
+pub after_moment : (limit last time t now : ℕ) → stamp_at (last + (suc limit - time)) ≡ Some t → t ≤ now → time + (t - last) < 10000000000000000
+    → limit < later time (now - last)
+after_moment limit last time t now e l m = go (nat_lt (last + (suc limit - time)) 10000000000000000) e
   where
-    over : (k : ℕ) → last + (suc k - time) ≡ t → k < later time (now - last)
-    over k g = omega (arith, g, l, m)
-
-    go : (b : Bool) → (if b then Some (last + (suc (x.message.last + limit_of x) - time)) else None) ≡ Some t → x.message.last + limit_of x < later time (now - last)
-    go true g = over (x.message.last + limit_of x) (let z : last + (suc (x.message.last + limit_of x) - time) ≡ t = cc in z)
+    go : (b : Bool) → (if b then Some (last + (suc limit - time)) else None) ≡ Some t → limit < later time (now - last)
+    go true g = let z : last + (suc limit - time) ≡ t = cc in omega (arith, z, l, m)
     go false g = absurd (cc)
 
 pub tick_says : (w : Who) (H : List Call) (now t : ℕ) (r : ReceptionRecord) → session_tick w H ≡ Some t → (reception w H).session ≡ Some r → t ≤ now
@@ -806,7 +792,7 @@ pub tick_says : (w : Who) (H : List Call) (now t : ℕ) (r : ReceptionRecord) �
     × ((reception w (At now Tick ∷ H)).replies ≡ replied w.address r.message.source (Some x) (reception w H).replies)
 tick_says w H now t r e i l m =
     some_tick w.address now (time_heard (At now Tick ∷ H)) (reception w H) r i
-    (after_limit r (heard_at H) (time_heard H) t now (sym (ap (λ (o : Option ReceptionRecord). tick_at o (heard_at H) (time_heard H)) i) ∙ e) l m)
+    (after_moment (r.message.last + limit_of r) (heard_at H) (time_heard H) t now (sym (ap (λ (o : Option ReceptionRecord). tick_at o (heard_at H) (time_heard H)) i) ∙ e) l m)
 
 -- ---- acknowledged on the wire
 

@@ -198,7 +198,7 @@ pub own_after : (r : ReceiverRecord) (f : FrameRecord) (now : ℕ) (found : Bool
 unfolding recv_step
 own_after r f now found = refl
 
-own_ticked : (r : ReceiverRecord) (now : ℕ) → (recv_step r Ticks now true).after.own ≡ r.own
+pub own_ticked : (r : ReceiverRecord) (now : ℕ) → (recv_step r Ticks now true).after.own ≡ r.own
 unfolding recv_step
 own_ticked r now = refl
 
@@ -209,10 +209,6 @@ tidy_left own true r h = record { fits = tt; apart = inr refl; replies = all_wit
 keeps_none : (stamp : ℕ) (o : Option MessageRecord) (x : Option (ℕ × MessageRecord)) → o ≡ None → x ≡ None → keeps stamp o x ≡ None
 keeps_none stamp None x e f = f
 keeps_none stamp (Some m) x e f = absurd (cc)
-
-keeps_waits : (stamp : ℕ) (o : Option MessageRecord) (x : Option (ℕ × MessageRecord)) → o ≡ None → keeps stamp o x ≡ x
-keeps_waits stamp None x e = refl
-keeps_waits stamp (Some m) x e = absurd (cc)
 
 apart_taken : (own : ℕ) (f : FrameRecord) (now : ℕ) (r : Reception) → Tidy own r → IsApart (takes f.stamp (source_of f.id) (step_at own f now r) r)
 apart_taken own f now r h = go r.waits refl h.apart

@@ -1,11 +1,10 @@
 -- A frame of who wasn't asked, or to another address, says nothing to a request, and ends none.
-use Rattle.std.proofs.Common.{◌≡◌, ◌≢◌, ℕ, suc, ◌-◌, List, ◌∷◌, length, Option, Some, None, Bool, true, false, not, ◌&&◌, ◌||◌, if◌then◌else◌, nat_eq, nat_lt, slice_index, refl, sym, ap, ◌∙◌, eqb-true}
+use Rattle.std.proofs.Common.{◌≡◌, ◌≢◌, ℕ, ◌-◌, List, ◌∷◌, length, Option, Some, None, Bool, true, false, ◌&&◌, ◌||◌, if◌then◌else◌, nat_eq, nat_lt, refl, sym, ap, ◌∙◌, eqb-true}
 use Rattle.std.specs.List.{slice_get}
 use Rattle.std.specs.Option.{option_map, option_or}
 use Rattle.j39_frame.specs.Frame.{FrameRecord}
 use Rattle.j39_frame.specs.Identifier.{destination_of, pgn_of, source_of}
 use Rattle.j39_address.specs.Claim.{claim_of}
-use Rattle.j39_transport.specs.Frames.{pgn_named}
 use Rattle.j39_transport.specs.Message.{MessageRecord}
 use Rattle.j39_transport.specs.Reception.{ReceptionRecord}
 use Rattle.j39_transport.specs.Receiving.{Heard, recv_step}
@@ -16,10 +15,10 @@ use Rattle.j39_node.specs.History.Address.{Lost}
 use Rattle.j39_node.specs.History.Call.{At}
 use Rattle.j39_node.specs.History.Act.{Hear, Tick}
 use Rattle.j39_node.specs.Reception.{Reception, has_place, holder, leaves, left, reception, time_heard, whole, whole_by}
-use Rattle.j39_node.specs.Hearing.{OpenBroadcast, announces, begun, changes, grown, has_room, hearing, hears, is_ignored, is_late, is_whole as is_full, left as leaves_it, made_whole, message_by, newly, packed, packs, touched, waiting, whole_of}
+use Rattle.j39_node.specs.Hearing.{made_whole}
 use Rattle.j39_node.specs.Asking.{Question, ask_end, end_at, ended, first, comes, is_answer, is_of, is_reply, made, made_of, next_ask_ended, open_ask, reaches, said_by, says_to, seeks, silent_end, wait}
-use Rattle.j39_node.proofs.HearingLaws.{whole_of_left}
-use Rattle.j39_node.proofs.PacketsAnswer.{made_by_packet, none_whole, packs_to_all, whole_by_packet}
+use Rattle.j39_node.proofs.HearingLaws.{unequal}
+use Rattle.j39_node.proofs.PacketsAnswer.{made_by_packet, none_whole, packs_to_all}
 use Rattle.j39_node.proofs.ReceptionLaws.{heard_kept, none_delivered, not_said}
 use Rattle.j39_node.proofs.ReceptionLemmas.{Gives}
 use Rattle.j39_node.proofs.StrangerLaws.{other_whole}
@@ -47,53 +46,6 @@ whole_source own true held f now r m e = absurd (cc)
 whole_source own false false f now r m e = absurd (cc)
 whole_source own false true f now r m e = delivered_source own f now (has_place r.waits) r.session m e
 
-packed_source : (now : ℕ) (f : FrameRecord) (o : Option OpenBroadcast) (p : ℕ × MessageRecord) → whole_of o ≡ None → whole_of (packed now f o) ≡ Some p
-    → p.1.source ≡ source_of f.id
-packed_source now f None p none e = absurd (cc)
-packed_source now f (Some x) p none e =
-    go (is_full x) (nat_eq (source_of f.id) x.source) (is_late now x) (nat_eq (slice_index f.bytes 0) (suc x.count)) refl refl e
-  where
-    one : (y : OpenBroadcast) → y.source ≡ x.source → nat_eq (source_of f.id) x.source ≡ true → whole_of (Some y) ≡ Some p → p.1.source ≡ source_of f.id
-    one y s i z = by (is_full y) z
-      where
-        by : (v : Bool) → (if v then Some (message_by y) else None) ≡ Some p → p.1.source ≡ source_of f.id
-        by true k = let q : message_by y ≡ p = cc in ap (λ (u : ℕ × MessageRecord). u.1.source) (sym q) ∙ (s ∙ sym (eqb-true _ _ i))
-        by false k = absurd (cc)
-
-    go : (a b c d : Bool) → is_full x ≡ a → nat_eq (source_of f.id) x.source ≡ b
-        → whole_of (if a || not b then Some x else if c then None else Some (if d then grown now f x else touched now f x)) ≡ Some p → p.1.source ≡ source_of f.id
-    go true b c d i k z = absurd (let y : None ≡ Some p = sym none ∙ z in cc)
-    go false false c d i k z = absurd (let y : None ≡ Some p = sym none ∙ z in cc)
-    go false true true d i k z = absurd (cc)
-    go false true false true i k z = one (grown now f x) refl k z
-    go false true false false i k z = one (touched now f x) refl k z
-
-cast_source : (who : Who) (now : ℕ) (f : FrameRecord) (o : Option OpenBroadcast) (p : ℕ × MessageRecord) → whole_of o ≡ None
-    → whole_of (hears who now f o) ≡ Some p → p.1.source ≡ source_of f.id
-cast_source who now f o p none e = go (announces f) (has_room now (source_of f.id) o) (is_ignored who (pgn_named f)) (packs f) (whole_by_packet who now f o p none e) e
-  where
-    go : (a c d b : Bool) → b ≡ true
-        → whole_of (if a then (if c then (if d then None else Some (begun now f)) else o) else if b then packed now f o else o) ≡ Some p → p.1.source ≡ source_of f.id
-    go true true true b i z = absurd (cc)
-    go true true false b i z = by (is_full (begun now f)) z
-      where
-        by : (v : Bool) → (if v then Some (message_by (begun now f)) else None) ≡ Some p → p.1.source ≡ source_of f.id
-        by true k = let q : message_by (begun now f) ≡ p = cc in ap (λ (u : ℕ × MessageRecord). u.1.source) (sym q)
-        by false k = absurd (cc)
-    go true false d b i z = absurd (let y : None ≡ Some p = sym none ∙ z in cc)
-    go false c d true i z = packed_source now f o p none z
-    go false c d false i z = absurd (cc)
-
-broadcast_source : (who : Who) (H : List Call) (when : ℕ) (f : FrameRecord) (p : ℕ × MessageRecord) → made_whole who H when f ≡ Some p → p.1.source ≡ source_of f.id
-broadcast_source who H when f p e = go (waiting who H) refl e
-  where
-    b : Bool
-    b = changes (holder who H) (holder who (At when (Hear f) ∷ H)) (hearing who H)
-
-    go : (o : Option (ℕ × MessageRecord)) → waiting who H ≡ o → newly o (waiting who (At when (Hear f) ∷ H)) ≡ Some p → p.1.source ≡ source_of f.id
-    go None i z = cast_source who (time_heard (At when (Hear f) ∷ H)) f (leaves_it b (hearing who H)) p (whole_of_left b (hearing who H) ∙ i) z
-    go (Some x) i z = absurd (cc)
-
 made_source : (w : Who) (H : List Call) (when : ℕ) (f : FrameRecord) (x : ℕ × ℕ) → made w H when f ≡ Some x → x.0 ≡ source_of f.id
 made_source w H when f x e = go (whole w H when f) (made_whole w H when f) refl refl e
   where
@@ -102,19 +54,12 @@ made_source w H when f x e = go (whole w H when f) (made_whole w H when f) refl 
     go (Some m) b i k z =
         let y : (m.source, m.pgn) ≡ x = cc in
         ap (λ (u : ℕ × ℕ). u.0) (sym y) ∙ whole_source w.address (is_smaller w (claim_of f)) (holds w H when) f (time_heard (At when (Hear f) ∷ H)) (left (leaves (holder w H) (holder w (At when (Hear f) ∷ H)) (reception w H).session) (reception w H)) m i
-    go None (Some p) i k z = let y : (p.1.source, p.1.pgn) ≡ x = cc in ap (λ (u : ℕ × ℕ). u.0) (sym y) ∙ broadcast_source w H when f p k
+    go None (Some p) i k z = let y : (p.1.source, p.1.pgn) ≡ x = cc in ap (λ (u : ℕ × ℕ). u.0) (sym y) ∙ (made_by_packet w H when f p k).1
     go None None i k z = absurd (cc)
 
 -- ---- another says nothing
 
-unequal : (m n : ℕ) → m ≢ n → nat_eq m n ≡ false
-unequal m n h = go (nat_eq m n) refl
-  where
-    go : (b : Bool) → nat_eq m n ≡ b → b ≡ false
-    go true e = absurd (h (eqb-true m n e))
-    go false e = refl
-
-and_false : (b : Bool) → (b && false) ≡ false
+pub and_false : (b : Bool) → (b && false) ≡ false
 and_false true = refl
 and_false false = refl
 
@@ -165,7 +110,7 @@ to_another w H when f q a d n m =
       where
         go : (o : Option (ℕ × MessageRecord)) → made_whole w H when f ≡ o → o ≡ None
         go None e = refl
-        go (Some p) e = absurd (elsewhere 255 n (packs_to_all f (made_by_packet w H when f p e)))
+        go (Some p) e = absurd (elsewhere 255 n (packs_to_all f (made_by_packet w H when f p e).0))
 
     none_made : made w H when f ≡ None
     none_made = λ i. option_or (made_of (none_to i)) (made_of (option_map (λ (y : ℕ × MessageRecord). y.1) (none_cast i)))

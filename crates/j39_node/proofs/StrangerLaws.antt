@@ -70,7 +70,7 @@ open_same w lost replaced f now t own other kept = ap Some (go lost (replaced t.
     go false false e true = refl
     go false false e false = still
 
-own_source : (w : Who) (H : List Call) (t : Running) → AreAnswered w H → open_transfer w H ≡ Some t → t.sender.message.source ≡ w.address
+pub own_source : (w : Who) (H : List Call) (t : Running) → AreAnswered w H → open_transfer w H ≡ Some t → t.sender.message.source ≡ w.address
 own_source w H t right e = (subst (Ported w) e (ported w H right)).source
 
 transfer_left : (w : Who) (H : List Call) (when : ℕ) (f : FrameRecord) (t : Running) → AreAnswered w H → open_transfer w H ≡ Some t
@@ -123,7 +123,7 @@ open_stays w H when f right e n = go (open_transfer w H) refl
         transfer_left w H when f t right i (inr n)
         (ap (is_replaced (holder w H t.sender.destination)) (unclaimed w H when f t.sender.destination e) ∙ same_held (holder w H t.sender.destination))
 
-no_more : (b : Bool) → (b || false) ≡ b
+pub no_more : (b : Bool) → (b || false) ≡ b
 no_more true = refl
 no_more false = refl
 

@@ -12,12 +12,13 @@ use Rattle.j39_node.specs.History.{Who, Call, address_after, is_lost, moment, se
 use Rattle.j39_node.specs.History.Call.{At, TakeAskEnded}
 use Rattle.j39_node.specs.History.Act.{Hear, Tick}
 use Rattle.j39_node.specs.Reception.{heard_at, reception, receiver_at, session_tick, time_heard}
-use Rattle.j39_node.specs.Hearing.{OpenBroadcast, hearing, is_late, is_whole}
+use Rattle.j39_node.specs.Hearing.{OpenBroadcast, hearing, hearing_tick, is_late, is_out, is_whole, left}
 use Rattle.j39_node.specs.Asking.{Question, ask_end, comes, ended, in_broadcast, in_session, is_coming, is_taken, is_waiting, next_ask_ended, open_ask, out_at, request_tick, seeks, wait}
 use Rattle.j39_node.specs.Is.{Is}
 use Rattle.j39_node.specs.Ticks.{next_tick}
 use Rattle.j39_node.specs.Transfers.{sooner}
 use Rattle.j39_node.proofs.AskLaws.{over_told}
+use Rattle.j39_node.proofs.HearingLaws.{tick_keeps}
 use Rattle.j39_node.proofs.ReceptionLaws.{tick_waits}
 use Rattle.j39_node.proofs.SoundLemmas.{lost_older}
 
@@ -31,10 +32,6 @@ before_each now (Some m) (Some n) q =
       λ t e. let z : m ≡ t = cc in omega (arith, l, z),
       λ t e. let z : n ≡ t = cc in omega (arith, l, z),
     )
-
-pub before_both : (w : Who) (H : List Call) (now : ℕ) → ((t : ℕ) → next_tick w H ≡ Some t → now < t)
-    → ((t : ℕ) → session_tick w H ≡ Some t → now < t) × ((t : ℕ) → request_tick w H ≡ Some t → now < t)
-before_both w H now q = before_each now (session_tick w H) (request_tick w H) q
 
 -- ---- by a tick no answer begins
 
@@ -77,6 +74,17 @@ broadcast_left t s (Some x) l = go (is_whole x) (is_late t x) (is_late s x) refl
     go false true false i j k = absurd (let z : true ≡ false = sym (after (x.time + broadcast_limit) j) ∙ k in cc)
     go false false false i j k = inl ((λ z. by (is_whole x) (k z)) ∙ λ z. by (is_whole x) (sym j z))
 
+ticked_left : (t s : ℕ) (o : Option OpenBroadcast) → t ≤ s → (in_broadcast s (left (is_out s o) o) ≡ in_broadcast t o) ⊎ (in_broadcast s (left (is_out s o) o) ≡ None)
+ticked_left t s None l = inl refl
+ticked_left t s (Some x) l = go (is_late s x && not (is_whole x)) (broadcast_left t s (Some x) l)
+  where
+    Left : Option OpenBroadcast → Type 0
+    Left o = (in_broadcast s o ≡ in_broadcast t (Some x)) ⊎ (in_broadcast s o ≡ None)
+
+    go : (b : Bool) → Left (Some x) → Left (if b then None else Some x)
+    go true h = inr refl
+    go false h = h
+
 none_begins : (o : Option Question) (a b c d : Option (ℕ × ℕ)) → (b ≡ a) ⊎ (b ≡ None) → (d ≡ c) ⊎ (d ≡ None) → is_coming o a c ≡ false → is_coming o b d ≡ false
 none_begins None a b c d i j e = refl
 none_begins (Some q) a b c d i j e = (λ z. one a b i (split (seeks q a) (seeks q c) e).0 z || one c d j (split (seeks q a) (seeks q c) e).1 z)
@@ -94,7 +102,7 @@ none_comes : (w : Who) (H : List Call) (now : ℕ) → comes w H (time_heard H) 
 none_comes w H now e =
     let l = time_fits H in
     none_begins (open_ask H) _ _ _ _ (session_left (receiver_at w.address (reception w H)) (time_heard (At now Tick ∷ H)))
-    (broadcast_left (time_heard H) (time_heard (At now Tick ∷ H)) (hearing w H) (omega (arith, l))) e
+    (ticked_left (time_heard H) (time_heard (At now Tick ∷ H)) (hearing w H) (omega (arith, l))) e
 
 -- ---- at a tick from its moment on a request is told as timed out
 
@@ -126,13 +134,31 @@ request_ends w H c now t answer e l is = go (open_ask H) (ended w H) (comes w H 
 not_yet : (last left now : ℕ) → now < last + left → nat_eq (left - (now - last)) 0 ≡ nat_eq left 0
 not_yet last left now l = grind arith
 
+-- what is left of it comes on
+stays_heard : (t s : ℕ) (o : Option OpenBroadcast) → t ≤ s → left (is_out s o) o ≡ o → in_broadcast s (left (is_out s o) o) ≡ in_broadcast t o
+stays_heard t s None l e = refl
+stays_heard t s (Some x) l e = ap (in_broadcast s) e ∙ go (is_whole x) (is_late s x) refl refl (broadcast_left t s (Some x) l)
+  where
+    by : Bool → Bool → Option (ℕ × ℕ)
+    by a b = if a || b then None else Some (x.source, x.group)
+
+    go : (a c : Bool) → is_whole x ≡ a → is_late s x ≡ c → (in_broadcast s (Some x) ≡ in_broadcast t (Some x)) ⊎ (in_broadcast s (Some x) ≡ None)
+        → in_broadcast s (Some x) ≡ in_broadcast t (Some x)
+    go a c i k (inl h) = h
+    go true c i k (inr h) = (λ z. by (i z) (is_late s x)) ∙ λ z. by (sym i z) (is_late t x)
+    go false true i k (inr h) = absurd (let z : None ≡ Some x = (λ z. (let o : Option OpenBroadcast = if sym k z && not (sym i z) then None else Some x in o)) ∙ e in cc)
+    go false false i k (inr h) = absurd (let z : Some (x.source, x.group) ≡ None = (λ z. by (sym i z) (sym k z)) ∙ h in cc)
+
 pub none_ends : (w : Who) (H : List Call) (now : ℕ) → heard_at H ≤ now → now < 10000000000000000 → ((t : ℕ) → next_tick w H ≡ Some t → now < t)
-    → in_broadcast (time_heard (At now Tick ∷ H)) (hearing w H) ≡ in_broadcast (time_heard H) (hearing w H) → next_ask_ended w (At now Tick ∷ H) ≡ next_ask_ended w H
-none_ends w H now l m q e =
-    let b = before_both w H now q in
+    → next_ask_ended w (At now Tick ∷ H) ≡ next_ask_ended w H
+none_ends w H now l m q =
+    let b = before_each now (session_tick w H) (sooner (hearing_tick w H) (request_tick w H)) q in
+    let d = before_each now (hearing_tick w H) (request_tick w H) b.1 in
+    let f = time_fits H in
+    let e = stays_heard (time_heard H) (time_heard (At now Tick ∷ H)) (hearing w H) (omega (arith, f)) (tick_keeps w H now l m d.0) in
     (λ i. ask_end (open_ask H) (length (sent H)) (ended w H) (wait H - (now - moment H))
     (is_coming (open_ask H) (in_session (tick_waits w H now l m b.0 i).session) (e i)) (lost_older (now - moment H) (address_after w H) i))
-    ∙ go (open_ask H) (ended w H) (comes w H (time_heard H)) b.1
+    ∙ go (open_ask H) (ended w H) (comes w H (time_heard H)) d.1
   where
     lost : Bool
     lost = is_lost (address_after w H)

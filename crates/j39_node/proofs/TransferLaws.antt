@@ -2,7 +2,7 @@
 use Rattle.std.proofs.Common.{◌≡◌, ◌⊎◌, ◌↔◌, ℕ, ◌+◌, ◌-◌, ◌<◌, ◌≤◌, List, [], ◌∷◌, ◌++◌, length, Option, Some, None, Result, Ok, Err, Bool, true, false, not, ◌&&◌, ◌||◌, ◌==◌, if◌then◌else◌, nat_eq, nat_lt, max, min, refl, sym, ap, ◌∙◌, arith, inl, inr, eq-eqb, eqb-true, subst, IsTrue}
 use Rattle.std.specs.List.{slice_get}
 use Rattle.std.specs.Option.{option_map}
-use Rattle.std.proofs.lemmas.Bool.{cond_both, or_parts}
+use Rattle.std.proofs.lemmas.Bool.{cond_both, or_parts, and_parts as both}
 use Rattle.j39_frame.specs.Frame.{FrameRecord}
 use Rattle.j39_frame.specs.Network.{transport_control_group, transport_data_group}
 use Rattle.j39_transport.specs.Cutting.{packet_data}
@@ -27,11 +27,12 @@ use Rattle.j39_node.specs.Moves.{Aborts, Acknowledges, Happened, IsMove, NoneEnd
 use Rattle.j39_node.proofs.SoundLemmas.{frame_case, sound}
 use Rattle.j39_node.proofs.LawLemmas.{not_both, past_end, sent_within, all_acknowledged}
 use Rattle.j39_node.proofs.LaneLaws.{none_long, packet_waits}
-use Rattle.j39_node.proofs.PortLemmas.{TransferCase, transfer_case, Ported, ported, hears_same, sends_same}
+use Rattle.j39_node.proofs.PortLemmas.{TransferCase, transfer_case, hears_same, sends_same}
 use Rattle.j39_node.proofs.PortLemmas.TransferCase.{homeless, unfit, busy, opens}
 use Rattle.j39_node.proofs.MoveSteps.{Moved, SignalCase, signal_case, running_some, done_heard, done_ticked, done_given_up, failed_heard, failed_ticked, failed_given_up}
 use Rattle.j39_node.proofs.MoveSteps.SignalCase.{requests, packs, times_out}
 use Rattle.j39_node.proofs.MoveLemmas.{Arises, LastIf, Sent, last_one, last_open, moved_open, sent_case, traced}
+use Rattle.j39_node.proofs.StrangerLaws.{own_source as from_own}
 
 -- ---- what transfer answers
 
@@ -130,10 +131,6 @@ token_is w H c now group to k bytes is = go (answers w H c now group to bytes (O
 
 sent_one : (w : Who) (H : List Call) (c : Controller) (now : ℕ) (f : FrameRecord) → Is w (At now (TakeFrame (Some f)) ∷ H) c → is_move w H f ≡ true → Sent w H now f
 sent_one w H c now f is p = sent_case w H now f is.answered.0 (frame_case w H now f is.answered.1) p
-
-both : (x y : Bool) → (x && y) ≡ true → (x ≡ true) × (y ≡ true)
-both true y e = (refl, e)
-both false y e = absurd (cc)
 
 given_up : (t : Running) (now : ℕ) (a : Signal) → gives_up t ≡ true → signal_by t now ≡ Some a → a ≡ Abort 5 t.sender.message.pgn
 given_up t now a g = cond_both t.gone None _ (λ (o : Option Signal). o ≡ Some a → a ≡ Abort 5 t.sender.message.pgn) (λ z e. absurd (cc))
@@ -449,9 +446,6 @@ pub withdrawn_means : (w : Who) (H : List Call) (c : Controller) (k : ℕ) → I
 withdrawn_means w H c k is = let x = ended w H c k Withdrawn is in state_lost x.running.sender.state x.running.gone _ x.ending
 
 -- ---- since when
-
-from_own : (w : Who) (H : List Call) (t : Running) → AreAnswered w H → open_transfer w H ≡ Some t → t.sender.message.source ≡ w.address
-from_own w H t right e = let p : Ported w (Some t) = subst (Ported w) e (ported w H right) in p.source
 
 said_own : (w : Who) (H : List Call) (t : Running) (f : FrameRecord) (a : Option Signal) → AreAnswered w H → open_transfer w H ≡ Some t → said_to t.sender f ≡ a
     → said_between t.sender.destination w.address f ≡ a

@@ -1,5 +1,5 @@
 -- Broadcasts in packets that are heard (J1939-21, 5.10.3.5 and 5.13.3), one at a time: what a history says of them.
-use Rattle.std.specs.Prelude.{◌≡◌, ◌≤◌, ℕ, suc, ◌+◌, ◌*◌, ◌++◌, ◌&&◌, ◌||◌, nat_lt, nat_le, nat_eq, not, Bool, true, false, List, [], ◌∷◌, length, take, drop, slice_index, Option, Some, None, if◌then◌else◌}
+use Rattle.std.specs.Prelude.{◌≡◌, ◌≤◌, ℕ, suc, ◌+◌, ◌*◌, ◌++◌, ◌-◌, ◌&&◌, ◌||◌, nat_lt, nat_le, nat_eq, not, Bool, true, false, List, [], ◌∷◌, length, take, drop, slice_index, Option, Some, None, if◌then◌else◌, IsTrue}
 use Rattle.j39_frame.specs.Frame.{FrameRecord}
 use Rattle.j39_frame.specs.Identifier.{source_of}
 use Rattle.j39_transport.specs.Carries.{CarriesCut}
@@ -8,12 +8,13 @@ use Rattle.j39_transport.specs.Key.{Broadcast as by}
 use Rattle.j39_transport.specs.Message.{MessageRecord}
 use Rattle.j39_transport.specs.Protocol.{broadcast_limit}
 use Rattle.j39_node.specs.declared.kinds.News.TheVariants.{MessagesMissed}
-use Rattle.j39_node.specs.History.{Who, Call, is_own_group, is_subscribed}
+use Rattle.j39_node.specs.History.{Who, Call, is_own_group, is_subscribed, stamp_at}
 use Rattle.j39_node.specs.History.Call.{At, TakeNews, ReleaseBroadcast}
-use Rattle.j39_node.specs.History.Act.{Hear, TakeFrame}
-use Rattle.j39_node.specs.Reception.{KeepsHolder, frames_heard, holder, is_same, listed, time_heard}
+use Rattle.j39_node.specs.History.Act.{Hear, Tick, TakeFrame}
+use Rattle.j39_node.specs.Reception.{KeepsHolder, frames_heard, heard_at, holder, is_same, listed, time_heard}
 
--- what was announced and by whom, how many packets came and their data, and the moment and the time of its last frame
+-- what was announced and by whom, how many packets were appended and their data, and the moment and the time of the last, or of the
+-- announcement before the first
 pub record OpenBroadcast : Type 0 where
   pub source : ℕ
   pub group : ℕ
@@ -27,9 +28,18 @@ pub record OpenBroadcast : Type 0 where
 abbrev pub is_whole : OpenBroadcast → Bool
 is_whole x = nat_le x.size (length x.bytes)
 
--- more than 750 ms passed since its last frame
+-- it is announced, and not whole
+abbrev pub is_partial : Option OpenBroadcast → Bool
+is_partial None = false
+is_partial (Some x) = not (is_whole x)
+
+-- more than 750 ms passed since
 abbrev pub is_late : ℕ → OpenBroadcast → Bool
 is_late now x = nat_lt (x.time + broadcast_limit) now
+
+abbrev pub is_out : ℕ → Option OpenBroadcast → Bool
+is_out now None = false
+is_out now (Some x) = is_late now x
 
 -- ---- a frame at a time
 
@@ -51,77 +61,121 @@ begun now f = record {
   time = now;
 }
 
--- an announcement is heard where none waits, nor one of another source is open and in time
-abbrev pub has_room : ℕ → ℕ → Option OpenBroadcast → Bool
-has_room now source None = true
-has_room now source (Some x) = not (is_whole x) && (nat_eq source x.source || is_late now x)
+-- an announcement is heard where none waits, nor one of another source is open
+abbrev pub has_room : ℕ → Option OpenBroadcast → Bool
+has_room source None = true
+has_room source (Some x) = not (is_whole x) && nat_eq source x.source
 
 -- a message of this group isn't for the program: the group is the stack's own, or isn't subscribed
 abbrev pub is_ignored : Who → ℕ → Bool
 is_ignored w group = is_own_group group || not (is_subscribed w group)
 
+-- an announcement of a message for the program
+abbrev pub is_wanted : Who → FrameRecord → Bool
+is_wanted w f = announces f && not (is_ignored w (pgn_named f))
+
 -- one that isn't for the program opens nothing
 abbrev pub opens : Who → ℕ → FrameRecord → Option OpenBroadcast
 opens w now f = if is_ignored w (pgn_named f) then None else Some (begun now f)
 
--- the packet of the next number is appended, any other is ignored
+-- the packet of the next number is appended
 abbrev pub grown : ℕ → FrameRecord → OpenBroadcast → OpenBroadcast
 grown now f x = record x { count = suc x.count; bytes = x.bytes ++ drop 1 f.bytes; stamp = f.stamp; time = now }
 
-abbrev pub touched : ℕ → FrameRecord → OpenBroadcast → OpenBroadcast
-touched now f x = record x { stamp = f.stamp; time = now }
+-- a higher number ends it: a packet was lost. A lower one is a repeat, and ignored
+abbrev pub skips : FrameRecord → OpenBroadcast → Bool
+skips f x = nat_lt (suc x.count) (slice_index f.bytes 0)
 
-abbrev pub goes_on : ℕ → FrameRecord → OpenBroadcast → OpenBroadcast
-goes_on now f x = if nat_eq (slice_index f.bytes 0) (suc x.count) then grown now f x else touched now f x
+abbrev pub goes_on : ℕ → FrameRecord → OpenBroadcast → Option OpenBroadcast
+goes_on now f x = if skips f x then None else if nat_eq (slice_index f.bytes 0) (suc x.count) then Some (grown now f x) else Some x
 
--- a late one ends it
+-- a packet of this source isn't one of it
+abbrev pub passes_by : ℕ → OpenBroadcast → Bool
+passes_by source x = is_whole x || not (nat_eq source x.source)
+
 abbrev pub packed : ℕ → FrameRecord → Option OpenBroadcast → Option OpenBroadcast
 packed now f None = None
-packed now f (Some x) =
-    if is_whole x || not (nat_eq (source_of f.id) x.source) then Some x else if is_late now x then None else Some (goes_on now f x)
+packed now f (Some x) = if passes_by (source_of f.id) x then Some x else goes_on now f x
 
 abbrev pub hears : Who → ℕ → FrameRecord → Option OpenBroadcast → Option OpenBroadcast
 hears w now f o =
-    if announces f then (if has_room now (source_of f.id) o then opens w now f else o) else if packs f then packed now f o else o
+    if announces f then (if has_room (source_of f.id) o then opens w now f else o) else if packs f then packed now f o else o
 
--- a message for the program is announced, and isn't heard
-abbrev pub is_unheard : Who → ℕ → FrameRecord → Option OpenBroadcast → Bool
-is_unheard w now f o = announces f && (not (is_ignored w (pgn_named f)) && not (has_room now (source_of f.id) o))
+-- the packet leaves a gap
+abbrev pub is_gap : FrameRecord → Option OpenBroadcast → Bool
+is_gap f None = false
+is_gap f (Some x) = not (passes_by (source_of f.id) x) && skips f x
 
--- another NAME holds its source, or none does: it ends, unless it is whole
+-- the frame ends the one that is open, or announces a message for the program that isn't heard
+abbrev pub is_unheard : Who → FrameRecord → Option OpenBroadcast → Bool
+is_unheard w f o =
+    if announces f then (if has_room (source_of f.id) o then is_partial o else not (is_ignored w (pgn_named f))) else packs f && is_gap f o
+
+-- another NAME holds its source, or none does
 abbrev pub changes : (ℕ → Option ℕ) → (ℕ → Option ℕ) → Option OpenBroadcast → Bool
 changes before after None = false
 changes before after (Some x) = not (is_same (before x.source) (after x.source))
 
+-- it is over, unless it is whole
 abbrev pub left : Bool → Option OpenBroadcast → Option OpenBroadcast
-left b None = None
-left b (Some x) = if b && not (is_whole x) then None else Some x
+left over None = None
+left over (Some x) = if over && not (is_whole x) then None else Some x
+
+abbrev pub breaks : Bool → Option OpenBroadcast → Bool
+breaks over None = false
+breaks over (Some x) = over && not (is_whole x)
+
+abbrev pub in_time : ℕ → Option OpenBroadcast → Option OpenBroadcast
+in_time now o = left (is_out now o) o
+
+abbrev pub is_over : (ℕ → Option ℕ) → (ℕ → Option ℕ) → ℕ → Option OpenBroadcast → Bool
+is_over before after now o = changes before after o || is_out now o
 
 -- ---- the history
 
 abbrev pub hearing : Who → List Call → Option OpenBroadcast
 hearing w [] = None
 hearing w (At now (Hear f) ∷ H) =
-    hears w (time_heard (At now (Hear f) ∷ H)) f (left (changes (holder w H) (holder w (At now (Hear f) ∷ H)) (hearing w H)) (hearing w H))
+    hears w (time_heard (At now (Hear f) ∷ H)) f
+    (left (is_over (holder w H) (holder w (At now (Hear f) ∷ H)) (time_heard (At now (Hear f) ∷ H)) (hearing w H)) (hearing w H))
+hearing w (At now Tick ∷ H) = in_time (time_heard (At now Tick ∷ H)) (hearing w H)
 hearing w (At now (TakeFrame (Some f)) ∷ H) = left (changes (holder w H) (holder w (At now (TakeFrame (Some f)) ∷ H)) (hearing w H)) (hearing w H)
 hearing w (ReleaseBroadcast true ∷ H) = None
 hearing w (call ∷ H) = hearing w H
 
 -- the broadcast that f finds
 abbrev pub found : Who → List Call → ℕ → FrameRecord → Option OpenBroadcast
-found w H now f = left (changes (holder w H) (holder w (At now (Hear f) ∷ H)) (hearing w H)) (hearing w H)
+found w H now f = left (is_over (holder w H) (holder w (At now (Hear f) ∷ H)) (time_heard (At now (Hear f) ∷ H)) (hearing w H)) (hearing w H)
 
--- how many announcements weren't heard, and whether that is news
+-- the open one is over by the call: its source has another holder, or it is late
+abbrev pub ends_by : Who → List Call → Call → Bool
+ends_by w H (At now (Hear f)) =
+    breaks (is_over (holder w H) (holder w (At now (Hear f) ∷ H)) (time_heard (At now (Hear f) ∷ H)) (hearing w H)) (hearing w H)
+ends_by w H (At now Tick) = breaks (is_out (time_heard (At now Tick ∷ H)) (hearing w H)) (hearing w H)
+ends_by w H (At now (TakeFrame (Some f))) = breaks (changes (holder w H) (holder w (At now (TakeFrame (Some f)) ∷ H)) (hearing w H)) (hearing w H)
+ends_by w H call = false
+
+abbrev pub unheard_by : Who → List Call → Call → Bool
+unheard_by w H (At now (Hear f)) = is_unheard w f (found w H now f)
+unheard_by w H call = false
+
+-- how many announcements for the program were heard, how many of their messages broke off or weren't heard, and whether that is news
+abbrev pub more : Bool → ℕ → ℕ
+more b n = if b then suc n else n
+
+abbrev pub announced : Who → List Call → ℕ
+announced w [] = 0
+announced w (At now (Hear f) ∷ H) = more (is_wanted w f) (announced w H)
+announced w (call ∷ H) = announced w H
+
 abbrev pub unheard : Who → List Call → ℕ
 unheard w [] = 0
-unheard w (At now (Hear f) ∷ H) = if is_unheard w (time_heard (At now (Hear f) ∷ H)) f (found w H now f) then suc (unheard w H) else unheard w H
-unheard w (call ∷ H) = unheard w H
+unheard w (call ∷ H) = more (unheard_by w H call) (more (ends_by w H call) (unheard w H))
 
 abbrev pub unheard_news : Who → List Call → Bool
 unheard_news w [] = false
-unheard_news w (At now (Hear f) ∷ H) = unheard_news w H || is_unheard w (time_heard (At now (Hear f) ∷ H)) f (found w H now f)
 unheard_news w (TakeNews (Some MessagesMissed) ∷ H) = false
-unheard_news w (call ∷ H) = unheard_news w H
+unheard_news w (call ∷ H) = (ends_by w H call || unheard_by w H call) || unheard_news w H
 
 -- ---- which messages
 
@@ -158,13 +212,18 @@ got_broadcasts w (call ∷ H) = got_broadcasts w H
 
 -- ---- of one sender
 
--- some of these, in order
-pub data IsPartOf : List FrameRecord → List FrameRecord → Type 0 where
-  ended : IsPartOf [] []
-  passed : (f : FrameRecord) (part all : List FrameRecord) → IsPartOf part all → IsPartOf part (all ++ f ∷ [])
-  chosen : (f : FrameRecord) (part all : List FrameRecord) → IsPartOf part all → IsPartOf (part ++ f ∷ []) (all ++ f ∷ [])
+-- no announcement of a, and of its packets a repeat at most, where n came
+abbrev pub is_beside : ℕ → ℕ → FrameRecord → Bool
+is_beside a n f = not (nat_eq (source_of f.id) a) || (not (announces f) && (not (packs f) || nat_le (slice_index f.bytes 0) n))
 
--- an announcement of the message was heard and its packets after it, in order; and since, one NAME held its source, or none did
+-- some of these, in order, and between them nothing else of a
+pub data IsPartOf (a : ℕ) : List FrameRecord → List FrameRecord → Type 0 where
+  ended : IsPartOf a [] []
+  passed : (f : FrameRecord) (part all : List FrameRecord) → IsTrue (is_beside a (length part) f) → IsPartOf a part all → IsPartOf a part (all ++ f ∷ [])
+  chosen : (f : FrameRecord) (part all : List FrameRecord) → IsPartOf a part all → IsPartOf a (part ++ f ∷ []) (all ++ f ∷ [])
+
+-- an announcement of the message was heard and its packets after it, in order, with nothing else of its source between them but
+-- repeats; and since, one NAME held its source, or none did
 pub record WasBroadcast (w : Who) (H : List Call) (m : MessageRecord) : Type 0 where
   pub later : List Call
   pub at : ℕ
@@ -172,9 +231,19 @@ pub record WasBroadcast (w : Who) (H : List Call) (m : MessageRecord) : Type 0 w
   pub earlier : List Call
   pub is : H ≡ later ++ At at (Hear first) ∷ earlier
   pub packets : List FrameRecord
-  pub part : IsPartOf packets (frames_heard later)
+  pub part : IsPartOf m.source packets (frames_heard later)
   pub carries : CarriesCut (by m.source) m first packets
   pub one : KeepsHolder w m.source later (At at (Hear first) ∷ earlier)
+
+-- ---- when it is over by itself
+
+abbrev pub late_at : Option OpenBroadcast → ℕ → ℕ → Option ℕ
+late_at None last clock = None
+late_at (Some x) last clock = if is_whole x then None else stamp_at (last + (suc (x.time + broadcast_limit) - clock))
+
+-- the first moment at which a tick ends it, by when the last one was
+abbrev pub hearing_tick : Who → List Call → Option ℕ
+hearing_tick w H = late_at (hearing w H) (heard_at H) (time_heard H)
 
 -- ---- what every history says of it
 

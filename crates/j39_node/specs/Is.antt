@@ -46,7 +46,7 @@ use Rattle.j39_node.specs.declared.asking.Open as asking
 use Rattle.j39_node.specs.declared.incoming.Incoming.{Incoming}
 use Rattle.j39_node.specs.declared.incoming.Kept.{Kept}
 use Rattle.j39_node.specs.declared.incoming.Said.{Said}
-use Rattle.j39_node.specs.Hearing.{OpenBroadcast, hearing, is_late, is_whole, unheard, unheard_news, waiting}
+use Rattle.j39_node.specs.Hearing.{OpenBroadcast, hearing, unheard, unheard_news, waiting}
 use Rattle.j39_node.specs.declared.hearing.Heard.{Heard as Bytes}
 use Rattle.j39_node.specs.declared.hearing.Hearing.{Hearing}
 use Rattle.j39_transport.specs.Cutting.{ToSend}
@@ -453,11 +453,6 @@ hearing_of x = record { current = option_map broadcast_by x.current; missed = x.
 
 abbrev pub hearing_after : Who → List Call → HearingRecord
 hearing_after w H = record { current = hearing w H; missed = min (unheard w H) 18446744073709551615 }
-
--- a packet of this source is one of it, and comes too late
-abbrev pub is_out : ℕ → ℕ → Option OpenBroadcast → Bool
-is_out now source None = false
-is_out now source (Some x) = not (is_whole x || not (nat_eq source x.source)) && is_late now x
 
 -- c was made for w and called as H says
 pub record Is (w : Who) (H : List Call) (c : Controller) : Type 0 where

@@ -12,7 +12,7 @@ ghost use Rattle.j39_address.specs.Holder.{IsHolderAfter};
 ghost use Rattle.j39_address.specs.Node.{IsLeastFree, NoneFree};
 ghost use Rattle.j39_transport.specs.ReceiverModel.{message_shown};
 ghost use Rattle.j39_node.specs.History.{Who, Call, is_left, missed, told_claims, nothing};
-ghost use Rattle.j39_node.specs.Reception.{later, reception};
+ghost use Rattle.j39_node.specs.Reception.{reception};
 ghost use Rattle.j39_node.specs.Ticks.{next_tick};
 ghost use Rattle.j39_node.specs.Hearing.{unheard, waiting};
 ghost use Rattle.j39_node.specs.Transfers.{clock, is_replaced, next_due, packet_in, packets_in, sooner, transfer_by, transfer_in};
@@ -214,8 +214,8 @@ impl Controller {
         true
     }
 
-    /// How many messages for the program were missed, since sixteen lay unread, or another broadcast in packets lay there or was
-    /// being heard.
+    /// How many messages for the program were missed, since sixteen lay unread, or of broadcasts in packets, since another lay there or
+    /// was being heard, or they broke off.
     pub fn missed(&self) -> u64
         ensures { (w : Who) (H : List Call) → Is w H self.now
             → result ≡ min (missed w H + unheard w H) 18446744073709551615 }
@@ -238,11 +238,15 @@ impl Controller {
     }
 
     /// The moment before which `tick` does nothing but let time pass, if no frame is heard till then: at it a session that waits asks
-    /// again or is aborted, or a request is out of time. `None` where neither waits.
+    /// again or is aborted, a broadcast in packets is over, or a request times out. `None` where none of these is open.
     pub fn next_tick(&self) -> Option<Stamp>
         ensures { (w : Who) (H : List Call) → Is w H self.now → option_map stamp_micros result ≡ next_tick w H }
     {
-        sooner_stamp(self.incoming.next_tick(), self.request_tick())
+        let broadcast = self
+            .hearing
+            .next_tick(self.incoming.moment, self.incoming.clock);
+        let heard = sooner_stamp(broadcast, self.request_tick());
+        sooner_stamp(self.incoming.next_tick(), heard)
     }
 
     /// Hears a frame of another controller, at the moment of this call. The frame's own stamp goes into what is received, and is
@@ -268,8 +272,10 @@ impl Controller {
         let transferred = self.incoming.made(has_place);
         let is_replaced = is_replaced(before, self.peer());
         let is_left = !is_same(speaker, self.speaker());
-        self.hearing.leave(is_left);
-        let unheard = self.hearing.hear(&self.own, frame, self.incoming.clock);
+        let time = self.incoming.clock;
+        let is_over = self.hearing.is_over(is_left, time);
+        let breaks = self.hearing.leave(is_over);
+        let unheard = self.hearing.hear(&self.own, frame, time);
         let broadcast = self.hearing.made(waited);
         let made = transferred.or(broadcast);
         let is_lost = self.hold.is_lost();
@@ -278,6 +284,7 @@ impl Controller {
         self.news = self
             .news
             .heard(drives_away, is_lost, another, misses, unheard);
+        self.news = self.news.with_missed(breaks);
         self.hold = self.hold.heard(drives_away, calls, another);
         self.transfers
             .hear(self.hold.is_lost(), is_replaced, frame, self.hold.clock());
@@ -291,6 +298,9 @@ impl Controller {
     {
         self.hold = self.hold.passed(now);
         self.incoming.tick(now);
+        let is_out = self.hearing.is_out(self.incoming.clock);
+        let breaks = self.hearing.leave(is_out);
+        self.news = self.news.with_missed(breaks);
     }
 
     /// The frame that `take_frame` would give now: for a driver whose queue may be full, which takes it once it lies there.
@@ -329,7 +339,8 @@ impl Controller {
             let speaker = self.speaker();
             self.incoming.note(&mut self.holders, &claim);
             let is_left = !is_same(speaker, self.speaker());
-            self.hearing.leave(is_left);
+            let breaks = self.hearing.leave(is_left);
+            self.news = self.news.with_missed(breaks);
             return Some(claim);
         }
         if !self.hold.is_held() {

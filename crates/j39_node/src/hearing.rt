@@ -8,10 +8,10 @@ ghost use Rattle.j39_transport.specs.Frames.{agree, goes, pgn_named, size_named}
 ghost use Rattle.j39_transport.specs.Key.{Broadcast, is_key};
 ghost use Rattle.j39_transport.specs.ReceiverModel.{message_shown};
 ghost use Rattle.j39_node.specs.Reception.{has_place};
-ghost use Rattle.j39_node.specs.Hearing.{IsFit, announces, goes_on, has_room, begun, hears, is_late, is_ignored, is_unheard, is_whole, left, opens, packed, packs, whole_of};
+ghost use Rattle.j39_node.specs.Hearing.{IsFit, announces, begun, breaks, goes_on, grown, has_room, hears, is_gap, is_ignored, is_late, is_out, is_partial, is_unheard, is_whole, late_at, left, opens, packed, packs, passes_by, skips, whole_of};
 ghost use Rattle.j39_node.specs.Asking.{in_broadcast};
 ghost use Rattle.j39_node.specs.History.{nothing};
-ghost use Rattle.j39_node.specs.Is.{broadcast_by, hearing_of, is_out, made_by, who_of};
+ghost use Rattle.j39_node.specs.Is.{broadcast_by, hearing_of, made_by, who_of};
 
 use crate::own::{Own, TRANSPORT_CONTROL, TRANSPORT_DATA, is_own_group};
 use arrayvec::ArrayVec;
@@ -21,7 +21,7 @@ use j39_transport::{LONGEST, Message, SHORTEST};
 /// The first byte of an announcement to all (BAM).
 const ANNOUNCEMENT: u8 = 32;
 
-/// The longest time between two frames of a broadcast, in microseconds (J1939-21, 5.13.3).
+/// The longest time from one packet of a broadcast to the next, in microseconds (J1939-21, 5.13.3).
 const LIMIT: u64 = 750_000;
 
 /// What an announcement to all names.
@@ -56,7 +56,7 @@ pub(crate) struct Heard {
     /// The number of its last packet.
     pub(crate) count: u8,
     pub(crate) bytes: ArrayVec<u8, LONGEST>,
-    /// The moment of its last frame.
+    /// The moment of its last packet, or of its announcement.
     pub(crate) stamp: Stamp,
     /// The same, by the sum of the forward steps.
     pub(crate) time: Stamp,
@@ -93,25 +93,35 @@ impl Heard {
 
     /// Whether packets of this source are its own, and it isn't whole.
     fn goes_on_by(&self, source: u8) -> bool
-        ensures { result ≡ not (is_whole (broadcast_by self.now) || not (nat_eq source self.now.source)) }
+        ensures { result ≡ not (passes_by source (broadcast_by self.now)) }
     {
         !self.is_whole() && source == self.source
     }
 
-    /// A packet of its own, in time.
+    /// Whether a packet is one of its own, and one before it was lost.
+    fn is_gap(&self, frame: &Frame) -> bool
+        requires { length frame.now.bytes ≡ 8 }
+        ensures value { result ≡ is_gap frame.now (Some (broadcast_by self.now)) }
+    {
+        let number = frame.bytes.as_slice()[0];
+        self.goes_on_by(frame.id.source()) && u16::from(self.count) + 1 < u16::from(number)
+    }
+
+    /// A packet of its own, with no gap: the next, or a repeat.
     fn goes_on(&mut self, frame: &Frame, time: Stamp)
         requires { length frame.now.bytes ≡ 8 }
-        ensures { length self.old.bytes.items ≡ 7 * self.old.count → self.old.size ≤ 1785 → is_whole (broadcast_by self.old) ≡ false
-            → broadcast_by self.new ≡ goes_on (stamp_micros time) frame.now (broadcast_by self.old) }
+        ensures current { length self.old.bytes.items ≡ 7 * self.old.count → self.old.size ≤ 1785 → is_whole (broadcast_by self.old) ≡ false
+            → skips frame.now (broadcast_by self.old) ≡ false
+            → Some (broadcast_by self.new) ≡ goes_on (stamp_micros time) frame.now (broadcast_by self.old) }
     {
         let bytes = frame.bytes.as_slice();
         let number = bytes[0];
         if u16::from(number) == u16::from(self.count) + 1 {
             let _fits = self.bytes.try_extend_from_slice(&bytes[1..]);
             self.count = number;
+            self.stamp = frame.stamp;
+            self.time = time;
         }
-        self.stamp = frame.stamp;
-        self.time = time;
     }
 }
 
@@ -119,7 +129,7 @@ impl Heard {
 #[derive(Drop)]
 pub(crate) struct Hearing {
     pub(crate) current: Option<Heard>,
-    /// How many announcements weren't heard.
+    /// How many that were announced weren't received.
     pub(crate) missed: u64,
 }
 
@@ -160,19 +170,57 @@ impl Hearing {
         }
     }
 
-    /// Where its source has another holder, it ends, unless it is whole.
-    pub(crate) fn leave(&mut self, changes: bool)
-        ensures missed { self.new.missed ≡ self.old.missed }
-        ensures current { (hearing_of self.new).current ≡ left changes (hearing_of self.old).current }
+    /// Where it is over, it ends, unless it is whole; whether it did.
+    pub(crate) fn leave(&mut self, is_over: bool) -> bool
+        ensures breaks { result ≡ breaks is_over (hearing_of self.old).current }
+        ensures missed { self.new.missed
+            ≡ (if result then min (self.old.missed + 1) 18446744073709551615 else self.old.missed) }
+        ensures current { (hearing_of self.new).current ≡ left is_over (hearing_of self.old).current }
     {
-        if changes && !self.is_waiting() {
+        let breaks = is_over && self.is_partial();
+        if breaks {
             self.current = None;
+            self.miss();
+        }
+        breaks
+    }
+
+    /// Its source has another holder, or it is out of time.
+    pub(crate) fn is_over(&self, is_left: bool, time: Stamp) -> bool
+        ensures { result ≡ (is_left || is_out (stamp_micros time) (hearing_of self.now).current) }
+    {
+        is_left || self.is_out(time)
+    }
+
+    /// More than 750 ms passed since its last packet, or its announcement.
+    pub(crate) fn is_out(&self, time: Stamp) -> bool
+        ensures { result ≡ is_out (stamp_micros time) (hearing_of self.now).current }
+    {
+        match &self.current {
+            Some(heard) => heard.is_late(time),
+            None => false,
         }
     }
 
-    /// A frame was heard at this time; whether it announces a message for the program that isn't heard.
+    /// The first moment at which a tick ends it.
+    pub(crate) fn next_tick(&self, moment: u64, clock: Stamp) -> Option<Stamp>
+        ensures { option_map stamp_micros result ≡ late_at (hearing_of self.now).current moment (stamp_micros clock) }
+    {
+        match &self.current {
+            Some(heard) => {
+                if heard.is_whole() {
+                    return None;
+                }
+                let left = (heard.time.micros() + LIMIT + 1).saturating_sub(clock.micros());
+                Stamp::new(moment.saturating_add(left))
+            }
+            None => None,
+        }
+    }
+
+    /// A frame was heard at this time; whether by it a message for the program breaks off, or isn't heard.
     pub(crate) fn hear(&mut self, own: &Own, frame: &Frame, time: Stamp) -> bool
-        ensures unheard { result ≡ is_unheard (who_of nothing own.now) (stamp_micros time) frame.now (hearing_of self.old).current }
+        ensures unheard { result ≡ is_unheard (who_of nothing own.now) frame.now (hearing_of self.old).current }
         ensures missed { self.new.missed
             ≡ (if result then min (self.old.missed + 1) 18446744073709551615 else self.old.missed) }
         ensures current { IsFit (hearing_of self.old).current → (hearing_of self.new).current
@@ -182,7 +230,7 @@ impl Hearing {
             Some(announcement) => self.announce(own, announcement, frame, time),
             None => {
                 if is_to_all(frame, TRANSPORT_DATA) {
-                    self.pack(frame, time);
+                    return self.pack(frame, time);
                 }
                 false
             }
@@ -250,11 +298,21 @@ impl Hearing {
         }
     }
 
-    fn has_room(&self, source: u8, time: Stamp) -> bool
-        ensures { result ≡ has_room (stamp_micros time) source (hearing_of self.now).current }
+    /// Whether one is announced that isn't whole.
+    fn is_partial(&self) -> bool
+        ensures { result ≡ is_partial (hearing_of self.now).current }
     {
         match &self.current {
-            Some(heard) => !heard.is_whole() && (source == heard.source || heard.is_late(time)),
+            Some(heard) => !heard.is_whole(),
+            None => false,
+        }
+    }
+
+    fn has_room(&self, source: u8) -> bool
+        ensures { result ≡ has_room source (hearing_of self.now).current }
+    {
+        match &self.current {
+            Some(heard) => !heard.is_whole() && source == heard.source,
             None => true,
         }
     }
@@ -269,55 +327,60 @@ impl Hearing {
     ) -> bool
         requires group { pgn_raw announcement.group ≡ pgn_named frame.now }
         requires size { announcement.size ≡ size_named frame.now }
-        ensures unheard { result ≡ (not (is_ignored (who_of nothing own.now) (pgn_named frame.now))
-            && not (has_room (stamp_micros time) (source_of frame.now.id) (hearing_of self.old).current)) }
+        ensures unheard { result ≡ (if has_room (source_of frame.now.id) (hearing_of self.old).current
+            then is_partial (hearing_of self.old).current else not (is_ignored (who_of nothing own.now) (pgn_named frame.now))) }
         ensures missed { self.new.missed
             ≡ (if result then min (self.old.missed + 1) 18446744073709551615 else self.old.missed) }
         ensures current { (hearing_of self.new).current
-            ≡ (if has_room (stamp_micros time) (source_of frame.now.id) (hearing_of self.old).current
+            ≡ (if has_room (source_of frame.now.id) (hearing_of self.old).current
             then opens (who_of nothing own.now) (stamp_micros time) frame.now else (hearing_of self.old).current) }
     {
         let is_ignored = is_own_group(announcement.group) || !own.is_subscribed(announcement.group);
-        if self.has_room(frame.id.source(), time) {
-            self.current = if is_ignored {
-                None
-            } else {
-                Some(Heard::new(announcement, frame, time))
-            };
-            return false;
+        if self.has_room(frame.id.source()) {
+            let breaks = self.leave(true);
+            if !is_ignored {
+                self.current = Some(Heard::new(announcement, frame, time));
+            }
+            return breaks;
         }
-        if is_ignored {
-            return false;
+        if !is_ignored {
+            self.miss();
         }
-        self.missed = self.missed.saturating_add(1);
-        true
+        !is_ignored
     }
 
-    /// A packet to all.
-    fn pack(&mut self, frame: &Frame, time: Stamp)
+    fn miss(&mut self)
+        ensures { self.new ≡ record self.old { missed = min (self.old.missed + 1) 18446744073709551615 } }
+    {
+        self.missed = self.missed.saturating_add(1);
+    }
+
+    /// A packet to all; whether it leaves a gap.
+    fn pack(&mut self, frame: &Frame, time: Stamp) -> bool
         requires { length frame.now.bytes ≡ 8 }
-        ensures missed { self.new.missed ≡ self.old.missed }
+        ensures gap { result ≡ is_gap frame.now (hearing_of self.old).current }
+        ensures missed { self.new.missed
+            ≡ (if result then min (self.old.missed + 1) 18446744073709551615 else self.old.missed) }
         ensures current { IsFit (hearing_of self.old).current → (hearing_of self.new).current
             ≡ packed (stamp_micros time) frame.now (hearing_of self.old).current }
     {
-        let source = frame.id.source();
-        if self.is_late(source, time) {
-            self.current = None;
-            return;
+        if self.is_gap(frame) {
+            return self.leave(true);
         }
         if let Some(heard) = &mut self.current {
-            if heard.goes_on_by(source) {
+            if heard.goes_on_by(frame.id.source()) {
                 heard.goes_on(frame, time);
             }
         }
+        false
     }
 
-    /// A packet of this source comes too late for the broadcast that is open.
-    fn is_late(&self, source: u8, time: Stamp) -> bool
-        ensures { result ≡ is_out (stamp_micros time) source (hearing_of self.now).current }
+    fn is_gap(&self, frame: &Frame) -> bool
+        requires { length frame.now.bytes ≡ 8 }
+        ensures { result ≡ is_gap frame.now (hearing_of self.now).current }
     {
         match &self.current {
-            Some(heard) => heard.goes_on_by(source) && heard.is_late(time),
+            Some(heard) => heard.is_gap(frame),
             None => false,
         }
     }

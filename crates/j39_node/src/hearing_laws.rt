@@ -9,12 +9,13 @@ ghost use Rattle.j39_node.specs.declared.controller.Controller.{Controller};
 ghost use Rattle.j39_node.specs.History.{Who, Call, is_claim, is_own_group, is_subscribed};
 ghost use Rattle.j39_node.specs.History.Call.{At, ReleaseBroadcast};
 ghost use Rattle.j39_node.specs.History.Act.{Hear, TakeFrame};
-ghost use Rattle.j39_node.specs.Hearing.{OpenBroadcast, WasBroadcast, announces, begun, found, got_broadcasts, grown, hearing, is_late, is_whole, made_whole, packs, touched, unheard, unheard_news, waiting, whole_broadcasts};
+ghost use Rattle.j39_node.specs.Hearing.{OpenBroadcast, WasBroadcast, announced, announces, begun, found, got_broadcasts, grown, hearing, in_time, is_late, is_partial, is_whole, made_whole, more, packs, unheard, unheard_news, waiting, whole_broadcasts};
 ghost use Rattle.j39_node.specs.Is.{Is};
 ghost use Rattle.j39_node.specs.Reception.{holder, listed, time_heard};
 
-/// What packets to all make whole is got by the program, each once, in order, or waits. It was sent by one: its announcement was heard,
-/// then its packets in order, and since the announcement one NAME held its source, or none.
+/// What packets to all make whole is got by the program, each once, in order, or waits. It was sent by one, and is one message: its
+/// announcement was heard, then its packets in order, with nothing else of its source between them but repeats, and since the
+/// announcement one NAME held its source, or none.
 pub fn broadcasts_received()
     ensures in_order { (w : Who) (H : List Call) → whole_broadcasts w H ≡ got_broadcasts w H ++ listed (waiting w H) }
     ensures got { (w : Who) (H : List Call) (c : Controller) (answer : Bool) → Is w (ReleaseBroadcast answer ∷ H) c
@@ -23,25 +24,29 @@ pub fn broadcasts_received()
         → WasBroadcast w (At now (Hear f) ∷ H) x.1 }
 {}
 
-/// An announcement of a message for the program, of a group that is subscribed, is heard or counted. It is counted only where one waits, or
-/// one of another source is open and in time. What isn't for the program is never counted, nor whole.
+/// A broadcast that is announced for the program, of a group that is subscribed, is received or counted: it is whole, open, or counted
+/// as unheard. It begins, unless one waits, or one of another source is open and in time. What isn't for the program is never
+/// whole. What is counted is news.
 pub fn announcements_heard()
     ensures heard { (w : Who) (H : List Call) (now : ℕ) (f : FrameRecord) → announces f ≡ true → is_own_group (pgn_named f) ≡ false
         → IsTrue (is_subscribed w (pgn_named f))
         → (hearing w (At now (Hear f) ∷ H) ≡ Some (begun (time_heard (At now (Hear f) ∷ H)) f)) ⊎ (unheard w (At now (Hear f) ∷ H) ≡ suc (unheard w H)) }
-    ensures counted { (w : Who) (H : List Call) (now : ℕ) (f : FrameRecord) → unheard w (At now (Hear f) ∷ H) ≢ unheard w H
-        → IsTrue (announces f) × IsTrue (is_subscribed w (pgn_named f)) × (is_own_group (pgn_named f) ≡ false)
-        × ((x : OpenBroadcast) × (found w H now f ≡ Some x)
-        × (IsTrue (is_whole x) ⊎ ((source_of f.id ≢ x.source) × (is_late (time_heard (At now (Hear f) ∷ H)) x ≡ false)))) }
+    ensures full { (w : Who) (H : List Call) (now : ℕ) (f : FrameRecord) → announces f ≡ true → is_own_group (pgn_named f) ≡ false
+        → IsTrue (is_subscribed w (pgn_named f)) → hearing w (At now (Hear f) ∷ H) ≢ Some (begun (time_heard (At now (Hear f) ∷ H)) f)
+        → (x : OpenBroadcast) × (found w H now f ≡ Some x)
+        × (IsTrue (is_whole x) ⊎ ((source_of f.id ≢ x.source) × (is_late (time_heard (At now (Hear f) ∷ H)) x ≡ false))) }
+    ensures exact { (w : Who) (H : List Call) (c : Controller) → Is w H c
+        → announced w H ≡ length (whole_broadcasts w H) + unheard w H + more (is_partial (hearing w H)) 0 }
     ensures subscribed { (w : Who) (H : List Call) (now : ℕ) (f : FrameRecord) (x : ℕ × MessageRecord) → made_whole w H now f ≡ Some x
         → IsTrue (is_subscribed w x.1.pgn) × (is_own_group x.1.pgn ≡ false) }
     ensures news { (w : Who) (H : List Call) → IsTrue (unheard_news w H) → 0 < unheard w H }
+    ensures told { (w : Who) (H : List Call) (call : Call) → unheard w (call ∷ H) ≢ unheard w H → IsTrue (unheard_news w (call ∷ H)) }
 {}
 
-/// The next packet of the broadcast that is open is appended, in time, and the last makes it whole; another of its source adds no byte, a
-/// late one ends it, and so does a claim by which its source has another holder, or none. What is no claim, no announcement and no packet
-/// of its source changes nothing; neither does, in time, any frame of another source, unless by it the source has another holder; nor a
-/// frame taken that is no claim.
+/// The next packet of the broadcast that is open is appended, in time, and the last makes it whole; a repeat changes nothing, one that
+/// leaves a gap ends it, and so does any frame that is late, and a claim by which its source has another holder, or none. What is no
+/// claim, no announcement and no packet of its source does what a tick does; in time, no frame of another source changes anything, unless
+/// by it the source has another holder; nor does a frame taken that is no claim.
 pub fn packets_heard()
     ensures next { (w : Who) (H : List Call) (now : ℕ) (f : FrameRecord) (x : OpenBroadcast) → claim_of f ≡ None → announces f ≡ false → IsTrue (packs f)
         → hearing w H ≡ Some x → is_whole x ≡ false → source_of f.id ≡ x.source → is_late (time_heard (At now (Hear f) ∷ H)) x ≡ false
@@ -54,17 +59,19 @@ pub fn packets_heard()
           record
               { source = x.source; pgn = x.group; bytes = take x.size (x.bytes ++ drop 1 f.bytes) },
         ) }
-    ensures other { (w : Who) (H : List Call) (now : ℕ) (f : FrameRecord) (x : OpenBroadcast) → claim_of f ≡ None → announces f ≡ false → IsTrue (packs f)
+    ensures repeats { (w : Who) (H : List Call) (now : ℕ) (f : FrameRecord) (x : OpenBroadcast) → claim_of f ≡ None → announces f ≡ false → IsTrue (packs f)
         → hearing w H ≡ Some x → is_whole x ≡ false → source_of f.id ≡ x.source → is_late (time_heard (At now (Hear f) ∷ H)) x ≡ false
-        → slice_index f.bytes 0 ≢ suc x.count → hearing w (At now (Hear f) ∷ H) ≡ Some (touched (time_heard (At now (Hear f) ∷ H)) f x) }
-    ensures late { (w : Who) (H : List Call) (now : ℕ) (f : FrameRecord) (x : OpenBroadcast) → claim_of f ≡ None → announces f ≡ false → IsTrue (packs f)
-        → hearing w H ≡ Some x → is_whole x ≡ false → source_of f.id ≡ x.source → IsTrue (is_late (time_heard (At now (Hear f) ∷ H)) x)
-        → hearing w (At now (Hear f) ∷ H) ≡ None }
+        → slice_index f.bytes 0 ≤ x.count → hearing w (At now (Hear f) ∷ H) ≡ Some x }
+    ensures gap { (w : Who) (H : List Call) (now : ℕ) (f : FrameRecord) (x : OpenBroadcast) → claim_of f ≡ None → announces f ≡ false → IsTrue (packs f)
+        → hearing w H ≡ Some x → is_whole x ≡ false → source_of f.id ≡ x.source → is_late (time_heard (At now (Hear f) ∷ H)) x ≡ false
+        → suc x.count < slice_index f.bytes 0 → hearing w (At now (Hear f) ∷ H) ≡ None }
+    ensures late { (w : Who) (H : List Call) (now : ℕ) (f : FrameRecord) (x : OpenBroadcast) → hearing w H ≡ Some x → is_whole x ≡ false
+        → IsTrue (is_late (time_heard (At now (Hear f) ∷ H)) x) → found w H now f ≡ None }
     ensures left { (w : Who) (H : List Call) (now : ℕ) (f : FrameRecord) (x : OpenBroadcast) → hearing w H ≡ Some x → is_whole x ≡ false
         → holder w (At now (Hear f) ∷ H) x.source ≢ holder w H x.source → found w H now f ≡ None }
     ensures strangers { (w : Who) (H : List Call) (now : ℕ) (f : FrameRecord) → claim_of f ≡ None → announces f ≡ false
         → (packs f ≡ false) ⊎ ((x : OpenBroadcast) → hearing w H ≡ Some x → source_of f.id ≢ x.source)
-        → hearing w (At now (Hear f) ∷ H) ≡ hearing w H }
+        → hearing w (At now (Hear f) ∷ H) ≡ in_time (time_heard (At now (Hear f) ∷ H)) (hearing w H) }
     ensures others { (w : Who) (H : List Call) (now : ℕ) (f : FrameRecord) (x : OpenBroadcast) → hearing w H ≡ Some x
         → holder w (At now (Hear f) ∷ H) x.source ≡ holder w H x.source → source_of f.id ≢ x.source
         → is_late (time_heard (At now (Hear f) ∷ H)) x ≡ false → hearing w (At now (Hear f) ∷ H) ≡ Some x }

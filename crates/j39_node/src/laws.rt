@@ -26,10 +26,10 @@ ghost use Rattle.j39_transport.specs.Cutting.{ToSend};
 ghost use Rattle.j39_transport.specs.Receiving.{said_to};
 ghost use Rattle.j39_transport.specs.Signals.{RequestToSend};
 ghost use Rattle.byteorder.specs.Endian.{little_bytes};
-ghost use Rattle.j39_node.specs.Hearing.{hearing, unheard_news};
+ghost use Rattle.j39_node.specs.Hearing.{hearing, hearing_tick, unheard_news};
 ghost use Rattle.j39_node.specs.Transfers.{age, next_due, told_transfers, transfers};
 ghost use Rattle.j39_node.specs.Moves.{moves};
-ghost use Rattle.j39_node.specs.Asking.{Question, asks, ended, in_broadcast, next_ask_ended, open_ask, request_tick, told_asks};
+ghost use Rattle.j39_node.specs.Asking.{Question, asks, ended, next_ask_ended, open_ask, request_tick, told_asks};
 ghost use Rattle.j39_node.specs.Ticks.{next_tick};
 ghost use Rattle.j39_node.specs.declared.kinds.AskEnding.{AskEnding};
 ghost use Rattle.j39_node.specs.declared.kinds.AskEnding.TheVariants.{TimedOut};
@@ -409,19 +409,22 @@ pub fn full_refuses()
         } }
 {}
 
-/// Before the moment that `next_tick` tells, a tick says nothing and ends no session, nor a request, unless a broadcast that answers it
-/// is late by it; from the session's moment on one says a CTS or an abort (its first byte is 17 or 255) to its source, and by one from
-/// the request's on this is told as timed out.
+/// `next_tick` tells the soonest of three moments. Before the session's a tick says nothing and ends no session; from then on one says a
+/// CTS or an abort (its first byte is 17 or 255) to the session's source. Before the broadcast's a tick leaves what is heard; from then on
+/// one ends the broadcast, and its place is free. Before all three it ends no request; from the request's on this is told as timed out.
 pub fn ticks_wait()
     ensures waits { (w : Who) (H : List Call) (now : ℕ) → heard_at H ≤ now → now < 10000000000000000
-        → ((t : ℕ) → next_tick w H ≡ Some t → now < t) → reception w (At now Tick ∷ H) ≡ reception w H }
+        → ((t : ℕ) → session_tick w H ≡ Some t → now < t) → reception w (At now Tick ∷ H) ≡ reception w H }
     ensures says { (w : Who) (H : List Call) (now t : ℕ) (r : ReceptionRecord) → session_tick w H ≡ Some t
         → (reception w H).session ≡ Some r → t ≤ now → time_heard H + (t - heard_at H) < 10000000000000000
         → (x : ToSend) × ((slice_get x.bytes 0 ≡ Some 17) ⊎ (slice_get x.bytes 0 ≡ Some 255))
         × ((reception w (At now Tick ∷ H)).replies ≡ replied w.address r.message.source (Some x) (reception w H).replies) }
+    ensures keeps { (w : Who) (H : List Call) (now : ℕ) → heard_at H ≤ now → now < 10000000000000000
+        → ((t : ℕ) → hearing_tick w H ≡ Some t → now < t) → hearing w (At now Tick ∷ H) ≡ hearing w H }
+    ensures ends { (w : Who) (H : List Call) (now t : ℕ) → hearing_tick w H ≡ Some t → t ≤ now
+        → time_heard H + (t - heard_at H) < 10000000000000000 → hearing w (At now Tick ∷ H) ≡ None }
     ensures none_ends { (w : Who) (H : List Call) (now : ℕ) → heard_at H ≤ now → now < 10000000000000000
         → ((t : ℕ) → next_tick w H ≡ Some t → now < t)
-        → in_broadcast (time_heard (At now Tick ∷ H)) (hearing w H) ≡ in_broadcast (time_heard H) (hearing w H)
         → next_ask_ended w (At now Tick ∷ H) ≡ next_ask_ended w H }
     ensures times_out { (w : Who) (H : List Call) (c : Controller) (now t : ℕ) (answer : Option (ℕ × AskEnding))
         → request_tick w H ≡ Some t → t ≤ now → Is w (TakeAskEnded answer ∷ At now Tick ∷ H) c

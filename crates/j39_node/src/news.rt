@@ -29,8 +29,19 @@ impl Untold {
         !(self.lost || (self.another || self.missed))
     }
 
+    /// A message was missed, or not.
+    pub(crate) fn with_missed(self, missed: bool) -> Untold
+        ensures { result ≡ record { lost = self.lost; another = self.another; missed = missed || self.missed } }
+    {
+        Untold {
+            lost: self.lost,
+            another: self.another,
+            missed: missed || self.missed,
+        }
+    }
+
     /// A frame was heard: it drives away from the address, which was lost before or not; another sent it from the address; it
-    /// was missed, or announces what isn't heard.
+    /// was missed, or a broadcast was.
     pub(crate) fn heard(
         self,
         drives_away: bool,

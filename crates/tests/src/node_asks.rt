@@ -241,6 +241,7 @@ static LONG: &[Step] = &[
     Ticks(16_250_000),
     Ends(Some((5, TimedOut))),
     // To this address it breaks off once its session is aborted.
+    Ticks(19_000_000),
     Asks(20_000_000, 65_227, 255, Ok(6)),
     Gives(20_000_000, Some("(0000000020.000000) can0 18EAFF80#CBFE00")),
     Wakes(Some(21_250_000)),

@@ -16,8 +16,11 @@ returns-clause-own c = law.own_frames
 pub returns-clause-whole : goal.returns-clause-whole
 returns-clause-whole c = law.last_makes_whole
 
-pub returns-clause-other : goal.returns-clause-other
-returns-clause-other c = law.other_adds_none
+pub returns-clause-repeats : goal.returns-clause-repeats
+returns-clause-repeats c = law.repeat_ignored
+
+pub returns-clause-gap : goal.returns-clause-gap
+returns-clause-gap c = law.gap_ends
 
 pub returns-clause-left : goal.returns-clause-left
 returns-clause-left c = law.left_ends

@@ -75,8 +75,8 @@ returns-then-is_claim_due c = λ w H h.
     let g = gives_is w H c.args.self.now (stamp_micros c.args.now) c.passed-self.result c.gives_way-gives_way.result h p c.gives_way-gives_way.ensures in
     claims_more w H c.args.self.now _ (stamp_micros c.args.now) c.in_ok-claim.claim c.passed-self.result c.claim_address-address.result h p
     (goes_is w H (stamp_micros c.args.now) c.passed-self.result c.gives_way-gives_way.result true p g (sym c.is_claim_due.ensures ∙ c.if-is_claim_due.true)) c.claimed-self.ensures c.in_ok-claim.ensures c.claim_address-address.ensures
-    c.note.ensures.knows c.note.ensures.left (not c.is_same-is_left.result) (option_map name_raw c.speaker-speaker.result) (option_map name_raw c.speaker.result)
-    c.speaker-speaker.ensures c.speaker.ensures (ap not c.is_same-is_left.ensures) c.leave.ensures.current c.leave.ensures.missed refl
+    c.note.ensures.knows c.note.ensures.left (not c.is_same-is_left.result) c.leave-breaks.result (option_map name_raw c.speaker-speaker.result) (option_map name_raw c.speaker.result)
+    c.speaker-speaker.ensures c.speaker.ensures (ap not c.is_same-is_left.ensures) c.leave-breaks.ensures.breaks c.leave-breaks.ensures.missed c.leave-breaks.ensures.current c.with_missed-self.ensures refl
 
 pub returns-then-not-is_empty : goal.returns-then-not-is_empty
 returns-then-not-is_empty c = λ w H h.
