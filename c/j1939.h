@@ -430,8 +430,8 @@ int32_t j1939_controller_hear(j1939_controller *controller, const j1939_frame *f
  * @return 0, J1939_BAD_VALUE, J1939_NO_PART */
 int32_t j1939_controller_tick(j1939_controller *controller, uint64_t micros);
 
-/** When the next tick is due, if no frame is heard till then, for what comes in packets to it or for a request: 1 and
- * the moment, or 0.
+/** When the next tick is due, if no frame is heard till then, for what comes in packets or for a request: 1 and the
+ * moment, or 0.
  * @return 0, 1, J1939_NO_PART */
 int32_t j1939_controller_next_tick(const j1939_controller *controller, uint64_t *due);
 
