@@ -61,7 +61,7 @@ pub fn turn(engine: &mut Engine, heard: Option<&Frame>, now: Stamp) -> Option<Fr
     engine.controller.take_frame(now)
 }
 
-/// Its VIN goes to all if all were asked, else to who asked, who is told if that can't be now. What else it serves it denies.
+/// Its VIN goes to all if all were asked, else to who asked, or `Busy`. What else it serves it denies.
 fn answer(controller: &mut Controller, request: Request, now: Stamp) {
     let vin = b"1FUJA6CV12LK12345*";
     if request.group.raw() != 65_260 {
@@ -76,7 +76,7 @@ fn answer(controller: &mut Controller, request: Request, now: Stamp) {
     }
 }
 
-/// Takes all that waits, so that more can come. Without an address it moves to a free one.
+/// Takes what waits, so that more can come; moves if the address is lost.
 fn take_in(engine: &mut Engine) {
     let controller = &mut engine.controller;
     if let Some(message) = controller.take_received() {
