@@ -119,11 +119,7 @@ missed_one m = omega arith
 
 missed_more : (b c : Bool) (n m : ℕ) → n ≡ min m 18446744073709551615 → b ≡ c
     → (if b then min (n + 1) 18446744073709551615 else n) ≡ min (more c m) 18446744073709551615
-missed_more b c n m e g = by b e ∙ ap (λ (d : Bool). min (more d m) 18446744073709551615) g
-  where
-    by : (b : Bool) → n ≡ min m 18446744073709551615 → (if b then min (n + 1) 18446744073709551615 else n) ≡ min (more b m) 18446744073709551615
-    by true i = ap (λ (k : ℕ). min (k + 1) 18446744073709551615) i ∙ missed_one m
-    by false i = i
+missed_more b c n m e g = grind (arith, e, g)
 
 -- where it is over it ends and is counted
 pub record Leaves (w : Who) (H : List Call) (over result : Bool) (m : HearingRecord) : Type 0 where
@@ -158,8 +154,7 @@ unclaimed : (w : Who) (H : List Call) (now : ℕ) (f : FrameRecord) → is_claim
 unclaimed w H now f e = unchanged (holder w H) (holder w (At now (TakeFrame (Some f)) ∷ H)) (hearing w H) (λ a. cond (is_claim f) _ (holder w H a) e)
   where
     cond : (b : Bool) (x y : Option ℕ) → b ≡ false → (if b then x else y) ≡ y
-    cond true x y e = absurd (cc)
-    cond false x y e = refl
+    cond b x y e = grind (arith, e)
 
 pub hearing_same : (w : Who) (H : List Call) (now : ℕ) (f : FrameRecord) → is_claim f ≡ false → hearing_after w H ≡ hearing_after w (At now (TakeFrame (Some f)) ∷ H)
 hearing_same w H now f e =
@@ -175,9 +170,7 @@ news_same w H now f e =
 
 -- what a tick or its own claim ends is news
 pub broken_news : (b m u : Bool) → (b || (m || u)) ≡ (m || ((b || false) || u))
-broken_news true true u = refl
-broken_news true false u = refl
-broken_news false m u = refl
+broken_news b m u = grind arith
 
 pub claimed_on : (w : Who) (H : List Call) (now : ℕ) (f : FrameRecord) (old new : Claims) (b result : Bool) (p q : Option ℕ) (x y : HearingRecord) → x ≡ hearing_after w H
     → Knows old (told_claims w H) → Knows new (told_claims w (At now (TakeFrame (Some f)) ∷ H))
@@ -235,8 +228,7 @@ unheard_is w f o a b e g =
     λ i. if e i then (if has_room (source_of f.id) o then is_partial o else not (is_ignored w (pgn_named f))) else g i && Rattle.j39_node.specs.Hearing.is_gap f o
 
 pub no_announcement : (b : Bool) → (b ≡ true → false ≡ true) → b ≡ false
-no_announcement true f = absurd (let z : false ≡ true = f refl in cc)
-no_announcement false f = refl
+no_announcement b f = grind (arith, f)
 
 pub packs_is : (f : FrameRecord) (b : Bool) → b ≡ (is_key (by (source_of f.id)) && goes transport_data_group (source_of f.id) 255 f) → packs f ≡ b
 unfolding is_packet
@@ -271,13 +263,4 @@ heard_on w H when f old new b over broken u now p q x m y h k l t e1 e2 e3 e4 e5
 
 -- news that stands, or is new: of messages of one frame, and of broadcasts
 pub either_news : (e a b c d : Bool) → (e || ((a || b) || (c || d))) ≡ ((a || c) || ((e || d) || b))
-either_news true true b c d = refl
-either_news true false b true d = refl
-either_news true false b false d = refl
-either_news false true b c d = refl
-either_news false false true true d = refl
-either_news false false true false true = refl
-either_news false false true false false = refl
-either_news false false false true d = refl
-either_news false false false false true = refl
-either_news false false false false false = refl
+either_news e a b c d = grind arith
