@@ -38,9 +38,9 @@ use Rattle.j39_address.specs.declared.claims.Claims.{Claims}
 use Rattle.j39_node.proofs.ReceptionLemmas.{leaves_is, none_taken, replied_get, taken_is, tidy}
 use Rattle.j39_node.specs.Transfers.{holds_back, is_resting, rest, resting, rests_after, Running, age, answer_to_transfer, at_in, begun, can_transfer, clock, clock_at, is_engaged, next_due, next_transfer, next_transfer_ended, hears_if, is_replaced, open_transfer, packet_in, packets_in, sends_if, sooner, transfer_by, transfer_end, transfer_in, transfers as all_transfers}
 use Rattle.j39_node.specs.History.Address.{NotClaimed, Claimed, Lost}
-use Rattle.j39_node.specs.Is.{Is, claim_goes, gives_way, is_there, next_acknowledgment, next_other, stamped, next_frame, end_of, answer_to_send, answer_to_acknowledge, hold_after, who_of, posted, received_by, request_by, refusal_by, first_of, offered, counted, LaneRecord, opened, lane_of, lane_after, packet_by, next_control, control_of, next_packet, IncomingRecord, incoming_of, incoming_after, said_by, with_reception, with_replies, hears, answer_to_broadcast, broadcast_end, next_broadcast_ended, long_by, next_long, PortRecord, closed, port_after, port_of, resting_by, running, HearingRecord, hearing_of, news_after, ticks}
+use Rattle.j39_node.specs.Is.{Is, claim_goes, gives_way, is_there, next_acknowledgment, next_other, stamped, next_frame, end_of, answer_to_send, answer_to_acknowledge, hold_after, who_of, posted, received_by, request_by, refusal_by, first_of, offered, counted, LaneRecord, opened, lane_of, lane_after, packet_by, next_control, control_of, next_packet, IncomingRecord, incoming_of, incoming_after, said_by, with_reception, with_replies, hears, answer_to_broadcast, long_by, next_long, PortRecord, closed, port_after, port_of, resting_by, running, HearingRecord, hearing_of, news_after, ticks}
 use Rattle.j39_frame.specs.Stamp.{stamp_micros}
-use Rattle.j39_node.specs.Hearing.{IsFit, OpenBroadcast, breaks as breaks_it, hears as hears_it, is_out, is_unheard, left as leaves_it, made_whole, newly, unheard_news, waiting, whole_of}
+use Rattle.j39_node.specs.Hearing.{IsFit, breaks as breaks_it, hears as hears_it, is_out, is_unheard, left as leaves_it, made_whole, newly, unheard_news, waiting, whole_of}
 use Rattle.j39_node.proofs.HearingLemmas.{always, broken_news, claimed_on, either_news, hearing_same, heard_on, is_hearing, leaves_on, news_same, missed_one}
 use Rattle.j39_node.proofs.QueueLemmas.{length_one_more, length_map, map_append, length_rest, in_rest, not_in_rest, First, drop_append, length_drop}
 use Rattle.j39_node.proofs.SoundLemmas.{sound, own_get, due_get, due_taken, claim_taken, message_taken, plain_taken, sent_is, acknowledged_is, address_is, frame_by, front_length, held_not_lost, holding_not_lost, lost_older, read, single_taken, claim_single, no_packet, packet_session, reply_taken, packet_taken, packets_is, pause_is, no_packet, no_transfer, transfer_taken, no_move, reply_no_move, is_moved, none_steers}

@@ -1,5 +1,5 @@
 -- The laws of broadcasts in packets that are heard.
-use Rattle.std.proofs.Common.{◌≡◌, ◌≢◌, ◌⊎◌, ◌↔◌, ℕ, suc, ◌+◌, ◌-◌, ◌*◌, ◌<◌, ◌≤◌, List, [], ◌∷◌, ◌++◌, length, take, drop, slice_index, Option, Some, None, IfSome, Bool, true, false, not, ◌&&◌, ◌||◌, if◌then◌else◌, nat_eq, nat_le, nat_lt, IsTrue, refl, sym, ap, ◌∙◌, subst, inl, inr, arith, append-nil, append_assoc, eq-eqb, eqb-true, lt-ltb}
+use Rattle.std.proofs.Common.{◌≡◌, ◌≢◌, ◌⊎◌, ◌↔◌, ℕ, suc, ◌+◌, ◌-◌, ◌*◌, ◌<◌, ◌≤◌, List, [], ◌∷◌, ◌++◌, length, take, drop, slice_index, Option, Some, None, IfSome, Bool, true, false, not, ◌&&◌, ◌||◌, if◌then◌else◌, nat_eq, nat_le, nat_lt, IsTrue, refl, sym, ap, ◌∙◌, subst, inl, inr, arith, append-nil, eq-eqb, lt-ltb}
 use Rattle.std.proofs.lemmas.Bool.{leb-false, leb-true, lt-leb}
 use Rattle.std.proofs.lemmas.Grind.{flat_map-append}
 use Rattle.std.proofs.lemmas.List.{length-append, length-take-le, take-append-drop}
@@ -17,9 +17,9 @@ use Rattle.j39_node.specs.declared.kinds.News.TheVariants.{MessagesMissed}
 use Rattle.j39_node.specs.History.{Who, Call, is_claim, is_own_group, is_subscribed, stamp_at}
 use Rattle.j39_node.specs.History.Call.{At, TakeNews, ReleaseBroadcast}
 use Rattle.j39_node.specs.History.Act.{Hear, Tick, TakeFrame}
-use Rattle.j39_node.specs.Hearing.{IsFit, IsPartOf, ended, passed, chosen, OpenBroadcast, WasBroadcast, announced, announces, begun, breaks, changes, ends_by, found, got_broadcasts, grown, has_room, hearing, hearing_tick, hears, in_time, is_beside, is_ignored, is_late, is_out, is_over, is_partial, is_unheard, is_wanted, is_whole, late_at, left, made_whole, message_by, more, newly, opens, packed, packs, skips, unheard, unheard_by, unheard_news, waiting, whole_broadcasts, whole_of}
+use Rattle.j39_node.specs.Hearing.{IsFit, IsPartOf, ended, passed, chosen, OpenBroadcast, WasBroadcast, announced, announces, begun, breaks, changes, ends_by, found, got_broadcasts, grown, has_room, hearing, hearing_tick, hears, in_time, is_beside, is_ignored, is_late, is_out, is_over, is_partial, is_unheard, is_wanted, is_whole, late_at, left, made_whole, message_by, more, newly, opens, packs, skips, unheard, unheard_by, unheard_news, waiting, whole_broadcasts, whole_of}
 use Rattle.j39_node.specs.Is.{AreAnswered, HearingRecord, Is}
-use Rattle.j39_node.specs.Reception.{KeepsHolder, frames_heard, has_place, heard_at, held_then, holder, is_same, later, listed, time_heard}
+use Rattle.j39_node.specs.Reception.{KeepsHolder, frames_heard, has_place, heard_at, held_then, holder, is_same, listed, time_heard}
 use Rattle.j39_node.proofs.QueueLemmas.{length_drop}
 use Rattle.j39_node.proofs.ReceptionLaws.{after_moment, before_moment, same_is}
 use Rattle.j39_node.proofs.HearingLemmas.{Effect, begins, ends, grows, stays, effect, fit, hearing_same, left_none, same_same, unchanged, packs_eight, drop_one}

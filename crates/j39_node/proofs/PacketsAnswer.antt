@@ -1,5 +1,5 @@
 -- A message in packets answers a request by the frame that makes it whole, be it to this address or to all.
-use Rattle.std.proofs.Common.{◌≡◌, ◌⊎◌, ℕ, ◌<◌, ◌≤◌, ◌==◌, List, ◌∷◌, length, Option, Some, None, Bool, true, false, ◌&&◌, ◌||◌, if◌then◌else◌, nat_eq, nat_le, refl, sym, ap, ◌∙◌, inl, inr, arith, eq-eqb, eqb-true}
+use Rattle.std.proofs.Common.{◌≡◌, ◌⊎◌, ℕ, ◌<◌, ◌==◌, List, ◌∷◌, length, Option, Some, None, Bool, true, false, ◌&&◌, if◌then◌else◌, refl, sym, ap, ◌∙◌, inl, inr, arith, eqb-true}
 use Rattle.std.proofs.lemmas.Bool.{and_parts}
 use Rattle.std.specs.Option.{option_map, option_or}
 use Rattle.j39_frame.specs.Frame.{FrameRecord}
@@ -10,14 +10,12 @@ use Rattle.j39_transport.specs.Frames as frames
 use Rattle.j39_transport.specs.Key.{Broadcast as by, is_key}
 use Rattle.j39_transport.specs.Message.{MessageRecord}
 use Rattle.j39_transport.specs.Receiving.{RecvResult, said_to}
-use Rattle.j39_transport.proofs.FrameFacts.{announcement_facts}
-use Rattle.j39_node.specs.declared.kinds.AskEnding.{AskEnding}
 use Rattle.j39_node.specs.declared.kinds.AskEnding.TheVariants.{Answered}
 use Rattle.j39_node.specs.History.{Who, Call, holds, is_smaller}
 use Rattle.j39_node.specs.History.Call.{At}
 use Rattle.j39_node.specs.History.Act.{Hear}
 use Rattle.j39_node.specs.Reception.{Reception, has_place, holder, leaves, left, receiver_at, reception, time_heard, whole, whole_by}
-use Rattle.j39_node.specs.Hearing.{OpenBroadcast, announces, begun, found, grown, hearing, is_over, is_whole as is_full, made_whole, message_by, newly, packs, waiting, whole_of}
+use Rattle.j39_node.specs.Hearing.{OpenBroadcast, begun, found, grown, hearing, is_over, made_whole, message_by, newly, packs, waiting, whole_of}
 use Rattle.j39_node.specs.Asking.{Question, made, made_of, says_to}
 use Rattle.j39_node.proofs.HearingLaws.{begun_open, whole_is, whole_of_left, none_is as not_both}
 use Rattle.j39_node.proofs.HearingLemmas.{Effect, begins, ends, grows, stays, effect}
@@ -27,24 +25,8 @@ use Rattle.j39_node.proofs.ReceptionLaws.{goes_there, not_said, quiet_step}
 
 answers_by : (w : Who) (q : Question) (f : FrameRecord) (m : MessageRecord) (o : Option (ℕ × ℕ)) → o ≡ Some (m.source, m.pgn) → m.pgn ≡ q.group
     → (q.to ≡ 255) ⊎ (m.source ≡ q.to) → says_to w q f o ≡ Some Answered
-answers_by w q f m o e g (inl a) =
-    ap (says_to w q f) e
-    ∙ (ap (λ (b : Bool). says_by (b && (nat_eq q.to 255 || nat_eq m.source q.to))) (eq-eqb _ _ g)
-    ∙ ap (λ (b : Bool). says_by (b || nat_eq m.source q.to)) (eq-eqb _ _ a))
-  where
-    says_by : Bool → Option AskEnding
-    says_by b = if b then Some Answered else says_to w q f None
-answers_by w q f m o e g (inr a) =
-    ap (says_to w q f) e
-    ∙ (ap (λ (b : Bool). says_by (b && (nat_eq q.to 255 || nat_eq m.source q.to))) (eq-eqb _ _ g)
-    ∙ (ap (λ (b : Bool). says_by (nat_eq q.to 255 || b)) (eq-eqb _ _ a) ∙ either (nat_eq q.to 255)))
-  where
-    says_by : Bool → Option AskEnding
-    says_by b = if b then Some Answered else says_to w q f None
-
-    either : (b : Bool) → says_by (b || true) ≡ Some Answered
-    either true = refl
-    either false = refl
+answers_by w q f m o e g (inl a) = ap (says_to w q f) e ∙ grind (arith, g, a)
+answers_by w q f m o e g (inr a) = ap (says_to w q f) e ∙ grind (arith, g, a)
 
 pub transfer_answers : (w : Who) (H : List Call) (when : ℕ) (f : FrameRecord) (m : MessageRecord) (q : Question) → whole w H when f ≡ Some m → m.pgn ≡ q.group
     → (q.to ≡ 255) ⊎ (m.source ≡ q.to) → says_to w q f (made w H when f) ≡ Some Answered
