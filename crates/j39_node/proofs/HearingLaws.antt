@@ -22,7 +22,7 @@ use Rattle.j39_node.specs.Is.{AreAnswered, HearingRecord, Is}
 use Rattle.j39_node.specs.Reception.{KeepsHolder, frames_heard, has_place, heard_at, held_then, holder, is_same, listed, time_heard}
 use Rattle.j39_node.proofs.QueueLemmas.{length_drop}
 use Rattle.j39_node.proofs.ReceptionLaws.{after_moment, before_moment, same_is}
-use Rattle.j39_node.proofs.HearingLemmas.{Effect, begins, ends, grows, stays, effect, fit, hearing_same, left_none, same_same, unchanged, packs_eight, drop_one}
+use Rattle.j39_node.proofs.HearingLemmas.{Effect, begins, ends, grows, stays, effect, fit, hearing_same, left_keeps, left_none, same_same, unchanged, packs_eight, drop_one}
 use Rattle.j39_node.proofs.FrameLemmas.{le_true, lt_false}
 
 -- ---- each once, in order
@@ -255,14 +255,6 @@ abbrev IsWanted : Who → Option OpenBroadcast → Type 0
 IsWanted who None = Unit {0}
 IsWanted who (Some x) = is_ignored who x.group ≡ false
 
-wanted_left : (who : Who) (b : Bool) (o : Option OpenBroadcast) → IsWanted who o → IsWanted who (left b o)
-wanted_left who b None h = tt
-wanted_left who b (Some x) h = go (b && not (is_whole x))
-  where
-    go : (c : Bool) → IsWanted who (if c then None else Some x)
-    go true = tt
-    go false = h
-
 wanted_effect : (who : Who) (now : ℕ) (f : FrameRecord) (o y : Option OpenBroadcast) (a b : Bool) → Effect who now f o a b y → IsWanted who o → IsWanted who y
 wanted_effect who now f o y a b (begins e1 e2 e3 e4 e5 e6 e7) h = subst (IsWanted who) (sym e7) e2
 wanted_effect who now f o y a b (ends e1 e2 e3 e4 e5) h = subst (IsWanted who) (sym e5) tt
@@ -272,9 +264,9 @@ wanted_effect who now f o y a b (stays x e1 e2 e3 e4) h = subst (IsWanted who) (
 wanted : (w : Who) (H : List Call) → IsWanted w (hearing w H)
 wanted w [] = tt
 wanted w (At when (Hear f) ∷ H) =
-    wanted_effect w (time_heard (At when (Hear f) ∷ H)) f _ _ _ _ (effect w (time_heard (At when (Hear f) ∷ H)) f (found w H when f)) (wanted_left w _ (hearing w H) (wanted w H))
-wanted w (At now Tick ∷ H) = wanted_left w (is_out (time_heard (At now Tick ∷ H)) (hearing w H)) (hearing w H) (wanted w H)
-wanted w (At now (TakeFrame (Some f)) ∷ H) = wanted_left w (changes (holder w H) (holder w (At now (TakeFrame (Some f)) ∷ H)) (hearing w H)) (hearing w H) (wanted w H)
+    wanted_effect w (time_heard (At when (Hear f) ∷ H)) f _ _ _ _ (effect w (time_heard (At when (Hear f) ∷ H)) f (found w H when f)) (left_keeps (IsWanted w) _ (hearing w H) tt (wanted w H))
+wanted w (At now Tick ∷ H) = left_keeps (IsWanted w) (is_out (time_heard (At now Tick ∷ H)) (hearing w H)) (hearing w H) tt (wanted w H)
+wanted w (At now (TakeFrame (Some f)) ∷ H) = left_keeps (IsWanted w) (changes (holder w H) (holder w (At now (TakeFrame (Some f)) ∷ H)) (hearing w H)) (hearing w H) tt (wanted w H)
 wanted w (ReleaseBroadcast true ∷ H) = tt
 wanted w (call ∷ H) = wanted w H
 

@@ -1,6 +1,6 @@
 -- Broadcasts in packets that are heard, call by call.
 use Rattle.std.proofs.Common.{◌≡◌, ◌⊎◌, ℕ, suc, ◌+◌, List, [], ◌∷◌, length, drop, slice_index, min, Option, Some, None, IfSome, Bool, true, false, not, ◌&&◌, ◌||◌, if◌then◌else◌, nat_eq, nat_lt, nat_le, refl, sym, ap, ◌∙◌, subst, inl, inr, arith, eq-eqb, eqb-true}
-use Rattle.std.proofs.lemmas.Bool.{and_parts}
+use Rattle.std.proofs.lemmas.Bool.{and_parts, cond_both}
 use Rattle.std.proofs.lemmas.List.{length-append}
 use Rattle.j39_frame.specs.Frame.{FrameRecord}
 use Rattle.j39_frame.specs.Identifier.{source_of}
@@ -183,13 +183,9 @@ claimed_on w H now f old new b result p q x y h k l e1 e2 e3 e4 e5 e6 =
 
 -- ---- a frame is heard
 
-pub fit_left : (b : Bool) (o : Option OpenBroadcast) → IsFit o → IsFit (left b o)
-fit_left b None h = tt
-fit_left b (Some x) h = go (b && not (is_whole x))
-  where
-    go : (c : Bool) → IsFit (if c then None else Some x)
-    go true = tt
-    go false = h
+pub left_keeps : (P : Option OpenBroadcast → Type 0) (b : Bool) (o : Option OpenBroadcast) → P None → P o → P (left b o)
+left_keeps P b None n h = h
+left_keeps P b (Some x) n h = cond_both (b && not (is_whole x)) None (Some x) P (λ e. n) (λ e. h)
 
 pub drop_one : (xs : List ℕ) → length xs ≡ 8 → length (drop 1 xs) ≡ 7
 drop_one [] e = absurd (cc)
@@ -211,9 +207,9 @@ fit_effect w now f o y a b (stays x e1 e2 e3 e4) h = subst IsFit (sym e4) (subst
 pub fit : (w : Who) (H : List Call) → IsFit (hearing w H)
 fit w [] = tt
 fit w (At when (Hear f) ∷ H) =
-    fit_effect w (time_heard (At when (Hear f) ∷ H)) f _ _ _ _ (effect w (time_heard (At when (Hear f) ∷ H)) f (found w H when f)) (fit_left _ (hearing w H) (fit w H))
-fit w (At now Tick ∷ H) = fit_left (is_out (time_heard (At now Tick ∷ H)) (hearing w H)) (hearing w H) (fit w H)
-fit w (At now (TakeFrame (Some f)) ∷ H) = fit_left (changes (holder w H) (holder w (At now (TakeFrame (Some f)) ∷ H)) (hearing w H)) (hearing w H) (fit w H)
+    fit_effect w (time_heard (At when (Hear f) ∷ H)) f _ _ _ _ (effect w (time_heard (At when (Hear f) ∷ H)) f (found w H when f)) (left_keeps IsFit _ (hearing w H) tt (fit w H))
+fit w (At now Tick ∷ H) = left_keeps IsFit (is_out (time_heard (At now Tick ∷ H)) (hearing w H)) (hearing w H) tt (fit w H)
+fit w (At now (TakeFrame (Some f)) ∷ H) = left_keeps IsFit (changes (holder w H) (holder w (At now (TakeFrame (Some f)) ∷ H)) (hearing w H)) (hearing w H) tt (fit w H)
 fit w (ReleaseBroadcast true ∷ H) = tt
 fit w (call ∷ H) = fit w H
 
@@ -253,7 +249,7 @@ heard_on w H when f old new b over broken u now p q x m y h k l t e1 e2 e3 e4 e5
     let on = leaves_on w H over broken over_by x m h
     (either_over over b _ _ _ x.current e4 (changes_is w H G old new b p q x.current k l e1 e2 e3) (ap (λ (n : ℕ). is_out n x.current) t)) e5 e6 e7 in
     let says : u ≡ is_unheard w f (found w H when f) = e8 ∙ ap (is_unheard w f) on.current in
-    let fits : IsFit m.current = subst IsFit (sym on.current) (fit_left (over_by (hearing w H)) (hearing w H) (fit w H)) in
+    let fits : IsFit m.current = subst IsFit (sym on.current) (left_keeps IsFit (over_by (hearing w H)) (hearing w H) tt (fit w H)) in
     record {
       breaks = on.says;
       unheard = says;
