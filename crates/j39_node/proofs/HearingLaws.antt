@@ -325,9 +325,6 @@ module _ (who : Who) (H : List Call) (when : ℕ) (f : FrameRecord) where
       λ i. if e i then (if has_room (source_of f.id) (Some x) then opens who now f else Some x) else if p i
       then (if w i || not (eq-eqb _ _ s i) then Some x else if k i then None else if l i then Some (grown now f x) else Some x) else Some x
 
-  none_skipped : (n c : ℕ) → n ≡ suc c → nat_lt (suc c) n ≡ false
-  none_skipped n c e = grind arith
-
   always : (b : Bool) → (b || true) ≡ true
   always b = grind arith
 
@@ -337,7 +334,7 @@ module _ (who : Who) (H : List Call) (when : ℕ) (f : FrameRecord) where
 
   pub next_appended : (x : OpenBroadcast) → claim_of f ≡ None → announces f ≡ false → IsTrue (packs f) → hearing who H ≡ Some x → is_whole x ≡ false
       → source_of f.id ≡ x.source → is_late now x ≡ false → slice_index f.bytes 0 ≡ suc x.count → hearing who K ≡ Some (grown now f x)
-  next_appended x e g k l m n o p = hears_found x e l o ∙ packed_by x false true g k m n (none_skipped _ _ p) (eq-eqb _ _ p)
+  next_appended x e g k l m n o p = hears_found x e l o ∙ packed_by x false true g k m n (lt_false _ _ (omega (arith, p))) (eq-eqb _ _ p)
 
   pub gap_ends : (x : OpenBroadcast) → claim_of f ≡ None → announces f ≡ false → IsTrue (packs f) → hearing who H ≡ Some x → is_whole x ≡ false
       → source_of f.id ≡ x.source → is_late now x ≡ false → suc x.count < slice_index f.bytes 0 → hearing who K ≡ None
