@@ -21,7 +21,7 @@ const ANSWER_TIME: u64 = 1_250_000;
 const REST_TIME: u64 = 4_000_000;
 
 /// How long another at the address isn't answered again, in microseconds (own).
-const PATIENCE: u64 = 5_000_000;
+const PATIENCE: u32 = 5_000_000;
 
 /// How far the address is.
 #[derive(Clone, Copy)]
@@ -64,7 +64,7 @@ pub(crate) struct Hold {
     /// How many of the frames taken last were claims or acknowledgments, up to two.
     pub(crate) turns: u8,
     /// What is left of the time in which another at its address isn't answered again.
-    pub(crate) patience: u64,
+    pub(crate) patience: u32,
     /// What is left of the time between two frames of packets.
     pub(crate) pause: u64,
     /// How long ago a transfer was accepted last.
@@ -118,7 +118,7 @@ impl Hold {
             standing: self.standing.less(step),
             owes_claim: self.owes_claim,
             turns: self.turns,
-            patience: self.patience.saturating_sub(step),
+            patience: left_of(self.patience, step),
             pause: self.pause.saturating_sub(step),
             age: self.age.saturating_add(step),
             wait: self.wait.saturating_sub(step),
@@ -310,5 +310,15 @@ impl Hold {
             }
             Standing::Lost => None,
         }
+    }
+}
+
+/// What is left so much later.
+fn left_of(left: u32, step: u64) -> u32
+    ensures { result ≡ left - step }
+{
+    match u32::try_from(step) {
+        Ok(step) => left.saturating_sub(step),
+        Err(_) => 0,
     }
 }

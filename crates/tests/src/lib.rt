@@ -19,6 +19,8 @@ mod node;
 #[cfg(test)]
 mod node_asks;
 #[cfg(test)]
+mod node_clock;
+#[cfg(test)]
 mod node_hears;
 #[cfg(test)]
 mod node_receives;

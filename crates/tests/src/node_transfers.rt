@@ -23,9 +23,11 @@ enum Step {
     Broadcasts(u64),
     /// Its next frame is due at this moment.
     IsDue(Option<u64>),
+    /// It moves to this address.
+    Moves(u8),
 }
 
-use Step::{Broadcasts, Ends, Gives, Hears, HearsOften, IsDue, Transfers};
+use Step::{Broadcasts, Ends, Gives, Hears, HearsOften, IsDue, Moves, Transfers};
 use TransferEnding::{Done, Failed, Gone, Withdrawn};
 
 const MESSAGE: [u8; 18] = *b"1FUJA6CV12LK12345*";
@@ -206,8 +208,31 @@ fn does(node: &mut Controller, step: &Step) -> Option<bool> {
             Some(answer.is_ok())
         }
         IsDue(wanted) => Some(node.next_due().map(Stamp::micros) == *wanted),
+        Moves(address) => Some(node.move_to(*address)),
     }
 }
+
+/// Nobody answers. It moves to its own address, and may not send to 0B again before four seconds are over.
+static MOVED: &[Step] = &[
+    Gives(
+        1_500_001,
+        Some("(0000000001.500001) can0 1CEC0B80#FF03FFFFFFCAFE00"),
+    ),
+    Ends(Some((0, Failed(3)))),
+    Moves(128),
+    Gives(
+        1_600_000,
+        Some("(0000000001.600000) can0 18EEFF80#0200000000000000"),
+    ),
+    Transfers(1_850_000, 11, &MESSAGE, Err(Refused::Full)),
+    Moves(129),
+    Gives(
+        1_850_001,
+        Some("(0000000001.850001) can0 18EEFF81#0200000000000000"),
+    ),
+    Transfers(5_500_000, 11, &MESSAGE, Err(Refused::Full)),
+    Transfers(5_500_001, 11, &MESSAGE, Ok(0)),
+];
 
 /// The place of the first step that the controller doesn't take as it says.
 fn wrong_step(node: &mut Controller, steps: &[Step]) -> Option<usize> {
@@ -236,6 +261,7 @@ fn transfers_of_a_node(rt: HostRuntime) {
     assert_eq!(rt; wrong_after(rt.alloc(), HOLDS), None);
     assert_eq!(rt; wrong_after(rt.alloc(), REPLACED), None);
     assert_eq!(rt; wrong_after(rt.alloc(), LOST), None);
+    assert_eq!(rt; wrong_after(rt.alloc(), MOVED), None);
 }
 
 /// How many bytes the receiver at 0B delivers, and how the transfer ended, where it hears each frame at once.
