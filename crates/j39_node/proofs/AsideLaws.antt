@@ -12,7 +12,7 @@ use Rattle.j39_node.specs.declared.kinds.Ending.{Ending}
 use Rattle.j39_node.specs.declared.kinds.News.TheVariants.{AddressLost, AnotherAtAddress, MessagesMissed}
 use Rattle.j39_node.specs.declared.kinds.Refused.TheVariants.{NoAddress, BadValue, Full}
 use Rattle.j39_node.specs.Aside.{IsAside}
-use Rattle.j39_node.specs.History.{patience, turns, Who, Message, Call, Address, Asked, accepted, acknowledged, acknowledgment, address_after, another_news, asked, asked_group, asked_with, broadcast_from, broadcasts, calls_for_claim, is_larger, is_own_group, is_subscribed, can_broadcast, can_send, claim_address, claim_from, claimed, due, got, handed, holds, is_acknowledgment, is_another, is_claim, is_for_program, is_held, is_lost, is_none, is_open, is_packet, is_session, is_smaller, is_some, is_transfer, kept, lost_news, message_from, message_of, missed_news, moment, older, open_broadcast, owes_claim, packets, pause, request_for, requests, sent, step, told, with_refusal, with_request}
+use Rattle.j39_node.specs.History.{patience, turns, Who, Message, Call, Address, Asked, accepted, acknowledged, acknowledgment, address_after, another_news, asked, asked_group, asked_with, broadcast_from, broadcasts, calls_for_claim, can_broadcast, can_send, claim_address, claim_from, claimed, due, got, handed, holds, is_acknowledgment, is_another, is_claim, is_for_program, is_held, is_lost, is_open, is_packet, is_session, is_smaller, is_transfer, kept, lost_news, message_from, message_of, missed_news, moment, older, open_broadcast, owes_claim, packets, pause, request_for, requests, sent, step, told, with_refusal, with_request}
 use Rattle.j39_node.specs.History.Address.{Lost}
 use Rattle.j39_node.specs.History.Call.{At, TakeAskEnded, TakeEnded, TakeReceived, TakeRequest, TakeNews, TakeBroadcastEnded, ReleaseTransfer, TakeTransferEnded, ReleaseBroadcast}
 use Rattle.j39_node.specs.History.Act.{Ask, Hear, Tick, TakeFrame, Send, Acknowledge, Broadcast, Transfer}
@@ -383,29 +383,17 @@ module _ (w : Who) (f : FrameRecord) (a : IsAside w f) where
   unpacked = not_so (packs f) (λ e. elsewhere 255 a.not_all (packs_to_all f e))
 
   uncalled : (lost : Bool) → calls_for_claim w lost f ≡ false
-  uncalled lost =
-      (λ i. ((is_smaller w (a.claims i) || is_larger w (a.claims i)) && not lost)
-      || (is_some (asked_group f) 60928 && (is_some (a.goes i) 255 || (is_some (a.goes i) w.address && not lost))))
-      ∙ ((λ i. is_some (asked_group f) 60928 && (all i || (here i && not lost))) ∙ and_false (is_some (asked_group f) 60928))
+  uncalled lost = let g = a.goes in let c = a.claims in grind (arith, g, c, all, here)
 
   unwanted : (held : Bool) → is_for_program w held f ≡ false
-  unwanted held =
-      (λ i. nat_lt (source_of f.id) 254 && ((is_subscribed w (pgn_of f.id) && not (is_own_group (pgn_of f.id) || nat_eq (pgn_of f.id) 59904))
-      && (is_none (a.goes i) || (is_some (a.goes i) 255 || (is_some (a.goes i) w.address && held)))))
-      ∙ ((λ i. nat_lt (source_of f.id) 254 && ((is_subscribed w (pgn_of f.id) && not (is_own_group (pgn_of f.id) || nat_eq (pgn_of f.id) 59904)) && (all i || (here i && held))))
-      ∙ (ap (λ (b : Bool). nat_lt (source_of f.id) 254 && b) (and_false (is_subscribed w (pgn_of f.id) && not (is_own_group (pgn_of f.id) || nat_eq (pgn_of f.id) 59904)))
-      ∙ and_false (nat_lt (source_of f.id) 254)))
+  unwanted held = let g = a.goes in grind (arith, g, all, here)
 
   unasked : (held : Bool) → asked w held f ≡ None
   unasked held = ap (λ (d : Option ℕ). asked_with w held f d (asked_group f)) a.goes ∙ go (asked_group f)
     where
       go : (o : Option ℕ) → asked_with w held f (Some a.to) o ≡ None
       go None = refl
-      go (Some group) =
-          ap (λ (b : Bool). if b then Some (record { source = source_of f.id; destination = a.to; group = group }) else None)
-          ((λ i. (held && nat_lt (source_of f.id) 254) && ((nat_lt group 262144 && not (nat_eq group 60928)) && (all i || here i)))
-          ∙ (ap (λ (b : Bool). (held && nat_lt (source_of f.id) 254) && b) (and_false (nat_lt group 262144 && not (nat_eq group 60928)))
-          ∙ and_false (held && nat_lt (source_of f.id) 254)))
+      go (Some group) = grind (arith, all, here)
 
   not_mine : (held : Bool) → is_another w held f ≡ false
   not_mine held = ap (λ (b : Bool). held && (b && not (is_claim f))) (unequal (source_of f.id) w.address a.source) ∙ and_false held

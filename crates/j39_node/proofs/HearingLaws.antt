@@ -1,5 +1,5 @@
 -- The laws of broadcasts in packets that are heard.
-use Rattle.std.proofs.Common.{◌≡◌, ◌≢◌, ◌⊎◌, ◌↔◌, ℕ, suc, ◌+◌, ◌-◌, ◌*◌, ◌<◌, ◌≤◌, List, [], ◌∷◌, ◌++◌, length, take, drop, slice_index, Option, Some, None, IfSome, Bool, true, false, not, ◌&&◌, ◌||◌, if◌then◌else◌, nat_eq, nat_le, nat_lt, IsTrue, refl, sym, ap, ◌∙◌, subst, inl, inr, arith, append-nil, eq-eqb, eqb-true, lt-ltb}
+use Rattle.std.proofs.Common.{◌≡◌, ◌≢◌, ◌⊎◌, ◌↔◌, ℕ, suc, ◌+◌, ◌-◌, ◌*◌, ◌<◌, ◌≤◌, List, [], ◌∷◌, ◌++◌, length, take, drop, slice_index, Option, Some, None, IfSome, Bool, true, false, not, ◌&&◌, ◌||◌, if◌then◌else◌, nat_eq, nat_le, IsTrue, refl, sym, ap, ◌∙◌, subst, inl, inr, arith, append-nil, eq-eqb, lt-ltb}
 use Rattle.std.proofs.lemmas.Bool.{leb-false, leb-true, lt-leb}
 use Rattle.std.proofs.lemmas.Grind.{flat_map-append}
 use Rattle.std.proofs.lemmas.List.{length-append, length-take-le, take-append-drop}
@@ -22,7 +22,7 @@ use Rattle.j39_node.specs.Is.{AreAnswered, HearingRecord, Is}
 use Rattle.j39_node.specs.Reception.{KeepsHolder, frames_heard, has_place, heard_at, held_then, holder, is_same, listed, time_heard}
 use Rattle.j39_node.proofs.QueueLemmas.{length_drop}
 use Rattle.j39_node.proofs.ReceptionLaws.{after_moment, before_moment, same_is}
-use Rattle.j39_node.proofs.HearingLemmas.{Effect, begins, ends, grows, stays, effect, fit, hearing_same, left_none, same_same, unchanged, packs_eight, drop_one}
+use Rattle.j39_node.proofs.HearingLemmas.{Effect, begins, ends, grows, stays, effect, fit, hearing_same, left_keeps, left_none, same_same, unchanged, packs_eight, drop_one}
 use Rattle.j39_node.proofs.FrameLemmas.{le_true, lt_false}
 
 -- ---- each once, in order
@@ -34,20 +34,11 @@ left_whole false x e = refl
 
 pub whole_of_left : (b : Bool) (o : Option OpenBroadcast) → whole_of (left b o) ≡ whole_of o
 whole_of_left b None = refl
-whole_of_left b (Some x) = go b (is_whole x) refl
-  where
-    go : (c w : Bool) → is_whole x ≡ w → whole_of (if c && not w then None else Some x) ≡ whole_of (Some x)
-    go true true e = refl
-    go true false e = sym (ap (λ (v : Bool). if v then Some (message_by x) else None) e)
-    go false w e = refl
+whole_of_left b (Some x) = grind arith
 
 pub whole_is : (o : Option OpenBroadcast) (p : ℕ × MessageRecord) → whole_of o ≡ Some p → (x : OpenBroadcast) × (o ≡ Some x) × (is_whole x ≡ true)
 whole_is None p e = absurd (cc)
-whole_is (Some x) p e = (x, refl, go (is_whole x) e)
-  where
-    go : (w : Bool) → (if w then Some (message_by x) else None) ≡ Some p → w ≡ true
-    go true i = refl
-    go false i = absurd (cc)
+whole_is (Some x) p e = (x, refl, grind (arith, e))
 
 pub none_is : (o : Option (ℕ × MessageRecord)) (p : ℕ × MessageRecord) → o ≡ None → o ≡ Some p → ⊥
 none_is o p e g = absurd (let z : None ≡ Some p = sym e ∙ g in cc)
@@ -96,12 +87,7 @@ released who H c answer is = go (waiting who H) answer refl is.answered.1
 -- ---- what isn't heard
 
 not_ignored : (who : Who) (group : ℕ) → is_ignored who group ≡ false → IsTrue (is_subscribed who group) × (is_own_group group ≡ false)
-not_ignored who group e = go (is_own_group group) (is_subscribed who group) e
-  where
-    go : (a b : Bool) → (a || not b) ≡ false → IsTrue b × (a ≡ false)
-    go true b e = absurd (cc)
-    go false true e = (refl, refl)
-    go false false e = absurd (cc)
+not_ignored who group e = (grind (arith, e), grind (arith, e))
 
 module _ (who : Who) (H : List Call) (when : ℕ) (f : FrameRecord) (e : announces f ≡ true) (own : is_own_group (pgn_named f) ≡ false) (listed : IsTrue (is_subscribed who (pgn_named f))) where
   abbrev G : List Call
@@ -154,17 +140,7 @@ module _ (who : Who) (H : List Call) (when : ℕ) (f : FrameRecord) (e : announc
 
       timely : (c : Bool) (o : Option OpenBroadcast) (x : OpenBroadcast) → left (c || is_out (time_heard G) o) o ≡ Some x → is_whole x ≡ false → is_late (time_heard G) x ≡ false
       timely c None x k w = absurd (cc)
-      timely c (Some y) x k w = by c (is_late (time_heard G) y) (is_whole y) refl refl k
-        where
-          same : (b : Bool) → is_late (time_heard G) y ≡ b → Some y ≡ Some x → is_late (time_heard G) x ≡ b
-          same b i j = let z : y ≡ x = cc in ap (is_late (time_heard G)) (sym z) ∙ i
-
-          by : (a b v : Bool) → is_late (time_heard G) y ≡ b → is_whole y ≡ v → (if (a || b) && not v then None else Some y) ≡ Some x → is_late (time_heard G) x ≡ false
-          by true b true i j l = absurd (let z : y ≡ x = cc in let q : true ≡ false = sym j ∙ (ap is_whole z ∙ w) in cc)
-          by true b false i j l = absurd (cc)
-          by false true true i j l = absurd (let z : y ≡ x = cc in let q : true ≡ false = sym j ∙ (ap is_whole z ∙ w) in cc)
-          by false true false i j l = absurd (cc)
-          by false false v i j l = same false i l
+      timely c (Some y) x k w = grind (arith, k, w)
 
       why : (x : OpenBroadcast) → found who H when f ≡ Some x → (v : Bool) → is_whole x ≡ v → (is_whole x ≡ true) ⊎ (is_beside x.source x.count f ≡ true)
           → IsTrue (is_whole x) ⊎ ((source_of f.id ≢ x.source) × (is_late (time_heard G) x ≡ false))
@@ -179,20 +155,11 @@ abbrev one : Bool → ℕ
 one b = more b 0
 
 more_is : (b : Bool) (n : ℕ) → more b n ≡ n + one b
-more_is true n = omega arith
-more_is false n = omega arith
+more_is b n = grind arith
 
 left_counts : (b : Bool) (o : Option OpenBroadcast) → one (is_partial o) ≡ one (breaks b o) + one (is_partial (left b o))
 left_counts b None = omega arith
-left_counts b (Some x) = go b (is_whole x) refl
-  where
-    nothing : (n : ℕ) → n ≡ 0 + n
-    nothing n = omega arith
-
-    go : (c v : Bool) → is_whole x ≡ v → one (is_partial (Some x)) ≡ one (c && not v) + one (is_partial (if c && not v then None else Some x))
-    go true true e = nothing (one (is_partial (Some x)))
-    go true false e = ap (λ (v : Bool). one (not v)) e ∙ more_is true 0
-    go false v e = nothing (one (is_partial (Some x)))
+left_counts b (Some x) = grind arith
 
 pub begun_open : (now : ℕ) (f : FrameRecord) → announces f ≡ true → is_whole (begun now f) ≡ false
 begun_open now f e = lt-leb _ 0 (let l = (announcement_facts (by (source_of f.id)) f e).large in omega (arith, l))
@@ -225,8 +192,7 @@ heard_counts who now f o y a b (grows x e1 e2 e3 e4 e5 e6 e7 e8 e9) =
     omega (arith, a_none, b_none, p, made, q, all)
   where
     either_one : (v : Bool) → length (listed (if v then Some (message_by (grown now f x)) else None)) + one (not v) ≡ 1
-    either_one true = omega arith
-    either_one false = omega arith
+    either_one v = grind arith
 heard_counts who now f o y a b (stays x e1 e2 e3 e4) =
     let same = ap one e2 in
     let none = ap (λ (z : Option OpenBroadcast). length (listed (newly (whole_of o) (whole_of z)))) (e4 ∙ sym e1) ∙ newly_same (whole_of o) in
@@ -235,11 +201,7 @@ heard_counts who now f o y a b (stays x e1 e2 e3 e4) =
 
 waits_whole : (o : Option OpenBroadcast) → true ≡ not (has_place (whole_of o)) → one (is_partial o) ≡ 0
 waits_whole None e = absurd (cc)
-waits_whole (Some x) e = go (is_whole x) refl e
-  where
-    go : (v : Bool) → is_whole x ≡ v → true ≡ not (has_place (if v then Some (message_by x) else None)) → one (not (is_whole x)) ≡ 0
-    go true i k = ap (λ (w : Bool). one (not w)) i
-    go false i k = absurd (cc)
+waits_whole (Some x) e = grind (arith, e)
 
 pub exact : (who : Who) (H : List Call) → AreAnswered who H → announced who H ≡ length (whole_broadcasts who H) + unheard who H + one (is_partial (hearing who H))
 exact who [] h = refl
@@ -278,32 +240,20 @@ some_unheard who (TakeNews (Some MessagesMissed) ∷ H) e = absurd (cc)
 some_unheard who (call ∷ H) e = go (ends_by who H call) (unheard_by who H call) (unheard_news who H) (unheard who H) (some_unheard who H) e
   where
     go : (a b c : Bool) (n : ℕ) → (IsTrue c → 0 < n) → ((a || b) || c) ≡ true → 0 < more b (more a n)
-    go a true c n h i = omega arith
-    go true false c n h i = omega arith
-    go false false c n h i = h i
+    go a b c n h i = grind (arith, h, i)
 
 pub is_told : (who : Who) (H : List Call) (call : Call) → unheard who (call ∷ H) ≢ unheard who H → IsTrue (unheard_news who (call ∷ H))
 is_told who H (TakeNews (Some MessagesMissed)) n = absurd (n refl)
 is_told who H call n = go (ends_by who H call) (unheard_by who H call) n
   where
     go : (a b : Bool) → (more b (more a (unheard who H)) ≢ unheard who H) → ((a || b) || unheard_news who H) ≡ true
-    go true b m = refl
-    go false true m = refl
-    go false false m = absurd (m refl)
+    go a b m = grind (arith, m)
 
 -- ---- what is heard is for the program
 
 abbrev IsWanted : Who → Option OpenBroadcast → Type 0
 IsWanted who None = Unit {0}
 IsWanted who (Some x) = is_ignored who x.group ≡ false
-
-wanted_left : (who : Who) (b : Bool) (o : Option OpenBroadcast) → IsWanted who o → IsWanted who (left b o)
-wanted_left who b None h = tt
-wanted_left who b (Some x) h = go (b && not (is_whole x))
-  where
-    go : (c : Bool) → IsWanted who (if c then None else Some x)
-    go true = tt
-    go false = h
 
 wanted_effect : (who : Who) (now : ℕ) (f : FrameRecord) (o y : Option OpenBroadcast) (a b : Bool) → Effect who now f o a b y → IsWanted who o → IsWanted who y
 wanted_effect who now f o y a b (begins e1 e2 e3 e4 e5 e6 e7) h = subst (IsWanted who) (sym e7) e2
@@ -314,9 +264,9 @@ wanted_effect who now f o y a b (stays x e1 e2 e3 e4) h = subst (IsWanted who) (
 wanted : (w : Who) (H : List Call) → IsWanted w (hearing w H)
 wanted w [] = tt
 wanted w (At when (Hear f) ∷ H) =
-    wanted_effect w (time_heard (At when (Hear f) ∷ H)) f _ _ _ _ (effect w (time_heard (At when (Hear f) ∷ H)) f (found w H when f)) (wanted_left w _ (hearing w H) (wanted w H))
-wanted w (At now Tick ∷ H) = wanted_left w (is_out (time_heard (At now Tick ∷ H)) (hearing w H)) (hearing w H) (wanted w H)
-wanted w (At now (TakeFrame (Some f)) ∷ H) = wanted_left w (changes (holder w H) (holder w (At now (TakeFrame (Some f)) ∷ H)) (hearing w H)) (hearing w H) (wanted w H)
+    wanted_effect w (time_heard (At when (Hear f) ∷ H)) f _ _ _ _ (effect w (time_heard (At when (Hear f) ∷ H)) f (found w H when f)) (left_keeps (IsWanted w) _ (hearing w H) tt (wanted w H))
+wanted w (At now Tick ∷ H) = left_keeps (IsWanted w) (is_out (time_heard (At now Tick ∷ H)) (hearing w H)) (hearing w H) tt (wanted w H)
+wanted w (At now (TakeFrame (Some f)) ∷ H) = left_keeps (IsWanted w) (changes (holder w H) (holder w (At now (TakeFrame (Some f)) ∷ H)) (hearing w H)) (hearing w H) tt (wanted w H)
 wanted w (ReleaseBroadcast true ∷ H) = tt
 wanted w (call ∷ H) = wanted w H
 
@@ -337,11 +287,7 @@ wanted_whole who H when f p e = not_ignored who p.1.pgn (go (waiting who H) e)
     go (Some q) i = absurd (cc)
 
 pub unequal : (m n : ℕ) → (m ≢ n) → nat_eq m n ≡ false
-unequal m n h = go (nat_eq m n) refl
-  where
-    go : (b : Bool) → nat_eq m n ≡ b → b ≡ false
-    go true e = absurd (h (eqb-true m n e))
-    go false e = refl
+unequal m n h = grind (arith, h)
 
 -- ---- packets
 
@@ -379,12 +325,8 @@ module _ (who : Who) (H : List Call) (when : ℕ) (f : FrameRecord) where
       λ i. if e i then (if has_room (source_of f.id) (Some x) then opens who now f else Some x) else if p i
       then (if w i || not (eq-eqb _ _ s i) then Some x else if k i then None else if l i then Some (grown now f x) else Some x) else Some x
 
-  none_skipped : (n c : ℕ) → n ≡ suc c → nat_lt (suc c) n ≡ false
-  none_skipped n c e = grind arith
-
   always : (b : Bool) → (b || true) ≡ true
-  always true = refl
-  always false = refl
+  always b = grind arith
 
   over_ends : (x : OpenBroadcast) → hearing who H ≡ Some x → is_whole x ≡ false → is_over (holder who H) (holder who K) now (Some x) ≡ true → found who H when f ≡ None
   over_ends x e w l =
@@ -392,7 +334,7 @@ module _ (who : Who) (H : List Call) (when : ℕ) (f : FrameRecord) where
 
   pub next_appended : (x : OpenBroadcast) → claim_of f ≡ None → announces f ≡ false → IsTrue (packs f) → hearing who H ≡ Some x → is_whole x ≡ false
       → source_of f.id ≡ x.source → is_late now x ≡ false → slice_index f.bytes 0 ≡ suc x.count → hearing who K ≡ Some (grown now f x)
-  next_appended x e g k l m n o p = hears_found x e l o ∙ packed_by x false true g k m n (none_skipped _ _ p) (eq-eqb _ _ p)
+  next_appended x e g k l m n o p = hears_found x e l o ∙ packed_by x false true g k m n (lt_false _ _ (omega (arith, p))) (eq-eqb _ _ p)
 
   pub gap_ends : (x : OpenBroadcast) → claim_of f ≡ None → announces f ≡ false → IsTrue (packs f) → hearing who H ≡ Some x → is_whole x ≡ false
       → source_of f.id ≡ x.source → is_late now x ≡ false → suc x.count < slice_index f.bytes 0 → hearing who K ≡ None
@@ -420,8 +362,7 @@ module _ (who : Who) (H : List Call) (when : ℕ) (f : FrameRecord) where
   strangers e g k = ap (hears who now f) (unclaimed e) ∙ go (hearing who H) refl
     where
       none : (b : Bool) → (let o : Option OpenBroadcast = None in if b then o else o) ≡ None
-      none true = refl
-      none false = refl
+      none b = grind arith
 
       gone : hears who now f None ≡ None
       gone = (λ i. if g i then opens who now f else if packs f then None else None) ∙ none (packs f)
@@ -533,11 +474,7 @@ appends who H when f x now k p s n w h =
 
 -- one that isn't whole
 not_full : (x : OpenBroadcast) → whole_of (Some x) ≡ None → is_whole x ≡ false
-not_full x e = go (is_whole x) e
-  where
-    go : (v : Bool) → (if v then Some (message_by x) else None) ≡ None → v ≡ false
-    go true i = absurd (cc)
-    go false i = refl
+not_full x e = grind (arith, e)
 
 open_one : (who : Who) (call : Call) (H : List Call) (x : OpenBroadcast) → AreKept who call H (Some x) → is_whole x ≡ false
     → Begun who H x × (holder who (call ∷ H) x.source ≡ holder who H x.source)
@@ -597,19 +534,11 @@ quiet_more who call H (Some x) quiet (inr h) = inr (goes_on who call H x x h.0 h
 -- it isn't over, so its source has the holder that it had
 unchanged_by : (before after : ℕ → Option ℕ) (o : Option OpenBroadcast) → IfSome o (λ x. changes before after o ≡ false → after x.source ≡ before x.source)
 unchanged_by before after None = tt
-unchanged_by before after (Some x) = go (is_same (before x.source) (after x.source)) refl
-  where
-    go : (b : Bool) → is_same (before x.source) (after x.source) ≡ b → not b ≡ false → after x.source ≡ before x.source
-    go true e g = same_is _ _ e
-    go false e g = absurd (cc)
+unchanged_by before after (Some x) = λ e. same_is _ _ (grind (arith, e))
 
 not_over : (before after : ℕ → Option ℕ) (now : ℕ) (o : Option OpenBroadcast) → IfSome o (λ x. is_over before after now o ≡ false → after x.source ≡ before x.source)
 not_over before after now None = tt
-not_over before after now (Some x) = go (changes before after (Some x)) (is_late now x) (unchanged_by before after (Some x))
-  where
-    go : (a b : Bool) → (a ≡ false → after x.source ≡ before x.source) → (a || b) ≡ false → after x.source ≡ before x.source
-    go true b h e = absurd (cc)
-    go false b h e = h refl
+not_over before after now (Some x) = λ e. same_is _ _ (grind (arith, e))
 
 same_holders : (who : Who) (call : Call) (H : List Call) (b : Bool) (o : Option OpenBroadcast) → ((a : ℕ) → holder who (call ∷ H) a ≡ holder who H a)
     → IfSome o (λ x. b ≡ false → holder who (call ∷ H) x.source ≡ holder who H x.source)

@@ -1,6 +1,6 @@
 -- Broadcasts in packets that are heard, call by call.
 use Rattle.std.proofs.Common.{◌≡◌, ◌⊎◌, ℕ, suc, ◌+◌, List, [], ◌∷◌, length, drop, slice_index, min, Option, Some, None, IfSome, Bool, true, false, not, ◌&&◌, ◌||◌, if◌then◌else◌, nat_eq, nat_lt, nat_le, refl, sym, ap, ◌∙◌, subst, inl, inr, arith, eq-eqb, eqb-true}
-use Rattle.std.proofs.lemmas.Bool.{and_parts}
+use Rattle.std.proofs.lemmas.Bool.{and_parts, cond_both}
 use Rattle.std.proofs.lemmas.List.{length-append}
 use Rattle.j39_frame.specs.Frame.{FrameRecord}
 use Rattle.j39_frame.specs.Identifier.{source_of}
@@ -119,11 +119,7 @@ missed_one m = omega arith
 
 missed_more : (b c : Bool) (n m : ℕ) → n ≡ min m 18446744073709551615 → b ≡ c
     → (if b then min (n + 1) 18446744073709551615 else n) ≡ min (more c m) 18446744073709551615
-missed_more b c n m e g = by b e ∙ ap (λ (d : Bool). min (more d m) 18446744073709551615) g
-  where
-    by : (b : Bool) → n ≡ min m 18446744073709551615 → (if b then min (n + 1) 18446744073709551615 else n) ≡ min (more b m) 18446744073709551615
-    by true i = ap (λ (k : ℕ). min (k + 1) 18446744073709551615) i ∙ missed_one m
-    by false i = i
+missed_more b c n m e g = grind (arith, e, g)
 
 -- where it is over it ends and is counted
 pub record Leaves (w : Who) (H : List Call) (over result : Bool) (m : HearingRecord) : Type 0 where
@@ -158,8 +154,7 @@ unclaimed : (w : Who) (H : List Call) (now : ℕ) (f : FrameRecord) → is_claim
 unclaimed w H now f e = unchanged (holder w H) (holder w (At now (TakeFrame (Some f)) ∷ H)) (hearing w H) (λ a. cond (is_claim f) _ (holder w H a) e)
   where
     cond : (b : Bool) (x y : Option ℕ) → b ≡ false → (if b then x else y) ≡ y
-    cond true x y e = absurd (cc)
-    cond false x y e = refl
+    cond b x y e = grind (arith, e)
 
 pub hearing_same : (w : Who) (H : List Call) (now : ℕ) (f : FrameRecord) → is_claim f ≡ false → hearing_after w H ≡ hearing_after w (At now (TakeFrame (Some f)) ∷ H)
 hearing_same w H now f e =
@@ -175,9 +170,7 @@ news_same w H now f e =
 
 -- what a tick or its own claim ends is news
 pub broken_news : (b m u : Bool) → (b || (m || u)) ≡ (m || ((b || false) || u))
-broken_news true true u = refl
-broken_news true false u = refl
-broken_news false m u = refl
+broken_news b m u = grind arith
 
 pub claimed_on : (w : Who) (H : List Call) (now : ℕ) (f : FrameRecord) (old new : Claims) (b result : Bool) (p q : Option ℕ) (x y : HearingRecord) → x ≡ hearing_after w H
     → Knows old (told_claims w H) → Knows new (told_claims w (At now (TakeFrame (Some f)) ∷ H))
@@ -190,13 +183,9 @@ claimed_on w H now f old new b result p q x y h k l e1 e2 e3 e4 e5 e6 =
 
 -- ---- a frame is heard
 
-pub fit_left : (b : Bool) (o : Option OpenBroadcast) → IsFit o → IsFit (left b o)
-fit_left b None h = tt
-fit_left b (Some x) h = go (b && not (is_whole x))
-  where
-    go : (c : Bool) → IsFit (if c then None else Some x)
-    go true = tt
-    go false = h
+pub left_keeps : (P : Option OpenBroadcast → Type 0) (b : Bool) (o : Option OpenBroadcast) → P None → P o → P (left b o)
+left_keeps P b None n h = h
+left_keeps P b (Some x) n h = cond_both (b && not (is_whole x)) None (Some x) P (λ e. n) (λ e. h)
 
 pub drop_one : (xs : List ℕ) → length xs ≡ 8 → length (drop 1 xs) ≡ 7
 drop_one [] e = absurd (cc)
@@ -218,9 +207,9 @@ fit_effect w now f o y a b (stays x e1 e2 e3 e4) h = subst IsFit (sym e4) (subst
 pub fit : (w : Who) (H : List Call) → IsFit (hearing w H)
 fit w [] = tt
 fit w (At when (Hear f) ∷ H) =
-    fit_effect w (time_heard (At when (Hear f) ∷ H)) f _ _ _ _ (effect w (time_heard (At when (Hear f) ∷ H)) f (found w H when f)) (fit_left _ (hearing w H) (fit w H))
-fit w (At now Tick ∷ H) = fit_left (is_out (time_heard (At now Tick ∷ H)) (hearing w H)) (hearing w H) (fit w H)
-fit w (At now (TakeFrame (Some f)) ∷ H) = fit_left (changes (holder w H) (holder w (At now (TakeFrame (Some f)) ∷ H)) (hearing w H)) (hearing w H) (fit w H)
+    fit_effect w (time_heard (At when (Hear f) ∷ H)) f _ _ _ _ (effect w (time_heard (At when (Hear f) ∷ H)) f (found w H when f)) (left_keeps IsFit _ (hearing w H) tt (fit w H))
+fit w (At now Tick ∷ H) = left_keeps IsFit (is_out (time_heard (At now Tick ∷ H)) (hearing w H)) (hearing w H) tt (fit w H)
+fit w (At now (TakeFrame (Some f)) ∷ H) = left_keeps IsFit (changes (holder w H) (holder w (At now (TakeFrame (Some f)) ∷ H)) (hearing w H)) (hearing w H) tt (fit w H)
 fit w (ReleaseBroadcast true ∷ H) = tt
 fit w (call ∷ H) = fit w H
 
@@ -235,8 +224,7 @@ unheard_is w f o a b e g =
     λ i. if e i then (if has_room (source_of f.id) o then is_partial o else not (is_ignored w (pgn_named f))) else g i && Rattle.j39_node.specs.Hearing.is_gap f o
 
 pub no_announcement : (b : Bool) → (b ≡ true → false ≡ true) → b ≡ false
-no_announcement true f = absurd (let z : false ≡ true = f refl in cc)
-no_announcement false f = refl
+no_announcement b f = grind (arith, f)
 
 pub packs_is : (f : FrameRecord) (b : Bool) → b ≡ (is_key (by (source_of f.id)) && goes transport_data_group (source_of f.id) 255 f) → packs f ≡ b
 unfolding is_packet
@@ -261,7 +249,7 @@ heard_on w H when f old new b over broken u now p q x m y h k l t e1 e2 e3 e4 e5
     let on = leaves_on w H over broken over_by x m h
     (either_over over b _ _ _ x.current e4 (changes_is w H G old new b p q x.current k l e1 e2 e3) (ap (λ (n : ℕ). is_out n x.current) t)) e5 e6 e7 in
     let says : u ≡ is_unheard w f (found w H when f) = e8 ∙ ap (is_unheard w f) on.current in
-    let fits : IsFit m.current = subst IsFit (sym on.current) (fit_left (over_by (hearing w H)) (hearing w H) (fit w H)) in
+    let fits : IsFit m.current = subst IsFit (sym on.current) (left_keeps IsFit (over_by (hearing w H)) (hearing w H) tt (fit w H)) in
     record {
       breaks = on.says;
       unheard = says;
@@ -271,13 +259,4 @@ heard_on w H when f old new b over broken u now p q x m y h k l t e1 e2 e3 e4 e5
 
 -- news that stands, or is new: of messages of one frame, and of broadcasts
 pub either_news : (e a b c d : Bool) → (e || ((a || b) || (c || d))) ≡ ((a || c) || ((e || d) || b))
-either_news true true b c d = refl
-either_news true false b true d = refl
-either_news true false b false d = refl
-either_news false true b c d = refl
-either_news false false true true d = refl
-either_news false false true false true = refl
-either_news false false true false false = refl
-either_news false false false true d = refl
-either_news false false false false true = refl
-either_news false false false false false = refl
+either_news e a b c d = grind arith

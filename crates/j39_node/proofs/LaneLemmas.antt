@@ -133,8 +133,7 @@ lane_frame w H now f right case h = go case
         (packet_case (open_broadcast w H) (length (packets H)) (pause H - step H now) m g) h)
 
 not_either : (a b : Bool) → (a || b) ≡ false → a ≡ false
-not_either true b e = absurd (cc)
-not_either false b e = refl
+not_either a b e = grind (arith, e)
 
 -- a broadcast is accepted
 lane_opens : (w : Who) (H : List Call) (now group k : ℕ) (bytes : List ℕ) → BroadcastCase w H now group bytes (Ok k)

@@ -306,8 +306,7 @@ not_subscribed w H when f e = (
 )
   where
     nothing : (a : Bool) → (a && false) ≡ false
-    nothing true = refl
-    nothing false = refl
+    nothing a = grind arith
 
     none : is_for_program w (holds w H when) f ≡ false
     none =
@@ -342,8 +341,7 @@ or_true : (a b : Bool) → a ≡ true → (a || b) ≡ true
 or_true a b e = ap (λ (c : Bool). c || b) e
 
 or_right : (a b : Bool) → b ≡ true → (a || b) ≡ true
-or_right true b e = refl
-or_right false b e = e
+or_right a b e = grind (arith, e)
 
 -- what is owed stays owed until a frame is taken
 still_owed : (w : Who) (later H : List Call) → frames later ≡ [] → owes_claim w H ≡ true → owes_claim w (later ++ H) ≡ true
@@ -573,8 +571,7 @@ refused_it w r A s room place at e g =
     ∙ ap (λ (x : Bool). if (at && place) && not (x && room) then A ++ acknowledgment w (if x then Busy else Nack) r ∷ [] else A) e
 
 off : (b c : Bool) → (b && not (true && true)) ≡ false
-off true c = refl
-off false c = refl
+off b c = grind arith
 
 pub is_handed : (w : Who) (H : List Call) (when : ℕ) (f : FrameRecord) (r : Asked) → asked w (holds w H when) f ≡ Some r → IsTrue (is_served w r.group)
     → length (requests w H) < length (handed H) + 16 → (requests w (At when (Hear f) ∷ H) ≡ requests w H ++ r ∷ []) × (due w (At when (Hear f) ∷ H) ≡ due w H)

@@ -92,8 +92,7 @@ signal_parts t now xs a h = cond_both t.gone None _ (λ (o : Option Signal). o �
     (λ z. go (gives_up t) refl)
   where
     running : (x y : Bool) → (x && y) ≡ true → y ≡ true
-    running true y e = e
-    running false y e = absurd (cc)
+    running x y e = grind (arith, e)
 
     go : (b : Bool) → gives_up t ≡ b → (if b then Some (Abort 5 t.sender.message.pgn) else (send_step t.sender Tick now).says) ≡ Some a
         → Moved (if b then aborted 5 t.sender else (send_step t.sender Tick now).after) (xs ++ says t.sender a ∷ [])

@@ -72,16 +72,10 @@ place_none None p q e = refl
 place_none (Some x) p q e = absurd (let z : false ≡ true = sym (q x) ∙ e in cc)
 
 no_news : (a b c : Bool) → not (a || (b || c)) ≡ true → news_of a b c ≡ None
-no_news true b c e = absurd (cc)
-no_news false true c e = absurd (cc)
-no_news false false true e = absurd (cc)
-no_news false false false e = refl
+no_news a b c e = grind (arith, e)
 
 news_none : (a b c : Bool) → news_of a b c ≡ None → not (a || (b || c)) ≡ true
-news_none true b c e = absurd (cc)
-news_none false true c e = absurd (cc)
-news_none false false true e = absurd (cc)
-news_none false false false e = refl
+news_none a b c e = grind (arith, e)
 
 -- ---- all of them
 

@@ -182,8 +182,7 @@ not_left before after (Some x) b r e f g =
     (same_is (before x.message.source) (after x.message.source) (flip (is_same (before x.message.source) (after x.message.source)) (e ∙ f)))
   where
     flip : (c : Bool) → not c ≡ false → c ≡ true
-    flip true i = refl
-    flip false i = absurd (cc)
+    flip c e = grind (arith, e)
 
 -- ---- a step of the receiver
 
@@ -206,8 +205,7 @@ pub is_of : (x : ReceptionRecord) (source : ℕ) → is_taken source (Some x) �
 is_of x source e = eqb-true _ _ (flip (source == x.message.source) e)
   where
     flip : (c : Bool) → not c ≡ false → c ≡ true
-    flip true i = refl
-    flip false i = absurd (cc)
+    flip c e = grind (arith, e)
 
 -- it keeps the source of a session that stays, and what it delivers is of that source
 pub record Kept (x : ReceptionRecord) (y : RecvResult) : Type 0 where
@@ -503,8 +501,7 @@ goes_there f group l e = go (nat_lt (pf_of f.id) 240) refl
     go false g = absurd (let z = ltb-false _ _ g in far f.id group (if_high (nat_lt (pf_of f.id) 240) g) z l e)
       where
         if_high : (b : Bool) → b ≡ false → (if b then 0 else ps_of f.id) ≡ ps_of f.id
-        if_high true i = absurd (cc)
-        if_high false i = refl
+        if_high b e = grind (arith, e)
 
         far : (id g : ℕ) → (if nat_lt (pf_of id) 240 then 0 else ps_of id) ≡ ps_of id → 240 ≤ pf_of id → g / 256 % 256 < 240 → pgn_of id ≡ g → ⊥
         far id g i k m n = absurd (omega (arith, i, k, m, n))
@@ -584,8 +581,7 @@ holder_stays before after o r e h =
     ap (leaves before after) e ∙ (ap (λ (x : Option ℕ). not (is_same (before r.message.source) x)) h ∙ ap not (same_self (before r.message.source)))
 
 not_lost : (b : Bool) (a : Address) → is_lost (if b then Lost else a) ≡ false → b ≡ false
-not_lost true a e = absurd (cc)
-not_lost false a e = refl
+not_lost b a e = grind (arith, e)
 
 pub from_others : (w : Who) (H : List Call) (when : ℕ) (f : FrameRecord) (r : ReceptionRecord) → is_lost (address_after w (At when (Hear f) ∷ H)) ≡ false
     → holder w (At when (Hear f) ∷ H) r.message.source ≡ holder w H r.message.source → (reception w H).session ≡ Some r → source_of f.id ≢ r.message.source

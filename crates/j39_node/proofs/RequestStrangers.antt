@@ -1,5 +1,5 @@
 -- A frame of who wasn't asked, or to another address, says nothing to a request, and ends none.
-use Rattle.std.proofs.Common.{◌≡◌, ◌≢◌, ℕ, ◌-◌, List, ◌∷◌, length, Option, Some, None, Bool, true, false, ◌&&◌, ◌||◌, if◌then◌else◌, nat_eq, nat_lt, refl, sym, ap, ◌∙◌, eqb-true}
+use Rattle.std.proofs.Common.{arith, ◌≡◌, ◌≢◌, ℕ, ◌-◌, List, ◌∷◌, length, Option, Some, None, Bool, true, false, ◌&&◌, ◌||◌, if◌then◌else◌, nat_eq, nat_lt, refl, sym, ap, ◌∙◌, eqb-true}
 use Rattle.std.specs.List.{slice_get}
 use Rattle.std.specs.Option.{option_map, option_or}
 use Rattle.j39_frame.specs.Frame.{FrameRecord}
@@ -60,20 +60,11 @@ made_source w H when f x e = go (whole w H when f) (made_whole w H when f) refl 
 -- ---- another says nothing
 
 pub and_false : (b : Bool) → (b && false) ≡ false
-and_false true = refl
-and_false false = refl
+and_false b = grind arith
 
 silent_by : (w : Who) (q : Question) (f : FrameRecord) (o : Option (ℕ × ℕ)) → seeks q o ≡ false → is_answer q f ≡ false → is_reply w q f ≡ false
     → says_to w q f o ≡ None
-silent_by w q f o a b c = (λ i. by (a i) (b i) (c i)) ∙ none (reaches w f)
-  where
-    by : Bool → Bool → Bool → Option AskEnding
-    by x y z =
-        if x then Some Answered else if reaches w f then (if y then Some Answered else if z then said_by (slice_get f.bytes 0) else None) else None
-
-    none : (r : Bool) → (let n : Option AskEnding = None in if r then n else n) ≡ None
-    none true = refl
-    none false = refl
+silent_by w q f o a b c = grind (arith, a, b, c)
 
 pub of_another : (w : Who) (H : List Call) (when : ℕ) (f : FrameRecord) (q : Question) → q.to ≢ 255 → source_of f.id ≢ q.to → says_to w q f (made w H when f) ≡ None
 of_another w H when f q n m =

@@ -127,12 +127,10 @@ frame_case w H now f e =
 -- ---- who gives way
 
 no_claim_goes : (owes : Bool) → (owes && false) ≡ false
-no_claim_goes true = refl
-no_claim_goes false = refl
+no_claim_goes owes = grind arith
 
 pub goes_on : (owes : Bool) → (owes && true) ≡ owes
-goes_on true = refl
-goes_on false = refl
+goes_on owes = grind arith
 
 -- where something gives way the other frame goes
 pub given_way : (w : Who) (H : List Call) (now : ℕ) → gives_way w H now ≡ true → (m : Message) × (next_other w H now ≡ Some m) × (next_frame w H now ≡ Some (now, m))
@@ -259,8 +257,7 @@ packet_session f e = go (is_session f) (is_some (destination_of f.id) 255) refl 
     go true true p q r = (p, ap (λ (x : Bool). is_session f && not x) q ∙ off (is_session f))
       where
         off : (x : Bool) → (x && false) ≡ false
-        off true = refl
-        off false = refl
+        off x = grind arith
     go true false p q r = absurd (cc)
     go false b p q r = absurd (cc)
 
@@ -276,8 +273,7 @@ reply_no_move w H f m e = ap (λ (b : Bool). is_transfer f && b) (some_wait (rec
     some_wait (x ∷ L) g = refl
 
     off : (b : Bool) → (b && false) ≡ false
-    off true = refl
-    off false = refl
+    off b = grind arith
 
 -- and where none does
 pub is_moved : (w : Who) (H : List Call) (f : FrameRecord) → is_transfer f ≡ true → slice_get (reception w H).replies 0 ≡ None → is_move w H f ≡ true
@@ -423,8 +419,7 @@ neither true y e = absurd (cc)
 neither false y e = (refl, e)
 
 no : (x : Bool) → not x ≡ true → x ≡ false
-no true e = absurd (cc)
-no false e = refl
+no x e = grind (arith, e)
 
 is_own : (w : Who) (d : Draft) → can_send w d ≡ true → IsOwn w (message_from w d)
 is_own w d e =

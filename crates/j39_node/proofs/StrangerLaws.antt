@@ -124,8 +124,7 @@ open_stays w H when f right e n = go (open_transfer w H) refl
         (ap (is_replaced (holder w H t.sender.destination)) (unclaimed w H when f t.sender.destination e) ∙ same_held (holder w H t.sender.destination))
 
 pub no_more : (b : Bool) → (b || false) ≡ b
-no_more true = refl
-no_more false = refl
+no_more b = grind arith
 
 none_asked : (w : Who) (held : Bool) (f : FrameRecord) (d : Option ℕ) → asked_with w held f d None ≡ None
 none_asked w held f None = refl
@@ -148,8 +147,7 @@ frame_stays w H c when f now is e g n m =
         message long) else None
 
     never : (b : Bool) → (b && false) ≡ false
-    never true = refl
-    never false = refl
+    never b = grind arith
 
     differs : (b : Bool) → nat_eq (source_of f.id) w.address ≡ b → nat_eq (source_of f.id) w.address ≡ false
     differs true i = absurd (m (eqb-true _ _ i))

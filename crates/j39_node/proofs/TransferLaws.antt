@@ -248,8 +248,7 @@ budget_hears false true f now t n h = record { count = h.count; granted = h.gran
 budget_hears false false f now t n h = go (t.gone || is_spent t) refl
   where
     second : (x y : Bool) → (x || y) ≡ false → y ≡ false
-    second true y e = absurd (cc)
-    second false y e = e
+    second x y e = grind (arith, e)
 
     same : packets_of (send_step t.sender (Heard f) now).after.message ≡ packets_of t.sender.message
     same = ap packets_of (hears_same false false f now (record t { gone = false; spent = 0 })).0
@@ -596,8 +595,7 @@ stays_heard s f now e = go (said_between s.destination s.message.source f)
     still = ap is_running e
 
     not_first : (a b c d : Bool) → a ≡ false → (a && b && c && d) ≡ false
-    not_first true b c d k = absurd (cc)
-    not_first false b c d k = refl
+    not_first a b c d e = grind (arith, e)
 
     go : (o : Option Signal) → (sending.hears o now s).state ≡ sending.Done
     go (Some (ClearToSend count p pgn)) = cond_both (pgn == s.message.pgn) _ _ (λ (r : SenderRecord). r.state ≡ sending.Done)

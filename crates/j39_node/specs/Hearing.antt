@@ -212,7 +212,7 @@ got_broadcasts w (call ∷ H) = got_broadcasts w H
 
 -- ---- of one sender
 
--- no announcement of a, and of its packets a repeat at most, where n came
+-- no announcement of a, nor a packet of it but one of a number that came, where n did
 abbrev pub is_beside : ℕ → ℕ → FrameRecord → Bool
 is_beside a n f = not (nat_eq (source_of f.id) a) || (not (announces f) && (not (packs f) || nat_le (slice_index f.bytes 0) n))
 
@@ -222,8 +222,8 @@ pub data IsPartOf (a : ℕ) : List FrameRecord → List FrameRecord → Type 0 w
   passed : (f : FrameRecord) (part all : List FrameRecord) → IsTrue (is_beside a (length part) f) → IsPartOf a part all → IsPartOf a part (all ++ f ∷ [])
   chosen : (f : FrameRecord) (part all : List FrameRecord) → IsPartOf a part all → IsPartOf a (part ++ f ∷ []) (all ++ f ∷ [])
 
--- an announcement of the message was heard and its packets after it, in order, with nothing else of its source between them but
--- repeats; and since, one NAME held its source, or none did
+-- an announcement of the message was heard and its packets after it, in order, and of its source nothing between them but packets of
+-- numbers that came before; and since, one NAME held its source, or none did
 pub record WasBroadcast (w : Who) (H : List Call) (m : MessageRecord) : Type 0 where
   pub later : List Call
   pub at : ℕ

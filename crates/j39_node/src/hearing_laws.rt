@@ -13,8 +13,8 @@ ghost use Rattle.j39_node.specs.Hearing.{OpenBroadcast, WasBroadcast, announced,
 ghost use Rattle.j39_node.specs.Is.{Is};
 ghost use Rattle.j39_node.specs.Reception.{holder, listed, time_heard};
 
-/// What packets to all make whole is got by the program, each once, in order, or waits. It was sent by one, and is one message: its
-/// announcement was heard, then its packets in order, with nothing else of its source between them but repeats, and since the
+/// What packets to all make whole is got by the program, each once, in order, or waits. It was sent by one: its announcement was heard,
+/// then its packets in order, and of its source nothing between them but packets of numbers that came before; and since the
 /// announcement one NAME held its source, or none.
 pub fn broadcasts_received()
     ensures in_order { (w : Who) (H : List Call) → whole_broadcasts w H ≡ got_broadcasts w H ++ listed (waiting w H) }
