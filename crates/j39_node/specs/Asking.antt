@@ -237,11 +237,12 @@ pub record HeardFirst (w : Who) (H : List Call) (q : Question) (ending : AskEndi
   pub in_time : (since + step earlier at < 1250000) ⊎ IsTrue (comes w earlier (time_heard (At at (Hear frame) ∷ earlier)))
   pub says : says_to w q frame (made w earlier at frame) ≡ Some ending
 
--- at a call of H 1,250 ms and more had passed since its frame was taken, and no answer was coming: by it, or before the frame that it hears
+-- what was coming before the frame that the last call heard
 abbrev pub found_coming : Who → List Call → Bool
 found_coming w (At now (Hear f) ∷ H) = comes w H (time_heard (At now (Hear f) ∷ H))
 found_coming w H = comes w H (time_heard H)
 
+-- at a call of H, 1,250 ms or more after its frame was taken, no answer was coming: behind it, or before the frame that it heard
 pub record RanOut (w : Who) (H : List Call) (q : Question) : Type 0 where
   pub later : List Call
   pub earlier : List Call
