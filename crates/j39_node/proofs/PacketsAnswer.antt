@@ -17,7 +17,7 @@ use Rattle.j39_node.specs.History.Call.{At}
 use Rattle.j39_node.specs.History.Act.{Hear}
 use Rattle.j39_node.specs.Reception.{Reception, has_place, holder, leaves, left, receiver_at, reception, time_heard, whole, whole_by}
 use Rattle.j39_node.specs.Hearing.{OpenBroadcast, begun, found, grown, hearing, is_late, is_over, is_whole as is_full, made_whole, message_by, newly, packs, waiting, whole_of}
-use Rattle.j39_node.specs.Asking.{Question, comes, in_broadcast, in_session, is_coming, made, made_of, open_ask, says_to, seeks}
+use Rattle.j39_node.specs.Asking.{Question, comes, in_broadcast, in_session, is_coming, is_from, made, made_of, open_ask, says_to, seeks}
 use Rattle.j39_node.proofs.HearingLaws.{begun_open, whole_is, whole_of_left, none_is as not_both}
 use Rattle.j39_node.proofs.HearingLemmas.{Effect, begins, ends, grows, stays, effect}
 use Rattle.j39_node.proofs.ReceptionLaws.{goes_there, not_said, quiet_step}
@@ -113,7 +113,7 @@ seeks_from q source group e = go (nat_eq group q.group) (nat_eq q.to 255) (nat_e
 
 abbrev InSession : Who → List Call → Question → Type 0
 InSession w H q =
-    (r : ReceptionRecord) × ((reception w H).session ≡ Some r) × (r.message.group ≡ q.group) × ((q.to ≡ 255) ⊎ (r.message.source ≡ q.to))
+    (r : ReceptionRecord) × ((reception w H).session ≡ Some r) × (r.message.source ≡ q.to)
 
 abbrev InBroadcast : Who → List Call → ℕ → Question → Type 0
 InBroadcast w H time q =
@@ -122,14 +122,14 @@ InBroadcast w H time q =
 
 pub comes_means : (w : Who) (H : List Call) (time : ℕ) (q : Question) → open_ask H ≡ Some q → (IsTrue (comes w H time) ↔ (InSession w H q ⊎ InBroadcast w H time q))
 comes_means w H time q o = (
-  λ z. split (seeks q (in_session (reception w H).session)) (seeks q (in_broadcast time (hearing w H))) refl refl
+  λ z. split (is_from q (in_session (reception w H).session)) (seeks q (in_broadcast time (hearing w H))) refl refl
       (sym (ap (λ (x : Option Question). is_coming x (in_session (reception w H).session) (in_broadcast time (hearing w H))) o) ∙ z),
   from,
 )
   where
-    by_session : (s : Option ReceptionRecord) → (reception w H).session ≡ s → seeks q (in_session s) ≡ true → InSession w H q
+    by_session : (s : Option ReceptionRecord) → (reception w H).session ≡ s → is_from q (in_session s) ≡ true → InSession w H q
     by_session None i e = absurd (cc)
-    by_session (Some r) i e = let s = seeks_from q r.message.source r.message.group e in (r, i, s.0, s.1)
+    by_session (Some r) i e = (r, i, eqb-true _ _ e)
 
     by_broadcast : (b : Option OpenBroadcast) → hearing w H ≡ b → seeks q (in_broadcast time b) ≡ true → InBroadcast w H time q
     by_broadcast None i e = absurd (cc)
@@ -140,17 +140,17 @@ comes_means w H time q o = (
         go false true j k e = absurd (cc)
         go false false j k e = let s = seeks_from q x.source x.group e in (x, i, j, k, s.0, s.1)
 
-    split : (a b : Bool) → seeks q (in_session (reception w H).session) ≡ a → seeks q (in_broadcast time (hearing w H)) ≡ b → (a || b) ≡ true → InSession w H q ⊎ InBroadcast w H time q
+    split : (a b : Bool) → is_from q (in_session (reception w H).session) ≡ a → seeks q (in_broadcast time (hearing w H)) ≡ b → (a || b) ≡ true → InSession w H q ⊎ InBroadcast w H time q
     split true b i j z = inl (by_session (reception w H).session refl i)
     split false true i j z = inr (by_broadcast (hearing w H) refl j)
     split false false i j z = absurd (cc)
 
     from : InSession w H q ⊎ InBroadcast w H time q → IsTrue (comes w H time)
-    from (inl (r, i, g, a)) =
+    from (inl (r, i, g)) =
         (λ z. is_coming (o z) (in_session (i z)) (in_broadcast time (hearing w H)))
-        ∙ ap (λ (b : Bool). b || seeks q (in_broadcast time (hearing w H))) (seeks_by q r.message.source r.message.group g a)
+        ∙ ap (λ (b : Bool). b || seeks q (in_broadcast time (hearing w H))) (eq-eqb _ _ g)
     from (inr (x, i, n, l, g, a)) =
         (λ z. is_coming (o z) (in_session (reception w H).session) (in_broadcast time (i z)))
-        ∙ ((λ z. seeks q (in_session (reception w H).session) || seeks q (if n z || l z then None else Some (x.source, x.group)))
-        ∙ (ap (λ (b : Bool). seeks q (in_session (reception w H).session) || b) (seeks_by q x.source x.group g a)
-        ∙ or_true (seeks q (in_session (reception w H).session))))
+        ∙ ((λ z. is_from q (in_session (reception w H).session) || seeks q (if n z || l z then None else Some (x.source, x.group)))
+        ∙ (ap (λ (b : Bool). is_from q (in_session (reception w H).session) || b) (seeks_by q x.source x.group g a)
+        ∙ or_true (is_from q (in_session (reception w H).session))))

@@ -13,7 +13,7 @@ use Rattle.j39_node.specs.History.Call.{At, TakeAskEnded}
 use Rattle.j39_node.specs.History.Act.{Hear, Tick}
 use Rattle.j39_node.specs.Reception.{heard_at, reception, receiver_at, session_tick, time_heard}
 use Rattle.j39_node.specs.Hearing.{OpenBroadcast, hearing, hearing_tick, is_late, is_out, is_whole, left}
-use Rattle.j39_node.specs.Asking.{Question, ask_end, comes, ended, in_broadcast, in_session, is_coming, is_taken, is_waiting, next_ask_ended, open_ask, out_at, request_tick, seeks, wait}
+use Rattle.j39_node.specs.Asking.{Question, ask_end, comes, ended, in_broadcast, in_session, is_coming, is_from, is_taken, is_waiting, next_ask_ended, open_ask, out_at, request_tick, seeks, wait}
 use Rattle.j39_node.specs.Is.{Is}
 use Rattle.j39_node.specs.Ticks.{next_tick}
 use Rattle.j39_node.specs.Transfers.{sooner}
@@ -85,13 +85,14 @@ ticked_left t s (Some x) l = go (is_late s x && not (is_whole x)) (broadcast_lef
     go true h = inr refl
     go false h = h
 
-none_begins : (o : Option Question) (a b c d : Option (ℕ × ℕ)) → (b ≡ a) ⊎ (b ≡ None) → (d ≡ c) ⊎ (d ≡ None) → is_coming o a c ≡ false → is_coming o b d ≡ false
+none_begins : (o : Option Question) (a b : Option ℕ) (c d : Option (ℕ × ℕ)) → (b ≡ a) ⊎ (b ≡ None) → (d ≡ c) ⊎ (d ≡ None) → is_coming o a c ≡ false → is_coming o b d ≡ false
 none_begins None a b c d i j e = refl
-none_begins (Some q) a b c d i j e = (λ z. one a b i (split (seeks q a) (seeks q c) e).0 z || one c d j (split (seeks q a) (seeks q c) e).1 z)
+none_begins (Some q) a b c d i j e =
+    let s = split (is_from q a) (seeks q c) e in (λ z. one (is_from q) refl a b i s.0 z || one (seeks q) refl c d j s.1 z)
   where
-    one : (a b : Option (ℕ × ℕ)) → (b ≡ a) ⊎ (b ≡ None) → seeks q a ≡ false → seeks q b ≡ false
-    one a b (inl i) e = ap (seeks q) i ∙ e
-    one a b (inr i) e = ap (seeks q) i
+    one : {T : Type 0} (f : Option T → Bool) → f None ≡ false → (a b : Option T) → (b ≡ a) ⊎ (b ≡ None) → f a ≡ false → f b ≡ false
+    one f n a b (inl i) e = ap f i ∙ e
+    one f n a b (inr i) e = ap f i ∙ n
 
     split : (x y : Bool) → (x || y) ≡ false → (x ≡ false) × (y ≡ false)
     split false false e = (refl, refl)

@@ -126,18 +126,23 @@ says_to w q f made =
 
 -- ---- an answer in packets on its way (J1939-21, 5.12.3: the 1,250 ms are for its begin)
 
--- the source and the group of the message of an open session, and of a broadcast that isn't whole, and in time
-abbrev pub in_session : Option ReceptionRecord → Option (ℕ × ℕ)
+-- the source of an open session; the source and the group of a broadcast that isn't whole, and in time
+abbrev pub in_session : Option ReceptionRecord → Option ℕ
 in_session None = None
-in_session (Some r) = Some (r.message.source, r.message.group)
+in_session (Some r) = Some r.message.source
 
 abbrev pub in_broadcast : ℕ → Option OpenBroadcast → Option (ℕ × ℕ)
 in_broadcast time None = None
 in_broadcast time (Some x) = if is_whole x || is_late time x then None else Some (x.source, x.group)
 
-abbrev pub is_coming : Option Question → Option (ℕ × ℕ) → Option (ℕ × ℕ) → Bool
+-- it is a session of whom was asked, which has one to an address at a time, so what it sends there goes before its answer (own)
+abbrev pub is_from : Question → Option ℕ → Bool
+is_from q None = false
+is_from q (Some source) = nat_eq source q.to
+
+abbrev pub is_coming : Option Question → Option ℕ → Option (ℕ × ℕ) → Bool
 is_coming None session broadcast = false
-is_coming (Some q) session broadcast = seeks q session || seeks q broadcast
+is_coming (Some q) session broadcast = is_from q session || seeks q broadcast
 
 -- at this time, by which a broadcast may be late, one to the open request is on its way
 abbrev pub comes : Who → List Call → ℕ → Bool

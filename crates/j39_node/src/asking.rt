@@ -8,7 +8,7 @@ ghost use Rattle.j39_node.specs.History.{carried, is_some, message_from, request
 ghost use Rattle.j39_frame.specs.Identifier.{id_raw};
 ghost use Rattle.j39_frame.specs.Stamp.{stamp_micros};
 ghost use Rattle.j39_node.specs.Is.{claims_request, posted, stamped, who_of};
-ghost use Rattle.j39_node.specs.Asking.{can_ask, first, is_answer, is_of, is_reply, question, reaches, said_by, says_to, seeks, silent_end};
+ghost use Rattle.j39_node.specs.Asking.{can_ask, first, is_answer, is_from, is_of, is_reply, question, reaches, said_by, says_to, seeks, silent_end};
 
 use crate::outgoing::{Outgoing, is_sendable};
 use crate::own::{ACKNOWLEDGMENT, ADDRESS_CLAIMED, Own, REQUEST, is_to, is_undirected};
@@ -82,6 +82,16 @@ impl Open {
         }
     }
 
+    /// Whether a session of this source is one of whom was asked.
+    fn is_from(&self, session: Option<u8>) -> bool
+        ensures { result ≡ is_from (ask_record self.now).question session }
+    {
+        match session {
+            Some(source) => source == self.to,
+            None => false,
+        }
+    }
+
     /// Whether a message in packets of this source and group answers it.
     fn seeks(&self, message: Option<(u8, u32)>) -> bool
         ensures { result ≡ seeks (ask_record self.now).question message }
@@ -152,12 +162,13 @@ impl Asking {
         }
     }
 
-    /// Whether an answer to the open request is on its way, in the session or the broadcast of this source and group.
-    pub(crate) fn is_coming(&self, session: Option<(u8, u32)>, broadcast: Option<(u8, u32)>) -> bool
+    /// Whether an answer to the open request is on its way: behind the session of this source, or in the broadcast of this source and
+    /// group.
+    pub(crate) fn is_coming(&self, session: Option<u8>, broadcast: Option<(u8, u32)>) -> bool
         ensures { result ≡ is_coming (option_map (λ x. x.question) (asking_of self.now)) session broadcast }
     {
         match &self.current {
-            Some(open) => open.seeks(session) || open.seeks(broadcast),
+            Some(open) => open.is_from(session) || open.seeks(broadcast),
             None => false,
         }
     }

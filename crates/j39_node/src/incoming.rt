@@ -223,11 +223,11 @@ impl Incoming {
         Stamp::new(self.moment.saturating_add(left))
     }
 
-    /// The source and the group of the message whose session is open.
-    pub(crate) fn session(&self) -> Option<(u8, u32)>
+    /// The source of the open session.
+    pub(crate) fn session(&self) -> Option<u8>
         ensures { result ≡ in_session (incoming_of self.now).reception.session }
     {
-        self.receiver.message()
+        self.receiver.source()
     }
 
     /// The receiver's time at this moment: time that goes back is no time.

@@ -231,16 +231,6 @@ impl Receiver {
         }
     }
 
-    /// From whom the message of the open session comes, and its group.
-    pub fn message(&self) -> Option<(u8, u32)>
-        ensures { result ≡ option_map (λ r. (r.message.source, r.message.group)) self.now.state.session }
-    {
-        match &self.buffers.session {
-            Some(session) => Some((session.source(), session.pgn().raw())),
-            None => None,
-        }
-    }
-
     /// The moment, in microseconds, after which a tick answers a frame; `None` with no session.
     pub fn limit(&self) -> Option<u64>
         ensures value { result ≡ option_map (λ r. r.message.last + limit_of r) self.now.state.session }

@@ -242,8 +242,8 @@ static LONG: &[Step] = &[
     Ends(Some((5, TimedOut))),
     // To this address it breaks off once its session is aborted.
     Ticks(19_000_000),
-    Asks(20_000_000, 65_227, 255, Ok(6)),
-    Gives(20_000_000, Some("(0000000020.000000) can0 18EAFF80#CBFE00")),
+    Asks(20_000_000, 65_227, 11, Ok(6)),
+    Gives(20_000_000, Some("(0000000020.000000) can0 18EA0B80#CBFE00")),
     Wakes(Some(21_250_000)),
     Hears("(20.020000) can0 1CEC800B#10D2001EFFCBFE00"),
     Wakes(Some(21_270_001)),
