@@ -117,7 +117,7 @@ static struct node {
     unsigned first_single, last_single;
     int has_broadcast, has_transfer, has_ask;
     uint64_t single_tokens, broadcast_tokens, transfer_tokens;
-    uint64_t last_packet;
+    uint64_t last_packet, heard[256];
     uint32_t serial;
     uint64_t accepted, well[5], failed;
 } nodes[2];
@@ -187,6 +187,13 @@ static int is_late(const open_message *it, uint64_t limit) {
     return now - it->accepted > limit;
 }
 
+/* A request is told in time; where a transfer of whom was asked comes meanwhile, once that is whole or has broken off: its
+ * receiver asks three times for what it lacks. */
+static int is_told(const struct node *node) {
+    uint64_t heard = node->heard[node->ask.to];
+    return !is_late(&node->ask, T3 + 2 * STEP) || (heard && now - heard <= 4 * (T3 + STEP) + STEP);
+}
+
 /* All that is open is in time: a message of one frame for a step, a broadcast for as long as its packets take, a
  * transfer till its receiver gave up or cleared nothing new too often. */
 static void is_in_time(const struct node *node) {
@@ -194,7 +201,7 @@ static void is_in_time(const struct node *node) {
     if (node->has_broadcast) EXPECT(!is_late(&node->broadcast, (node->broadcast.packets + 1) * (uint64_t)(GAP + STEP)));
     if (node->has_transfer)
         EXPECT(!is_late(&node->transfer, (node->transfer.packets + 65) * (uint64_t)(T3 + STEP) + STEP));
-    if (node->has_ask) EXPECT(!is_late(&node->ask, T3 + 2 * STEP));
+    if (node->has_ask) EXPECT(is_told(node));
 }
 
 static void sends_single(int self) {
@@ -291,11 +298,18 @@ static void takes_all(int self) {
     is_in_time(node);
 }
 
+/* When a request for a transfer, or a packet of one, came last from each address. */
+static void notes(struct node *node, const j1939_frame *frame) {
+    uint8_t group = (uint8_t)(frame->id >> 16), to = (uint8_t)(frame->id >> 8);
+    if (to != 255 && (group == 0xEB || (group == 0xEC && frame->data[0] == 16))) node->heard[(uint8_t)frame->id] = now;
+}
+
 /* A turn of a controller: what came, what its program hands in, what goes. */
 static void turns(int self) {
     struct node *node = &nodes[self];
     j1939_frame frame;
     while (comes(self, &frame)) {
+        notes(node, &frame);
         EXPECT(j1939_controller_hear(&node->controller, &frame, frame.micros) == 0);
         takes_all(self);
     }
