@@ -305,7 +305,7 @@ fn does(node: &mut Controller, step: &Step) -> Option<bool> {
         HearsPackets(micros, to, first, last) => {
             let id = Id::compose(7, Pgn::new(60_160)?, *to, 11)?;
             for number in *first..=*last {
-                let now = Stamp::new(*micros + 50_000 * u64::from(number - *first))?;
+                let now = Stamp::new(micros.checked_add(50_000 * u64::from(number - *first))?)?;
                 node.hear(&Frame::new(now, id, &[number, 0, 0, 0, 0, 0, 0, 0])?, now);
             }
             Some(true)
