@@ -2,16 +2,8 @@
  * It runs on x86-64 Linux; all that is the system's stands at the end. Build:
  *   cc -std=c11 -O2 -ffreestanding -fno-builtin -fno-stack-protector -nostdlib -static freestanding.c libj1939.a */
 #include "j1939.h"
+#include "memory.h"
 
-/* What the archive asks for in place of malloc: a block of a size and an alignment of 1 to 16, and whether there is
- * one. */
-struct granted {
-    uint8_t is_granted;
-    void *at;
-};
-struct granted rattle_alloc(size_t size, size_t align);
-struct granted rattle_realloc(void *at, size_t kept, size_t size, size_t align);
-void rattle_dealloc(void *at);
 void *memcpy(void *to, const void *from, size_t n);
 void *memmove(void *to, const void *from, size_t n);
 void *memset(void *to, int c, size_t n);

@@ -2,19 +2,32 @@
  * first, so that it may be the one that is written. */
 #include "j1939.h"
 
-/* The proved calls, as the crate j39_c exports them. None of their pointers may be NULL. */
+/* The structs lie as those of the crate j39_c do, on every machine. */
+#define LIES(type, size) _Static_assert(sizeof(type) == (size) && _Alignof(type) == 8, #type)
+LIES(j1939_frame, 24);
+LIES(j1939_message, 1816);
+LIES(j1939_reading, 24);
+LIES(j1939_broadcast, 16);
+LIES(j1939_claims, 4064);
+LIES(j1939_node, 4088);
+LIES(j1939_handle, 8);
+LIES(j1939_ended, 16);
+_Static_assert(offsetof(j1939_node, moment) == 16 && offsetof(j1939_node, claims) == 24, "j1939_node");
+
+/* The proved calls, as the crate j39_c exports them: a size has 64 bits on every machine. None of their pointers may be
+ * NULL. */
 int32_t j39_id_split(uint32_t id, j1939_id_fields *fields);
 int32_t j39_id_compose(const j1939_id_fields *fields, uint32_t *id);
 void j39_name_split(uint64_t name, j1939_name_fields *fields);
 int32_t j39_name_compose(const j1939_name_fields *fields, uint64_t *name);
-int32_t j39_reading(const j1939_message *message, size_t index, j1939_reading *reading);
-int32_t j39_reading_text(const j1939_message *message, size_t index, char *text, size_t room);
+int32_t j39_reading(const j1939_message *message, uint64_t index, j1939_reading *reading);
+int32_t j39_reading_text(const j1939_message *message, uint64_t index, char *text, uint64_t room);
 int32_t j39_raw_of(uint32_t spn, int64_t value, uint32_t *raw);
-int32_t j39_cut_frame(uint8_t source, uint32_t pgn, const uint8_t *payload, size_t size, uint16_t k, uint64_t micros,
+int32_t j39_cut_frame(uint8_t source, uint32_t pgn, const uint8_t *payload, uint64_t size, uint16_t k, uint64_t micros,
                       j1939_frame *out);
 void j39_broadcast_init(j1939_broadcast *broadcast);
 int32_t j39_broadcast_poll(j1939_broadcast *broadcast, uint8_t source, uint32_t pgn, const uint8_t *payload,
-                           size_t size, uint64_t micros, j1939_frame *out, uint64_t *due);
+                           uint64_t size, uint64_t micros, j1939_frame *out, uint64_t *due);
 void j39_claims_init(j1939_claims *claims);
 int32_t j39_claims_note(j1939_claims *claims, const j1939_frame *frame, uint8_t *changed);
 int32_t j39_claims_holder(const j1939_claims *claims, uint8_t address, uint64_t *name);
@@ -36,14 +49,18 @@ int32_t j39_receiver_on(j1939_handle *receiver, const j1939_frame *frame, j1939_
 int32_t j39_receiver_tick(j1939_handle *receiver, uint64_t micros, j1939_frame *out);
 int32_t j39_receiver_busy(j1939_handle *receiver);
 int32_t j39_sender_new(j1939_handle *sender, uint8_t source, uint8_t destination, uint32_t pgn, const uint8_t *payload,
-                       size_t size);
+                       uint64_t size);
 int32_t j39_sender_tick(j1939_handle *sender, uint64_t micros, j1939_frame *out);
 int32_t j39_sender_on(j1939_handle *sender, const j1939_frame *frame);
 int32_t j39_sender_state(j1939_handle *sender, uint8_t *reason);
-int32_t j39_controller_new(j1939_handle *controller, uint64_t name, uint8_t address, const uint32_t *served,
-                           size_t count);
-int32_t j39_controller_new_subscribed(j1939_handle *controller, uint64_t name, uint8_t address, const uint32_t *served,
-                                      size_t count, const uint32_t *wanted, size_t wanted_count);
+int32_t j39_controller_new(j1939_handle *controller, uint64_t name, uint8_t address, uint8_t delay,
+                           const uint32_t *served, uint64_t count);
+int32_t j39_controller_new_subscribed(j1939_handle *controller, uint64_t name, uint8_t address, uint8_t delay,
+                                      const uint32_t *served, uint64_t count, const uint32_t *wanted,
+                                      uint64_t wanted_count);
+int32_t j39_controller_again(j1939_handle *controller, uint64_t micros);
+int32_t j39_controller_renew(j1939_handle *controller, uint8_t priority, uint32_t pgn, uint8_t to,
+                             const uint8_t *payload, uint64_t size, uint64_t *token);
 int32_t j39_controller_hear(j1939_handle *controller, const j1939_frame *frame, uint64_t micros);
 int32_t j39_controller_tick(j1939_handle *controller, uint64_t micros);
 int32_t j39_controller_next_tick(j1939_handle *controller, uint64_t *due);
@@ -57,11 +74,11 @@ int32_t j39_controller_address_of(j1939_handle *controller, uint64_t name, uint8
 int32_t j39_controller_free_address(j1939_handle *controller, uint8_t *address);
 int32_t j39_controller_move_to(j1939_handle *controller, uint8_t address);
 int32_t j39_controller_send(j1939_handle *controller, uint64_t micros, uint8_t priority, uint32_t pgn, uint8_t to,
-                            const uint8_t *payload, size_t size, uint64_t *token);
+                            const uint8_t *payload, uint64_t size, uint64_t *token);
 int32_t j39_controller_broadcast(j1939_handle *controller, uint64_t micros, uint32_t pgn, const uint8_t *payload,
-                                 size_t size, uint64_t *token);
+                                 uint64_t size, uint64_t *token);
 int32_t j39_controller_transfer(j1939_handle *controller, uint64_t micros, uint32_t pgn, uint8_t to,
-                                const uint8_t *payload, size_t size, uint64_t *token);
+                                const uint8_t *payload, uint64_t size, uint64_t *token);
 int32_t j39_controller_ask(j1939_handle *controller, uint64_t micros, uint32_t pgn, uint8_t to, uint64_t *token);
 int32_t j39_controller_take_ended(j1939_handle *controller, j1939_ended *ended);
 int32_t j39_controller_take_received(j1939_handle *controller, j1939_message *message, uint8_t *priority);
@@ -247,19 +264,19 @@ int32_t j1939_sender_close(j1939_sender *sender) {
     return sender ? close_handle(&sender->handle) : J1939_NULL;
 }
 
-int32_t j1939_controller_new(j1939_controller *controller, uint64_t name, uint8_t address, const uint32_t *served,
-                             size_t count) {
+int32_t j1939_controller_new(j1939_controller *controller, uint64_t name, uint8_t address, uint8_t delay,
+                             const uint32_t *served, size_t count) {
     static const uint32_t none[1] = {0};
     if (!controller || (!served && count)) return J1939_NULL;
-    return j39_controller_new(&controller->handle, name, address, served ? served : none, count);
+    return j39_controller_new(&controller->handle, name, address, delay, served ? served : none, count);
 }
 
-int32_t j1939_controller_new_subscribed(j1939_controller *controller, uint64_t name, uint8_t address,
+int32_t j1939_controller_new_subscribed(j1939_controller *controller, uint64_t name, uint8_t address, uint8_t delay,
                                         const uint32_t *served, size_t count, const uint32_t *wanted,
                                         size_t wanted_count) {
     static const uint32_t none[1] = {0};
     if (!controller || (!served && count) || (!wanted && wanted_count)) return J1939_NULL;
-    return j39_controller_new_subscribed(&controller->handle, name, address, served ? served : none, count,
+    return j39_controller_new_subscribed(&controller->handle, name, address, delay, served ? served : none, count,
                                          wanted ? wanted : none, wanted_count);
 }
 
@@ -269,6 +286,10 @@ int32_t j1939_controller_hear(j1939_controller *controller, const j1939_frame *f
 
 int32_t j1939_controller_tick(j1939_controller *controller, uint64_t micros) {
     return controller ? j39_controller_tick(&controller->handle, micros) : J1939_NULL;
+}
+
+int32_t j1939_controller_again(j1939_controller *controller, uint64_t micros) {
+    return controller ? j39_controller_again(&controller->handle, micros) : J1939_NULL;
 }
 
 int32_t j1939_controller_next_tick(const j1939_controller *controller, uint64_t *due) {
@@ -332,6 +353,13 @@ int32_t j1939_controller_send(j1939_controller *controller, uint64_t micros, uin
                               const uint8_t *payload, size_t size, uint64_t *token) {
     return controller && payload && token
                ? j39_controller_send(&controller->handle, micros, priority, pgn, to, payload, size, token)
+               : J1939_NULL;
+}
+
+int32_t j1939_controller_renew(j1939_controller *controller, uint8_t priority, uint32_t pgn, uint8_t to,
+                               const uint8_t *payload, size_t size, uint64_t *token) {
+    return controller && payload && token
+               ? j39_controller_renew(&controller->handle, priority, pgn, to, payload, size, token)
                : J1939_NULL;
 }
 

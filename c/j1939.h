@@ -50,6 +50,13 @@
 extern "C" {
 #endif
 
+/** Before a field of 64 bits: the structs are the same on every machine, also where such a field needs no 8 bytes. */
+#ifdef __cplusplus
+#define J1939_ALIGNED alignas(8)
+#else
+#define J1939_ALIGNED _Alignas(8)
+#endif
+
 /** The version of the library that this header is of. */
 #define J1939_VERSION "0.2.0"
 
@@ -68,10 +75,10 @@ enum j1939_refusal {
 
 /** A frame (J1939-21, 5.2). */
 typedef struct {
-    uint64_t micros; /**< when it was seen or is sent, below 10^16 */
-    uint32_t id;     /**< its identifier, of 29 bits, with no flags */
-    uint8_t len;     /**< how many bytes of data it has, 0 to 8 */
-    uint8_t data[8]; /**< its data; what stands behind the first len bytes is not read */
+    J1939_ALIGNED uint64_t micros; /**< when it was seen or is sent, below 10^16 */
+    uint32_t id;                   /**< its identifier, of 29 bits, with no flags */
+    uint8_t len;                   /**< how many bytes of data it has, 0 to 8 */
+    uint8_t data[8];               /**< its data; what stands behind the first len bytes is not read */
 } j1939_frame;
 
 /** The most bytes of a message. */
@@ -79,15 +86,15 @@ typedef struct {
 
 /** A message, of one frame or put together of packets (J1939-21, 5.10). */
 typedef struct {
-    uint64_t micros;             /**< the moment of its last frame */
-    uint64_t name;               /**< the NAME of its sender, where is_named is not 0 */
-    uint32_t pgn;                /**< its group, of 18 bits */
-    uint16_t len;                /**< how many bytes it has, 0 to 1785 */
-    uint8_t source;              /**< the address that sent it */
-    uint8_t is_named;            /**< 0 where no claim tells who sent it */
-    uint8_t data[J1939_LONGEST]; /**< its bytes */
-    uint8_t is_addressed;        /**< 0 where no destination is told */
-    uint8_t destination;         /**< the address it was sent to, 255 for all, where is_addressed is not 0 */
+    J1939_ALIGNED uint64_t micros; /**< the moment of its last frame */
+    uint64_t name;                 /**< the NAME of its sender, where is_named is not 0 */
+    uint32_t pgn;                  /**< its group, of 18 bits */
+    uint16_t len;                  /**< how many bytes it has, 0 to 1785 */
+    uint8_t source;                /**< the address that sent it */
+    uint8_t is_named;              /**< 0 where no claim tells who sent it */
+    uint8_t data[J1939_LONGEST];   /**< its bytes */
+    uint8_t is_addressed;          /**< 0 where no destination is told */
+    uint8_t destination;           /**< the address it was sent to, 255 for all, where is_addressed is not 0 */
 } j1939_message;
 
 /* ---- identifiers and NAMEs */
@@ -146,11 +153,11 @@ enum j1939_reading_kind {
 
 /** A reading: a parameter and its value. */
 typedef struct {
-    int64_t number; /**< of a number: its value, in units of the last decimal place; else 0 */
-    uint32_t spn;   /**< the parameter */
-    uint8_t kind;   /**< J1939_NUMBER and so on */
-    uint8_t places; /**< of a number: how many decimal places it has; else 0 */
-    char unit[8];   /**< of a number: its unit, ended by a zero; else zeros */
+    J1939_ALIGNED int64_t number; /**< of a number: its value, in units of the last decimal place; else 0 */
+    uint32_t spn;                 /**< the parameter */
+    uint8_t kind;                 /**< J1939_NUMBER and so on */
+    uint8_t places;               /**< of a number: how many decimal places it has; else 0 */
+    char unit[8];                 /**< of a number: its unit, ended by a zero; else zeros */
 } j1939_reading;
 
 /** Reads reading number index of a message, from 0 on, by the built-in table. J1939_END behind the last, and for a
@@ -181,8 +188,8 @@ int32_t j1939_cut_frame(uint8_t source, uint32_t pgn, const uint8_t *payload, si
 
 /** How far a broadcast is: plain data. */
 typedef struct {
-    uint64_t due;   /**< from when on its next frame may be sent */
-    uint16_t count; /**< how many of its frames were sent */
+    J1939_ALIGNED uint64_t due; /**< from when on its next frame may be sent */
+    uint16_t count;             /**< how many of its frames were sent */
 } j1939_broadcast;
 
 /** Nothing of a broadcast was sent.
@@ -202,7 +209,7 @@ int32_t j1939_broadcast_poll(j1939_broadcast *broadcast, uint8_t source, uint32_
 typedef struct {
     struct {
         uint8_t is_held;
-        uint64_t name;
+        J1939_ALIGNED uint64_t name;
     } places[254];
 } j1939_claims;
 
@@ -225,7 +232,7 @@ int32_t j1939_claims_holder(const j1939_claims *claims, uint8_t address, uint64_
 typedef struct {
     uint64_t name;
     uint8_t preferred, kind, address;
-    uint64_t moment;
+    J1939_ALIGNED uint64_t moment;
     j1939_claims claims;
 } j1939_node;
 
@@ -260,9 +267,9 @@ int32_t j1939_node_status(const j1939_node *node, uint8_t *address);
 
 /* ---- handles */
 
-/** What a handle points to is the library's. */
+/** What a handle points to is the library's: 0, or an address in 64 bits. */
 typedef struct {
-    void *part;
+    J1939_ALIGNED uint64_t part;
 } j1939_handle;
 
 typedef struct {
@@ -287,7 +294,7 @@ typedef struct {
 
 /** A handle that holds nothing. */
 /* clang-format off */
-#define J1939_EMPTY {{NULL}}
+#define J1939_EMPTY {{0}}
 /* clang-format on */
 
 /* ---- a listener (J1939-21, 5.10; J1939-81, 4.2) */
@@ -405,18 +412,19 @@ int32_t j1939_sender_close(j1939_sender *sender);
  * before each other J1939_BAD_VALUE; J1939_FULL comes last. */
 
 /** Opens a controller of this NAME, that will claim this address, and whose program serves these groups: a request for
- * another group is refused. J1939_BAD_VALUE for an address above 253, more than 16 groups, or one of 2^18 and above.
+ * another group is refused. Its word that it can't claim an address waits for delay times 0.6 ms: a number by chance, so
+ * that two that lose at once don't say it at once (J1939-81, 4.2.2). J1939_BAD_VALUE for an address above 253, more than 16 groups, or one of 2^18 and above.
  * Where count is 0, served may be NULL. It takes all its memory here: some 15 kB.
  * @return 0, J1939_BAD_VALUE, J1939_NO_MEMORY, J1939_IN_USE */
-int32_t j1939_controller_new(j1939_controller *controller, uint64_t name, uint8_t address, const uint32_t *served,
-                             size_t count);
+int32_t j1939_controller_new(j1939_controller *controller, uint64_t name, uint8_t address, uint8_t delay,
+                             const uint32_t *served, size_t count);
 
 /** The same, but its program subscribes these groups alone: messages of others, of one frame or broadcast in packets, are
  * neither handed out nor missed. What comes in packets to its address is handed out in any case, and .._ask hears its
  * answer of any group, unless that is broadcast in packets. J1939_BAD_VALUE also for more than 64. Where wanted_count is
  * 0, wanted may be NULL.
  * @return 0, J1939_BAD_VALUE, J1939_NO_MEMORY, J1939_IN_USE */
-int32_t j1939_controller_new_subscribed(j1939_controller *controller, uint64_t name, uint8_t address,
+int32_t j1939_controller_new_subscribed(j1939_controller *controller, uint64_t name, uint8_t address, uint8_t delay,
                                         const uint32_t *served, size_t count, const uint32_t *wanted,
                                         size_t wanted_count);
 
@@ -430,14 +438,23 @@ int32_t j1939_controller_hear(j1939_controller *controller, const j1939_frame *f
  * @return 0, J1939_BAD_VALUE, J1939_NO_PART */
 int32_t j1939_controller_tick(j1939_controller *controller, uint64_t micros);
 
+/** Claims its address anew, and forgets nothing else: after bus-off, or where the interface was down, so that others may
+ * have missed its claim, or it theirs. The address is held 250 ms after that claim is taken; what was accepted waits till
+ * then. Where it is lost, it says again that it can't claim one. To another such controller the claim is that of a restart:
+ * what comes to it in packets from here is over.
+ * @return 0, J1939_BAD_VALUE, J1939_NO_PART */
+int32_t j1939_controller_again(j1939_controller *controller, uint64_t micros);
+
 /** When the next tick is due, if no frame is heard till then, for what comes in packets or for a request: 1 and the
  * moment, or 0.
  * @return 0, 1, J1939_NO_PART */
 int32_t j1939_controller_next_tick(const j1939_controller *controller, uint64_t *due);
 
 /** Takes the frame that goes out now; by this it counts as sent: 1 where *out goes out, else 0. First go claims, then
- * acknowledgments, what it says as a receiver, messages of one frame, broadcasts, and transfers. The first call claims
- * the address, which is held 250 ms later; till then, and where it is lost, claims alone go out.
+ * acknowledgments, what it says as a receiver, messages of one frame, broadcasts, and transfers. But of three frames one
+ * is neither of the first two, what it says as a receiver takes turns with all behind it, and a frame of a broadcast that
+ * is 100 ms late goes before both. The first call claims the address, which is held 250 ms later; till then, and where
+ * it is lost, claims alone go out.
  * @return 0, 1, J1939_BAD_VALUE, J1939_NO_PART */
 int32_t j1939_controller_take_frame(j1939_controller *controller, uint64_t micros, j1939_frame *out);
 
@@ -491,6 +508,14 @@ int32_t j1939_controller_move_to(j1939_controller *controller, uint8_t address);
 int32_t j1939_controller_send(j1939_controller *controller, uint64_t micros, uint8_t priority, uint32_t pgn, uint8_t to,
                               const uint8_t *payload, size_t size, uint64_t *token);
 
+/** Puts a message of 0 to 8 bytes in the place of the last that waits with its priority, group and destination, and is no
+ * request, so that the newest value goes: 1, and *token is that of the place, which stays; the older bytes are never sent.
+ * 0, where nothing changes, if none waits or the message can't be sent: then hand it in by .._send. J1939_BAD_VALUE for
+ * a group of 2^18 and above. Where size is 0, payload must not be NULL.
+ * @return 0, 1, J1939_BAD_VALUE, J1939_NO_PART */
+int32_t j1939_controller_renew(j1939_controller *controller, uint8_t priority, uint32_t pgn, uint8_t to,
+                               const uint8_t *payload, size_t size, uint64_t *token);
+
 /** Hands in a message of 9 to 1785 bytes to all (J1939-21, 5.10.3.5), 50 ms or more from frame to frame: 1 and its
  * token, of a count of its own. J1939_BAD_VALUE as of .._send. J1939_FULL while one is accepted and not told. The bytes
  * are copied.
@@ -535,9 +560,9 @@ enum j1939_ending {
 
 /** How something ended that was accepted. */
 typedef struct {
-    uint64_t token; /**< its token */
-    uint8_t ending; /**< J1939_ENDED_DONE and so on */
-    uint8_t detail; /**< a reason, or an acknowledgment; else 0 */
+    J1939_ALIGNED uint64_t token; /**< its token */
+    uint8_t ending;               /**< J1939_ENDED_DONE and so on */
+    uint8_t detail;               /**< a reason, or an acknowledgment; else 0 */
 } j1939_ended;
 
 /** Takes how something ended, each once: 0 where nothing did; J1939_ENDED_MESSAGE and so on where it stands in *ended.
@@ -552,8 +577,9 @@ enum j1939_received_kind {
 };
 
 /** Takes a message that was received, each once: 0 where there is none; J1939_RECEIVED_FRAME and so on where it stands
- * in *message. It has no NAME. Of J1939_RECEIVED_FRAME alone *priority is written, and the message has its destination;
- * requests and what the stack itself speaks are none. Of the two others by this there is room for the next.
+ * in *message. It has no NAME, and its destination but where that is all by packets. Of J1939_RECEIVED_FRAME alone
+ * *priority is written; requests and what the stack itself speaks are none. Of the two others by this there is room for
+ * the next.
  * @return 0 to 3, J1939_NO_PART */
 int32_t j1939_controller_take_received(j1939_controller *controller, j1939_message *message, uint8_t *priority);
 
@@ -569,7 +595,8 @@ typedef struct {
     uint8_t destination; /**< 255 where all are asked, else the controller's address */
 } j1939_request;
 
-/** Takes a request for a group that the program serves, each once: 1 where there is one, else 0. Answer it by the
+/** Takes a request for a group that the program serves, each once: 1 where there is one, else 0. One that is repeated
+ * while it waits is no other. Answer it by the
  * group, to all where all were asked, else to who asked; or by j1939_controller_acknowledge.
  * @return 0, 1, J1939_NO_PART */
 int32_t j1939_controller_take_request(j1939_controller *controller, j1939_request *request);
@@ -587,11 +614,12 @@ int32_t j1939_controller_acknowledge(j1939_controller *controller, uint64_t micr
 enum j1939_news {
     J1939_NEWS_LOST = 1,    /**< a smaller NAME claimed its address */
     J1939_NEWS_ANOTHER = 2, /**< another sends from the address that it holds, and no claim */
-    J1939_NEWS_MISSED = 3   /**< messages were missed (j1939_controller_missed) */
+    J1939_NEWS_MISSED = 3,  /**< messages were missed (j1939_controller_missed) */
+    J1939_NEWS_DOUBLED = 4  /**< and more by an address: another of its NAME claims that one */
 };
 
-/** Takes what happened, each once: J1939_NEWS_LOST and so on, or 0.
- * @return 0 to 3, J1939_NO_PART */
+/** Takes what happened, each once: J1939_NEWS_LOST and so on, J1939_NEWS_DOUBLED + address, or 0.
+ * @return 0 to 259, J1939_NO_PART */
 int32_t j1939_controller_take_news(j1939_controller *controller);
 
 /** Closes it. Closing an empty one does nothing.

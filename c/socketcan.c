@@ -133,20 +133,21 @@ static int open_interface(const char *name) {
     return -1;
 }
 
-/* Lets go of an interface that went down or was taken away. The address is to be claimed anew: others heard nothing of
- * it, and it nothing of them. */
+/* Lets go of an interface that went down or was taken away. */
 static void lose_interface(station *s) {
     if (errno != ENETDOWN && errno != ENODEV && errno != ENXIO) fail();
     fprintf(stderr, "%.16s: the interface is down\n", s->bus);
     close(s->socket);
     s->socket = -1;
-    if (s->wanted == NOBODY) sure(j1939_controller_status(&s->controller, &s->wanted));
 }
 
-/* Looks whether the interface is up again. */
+/* Looks whether the interface is up again. Then the address is claimed anew: others heard nothing of it, and it nothing of
+ * them. */
 static void regain_interface(station *s) {
     s->socket = open_interface(s->bus);
-    if (s->socket >= 0) fprintf(stderr, "%.16s: the interface is up again\n", s->bus);
+    if (s->socket < 0) return;
+    fprintf(stderr, "%.16s: the interface is up again\n", s->bus);
+    sure(j1939_controller_again(&s->controller, moment()));
 }
 
 /* Prints a frame that was sent, with the moment just before: so an answer to it has a later one. */
@@ -204,7 +205,7 @@ static int send_vin(station *s, uint8_t to, uint64_t now, uint64_t *token) {
                         : j1939_controller_transfer(&s->controller, now, VIN_GROUP, to, vin, VIN_SIZE, token));
 }
 
-/* Hands in an engine speed, in thousandths of an rpm. */
+/* Hands in an engine speed, in thousandths of an rpm, in place of one that still waits. */
 static void send_speed(station *s, int64_t speed, uint64_t now) {
     uint8_t data[8];
     uint32_t raw;
@@ -212,6 +213,7 @@ static void send_speed(station *s, int64_t speed, uint64_t now) {
     if (!sure(j1939_raw_of(ENGINE_SPEED, speed, &raw))) return;
     memset(data, 0xFF, sizeof data); /* what isn't measured */
     data[3] = (uint8_t)raw, data[4] = (uint8_t)(raw >> 8); /* bytes 4 and 5, as J1939 counts them */
+    if (sure(j1939_controller_renew(&s->controller, 3, EEC1, EVERYBODY, data, sizeof data, &token))) return;
     accepted(j1939_controller_send(&s->controller, now, 3, EEC1, EVERYBODY, data, sizeof data, &token));
 }
 
@@ -223,7 +225,7 @@ static int send_faults(station *s, uint64_t now) {
     return accepted(j1939_controller_send(&s->controller, now, 6, DM1, EVERYBODY, none, sizeof none, &token));
 }
 
-/* Hands in what it sends of its own. A value that can't go now is left out: the next one is newer. */
+/* Hands in what it sends of its own. What can't go now is left out: the next one is newer. */
 static void send_own(station *s, uint64_t now) {
     uint64_t token;
     if (now >= s->values_due) {
@@ -273,6 +275,8 @@ static void take_news(station *s) {
         if (news == J1939_NEWS_ANOTHER) fprintf(stderr, "%.16s: another sends from its address\n", s->bus);
         if (news == J1939_NEWS_MISSED && j1939_controller_missed(&s->controller, &count) == 0)
             fprintf(stderr, "%.16s: %" PRIu64 " messages missed\n", s->bus, count);
+        if (news >= J1939_NEWS_DOUBLED)
+            fprintf(stderr, "%.16s: another of its NAME claims %02X\n", s->bus, (unsigned)(news - J1939_NEWS_DOUBLED));
         if (news != J1939_NEWS_LOST) continue;
         fprintf(stderr, "%.16s: its address is lost\n", s->bus);
         if (s->name >> 63 && sure(j1939_controller_free_address(&s->controller, &address))) s->wanted = address;
@@ -345,7 +349,8 @@ static void run(station *s, uint8_t preferred, uint64_t last) {
     s->start = moment();
     s->own = UINT64_MAX, s->wanted = NOBODY;
     s->values_due = s->faults_due = s->request_due = s->start + PATIENCE;
-    sure(j1939_controller_new(&s->controller, s->name, preferred, SERVED, sizeof SERVED / sizeof SERVED[0]));
+    sure(j1939_controller_new(&s->controller, s->name, preferred, (uint8_t)s->start, SERVED,
+                              sizeof SERVED / sizeof SERVED[0]));
     while ((now = moment()) < last && !is_over) {
         if (s->socket < 0) regain_interface(s);
         due = now < s->start + s->begins ? s->start + s->begins : turn(s, now);

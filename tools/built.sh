@@ -6,8 +6,17 @@
 # them; else it is proved and built by the Rattle kit. No time of a file decides that, only the sums of what stands in them.
 : "${top:?}"
 
+# What is shipped. tools/portable/make makes the library for other processors, all of it at once, and the program for aarch64.
+portable_products=(j1939_32.c libj1939-{cortex-m4,rv32imac,aarch64}.a)
+products=(j1939 libj1939.a j1939.html "${portable_products[@]}" j1939-aarch64)
+# Which of them are for the machine that this runs on.
+program_here=j1939 library_here=libj1939.a
+[ "$HOSTTYPE" != aarch64 ] || program_here=j1939-aarch64 library_here=libj1939-aarch64.a
+
 # What the library and the page are made of beside their crates.
 library_files='c/archive c/j1939.c c/j1939.h'
+portable_files="$library_files c/heap.c c/memory.h c/narrow.c"
+portable_files+=' tools/portable/llvm.py tools/portable/make tools/portable/narrow.py tools/portable/system.c tools/portable/write_c.py'
 page_files='NOTICES web/build web/page.css web/page.html web/put_together web/sample.py'
 page_files+=' web/page/base.js web/page/controls.js web/page/faults.js web/page/hands.js web/page/log.js web/page/parameters.js web/page/picture.js web/page/plots.js web/page/save.js web/page/table.js web/page/times.js web/page/view.js'
 page_files+=' web/worker/hear.js web/worker/log.js web/worker/module.js web/worker/rows.js web/worker/series.js web/worker/values.js web/worker/view.js'
@@ -19,6 +28,8 @@ describe() {
     libj1939.a) crate=j39_c files=$library_files made=$top/c/out/libj1939.a ;;
     j1939.html) crate=j39_web files=$page_files made=$top/web/out/j1939.html ;;
     bus_demo) crate=bus_demo files='' made=$top/crates/bus_demo/out/bus_demo ;;
+    j1939-aarch64) crate=j1939 files='c/heap.c c/memory.h tools/portable/make tools/portable/system.c' made=$top/c/out/$1 ;;
+    *) crate=j39_c files=$portable_files made=$top/c/out/$1 ;;
   esac
 }
 
@@ -50,10 +61,10 @@ in_place() {
   fi
 }
 
-# Prints of each source of the three products that is there, and of the files that are named first, what find is told to.
+# Prints of each source of the products that is there, and of the files that are named first, what find is told to.
 find_sources() {
   # shellcheck disable=SC2086 # The files are words.
-  (cd "$top" && find crates/*/src crates/*/specs crates/*/proofs $library_files $page_files $1 -type f "${@:2}" 2>/dev/null) || true
+  (cd "$top" && find crates/*/src crates/*/specs crates/*/proofs $portable_files $page_files $1 -type f "${@:2}" 2>/dev/null) || true
 }
 
 # Prints a line for each of these sources, its sum and its name, and for each crate its line of crates.txt.
@@ -91,7 +102,7 @@ sum_sources() {
   if [ "${kept[0]-}" != "$key" ]; then
     list=$(list_sources)
     kept=("$key")
-    for product in j1939 libj1939.a j1939.html bus_demo; do
+    for product in "${products[@]}" bus_demo; do
       # By a pipe, which wants no room for temporary files.
       sources=$(printf '%s\n' "$list" | sources_of "$product" | sum_of)
       shipped=$(sum_of "$top/prebuilt/$product" 2>/dev/null) || shipped=none
@@ -121,7 +132,7 @@ is_made() {
   { read -r noted <"$made.sums"; } 2>/dev/null && [ "$noted" = "$(sum_of "$made" 2>/dev/null) $sources" ]
 }
 
-# Sets `why`, for what lies in prebuilt/, to a line that says why it isn't to be used; empty where it is.
+# Sets `why`, for what lies in prebuilt/, to a line that says why it isn't what these sources make; empty where it is.
 look_at_prebuilt() {
   local sums=$top/prebuilt/SUMS wanted='' of='' word name
   why=''
@@ -142,8 +153,6 @@ look_at_prebuilt() {
     why="prebuilt/$1 was made of other sources: $(first_other "$1") differs"
   elif [ "$wanted" != "$shipped" ]; then
     why="prebuilt/$1 isn't what prebuilt/SUMS says: it was cut short or changed"
-  else
-    why=$(lacking "$1")
   fi
 }
 
@@ -159,24 +168,28 @@ first_other() {
 
 # What this machine lacks to run or link it; nothing where it lacks nothing.
 lacking() {
-  local needs="prebuilt/$1 is for Linux on x86-64-v2" word='' flags='' flag glibc
+  local needs machine=x86_64 word='' flags='' flag glibc
   case $1 in
-    j1939) needs+=' with glibc 2.34 or later' ;;
-    *.html) return ;;
+    j1939 | libj1939.a) needs="prebuilt/$1 is for Linux on x86-64-v2" ;;
+    j1939-aarch64) needs="prebuilt/$1 is for Linux on aarch64" machine=aarch64 ;;
+    *) return ;;
   esac
+  [[ $1 = lib* ]] || needs+=' with glibc 2.34 or later'
   # As bash was told, which starts no other program.
-  if [ "$OSTYPE $HOSTTYPE" != 'linux-gnu x86_64' ]; then
+  if [ "$OSTYPE $HOSTTYPE" != "linux-gnu $machine" ]; then
     echo "$needs, and this is $OSTYPE $HOSTTYPE"
     return
   fi
-  while read -r word flags && [ "$word" != flags ]; do :; done </proc/cpuinfo
-  for flag in cx16 lahf_lm popcnt sse4_1 sse4_2 ssse3; do
-    if [[ " $flags " != *" $flag "* ]]; then
-      echo "$needs, and this processor has no $flag"
-      return
-    fi
-  done
-  [ "$1" = j1939 ] || return 0
+  if [ $machine = x86_64 ]; then
+    while read -r word flags && [ "$word" != flags ]; do :; done </proc/cpuinfo
+    for flag in cx16 lahf_lm popcnt sse4_1 sse4_2 ssse3; do
+      if [[ " $flags " != *" $flag "* ]]; then
+        echo "$needs, and this processor has no $flag"
+        return
+      fi
+    done
+  fi
+  [[ $1 != lib* ]] || return 0
   glibc=$(getconf GNU_LIBC_VERSION 2>/dev/null) || glibc=none
   if [[ ! $glibc =~ ^glibc\ ([0-9]+)\.([0-9]+) ]] || [ $((BASH_REMATCH[1] * 1000 + BASH_REMATCH[2])) -lt 2034 ]; then
     echo "$needs, and this machine has $glibc"
@@ -192,6 +205,8 @@ build_product() {
     j1939 | bus_demo) (cd "$top/crates/$product" && rt run -- --help) ;;
     libj1939.a) "$top/c/archive" ;;
     j1939.html) "$top/web/build" ;;
+    j1939-aarch64) "$top/tools/portable/make" "$product" ;;
+    *) "$top/tools/portable/make" ;;
   esac >"$log" 2>&1 </dev/null || status=$?
   if [ "$status" -ne 0 ]; then
     tail -n 20 "$log" >&2
@@ -215,6 +230,7 @@ find_product() {
   found=$made
   if is_made; then return; fi
   look_at_prebuilt "$1"
+  [ -n "$why" ] || why=$(lacking "$1")
   found=$top/prebuilt/$1
   if [ -z "$why" ]; then return; fi
   if [ -n "$is_damaged" ]; then
@@ -237,12 +253,12 @@ find_product() {
 
 find_program() {
   program=${J1939_PROGRAM-}
-  [ -n "$program" ] || { find_product j1939 && program=$found; }
+  [ -n "$program" ] || { find_product "$program_here" && program=$found; }
 }
 
 find_library() {
   library=${J1939_LIBRARY-}
-  [ -n "$library" ] || { find_product libj1939.a && library=$found; }
+  [ -n "$library" ] || { find_product "$library_here" && library=$found; }
 }
 
 find_page() {

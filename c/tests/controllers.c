@@ -125,7 +125,7 @@ static struct node {
 static void opens(struct node *node, uint64_t name, uint8_t address) {
     static const uint32_t served[] = {SERVED};
     node->name = name;
-    EXPECT(j1939_controller_new(&node->controller, name, address, served, 1) == 0);
+    EXPECT(j1939_controller_new(&node->controller, name, address, (uint8_t)name, served, 1) == 0);
 }
 
 /* A frame that it sends comes from the address that it holds, or is a claim; of broadcasts two stand 50 ms apart. */
@@ -410,4 +410,5 @@ int main(int count, char **words) {
     printf("%" PRIu64 " seconds, frames taken %" PRIu64 ", broadcasts %" PRIu64 ", requests answered %" PRIu64 "\n",
            now / 1000000, told[J1939_ENDED_MESSAGE], told[J1939_ENDED_BROADCAST], told[J1939_ENDED_REQUEST]);
     printf("transfers %" PRIu64 " failed %" PRIu64 "\n", told[J1939_ENDED_TRANSFER] + failed, failed);
+    return 0;
 }

@@ -70,13 +70,15 @@ static void null_pointers(void) {
     EXPECT(j1939_sender_on(&sender, NULL) == J1939_NULL);
     EXPECT(j1939_sender_state(NULL, &byte) == J1939_NULL);
     EXPECT(j1939_sender_close(NULL) == J1939_NULL);
-    EXPECT(j1939_controller_new(NULL, 0, 0, NULL, 0) == J1939_NULL);
-    EXPECT(j1939_controller_new(&controller, 0, 0, NULL, 1) == J1939_NULL);
-    EXPECT(j1939_controller_new_subscribed(NULL, 0, 0, NULL, 0, NULL, 0) == J1939_NULL);
-    EXPECT(j1939_controller_new_subscribed(&controller, 0, 0, NULL, 1, NULL, 0) == J1939_NULL);
-    EXPECT(j1939_controller_new_subscribed(&controller, 0, 0, NULL, 0, NULL, 1) == J1939_NULL);
+    EXPECT(j1939_controller_new(NULL, 0, 0, 0, NULL, 0) == J1939_NULL);
+    EXPECT(j1939_controller_new(&controller, 0, 0, 0, NULL, 1) == J1939_NULL);
+    EXPECT(j1939_controller_new_subscribed(NULL, 0, 0, 0, NULL, 0, NULL, 0) == J1939_NULL);
+    EXPECT(j1939_controller_new_subscribed(&controller, 0, 0, 0, NULL, 1, NULL, 0) == J1939_NULL);
+    EXPECT(j1939_controller_new_subscribed(&controller, 0, 0, 0, NULL, 0, NULL, 1) == J1939_NULL);
     EXPECT(j1939_controller_hear(&controller, NULL, 0) == J1939_NULL);
     EXPECT(j1939_controller_tick(NULL, 0) == J1939_NULL);
+    EXPECT(j1939_controller_again(NULL, 0) == J1939_NULL);
+    EXPECT(j1939_controller_renew(&controller, 6, 65262, 255, NULL, 8, &name) == J1939_NULL);
     EXPECT(j1939_controller_next_tick(&controller, NULL) == J1939_NULL);
     EXPECT(j1939_controller_take_frame(&controller, 0, NULL) == J1939_NULL);
     EXPECT(j1939_controller_peek_frame(NULL, 0, &out) == J1939_NULL);
@@ -364,6 +366,8 @@ static void no_controller(j1939_controller *controller) {
     uint8_t byte;
     EXPECT(j1939_controller_hear(controller, &bam, bam.micros) == J1939_NO_PART);
     EXPECT(j1939_controller_tick(controller, 0) == J1939_NO_PART);
+    EXPECT(j1939_controller_again(controller, 0) == J1939_NO_PART);
+    EXPECT(j1939_controller_renew(controller, 6, 65262, 255, payload, 8, &number) == J1939_NO_PART);
     EXPECT(j1939_controller_next_tick(controller, &number) == J1939_NO_PART);
     EXPECT(j1939_controller_take_frame(controller, 0, &out) == J1939_NO_PART);
     EXPECT(j1939_controller_peek_frame(controller, 0, &out) == J1939_NO_PART);
@@ -394,6 +398,8 @@ static void controller_in_range(j1939_controller *controller) {
     EXPECT(j1939_controller_hear(controller, &late, late.micros) == J1939_BAD_VALUE);
     EXPECT(j1939_controller_hear(controller, &long_one, long_one.micros) == J1939_BAD_VALUE);
     EXPECT(j1939_controller_tick(controller, LATE) == J1939_BAD_VALUE);
+    EXPECT(j1939_controller_again(controller, LATE) == J1939_BAD_VALUE);
+    EXPECT(j1939_controller_renew(controller, 6, 1u << 18, 255, payload, 8, &token) == J1939_BAD_VALUE);
     EXPECT(j1939_controller_take_frame(controller, LATE, &out) == J1939_BAD_VALUE);
     EXPECT(j1939_controller_peek_frame(controller, LATE, &out) == J1939_BAD_VALUE);
     EXPECT(j1939_controller_claims_request(controller, LATE, 255, &out) == J1939_BAD_VALUE);
@@ -507,6 +513,27 @@ static void ends_of(j1939_controller *controller) {
     EXPECT(ended.ending == J1939_ENDED_ACKNOWLEDGED && ended.detail == J1939_DENIED);
 }
 
+/* It claims its address anew, and what was accepted waits till then, with the newest value. Another of its NAME is news. */
+static void again_of(j1939_controller *controller) {
+    static const uint8_t newest[8] = {1, 2, 3, 4, 5, 6, 7, 8};
+    j1939_frame twin = {.micros = 5000000, .id = 0x18EEFF33, .len = 8, .data = {1}};
+    j1939_ended ended;
+    uint64_t token = 9;
+    uint8_t own = 9;
+    EXPECT(j1939_controller_hear(controller, &twin, twin.micros) == 0);
+    EXPECT(j1939_controller_take_news(controller) == J1939_NEWS_DOUBLED + 0x33 && !j1939_controller_take_news(controller));
+    EXPECT(j1939_controller_address_of(controller, 1, &own) == 1 && own == 0x80);
+    EXPECT(j1939_controller_renew(controller, 6, 65262, 255, payload, 8, &token) == 0 && token == 9);
+    EXPECT(j1939_controller_send(controller, 5000000, 6, 65262, 255, payload, 8, &token) == 1 && token == 18);
+    EXPECT(j1939_controller_again(controller, 5000000) == 0 && taken(controller, 5000000) == 0x18EEFF80);
+    EXPECT(j1939_controller_renew(controller, 5, 65262, 255, newest, 8, &token) == 0);
+    EXPECT(j1939_controller_renew(controller, 6, 65262, 255, newest, 8, &token) == 1 && token == 18);
+    EXPECT(taken(controller, 5249999) == 0 && taken(controller, 5250000) == 0x18FEEE80);
+    EXPECT(!memcmp(out.data, newest, 8) && taken(controller, 5250000) == 0);
+    EXPECT(j1939_controller_take_ended(controller, &ended) == J1939_ENDED_MESSAGE && ended.token == 18);
+    EXPECT(ended.ending == J1939_ENDED_DONE && j1939_controller_take_ended(controller, &ended) == 0);
+}
+
 /* What it hears: requests, and messages of one frame. */
 static void hearing_of(j1939_controller *controller) {
     j1939_frame asks = {.micros = 7000000, .id = 0x18EA8081, .len = 3, .data = {0xEC, 0xFE, 0x00}};
@@ -572,6 +599,7 @@ static void packets_of(j1939_controller *controller) {
     EXPECT(taken(controller, 7500000) == 0x1CEC8180 && out.data[0] == 0xFF && out.data[1] == 2);
     EXPECT(j1939_controller_take_received(controller, &message, &priority) == J1939_RECEIVED_TRANSFER);
     EXPECT(message.len == 20 && message.data[7] == 'A' && message.micros == 7450005 && priority == 9);
+    EXPECT(message.is_addressed && message.destination == 0x80);
     EXPECT(j1939_controller_take_received(controller, &message, &priority) == 0);
 }
 
@@ -585,22 +613,23 @@ static void loss_of(j1939_controller *controller) {
     EXPECT(j1939_controller_hear(controller, &other, other.micros) == 0);
     EXPECT(j1939_controller_take_news(controller) == J1939_NEWS_ANOTHER);
     EXPECT(j1939_controller_take_received(controller, &message, &priority) == J1939_RECEIVED_FRAME);
-    EXPECT(j1939_controller_send(controller, 7800000, 6, 65262, 255, payload, 8, &token) == 1 && token == 18);
+    EXPECT(j1939_controller_send(controller, 7800000, 6, 65262, 255, payload, 8, &token) == 1 && token == 19);
     EXPECT(j1939_controller_broadcast(controller, 7800000, 65260, payload, 9, &token) == 1 && token == 1);
     EXPECT(j1939_controller_transfer(controller, 7800000, 65260, 3, payload, 9, &token) == 1 && token == 1);
-    EXPECT(j1939_controller_ask(controller, 7800000, 65260, 3, &token) == 1 && token == 19);
+    EXPECT(j1939_controller_ask(controller, 7800000, 65260, 3, &token) == 1 && token == 20);
     EXPECT(j1939_controller_hear(controller, &claim, claim.micros) == 0);
     EXPECT(j1939_controller_status(controller, &own) == J1939_CANNOT && own == 254);
     EXPECT(j1939_controller_take_news(controller) == J1939_NEWS_LOST && !j1939_controller_take_news(controller));
-    EXPECT(j1939_controller_take_ended(controller, &ended) == J1939_ENDED_MESSAGE && ended.token == 18);
-    EXPECT(ended.ending == J1939_ENDED_WITHDRAWN);
     EXPECT(j1939_controller_take_ended(controller, &ended) == J1939_ENDED_MESSAGE && ended.token == 19);
+    EXPECT(ended.ending == J1939_ENDED_WITHDRAWN);
+    EXPECT(j1939_controller_take_ended(controller, &ended) == J1939_ENDED_MESSAGE && ended.token == 20);
     EXPECT(j1939_controller_take_ended(controller, &ended) == J1939_ENDED_BROADCAST && ended.token == 1);
     EXPECT(j1939_controller_take_ended(controller, &ended) == J1939_ENDED_TRANSFER && ended.token == 1);
     EXPECT(ended.ending == J1939_ENDED_WITHDRAWN);
-    EXPECT(j1939_controller_take_ended(controller, &ended) == J1939_ENDED_REQUEST && ended.token == 19);
+    EXPECT(j1939_controller_take_ended(controller, &ended) == J1939_ENDED_REQUEST && ended.token == 20);
     EXPECT(ended.ending == J1939_ENDED_WITHDRAWN && j1939_controller_take_ended(controller, &ended) == 0);
-    EXPECT(taken(controller, 7900000) == 0x18EEFFFE && taken(controller, 7900000) == 0);
+    EXPECT(taken(controller, 7905999) == 0); /* 10 times 0.6 ms */
+    EXPECT(taken(controller, 7906000) == 0x18EEFFFE && taken(controller, 7906000) == 0);
     EXPECT(j1939_controller_send(controller, 9000000, 6, 65262, 255, payload, 8, &token) == J1939_NO_ADDRESS);
 }
 
@@ -624,27 +653,28 @@ static void controllers(void) {
     static const uint32_t served[17] = {65260}, no_group[1] = {1u << 18};
     j1939_controller controller = J1939_EMPTY;
     j1939_listener foreign = J1939_EMPTY;
-    EXPECT(j1939_controller_new(&controller, 1, 254, NULL, 0) == J1939_BAD_VALUE);
-    EXPECT(j1939_controller_new(&controller, 1, 0x80, served, 17) == J1939_BAD_VALUE);
-    EXPECT(j1939_controller_new(&controller, 1, 0x80, no_group, 1) == J1939_BAD_VALUE);
+    EXPECT(j1939_controller_new(&controller, 1, 254, 0, NULL, 0) == J1939_BAD_VALUE);
+    EXPECT(j1939_controller_new(&controller, 1, 0x80, 10, served, 17) == J1939_BAD_VALUE);
+    EXPECT(j1939_controller_new(&controller, 1, 0x80, 10, no_group, 1) == J1939_BAD_VALUE);
     for (long granted = 0; granted < 3; granted++) {
         allowed = granted;
-        EXPECT(j1939_controller_new(&controller, 1, 0x80, served, 1) == J1939_NO_MEMORY && !controller.handle.part);
+        EXPECT(j1939_controller_new(&controller, 1, 0x80, 10, served, 1) == J1939_NO_MEMORY && !controller.handle.part);
     }
     allowed = -1;
     EXPECT(j1939_listener_new(&foreign) == 0);
     no_controller(&controller);
     no_controller((j1939_controller *)&foreign);
     controller_in_range((j1939_controller *)&foreign);
-    EXPECT(j1939_controller_new((j1939_controller *)&foreign, 1, 254, NULL, 0) == J1939_IN_USE);
+    EXPECT(j1939_controller_new((j1939_controller *)&foreign, 1, 254, 0, NULL, 0) == J1939_IN_USE);
     EXPECT(j1939_listener_close(&foreign) == 0);
-    EXPECT(j1939_controller_new(&controller, 1, 0x80, served, 16) == 0);
-    EXPECT(j1939_controller_new(&controller, 1, 0x80, served, 16) == J1939_IN_USE);
+    EXPECT(j1939_controller_new(&controller, 1, 0x80, 10, served, 16) == 0);
+    EXPECT(j1939_controller_new(&controller, 1, 0x80, 10, served, 16) == J1939_IN_USE);
     allowed = 0; /* from here on it takes no memory */
     controller_in_range(&controller);
     claim_of(&controller);
     messages_of(&controller);
     ends_of(&controller);
+    again_of(&controller);
     hearing_of(&controller);
     packets_of(&controller);
     loss_of(&controller);
@@ -683,10 +713,10 @@ static void subscribed(void) {
     j1939_controller controller = J1939_EMPTY;
     j1939_frame heard = {.micros = 1, .id = 0x18FEEF81, .len = 8};
     uint8_t priority;
-    EXPECT(j1939_controller_new_subscribed(&controller, 1, 0x80, NULL, 0, wanted, 65) == J1939_BAD_VALUE);
-    EXPECT(j1939_controller_new_subscribed(&controller, 1, 0x80, NULL, 0, no_group, 1) == J1939_BAD_VALUE);
-    EXPECT(j1939_controller_new_subscribed(&controller, 1, 0x80, NULL, 0, wanted, 64) == 0);
-    EXPECT(j1939_controller_new_subscribed(&controller, 1, 0x80, NULL, 0, wanted, 64) == J1939_IN_USE);
+    EXPECT(j1939_controller_new_subscribed(&controller, 1, 0x80, 0, NULL, 0, wanted, 65) == J1939_BAD_VALUE);
+    EXPECT(j1939_controller_new_subscribed(&controller, 1, 0x80, 0, NULL, 0, no_group, 1) == J1939_BAD_VALUE);
+    EXPECT(j1939_controller_new_subscribed(&controller, 1, 0x80, 0, NULL, 0, wanted, 64) == 0);
+    EXPECT(j1939_controller_new_subscribed(&controller, 1, 0x80, 0, NULL, 0, wanted, 64) == J1939_IN_USE);
     EXPECT(j1939_controller_hear(&controller, &heard, heard.micros) == 0);
     EXPECT(j1939_controller_take_received(&controller, &message, &priority) == 0);
     heard.id = 0x18FEEE81;

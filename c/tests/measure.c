@@ -1,11 +1,13 @@
-/* What docs/C.md says of memory, stack and time. Linked with --wrap=malloc. */
+/* What docs/C.md says of memory, stack and time, or of instructions on a board. Linked with --wrap=malloc. */
 #define _XOPEN_SOURCE 700
 #include "../j1939.h"
 #include "expect.h"
 
 #include <string.h>
+#ifdef __linux__
 #include <time.h>
 #include <ucontext.h>
+#endif
 
 static size_t taken;
 void *__real_malloc(size_t size);
@@ -36,7 +38,7 @@ static void open_listener(void) { EXPECT(j1939_listener_new(&listener) == 0); }
 static void open_assembler(void) { EXPECT(j1939_assembler_new(&assembler) == 0); }
 static void open_receiver(void) { EXPECT(j1939_receiver_new(&receiver, 3) == 0); }
 static void open_sender(void) { EXPECT(j1939_sender_new(&sender, 1, 3, 65260, payload, sizeof payload) == 0); }
-static void open_controller(void) { EXPECT(j1939_controller_new(&controller, 1, 3, NULL, 0) == 0); }
+static void open_controller(void) { EXPECT(j1939_controller_new(&controller, 1, 3, 0, NULL, 0) == 0); }
 static void hear(void) { EXPECT(j1939_listener_feed(&listener, &engine, &message) == 1); }
 static void hear_other(void) { EXPECT(j1939_listener_feed(&listener, &other, &message) == 0); }
 static void read_number(void) { EXPECT(j1939_read(&message, 0, &reading) == 0); }
@@ -68,8 +70,9 @@ static void close_receiver(void) { EXPECT(j1939_receiver_close(&receiver) == 0);
 static void close_sender(void) { EXPECT(j1939_sender_close(&sender) == 0); }
 static void close_controller(void) { EXPECT(j1939_controller_close(&controller) == 0); }
 
+#ifdef __linux__
 /* A call on a stack of its own, painted before: how many of its bytes it touches. */
-enum { STACK = 1 << 16 };
+enum { STACK = 1 << 16, MANY = 1000000 };
 static uint8_t stack[STACK];
 static void (*called)(void);
 
@@ -90,42 +93,73 @@ static size_t stack_of(void (*call)(void)) {
     return STACK - clean;
 }
 
+static const char unit[] = "ns";
+static double clock_now(void) {
+    struct timespec at;
+    clock_gettime(CLOCK_MONOTONIC, &at);
+    return (double)at.tv_sec * 1e9 + (double)at.tv_nsec;
+}
+#else
+/* On a board without a system it paints what lies below, and counts what comes nearer than SPARED bytes as untouched. */
+enum { DEEP = 60000, SPARED = 64, MANY = 1000 };
+
+static __attribute__((noinline)) size_t stack_of(void (*call)(void)) {
+    volatile uint8_t *here = (volatile uint8_t *)__builtin_frame_address(0) - SPARED;
+    for (size_t i = 1; i < DEEP; i++) here[-(ptrdiff_t)i] = 0xA5;
+    call();
+    size_t clean = DEEP - 1;
+    while (clean > 0 && here[-(ptrdiff_t)clean] == 0xA5) clean--;
+    return clean + SPARED;
+}
+
+/* Instructions, where qemu counts them (-icount shift=0): one takes a nanosecond. */
+static const char unit[] = "instructions";
+static double clock_now(void) {
+#ifdef __riscv
+    uint32_t count;
+    __asm__ volatile(".option push\n.option arch, +zicsr\ncsrr %0, minstret\n.option pop" : "=r"(count));
+    return count;
+#else
+    static volatile uint32_t *const systick = (volatile uint32_t *)0xE000E010;
+    if (!systick[0]) systick[1] = 0xFFFFFF, systick[2] = 0, systick[0] = 5;
+    return (double)(0xFFFFFF - systick[2]) * 40;
+#endif
+}
+#endif
+
 static void measure(const char *name, void (*call)(void), long times) {
-    struct timespec from, to;
     size_t before = taken;
     size_t touched = stack_of(call);
-    printf("%-16s memory %5zu  stack %5zu", name, taken - before, touched);
-    clock_gettime(CLOCK_MONOTONIC, &from);
+    printf("%-18s memory %5lu  stack %5lu", name, (unsigned long)(taken - before), (unsigned long)touched);
+    double from = clock_now();
     for (long i = 0; i < times; i++) call();
-    clock_gettime(CLOCK_MONOTONIC, &to);
-    double ns = (double)(to.tv_sec - from.tv_sec) * 1e9 + (double)(to.tv_nsec - from.tv_nsec);
-    if (times) printf("  %4.0f ns", ns / (double)times);
+    if (times) printf("  %6.0f %s", (clock_now() - from) / (double)times, unit);
     putchar('\n');
 }
 
 int main(void) {
-    printf("j1939_node %zu, j1939_claims %zu, j1939_message %zu bytes\n", sizeof node, sizeof node.claims,
-           sizeof message);
+    printf("j1939_node %u, j1939_claims %u, j1939_message %u bytes\n", (unsigned)sizeof node, (unsigned)sizeof node.claims,
+           (unsigned)sizeof message);
     EXPECT(j1939_node_init(&node, 1, 3) == 0);
     measure("listener_new", open_listener, 0);
     measure("assembler_new", open_assembler, 0);
     measure("receiver_new", open_receiver, 0);
     measure("sender_new", open_sender, 0);
     measure("controller_new", open_controller, 0);
-    measure("listener_feed", hear, 1000000);
-    measure("  other group", hear_other, 1000000);
-    measure("  announced", announce, 1000000);
-    measure("read", read_number, 1000000);
-    measure("read_text", read_text, 1000000);
-    measure("node_tick", node_tick, 1000000);
-    measure("node_on", node_on, 1000000);
-    measure("receiver_tick", receiver_tick, 1000000);
-    measure("sender_tick", sender_tick, 1000000);
-    measure("controller_frame", controller_frame, 1000000);
-    measure("controller_tick", controller_tick, 1000000);
-    measure("controller_hear", controller_hear, 1000000);
-    measure("  heard, taken", controller_hear_other, 1000000);
-    measure("  sent, taken", controller_send, 1000000);
+    measure("listener_feed", hear, MANY);
+    measure("  other group", hear_other, MANY);
+    measure("  announced", announce, MANY);
+    measure("read", read_number, MANY);
+    measure("read_text", read_text, MANY);
+    measure("node_tick", node_tick, MANY);
+    measure("node_on", node_on, MANY);
+    measure("receiver_tick", receiver_tick, MANY);
+    measure("sender_tick", sender_tick, MANY);
+    measure("controller_frame", controller_frame, MANY);
+    measure("controller_tick", controller_tick, MANY);
+    measure("controller_hear", controller_hear, MANY);
+    measure("  heard, taken", controller_hear_other, MANY);
+    measure("  sent, taken", controller_send, MANY);
     measure("listener_close", close_listener, 0);
     measure("assembler_close", close_assembler, 0);
     measure("receiver_close", close_receiver, 0);

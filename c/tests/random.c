@@ -1,7 +1,9 @@
 /* Many random calls on all parts, with numbers in range and out of it, and memory refused at times: that none of them
- * faults, answers what the header doesn't say, or loses memory. Words: how many calls (ten million). Linked with
- * --wrap=malloc. */
+ * faults, answers what the header doesn't say, or loses memory. It prints a sum over all that they answer and write, the
+ * same on each machine: no two numbers are drawn in one expression. It has calls for memory of its own. Words: how many calls
+ * (ten million). */
 #include "../j1939.h"
+#include "../memory.h"
 #include "expect.h"
 
 #include <string.h>
@@ -16,11 +18,35 @@ static uint64_t next(void) {
     return z ^ z >> 31;
 }
 
+static uint64_t sum = 0xCBF29CE484222325;
+
+/* Adds a number to the sum (FNV-1a). */
+static void mix(uint64_t number) {
+    for (int k = 0; k < 64; k += 8) sum = (sum ^ (number >> k & 255)) * 0x100000001B3;
+}
+
 static int refuses;
-void *__real_malloc(size_t size);
-void *__wrap_malloc(size_t size);
-void *__wrap_malloc(size_t size) {
-    return refuses && next() % 4 == 0 ? NULL : __real_malloc(size);
+
+/* Every fourth block is refused. */
+static struct granted granted(void *at, size_t size) {
+    if (refuses && next() % 4 == 0) return (struct granted){0, NULL};
+    at = realloc(at, size ? size : 1);
+    return (struct granted){at != NULL, at};
+}
+
+struct granted rattle_alloc(size_t size, size_t align) {
+    (void)align;
+    return granted(NULL, size);
+}
+
+struct granted rattle_realloc(void *at, size_t kept, size_t size, size_t align) {
+    (void)kept;
+    (void)align;
+    return granted(at, size);
+}
+
+void rattle_dealloc(void *at) {
+    free(at);
 }
 
 enum { PARTS = 4 };
@@ -42,7 +68,9 @@ static void make_frame(void) {
     static const uint8_t firsts[] = {0x20, 0x10, 0x11, 0x13, 0xFF, 1};
     static const uint8_t addresses[] = {0, 1, 2, 254, 255};
     frame.micros = now += next() % 100000;
-    frame.id = 6u << 26 | groups[next() % 6] << 16 | (uint32_t)addresses[next() % 5] << 8 | addresses[next() % 4];
+    frame.id = 6u << 26 | groups[next() % 6] << 16;
+    frame.id |= (uint32_t)addresses[next() % 5] << 8;
+    frame.id |= addresses[next() % 4];
     frame.len = 8;
     for (int i = 0; i < 8; i++) frame.data[i] = (uint8_t)next();
     uint8_t size = (uint8_t)(9 + next() % 20);
@@ -58,17 +86,39 @@ static void make_frame(void) {
 }
 
 /* Whether an answer is one that the header has: at least this one, at most that one. */
-static void answered(int32_t answer, int32_t least, int32_t most) {
+static int32_t answered(int32_t answer, int32_t least, int32_t most) {
     EXPECT(answer >= least && answer <= most);
+    mix((uint64_t)(int64_t)answer);
+    return answer;
+}
+
+/* What was written out, where the answer says that it was. */
+static void mix_frame(const j1939_frame *written) {
+    mix(written->micros), mix(written->id), mix(written->len);
+    for (int i = 0; i < written->len; i++) mix(written->data[i]);
+}
+
+static void mix_message(void) {
+    mix(message.micros), mix(message.is_named ? message.name : 0), mix(message.pgn), mix(message.source);
+    mix(message.is_addressed ? message.destination : 256), mix(message.len);
+    for (int i = 0; i < message.len; i++) mix(message.data[i]);
+}
+
+static void sends(int32_t answer, int32_t least, int32_t most) {
+    if (answered(answer, least, most) >= 1) mix_frame(&out);
+}
+
+static void hears(int32_t answer, int32_t least) {
+    if (answered(answer, least, 1) == 1) mix_message();
 }
 
 static void call_handles(size_t i, uint8_t address) {
-    uint8_t payload[40], reason;
-    uint64_t name;
+    uint8_t payload[40], reason = 0, to;
+    uint64_t name = 0;
     switch (next() % 18) {
     case 16: answered(j1939_assembler_new(&assemblers[i]), J1939_IN_USE, 0); break;
     case 17:
-        answered(j1939_assembler_feed(&assemblers[i], &frame, &message), J1939_NO_MEMORY, 1);
+        hears(j1939_assembler_feed(&assemblers[i], &frame, &message), J1939_NO_MEMORY);
         if (next() % 64 == 0) answered(j1939_assembler_forget(&assemblers[i], address), J1939_NO_PART, 0);
         if (next() % 1024 == 0) answered(j1939_assembler_close(&assemblers[i]), 0, 0);
         break;
@@ -76,8 +126,8 @@ static void call_handles(size_t i, uint8_t address) {
     case 1: answered(j1939_receiver_new(&receivers[i], address), J1939_IN_USE, 0); break;
     case 2:
         memset(payload, address, sizeof payload);
-        answered(j1939_sender_new(&senders[i], address, (uint8_t)(next() % 3), 65260, payload, next() % sizeof payload),
-                 J1939_IN_USE, 0);
+        to = (uint8_t)(next() % 3);
+        answered(j1939_sender_new(&senders[i], address, to, 65260, payload, next() % sizeof payload), J1939_IN_USE, 0);
         break;
     case 3:
         if (next() % 64 == 0) answered(j1939_listener_close(&listeners[i]), 0, 0);
@@ -85,14 +135,19 @@ static void call_handles(size_t i, uint8_t address) {
         if (next() % 64 == 0) answered(j1939_sender_close(&senders[i]), 0, 0);
         break;
     case 4: case 5: case 6: case 7:
-        answered(j1939_listener_feed(&listeners[i], &frame, &message), J1939_NO_MEMORY, 1);
+        hears(j1939_listener_feed(&listeners[i], &frame, &message), J1939_NO_MEMORY);
         break;
-    case 8: case 9: answered(j1939_receiver_on(&receivers[i], &frame, &out, &message), J1939_NO_PART, 2); break;
-    case 10: answered(j1939_receiver_tick(&receivers[i], now, &out), J1939_NO_PART, 1); break;
-    case 11: answered(j1939_sender_tick(&senders[i], now, &out), J1939_NO_PART, 1); break;
+    case 8: case 9: {
+        int32_t answer = j1939_receiver_on(&receivers[i], &frame, &out, &message);
+        sends(answer, J1939_NO_PART, 2);
+        if (answer == 2) mix_message();
+        break;
+    }
+    case 10: sends(j1939_receiver_tick(&receivers[i], now, &out), J1939_NO_PART, 1); break;
+    case 11: sends(j1939_sender_tick(&senders[i], now, &out), J1939_NO_PART, 1); break;
     case 12: answered(j1939_sender_on(&senders[i], next() % 2 ? &frame : &out), J1939_NO_PART, 0); break;
-    case 13: answered(j1939_sender_state(&senders[i], &reason), J1939_NO_PART, J1939_SEND_FAILED); break;
-    case 14: answered(j1939_listener_holder(&listeners[i], address, &name), J1939_NO_PART, 1); break;
+    case 13: answered(j1939_sender_state(&senders[i], &reason), J1939_NO_PART, J1939_SEND_FAILED), mix(reason); break;
+    case 14: answered(j1939_listener_holder(&listeners[i], address, &name), J1939_NO_PART, 1), mix(name); break;
     default: /* a handle of another kind */
         answered(j1939_listener_feed((j1939_listener *)&receivers[i], &frame, &message), J1939_NO_PART, J1939_BAD_VALUE);
     }
@@ -114,109 +169,148 @@ static void empty_controller(j1939_controller *controller) {
     int32_t answer;
     while ((answer = j1939_controller_peek_frame(controller, now, &seen)) > 0) {
         EXPECT(j1939_controller_take_frame(controller, now, &out) == 1 && out.id == seen.id && out.len == seen.len);
+        mix_frame(&out);
         tell_others(controller);
     }
     answered(answer, J1939_NO_PART, 0);
     while ((answer = j1939_controller_take_received(controller, &message, &priority)) > 0) {
         EXPECT(answer <= J1939_RECEIVED_BROADCAST && message.len <= J1939_LONGEST && !message.is_named && priority < 8);
         EXPECT((answer == J1939_RECEIVED_FRAME) == (message.len < 9));
+        mix((uint64_t)answer), mix(priority), mix_message();
     }
     answered(answer, J1939_NO_PART, 0);
     while ((answer = j1939_controller_take_request(controller, &request)) > 0) {
         EXPECT(answer == 1 && (request.pgn == 65260 || request.pgn == 61444));
+        mix(request.pgn), mix(request.source), mix(request.destination);
         answered(j1939_controller_acknowledge(controller, now, &request, (uint8_t)(next() % 5)), J1939_FULL, 0);
     }
     answered(answer, J1939_NO_PART, 0);
     while ((answer = j1939_controller_take_ended(controller, &ended)) > 0) {
         EXPECT(answer <= J1939_ENDED_REQUEST && ended.ending >= J1939_ENDED_DONE);
         EXPECT(ended.ending <= J1939_ENDED_TIMED_OUT);
+        mix((uint64_t)answer), mix(ended.token), mix(ended.ending), mix(ended.detail);
     }
     answered(answer, J1939_NO_PART, 0);
-    while ((answer = j1939_controller_take_news(controller)) > 0) EXPECT(answer <= J1939_NEWS_MISSED);
+    while ((answer = j1939_controller_take_news(controller)) > 0) answered(answer, J1939_NEWS_LOST, J1939_NEWS_DOUBLED + 255);
     answered(answer, J1939_NO_PART, 0);
 }
 
 /* What it is asked of itself. */
 static void ask_controller(j1939_controller *controller, uint8_t address) {
-    uint64_t number;
-    uint8_t own;
-    answered(j1939_controller_status(controller, &own), J1939_NO_PART, J1939_CANNOT);
-    answered(j1939_controller_next_due(controller, &number), J1939_NO_PART, 1);
-    answered(j1939_controller_next_tick(controller, &number), J1939_NO_PART, 1);
-    answered(j1939_controller_missed(controller, &number), J1939_NO_PART, 0);
-    answered(j1939_controller_holder(controller, address, &number), J1939_NO_PART, 1);
-    answered(j1939_controller_address_of(controller, next() % 4, &own), J1939_NO_PART, 1);
-    answered(j1939_controller_free_address(controller, &own), J1939_NO_PART, 1);
+    uint64_t number = 0;
+    uint8_t own = 0;
+    answered(j1939_controller_status(controller, &own), J1939_NO_PART, J1939_CANNOT), mix(own);
+    answered(j1939_controller_next_due(controller, &number), J1939_NO_PART, 1), mix(number);
+    answered(j1939_controller_next_tick(controller, &number), J1939_NO_PART, 1), mix(number);
+    answered(j1939_controller_missed(controller, &number), J1939_NO_PART, 0), mix(number);
+    answered(j1939_controller_holder(controller, address, &number), J1939_NO_PART, 1), mix(number);
+    answered(j1939_controller_address_of(controller, next() % 4, &own), J1939_NO_PART, 1), mix(own);
+    answered(j1939_controller_free_address(controller, &own), J1939_NO_PART, 1), mix(own);
+    sends(j1939_controller_claims_request(controller, now, address, &out), J1939_NO_PART, 1);
 }
 
 /* Whether it tells a token, or why there is none. */
-static void told(int32_t answer) {
+static void told(int32_t answer, const uint64_t *token) {
     EXPECT(answer == 1 || answer == J1939_BAD_VALUE || answer == J1939_NO_PART || answer == J1939_NO_ADDRESS
            || answer == J1939_FULL);
+    answered(answer, J1939_FULL, 1);
+    if (answer == 1) mix(*token);
 }
 
 static void call_controller(j1939_controller *controller, uint8_t address) {
-    static const uint8_t payload[1800];
-    static const uint32_t served[] = {65260, 61444, 1u << 18};
-    uint64_t token;
-    size_t size = next() % 64 ? 9 + next() % 20 : next() % sizeof payload;
-    switch (next() % 12) {
+    static uint8_t payload[1800];
+    static const uint32_t served[] = {65260, 61444, 1u << 18}, wanted[] = {65260, 61444, 61440};
+    uint64_t token = 0, name = next() % 4;
+    size_t size = (size_t)(next() % 64 ? 9 + next() % 20 : next() % sizeof payload);
+    uint8_t priority = (uint8_t)(next() % 9), delay = (uint8_t)next();
+    uint32_t pgn = next() % 2 ? 65260 : 65262;
+    payload[next() % sizeof payload] = (uint8_t)size;
+    switch (next() % 15) {
     case 0:
-        answered(j1939_controller_new(controller, next() % 4, address, served, 2 + !(next() % 8)), J1939_IN_USE, 0);
+        answered(j1939_controller_new(controller, name, address, delay, served, 2 + !(next() % 8)), J1939_IN_USE, 0);
         break;
     case 1:
         if (next() % 256 == 0) answered(j1939_controller_close(controller), 0, 0);
         break;
     case 2: answered(j1939_controller_tick(controller, now), J1939_NO_PART, 0); break;
     case 3: ask_controller(controller, address); break;
-    case 4: told(j1939_controller_ask(controller, now, next() % 2 ? 65260 : 65262, address, &token)); break;
+    case 4: told(j1939_controller_ask(controller, now, pgn, address, &token), &token); break;
     case 5: answered(j1939_controller_move_to(controller, address), J1939_NO_PART, 1); break;
-    case 6:
-        told(j1939_controller_send(controller, now, (uint8_t)(next() % 9), 61444, 255, payload, next() % 10, &token));
-        break;
-    case 7: told(j1939_controller_broadcast(controller, now, 65260, payload, size, &token)); break;
-    case 8: told(j1939_controller_transfer(controller, now, 65260, address, payload, size, &token)); break;
+    case 6: told(j1939_controller_send(controller, now, priority, 61444, 255, payload, size % 10, &token), &token); break;
+    case 7: told(j1939_controller_broadcast(controller, now, 65260, payload, size, &token), &token); break;
+    case 8: told(j1939_controller_transfer(controller, now, 65260, address, payload, size, &token), &token); break;
     case 9: empty_controller(controller); break;
+    case 10:
+        if (next() % 16 == 0) answered(j1939_controller_again(controller, now), J1939_NO_PART, 0);
+        break;
+    case 11:
+        answered(j1939_controller_renew(controller, priority, 61444, 255, payload, size % 10, &token), J1939_NO_PART, 1);
+        mix(token);
+        break;
+    case 12:
+        answered(j1939_controller_new_subscribed(controller, name, address, delay, served, 2, wanted, 3), J1939_IN_USE, 0);
+        break;
     default: answered(j1939_controller_hear(controller, &frame, frame.micros), J1939_NO_PART, 0);
     }
 }
 
-static void call_plain(size_t i, uint8_t address) {
+/* A message of a group of the table, or of any length, and what is read in it. */
+static void read_message(void) {
+    static const uint32_t groups[] = {61443, 61444, 65226, 65253, 65260, 65262, 65265};
     static char text[7200];
     j1939_reading reading;
+    message.pgn = groups[next() % 7];
+    message.len = (uint16_t)(next() % 16 ? 8 : next() % 1786);
+    for (int i = 0; i < message.len; i++) message.data[i] = (uint8_t)next();
+    size_t index = (size_t)(next() % 8);
+    if (answered(j1939_read(&message, index, &reading), J1939_END, 0) == 0) {
+        mix((uint64_t)reading.number), mix(reading.spn), mix(reading.kind), mix(reading.places);
+        mix((uint8_t)reading.unit[0]);
+    }
+    int32_t length = answered(j1939_read_text(&message, index, text, (size_t)(next() % sizeof text)), J1939_END, 7142);
+    for (int32_t i = 0; i < length; i++) mix((uint8_t)text[i]);
+}
+
+static void call_plain(size_t i, uint8_t address) {
     j1939_id_fields fields;
     j1939_name_fields parts;
-    uint8_t changed[2];
-    uint64_t name = next();
-    uint32_t raw;
+    uint8_t changed[2] = {0, 0}, own = 0;
+    uint64_t name = next(), due = 0;
+    uint32_t raw = 0, spn = (uint32_t)(next() % 300);
     switch (next() % 13) {
     case 12:
-        answered(j1939_broadcast_poll(&broadcasts[i], address, 65260, message.data, next() % 1786, now, &out, &name),
-                 J1939_BAD_VALUE, 2);
+        sends(j1939_broadcast_poll(&broadcasts[i], address, 65260, message.data, (size_t)(name % 1786), now, &out, &due),
+              J1939_BAD_VALUE, 2);
+        mix(due);
         break;
-    case 0: answered(j1939_node_init(&nodes[i], name, address), J1939_BAD_VALUE, 0); break;
-    case 1: answered(j1939_node_start(&nodes[i], now, &out), J1939_BAD_VALUE, 1); break;
+    case 0: answered(j1939_node_init(&nodes[i], spn % 2 ? spn % 8 : name, address), J1939_BAD_VALUE, 0); break;
+    case 1: sends(j1939_node_start(&nodes[i], now, &out), J1939_BAD_VALUE, 1); break;
     case 2: answered(j1939_node_tick(&nodes[i], now), J1939_BAD_VALUE, 0); break;
-    case 3: answered(j1939_node_on(&nodes[i], &frame, &out), J1939_BAD_VALUE, 1); break;
-    case 4: answered(j1939_node_commanded(&nodes[i], name, address, now, &out), J1939_BAD_VALUE, 1); break;
-    case 5: answered(j1939_node_status(&nodes[i], changed), 0, J1939_CANNOT); break;
-    case 6: answered(j1939_claims_note(&claims[i], &frame, changed), J1939_BAD_VALUE, 2); break;
-    case 7: answered(j1939_claims_holder(&claims[i], address, &name), 0, 1); break;
-    case 8:
-        message.pgn = next() % 2 ? 65260 : 61444;
-        answered(j1939_read(&message, next() % 4, &reading), J1939_END, 0);
-        answered(j1939_read_text(&message, next() % 4, text, next() % sizeof text), J1939_END, 7142);
+    case 3: sends(j1939_node_on(&nodes[i], &frame, &out), J1939_BAD_VALUE, 1); break;
+    case 4:
+        sends(j1939_node_commanded(&nodes[i], spn % 2 ? spn % 8 : name, address, now, &out), J1939_BAD_VALUE, 1);
         break;
+    case 5: answered(j1939_node_status(&nodes[i], &own), 0, J1939_CANNOT), mix(own); break;
+    case 6:
+        answered(j1939_claims_note(&claims[i], &frame, changed), J1939_BAD_VALUE, 2);
+        mix(changed[0]), mix(changed[1]);
+        break;
+    case 7: answered(j1939_claims_holder(&claims[i], address, &due), 0, 1), mix(due); break;
+    case 8: read_message(); break;
     case 9:
         if (j1939_id_split((uint32_t)name, &fields) == 0) {
             EXPECT(j1939_id_compose(&fields, &raw) == 0 && raw == (uint32_t)name);
+            mix(fields.pgn), mix(fields.priority), mix(fields.source), mix(fields.destination);
         }
         break;
     case 10:
         EXPECT(j1939_name_split(state, &parts) == 0);
         EXPECT(j1939_name_compose(&parts, &name) == 0 && name == state);
+        mix(parts.identity), mix(parts.manufacturer), mix(parts.function), mix(parts.ecu_instance);
         break;
-    default: answered(j1939_raw_of((uint32_t)(next() % 300), (int64_t)next(), &raw), 0, 1);
+    default:
+        if (name % 2) name %= 20000000;
+        answered(j1939_raw_of(spn, (int64_t)name, &raw), 0, 1), mix(raw);
     }
 }
 
@@ -234,10 +328,12 @@ int main(int argc, char **argv) {
         default: call_handles(i, address);
         }
     }
+    refuses = 0;
     for (size_t i = 0; i < PARTS; i++) {
         EXPECT(j1939_listener_close(&listeners[i]) == 0 && j1939_receiver_close(&receivers[i]) == 0);
         EXPECT(j1939_assembler_close(&assemblers[i]) == 0);
         EXPECT(j1939_sender_close(&senders[i]) == 0 && j1939_controller_close(&controllers[i]) == 0);
     }
+    printf("%08lx%08lx\n", (unsigned long)(sum >> 32), (unsigned long)(sum & 0xFFFFFFFF));
     return 0;
 }

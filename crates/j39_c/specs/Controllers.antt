@@ -21,7 +21,7 @@ use Rattle.j39_node.specs.declared.kinds.AskEnding.TheVariants as request
 use Rattle.j39_node.specs.declared.kinds.Ending.{Ending}
 use Rattle.j39_node.specs.declared.kinds.Ending.TheVariants as message
 use Rattle.j39_node.specs.declared.kinds.News.{News}
-use Rattle.j39_node.specs.declared.kinds.News.TheVariants.{AddressLost, AnotherAtAddress, MessagesMissed}
+use Rattle.j39_node.specs.declared.kinds.News.TheVariants.{AddressLost, AnotherAtAddress, MessagesMissed, NameDoubled}
 use Rattle.j39_node.specs.declared.kinds.Refused.{Refused}
 use Rattle.j39_node.specs.declared.kinds.Refused.TheVariants.{NoAddress, BadValue, Full}
 use Rattle.j39_node.specs.declared.kinds.TransferEnding.{TransferEnding}
@@ -67,9 +67,9 @@ pub record CanServe (address : ℕ) (served : List ℕ) (subscribed : Option (Li
   pub can_subscribe : CanSubscribe subscribed
 
 -- a controller that begins so
-abbrev pub IsNew : ℕ → ℕ → List ℕ → Option (List ℕ) → Controller → Type 0
-IsNew name address served subscribed c = Is (record
-    { name = name; address = address; served = served; subscribed = subscribed; brought = nothing }) [] c
+abbrev pub IsNew : ℕ → ℕ → ℕ → List ℕ → Option (List ℕ) → Controller → Type 0
+IsNew name address delay served subscribed c = Is (record
+    { name = name; address = address; delay = delay; served = served; subscribed = subscribed; brought = nothing }) [] c
 
 -- why there is no controller of them
 abbrev pub IsMakeRefusal : ℕ → List ℕ → Option (List ℕ) → Refusal → Type 0
@@ -222,15 +222,18 @@ received_by (negsuc n) m priority = []
 abbrev pub Waited : ℤ → WholeMessage → Who → List Call → Type 0
 Waited (pos zero) m w H = ((reception w H).waits ≡ None) × (waiting w H ≡ None)
 Waited (pos (suc zero)) m w H = Unit {0}
-Waited (pos (suc (suc zero))) m w H = (reception w H).waits ≡ Some (long_in m)
+Waited (pos (suc (suc zero))) m w H =
+    ((reception w H).waits ≡ Some (long_in m)) × ((hearing_in m).destination ≡ Some w.address)
 Waited (pos (suc (suc (suc n)))) m w H =
     ((reception w H).waits ≡ None) × (waiting w H ≡ Some (long_in m))
 Waited (negsuc n) m w H = Unit {0}
 
--- ---- news: 1 the address was lost, 2 another sends from it, 3 messages were missed
+-- ---- news: 1 the address was lost, 2 another sends from it, 3 messages were missed, 4 and more that another of its NAME claims an
+-- address, so much more than 4
 abbrev pub news_in : ℤ → Option News
 news_in (pos zero) = None
 news_in (pos (suc zero)) = Some AddressLost
 news_in (pos (suc (suc zero))) = Some AnotherAtAddress
-news_in (pos (suc (suc (suc n)))) = Some MessagesMissed
+news_in (pos (suc (suc (suc zero)))) = Some MessagesMissed
+news_in (pos (suc (suc (suc (suc n))))) = Some (NameDoubled n)
 news_in (negsuc n) = None

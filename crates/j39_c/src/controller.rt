@@ -7,7 +7,7 @@ ghost use Rattle.j39_address.specs.Holder.{IsHolderAfter};
 ghost use Rattle.j39_frame.specs.Pgn.{pgn_raw};
 ghost use Rattle.j39_node.specs.History.{told_claims};
 ghost use Rattle.j39_node.specs.History.Call.{At, TakeNews};
-ghost use Rattle.j39_node.specs.History.Act.{Hear, TakeFrame, Tick};
+ghost use Rattle.j39_node.specs.History.Act.{Again, Hear, TakeFrame, Tick};
 ghost use Rattle.j39_node.specs.Is.{next_claims_request, next_frame, stamped, status_after};
 ghost use Rattle.j39_node.specs.Ticks.{next_tick};
 ghost use Rattle.j39_node.specs.Transfers.{next_due};
@@ -35,7 +35,8 @@ const MOST_SERVED: usize = 16;
 /// The most groups that a program subscribes, unless it does all.
 const MOST_SUBSCRIBED: usize = 64;
 
-/// Opens a controller of this NAME, that will claim this address, and whose program serves these groups and subscribes all: 0; -1 for an
+/// Opens a controller of this NAME, that will claim this address, whose 'cannot claim' waits for the delay in 0.6 ms, and whose program
+/// serves these groups and subscribes all: 0; -1 for an
 /// address above 253, more than 16 groups, or one of 2^18 and above, -3 where memory is refused, -4 where the handle is
 /// open.
 #[unsafe(no_mangle)]
@@ -44,16 +45,17 @@ pub extern "C" fn j39_controller_new(
     controller: &mut Handle,
     name: u64,
     address: u8,
+    delay: u8,
     served: &[u32],
 ) -> i32
     ensures opens { Opens controller_in (CanServe address served.now None) controller.old.part result controller.new.part
-        (IsNew name address served.now None) }
+        (IsNew name address delay served.now None) }
     ensures answers { Answers 0 (bad_value ∷ no_memory ∷ in_use ∷ []) result }
 {
     if controller.is_open(alloc) {
         return Refusal::InUse.code();
     }
-    match make(alloc, name, address, served, None) {
+    match make(alloc, name, address, delay, served, None) {
         Ok(made) => put_controller(alloc, controller, made),
         Err(refusal) => refusal.code(),
     }
@@ -66,17 +68,18 @@ pub extern "C" fn j39_controller_new_subscribed(
     controller: &mut Handle,
     name: u64,
     address: u8,
+    delay: u8,
     served: &[u32],
     subscribed: &[u32],
 ) -> i32
     ensures opens { Opens controller_in (CanServe address served.now (Some subscribed.now)) controller.old.part result
-        controller.new.part (IsNew name address served.now (Some subscribed.now)) }
+        controller.new.part (IsNew name address delay served.now (Some subscribed.now)) }
     ensures answers { Answers 0 (bad_value ∷ no_memory ∷ in_use ∷ []) result }
 {
     if controller.is_open(alloc) {
         return Refusal::InUse.code();
     }
-    match make(alloc, name, address, served, Some(subscribed)) {
+    match make(alloc, name, address, delay, served, Some(subscribed)) {
         Ok(made) => put_controller(alloc, controller, made),
         Err(refusal) => refusal.code(),
     }
@@ -95,6 +98,23 @@ pub extern "C" fn j39_controller_tick(alloc: Global, controller: &mut Handle, mi
     };
     ask!(alloc, controller, Controlling(held) => {
         held.tick(now);
+        0
+    })
+}
+
+/// Claims the address anew, where the bus was away: 0; -1 for a moment of 10^16 microseconds and above, -2 where the handle
+/// holds no controller.
+#[unsafe(no_mangle)]
+pub extern "C" fn j39_controller_again(alloc: Global, controller: &mut Handle, micros: u64) -> i32
+    ensures asks { Asks controller_in (micros < 10 ^ 16) controller.old.part result controller.new.part
+        (λ old new. (result ≡ pos 0) × Continues (At micros Again) old new) Never }
+    ensures answers { Answers 0 (bad_value ∷ no_part ∷ []) result }
+{
+    let Some(now) = Stamp::new(micros) else {
+        return Refusal::BadValue.code();
+    };
+    ask!(alloc, controller, Controlling(held) => {
+        held.again(now);
         0
     })
 }
@@ -324,14 +344,14 @@ pub extern "C" fn j39_controller_missed(
     })
 }
 
-/// Takes what happened: 0 nothing, 1 the address was lost, 2 another sends from it, 3 messages were missed; -2 where the
-/// handle holds no controller.
+/// Takes what happened: 0 nothing, 1 the address was lost, 2 another sends from it, 3 messages were missed, 4 and the address more
+/// that another of its NAME claims; -2 where the handle holds no controller.
 #[unsafe(no_mangle)]
 pub extern "C" fn j39_controller_take_news(alloc: Global, controller: &mut Handle) -> i32
     ensures asks { Asks controller_in ⊤ controller.old.part result controller.new.part
         (λ old new. Continues (TakeNews (news_in result)) old new) Never }
     ensures refused { IsRefused result → controller.new.part ≡ controller.old.part }
-    ensures answers { Answers 3 (no_part ∷ []) result }
+    ensures answers { Answers 259 (no_part ∷ []) result }
 {
     ask!(alloc, controller, Controlling(held) => number_of(held.take_news()))
 }
@@ -352,11 +372,12 @@ fn make(
     alloc: Global,
     name: u64,
     address: u8,
+    delay: u8,
     served: &[u32],
     subscribed: Option<&[u32]>,
 ) -> Result<Controller, Refusal>
     ensures made { IfOk result (λ made. CanServe address served.now (option_map (λ g. g.now) subscribed.entry)
-        × IsNew name address served.now (option_map (λ g. g.now) subscribed.entry) made) }
+        × IsNew name address delay served.now (option_map (λ g. g.now) subscribed.entry) made) }
     ensures refused { IfErr result (λ refusal. IsMakeRefusal address served.now (option_map (λ g. g.now) subscribed.entry) refusal) }
 {
     let mut groups = [Pgn::new(0).unwrap(); MOST_SUBSCRIBED];
@@ -371,6 +392,7 @@ fn make(
         alloc,
         Name::new(name),
         address,
+        delay,
         &groups[..served.len()],
         subscribed,
     ) {
@@ -437,12 +459,13 @@ fn put_free(controller: &Controller, address: &mut u8) -> i32
 fn number_of(news: Option<News>) -> i32
     ensures done { IsDone result }
     ensures value { news_in result ≡ news }
-    ensures answers { Answers 3 [] result }
+    ensures answers { Answers 259 [] result }
 {
     match news {
         None => 0,
         Some(News::AddressLost) => 1,
         Some(News::AnotherAtAddress) => 2,
         Some(News::MessagesMissed) => 3,
+        Some(News::NameDoubled(address)) => 4 + i32::from(address),
     }
 }

@@ -27,11 +27,12 @@ pub use broadcast::{j39_broadcast_init, j39_broadcast_poll};
 pub use can::CanFrame;
 pub use claims::{j39_claims_holder, j39_claims_init, j39_claims_note};
 pub use controller::{
-    j39_controller_address_of, j39_controller_claims_request, j39_controller_free_address,
-    j39_controller_hear, j39_controller_holder, j39_controller_missed, j39_controller_move_to,
-    j39_controller_new, j39_controller_new_subscribed, j39_controller_next_due,
-    j39_controller_next_tick, j39_controller_peek_frame, j39_controller_status,
-    j39_controller_take_frame, j39_controller_take_news, j39_controller_tick,
+    j39_controller_address_of, j39_controller_again, j39_controller_claims_request,
+    j39_controller_free_address, j39_controller_hear, j39_controller_holder, j39_controller_missed,
+    j39_controller_move_to, j39_controller_new, j39_controller_new_subscribed,
+    j39_controller_next_due, j39_controller_next_tick, j39_controller_peek_frame,
+    j39_controller_status, j39_controller_take_frame, j39_controller_take_news,
+    j39_controller_tick,
 };
 pub use cut::j39_cut_frame;
 pub use fields::{
@@ -45,8 +46,8 @@ pub use node::{
     j39_node_commanded, j39_node_init, j39_node_on, j39_node_start, j39_node_status, j39_node_tick,
 };
 pub use offering::{
-    j39_controller_acknowledge, j39_controller_ask, j39_controller_broadcast, j39_controller_send,
-    j39_controller_transfer,
+    j39_controller_acknowledge, j39_controller_ask, j39_controller_broadcast, j39_controller_renew,
+    j39_controller_send, j39_controller_transfer,
 };
 pub use reading::{PlainReading, j39_raw_of, j39_reading, j39_reading_text};
 pub use receiver::{j39_receiver_busy, j39_receiver_new, j39_receiver_on, j39_receiver_tick};

@@ -3,12 +3,14 @@ ghost use Rattle.std.specs.Prelude.{◌≡◌, ◌<◌, ◌^◌, ◌∷◌, [], 
 ghost use Rattle.j39_frame.specs.Pgn.{pgn_raw};
 ghost use Rattle.j39_frame.specs.Stamp.{stamp_micros};
 ghost use Rattle.j39_node.specs.declared.kinds.Answer.{Answer};
+ghost use Rattle.j39_node.specs.History.Call.{Renew};
 ghost use Rattle.j39_node.specs.History.Act.{Acknowledge, Ask, Broadcast, Send, Transfer};
-ghost use Rattle.j39_c.specs.Calls.{Answers, Fills};
-ghost use Rattle.j39_c.specs.Codes.{bad_value, full, no_address, no_part};
-ghost use Rattle.j39_c.specs.Controllers.{IsAccepted, IsAt, IsTaken, Offers, answer_in, request_in};
+ghost use Rattle.j39_c.specs.Calls.{Answers, Asks, Fills, Never};
+ghost use Rattle.j39_c.specs.Codes.{bad_value, full, no_address, no_part, told};
+ghost use Rattle.j39_c.specs.Parts.{controller_in};
+ghost use Rattle.j39_c.specs.Controllers.{Continues, IsAccepted, IsAt, IsTaken, Offers, answer_in, request_in};
 
-use crate::handed_out::{PlainRequest, answer_of, put_token, request_of, taken};
+use crate::handed_out::{PlainRequest, answer_of, put, put_token, request_of, taken};
 use crate::handle::Handle;
 use crate::part::ask;
 use crate::refusal::Refusal;
@@ -40,6 +42,31 @@ pub extern "C" fn j39_controller_send(
         return Refusal::BadValue.code();
     };
     ask!(alloc, controller, Controlling(held) => put_token(held.send(now, priority, group, to, payload), token))
+}
+
+/// Puts a message of 0 to 8 bytes in the place of the last that waits with its priority, group and destination, and is no request: 1,
+/// and the token of that, which stays. 0, where nothing changes, if none waits or the message can't be sent. -1 for a group of 2^18
+/// and above. -2 where the handle holds no controller.
+#[unsafe(no_mangle)]
+pub extern "C" fn j39_controller_renew(
+    alloc: Global,
+    controller: &mut Handle,
+    priority: u8,
+    pgn: u32,
+    to: u8,
+    payload: &[u8],
+    token: &mut u64,
+) -> i32
+    ensures asks { Asks controller_in (pgn < 2 ^ 18) controller.old.part result controller.new.part
+        (λ old new. Continues (Renew (record { priority = priority; group = pgn; to = to; bytes = payload.now })
+        (told result token.new)) old new) Never }
+    ensures answers { Answers 1 (bad_value ∷ no_part ∷ []) result }
+    ensures fills { Fills (pos 1 ∷ []) result (token.new ≡ token.old) }
+{
+    let Some(group) = Pgn::new(pgn) else {
+        return Refusal::BadValue.code();
+    };
+    ask!(alloc, controller, Controlling(held) => put(held.renew(priority, group, to, payload), token))
 }
 
 /// Hands in a message of 9 to 1,785 bytes, to all: 1, and its token. -8 where no address is held. -1 for another number of

@@ -39,8 +39,8 @@ pub extern "C" fn j39_controller_take_ended(
 }
 
 /// Takes a message that was received, each once: 0 where there is none; else it is in `out`, with no NAME: 1 a message of
-/// 0 to 8 bytes, with its destination and its priority; 2 one in packets to its address, 3 one in packets to all, with no
-/// destination there. -2 where the handle holds no controller.
+/// 0 to 8 bytes, with its destination and its priority; 2 one in packets to its address, which is its destination,
+/// 3 one in packets to all, with no destination there. -2 where the handle holds no controller.
 #[unsafe(no_mangle)]
 pub extern "C" fn j39_controller_take_received(
     alloc: Global,
@@ -128,6 +128,7 @@ fn put_message(controller: &mut Controller, out: &mut WholeMessage, priority: &m
 /// Takes the message in packets to its address, where one waits.
 fn put_transfer(controller: &mut Controller, out: &mut WholeMessage) -> bool
     ensures waits { Says (λ w H. (reception w H).waits ≡ long_if result out.new) controller.old }
+    ensures addressed { result ≡ true → Says (λ w H. (hearing_in out.new).destination ≡ Some w.address) controller.old }
     ensures goes { result ≡ true → Continues (ReleaseTransfer true) controller.old controller.new }
     ensures unnamed { result ≡ true → (hearing_in out.new).name ≡ None }
     ensures kept { result ≡ false → (controller.new ≡ controller.old) × (out.new ≡ out.old) }
@@ -136,6 +137,7 @@ fn put_transfer(controller: &mut Controller, out: &mut WholeMessage) -> bool
         return false;
     };
     put_long(&message, out);
+    out.put_destination(Some(controller.address()));
     controller.release_transfer();
     true
 }

@@ -1,26 +1,25 @@
 -- Which frame others exchange makes no difference to any answer, whatever comes later.
-use Rattle.std.proofs.Common.{◌≡◌, ◌≢◌, ◌↔◌, ℕ, ◌+◌, ◌-◌, List, [], ◌∷◌, ◌++◌, length, Option, Some, None, Ok, Err, Bool, true, false, not, ◌&&◌, ◌||◌, if◌then◌else◌, nat_eq, nat_lt, nat_le, suc, refl, sym, ap, ◌∙◌, subst, inl, arith}
+use Rattle.std.proofs.Common.{drop, max, ◌≡◌, ◌≢◌, ◌↔◌, ℕ, ◌+◌, ◌-◌, List, [], ◌∷◌, ◌++◌, length, Option, Some, None, Ok, Err, Bool, true, false, not, ◌&&◌, ◌||◌, if◌then◌else◌, nat_eq, nat_lt, nat_le, suc, refl, sym, ap, ◌∙◌, subst, inl, arith, ◌*◌, slice_set}
 use Rattle.std.specs.List.{slice_get}
 use Rattle.std.specs.Option.{option_map, option_or}
 use Rattle.j39_frame.specs.Frame.{FrameRecord}
 use Rattle.j39_frame.specs.Identifier.{destination_of, pgn_of, ps_of, source_of}
 use Rattle.j39_address.specs.Claim.{claim_of}
 use Rattle.j39_transport.specs.Message.{MessageRecord}
-use Rattle.j39_transport.specs.Protocol.{gap}
 use Rattle.j39_node.specs.declared.kinds.AskEnding.{AskEnding}
 use Rattle.j39_node.specs.declared.kinds.Ending.{Ending}
-use Rattle.j39_node.specs.declared.kinds.News.TheVariants.{AddressLost, AnotherAtAddress, MessagesMissed}
+use Rattle.j39_node.specs.declared.kinds.News.TheVariants.{AddressLost, AnotherAtAddress, MessagesMissed, NameDoubled}
 use Rattle.j39_node.specs.declared.kinds.Refused.TheVariants.{NoAddress, BadValue, Full}
 use Rattle.j39_node.specs.Aside.{IsAside}
-use Rattle.j39_node.specs.History.{patience, turns, Who, Message, Call, Address, Asked, accepted, acknowledged, acknowledgment, address_after, another_news, asked, asked_group, asked_with, broadcast_from, broadcasts, calls_for_claim, can_broadcast, can_send, claim_address, claim_from, claimed, due, got, handed, holds, is_acknowledgment, is_another, is_claim, is_for_program, is_held, is_lost, is_open, is_packet, is_session, is_smaller, is_transfer, kept, lost_news, message_from, message_of, missed_news, moment, older, open_broadcast, owes_claim, packets, pause, request_for, requests, sent, step, told, with_refusal, with_request}
+use Rattle.j39_node.specs.History.{fresh, is_refusal_due, yields, is_left, patience, turns, Who, Message, Call, Address, Asked, accepted, acknowledged, acknowledgment, address_after, another_news, asked, asked_group, asked_with, broadcast_from, broadcasts, calls_for_claim, can_broadcast, can_send, claim_address, claim_from, claimed, due, got, handed, holds, is_acknowledgment, is_another, is_claim, is_for_program, is_held, is_lost, is_open, is_packet, is_session, is_smaller, is_transfer, kept, lost_news, message_from, message_of, missed_news, moment, older, open_broadcast, owes_claim, packets, pause, request_for, requests, sent, step, told, with_refusal, with_request, delayed, of_other, doubled_news, double, latest}
 use Rattle.j39_node.specs.History.Address.{Lost}
-use Rattle.j39_node.specs.History.Call.{At, TakeAskEnded, TakeEnded, TakeReceived, TakeRequest, TakeNews, TakeBroadcastEnded, ReleaseTransfer, TakeTransferEnded, ReleaseBroadcast}
-use Rattle.j39_node.specs.History.Act.{Ask, Hear, Tick, TakeFrame, Send, Acknowledge, Broadcast, Transfer}
-use Rattle.j39_node.specs.Reception.{Reception, has_place, heard_at, heard_by, held_then, holder, later, leaves, left, none_waits, reception, released_by, taken_by, ticked, time_heard, whole_by}
+use Rattle.j39_node.specs.History.Call.{At, TakeAskEnded, TakeEnded, TakeReceived, TakeRequest, TakeNews, TakeBroadcastEnded, ReleaseTransfer, TakeTransferEnded, ReleaseBroadcast, Renew}
+use Rattle.j39_node.specs.History.Act.{Ask, Hear, Tick, TakeFrame, Send, Acknowledge, Broadcast, Transfer, Again}
+use Rattle.j39_node.specs.Reception.{Reception, has_place, heard_at, heard_by, held_then, holder, later, leaves, left, reception, released_by, taken_by, ticked, time_heard, whole_by, is_message, asks_claims, called, calls_claims, claimed_again, known, still, is_reply, is_that}
 use Rattle.j39_node.specs.Hearing.{OpenBroadcast, announces, breaks, changes, ends_by, found, hearing, hears as hears_it, in_time, is_out, is_over, is_unheard, left as leaves_it, newly, packs, unheard_news, whole_of}
 use Rattle.j39_node.specs.Transfers.{Running, age, begun, can_transfer, clock, hears_if, holds_back, is_engaged, is_replaced, joined, open_transfer, rest, resting, rests_after, sends_if, transfer_by, transfer_end, transfers}
 use Rattle.j39_node.specs.History.{Resting}
-use Rattle.j39_node.specs.Asking.{Question, ask_end, can_ask, comes, end_at, ended, first, has_token, in_broadcast, in_session, made, is_asking, is_coming, is_message, made_of, open_ask, question, silent_end, wait}
+use Rattle.j39_node.specs.Asking.{Question, ask_end, can_ask, comes, end_at, ended, first, has_token, in_broadcast, in_session, made, is_asking, is_coming, made_of, open_ask, question, silent_end, wait}
 use Rattle.j39_transport.specs.Frames as frames
 use Rattle.j39_transport.specs.Key.{Broadcast as by}
 use Rattle.j39_frame.specs.Network.{transport_control_group}
@@ -31,8 +30,10 @@ use Rattle.j39_node.proofs.HearingLemmas.{unchanged, unheard_is}
 use Rattle.j39_node.proofs.PacketsAnswer.{packs_to_all}
 use Rattle.j39_node.proofs.ReceptionLaws.{goes_there, to_others}
 use Rattle.j39_node.proofs.RequestStrangers.{and_false, to_another}
-use Rattle.j39_node.proofs.StrangerLaws.{no_more, open_stays, unclaimed}
-use Rattle.j39_node.specs.Is.{is_there, AreAnswered, IsAnswered, broadcast_end, control_of, end_of, first_of, long_by, news_of, packet_by, stamped}
+use Rattle.j39_node.proofs.StrangerLaws.{no_more, open_stays}
+use Rattle.j39_node.proofs.ReceptionLemmas.{unclaimed_known}
+use Rattle.j39_node.specs.Is.{is_there, AreAnswered, IsAnswered, broadcast_end, control_of, end_of, news_of, packet_by, stamped, is_apart, turn_frame, turn_of}
+use Rattle.j39_node.specs.declared.turn.Ready.{Ready}
 use Rattle.j39_node.proofs.LawLemmas.{is_false as not_so}
 use Rattle.j39_node.proofs.PromptLaws.{answered_from as before}
 
@@ -43,7 +44,9 @@ record State : Type 0 where
   pub address : Address
   pub owes : Bool
   pub turns : ℕ
+  pub yields : Bool
   pub patience : ℕ
+  pub delay : ℕ
   pub accepted : List (ℕ × Message)
   pub sent : List Message
   pub told : List (ℕ × Ending)
@@ -59,11 +62,13 @@ record State : Type 0 where
   pub acknowledged : List Message
   pub lost : Bool
   pub another : Bool
+  pub doubled : Option ℕ
   pub missed : Bool
   pub unheard : Bool
   pub heard_at : ℕ
   pub time : ℕ
   pub holder : ℕ → Option ℕ
+  pub called : ℕ
   pub reception : Reception
   pub hearing : Option OpenBroadcast
   pub ask : Option Question
@@ -81,7 +86,9 @@ state w H = record {
   address = address_after w H;
   owes = owes_claim w H;
   turns = turns H;
+  yields = yields H;
   patience = patience w H;
+  delay = delayed w H;
   accepted = accepted w H;
   sent = sent H;
   told = told H;
@@ -97,11 +104,13 @@ state w H = record {
   acknowledged = acknowledged H;
   lost = lost_news w H;
   another = another_news w H;
+  doubled = doubled_news w H;
   missed = missed_news w H;
   unheard = unheard_news w H;
   heard_at = heard_at H;
   time = time_heard H;
   holder = holder w H;
+  called = called w H;
   reception = reception w H;
   hearing = hearing w H;
   ask = open_ask H;
@@ -121,6 +130,7 @@ passes now s = record s {
   moment = now;
   address = older (now - s.moment) s.address;
   patience = s.patience - (now - s.moment);
+  delay = s.delay - (now - s.moment);
   pause = s.pause - (now - s.moment);
   wait = s.wait - (now - s.moment);
   age = s.age + (now - s.moment);
@@ -137,15 +147,22 @@ hears_with w when f a held time holds ends found r s = record (passes when s) {
   address = a;
   owes = s.owes || (calls_for_claim w (is_lost s.address) f || (is_another w held f && nat_eq (s.patience - (when - s.moment)) 0));
   patience = if is_another w held f && nat_eq (s.patience - (when - s.moment)) 0 then 5000000 else s.patience - (when - s.moment);
+  delay = if (calls_for_claim w (is_lost s.address) f || (is_another w held f && nat_eq (s.patience - (when - s.moment)) 0)) && not (is_lost s.address && s.owes)
+      then w.delay * 600 else s.delay - (when - s.moment);
   kept = if is_for_program w held f && nat_lt (length s.kept - length s.got) 16 then s.kept ++ (f.stamp, message_of f) ∷ [] else s.kept;
-  requests = with_request w (nat_lt (length s.requests - length s.handed) 16) (asked w held f) s.requests;
-  due = with_refusal w (nat_lt (length s.requests - length s.handed) 16) (nat_lt (length s.due - length s.acknowledged) 16) (asked w held f) s.due;
+  requests = with_request w (nat_lt (length s.requests - length s.handed) 16) (fresh w (drop (length s.handed) s.requests) (asked w held f)) s.requests;
+  due = with_refusal w (nat_lt (length s.requests - length s.handed) 16)
+      (nat_lt (length s.due - length s.acknowledged) 16
+      && not (is_refusal_due w (drop (length s.acknowledged) s.due) (fresh w (drop (length s.handed) s.requests) (asked w held f))))
+      (fresh w (drop (length s.handed) s.requests) (asked w held f)) s.due;
   lost = s.lost || (is_smaller w (claim_of f) && not (is_lost s.address));
   another = s.another || is_another w held f;
+  doubled = option_or (double w (claim_of f)) s.doubled;
   missed = s.missed || (is_for_program w held f && not (nat_lt (length s.kept - length s.got) 16));
   unheard = (ends || is_unheard w f found) || s.unheard;
   heard_at = when;
   time = time;
+  called = if calls_claims s.holder f (claim_of f) then 1250000 else s.called - (when - s.heard_at);
   holder = holds;
   reception = heard_by w.address (is_smaller w (claim_of f)) held f time r;
   hearing = hears_it w time f found;
@@ -159,33 +176,38 @@ hears_with w when f a held time holds ends found r s = record (passes when s) {
 
 abbrev heard : Who → ℕ → FrameRecord → State → State
 heard w when f s =
-    let holds : ℕ → Option ℕ = λ b. held_then b (claim_of f) (s.holder b) in
+    let holds : ℕ → Option ℕ = λ b. held_then b (of_other w (claim_of f)) (s.holder b) in
+    let held : ℕ → Option ℕ = still (claimed_again s.holder (s.called - (when - s.heard_at)) (claim_of f)) s.holder in
     hears_with w when f (if is_smaller w (claim_of f) then Lost else older (when - s.moment) s.address) (is_held (older (when - s.moment) s.address))
-    (later s.time (when - s.heard_at)) holds (breaks (is_over s.holder holds (later s.time (when - s.heard_at)) s.hearing) s.hearing)
-    (leaves_it (is_over s.holder holds (later s.time (when - s.heard_at)) s.hearing) s.hearing)
-    (left (leaves s.holder holds s.reception.session) s.reception) s
+    (later s.time (when - s.heard_at)) holds (breaks (is_over held holds (later s.time (when - s.heard_at)) s.hearing) s.hearing)
+    (leaves_it (is_over held holds (later s.time (when - s.heard_at)) s.hearing) s.hearing)
+    (left (leaves held holds s.reception.session) s.reception) s
 
 abbrev takes_with : ℕ → FrameRecord → (ℕ → Option ℕ) → State → State
 takes_with now f holds s = record (passes now s) {
   address = if is_claim f then claimed (older (now - s.moment) s.address) else older (now - s.moment) s.address;
   owes = if is_claim f then false else s.owes;
   turns = if is_claim f || is_acknowledgment f then suc s.turns else 0;
+  yields = if is_claim f || is_acknowledgment f then s.yields else is_transfer f;
   sent = if is_claim f || (is_acknowledgment f || is_session f) then s.sent else s.sent ++ message_of f ∷ [];
   packets = if is_packet f then s.packets ++ message_of f ∷ [] else s.packets;
-  pause = if is_packet f then gap else s.pause - (now - s.moment);
+  pause = if is_packet f then 150000 else s.pause - (now - s.moment);
   acknowledged = if is_claim f || not (is_acknowledgment f) then s.acknowledged else s.acknowledged ++ message_of f ∷ [];
   wait = if is_message f && has_token s.ask (length s.sent) then 1250000 else s.wait - (now - s.moment);
+  called = if is_claim f || (is_message f && asks_claims f) then 1250000 + (now - s.heard_at) else s.called;
   holder = holds;
-  reception = taken_by (is_claim f) (is_acknowledgment f) (leaves s.holder holds s.reception.session) s.reception;
+  reception = taken_by (is_claim f) (is_reply s.reception.replies f) (leaves s.holder holds s.reception.session) s.reception;
   unheard = (breaks (changes s.holder holds s.hearing) s.hearing || false) || s.unheard;
   hearing = leaves_it (changes s.holder holds s.hearing) s.hearing;
-  transfer = sends_if (is_transfer f && none_waits s.reception.replies) (clock (s.age + (now - s.moment))) s.transfer;
+  transfer = sends_if (is_transfer f && not (is_that (message_of f) (slice_get s.reception.replies 0))) (clock (s.age + (now - s.moment))) s.transfer;
 }
 
 abbrev next : Who → Call → State → State
 next w (At when (Hear f)) s = heard w when f s
+next w (At now Again) s = record (passes now s) { address = Rattle.j39_node.specs.History.unclaimed (older (now - s.moment) s.address); owes = true; delay = w.delay * 600 }
 next w (At now Tick) s = record (passes now s) {
   heard_at = now;
+  called = s.called - (now - s.heard_at);
   time = later s.time (now - s.heard_at);
   reception = ticked w.address now (later s.time (now - s.heard_at)) s.reception;
   unheard = (breaks (is_out (later s.time (now - s.heard_at)) s.hearing) s.hearing || false) || s.unheard;
@@ -207,6 +229,7 @@ next w (At now (Broadcast group bytes (Ok k))) s = record (passes now s) {
   broadcasts = s.broadcasts ++ broadcast_from w group bytes ∷ [];
   broadcast = Some (k, broadcast_from w group bytes);
   packets = [];
+  pause = max 100000 (s.pause - (now - s.moment));
 }
 next w (At now (Broadcast group bytes (Err r))) s = passes now s
 next w (At now (Transfer group to bytes (Ok k))) s = record (passes now s) {
@@ -215,6 +238,8 @@ next w (At now (Transfer group to bytes (Ok k))) s = record (passes now s) {
   age = 0;
 }
 next w (At now (Transfer group to bytes (Err r))) s = passes now s
+next w (Renew d None) s = s
+next w (Renew d (Some k)) s = record s { accepted = slice_set s.accepted k (k, message_from w d) }
 next w (TakeEnded None) s = s
 next w (TakeEnded (Some x)) s = record s { told = s.told ++ x ∷ [] }
 next w (TakeReceived None) s = s
@@ -224,6 +249,7 @@ next w (TakeRequest (Some r)) s = record s { handed = s.handed ++ r ∷ [] }
 next w (TakeNews None) s = s
 next w (TakeNews (Some AddressLost)) s = record s { lost = false }
 next w (TakeNews (Some AnotherAtAddress)) s = record s { another = false }
+next w (TakeNews (Some (NameDoubled a))) s = record s { doubled = None }
 next w (TakeNews (Some MessagesMissed)) s = record s { missed = false; unheard = false }
 next w (TakeBroadcastEnded None) s = s
 next w (TakeBroadcastEnded (Some x)) s = record s { broadcast = None }
@@ -246,12 +272,14 @@ state_is w (At now (Ask group to (Ok k))) H = refl
 state_is w (At now (Acknowledge r a (Ok x))) H = refl
 state_is w (At now (Broadcast group bytes (Ok k))) H = refl
 state_is w (At now (Transfer group to bytes (Ok k))) H = refl
+state_is w (Renew d None) H = refl
 state_is w (TakeEnded None) H = refl
 state_is w (TakeReceived None) H = refl
 state_is w (TakeRequest None) H = refl
 state_is w (TakeNews None) H = refl
 state_is w (TakeNews (Some AddressLost)) H = refl
 state_is w (TakeNews (Some AnotherAtAddress)) H = refl
+state_is w (TakeNews (Some (NameDoubled a))) H = refl
 state_is w (TakeBroadcastEnded None) H = refl
 state_is w (TakeTransferEnded None) H = refl
 state_is w (TakeAskEnded None) H = refl
@@ -265,14 +293,21 @@ holds_at s now = is_held (older (now - s.moment) s.address)
 
 abbrev frame_by : Who → State → ℕ → Option (ℕ × Message)
 frame_by w s now =
-    let message = slice_get s.accepted (length s.sent) in
-    let long =
-    long_by (packet_by s.broadcast (length s.packets) (s.pause - (now - s.moment))) (transfer_by s.transfer (clock (s.age + (now - s.moment)))) in
-    let gives = nat_le 2 s.turns && is_there (if holds_at s now then first_of (slice_get s.reception.replies 0) message long else None) in
-    if s.owes && not gives then Some (now, claim_from w (claim_address w s.address))
+    let left = s.pause - (now - s.moment) in
+    let transfer = transfer_by s.transfer (clock (s.age + (now - s.moment))) in
+    let due : Ready = record {
+      overdue = is_left s.broadcast (length s.packets) && nat_eq left 0;
+      reply = nat_lt 0 (length s.reception.replies);
+      message = nat_lt (length s.sent) (length s.accepted);
+      packet = is_left s.broadcast (length s.packets) && nat_le left 100000;
+      transfer = is_apart transfer (slice_get s.reception.replies 0);
+    } in
+    let others = turn_frame (turn_of s.yields due) (slice_get s.reception.replies 0) (slice_get s.accepted (length s.sent))
+    (packet_by s.broadcast (length s.packets) left) transfer in
+    let gives = nat_le 2 s.turns && is_there (if holds_at s now then others else None) in
+    if (s.owes && (not (is_lost s.address) || nat_eq (s.delay - (now - s.moment)) 0)) && not gives then Some (now, claim_from w (claim_address w s.address))
     else if holds_at s now
-    then option_map (λ m. (now, m)) (first_of (control_of (if gives then None else slice_get s.due (length s.acknowledged)) (slice_get s.reception.replies 0))
-    message long)
+    then option_map (λ m. (now, m)) (control_of (if gives then None else slice_get s.due (length s.acknowledged)) others)
     else None
 
 abbrev full_by : State → Bool
@@ -282,10 +317,11 @@ abbrev Answers : Who → State → Call → Type 0
 Answers w s (At now (TakeFrame answer)) = option_map stamped answer ≡ frame_by w s now
 Answers w s (At now (Send d answer)) =
     answer ≡ (if holds_at s now then (if can_send w d then (if full_by s then Err Full else Ok (length s.accepted)) else Err BadValue) else Err NoAddress)
+Answers w s (Renew d answer) = answer ≡ (if can_send w d then latest (message_from w d) (max (length s.sent) (length s.told)) 0 s.accepted None else None)
 Answers w s (TakeEnded answer) = answer ≡ end_of (nat_lt (length s.told) (length s.sent)) (is_lost s.address) (slice_get s.accepted (length s.told))
 Answers w s (TakeReceived answer) = answer ≡ slice_get s.kept (length s.got)
 Answers w s (TakeRequest answer) = answer ≡ slice_get s.requests (length s.handed)
-Answers w s (TakeNews answer) = answer ≡ news_of s.lost s.another (s.missed || s.unheard)
+Answers w s (TakeNews answer) = answer ≡ news_of s.lost s.another s.doubled (s.missed || s.unheard)
 Answers w s (At now (Acknowledge r answer result)) =
     result
     ≡ (if holds_at s now
@@ -318,6 +354,7 @@ Answers w s (TakeAskEnded answer) = answer ≡ ask_end s.ask (length s.sent) s.e
 Answers w s (ReleaseBroadcast answer) = answer ≡ not (has_place (whole_of s.hearing))
 Answers w s (At when (Hear f)) = Unit {0}
 Answers w s (At now Tick) = Unit {0}
+Answers w s (At now Again) = Unit {0}
 
 answered : (w : Who) (H : List Call) (call : Call) → IsAnswered w H call → Answers w (state w H) call
 answered w H (At now (TakeFrame a)) h = h
@@ -351,6 +388,7 @@ silence_of (Some q) n left coming lost = silent_end (nat_lt q.token n) left comi
 abbrev aside : Who → ℕ → State → State
 aside w now s = record (passes now s) {
   heard_at = now;
+  called = s.called - (now - s.heard_at);
   time = later s.time (now - s.heard_at);
   unheard = (breaks (is_out (later s.time (now - s.heard_at)) s.hearing) s.hearing || false) || s.unheard;
   hearing = in_time (later s.time (now - s.heard_at)) s.hearing;
@@ -407,14 +445,20 @@ module _ (w : Who) (f : FrameRecord) (a : IsAside w f) where
         address = lives i;
         owes = owes i;
         patience = waits i;
+        delay = delays i;
         kept = keeps i;
-        requests = with_request w (nat_lt (length (requests w H) - length (handed H)) 16) (unasked held i) (requests w H);
-        due = with_refusal w (nat_lt (length (requests w H) - length (handed H)) 16) (nat_lt (length (due w H) - length (acknowledged H)) 16) (unasked held i) (due w H);
+        requests = with_request w (nat_lt (length (requests w H) - length (handed H)) 16) (fresh w (drop (length (handed H)) (requests w H)) (unasked held i)) (requests w H);
+        due = with_refusal w (nat_lt (length (requests w H) - length (handed H)) 16)
+            (nat_lt (length (due w H) - length (acknowledged H)) 16
+            && not (is_refusal_due w (drop (length (acknowledged H)) (due w H)) (fresh w (drop (length (handed H)) (requests w H)) (unasked held i))))
+            (fresh w (drop (length (handed H)) (requests w H)) (unasked held i)) (due w H);
         lost = loses i;
         another = others i;
+        doubled = option_or (double w (a.claims i)) (doubled_news w H);
         missed = misses i;
         unheard = unheard i;
-        holder = λ b. held_then b (a.claims i) (holder w H b);
+        called = quiets i;
+        holder = λ b. held_then b (of_other w (a.claims i)) (holder w H b);
         reception = receives i;
         hearing = hearing_laws.strangers w H when f a.claims unannounced (inl unpacked) i;
         ended = ends i;
@@ -433,6 +477,10 @@ module _ (w : Who) (f : FrameRecord) (a : IsAside w f) where
       waits : patience w (At when (Hear f) ∷ H) ≡ patience w H - step H when
       waits = ap (λ (b : Bool). if b && nat_eq (patience w H - step H when) 0 then 5000000 else patience w H - step H when) (not_mine held)
 
+      delays : delayed w (At when (Hear f) ∷ H) ≡ delayed w H - step H when
+      delays = λ i. if (uncalled (is_lost (address_after w H)) i || (not_mine held i && nat_eq (patience w H - step H when) 0)) && not (is_lost (address_after w H) && owes_claim w H)
+          then w.delay * 600 else delayed w H - step H when
+
       keeps : kept w (At when (Hear f) ∷ H) ≡ kept w H
       keeps = ap (λ (b : Bool). if b && nat_lt (length (kept w H) - length (got H)) 16 then kept w H ++ (f.stamp, message_of f) ∷ [] else kept w H) (unwanted held)
 
@@ -445,12 +493,16 @@ module _ (w : Who) (f : FrameRecord) (a : IsAside w f) where
       misses : missed_news w (At when (Hear f) ∷ H) ≡ missed_news w H
       misses = ap (λ (b : Bool). missed_news w H || (b && not (nat_lt (length (kept w H) - length (got H)) 16))) (unwanted held) ∙ no_more (missed_news w H)
 
+      quiets : called w (At when (Hear f) ∷ H) ≡ called w H - (when - heard_at H)
+      quiets = (λ i. if calls_claims (holder w H) f (a.claims i) then 1250000 else called w H - (when - heard_at H))
+          ∙ ap (λ (b : Bool). if b then 1250000 else called w H - (when - heard_at H)) a.asks
+
       unheard : unheard_news w (At when (Hear f) ∷ H) ≡ (ends_by w H (At when Tick) || false) || unheard_news w H
-      unheard = λ i. (breaks (unchanged (holder w H) (holder w (At when (Hear f) ∷ H)) (hearing w H) (λ b. unclaimed w H when f b a.claims) i || is_out (time_heard (At when Tick ∷ H)) (hearing w H)) (hearing w H)
+      unheard = λ i. (breaks (unchanged (known w H when f) (holder w (At when (Hear f) ∷ H)) (hearing w H) (λ b. unclaimed_known w H when f b a.claims) i || is_out (time_heard (At when Tick ∷ H)) (hearing w H)) (hearing w H)
           || unheard_is w f (found w H when f) false false unannounced unpacked i) || unheard_news w H
 
       receives : reception w (At when (Hear f) ∷ H) ≡ reception w H
-      receives = to_others w H when f mine (λ r z. unclaimed w H when f r.message.source a.claims) (elsewhere w.address a.not_here)
+      receives = to_others w H when f mine (λ r z. unclaimed_known w H when f r.message.source a.claims) (elsewhere w.address a.not_here)
 
       silent : (o : Option Question) (n left : ℕ) (coming lost : Bool) → end_at w o n left coming lost f (made w H when f) ≡ silence_of o n left coming lost
       silent None n left coming lost = refl

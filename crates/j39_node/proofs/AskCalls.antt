@@ -31,7 +31,7 @@ pub refuses_ask : (w : Who) (H : List Call) (old new : Controller) (now group to
 refuses_ask w H old new now group to r h p answer e = record {
   who = ap (λ c. who_of w.brought c.own) e ∙ h.who;
   answered = (h.answered, answer);
-  hold = is_hold _ _ p.turns p.patience p.rest p.moment p.standing p.owes p.pause p.age p.wait;
+  hold = is_hold _ _ p.turns p.yields p.patience p.delay p.rest p.moment p.standing p.owes p.pause p.age p.wait;
   outgoing = ap (λ c. map posted c.outgoing.items) e ∙ h.outgoing;
   taken = ap (λ c. c.taken) e ∙ h.taken;
   token = ap (λ c. c.next_token) e ∙ h.token;
@@ -62,7 +62,7 @@ asks_one w H old new now group to x q h p answer is e e0 e1 e2 e3 =
     record {
       who = ap (λ c. who_of w.brought c.own) e ∙ h.who;
       answered = (h.answered, answer);
-      hold = is_hold _ _ p.turns p.patience p.rest p.moment p.standing p.owes p.pause p.age p.wait;
+      hold = is_hold _ _ p.turns p.yields p.patience p.delay p.rest p.moment p.standing p.owes p.pause p.age p.wait;
       outgoing = ap (map posted) e0 ∙ (map_append posted old.outgoing.items x
           ∙ (ap (λ l. l ++ posted x ∷ []) h.outgoing ∙ (ap (λ (y : ℕ × Message). drop (length (told H)) (accepted w H) ++ y ∷ []) is
           ∙ sym (drop_append (length (told H)) (accepted w H) (old.next_token, m) s.within))));

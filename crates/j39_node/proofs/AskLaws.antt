@@ -1,5 +1,5 @@
 -- The laws of requests.
-use Rattle.std.proofs.Common.{◌≡◌, ◌⊎◌, ◌↔◌, ℕ, zero, suc, ◌+◌, ◌-◌, ◌<◌, ◌≤◌, List, [], ◌∷◌, ◌++◌, length, Option, Some, None, Result, Ok, Err, Bool, true, false, not, ◌&&◌, ◌||◌, if◌then◌else◌, nat_eq, nat_lt, refl, sym, ap, ◌∙◌, subst, inl, inr, arith, eqb-true, IsTrue}
+use Rattle.std.proofs.Common.{◌≡◌, ◌⊎◌, ◌↔◌, ℕ, zero, suc, ◌+◌, ◌-◌, ◌<◌, ◌≤◌, List, [], ◌∷◌, ◌++◌, length, Option, Some, None, Result, Ok, Err, Bool, true, false, not, ◌&&◌, ◌||◌, if◌then◌else◌, nat_eq, nat_lt, refl, sym, ap, ◌∙◌, subst, inl, inr, arith, eqb-true, IsTrue, max}
 use Rattle.std.specs.List.{slice_get}
 use Rattle.std.specs.Option.{option_map}
 use Rattle.j39_frame.specs.Frame.{FrameRecord}
@@ -11,17 +11,19 @@ use Rattle.j39_node.specs.declared.kinds.AskEnding.TheVariants.{Answered, Acknow
 use Rattle.j39_node.specs.declared.kinds.Refused.{Refused}
 use Rattle.j39_node.specs.declared.kinds.Refused.TheVariants.{NoAddress, BadValue, Full}
 use Rattle.j39_node.specs.History.{Who, Message, Call, accepted, address_after, holds, is_acknowledgment, is_claim, is_full, is_lost, is_session, is_smaller, message_from, message_of, moment, request_for, sent, step, told}
-use Rattle.j39_node.specs.History.Call.{At, TakeAskEnded}
-use Rattle.j39_node.specs.History.Act.{Ask, Hear, Send, TakeFrame}
+use Rattle.j39_node.specs.History.Call.{At, TakeAskEnded, Renew}
+use Rattle.j39_node.specs.History.Act.{Ask, Hear, Send, TakeFrame, Again}
 use Rattle.j39_address.specs.Claim.{claim_of}
 use Rattle.j39_node.specs.Since.{passed_in}
-use Rattle.j39_node.specs.Reception.{time_heard}
-use Rattle.j39_node.specs.Asking.{seeks, made, AskedSince, HeardFirst, NoneEnds, Question, RanOut, ask_end, asks, can_ask, comes, end_at, ended, ends, first, has_token, is_answer, is_asking, is_message, is_reply, is_request, is_taken, open_ask, question, reaches, said_by, says_to, silent_end, told_asks, wait}
+use Rattle.j39_node.specs.Reception.{time_heard, is_message}
+use Rattle.j39_node.specs.Asking.{seeks, made, AskedSince, HeardFirst, NoneEnds, Question, RanOut, ask_end, asks, can_ask, comes, end_at, ended, ends, first, has_token, is_answer, is_asking, is_reply, is_request, is_taken, open_ask, question, reaches, said_by, says_to, silent_end, told_asks, wait}
 use Rattle.j39_node.specs.Is.{AreAnswered, Is, IsAnswered}
 use Rattle.j39_node.proofs.AskCases.{AskCase, ask_case, homeless, unfit, busy, asks as accepts}
 use Rattle.j39_node.proofs.QueueLemmas.{get_append, length_one_more}
-use Rattle.j39_node.proofs.SoundLemmas.{both, lost_older, sound}
+use Rattle.j39_node.proofs.SoundLemmas.{both, lost_older, sound, lost_unclaimed, renew_case}
 use Rattle.j39_node.proofs.LawLemmas.{full_from, full_parts, not_both, sent_within, stays_lost, stays_lost_claimed}
+use Rattle.j39_node.proofs.RenewLemmas.{IsLatest, no_request, set_other}
+use Rattle.j39_frame.specs.Network.{request_group}
 
 -- ---- which is open
 
@@ -71,11 +73,21 @@ get_before [] y i x e = absurd (cc)
 get_before (z ∷ L) y zero x e = e
 get_before (z ∷ L) y (suc i) x e = get_before L y i x e
 
--- what is accepted stays where it is
-grows_on : (w : Who) (H : List Call) (call : Call) (n : ℕ) (x : ℕ × Message) → slice_get (accepted w H) n ≡ Some x → slice_get (accepted w (call ∷ H)) n ≡ Some x
-grows_on w H (At now (Send draft (Ok k))) n x e = get_before (accepted w H) _ n x e
-grows_on w H (At now (Ask group to (Ok k))) n x e = get_before (accepted w H) _ n x e
-grows_on w H call n x e = e
+-- a request that is accepted stays where it is
+grows_on : (w : Who) (H : List Call) (call : Call) (n : ℕ) (x : ℕ × Message) → IsAnswered w H call → nat_eq x.1.group request_group ≡ true
+    → slice_get (accepted w H) n ≡ Some x → slice_get (accepted w (call ∷ H)) n ≡ Some x
+grows_on w H (At now (Send draft (Ok k))) n x right r e = get_before (accepted w H) _ n x e
+grows_on w H (At now (Ask group to (Ok k))) n x right r e = get_before (accepted w H) _ n x e
+grows_on w H (Renew draft (Some k)) n x right r e = set_other (accepted w H) k n (k, message_from w draft) (λ z. apart (renew_case w H draft k right).at z) ∙ e
+  where
+    apart : IsLatest (message_from w draft) (max (length (sent H)) (length (told H))) 0 k (accepted w H) → n ≡ k → ⊥
+    apart at z = no_request (message_from w draft) at.entry.1 at.alike
+        (ap (λ (y : ℕ × Message). nat_eq y.1.group request_group) (let s : at.entry ≡ x = same at z in s) ∙ r)
+      where
+        same : (at : IsLatest (message_from w draft) (max (length (sent H)) (length (told H))) 0 k (accepted w H)) → n ≡ k → at.entry ≡ x
+        same at z = let a = at.is in let i : slice_get (accepted w H) k ≡ Some x = subst (λ (m : ℕ). slice_get (accepted w H) m ≡ Some x) z e in
+            let j : slice_get (accepted w H) k ≡ Some at.entry = ap (slice_get (accepted w H)) (let y : k ≡ k - 0 = omega arith in y) ∙ a in cc
+grows_on w H call n x right r e = e
 
 pub request_sent : (w : Who) (H : List Call) → AreAnswered w H → (i : ℕ) (q : Question) → slice_get (asks H) i ≡ Some q
     → slice_get (accepted w H) q.token ≡ Some (q.token, message_from w (request_for q.group q.to))
@@ -96,7 +108,7 @@ request_sent w (call ∷ H) e i q g = go call e.1 (request_sent w H e.0) i q g
 
     go : (call : Call) → IsAnswered w H call → Sent H → Sent (call ∷ H)
     go (At now (Ask group to (Ok k))) right h = new now group to k (opens w H now group to k (ask_case w H now group to (Ok k) right)).2 h
-    go call right h = λ i q g. grows_on w H call q.token _ (h i q g)
+    go call right h = λ i q g. grows_on w H call q.token _ right refl (h i q g)
 
 -- ---- since when it waits
 
@@ -326,6 +338,7 @@ outcome w (call ∷ H) right q e o z = go call (λ i k. outcome w H right.0 q e 
     go (At when (Hear f)) prior o z = hears when f (ended w H) prior o refl z
     go (At now (TakeFrame (Some f))) prior o z =
         later_outcome w H (At now (TakeFrame (Some f))) q e (stays_lost_claimed (is_claim f) (step H now) (address_after w H)) (prior o z)
+    go (At now Again) prior o z = later_outcome w H (At now Again) q e (λ l. lost_unclaimed _ ∙ (lost_older (step H now) (address_after w H) ∙ l)) (prior o z)
     go call prior o z =
         later_outcome w H call q e (λ l. let y = lost_older (step H (moment (call ∷ H))) (address_after w H) in cc) (prior o z)
 

@@ -6,7 +6,8 @@ use Rattle.j39_node.specs.declared.kinds.AskEnding.{AskEnding}
 use Rattle.j39_node.specs.History.{Who, Message, Call, is_acknowledgment, is_claim, is_session, message_of, sent, step}
 use Rattle.j39_node.specs.History.Call.{At}
 use Rattle.j39_node.specs.History.Act.{TakeFrame}
-use Rattle.j39_node.specs.Asking.{Question, end_at, ended, first, has_token, is_asking, is_message, is_request, open_ask, wait, ask_end}
+use Rattle.j39_node.specs.Reception.{is_message}
+use Rattle.j39_node.specs.Asking.{Question, end_at, ended, first, has_token, is_asking, is_request, open_ask, wait, ask_end}
 use Rattle.j39_node.specs.Is.{AskRecord, asked_by, asking_after, ended_with, hears_with, silence}
 use Rattle.j39_node.proofs.SoundLemmas.{sent_is}
 use Rattle.j39_node.proofs.QueueLemmas.{length_one_more}

@@ -1,5 +1,5 @@
 -- A call more.
-use Rattle.std.proofs.Common.{◌≡◌, ℕ, suc, ◌+◌, ◌-◌, ◌<◌, ◌≤◌, List, [], ◌∷◌, ◌++◌, length, map, drop, min, Option, Some, None, IfSome, Result, Ok, Err, Bool, true, false, not, ◌&&◌, ◌||◌, if◌then◌else◌, nat_eq, nat_lt, nat_le, refl, sym, ap, ◌∙◌, subst, arith, lt-ltb, eqb-true}
+use Rattle.std.proofs.Common.{ltb-true, ◌≡◌, ℕ, suc, ◌+◌, ◌-◌, ◌<◌, ◌≤◌, List, [], ◌∷◌, ◌++◌, length, map, drop, max, min, Option, Some, None, IfSome, Result, Ok, Err, Bool, true, false, not, ◌&&◌, ◌||◌, if◌then◌else◌, nat_eq, nat_lt, nat_le, refl, sym, ap, ◌∙◌, subst, arith, lt-ltb, eqb-true, inl, inr, ◌*◌, slice_set}
 use Rattle.std.specs.List.{slice_get}
 use Rattle.std.specs.Option.{option_map, option_or}
 use Rattle.j39_frame.specs.Frame.{FrameRecord}
@@ -24,29 +24,34 @@ use Rattle.j39_node.specs.declared.kinds.Ending.TheVariants.{Done, Withdrawn}
 use Rattle.j39_node.specs.declared.kinds.Refused.{Refused}
 use Rattle.j39_node.specs.declared.kinds.Refused.TheVariants.{NoAddress, BadValue, Full}
 use Rattle.j39_node.specs.declared.kinds.AskEnding.{AskEnding}
-use Rattle.j39_node.specs.Asking.{Question, comes, in_broadcast, in_session, is_coming, made, made_of, ended, has_token, open_ask, wait}
+use Rattle.j39_transport.specs.Reception.{ReceptionRecord}
+use Rattle.j39_node.specs.Asking.{comes, in_broadcast, in_session, is_coming, made, made_of, ended, has_token, open_ask, wait}
 use Rattle.j39_node.proofs.AskLemmas.{ask_heard, ask_more, ask_same, takes, token_of, wait_more, wait_same}
-use Rattle.j39_node.specs.Is.{AskRecord, made_by, asking_of, hears_with, silence}
-use Rattle.j39_node.specs.Hold.{acknowledged as hold_acknowledged, claimed as hold_claimed, rested, spoken as hold_spoken, asked as hold_asked, standing_of, less, passed, heard, claims, paused, stands, lost, left_at}
-use Rattle.j39_node.specs.History.{nothing, patience, turns, Who, Message, Draft, Call, Address, message_of, older, claimed, address_after, holds, is_lost, is_held, is_smaller, claim_address, claim_from, owes_claim, calls_for_claim, can_send, message_from, accepted, sent, told, is_full, step, moment, is_for_program, kept, got, missed, Asked, asked, acknowledgment, acknowledged, due, handed, requests, is_served, with_request, with_refusal, stamp_at, held_at, told_claims, is_another, is_acknowledgment, is_claim, lost_news, another_news, missed_news, broadcasts, broadcast_from, can_broadcast, has_packets, is_busy, is_left, is_open, is_packet, open_broadcast, packets, pause}
-use Rattle.j39_node.specs.History.Call.{At, TakeEnded, TakeRequest, TakeTransferEnded}
-use Rattle.j39_node.specs.History.Act.{Hear, Tick, TakeFrame, Send, Acknowledge, Broadcast, Transfer}
+use Rattle.j39_node.specs.Is.{AskRecord, made_by, asking_of, hears_with, silence, claim_due, next_renewed, Renews}
+use Rattle.j39_node.specs.Hold.{acknowledged as hold_acknowledged, claimed as hold_claimed, rested, spoken as hold_spoken, asked as hold_asked, standing_of, less, passed, heard, claims, paused, stands, lost, left_at, opens as hold_opens, can_claim, unclaims, anew}
+use Rattle.j39_node.specs.History.{nothing, patience, turns, Who, Message, Draft, Call, Address, message_of, older, claimed, address_after, holds, is_lost, is_held, is_smaller, claim_address, claim_from, owes_claim, calls_for_claim, can_send, message_from, accepted, sent, told, is_full, step, moment, is_for_program, kept, got, missed, Asked, asked, acknowledgment, acknowledged, due, handed, requests, is_served, with_request, with_refusal, stamp_at, held_at, told_claims, is_another, is_acknowledgment, is_claim, lost_news, another_news, missed_news, broadcasts, broadcast_from, can_broadcast, has_packets, is_busy, is_left, is_open, is_packet, open_broadcast, packets, pause, asks_with, is_session, yields, content, is_transfer, fresh, is_refusal_due, delayed, is_double, may_claim, double, unclaimed, latest}
+use Rattle.j39_node.specs.History.Call.{At, TakeEnded, TakeRequest, TakeTransferEnded, Renew}
+use Rattle.j39_node.specs.History.Act.{Hear, Tick, TakeFrame, Send, Acknowledge, Broadcast, Transfer, Again}
 use Rattle.j39_node.proofs.ReceptionLaws.{made_is}
-use Rattle.j39_node.specs.Reception.{has_place, IsApart, heard_at, heard_by, holder, is_same, is_waiting, later, leaves, left, reception, time_heard, whole}
+use Rattle.j39_node.specs.Reception.{has_place, IsApart, heard_at, heard_by, holder, is_same, is_waiting, later, leaves, left, reception, time_heard, whole, known, asks_claims, called, claimed_again, is_message, restarts, still, is_reply}
 use Rattle.j39_node.specs.declared.incoming.Incoming.{Incoming}
 use Rattle.j39_node.specs.declared.incoming.Said.{Said}
 use Rattle.j39_address.specs.declared.claims.Claims.{Claims}
-use Rattle.j39_node.proofs.ReceptionLemmas.{leaves_is, none_taken, replied_get, taken_is, tidy}
+use Rattle.j39_node.proofs.ReceptionLemmas.{leaves_is, replied_get, taken_is, tidy, again_is, calls_is, leaves_still, no_reply}
 use Rattle.j39_node.specs.Transfers.{holds_back, is_resting, rest, resting, rests_after, Running, age, answer_to_transfer, at_in, begun, can_transfer, clock, clock_at, is_engaged, next_due, next_transfer, next_transfer_ended, hears_if, is_replaced, open_transfer, packet_in, packets_in, sends_if, sooner, transfer_by, transfer_end, transfer_in, transfers as all_transfers}
 use Rattle.j39_node.specs.History.Address.{NotClaimed, Claimed, Lost}
-use Rattle.j39_node.specs.Is.{Is, claim_goes, gives_way, is_there, next_acknowledgment, next_other, stamped, next_frame, end_of, answer_to_send, answer_to_acknowledge, hold_after, who_of, posted, received_by, request_by, refusal_by, first_of, offered, counted, LaneRecord, opened, lane_of, lane_after, packet_by, next_control, control_of, next_packet, IncomingRecord, incoming_of, incoming_after, said_by, with_reception, with_replies, hears, answer_to_broadcast, long_by, next_long, PortRecord, closed, port_after, port_of, resting_by, running, HearingRecord, hearing_of, news_after, ticks}
+use Rattle.j39_node.specs.Is.{Is, claim_goes, gives_way, is_there, next_acknowledgment, stamped, next_frame, end_of, answer_to_send, answer_to_acknowledge, hold_after, who_of, posted, received_by, request_by, refusal_by, offered, counted, LaneRecord, opened, lane_of, lane_after, packet_by, control_of, next_packet, IncomingRecord, IsNamed, incoming_of, incoming_after, named_in, session_by, with_called, said_by, with_reception, with_replies, hears, answer_to_broadcast, PortRecord, closed, port_after, port_of, resting_by, running, HearingRecord, hearing_of, news_after, ticks, is_turn, next_turn, other, ready_in, turn_frame, turn_of, is_apart, ready}
+use Rattle.j39_node.specs.declared.turn.Ready.{Ready}
+use Rattle.j39_node.specs.declared.turn.Turn.{Turn}
+use Rattle.j39_node.specs.declared.turn.Turn.TheVariants.{Reply, Single, Packet, Move}
 use Rattle.j39_frame.specs.Stamp.{stamp_micros}
-use Rattle.j39_node.specs.Hearing.{IsFit, breaks as breaks_it, hearing, hears as hears_it, is_out, is_unheard, left as leaves_it, made_whole, newly, unheard_news, waiting, whole_of}
+use Rattle.j39_node.specs.Hearing.{IsFit, breaks as breaks_it, hearing, hears as hears_it, is_out, is_unheard, left as leaves_it, made_whole, newly, unheard_news, waiting, whole_of, OpenBroadcast}
 use Rattle.j39_node.proofs.HearingLemmas.{always, broken_news, claimed_on, either_news, hearing_same, heard_on, is_hearing, leaves_on, news_same, missed_one}
-use Rattle.j39_node.proofs.QueueLemmas.{length_one_more, length_map, map_append, length_rest, in_rest, not_in_rest, First, drop_append, length_drop}
-use Rattle.j39_node.proofs.SoundLemmas.{sound, own_get, due_get, due_taken, claim_taken, message_taken, plain_taken, sent_is, acknowledged_is, address_is, frame_by, front_length, held_not_lost, holding_not_lost, lost_older, read, single_taken, claim_single, no_packet, packet_session, reply_taken, packet_taken, packets_is, pause_is, no_packet, no_transfer, transfer_taken, no_move, reply_no_move, is_moved, none_steers}
+use Rattle.j39_node.proofs.QueueLemmas.{length_one_more, length_map, map_append, length_rest, in_rest, not_in_rest, First, drop_append, length_drop, get_at, get_map, get_within}
+use Rattle.j39_node.proofs.SoundLemmas.{apart_is, reply_is, IsTurn, frame_there, is_directed, overdue_due, packet_there, some_at, turn_is, turned, sound, own_get, due_get, due_taken, claim_taken, message_taken, plain_taken, sent_is, acknowledged_is, address_is, frame_by, front_length, held_not_lost, holding_not_lost, lost_older, read, single_taken, claim_single, no_packet, packet_session, reply_taken, packet_taken, packets_is, pause_is, no_transfer, transfer_taken, no_move, reply_no_move, is_moved}
 use Rattle.j39_node.proofs.FrameLemmas.{at_now}
 use Rattle.j39_node.proofs.PortLemmas.{clock_is, is_port, port_more, port_same, ported, replaced_is}
+use Rattle.j39_node.proofs.RenewLemmas.{latest_rest, latest_is, set_length, set_rest}
 
 -- ---- the hold
 
@@ -74,7 +79,9 @@ pub record Passed (w : Who) (H : List Call) (now : ℕ) (h : Hold) : Type 0 wher
   pub standing : h.standing ≡ standing_of (older (step H now) (address_after w H))
   pub owes : h.owes_claim ≡ owes_claim w H
   pub turns : h.turns ≡ min (turns H) 2
+  pub yields : h.yields ≡ yields H
   pub patience : h.patience ≡ patience w H - step H now
+  pub delay : h.delay ≡ delayed w H - step H now
   pub pause : h.pause ≡ pause H - step H now
   pub age : h.age ≡ min (age H + step H now) 18446744073709551615
   pub wait : h.wait ≡ wait H - step H now
@@ -91,7 +98,9 @@ passed_is w H now old new e f =
       standing = ap (λ (h : Hold). h.standing) g ∙ less_is (step H now) (address_after w H);
       owes = ap (λ (h : Hold). h.owes_claim) g;
       turns = ap (λ (h : Hold). h.turns) g;
+      yields = ap (λ (h : Hold). h.yields) g;
       patience = ap (λ (h : Hold). h.patience) g;
+      delay = ap (λ (h : Hold). h.delay) g;
       pause = ap (λ (h : Hold). h.pause) g;
       age = ap (λ (h : Hold). h.age) g ∙ saturates (age H) (step H now);
       wait = ap (λ (h : Hold). h.wait) g;
@@ -101,10 +110,10 @@ passed_is w H now old new e f =
 pub holds_is : (w : Who) (H : List Call) (now : ℕ) (h : Hold) (b : Bool) → Passed w H now h → b ≡ stands h.standing → b ≡ holds w H now
 holds_is w H now h b p e = e ∙ (ap stands p.standing ∙ stands_is (older (step H now) (address_after w H)))
 
-pub is_hold : (h k : Hold) → h.turns ≡ k.turns → h.patience ≡ k.patience → h.rest ≡ k.rest → h.moment ≡ k.moment → h.standing ≡ k.standing → h.owes_claim ≡ k.owes_claim → h.pause ≡ k.pause
+pub is_hold : (h k : Hold) → h.turns ≡ k.turns → h.yields ≡ k.yields → h.patience ≡ k.patience → h.delay ≡ k.delay → h.rest ≡ k.rest → h.moment ≡ k.moment → h.standing ≡ k.standing → h.owes_claim ≡ k.owes_claim → h.pause ≡ k.pause
     → h.age ≡ k.age → h.wait ≡ k.wait → h ≡ k
-is_hold h k d q r e f g i j l = λ t. (let x : Hold = record
-    { turns = d t; patience = q t; rest = r t; moment = e t; standing = f t; owes_claim = g t; pause = i t; age = j t; wait = l t } in x)
+is_hold h k d y q v r e f g i j l = λ t. (let x : Hold = record
+    { turns = d t; yields = y t; patience = q t; delay = v t; rest = r t; moment = e t; standing = f t; owes_claim = g t; pause = i t; age = j t; wait = l t } in x)
 
 -- ---- the lane
 
@@ -139,46 +148,82 @@ is_empty (x ∷ xs) e = absurd (cc)
 none_replied : (w : Who) (H : List Call) (c : Controller) → Is w H c → length c.incoming.replies.items ≡ 0 → (reception w H).replies ≡ []
 none_replied w H c h e = is_empty (reception w H).replies (sym (replies_length w H c h) ∙ e)
 
+-- what was kept of the open session's RTS
+kept_named : (w : Who) (H : List Call) (c : Controller) → Is w H c → IsNamed (incoming_of c.incoming)
+kept_named w H c h = subst IsNamed (sym h.incoming) refl
+
+-- a frame that is taken and calls for no claims
+uncalled : (w : Who) (H : List Call) (now : ℕ) (f : FrameRecord) (b s : Bool) → is_claim f ≡ false → is_acknowledgment f ≡ b → is_session f ≡ s → (b || s) ≡ true
+    → called w (At now (TakeFrame (Some f)) ∷ H) ≡ called w H
+uncalled w H now f b s e g k t =
+    (λ i. if e i || (not (e i || (g i || k i)) && asks_claims f) then 1250000 + (now - heard_at H) else called w H)
+    ∙ ap (λ (c : Bool). if not c && asks_claims f then 1250000 + (now - heard_at H) else called w H) t
+
 incoming_same : (w : Who) (H : List Call) (now : ℕ) (f : FrameRecord) → reception w (At now (TakeFrame (Some f)) ∷ H) ≡ reception w H
+    → called w (At now (TakeFrame (Some f)) ∷ H) ≡ called w H
     → incoming_after w H ≡ incoming_after w (At now (TakeFrame (Some f)) ∷ H)
-incoming_same w H now f e = λ i. record { moment = heard_at H; clock = time_heard H; own = w.address; has_box = true; reception = sym e i }
+incoming_same w H now f e c = λ i. record { moment = heard_at H; clock = time_heard H; own = w.address; has_box = true; named = named_in (sym e i).session; called = sym c i; reception = sym e i }
 
 told_is : (w : Who) (H : List Call) (now : ℕ) (f : FrameRecord) → is_claim f ≡ true → told_claims w (At now (TakeFrame (Some f)) ∷ H) ≡ told_claims w H ++ f ∷ []
 told_is w H now f e = ap (λ (b : Bool). if b then told_claims w H ++ f ∷ [] else told_claims w H) e
 
+-- a message is taken, that may ask for claims
+message_called : (w : Who) (H : List Call) (now : ℕ) (f : FrameRecord) (calls : Bool) → calls ≡ asks_claims f → is_claim f ≡ false → is_acknowledgment f ≡ false → is_session f ≡ false
+    → reception w (At now (TakeFrame (Some f)) ∷ H) ≡ reception w H
+    → with_called (if calls then 1250000 + (now - heard_at H) else called w H) (incoming_after w H) ≡ incoming_after w (At now (TakeFrame (Some f)) ∷ H)
+message_called w H now f calls e n l s r = λ i. record {
+  moment = heard_at H;
+  clock = time_heard H;
+  own = w.address;
+  has_box = true;
+  named = named_in (sym r i).session;
+  called = (ap (λ (b : Bool). if b then 1250000 + (now - heard_at H) else called w H) e
+      ∙ λ j. if sym n j || (not (sym n j || (sym l j || sym s j)) && asks_claims f) then 1250000 + (now - heard_at H) else called w H) i;
+  reception = sym r i;
+}
+
 -- its own claim is taken
 incoming_claimed : (w : Who) (H : List Call) (old : Controller) (now : ℕ) (f : FrameRecord) (table : Claims) → Is w H old → is_claim f ≡ true
     → Knows table (told_claims w (At now (TakeFrame (Some f)) ∷ H))
-    → with_reception (left (leaves (holder_in old.holders) (holder_in table) (incoming_of old.incoming).reception.session) (incoming_of old.incoming).reception) (incoming_of old.incoming)
+    → with_called (1250000 + (now - (incoming_of old.incoming).moment))
+    (with_reception (left (leaves (holder_in old.holders) (holder_in table) (incoming_of old.incoming).reception.session) (incoming_of old.incoming).reception) (incoming_of old.incoming))
     ≡ incoming_after w (At now (TakeFrame (Some f)) ∷ H)
 incoming_claimed w H old now f table h e knows =
     let G = At now (TakeFrame (Some f)) ∷ H in
-    ap (λ (x : IncomingRecord). with_reception (left (leaves (holder_in old.holders) (holder_in table) x.reception.session) x.reception) x) h.incoming
-    ∙ (ap (λ (b : Bool). with_reception (left b (reception w H)) (incoming_after w H)) (leaves_is w old.holders table H G (reception w H).session h.holders knows)
-    ∙ λ i. record { moment = heard_at H; clock = time_heard H; own = w.address; has_box = true; reception = sym (taken_is w H now f true _ e refl) i })
+    ap (λ (x : IncomingRecord). with_called (1250000 + (now - x.moment)) (with_reception (left (leaves (holder_in old.holders) (holder_in table) x.reception.session) x.reception) x)) h.incoming
+    ∙ (ap (λ (b : Bool). with_called (1250000 + (now - heard_at H)) (with_reception (left b (reception w H)) (incoming_after w H))) (leaves_is w old.holders table H G (reception w H).session h.holders knows)
+    ∙ λ i. record {
+      moment = heard_at H;
+      clock = time_heard H;
+      own = w.address;
+      has_box = true;
+      named = named_in (sym (taken_is w H now f true _ e refl) i).session;
+      called = (if sym e i || (is_message f && asks_claims f) then 1250000 + (now - heard_at H) else called w H);
+      reception = sym (taken_is w H now f true _ e refl) i;
+    })
 
 -- a reply is taken
-incoming_replied : (w : Who) (H : List Call) (now : ℕ) (f : FrameRecord) → is_claim f ≡ false → is_acknowledgment f ≡ false
+incoming_replied : (w : Who) (H : List Call) (now : ℕ) (f : FrameRecord) → is_claim f ≡ false → is_reply (reception w H).replies f ≡ true → is_acknowledgment f ≡ false → is_session f ≡ true
     → with_replies (drop 1 (reception w H).replies) (incoming_after w H) ≡ incoming_after w (At now (TakeFrame (Some f)) ∷ H)
-incoming_replied w H now f e g =
-    λ i. record { moment = heard_at H; clock = time_heard H; own = w.address; has_box = true; reception = sym (taken_is w H now f false false e g) i }
+incoming_replied w H now f e r g k =
+    λ i. record { moment = heard_at H; clock = time_heard H; own = w.address; has_box = true; named = named_in (sym (taken_is w H now f false true e r) i).session; called = sym (uncalled w H now f false true e g k refl) i; reception = sym (taken_is w H now f false true e r) i }
 
 -- a frame is heard
 incoming_heard : (w : Who) (H : List Call) (old : Controller) (when : ℕ) (f : FrameRecord) (table : Claims) (new : Incoming) (gone held : Bool) → Is w H old
     → Knows table (told_claims w (At when (Hear f) ∷ H)) → gone ≡ is_smaller w (claim_of f) → held ≡ holds w H when
-    → (old.incoming.receiver.has_box ≡ true → IsApart (incoming_of old.incoming).reception
+    → (old.incoming.receiver.has_box ≡ true → IsApart (incoming_of old.incoming).reception → IsNamed (incoming_of old.incoming)
     → incoming_of new ≡ hears gone held when f (holder_in old.holders) (holder_in table) (incoming_of old.incoming))
     → incoming_of new ≡ incoming_after w (At when (Hear f) ∷ H)
 incoming_heard w H old when f table new gone held h knows away stays does =
-    does (ap (λ (x : IncomingRecord). x.has_box) h.incoming) (subst (λ (x : IncomingRecord). IsApart x.reception) (sym h.incoming) (tidy w H).apart)
+    does (ap (λ (x : IncomingRecord). x.has_box) h.incoming) (subst (λ (x : IncomingRecord). IsApart x.reception) (sym h.incoming) (tidy w H).apart) (kept_named w H old h)
     ∙ (ap (hears gone held when f (holder_in old.holders) (holder_in table)) h.incoming
-    ∙ (ap (λ (b : Bool). with_reception (heard_by w.address gone held f (time_heard (At when (Hear f) ∷ H)) (left b (reception w H))) (incoming_now w H when f))
-    (leaves_is w old.holders table H (At when (Hear f) ∷ H) (reception w H).session h.holders knows)
-    ∙ λ i. with_reception (heard_by w.address (away i) (stays i) f (time_heard (At when (Hear f) ∷ H))
-    (left (leaves (holder w H) (holder w (At when (Hear f) ∷ H)) (reception w H).session) (reception w H))) (incoming_now w H when f)))
+    ∙ ((λ i. with_called (if calls_is w old.holders H f (claim_of f) h.holders i then 1250000 else called w H - (when - heard_at H))
+    (with_reception (heard_by w.address gone held f (time_heard (At when (Hear f) ∷ H)) (left (leaves_still w old.holders table H when f (reception w H).session h.holders knows i) (reception w H))) (incoming_now w H when f)))
+    ∙ λ i. with_called (called w (At when (Hear f) ∷ H)) (with_reception (heard_by w.address (away i) (stays i) f (time_heard (At when (Hear f) ∷ H))
+    (left (leaves (known w H when f) (holder w (At when (Hear f) ∷ H)) (reception w H).session) (reception w H))) (incoming_now w H when f))))
   where
     incoming_now : Who → List Call → ℕ → FrameRecord → IncomingRecord
-    incoming_now w H when f = record { moment = when; clock = time_heard (At when (Hear f) ∷ H); own = w.address; has_box = true; reception = reception w H }
+    incoming_now w H when f = record { moment = when; clock = time_heard (At when (Hear f) ∷ H); own = w.address; has_box = true; named = named_in (reception w H).session; called = called w H - (when - heard_at H); reception = reception w H }
 
 pub transfer_next : (w : Who) (H : List Call) (c : Controller) (now time : ℕ) → Is w H c → time ≡ min (age H + step H now) 18446744073709551615
     → transfer_by (port_of c.transfers).current (clock time) ≡ next_transfer w H now
@@ -186,36 +231,12 @@ transfer_next w H c now time h e =
     ap (λ (n : ℕ). transfer_by (port_of c.transfers).current n) (ap clock e ∙ clock_is (age H + step H now))
     ∙ ap (λ (p : PortRecord). transfer_by p.current (clock_at H now)) h.port
 
-pub long_next : (w : Who) (H : List Call) (c : Controller) (now left time : ℕ) → Is w H c → left ≡ pause H - step H now
-    → time ≡ min (age H + step H now) 18446744073709551615
-    → long_by (packet_by (lane_of (who_of w.brought c.own) c.lane).current c.lane.count left) (transfer_by (port_of c.transfers).current (clock time)) ≡ next_long w H now
-long_next w H c now left time h e f =
-    ap (λ (o : Option Message). long_by o (transfer_by (port_of c.transfers).current (clock time))) (packet_next w H c now left h e)
-    ∙ ap (long_by (next_packet w H now)) (transfer_next w H c now time h f)
-
--- nothing is said now
-no_message : (now : ℕ) (o : Option Message) → (let none : Option (ℕ × Message) = None in none) ≡ option_map (at_now now) o → o ≡ None
-no_message now None e = refl
-no_message now (Some m) e = absurd (cc)
-
 -- ---- a frame is taken
 
 pub none_due : (w : Who) (H : List Call) (c : Controller) → Is w H c → length c.desk.due.items ≡ 0 → slice_get (due w H) (length (acknowledged H)) ≡ None
 none_due w H c h e =
     let a = length_rest (refusal_by w) c.desk.due.items (length (acknowledged H)) (due w H) h.acknowledgments in
     slice_get_past (due w H) (length (acknowledged H)) (omega (arith, a, e))
-
--- what is to be said first, of an acknowledgment and a reply
-steered_by : (w : Who) (H : List Call) (now : ℕ) (a b : Option Message) → next_acknowledgment w H now ≡ a → slice_get (reception w H).replies 0 ≡ b
-    → next_control w H now ≡ control_of a b
-steered_by w H now a b e f = ap (λ (x : Option Message). control_of x (slice_get (reception w H).replies 0)) e ∙ ap (control_of a) f
-
-steered_due : (w : Who) (H : List Call) (now : ℕ) (m : Message) → next_acknowledgment w H now ≡ Some m → next_control w H now ≡ Some m
-steered_due w H now m e = steered_by w H now (Some m) _ e refl
-
-none_steered : (w : Who) (H : List Call) (now : ℕ) (c : Controller) → Is w H c → next_acknowledgment w H now ≡ None → length c.incoming.replies.items ≡ 0
-    → next_control w H now ≡ None
-none_steered w H now c h e f = steered_by w H now None None e (ap (λ (xs : List Message). slice_get xs 0) (none_replied w H c h f))
 
 -- ---- who gives way
 
@@ -228,6 +249,14 @@ turns_more H now f t e g = more (turns H) t g ∙ ap (λ (b : Bool). min (if b t
   where
     more : (n t : ℕ) → t ≡ min n 2 → min (suc t) 2 ≡ min (suc n) 2
     more n t g = omega (arith, g)
+
+-- whether replies yield then
+yields_same : (H : List Call) (now : ℕ) (f : FrameRecord) (y : Bool) → (is_claim f || is_acknowledgment f) ≡ true → y ≡ yields H → y ≡ yields (At now (TakeFrame (Some f)) ∷ H)
+yields_same H now f y e g = g ∙ ap (λ (b : Bool). if b then yields H else is_transfer f) (sym e)
+
+yields_now : (H : List Call) (now : ℕ) (f : FrameRecord) (y : Bool) → is_claim f ≡ false → is_acknowledgment f ≡ false → is_transfer f ≡ y
+    → y ≡ yields (At now (TakeFrame (Some f)) ∷ H)
+yields_now H now f y n l e = sym e ∙ ap (λ (b : Bool). if b then yields H else is_transfer f) (sym (ap (λ (b : Bool). b || is_acknowledgment f) n ∙ l))
 
 owes_same : (w : Who) (H : List Call) (now : ℕ) (f : FrameRecord) → is_claim f ≡ false → owes_claim w H ≡ owes_claim w (At now (TakeFrame (Some f)) ∷ H)
 owes_same w H now f n = ap (λ (b : Bool). if b then false else owes_claim w H) (sym n)
@@ -255,34 +284,46 @@ two_turns t n e = go (nat_le 2 n) refl
     go true f = less t n e f ∙ sym f
     go false f = not_less t n e f ∙ sym f
 
+lt_less : (a t s : ℕ) → t ≤ s → nat_lt (s - t) (a - t) ≡ nat_lt s a
+lt_less a t s l = grind arith
+
+-- what is due, and whose turn it is
+sent_due : (w : Who) (H : List Call) (c : Controller) → Is w H c → is_lost (address_after w H) ≡ false
+    → nat_lt c.taken (length c.outgoing.items) ≡ nat_lt (length (sent H)) (length (accepted w H))
+sent_due w H c h e =
+    ap (λ (n : ℕ). nat_lt n (length c.outgoing.items)) h.taken
+    ∙ (ap (λ (n : ℕ). nat_lt (length (sent H) - length (told H)) n) (length_rest posted c.outgoing.items (length (told H)) (accepted w H) h.outgoing)
+    ∙ lt_less _ _ _ ((sound w H h.answered).in_turn e))
+
+left_next : (w : Who) (H : List Call) (c : Controller) → Is w H c → is_left (lane_of (who_of w.brought c.own) c.lane).current c.lane.count ≡ has_packets w H
+left_next w H c h = ap (λ (v : Who). is_left (lane_of v c.lane).current c.lane.count) h.who ∙ ap (λ (l : LaneRecord). is_left l.current l.count) h.lane
+
+pub turn_next : (w : Who) (H : List Call) (c : Controller) (now : ℕ) (k : Hold) → Is w H c → Passed w H now k → holds w H now ≡ true
+    → turn_of k.yields (ready_in c k) ≡ next_turn w H now
+turn_next w H c now k h p held = λ i. turn_of (p.yields i) (let r : Ready = record {
+  overdue = left_next w H c h i && nat_eq (p.pause i) 0;
+  reply = nat_lt 0 (replies_length w H c h i);
+  message = sent_due w H c h (holding_not_lost w H now held) i;
+  packet = left_next w H c h i && nat_le (p.pause i) 100000;
+  transfer = is_apart (transfer_next w H c now k.age h p.age i) (slice_get (replies_is w H c h i) 0);
+} in r)
+
 pub gives_is : (w : Who) (H : List Call) (c : Controller) (now : ℕ) (k : Hold) (b : Bool) → Is w H c → Passed w H now k
-    → b ≡ (nat_le 2 k.turns && (stands k.standing && is_there (first_of (slice_get (incoming_of c.incoming).reception.replies 0)
-    (option_map posted (slice_get c.outgoing.items c.taken))
-    (long_by (packet_by (lane_of (who_of nothing c.own) c.lane).current c.lane.count k.pause) (transfer_by (port_of c.transfers).current (clock k.age))))))
-    → b ≡ gives_way w H now
+    → b ≡ (nat_le 2 k.turns && (stands k.standing && is_turn (turn_of k.yields (ready_in c k)))) → b ≡ gives_way w H now
 gives_is w H c now k b h p e =
-    e ∙ ((λ i. two_turns k.turns (turns H) p.turns i && (holds_is w H now k (stands k.standing) p refl i && is_there (first_of
-    (slice_get (replies_is w H c h i) 0) (option_map posted (slice_get c.outgoing.items c.taken))
-    (long_next w H c now k.pause k.age h p.pause p.age i))))
+    e ∙ ((λ i. two_turns k.turns (turns H) p.turns i && (holds_is w H now k (stands k.standing) p refl i && is_turn (turn_of k.yields (ready_in c k))))
     ∙ ap (λ (b : Bool). nat_le 2 (turns H) && b) (go (holds w H now) refl))
   where
-    go : (b : Bool) → holds w H now ≡ b
-        → (holds w H now && is_there (first_of (slice_get (reception w H).replies 0) (option_map posted (slice_get c.outgoing.items c.taken)) (next_long w H now)))
-        ≡ is_there (next_other w H now)
-    go true i =
-        (λ j. i j && is_there (first_of (slice_get (reception w H).replies 0) (message_next w H c h (holding_not_lost w H now i) j) (next_long w H now)))
-        ∙ ap (λ (b : Bool). is_there (if b then first_of (slice_get (reception w H).replies 0) (slice_get (accepted w H) (length (sent H))) (next_long w H now) else None)) (sym i)
-    go false i =
-        (λ j. i j && is_there (first_of (slice_get (reception w H).replies 0) (option_map posted (slice_get c.outgoing.items c.taken)) (next_long w H now)))
-        ∙ ap (λ (b : Bool). is_there (if b then first_of (slice_get (reception w H).replies 0) (slice_get (accepted w H) (length (sent H))) (next_long w H now) else None)) (sym i)
+    go : (b : Bool) → holds w H now ≡ b → (b && is_turn (turn_of k.yields (ready_in c k))) ≡ is_there (if b then other w H now else None)
+    go true i = ap is_turn (turn_next w H c now k h p i) ∙ frame_there w H now
+    go false i = refl
 
-pub goes_is : (w : Who) (H : List Call) (now : ℕ) (k : Hold) (gives b : Bool) → Passed w H now k → gives ≡ gives_way w H now → (k.owes_claim && not gives) ≡ b
+claims_is : (w : Who) (H : List Call) (now : ℕ) (k : Hold) → Passed w H now k → can_claim k ≡ claim_due w H now
+claims_is w H now k p = λ i. p.owes i && (not ((ap lost p.standing ∙ (lost_is _ ∙ lost_older (step H now) (address_after w H))) i) || nat_eq (p.delay i) 0)
+
+pub goes_is : (w : Who) (H : List Call) (now : ℕ) (k : Hold) (gives b : Bool) → Passed w H now k → gives ≡ gives_way w H now → (can_claim k && not gives) ≡ b
     → claim_goes w H now ≡ b
-goes_is w H now k gives b p g e = sym ((λ i. p.owes i && not (g i))) ∙ e
-
-pub still_goes : (w : Who) (H : List Call) (c : Controller) (now : ℕ) (gives b : Bool) → Is w H c → gives ≡ gives_way w H now
-    → (c.hold.owes_claim && not gives) ≡ b → claim_goes w H now ≡ b
-still_goes w H c now gives b h g e = sym ((λ i. (h.hold i).owes_claim && not (g i))) ∙ e
+goes_is w H now k gives b p g e = sym ((λ i. claims_is w H now k p i && not (g i))) ∙ e
 
 -- no acknowledgment goes, or the first that is due
 pub none_acknowledged : (w : Who) (H : List Call) (c : Controller) (now : ℕ) (gives : Bool) → Is w H c → gives ≡ gives_way w H now
@@ -307,27 +348,27 @@ pub one_acknowledged : (w : Who) (H : List Call) (now : ℕ) (gives b : Bool) (m
 one_acknowledged w H now true b m g e i = absurd (cc)
 one_acknowledged w H now false b m g e i = ap (λ (b : Bool). if b then None else slice_get (due w H) (length (acknowledged H))) (sym g) ∙ i
 
-next_is : (w : Who) (H : List Call) (now : ℕ) (a : Option Message) (o : Option (ℕ × Message)) → claim_goes w H now ≡ false → holds w H now ≡ true
-    → next_control w H now ≡ a → slice_get (accepted w H) (length (sent H)) ≡ o
-    → next_frame w H now ≡ option_map (λ m. (now, m)) (first_of a o (next_long w H now))
-next_is w H now a o e f g k =
-    ap (λ (b : Bool). frame_by b (holds w H now) (next_control w H now) (slice_get (accepted w H) (length (sent H))) (next_long w H now) claim now) e
-    ∙ (ap (λ (b : Bool). frame_by false b (next_control w H now) (slice_get (accepted w H) (length (sent H))) (next_long w H now) claim now) f
-    ∙ (ap (λ (x : Option Message). frame_by false true x (slice_get (accepted w H) (length (sent H))) (next_long w H now) claim now) g
-    ∙ ap (λ (x : Option (ℕ × Message)). frame_by false true a x (next_long w H now) claim now) k))
-  where
-    claim : Message
-    claim = claim_from w (claim_address w (address_after w H))
+next_is : (w : Who) (H : List Call) (now : ℕ) (a o : Option Message) → claim_goes w H now ≡ false → holds w H now ≡ true
+    → next_acknowledgment w H now ≡ a → other w H now ≡ o → next_frame w H now ≡ option_map (λ m. (now, m)) (control_of a o)
+next_is w H now a o e f g k = λ i. frame_by (e i) (f i) (g i) (k i) (claim_from w (claim_address w (address_after w H))) now
+
+-- the frame of whose turn it is
+other_is : (w : Who) (H : List Call) (now : ℕ) (t : Option Turn) → next_turn w H now ≡ t
+    → other w H now ≡ turn_frame t (slice_get (reception w H).replies 0) (slice_get (accepted w H) (length (sent H))) (next_packet w H now) (next_transfer w H now)
+other_is w H now t e =
+    ap (λ (t : Option Turn). turn_frame t (slice_get (reception w H).replies 0) (slice_get (accepted w H) (length (sent H))) (next_packet w H now) (next_transfer w H now)) e
 
 pub taken : (w : Who) (H : List Call) (old new : Controller) (now : ℕ) (r : Option FrameRecord) (x : Outgoing) (mid : Hold) → Is w H old
     → Passed w H now mid → claim_goes w H now ≡ false → holds w H now ≡ true → next_acknowledgment w H now ≡ None
-    → length old.incoming.replies.items ≡ 0 → slice_get old.outgoing.items old.taken ≡ Some x → option_map stamped r ≡ Some (now, (posted x).1)
-    → new ≡ record old { hold = new.hold; taken = new.taken; asking = new.asking } → new.taken ≡ suc old.taken → (request : Bool)
+    → turn_of mid.yields (ready_in old mid) ≡ Some Single → slice_get old.outgoing.items old.taken ≡ Some x → option_map stamped r ≡ Some (now, (posted x).1)
+    → new ≡ record old { hold = new.hold; taken = new.taken; asking = new.asking; incoming = new.incoming } → new.taken ≡ suc old.taken → (request calls : Bool)
+    → incoming_of new.incoming ≡ with_called (if calls then 1250000 + (now - (incoming_of old.incoming).moment) else (incoming_of old.incoming).called) (incoming_of old.incoming)
+    → calls ≡ asks_with (posted x).1 60928
     → asking_of new.asking ≡ option_map (takes x.token) (asking_of old.asking)
     → request ≡ has_token (option_map (λ (y : AskRecord). y.question) (asking_of old.asking)) x.token → new.hold ≡ hold_asked request mid
     → Is w (At now (TakeFrame r) ∷ H) new
-taken w H old new now None x mid h p owes held none quiet g m e d request a1 a2 a3 = absurd (cc)
-taken w H old new now (Some f) x mid h p owes held none quiet g m e d request a1 a2 a3 =
+taken w H old new now None x mid h p owes held none turn g m e d request calls c1 c2 a1 a2 a3 = absurd (cc)
+taken w H old new now (Some f) x mid h p owes held none turn g m e d request calls c1 c2 a1 a2 a3 =
     let s = sound w H h.answered in
     let t = s.in_turn (holding_not_lost w H now held) in
     let i = in_rest posted old.outgoing.items x (accepted w H) (length (told H)) (length (sent H)) old.taken h.outgoing h.taken t g in
@@ -340,8 +381,12 @@ taken w H old new now (Some f) x mid h p owes held none quiet g m e d request a1
     let number = s.numbered (length (sent H)) (posted x) i in
     record {
       who = ap (λ c. who_of w.brought c.own) e ∙ h.who;
-      answered = (h.answered, ap Some k ∙ sym (next_is w H now None (Some (posted x)) owes held (none_steered w H now old h none quiet) i));
-      hold = a3 ∙ is_hold _ _ (turns_same H now f n l) p.patience p.rest p.moment (p.standing ∙ ap standing_of (sym (address_is w H now f false n))) (p.owes ∙ owes_same w H now f n) (p.pause ∙ sym (pause_is H now f false (no_packet f one))) p.age
+      answered = (
+        h.answered,
+        ap Some k ∙ sym (next_is w H now None (Some (posted x).1) owes held none
+            (other_is w H now (Some Single) (sym (turn_next w H old now mid h p held) ∙ turn) ∙ ap (option_map content) i)),
+      );
+      hold = a3 ∙ is_hold _ _ (turns_same H now f n l) (yields_now H now f false n l (no_transfer f one)) p.patience p.delay p.rest p.moment (p.standing ∙ ap standing_of (sym (address_is w H now f false n))) (p.owes ∙ owes_same w H now f n) (p.pause ∙ sym (pause_is H now f false (no_packet f one))) p.age
           (ap (λ (k : ℕ). if request then 1250000 else k) p.wait
           ∙ wait_more w H now x.token f request n l one number (a2 ∙ ap (λ (o : Option AskRecord). has_token (option_map (λ (y : AskRecord). y.question) o) x.token) h.asking));
       asking = a1 ∙ (ap (option_map (takes x.token)) h.asking ∙ ask_more w H now x.token f number more);
@@ -357,71 +402,57 @@ taken w H old new now (Some f) x mid h p owes held none quiet g m e d request a1
       news = ap (λ c. c.news) e ∙ (h.news ∙ news_same w H now f n);
       missed = ap (λ c. c.inbox.missed) e ∙ h.missed;
       lane = ap (λ c. lane_of w c.lane) e ∙ (h.lane ∙ lane_same w H now f (no_packet f one));
-      incoming = ap (λ c. incoming_of c.incoming) e ∙ (h.incoming ∙ incoming_same w H now f (none_taken w H now f n l (none_replied w H old h quiet)));
+      incoming = c1 ∙ (ap (λ (y : IncomingRecord). with_called (if calls then 1250000 + (now - y.moment) else y.called) y) h.incoming
+          ∙ message_called w H now f calls (c2 ∙ ap (λ (m : Message). asks_with m 60928) (sym (ap (λ (y : ℕ × Message). y.1) k))) n l one (taken_is w H now f false false n (no_reply (reception w H).replies f (no_transfer f one))));
       hearing = ap (λ c. hearing_of c.hearing) e ∙ (h.hearing ∙ hearing_same w H now f n);
       port = ap (λ c. port_of c.transfers) e ∙ (h.port ∙ port_same w H now f (no_move w H f (no_transfer f one)));
     }
 
 pub taken_none : (w : Who) (H : List Call) (old new : Controller) (now : ℕ) → Is w H old
     → Passed w H now new.hold → claim_goes w H now ≡ false → holds w H now ≡ true → next_acknowledgment w H now ≡ None
-    → length old.incoming.replies.items ≡ 0 → slice_get old.outgoing.items old.taken ≡ None
-    → (let none : Option (ℕ × Message) = None in none) ≡ option_map (at_now now) (packet_by (lane_of (who_of w.brought old.own) old.lane).current old.lane.count new.hold.pause)
-    → (let none : Option (ℕ × Message) = None in none) ≡ option_map (at_now now) (transfer_by (port_of old.transfers).current (clock new.hold.age))
-    → new ≡ record old { hold = new.hold } → Is w (At now (TakeFrame None) ∷ H) new
-taken_none w H old new now h p owes held none quiet g m u e =
-    let s = sound w H h.answered in
-    let t = s.in_turn (holding_not_lost w H now held) in
-    let i = not_in_rest posted old.outgoing.items (accepted w H) (length (told H)) (length (sent H)) old.taken h.outgoing h.taken t g in
-    record {
-      who = ap (λ c. who_of w.brought c.own) e ∙ h.who;
-      answered = (
-        h.answered,
-        ap (option_map (at_now now)) (sym (ap (λ o. long_by o (transfer_by (port_of old.transfers).current (clock new.hold.age))) (no_message now _ m) ∙ no_message now _ u))
-            ∙ (ap (option_map (at_now now)) (long_next w H old now new.hold.pause new.hold.age h p.pause p.age)
-            ∙ sym (next_is w H now None None owes held (none_steered w H now old h none quiet) i)),
-      );
-      hold = is_hold _ _ p.turns p.patience p.rest p.moment p.standing p.owes p.pause p.age p.wait;
-      outgoing = ap (λ c. map posted c.outgoing.items) e ∙ h.outgoing;
-      taken = ap (λ c. c.taken) e ∙ h.taken;
-      token = ap (λ c. c.next_token) e ∙ h.token;
-      asking = ap (λ c. asking_of c.asking) e ∙ h.asking;
-      unread = ap (λ c. map received_by c.inbox.unread.items) e ∙ h.unread;
-      requests = ap (λ c. map request_by c.desk.waiting.items) e ∙ h.requests;
-      acknowledgments = ap (λ c. map (refusal_by w) c.desk.due.items) e ∙ h.acknowledgments;
-      holders = subst (λ t. Knows t (told_claims w H)) (sym (ap (λ c. c.holders) e)) h.holders;
-      news = ap (λ c. c.news) e ∙ h.news;
-      missed = ap (λ c. c.inbox.missed) e ∙ h.missed;
-      lane = ap (λ c. lane_of w c.lane) e ∙ h.lane;
-      incoming = ap (λ c. incoming_of c.incoming) e ∙ h.incoming;
-      hearing = ap (λ c. hearing_of c.hearing) e ∙ h.hearing;
-      port = ap (λ c. port_of c.transfers) e ∙ h.port;
-    }
+    → turn_of new.hold.yields (ready_in old new.hold) ≡ None → new ≡ record old { hold = new.hold } → Is w (At now (TakeFrame None) ∷ H) new
+taken_none w H old new now h p owes held none turn e = record {
+  who = ap (λ c. who_of w.brought c.own) e ∙ h.who;
+  answered = (h.answered, sym (next_is w H now None None owes held none (other_is w H now None (sym (turn_next w H old now new.hold h p held) ∙ turn))));
+  hold = is_hold _ _ p.turns p.yields p.patience p.delay p.rest p.moment p.standing p.owes p.pause p.age p.wait;
+  outgoing = ap (λ c. map posted c.outgoing.items) e ∙ h.outgoing;
+  taken = ap (λ c. c.taken) e ∙ h.taken;
+  token = ap (λ c. c.next_token) e ∙ h.token;
+  asking = ap (λ c. asking_of c.asking) e ∙ h.asking;
+  unread = ap (λ c. map received_by c.inbox.unread.items) e ∙ h.unread;
+  requests = ap (λ c. map request_by c.desk.waiting.items) e ∙ h.requests;
+  acknowledgments = ap (λ c. map (refusal_by w) c.desk.due.items) e ∙ h.acknowledgments;
+  holders = subst (λ t. Knows t (told_claims w H)) (sym (ap (λ c. c.holders) e)) h.holders;
+  news = ap (λ c. c.news) e ∙ h.news;
+  missed = ap (λ c. c.inbox.missed) e ∙ h.missed;
+  lane = ap (λ c. lane_of w c.lane) e ∙ h.lane;
+  incoming = ap (λ c. incoming_of c.incoming) e ∙ h.incoming;
+  hearing = ap (λ c. hearing_of c.hearing) e ∙ h.hearing;
+  port = ap (λ c. port_of c.transfers) e ∙ h.port;
+}
 
 pub taken_packet : (w : Who) (H : List Call) (old new : Controller) (now : ℕ) (f : FrameRecord) (mid : Hold) → Is w H old
     → Passed w H now mid → claim_goes w H now ≡ false → holds w H now ≡ true → next_acknowledgment w H now ≡ None
-    → length old.incoming.replies.items ≡ 0 → slice_get old.outgoing.items old.taken ≡ None
+    → turn_of mid.yields (ready_in old mid) ≡ Some Packet
     → Some (stamped f) ≡ option_map (at_now now) (packet_by (lane_of (who_of w.brought old.own) old.lane).current old.lane.count mid.pause)
     → new ≡ record old { hold = new.hold; lane = new.lane } → new.hold ≡ paused mid → new.lane ≡ record old.lane { count = new.lane.count }
     → new.lane.count ≡ suc old.lane.count → Is w (At now (TakeFrame (Some f)) ∷ H) new
-taken_packet w H old new now f mid h p owes held none quiet g m e e0 e1 more =
+taken_packet w H old new now f mid h p owes held none turn m e e0 e1 more =
     go (next_packet w H now) refl (m ∙ ap (option_map (at_now now)) (packet_next w H old now mid.pause h p.pause))
   where
     go : (o : Option Message) → next_packet w H now ≡ o → Some (stamped f) ≡ option_map (at_now now) o → Is w (At now (TakeFrame (Some f)) ∷ H) new
     go None q i = absurd (cc)
     go (Some y) q i =
-        let s = sound w H h.answered in
-        let t = s.in_turn (holding_not_lost w H now held) in
-        let past = not_in_rest posted old.outgoing.items (accepted w H) (length (told H)) (length (sent H)) old.taken h.outgoing h.taken t g in
         let k : stamped f ≡ (now, y) = cc in
         let is = packet_taken f now y (open_broadcast w H) (length (packets H)) (pause H - step H now) k q in
         record {
           who = ap (λ c. who_of w.brought c.own) e ∙ h.who;
           answered = (
             h.answered,
-            i ∙ (ap (λ o. option_map (at_now now) (long_by o (next_transfer w H now))) (sym q)
-                ∙ sym (next_is w H now None None owes held (none_steered w H now old h none quiet) past)),
+            i ∙ sym (next_is w H now None (Some y) owes held none
+                (other_is w H now (Some Packet) (sym (turn_next w H old now mid h p held) ∙ turn) ∙ q)),
           );
-          hold = e0 ∙ is_hold _ _ (turns_same H now f is.0 is.1) p.patience p.rest p.moment (p.standing ∙ ap standing_of (sym (address_is w H now f false is.0))) (p.owes ∙ owes_same w H now f is.0) (sym (pause_is H now f true is.2)) p.age (p.wait ∙ wait_same H now f false false true is.0 is.1 (packet_session f is.2).0 refl);
+          hold = e0 ∙ is_hold _ _ (turns_same H now f is.0 is.1) (yields_now H now f false is.0 is.1 (packet_session f is.2).1) p.patience p.delay p.rest p.moment (p.standing ∙ ap standing_of (sym (address_is w H now f false is.0))) (p.owes ∙ owes_same w H now f is.0) (sym (pause_is H now f true is.2)) p.age (p.wait ∙ wait_same H now f false false true is.0 is.1 (packet_session f is.2).0 refl);
           outgoing = ap (λ c. map posted c.outgoing.items) e ∙ h.outgoing;
           taken = ap (λ c. c.taken) e ∙ (h.taken ∙ ap (λ (xs : List Message). length xs - length (told H)) (sym (sent_is H now f false false true is.0 is.1 (packet_session f is.2).0)));
           token = ap (λ c. c.next_token) e ∙ h.token;
@@ -437,41 +468,36 @@ taken_packet w H old new now f mid h p owes held none quiet g m e e0 e1 more =
           lane = ap (lane_of w) e1 ∙ (ap (λ (l : LaneRecord). record l { count = new.lane.count }) h.lane
               ∙ ap (λ (n : ℕ). record (lane_after w H) { count = n })
               (more ∙ (ap (λ (l : LaneRecord). suc l.count) h.lane ∙ sym (ap length (packets_is H now f true is.2) ∙ length_one_more (packets H) (message_of f)))));
-          incoming = ap (λ c. incoming_of c.incoming) e ∙ (h.incoming ∙ incoming_same w H now f (none_taken w H now f is.0 is.1 (none_replied w H old h quiet)));
+          incoming = ap (λ c. incoming_of c.incoming) e ∙ (h.incoming ∙ incoming_same w H now f (taken_is w H now f false false is.0 (no_reply (reception w H).replies f (packet_session f is.2).1)) (uncalled w H now f false true is.0 is.1 (packet_session f is.2).0 refl));
           hearing = ap (λ c. hearing_of c.hearing) e ∙ (h.hearing ∙ hearing_same w H now f is.0);
           port = ap (λ c. port_of c.transfers) e ∙ (h.port ∙ port_same w H now f (no_move w H f (packet_session f is.2).1));
         }
 
 pub taken_transfer : (w : Who) (H : List Call) (old new : Controller) (now : ℕ) (f : FrameRecord) (mid : Hold) → Is w H old
-    → Passed w H now mid → claim_goes w H now ≡ false → holds w H now ≡ true → next_acknowledgment w H now ≡ None → length old.incoming.replies.items ≡ 0
-    → slice_get old.outgoing.items old.taken ≡ None
-    → (let none : Option (ℕ × Message) = None in none) ≡ option_map (at_now now) (packet_by (lane_of (who_of w.brought old.own) old.lane).current old.lane.count mid.pause)
+    → Passed w H now mid → claim_goes w H now ≡ false → holds w H now ≡ true → next_acknowledgment w H now ≡ None → turn_of mid.yields (ready_in old mid) ≡ Some Move
     → Some (stamped f) ≡ option_map (at_now now) (transfer_by (port_of old.transfers).current (clock mid.age))
     → new ≡ record old { hold = new.hold; transfers = new.transfers }
     → (port_of new.transfers).current ≡ sends_if true (clock mid.age) (port_of old.transfers).current → new.transfers.next_token ≡ old.transfers.next_token
     → new.transfers.resting ≡ old.transfers.resting → new.hold ≡ hold_spoken mid → Is w (At now (TakeFrame (Some f)) ∷ H) new
-taken_transfer w H old new now f mid h p owes held none quiet g m u e e0 e1 e2 e3 =
+taken_transfer w H old new now f mid h p owes held none turn u e e0 e1 e2 e3 =
     go (next_transfer w H now) refl (u ∙ ap (option_map (at_now now)) (transfer_next w H old now mid.age h p.age))
   where
-    no_packets : next_packet w H now ≡ None
-    no_packets = sym (packet_next w H old now mid.pause h p.pause) ∙ no_message now _ m
+    due_now : (ready w H now).transfer ≡ true
+    due_now = (turned w H now (Some Move) (sym (turn_next w H old now mid h p held) ∙ turn)).1
 
     go : (o : Option Message) → next_transfer w H now ≡ o → Some (stamped f) ≡ option_map (at_now now) o → Is w (At now (TakeFrame (Some f)) ∷ H) new
     go None q i = absurd (cc)
     go (Some y) q i =
-        let s = sound w H h.answered in
-        let t = s.in_turn (holding_not_lost w H now held) in
-        let past = not_in_rest posted old.outgoing.items (accepted w H) (length (told H)) (length (sent H)) old.taken h.outgoing h.taken t g in
         let k : stamped f ≡ (now, y) = cc in
         let is = transfer_taken w H now f y h.answered k q in
         record {
           who = ap (λ c. who_of w.brought c.own) e ∙ h.who;
           answered = (
             h.answered,
-            i ∙ (ap (option_map (at_now now)) (sym (ap (λ o. long_by o (next_transfer w H now)) no_packets ∙ q))
-                ∙ sym (next_is w H now None None owes held (none_steered w H now old h none quiet) past)),
+            i ∙ sym (next_is w H now None (Some y) owes held none
+                (other_is w H now (Some Move) (sym (turn_next w H old now mid h p held) ∙ turn) ∙ q)),
           );
-          hold = e3 ∙ is_hold _ _ (turns_same H now f is.claim is.plain) p.patience p.rest p.moment (p.standing ∙ ap standing_of (sym (address_is w H now f false is.claim))) (p.owes ∙ owes_same w H now f is.claim)
+          hold = e3 ∙ is_hold _ _ (turns_same H now f is.claim is.plain) (yields_now H now f true is.claim is.plain is.transfer) p.patience p.delay p.rest p.moment (p.standing ∙ ap standing_of (sym (address_is w H now f false is.claim))) (p.owes ∙ owes_same w H now f is.claim)
               (p.pause ∙ sym (pause_is H now f false is.packet)) p.age (p.wait ∙ wait_same H now f false false true is.claim is.plain is.session refl);
           outgoing = ap (λ c. map posted c.outgoing.items) e ∙ h.outgoing;
           taken = ap (λ c. c.taken) e ∙ (h.taken ∙ ap (λ (xs : List Message). length xs - length (told H)) (sym (sent_is H now f false false true is.claim is.plain is.session)));
@@ -489,9 +515,9 @@ taken_transfer w H old new now f mid h p owes held none quiet g m u e e0 e1 e2 e
           hearing = ap (λ c. hearing_of c.hearing) e ∙ (h.hearing ∙ hearing_same w H now f is.claim);
           port = is_port _ _
               (e0 ∙ (ap (λ (n : ℕ). sends_if true n (port_of old.transfers).current) (ap clock p.age ∙ clock_is (age H + step H now))
-              ∙ (ap (λ (t : PortRecord). sends_if true (clock_at H now) t.current) h.port ∙ port_more w H now f (is_moved w H f is.transfer (none_steers (next_acknowledgment w H now) _ (none_steered w H now old h none quiet)).1))))
+              ∙ (ap (λ (t : PortRecord). sends_if true (clock_at H now) t.current) h.port ∙ port_more w H now f (is_moved w H f is.transfer (apart_is w H now f y q (ap (λ (z : ℕ × Message). z.1) k) due_now)))))
               (e1 ∙ ap (λ (t : PortRecord). t.next_token) h.port) (ap resting_by e2 ∙ ap (λ (t : PortRecord). t.resting) h.port);
-          incoming = ap (λ c. incoming_of c.incoming) e ∙ (h.incoming ∙ incoming_same w H now f (none_taken w H now f is.claim is.plain (none_replied w H old h quiet)));
+          incoming = ap (λ c. incoming_of c.incoming) e ∙ (h.incoming ∙ incoming_same w H now f (taken_is w H now f false false is.claim (λ i. is.transfer i && apart_is w H now f y q (ap (λ (z : ℕ × Message). z.1) k) due_now i)) (uncalled w H now f false true is.claim is.plain is.session refl));
         }
 
 pub taken_due : (w : Who) (H : List Call) (old new : Controller) (now : ℕ) (r : Option FrameRecord) (x : Due) (mid : Hold) → Is w H old
@@ -506,8 +532,9 @@ taken_due w H old new now (Some f) x mid h p owes held next first m e e0 =
     let more = acknowledged_is H now f false true is.0 is.1 in
     record {
       who = ap (λ c. who_of w.brought c.own) e ∙ h.who;
-      answered = (h.answered, ap Some k ∙ sym (next_is w H now (Some (refusal_by w x)) _ owes held (steered_due w H now (refusal_by w x) next) refl));
-      hold = e0 ∙ is_hold _ _ (turns_more H now f mid.turns (ap (λ (b : Bool). b || is_acknowledgment f) is.0 ∙ is.1) p.turns) p.patience p.rest p.moment (p.standing ∙ ap standing_of (sym (address_is w H now f false is.0))) (p.owes ∙ owes_same w H now f is.0) (p.pause ∙ sym (pause_is H now f false (no_packet f is.2))) p.age (p.wait ∙ wait_same H now f false true false is.0 is.1 is.2 refl);
+      answered = (h.answered, ap Some k ∙ sym (next_is w H now (Some (refusal_by w x)) _ owes held next refl));
+      hold = e0 ∙ is_hold _ _ (turns_more H now f mid.turns (ap (λ (b : Bool). b || is_acknowledgment f) is.0 ∙ is.1) p.turns)
+          (yields_same H now f mid.yields (ap (λ (b : Bool). b || is_acknowledgment f) is.0 ∙ is.1) p.yields) p.patience p.delay p.rest p.moment (p.standing ∙ ap standing_of (sym (address_is w H now f false is.0))) (p.owes ∙ owes_same w H now f is.0) (p.pause ∙ sym (pause_is H now f false (no_packet f is.2))) p.age (p.wait ∙ wait_same H now f false true false is.0 is.1 is.2 refl);
       outgoing = ap (λ c. map posted c.outgoing.items) e ∙ h.outgoing;
       taken = ap (λ c. c.taken) e ∙ (h.taken ∙ ap (λ (xs : List Message). length xs - length (told H)) (sym (sent_is H now f false true false is.0 is.1 is.2)));
       token = ap (λ c. c.next_token) e ∙ h.token;
@@ -520,19 +547,19 @@ taken_due w H old new now (Some f) x mid h p owes held next first m e e0 =
       news = ap (λ c. c.news) e ∙ (h.news ∙ news_same w H now f is.0);
       missed = ap (λ c. c.inbox.missed) e ∙ h.missed;
       lane = ap (λ c. lane_of w c.lane) e ∙ (h.lane ∙ lane_same w H now f (no_packet f is.2));
-      incoming = ap (λ c. incoming_of c.incoming) e ∙ (h.incoming ∙ incoming_same w H now f (taken_is w H now f false true is.0 is.1));
+      incoming = ap (λ c. incoming_of c.incoming) e ∙ (h.incoming ∙ incoming_same w H now f (taken_is w H now f false false is.0 (no_reply (reception w H).replies f (no_transfer f is.2))) (uncalled w H now f true _ is.0 is.1 refl refl));
       hearing = ap (λ c. hearing_of c.hearing) e ∙ (h.hearing ∙ hearing_same w H now f is.0);
       port = ap (λ c. port_of c.transfers) e ∙ (h.port ∙ port_same w H now f (no_move w H f (no_transfer f is.2)));
     }
 
 pub taken_reply : (w : Who) (H : List Call) (old new : Controller) (now : ℕ) (r : Option FrameRecord) (x : Said) (mid : Hold) → Is w H old → Passed w H now mid
     → claim_goes w H now ≡ false → holds w H now ≡ true → next_acknowledgment w H now ≡ None
-    → First (said_by old.incoming.receiver.state.own) new.incoming.replies.items x 0 (reception w H).replies
+    → turn_of mid.yields (ready_in old mid) ≡ Some Reply → First (said_by old.incoming.receiver.state.own) new.incoming.replies.items x 0 (reception w H).replies
     → option_map stamped r ≡ Some (now, said_by w.address x)
     → new ≡ record old { hold = new.hold; incoming = new.incoming } → new.incoming ≡ record old.incoming { replies = new.incoming.replies } → new.hold ≡ hold_spoken mid
     → Is w (At now (TakeFrame r) ∷ H) new
-taken_reply w H old new now None x mid h p owes held none first m e e0 e1 = absurd (cc)
-taken_reply w H old new now (Some f) x mid h p owes held none first m e e0 e1 =
+taken_reply w H old new now None x mid h p owes held none turn first m e e0 e1 = absurd (cc)
+taken_reply w H old new now (Some f) x mid h p owes held none turn first m e e0 e1 =
     let own : old.incoming.receiver.state.own ≡ w.address = ap (λ (y : IncomingRecord). y.own) h.incoming in
     let k : stamped f ≡ (now, said_by w.address x) = cc in
     let at : slice_get (reception w H).replies 0 ≡ Some (said_by w.address x) = first.is ∙ ap (λ (a : ℕ). Some (said_by a x)) own in
@@ -541,9 +568,10 @@ taken_reply w H old new now (Some f) x mid h p owes held none first m e e0 e1 =
       who = ap (λ c. who_of w.brought c.own) e ∙ h.who;
       answered = (
         h.answered,
-        ap Some k ∙ sym (next_is w H now (Some (said_by w.address x)) _ owes held (steered_by w H now None _ none at) refl),
+        ap Some k ∙ sym (next_is w H now None (Some (said_by w.address x)) owes held none
+            (other_is w H now (Some Reply) (sym (turn_next w H old now mid h p held) ∙ turn) ∙ at)),
       );
-      hold = e1 ∙ is_hold _ _ (turns_same H now f is.0 is.1) p.patience p.rest p.moment (p.standing ∙ ap standing_of (sym (address_is w H now f false is.0))) (p.owes ∙ owes_same w H now f is.0) (p.pause ∙ sym (pause_is H now f false is.3)) p.age (p.wait ∙ wait_same H now f false false true is.0 is.1 is.2 refl);
+      hold = e1 ∙ is_hold _ _ (turns_same H now f is.0 is.1) (yields_now H now f true is.0 is.1 (is_directed f is.2 is.3)) p.patience p.delay p.rest p.moment (p.standing ∙ ap standing_of (sym (address_is w H now f false is.0))) (p.owes ∙ owes_same w H now f is.0) (p.pause ∙ sym (pause_is H now f false is.3)) p.age (p.wait ∙ wait_same H now f false false true is.0 is.1 is.2 refl);
       outgoing = ap (λ c. map posted c.outgoing.items) e ∙ h.outgoing;
       taken = ap (λ c. c.taken) e ∙ (h.taken ∙ ap (λ (xs : List Message). length xs - length (told H)) (sym (sent_is H now f false false true is.0 is.1 is.2)));
       token = ap (λ c. c.next_token) e ∙ h.token;
@@ -558,9 +586,9 @@ taken_reply w H old new now (Some f) x mid h p owes held none first m e e0 e1 =
       missed = ap (λ c. c.inbox.missed) e ∙ h.missed;
       lane = ap (λ c. lane_of w c.lane) e ∙ (h.lane ∙ lane_same w H now f is.3);
       incoming = ap incoming_of e0 ∙ (ap (λ (xs : List Message). with_replies xs (incoming_of old.incoming)) first.rest
-          ∙ (ap (with_replies (drop 1 (reception w H).replies)) h.incoming ∙ incoming_replied w H now f is.0 is.1));
+          ∙ (ap (with_replies (drop 1 (reception w H).replies)) h.incoming ∙ incoming_replied w H now f is.0 (λ i. is_directed f is.2 is.3 i && reply_is w H f _ at (ap (λ (y : ℕ × Message). y.1) k) i) is.1 is.2));
       hearing = ap (λ c. hearing_of c.hearing) e ∙ (h.hearing ∙ hearing_same w H now f is.0);
-      port = ap (λ c. port_of c.transfers) e ∙ (h.port ∙ port_same w H now f (reply_no_move w H f _ at));
+      port = ap (λ c. port_of c.transfers) e ∙ (h.port ∙ port_same w H now f (reply_no_move w H f _ at (ap (λ (y : ℕ × Message). y.1) k)));
     }
 
 -- ---- an end is told
@@ -648,7 +676,7 @@ posts w H old new now d x h p held can room is e0 e1 e2 e3 e4 e5 e6 e7 e8 e9 e10
     record {
       who = ap (who_of w.brought) e2 ∙ h.who;
       answered = (h.answered, ap Ok h.token ∙ sym (answer (holds w H now) (can_send w d) (is_full w H) held can (sym (full_is w H old h) ∙ room)));
-      hold = is_hold _ _ p.turns p.patience p.rest p.moment p.standing p.owes p.pause p.age p.wait;
+      hold = is_hold _ _ p.turns p.yields p.patience p.delay p.rest p.moment p.standing p.owes p.pause p.age p.wait;
       outgoing = ap (map posted) e0 ∙ (map_append posted old.outgoing.items x
           ∙ (ap (λ l. l ++ posted x ∷ []) h.outgoing ∙ (ap (λ (y : ℕ × Message). drop (length (told H)) (accepted w H) ++ y ∷ []) is
           ∙ sym (drop_append (length (told H)) (accepted w H) (old.next_token, message_from w d) s.within))));
@@ -718,16 +746,12 @@ refusal_rest w room place (Some r) L xs n l e = go ((nat_eq r.destination w.addr
     go true m = ap (λ ys. ys ++ m ∷ []) e ∙ sym (drop_append n L m l)
     go false m = e
 
-is_news : (u v : Untold) → u.lost ≡ v.lost → u.another ≡ v.another → u.missed ≡ v.missed → u ≡ v
-is_news u v e f g =
-    ap (λ (x : Bool). record u { lost = x }) e
-    ∙ (ap (λ (x : Bool). record u { lost = v.lost; another = x }) f ∙ ap (λ (x : Bool). record u { lost = v.lost; another = v.another; missed = x }) g)
+is_news : (u v : Untold) → u.lost ≡ v.lost → u.another ≡ v.another → u.doubled ≡ v.doubled → u.missed ≡ v.missed → u ≡ v
+is_news u v e f d g = λ t. (let x : Untold = record { lost = e t; another = f t; doubled = d t; missed = g t } in x)
 
-pub news_heard : (u v : Untold) (l a b m n o : Bool) → v ≡ record u { lost = l; another = u.another || a; missed = u.missed || (m || o) } → a ≡ b → m ≡ n
-    → v ≡ record u { lost = l; another = u.another || b; missed = u.missed || (n || o) }
-news_heard u v l a b m n o e f g =
-    e ∙ (ap (λ (x : Bool). record u { lost = l; another = u.another || x; missed = u.missed || (m || o) }) f
-    ∙ ap (λ (x : Bool). record u { lost = l; another = u.another || b; missed = u.missed || (x || o) }) g)
+pub news_heard : (u v : Untold) (l a b m n o : Bool) → v ≡ record { lost = l; another = u.another || a; doubled = u.doubled; missed = u.missed || (m || o) } → a ≡ b → m ≡ n
+    → v ≡ record { lost = l; another = u.another || b; doubled = u.doubled; missed = u.missed || (n || o) }
+news_heard u v l a b m n o x f g = x ∙ λ i. record { lost = l; another = u.another || f i; doubled = u.doubled; missed = u.missed || (g i || o) }
 
 -- a broadcast that waits now, where none did, was made whole
 cast_by : (before after : Option (ℕ × MessageRecord))
@@ -739,11 +763,15 @@ cast_by (Some y) (Some x) = refl
 
 -- an answer is coming
 pub coming_is : (w : Who) (H : List Call) (c : Controller) (t time : ℕ) → Is w H c → t ≡ time
-    → is_coming (option_map (λ (x : AskRecord). x.question) (asking_of c.asking)) (in_session (incoming_of c.incoming).reception.session) (in_broadcast t (hearing_of c.hearing).current)
+    → is_coming (option_map (λ (x : AskRecord). x.question) (asking_of c.asking)) (session_by (incoming_of c.incoming).reception.session (incoming_of c.incoming).named) (in_broadcast t (hearing_of c.hearing).current)
     ≡ comes w H time
 coming_is w H c t time h e =
-    (λ i. is_coming (option_map (λ (x : AskRecord). x.question) (h.asking i)) (in_session (h.incoming i).reception.session) (in_broadcast (e i) (h.hearing i).current))
-    ∙ ap (λ (o : Option Question). is_coming o (in_session (reception w H).session) (in_broadcast time (hearing w H))) (token_of (open_ask H) (length (sent H)) (ended w H))
+    (λ i. is_coming (option_map (λ (x : AskRecord). x.question) (h.asking i)) (session_by (h.incoming i).reception.session (h.incoming i).named) (in_broadcast (e i) (h.hearing i).current))
+    ∙ λ i. is_coming (token_of (open_ask H) (length (sent H)) (ended w H) i) (session_is (reception w H).session i) (in_broadcast time (hearing w H))
+  where
+    session_is : (o : Option ReceptionRecord) → session_by o (named_in o) ≡ in_session o
+    session_is None = refl
+    session_is (Some r) = refl
 
 -- a broadcast broke off, by a tick or its own claim
 is_broken : (w : Who) (H : List Call) (b c : Bool) (u : Untold) → u ≡ news_after w H → b ≡ c
@@ -753,22 +781,22 @@ is_broken w H b c u e g =
     ∙ ap (λ (m : Bool). (let v : Untold = record (news_after w H) { missed = m } in v)) (broken_news c (missed_news w H) (unheard_news w H))
 
 pub ticked_more : (w : Who) (H : List Call) (old new : Controller) (now : ℕ) (broken : Bool) → Is w H old → Passed w H now new.hold
-    → incoming_of new.incoming ≡ ticks now (incoming_of old.incoming)
+    → (IsNamed (incoming_of old.incoming) → incoming_of new.incoming ≡ ticks now (incoming_of old.incoming))
     → broken ≡ breaks_it (is_out (stamp_micros new.incoming.clock) (hearing_of old.hearing).current) (hearing_of old.hearing).current
     → new.hearing.missed ≡ (if broken then min (old.hearing.missed + 1) 18446744073709551615 else old.hearing.missed)
     → (hearing_of new.hearing).current ≡ leaves_it (is_out (stamp_micros new.incoming.clock) (hearing_of old.hearing).current) (hearing_of old.hearing).current
-    → new.news ≡ record { lost = old.news.lost; another = old.news.another; missed = broken || old.news.missed }
+    → new.news ≡ record { lost = old.news.lost; another = old.news.another; doubled = old.news.doubled; missed = broken || old.news.missed }
     → new ≡ record old { hold = new.hold; incoming = new.incoming; hearing = new.hearing; news = new.news }
     → Is w (At now Tick ∷ H) new
 ticked_more w H old new now broken h p r t1 t2 t3 u e =
-    let later_on : incoming_of new.incoming ≡ incoming_after w (At now Tick ∷ H) = r ∙ ap (ticks now) h.incoming in
+    let later_on : incoming_of new.incoming ≡ incoming_after w (At now Tick ∷ H) = r (kept_named w H old h) ∙ ap (ticks now) h.incoming in
     let on = leaves_on w H (is_out (stamp_micros new.incoming.clock) (hearing_of old.hearing).current) broken (is_out (time_heard (At now Tick ∷ H)))
     (hearing_of old.hearing) (hearing_of new.hearing) h.hearing
     (always (hearing_of old.hearing).current (ap (λ (x : IncomingRecord). is_out x.clock (hearing_of old.hearing).current) later_on)) t1 t2 t3 in
     record {
       who = ap (λ c. who_of w.brought c.own) e ∙ h.who;
       answered = (h.answered, tt);
-      hold = is_hold _ _ p.turns p.patience p.rest p.moment p.standing p.owes p.pause p.age p.wait;
+      hold = is_hold _ _ p.turns p.yields p.patience p.delay p.rest p.moment p.standing p.owes p.pause p.age p.wait;
       outgoing = ap (λ c. map posted c.outgoing.items) e ∙ h.outgoing;
       taken = ap (λ c. c.taken) e ∙ h.taken;
       token = ap (λ c. c.next_token) e ∙ h.token;
@@ -794,17 +822,19 @@ pub heard_more : (w : Who) (H : List Call) (old new : Controller) (when : ℕ) (
     → map request_by new.desk.waiting.items
     ≡ with_request (who_of w.brought old.own) (nat_lt (length old.desk.waiting.items) 16) o (map request_by old.desk.waiting.items)
     → map (refusal_by (who_of w.brought old.own)) new.desk.due.items
-    ≡ with_refusal (who_of w.brought old.own) (nat_lt (length old.desk.waiting.items) 16) (nat_lt (length old.desk.due.items) 16) o
+    ≡ with_refusal (who_of w.brought old.own) (nat_lt (length old.desk.waiting.items) 16)
+    (nat_lt (length old.desk.due.items) 16 && not (is_refusal_due (who_of w.brought old.own) (map (refusal_by (who_of w.brought old.own)) old.desk.due.items) o)) o
     (map (refusal_by (who_of w.brought old.own)) old.desk.due.items)
-    → o ≡ asked (who_of w.brought old.own) held f
-    → ((F : List FrameRecord) → Knows old.holders F → Knows new.holders (F ++ f ∷ []))
+    → o ≡ fresh (who_of w.brought old.own) (map request_by old.desk.waiting.items) (asked (who_of w.brought old.own) held f)
+    → ((F : List FrameRecord) → Knows old.holders F → Knows new.holders (if is_double (who_of w.brought old.own) (claim_of f) then F else F ++ f ∷ []))
     → new.news ≡ record {
       lost = old.news.lost || (gone && not away);
       another = old.news.another || is_another (who_of w.brought old.own) held f;
+      doubled = option_or (double (who_of w.brought old.own) (claim_of f)) old.news.doubled;
       missed = broken || (old.news.missed || ((wanted && not (nat_lt (length old.inbox.unread.items) 16)) || unheard));
     }
-    → new.hold ≡ heard gone calls another mid → new.own ≡ old.own → new.outgoing ≡ old.outgoing → new.taken ≡ old.taken → new.next_token ≡ old.next_token → new.lane ≡ old.lane
-    → (old.incoming.receiver.has_box ≡ true → IsApart (incoming_of old.incoming).reception
+    → new.hold ≡ heard gone calls another (old.own.delay * 600) mid → new.own ≡ old.own → new.outgoing ≡ old.outgoing → new.taken ≡ old.taken → new.next_token ≡ old.next_token → new.lane ≡ old.lane
+    → (old.incoming.receiver.has_box ≡ true → IsApart (incoming_of old.incoming).reception → IsNamed (incoming_of old.incoming)
     → incoming_of new.incoming ≡ hears gone held when f (holder_in old.holders) (holder_in new.holders) (incoming_of old.incoming))
     → IfSome (port_of old.transfers).current (λ x. replaced ≡ is_replaced (holder_in old.holders x.sender.destination) (holder_in new.holders x.sender.destination))
     → ((r : ℕ → Bool) → IfSome (port_of old.transfers).current (λ x. replaced ≡ r x.sender.destination)
@@ -813,11 +843,12 @@ pub heard_more : (w : Who) (H : List Call) (old new : Controller) (when : ℕ) (
     → (whole_now : Option (ℕ × ℕ)) → whole_now ≡ made_by (has_place (incoming_of old.incoming).reception.waits) (incoming_of new.incoming).reception.waits
     → (cast_now : Option (ℕ × ℕ))
     → cast_now ≡ made_by (not (not (has_place (whole_of (hearing_of old.hearing).current)))) (whole_of (hearing_of new.hearing).current)
-    → (coming : Bool) (silent : Option AskEnding) → coming ≡ is_coming (option_map (λ (x : AskRecord). x.question) (asking_of old.asking)) (in_session (incoming_of old.incoming).reception.session)
+    → (coming : Bool) (silent : Option AskEnding) → coming ≡ is_coming (option_map (λ (x : AskRecord). x.question) (asking_of old.asking)) (session_by (incoming_of old.incoming).reception.session (incoming_of old.incoming).named)
     (in_broadcast (later (incoming_of old.incoming).clock (when - (incoming_of old.incoming).moment)) (hearing_of old.hearing).current)
     → silent ≡ silence new.hold.wait coming (lost new.hold.standing) (asking_of old.asking)
     → asking_of new.asking ≡ option_map (hears_with (who_of w.brought old.own) silent f (option_or whole_now cast_now)) (asking_of old.asking)
-    → (left_by over_by : Bool) (p1 p2 : Option ℕ) (m : HearingRecord) → IfSome (hearing_of old.hearing).current (λ z. p1 ≡ holder_in old.holders z.source)
+    → (left_by over_by : Bool) (p1 p2 : Option ℕ) (m : HearingRecord) (restarted : Option ℕ)
+    → restarted ≡ claimed_again (holder_in old.holders) ((incoming_of old.incoming).called - (when - (incoming_of old.incoming).moment)) (claim_of f) → IfSome (hearing_of old.hearing).current (λ z. p1 ≡ still restarted (holder_in old.holders) z.source)
     → IfSome (hearing_of old.hearing).current (λ z. p2 ≡ holder_in new.holders z.source) → left_by ≡ not (is_same p1 p2)
     → over_by ≡ (left_by || is_out (stamp_micros new.incoming.clock) (hearing_of old.hearing).current)
     → broken ≡ breaks_it over_by (hearing_of old.hearing).current
@@ -826,14 +857,15 @@ pub heard_more : (w : Who) (H : List Call) (old new : Controller) (when : ℕ) (
     → unheard ≡ is_unheard (who_of w.brought old.own) f m.current
     → new.hearing.missed ≡ (if unheard then min (m.missed + 1) 18446744073709551615 else m.missed)
     → (IsFit m.current → (hearing_of new.hearing).current ≡ hears_it (who_of w.brought old.own) (stamp_micros new.incoming.clock) f m.current) → Is w (At when (Hear f) ∷ H) new
-heard_more w H old new when f mid held wanted away gone calls another replaced broken unheard o h p e1 e2 e3 e4 e5 e6 e7 e9 q1 q2 q3 q4 q5 e8 s1 s2 s3 s4 s5 s9 s6 s7 s8 s10 whole_now m1 cast_now m2 coming silent a2 a3 a1 left_by over_by p1 p2 m t1 t2 t3 t4 t5 t9 t10 t6 t7 t8 =
+heard_more w H old new when f mid held wanted away gone calls another replaced broken unheard o h p e1 e2 e3 e4 e5 e6 e7 e9 q1 q2 q3 q4 q5 e8 s1 s2 s3 s4 s5 s9 s6 s7 s8 s10 whole_now m1 cast_now m2 coming silent a2 a3 a1 left_by over_by p1 p2 m restarted t0 t1 t2 t3 t4 t5 t9 t10 t6 t7 t8 =
     let s = sound w H h.answered in
     let wants : wanted ≡ is_for_program w (holds w H when) f =
     e2 ∙ (ap (λ (v : Who). is_for_program v held f) h.who ∙ ap (λ (b : Bool). is_for_program w b f) (holds_is w H when mid held p e1)) in
     let lost_before : away ≡ is_lost (address_after w H) =
     e6 ∙ (ap lost p.standing ∙ (lost_is (older (step H when) (address_after w H)) ∙ lost_older (step H when) (address_after w H))) in
-    let asks_for : o ≡ asked w (holds w H when) f =
-    q3 ∙ (ap (λ (v : Who). asked v held f) h.who ∙ ap (λ (b : Bool). asked w b f) (holds_is w H when mid held p e1)) in
+    let asks_for : o ≡ fresh w (drop (length (handed H)) (requests w H)) (asked w (holds w H when) f) =
+    q3 ∙ (ap (λ (v : Who). fresh v (map request_by old.desk.waiting.items) (asked v held f)) h.who
+    ∙ λ i. fresh w (h.requests i) (asked w (holds_is w H when mid held p e1 i) f)) in
     let room : nat_lt (length old.desk.waiting.items) 16 ≡ nat_lt (length (requests w H) - length (handed H)) 16 =
     ap (λ (n : ℕ). nat_lt n 16) (length_rest request_by old.desk.waiting.items (length (handed H)) (requests w H) h.requests) in
     let place : nat_lt (length old.desk.due.items) 16 ≡ nat_lt (length (due w H) - length (acknowledged H)) 16 =
@@ -843,6 +875,8 @@ heard_more w H old new when f mid held wanted away gone calls another replaced b
     e7 ∙ (ap (λ (v : Who). calls_for_claim v away f) h.who ∙ ap (λ (b : Bool). calls_for_claim w b f) lost_before) in
     let others : another ≡ is_another w (holds w H when) f =
     e9 ∙ (ap (λ (v : Who). is_another v held f) h.who ∙ ap (λ (b : Bool). is_another w b f) (holds_is w H when mid held p e1)) in
+    let knows : Knows new.holders (told_claims w (At when (Hear f) ∷ H)) =
+    subst (λ (v : Who). Knows new.holders (if is_double v (claim_of f) then told_claims w H else told_claims w H ++ f ∷ [])) h.who (q4 (told_claims w H) h.holders) in
     let r : ℕ → Bool = λ a. is_replaced (holder w H a) (holder w (At when (Hear f) ∷ H) a) in
     let current : (port_of old.transfers).current ≡ open_transfer w H = ap (λ (t : PortRecord). t.current) h.port in
     let stands_now : new.hold.standing ≡ standing_of (address_after w (At when (Hear f) ∷ H)) =
@@ -850,9 +884,14 @@ heard_more w H old new when f mid held wanted away gone calls another replaced b
     ∙ (ap (λ (x : Standing). if is_smaller w (claim_of f) then standing.Lost else x) p.standing
     ∙ heard_standing (is_smaller w (claim_of f)) (step H when) (address_after w H))) in
     let hears_in : incoming_of new.incoming ≡ incoming_after w (At when (Hear f) ∷ H) =
-    incoming_heard w H old when f new.holders new.incoming gone held h (q4 (told_claims w H) h.holders) goes (holds_is w H when mid held p e1) s9 in
+    incoming_heard w H old when f new.holders new.incoming gone held h knows goes (holds_is w H when mid held p e1) s9 in
+    let gone_is : restarted ≡ restarts w H when f =
+    t0 ∙ (ap (λ (y : IncomingRecord). claimed_again (holder_in old.holders) (y.called - (when - y.moment)) (claim_of f)) h.incoming
+    ∙ again_is w old.holders H (called w H - (when - heard_at H)) (claim_of f) h.holders) in
+    let still_on : (o : Option OpenBroadcast) → IfSome o (λ z. p1 ≡ still restarted (holder_in old.holders) z.source) → IfSome o (λ z. p1 ≡ still (restarts w H when f) (holder_in old.holders) z.source) =
+    λ o. subst (λ (g : Option ℕ). IfSome o (λ z. p1 ≡ still g (holder_in old.holders) z.source)) gone_is in
     let on = heard_on w H when f old.holders new.holders left_by over_by broken unheard (stamp_micros new.incoming.clock) p1 p2 (hearing_of old.hearing) m (hearing_of new.hearing) h.hearing
-    h.holders (q4 (told_claims w H) h.holders) (ap (λ (x : IncomingRecord). x.clock) hears_in) t1 t2 t3 t4 t5 t9 t10
+    h.holders knows (ap (λ (x : IncomingRecord). x.clock) hears_in) (still_on (hearing_of old.hearing).current t1) t2 t3 t4 t5 t9 t10
     (t6 ∙ ap (λ (v : Who). is_unheard v f m.current) h.who) t7
     (λ fits. t8 fits ∙ ap (λ (v : Who). hears_it v (stamp_micros new.incoming.clock) f m.current) h.who) in
     let whole_is : whole_now ≡ made_of (whole w H when f) =
@@ -874,8 +913,10 @@ heard_more w H old new when f mid held wanted away gone calls another replaced b
     record {
       who = ap (who_of w.brought) s1 ∙ h.who;
       answered = (h.answered, tt);
-      hold = is_hold _ _ (ap (λ (k : Hold). k.turns) e8 ∙ p.turns)
-          (ap (λ (k : Hold). k.patience) e8 ∙ λ i. if others i && nat_eq (p.patience i) 0 then 5000000 else p.patience i) (ap (λ (k : Hold). k.rest) e8 ∙ p.rest) (ap (λ (k : Hold). k.moment) e8 ∙ p.moment) stands_now
+      hold = is_hold _ _ (ap (λ (k : Hold). k.turns) e8 ∙ p.turns) (ap (λ (k : Hold). k.yields) e8 ∙ p.yields)
+          (ap (λ (k : Hold). k.patience) e8 ∙ λ i. if others i && nat_eq (p.patience i) 0 then 5000000 else p.patience i)
+          (ap (λ (k : Hold). k.delay) e8 ∙ λ i. if (asks i || (others i && nat_eq (p.patience i) 0)) && not ((ap lost p.standing ∙ (lost_is _ ∙ lost_older (step H when) (address_after w H))) i && p.owes i) then (h.who i).delay * 600 else p.delay i)
+          (ap (λ (k : Hold). k.rest) e8 ∙ p.rest) (ap (λ (k : Hold). k.moment) e8 ∙ p.moment) stands_now
           (ap (λ (k : Hold). k.owes_claim) e8 ∙ (λ i. p.owes i || (asks i || (others i && nat_eq (p.patience i) 0))))
           (ap (λ (k : Hold). k.pause) e8 ∙ p.pause) (ap (λ (k : Hold). k.age) e8 ∙ p.age) (ap (λ (k : Hold). k.wait) e8 ∙ p.wait);
       outgoing = ap (λ o. map posted o.items) s2 ∙ h.outgoing;
@@ -889,22 +930,26 @@ heard_more w H old new when f mid held wanted away gone calls another replaced b
       unread = e3 ∙ (ap (λ (b : Bool). offered b (stamped f) (map received_by old.inbox.unread.items)) wants
           ∙ kept_rest (is_for_program w (holds w H when) f) (kept w H) _ (length (got H)) (stamped f) (read w H s) h.unread);
       requests = q1 ∙ (ap (λ (v : Who). with_request v (nat_lt (length old.desk.waiting.items) 16) o (map request_by old.desk.waiting.items)) h.who
-          ∙ (ap (λ (b : Bool). with_request w b o (map request_by old.desk.waiting.items)) room
-          ∙ (ap (λ (x : Option Asked). with_request w (nat_lt (length (requests w H) - length (handed H)) 16) x (map request_by old.desk.waiting.items)) asks_for
-          ∙ request_rest w (nat_lt (length (requests w H) - length (handed H)) 16) (asked w (holds w H when) f) (requests w H) (map request_by old.desk.waiting.items) (length (handed H)) (front_length (handed H) (requests w H) s.desk.2) h.requests)));
+          ∙ ((λ i. with_request w (room i) (asks_for i) (map request_by old.desk.waiting.items))
+          ∙ request_rest w (nat_lt (length (requests w H) - length (handed H)) 16) (fresh w (drop (length (handed H)) (requests w H)) (asked w (holds w H when) f)) (requests w H)
+          (map request_by old.desk.waiting.items) (length (handed H)) (front_length (handed H) (requests w H) s.desk.2) h.requests));
       acknowledgments = ap (λ (v : Who). map (refusal_by v) new.desk.due.items) (sym h.who)
-          ∙ (q2 ∙ (ap (λ (v : Who). with_refusal v (nat_lt (length old.desk.waiting.items) 16) (nat_lt (length old.desk.due.items) 16) o (map (refusal_by v) old.desk.due.items)) h.who
-          ∙ (ap (λ (b : Bool). with_refusal w b (nat_lt (length old.desk.due.items) 16) o (map (refusal_by w) old.desk.due.items)) room
-          ∙ (ap (λ (b : Bool). with_refusal w (nat_lt (length (requests w H) - length (handed H)) 16) b o (map (refusal_by w) old.desk.due.items)) place
-          ∙ (ap (λ (x : Option Asked). with_refusal w (nat_lt (length (requests w H) - length (handed H)) 16) (nat_lt (length (due w H) - length (acknowledged H)) 16) x (map (refusal_by w) old.desk.due.items)) asks_for
-          ∙ refusal_rest w (nat_lt (length (requests w H) - length (handed H)) 16) (nat_lt (length (due w H) - length (acknowledged H)) 16) (asked w (holds w H when) f) (due w H) (map (refusal_by w) old.desk.due.items) (length (acknowledged H)) (front_length (acknowledged H) (due w H) s.desk.1) h.acknowledgments)))));
-      holders = q4 (told_claims w H) h.holders;
+          ∙ (q2 ∙ (ap (λ (v : Who). with_refusal v (nat_lt (length old.desk.waiting.items) 16)
+          (nat_lt (length old.desk.due.items) 16 && not (is_refusal_due v (map (refusal_by v) old.desk.due.items) o)) o (map (refusal_by v) old.desk.due.items)) h.who
+          ∙ ((λ i. with_refusal w (room i) (place i && not (is_refusal_due w (h.acknowledgments i) (asks_for i))) (asks_for i) (map (refusal_by w) old.desk.due.items))
+          ∙ refusal_rest w (nat_lt (length (requests w H) - length (handed H)) 16)
+          (nat_lt (length (due w H) - length (acknowledged H)) 16
+          && not (is_refusal_due w (drop (length (acknowledged H)) (due w H)) (fresh w (drop (length (handed H)) (requests w H)) (asked w (holds w H when) f))))
+          (fresh w (drop (length (handed H)) (requests w H)) (asked w (holds w H when) f)) (due w H) (map (refusal_by w) old.desk.due.items) (length (acknowledged H))
+          (front_length (acknowledged H) (due w H) s.desk.1) h.acknowledgments)));
+      holders = knows;
       news = q5 ∙ is_news _ _
           (ap (λ (u : Untold). u.lost || (gone && not away)) h.news
           ∙ (ap (λ (b : Bool). lost_news w H || (b && not away)) goes ∙ ap (λ (b : Bool). lost_news w H || (is_smaller w (claim_of f) && not b)) lost_before))
           (ap (λ (u : Untold). u.another || is_another (who_of w.brought old.own) held f) h.news
           ∙ (ap (λ (v : Who). another_news w H || is_another v held f) h.who
           ∙ ap (λ (b : Bool). another_news w H || is_another w b f) (holds_is w H when mid held p e1)))
+          (λ i. option_or (double (h.who i) (claim_of f)) (h.news i).doubled)
           (ap (λ (u : Untold). broken || (u.missed || ((wanted && not (nat_lt (length old.inbox.unread.items) 16)) || unheard))) h.news
           ∙ (ap (λ (b : Bool). broken || ((missed_news w H || unheard_news w H) || ((b && not (nat_lt (length old.inbox.unread.items) 16)) || unheard))) wants
           ∙ (ap (λ (n : ℕ). broken || ((missed_news w H || unheard_news w H) || ((is_for_program w (holds w H when) f && not (nat_lt n 16)) || unheard)))
@@ -920,7 +965,7 @@ heard_more w H old new when f mid held wanted away gone calls another replaced b
           (s7 (λ a. is_replaced (holder w H a) (holder w (At when (Hear f) ∷ H) a))
           (subst (λ (o : Option Running). IfSome o (λ x. replaced ≡ is_replaced (holder w H x.sender.destination) (holder w (At when (Hear f) ∷ H) x.sender.destination)))
           (sym current)
-          (replaced_is w H when f old.holders new.holders replaced (open_transfer w H) (ported w H h.answered) h.holders (q4 (told_claims w H) h.holders)
+          (replaced_is w H when f old.holders new.holders replaced (open_transfer w H) (ported w H h.answered) h.holders knows
           (subst (λ (o : Option Running). IfSome o (λ x. replaced ≡ is_replaced (holder_in old.holders x.sender.destination) (holder_in new.holders x.sender.destination))) current s6)))
           ∙ (ap (λ (b : Bool). hears_if b r f (min new.hold.age 9999999999999999) (port_of old.transfers).current)
           (ap lost stands_now ∙ lost_is (address_after w (At when (Hear f) ∷ H)))
@@ -929,6 +974,102 @@ heard_more w H old new when f mid held wanted away gone calls another replaced b
           ∙ ap (hears_if (is_lost (address_after w (At when (Hear f) ∷ H))) r f (clock_at H when)) current)))
           (s8 ∙ ap (λ (t : PortRecord). t.next_token) h.port) (ap resting_by s10 ∙ ap (λ (t : PortRecord). t.resting) h.port);
     }
+
+-- a message that waits is renewed
+renewed_more : (w : Who) (H : List Call) (old new : Controller) (d : Draft) (r : Option ℕ) → Is w H old → r ≡ next_renewed w H d
+    → map posted new.outgoing.items ≡ drop (length (told H)) (accepted w (Renew d r ∷ H)) → length (accepted w (Renew d r ∷ H)) ≡ length (accepted w H)
+    → new ≡ record old { outgoing = new.outgoing } → Is w (Renew d r ∷ H) new
+renewed_more w H old new d r h right is long e = record {
+  who = ap (λ c. who_of w.brought c.own) e ∙ h.who;
+  answered = (h.answered, right);
+  hold = ap (λ c. c.hold) e ∙ h.hold;
+  outgoing = is;
+  taken = ap (λ c. c.taken) e ∙ h.taken;
+  token = ap (λ c. c.next_token) e ∙ (h.token ∙ sym long);
+  asking = ap (λ c. asking_of c.asking) e ∙ h.asking;
+  unread = ap (λ c. map received_by c.inbox.unread.items) e ∙ h.unread;
+  requests = ap (λ c. map request_by c.desk.waiting.items) e ∙ h.requests;
+  acknowledgments = ap (λ c. map (refusal_by w) c.desk.due.items) e ∙ h.acknowledgments;
+  holders = subst (λ t. Knows t (told_claims w H)) (sym (ap (λ c. c.holders) e)) h.holders;
+  news = ap (λ c. c.news) e ∙ h.news;
+  missed = ap (λ c. c.inbox.missed) e ∙ h.missed;
+  lane = ap (λ c. lane_of w c.lane) e ∙ h.lane;
+  incoming = ap (λ c. incoming_of c.incoming) e ∙ h.incoming;
+  hearing = ap (λ c. hearing_of c.hearing) e ∙ h.hearing;
+  port = ap (λ c. port_of c.transfers) e ∙ h.port;
+}
+
+pub none_renewed : (w : Who) (H : List Call) (c : Controller) (d : Draft) → Is w H c → None ≡ next_renewed w H d → Is w (Renew d None ∷ H) c
+none_renewed w H c d h e = renewed_more w H c c d None h e h.outgoing refl refl
+
+-- the last that is alike, of those that wait or aren't told
+pub found_is : (w : Who) (H : List Call) (c : Controller) (d : Draft) → Is w H c
+    → latest (message_from w d) (max (length (sent H)) (length (told H))) 0 (accepted w H) None
+    ≡ option_map (λ k. k + length (told H)) (latest (message_from w d) c.taken 0 (map posted c.outgoing.items) None)
+found_is w H c d h =
+    latest_rest (message_from w d) (length (told H)) (max (length (sent H)) (length (told H))) (accepted w H) (omega arith)
+    ∙ λ i. option_map (λ k. k + length (told H)) (latest (message_from w d) ((let e = h.taken in let z : max (length (sent H)) (length (told H)) - length (told H) ≡ c.taken = omega (arith, e) in z) i) 0
+    (sym h.outgoing i) None)
+
+pub renewal : (w : Who) (H : List Call) (c : Controller) (d : Draft) (x : Outgoing) (t : ℕ) (o : Option ℕ) → Is w H c → can_send w d ≡ true
+    → posted x ≡ (t, message_from (who_of w.brought c.own) d) → o ≡ latest (posted x).1 c.taken 0 (map posted c.outgoing.items) None
+    → next_renewed w H d ≡ option_map (λ k. k + length (told H)) o
+renewal w H c d x t o h can e f =
+    ap (λ (b : Bool). if b then latest (message_from w d) (max (length (sent H)) (length (told H))) 0 (accepted w H) None else None) can
+    ∙ (found_is w H c d h ∙ ap (option_map (λ k. k + length (told H)))
+    (sym (f ∙ ap (λ (m : Message). latest m c.taken 0 (map posted c.outgoing.items) None)
+    (ap (λ (y : ℕ × Message). y.1) e ∙ ap (λ (v : Who). message_from v d) h.who))))
+
+pub renews : (w : Who) (H : List Call) (old new : Controller) (d : Draft) (x : Outgoing) (t place : ℕ) (r : Option ℕ) → Is w H old → can_send w d ≡ true
+    → posted x ≡ (t, message_from (who_of w.brought old.own) d) → Some place ≡ latest (posted x).1 old.taken 0 (map posted old.outgoing.items) None
+    → IfSome r (λ token. Renews old.outgoing.items place (posted x) token new.outgoing.items) → (r ≡ None → length old.outgoing.items ≤ place)
+    → new ≡ record old { outgoing = new.outgoing } → Is w (Renew d r ∷ H) new
+renews w H old new d x t place None h can e f g n u =
+    absurd (elim (latest_is (posted x).1 old.taken 0 place (map posted old.outgoing.items) None (sym f)) [
+      | inl z ↦ (let y : None ≡ Some place = z in absurd (cc))
+      | inr z ↦ (let a = get_within (map posted old.outgoing.items) (place - 0) z.entry z.is in
+          let b = length_map posted old.outgoing.items in let l = n refl in omega (arith, a, b, l))
+    ])
+renews w H old new d x t place (Some k) h can e f g n u =
+    let L = accepted w H in
+    let T = length (told H) in
+    let at : slice_get L (place + T) ≡ Some (posted g.before) =
+    sym (get_at L T place (place + T) (omega arith)) ∙ (ap (λ zs. slice_get zs place) (sym h.outgoing) ∙ get_map posted old.outgoing.items place g.before g.was) in
+    let token : k ≡ place + T = g.same ∙ (sound w H h.answered).numbered (place + T) (posted g.before) at in
+    let message : (posted x).1 ≡ message_from w d = ap (λ (y : ℕ × Message). y.1) e ∙ ap (λ (v : Who). message_from v d) h.who in
+    renewed_more w H old new d (Some k) h
+    (ap Some token ∙ sym (renewal w H old d x t (Some place) h can e f))
+    (g.renewed ∙ ((λ i. slice_set (h.outgoing i) place (k, message i))
+    ∙ (sym (set_rest T place L (k, message_from w d)) ∙ ap (λ (n : ℕ). drop T (slice_set L n (k, message_from w d))) (sym token))))
+    (set_length L k (k, message_from w d)) u
+
+-- the address is to be claimed anew
+unclaims_after : (a : Address) → unclaims (standing_of a) ≡ standing_of (unclaimed a)
+unclaims_after NotClaimed = refl
+unclaims_after (Claimed e) = refl
+unclaims_after Lost = refl
+
+pub again_more : (w : Who) (H : List Call) (old new : Controller) (now : ℕ) (mid : Hold) → Is w H old → Passed w H now mid
+    → new.hold ≡ anew (old.own.delay * 600) mid → new ≡ record old { hold = new.hold } → Is w (At now Again ∷ H) new
+again_more w H old new now mid h p a e = record {
+  who = ap (λ c. who_of w.brought c.own) e ∙ h.who;
+  answered = (h.answered, tt);
+  hold = a ∙ is_hold _ _ p.turns p.yields p.patience (λ i. (h.who i).delay * 600) p.rest p.moment (ap unclaims p.standing ∙ unclaims_after _) refl p.pause p.age p.wait;
+  outgoing = ap (λ c. map posted c.outgoing.items) e ∙ h.outgoing;
+  taken = ap (λ c. c.taken) e ∙ h.taken;
+  token = ap (λ c. c.next_token) e ∙ h.token;
+  asking = ap (λ c. asking_of c.asking) e ∙ h.asking;
+  unread = ap (λ c. map received_by c.inbox.unread.items) e ∙ h.unread;
+  requests = ap (λ c. map request_by c.desk.waiting.items) e ∙ h.requests;
+  acknowledgments = ap (λ c. map (refusal_by w) c.desk.due.items) e ∙ h.acknowledgments;
+  holders = subst (λ t. Knows t (told_claims w H)) (sym (ap (λ c. c.holders) e)) h.holders;
+  news = ap (λ c. c.news) e ∙ h.news;
+  missed = ap (λ c. c.inbox.missed) e ∙ h.missed;
+  lane = ap (λ c. lane_of w c.lane) e ∙ h.lane;
+  incoming = ap (λ c. incoming_of c.incoming) e ∙ h.incoming;
+  hearing = ap (λ c. hearing_of c.hearing) e ∙ h.hearing;
+  port = ap (λ c. port_of c.transfers) e ∙ h.port;
+}
 
 -- ---- requests
 
@@ -964,16 +1105,16 @@ acknowledge_is w H now r a b f e g k =
     ap (λ (x : Bool). acknowledges_by x (nat_eq r.destination w.address) (nat_eq (length (due w H) - length (acknowledged H)) 16)) e
     ∙ (ap (λ (x : Bool). acknowledges_by a x (nat_eq (length (due w H) - length (acknowledged H)) 16)) g ∙ ap (λ (x : Bool). acknowledges_by a b x) k)
 
-pub due_more : (w : Who) (H : List Call) (old new : Controller) (now : ℕ) (answer : Answer) (x : Due) → Is w H old → Passed w H now new.hold
-    → Ok tt ≡ answer_to_acknowledge w H now (request_by x.request) → x.answer ≡ answer → new.desk.due.items ≡ old.desk.due.items ++ x ∷ []
+pub due_more : (w : Who) (H : List Call) (old new : Controller) (now : ℕ) (answer : Answer) (r : Request) (x : Due) → Is w H old → Passed w H now new.hold
+    → Ok tt ≡ answer_to_acknowledge w H now (request_by r) → refusal_by w x ≡ acknowledgment w answer (request_by r) → new.desk.due.items ≡ old.desk.due.items ++ x ∷ []
     → new ≡ record old { hold = new.hold; desk = record { waiting = old.desk.waiting; due = new.desk.due } }
-    → Is w (At now (Acknowledge (request_by x.request) answer (Ok tt)) ∷ H) new
-due_more w H old new now answer x h p right a g e =
+    → Is w (At now (Acknowledge (request_by r) answer (Ok tt)) ∷ H) new
+due_more w H old new now answer r x h p right a g e =
     let s = sound w H h.answered in
     record {
       who = ap (λ c. who_of w.brought c.own) e ∙ h.who;
       answered = (h.answered, right);
-      hold = is_hold _ _ p.turns p.patience p.rest p.moment p.standing p.owes p.pause p.age p.wait;
+      hold = is_hold _ _ p.turns p.yields p.patience p.delay p.rest p.moment p.standing p.owes p.pause p.age p.wait;
       outgoing = ap (λ c. map posted c.outgoing.items) e ∙ h.outgoing;
       taken = ap (λ c. c.taken) e ∙ h.taken;
       token = ap (λ c. c.next_token) e ∙ h.token;
@@ -982,8 +1123,8 @@ due_more w H old new now answer x h p right a g e =
       requests = ap (λ c. map request_by c.desk.waiting.items) e ∙ h.requests;
       acknowledgments = ap (map (refusal_by w)) g ∙ (map_append (refusal_by w) old.desk.due.items x
           ∙ (ap (λ l. l ++ refusal_by w x ∷ []) h.acknowledgments
-          ∙ (ap (λ (y : Answer). drop (length (acknowledged H)) (due w H) ++ acknowledgment w y (request_by x.request) ∷ []) a
-          ∙ sym (drop_append (length (acknowledged H)) (due w H) (acknowledgment w answer (request_by x.request)) (front_length (acknowledged H) (due w H) s.desk.1)))));
+          ∙ (ap (λ (y : Message). drop (length (acknowledged H)) (due w H) ++ y ∷ []) a
+          ∙ sym (drop_append (length (acknowledged H)) (due w H) (acknowledgment w answer (request_by r)) (front_length (acknowledged H) (due w H) s.desk.1)))));
       holders = subst (λ t. Knows t (told_claims w H)) (sym (ap (λ c. c.holders) e)) h.holders;
       news = ap (λ c. c.news) e ∙ h.news;
       missed = ap (λ c. c.inbox.missed) e ∙ h.missed;
@@ -1000,7 +1141,7 @@ pub refuses_send : (w : Who) (H : List Call) (old new : Controller) (now : ℕ) 
 refuses_send w H old new now d r h p answer e = record {
   who = ap (λ c. who_of w.brought c.own) e ∙ h.who;
   answered = (h.answered, answer);
-  hold = is_hold _ _ p.turns p.patience p.rest p.moment p.standing p.owes p.pause p.age p.wait;
+  hold = is_hold _ _ p.turns p.yields p.patience p.delay p.rest p.moment p.standing p.owes p.pause p.age p.wait;
   outgoing = ap (λ c. map posted c.outgoing.items) e ∙ h.outgoing;
   taken = ap (λ c. c.taken) e ∙ h.taken;
   token = ap (λ c. c.next_token) e ∙ h.token;
@@ -1028,20 +1169,14 @@ send_is w H now d a b f e g k =
 
 -- ---- when something is due
 
-lt_less : (a t s : ℕ) → t ≤ s → nat_lt (s - t) (a - t) ≡ nat_lt s a
-lt_less a t s l = grind arith
-
 lt_some : (a b : ℕ) → nat_lt 0 (a - b) ≡ nat_lt b a
 lt_some a b = grind arith
 
 waits_is : (w : Who) (H : List Call) (c : Controller) → Is w H c → is_held (address_after w H) ≡ true
     → (nat_lt c.taken (length c.outgoing.items) || (nat_lt 0 (length c.desk.due.items) || nat_lt 0 (length c.incoming.replies.items))) ≡ is_waiting w H
 waits_is w H c h e =
-    let t = (sound w H h.answered).in_turn (held_not_lost (address_after w H) e) in
     ap (λ (b : Bool). b || (nat_lt 0 (length c.desk.due.items) || nat_lt 0 (length c.incoming.replies.items)))
-    (ap (λ (n : ℕ). nat_lt n (length c.outgoing.items)) h.taken
-    ∙ (ap (λ (n : ℕ). nat_lt (length (sent H) - length (told H)) n) (length_rest posted c.outgoing.items (length (told H)) (accepted w H) h.outgoing)
-    ∙ lt_less _ _ _ t))
+    (sent_due w H c h (held_not_lost (address_after w H) e))
     ∙ ap (λ (b : Bool). nat_lt (length (sent H)) (length (accepted w H)) || b)
     (ap (λ (b : Bool). b || nat_lt 0 (length c.incoming.replies.items))
     (ap (nat_lt 0) (length_rest (refusal_by w) c.desk.due.items (length (acknowledged H)) (due w H) h.acknowledgments) ∙ lt_some _ _)
@@ -1052,13 +1187,14 @@ held_and true x y f = f refl
 held_and false x y f = refl
 
 pub frame_due : (w : Who) (H : List Call) (c : Controller) → Is w H c
-    → (c.hold.owes_claim || (stands c.hold.standing && (nat_lt c.taken (length c.outgoing.items) || (nat_lt 0 (length c.desk.due.items)
+    → (can_claim c.hold || (stands c.hold.standing && (nat_lt c.taken (length c.outgoing.items) || (nat_lt 0 (length c.desk.due.items)
     || nat_lt 0 (length c.incoming.replies.items)))))
-    ≡ (owes_claim w H || (is_held (address_after w H) && is_waiting w H))
+    ≡ (may_claim w H (delayed w H) || (is_held (address_after w H) && is_waiting w H))
 frame_due w H c h =
-    ap (λ (k : Hold). k.owes_claim || (stands k.standing && (nat_lt c.taken (length c.outgoing.items) || (nat_lt 0 (length c.desk.due.items) || nat_lt 0 (length c.incoming.replies.items))))) h.hold
-    ∙ (ap (λ (b : Bool). owes_claim w H || (b && (nat_lt c.taken (length c.outgoing.items) || (nat_lt 0 (length c.desk.due.items) || nat_lt 0 (length c.incoming.replies.items))))) (stands_is (address_after w H))
-    ∙ ap (λ (b : Bool). owes_claim w H || b) (held_and (is_held (address_after w H)) _ _ (waits_is w H c h)))
+    ap (λ (k : Hold). can_claim k || (stands k.standing && (nat_lt c.taken (length c.outgoing.items) || (nat_lt 0 (length c.desk.due.items) || nat_lt 0 (length c.incoming.replies.items))))) h.hold
+    ∙ (ap (λ (b : Bool). (owes_claim w H && (not (lost (standing_of (address_after w H))) || nat_eq (delayed w H) 0)) || (b && (nat_lt c.taken (length c.outgoing.items) || (nat_lt 0 (length c.desk.due.items) || nat_lt 0 (length c.incoming.replies.items))))) (stands_is (address_after w H))
+    ∙ (ap (λ (b : Bool). (owes_claim w H && (not b || nat_eq (delayed w H) 0)) || (is_held (address_after w H) && (nat_lt c.taken (length c.outgoing.items) || (nat_lt 0 (length c.desk.due.items) || nat_lt 0 (length c.incoming.replies.items))))) (lost_is (address_after w H))
+    ∙ ap (λ (b : Bool). may_claim w H (delayed w H) || b) (held_and (is_held (address_after w H)) _ _ (waits_is w H c h))))
 
 lt_left : (e : ℕ) → nat_lt 0 (250000 - e) ≡ nat_lt e 250000
 lt_left e = grind arith
@@ -1083,11 +1219,12 @@ held_due w H c b h e = e ∙ (ap (λ (k : Hold). stands k.standing) h.hold ∙ s
 
 -- when something is due, by whether a frame can be taken, and whether the address is held
 abbrev pub due_by : Who → List Call → Bool → Bool → Option ℕ
-due_by w H b l = if b then stamp_at (moment H) else if l then at_in (moment H) (packets_in w H) else held_at (address_after w H) (moment H)
+due_by w H b l = if b then stamp_at (moment H) else if l then at_in (moment H) (packets_in w H)
+    else if owes_claim w H then stamp_at (moment H + delayed w H) else held_at (address_after w H) (moment H)
 
-pub due_is : (w : Who) (H : List Call) (b l : Bool) → b ≡ (owes_claim w H || (is_held (address_after w H) && is_waiting w H))
+pub due_is : (w : Who) (H : List Call) (b l : Bool) → b ≡ (may_claim w H (delayed w H) || (is_held (address_after w H) && is_waiting w H))
     → l ≡ is_held (address_after w H) → due_by w H b l ≡ next_due w H
-due_is w H b l e f = ap (λ (x : Bool). due_by w H x l) e ∙ ap (due_by w H (owes_claim w H || (is_held (address_after w H) && is_waiting w H))) f
+due_is w H b l e f = ap (λ (x : Bool). due_by w H x l) e ∙ ap (due_by w H (may_claim w H (delayed w H) || (is_held (address_after w H) && is_waiting w H))) f
 
 -- ---- a claim is taken
 
@@ -1100,14 +1237,15 @@ pub claims_more : (w : Who) (H : List Call) (old new : Controller) (now : ℕ) (
     → claim_goes w H now ≡ true → new.hold ≡ hold_claimed mid
     → Some (stamped f) ≡ Some (now, claim_from (who_of w.brought old.own) a) → a ≡ (if lost mid.standing then 254 else old.own.address)
     → ((F : List FrameRecord) → Knows old.holders F → Knows new.holders (F ++ f ∷ []))
-    → incoming_of new.incoming ≡ with_reception (left (leaves (holder_in old.holders) (holder_in new.holders) (incoming_of old.incoming).reception.session)
-    (incoming_of old.incoming).reception) (incoming_of old.incoming)
+    → (IsNamed (incoming_of old.incoming) → incoming_of new.incoming ≡ with_called (1250000 + (now - (incoming_of old.incoming).moment))
+    (with_reception (left (leaves (holder_in old.holders) (holder_in new.holders) (incoming_of old.incoming).reception.session)
+    (incoming_of old.incoming).reception) (incoming_of old.incoming)))
     → (left_by broken : Bool) (p1 p2 : Option ℕ) → IfSome (hearing_of old.hearing).current (λ z. p1 ≡ holder_in old.holders z.source)
     → IfSome (hearing_of old.hearing).current (λ z. p2 ≡ holder_in new.holders z.source) → left_by ≡ not (is_same p1 p2)
     → broken ≡ breaks_it left_by (hearing_of old.hearing).current
     → new.hearing.missed ≡ (if broken then min (old.hearing.missed + 1) 18446744073709551615 else old.hearing.missed)
     → (hearing_of new.hearing).current ≡ leaves_it left_by (hearing_of old.hearing).current
-    → new.news ≡ record { lost = old.news.lost; another = old.news.another; missed = broken || old.news.missed }
+    → new.news ≡ record { lost = old.news.lost; another = old.news.another; doubled = old.news.doubled; missed = broken || old.news.missed }
     → new ≡ record old { hold = new.hold; holders = new.holders; incoming = new.incoming; hearing = new.hearing; news = new.news }
     → Is w (At now (TakeFrame (Some f)) ∷ H) new
 claims_more w H old new now f mid a h p owes e0 m at knows drops left_by broken p1 p2 t1 t2 t3 t4 t5 t6 u e =
@@ -1124,10 +1262,10 @@ claims_more w H old new now f mid a h p owes e0 m at knows drops left_by broken 
       who = ap (λ c. who_of w.brought c.own) e ∙ h.who;
       answered = (
         h.answered,
-        ap Some j ∙ sym (ap (λ (b : Bool). frame_by b (holds w H now) (next_control w H now) (slice_get (accepted w H) (length (sent H))) (next_long w H now)
-            (claim_from w (claim_address w (address_after w H))) now) owes),
+        ap Some j ∙ sym (ap (λ (b : Bool). frame_by b (holds w H now) (next_acknowledgment w H now) (other w H now) (claim_from w (claim_address w (address_after w H))) now) owes),
       );
-      hold = e0 ∙ is_hold _ _ (turns_more H now f mid.turns (ap (λ (b : Bool). b || is_acknowledgment f) n) p.turns) p.patience p.rest p.moment
+      hold = e0 ∙ is_hold _ _ (turns_more H now f mid.turns (ap (λ (b : Bool). b || is_acknowledgment f) n) p.turns)
+          (yields_same H now f mid.yields (ap (λ (b : Bool). b || is_acknowledgment f) n) p.yields) p.patience p.delay p.rest p.moment
           (ap claims p.standing ∙ (claims_after (older (step H now) (address_after w H)) ∙ ap standing_of (sym (address_is w H now f true n)))) (sym (ap (λ (b : Bool). if b then false else owes_claim w H) n))
           (p.pause ∙ sym (pause_is H now f false (no_packet f (claim_single f n)))) p.age (p.wait ∙ wait_same H now f true _ _ n refl refl refl);
       outgoing = ap (λ c. map posted c.outgoing.items) e ∙ h.outgoing;
@@ -1144,7 +1282,7 @@ claims_more w H old new now f mid a h p owes e0 m at knows drops left_by broken 
       lane = ap (λ c. lane_of w c.lane) e ∙ (h.lane ∙ lane_same w H now f (no_packet f (claim_single f n)));
       hearing = is_hearing _ _ on.current on.missed;
       port = ap (λ c. port_of c.transfers) e ∙ (h.port ∙ port_same w H now f (no_move w H f (no_transfer f (claim_single f n))));
-      incoming = drops ∙ incoming_claimed w H old now f new.holders h n (subst (Knows new.holders) (sym (told_is w H now f n)) (knows (told_claims w H) h.holders));
+      incoming = drops (kept_named w H old h) ∙ incoming_claimed w H old now f new.holders h n (subst (Knows new.holders) (sym (told_is w H now f n)) (knows (told_claims w H) h.holders));
     }
   where
     told_address : (s : ℕ) (x : Address) → (if lost (standing_of (older s x)) then 254 else w.address) ≡ claim_address w x
@@ -1171,22 +1309,18 @@ pub peeks_claim : (w : Who) (H : List Call) (c : Controller) (now a : ℕ) (r : 
     → option_map stamped r ≡ next_frame w H now
 peeks_claim w H c now a r h owes m e =
     m ∙ (ap (λ (x : Message). Some (now, x)) (claim_told w H c a h e)
-    ∙ sym (ap (λ (b : Bool). frame_by b (holds w H now) (next_control w H now) (slice_get (accepted w H) (length (sent H))) (next_long w H now)
-    (claim_from w (claim_address w (address_after w H))) now) owes))
+    ∙ sym (ap (λ (b : Bool). frame_by b (holds w H now) (next_acknowledgment w H now) (other w H now) (claim_from w (claim_address w (address_after w H))) now) owes))
 
 pub peeks_none : (w : Who) (H : List Call) (c : Controller) (now : ℕ) → Is w H c → claim_goes w H now ≡ false → holds w H now ≡ false
     → (let none : Option (ℕ × Message) = None in none) ≡ next_frame w H now
 peeks_none w H c now h owes held =
-    sym (ap (λ (b : Bool). frame_by b (holds w H now) (next_control w H now) (slice_get (accepted w H) (length (sent H))) (next_long w H now)
-    (claim_from w (claim_address w (address_after w H))) now) owes
-    ∙ ap (λ (b : Bool). frame_by false b (next_control w H now) (slice_get (accepted w H) (length (sent H))) (next_long w H now)
-    (claim_from w (claim_address w (address_after w H))) now) held)
+    sym (λ i. frame_by (owes i) (held i) (next_acknowledgment w H now) (other w H now) (claim_from w (claim_address w (address_after w H))) now)
 
 pub peeks_due : (w : Who) (H : List Call) (c : Controller) (now : ℕ) (r : Option FrameRecord) (x : Due) → Is w H c → claim_goes w H now ≡ false
     → holds w H now ≡ true → next_acknowledgment w H now ≡ Some (refusal_by w x) → option_map stamped r ≡ Some (now, refusal_by w x)
     → option_map stamped r ≡ next_frame w H now
 peeks_due w H c now r x h owes held g m =
-    m ∙ sym (next_is w H now (Some (refusal_by w x)) _ owes held (steered_due w H now (refusal_by w x) g) refl)
+    m ∙ sym (next_is w H now (Some (refusal_by w x)) _ owes held g refl)
 
 pub first_acknowledged : (w : Who) (H : List Call) (c : Controller) (now : ℕ) (gives : Bool) (o : Option Due) → Is w H c → gives ≡ gives_way w H now
     → o ≡ (if gives then None else slice_get c.desk.due.items 0) → next_acknowledgment w H now ≡ option_map (refusal_by w) o
@@ -1200,43 +1334,45 @@ first_acknowledged w H c now false o h g e =
     due_next None e = sym (not_in_rest (refusal_by w) c.desk.due.items (due w H) (length (acknowledged H)) (length (acknowledged H)) 0 h.acknowledgments (omega arith) (omega arith) e)
     due_next (Some x) e = sym (in_rest (refusal_by w) c.desk.due.items x (due w H) (length (acknowledged H)) (length (acknowledged H)) 0 h.acknowledgments (omega arith) (omega arith) e)
 
--- the first reply that waits
-pub no_reply : (w : Who) (H : List Call) (c : Controller) (now : ℕ) → Is w H c → (r : Option FrameRecord)
-    → option_map stamped r ≡ option_map (at_now now) (slice_get (incoming_of c.incoming).reception.replies 0) → r ≡ None → slice_get (reception w H).replies 0 ≡ None
-no_reply w H c now h r e n = go (slice_get (reception w H).replies 0)
-    (sym (ap (option_map stamped) n) ∙ (e ∙ ap (λ (xs : List Message). option_map (at_now now) (slice_get xs 0)) (replies_is w H c h)))
-  where
-    go : (o : Option Message) → (let none : Option (ℕ × Message) = None in none) ≡ option_map (at_now now) o → o ≡ None
-    go None f = refl
-    go (Some m) f = absurd (cc)
-
-pub a_reply : (w : Who) (H : List Call) (c : Controller) (now : ℕ) → Is w H c → (f : FrameRecord)
-    → Some (stamped f) ≡ option_map (at_now now) (slice_get (incoming_of c.incoming).reception.replies 0)
-    → (m : Message) × (slice_get (reception w H).replies 0 ≡ Some m) × (option_map stamped (Some f) ≡ Some (now, m))
-a_reply w H c now h f e = go (slice_get (reception w H).replies 0) refl
-    (e ∙ ap (λ (xs : List Message). option_map (at_now now) (slice_get xs 0)) (replies_is w H c h))
-  where
-    go : (o : Option Message) → slice_get (reception w H).replies 0 ≡ o → Some (stamped f) ≡ option_map (at_now now) o
-        → (m : Message) × (slice_get (reception w H).replies 0 ≡ Some m) × (Some (stamped f) ≡ Some (now, m))
-    go None i g = absurd (cc)
-    go (Some m) i g = (m, i, g)
-
-pub peeks_reply : (w : Who) (H : List Call) (c : Controller) (now : ℕ) (r : Option FrameRecord) (m : Message) → Is w H c → claim_goes w H now ≡ false
-    → holds w H now ≡ true → next_acknowledgment w H now ≡ None → slice_get (reception w H).replies 0 ≡ Some m → option_map stamped r ≡ Some (now, m)
+pub peeks_other : (w : Who) (H : List Call) (c : Controller) (now : ℕ) (k : Hold) (r : Option FrameRecord) → Is w H c → Passed w H now k
+    → claim_goes w H now ≡ false → holds w H now ≡ true → next_acknowledgment w H now ≡ None
+    → option_map stamped r ≡ option_map (at_now now) (turn_frame (turn_of k.yields (ready_in c k)) (slice_get (incoming_of c.incoming).reception.replies 0)
+    (option_map posted (slice_get c.outgoing.items c.taken)) (packet_by (lane_of (who_of w.brought c.own) c.lane).current c.lane.count k.pause)
+    (transfer_by (port_of c.transfers).current (clock k.age)))
     → option_map stamped r ≡ next_frame w H now
-peeks_reply w H c now r m h owes held g at e =
-    e ∙ sym (next_is w H now (Some m) _ owes held (steered_by w H now None (Some m) g at) refl)
+peeks_other w H c now k r h p owes held none m =
+    m ∙ ((λ i. option_map (at_now now) (turn_frame (turn_next w H c now k h p held i) (slice_get (replies_is w H c h i) 0) (message_next w H c h (holding_not_lost w H now held) i)
+    (packet_next w H c now k.pause h p.pause i) (transfer_next w H c now k.age h p.age i)))
+    ∙ sym (next_is w H now None (other w H now) owes held none refl))
 
-pub peeks_message : (w : Who) (H : List Call) (c : Controller) (now left time : ℕ) (r : Option FrameRecord) → Is w H c → claim_goes w H now ≡ false
-    → holds w H now ≡ true → next_acknowledgment w H now ≡ None → slice_get (reception w H).replies 0 ≡ None → left ≡ pause H - step H now → time ≡ min (age H + step H now) 18446744073709551615
-    → option_map stamped r ≡ option_map (at_now now)
-    (first_of None (option_map posted (slice_get c.outgoing.items c.taken))
-    (long_by (packet_by (lane_of (who_of w.brought c.own) c.lane).current c.lane.count left) (transfer_by (port_of c.transfers).current (clock time))))
-    → option_map stamped r ≡ next_frame w H now
-peeks_message w H c now left time r h owes held g quiet e a m =
-    m ∙ (ap (λ p. option_map (at_now now) (first_of None (option_map posted (slice_get c.outgoing.items c.taken)) p)) (long_next w H c now left time h e a)
-    ∙ (ap (λ o. option_map (at_now now) (first_of None o (next_long w H now))) (message_next w H c h (holding_not_lost w H now held))
-    ∙ sym (next_is w H now None _ owes held (steered_by w H now None None g quiet) refl)))
+-- whose turn it is has a frame
+pub single_there : (c : Controller) (k : Hold) → turn_of k.yields (ready_in c k) ≡ Some Single → slice_get c.outgoing.items c.taken ≡ None → ⊥
+single_there c k e = some_at c.outgoing.items c.taken (subst (IsTurn k.yields (ready_in c k)) e (turn_is k.yields (ready_in c k))).0
+
+pub reply_there : (c : Controller) (k : Hold) → turn_of k.yields (ready_in c k) ≡ Some Reply → 0 < length c.incoming.replies.items
+reply_there c k e = ltb-true 0 (length c.incoming.replies.items) (subst (IsTurn k.yields (ready_in c k)) e (turn_is k.yields (ready_in c k))).0
+
+pub packet_goes : (c : Controller) (k : Hold) (now : ℕ) → turn_of k.yields (ready_in c k) ≡ Some Packet
+    → (let none : Option (ℕ × Message) = None in none) ≡ option_map (at_now now) (packet_by (lane_of (who_of nothing c.own) c.lane).current c.lane.count k.pause) → ⊥
+packet_goes c k now e f = go (packet_by (lane_of (who_of nothing c.own) c.lane).current c.lane.count k.pause) f
+    (packet_there (lane_of (who_of nothing c.own) c.lane).current c.lane.count k.pause ∙ due (subst (IsTurn k.yields (ready_in c k)) e (turn_is k.yields (ready_in c k))))
+  where
+    due : IsTurn k.yields (ready_in c k) (Some Packet) → (is_left (lane_of (who_of nothing c.own) c.lane).current c.lane.count && nat_le k.pause 100000) ≡ true
+    due (inl o) = overdue_due (is_left (lane_of (who_of nothing c.own) c.lane).current c.lane.count) k.pause o
+    due (inr t) = t.0
+
+    go : (o : Option Message) → (let none : Option (ℕ × Message) = None in none) ≡ option_map (at_now now) o → is_there o ≡ true → ⊥
+    go None g i = absurd (cc)
+    go (Some m) g i = absurd (cc)
+
+pub move_goes : (c : Controller) (k : Hold) (now : ℕ) → turn_of k.yields (ready_in c k) ≡ Some Move
+    → (let none : Option (ℕ × Message) = None in none) ≡ option_map (at_now now) (transfer_by (port_of c.transfers).current (clock k.age)) → ⊥
+move_goes c k now e f = go (transfer_by (port_of c.transfers).current (clock k.age)) f (subst (IsTurn k.yields (ready_in c k)) e (turn_is k.yields (ready_in c k))).1
+  where
+    go : (o : Option Message) → (let none : Option (ℕ × Message) = None in none) ≡ option_map (at_now now) o
+        → is_apart o (slice_get (incoming_of c.incoming).reception.replies 0) ≡ true → ⊥
+    go None g i = absurd (cc)
+    go (Some m) g i = absurd (cc)
 
 -- ---- broadcasts
 
@@ -1259,7 +1395,7 @@ pub refuses_broadcast : (w : Who) (H : List Call) (old new : Controller) (now gr
 refuses_broadcast w H old new now group bytes r h p answer e = record {
   who = ap (λ c. who_of w.brought c.own) e ∙ h.who;
   answered = (h.answered, answer);
-  hold = is_hold _ _ p.turns p.patience p.rest p.moment p.standing p.owes p.pause p.age p.wait;
+  hold = is_hold _ _ p.turns p.yields p.patience p.delay p.rest p.moment p.standing p.owes p.pause p.age p.wait;
   outgoing = ap (λ c. map posted c.outgoing.items) e ∙ h.outgoing;
   taken = ap (λ c. c.taken) e ∙ h.taken;
   token = ap (λ c. c.next_token) e ∙ h.token;
@@ -1276,14 +1412,14 @@ refuses_broadcast w H old new now group bytes r h p answer e = record {
   port = ap (λ c. port_of c.transfers) e ∙ h.port;
 }
 
-pub begins : (w : Who) (H : List Call) (old new : Controller) (now group : ℕ) (bytes : List ℕ) (x : Open) → Is w H old → Passed w H now new.hold
+pub begins : (w : Who) (H : List Call) (old new : Controller) (now group : ℕ) (bytes : List ℕ) (x : Open) (mid : Hold) → Is w H old → Passed w H now mid → new.hold ≡ hold_opens mid
     → Ok old.lane.next_token ≡ answer_to_broadcast w H now group bytes → opened w x ≡ (old.lane.next_token, broadcast_from w group bytes)
     → new ≡ record old { hold = new.hold; lane = new.lane } → new.lane.current ≡ Some x → new.lane.count ≡ 0
     → new.lane.next_token ≡ suc old.lane.next_token → Is w (At now (Broadcast group bytes (Ok old.lane.next_token)) ∷ H) new
-begins w H old new now group bytes x h p answer is e e0 e1 e2 = record {
+begins w H old new now group bytes x mid h p opens answer is e e0 e1 e2 = record {
   who = ap (λ c. who_of w.brought c.own) e ∙ h.who;
   answered = (h.answered, answer);
-  hold = is_hold _ _ p.turns p.patience p.rest p.moment p.standing p.owes p.pause p.age p.wait;
+  hold = opens ∙ is_hold _ _ p.turns p.yields p.patience p.delay p.rest p.moment p.standing p.owes (ap (max 100000) p.pause) p.age p.wait;
   outgoing = ap (λ c. map posted c.outgoing.items) e ∙ h.outgoing;
   taken = ap (λ c. c.taken) e ∙ h.taken;
   token = ap (λ c. c.next_token) e ∙ h.token;
@@ -1325,7 +1461,7 @@ pub refuses_transfer : (w : Who) (H : List Call) (old new : Controller) (now gro
 refuses_transfer w H old new now group to bytes r h p answer e = record {
   who = ap (λ c. who_of w.brought c.own) e ∙ h.who;
   answered = (h.answered, answer);
-  hold = is_hold _ _ p.turns p.patience p.rest p.moment p.standing p.owes p.pause p.age p.wait;
+  hold = is_hold _ _ p.turns p.yields p.patience p.delay p.rest p.moment p.standing p.owes p.pause p.age p.wait;
   outgoing = ap (λ c. map posted c.outgoing.items) e ∙ h.outgoing;
   taken = ap (λ c. c.taken) e ∙ h.taken;
   token = ap (λ c. c.next_token) e ∙ h.token;
@@ -1351,7 +1487,7 @@ pub transfer_begins : (w : Who) (H : List Call) (old new : Controller) (now grou
 transfer_begins w H old new now group to bytes x mid h p answer is e e0 e1 e2 e3 = record {
   who = ap (λ c. who_of w.brought c.own) e ∙ h.who;
   answered = (h.answered, answer);
-  hold = e0 ∙ is_hold _ _ p.turns p.patience p.rest p.moment p.standing p.owes p.pause refl p.wait;
+  hold = e0 ∙ is_hold _ _ p.turns p.yields p.patience p.delay p.rest p.moment p.standing p.owes p.pause refl p.wait;
   outgoing = ap (λ c. map posted c.outgoing.items) e ∙ h.outgoing;
   taken = ap (λ c. c.taken) e ∙ h.taken;
   token = ap (λ c. c.next_token) e ∙ h.token;

@@ -1,5 +1,5 @@
 -- When a frame of packets is due.
-use Rattle.std.proofs.Common.{◌≡◌, ◌⊎◌, ℕ, ◌+◌, ◌-◌, ◌<◌, ◌≤◌, List, length, Option, Some, None, Bool, true, false, ◌&&◌, if◌then◌else◌, nat_lt, nat_eq, nat_le, min, refl, sym, ap, ◌∙◌, inl, inr, arith, eq-eqb, lt-ltb, ltb-true, ltb-false}
+use Rattle.std.proofs.Common.{◌≡◌, ◌⊎◌, ℕ, ◌+◌, ◌-◌, ◌<◌, ◌≤◌, List, length, Option, Some, None, Bool, true, false, ◌&&◌, if◌then◌else◌, nat_lt, nat_le, min, refl, sym, ap, ◌∙◌, inl, inr, arith, lt-ltb, ltb-true, ltb-false}
 use Rattle.std.specs.Option.{option_map}
 use Rattle.j39_transport.specs.Message.{MessageRecord, packets_of}
 use Rattle.j39_transport.specs.Protocol.{timeout}
@@ -8,12 +8,16 @@ use Rattle.j39_transport.specs.SenderNext.{sends_in}
 use Rattle.j39_transport.specs.Signals.{Abort, Signal}
 use Rattle.j39_node.specs.History.{Who, Message, Call, frame_of, has_packets, is_left, moment, open_broadcast, packets, pause, step}
 use Rattle.j39_node.specs.Is.{long_by, next_long, next_packet, packet_by}
+use Rattle.j39_node.proofs.FrameLemmas.{le_true}
 use Rattle.j39_node.specs.Transfers.{Running, age, at_in, clock, gives_up, next_transfer, open_transfer, packet_in, packets_in, running_in, says, signal_by, sooner, transfer_by, transfer_in}
 
 -- ---- a frame isn't due yet
 
-not_yet : (p s : ℕ) → s < p → nat_eq (p - s) 0 ≡ false
-not_yet p s l = grind arith
+not_yet : (p s : ℕ) → s < p - 100000 → nat_le (p - s) 100000 ≡ false
+not_yet p s l = more (p - s) (omega (arith, l))
+  where
+    more : (k : ℕ) → 100000 < k → nat_le k 100000 ≡ false
+    more k l = grind (arith, l)
 
 lt_false : (i n : ℕ) → n ≤ i → nat_lt i n ≡ false
 lt_false i n l = grind arith
@@ -28,13 +32,13 @@ sooner_second p (Some m) = (min m p, refl, omega arith)
 
 no_packet : (o : Option (ℕ × MessageRecord)) (i p s : ℕ) → ((n : ℕ) → packet_in (is_left o i) p ≡ Some n → s < n) → packet_by o i (p - s) ≡ None
 no_packet None i p s h = refl
-no_packet (Some x) i p s h = go (nat_eq (p - s) 0) (nat_le i (packets_of x.1)) refl refl
+no_packet (Some x) i p s h = go (nat_le (p - s) 100000) (nat_le i (packets_of x.1)) refl refl
   where
-    go : (a b : Bool) → nat_eq (p - s) 0 ≡ a → nat_le i (packets_of x.1) ≡ b → (if a && b then Some (frame_of x.1 i) else None) ≡ None
+    go : (a b : Bool) → nat_le (p - s) 100000 ≡ a → nat_le i (packets_of x.1) ≡ b → (if a && b then Some (frame_of x.1 i) else None) ≡ None
     go false b e f = refl
     go true false e f = refl
     go true true e f =
-        let l = h p (ap (λ (b : Bool). packet_in b p) f) in
+        let l = h (p - 100000) (ap (λ (b : Bool). packet_in b p) f) in
         absurd (let z : true ≡ false = sym e ∙ not_yet p s l in cc)
 
 late : (a s k : ℕ) → s < k + 1 - min a 9999999999999999 → min (a + s) 9999999999999999 ≤ k
@@ -117,8 +121,8 @@ some_packet (Some x) i p n s l e f = go (nat_le i (packets_of x.1)) refl e
     go : (b : Bool) → nat_le i (packets_of x.1) ≡ b → packet_in b p ≡ Some n → ⊥
     go false g k = absurd (cc)
     go true g k =
-        let z : p ≡ n = cc in
-        let a : nat_eq (p - s) 0 ≡ true = eq-eqb _ _ (omega (arith, z, l)) in
+        let z : p - 100000 ≡ n = cc in
+        let a : nat_le (p - s) 100000 ≡ true = le_true (p - s) 100000 (omega (arith, z, l)) in
         let y : Some (frame_of x.1 i) ≡ None = sym (ap (λ (c : Bool). if c && nat_le i (packets_of x.1) then Some (frame_of x.1 i) else None) a
         ∙ ap (λ (c : Bool). if c then Some (frame_of x.1 i) else None) g) ∙ f in absurd (cc)
 
@@ -155,15 +159,15 @@ some_transfer (Some t) a n s l m e f = some_signal t a n s l m e (none_said (sig
     none_said None g = refl
     none_said (Some x) g = absurd (cc)
 
+pub both_none : (a b : Option Message) → long_by a b ≡ None → (a ≡ None) × (b ≡ None)
+both_none None b e = (refl, e)
+both_none (Some m) b e = absurd (cc)
+
 some_long : (w : Who) (H : List Call) (now n : ℕ) → n ≤ step H now → (n ≡ 0) ⊎ (age H + n < 10000000000000000) → packets_in w H ≡ Some n → next_long w H now ≡ None → ⊥
 some_long w H now n l m e f = elim (either_sooner _ _ n e) [
   | inl a ↦ some_packet (open_broadcast w H) (length (packets H)) (pause H) n (step H now) l a (both_none (next_packet w H now) (next_transfer w H now) f).0
   | inr b ↦ some_transfer (open_transfer w H) (age H) n (step H now) l m b (both_none (next_packet w H now) (next_transfer w H now) f).1
 ]
-  where
-    both_none : (a b : Option Message) → long_by a b ≡ None → (a ≡ None) × (b ≡ None)
-    both_none None b e = (refl, e)
-    both_none (Some m) b e = absurd (cc)
 
 pub from_long : (w : Who) (H : List Call) (now : ℕ) → at_in (moment H) (packets_in w H) ≡ Some (moment H) → next_long w H now ≡ None → ⊥
 from_long w H now e f =

@@ -14,9 +14,9 @@ use Rattle.j39_node.specs.declared.kinds.TransferEnding.{TransferEnding}
 use Rattle.j39_node.specs.declared.kinds.TransferEnding.TheVariants.{Done, Withdrawn, Failed, Gone}
 use Rattle.j39_node.specs.History.{Who, Message, Call, address_after, broadcast_from, can_broadcast, is_held, is_lost, is_sendable, moment, step}
 use Rattle.j39_node.specs.History.Call.{At, TakeTransferEnded}
-use Rattle.j39_node.specs.History.Act.{Hear, TakeFrame, Transfer}
+use Rattle.j39_node.specs.History.Act.{Hear, TakeFrame, Transfer, Again}
 use Rattle.j39_node.specs.Is.{AreAnswered, Is, IsAnswered, long_by, next_frame, next_packet}
-use Rattle.j39_node.specs.Prompt.{IsPrompt, NoneTold, tells_transfer, waited_in}
+use Rattle.j39_node.specs.Prompt.{IsPrompt, NoneTold, tells_transfer, waited_in, claims_anew}
 use Rattle.j39_node.specs.Reception.{holder, is_move}
 use Rattle.j39_node.specs.Since.{passed_in}
 use Rattle.j39_node.specs.Transfers.{Running, age, begun, broken_off, can_transfer, clock_at, ending_by, gives_up, granted_after, hears, hears_if, is_engaged, is_replaced, is_resting, is_spent, listens, next_transfer, next_transfer_ended, open_transfer, said_to, says, sends, sends_if, signal_by, spent_after, transfer_by, transfer_end, transfers as all_transfers}
@@ -33,7 +33,7 @@ use Rattle.j39_node.proofs.TransferLaws.{Budgeted, BudgetedIf, budgeted}
 
 -- ---- what is over stays over
 
-abbrev Over : Running → Type 0
+abbrev pub Over : Running → Type 0
 Over t = (t.gone ≡ true) ⊎ IsEnded t.sender
 
 ended_heard : (s : SenderRecord) (o : Option ℕ) (r : SenderRecord) (now : ℕ) → HeardCase s now o r → IsEnded s → IsEnded r
@@ -55,18 +55,18 @@ ended_ticked s now e = go s.state refl
     go sending.Done i = e
     go (sending.Failed reason) i = e
 
-ended_aborted : (s : SenderRecord) (reason : ℕ) → is_running s.state ≡ true → IsEnded (aborted reason s)
+pub ended_aborted : (s : SenderRecord) (reason : ℕ) → is_running s.state ≡ true → IsEnded (aborted reason s)
 unfolding aborted
 ended_aborted s reason e = cond_both (is_running s.state) _ _ IsEnded (λ z. refl) (λ z. absurd (let y : true ≡ false = sym e ∙ z in cc))
 
-running_of : (t : Running) → gives_up t ≡ true → is_running t.sender.state ≡ true
+pub running_of : (t : Running) → gives_up t ≡ true → is_running t.sender.state ≡ true
 running_of t = go (is_spent t) (is_running t.sender.state)
   where
     go : (a b : Bool) → (a && b) ≡ true → b ≡ true
     go true b e = e
     go false b e = absurd (let z : false ≡ true = e in cc)
 
-over_hears : (lost replaced : Bool) (f : FrameRecord) (now : ℕ) (t : Running) → Over t → Over (hears lost replaced f now t)
+pub over_hears : (lost replaced : Bool) (f : FrameRecord) (now : ℕ) (t : Running) → Over t → Over (hears lost replaced f now t)
 unfolding send_step
 over_hears true replaced f now t h = h
 over_hears false true f now t h = inl refl
@@ -76,7 +76,7 @@ over_hears false false f now t h = cond_both (t.gone || is_spent t) t (listens f
     go (inl e) = inl e
     go (inr e) = inr (ended_heard t.sender _ _ now (heard_case t.sender (said_to t.sender f) now) e)
 
-over_sends : (now : ℕ) (t : Running) → Over t → Over (sends now t)
+pub over_sends : (now : ℕ) (t : Running) → Over t → Over (sends now t)
 unfolding send_step
 over_sends now t (inl e) = inl e
 over_sends now t (inr e) = inr (cond_both (gives_up t) (aborted 5 t.sender) (send_step t.sender Tick now).after IsEnded
@@ -90,7 +90,7 @@ open_one false false (inl a) = absurd (let z : false ≡ true = a in cc)
 open_one false false (inr (inl a)) = absurd (cc)
 open_one false false (inr (inr a)) = absurd (let z : false ≡ true = a in cc)
 
-tells : (u : SendState) (gone lost : Bool) → (gone ≡ true) ⊎ (((is_idle u || is_running u) ≡ false) ⊎ (lost ≡ true))
+pub tells : (u : SendState) (gone lost : Bool) → (gone ≡ true) ⊎ (((is_idle u || is_running u) ≡ false) ⊎ (lost ≡ true))
     → (e : TransferEnding) × (ending_by u gone lost ≡ Some e)
 tells sending.Done gone lost h = (Done, refl)
 tells (sending.Failed reason) gone lost h = (Failed reason, refl)
@@ -323,12 +323,13 @@ module _ (w : Who) (B : List Call) (g k : ℕ) (m : MessageRecord) (few : packet
       let z : true ≡ false = sym (ap (λ (x : Option Running). is_engaged x (length (all_transfers w (later ++ B))) || is_resting w (later ++ B) now group to) h.is) ∙ f in absurd (cc)
 
   one_more : (call : Call) (later : List Call) → IsAnswered w (later ++ B) call → tells_transfer call ≡ false
-      → waited_in later B + step (later ++ B) (moment (call ∷ later ++ B)) ≤ g → Stands later → Stands (call ∷ later)
-  one_more (At when (Hear f)) later a n p h = hears_one when f later p h
-  one_more (At now (TakeFrame (Some f))) later a n p h = takes_one now f later p h
-  one_more (At now (TakeFrame None)) later a n p h = takes_no_frame now later a p h
+      → (waited_in later B + step (later ++ B) (moment (call ∷ later ++ B)) ≤ g) × (claims_anew call ≡ false) → Stands later → Stands (call ∷ later)
+  one_more (At when (Hear f)) later a n p h = hears_one when f later p.0 h
+  one_more (At now (TakeFrame (Some f))) later a n p h = takes_one now f later p.0 h
+  one_more (At now (TakeFrame None)) later a n p h = takes_no_frame now later a p.0 h
   one_more (At now (Transfer group to bytes (Ok j))) later a n p h =
       absurd (none_begins later now group to j bytes h (transfer_case w (later ++ B) now group to bytes (Ok j) a))
+  one_more (At now Again) later a n p h = absurd (let z : true ≡ false = p.1 in cc)
   one_more (TakeTransferEnded (Some x)) later a n p h = absurd (let z : true ≡ false = n in cc)
   one_more call later a n p h =
       rests_with call later refl (omega arith) refl

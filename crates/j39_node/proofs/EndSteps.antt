@@ -101,7 +101,7 @@ heard_case s (Some (Abort reason pgn)) now = cond_both (pgn == s.message.pgn) _ 
 heard_case s other now = same refl refl
 
 -- a clear more
-counts : (granted spent last : ℕ) → suc (granted + spent) ≤ granted_after (Some last) granted + spent_after (Some last) granted spent
+pub counts : (granted spent last : ℕ) → suc (granted + spent) ≤ granted_after (Some last) granted + spent_after (Some last) granted spent
 counts granted spent last = go (nat_lt granted last) refl
   where
     less : (x y : ℕ) → nat_lt x y ≡ true → x < y

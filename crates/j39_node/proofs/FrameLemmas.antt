@@ -1,5 +1,5 @@
 -- Frames that are made, and the lane of broadcasts.
-use Rattle.std.proofs.Common.{◌≡◌, ◌↔◌, ℕ, ◌<◌, ◌≤◌, List, length, Option, Some, None, IsSome, IfSome, Bool, true, false, ◌&&◌, if◌then◌else◌, nat_eq, nat_le, nat_lt, ◌==◌, refl, sym, ap, ◌∙◌, arith, lt-ltb, eq-eqb, subst}
+use Rattle.std.proofs.Common.{◌≡◌, ◌↔◌, ℕ, ◌<◌, ◌≤◌, List, length, Option, Some, None, IsSome, IfSome, Bool, true, false, ◌&&◌, if◌then◌else◌, nat_le, nat_lt, ◌==◌, refl, sym, ap, ◌∙◌, arith, lt-ltb, subst}
 use Rattle.std.specs.Option.{option_map}
 use Rattle.j39_frame.specs.Frame.{FrameRecord}
 use Rattle.j39_frame.specs.Network.{transport_control_group, transport_data_group}
@@ -58,16 +58,16 @@ ended_none o x i n lost e f l g = sym (ap (λ y. broadcast_end y i lost) e ∙ b
 abbrev pub at_now : ℕ → Message → ℕ × Message
 at_now now m = (now, m)
 
-packet_if : (x : ℕ × MessageRecord) (i left : ℕ) (b : Bool) → nat_eq left 0 ≡ true → nat_le i (packets_of x.1) ≡ b
+packet_if : (x : ℕ × MessageRecord) (i left : ℕ) (b : Bool) → nat_le left 100000 ≡ true → nat_le i (packets_of x.1) ≡ b
     → packet_by (Some x) i left ≡ (if b then Some (frame_of x.1 i) else None)
 packet_if x i left b e f = ap (λ (a : Bool). if a && nat_le i (packets_of x.1) then Some (frame_of x.1 i) else None) e
     ∙ ap (λ (a : Bool). if a then Some (frame_of x.1 i) else None) f
 
-pub packet_past : (o : Option (ℕ × MessageRecord)) (x : ℕ × MessageRecord) (i n left now : ℕ) → o ≡ Some x → n ≡ packets_of x.1 → n < i → left ≡ 0
+pub packet_past : (o : Option (ℕ × MessageRecord)) (x : ℕ × MessageRecord) (i n left now : ℕ) → o ≡ Some x → n ≡ packets_of x.1 → n < i → left ≤ 100000
     → (let none : Option (ℕ × Message) = None in none) ≡ option_map (at_now now) (packet_by o i left)
 packet_past o x i n left now e f l g =
     sym (ap (λ y. option_map (at_now now) (packet_by y i left)) e
-    ∙ ap (option_map (at_now now)) (packet_if x i left false (eq-eqb _ _ g) (le_false _ _ (omega (arith, f, l)))))
+    ∙ ap (option_map (at_now now)) (packet_if x i left false (le_true _ _ g) (le_false _ _ (omega (arith, f, l)))))
 
 abbrev pub framed : ℕ → ℕ → List ℕ → Message
 framed source i bytes = record {

@@ -5,7 +5,7 @@ use Rattle.std.proofs.lemmas.Grind.{flat_map-append}
 use Rattle.std.proofs.lemmas.List.{length-append, length-take-le, take-append-drop}
 use Rattle.j39_frame.specs.Frame.{FrameRecord}
 use Rattle.j39_frame.specs.Identifier.{source_of}
-use Rattle.j39_address.specs.Claim.{Claim, claim_of}
+use Rattle.j39_address.specs.Claim.{claim_of}
 use Rattle.j39_transport.specs.Carries.{AreNumbered, joined}
 use Rattle.j39_transport.specs.Frames.{is_announcement, is_packet, pgn_named, size_named}
 use Rattle.j39_transport.specs.Key.{Key, Broadcast as by}
@@ -19,7 +19,8 @@ use Rattle.j39_node.specs.History.Call.{At, TakeNews, ReleaseBroadcast}
 use Rattle.j39_node.specs.History.Act.{Hear, Tick, TakeFrame}
 use Rattle.j39_node.specs.Hearing.{IsFit, IsPartOf, ended, passed, chosen, OpenBroadcast, WasBroadcast, announced, announces, begun, breaks, changes, ends_by, found, got_broadcasts, grown, has_room, hearing, hearing_tick, hears, in_time, is_beside, is_ignored, is_late, is_out, is_over, is_partial, is_unheard, is_wanted, is_whole, late_at, left, made_whole, message_by, more, newly, opens, packs, skips, unheard, unheard_by, unheard_news, waiting, whole_broadcasts, whole_of}
 use Rattle.j39_node.specs.Is.{AreAnswered, HearingRecord, Is}
-use Rattle.j39_node.specs.Reception.{KeepsHolder, frames_heard, has_place, heard_at, held_then, holder, is_same, listed, time_heard}
+use Rattle.j39_node.specs.Reception.{KeepsHolder, frames_heard, has_place, heard_at, holder, is_same, listed, time_heard, known, known_by}
+use Rattle.j39_node.proofs.ReceptionLemmas.{unclaimed_known}
 use Rattle.j39_node.proofs.QueueLemmas.{length_drop}
 use Rattle.j39_node.proofs.ReceptionLaws.{after_moment, before_moment, same_is}
 use Rattle.j39_node.proofs.HearingLemmas.{Effect, begins, ends, grows, stays, effect, fit, hearing_same, left_keeps, left_none, same_same, unchanged, packs_eight, drop_one}
@@ -67,7 +68,7 @@ pub in_order : (who : Who) (H : List Call) → whole_broadcasts who H ≡ got_br
 in_order who [] = refl
 in_order who (At when (Hear f) ∷ H) =
     list_more (waiting who H) (waiting who (At when (Hear f) ∷ H)) (whole_broadcasts who H) (got_broadcasts who H) (in_order who H)
-    (λ p e. ap whole_of (whole_stays who (is_over (holder who H) (holder who (At when (Hear f) ∷ H)) (time_heard (At when (Hear f) ∷ H)) (hearing who H)) (time_heard (At when (Hear f) ∷ H)) f (hearing who H) p e))
+    (λ p e. ap whole_of (whole_stays who (is_over (known who H when f) (holder who (At when (Hear f) ∷ H)) (time_heard (At when (Hear f) ∷ H)) (hearing who H)) (time_heard (At when (Hear f) ∷ H)) f (hearing who H) p e))
 in_order who (At now Tick ∷ H) =
     in_order who H ∙ ap (λ z. got_broadcasts who H ++ listed z) (sym (whole_of_left (is_out (time_heard (At now Tick ∷ H)) (hearing who H)) (hearing who H)))
 in_order who (At now (TakeFrame (Some f)) ∷ H) =
@@ -146,7 +147,7 @@ module _ (who : Who) (H : List Call) (when : ℕ) (f : FrameRecord) (e : announc
           → IsTrue (is_whole x) ⊎ ((source_of f.id ≢ x.source) × (is_late (time_heard G) x ≡ false))
       why x g true w k = inl w
       why x g false w (inl k) = inl k
-      why x g false w (inr k) = inr (other x k, timely (changes (holder who H) (holder who G) (hearing who H)) (hearing who H) x g w)
+      why x g false w (inr k) = inr (other x k, timely (changes (known who H when f) (holder who G) (hearing who H)) (hearing who H) x g w)
 
 -- ---- all that was announced is whole, counted or open
 
@@ -208,9 +209,9 @@ exact who [] h = refl
 exact who (At when (Hear f) ∷ H) h =
     let G = At when (Hear f) ∷ H in
     let n = exact who H h.0 in
-    let l = left_counts (is_over (holder who H) (holder who G) (time_heard G) (hearing who H)) (hearing who H) in
+    let l = left_counts (is_over (known who H when f) (holder who G) (time_heard G) (hearing who H)) (hearing who H) in
     let d = heard_counts who (time_heard G) f (found who H when f) _ _ _ (effect who (time_heard G) f (found who H when f)) in
-    let k = ap (λ (o : Option (ℕ × MessageRecord)). length (listed (newly o (waiting who G)))) (whole_of_left (is_over (holder who H) (holder who G) (time_heard G) (hearing who H)) (hearing who H)) in
+    let k = ap (λ (o : Option (ℕ × MessageRecord)). length (listed (newly o (waiting who G)))) (whole_of_left (is_over (known who H when f) (holder who G) (time_heard G) (hearing who H)) (hearing who H)) in
     let m = length-append (whole_broadcasts who H) (listed (made_whole who H when f)) in
     let p = more_is (is_wanted who f) (announced who H) in
     let q = more_is (unheard_by who H (At when (Hear f))) (more (ends_by who H (At when (Hear f))) (unheard who H)) in
@@ -302,7 +303,7 @@ module _ (who : Who) (H : List Call) (when : ℕ) (f : FrameRecord) where
   unclaimed : claim_of f ≡ None → found who H when f ≡ in_time now (hearing who H)
   unclaimed e =
       ap (λ (b : Bool). left (b || is_out now (hearing who H)) (hearing who H))
-      (unchanged (holder who H) (holder who K) (hearing who H) (λ a. ap (λ (o : Option Claim). held_then a o (holder who H a)) e))
+      (unchanged (known who H when f) (holder who K) (hearing who H) (λ a. unclaimed_known who H when f a e))
 
   timely : (x : OpenBroadcast) → is_late now x ≡ false → in_time now (Some x) ≡ Some x
   timely x e = ap (λ (b : Bool). left b (Some x)) e
@@ -328,9 +329,9 @@ module _ (who : Who) (H : List Call) (when : ℕ) (f : FrameRecord) where
   always : (b : Bool) → (b || true) ≡ true
   always b = grind arith
 
-  over_ends : (x : OpenBroadcast) → hearing who H ≡ Some x → is_whole x ≡ false → is_over (holder who H) (holder who K) now (Some x) ≡ true → found who H when f ≡ None
+  over_ends : (x : OpenBroadcast) → hearing who H ≡ Some x → is_whole x ≡ false → is_over (known who H when f) (holder who K) now (Some x) ≡ true → found who H when f ≡ None
   over_ends x e w l =
-      ap (λ (o : Option OpenBroadcast). left (is_over (holder who H) (holder who K) now o) o) e ∙ λ i. if l i && not (w i) then None else Some x
+      ap (λ (o : Option OpenBroadcast). left (is_over (known who H when f) (holder who K) now o) o) e ∙ λ i. if l i && not (w i) then None else Some x
 
   pub next_appended : (x : OpenBroadcast) → claim_of f ≡ None → announces f ≡ false → IsTrue (packs f) → hearing who H ≡ Some x → is_whole x ≡ false
       → source_of f.id ≡ x.source → is_late now x ≡ false → slice_index f.bytes 0 ≡ suc x.count → hearing who K ≡ Some (grown now f x)
@@ -348,12 +349,12 @@ module _ (who : Who) (H : List Call) (when : ℕ) (f : FrameRecord) where
       (effect who now f (Some x))
 
   pub late_ends : (x : OpenBroadcast) → hearing who H ≡ Some x → is_whole x ≡ false → IsTrue (is_late now x) → found who H when f ≡ None
-  late_ends x e w l = over_ends x e w (ap (λ (b : Bool). changes (holder who H) (holder who K) (Some x) || b) l ∙ always _)
+  late_ends x e w l = over_ends x e w (ap (λ (b : Bool). changes (known who H when f) (holder who K) (Some x) || b) l ∙ always _)
 
-  pub left_ends : (x : OpenBroadcast) → hearing who H ≡ Some x → is_whole x ≡ false → holder who K x.source ≢ holder who H x.source → found who H when f ≡ None
-  left_ends x e w h = over_ends x e w (ap (λ (b : Bool). not b || is_late now x) (other (is_same (holder who H x.source) (holder who K x.source)) refl))
+  pub left_ends : (x : OpenBroadcast) → hearing who H ≡ Some x → is_whole x ≡ false → holder who K x.source ≢ known who H when f x.source → found who H when f ≡ None
+  left_ends x e w h = over_ends x e w (ap (λ (b : Bool). not b || is_late now x) (other (is_same (known who H when f x.source) (holder who K x.source)) refl))
     where
-      other : (b : Bool) → is_same (holder who H x.source) (holder who K x.source) ≡ b → is_same (holder who H x.source) (holder who K x.source) ≡ false
+      other : (b : Bool) → is_same (known who H when f x.source) (holder who K x.source) ≡ b → is_same (known who H when f x.source) (holder who K x.source) ≡ false
       other true i = absurd (h (same_is _ _ i))
       other false i = i
 
@@ -381,11 +382,11 @@ module _ (who : Who) (H : List Call) (when : ℕ) (f : FrameRecord) where
           by false = beside x _ _ _ (apart x i k) (effect who now f (Some x))
 
   -- in time, a frame of another source
-  pub others_leave : (x : OpenBroadcast) → hearing who H ≡ Some x → holder who K x.source ≡ holder who H x.source → source_of f.id ≢ x.source → is_late now x ≡ false
+  pub others_leave : (x : OpenBroadcast) → hearing who H ≡ Some x → holder who K x.source ≡ known who H when f x.source → source_of f.id ≢ x.source → is_late now x ≡ false
       → hearing who K ≡ Some x
   others_leave x e held n late =
-      ap (λ (o : Option OpenBroadcast). hears who now f (left (is_over (holder who H) (holder who K) now o) o)) e
-      ∙ ((λ i. hears who now f (left (not ((ap (is_same (holder who H x.source)) held ∙ same_same (holder who H x.source)) i) || late i) (Some x)))
+      ap (λ (o : Option OpenBroadcast). hears who now f (left (is_over (known who H when f) (holder who K) now o) o)) e
+      ∙ ((λ i. hears who now f (left (not ((ap (is_same (known who H when f x.source)) held ∙ same_same (known who H when f x.source)) i) || late i) (Some x)))
       ∙ beside x _ _ _ (ap (λ (b : Bool). not b || (not (announces f) && (not (packs f) || nat_le (slice_index f.bytes 0) x.count))) (unequal _ _ n)) (effect who now f (Some x)))
 
 pub own_frames : (who : Who) (H : List Call) (now : ℕ) (f : FrameRecord) → is_claim f ≡ false → hearing who (At now (TakeFrame (Some f)) ∷ H) ≡ hearing who H
@@ -421,7 +422,7 @@ abbrev AreBegun : Who → List Call → Option OpenBroadcast → Type 0
 AreBegun who H o = IfSome o (λ x. (is_whole x ≡ true) ⊎ Begun who H x)
 
 abbrev AreKept : Who → Call → List Call → Option OpenBroadcast → Type 0
-AreKept who call H o = IfSome o (λ x. (is_whole x ≡ true) ⊎ (Begun who H x × (holder who (call ∷ H) x.source ≡ holder who H x.source)))
+AreKept who call H o = IfSome o (λ x. (is_whole x ≡ true) ⊎ (Begun who H x × (holder who (call ∷ H) x.source ≡ known_by who call H x.source)))
 
 anew : (who : Who) (H : List Call) (now : ℕ) (when : ℕ) (f : FrameRecord) → announces f ≡ true → Begun who (At when (Hear f) ∷ H) (begun now f)
 anew who H now when f e = record {
@@ -437,7 +438,7 @@ anew who H now when f e = record {
 }
 
 -- a call later
-goes_on : (who : Who) (call : Call) (H : List Call) (x y : OpenBroadcast) (h : Begun who H x) → holder who (call ∷ H) x.source ≡ holder who H x.source → y.source ≡ x.source
+goes_on : (who : Who) (call : Call) (H : List Call) (x y : OpenBroadcast) (h : Begun who H x) → holder who (call ∷ H) x.source ≡ known_by who call H x.source → y.source ≡ x.source
     → (packets : List FrameRecord) → IsPartOf y.source packets (frames_heard (call ∷ h.later)) → Came y h.first packets → Begun who (call ∷ H) y
 goes_on who call H x y h k s packets part came = record {
   later = call ∷ h.later;
@@ -449,7 +450,7 @@ goes_on who call H x y h k s packets part came = record {
   part = part;
   came = came;
   one = subst (λ (a : ℕ). KeepsHolder who a (call ∷ h.later) (At h.at (Hear h.first) ∷ h.earlier)) (sym s)
-      (subst (λ (G : List Call). holder who (call ∷ G) x.source ≡ holder who G x.source) h.is k, h.one);
+      (subst (λ (G : List Call). holder who (call ∷ G) x.source ≡ known_by who call G x.source) h.is k, h.one);
 }
 
 numbered_more : (k : Key) (n : ℕ) (fs : List FrameRecord) (f : FrameRecord) → AreNumbered k n fs → is_packet k f ≡ true → slice_index f.bytes 0 ≡ n + length fs
@@ -458,7 +459,7 @@ numbered_more k n [] f h e g = (e, (omega (arith, g)), tt)
 numbered_more k n (x ∷ fs) f h e g = (h.0, h.1, numbered_more k (n + 1) fs f h.2 e (omega (arith, g)))
 
 -- a packet is appended
-appends : (who : Who) (H : List Call) (when : ℕ) (f : FrameRecord) (x : OpenBroadcast) (now : ℕ) → holder who (At when (Hear f) ∷ H) x.source ≡ holder who H x.source → packs f ≡ true
+appends : (who : Who) (H : List Call) (when : ℕ) (f : FrameRecord) (x : OpenBroadcast) (now : ℕ) → holder who (At when (Hear f) ∷ H) x.source ≡ known who H when f x.source → packs f ≡ true
     → source_of f.id ≡ x.source → slice_index f.bytes 0 ≡ suc x.count → is_whole x ≡ false → Begun who H x → Begun who (At when (Hear f) ∷ H) (grown now f x)
 appends who H when f x now k p s n w h =
     goes_on who (At when (Hear f)) H x (grown now f x) h k refl (h.packets ++ f ∷ []) (chosen f h.packets (frames_heard h.later) h.part) (record {
@@ -477,7 +478,7 @@ not_full : (x : OpenBroadcast) → whole_of (Some x) ≡ None → is_whole x ≡
 not_full x e = grind (arith, e)
 
 open_one : (who : Who) (call : Call) (H : List Call) (x : OpenBroadcast) → AreKept who call H (Some x) → is_whole x ≡ false
-    → Begun who H x × (holder who (call ∷ H) x.source ≡ holder who H x.source)
+    → Begun who H x × (holder who (call ∷ H) x.source ≡ known_by who call H x.source)
 open_one who call H x (inl i) w = absurd (let z : true ≡ false = sym i ∙ w in cc)
 open_one who call H x (inr h) w = h
 
@@ -515,7 +516,7 @@ heard_more who H when now f o h = go (whole_of o) refl
 
 -- what a call leaves
 left_more : (who : Who) (call : Call) (H : List Call) (b : Bool) (o : Option OpenBroadcast)
-    → IfSome o (λ x. b ≡ false → holder who (call ∷ H) x.source ≡ holder who H x.source) → AreBegun who H o → AreKept who call H (left b o)
+    → IfSome o (λ x. b ≡ false → holder who (call ∷ H) x.source ≡ known_by who call H x.source) → AreBegun who H o → AreKept who call H (left b o)
 left_more who call H b None k h = tt
 left_more who call H b (Some x) k (inl w) = subst (AreKept who call H) (sym (left_whole b x w)) (inl w)
 left_more who call H true (Some x) k (inr h) = go (is_whole x) refl
@@ -540,16 +541,16 @@ not_over : (before after : ℕ → Option ℕ) (now : ℕ) (o : Option OpenBroad
 not_over before after now None = tt
 not_over before after now (Some x) = λ e. same_is _ _ (grind (arith, e))
 
-same_holders : (who : Who) (call : Call) (H : List Call) (b : Bool) (o : Option OpenBroadcast) → ((a : ℕ) → holder who (call ∷ H) a ≡ holder who H a)
-    → IfSome o (λ x. b ≡ false → holder who (call ∷ H) x.source ≡ holder who H x.source)
+same_holders : (who : Who) (call : Call) (H : List Call) (b : Bool) (o : Option OpenBroadcast) → ((a : ℕ) → holder who (call ∷ H) a ≡ known_by who call H a)
+    → IfSome o (λ x. b ≡ false → holder who (call ∷ H) x.source ≡ known_by who call H x.source)
 same_holders who call H b None k = tt
 same_holders who call H b (Some x) k = λ e. k x.source
 
 found_kept : (who : Who) (H : List Call) (when : ℕ) (f : FrameRecord) → AreBegun who H (hearing who H) → AreKept who (At when (Hear f)) H (found who H when f)
 found_kept who H when f h =
     let G = At when (Hear f) ∷ H in
-    left_more who (At when (Hear f)) H (is_over (holder who H) (holder who G) (time_heard G) (hearing who H)) (hearing who H)
-    (not_over (holder who H) (holder who G) (time_heard G) (hearing who H)) h
+    left_more who (At when (Hear f)) H (is_over (known who H when f) (holder who G) (time_heard G) (hearing who H)) (hearing who H)
+    (not_over (known who H when f) (holder who G) (time_heard G) (hearing who H)) h
 
 are_begun : (who : Who) (H : List Call) → AreBegun who H (hearing who H)
 are_begun who [] = tt
@@ -613,7 +614,7 @@ came who H when f p e = go (waiting who H) refl e
     go None i k =
         last (hearing who G)
         (heard_open who H when (time_heard G) f (found who H when f) _ _ _ (found_kept who H when f (are_begun who H))
-        (whole_of_left (is_over (holder who H) (holder who G) (time_heard G) (hearing who H)) (hearing who H) ∙ i) (effect who (time_heard G) f (found who H when f)))
+        (whole_of_left (is_over (known who H when f) (holder who G) (time_heard G) (hearing who H)) (hearing who H) ∙ i) (effect who (time_heard G) f (found who H when f)))
         (fit who G) k
     go (Some q) i k = absurd (cc)
 

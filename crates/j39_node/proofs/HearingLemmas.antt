@@ -10,11 +10,11 @@ use Rattle.j39_transport.specs.Frames.{goes, is_packet, pgn_named}
 use Rattle.j39_transport.specs.Key.{Broadcast as by, is_key}
 use Rattle.j39_frame.specs.Network.{transport_data_group}
 use Rattle.j39_transport.proofs.FrameFacts.{announcement_facts}
-use Rattle.j39_node.specs.History.{Who, Call, is_claim, told_claims}
+use Rattle.j39_node.specs.History.{Who, Call, is_claim, told_claims, is_some}
 use Rattle.j39_node.specs.History.Call.{At, ReleaseBroadcast}
 use Rattle.j39_node.specs.History.Act.{Hear, Tick, TakeFrame}
 use Rattle.j39_node.specs.Hearing.{IsFit, OpenBroadcast, announces, begun, breaks, changes, ends_by, found, grown, has_room, hearing, hears, is_beside, is_ignored, is_late, is_out, is_over, is_partial, is_unheard, is_wanted, is_whole, left, message_by, more, opens, packed, packs, skips, unheard, unheard_by, unheard_news, whole_of}
-use Rattle.j39_node.specs.Reception.{holder, is_same, time_heard}
+use Rattle.j39_node.specs.Reception.{holder, is_same, time_heard, known, restarts, still}
 use Rattle.j39_node.specs.Is.{HearingRecord, hearing_after, news_after}
 use Rattle.j39_node.specs.declared.news.Untold.{Untold}
 use Rattle.j39_node.proofs.ReceptionLemmas.{table_is}
@@ -183,6 +183,13 @@ claimed_on w H now f old new b result p q x y h k l e1 e2 e3 e4 e5 e6 =
 
 -- ---- a frame is heard
 
+changes_still : (w : Who) (H : List Call) (when : ℕ) (f : FrameRecord) (old new : Claims) (b : Bool) (p q : Option ℕ) (o : Option OpenBroadcast) → Knows old (told_claims w H) → Knows new (told_claims w (At when (Hear f) ∷ H))
+    → IfSome o (λ x. p ≡ still (restarts w H when f) (holder_in old) x.source) → IfSome o (λ x. q ≡ holder_in new x.source) → b ≡ not (is_same p q)
+    → IfSome o (λ x. b ≡ changes (known w H when f) (holder w (At when (Hear f) ∷ H)) o)
+changes_still w H when f old new b p q None k l e g i = tt
+changes_still w H when f old new b p q (Some x) k l e g i =
+    i ∙ λ j. not (is_same ((e ∙ ap (λ (n : Option ℕ). if is_some (restarts w H when f) x.source then None else n) (table_is w old H x.source k)) j) ((g ∙ table_is w new (At when (Hear f) ∷ H) x.source l) j))
+
 pub left_keeps : (P : Option OpenBroadcast → Type 0) (b : Bool) (o : Option OpenBroadcast) → P None → P o → P (left b o)
 left_keeps P b None n h = h
 left_keeps P b (Some x) n h = cond_both (b && not (is_whole x)) None (Some x) P (λ e. n) (λ e. h)
@@ -238,16 +245,16 @@ pub record HeardOn (w : Who) (H : List Call) (when : ℕ) (f : FrameRecord) (bro
 
 pub heard_on : (w : Who) (H : List Call) (when : ℕ) (f : FrameRecord) (old new : Claims) (b over broken u : Bool) (now : ℕ) (p q : Option ℕ) (x m y : HearingRecord) → x ≡ hearing_after w H
     → Knows old (told_claims w H) → Knows new (told_claims w (At when (Hear f) ∷ H)) → now ≡ time_heard (At when (Hear f) ∷ H)
-    → IfSome x.current (λ z. p ≡ holder_in old z.source) → IfSome x.current (λ z. q ≡ holder_in new z.source) → b ≡ not (is_same p q) → over ≡ (b || is_out now x.current)
+    → IfSome x.current (λ z. p ≡ still (restarts w H when f) (holder_in old) z.source) → IfSome x.current (λ z. q ≡ holder_in new z.source) → b ≡ not (is_same p q) → over ≡ (b || is_out now x.current)
     → broken ≡ breaks over x.current → m.missed ≡ (if broken then min (x.missed + 1) 18446744073709551615 else x.missed) → m.current ≡ left over x.current
     → u ≡ is_unheard w f m.current
     → y.missed ≡ (if u then min (m.missed + 1) 18446744073709551615 else m.missed) → (IsFit m.current → y.current ≡ hears w now f m.current)
     → HeardOn w H when f broken u y
 heard_on w H when f old new b over broken u now p q x m y h k l t e1 e2 e3 e4 e5 e6 e7 e8 e9 e10 =
     let G = At when (Hear f) ∷ H in
-    let over_by : Option OpenBroadcast → Bool = λ o. is_over (holder w H) (holder w G) (time_heard G) o in
+    let over_by : Option OpenBroadcast → Bool = λ o. is_over (known w H when f) (holder w G) (time_heard G) o in
     let on = leaves_on w H over broken over_by x m h
-    (either_over over b _ _ _ x.current e4 (changes_is w H G old new b p q x.current k l e1 e2 e3) (ap (λ (n : ℕ). is_out n x.current) t)) e5 e6 e7 in
+    (either_over over b _ _ _ x.current e4 (changes_still w H when f old new b p q x.current k l e1 e2 e3) (ap (λ (n : ℕ). is_out n x.current) t)) e5 e6 e7 in
     let says : u ≡ is_unheard w f (found w H when f) = e8 ∙ ap (is_unheard w f) on.current in
     let fits : IsFit m.current = subst IsFit (sym on.current) (left_keeps IsFit (over_by (hearing w H)) (hearing w H) tt (fit w H)) in
     record {

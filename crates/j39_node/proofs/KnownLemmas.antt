@@ -1,10 +1,14 @@
--- What a frame is to a controller doesn't depend on what it brought along.
-use Rattle.std.proofs.Common.{◌≡◌, List, [], Option, Some, None, Bool, not, ◌&&◌, ◌||◌, refl, ap}
+-- What a frame is to a controller doesn't depend on what it brought along; and what is refused.
+use Rattle.std.proofs.Common.{◌≢◌, ◌⊎◌, ◌≤◌, ◌∙◌, ◌∷◌, ◌++◌, ◌==◌, ℕ, true, false, nat_eq, nat_lt, if◌then◌else◌, sym, inl, inr, eqb-true, arith, ◌≡◌, List, [], Option, Some, None, Bool, not, ◌&&◌, ◌||◌, refl, ap}
+use Rattle.std.specs.List.{list_any}
+use Rattle.std.specs.Str.{bytes_eq}
 use Rattle.j39_frame.specs.Frame.{FrameRecord}
 use Rattle.j39_frame.specs.Identifier.{destination_of}
 use Rattle.j39_address.specs.Claim.{Claim, claim_of}
+use Rattle.j39_node.specs.declared.kinds.Answer.{Answer}
+use Rattle.j39_node.specs.declared.kinds.Answer.TheVariants.{Nack, Busy}
 use Rattle.j39_node.specs.declared.own.Own.{Own}
-use Rattle.j39_node.specs.History.{Asked, Brought, Message, asked, asked_group, asked_with, calls_for_claim, is_asked, is_larger, is_smaller, with_refusal, with_request, nothing}
+use Rattle.j39_node.specs.History.{repeats, Who, acknowledgment, fresh, is_refusal_due, is_served, refusal, Asked, Brought, Message, asked, asked_group, asked_with, calls_for_claim, is_asked, is_larger, is_smaller, with_refusal, with_request, nothing, double}
 use Rattle.j39_node.specs.Is.{who_of}
 
 pub smaller_known : (k : Brought) (own : Own) (o : Option Claim) → is_smaller (who_of nothing own) o ≡ is_smaller (who_of k own) o
@@ -14,6 +18,10 @@ smaller_known k own (Some c) = refl
 larger_known : (k : Brought) (own : Own) (o : Option Claim) → is_larger (who_of nothing own) o ≡ is_larger (who_of k own) o
 larger_known k own None = refl
 larger_known k own (Some c) = refl
+
+pub double_known : (k : Brought) (own : Own) (o : Option Claim) → double (who_of nothing own) o ≡ double (who_of k own) o
+double_known k own None = refl
+double_known k own (Some c) = refl
 
 pub calls_known : (k : Brought) (own : Own) (lost : Bool) (f : FrameRecord)
     → calls_for_claim (who_of nothing own) lost f ≡ calls_for_claim (who_of k own) lost f
@@ -38,3 +46,55 @@ pub refusal_known : (k : Brought) (own : Own) (room place : Bool) (o : Option As
     → with_refusal (who_of nothing own) room place o due ≡ with_refusal (who_of k own) room place o due
 refusal_known k own room place None due = refl
 refusal_known k own room place (Some r) due = refl
+
+pub fresh_known : (k : Brought) (own : Own) (waiting : List Asked) (o : Option Asked) → fresh (who_of nothing own) waiting o ≡ fresh (who_of k own) waiting o
+fresh_known k own waiting None = refl
+fresh_known k own waiting (Some r) = refl
+
+pub refused_known : (k : Brought) (own : Own) (due : List Message) (o : Option Asked) → is_refusal_due (who_of nothing own) due o ≡ is_refusal_due (who_of k own) due o
+refused_known k own due None = refl
+refused_known k own due (Some r) = refl
+
+-- ---- what is refused
+
+pub has_room : (n : ℕ) → n ≤ 16 → false ≡ (n == 16) → nat_lt n 16 ≡ true
+has_room n l e = less n l e
+  where
+    less : (n : ℕ) → n ≤ 16 → false ≡ (n == 16) → nat_lt n 16 ≡ true
+    less n l e = grind (arith, l, e)
+
+pub no_room : (n : ℕ) → true ≡ (n == 16) → nat_lt n 16 ≡ false
+no_room n e = grind (arith, e)
+
+pub served_not : (a b : Bool) → (a ≡ false) ⊎ (b ≡ false) → (a && b) ≡ false
+served_not a b (inl e) = ap (λ (x : Bool). x && b) e
+served_not true b (inr e) = e
+served_not false b (inr e) = refl
+
+-- whether there is a place for it
+pub place_by : (W : Who) (room place : Bool) (answer : Answer) (r : Asked) (A : List Message) → answer ≡ (if is_served W r.group then Busy else Nack)
+    → place ≡ (room && not (list_any (λ (m : Message). bytes_eq m.bytes (acknowledgment W answer r).bytes) A)) → (room && not (is_refusal_due W A (Some r))) ≡ place
+place_by W room place answer r A e f =
+    ap (λ (a : Answer). room && not (list_any (λ (m : Message). bytes_eq m.bytes (acknowledgment W a r).bytes) A)) (sym e) ∙ sym f
+
+pub refused : (W : Who) (room place : Bool) (r : Asked) (A : List Message) → nat_eq r.destination W.address ≡ true → place ≡ true
+    → (is_served W r.group && room) ≡ false → with_refusal W room place (Some r) A ≡ A ++ refusal W r ∷ []
+refused W room place r A d p s = λ i. if (d i && p i) && not (s i) then A ++ refusal W r ∷ [] else A
+
+pub not_refused : (W : Who) (room place : Bool) (r : Asked) (A : List Message) → (r.destination ≢ W.address) ⊎ (place ≡ false)
+    → with_refusal W room place (Some r) A ≡ A
+not_refused W room place r A (inl n) =
+    ap (λ (x : Bool). if (x && place) && not (is_served W r.group && room) then A ++ refusal W r ∷ [] else A) (differs (nat_eq r.destination W.address) refl)
+  where
+    differs : (b : Bool) → nat_eq r.destination W.address ≡ b → nat_eq r.destination W.address ≡ false
+    differs true e = absurd (n (eqb-true _ _ e))
+    differs false e = e
+not_refused W room place r A (inr p) =
+    ap (λ (x : Bool). if x && not (is_served W r.group && room) then A ++ refusal W r ∷ [] else A) (served_not (nat_eq r.destination W.address) place (inr p))
+
+pub with_room : (a b c : Bool) → a ≡ true → c ≡ b → not c ≡ (a && not b)
+with_room a b c e f = ap not f ∙ sym (ap (λ (x : Bool). x && not b) e)
+
+-- a request counts where none like it waits
+pub fresh_one : (w : Who) (L : List Asked) (r : Asked) → (is_served w r.group ≡ false) ⊎ (list_any (repeats r) L ≡ false) → fresh w L (Some r) ≡ Some r
+fresh_one w L r e = ap (λ (b : Bool). (let o : Option Asked = if b then None else Some r in o)) (served_not (is_served w r.group) (list_any (repeats r) L) e)

@@ -1,5 +1,6 @@
 -- The laws of broadcasts.
-use Rattle.std.proofs.Common.{◌≡◌, ◌⊎◌, ◌↔◌, ℕ, zero, suc, ◌+◌, ◌-◌, ◌<◌, ◌≤◌, List, [], ◌∷◌, ◌++◌, length, Option, Some, None, Result, Ok, Err, Bool, true, false, ◌&&◌, ◌||◌, if◌then◌else◌, nat_eq, nat_le, refl, sym, ap, ◌∙◌, arith, inl, inr, eq-eqb, eqb-true, IsTrue}
+use Rattle.std.proofs.Common.{nat_lt, ◌≡◌, ◌⊎◌, ◌↔◌, ℕ, zero, suc, ◌+◌, ◌-◌, ◌<◌, ◌≤◌, List, [], ◌∷◌, ◌++◌, length, Option, Some, None, Result, Ok, Err, Bool, true, false, ◌&&◌, ◌||◌, if◌then◌else◌, nat_eq, nat_le, refl, sym, ap, ◌∙◌, arith, inl, inr, eq-eqb, eqb-true, IsTrue}
+use Rattle.std.proofs.lemmas.Bool.{and_from}
 use Rattle.std.specs.List.{slice_get}
 use Rattle.j39_frame.specs.Frame.{FrameRecord}
 use Rattle.j39_transport.specs.Message.{MessageRecord, packets_of}
@@ -8,15 +9,16 @@ use Rattle.j39_node.specs.declared.kinds.Ending.{Ending}
 use Rattle.j39_node.specs.declared.kinds.Ending.TheVariants.{Done, Withdrawn}
 use Rattle.j39_node.specs.declared.kinds.Refused.{Refused}
 use Rattle.j39_node.specs.declared.kinds.Refused.TheVariants.{NoAddress, BadValue, Full}
-use Rattle.j39_node.specs.History.{Who, Message, Call, accepted, acknowledged, address_after, all_frames, broadcasts, can_broadcast, claim_address, claim_from, due, first_frames, frame_of, has_packets, holds, is_busy, is_left, is_lost, is_open, is_packet, message_of, moment, open_broadcast, packets, pause, sent, step, told_broadcasts}
+use Rattle.j39_node.specs.declared.turn.Turn.TheVariants.{Reply, Single, Packet, Move}
+use Rattle.j39_node.specs.History.{is_held, is_claim, is_acknowledgment, yields, Who, Message, Call, accepted, acknowledged, address_after, all_frames, broadcasts, can_broadcast, due, first_frames, frame_of, has_packets, holds, is_busy, is_left, is_lost, is_open, is_packet, message_of, moment, open_broadcast, packets, pause, sent, step, told_broadcasts}
 use Rattle.j39_node.specs.History.Call.{At, TakeBroadcastEnded}
 use Rattle.j39_node.specs.History.Act.{TakeFrame, Broadcast}
 use Rattle.j39_node.specs.Reception.{reception}
-use Rattle.j39_node.specs.Is.{claim_goes, gives_way, next_acknowledgment, AreAnswered, Is, broadcast_end, next_control, next_packet, packet_by, long_by, next_frame, next_long}
+use Rattle.j39_node.specs.Is.{is_overdue, is_there, ready, gives_way, next_acknowledgment, AreAnswered, Is, broadcast_end, next_packet, packet_by, long_by, next_frame, next_long}
 use Rattle.j39_node.specs.Transfers.{next_transfer}
 use Rattle.j39_node.specs.Since.{PacketSince, passed_in}
 use Rattle.j39_node.proofs.QueueLemmas.{length_one_more}
-use Rattle.j39_node.proofs.SoundLemmas.{FrameCase, frame_by, frame_case, packet_case, sound, claim_taken, claim_single, due_get, due_taken, none_steers, no_packet, own_get, pause_is, reply_taken, single_taken, no_packet, transfer_taken}
+use Rattle.j39_node.proofs.SoundLemmas.{address_is, packet_taken, IsTurn, none_at, none_next, packet_there, turned, FrameCase, frame_case, packet_case, sound, claim_taken, claim_single, due_get, due_taken, no_packet, own_get, pause_is, reply_taken, single_taken, no_packet, transfer_taken}
 use Rattle.j39_node.proofs.ReceptionLemmas.{replied_get, tidy}
 use Rattle.j39_node.proofs.SoundLemmas.FrameCase.{claims, acknowledges, replies, sends, packs, transfers}
 use Rattle.j39_node.proofs.LaneLemmas.{BroadcastCase, broadcast_case, LaneEnd, lane_end, Opened, Laned, laned, closed, stands_open, opened_by}
@@ -122,22 +124,19 @@ record Packed (w : Who) (H : List Call) (now : ℕ) (f : FrameRecord) : Type 0 w
   pub within : length (packets H) ≤ packets_of message
   pub held : holds w H now ≡ true
   pub none_due : next_acknowledgment w H now ≡ None
-  pub none_waits : slice_get (accepted w H) (length (sent H)) ≡ None
-  pub over : pause H - step H now ≡ 0
+  pub none_waits : IsTrue (is_overdue w H now) ⊎ (nat_lt (length (sent H)) (length (accepted w H)) ≡ false)
+  pub over : pause H - step H now ≤ 100000
 
-packed : (w : Who) (H : List Call) (c : Controller) (now : ℕ) (f : FrameRecord) → Is w (At now (TakeFrame (Some f)) ∷ H) c → is_packet f ≡ true → Packed w H now f
-packed w H c now f is p = go (frame_case w H now f is.answered.1)
+packed_by : (w : Who) (H : List Call) (now : ℕ) (f : FrameRecord) → AreAnswered w H → is_packet f ≡ true → FrameCase w H now f → Packed w H now f
+packed_by w H now f right p = go
   where
-    right : AreAnswered w H
-    right = is.answered.0
-
     go : FrameCase w H now f → Packed w H now f
     go (claims o e) = absurd (not_both _ (no_packet f (claim_single f (claim_taken f now w _ e))) p)
     go (acknowledges m o k g e way) = absurd (not_both _ (no_packet f (due_taken w f now m e (due_get w (due w H) (length (acknowledged H)) m (sound w H right).desk.0 g)).2) p)
     go (replies m o k n g e) = absurd (not_both _ (reply_taken w.address f now m e (replied_get w.address (reception w H).replies 0 m (tidy w H).replies g)).3 p)
     go (sends x o k n g e) = absurd (not_both _ (no_packet f (single_taken w f now x e (own_get w (accepted w H) (length (sent H)) x (sound w H right).own g))) p)
-    go (transfers m o k n past nothing g e) = absurd (not_both _ (transfer_taken w H now f m right e g).packet p)
-    go (packs m o k n past g e) =
+    go (transfers m o k n g e) = absurd (not_both _ (transfer_taken w H now f m right e g).packet p)
+    go (packs m o k n g e) =
         let x = packet_case (open_broadcast w H) (length (packets H)) (pause H - step H now) m g in
         record {
           token = x.token;
@@ -146,34 +145,84 @@ packed w H c now f is p = go (frame_case w H now f is.answered.1)
           is = ap (λ (y : ℕ × Message). y.1) e ∙ x.frame;
           within = x.within;
           held = k;
-          none_due = (none_steers (next_acknowledgment w H now) (slice_get (reception w H).replies 0) n).0;
-          none_waits = past;
+          none_due = n.0;
+          none_waits = waits (turned w H now (Some Packet) n.1);
           over = x.over;
         }
+      where
+        waits : IsTurn (yields H) (ready w H now) (Some Packet) → IsTrue (is_overdue w H now) ⊎ (nat_lt (length (sent H)) (length (accepted w H)) ≡ false)
+        waits (inl o) = inl o
+        waits (inr t) = inr t.1
+
+packed : (w : Who) (H : List Call) (c : Controller) (now : ℕ) (f : FrameRecord) → Is w (At now (TakeFrame (Some f)) ∷ H) c → is_packet f ≡ true → Packed w H now f
+packed w H c now f is p = packed_by w H now f is.answered.0 p (frame_case w H now f is.answered.1)
+
+-- a frame of a broadcast that is taken, and that the address is held then
+pub record TakenPacket (w : Who) (H : List Call) (now : ℕ) (f : FrameRecord) : Type 0 where
+  pub token : ℕ
+  pub message : MessageRecord
+  pub current : open_broadcast w H ≡ Some (token, message)
+  pub held : is_held (address_after w (At now (TakeFrame (Some f)) ∷ H)) ≡ true
+  pub over : pause H - step H now ≤ 100000
+
+pub taken_packet_of : (w : Who) (H : List Call) (now : ℕ) (f : FrameRecord) → AreAnswered w H → FrameCase w H now f → is_packet f ≡ true → TakenPacket w H now f
+taken_packet_of w H now f right case p =
+    let x = packed_by w H now f right p case in record {
+      token = x.token;
+      message = x.message;
+      current = x.current;
+      held = ap is_held (address_is w H now f false (off (is_claim f) refl)) ∙ x.held;
+      over = x.over;
+    }
+  where
+    off : (b : Bool) → is_claim f ≡ b → b ≡ false
+    off true e = absurd (not_both _ (no_packet f (claim_single f e)) p)
+    off false e = refl
 
 pub only : (w : Who) (H : List Call) (c : Controller) (now : ℕ) (f : FrameRecord) → Is w (At now (TakeFrame (Some f)) ∷ H) c → IsTrue (is_packet f)
     → (k : ℕ) × (m : MessageRecord) × (open_broadcast w H ≡ Some (k, m)) × (message_of f ≡ frame_of m (length (packets H))) × (length (packets H) ≤ packets_of m)
 only w H c now f is p = let x = packed w H c now f is p in (x.token, x.message, x.current, x.is, x.within)
 
 pub behind : (w : Who) (H : List Call) (c : Controller) (now : ℕ) (f : FrameRecord) → Is w (At now (TakeFrame (Some f)) ∷ H) c → IsTrue (is_packet f)
-    → IsTrue (holds w H now) × (length (sent H) ≡ length (accepted w H)) × (IsTrue (gives_way w H now) ⊎ (acknowledged H ≡ due w H))
+    → IsTrue (holds w H now) × (IsTrue (is_overdue w H now) ⊎ (length (sent H) ≡ length (accepted w H))) × (IsTrue (gives_way w H now) ⊎ (acknowledged H ≡ due w H))
 behind w H c now f is p =
     let x = packed w H c now f is p in
     let s = sound w H is.answered.0 in
-    let a = past_end (accepted w H) (length (sent H)) x.none_waits in
-    let b = sent_within w H s in
-    (x.held, omega (arith, a, b), all_acknowledged w H now is.answered.0 x.none_due)
+    let b = sent_within w H s in (
+      x.held,
+      elim x.none_waits [
+        | inl o ↦ inl o
+        | inr n ↦ inr (let a = past_end (accepted w H) (length (sent H)) (none_at (accepted w H) (length (sent H)) n) in omega (arith, a, b))
+      ],
+      all_acknowledged w H now is.answered.0 x.none_due,
+    )
+
+-- one that is overdue goes before all but claims and acknowledgments
+pub overdue_goes_by : (w : Who) (H : List Call) (now : ℕ) (f : FrameRecord) → AreAnswered w H → FrameCase w H now f → is_overdue w H now ≡ true
+    → is_claim f ≡ false → is_acknowledgment f ≡ false → is_packet f ≡ true
+overdue_goes_by w H now f right (claims o e) late k a = absurd (not_both _ k (claim_taken f now w _ e))
+overdue_goes_by w H now f right (acknowledges m o h g e way) late k a =
+    absurd (not_both _ a (due_taken w f now m e (due_get w (due w H) (length (acknowledged H)) m (sound w H right).desk.0 g)).1)
+overdue_goes_by w H now f right (replies m o h n g e) late k a = absurd (not_both _ (turned w H now (Some Reply) n.1).1 late)
+overdue_goes_by w H now f right (sends x o h n g e) late k a = absurd (not_both _ (turned w H now (Some Single) n.1).1 late)
+overdue_goes_by w H now f right (packs m o h n g e) late k a = (packet_taken f now m (open_broadcast w H) (length (packets H)) (pause H - step H now) e g).2
+overdue_goes_by w H now f right (transfers m o h n g e) late k a = absurd (not_both _ (turned w H now (Some Move) n.1).0.overdue late)
+
+pub overdue_goes : (w : Who) (H : List Call) (c : Controller) (now : ℕ) (f : FrameRecord) → Is w (At now (TakeFrame (Some f)) ∷ H) c → IsTrue (is_overdue w H now)
+    → is_claim f ≡ false → is_acknowledgment f ≡ false → IsTrue (is_packet f)
+overdue_goes w H c now f is late k a = overdue_goes_by w H now f is.answered.0 (frame_case w H now f is.answered.1) late k a
 
 -- ---- their spacing
 
-pause_or : (b : Bool) (p s q : ℕ) → 50000 ≤ p + q → 50000 ≤ (if b then 50000 else p - s) + (q + s)
+pause_or : (b : Bool) (p s q : ℕ) → 150000 ≤ p + q → 150000 ≤ (if b then 150000 else p - s) + (q + s)
 pause_or true p s q l = omega arith
 pause_or false p s q l = omega (arith, l)
 
 -- what is left of the pause, and what passed since a frame of packets
-pauses : (later E : List Call) → 50000 ≤ pause E → 50000 ≤ pause (later ++ E) + passed_in later E
+pauses : (later E : List Call) → 150000 ≤ pause E → 150000 ≤ pause (later ++ E) + passed_in later E
 pauses [] E l = omega (arith, l)
 pauses (At now (TakeFrame (Some f)) ∷ later) E l = pause_or (is_packet f) (pause (later ++ E)) (step (later ++ E) now) (passed_in later E) (pauses later E l)
+pauses (At now (Broadcast group bytes (Ok k)) ∷ later) E l = let h = pauses later E l in omega (arith, h)
 pauses (call ∷ later) E l = let h = pauses later E l in omega (arith, h)
 
 pub spaced : (w : Who) (H later : List Call) (c : Controller) (now at : ℕ) (f g : FrameRecord)
@@ -185,11 +234,11 @@ spaced w H later c now at f g is p q =
     let l = pauses later (At at (TakeFrame (Some f)) ∷ H) (begins (is_packet f) p) in
     over_all (pause (later ++ At at (TakeFrame (Some f)) ∷ H)) (passed_in later (At at (TakeFrame (Some f)) ∷ H)) (step (later ++ At at (TakeFrame (Some f)) ∷ H) now) l o
   where
-    begins : (b : Bool) → b ≡ true → 50000 ≤ (if b then 50000 else pause H - step H at)
+    begins : (b : Bool) → b ≡ true → 150000 ≤ (if b then 150000 else pause H - step H at)
     begins true e = omega arith
     begins false e = absurd (cc)
 
-    over_all : (p d s : ℕ) → 50000 ≤ p + d → p - s ≡ 0 → 50000 ≤ d + s
+    over_all : (p d s : ℕ) → 150000 ≤ p + d → p - s ≤ 100000 → 50000 ≤ d + s
     over_all p d s a b = omega (arith, a, b)
 
 -- ---- since when a pause lasts
@@ -206,12 +255,13 @@ later_by_one H call e h = record {
       ∙ ap (λ (G : List Call). passed_in h.later (At h.at (TakeFrame (Some h.packet)) ∷ h.earlier) + step G (moment (call ∷ G))) h.is;
 }
 
--- a pause that lasts began with a frame of packets
+-- where the next isn't due, the pause began with a frame of packets
 abbrev Began : List Call → Type 0
-Began H = 0 < pause H → (e : ℕ) × PacketSince H e × (pause H + e ≤ 50000)
+Began H = 100000 < pause H → (e : ℕ) × PacketSince H e × (pause H + e ≤ 150000)
 
-lets_pass : (H : List Call) (call : Call) → Began H → pause (call ∷ H) ≡ pause H - step H (moment (call ∷ H)) → Began (call ∷ H)
-lets_pass H call h p l =
+lets_pass : (H : List Call) (call : Call) → Began H → (100000 < pause (call ∷ H) → pause (call ∷ H) ≡ pause H - step H (moment (call ∷ H))) → Began (call ∷ H)
+lets_pass H call h same l =
+    let p = same l in
     let r = h (omega (arith, p, l)) in
     let b = r.2 in
     (r.0 + step H (moment (call ∷ H)), later_by_one H call r.0 r.1, omega (arith, p, l, b))
@@ -220,47 +270,32 @@ taken_by : (H : List Call) (now : ℕ) (f : FrameRecord) (b : Bool) → is_packe
 taken_by H now f true k h = λ l.
     let p = pause_is H now f true k in
     (0, record { later = []; earlier = H; at = now; packet = f; is = refl; of_packets = k; passed = refl }, omega (arith, p))
-taken_by H now f false k h = lets_pass H (At now (TakeFrame (Some f))) h (pause_is H now f false k)
+taken_by H now f false k h = lets_pass H (At now (TakeFrame (Some f))) h (λ l. pause_is H now f false k)
 
 began : (H : List Call) → Began H
 began [] = λ l. absurd (omega (arith, l))
 began (At now (TakeFrame (Some f)) ∷ H) = taken_by H now f (is_packet f) refl (began H)
-began (call ∷ H) = lets_pass H call (began H) (omega arith)
+began (At now (Broadcast group bytes (Ok k)) ∷ H) = lets_pass H (At now (Broadcast group bytes (Ok k))) (began H) (λ l. omega (arith, l))
+began (call ∷ H) = lets_pass H call (began H) (λ l. omega arith)
 
 -- a frame that is left waits for the pause alone
-no_frame : (o : Option (ℕ × MessageRecord)) (i left : ℕ) → is_left o i ≡ true → packet_by o i left ≡ None → 0 < left
-no_frame None i left e f = absurd (cc)
-no_frame (Some x) i zero e f = absurd (let z = some (nat_le i (packets_of x.1)) e f in z)
+no_frame : (o : Option (ℕ × MessageRecord)) (i left : ℕ) → is_left o i ≡ true → packet_by o i left ≡ None → 100000 < left
+no_frame o i left e f = go (nat_le left 100000) refl (sym (packet_there o i left) ∙ ap is_there f)
   where
-    some : (b : Bool) → b ≡ true → (if b then Some (frame_of x.1 i) else None) ≡ None → ⊥
-    some true p q = absurd (cc)
-    some false p q = absurd (cc)
-no_frame (Some x) i (suc left) e f = omega arith
+    past : (k : ℕ) → nat_le k 100000 ≡ false → 100000 < k
+    past k z = grind arith
+
+    go : (b : Bool) → nat_le left 100000 ≡ b → (is_left o i && nat_le left 100000) ≡ false → 100000 < left
+    go true z y = absurd (let x : true ≡ false = sym (and_from (is_left o i) (nat_le left 100000) e z) ∙ y in cc)
+    go false z y = past left z
 
 -- where no frame is taken from an address that is held, none of packets is next
 pub none_long : (w : Who) (H : List Call) (now : ℕ) → holds w H now ≡ true → (let none : Option (ℕ × Message) = None in none) ≡ next_frame w H now → next_long w H now ≡ None
-none_long w H now held e =
-    none (claim_goes w H now) (holds w H now) (next_control w H now) (slice_get (accepted w H) (length (sent H))) (next_long w H now) held e
-  where
-    none : (o q : Bool) (a : Option Message) (z : Option (ℕ × Message)) (p : Option Message) → q ≡ true
-        → (let none : Option (ℕ × Message) = None in none) ≡ frame_by o q a z p (claim_from w (claim_address w (address_after w H))) now → p ≡ None
-    none true q a z p b e = absurd (cc)
-    none false false a z p b e = absurd (cc)
-    none false true (Some m) z p b e = absurd (cc)
-    none false true None (Some y) p b e = absurd (cc)
-    none false true None None (Some y) b e = absurd (cc)
-    none false true None None None b e = refl
+none_long w H now held e = let n = none_next w H now held e in ap (λ o. long_by o (next_transfer w H now)) n.rest.packet ∙ n.transfer
 
 pausing : (w : Who) (H : List Call) (c : Controller) (now : ℕ) → Is w (At now (TakeFrame None) ∷ H) c → IsTrue (holds w H now)
-    → IsTrue (has_packets w H) → step H now < pause H
-pausing w H c now is held some =
-    let l = no_frame (open_broadcast w H) (length (packets H)) (pause H - step H now) some
-    (no_long (next_packet w H now) (next_transfer w H now) (none_long w H now held is.answered.1)) in
-    omega (arith, l)
-  where
-    no_long : (a b : Option Message) → long_by a b ≡ None → a ≡ None
-    no_long None b e = refl
-    no_long (Some m) b e = absurd (cc)
+    → IsTrue (has_packets w H) → 100000 < pause H - step H now
+pausing w H c now is held some = no_frame (open_broadcast w H) (length (packets H)) (pause H - step H now) some (none_next w H now held is.answered.1).rest.packet
 
 -- ---- how they end
 

@@ -124,8 +124,8 @@ lane_frame w H now f right case h = go case
     go (acknowledges m o k g e way) = same (no_packet f (due_taken w f now m e (due_get w (due w H) (length (acknowledged H)) m (sound w H right).desk.0 g)).2)
     go (replies m o k n g e) = same (reply_taken w.address f now m e (replied_get w.address (reception w H).replies 0 m (tidy w H).replies g)).3
     go (sends x o k n g e) = same (no_packet f (single_taken w f now x e (own_get w (accepted w H) (length (sent H)) x (sound w H right).own g)))
-    go (transfers m o k n past nothing g e) = same (transfer_taken w H now f m right e g).packet
-    go (packs m o k n past g e) =
+    go (transfers m o k n g e) = same (transfer_taken w H now f m right e g).packet
+    go (packs m o k n g e) =
         let is = packet_taken f now m (open_broadcast w H) (length (packets H)) (pause H - step H now) e g in
         subst (λ xs. Laned w (length (told_broadcasts H)) (broadcasts w H) xs (open_broadcast w H))
         (sym (packets_is H now f true is.2 ∙ ap (λ (y : ℕ × Message). packets H ++ y.1 ∷ []) e))

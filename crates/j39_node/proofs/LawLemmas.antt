@@ -1,13 +1,12 @@
 -- The laws.
-use Rattle.std.proofs.Common.{◌≡◌, ◌≢◌, ◌⊎◌, ◌↔◌, ℕ, zero, suc, ◌+◌, ◌-◌, ◌<◌, ◌≤◌, List, [], ◌∷◌, ◌++◌, length, map, Option, Some, None, Result, Ok, Err, Bool, true, false, not, ◌&&◌, ◌||◌, if◌then◌else◌, nat_eq, nat_lt, nat_le, IsTrue, refl, sym, ap, ◌∙◌, inl, inr, arith, length-append, append-nil, eqb-true, eq-eqb, ltb-true, lt-ltb}
+use Rattle.std.proofs.Common.{drop, ◌≡◌, ◌≢◌, ◌⊎◌, ◌↔◌, ℕ, zero, suc, ◌+◌, ◌-◌, ◌<◌, ◌≤◌, List, [], ◌∷◌, ◌++◌, length, map, Option, Some, None, Result, Ok, Err, Bool, true, false, not, ◌&&◌, ◌||◌, if◌then◌else◌, nat_eq, nat_lt, nat_le, IsTrue, refl, sym, ap, ◌∙◌, inl, inr, arith, length-append, append-nil, eqb-true, eq-eqb, ltb-true, lt-ltb, ◌*◌, max}
 use Rattle.std.proofs.lemmas.Bool.{and_from, and_parts}
 use Rattle.std.specs.List.{slice_get}
-use Rattle.std.proofs.lemmas.Option.{slice_get_past}
 use Rattle.j39_frame.specs.Frame.{FrameRecord}
 use Rattle.j39_frame.specs.Address.{global_address, null_address}
 use Rattle.j39_frame.specs.Identifier.{destination_of, source_of, pgn_of}
 use Rattle.j39_frame.specs.Network.{address_claimed_group, request_group}
-use Rattle.j39_address.specs.Claim.{claim_of}
+use Rattle.j39_address.specs.Claim.{claim_of, Claim}
 use Rattle.j39_address.specs.declared.status.Status.TheVariants as status
 use Rattle.j39_node.specs.declared.controller.Controller.{Controller}
 use Rattle.j39_node.specs.declared.kinds.Ending.{Ending}
@@ -15,27 +14,32 @@ use Rattle.j39_node.specs.declared.kinds.Ending.TheVariants.{Done, Withdrawn}
 use Rattle.j39_node.specs.declared.kinds.Answer.{Answer}
 use Rattle.j39_node.specs.declared.kinds.Answer.TheVariants.{Nack, Busy}
 use Rattle.j39_node.specs.declared.kinds.News.{News}
-use Rattle.j39_node.specs.declared.kinds.News.TheVariants.{AddressLost, AnotherAtAddress, MessagesMissed}
+use Rattle.j39_node.specs.declared.kinds.News.TheVariants.{AddressLost, AnotherAtAddress, MessagesMissed, NameDoubled}
 use Rattle.j39_node.specs.declared.kinds.Refused.{Refused}
 use Rattle.j39_node.specs.declared.kinds.Refused.TheVariants.{NoAddress, BadValue, Full}
-use Rattle.j39_node.specs.History.{answers_another, calls, is_another, is_acknowledgment, patience, turns, Who, Message, Draft, Call, Address, IsFront, accepted, address_after, can_send, claim_address, claim_from, content, frames, got, heard, holds, is_claim, is_smaller, claimed, is_for_program, is_held, is_lost, is_none, is_own_group, is_some, is_subscribed, kept, message_of, missed, moment, older, owes_claim, sent, step, told, Asked, asked, acknowledgment, acknowledgment_group, acknowledged, due, handed, requests, is_served, with_request, with_refusal, stamp_at, held_at, lost_news, another_news, missed_news, open_broadcast, packets, pause}
-use Rattle.j39_node.specs.History.Call.{At, TakeEnded, TakeReceived, TakeRequest, TakeNews}
-use Rattle.j39_node.specs.History.Act.{Hear, Tick, TakeFrame, Send, Acknowledge}
-use Rattle.j39_node.specs.Reception.{is_waiting, reception}
+use Rattle.j39_node.specs.History.{fresh, is_refusal_due, refusal_waits, waits_already, is_session, is_transfer, yields, answers_another, calls, is_another, is_acknowledgment, patience, turns, Who, Message, Draft, Call, Address, IsFront, accepted, address_after, can_send, claim_address, claim_from, content, frames, got, heard, holds, is_claim, is_smaller, claimed, is_for_program, is_held, is_lost, is_none, is_own_group, is_some, is_subscribed, kept, message_of, missed, moment, older, owes_claim, sent, step, told, Asked, asked, acknowledgment, acknowledgment_group, acknowledged, due, handed, requests, is_served, with_request, with_refusal, stamp_at, held_at, lost_news, another_news, missed_news, open_broadcast, packets, pause, delayed, unclaimed, Again, may_claim, doubled_news, double, told_claims, is_double, is_larger, calls_for_claim, is_alike, latest, message_from}
+use Rattle.j39_node.specs.History.Call.{At, TakeEnded, TakeReceived, TakeRequest, TakeNews, Renew}
+use Rattle.j39_node.specs.History.Act.{Hear, Tick, TakeFrame, Send, Acknowledge, Again}
+use Rattle.j39_node.specs.Reception.{is_move, is_waiting, reception}
 use Rattle.j39_node.proofs.ReceptionLemmas.{replied_get, tidy}
 use Rattle.j39_node.specs.History.Address.{NotClaimed, Claimed, Lost}
 use Rattle.j39_node.specs.Hearing.{unheard_news}
-use Rattle.j39_node.specs.Since.{passed_in}
-use Rattle.j39_node.specs.Is.{AreAnswered, Is, claim_goes, gives_way, is_there, next_acknowledgment, next_other, first_of, stamped, control_of, next_control, next_frame, end_of, status_of, status_after, news_of, next_long}
-use Rattle.j39_node.specs.Transfers.{age, at_in, next_due}
-use Rattle.j39_node.proofs.DueLemmas.{from_long, quiet_long, then_long}
+use Rattle.j39_node.specs.Since.{passed_in, HasDouble}
+use Rattle.j39_node.specs.Prompt.{NoneTold, takes_other}
+use Rattle.j39_node.specs.declared.turn.Turn.TheVariants.{Reply, Move}
+use Rattle.j39_node.specs.Is.{is_apart, ready, AreAnswered, Is, claim_goes, other, next_packet, long_by, gives_way, is_there, next_acknowledgment, next_other, stamped, next_frame, end_of, status_of, status_after, news_of, next_long, claim_due}
+use Rattle.j39_node.specs.Transfers.{next_transfer, age, at_in, next_due}
+use Rattle.j39_node.proofs.DueLemmas.{both_none, from_long, quiet_long, then_long}
 use Rattle.j39_node.proofs.QueueLemmas.{get_within, length_one_more, length_map}
-use Rattle.j39_node.proofs.SoundLemmas.{claim_is, due_is, given_way, none_acknowledged, none_due_goes, none_gives, plain_taken, EndCase, FrameCase, SendCase, Sound, claim_taken, due_get, due_taken, end_case, frame_by, frame_case, front_length, held_older, lost_claimed, lost_older, message_taken, none_steers, own_get, packet_case, packet_taken, reply_taken, send_case, sound, transfer_taken}
+use Rattle.j39_node.proofs.SoundLemmas.{apart_is, is_moved, IsTurn, acknowledgment_single, claim_single, no_transfer, none_there, packet_session, packet_there, single_taken, turned, Rest, none_at, none_next, none_other, other_none, claim_is, given_way, none_acknowledged, none_due_goes, none_gives, plain_taken, EndCase, FrameCase, SendCase, Sound, claim_taken, due_get, due_taken, end_case, frame_by, frame_case, front_length, held_older, lost_claimed, lost_older, message_taken, own_get, packet_case, packet_taken, reply_taken, send_case, sound, transfer_taken, lost_unclaimed, holding_not_lost, no_claim_goes, renew_case}
+use Rattle.j39_node.proofs.KnownLemmas.{fresh_one, not_refused, served_not}
 use Rattle.j39_node.proofs.LaneLemmas.{laned, opened_by}
 use Rattle.j39_node.proofs.CallLemmas.{acknowledge_is, acknowledges_by, due_by}
 use Rattle.j39_node.proofs.SoundLemmas.FrameCase.{claims, acknowledges, replies, sends, packs, transfers}
 use Rattle.j39_node.proofs.SoundLemmas.SendCase.{no_address, bad_value, full, accepts}
 use Rattle.j39_node.proofs.SoundLemmas.EndCase.{done, withdrawn}
+use Rattle.std.specs.Option.{option_or}
+use Rattle.j39_node.proofs.RenewLemmas.{none_past, set_here, set_other}
 
 -- ---- sources
 
@@ -50,8 +54,8 @@ moments w H c now f is = go (frame w H c now f is)
     go (acknowledges m o h g e way) = ap (λ (y : ℕ × Message). y.0) e
     go (replies m o h k g e) = ap (λ (y : ℕ × Message). y.0) e
     go (sends x o h k g e) = ap (λ (y : ℕ × Message). y.0) e
-    go (packs m o h k past g e) = ap (λ (y : ℕ × Message). y.0) e
-    go (transfers m o h k past nothing g e) = ap (λ (y : ℕ × Message). y.0) e
+    go (packs m o h k g e) = ap (λ (y : ℕ × Message). y.0) e
+    go (transfers m o h k g e) = ap (λ (y : ℕ × Message). y.0) e
 
 pub sources : (w : Who) (H : List Call) (c : Controller) (now : ℕ) (f : FrameRecord) → Is w (At now (TakeFrame (Some f)) ∷ H) c
     → (message_of f ≡ claim_from w (claim_address w (address_after w H)))
@@ -82,7 +86,7 @@ sources w H c now f is = go (frame w H c now f is)
           ap (λ (y : ℕ × Message). y.1.source) e ∙ own.source,
           λ z. (let a = message_taken w f now x e own in let b = eq-eqb (pgn_of f.id) address_claimed_group z in let d : true ≡ false = sym b ∙ a in absurd (cc)),
         )
-    go (packs m o h k past g e) =
+    go (packs m o h k g e) =
         let p = packet_case (open_broadcast w H) (length (packets H)) (pause H - step H now) m g in
         let is_own = (opened_by w _ _ _ (open_broadcast w H) (p.token, p.message) (laned w H is.answered.0) p.is).source in
         let is = packet_taken f now m (open_broadcast w H) (length (packets H)) (pause H - step H now) e g in
@@ -91,7 +95,7 @@ sources w H c now f is = go (frame w H c now f is)
           ap (λ (y : ℕ × Message). y.1.source) e ∙ (ap (λ (y : Message). y.source) p.frame ∙ is_own),
           λ z. (let b = eq-eqb (pgn_of f.id) address_claimed_group z in let d : true ≡ false = sym b ∙ is.0 in absurd (cc)),
         )
-    go (transfers m o h k past nothing g e) =
+    go (transfers m o h k g e) =
         let is = transfer_taken w H now f m is.answered.0 e g in
         inr (h, is.source, λ z. (let b = eq-eqb (pgn_of f.id) address_claimed_group z in let d : true ≡ false = sym b ∙ is.claim in absurd (cc)))
 
@@ -180,26 +184,13 @@ withdrawn_means w H c k e is z = (told_is w H c k e is).withdrawn z
 pub none_waits : (w : Who) (H : List Call) (c : Controller) (now : ℕ) → Is w (At now (TakeFrame None) ∷ H) c → IsTrue (holds w H now)
     → (length (sent H) ≡ length (accepted w H)) × (length (acknowledged H) ≡ length (due w H))
 none_waits w H c now is held =
-    go (claim_goes w H now) (holds w H now) (next_control w H now) (slice_get (accepted w H) (length (sent H))) held refl refl is.answered.1
-  where
-    p : Option Message
-    p = next_long w H now
-
-    go : (o q : Bool) (a : Option Message) (z : Option (ℕ × Message)) → q ≡ true → next_control w H now ≡ a
-        → slice_get (accepted w H) (length (sent H)) ≡ z
-        → (let none : Option (ℕ × Message) = None in none) ≡ frame_by o q a z p (claim_from w (claim_address w (address_after w H))) now
-        → (length (sent H) ≡ length (accepted w H)) × (length (acknowledged H) ≡ length (due w H))
-    go true q a z b d f e = absurd (cc)
-    go false false a z b d f e = absurd (cc)
-    go false true (Some m) z b d f e = absurd (cc)
-    go false true None (Some y) b d f e = absurd (cc)
-    go false true None None b d f e =
-        let s = sound w H is.answered.0 in
-        let x = past_end (accepted w H) (length (sent H)) f in
-        let y = sent_within w H s in
-        let u = past_end (due w H) (length (acknowledged H)) (sym (due_is w H now (none_gives w H now is.answered.1)) ∙ (none_steers (next_acknowledgment w H now) (slice_get (reception w H).replies 0) d).0) in
-        let v = front_length (acknowledged H) (due w H) s.desk.1 in
-        (omega (arith, x, y), omega (arith, u, v))
+    let n = none_next w H now held is.answered.1 in
+    let s = sound w H is.answered.0 in
+    let x = past_end (accepted w H) (length (sent H)) n.rest.message in
+    let y = sent_within w H s in
+    let u = past_end (due w H) (length (acknowledged H)) n.acknowledgment in
+    let v = front_length (acknowledged H) (due w H) s.desk.1 in
+    (omega (arith, x, y), omega (arith, u, v))
 
 -- ---- what send answers
 
@@ -334,8 +325,8 @@ owed w H now f (claims o e) p = ap content e
 owed w H now f (acknowledges m o h g e way) p = absurd (not_both _ o p)
 owed w H now f (replies m o h k g e) p = absurd (not_both _ o p)
 owed w H now f (sends x o h k g e) p = absurd (not_both _ o p)
-owed w H now f (packs m o h k past g e) p = absurd (not_both _ o p)
-owed w H now f (transfers m o h k past nothing g e) p = absurd (not_both _ o p)
+owed w H now f (packs m o h k g e) p = absurd (not_both _ o p)
+owed w H now f (transfers m o h k g e) p = absurd (not_both _ o p)
 
 or_true : (a b : Bool) → a ≡ true → (a || b) ≡ true
 or_true a b e = ap (λ (c : Bool). c || b) e
@@ -348,16 +339,32 @@ still_owed : (w : Who) (later H : List Call) → frames later ≡ [] → owes_cl
 still_owed w [] H e o = o
 still_owed w (At when (Hear f) ∷ later) H e o = or_true _ _ (still_owed w later H e o)
 still_owed w (At now (TakeFrame (Some f)) ∷ later) H e o = absurd (let a = ap length e in let b = length_one_more (frames later) f in omega (arith, a, b))
+still_owed w (At now Again ∷ later) H e o = refl
 still_owed w (call ∷ later) H e o = still_owed w later H e o
+
+owed_due : (w : Who) (H : List Call) (now : ℕ) → owes_claim w H ≡ true → is_lost (address_after w H) ≡ false → claim_due w H now ≡ true
+owed_due w H now o l = λ i. o i && (not (l i) || nat_eq (delayed w H - step H now) 0)
+
+-- where a frame is taken, a claim that is owed may go
+taken_due : (w : Who) (H : List Call) (now : ℕ) (f : FrameRecord) → FrameCase w H now f → owes_claim w H ≡ true → claim_due w H now ≡ true
+taken_due w H now f (claims g e) o = (and_parts (claim_due w H now) (not (gives_way w H now)) g).0
+taken_due w H now f (acknowledges m g h k e way) o = owed_due w H now o (holding_not_lost w H now h)
+taken_due w H now f (replies m g h k i e) o = owed_due w H now o (holding_not_lost w H now h)
+taken_due w H now f (sends x g h k i e) o = owed_due w H now o (holding_not_lost w H now h)
+taken_due w H now f (packs m g h k i e) o = owed_due w H now o (holding_not_lost w H now h)
+taken_due w H now f (transfers m g h k i e) o = owed_due w H now o (holding_not_lost w H now h)
 
 -- it goes now, or gives way
 claimed_or_not : (w : Who) (H : List Call) (c : Controller) (now : ℕ) (g : FrameRecord) → Is w (At now (TakeFrame (Some g)) ∷ H) c → owes_claim w H ≡ true
     → IsTrue (gives_way w H now) ⊎ (message_of g ≡ claim_from w (claim_address w (address_after w H)))
 claimed_or_not w H c now g is o = go (gives_way w H now) refl
   where
+    due_now : claim_due w H now ≡ true
+    due_now = taken_due w H now g (frame w H c now g is) o
+
     go : (b : Bool) → gives_way w H now ≡ b → IsTrue (gives_way w H now) ⊎ (message_of g ≡ claim_from w (claim_address w (address_after w H)))
     go true e = inl e
-    go false e = inr (owed w H now g (frame w H c now g is) (claim_is w H now e ∙ o))
+    go false e = inr (owed w H now g (frame w H c now g is) (claim_is w H now e ∙ due_now))
 
 pub next_claim : (w : Who) (H later : List Call) (c : Controller) (now : ℕ) (when : ℕ) (f g : FrameRecord)
     → Is w (At now (TakeFrame (Some g)) ∷ later ++ At when (Hear f) ∷ H) c → frames later ≡ []
@@ -380,14 +387,14 @@ same_turns (call ∷ later) H e = same_turns later H e
 -- what goes where others give way is neither a claim nor an acknowledgment
 other_plain : (w : Who) (H : List Call) (now : ℕ) (f : FrameRecord) → AreAnswered w H → FrameCase w H now f → gives_way w H now ≡ true
     → (is_claim f ≡ false) × (is_acknowledgment f ≡ false)
-other_plain w H now f right (claims o e) g = absurd (not_both _ (ap not g) (and_parts (owes_claim w H) (not (gives_way w H now)) o).1)
+other_plain w H now f right (claims o e) g = absurd (not_both _ (ap not g) (and_parts (claim_due w H now) (not (gives_way w H now)) o).1)
 other_plain w H now f right (acknowledges m o h k e way) g = absurd (not_both _ way g)
 other_plain w H now f right (replies m o h k i e) g = let r = reply_taken w.address f now m e (replied_get w.address (reception w H).replies 0 m (tidy w H).replies i) in (r.0, r.1)
 other_plain w H now f right (sends x o h k i e) g =
     let own = own_get w (accepted w H) (length (sent H)) x (sound w H right).own i in (message_taken w f now x e own, plain_taken w f now x e own)
-other_plain w H now f right (packs m o h k past i e) g =
+other_plain w H now f right (packs m o h k i e) g =
     let p = packet_taken f now m (open_broadcast w H) (length (packets H)) (pause H - step H now) e i in (p.0, p.1)
-other_plain w H now f right (transfers m o h k past nothing i e) g = let t = transfer_taken w H now f m right e i in (t.claim, t.plain)
+other_plain w H now f right (transfers m o h k i e) g = let t = transfer_taken w H now f m right e i in (t.claim, t.plain)
 
 -- and the one after it does, where it gave way
 pub second_claim : (w : Who) (H later between : List Call) (c : Controller) (last now when : ℕ) (f g i : FrameRecord)
@@ -464,48 +471,254 @@ takes_turns w H later between c last second first f g i m is none none_between p
         (ap (λ (b : Bool). if b then suc (turns (later ++ At first (TakeFrame (Some f)) ∷ H)) else 0) q
         ∙ ap suc (same_turns later (At first (TakeFrame (Some f)) ∷ H) none ∙ ap (λ (b : Bool). if b then suc (turns H) else 0) p))
 
+pub or_false : (a b : Bool) → (a || b) ≡ false → (a ≡ false) × (b ≡ false)
+or_false true b e = absurd (cc)
+or_false false b e = (refl, e)
+
+-- behind a frame of a session to an address replies yield, as long as no other frame but claims and acknowledgments is taken
+still_yields : (later H : List Call) → NoneTold takes_other later → yields H ≡ true → yields (later ++ H) ≡ true
+still_yields [] H n e = e
+still_yields (At now (TakeFrame (Some f)) ∷ later) H n e = go (is_claim f || is_acknowledgment f) n.0 (still_yields later H n.1 e)
+  where
+    go : (b : Bool) → not b ≡ false → yields (later ++ H) ≡ true → (if b then yields (later ++ H) else is_transfer f) ≡ true
+    go true i h = h
+    go false i h = absurd (cc)
+still_yields (call ∷ later) H n e = still_yields later H n.1 e
+
+yields_then : (H : List Call) (now : ℕ) (f : FrameRecord) → is_transfer f ≡ true → yields (At now (TakeFrame (Some f)) ∷ H) ≡ true
+yields_then H now f t = go (is_claim f) (is_acknowledgment f) refl refl
+  where
+    session : is_session f ≡ true
+    session = (and_parts (is_session f) _ t).0
+
+    go : (a b : Bool) → is_claim f ≡ a → is_acknowledgment f ≡ b → (if is_claim f || is_acknowledgment f then yields H else is_transfer f) ≡ true
+    go true b p q = absurd (not_both _ (claim_single f p) session)
+    go false true p q = absurd (not_both _ (acknowledgment_single f q) session)
+    go false false p q = (λ i. if p i || q i then yields H else is_transfer f) ∙ t
+
+-- and behind it what else is due goes before the next reply
+pub behind_a_reply : (w : Who) (H later : List Call) (c : Controller) (last first : ℕ) (f i : FrameRecord)
+    → Is w (At last (TakeFrame (Some i)) ∷ later ++ At first (TakeFrame (Some f)) ∷ H) c → IsTrue (is_transfer f) → NoneTold takes_other later
+    → (length (sent (later ++ At first (TakeFrame (Some f)) ∷ H)) < length (accepted w (later ++ At first (TakeFrame (Some f)) ∷ H)))
+    ⊎ ((next_packet w (later ++ At first (TakeFrame (Some f)) ∷ H) last ≢ None)
+    ⊎ IsTrue (is_apart (next_transfer w (later ++ At first (TakeFrame (Some f)) ∷ H) last) (slice_get (reception w (later ++ At first (TakeFrame (Some f)) ∷ H)).replies 0)))
+    → (is_transfer i ≡ false) ⊎ IsTrue (is_move w (later ++ At first (TakeFrame (Some f)) ∷ H) i)
+behind_a_reply w H later c last first f i is t none due_one = go (frame_case w G last i is.answered.1)
+  where
+    G : List Call
+    G = later ++ At first (TakeFrame (Some f)) ∷ H
+
+    waits : (ready w G last).message ≡ false → (ready w G last).packet ≡ false → (ready w G last).transfer ≡ false → ⊥
+    waits a b d = elim due_one [
+      | inl l ↦ not_both _ a (lt-ltb _ _ l)
+      | inr n ↦ elim n [
+        | inl p ↦ p (none_there _ (packet_there (open_broadcast w G) (length (packets G)) (pause G - step G last) ∙ b))
+        | inr q ↦ not_both _ d q
+      ]
+    ]
+
+    yield : IsTurn (yields G) (ready w G last) (Some Reply) → ⊥
+    yield x =
+        let r = ready w G last in
+        let z = or_false _ _ (sym (ap (λ (y : Bool). y && (r.message || (r.packet || r.transfer))) (still_yields later _ none (yields_then H first f t))) ∙ x.2) in
+        let y = or_false _ _ z.1 in waits z.0 y.0 y.1
+
+    go : FrameCase w G last i → (is_transfer i ≡ false) ⊎ IsTrue (is_move w G i)
+    go (claims o e) = inl (no_transfer i (claim_single i (claim_taken i last w _ e)))
+    go (acknowledges m o h g e way) = inl (no_transfer i (due_taken w i last m e (due_get w (due w G) (length (acknowledged G)) m (sound w G is.answered.0).desk.0 g)).2)
+    go (replies m o h n g e) = absurd (yield (turned w G last (Some Reply) n.1))
+    go (sends x o h n g e) = inl (no_transfer i (single_taken w i last x e (own_get w (accepted w G) (length (sent G)) x (sound w G is.answered.0).own g)))
+    go (packs m o h n g e) = inl (packet_session i (packet_taken i last m (open_broadcast w G) (length (packets G)) (pause G - step G last) e g).2).1
+    go (transfers m o h n g e) = inr (is_moved w G i (transfer_taken w G last i m is.answered.0 e g).transfer
+        (apart_is w G last i m g (ap (λ (y : ℕ × Message). y.1) e) (turned w G last (Some Move) n.1).1))
+
+no_first : {T : Type 0} (L : List T) → slice_get L 0 ≡ None → L ≡ []
+no_first [] e = refl
+no_first (x ∷ L) e = absurd (cc)
+
 -- a message or a reply that waits is due, and so is a frame of packets
 pub others_due : (w : Who) (H : List Call) (now : ℕ) → IsTrue (holds w H now)
     → (length (sent H) < length (accepted w H)) ⊎ (((reception w H).replies ≢ []) ⊎ (next_long w H now ≢ None)) → next_other w H now ≢ None
-others_due w H now held one e = go (reception w H).replies (slice_get (accepted w H) (length (sent H))) (next_long w H now) refl refl refl
-    (sym (ap (λ (b : Bool). if b then first_of (slice_get (reception w H).replies 0) (slice_get (accepted w H) (length (sent H))) (next_long w H now) else None) held) ∙ e)
+others_due w H now held one e = go one
   where
-    go : (R : List Message) (o : Option (ℕ × Message)) (p : Option Message) → (reception w H).replies ≡ R → slice_get (accepted w H) (length (sent H)) ≡ o
-        → next_long w H now ≡ p → first_of (slice_get R 0) o p ≡ None → ⊥
-    go (m ∷ R) o p i j k z = absurd (cc)
-    go [] (Some x) p i j k z = absurd (cc)
-    go [] None (Some m) i j k z = absurd (cc)
-    go [] None None i j k z = elim one [
-      | inl s ↦ (let a = past_end (accepted w H) (length (sent H)) j in omega (arith, s, a))
-      | inr y ↦ elim y [ inl r ↦ r i | inr l ↦ l k ]
-    ]
+    n : Rest w H now × (next_transfer w H now ≡ None)
+    n = none_other w H now (sym (ap (λ (b : Bool). if b then other w H now else None) held) ∙ e)
+
+    go : (length (sent H) < length (accepted w H)) ⊎ (((reception w H).replies ≢ []) ⊎ (next_long w H now ≢ None)) → ⊥
+    go (inl s) = let a = past_end (accepted w H) (length (sent H)) n.0.message in omega (arith, s, a)
+    go (inr (inl r)) = r (no_first (reception w H).replies n.0.reply)
+    go (inr (inr l)) = l (ap (λ o. long_by o (next_transfer w H now)) n.0.packet ∙ n.1)
+
+no_claim_left : (w : Who) (H : List Call) (now : ℕ) → claim_goes w H now ≡ true → (let none : Option (ℕ × Message) = None in none) ≡ next_frame w H now → ⊥
+no_claim_left w H now o e = go (claim_goes w H now) o e
+  where
+    go : (b : Bool) → b ≡ true → (let none : Option (ℕ × Message) = None in none) ≡ frame_by b (holds w H now) (next_acknowledgment w H now) (other w H now) (claim_from w (claim_address w (address_after w H))) now → ⊥
+    go true p f = absurd (cc)
+    go false p f = absurd (cc)
+
+pub stays_lost : (b : Bool) (s : ℕ) (a : Address) → is_lost a ≡ true → is_lost (if b then Lost else older s a) ≡ true
+stays_lost true s a e = refl
+stays_lost false s a e = lost_older s a ∙ e
+
+pub stays_lost_claimed : (b : Bool) (s : ℕ) (a : Address) → is_lost a ≡ true → is_lost (if b then claimed (older s a) else older s a) ≡ true
+stays_lost_claimed true s a e = lost_claimed (older s a) ∙ (lost_older s a ∙ e)
+stays_lost_claimed false s a e = lost_older s a ∙ e
+
+due_by_then : (w : Who) (H : List Call) (now : ℕ) → owes_claim w H ≡ true → (IsTrue (is_lost (address_after w H)) → delayed w H ≤ step H now)
+    → claim_due w H now ≡ true
+due_by_then w H now o ripe = go (is_lost (address_after w H)) refl
+  where
+    none_left : (d s : ℕ) → d ≤ s → nat_eq (d - s) 0 ≡ true
+    none_left d s l = grind (arith, l)
+
+    go : (b : Bool) → is_lost (address_after w H) ≡ b → claim_due w H now ≡ true
+    go false l = owed_due w H now o l
+    go true l = λ i. o i && (not (l i) || none_left (delayed w H) (step H now) (ripe l) i)
+
+pub most_delayed : (w : Who) (H : List Call) → delayed w H ≤ w.delay * 600
+most_delayed w [] = omega arith
+most_delayed w (At now (Hear f) ∷ H) = go (calls w H now f && not (is_lost (address_after w H) && owes_claim w H)) (most_delayed w H)
+  where
+    go : (b : Bool) → delayed w H ≤ w.delay * 600 → (if b then w.delay * 600 else delayed w H - step H now) ≤ w.delay * 600
+    go true z = omega arith
+    go false z = omega (arith, z)
+most_delayed w (At now Again ∷ H) = omega arith
+most_delayed w (call ∷ H) = let z = most_delayed w H in omega (arith, z)
+
+-- 'cannot claim' waits, and nothing goes before it
+still_lost : (w : Who) (later H : List Call) → is_lost (address_after w H) ≡ true → is_lost (address_after w (later ++ H)) ≡ true
+still_lost w [] H e = e
+still_lost w (At when (Hear f) ∷ later) H e = stays_lost (is_smaller w (claim_of f)) (step (later ++ H) when) (address_after w (later ++ H)) (still_lost w later H e)
+still_lost w (At now (TakeFrame (Some f)) ∷ later) H e = stays_lost_claimed (is_claim f) (step (later ++ H) now) (address_after w (later ++ H)) (still_lost w later H e)
+still_lost w (At now Again ∷ later) H e = lost_unclaimed _ ∙ (lost_older (step (later ++ H) now) (address_after w (later ++ H)) ∙ still_lost w later H e)
+still_lost w (call ∷ later) H e = let z = lost_older (step (later ++ H) (moment (call ∷ later ++ H))) (address_after w (later ++ H)) in let h = still_lost w later H e in cc
+
+still_delayed : (w : Who) (later H : List Call) → frames later ≡ [] → is_lost (address_after w H) ≡ true → owes_claim w H ≡ true
+    → w.delay * 600 ≤ delayed w H → w.delay * 600 ≤ delayed w (later ++ H) + passed_in later H
+still_delayed w [] H e l o d = omega (arith, d)
+still_delayed w (At when (Hear f) ∷ later) H e l o d =
+    let z = still_delayed w later H e l o d in
+    let y : delayed w (At when (Hear f) ∷ later ++ H) ≡ delayed w (later ++ H) - step (later ++ H) when =
+    (λ i. if calls w (later ++ H) when f && not (still_lost w later H l i && still_owed w later H e o i) then w.delay * 600 else delayed w (later ++ H) - step (later ++ H) when)
+    ∙ ap (λ (b : Bool). if b then w.delay * 600 else delayed w (later ++ H) - step (later ++ H) when) (no_more_calls (calls w (later ++ H) when f)) in omega (arith, z, y)
+  where
+    no_more_calls : (b : Bool) → (b && false) ≡ false
+    no_more_calls b = grind arith
+still_delayed w (At now (TakeFrame (Some f)) ∷ later) H e l o d = absurd (let a = ap length e in let b = length_one_more (frames later) f in omega (arith, a, b))
+still_delayed w (At now Again ∷ later) H e l o d = omega arith
+still_delayed w (call ∷ later) H e l o d = let z = still_delayed w later H e l o d in omega (arith, z)
+
+pub cannot_claim_waits : (w : Who) (H later : List Call) (c : Controller) (when now : ℕ) (f : FrameRecord) (answer : Option FrameRecord)
+    → Is w (At now (TakeFrame answer) ∷ later ++ At when (Hear f) ∷ H) c → frames later ≡ [] → IsTrue (is_smaller w (claim_of f)) → is_lost (address_after w H) ≡ false
+    → passed_in later (At when (Hear f) ∷ H) + step (later ++ At when (Hear f) ∷ H) now < w.delay * 600 → answer ≡ None
+cannot_claim_waits w H later c when now f None is none away stood l = refl
+cannot_claim_waits w H later c when now f (Some g) is none away stood l = absurd (go (frame w K c now g is))
+  where
+    G : List Call
+    G = At when (Hear f) ∷ H
+
+    K : List Call
+    K = later ++ G
+
+    called : calls w H when f ≡ true
+    called = or_true (calls_for_claim w (is_lost (address_after w H)) f) _ (or_true ((is_smaller w (claim_of f) || is_larger w (claim_of f)) && not (is_lost (address_after w H))) _
+        (λ i. (away i || is_larger w (claim_of f)) && not (stood i)))
+
+    lost_then : is_lost (address_after w G) ≡ true
+    lost_then = ap (λ (b : Bool). is_lost (if b then Lost else older (step H when) (address_after w H))) away
+
+    begins : delayed w G ≡ w.delay * 600
+    begins = λ i. if called i && not (stood i && owes_claim w H) then w.delay * 600 else delayed w H - step H when
+
+    left : w.delay * 600 ≤ delayed w K + passed_in later G
+    left = still_delayed w later G none lost_then (or_right (owes_claim w H) _ called) (let b = begins in omega (arith, b))
+
+    not_yet : (d s : ℕ) → s < d → nat_eq (d - s) 0 ≡ false
+    not_yet d s k = grind (arith, k)
+
+    undue : claim_due w K now ≡ false
+    undue = (λ i. owes_claim w K && (not (still_lost w later G lost_then i) || not_yet (delayed w K) (step K now) (let a = left in omega (arith, a, l)) i))
+        ∙ no_claim_goes (owes_claim w K)
+
+    away_from : holds w K now ≡ true → ⊥
+    away_from h = not_both _ (holding_not_lost w K now h) (still_lost w later G lost_then)
+
+    go : FrameCase w K now g → ⊥
+    go (claims o e) = not_both _ undue (and_parts (claim_due w K now) (not (gives_way w K now)) o).0
+    go (acknowledges m o h k e way) = away_from h
+    go (replies m o h k i e) = away_from h
+    go (sends x o h k i e) = away_from h
+    go (packs m o h k i e) = away_from h
+    go (transfers m o h k i e) = away_from h
+
+-- claimed anew, it isn't held till a claim is taken
+abbrev unheld : Address → Bool
+unheld NotClaimed = true
+unheld (Claimed e) = false
+unheld Lost = true
+
+unheld_so : (a : Address) → unheld (unclaimed a) ≡ true
+unheld_so NotClaimed = refl
+unheld_so (Claimed e) = refl
+unheld_so Lost = refl
+
+unheld_on : (b : Bool) (s : ℕ) (a : Address) → unheld a ≡ true → unheld (if b then Lost else older s a) ≡ true
+unheld_on true s a e = refl
+unheld_on false s NotClaimed e = refl
+unheld_on false s (Claimed n) e = absurd (cc)
+unheld_on false s Lost e = refl
+
+never_held : (s : ℕ) (a : Address) → unheld a ≡ true → is_held (older s a) ≡ false
+never_held s NotClaimed e = refl
+never_held s (Claimed n) e = absurd (cc)
+never_held s Lost e = refl
+
+still_unheld : (w : Who) (later H : List Call) → frames later ≡ [] → unheld (address_after w H) ≡ true → unheld (address_after w (later ++ H)) ≡ true
+still_unheld w [] H e o = o
+still_unheld w (At when (Hear f) ∷ later) H e o = unheld_on (is_smaller w (claim_of f)) (step (later ++ H) when) _ (still_unheld w later H e o)
+still_unheld w (At now (TakeFrame (Some f)) ∷ later) H e o = absurd (let a = ap length e in let b = length_one_more (frames later) f in omega (arith, a, b))
+still_unheld w (At now Again ∷ later) H e o = unheld_so _
+still_unheld w (call ∷ later) H e o = let z = unheld_on false (step (later ++ H) (moment (call ∷ later ++ H))) _ (still_unheld w later H e o) in let h = still_unheld w later H e o in cc
+
+pub anew_claims : (w : Who) (H later : List Call) (c : Controller) (when now : ℕ) (g : FrameRecord)
+    → Is w (At now (TakeFrame (Some g)) ∷ later ++ At when Again ∷ H) c → frames later ≡ []
+    → message_of g ≡ claim_from w (claim_address w (address_after w (later ++ At when Again ∷ H)))
+anew_claims w H later c when now g is none = go (frame w K c now g is)
+  where
+    K : List Call
+    K = later ++ At when Again ∷ H
+
+    away_from : holds w K now ≡ true → ⊥
+    away_from h = not_both _ (never_held (step K now) (address_after w K) (still_unheld w later (At when Again ∷ H) none (unheld_so _))) h
+
+    go : FrameCase w K now g → message_of g ≡ claim_from w (claim_address w (address_after w K))
+    go (claims o e) = ap content e
+    go (acknowledges m o h k e way) = absurd (away_from h)
+    go (replies m o h k i e) = absurd (away_from h)
+    go (sends x o h k i e) = absurd (away_from h)
+    go (packs m o h k i e) = absurd (away_from h)
+    go (transfers m o h k i e) = absurd (away_from h)
 
 pub claims_at_once : (w : Who) (H : List Call) (c : Controller) (now : ℕ) (answer : Option FrameRecord) → Is w (At now (TakeFrame answer) ∷ H) c
-    → IsTrue (owes_claim w H) → answer ≢ None
-claims_at_once w H c now (Some f) is o z = absurd (cc)
-claims_at_once w H c now None is o z =
-    go (claim_goes w H now) (next_control w H now) (slice_get (accepted w H) (length (sent H))) (claim_is w H now (none_gives w H now is.answered.1) ∙ o) is.answered.1
-  where
-    go : (b : Bool) (a : Option Message) (y : Option (ℕ × Message)) → b ≡ true
-        → (let none : Option (ℕ × Message) = None in none) ≡ frame_by b (holds w H now) a y (next_long w H now) (claim_from w (claim_address w (address_after w H))) now → ⊥
-    go true a y e f = absurd (cc)
-    go false a y e f = absurd (cc)
+    → IsTrue (owes_claim w H) → (IsTrue (is_lost (address_after w H)) → delayed w H ≤ step H now) → answer ≢ None
+claims_at_once w H c now (Some f) is owes ripe z = absurd (cc)
+claims_at_once w H c now None is owes ripe z = no_claim_left w H now (claim_is w H now (none_gives w H now is.answered.1) ∙ due_by_then w H now owes ripe) is.answered.1
 
 pub claims_only : (w : Who) (H : List Call) (c : Controller) (now : ℕ) (f : FrameRecord) → Is w (At now (TakeFrame (Some f)) ∷ H) c
     → pgn_of f.id ≡ address_claimed_group → IsTrue (owes_claim w H)
 claims_only w H c now f is z = go (frame w H c now f is)
   where
     go : FrameCase w H now f → owes_claim w H ≡ true
-    go (claims o e) = (and_parts (owes_claim w H) (not (gives_way w H now)) o).0
+    go (claims o e) = (and_parts (owes_claim w H) _ (and_parts (claim_due w H now) (not (gives_way w H now)) o).0).0
     go (acknowledges m o h g e way) =
         absurd (not_both _ (due_taken w f now m e (due_get w (due w H) (length (acknowledged H)) m (sound w H is.answered.0).desk.0 g)).0 (eq-eqb (pgn_of f.id) address_claimed_group z))
     go (replies m o h k g e) =
         absurd (not_both _ (reply_taken w.address f now m e (replied_get w.address (reception w H).replies 0 m (tidy w H).replies g)).0 (eq-eqb (pgn_of f.id) address_claimed_group z))
     go (sends x o h k g e) =
         absurd (not_both _ (message_taken w f now x e (own_get w (accepted w H) (length (sent H)) x (sound w H is.answered.0).own g)) (eq-eqb (pgn_of f.id) address_claimed_group z))
-    go (packs m o h k past g e) =
+    go (packs m o h k g e) =
         absurd (not_both _ (packet_taken f now m (open_broadcast w H) (length (packets H)) (pause H - step H now) e g).0 (eq-eqb (pgn_of f.id) address_claimed_group z))
-    go (transfers m o h k past nothing g e) = absurd (not_both _ (transfer_taken w H now f m is.answered.0 e g).claim (eq-eqb (pgn_of f.id) address_claimed_group z))
+    go (transfers m o h k g e) = absurd (not_both _ (transfer_taken w H now f m is.answered.0 e g).claim (eq-eqb (pgn_of f.id) address_claimed_group z))
 
 -- ---- who
 
@@ -543,13 +756,23 @@ cannot w H = cannot_is w (address_after w H)
 
 -- ---- requests
 
-request_case : (w : Who) (H : List Call) (when : ℕ) (f : FrameRecord) (o : Option Asked) → asked w (holds w H when) f ≡ o
+-- what it asks for, where none like it waits
+abbrev counts : Who → List Call → ℕ → FrameRecord → Option Asked
+counts w H when f = fresh w (drop (length (handed H)) (requests w H)) (asked w (holds w H when) f)
+
+request_case : (w : Who) (H : List Call) (when : ℕ) (f : FrameRecord) (o : Option Asked) → counts w H when f ≡ o
     → requests w (At when (Hear f) ∷ H) ≡ with_request w (nat_lt (length (requests w H) - length (handed H)) 16) o (requests w H)
 request_case w H when f o e = ap (λ x. with_request w (nat_lt (length (requests w H) - length (handed H)) 16) x (requests w H)) e
 
-refusal_case : (w : Who) (H : List Call) (when : ℕ) (f : FrameRecord) (o : Option Asked) → asked w (holds w H when) f ≡ o
-    → due w (At when (Hear f) ∷ H) ≡ with_refusal w (nat_lt (length (requests w H) - length (handed H)) 16) (nat_lt (length (due w H) - length (acknowledged H)) 16) o (due w H)
-refusal_case w H when f o e = ap (λ x. with_refusal w (nat_lt (length (requests w H) - length (handed H)) 16) (nat_lt (length (due w H) - length (acknowledged H)) 16) x (due w H)) e
+refusal_case : (w : Who) (H : List Call) (when : ℕ) (f : FrameRecord) (o : Option Asked) → counts w H when f ≡ o
+    → due w (At when (Hear f) ∷ H) ≡ with_refusal w (nat_lt (length (requests w H) - length (handed H)) 16)
+    (nat_lt (length (due w H) - length (acknowledged H)) 16 && not (is_refusal_due w (drop (length (acknowledged H)) (due w H)) o)) o (due w H)
+refusal_case w H when f o e = ap (λ x. with_refusal w (nat_lt (length (requests w H) - length (handed H)) 16)
+    (nat_lt (length (due w H) - length (acknowledged H)) 16 && not (is_refusal_due w (drop (length (acknowledged H)) (due w H)) x)) x (due w H)) e
+
+counts_one : (w : Who) (H : List Call) (when : ℕ) (f : FrameRecord) (r : Asked) → asked w (holds w H when) f ≡ Some r
+    → (is_served w r.group ≡ false) ⊎ (waits_already w H r ≡ false) → counts w H when f ≡ Some r
+counts_one w H when f r e new = ap (fresh w (drop (length (handed H)) (requests w H))) e ∙ fresh_one w (drop (length (handed H)) (requests w H)) r new
 
 has_room : (a b : ℕ) → a < b + 16 → nat_lt (a - b) 16 ≡ true
 has_room a b l = lt-ltb _ _ (omega (arith, l))
@@ -574,51 +797,78 @@ off : (b c : Bool) → (b && not (true && true)) ≡ false
 off b c = grind arith
 
 pub is_handed : (w : Who) (H : List Call) (when : ℕ) (f : FrameRecord) (r : Asked) → asked w (holds w H when) f ≡ Some r → IsTrue (is_served w r.group)
-    → length (requests w H) < length (handed H) + 16 → (requests w (At when (Hear f) ∷ H) ≡ requests w H ++ r ∷ []) × (due w (At when (Hear f) ∷ H) ≡ due w H)
-is_handed w H when f r e served l =
-    let room = has_room _ _ l in (
-      request_case w H when f (Some r) e ∙ (ap (λ (b : Bool). with_request w b (Some r) (requests w H)) room ∙ with_it w r (requests w H) true true served),
-      refusal_case w H when f (Some r) e
-          ∙ (ap (λ (b : Bool). with_refusal w b (nat_lt (length (due w H) - length (acknowledged H)) 16) (Some r) (due w H)) room
-          ∙ (refused_it w r (due w H) true true (nat_lt (length (due w H) - length (acknowledged H)) 16) (nat_eq r.destination w.address) served refl
-          ∙ ap (λ (b : Bool). if b then due w H ++ acknowledgment w Busy r ∷ [] else due w H)
-          (off (nat_eq r.destination w.address && nat_lt (length (due w H) - length (acknowledged H)) 16) true))),
+    → waits_already w H r ≡ false → length (requests w H) < length (handed H) + 16
+    → (requests w (At when (Hear f) ∷ H) ≡ requests w H ++ r ∷ []) × (due w (At when (Hear f) ∷ H) ≡ due w H)
+is_handed w H when f r e served new l =
+    let room = has_room _ _ l in
+    let k = counts_one w H when f r e (inr new) in
+    let place = nat_lt (length (due w H) - length (acknowledged H)) 16 && not (refusal_waits w H r) in (
+      request_case w H when f (Some r) k ∙ (ap (λ (b : Bool). with_request w b (Some r) (requests w H)) room ∙ with_it w r (requests w H) true true served),
+      refusal_case w H when f (Some r) k
+          ∙ (ap (λ (b : Bool). with_refusal w b place (Some r) (due w H)) room
+          ∙ (refused_it w r (due w H) true true place (nat_eq r.destination w.address) served refl
+          ∙ ap (λ (b : Bool). if b then due w H ++ acknowledgment w Busy r ∷ [] else due w H) (off (nat_eq r.destination w.address && place) true))),
     )
 
+-- one that waits already changes nothing
+pub is_again : (w : Who) (H : List Call) (when : ℕ) (f : FrameRecord) (r : Asked) → asked w (holds w H when) f ≡ Some r → IsTrue (is_served w r.group)
+    → IsTrue (waits_already w H r) → (requests w (At when (Hear f) ∷ H) ≡ requests w H) × (due w (At when (Hear f) ∷ H) ≡ due w H)
+is_again w H when f r e served waits =
+    let k : counts w H when f ≡ None = ap (fresh w (drop (length (handed H)) (requests w H))) e
+    ∙ ap (λ (b : Bool). (let o : Option Asked = if b then None else Some r in o)) (and_from (is_served w r.group) (waits_already w H r) served waits) in
+    (request_case w H when f None k, refusal_case w H when f None k)
+
 pub is_refused : (w : Who) (H : List Call) (when : ℕ) (f : FrameRecord) (r : Asked) → asked w (holds w H when) f ≡ Some r → r.destination ≡ w.address
-    → (IsTrue (is_served w r.group) → ⊥) → length (due w H) < length (acknowledged H) + 16
+    → (IsTrue (is_served w r.group) → ⊥) → refusal_waits w H r ≡ false → length (due w H) < length (acknowledged H) + 16
     → (requests w (At when (Hear f) ∷ H) ≡ requests w H) × (due w (At when (Hear f) ∷ H) ≡ due w H ++ acknowledgment w Nack r ∷ [])
-is_refused w H when f r e at n l =
+is_refused w H when f r e at n once l =
     let s = is_false _ n in
+    let k = counts_one w H when f r e (inl s) in
     let room = nat_lt (length (requests w H) - length (handed H)) 16 in (
-      request_case w H when f (Some r) e ∙ with_it w r (requests w H) false room s,
-      refusal_case w H when f (Some r) e
-          ∙ (ap (λ (b : Bool). with_refusal w room b (Some r) (due w H)) (has_room _ _ l)
+      request_case w H when f (Some r) k ∙ with_it w r (requests w H) false room s,
+      refusal_case w H when f (Some r) k
+          ∙ ((λ i. with_refusal w room (has_room _ _ l i && not (once i)) (Some r) (due w H))
           ∙ refused_it w r (due w H) false room true true s (eq-eqb _ _ at)),
     )
 
 pub is_busy : (w : Who) (H : List Call) (when : ℕ) (f : FrameRecord) (r : Asked) → asked w (holds w H when) f ≡ Some r → r.destination ≡ w.address
-    → IsTrue (is_served w r.group) → length (handed H) + 16 ≤ length (requests w H) → length (due w H) < length (acknowledged H) + 16
+    → IsTrue (is_served w r.group) → waits_already w H r ≡ false → refusal_waits w H r ≡ false → length (handed H) + 16 ≤ length (requests w H)
+    → length (due w H) < length (acknowledged H) + 16
     → (requests w (At when (Hear f) ∷ H) ≡ requests w H) × (due w (At when (Hear f) ∷ H) ≡ due w H ++ acknowledgment w Busy r ∷ [])
-is_busy w H when f r e at served k l =
-    let none = has_none _ _ k in (
-      request_case w H when f (Some r) e ∙ (ap (λ (b : Bool). with_request w b (Some r) (requests w H)) none ∙ with_it w r (requests w H) true false served),
-      refusal_case w H when f (Some r) e
-          ∙ (ap (λ (b : Bool). with_refusal w b (nat_lt (length (due w H) - length (acknowledged H)) 16) (Some r) (due w H)) none
-          ∙ (ap (λ (b : Bool). with_refusal w false b (Some r) (due w H)) (has_room _ _ l)
-          ∙ refused_it w r (due w H) true false true true served (eq-eqb _ _ at))),
+is_busy w H when f r e at served new once u l =
+    let none = has_none _ _ u in
+    let k = counts_one w H when f r e (inr new) in (
+      request_case w H when f (Some r) k ∙ (ap (λ (b : Bool). with_request w b (Some r) (requests w H)) none ∙ with_it w r (requests w H) true false served),
+      refusal_case w H when f (Some r) k
+          ∙ ((λ i. with_refusal w (none i) (has_room _ _ l i && not (once i)) (Some r) (due w H))
+          ∙ refused_it w r (due w H) true false true true served (eq-eqb _ _ at)),
     )
+
+-- where it isn't refused
+unrefused : (w : Who) (H : List Call) (when : ℕ) (f : FrameRecord) (r : Asked) → asked w (holds w H when) f ≡ Some r
+    → (r.destination ≢ w.address) ⊎ ((nat_lt (length (due w H) - length (acknowledged H)) 16 && not (refusal_waits w H r)) ≡ false)
+    → due w (At when (Hear f) ∷ H) ≡ due w H
+unrefused w H when f r e n = go (is_served w r.group && waits_already w H r) refl
+  where
+    go : (b : Bool) → (is_served w r.group && waits_already w H r) ≡ b → due w (At when (Hear f) ∷ H) ≡ due w H
+    go true g = refusal_case w H when f None (ap (fresh w (drop (length (handed H)) (requests w H))) e ∙ ap (λ (b : Bool). (let o : Option Asked = if b then None else Some r in o)) g)
+    go false g =
+        refusal_case w H when f (Some r) (ap (fresh w (drop (length (handed H)) (requests w H))) e ∙ ap (λ (b : Bool). (let o : Option Asked = if b then None else Some r in o)) g)
+        ∙ not_refused w (nat_lt (length (requests w H) - length (handed H)) 16) _ r (due w H) n
 
 pub never_to_all : (w : Who) (H : List Call) (when : ℕ) (f : FrameRecord) (r : Asked) → asked w (holds w H when) f ≡ Some r → r.destination ≢ w.address
     → due w (At when (Hear f) ∷ H) ≡ due w H
-never_to_all w H when f r e n =
-    refusal_case w H when f (Some r) e
-    ∙ refused_it w r (due w H) (is_served w r.group) (nat_lt (length (requests w H) - length (handed H)) 16) (nat_lt (length (due w H) - length (acknowledged H)) 16) false refl
-    (is_false _ (λ z. n (eqb-true _ _ z)))
+never_to_all w H when f r e n = unrefused w H when f r e (inl n)
+
+-- a refusal that is due already isn't due twice
+pub refused_once : (w : Who) (H : List Call) (when : ℕ) (f : FrameRecord) (r : Asked) → asked w (holds w H when) f ≡ Some r → IsTrue (refusal_waits w H r)
+    → due w (At when (Hear f) ∷ H) ≡ due w H
+refused_once w H when f r e once = unrefused w H when f r e (inr (served_not _ _ (inr (ap not once))))
 
 pub no_request : (w : Who) (H : List Call) (when : ℕ) (f : FrameRecord) → asked w (holds w H when) f ≡ None
     → (requests w (At when (Hear f) ∷ H) ≡ requests w H) × (due w (At when (Hear f) ∷ H) ≡ due w H)
-no_request w H when f e = (request_case w H when f None e, refusal_case w H when f None e)
+no_request w H when f e =
+    let k = ap (fresh w (drop (length (handed H)) (requests w H))) e in (request_case w H when f None k, refusal_case w H when f None k)
 
 pub handed_in_order : (w : Who) (H : List Call) (c : Controller) → Is w H c → IsFront (handed H) (requests w H)
 handed_in_order w H c is = (sound w H is.answered).desk.2
@@ -646,13 +896,10 @@ acknowledged_first w H c now f is n m = go (frame w H c now f is)
     go (claims o e) = absurd (n (eqb-true _ _ (claim_taken f now w _ e)))
     go (acknowledges x o h g e way) =
         absurd (m (ap (λ (y : ℕ × Message). y.1.group) e ∙ (due_get w (due w H) (length (acknowledged H)) x (sound w H is.answered.0).desk.0 g).group))
-    go (replies m o h k g e) = all_acknowledged w H now is.answered.0 k
-    go (sends x o h k g e) =
-        all_acknowledged w H now is.answered.0 (none_steers (next_acknowledgment w H now) (slice_get (reception w H).replies 0) k).0
-    go (packs x o h k past g e) =
-        all_acknowledged w H now is.answered.0 (none_steers (next_acknowledgment w H now) (slice_get (reception w H).replies 0) k).0
-    go (transfers x o h k past nothing g e) =
-        all_acknowledged w H now is.answered.0 (none_steers (next_acknowledgment w H now) (slice_get (reception w H).replies 0) k).0
+    go (replies m o h k g e) = all_acknowledged w H now is.answered.0 k.0
+    go (sends x o h k g e) = all_acknowledged w H now is.answered.0 k.0
+    go (packs x o h k g e) = all_acknowledged w H now is.answered.0 k.0
+    go (transfers x o h k g e) = all_acknowledged w H now is.answered.0 k.0
 
 pub is_acknowledged : (w : Who) (H : List Call) (c : Controller) (now : ℕ) (r : Asked) (a : Answer) (result : Result (Unit {0}) Refused)
     → Is w (At now (Acknowledge r a result) ∷ H) c → IsTrue (holds w H now) → r.destination ≡ w.address → length (due w H) < length (acknowledged H) + 16
@@ -670,6 +917,41 @@ only_to_address w H c now r a is = go (holds w H now) (nat_eq r.destination w.ad
     go true false z e g k = absurd (cc)
     go false y z e g k = absurd (cc)
 
+-- ---- the newest value
+
+pub renewed : (w : Who) (H : List Call) (c : Controller) (d : Draft) (k : ℕ) → Is w (Renew d (Some k) ∷ H) c
+    → (m : Message) × (slice_get (accepted w H) k ≡ Some (k, m)) × IsTrue (is_alike (message_from w d) m) × (length (sent H) ≤ k) × (length (told H) ≤ k)
+    × (slice_get (accepted w (Renew d (Some k) ∷ H)) k ≡ Some (k, message_from w d))
+renewed w H c d k is =
+    let at = (renew_case w H d k is.answered.1).at in
+    let e : slice_get (accepted w H) k ≡ Some at.entry = ap (slice_get (accepted w H)) (let y : k ≡ k - 0 = omega arith in y) ∙ at.is in
+    let n : at.entry.0 ≡ k = (sound w H is.answered.0).numbered k at.entry e in
+    let l = at.from in (
+      at.entry.1,
+      e ∙ ap (λ (i : ℕ). (let z : Option (ℕ × Message) = Some (i, at.entry.1) in z)) n,
+      at.alike,
+      omega (arith, l),
+      omega (arith, l),
+      set_here (accepted w H) k at.entry (k, message_from w d) e,
+    )
+
+pub newest : (w : Who) (H : List Call) (c : Controller) (d : Draft) (k j : ℕ) (m : Message) → Is w (Renew d (Some k) ∷ H) c → k < j
+    → slice_get (accepted w H) j ≡ Some (j, m) → is_alike (message_from w d) m ≡ false
+newest w H c d k j m is l e =
+    let r = renew_case w H d k is.answered.1 in
+    let f = r.at.from in
+    none_past (message_from w d) _ j (accepted w H) (Some k) (j, m) r.is e (omega (arith, f, l)) (λ i z. let y : k ≡ i = cc in omega (arith, y, l))
+
+pub others_stay : (w : Who) (H : List Call) (d : Draft) (k j : ℕ) → j ≢ k → slice_get (accepted w (Renew d (Some k) ∷ H)) j ≡ slice_get (accepted w H) j
+others_stay w H d k j n = set_other (accepted w H) k j (k, message_from w d) n
+
+pub none_waits_alike : (w : Who) (H : List Call) (c : Controller) (d : Draft) (j : ℕ) (m : Message) → Is w (Renew d None ∷ H) c → IsTrue (can_send w d)
+    → length (sent H) ≤ j → length (told H) ≤ j → slice_get (accepted w H) j ≡ Some (j, m) → is_alike (message_from w d) m ≡ false
+none_waits_alike w H c d j m is can s t e =
+    none_past (message_from w d) _ j (accepted w H) None (j, m)
+    (sym (is.answered.1 ∙ ap (λ (b : Bool). if b then latest (message_from w d) (max (length (sent H)) (length (told H))) 0 (accepted w H) None else None) can))
+    e (omega (arith, s, t)) (λ i z. absurd (cc))
+
 -- ---- quiet till due
 
 -- where no address is held, nothing was accepted or is due that could be taken
@@ -677,7 +959,7 @@ Quiet : Who → List Call → ℕ → Type 0
 Quiet w H now = (t : ℕ) → next_due w H ≡ Some t → now < t
 
 not_due : (w : Who) (H : List Call) (now : ℕ) (b : Bool) → moment H ≤ now → now < 10000000000000000 → Quiet w H now
-    → (owes_claim w H || (is_held (address_after w H) && is_waiting w H)) ≡ b → b ≡ false
+    → (may_claim w H (delayed w H) || (is_held (address_after w H) && is_waiting w H)) ≡ b → b ≡ false
 unfolding Quiet
 not_due w H now false l m q e = refl
 not_due w H now true l m q e =
@@ -709,29 +991,23 @@ not_held_yet w H now (Claimed n) l m q e = go (nat_lt (moment H + (250000 - n)) 
         far : (k : ℕ) → nat_lt k 10000000000000000 ≡ false → 10000000000000000 ≤ k
         far k g = grind arith
 
-pub or_false : (a b : Bool) → (a || b) ≡ false → (a ≡ false) × (b ≡ false)
-or_false true b e = absurd (cc)
-or_false false b e = (refl, e)
+none_by : (h : Bool) (x y : Option Message) (m : Message) (now : ℕ) → (h ≡ false) ⊎ ((x ≡ None) × (y ≡ None)) → frame_by false h x y m now ≡ None
+none_by false x y m now e = refl
+none_by true x y m now (inl e) = absurd (cc)
+none_by true x y m now (inr e) = ap (λ z. frame_by false true z y m now) e.0 ∙ ap (λ z. frame_by false true None z m now) e.1
 
-past : {T : Type 0} (L : List T) (n : ℕ) → nat_lt n (length L) ≡ false → slice_get L n ≡ None
-past L n e = slice_get_past L n (not_lt n (length L) e)
-  where
-    not_lt : (i k : ℕ) → nat_lt i k ≡ false → k ≤ i
-    not_lt i k f = grind arith
+lost_unheld : (a : Address) → is_lost a ≡ true → unheld a ≡ true
+lost_unheld NotClaimed e = refl
+lost_unheld (Claimed n) e = absurd (cc)
+lost_unheld Lost e = refl
 
-no_control : (w : Who) (H : List Call) (now : ℕ) → slice_get (due w H) (length (acknowledged H)) ≡ None → slice_get (reception w H).replies 0 ≡ None
-    → next_control w H now ≡ None
-no_control w H now e f = ap (λ (x : Option Message). control_of x (slice_get (reception w H).replies 0)) (none_due_goes w H now e) ∙ f
-
-none_by : (h : Bool) (x : Option Message) (y : Option (ℕ × Message)) (p : Option Message) (m : Message) (now : ℕ)
-    → (h ≡ false) ⊎ ((x ≡ None) × (y ≡ None) × (p ≡ None)) → frame_by false h x y p m now ≡ None
-none_by false x y p m now e = refl
-none_by true x y p m now (inl e) = absurd (cc)
-none_by true x y p m now (inr e) =
-    ap (λ z. frame_by false true z y p m now) e.0 ∙ (ap (λ z. frame_by false true None z p m now) e.1 ∙ ap (λ z. frame_by false true None None z m now) e.2)
+lost_not_held : (a : Address) → is_lost a ≡ true → is_held a ≡ false
+lost_not_held NotClaimed e = refl
+lost_not_held (Claimed n) e = absurd (cc)
+lost_not_held Lost e = refl
 
 -- what next_due tells where no frame can be taken at the moment of the last call
-due_later : (w : Who) (H : List Call) (l : Bool) → (owes_claim w H || (is_held (address_after w H) && is_waiting w H)) ≡ false
+due_later : (w : Who) (H : List Call) (l : Bool) → (may_claim w H (delayed w H) || (is_held (address_after w H) && is_waiting w H)) ≡ false
     → is_held (address_after w H) ≡ l → next_due w H ≡ due_by w H false l
 due_later w H l e f =
     ap (λ (b : Bool). due_by w H b (is_held (address_after w H))) e ∙ ap (due_by w H false) f
@@ -752,28 +1028,54 @@ still_waits w H now n l m q e = go (nat_lt (moment H + n) 10000000000000000) ref
 nothing_taken : (w : Who) (H : List Call) (now : ℕ) → moment H ≤ now → now < 10000000000000000 → Quiet w H now → next_frame w H now ≡ None
 unfolding Quiet
 nothing_taken w H now l m q =
-    ap (λ (b : Bool). frame_by b (holds w H now) (next_control w H now) (slice_get (accepted w H) (length (sent H))) (next_long w H now) c now) (ap (λ (b : Bool). b && not (gives_way w H now)) o.0)
-    ∙ none_by (holds w H now) _ _ _ c now (held (is_held (address_after w H)) refl)
+    ap (λ (b : Bool). frame_by b (holds w H now) (next_acknowledgment w H now) (other w H now) c now) (ap (λ (b : Bool). b && not (gives_way w H now)) (unclaimed_now (owes_claim w H) (is_lost (address_after w H)) refl refl))
+    ∙ none_by (holds w H now) _ _ c now (held (is_held (address_after w H)) refl)
   where
     c : Message
     c = claim_from w (claim_address w (address_after w H))
 
-    n : (owes_claim w H || (is_held (address_after w H) && is_waiting w H)) ≡ false
+    n : (may_claim w H (delayed w H) || (is_held (address_after w H) && is_waiting w H)) ≡ false
     n = not_due w H now _ l m q refl
 
-    o : (owes_claim w H ≡ false) × ((is_held (address_after w H) && is_waiting w H) ≡ false)
-    o = or_false (owes_claim w H) _ n
+    o : (may_claim w H (delayed w H) ≡ false) × ((is_held (address_after w H) && is_waiting w H) ≡ false)
+    o = or_false (may_claim w H (delayed w H)) _ n
 
-    long : is_held (address_after w H) ≡ true → next_long w H now ≡ None
-    long z = quiet_long w H now (λ k f. still_waits w H now k l m q (due_later w H true n z ∙ ap (at_in (moment H)) f))
+    may_now : owes_claim w H ≡ true → is_lost (address_after w H) ≡ false → ⊥
+    may_now a b = not_both _ o.0 (λ i. a i && (not (b i) || nat_eq (delayed w H) 0))
 
-    held : (b : Bool) → is_held (address_after w H) ≡ b
-        → (holds w H now ≡ false) ⊎ ((next_control w H now ≡ None) × (slice_get (accepted w H) (length (sent H)) ≡ None) × (next_long w H now ≡ None))
-    held false z = inl (not_held_yet w H now (address_after w H) l m (λ t e. q t (due_later w H false n z ∙ e)) z)
+    some_left : (d s : ℕ) → s < d → nat_eq (d - s) 0 ≡ false
+    some_left d s k = grind (arith, k)
+
+    unclaimed_now : (a b : Bool) → owes_claim w H ≡ a → is_lost (address_after w H) ≡ b → claim_due w H now ≡ false
+    unclaimed_now false b i j = ap (λ (x : Bool). x && (not (is_lost (address_after w H)) || nat_eq (delayed w H - step H now) 0)) i
+    unclaimed_now true false i j = absurd (may_now i j)
+    unclaimed_now true true i j =
+        let k = still_waits w H now (delayed w H) l m q (due_later w H false n (lost_not_held (address_after w H) j)
+        ∙ ap (λ (x : Bool). if x then stamp_at (moment H + delayed w H) else held_at (address_after w H) (moment H)) i) in
+        λ t. i t && (not (j t) || some_left (delayed w H) (step H now) k t)
+
+    not_yet : (a b : Bool) → owes_claim w H ≡ a → is_lost (address_after w H) ≡ b → is_held (address_after w H) ≡ false → holds w H now ≡ false
+    not_yet a true i j z = never_held (step H now) (address_after w H) (lost_unheld (address_after w H) j)
+    not_yet true false i j z = absurd (may_now i j)
+    not_yet false false i j z = not_held_yet w H now (address_after w H) l m
+        (λ t e. q t (due_later w H false n z ∙ (ap (λ (x : Bool). if x then stamp_at (moment H + delayed w H) else held_at (address_after w H) (moment H)) i ∙ e))) z
+
+    long : is_held (address_after w H) ≡ true → (next_packet w H now ≡ None) × (next_transfer w H now ≡ None)
+    long z = both_none _ _ (quiet_long w H now (λ k f. still_waits w H now k l m q (due_later w H true n z ∙ ap (at_in (moment H)) f)))
+
+    held : (b : Bool) → is_held (address_after w H) ≡ b → (holds w H now ≡ false) ⊎ ((next_acknowledgment w H now ≡ None) × (other w H now ≡ None))
+    held false z = inl (not_yet _ _ refl refl z)
     held true z =
         let v = or_false _ _ (sym (ap (λ (b : Bool). b && is_waiting w H) z) ∙ o.1) in
         let u = or_false _ _ v.1 in
-        inr (no_control w H now (past (due w H) (length (acknowledged H)) u.0) (past (reception w H).replies 0 u.1), past (accepted w H) (length (sent H)) v.0, long z)
+        inr (
+          none_due_goes w H now (none_at (due w H) (length (acknowledged H)) u.0),
+          other_none w H now (record {
+            reply = none_at (reception w H).replies 0 u.1;
+            message = none_at (accepted w H) (length (sent H)) v.0;
+            packet = (long z).0;
+          }) (long z).1,
+        )
 
 pub quiet : (w : Who) (H : List Call) (c : Controller) (now : ℕ) (answer : Option FrameRecord) → Is w (At now (TakeFrame answer) ∷ H) c → moment H ≤ now
     → now < 10000000000000000 → ((t : ℕ) → next_due w H ≡ Some t → now < t) → answer ≡ None
@@ -805,97 +1107,130 @@ held_at_later (Claimed n) m e = go (nat_lt n 250000) (nat_lt (m + (250000 - n)) 
     go true false f g = absurd (cc)
     go true true f g = let x : m + (250000 - n) ≡ m = cc in let y = ltb-true n 250000 f in absurd (omega (arith, x, y))
 
-some_by : (o h : Bool) (x : Option Message) (y : Option (ℕ × Message)) (p : Option Message) (m : Message) (now : ℕ)
-    → (o ≡ true) ⊎ ((h ≡ true) × ((x ≡ None) × (y ≡ None) × (p ≡ None) → ⊥))
-    → (let none : Option (ℕ × Message) = None in none) ≡ frame_by o h x y p m now → ⊥
-some_by true h x y p m now e f = absurd (cc)
-some_by false false x y p m now (inl e) f = absurd (cc)
-some_by false false x y p m now (inr e) f = absurd (let z = e.0 in cc)
-some_by false true (Some a) y p m now e f = absurd (cc)
-some_by false true None (Some b) p m now e f = absurd (cc)
-some_by false true None None (Some d) m now e f = absurd (cc)
-some_by false true None None None m now (inl e) f = absurd (cc)
-some_by false true None None None m now (inr e) f = e.1 (refl, refl, refl)
-
 -- one is taken where the claim is owed, one waits, or one of packets is due
 none_taken : (w : Who) (H : List Call) (c : Controller) (now : ℕ) → Is w (At now (TakeFrame None) ∷ H) c
     → (next_due w H ≡ due_by w H false true → next_long w H now ≡ None → ⊥)
-    → (next_due w H ≡ due_by w H false false → is_held (address_after w H) ≡ false → ⊥) → ⊥
-none_taken w H c now is long later = go (owes_claim w H) (is_held (address_after w H)) (is_waiting w H) refl refl refl
+    → (may_claim w H (delayed w H) ≡ false → next_due w H ≡ due_by w H false false → is_held (address_after w H) ≡ false → ⊥) → ⊥
+none_taken w H c now is long later = go (may_claim w H (delayed w H)) (is_held (address_after w H)) (is_waiting w H) refl refl refl
   where
     stays : gives_way w H now ≡ false
     stays = none_gives w H now is.answered.1
 
-    by : (owes_claim w H ≡ true)
-        ⊎ ((holds w H now ≡ true) × ((next_control w H now ≡ None) × (slice_get (accepted w H) (length (sent H)) ≡ None) × (next_long w H now ≡ None) → ⊥)) → ⊥
-    by x = some_by (claim_goes w H now) (holds w H now) (next_control w H now) (slice_get (accepted w H) (length (sent H))) (next_long w H now)
-        (claim_from w (claim_address w (address_after w H))) now (elim x [ inl o ↦ inl (claim_is w H now stays ∙ o) | inr r ↦ inr r ]) is.answered.1
+    may_still : (o b : Bool) (d s : ℕ) → (o && (not b || nat_eq d 0)) ≡ true → (o && (not b || nat_eq (d - s) 0)) ≡ true
+    may_still o b d s e = grind (arith, e)
 
-    none : (h x : Bool) → owes_claim w H ≡ false → is_held (address_after w H) ≡ h → is_waiting w H ≡ x → (h && x) ≡ false
-        → (owes_claim w H || (is_held (address_after w H) && is_waiting w H)) ≡ false
+    none : (h x : Bool) → may_claim w H (delayed w H) ≡ false → is_held (address_after w H) ≡ h → is_waiting w H ≡ x → (h && x) ≡ false
+        → (may_claim w H (delayed w H) || (is_held (address_after w H) && is_waiting w H)) ≡ false
     none h x p q r s = ap (λ (u : Bool). u || (is_held (address_after w H) && is_waiting w H)) p ∙ (ap (λ (u : Bool). u && is_waiting w H) q ∙ (ap (λ (u : Bool). h && u) r ∙ s))
 
-    go : (o h x : Bool) → owes_claim w H ≡ o → is_held (address_after w H) ≡ h → is_waiting w H ≡ x → ⊥
-    go true h x p q r = by (inl p)
-    go false true true p q r = by (inr (
-      held_older _ (address_after w H) q,
-      λ n. (let k = none_steers (next_acknowledgment w H now) (slice_get (reception w H).replies 0) n.0 in
-          let a = there (due w H) (length (acknowledged H)) (sym (due_is w H now stays) ∙ k.0) in let b = there (accepted w H) (length (sent H)) n.1 in let v = there (reception w H).replies 0 k.1 in
-          let d : is_waiting w H ≡ false =
-          ap (λ (u : Bool). u || (nat_lt (length (acknowledged H)) (length (due w H)) || nat_lt 0 (length (reception w H).replies))) b
-          ∙ (ap (λ (u : Bool). u || nat_lt 0 (length (reception w H).replies)) a ∙ v) in
-          not_both _ d r),
-    ))
-    go false true false p q r = by (inr (
-      held_older _ (address_after w H) q,
-      λ n. long (due_later w H true (none true false p q r refl) q) n.2,
-    ))
-    go false false x p q r = later (due_later w H false (none false x p q r refl) q) q
+    go : (o h x : Bool) → may_claim w H (delayed w H) ≡ o → is_held (address_after w H) ≡ h → is_waiting w H ≡ x → ⊥
+    go true h x p q r = no_claim_left w H now (claim_is w H now stays ∙ may_still (owes_claim w H) (is_lost (address_after w H)) (delayed w H) (step H now) p) is.answered.1
+    go false true true p q r =
+        let n = none_next w H now (held_older _ (address_after w H) q) is.answered.1 in
+        let a = there (due w H) (length (acknowledged H)) n.acknowledgment in
+        let b = there (accepted w H) (length (sent H)) n.rest.message in
+        let v = there (reception w H).replies 0 n.rest.reply in
+        let d : is_waiting w H ≡ false =
+        ap (λ (u : Bool). u || (nat_lt (length (acknowledged H)) (length (due w H)) || nat_lt 0 (length (reception w H).replies))) b
+        ∙ (ap (λ (u : Bool). u || nat_lt 0 (length (reception w H).replies)) a ∙ v) in
+        not_both _ d r
+    go false true false p q r =
+        let n = none_next w H now (held_older _ (address_after w H) q) is.answered.1 in
+        long (due_later w H true (none true false p q r refl) q) (ap (λ o. long_by o (next_transfer w H now)) n.rest.packet ∙ n.transfer)
+    go false false x p q r = later p (due_later w H false (none false x p q r refl) q) q
+
+not_at_once : (w : Who) (H : List Call) → may_claim w H (delayed w H) ≡ false
+    → (if owes_claim w H then stamp_at (moment H + delayed w H) else held_at (address_after w H) (moment H)) ≡ Some (moment H) → ⊥
+not_at_once w H p e = go (owes_claim w H) refl
+  where
+    some_left : (b : Bool) (d : ℕ) → (not b || nat_eq d 0) ≡ false → 0 < d
+    some_left b d f = grind (arith, f)
+
+    later : (m d : ℕ) (b : Bool) → 0 < d → (if b then Some (m + d) else None) ≡ Some m → ⊥
+    later m d false l f = absurd (cc)
+    later m d true l f = let x : m + d ≡ m = cc in absurd (omega (arith, x, l))
+
+    go : (b : Bool) → owes_claim w H ≡ b → ⊥
+    go false i = held_at_later (address_after w H) (moment H) (ap (λ (x : Bool). if x then stamp_at (moment H + delayed w H) else held_at (address_after w H) (moment H)) (sym i) ∙ e)
+    go true i =
+        later (moment H) (delayed w H) _ (some_left (is_lost (address_after w H)) (delayed w H) (ap (λ (x : Bool). x && (not (is_lost (address_after w H)) || nat_eq (delayed w H) 0)) (sym i) ∙ p))
+        (ap (λ (x : Bool). if x then stamp_at (moment H + delayed w H) else held_at (address_after w H) (moment H)) (sym i) ∙ e)
 
 pub due_now : (w : Who) (H : List Call) (c : Controller) (now : ℕ) (answer : Option FrameRecord) → Is w (At now (TakeFrame answer) ∷ H) c
     → next_due w H ≡ Some (moment H) → answer ≢ None
 due_now w H c now (Some f) is e z = absurd (cc)
 due_now w H c now None is e z =
-    none_taken w H c now is (λ d k. from_long w H now (sym d ∙ e) k) (λ d q. held_at_later (address_after w H) (moment H) (sym d ∙ e))
+    none_taken w H c now is (λ d k. from_long w H now (sym d ∙ e) k) (λ p d q. not_at_once w H p (sym d ∙ e))
 
 pub due_then : (w : Who) (H : List Call) (c : Controller) (now t : ℕ) (answer : Option FrameRecord) → Is w (At now (TakeFrame answer) ∷ H) c
     → next_due w H ≡ Some t → t ≤ now → IsTrue (is_held (address_after w H)) → age H + step H t < 10000000000000000 → answer ≢ None
 due_then w H c now t (Some f) is e l held m z = absurd (cc)
 due_then w H c now t None is e l held m z =
-    none_taken w H c now is (λ d k. then_long w H now t l m (sym d ∙ e) k) (λ d q. not_both _ q held)
+    none_taken w H c now is (λ d k. then_long w H now t l m (sym d ∙ e) k) (λ p d q. not_both _ q held)
 
 -- ---- news
 
-news_case : (a b c : Bool) (n : News) → Some n ≡ news_of a b c → ((n ≡ AddressLost) × (a ≡ true)) ⊎ ((n ≡ AnotherAtAddress) × (b ≡ true)) ⊎ ((n ≡ MessagesMissed) × (c ≡ true))
-news_case true b c n e = inl ((let z : n ≡ AddressLost = cc in z), refl)
-news_case false true c n e = inr (inl ((let z : n ≡ AnotherAtAddress = cc in z), refl))
-news_case false false true n e = inr (inr ((let z : n ≡ MessagesMissed = cc in z), refl))
-news_case false false false n e = absurd (cc)
+news_case : (a b : Bool) (d : Option ℕ) (c : Bool) (n : News) → Some n ≡ news_of a b d c
+    → ((n ≡ AddressLost) × (a ≡ true)) ⊎ ((n ≡ AnotherAtAddress) × (b ≡ true)) ⊎ ((address : ℕ) × (n ≡ NameDoubled address) × (d ≡ Some address)) ⊎ ((n ≡ MessagesMissed) × (c ≡ true))
+news_case true b d c n e = inl ((let z : n ≡ AddressLost = cc in z), refl)
+news_case false true d c n e = inr (inl ((let z : n ≡ AnotherAtAddress = cc in z), refl))
+news_case false false (Some a) c n e = inr (inr (inl (a, (let z : n ≡ NameDoubled a = cc in z), refl)))
+news_case false false None true n e = inr (inr (inr ((let z : n ≡ MessagesMissed = cc in z), refl)))
+news_case false false None false n e = absurd (cc)
 
 pub news_told : (w : Who) (H : List Call) (c : Controller) (n : News) → Is w (TakeNews (Some n) ∷ H) c
-    → ((n ≡ AddressLost) × IsTrue (lost_news w H)) ⊎ ((n ≡ AnotherAtAddress) × IsTrue (another_news w H)) ⊎ ((n ≡ MessagesMissed) × IsTrue (missed_news w H || unheard_news w H))
-news_told w H c n is = news_case _ _ _ n is.answered.1
+    → ((n ≡ AddressLost) × IsTrue (lost_news w H)) ⊎ ((n ≡ AnotherAtAddress) × IsTrue (another_news w H))
+    ⊎ ((address : ℕ) × (n ≡ NameDoubled address) × (doubled_news w H ≡ Some address)) ⊎ ((n ≡ MessagesMissed) × IsTrue (missed_news w H || unheard_news w H))
+news_told w H c n is = news_case _ _ _ _ n is.answered.1
 
-no_news : (a b c : Bool) → None ≡ news_of a b c → (a ≡ false) × (b ≡ false) × (c ≡ false)
-no_news true b c e = absurd (cc)
-no_news false true c e = absurd (cc)
-no_news false false true e = absurd (cc)
-no_news false false false e = (refl, refl, refl)
+no_news : (a b : Bool) (d : Option ℕ) (c : Bool) → None ≡ news_of a b d c → (a ≡ false) × (b ≡ false) × (d ≡ None) × (c ≡ false)
+no_news true b d c e = absurd (cc)
+no_news false true d c e = absurd (cc)
+no_news false false (Some a) c e = absurd (cc)
+no_news false false None true e = absurd (cc)
+no_news false false None false e = (refl, refl, refl, refl)
 
-pub none_told : (w : Who) (H : List Call) (c : Controller) → Is w (TakeNews None ∷ H) c → (lost_news w H ≡ false) × (another_news w H ≡ false) × ((missed_news w H || unheard_news w H) ≡ false)
-none_told w H c is = no_news _ _ _ is.answered.1
+pub none_told : (w : Who) (H : List Call) (c : Controller) → Is w (TakeNews None ∷ H) c → (lost_news w H ≡ false) × (another_news w H ≡ false) × (doubled_news w H ≡ None) × ((missed_news w H || unheard_news w H) ≡ false)
+none_told w H c is = no_news _ _ _ _ is.answered.1
+
+-- another of its NAME
+
+double_is : (w : Who) (c : Claim) → nat_eq c.name w.name ≡ true → (double w (Some c) ≡ Some c.address) × (is_double w (Some c) ≡ true)
+double_is w c e = (ap (λ (b : Bool). if b then Some c.address else None) e, ap (λ (b : Bool). Rattle.std.specs.Option.is_some (if b then Some c.address else None)) e)
+
+pub double_heard : (w : Who) (H : List Call) (now : ℕ) (f : FrameRecord) (a : ℕ) → claim_of f ≡ Some (record { name = w.name; address = a })
+    → (doubled_news w (At now (Hear f) ∷ H) ≡ Some a) × (told_claims w (At now (Hear f) ∷ H) ≡ told_claims w H)
+double_heard w H now f a e =
+    let c : Claim = record { name = w.name; address = a } in
+    let d = double_is w c (eq-eqb w.name w.name refl) in (
+      (λ i. option_or (double w (e i)) (doubled_news w H)) ∙ ap (λ (o : Option ℕ). option_or o (doubled_news w H)) d.0,
+      (λ i. if is_double w (e i) then told_claims w H else told_claims w H ++ f ∷ []) ∙ ap (λ (b : Bool). if b then told_claims w H else told_claims w H ++ f ∷ []) d.1,
+    )
+
+double_later : (w : Who) (a : ℕ) (H : List Call) (call : Call) → HasDouble w a H → HasDouble w a (call ∷ H)
+double_later w a H call h = record { later = call ∷ h.later; at = h.at; claim = h.claim; earlier = h.earlier; is = ap (λ (G : List Call). call ∷ G) h.is; of_it = h.of_it }
+
+pub double_claimed : (w : Who) (H : List Call) (a : ℕ) → doubled_news w H ≡ Some a → HasDouble w a H
+double_claimed w [] a e = absurd (cc)
+double_claimed w (At now (Hear f) ∷ H) a e = go (double_claimed w H a) (claim_of f) refl e
+  where
+    go : (doubled_news w H ≡ Some a → HasDouble w a H) → (o : Option Claim) → claim_of f ≡ o → option_or (double w o) (doubled_news w H) ≡ Some a
+        → HasDouble w a (At now (Hear f) ∷ H)
+    go before None k i = double_later w a H (At now (Hear f)) (before i)
+    go before (Some c) k i = same before (nat_eq c.name w.name) refl i
+      where
+        same : (doubled_news w H ≡ Some a → HasDouble w a H) → (b : Bool) → nat_eq c.name w.name ≡ b
+            → option_or (if b then Some c.address else None) (doubled_news w H) ≡ Some a → HasDouble w a (At now (Hear f) ∷ H)
+        same before true m i =
+            let n = eqb-true c.name w.name m in let s : c.address ≡ a = cc in
+            record { later = []; at = now; claim = f; earlier = H; is = refl; of_it = k ∙ λ t. Some (record { name = n t; address = s t }) }
+        same before false m i = double_later w a H (At now (Hear f)) (before i)
+double_claimed w (TakeNews (Some (NameDoubled b)) ∷ H) a e = absurd (cc)
+double_claimed w (call ∷ H) a e = double_later w a H call (double_claimed w H a e)
 
 pub either : (a b : Bool) → (a || b) ≡ true → (a ≡ true) ⊎ (b ≡ true)
 either true b e = inl refl
 either false b e = inr e
-
-pub stays_lost : (b : Bool) (s : ℕ) (a : Address) → is_lost a ≡ true → is_lost (if b then Lost else older s a) ≡ true
-stays_lost true s a e = refl
-stays_lost false s a e = lost_older s a ∙ e
-
-pub stays_lost_claimed : (b : Bool) (s : ℕ) (a : Address) → is_lost a ≡ true → is_lost (if b then claimed (older s a) else older s a) ≡ true
-stays_lost_claimed true s a e = lost_claimed (older s a) ∙ (lost_older s a ∙ e)
-stays_lost_claimed false s a e = lost_older s a ∙ e
 
 is_driven : (b c : Bool) (s : ℕ) (a : Address) → (b && c) ≡ true → is_lost (if b then Lost else older s a) ≡ true
 is_driven true c s a e = refl
@@ -909,6 +1244,7 @@ lost_is_lost w (At when (Hear f) ∷ H) e = elim (either (lost_news w H) (is_sma
 ]
 lost_is_lost w (At now (TakeFrame (Some f)) ∷ H) e = stays_lost_claimed (is_claim f) (step H now) (address_after w H) (lost_is_lost w H e)
 lost_is_lost w (TakeNews (Some AddressLost) ∷ H) e = absurd (cc)
+lost_is_lost w (At now Again ∷ H) e = lost_unclaimed _ ∙ (lost_older (step H now) (address_after w H) ∙ lost_is_lost w H e)
 lost_is_lost w (call ∷ H) e = let z = lost_older (step H (moment (call ∷ H))) (address_after w H) in let h = lost_is_lost w H e in cc
 
 still_missed : (b : Bool) (m : ℕ) → 0 < m → 0 < (if b then suc m else m)

@@ -4,6 +4,8 @@ pub mod QueueLemmas
 pub mod FrameLemmas
 -- what every history says of what is received in packets
 pub mod ReceptionLemmas
+-- a message that waits is renewed
+pub mod RenewLemmas
 -- broadcasts in packets that are heard
 pub mod HearingLemmas
 -- transfers: between which addresses the open one goes, and the frames that it makes
@@ -35,9 +37,16 @@ pub mod LaneLaws
 -- since when the address is claimed
 pub mod SinceLemmas
 -- what is received in packets, step by step
+pub mod PacketLemmas
 pub mod IncomingLemmas
 -- the laws of messages that come in packets
 pub mod ReceptionLaws
+-- a session ends by itself
+pub mod SessionLaws
+-- what is sent whole is received
+pub mod BringLaws
+-- a restart is met
+pub mod RestartLaws
 -- the laws of transfers
 pub mod MoveSteps
 pub mod MoveLemmas
@@ -57,4 +66,8 @@ pub mod RestLaws
 pub mod EndSteps
 pub mod EndLaws
 pub mod MessageLaws
+-- the laws of a driver that takes one frame at least
+pub mod SteadyLaws
+pub mod SteadySteps
+pub mod SteadyEnds
 pub mod KnownLemmas

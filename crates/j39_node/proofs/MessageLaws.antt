@@ -5,33 +5,25 @@ use Rattle.j39_frame.specs.Frame.{FrameRecord}
 use Rattle.j39_node.specs.declared.controller.Controller.{Controller}
 use Rattle.j39_node.specs.declared.kinds.Ending.{Ending}
 use Rattle.j39_node.specs.declared.kinds.Ending.TheVariants.{Done, Withdrawn}
-use Rattle.j39_node.specs.History.{Who, Message, Draft, Call, accepted, address_after, claim_address, claim_from, holds, is_acknowledgment, is_claim, is_held, is_lost, is_session, message_from, message_of, moment, request_for, sent, step, told}
-use Rattle.j39_node.specs.History.Call.{At}
-use Rattle.j39_node.specs.History.Act.{Ask, Hear, Send, TakeFrame}
-use Rattle.j39_node.specs.Is.{claim_goes, AreAnswered, Is, IsAnswered, end_of, next_control, next_ended, next_frame, next_long}
-use Rattle.j39_node.specs.Prompt.{IsPrompt, waited_in}
+use Rattle.j39_node.specs.History.{Who, Message, Draft, Call, accepted, address_after, holds, is_acknowledgment, is_claim, is_held, is_lost, is_session, message_from, message_of, moment, request_for, sent, step, told}
+use Rattle.j39_node.specs.History.Call.{At, Renew}
+use Rattle.j39_node.specs.History.Act.{Ask, Hear, Send, TakeFrame, Again}
+use Rattle.j39_node.specs.Is.{AreAnswered, Is, IsAnswered, end_of, next_ended, next_frame}
+use Rattle.j39_node.specs.Prompt.{IsPrompt, waited_in, claims_anew}
 use Rattle.j39_node.specs.Since.{passed_in}
 use Rattle.j39_node.proofs.AskCases.{AskCase, ask_case}
 use Rattle.j39_node.proofs.AskCases.AskCase.{homeless, unfit, busy, asks}
 use Rattle.j39_node.proofs.LawLemmas.{past_end}
 use Rattle.j39_node.proofs.PromptLaws.{answered_from, keeps_heard, keeps_taken, lost_heard, lost_taken, waited_last}
 use Rattle.j39_node.proofs.QueueLemmas.{length_one_more}
-use Rattle.j39_node.proofs.SoundLemmas.{SendCase, frame_by, held_older, lost_older, send_case, sound}
+use Rattle.j39_node.proofs.SoundLemmas.{SendCase, held_older, none_next, lost_older, send_case, sound}
 use Rattle.j39_node.proofs.SoundLemmas.SendCase.{no_address, bad_value, full, accepts}
+use Rattle.j39_node.proofs.RenewLemmas.{set_length}
 
 -- where no frame is taken from an address that is held, no message waits
 none_waits : (w : Who) (H : List Call) (now : ℕ) → holds w H now ≡ true → (let none : Option (ℕ × Message) = None in none) ≡ next_frame w H now
     → slice_get (accepted w H) (length (sent H)) ≡ None
-none_waits w H now held e =
-    none (claim_goes w H now) (holds w H now) (next_control w H now) (slice_get (accepted w H) (length (sent H))) (next_long w H now) held e
-  where
-    none : (o q : Bool) (a : Option Message) (z : Option (ℕ × Message)) (p : Option Message) → q ≡ true
-        → (let none : Option (ℕ × Message) = None in none) ≡ frame_by o q a z p (claim_from w (claim_address w (address_after w H))) now → z ≡ None
-    none true q a z p b e = absurd (cc)
-    none false false a z p b e = absurd (cc)
-    none false true (Some m) z p b e = absurd (cc)
-    none false true None (Some y) p b e = absurd (cc)
-    none false true None None p b e = refl
+none_waits w H now held e = (none_next w H now held e).rest.message
 
 more_sent : (H : List Call) (now : ℕ) (f : FrameRecord) → length (sent H) ≤ length (sent (At now (TakeFrame (Some f)) ∷ H))
 more_sent H now f = go (is_claim f || (is_acknowledgment f || is_session f))
@@ -40,9 +32,10 @@ more_sent H now f = go (is_claim f || (is_acknowledgment f || is_session f))
     go true = omega arith
     go false = let e = length_one_more (sent H) (message_of f) in omega (arith, e)
 
-accepts_more : (w : Who) (H : List Call) (call : Call) → length (accepted w H) ≤ length (accepted w (call ∷ H))
+pub accepts_more : (w : Who) (H : List Call) (call : Call) → length (accepted w H) ≤ length (accepted w (call ∷ H))
 accepts_more w H (At now (Send d (Ok k))) = let e = length_one_more (accepted w H) (k, message_from w d) in omega (arith, e)
 accepts_more w H (At now (Ask group to (Ok k))) = let e = length_one_more (accepted w H) (k, message_from w (request_for group to)) in omega (arith, e)
+accepts_more w H (Renew d (Some k)) = let e = set_length (accepted w H) k (k, message_from w d) in omega (arith, e)
 accepts_more w H call = omega arith
 
 module _ (w : Who) (B : List Call) (g k : ℕ) where
@@ -60,20 +53,20 @@ module _ (w : Who) (B : List Call) (g k : ℕ) where
       → passed_in later B + step (later ++ B) now ≡ waited_in later B + step (later ++ B) now
   passes later now p = ap (λ (n : ℕ). n + step (later ++ B) now) p
 
-  one_more : (call : Call) (later : List Call) → IsAnswered w (later ++ B) call → Stands later → Stands (call ∷ later)
-  one_more (At when (Hear f)) later a h = record { among = h.among; course = go h.course }
+  one_more : (call : Call) (later : List Call) → IsAnswered w (later ++ B) call → claims_anew call ≡ false → Stands later → Stands (call ∷ later)
+  one_more (At when (Hear f)) later a n h = record { among = h.among; course = go h.course }
     where
       go : Course later → Course (At when (Hear f) ∷ later)
       go (taken l) = taken l
       go (gone e) = gone (lost_heard w (later ++ B) when f e)
       go (waits e p) = elim (keeps_heard w (later ++ B) when f e) [ inl z ↦ gone z | inr z ↦ waits z (passes later when p) ]
-  one_more (At now (TakeFrame (Some f))) later a h = record { among = h.among; course = go h.course }
+  one_more (At now (TakeFrame (Some f))) later a n h = record { among = h.among; course = go h.course }
     where
       go : Course later → Course (At now (TakeFrame (Some f)) ∷ later)
       go (taken l) = taken (let e = more_sent (later ++ B) now f in omega (arith, e, l))
       go (gone e) = gone (lost_taken w (later ++ B) now f e)
       go (waits e p) = waits (keeps_taken w (later ++ B) now f e) (passes later now p)
-  one_more (At now (TakeFrame None)) later a h = record { among = h.among; course = go h.course }
+  one_more (At now (TakeFrame None)) later a n h = record { among = h.among; course = go h.course }
     where
       go : Course later → Course (At now (TakeFrame None) ∷ later)
       go (taken l) = taken l
@@ -81,7 +74,8 @@ module _ (w : Who) (B : List Call) (g k : ℕ) where
       go (waits e p) = taken (let l = past_end (accepted w (later ++ B)) (length (sent (later ++ B)))
           (none_waits w (later ++ B) now (held_older (step (later ++ B) now) (address_after w (later ++ B)) e) a) in
           let b = h.among in omega (arith, l, b))
-  one_more call later a h = record { among = (let m = accepts_more w (later ++ B) call in let b = h.among in omega (arith, m, b)); course = go h.course }
+  one_more (At now Again) later a n h = absurd (let z : true ≡ false = n in cc)
+  one_more call later a n h = record { among = (let m = accepts_more w (later ++ B) call in let b = h.among in omega (arith, m, b)); course = go h.course }
     where
       go : Course later → Course (call ∷ later)
       go (taken l) = taken l
@@ -89,9 +83,9 @@ module _ (w : Who) (B : List Call) (g k : ℕ) where
       go (waits e p) = waits (let z = held_older (step (later ++ B) (moment (call ∷ later ++ B))) (address_after w (later ++ B)) e in cc)
           (passes later (moment (call ∷ later ++ B)) p)
 
-  stands : (later : List Call) → AreAnswered w (later ++ B) → Stands [] → Stands later
-  stands [] a h = h
-  stands (call ∷ later) a h = one_more call later a.1 (stands later a.0 h)
+  stands : (later : List Call) → AreAnswered w (later ++ B) → IsPrompt g later B → Stands [] → Stands later
+  stands [] a p h = h
+  stands (call ∷ later) a p h = one_more call later a.1 p.1.1 (stands later a.0 p.0 h)
 
   ends_so : (later : List Call) → Stands later → g < passed_in later B → waited_in later B ≤ g
       → (k < length (sent (later ++ B))) ⊎ (is_lost (address_after w (later ++ B)) ≡ true)
@@ -114,7 +108,7 @@ tells false true x h = (Withdrawn, refl)
 tells false false x (inl e) = absurd (let z : false ≡ true = e in cc)
 tells false false x (inr e) = absurd (let z : false ≡ true = e in cc)
 
-told_next : (w : Who) (H : List Call) (k : ℕ) → AreAnswered w H → k < length (accepted w H) → length (told H) ≤ k
+pub told_next : (w : Who) (H : List Call) (k : ℕ) → AreAnswered w H → k < length (accepted w H) → length (told H) ≤ k
     → (k < length (sent H)) ⊎ (is_lost (address_after w H) ≡ true) → (e : Ending) × (next_ended w H ≡ Some (length (told H), e))
 told_next w H k a l t h =
     let x = some_at (accepted w H) (length (told H)) (omega (arith, l, t)) in
@@ -155,7 +149,7 @@ asked_so w H now group to k (asks a b f e) =
 module _ (w : Who) (later B : List Call) (c : Controller) (g k : ℕ) (is : Is w (later ++ B) c)
     (fits : (is_held (address_after w B) ≡ true) × (k < length (accepted w B))) (prompt : IsPrompt g later B) (l : g < passed_in later B) where
   here : Stands w B g k later
-  here = stands w B g k later is.answered (record { among = fits.1; course = waits fits.0 refl })
+  here = stands w B g k later is.answered prompt (record { among = fits.1; course = waits fits.0 refl })
 
   ends_taken : (k < length (sent (later ++ B))) ⊎ (is_lost (address_after w (later ++ B)) ≡ true)
   ends_taken = ends_so w B g k later here l (waited_last g later B prompt)

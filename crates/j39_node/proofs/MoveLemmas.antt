@@ -8,15 +8,16 @@ use Rattle.j39_transport.specs.Message.{MessageRecord}
 use Rattle.j39_transport.specs.Sending.{Tick, aborted, is_running, new_sender, send_step}
 use Rattle.j39_transport.specs.Signals.{Signal, Abort}
 use Rattle.j39_node.specs.declared.kinds.TransferEnding.{TransferEnding}
+use Rattle.j39_node.specs.declared.turn.Turn.TheVariants.{Move}
 use Rattle.j39_node.specs.History.{Who, Message, Call, accepted, acknowledged, address_after, broadcast_from, due, holds, is_lost, message_of, open_broadcast, packets, pause, sent, step}
 use Rattle.j39_node.specs.History.Call.{At, TakeTransferEnded}
 use Rattle.j39_node.specs.History.Act.{Hear, TakeFrame, Transfer}
 use Rattle.j39_node.specs.Is.{AreAnswered, next_packet, next_acknowledgment}
 use Rattle.j39_node.specs.Transfers.{is_resting, Running, begun, clock_at, gives_up, hears, hears_if, is_engaged, is_replaced, is_spent, listens, open_transfer, says, sends, sends_if, signal_by, told_transfers, transfer_by, transfer_end, transfers as all_transfers}
-use Rattle.j39_node.specs.Reception.{holder, is_move, reception}
+use Rattle.j39_node.specs.Reception.{holder, is_move}
 use Rattle.j39_node.specs.Moves.{Happened, begins, moves}
 use Rattle.j39_node.proofs.QueueLemmas.{length_one_more}
-use Rattle.j39_node.proofs.SoundLemmas.{FrameCase, frame_case, claim_taken, claim_single, due_get, due_taken, no_move, no_transfer, none_steers, own_get, packet_session, packet_taken, reply_no_move, single_taken, sound}
+use Rattle.j39_node.proofs.SoundLemmas.{nothing_else, turned, FrameCase, frame_case, claim_taken, claim_single, due_get, due_taken, no_move, no_transfer, own_get, packet_session, packet_taken, reply_no_move, single_taken, sound}
 use Rattle.j39_node.proofs.SoundLemmas.FrameCase.{claims, acknowledges, replies, sends as sends_one, packs, transfers}
 use Rattle.j39_node.proofs.PortLemmas.{TransferCase, transfer_case, hears_same, sends_same}
 use Rattle.j39_node.proofs.PortLemmas.TransferCase.{homeless, unfit, busy, opens}
@@ -61,13 +62,14 @@ pub sent_case : (w : Who) (H : List Call) (now : ℕ) (f : FrameRecord) → AreA
 sent_case w H now f right (claims o e) p = absurd (not_both _ (no_move w H f (no_transfer f (claim_single f (claim_taken f now w _ e)))) p)
 sent_case w H now f right (acknowledges m o k g e way) p =
     absurd (not_both _ (no_move w H f (no_transfer f (due_taken w f now m e (due_get w (due w H) (length (acknowledged H)) m (sound w H right).desk.0 g)).2)) p)
-sent_case w H now f right (replies m o k n g e) p = absurd (not_both _ (reply_no_move w H f m g) p)
+sent_case w H now f right (replies m o k n g e) p = absurd (not_both _ (reply_no_move w H f m g (ap (λ (y : ℕ × Message). y.1) e)) p)
 sent_case w H now f right (sends_one x o k n g e) p =
     absurd (not_both _ (no_move w H f (no_transfer f (single_taken w f now x e (own_get w (accepted w H) (length (sent H)) x (sound w H right).own g)))) p)
-sent_case w H now f right (packs m o k n past g e) p =
+sent_case w H now f right (packs m o k n g e) p =
     absurd (not_both _ (no_move w H f (packet_session f (packet_taken f now m (open_broadcast w H) (length (packets H)) (pause H - step H now) e g).2).1) p)
-sent_case w H now f right (transfers m o k n past nothing g e) p =
-    said_by w H now f m (open_transfer w H) refl g (ap (λ (y : ℕ × Message). y.1) e) k (none_steers (next_acknowledgment w H now) (slice_get (reception w H).replies 0) n).0 past nothing
+sent_case w H now f right (transfers m o k n g e) p =
+    let r = nothing_else w H now (turned w H now (Some Move) n.1).0 in
+    said_by w H now f m (open_transfer w H) refl g (ap (λ (y : ℕ × Message). y.1) e) k n.0 r.0 r.1
 
 -- ---- what was taken of the open transfer
 

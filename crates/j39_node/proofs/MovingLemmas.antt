@@ -21,7 +21,7 @@ use Rattle.j39_transport.specs.Receiving.{recv_step}
 use Rattle.j39_transport.specs.Reception.{takes_tick}
 use Rattle.j39_node.specs.Asking.{Question}
 use Rattle.j39_node.specs.declared.kinds.AskEnding.{AskEnding}
-use Rattle.j39_node.specs.Is.{hold_after, HearingRecord, IncomingRecord, Is, LaneRecord, PortRecord, asked_by, asking_of, hearing_of, incoming_of, lane_of, news_of, next_news, port_of, posted, received_by, refusal_by, request_by}
+use Rattle.j39_node.specs.Is.{hold_after, HearingRecord, IncomingRecord, Is, LaneRecord, PortRecord, asked_by, asking_of, hearing_of, incoming_of, named_in, lane_of, news_of, next_news, port_of, posted, received_by, refusal_by, request_by}
 use Rattle.j39_node.specs.Moving.{HasMoved, IsSettled, begun, has_given, has_told, moved}
 use Rattle.j39_node.proofs.QueueLemmas.{length_rest}
 use Rattle.j39_node.proofs.SoundLemmas.{front_length, read, sound}
@@ -71,11 +71,17 @@ place_none : {T : Type 0} (o : Option T) → (p : Option T → Bool) → ((x : T
 place_none None p q e = refl
 place_none (Some x) p q e = absurd (let z : false ≡ true = sym (q x) ∙ e in cc)
 
-no_news : (a b c : Bool) → not (a || (b || c)) ≡ true → news_of a b c ≡ None
-no_news a b c e = grind (arith, e)
+no_news : (a b : Bool) (d : Option ℕ) (c : Bool) → not (a || (b || (is_some d || c))) ≡ true → news_of a b d c ≡ None
+no_news a b None c e = grind (arith, e)
+no_news true b (Some n) c e = absurd (cc)
+no_news false true (Some n) c e = absurd (cc)
+no_news false false (Some n) c e = absurd (cc)
 
-news_none : (a b c : Bool) → news_of a b c ≡ None → not (a || (b || c)) ≡ true
-news_none a b c e = grind (arith, e)
+news_none : (a b : Bool) (d : Option ℕ) (c : Bool) → news_of a b d c ≡ None → not (a || (b || (is_some d || c))) ≡ true
+news_none a b None c e = grind (arith, e)
+news_none true b (Some n) c e = absurd (cc)
+news_none false true (Some n) c e = absurd (cc)
+news_none false false (Some n) c e = absurd (cc)
 
 -- ---- all of them
 
@@ -101,11 +107,11 @@ module _ (w : Who) (H : List Call) (c : Controller) (h : Is w H c) where
   heard : whole_of (hearing_of c.hearing).current ≡ waiting w H
   heard = ap (λ (r : HearingRecord). whole_of r.current) h.hearing
 
-  untold : not (c.news.lost || (c.news.another || c.news.missed)) ≡ true → next_news w H ≡ None
-  untold e = no_news _ _ _ (sym (ap (λ (u : Untold). not (u.lost || (u.another || u.missed))) h.news) ∙ e)
+  untold : not (c.news.lost || (c.news.another || (is_some c.news.doubled || c.news.missed))) ≡ true → next_news w H ≡ None
+  untold e = no_news _ _ _ _ (sym (ap (λ (u : Untold). not (u.lost || (u.another || (is_some u.doubled || u.missed)))) h.news) ∙ e)
 
-  all_told : next_news w H ≡ None → not (c.news.lost || (c.news.another || c.news.missed)) ≡ true
-  all_told e = ap (λ (u : Untold). not (u.lost || (u.another || u.missed))) h.news ∙ news_none _ _ _ e
+  all_told : next_news w H ≡ None → not (c.news.lost || (c.news.another || (is_some c.news.doubled || c.news.missed))) ≡ true
+  all_told e = ap (λ (u : Untold). not (u.lost || (u.another || (is_some u.doubled || u.missed)))) h.news ∙ news_none _ _ _ _ e
 
   pub settles : (has_told c && has_given c) ≡ true → IsSettled w H
   settles e =
@@ -150,17 +156,19 @@ nothing v (x ∷ xs) e = absurd (let z = eqb-true _ _ e in omega (arith, z))
 mapped : {T : Type 0} {U : Type 0} (v : T → U) (xs : List T) → xs ≡ [] → map v xs ≡ []
 mapped v xs e = ap (map v) e
 
-none_untold : (u : Untold) → not (u.lost || (u.another || u.missed)) ≡ true → u ≡ record { lost = false; another = false; missed = false }
-none_untold u e = go u.lost u.another u.missed refl refl refl e
+none_untold : (u : Untold) → not (u.lost || (u.another || (is_some u.doubled || u.missed))) ≡ true → u ≡ record { lost = false; another = false; doubled = None; missed = false }
+none_untold u e = go u.lost u.another u.doubled u.missed refl refl refl refl e
   where
-    untold : Bool → Bool → Bool → Untold
-    untold a b c = record { lost = a; another = b; missed = c }
+    untold : Bool → Bool → Option ℕ → Bool → Untold
+    untold a b d c = record { lost = a; another = b; doubled = d; missed = c }
 
-    go : (a b c : Bool) → u.lost ≡ a → u.another ≡ b → u.missed ≡ c → not (a || (b || c)) ≡ true → u ≡ untold false false false
-    go true b c i j k e = absurd (cc)
-    go false true c i j k e = absurd (cc)
-    go false false true i j k e = absurd (cc)
-    go false false false i j k e = λ l. untold (i l) (j l) (k l)
+    go : (a b : Bool) (d : Option ℕ) (c : Bool) → u.lost ≡ a → u.another ≡ b → u.doubled ≡ d → u.missed ≡ c → not (a || (b || (is_some d || c))) ≡ true
+        → u ≡ untold false false None false
+    go true b d c i j m k e = absurd (cc)
+    go false true d c i j m k e = absurd (cc)
+    go false false (Some n) c i j m k e = absurd (cc)
+    go false false None true i j m k e = absurd (cc)
+    go false false None false i j m k e = λ l. untold (i l) (j l) (m l) (k l)
 
 brought_on : (m r : ℕ) → r ≡ m + r - (m - 0)
 brought_on m r = omega arith
@@ -173,16 +181,19 @@ none_ticked : (own stamp now : ℕ) → no_reception ≡ ticked own stamp now no
 unfolding recv_step takes_tick
 none_ticked own stamp now = refl
 
+zero_less : (n : ℕ) → 0 ≡ 0 - n
+zero_less n = omega arith
+
 pub begins_anew : (w : Who) (H : List Call) (old new : Controller) (a : ℕ) → Is w H old → (has_told old && has_given old) ≡ true
-    → new.own.name ≡ old.own.name → new.own.address ≡ a → new.own.served.items ≡ old.own.served.items → new.own.subscribed ≡ old.own.subscribed
+    → new.own.name ≡ old.own.name → new.own.address ≡ a → new.own.delay ≡ old.own.delay → new.own.served.items ≡ old.own.served.items → new.own.subscribed ≡ old.own.subscribed
     → new.hold ≡ hold_moved old.hold
     → new.outgoing ≡ old.outgoing → new.taken ≡ 0 → new.next_token ≡ 0 → new.asking ≡ old.asking → new.inbox.unread ≡ old.inbox.unread → new.inbox.missed ≡ 0
     → new.desk.waiting ≡ old.desk.waiting → new.desk.due.items ≡ [] → new.news ≡ old.news → new.holders ≡ old.holders
     → new.lane ≡ record { current = None; count = 0; next_token = 0 }
-    → incoming_of new.incoming ≡ record { moment = old.hold.moment; clock = later 0 old.hold.moment; own = a; has_box = true; reception = no_reception }
+    → incoming_of new.incoming ≡ record { moment = old.hold.moment; clock = later 0 old.hold.moment; own = a; has_box = true; named = None; called = 0; reception = no_reception }
     → port_of new.transfers ≡ record { current = None; next_token = 0; resting = (port_of old.transfers).resting } → hearing_of new.hearing ≡ record { current = None; missed = 0 }
     → HasMoved w H a new
-begins_anew w H old new a h e o1 o2 o3 o4 q1 q2 q3 q4 q5 q6 q7 q8 q9 q10 q11 q12 q15 q16 q18 =
+begins_anew w H old new a h e o1 o2 o5 o3 o4 q1 q2 q3 q4 q5 q6 q7 q8 q9 q10 q11 q12 q15 q16 q18 =
     let p = and_parts _ _ e in
     let t = and_parts _ _ p.0 in
     let t3 = and_parts _ _ (and_parts _ _ t.1).1 in
@@ -192,8 +203,8 @@ begins_anew w H old new a h e o1 o2 o3 o4 q1 q2 q3 q4 q5 q6 q7 q8 q9 q10 q11 q12
     let g4 = and_parts _ _ g3.1 in
     let brought = (moved w H a).brought in
     record {
-      who = (λ i. let v : Who = record { name = name_raw (o1 i); address = o2 i; served = o3 i; subscribed = option_map (λ g. g.items) (o4 i); brought = brought } in v)
-          ∙ ap (λ (v : Who). (let u : Who = record { name = v.name; address = a; served = v.served; subscribed = v.subscribed; brought = brought } in u)) h.who;
+      who = (λ i. let v : Who = record { name = name_raw (o1 i); address = o2 i; delay = o5 i; served = o3 i; subscribed = option_map (λ g. g.items) (o4 i); brought = brought } in v)
+          ∙ ap (λ (v : Who). (let u : Who = record { name = v.name; address = a; delay = v.delay; served = v.served; subscribed = v.subscribed; brought = brought } in u)) h.who;
       answered = (tt, tt);
       hold = q1 ∙ (ap hold_moved h.hold ∙ (λ i. record (hold_after (moved w H a) (begun H)) { rest = brought_on (moment H) (rest w H) i }));
       outgoing = ap (λ x. map posted x.items) q2 ∙ nothing posted old.outgoing.items t.0;
@@ -208,8 +219,8 @@ begins_anew w H old new a h e o1 o2 o3 o4 q1 q2 q3 q4 q5 q6 q7 q8 q9 q10 q11 q12
       missed = q7;
       lane = ap (lane_of (moved w H a)) q12;
       incoming = q15
-          ∙ (ap (λ (m : ℕ). (let x : IncomingRecord = record { moment = m; clock = later 0 m; own = a; has_box = true; reception = no_reception } in x)) (ap (λ (k : Hold). k.moment) h.hold)
-          ∙ (λ i. (let x : IncomingRecord = record { moment = moment H; clock = later 0 (none_less (moment H) i); own = a; has_box = true; reception = none_ticked a (moment H) (time_heard (begun H)) i } in x)));
+          ∙ (ap (λ (m : ℕ). (let x : IncomingRecord = record { moment = m; clock = later 0 m; own = a; has_box = true; named = None; called = 0; reception = no_reception } in x)) (ap (λ (k : Hold). k.moment) h.hold)
+          ∙ (λ i. (let x : IncomingRecord = record { moment = moment H; clock = later 0 (none_less (moment H) i); own = a; has_box = true; named = named_in (none_ticked a (moment H) (time_heard (begun H)) i).session; called = zero_less (moment H - 0) i; reception = none_ticked a (moment H) (time_heard (begun H)) i } in x)));
       port = q16 ∙ ap (λ (p : PortRecord). (let q : PortRecord = record { current = None; next_token = 0; resting = p.resting } in q)) h.port;
       hearing = q18;
     }

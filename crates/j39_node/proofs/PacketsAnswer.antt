@@ -1,6 +1,6 @@
 -- A message in packets answers a request by the frame that makes it whole, be it to this address or to all.
 use Rattle.std.proofs.Common.{◌≡◌, ◌⊎◌, ◌↔◌, IsTrue, ℕ, ◌<◌, ◌==◌, List, ◌∷◌, length, Option, Some, None, Bool, true, false, ◌&&◌, ◌||◌, if◌then◌else◌, nat_eq, refl, sym, ap, ◌∙◌, inl, inr, arith, eq-eqb, eqb-true}
-use Rattle.std.proofs.lemmas.Bool.{and_parts}
+use Rattle.std.proofs.lemmas.Bool.{and_from, and_parts}
 use Rattle.std.specs.Option.{option_map, option_or}
 use Rattle.j39_frame.specs.Frame.{FrameRecord}
 use Rattle.j39_frame.specs.Identifier.{destination_of, pgn_of, ps_of, source_of}
@@ -15,12 +15,13 @@ use Rattle.j39_node.specs.declared.kinds.AskEnding.TheVariants.{Answered}
 use Rattle.j39_node.specs.History.{Who, Call, holds, is_smaller}
 use Rattle.j39_node.specs.History.Call.{At}
 use Rattle.j39_node.specs.History.Act.{Hear}
-use Rattle.j39_node.specs.Reception.{Reception, has_place, holder, leaves, left, receiver_at, reception, time_heard, whole, whole_by}
+use Rattle.j39_node.specs.Reception.{Reception, has_place, holder, leaves, left, receiver_at, reception, time_heard, whole, whole_by, shown, known}
 use Rattle.j39_node.specs.Hearing.{OpenBroadcast, begun, found, grown, hearing, is_late, is_over, is_whole as is_full, made_whole, message_by, newly, packs, waiting, whole_of}
 use Rattle.j39_node.specs.Asking.{Question, comes, in_broadcast, in_session, is_coming, is_from, made, made_of, open_ask, says_to, seeks}
 use Rattle.j39_node.proofs.HearingLaws.{begun_open, whole_is, whole_of_left, none_is as not_both}
 use Rattle.j39_node.proofs.HearingLemmas.{Effect, begins, ends, grows, stays, effect}
-use Rattle.j39_node.proofs.ReceptionLaws.{goes_there, not_said, quiet_step}
+use Rattle.j39_node.proofs.PacketLemmas.{quiet_step, shown_none}
+use Rattle.j39_node.proofs.ReceptionLaws.{goes_there, not_said}
 
 -- ---- a message of the group, from whom was asked, answers
 
@@ -68,7 +69,7 @@ made_by_packet who H when f p e = go (waiting who H) refl e
     go : (o : Option (ℕ × MessageRecord)) → waiting who H ≡ o → newly o (waiting who G) ≡ Some p → (packs f ≡ true) × (p.1.source ≡ source_of f.id)
     go None i z =
         by_packet who (time_heard G) f (found who H when f) _ _ _ p (effect who (time_heard G) f (found who H when f))
-        (whole_of_left (is_over (holder who H) (holder who G) (time_heard G) (hearing who H)) (hearing who H) ∙ i) z
+        (whole_of_left (is_over (known who H when f) (holder who G) (time_heard G) (hearing who H)) (hearing who H) ∙ i) z
     go (Some x) i z = absurd (cc)
 
 pub packs_to_all : (f : FrameRecord) → packs f ≡ true → destination_of f.id ≡ Some 255
@@ -84,7 +85,7 @@ packs_to_all f e =
 pub none_whole : (own : ℕ) (lost held : Bool) (f : FrameRecord) (now : ℕ) (r : Reception) → said_to own f ≡ None → whole_by own lost held f now r ≡ None
 none_whole own true held f now r e = refl
 none_whole own false false f now r e = refl
-none_whole own false true f now r e = ap (λ (x : RecvResult). x.delivers) (quiet_step (receiver_at own r) f now (has_place r.waits) e)
+none_whole own false true f now r e = ap (λ (x : RecvResult). x.delivers) (quiet_step (receiver_at own r) (shown own r.session f) now (has_place r.waits) (shown_none own r.session f e))
 
 to_another : (own : ℕ) (d : Option ℕ) → own < 254 → d ≡ Some 255 → d ≡ Some own → ⊥
 to_another own d l e g = absurd (let z : Some 255 ≡ Some own = sym e ∙ g in let y : 255 ≡ own = cc in omega (arith, y, l))
@@ -95,7 +96,7 @@ broadcast_answers w H when f x q l e g a =
     let to_all = packs_to_all f (made_by_packet w H when f x e).0 in
     let none : whole w H when f ≡ None =
     none_whole w.address (is_smaller w (claim_of f)) (holds w H when) f (time_heard (At when (Hear f) ∷ H))
-    (left (leaves (holder w H) (holder w (At when (Hear f) ∷ H)) (reception w H).session) (reception w H))
+    (left (leaves (known w H when f) (holder w (At when (Hear f) ∷ H)) (reception w H).session) (reception w H))
     (not_said w.address f (to_another w.address (destination_of f.id) l to_all)) in
     answers_by w q f x.1 (made w H when f) (λ i. option_or (made_of (none i)) (made_of (option_map (λ (y : ℕ × MessageRecord). y.1) (e i)))) g a
 
@@ -113,7 +114,7 @@ seeks_from q source group e = go (nat_eq group q.group) (nat_eq q.to 255) (nat_e
 
 abbrev InSession : Who → List Call → Question → Type 0
 InSession w H q =
-    (r : ReceptionRecord) × ((reception w H).session ≡ Some r) × (r.message.source ≡ q.to)
+    (r : ReceptionRecord) × ((reception w H).session ≡ Some r) × (r.message.source ≡ q.to) × (r.message.group ≡ q.group)
 
 abbrev InBroadcast : Who → List Call → ℕ → Question → Type 0
 InBroadcast w H time q =
@@ -129,7 +130,7 @@ comes_means w H time q o = (
   where
     by_session : (s : Option ReceptionRecord) → (reception w H).session ≡ s → is_from q (in_session s) ≡ true → InSession w H q
     by_session None i e = absurd (cc)
-    by_session (Some r) i e = (r, i, eqb-true _ _ e)
+    by_session (Some r) i e = let p = and_parts (nat_eq r.message.source q.to) (nat_eq r.message.group q.group) e in (r, i, eqb-true _ _ p.0, eqb-true _ _ p.1)
 
     by_broadcast : (b : Option OpenBroadcast) → hearing w H ≡ b → seeks q (in_broadcast time b) ≡ true → InBroadcast w H time q
     by_broadcast None i e = absurd (cc)
@@ -146,9 +147,9 @@ comes_means w H time q o = (
     split false false i j z = absurd (cc)
 
     from : InSession w H q ⊎ InBroadcast w H time q → IsTrue (comes w H time)
-    from (inl (r, i, g)) =
+    from (inl (r, i, g, k)) =
         (λ z. is_coming (o z) (in_session (i z)) (in_broadcast time (hearing w H)))
-        ∙ ap (λ (b : Bool). b || seeks q (in_broadcast time (hearing w H))) (eq-eqb _ _ g)
+        ∙ ap (λ (b : Bool). b || seeks q (in_broadcast time (hearing w H))) (and_from _ _ (eq-eqb _ _ g) (eq-eqb _ _ k))
     from (inr (x, i, n, l, g, a)) =
         (λ z. is_coming (o z) (in_session (reception w H).session) (in_broadcast time (i z)))
         ∙ ((λ z. is_from q (in_session (reception w H).session) || seeks q (if n z || l z then None else Some (x.source, x.group)))

@@ -1,6 +1,6 @@
 -- That every broadcast ends, and every message of one frame.
 use Rattle.std.proofs.Math.Nat.{add-mul, suc-mul}
-use Rattle.std.proofs.Common.{◌≡◌, ◌⊎◌, ℕ, zero, suc, ◌+◌, ◌-◌, ◌*◌, ◌<◌, ◌≤◌, List, [], ◌∷◌, ◌++◌, length, Option, Some, None, Ok, Bool, true, false, ◌||◌, if◌then◌else◌, nat_eq, nat_le, nat_lt, refl, sym, ap, ◌∙◌, subst, arith, inl, inr}
+use Rattle.std.proofs.Common.{◌&&◌, ◌≡◌, ◌⊎◌, ℕ, suc, ◌+◌, ◌-◌, ◌*◌, ◌<◌, ◌≤◌, List, [], ◌∷◌, ◌++◌, length, Option, Some, None, Ok, Bool, true, false, ◌||◌, if◌then◌else◌, nat_eq, nat_le, nat_lt, refl, sym, ap, ◌∙◌, subst, arith, inl, inr}
 use Rattle.j39_frame.specs.Frame.{FrameRecord}
 use Rattle.j39_transport.specs.Message.{MessageRecord, packets_of}
 use Rattle.j39_transport.specs.Protocol.{gap}
@@ -10,17 +10,15 @@ use Rattle.j39_node.specs.declared.kinds.Ending.TheVariants.{Done, Withdrawn}
 use Rattle.j39_node.specs.History.{Who, Message, Call, Address, address_after, broadcast_from, broadcasts, claimed, frame_of, is_claim, is_held, is_lost, is_open, is_packet, is_smaller, message_of, moment, older, open_broadcast, packets, pause, step}
 use Rattle.j39_node.specs.History.Address.{NotClaimed, Claimed, Lost}
 use Rattle.j39_node.specs.History.Call.{At, TakeBroadcastEnded}
-use Rattle.j39_node.specs.History.Act.{Broadcast, Hear, TakeFrame}
-use Rattle.j39_node.specs.Is.{AreAnswered, Is, IsAnswered, broadcast_end, ending_of, long_by, next_broadcast_ended, next_frame, next_packet, packet_by}
-use Rattle.j39_node.specs.Prompt.{IsPrompt, NoneTold, tells_broadcast, waited_in}
+use Rattle.j39_node.specs.History.Act.{Broadcast, Hear, TakeFrame, Again}
+use Rattle.j39_node.specs.Is.{AreAnswered, Is, IsAnswered, broadcast_end, ending_of, next_broadcast_ended, next_frame, packet_by}
+use Rattle.j39_node.specs.Prompt.{IsPrompt, NoneTold, tells_broadcast, waited_in, claims_anew}
 use Rattle.j39_node.specs.Since.{passed_in}
 use Rattle.j39_address.specs.Claim.{claim_of}
-use Rattle.j39_node.specs.Transfers.{next_transfer}
-use Rattle.j39_node.proofs.LaneLaws.{none_long}
 use Rattle.j39_node.proofs.LaneLemmas.{BroadcastCase, broadcast_case}
 use Rattle.j39_node.proofs.LaneLemmas.BroadcastCase.{homeless, unfit, busy, opens}
 use Rattle.j39_node.proofs.QueueLemmas.{length_one_more}
-use Rattle.j39_node.proofs.SoundLemmas.{held_older, lost_claimed, lost_older, packets_is, pause_is}
+use Rattle.j39_node.proofs.SoundLemmas.{none_next, held_older, lost_claimed, lost_older, packets_is, pause_is}
 
 -- ---- an address that was held is held or lost
 
@@ -90,15 +88,15 @@ accepted_now : (g left : ℕ) → left ≤ gap → Timely g 0 0 left 0
 unfolding due_by
 accepted_now g left l = record { soon = λ z. omega (arith, l); late = omega arith }
 
-passes : (g count passed left waited s : ℕ) → Timely g count passed left waited → Timely g count (passed + s) (left - s) (waited + s)
-passes g count passed left waited s h = record {
-  soon = λ z. (let a = h.soon (omega (arith, z)) in omega (arith, a, z));
+passes : (g count passed left waited s rest : ℕ) → rest ≡ left - s → Timely g count passed left waited → Timely g count (passed + s) rest (waited + s)
+passes g count passed left waited s rest e h = record {
+  soon = λ z. (let a = h.soon (omega (arith, e, z)) in omega (arith, a, e, z));
   late = (let a = h.late in omega (arith, a));
 }
 
-finds_none : (g count passed left waited s : ℕ) → Timely g count passed left waited → 0 < left - s → Timely g count (passed + s) (left - s) 0
-finds_none g count passed left waited s h l =
-    let a = h.soon (omega (arith, l)) in record { soon = λ z. omega (arith, a, l); late = omega (arith, a, l) }
+finds_none : (g count passed left waited s rest : ℕ) → rest ≡ left - s → Timely g count passed left waited → 0 < rest → Timely g count (passed + s) rest 0
+finds_none g count passed left waited s rest e h l =
+    let a = h.soon (omega (arith, e, l)) in record { soon = λ z. omega (arith, a, e, l); late = omega (arith, a, e, l) }
 
 packs_one : (g count passed left waited s : ℕ) → Timely g count passed left waited → waited + s ≤ g → Timely g (suc count) (passed + s) gap (waited + s)
 packs_one g count passed left waited s h p =
@@ -111,7 +109,7 @@ module _ (w : Who) (B : List Call) (g k : ℕ) (m : MessageRecord) where
     over : packets_of m < length (packets (later ++ B)) → Course later
     gone : is_lost (address_after w (later ++ B)) ≡ true → Course later
     runs : is_held (address_after w (later ++ B)) ≡ true
-        → Timely g (length (packets (later ++ B))) (passed_in later B) (pause (later ++ B)) (waited_in later B) → Course later
+        → Timely g (length (packets (later ++ B))) (passed_in later B) (pause (later ++ B) - 100000) (waited_in later B) → Course later
 
   record Stands (later : List Call) : Type 0 where
     pub broadcast : open_broadcast w (later ++ B) ≡ Some (k, m)
@@ -126,7 +124,7 @@ module _ (w : Who) (B : List Call) (g k : ℕ) (m : MessageRecord) where
       go (gone e) = gone (lost_heard w (later ++ B) when f e)
       go (runs e t) = elim (keeps_heard w (later ++ B) when f e) [
         | inl z ↦ gone z
-        | inr z ↦ runs z (passes g _ _ _ _ (step (later ++ B) when) t)
+        | inr z ↦ runs z (passes g _ _ _ _ (step (later ++ B) when) _ (omega arith) t)
       ]
 
   -- a frame is taken
@@ -143,33 +141,30 @@ module _ (w : Who) (B : List Call) (g k : ℕ) (m : MessageRecord) where
       go false i (over l) = over (let n = ap length (packets_is (later ++ B) now f false i) in omega (arith, l, n))
       go b i (gone e) = gone (lost_taken w (later ++ B) now f e)
       go true i (runs e t) = runs (keeps_taken w (later ++ B) now f e)
-          (subst (λ (n : ℕ). Timely g n (passed_in (At now (TakeFrame (Some f)) ∷ later) B) (pause G) (waited_in (At now (TakeFrame (Some f)) ∷ later) B))
+          (subst (λ (n : ℕ). Timely g n (passed_in (At now (TakeFrame (Some f)) ∷ later) B) (pause G - 100000) (waited_in (At now (TakeFrame (Some f)) ∷ later) B))
           (sym (ap length (packets_is (later ++ B) now f true i) ∙ length_one_more (packets (later ++ B)) (message_of f)))
-          (subst (λ (n : ℕ). Timely g (suc (length (packets (later ++ B)))) (passed_in (At now (TakeFrame (Some f)) ∷ later) B) n (waited_in (At now (TakeFrame (Some f)) ∷ later) B))
+          (subst (λ (n : ℕ). Timely g (suc (length (packets (later ++ B)))) (passed_in (At now (TakeFrame (Some f)) ∷ later) B) (n - 100000) (waited_in (At now (TakeFrame (Some f)) ∷ later) B))
           (sym (pause_is (later ++ B) now f true i))
           (packs_one g _ _ _ _ (step (later ++ B) now) t p)))
       go false i (runs e t) = runs (keeps_taken w (later ++ B) now f e)
-          (subst (λ (n : ℕ). Timely g n (passed_in (At now (TakeFrame (Some f)) ∷ later) B) (pause G) (waited_in (At now (TakeFrame (Some f)) ∷ later) B))
+          (subst (λ (n : ℕ). Timely g n (passed_in (At now (TakeFrame (Some f)) ∷ later) B) (pause G - 100000) (waited_in (At now (TakeFrame (Some f)) ∷ later) B))
           (sym (ap length (packets_is (later ++ B) now f false i)))
-          (subst (λ (n : ℕ). Timely g (length (packets (later ++ B))) (passed_in (At now (TakeFrame (Some f)) ∷ later) B) n (waited_in (At now (TakeFrame (Some f)) ∷ later) B))
+          (subst (λ (n : ℕ). Timely g (length (packets (later ++ B))) (passed_in (At now (TakeFrame (Some f)) ∷ later) B) (n - 100000) (waited_in (At now (TakeFrame (Some f)) ∷ later) B))
           (sym (pause_is (later ++ B) now f false i))
-          (passes g _ _ _ _ (step (later ++ B) now) t)))
+          (passes g _ _ _ _ (step (later ++ B) now) _ (omega arith) t)))
 
   -- none is taken: the gap isn't over, or all were
-  no_packet : (now i left : ℕ) → packet_by (Some (k, m)) i left ≡ None → (packets_of m < i) ⊎ (0 < left)
-  no_packet now i zero e = go (nat_le i (packets_of m)) refl e
+  pub no_packet : (now i left : ℕ) → packet_by (Some (k, m)) i left ≡ None → (packets_of m < i) ⊎ (0 < left - 100000)
+  no_packet now i left e = go (nat_le left 100000) (nat_le i (packets_of m)) refl refl e
     where
       past : (a b : ℕ) → nat_le a b ≡ false → b < a
       past a b z = grind arith
 
-      go : (b : Bool) → nat_le i (packets_of m) ≡ b → (if b then Some (frame_of m i) else None) ≡ None → (packets_of m < i) ⊎ (0 < 0)
-      go true z y = absurd (cc)
-      go false z y = inl (past _ _ z)
-  no_packet now i (suc left) e = inr (omega arith)
-
-  first_none : (a b : Option Message) → long_by a b ≡ None → a ≡ None
-  first_none None b e = refl
-  first_none (Some x) b e = absurd (cc)
+      go : (a b : Bool) → nat_le left 100000 ≡ a → nat_le i (packets_of m) ≡ b → (if a && b then Some (frame_of m i) else None) ≡ None
+          → (packets_of m < i) ⊎ (0 < left - 100000)
+      go true true x z y = absurd (cc)
+      go true false x z y = inl (past _ _ z)
+      go false b x z y = inr (let l = past left 100000 x in omega (arith, l))
 
   takes_no_frame : (now : ℕ) (later : List Call) → (let none : Option (ℕ × Message) = None in none) ≡ next_frame w (later ++ B) now → Stands later
       → Stands (At now (TakeFrame None) ∷ later)
@@ -187,10 +182,9 @@ module _ (w : Who) (B : List Call) (g k : ℕ) (m : MessageRecord) where
       go (runs e t) =
           elim (no_packet now (length (packets (later ++ B))) (pause (later ++ B) - step (later ++ B) now)
           (ap (λ (o : Option (ℕ × MessageRecord)). packet_by o (length (packets (later ++ B))) (pause (later ++ B) - step (later ++ B) now)) (sym h.broadcast)
-          ∙ first_none (next_packet w (later ++ B) now) (next_transfer w (later ++ B) now)
-          (none_long w (later ++ B) now (held_older (step (later ++ B) now) (address_after w (later ++ B)) e) answer))) [
+          ∙ (none_next w (later ++ B) now (held_older (step (later ++ B) now) (address_after w (later ++ B)) e) answer).rest.packet)) [
             | inl z ↦ over z
-            | inr z ↦ runs (held_older (step (later ++ B) now) (address_after w (later ++ B)) e) (finds_none g _ _ _ _ (step (later ++ B) now) t z)
+            | inr z ↦ runs (held_older (step (later ++ B) now) (address_after w (later ++ B)) e) (finds_none g _ _ _ _ (step (later ++ B) now) _ (omega arith) t z)
           ]
 
   -- no other is accepted
@@ -204,31 +198,31 @@ module _ (w : Who) (B : List Call) (g k : ℕ) (m : MessageRecord) where
       absurd (cc)
 
   one_more : (call : Call) (later : List Call) → IsAnswered w (later ++ B) call → tells_broadcast call ≡ false
-      → waited_in later B + step (later ++ B) (moment (call ∷ later ++ B)) ≤ g → Stands later → Stands (call ∷ later)
+      → (waited_in later B + step (later ++ B) (moment (call ∷ later ++ B)) ≤ g) × (claims_anew call ≡ false) → Stands later → Stands (call ∷ later)
   one_more (At when (Hear f)) later a n p h = hears_one when f later h
-  one_more (At now (TakeFrame (Some f))) later a n p h = takes_one now f later p h
+  one_more (At now (TakeFrame (Some f))) later a n p h = takes_one now f later p.0 h
   one_more (At now (TakeFrame None)) later a n p h = takes_no_frame now later a h
   one_more (At now (Broadcast group bytes (Ok j))) later a n p h =
       absurd (none_begins later now group j bytes h.broadcast (broadcast_case w (later ++ B) now group bytes (Ok j) a))
+  one_more (At now Again) later a n p h = absurd (let z : true ≡ false = p.1 in cc)
   one_more (TakeBroadcastEnded (Some x)) later a n p h = absurd (let z : true ≡ false = n in cc)
   one_more call later a n p h = record { broadcast = h.broadcast; course = go h.course }
     where
-      left : pause (later ++ B) - step (later ++ B) (moment (call ∷ later ++ B)) ≡ pause (call ∷ later ++ B)
+      left : pause (call ∷ later ++ B) - 100000 ≡ pause (later ++ B) - 100000 - step (later ++ B) (moment (call ∷ later ++ B))
       left = omega arith
 
       go : Course later → Course (call ∷ later)
       go (over l) = over l
       go (gone e) = gone (let z = lost_older (step (later ++ B) (moment (call ∷ later ++ B))) (address_after w (later ++ B)) in cc)
       go (runs e t) = runs (let z = held_older (step (later ++ B) (moment (call ∷ later ++ B))) (address_after w (later ++ B)) e in cc)
-          (subst (λ (n : ℕ). Timely g (length (packets (later ++ B))) (passed_in (call ∷ later) B) n (waited_in (call ∷ later) B)) left
-          (passes g _ _ _ _ (step (later ++ B) (moment (call ∷ later ++ B))) t))
+          (passes g _ _ _ _ (step (later ++ B) (moment (call ∷ later ++ B))) _ left t)
 
   stands : (later : List Call) → AreAnswered w (later ++ B) → NoneTold tells_broadcast later → IsPrompt g later B → Stands [] → Stands later
   stands [] a n p h = h
   stands (call ∷ later) a n p h = one_more call later a.1 n.0 p.1 (stands later a.0 n.1 p.0 h)
 
   -- then its end would be told
-  ends_by : (i : ℕ) (b lost : Bool) → nat_lt (packets_of m) i ≡ b → (packets_of m < i) ⊎ (lost ≡ true) → (e : Ending) × (ending_of b lost k ≡ Some (k, e))
+  pub ends_by : (i : ℕ) (b lost : Bool) → nat_lt (packets_of m) i ≡ b → (packets_of m < i) ⊎ (lost ≡ true) → (e : Ending) × (ending_of b lost k ≡ Some (k, e))
   ends_by i true lost z h = (Done, refl)
   ends_by i false true z h = (Withdrawn, refl)
   ends_by i false false z (inl l) = absurd (not_past _ _ z l)
@@ -265,16 +259,17 @@ module _ (w : Who) (B : List Call) (g k : ℕ) (m : MessageRecord) where
 pub waited_last : (g : ℕ) (later B : List Call) → IsPrompt g later B → waited_in later B ≤ g
 waited_last g [] B p = omega arith
 waited_last g (At now (TakeFrame None) ∷ later) B p = omega arith
-waited_last g (call ∷ later) B p = p.1
+waited_last g (call ∷ later) B p = p.1.0
 
--- never is more left than the gap
-pause_most : (H : List Call) → pause H ≤ gap
+-- never is more left than this
+pub pause_most : (H : List Call) → pause H ≤ 150000
 pause_most [] = omega arith
 pause_most (At now (TakeFrame (Some f)) ∷ H) = go (is_packet f) (pause_most H)
   where
-    go : (b : Bool) → pause H ≤ gap → (if b then gap else pause H - step H now) ≤ gap
+    go : (b : Bool) → pause H ≤ 150000 → (if b then 150000 else pause H - step H now) ≤ 150000
     go true l = omega arith
     go false l = omega (arith, l)
+pause_most (At now (Broadcast group bytes (Ok k)) ∷ H) = let l = pause_most H in omega (arith, l)
 pause_most (call ∷ H) = let l = pause_most H in omega (arith, l)
 
 pub answered_from : (w : Who) (later B : List Call) → AreAnswered w (later ++ B) → AreAnswered w B
@@ -290,7 +285,7 @@ broadcast_ends w later earlier c g now group k bytes is none prompt l =
     let B = At now (Broadcast group bytes (Ok k)) ∷ earlier in
     ends_so w B g k (broadcast_from w group bytes) later
     (stands w B g k (broadcast_from w group bytes) later is.answered none prompt
-    (record { broadcast = refl; course = runs (held (broadcast_case w earlier now group bytes (Ok k) ((answered_from w later B is.answered).1))) (accepted_now g (pause B) (pause_most B)) }))
+    (record { broadcast = refl; course = runs (held (broadcast_case w earlier now group bytes (Ok k) ((answered_from w later B is.answered).1))) (accepted_now g (pause B - 100000) (let y = pause_most B in omega (arith, y))) }))
     l (waited_last g later B prompt)
   where
     held : BroadcastCase w earlier now group bytes (Ok k) → is_held (address_after w (At now (Broadcast group bytes (Ok k)) ∷ earlier)) ≡ true

@@ -1,6 +1,7 @@
 -- Lists from which the first is taken, and to which one is added at the end.
-use Rattle.std.proofs.Common.{◌≡◌, ◌⊎◌, ℕ, zero, suc, ◌+◌, ◌-◌, ◌<◌, ◌≤◌, List, [], ◌∷◌, ◌++◌, length, map, drop, remove, slice_index_or, Some, None, Bool, true, false, ◌==◌, refl, sym, ap, ◌∙◌, arith, length-append, inl, inr, eqb-true}
-use Rattle.std.specs.List.{slice_get}
+use Rattle.std.proofs.Common.{◌||◌, get_or, take, ◌≡◌, ◌⊎◌, ℕ, zero, suc, ◌+◌, ◌-◌, ◌<◌, ◌≤◌, List, [], ◌∷◌, ◌++◌, length, map, drop, remove, slice_index_or, Some, None, Bool, true, false, ◌==◌, refl, sym, ap, ◌∙◌, arith, length-append, inl, inr, eqb-true}
+use Rattle.std.specs.List.{list_any, slice_get}
+use Rattle.std.proofs.lemmas.List.Folds.{list_any_at, list_any_more}
 use Rattle.std.proofs.lemmas.Option.{slice_get_past}
 
 pub not_empty : {T : Type 0} (xs : List T) (b : Bool) → b ≡ (length xs == 0) → b ≡ false → 0 < length xs
@@ -112,3 +113,29 @@ get_append (z ∷ L) y (suc i) x e = elim (get_append L y i x e) [
 
 pub none_left : {T : Type 0} (xs : List T) (b : Bool) → b ≡ (length xs == 0) → b ≡ true → length xs ≡ 0
 none_left xs b e f = eqb-true (length xs) 0 (sym e ∙ f)
+
+-- ---- whether one of them is so
+
+any_map : {T : Type 0} {U : Type 0} (v : T → U) (p : U → Bool) (xs : List T) → list_any p (map v xs) ≡ list_any (λ x. p (v x)) xs
+any_map v p [] = refl
+any_map v p (x ∷ xs) = ap (λ (b : Bool). p (v x) || b) (any_map v p xs)
+
+take_past : {T : Type 0} (xs : List T) (i : ℕ) → length xs ≤ i → take i xs ≡ xs
+take_past [] zero l = refl
+take_past [] (suc i) l = refl
+take_past (x ∷ xs) zero l = absurd (omega (arith, l))
+take_past (x ∷ xs) (suc i) l = ap (λ ys. x ∷ ys) (take_past xs i (omega (arith, l)))
+
+pub any_found : {T : Type 0} {U : Type 0} (v : T → U) (p : U → Bool) (xs ys : List T) (i : ℕ) (x : T) → xs ≡ ys → i < length xs
+    → x ≡ get_or xs i x → p (v x) ≡ true → true ≡ list_any p (map v ys)
+any_found v p xs ys i x e l g h =
+    sym (any_map v p ys ∙ (ap (list_any (λ x. p (v x))) (sym e) ∙ list_any_at (λ x. p (v x)) xs i x l (ap (λ y. p (v y)) (sym g) ∙ h)))
+
+pub any_more : {T : Type 0} {U : Type 0} (v : T → U) (p : U → Bool) (xs : List T) (i : ℕ) (x : T) → i < length xs
+    → x ≡ get_or xs i x → p (v x) ≡ false → list_any (λ x. p (v x)) (take i xs) ≡ false → list_any (λ x. p (v x)) (take (i + 1) xs) ≡ false
+any_more v p xs i x l g h e =
+    list_any_more (λ x. p (v x)) xs i x l ∙ (ap (λ (b : Bool). b || p (v (get_or xs i x))) e ∙ (ap (λ y. p (v y)) (sym g) ∙ h))
+
+pub any_none : {T : Type 0} {U : Type 0} (v : T → U) (p : U → Bool) (xs ys : List T) (i : ℕ) → xs ≡ ys → length xs ≤ i
+    → list_any (λ x. p (v x)) (take i xs) ≡ false → false ≡ list_any p (map v ys)
+any_none v p xs ys i e l f = sym (any_map v p ys ∙ (ap (list_any (λ x. p (v x))) (sym e) ∙ (ap (list_any (λ x. p (v x))) (sym (take_past xs i l)) ∙ f)))

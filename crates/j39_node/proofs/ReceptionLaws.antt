@@ -12,23 +12,25 @@ use Rattle.j39_transport.specs.Cutting.{ToSend}
 use Rattle.j39_transport.specs.Frames as frames
 use Rattle.j39_transport.specs.Key.{Directed}
 use Rattle.j39_transport.specs.Message.{MessageRecord}
-use Rattle.j39_transport.specs.Reception.{ReceptionRecord, Reaction, asks_again, begun as opens, is_taken, limit_of, granted_at, grants, quiet, takes_abort, takes_data, takes_request, takes_signal, takes_tick}
+use Rattle.j39_transport.specs.Reception.{ReceptionRecord, Reaction, answers, asks_again, begun as opens, is_taken, limit_of, granted_at, grants, quiet, takes_abort, takes_data, takes_request, takes_signal, takes_tick}
 use Rattle.j39_transport.specs.Receiving.{BoxedReceiver, ReceiverRecord, RecvResult, Heard, Tick as Ticks, answer_in, partner_of, recv_step, result_of, said_to}
 use Rattle.j39_transport.specs.ReceiverStands.{AreReceived, IsReceived, ReceiverStandsFor, WereHanded, passed}
 use Rattle.j39_transport.specs.Signals.{Signal, BroadcastAnnounce, RequestToSend, ClearToSend, Acknowledgment, Abort, Packet, bytes_with, said_between, said_by, written}
 use Rattle.j39_transport.proofs.Handed.{has_heard, stands_still, were_handed}
 use Rattle.j39_node.specs.declared.controller.Controller.{Controller}
-use Rattle.j39_node.specs.History.{Who, Message, Call, Address, acknowledged, address_after, due, holds, is_acknowledgment, is_claim, is_held, is_lost, is_packet, is_session, is_smaller, is_some, is_transfer, message_of, moment, older, open_broadcast, packets, pause, stamp_at, step}
+use Rattle.j39_node.specs.declared.turn.Turn.TheVariants.{Single, Packet, Move}
+use Rattle.j39_node.specs.History.{yields, Who, Message, Call, Address, acknowledged, address_after, due, holds, is_acknowledgment, is_claim, is_held, is_lost, is_packet, is_session, is_smaller, is_some, is_transfer, message_of, moment, older, open_broadcast, packets, pause, stamp_at, step, of_other}
 use Rattle.j39_node.specs.History.Address.{NotClaimed, Claimed, Lost}
 use Rattle.j39_node.specs.History.Call.{At, ReleaseTransfer}
-use Rattle.j39_node.specs.History.Act.{Ask, Hear, Tick, TakeFrame, Send, Acknowledge, Broadcast, Transfer}
-use Rattle.j39_node.specs.Is.{Is, next_acknowledgment}
+use Rattle.j39_node.specs.History.Act.{Ask, Hear, Tick, TakeFrame, Send, Acknowledge, Broadcast, Transfer, Again}
+use Rattle.j39_node.specs.Is.{is_overdue, ready, Is, next_acknowledgment}
 use Rattle.j39_node.specs.Asking.{made_of}
 use Rattle.j39_node.specs.Is.{made_by}
-use Rattle.j39_node.specs.Reception.{CameFromOne, IsApart, KeepsHolder, Reception, time_heard, delivered, frames_heard, got_transfers, has_place, heard_at, heard_by, is_move, held_then, holder, is_same, keeps, later, leaves, left, listed, receiver_at, reception, released_by, replied, reply_from, says, says_by, session_tick, step_at, taken_by, takes, tick_at, ticked, whole, whole_by, without}
-use Rattle.j39_node.proofs.SoundLemmas.{FrameCase, frame_case, sound, own_get, due_get, due_taken, single_taken, packet_taken, claim_taken, is_moved, none_steers, lost_older, lost_claimed}
+use Rattle.j39_node.specs.Reception.{is_reply, is_that, CameFromOne, IsApart, KeepsHolder, Reception, time_heard, delivered, frames_heard, got_transfers, has_place, heard_at, heard_by, is_move, held_then, holder, is_same, keeps, later, leaves, left, listed, receiver_at, reception, released_by, replied, reply_from, says, says_by, session_tick, step_at, taken_by, takes, tick_at, ticked, whole, whole_by, without, group_of, is_over, limit_in, longest, shown, since_by, ticked_at, known, known_by}
+use Rattle.j39_node.proofs.SoundLemmas.{apart_is, IsTurn, none_at, none_next, turned, FrameCase, frame_case, sound, own_get, due_get, due_taken, single_taken, packet_taken, claim_taken, is_moved, lost_older, lost_claimed, lost_unclaimed}
+use Rattle.j39_node.proofs.PacketLemmas.{hushed, quiet_step, shown_both, shown_none, since_same}
 use Rattle.j39_node.proofs.SoundLemmas.FrameCase.{claims, acknowledges, replies, sends, packs, transfers}
-use Rattle.j39_node.proofs.ReceptionLemmas.{Acknowledges, Fits, Gives, Tidy, own_after, refused_step, replied_get, taken_is, tame_signal, tame_tick, tick_quiet, tidy, tidy_left, own_ticked as own_kept}
+use Rattle.j39_node.proofs.ReceptionLemmas.{Acknowledges, Fits, Gives, Tidy, own_after, refused_step, replied_get, taken_is, tame_signal, tame_tick, quiet_at, unclaimed_known, tidy, tidy_left, own_ticked as own_kept, no_reply}
 use Rattle.j39_node.proofs.HearingLemmas.{same_same as same_self}
 
 -- ---- each once, in order
@@ -47,7 +49,7 @@ no_whole own true held f now r x a e = refl
 no_whole own false false f now r x a e = refl
 no_whole own false true f now r x (inl a) e = absurd (let z : None ≡ Some x = sym a ∙ e in cc)
 no_whole own false true f now r x (inr a) e =
-    ap (λ (b : Bool). (recv_step (receiver_at own r) (Heard f) now b).delivers) (ap has_place e) ∙ (refused_step (receiver_at own r) f now a).delivers
+    ap (λ (b : Bool). (recv_step (receiver_at own r) (Heard (shown own r.session f)) now b).delivers) (ap has_place e) ∙ (refused_step (receiver_at own r) (shown own r.session f) now a).delivers
 
 list_more : (stamp : ℕ) (o : Option MessageRecord) (x : Option (ℕ × MessageRecord)) → ((y : ℕ × MessageRecord) → x ≡ Some y → o ≡ None)
     → listed x ++ listed (option_map (λ m. (stamp, m)) o) ≡ listed (keeps stamp o x)
@@ -78,7 +80,7 @@ pub made_is : (w : Who) (H : List Call) (when : ℕ) (f : FrameRecord) → made_
 made_is w H when f = go (reception w H).waits refl
   where
     left_one : Reception
-    left_one = left (leaves (holder w H) (holder w (At when (Hear f) ∷ H)) (reception w H).session) (reception w H)
+    left_one = left (leaves (known w H when f) (holder w (At when (Hear f) ∷ H)) (reception w H).session) (reception w H)
 
     kept_one : (o : Option MessageRecord) → made_by true (keeps f.stamp o None) ≡ made_of o
     kept_one None = refl
@@ -89,12 +91,12 @@ made_is w H when f = go (reception w H).waits refl
         ap (λ (y : Option (ℕ × MessageRecord)). made_by (has_place y) (reception w (At when (Hear f) ∷ H)).waits) e
         ∙ (ap (made_by true) (waits_after w.address (is_smaller w (claim_of f)) (holds w H when) f (time_heard (At when (Hear f) ∷ H)) left_one)
         ∙ (ap (λ (y : Option (ℕ × MessageRecord)). made_by true (keeps f.stamp (whole w H when f) y))
-        (left_waits (leaves (holder w H) (holder w (At when (Hear f) ∷ H)) (reception w H).session) (reception w H) ∙ e) ∙ kept_one (whole w H when f)))
+        (left_waits (leaves (known w H when f) (holder w (At when (Hear f) ∷ H)) (reception w H).session) (reception w H) ∙ e) ∙ kept_one (whole w H when f)))
     go (Some y) e =
         ap (λ (z : Option (ℕ × MessageRecord)). made_by (has_place z) (reception w (At when (Hear f) ∷ H)).waits) e
         ∙ sym (ap made_of (no_whole w.address (is_smaller w (claim_of f)) (holds w H when) f (time_heard (At when (Hear f) ∷ H)) left_one y
-        (tidy_left w.address (leaves (holder w H) (holder w (At when (Hear f) ∷ H)) (reception w H).session) (reception w H) (tidy w H)).apart
-        (left_waits (leaves (holder w H) (holder w (At when (Hear f) ∷ H)) (reception w H).session) (reception w H) ∙ e)))
+        (tidy_left w.address (leaves (known w H when f) (holder w (At when (Hear f) ∷ H)) (reception w H).session) (reception w H) (tidy w H)).apart
+        (left_waits (leaves (known w H when f) (holder w (At when (Hear f) ∷ H)) (reception w H).session) (reception w H) ∙ e)))
 
 taken_waits : (a b l : Bool) (r : Reception) → (taken_by a b l r).waits ≡ r.waits
 taken_waits true b l r = left_waits l r
@@ -108,14 +110,14 @@ keeps_same stamp (Some m) x e = absurd (cc)
 pub in_order : (w : Who) (H : List Call) → delivered w H ≡ got_transfers w H ++ listed (reception w H).waits
 in_order w [] = refl
 in_order w (At when (Hear f) ∷ H) =
-    in_order_heard w.address (is_smaller w (claim_of f)) (holds w H when) (leaves (holder w H) (holder w (At when (Hear f) ∷ H)) (reception w H).session) f (time_heard (At when (Hear f) ∷ H))
+    in_order_heard w.address (is_smaller w (claim_of f)) (holds w H when) (leaves (known w H when f) (holder w (At when (Hear f) ∷ H)) (reception w H).session) f (time_heard (At when (Hear f) ∷ H))
     (reception w H) (delivered w H) (got_transfers w H) (tidy w H) (in_order w H)
 in_order w (At now Tick ∷ H) =
     in_order w H ∙ ap (λ x. got_transfers w H ++ listed x)
-    (sym (keeps_same now (recv_step (receiver_at w.address (reception w H)) Ticks (time_heard (At now Tick ∷ H)) true).delivers (reception w H).waits
-    (tick_quiet (receiver_at w.address (reception w H)) (time_heard (At now Tick ∷ H)))))
+    (sym (keeps_same now (ticked_at w.address (time_heard (At now Tick ∷ H)) (reception w H)).delivers (reception w H).waits
+    (quiet_at w.address (time_heard (At now Tick ∷ H)) (reception w H))))
 in_order w (At now (TakeFrame (Some f)) ∷ H) =
-    in_order w H ∙ ap (λ x. got_transfers w H ++ listed x) (sym (taken_waits (is_claim f) (is_acknowledgment f) _ (reception w H)))
+    in_order w H ∙ ap (λ x. got_transfers w H ++ listed x) (sym (taken_waits (is_claim f) (is_reply (reception w H).replies f) _ (reception w H)))
 in_order w (ReleaseTransfer true ∷ H) = in_order w H ∙ sym (append-nil (got_transfers w H ++ listed (reception w H).waits))
 in_order w (call ∷ H) = in_order w H
 
@@ -146,7 +148,7 @@ AreBegun w H (Some r) = Begun w H r
 
 -- a session with the same source, after a call that leaves its holder
 goes_on : (w : Who) (H : List Call) (call : Call) (r s : ReceptionRecord) (h : Begun w H r) → s.message.source ≡ r.message.source
-    → holder w (call ∷ H) r.message.source ≡ holder w H r.message.source
+    → holder w (call ∷ H) r.message.source ≡ known_by w call H r.message.source
     → IsReceived w.address (frames_heard (call ∷ h.later ++ At h.at (Hear h.first) ∷ [])) s → Begun w (call ∷ H) s
 goes_on w H call r s h same keeps stands = record {
   later = call ∷ h.later;
@@ -156,12 +158,12 @@ goes_on w H call r s h same keeps stands = record {
   is = ap (λ G. call ∷ G) h.is;
   stands = stands;
   one = subst (λ (a : ℕ). KeepsHolder w a (call ∷ h.later) (At h.at (Hear h.first) ∷ h.earlier)) (sym same)
-      (subst (λ (G : List Call). holder w (call ∷ G) r.message.source ≡ holder w G r.message.source) h.is keeps, h.one);
+      (subst (λ (G : List Call). holder w (call ∷ G) r.message.source ≡ known_by w call G r.message.source) h.is keeps, h.one);
 }
 
 -- one that no frame touches
 stays : (w : Who) (H : List Call) (call : Call) (o : Option ReceptionRecord) → ((G : List Call) → frames_heard (call ∷ G) ≡ frames_heard G)
-    → ((r : ReceptionRecord) → o ≡ Some r → holder w (call ∷ H) r.message.source ≡ holder w H r.message.source) → AreBegun w H o → AreBegun w (call ∷ H) o
+    → ((r : ReceptionRecord) → o ≡ Some r → holder w (call ∷ H) r.message.source ≡ known_by w call H r.message.source) → AreBegun w H o → AreBegun w (call ∷ H) o
 stays w H call None heard keeps h = tt
 stays w H call (Some r) heard keeps h =
     goes_on w H call r r h refl (keeps r refl) (subst (λ (E : List FrameRecord). IsReceived w.address E r) (sym (heard (h.later ++ At h.at (Hear h.first) ∷ []))) h.stands)
@@ -245,7 +247,7 @@ none_delivered r f now found e = ap (λ o. (takes_signal (Directed (frames.sourc
 
 -- a frame is heard at the address that is held
 begun_by : (w : Who) (H : List Call) (when : ℕ) (f : FrameRecord) (now : ℕ) (found : Bool) (o : Option ReceptionRecord) → AreBegun w H o
-    → ((r : ReceptionRecord) → o ≡ Some r → holder w (At when (Hear f) ∷ H) r.message.source ≡ holder w H r.message.source)
+    → ((r : ReceptionRecord) → o ≡ Some r → holder w (At when (Hear f) ∷ H) r.message.source ≡ known w H when f r.message.source)
     → AreBegun w (At when (Hear f) ∷ H) (recv_step (record { own = w.address; session = o }) (Heard f) now found).after.session
 begun_by w H when f now found None h keeps =
     go (recv_step (record { own = w.address; session = None }) (Heard f) now found).after.session
@@ -273,18 +275,26 @@ begun_by w H when f now found (Some x) h keeps =
 
 -- a frame that isn't heard there
 heard_aside : (w : Who) (H : List Call) (when : ℕ) (f : FrameRecord) (o : Option ReceptionRecord) → AreBegun w H o
-    → ((r : ReceptionRecord) → o ≡ Some r → holder w (At when (Hear f) ∷ H) r.message.source ≡ holder w H r.message.source) → AreBegun w (At when (Hear f) ∷ H) o
+    → ((r : ReceptionRecord) → o ≡ Some r → holder w (At when (Hear f) ∷ H) r.message.source ≡ known w H when f r.message.source) → AreBegun w (At when (Hear f) ∷ H) o
 heard_aside w H when f None h keeps = tt
 heard_aside w H when f (Some r) h keeps =
     goes_on w H (At when (Hear f)) r r h refl (keeps r refl) (record { packets_are = h.stands.packets_are; joined_are = passed _ f _ _ h.stands.joined_are })
 
-begun_heard : (w : Who) (H : List Call) (lost held b : Bool) (when : ℕ) (f : FrameRecord) (now : ℕ) (r : Reception) → leaves (holder w H) (holder w (At when (Hear f) ∷ H)) r.session ≡ b
+begun_shown : (w : Who) (H : List Call) (when : ℕ) (f : FrameRecord) (now : ℕ) (found : Bool) (o : Option ReceptionRecord) → AreBegun w H o
+    → ((r : ReceptionRecord) → o ≡ Some r → holder w (At when (Hear f) ∷ H) r.message.source ≡ known w H when f r.message.source)
+    → AreBegun w (At when (Hear f) ∷ H) (recv_step (record { own = w.address; session = o }) (Heard (shown w.address o f)) now found).after.session
+begun_shown w H when f now found o h keeps =
+    shown_both w.address o f (λ (g : FrameRecord). AreBegun w (At when (Hear f) ∷ H) (recv_step (record { own = w.address; session = o }) (Heard g) now found).after.session)
+    (subst (λ (x : RecvResult). AreBegun w (At when (Hear f) ∷ H) x.after.session) (sym (quiet_step (record { own = w.address; session = o }) _ now found (hushed w.address f.stamp f.id)))
+    (heard_aside w H when f o h keeps)) (begun_by w H when f now found o h keeps)
+
+begun_heard : (w : Who) (H : List Call) (lost held b : Bool) (when : ℕ) (f : FrameRecord) (now : ℕ) (r : Reception) → leaves (known w H when f) (holder w (At when (Hear f) ∷ H)) r.session ≡ b
     → AreBegun w H r.session → AreBegun w (At when (Hear f) ∷ H) (heard_by w.address lost held f now (left b r)).session
 begun_heard w H true held b when f now r e h = tt
-begun_heard w H false true true when f now r e h = begun_by w H when f now (has_place r.waits) None tt (λ x i. absurd (cc))
-begun_heard w H false true false when f now r e h = begun_by w H when f now (has_place r.waits) r.session h (λ x i. not_left (holder w H) (holder w (At when (Hear f) ∷ H)) r.session false x e refl i)
+begun_heard w H false true true when f now r e h = begun_shown w H when f now (has_place r.waits) None tt (λ x i. absurd (cc))
+begun_heard w H false true false when f now r e h = begun_shown w H when f now (has_place r.waits) r.session h (λ x i. not_left (known w H when f) (holder w (At when (Hear f) ∷ H)) r.session false x e refl i)
 begun_heard w H false false true when f now r e h = tt
-begun_heard w H false false false when f now r e h = heard_aside w H when f r.session h (λ x i. not_left (holder w H) (holder w (At when (Hear f) ∷ H)) r.session false x e refl i)
+begun_heard w H false false false when f now r e h = heard_aside w H when f r.session h (λ x i. not_left (known w H when f) (holder w (At when (Hear f) ∷ H)) r.session false x e refl i)
 
 begun_ticked : (w : Who) (H : List Call) (now time : ℕ) (o : Option ReceptionRecord) → AreBegun w H o
     → AreBegun w (At now Tick ∷ H) (recv_step (record { own = w.address; session = o }) Ticks time true).after.session
@@ -321,8 +331,10 @@ same_released false r = refl
 begun : (w : Who) (H : List Call) → AreBegun w H (reception w H).session
 begun w [] = tt
 begun w (At when (Hear f) ∷ H) = begun_heard w H (is_smaller w (claim_of f)) (holds w H when) _ when f (time_heard (At when (Hear f) ∷ H)) (reception w H) refl (begun w H)
-begun w (At now Tick ∷ H) = begun_ticked w H now (time_heard (At now Tick ∷ H)) (reception w H).session (begun w H)
-begun w (At now (TakeFrame (Some f)) ∷ H) = begun_taken w H now f (is_claim f) (is_acknowledgment f) _ (reception w H) refl refl (begun w H)
+begun w (At now Tick ∷ H) =
+    cond_both (is_over (reception w H).since (time_heard (At now Tick ∷ H)) (reception w H).session) _ _ (λ (x : RecvResult). AreBegun w (At now Tick ∷ H) x.after.session)
+    (λ t. tt) (λ t. begun_ticked w H now (time_heard (At now Tick ∷ H)) (reception w H).session (begun w H))
+begun w (At now (TakeFrame (Some f)) ∷ H) = begun_taken w H now f (is_claim f) (is_reply (reception w H).replies f) _ (reception w H) refl refl (begun w H)
 begun w (ReleaseTransfer answer ∷ H) =
     stays w H (ReleaseTransfer answer) (released_by answer (reception w H)).session (λ G. refl) (λ r e. refl) (subst (AreBegun w H) (sym (same_released answer (reception w H))) (begun w H))
 begun w (call ∷ H) = stays w H call (reception w H).session (λ G. refl) (λ r e. refl) (begun w H)
@@ -330,7 +342,7 @@ begun w (call ∷ H) = stays w H call (reception w H).session (λ G. refl) (λ r
 -- ---- what is made whole
 
 whole_came : (w : Who) (H : List Call) (when : ℕ) (f : FrameRecord) (now : ℕ) (found : Bool) (o : Option ReceptionRecord) (m : MessageRecord) → AreBegun w H o
-    → ((r : ReceptionRecord) → o ≡ Some r → holder w (At when (Hear f) ∷ H) r.message.source ≡ holder w H r.message.source)
+    → ((r : ReceptionRecord) → o ≡ Some r → holder w (At when (Hear f) ∷ H) r.message.source ≡ known w H when f r.message.source)
     → (recv_step (record { own = w.address; session = o }) (Heard f) now found).delivers ≡ Some m → CameFromOne w (At when (Hear f) ∷ H) m
 whole_came w H when f now found None m h keeps e =
     absurd (let z = none_delivered (record { own = w.address; session = None }) f now found refl in let y : None ≡ Some m = sym z ∙ e in cc)
@@ -346,21 +358,29 @@ whole_came w H when f now found (Some x) m h keeps e =
       handed = subst (WereHanded w.address (frames_heard (h.later ++ At h.at (Hear h.first) ∷ []) ++ f ∷ [])) e
           (were_handed (frames_heard (h.later ++ At h.at (Hear h.first) ∷ [])) r f now found (answer_in (recv_step r (Heard f) now found)) refl h.stands);
       one = subst (λ (a : ℕ). KeepsHolder w a (At when (Hear f) ∷ h.later) (At h.at (Hear h.first) ∷ h.earlier)) (sym from)
-          (subst (λ (G : List Call). holder w (At when (Hear f) ∷ G) x.message.source ≡ holder w G x.message.source) h.is (keeps x refl), h.one);
+          (subst (λ (G : List Call). holder w (At when (Hear f) ∷ G) x.message.source ≡ known w G when f x.message.source) h.is (keeps x refl), h.one);
     }
   where
     gives : (d : Option MessageRecord) → d ≡ Some m → Gives (λ a. a ≡ x.message.source) d → m.source ≡ x.message.source
     gives None i k = absurd (cc)
     gives (Some y) i k = let z : y ≡ m = cc in ap (λ (u : MessageRecord). u.source) (sym z) ∙ k
 
+whole_shown : (w : Who) (H : List Call) (when : ℕ) (f : FrameRecord) (now : ℕ) (found : Bool) (o : Option ReceptionRecord) (m : MessageRecord) → AreBegun w H o
+    → ((r : ReceptionRecord) → o ≡ Some r → holder w (At when (Hear f) ∷ H) r.message.source ≡ known w H when f r.message.source)
+    → (recv_step (record { own = w.address; session = o }) (Heard (shown w.address o f)) now found).delivers ≡ Some m → CameFromOne w (At when (Hear f) ∷ H) m
+whole_shown w H when f now found o m h keeps =
+    shown_both w.address o f (λ (g : FrameRecord). (recv_step (record { own = w.address; session = o }) (Heard g) now found).delivers ≡ Some m → CameFromOne w (At when (Hear f) ∷ H) m)
+    (λ e. absurd (let z : None ≡ Some m = sym (ap (λ (x : RecvResult). x.delivers) (quiet_step (record { own = w.address; session = o }) _ now found (hushed w.address f.stamp f.id))) ∙ e in cc))
+    (whole_came w H when f now found o m h keeps)
+
 came_by : (w : Who) (H : List Call) (lost held b : Bool) (when : ℕ) (f : FrameRecord) (now : ℕ) (r : Reception) (m : MessageRecord)
-    → leaves (holder w H) (holder w (At when (Hear f) ∷ H)) r.session ≡ b → AreBegun w H r.session → whole_by w.address lost held f now (left b r) ≡ Some m
+    → leaves (known w H when f) (holder w (At when (Hear f) ∷ H)) r.session ≡ b → AreBegun w H r.session → whole_by w.address lost held f now (left b r) ≡ Some m
     → CameFromOne w (At when (Hear f) ∷ H) m
 came_by w H true held b when f now r m e h g = absurd (cc)
 came_by w H false false b when f now r m e h g = absurd (cc)
-came_by w H false true true when f now r m e h g = whole_came w H when f now (has_place r.waits) None m tt (λ x i. absurd (cc)) g
+came_by w H false true true when f now r m e h g = whole_shown w H when f now (has_place r.waits) None m tt (λ x i. absurd (cc)) g
 came_by w H false true false when f now r m e h g =
-    whole_came w H when f now (has_place r.waits) r.session m h (λ x i. not_left (holder w H) (holder w (At when (Hear f) ∷ H)) r.session false x e refl i) g
+    whole_shown w H when f now (has_place r.waits) r.session m h (λ x i. not_left (known w H when f) (holder w (At when (Hear f) ∷ H)) r.session false x e refl i) g
 
 pub came : (w : Who) (H : List Call) (when : ℕ) (f : FrameRecord) (m : MessageRecord) → whole w H when f ≡ Some m → CameFromOne w (At when (Hear f) ∷ H) m
 came w H when f m e = came_by w H (is_smaller w (claim_of f)) (holds w H when) _ when f (time_heard (At when (Hear f) ∷ H)) (reception w H) m refl (begun w H) e
@@ -387,35 +407,68 @@ replies_first w H c now f is t away = go (frame_case w H now f is.answered.1)
       h,
       ap (λ (y : ℕ × Message). y.1.source) e ∙ (replied_get w.address (reception w H).replies 0 m (tidy w H).replies g).source,
       g ∙ ap (λ (y : ℕ × Message). Some y.1) (sym e),
-      n,
+      n.0,
     )
     go (sends x o h n g e) = absurd (not_session (single_taken w f now x e (own_get w _ _ x (sound w H is.answered.0).own g)))
-    go (packs m o h n past g e) =
+    go (packs m o h n g e) =
         let p = and_parts (is_session f) _ (packet_taken f now m (open_broadcast w H) (length (packets H)) (pause H - step H now) e g).2 in
         absurd (let z : not true ≡ true = ap not (sym p.1) ∙ k.1 in cc)
-    go (transfers m o h n past nothing g e) =
-        absurd (let y : true ≡ false = sym (is_moved w H f t (none_steers (next_acknowledgment w H now) _ n).1) ∙ away in cc)
+    go (transfers m o h n g e) =
+        absurd (let y : true ≡ false = sym (is_moved w H f t (apart_is w H now f m g (ap (λ (y : ℕ × Message). y.1) e) (turned w H now (Some Move) n.1).1)) ∙ away in cc)
 
--- one that waits goes before all but claims and acknowledgments
+-- one that waits goes before all but claims, acknowledgments and an overdue frame of a broadcast, unless it yields
 pub replies_before : (w : Who) (H : List Call) (c : Controller) (now : ℕ) (f : FrameRecord) (m : Message) → Is w (At now (TakeFrame (Some f)) ∷ H) c
-    → slice_get (reception w H).replies 0 ≡ Some m → is_claim f ≡ false → is_acknowledgment f ≡ false → message_of f ≡ m
-replies_before w H c now f m is at k a = go (frame_case w H now f is.answered.1)
+    → slice_get (reception w H).replies 0 ≡ Some m → is_claim f ≡ false → is_acknowledgment f ≡ false → is_overdue w H now ≡ false → yields H ≡ false → message_of f ≡ m
+replies_before w H c now f m is at k a late first = go (frame_case w H now f is.answered.1)
   where
     waits : slice_get (reception w H).replies 0 ≡ None → ⊥
     waits e = (let z : None ≡ Some m = sym e ∙ at in absurd (cc))
+
+    goes : (nat_lt 0 (length (reception w H).replies) ≡ false) ⊎ (yields H ≡ true) → ⊥
+    goes (inl e) = waits (none_at (reception w H).replies 0 e)
+    goes (inr e) = absurd (let z : true ≡ false = sym e ∙ first in cc)
+
+    packet : IsTurn (yields H) (ready w H now) (Some Packet) → ⊥
+    packet (inl o) = absurd (let z : true ≡ false = sym o ∙ late in cc)
+    packet (inr t) = goes t.2
 
     go : FrameCase w H now f → message_of f ≡ m
     go (claims o e) = absurd (let z : true ≡ false = sym (claim_taken f now w _ e) ∙ k in cc)
     go (acknowledges x o h g e way) =
         absurd (let z : true ≡ false = sym (due_taken w f now x e (due_get w (due w H) (length (acknowledged H)) x (sound w H is.answered.0).desk.0 g)).1 ∙ a in cc)
     go (replies x o h n g e) = let z : Some x ≡ Some m = sym g ∙ at in ap (λ (y : ℕ × Message). y.1) e ∙ (let y : x ≡ m = cc in y)
-    go (sends x o h n g e) = absurd (waits (none_steers (next_acknowledgment w H now) _ n).1)
-    go (packs x o h n past g e) = absurd (waits (none_steers (next_acknowledgment w H now) _ n).1)
-    go (transfers x o h n past nothing g e) = absurd (waits (none_steers (next_acknowledgment w H now) _ n).1)
+    go (sends x o h n g e) = absurd (goes (turned w H now (Some Single) n.1).2)
+    go (packs x o h n g e) = absurd (packet (turned w H now (Some Packet) n.1))
+    go (transfers x o h n g e) = absurd (goes (turned w H now (Some Move) n.1).2)
 
-pub taken_rest : (w : Who) (H : List Call) (now : ℕ) (f : FrameRecord) → is_claim f ≡ false → is_acknowledgment f ≡ false
+pub taken_rest : (w : Who) (H : List Call) (now : ℕ) (f : FrameRecord) → is_claim f ≡ false → IsTrue (is_transfer f) → is_move w H f ≡ false
     → (reception w (At now (TakeFrame (Some f)) ∷ H)).replies ≡ drop 1 (reception w H).replies
-taken_rest w H now f k a = ap (λ (r : Reception). r.replies) (taken_is w H now f false false k a)
+taken_rest w H now f k t m = ap (λ (r : Reception). r.replies) (taken_is w H now f false true k (λ i. t i && is_it i))
+  where
+    flip : (b : Bool) → not b ≡ false → b ≡ true
+    flip true i = refl
+    flip false i = absurd (cc)
+
+    is_it : is_that (message_of f) (slice_get (reception w H).replies 0) ≡ true
+    is_it = flip _ (sym (ap (λ (b : Bool). b && not (is_that (message_of f) (slice_get (reception w H).replies 0))) t) ∙ m)
+
+pub others_taken : (w : Who) (H : List Call) (now : ℕ) (f : FrameRecord) → is_claim f ≡ false → (is_transfer f ≡ false) ⊎ IsTrue (is_move w H f)
+    → (reception w (At now (TakeFrame (Some f)) ∷ H)).replies ≡ (reception w H).replies
+others_taken w H now f k (inl a) = ap (λ (r : Reception). r.replies) (taken_is w H now f false false k (no_reply (reception w H).replies f a))
+others_taken w H now f k (inr a) = ap (λ (r : Reception). r.replies) (taken_is w H now f false false k (apart (is_transfer f) _ a))
+  where
+    apart : (a b : Bool) → (a && not b) ≡ true → (a && b) ≡ false
+    apart true true e = absurd (cc)
+    apart true false e = refl
+    apart false b e = refl
+
+-- where no frame is taken, none waits
+pub none_replied : (w : Who) (H : List Call) (c : Controller) (now : ℕ) → Is w (At now (TakeFrame None) ∷ H) c → IsTrue (holds w H now) → (reception w H).replies ≡ []
+none_replied w H c now is held = none (reception w H).replies (none_next w H now held is.answered.1).rest.reply
+  where
+    none : (L : List Message) → slice_get L 0 ≡ None → L ≡ []
+    none [] e = refl
+    none (x ∷ L) e = absurd (cc)
 
 -- ---- from an address that is lost
 
@@ -435,15 +488,14 @@ silent_heard own false false f now r e h = h refl
 
 silent_taken : (a b l : Bool) (r : Reception) → Silent r → Silent (taken_by a b l r)
 silent_taken true b l r h = silent_left l r h
-silent_taken false true l r h = h
-silent_taken false false l r h = record { session = h.session; replies = ap (drop 1) h.replies }
+silent_taken false false l r h = h
+silent_taken false true l r h = record { session = h.session; replies = ap (drop 1) h.replies }
 
 silent_tick : (own stamp now : ℕ) (r : Reception) → Silent r → Silent (ticked own stamp now r)
 unfolding recv_step takes_tick
-silent_tick own stamp now r h = record {
-  session = ap (λ o. (takes_tick now o).session) h.session;
-  replies = ap (λ (o : Option ReceptionRecord). replied own (partner_of o) (option_map (Rattle.j39_transport.specs.Signals.written own (partner_of o)) (takes_tick now o).says) r.replies) h.session ∙ h.replies;
-}
+silent_tick own stamp now r h =
+    subst Silent (ap (λ (o : Option ReceptionRecord). ticked own stamp now (record { session = o; since = r.since; waits = r.waits; replies = r.replies })) (sym h.session))
+    (record { session = refl; replies = h.replies })
 
 silent_released : (b : Bool) (r : Reception) → Silent r → Silent (released_by b r)
 silent_released false r h = h
@@ -467,12 +519,13 @@ silent w [] e = record { session = refl; replies = refl }
 silent w (At when (Hear f) ∷ H) e =
     silent_heard w.address (is_smaller w (claim_of f)) (holds w H when) f (time_heard (At when (Hear f) ∷ H)) _
     (λ i. not_held (step H when) (address_after w H) (lost_before (is_smaller w (claim_of f)) (step H when) (address_after w H) e i))
-    (λ i. silent_left (leaves (holder w H) (holder w (At when (Hear f) ∷ H)) (reception w H).session) (reception w H)
+    (λ i. silent_left (leaves (known w H when f) (holder w (At when (Hear f) ∷ H)) (reception w H).session) (reception w H)
     (silent w H (lost_before (is_smaller w (claim_of f)) (step H when) (address_after w H) e i)))
 silent w (At now Tick ∷ H) e = silent_tick w.address now (time_heard (At now Tick ∷ H)) (reception w H) (silent w H (sym (lost_older (step H now) (address_after w H)) ∙ e))
 silent w (At now (TakeFrame (Some f)) ∷ H) e =
-    silent_taken (is_claim f) (is_acknowledgment f) _ (reception w H) (silent w H (claim_lost (is_claim f) (step H now) (address_after w H) e))
+    silent_taken (is_claim f) (is_reply (reception w H).replies f) _ (reception w H) (silent w H (claim_lost (is_claim f) (step H now) (address_after w H) e))
 silent w (ReleaseTransfer answer ∷ H) e = silent_released answer (reception w H) (silent w H e)
+silent w (At now Again ∷ H) e = silent w H (sym (lost_older (step H now) (address_after w H)) ∙ (sym (lost_unclaimed _) ∙ e))
 silent w (call ∷ H) e = silent w H (let z = lost_older (step H (moment (call ∷ H))) (address_after w H) in cc)
 
 pub lost_is_silent : (w : Who) (H : List Call) → IsTrue (is_lost (address_after w H)) → ((reception w H).session ≡ None) × ((reception w H).replies ≡ [])
@@ -481,15 +534,15 @@ lost_is_silent w H e = let s = silent w H e in (s.session, s.replies)
 -- ---- frames that are not for a session
 
 -- what no frame changes of who holds an address
-never_left : (before after : ℕ → Option ℕ) (o : Option ReceptionRecord) → ((a : ℕ) → after a ≡ before a) → leaves before after o ≡ false
+pub never_left : (before after : ℕ → Option ℕ) (o : Option ReceptionRecord) → ((a : ℕ) → after a ≡ before a) → leaves before after o ≡ false
 never_left before after None h = refl
 never_left before after (Some r) h =
     ap (λ (x : Option ℕ). not (is_same (before r.message.source) x)) (h r.message.source) ∙ ap not (same_self (before r.message.source))
 
-pub not_left_by : (w : Who) (H : List Call) (when : ℕ) (f : FrameRecord) → claim_of f ≡ None → leaves (holder w H) (holder w (At when (Hear f) ∷ H)) (reception w H).session ≡ false
-not_left_by w H when f e = never_left (holder w H) (holder w (At when (Hear f) ∷ H)) (reception w H).session (λ a. ap (λ (c : Option Claim). held_then a c (holder w H a)) e)
+pub not_left_by : (w : Who) (H : List Call) (when : ℕ) (f : FrameRecord) → claim_of f ≡ None → leaves (known w H when f) (holder w (At when (Hear f) ∷ H)) (reception w H).session ≡ false
+not_left_by w H when f e = never_left (known w H when f) (holder w (At when (Hear f) ∷ H)) (reception w H).session (λ a. unclaimed_known w H when f a e)
 
-not_driven : (w : Who) (f : FrameRecord) → claim_of f ≡ None → is_smaller w (claim_of f) ≡ false
+pub not_driven : (w : Who) (f : FrameRecord) → claim_of f ≡ None → is_smaller w (claim_of f) ≡ false
 not_driven w f e = ap (is_smaller w) e
 
 -- a frame of a session goes to one address
@@ -520,18 +573,14 @@ not_said own f n =
     (λ b. refl))
     (λ a. refl)
 
-pub quiet_step : (r : ReceiverRecord) (f : FrameRecord) (now : ℕ) (found : Bool) → said_to r.own f ≡ None
-    → recv_step r (Heard f) now found ≡ record { after = r; sends = None; delivers = None }
-unfolding recv_step takes_signal
-quiet_step r f now found e = ap (λ s. result_of r.own (frames.source_of f.id) (takes_signal (Directed (frames.source_of f.id) r.own) s now found r.session)) e
-
 aside : (own : ℕ) (lost held b : Bool) (f : FrameRecord) (now : ℕ) (r : Reception) → lost ≡ false → b ≡ false → said_to own f ≡ None
     → heard_by own lost held f now (left b r) ≡ r
 aside own true held b f now r e g n = absurd (cc)
 aside own false held true f now r e g n = absurd (cc)
 aside own false false false f now r e g n = refl
 aside own false true false f now r e g n =
-    ap (λ (x : RecvResult). takes f.stamp (source_of f.id) x r) (quiet_step (receiver_at own r) f now (has_place r.waits) n)
+    ap (λ (x : RecvResult). takes f.stamp (since_by r.session x.after.session now r.since) (source_of f.id) x r) (quiet_step (receiver_at own r) (shown own r.session f) now (has_place r.waits) (shown_none own r.session f n))
+    ∙ λ i. record { session = r.session; since = since_same r.session now r.since i; waits = r.waits; replies = r.replies }
 
 pub stays_with : (before after : ℕ → Option ℕ) (o : Option ReceptionRecord)
     → ((r : ReceptionRecord) → o ≡ Some r → after r.message.source ≡ before r.message.source) → leaves before after o ≡ false
@@ -540,11 +589,11 @@ stays_with before after (Some r) h =
     ap (λ (x : Option ℕ). not (is_same (before r.message.source) x)) (h r refl) ∙ ap not (same_self (before r.message.source))
 
 pub to_others : (w : Who) (H : List Call) (when : ℕ) (f : FrameRecord) → is_smaller w (claim_of f) ≡ false
-    → ((r : ReceptionRecord) → (reception w H).session ≡ Some r → holder w (At when (Hear f) ∷ H) r.message.source ≡ holder w H r.message.source)
+    → ((r : ReceptionRecord) → (reception w H).session ≡ Some r → holder w (At when (Hear f) ∷ H) r.message.source ≡ known w H when f r.message.source)
     → destination_of f.id ≢ Some w.address → reception w (At when (Hear f) ∷ H) ≡ reception w H
 to_others w H when f e same n =
-    aside w.address (is_smaller w (claim_of f)) (holds w H when) (leaves (holder w H) (holder w (At when (Hear f) ∷ H)) (reception w H).session) f (time_heard (At when (Hear f) ∷ H))
-    (reception w H) e (stays_with (holder w H) (holder w (At when (Hear f) ∷ H)) (reception w H).session same) (not_said w.address f n)
+    aside w.address (is_smaller w (claim_of f)) (holds w H when) (leaves (known w H when f) (holder w (At when (Hear f) ∷ H)) (reception w H).session) f (time_heard (At when (Hear f) ∷ H))
+    (reception w H) e (stays_with (known w H when f) (holder w (At when (Hear f) ∷ H)) (reception w H).session same) (not_said w.address f n)
 
 -- another's frame leaves the session
 other_signal : (source own : ℕ) (s : Option Signal) (now : ℕ) (found : Bool) (x : ReceptionRecord) → (source ≡ x.message.source → ⊥)
@@ -561,7 +610,7 @@ other_signal source own (Some (Abort reason pgn)) now found x n =
 other_signal source own (Some (Packet k part)) now found x n =
     cond_both (source == x.message.source) _ _ (λ (y : Reaction). y.session ≡ Some x) (λ t. absurd (n (eqb-true _ _ t))) (λ t. refl)
 
-other_step : (own : ℕ) (x : ReceptionRecord) (f : FrameRecord) (now : ℕ) (found : Bool) → (source_of f.id ≡ x.message.source → ⊥)
+pub other_step : (own : ℕ) (x : ReceptionRecord) (f : FrameRecord) (now : ℕ) (found : Bool) → (source_of f.id ≡ x.message.source → ⊥)
     → (recv_step (record { own = own; session = Some x }) (Heard f) now found).after.session ≡ Some x
 unfolding recv_step frames.source_of
 other_step own x f now found n = other_signal (source_of f.id) own (said_to own f) now found x n
@@ -572,7 +621,7 @@ others_by own true held b f now r x e g i n = absurd (cc)
 others_by own false held true f now r x e g i n = absurd (cc)
 others_by own false false false f now r x e g i n = i
 others_by own false true false f now r x e g i n =
-    ap (λ o. (recv_step (record { own = own; session = o }) (Heard f) now (has_place r.waits)).after.session) i ∙ other_step own x f now (has_place r.waits) n
+    ap (λ o. (recv_step (record { own = own; session = o }) (Heard (shown own r.session f)) now (has_place r.waits)).after.session) i ∙ other_step own x (shown own r.session f) now (has_place r.waits) n
 
 -- the session's source has the holder that it had, and the address isn't lost
 holder_stays : (before after : ℕ → Option ℕ) (o : Option ReceptionRecord) (r : ReceptionRecord) → o ≡ Some r → after r.message.source ≡ before r.message.source
@@ -584,11 +633,11 @@ not_lost : (b : Bool) (a : Address) → is_lost (if b then Lost else a) ≡ fals
 not_lost b a e = grind (arith, e)
 
 pub from_others : (w : Who) (H : List Call) (when : ℕ) (f : FrameRecord) (r : ReceptionRecord) → is_lost (address_after w (At when (Hear f) ∷ H)) ≡ false
-    → holder w (At when (Hear f) ∷ H) r.message.source ≡ holder w H r.message.source → (reception w H).session ≡ Some r → source_of f.id ≢ r.message.source
+    → holder w (At when (Hear f) ∷ H) r.message.source ≡ known w H when f r.message.source → (reception w H).session ≡ Some r → source_of f.id ≢ r.message.source
     → (reception w (At when (Hear f) ∷ H)).session ≡ Some r
 from_others w H when f r own same i n =
-    others_by w.address (is_smaller w (claim_of f)) (holds w H when) (leaves (holder w H) (holder w (At when (Hear f) ∷ H)) (reception w H).session) f (time_heard (At when (Hear f) ∷ H))
-    (reception w H) r (not_lost (is_smaller w (claim_of f)) _ own) (holder_stays (holder w H) (holder w (At when (Hear f) ∷ H)) (reception w H).session r i same) i n
+    others_by w.address (is_smaller w (claim_of f)) (holds w H when) (leaves (known w H when f) (holder w (At when (Hear f) ∷ H)) (reception w H).session) f (time_heard (At when (Hear f) ∷ H))
+    (reception w H) r (not_lost (is_smaller w (claim_of f)) _ own) (holder_stays (known w H when f) (holder w (At when (Hear f) ∷ H)) (reception w H).session r i same) i n
 
 -- ---- while a message waits
 
@@ -606,7 +655,7 @@ unsaid own f e =
     (λ b. refl))
     (λ a. refl)
 
-said_no_claim : (own : ℕ) (f : FrameRecord) (s : Signal) → said_to own f ≡ Some s → claim_of f ≡ None
+pub said_no_claim : (own : ℕ) (f : FrameRecord) (s : Signal) → said_to own f ≡ Some s → claim_of f ≡ None
 said_no_claim own f s e = cond_both (pgn_of f.id == address_claimed_group && length f.bytes == 8 && nat_lt (source_of f.id) 255) _ _ (λ (c : Option Claim). c ≡ None)
     (λ t. absurd (let a = and_parts (pgn_of f.id == address_claimed_group && length f.bytes == 8) (nat_lt (source_of f.id) 255) t in
     let b = and_parts (pgn_of f.id == address_claimed_group) (length f.bytes == 8) a.0 in
@@ -630,16 +679,16 @@ refuse_bytes own a pgn = refl
 refuses_by : (own : ℕ) (lost held b : Bool) (f : FrameRecord) (now : ℕ) (r : Reception) (x : ℕ × MessageRecord) (size count most pgn : ℕ) → lost ≡ false → held ≡ true
     → b ≡ false → r.session ≡ None → r.waits ≡ Some x → said_to own f ≡ Some (RequestToSend size count most pgn) → length (without (source_of f.id) r.replies) < 16
     → heard_by own lost held f now (left b r)
-    ≡ record { session = None; waits = Some x; replies = without (source_of f.id) r.replies ++ reply_from own (source_of f.id) (refusal pgn) ∷ [] }
+    ≡ record { session = None; since = r.since; waits = Some x; replies = without (source_of f.id) r.replies ++ reply_from own (source_of f.id) (refusal pgn) ∷ [] }
 refuses_by own true held b f now r x size count most pgn e g i n k s l = absurd (cc)
 refuses_by own false false b f now r x size count most pgn e g i n k s l = absurd (cc)
 refuses_by own false true true f now r x size count most pgn e g i n k s l = absurd (cc)
 refuses_by own false true false f now r x size count most pgn e g i n k s l =
     let full : step_at own f now r ≡ recv_step (record { own = own; session = None }) (Heard f) now false =
-    λ j. recv_step (record { own = own; session = n j }) (Heard f) now (ap has_place k j) in
-    ap (λ (y : RecvResult). takes f.stamp (source_of f.id) y r) (full ∙ refuse_step own f now size count most pgn s)
-    ∙ (ap (λ w. (let z : Reception = record { session = None; waits = w; replies = replied own (source_of f.id) (Some (written own (frames.source_of f.id) (Abort 2 pgn))) r.replies } in z)) k
-    ∙ ap (λ xs. (let z : Reception = record { session = None; waits = Some x; replies = xs } in z))
+    λ j. recv_step (record { own = own; session = n j }) (Heard (shown own (n j) f)) now (ap has_place k j) in
+    ap (λ (y : RecvResult). takes f.stamp (since_by r.session y.after.session now r.since) (source_of f.id) y r) (full ∙ refuse_step own f now size count most pgn s)
+    ∙ (λ i. (let z : Reception = record { session = None; since = since_by (n i) None now r.since; waits = k i; replies = replied own (source_of f.id) (Some (written own (frames.source_of f.id) (Abort 2 pgn))) r.replies } in z))
+    ∙ (ap (λ xs. (let z : Reception = record { session = None; since = r.since; waits = Some x; replies = xs } in z))
     (ap (λ (c : Bool). if c then without (source_of f.id) r.replies ++ reply_from own (source_of f.id) (written own (frames.source_of f.id) (Abort 2 pgn)).bytes ∷ []
     else without (source_of f.id) r.replies) (lt-ltb (length (without (source_of f.id) r.replies)) 16 l)
     ∙ ap (λ bytes. without (source_of f.id) r.replies ++ reply_from own (source_of f.id) bytes ∷ []) (refuse_bytes own (frames.source_of f.id) pgn)))
@@ -653,12 +702,13 @@ pub full_refuses : (w : Who) (H : List Call) (when : ℕ) (f : FrameRecord) (x :
     → length (without (source_of f.id) (reception w H).replies) < 16
     → reception w (At when (Hear f) ∷ H) ≡ record {
       session = None;
+      since = (reception w H).since;
       waits = Some x;
       replies = without (source_of f.id) (reception w H).replies ++ reply_from w.address (source_of f.id) (255 ∷ 2 ∷ 255 ∷ 255 ∷ 255 ∷ little_bytes 3 pgn) ∷ [];
     }
 full_refuses w H when f x size count most pgn e held said l =
     let none = said_no_claim w.address f (RequestToSend size count most pgn) said in
-    refuses_by w.address (is_smaller w (claim_of f)) (holds w H when) (leaves (holder w H) (holder w (At when (Hear f) ∷ H)) (reception w H).session) f (time_heard (At when (Hear f) ∷ H))
+    refuses_by w.address (is_smaller w (claim_of f)) (holds w H when) (leaves (known w H when f) (holder w (At when (Hear f) ∷ H)) (reception w H).session) f (time_heard (At when (Hear f) ∷ H))
     (reception w H) x size count most pgn (not_driven w f none) held (not_left_by w H when f none) (no_session (reception w H) x (tidy w H).apart e) e said l
 
 -- ---- a session begins
@@ -685,13 +735,13 @@ pub session_begins : (w : Who) (H : List Call) (when : ℕ) (f : FrameRecord) (s
     → (r : ReceptionRecord) × (x : ToSend) × ((reception w (At when (Hear f) ∷ H)).session ≡ Some r) × (r.message.source ≡ source_of f.id) × (slice_get x.bytes 0 ≡ Some 17)
     × ((reception w (At when (Hear f) ∷ H)).replies ≡ replied w.address (source_of f.id) (Some x) (reception w H).replies)
 session_begins w H when f size count most pgn held room free said =
-    by (is_smaller w (claim_of f)) (holds w H when) (leaves (holder w H) (holder w (At when (Hear f) ∷ H)) (reception w H).session) (not_driven w f none) held (not_left_by w H when f none)
+    by (is_smaller w (claim_of f)) (holds w H when) (leaves (known w H when f) (holder w (At when (Hear f) ∷ H)) (reception w H).session) (not_driven w f none) held (not_left_by w H when f none)
   where
     none : claim_of f ≡ None
     none = said_no_claim w.address f (RequestToSend size count most pgn) said
 
     step_is : step_at w.address f (time_heard (At when (Hear f) ∷ H)) (reception w H) ≡ recv_step (record { own = w.address; session = None }) (Heard f) (time_heard (At when (Hear f) ∷ H)) true
-    step_is = λ j. recv_step (record { own = w.address; session = free j }) (Heard f) (time_heard (At when (Hear f) ∷ H)) (ap has_place room j)
+    step_is = λ j. recv_step (record { own = w.address; session = free j }) (Heard (shown w.address (free j) f)) (time_heard (At when (Hear f) ∷ H)) (ap has_place room j)
 
     x : Begins w.address (source_of f.id) (step_at w.address f (time_heard (At when (Hear f) ∷ H)) (reception w H))
     x = subst (Begins w.address (source_of f.id)) (sym step_is) (begin_step w.address f (time_heard (At when (Hear f) ∷ H)) size count most pgn said)
@@ -720,16 +770,24 @@ unfolding takes_tick
 in_time x now l = cond_both (nat_lt (x.message.last + limit_of x) now) _ _ (λ (y : Reaction). y ≡ quiet (Some x))
     (λ t. absurd (let z = ltb-true (x.message.last + limit_of x) now t in omega (arith, z, l))) (λ t. refl)
 
-quiet_tick : (own stamp now : ℕ) (r : Reception) (o : Option ReceptionRecord) → r.session ≡ o → ((x : ReceptionRecord) → o ≡ Some x → now ≤ x.message.last + limit_of x)
+not_over : (since now : ℕ) (x : ReceptionRecord) → now ≤ since + longest x.message.packets → is_over since now (Some x) ≡ false
+not_over since now x l = grind (arith, l)
+
+pub quiet_tick : (own stamp now : ℕ) (r : Reception) (o : Option ReceptionRecord) → r.session ≡ o → ((x : ReceptionRecord) → o ≡ Some x → now ≤ limit_in r.since x)
     → ticked own stamp now r ≡ r
 unfolding recv_step takes_tick
 quiet_tick own stamp now r None e h =
-    ap (λ (p : Option ReceptionRecord). takes stamp (partner_of p) (result_of own (partner_of p) (takes_tick now p)) r) e
-    ∙ λ i. record { session = sym e i; waits = r.waits; replies = r.replies }
+    ap (λ (p : Option ReceptionRecord). ticked own stamp now (record { session = p; since = r.since; waits = r.waits; replies = r.replies })) e
+    ∙ λ i. record { session = sym e i; since = r.since; waits = r.waits; replies = r.replies }
 quiet_tick own stamp now r (Some x) e h =
-    ap (λ (p : Option ReceptionRecord). takes stamp (partner_of p) (result_of own (partner_of p) (takes_tick now p)) r) e
-    ∙ (ap (λ (y : Reaction). takes stamp x.message.source (result_of own x.message.source y) r) (in_time x now (h x refl))
-    ∙ λ i. record { session = sym e i; waits = r.waits; replies = r.replies })
+    let l = h x refl in
+    let early : now ≤ x.message.last + limit_of x = omega (arith, l) in
+    let not_yet : now ≤ r.since + longest x.message.packets = omega (arith, l) in
+    ap (λ (p : Option ReceptionRecord). ticked own stamp now (record { session = p; since = r.since; waits = r.waits; replies = r.replies })) e
+    ∙ (ap (λ (b : Bool). takes stamp r.since x.message.source (if b then result_of own x.message.source (answers None (Abort 3 x.message.group)) else recv_step (record { own = own; session = Some x }) Ticks now true) r)
+    (not_over r.since now x not_yet)
+    ∙ (ap (λ (y : Reaction). takes stamp r.since x.message.source (result_of own x.message.source y) r) (in_time x now early)
+    ∙ λ i. record { session = sym e i; since = r.since; waits = r.waits; replies = r.replies }))
 
 -- a limit isn't over before the moment that is told
 pub before_moment : (limit last time now : ℕ) → last ≤ now → now < 10000000000000000 → ((t : ℕ) → stamp_at (last + (suc limit - time)) ≡ Some t → now < t)
@@ -740,15 +798,15 @@ before_moment limit last time now l m q = go (nat_lt (last + (suc limit - time))
     go true g = let h = q _ (ap (λ (b : Bool). if b then Some (last + (suc limit - time)) else None) g) in omega (arith, h, l)
     go false g = let z = ltb-false _ _ g in omega (arith, z, m, l)
 
-before_limit : (o : Option ReceptionRecord) (last time now : ℕ) → last ≤ now → now < 10000000000000000
-    → ((t : ℕ) → tick_at o last time ≡ Some t → now < t) → (x : ReceptionRecord) → o ≡ Some x → later time (now - last) ≤ x.message.last + limit_of x
-before_limit o last time now l m q x e =
-    before_moment (x.message.last + limit_of x) last time now l m (λ t g. q t (ap (λ (p : Option ReceptionRecord). tick_at p last time) e ∙ g))
+before_limit : (since : ℕ) (o : Option ReceptionRecord) (last time now : ℕ) → last ≤ now → now < 10000000000000000
+    → ((t : ℕ) → tick_at since o last time ≡ Some t → now < t) → (x : ReceptionRecord) → o ≡ Some x → later time (now - last) ≤ limit_in since x
+before_limit since o last time now l m q x e =
+    before_moment (limit_in since x) last time now l m (λ t g. q t (ap (λ (p : Option ReceptionRecord). tick_at since p last time) e ∙ g))
 
 pub tick_waits : (w : Who) (H : List Call) (now : ℕ) → heard_at H ≤ now → now < 10000000000000000 → ((t : ℕ) → session_tick w H ≡ Some t → now < t)
     → reception w (At now Tick ∷ H) ≡ reception w H
 tick_waits w H now l m q =
-    quiet_tick w.address now (time_heard (At now Tick ∷ H)) (reception w H) (reception w H).session refl (before_limit (reception w H).session (heard_at H) (time_heard H) now l m q)
+    quiet_tick w.address now (time_heard (At now Tick ∷ H)) (reception w H) (reception w H).session refl (before_limit (reception w H).since (reception w H).session (heard_at H) (time_heard H) now l m q)
 
 -- it asks again, or aborts
 abbrev Asks : Signal → Type 0
@@ -759,19 +817,36 @@ unfolding asks_again grants
 asks_something now x =
     cond_both (x.asks == 2) _ _ (λ (y : Reaction). (a : Signal) × (y.says ≡ Some a) × Asks a) (λ t. (_, refl, inr refl)) (λ t. (_, refl, inl refl))
 
-some_tick : (own stamp now : ℕ) (r : Reception) (x : ReceptionRecord) → r.session ≡ Some x → x.message.last + limit_of x < now
+some_tick : (own stamp now : ℕ) (r : Reception) (x : ReceptionRecord) → r.session ≡ Some x → limit_in r.since x < now
     → (y : ToSend) × ((slice_get y.bytes 0 ≡ Some 17) ⊎ (slice_get y.bytes 0 ≡ Some 255))
     × ((ticked own stamp now r).replies ≡ replied own x.message.source (Some y) r.replies)
 unfolding recv_step takes_tick written
-some_tick own stamp now r x e l =
-    let a = asks_something now x in (
-      written own x.message.source a.0,
-      a.2,
-      ap (λ (p : Option ReceptionRecord). replied own (partner_of p) (option_map (written own (partner_of p)) (takes_tick now p).says) r.replies) e
-          ∙ (ap (λ (b : Bool). replied own x.message.source (option_map (written own x.message.source) (if b then asks_again now x else quiet (Some x)).says) r.replies)
-          (lt-ltb (x.message.last + limit_of x) now l)
-          ∙ ap (λ (o : Option Signal). replied own x.message.source (option_map (written own x.message.source) o) r.replies) a.1),
-    )
+some_tick own stamp now r x e l = go (is_over r.since now (Some x)) refl
+  where
+    Goal : Type 0
+    Goal = (y : ToSend) × ((slice_get y.bytes 0 ≡ Some 17) ⊎ (slice_get y.bytes 0 ≡ Some 255)) × ((ticked own stamp now r).replies ≡ replied own x.message.source (Some y) r.replies)
+
+    by : Bool → Option ReceptionRecord → RecvResult
+    by b o = if b then result_of own (partner_of o) (answers None (Abort 3 (group_of o))) else recv_step (record { own = own; session = o }) Ticks now true
+
+    said : (b : Bool) → is_over r.since now (Some x) ≡ b
+        → (ticked own stamp now r).replies ≡ replied (by b (Some x)).after.own x.message.source (by b (Some x)).sends r.replies
+    said b g = ap (λ (o : Option ReceptionRecord). replied (by (is_over r.since now o) o).after.own (partner_of o) (by (is_over r.since now o) o).sends r.replies) e
+        ∙ ap (λ (c : Bool). replied (by c (Some x)).after.own x.message.source (by c (Some x)).sends r.replies) g
+
+    go : (b : Bool) → is_over r.since now (Some x) ≡ b → Goal
+    go true g = (written own x.message.source (Abort 3 x.message.group), inr refl, said true g)
+    go false g =
+        let n = ltb-false (r.since + longest x.message.packets) now g in
+        let late : x.message.last + limit_of x < now = omega (arith, n, l) in
+        let a = asks_something now x in (
+          written own x.message.source a.0,
+          a.2,
+          said false g
+              ∙ (ap (λ (b : Bool). replied own x.message.source (option_map (written own x.message.source) (if b then asks_again now x else quiet (Some x)).says) r.replies)
+              (lt-ltb (x.message.last + limit_of x) now late)
+              ∙ ap (λ (o : Option Signal). replied own x.message.source (option_map (written own x.message.source) o) r.replies) a.1),
+        )
 
 -- a limit is over from the moment on that is told
 pub after_moment : (limit last time t now : ℕ) → stamp_at (last + (suc limit - time)) ≡ Some t → t ≤ now → time + (t - last) < 10000000000000000
@@ -788,7 +863,8 @@ pub tick_says : (w : Who) (H : List Call) (now t : ℕ) (r : ReceptionRecord) �
     × ((reception w (At now Tick ∷ H)).replies ≡ replied w.address r.message.source (Some x) (reception w H).replies)
 tick_says w H now t r e i l m =
     some_tick w.address now (time_heard (At now Tick ∷ H)) (reception w H) r i
-    (after_moment (r.message.last + limit_of r) (heard_at H) (time_heard H) t now (sym (ap (λ (o : Option ReceptionRecord). tick_at o (heard_at H) (time_heard H)) i) ∙ e) l m)
+    (after_moment (limit_in (reception w H).since r) (heard_at H) (time_heard H) t now
+    (sym (ap (λ (o : Option ReceptionRecord). tick_at (reception w H).since o (heard_at H) (time_heard H)) i) ∙ e) l m)
 
 -- ---- acknowledged on the wire
 
@@ -825,7 +901,7 @@ step_tells r f now found =
 tells_by : (own : ℕ) (lost held : Bool) (f : FrameRecord) (now : ℕ) (r : Reception) → Tells (says_by own lost held f now r) (whole_by own lost held f now r)
 tells_by own true held f now r = refl
 tells_by own false false f now r = refl
-tells_by own false true f now r = step_tells (receiver_at own r) f now (has_place r.waits)
+tells_by own false true f now r = step_tells (receiver_at own r) (shown own r.session f) now (has_place r.waits)
 
 pub acknowledged_is : (w : Who) (H : List Call) (when : ℕ) (f : FrameRecord) (m : MessageRecord) → whole w H when f ≡ Some m → (x : ToSend) × (says w H when f ≡ Some x) × (slice_get x.bytes 0 ≡ Some 19)
 acknowledged_is w H when f m e = go (says w H when f) refl (tells_by w.address (is_smaller w (claim_of f)) (holds w H when) f (time_heard (At when (Hear f) ∷ H)) _)
@@ -845,7 +921,7 @@ only_whole w H when f x e b = go (says w H when f) refl (tells_by w.address (is_
 pub says_it : (w : Who) (H : List Call) (when : ℕ) (f : FrameRecord) → holds w H when ≡ true → claim_of f ≡ None
     → (reception w (At when (Hear f) ∷ H)).replies ≡ replied w.address (source_of f.id) (says w H when f) (reception w H).replies
 says_it w H when f held none =
-    by (is_smaller w (claim_of f)) (holds w H when) (leaves (holder w H) (holder w (At when (Hear f) ∷ H)) (reception w H).session) (not_driven w f none) held (not_left_by w H when f none)
+    by (is_smaller w (claim_of f)) (holds w H when) (leaves (known w H when f) (holder w (At when (Hear f) ∷ H)) (reception w H).session) (not_driven w f none) held (not_left_by w H when f none)
   where
     by : (a b c : Bool) → a ≡ false → b ≡ true → c ≡ false
         → (heard_by w.address a b f (time_heard (At when (Hear f) ∷ H)) (left c (reception w H))).replies
@@ -855,4 +931,4 @@ says_it w H when f held none =
     by false true true e g i = absurd (cc)
     by false true false e g i =
         ap (λ (a : ℕ). replied a (source_of f.id) (step_at w.address f (time_heard (At when (Hear f) ∷ H)) (reception w H)).sends (reception w H).replies)
-        (own_after (receiver_at w.address (reception w H)) f (time_heard (At when (Hear f) ∷ H)) (has_place (reception w H).waits))
+        (own_after (receiver_at w.address (reception w H)) (shown w.address (reception w H).session f) (time_heard (At when (Hear f) ∷ H)) (has_place (reception w H).waits))

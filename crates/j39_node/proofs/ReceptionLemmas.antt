@@ -1,5 +1,5 @@
 -- What every history says of what is received in packets.
-use Rattle.std.proofs.Common.{◌≡◌, ◌⊎◌, ℕ, zero, suc, ◌+◌, ◌<◌, ◌≤◌, List, [], ◌∷◌, ◌++◌, length, drop, min, Option, Some, None, Bool, true, false, not, ◌&&◌, if◌then◌else◌, nat_eq, nat_lt, ◌==◌, refl, sym, ap, ◌∙◌, subst, inl, inr, arith, ltb-true, ltb-false, append-nil, append_assoc}
+use Rattle.std.proofs.Common.{◌≡◌, ◌⊎◌, ℕ, zero, suc, ◌+◌, ◌-◌, ◌<◌, ◌≤◌, List, [], ◌∷◌, ◌++◌, length, drop, min, Option, Some, None, Bool, true, false, not, ◌&&◌, if◌then◌else◌, nat_eq, nat_lt, ◌==◌, refl, sym, ap, ◌∙◌, subst, inl, inr, arith, ltb-true, ltb-false, append-nil, append_assoc}
 use Rattle.std.proofs.lemmas.Bool.{cond_both}
 use Rattle.std.specs.List.{slice_get}
 use Rattle.j39_frame.specs.Frame.{FrameRecord}
@@ -19,10 +19,10 @@ use Rattle.j39_transport.specs.Reception.{ReceptionRecord, Reaction, asks_again,
 use Rattle.j39_transport.specs.Receiving.{ReceiverRecord, RecvResult, Heard, Tick as Ticks, partner_of, recv_step, result_of, said_to}
 use Rattle.j39_transport.specs.Session.{SessionRecord}
 use Rattle.j39_transport.specs.Signals.{Signal, BroadcastAnnounce, RequestToSend, ClearToSend, Acknowledgment, Abort, Packet, said_between}
-use Rattle.j39_node.specs.History.{Who, Message, Call, holds, is_acknowledgment, is_claim, is_smaller, told_claims}
+use Rattle.j39_node.specs.History.{Who, Message, Call, holds, is_claim, is_smaller, told_claims, is_some, message_of, is_transfer, is_double, of_other}
 use Rattle.j39_node.specs.History.Call.{At, ReleaseTransfer}
 use Rattle.j39_node.specs.History.Act.{Hear, Tick, TakeFrame}
-use Rattle.j39_node.specs.Reception.{Reception, IsApart, time_heard, goes_to, has_place, heard_by, held_then, held_through, holder, is_same, keeps, leaves, left, receiver_at, reception, released_by, replied, step_at, taken_by, takes, ticked, without}
+use Rattle.j39_node.specs.Reception.{Reception, IsApart, time_heard, goes_to, has_place, heard_by, held_then, held_through, holder, is_over, is_same, keeps, leaves, left, receiver_at, reception, released_by, replied, shown, since_by, step_at, taken_by, takes, ticked, ticked_at, without, known, called, calls_claims, claimed_again, heard_at, still, is_reply, is_that}
 
 -- ---- what a step of the receiver leaves
 
@@ -210,32 +210,32 @@ keeps_none : (stamp : ℕ) (o : Option MessageRecord) (x : Option (ℕ × Messag
 keeps_none stamp None x e f = f
 keeps_none stamp (Some m) x e f = absurd (cc)
 
-apart_taken : (own : ℕ) (f : FrameRecord) (now : ℕ) (r : Reception) → Tidy own r → IsApart (takes f.stamp (source_of f.id) (step_at own f now r) r)
-apart_taken own f now r h = go r.waits refl h.apart
+apart_taken : (own : ℕ) (f : FrameRecord) (now since : ℕ) (r : Reception) → Tidy own r → IsApart (takes f.stamp since (source_of f.id) (step_at own f now r) r)
+apart_taken own f now since r h = go r.waits refl h.apart
   where
-    go : (o : Option (ℕ × MessageRecord)) → r.waits ≡ o → (r.waits ≡ None) ⊎ (r.session ≡ None) → IsApart (takes f.stamp (source_of f.id) (step_at own f now r) r)
-    go None e a = elim (heard_step (receiver_at own r) f now (has_place r.waits) h.fits).over [
+    go : (o : Option (ℕ × MessageRecord)) → r.waits ≡ o → (r.waits ≡ None) ⊎ (r.session ≡ None) → IsApart (takes f.stamp since (source_of f.id) (step_at own f now r) r)
+    go None e a = elim (heard_step (receiver_at own r) (shown own r.session f) now (has_place r.waits) h.fits).over [
       | inl d ↦ inl (keeps_none f.stamp _ r.waits d e)
       | inr s ↦ inr s
     ]
     go (Some x) e (inl a) = absurd (let z : Some x ≡ None = sym e ∙ a in cc)
     go (Some x) e (inr a) =
-        inr (ap (λ (b : Bool). (recv_step (receiver_at own r) (Heard f) now b).after.session) (ap has_place e) ∙ (refused_step (receiver_at own r) f now a).session)
+        inr (ap (λ (b : Bool). (recv_step (receiver_at own r) (Heard (shown own r.session f)) now b).after.session) (ap has_place e) ∙ (refused_step (receiver_at own r) (shown own r.session f) now a).session)
 
 tidy_heard : (own : ℕ) (lost held : Bool) (f : FrameRecord) (now : ℕ) (r : Reception) → Tidy own r → Tidy own (heard_by own lost held f now r)
 tidy_heard own true held f now r h = record { fits = tt; apart = inr refl; replies = tt }
 tidy_heard own false false f now r h = h
 tidy_heard own false true f now r h =
-    let s = heard_step (receiver_at own r) f now (has_place r.waits) h.fits in
+    let s = heard_step (receiver_at own r) (shown own r.session f) now (has_place r.waits) h.fits in
     record {
       fits = s.fits;
-      apart = apart_taken own f now r h;
-      replies = subst (λ (a : ℕ). AllReplies own (replied a (source_of f.id) (step_at own f now r).sends r.replies)) (sym (own_after (receiver_at own r) f now (has_place r.waits)))
+      apart = apart_taken own f now (since_by r.session (step_at own f now r).after.session now r.since) r h;
+      replies = subst (λ (a : ℕ). AllReplies own (replied a (source_of f.id) (step_at own f now r).sends r.replies)) (sym (own_after (receiver_at own r) (shown own r.session f) now (has_place r.waits)))
           (all_replied own (source_of f.id) (step_at own f now r).sends r.replies s.says h.replies);
     }
 
 -- a tick delivers nothing
-pub tick_quiet : (r : ReceiverRecord) (now : ℕ) → (recv_step r Ticks now true).delivers ≡ None
+tick_quiet : (r : ReceiverRecord) (now : ℕ) → (recv_step r Ticks now true).delivers ≡ None
 unfolding recv_step takes_tick asks_again grants
 tick_quiet r now = go r.session
   where
@@ -247,27 +247,41 @@ tick_quiet r now = go r.session
     go (Some x) = cond_both (nat_lt (x.message.last + limit_of x) now) _ _ (λ (y : Reaction). y.delivers ≡ None) (λ t. asks x) (λ t. refl)
 
 -- with no session, a tick begins none
-tick_none : (r : ReceiverRecord) (now : ℕ) → r.session ≡ None → (recv_step r Ticks now true).after.session ≡ None
+tick_none : (own now : ℕ) (r : Reception) → r.session ≡ None → (ticked_at own now r).after.session ≡ None
 unfolding recv_step takes_tick
-tick_none r now e = ap (λ o. (takes_tick now o).session) e
+tick_none own now r e = cond_both (is_over r.since now r.session) _ _ (λ (x : RecvResult). x.after.session ≡ None) (λ t. refl) (λ t. ap (λ o. (takes_tick now o).session) e)
+
+pub quiet_at : (own now : ℕ) (r : Reception) → (ticked_at own now r).delivers ≡ None
+quiet_at own now r = cond_both (is_over r.since now r.session) _ _ (λ (x : RecvResult). x.delivers ≡ None) (λ t. refl) (λ t. tick_quiet (receiver_at own r) now)
+
+pub own_at : (own now : ℕ) (r : Reception) → (ticked_at own now r).after.own ≡ own
+own_at own now r = cond_both (is_over r.since now r.session) _ _ (λ (x : RecvResult). x.after.own ≡ own) (λ t. refl) (λ t. own_ticked (receiver_at own r) now)
+
+steps_at : (own now : ℕ) (r : Reception) → Fits IsBelow r.session → Steps (partner_of r.session) (ticked_at own now r)
+steps_at own now r h = cond_both (is_over r.since now r.session) _ _ (Steps (partner_of r.session))
+    (λ t. record { fits = tt; over = inl refl; says = λ s z. below r.session t h }) (λ t. tick_step (receiver_at own r) now h)
+  where
+    below : (o : Option ReceptionRecord) → is_over r.since now o ≡ true → Fits IsBelow o → partner_of o < 254
+    below None t h = absurd (cc)
+    below (Some x) t h = h
 
 tidy_ticked : (own stamp now : ℕ) (r : Reception) → Tidy own r → Tidy own (ticked own stamp now r)
 tidy_ticked own stamp now r h =
-    let s = tick_step (receiver_at own r) now h.fits in
+    let s = steps_at own now r h.fits in
     record {
       fits = s.fits;
       apart = elim h.apart [
-        | inl e ↦ inl (keeps_none stamp _ r.waits (tick_quiet (receiver_at own r) now) e)
-        | inr e ↦ inr (tick_none (receiver_at own r) now e)
+        | inl e ↦ inl (keeps_none stamp _ r.waits (quiet_at own now r) e)
+        | inr e ↦ inr (tick_none own now r e)
       ];
-      replies = subst (λ (a : ℕ). AllReplies own (replied a (partner_of r.session) (recv_step (receiver_at own r) Ticks now true).sends r.replies)) (sym (own_ticked (receiver_at own r) now))
-          (all_replied own (partner_of r.session) (recv_step (receiver_at own r) Ticks now true).sends r.replies s.says h.replies);
+      replies = subst (λ (a : ℕ). AllReplies own (replied a (partner_of r.session) (ticked_at own now r).sends r.replies)) (sym (own_at own now r))
+          (all_replied own (partner_of r.session) (ticked_at own now r).sends r.replies s.says h.replies);
     }
 
 tidy_taken : (own : ℕ) (a b l : Bool) (r : Reception) → Tidy own r → Tidy own (taken_by a b l r)
 tidy_taken own true b l r h = tidy_left own l r h
-tidy_taken own false true l r h = h
-tidy_taken own false false l r h = record { fits = h.fits; apart = h.apart; replies = all_dropped own r.replies h.replies }
+tidy_taken own false false l r h = h
+tidy_taken own false true l r h = record { fits = h.fits; apart = h.apart; replies = all_dropped own r.replies h.replies }
 
 tidy_released : (own : ℕ) (b : Bool) (r : Reception) → Tidy own r → Tidy own (released_by b r)
 tidy_released own false r h = h
@@ -277,9 +291,9 @@ pub tidy : (w : Who) (H : List Call) → Tidy w.address (reception w H)
 tidy w [] = record { fits = tt; apart = inl refl; replies = tt }
 tidy w (At when (Hear f) ∷ H) =
     tidy_heard w.address (is_smaller w (claim_of f)) (holds w H when) f (time_heard (At when (Hear f) ∷ H)) _
-    (tidy_left w.address (leaves (holder w H) (holder w (At when (Hear f) ∷ H)) (reception w H).session) (reception w H) (tidy w H))
+    (tidy_left w.address (leaves (known w H when f) (holder w (At when (Hear f) ∷ H)) (reception w H).session) (reception w H) (tidy w H))
 tidy w (At now Tick ∷ H) = tidy_ticked w.address now (time_heard (At now Tick ∷ H)) (reception w H) (tidy w H)
-tidy w (At now (TakeFrame (Some f)) ∷ H) = tidy_taken w.address (is_claim f) (is_acknowledgment f) _ (reception w H) (tidy w H)
+tidy w (At now (TakeFrame (Some f)) ∷ H) = tidy_taken w.address (is_claim f) (is_reply (reception w H).replies f) _ (reception w H) (tidy w H)
 tidy w (ReleaseTransfer answer ∷ H) = tidy_released w.address answer (reception w H) (tidy w H)
 tidy w (call ∷ H) = tidy w H
 
@@ -349,15 +363,45 @@ known_more F (f ∷ E) a o h =
     subst (λ (G : List FrameRecord). HolderOf G a (held_through a E (held_then a (claim_of f) o))) (append_assoc F (f ∷ []) E)
     (known_more (F ++ f ∷ []) E a (held_then a (claim_of f) o) (one_holder_more F f a o true h))
 
+-- where it isn't a claim of the own NAME
+heard_holder : (w : Who) (F : List FrameRecord) (f : FrameRecord) (a : ℕ) (o : Option ℕ) (c : Option Claim) → claim_of f ≡ c → HolderOf F a o
+    → HolderOf (if is_double w c then F else F ++ f ∷ []) a (held_then a (of_other w c) o)
+heard_holder w F f a o None e h = subst (λ (c : Option Claim). HolderOf (F ++ f ∷ []) a (held_then a c o)) e (one_holder_more F f a o true h)
+heard_holder w F f a o (Some c) e h = go (nat_eq c.name w.name)
+  where
+    go : (b : Bool) → HolderOf (if Rattle.std.specs.Option.is_some (if b then Some c.address else None) then F else F ++ f ∷ []) a (held_then a (if b then None else Some c) o)
+    go true = h
+    go false = subst (λ (c : Option Claim). HolderOf (F ++ f ∷ []) a (held_then a c o)) e (one_holder_more F f a o true h)
+
 pub holders : (w : Who) (H : List Call) (a : ℕ) → HolderOf (told_claims w H) a (holder w H a)
 holders w [] a = known_more [] w.brought.known a None (record { is = λ n h. absurd h; none = λ e. refl })
-holders w (At when (Hear f) ∷ H) a = one_holder_more (told_claims w H) f a (holder w H a) true (holders w H a)
+holders w (At when (Hear f) ∷ H) a = heard_holder w (told_claims w H) f a (holder w H a) (claim_of f) refl (holders w H a)
 holders w (At now (TakeFrame (Some f)) ∷ H) a = one_holder_more (told_claims w H) f a (holder w H a) (is_claim f) (holders w H a)
 holders w (call ∷ H) a = holders w H a
 
 -- what the table has is the holder
 pub table_is : (w : Who) (table : Claims) (H : List Call) (a : ℕ) → Knows table (told_claims w H) → holder_in table a ≡ holder w H a
 table_is w table H a knows = same_holder (claims_of (told_claims w H)) (length (claims_of (told_claims w H))) a _ _ (knows a) (holders w H a).is
+
+-- what is no claim leaves who holds an address, and nobody restarts by it
+pub unclaimed_known : (w : Who) (H : List Call) (when : ℕ) (f : FrameRecord) (a : ℕ) → claim_of f ≡ None → holder w (At when (Hear f) ∷ H) a ≡ known w H when f a
+unclaimed_known w H when f a e =
+    ap (λ (c : Option Claim). held_then a (of_other w c) (holder w H a)) e ∙ ap (λ (c : Option Claim). still (claimed_again (holder w H) (called w H - (when - heard_at H)) c) (holder w H) a) (sym e)
+
+-- by what the table has
+pub again_is : (w : Who) (table : Claims) (H : List Call) (left : ℕ) (c : Option Claim) → Knows table (told_claims w H) → claimed_again (holder_in table) left c ≡ claimed_again (holder w H) left c
+again_is w table H left None knows = refl
+again_is w table H left (Some c) knows = ap (λ (o : Option ℕ). if is_some o c.name && nat_eq left 0 then Some c.address else None) (table_is w table H c.address knows)
+
+pub calls_is : (w : Who) (table : Claims) (H : List Call) (f : FrameRecord) (c : Option Claim) → Knows table (told_claims w H) → calls_claims (holder_in table) f c ≡ calls_claims (holder w H) f c
+calls_is w table H f None knows = refl
+calls_is w table H f (Some c) knows = ap (λ (o : Option ℕ). not (is_some o c.name)) (table_is w table H c.address knows)
+
+pub leaves_still : (w : Who) (old new : Claims) (H : List Call) (when : ℕ) (f : FrameRecord) (o : Option ReceptionRecord) → Knows old (told_claims w H) → Knows new (told_claims w (At when (Hear f) ∷ H))
+    → leaves (still (claimed_again (holder_in old) (called w H - (when - heard_at H)) (claim_of f)) (holder_in old)) (holder_in new) o ≡ leaves (known w H when f) (holder w (At when (Hear f) ∷ H)) o
+leaves_still w old new H when f None k l = refl
+leaves_still w old new H when f (Some r) k l =
+    λ i. not (is_same (still (again_is w old H (called w H - (when - heard_at H)) (claim_of f) k i) (λ a. table_is w old H a k i) r.message.source) (table_is w new (At when (Hear f) ∷ H) r.message.source l i))
 
 pub leaves_is : (w : Who) (old new : Claims) (H G : List Call) (o : Option ReceptionRecord) → Knows old (told_claims w H) → Knows new (told_claims w G)
     → leaves (holder_in old) (holder_in new) o ≡ leaves (holder w H) (holder w G) o
@@ -367,15 +411,13 @@ leaves_is w old new H G (Some r) k l =
 
 -- ---- a frame is taken
 
-pub taken_is : (w : Who) (H : List Call) (now : ℕ) (f : FrameRecord) (a b : Bool) → is_claim f ≡ a → is_acknowledgment f ≡ b
+pub taken_is : (w : Who) (H : List Call) (now : ℕ) (f : FrameRecord) (a b : Bool) → is_claim f ≡ a → is_reply (reception w H).replies f ≡ b
     → reception w (At now (TakeFrame (Some f)) ∷ H)
     ≡ taken_by a b (leaves (holder w H) (holder w (At now (TakeFrame (Some f)) ∷ H)) (reception w H).session) (reception w H)
 taken_is w H now f a b e g =
     let l = leaves (holder w H) (holder w (At now (TakeFrame (Some f)) ∷ H)) (reception w H).session in
-    ap (λ (x : Bool). taken_by x (is_acknowledgment f) l (reception w H)) e ∙ ap (λ (y : Bool). taken_by a y l (reception w H)) g
+    ap (λ (x : Bool). taken_by x (is_reply (reception w H).replies f) l (reception w H)) e ∙ ap (λ (y : Bool). taken_by a y l (reception w H)) g
 
--- with no reply nothing changes
-pub none_taken : (w : Who) (H : List Call) (now : ℕ) (f : FrameRecord) → is_claim f ≡ false → is_acknowledgment f ≡ false → (reception w H).replies ≡ []
-    → reception w (At now (TakeFrame (Some f)) ∷ H) ≡ reception w H
-none_taken w H now f e g n =
-    taken_is w H now f false false e g ∙ λ i. record { session = (reception w H).session; waits = (reception w H).waits; replies = (ap (drop 1) n ∙ sym n) i }
+-- what is of no session to an address is no reply
+pub no_reply : (L : List Message) (f : FrameRecord) → is_transfer f ≡ false → is_reply L f ≡ false
+no_reply L f e = ap (λ (b : Bool). b && is_that (message_of f) (slice_get L 0)) e

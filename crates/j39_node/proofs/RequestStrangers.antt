@@ -14,7 +14,7 @@ use Rattle.j39_node.specs.History.{Who, Call, address_after, holds, is_acknowled
 use Rattle.j39_node.specs.History.Address.{Lost}
 use Rattle.j39_node.specs.History.Call.{At}
 use Rattle.j39_node.specs.History.Act.{Hear, Tick}
-use Rattle.j39_node.specs.Reception.{Reception, has_place, holder, leaves, left, reception, time_heard, whole, whole_by}
+use Rattle.j39_node.specs.Reception.{Reception, has_place, holder, leaves, left, reception, time_heard, whole, whole_by, shown, known}
 use Rattle.j39_node.specs.Hearing.{made_whole}
 use Rattle.j39_node.specs.Asking.{Question, ask_end, end_at, ended, first, comes, is_answer, is_of, is_reply, made, made_of, next_ask_ended, open_ask, reaches, said_by, says_to, seeks, silent_end, wait}
 use Rattle.j39_node.proofs.HearingLaws.{unequal}
@@ -44,7 +44,7 @@ delivered_source own f now found (Some x) m e = go (nat_eq (source_of f.id) x.me
 whole_source : (own : ℕ) (lost held : Bool) (f : FrameRecord) (now : ℕ) (r : Reception) (m : MessageRecord) → whole_by own lost held f now r ≡ Some m → m.source ≡ source_of f.id
 whole_source own true held f now r m e = absurd (cc)
 whole_source own false false f now r m e = absurd (cc)
-whole_source own false true f now r m e = delivered_source own f now (has_place r.waits) r.session m e
+whole_source own false true f now r m e = delivered_source own (shown own r.session f) now (has_place r.waits) r.session m e
 
 made_source : (w : Who) (H : List Call) (when : ℕ) (f : FrameRecord) (x : ℕ × ℕ) → made w H when f ≡ Some x → x.0 ≡ source_of f.id
 made_source w H when f x e = go (whole w H when f) (made_whole w H when f) refl refl e
@@ -53,7 +53,7 @@ made_source w H when f x e = go (whole w H when f) (made_whole w H when f) refl 
         → option_or (made_of a) (made_of (option_map (λ (y : ℕ × MessageRecord). y.1) b)) ≡ Some x → x.0 ≡ source_of f.id
     go (Some m) b i k z =
         let y : (m.source, m.pgn) ≡ x = cc in
-        ap (λ (u : ℕ × ℕ). u.0) (sym y) ∙ whole_source w.address (is_smaller w (claim_of f)) (holds w H when) f (time_heard (At when (Hear f) ∷ H)) (left (leaves (holder w H) (holder w (At when (Hear f) ∷ H)) (reception w H).session) (reception w H)) m i
+        ap (λ (u : ℕ × ℕ). u.0) (sym y) ∙ whole_source w.address (is_smaller w (claim_of f)) (holds w H when) f (time_heard (At when (Hear f) ∷ H)) (left (leaves (known w H when f) (holder w (At when (Hear f) ∷ H)) (reception w H).session) (reception w H)) m i
     go None (Some p) i k z = let y : (p.1.source, p.1.pgn) ≡ x = cc in ap (λ (u : ℕ × ℕ). u.0) (sym y) ∙ (made_by_packet w H when f p k).1
     go None None i k z = absurd (cc)
 
@@ -93,7 +93,7 @@ to_another w H when f q a d n m =
     none_to : whole w H when f ≡ None
     none_to =
         none_whole w.address (is_smaller w (claim_of f)) (holds w H when) f (time_heard (At when (Hear f) ∷ H))
-        (left (leaves (holder w H) (holder w (At when (Hear f) ∷ H)) (reception w H).session) (reception w H))
+        (left (leaves (known w H when f) (holder w (At when (Hear f) ∷ H)) (reception w H).session) (reception w H))
         (not_said w.address f (elsewhere w.address m))
 
     none_cast : made_whole w H when f ≡ None

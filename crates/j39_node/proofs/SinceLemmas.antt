@@ -4,19 +4,19 @@ use Rattle.j39_frame.specs.Frame.{FrameRecord}
 use Rattle.j39_frame.specs.Network.{address_claimed_group}
 use Rattle.j39_address.specs.Claim.{claim_of}
 use Rattle.j39_node.specs.declared.controller.Controller.{Controller}
-use Rattle.j39_node.specs.History.{Act, Who, Call, Message, Address, address_after, claim_address, claim_from, claimed, content, holds, is_claim, is_held, is_lost, is_smaller, moment, older, open_broadcast, packets, pause, step}
+use Rattle.j39_node.specs.History.{Act, Who, Call, Message, Address, address_after, claim_address, claim_from, claimed, content, holds, is_claim, is_held, is_lost, is_smaller, moment, older, unclaimed, open_broadcast, packets, pause, step}
 use Rattle.j39_node.specs.History.Call.{At}
-use Rattle.j39_node.specs.History.Act.{Hear, TakeFrame}
+use Rattle.j39_node.specs.History.Act.{Again, Hear, TakeFrame}
 use Rattle.j39_node.specs.History.Address.{NotClaimed, Claimed, Lost}
 use Rattle.j39_node.specs.Is.{Is, AreAnswered}
-use Rattle.j39_node.specs.Since.{ClaimedSince, NeverBack, NoneDrivesAway, drives_away, passed_in}
+use Rattle.j39_node.specs.Since.{ClaimedSince, NeverBack, NoneUnclaims, unclaims, passed_in}
 use Rattle.j39_node.specs.Reception.{reception}
 use Rattle.j39_node.proofs.ReceptionLemmas.{replied_get, tidy}
 use Rattle.j39_node.proofs.SoundLemmas.{FrameCase, frame_case, own_get, due_get, due_taken, message_taken, packet_taken, reply_taken, sound, transfer_taken}
 use Rattle.j39_node.proofs.SoundLemmas.FrameCase.{claims, acknowledges, replies, sends, packs, transfers}
 
 -- one call later
-one_later : (w : Who) (H : List Call) (call : Call) (e d : ℕ) → ClaimedSince w H e → drives_away w call ≡ false → d ≡ e + step H (moment (call ∷ H))
+one_later : (w : Who) (H : List Call) (call : Call) (e d : ℕ) → ClaimedSince w H e → unclaims w call ≡ false → d ≡ e + step H (moment (call ∷ H))
     → ClaimedSince w (call ∷ H) d
 one_later w H call e d h f g = record {
   later = call ∷ h.later;
@@ -46,11 +46,16 @@ not_driven true s d a e = absurd (cc)
 not_driven false s d a e = (refl, e)
 
 -- a call that only lets time pass
-passes : (w : Who) (H : List Call) (call : Call) (d : ℕ) → ((n : ℕ) → address_after w H ≡ Claimed n → ClaimedSince w H n) → drives_away w call ≡ false
+passes : (w : Who) (H : List Call) (call : Call) (d : ℕ) → ((n : ℕ) → address_after w H ≡ Claimed n → ClaimedSince w H n) → unclaims w call ≡ false
     → older (step H (moment (call ∷ H))) (address_after w H) ≡ Claimed d → ClaimedSince w (call ∷ H) d
 passes w H call d h f e =
     let b = before (step H (moment (call ∷ H))) d (address_after w H) e in
     one_later w H call b.elapsed d (h b.elapsed b.was) f b.is
+
+not_claimed : (a : Address) (d : ℕ) → unclaimed a ≡ Claimed d → ⊥
+not_claimed NotClaimed d e = absurd (cc)
+not_claimed (Claimed n) d e = absurd (cc)
+not_claimed Lost d e = absurd (cc)
 
 -- where no time passes it is as old as before
 same_age : (m : ℕ) (a : Address) → older (m - m) a ≡ a
@@ -77,9 +82,9 @@ begins w H now f right (replies m o h n g e) k a =
     absurd (let z = (reply_taken w.address f now m e (replied_get w.address (reception w H).replies 0 m (tidy w H).replies g)).0 in let y : true ≡ false = sym k ∙ z in cc)
 begins w H now f right (sends x o h n g e) k a =
     absurd (let z = message_taken w f now x e (own_get w _ _ x (sound w H right).own g) in let y : true ≡ false = sym k ∙ z in cc)
-begins w H now f right (packs m o h n past g e) k a =
+begins w H now f right (packs m o h n g e) k a =
     absurd (let z = (packet_taken f now m (open_broadcast w H) (length (packets H)) (pause H - step H now) e g).0 in let y : true ≡ false = sym k ∙ z in cc)
-begins w H now f right (transfers m o h n past nothing g e) k a =
+begins w H now f right (transfers m o h n g e) k a =
     absurd (let z = (transfer_taken w H now f m right e g).claim in let y : true ≡ false = sym k ∙ z in cc)
 
 taken : (w : Who) (H : List Call) (now d : ℕ) (f : FrameRecord) → AreAnswered w H → FrameCase w H now f
@@ -101,6 +106,7 @@ claimed_since w (At when (Hear f) ∷ H) d right e =
     passes w H (At when (Hear f)) d (λ k i. claimed_since w H k right.0 i) n.0 n.1
 claimed_since w (At now (TakeFrame (Some f)) ∷ H) d right e =
     taken w H now d f right.0 (frame_case w H now f right.1) (λ k i. claimed_since w H k right.0 i) (is_claim f) (address_after w H) refl refl e
+claimed_since w (At now Again ∷ H) d right e = absurd (not_claimed (older (step H now) (address_after w H)) d e)
 claimed_since w (call ∷ H) d right e =
     passes w H call d (λ k i. claimed_since w H k right.0 i) refl (let z = same_age (moment H) (address_after w H) in cc)
 
@@ -140,7 +146,7 @@ first_claim true NotClaimed e = stands 0 refl (omega arith)
 first_claim true (Claimed n) e = stands n refl (omega arith)
 first_claim true Lost e = gone refl
 
-stands_since : (w : Who) (later E : List Call) (at : ℕ) (f : FrameRecord) → is_claim f ≡ true → NoneDrivesAway w later
+stands_since : (w : Who) (later E : List Call) (at : ℕ) (f : FrameRecord) → is_claim f ≡ true → NoneUnclaims w later
     → Stands (address_after w (later ++ At at (TakeFrame (Some f)) ∷ E)) (passed_in later (At at (TakeFrame (Some f)) ∷ E))
 stands_since w [] E at f k d = first_claim (is_claim f) (older (step E at) (address_after w E)) k
 stands_since w (At next (Hear g) ∷ later) E at f k d =
@@ -150,6 +156,7 @@ stands_since w (At next (Hear g) ∷ later) E at f k d =
 stands_since w (At now (TakeFrame (Some g)) ∷ later) E at f k d =
     let H = later ++ At at (TakeFrame (Some f)) ∷ E in
     claims_again (is_claim g) (older (step H now) (address_after w H)) _ (ages (address_after w H) _ (step H now) _ (stands_since w later E at f k d.1) refl)
+stands_since w (At now Again ∷ later) E at f k d = absurd (let z : true ≡ false = d.0 in cc)
 stands_since w (call ∷ later) E at f k d =
     let H = later ++ At at (TakeFrame (Some f)) ∷ E in
     ages (address_after w H) (address_after w (call ∷ H)) (step H (moment (call ∷ H))) _ (stands_since w later E at f k d.1)

@@ -1,6 +1,7 @@
 -- What every answered history says of what was accepted, sent and told.
-use Rattle.std.proofs.Common.{◌≡◌, ℕ, zero, suc, ◌+◌, ◌-◌, ◌<◌, ◌≤◌, List, [], ◌∷◌, ◌++◌, length, map, Option, Some, None, Result, Ok, Err, Bool, true, false, not, ◌&&◌, ◌||◌, if◌then◌else◌, nat_eq, nat_lt, nat_le, ◌==◌, refl, sym, ap, ◌∙◌, subst, inl, inr, arith, append_assoc, length-append, eq-eqb, eqb-true, ltb-true, ◌⊎◌, IsTrue}
-use Rattle.std.proofs.lemmas.Bool.{and_parts}
+use Rattle.std.proofs.Common.{drop, ◌≡◌, ℕ, zero, suc, ◌+◌, ◌-◌, ◌<◌, ◌≤◌, List, [], ◌∷◌, ◌++◌, length, map, Option, Some, None, Result, Ok, Err, Bool, true, false, not, ◌&&◌, ◌||◌, if◌then◌else◌, nat_eq, nat_lt, nat_le, ◌==◌, refl, sym, ap, ◌∙◌, subst, inl, inr, arith, append_assoc, length-append, eq-eqb, eqb-true, ltb-true, ◌⊎◌, IsTrue, slice_set, max}
+use Rattle.std.proofs.lemmas.Bool.{and_from, and_parts}
+use Rattle.std.proofs.lemmas.Option.{slice_get_past}
 use Rattle.std.specs.List.{slice_get}
 use Rattle.std.specs.Option.{option_map}
 use Rattle.j39_frame.specs.Frame.{FrameRecord}
@@ -14,18 +15,23 @@ use Rattle.j39_node.specs.declared.kinds.Answer.{Answer}
 use Rattle.j39_node.specs.declared.kinds.Answer.TheVariants.{Nack, Busy}
 use Rattle.j39_node.specs.declared.kinds.Refused.{Refused}
 use Rattle.j39_node.specs.declared.kinds.Refused.TheVariants.{NoAddress, BadValue, Full}
-use Rattle.j39_node.specs.History.{turns, Who, Message, Draft, Call, Address, IsFront, Asked, accepted, acknowledged, acknowledgment, acknowledgment_group, address_after, asked, can_send, claim_address, claim_from, claimed, content, due, frame_of, got, handed, holds, is_acknowledgment, is_claim, is_full, is_held, is_lost, is_own_group, is_packet, is_sendable, is_served, is_session, is_smaller, is_some, is_transfer, kept, message_from, message_of, moment, older, open_broadcast, owes_claim, packets, pause, request_for, requests, sent, step, told, with_refusal, with_request}
-use Rattle.j39_node.specs.History.Call.{At, TakeEnded, TakeReceived, TakeRequest}
-use Rattle.j39_node.specs.History.Act.{Ask, Hear, TakeFrame, Send, Acknowledge}
-use Rattle.j39_node.specs.Reception.{is_move, none_waits, reception}
+use Rattle.j39_node.specs.History.{fresh, is_refusal_due, turns, yields, has_packets, is_left, Who, Message, Draft, Call, Address, IsFront, Asked, accepted, acknowledged, acknowledgment, acknowledgment_group, address_after, asked, can_send, claim_address, claim_from, claimed, content, due, frame_of, got, handed, holds, is_acknowledgment, is_claim, is_full, is_held, is_lost, is_own_group, is_packet, is_sendable, is_served, is_session, is_smaller, is_some, is_transfer, kept, message_from, message_of, moment, older, open_broadcast, packets, pause, request_for, requests, sent, step, told, with_refusal, with_request, unclaimed, latest}
+use Rattle.j39_node.specs.History.Call.{At, TakeEnded, TakeReceived, TakeRequest, Renew}
+use Rattle.j39_node.specs.History.Act.{Ask, Hear, TakeFrame, Send, Acknowledge, Again}
+use Rattle.std.proofs.lemmas.Slice.Eq.{bytes_eq-Decides}
+use Rattle.j39_node.specs.Reception.{is_move, is_same, is_that, reception}
 use Rattle.j39_node.proofs.ReceptionLemmas.{IsReply, replied_get, tidy}
 use Rattle.j39_node.specs.History.Address.{NotClaimed, Claimed, Lost}
-use Rattle.j39_node.specs.Is.{claim_goes, gives_way, is_there, next_acknowledgment, next_long, next_other, AreAnswered, IsAnswered, control_of, stamped, first_of, packet_by, next_control, next_packet, next_frame, next_ended, end_of, answer_to_send, long_by}
+use Rattle.j39_node.specs.Is.{is_apart, claim_goes, gives_way, is_there, is_turn, next_acknowledgment, next_other, next_turn, other, ready, turn_frame, turn_of, AreAnswered, IsAnswered, control_of, stamped, packet_by, next_packet, next_frame, next_ended, end_of, answer_to_send, claim_due, next_renewed}
+use Rattle.j39_node.specs.declared.turn.Ready.{Ready}
+use Rattle.j39_node.specs.declared.turn.Turn.{Turn}
+use Rattle.j39_node.specs.declared.turn.Turn.TheVariants.{Reply, Single, Packet, Move}
 use Rattle.j39_node.specs.Transfers.{next_transfer, open_transfer, clock_at}
 use Rattle.j39_node.specs.Asking.{can_ask}
 use Rattle.j39_node.proofs.AskCases.{AskCase, ask_case, homeless, unfit, busy, asks, sendable}
 use Rattle.j39_node.proofs.PortLemmas.{ported, SaidCase, said_case}
 use Rattle.j39_node.proofs.QueueLemmas.{get_within, get_append, get_map, length_one_more, map_append}
+use Rattle.j39_node.proofs.RenewLemmas.{IsLatest, latest_is, set_front, set_get, set_length}
 
 -- ---- the address
 
@@ -47,6 +53,11 @@ lost_claimed NotClaimed = refl
 lost_claimed (Claimed e) = refl
 lost_claimed Lost = refl
 
+pub lost_unclaimed : (a : Address) → is_lost (unclaimed a) ≡ is_lost a
+lost_unclaimed NotClaimed = refl
+lost_unclaimed (Claimed e) = refl
+lost_unclaimed Lost = refl
+
 pub held_not_lost : (a : Address) → is_held a ≡ true → is_lost a ≡ false
 held_not_lost NotClaimed e = absurd (cc)
 held_not_lost (Claimed n) e = refl
@@ -62,7 +73,7 @@ both false y e = absurd (cc)
 some_is : {T : Type 0} (x y : T) → Some x ≡ Some y → x ≡ y
 some_is x y e = cc
 
--- neither an acknowledgment nor a reply
+-- neither an acknowledgment nor another
 pub none_steers : (a b : Option Message) → control_of a b ≡ None → (a ≡ None) × (b ≡ None)
 none_steers None b e = (refl, e)
 none_steers (Some m) b e = absurd (cc)
@@ -79,54 +90,204 @@ acknowledged_is_due w H now m e = go (gives_way w H now) refl e
     go true g e = absurd (cc)
     go false g e = (e, g)
 
+-- no acknowledgment goes, and it is the turn of this
+abbrev pub IsNext : Who → List Call → ℕ → Turn → Type 0
+IsNext w H now turn = (next_acknowledgment w H now ≡ None) × (next_turn w H now ≡ Some turn)
+
 pub data FrameCase (w : Who) (H : List Call) (now : ℕ) (f : FrameRecord) : Type 0 where
   claims : claim_goes w H now ≡ true → stamped f ≡ (now, claim_from w (claim_address w (address_after w H))) → FrameCase w H now f
   acknowledges : (m : Message) → claim_goes w H now ≡ false → holds w H now ≡ true → slice_get (due w H) (length (acknowledged H)) ≡ Some m
       → stamped f ≡ (now, m) → gives_way w H now ≡ false → FrameCase w H now f
-  replies : (m : Message) → claim_goes w H now ≡ false → holds w H now ≡ true → next_acknowledgment w H now ≡ None
+  replies : (m : Message) → claim_goes w H now ≡ false → holds w H now ≡ true → IsNext w H now Reply
       → slice_get (reception w H).replies 0 ≡ Some m → stamped f ≡ (now, m) → FrameCase w H now f
-  sends : (x : ℕ × Message) → claim_goes w H now ≡ false → holds w H now ≡ true → next_control w H now ≡ None
+  sends : (x : ℕ × Message) → claim_goes w H now ≡ false → holds w H now ≡ true → IsNext w H now Single
       → slice_get (accepted w H) (length (sent H)) ≡ Some x → stamped f ≡ (now, x.1) → FrameCase w H now f
-  packs : (m : Message) → claim_goes w H now ≡ false → holds w H now ≡ true → next_control w H now ≡ None
-      → slice_get (accepted w H) (length (sent H)) ≡ None → next_packet w H now ≡ Some m → stamped f ≡ (now, m) → FrameCase w H now f
-  transfers : (m : Message) → claim_goes w H now ≡ false → holds w H now ≡ true → next_control w H now ≡ None
-      → slice_get (accepted w H) (length (sent H)) ≡ None → next_packet w H now ≡ None → next_transfer w H now ≡ Some m → stamped f ≡ (now, m)
-      → FrameCase w H now f
+  packs : (m : Message) → claim_goes w H now ≡ false → holds w H now ≡ true → IsNext w H now Packet
+      → next_packet w H now ≡ Some m → stamped f ≡ (now, m) → FrameCase w H now f
+  transfers : (m : Message) → claim_goes w H now ≡ false → holds w H now ≡ true → IsNext w H now Move
+      → next_transfer w H now ≡ Some m → stamped f ≡ (now, m) → FrameCase w H now f
 
 -- the next frame, by what it hangs on
-abbrev pub frame_by : Bool → Bool → Option Message → Option (ℕ × Message) → Option Message → Message → ℕ → Option (ℕ × Message)
-frame_by owes held a o p claim now = if owes then Some (now, claim) else if held then option_map (λ m. (now, m)) (first_of a o p) else None
+abbrev pub frame_by : Bool → Bool → Option Message → Option Message → Message → ℕ → Option (ℕ × Message)
+frame_by owes held a o claim now = if owes then Some (now, claim) else if held then option_map (λ m. (now, m)) (control_of a o) else None
 
 pub frame_case : (w : Who) (H : List Call) (now : ℕ) (f : FrameRecord) → Some (stamped f) ≡ next_frame w H now → FrameCase w H now f
-frame_case w H now f e =
-    go (claim_goes w H now) (holds w H now) (next_control w H now) (slice_get (accepted w H) (length (sent H))) (next_packet w H now) (next_transfer w H now)
-    refl refl refl refl refl refl e
+frame_case w H now f e = go (claim_goes w H now) (holds w H now) (next_acknowledgment w H now) refl refl refl e
   where
-    go : (b h : Bool) (a : Option Message) (o : Option (ℕ × Message)) (y z : Option Message) → claim_goes w H now ≡ b → holds w H now ≡ h
-        → next_control w H now ≡ a → slice_get (accepted w H) (length (sent H)) ≡ o → next_packet w H now ≡ y → next_transfer w H now ≡ z
-        → Some (stamped f) ≡ frame_by b h a o (long_by y z) (claim_from w (claim_address w (address_after w H))) now → FrameCase w H now f
-    go true h a o y z p q k r s t i = claims p (let u : stamped f ≡ (now, claim_from w (claim_address w (address_after w H))) = cc in u)
-    go false false a o y z p q k r s t i = absurd (cc)
-    go false true (Some m) o y z p q k r s t i =
-        steers (next_acknowledgment w H now) (slice_get (reception w H).replies 0) refl refl
-      where
-        is : stamped f ≡ (now, m)
-        is = (let u : stamped f ≡ (now, m) = cc in u)
+    by : (t : Option Turn) (r : Option Message) (o : Option (ℕ × Message)) (y z : Option Message) → claim_goes w H now ≡ false → holds w H now ≡ true
+        → next_acknowledgment w H now ≡ None → next_turn w H now ≡ t → slice_get (reception w H).replies 0 ≡ r
+        → slice_get (accepted w H) (length (sent H)) ≡ o → next_packet w H now ≡ y → next_transfer w H now ≡ z
+        → Some (stamped f) ≡ option_map (λ m. (now, m)) (turn_frame t r o y z) → FrameCase w H now f
+    by None r o y z p q n t a b c d i = absurd (cc)
+    by (Some Reply) None o y z p q n t a b c d i = absurd (cc)
+    by (Some Reply) (Some m) o y z p q n t a b c d i = replies m p q (n, t) a (let u : stamped f ≡ (now, m) = cc in u)
+    by (Some Single) r None y z p q n t a b c d i = absurd (cc)
+    by (Some Single) r (Some x) y z p q n t a b c d i = sends x p q (n, t) b (let u : stamped f ≡ (now, x.1) = cc in u)
+    by (Some Packet) r o None z p q n t a b c d i = absurd (cc)
+    by (Some Packet) r o (Some m) z p q n t a b c d i = packs m p q (n, t) c (let u : stamped f ≡ (now, m) = cc in u)
+    by (Some Move) r o y None p q n t a b c d i = absurd (cc)
+    by (Some Move) r o y (Some m) p q n t a b c d i = transfers m p q (n, t) d (let u : stamped f ≡ (now, m) = cc in u)
 
-        steers : (a b : Option Message) → next_acknowledgment w H now ≡ a → slice_get (reception w H).replies 0 ≡ b → FrameCase w H now f
-        steers (Some x) b u v =
-            let same : x ≡ m = some_is x m (sym (ap (λ (z : Option Message). control_of z (slice_get (reception w H).replies 0)) u) ∙ k) in
-            let due_now = acknowledged_is_due w H now m (u ∙ ap Some same) in acknowledges m p q due_now.0 is due_now.1
-        steers None b u v =
-            replies m p q u (sym (ap (λ (z : Option Message). control_of z (slice_get (reception w H).replies 0)) u) ∙ k) is
-    go false true None None None None p q k r s t i = absurd (cc)
-    go false true None None None (Some m) p q k r s t i = transfers m p q k r s t (let u : stamped f ≡ (now, m) = cc in u)
-    go false true None None (Some m) z p q k r s t i = packs m p q k r s (let u : stamped f ≡ (now, m) = cc in u)
-    go false true None (Some x) y z p q k r s t i = sends x p q k r (let u : stamped f ≡ (now, x.1) = cc in u)
+    go : (b h : Bool) (a : Option Message) → claim_goes w H now ≡ b → holds w H now ≡ h → next_acknowledgment w H now ≡ a
+        → Some (stamped f) ≡ frame_by b h a (other w H now) (claim_from w (claim_address w (address_after w H))) now → FrameCase w H now f
+    go true h a p q n i = claims p (let u : stamped f ≡ (now, claim_from w (claim_address w (address_after w H))) = cc in u)
+    go false false a p q n i = absurd (cc)
+    go false true (Some m) p q n i =
+        let due_now = acknowledged_is_due w H now m n in
+        acknowledges m p q due_now.0 (let u : stamped f ≡ (now, m) = cc in u) due_now.1
+    go false true None p q n i = by _ _ _ _ _ p q n refl refl refl refl refl i
+
+-- ---- whose turn it is
+
+not_least : (k n : ℕ) → nat_lt k n ≡ false → n ≤ k
+not_least k n e = grind arith
+
+pub none_at : {T : Type 0} (L : List T) (n : ℕ) → nat_lt n (length L) ≡ false → slice_get L n ≡ None
+none_at L n e = slice_get_past L n (not_least n (length L) e)
+
+pub some_at : {T : Type 0} (L : List T) (n : ℕ) → nat_lt n (length L) ≡ true → slice_get L n ≡ None → ⊥
+some_at L n e = go L n (ltb-true n (length L) e)
+  where
+    go : {T : Type 0} (L : List T) (n : ℕ) → n < length L → slice_get L n ≡ None → ⊥
+    go [] n l f = absurd (omega (arith, l))
+    go (x ∷ L) zero l f = absurd (let z : Some x ≡ None = f in cc)
+    go (x ∷ L) (suc n) l f = go L n (omega (arith, l)) f
+
+-- what goes before a frame of the open transfer isn't due
+pub record NothingElse (r : Ready) : Type 0 where
+  pub overdue : r.overdue ≡ false
+  pub message : r.message ≡ false
+  pub packet : r.packet ≡ false
+
+-- what is due where it is the turn of this
+abbrev pub IsTurn : Bool → Ready → Option Turn → Type 0
+IsTurn y r None = NothingElse r × (r.transfer ≡ false) × (r.reply ≡ false)
+IsTurn y r (Some Reply) = (r.reply ≡ true) × (r.overdue ≡ false) × ((y && (r.message || (r.packet || r.transfer))) ≡ false)
+IsTurn y r (Some Single) = (r.message ≡ true) × (r.overdue ≡ false) × ((r.reply ≡ false) ⊎ (y ≡ true))
+IsTurn y r (Some Packet) = (r.overdue ≡ true) ⊎ ((r.packet ≡ true) × (r.message ≡ false) × ((r.reply ≡ false) ⊎ (y ≡ true)))
+IsTurn y r (Some Move) = NothingElse r × (r.transfer ≡ true) × ((r.reply ≡ false) ⊎ (y ≡ true))
+
+pub turn_is : (y : Bool) (r : Ready) → IsTurn y r (turn_of y r)
+turn_is y r = go y r.overdue r.reply r.message r.packet r.transfer
+  where
+    of : Bool → Bool → Bool → Bool → Bool → Ready
+    of o a m p t = record { overdue = o; reply = a; message = m; packet = p; transfer = t }
+
+    go : (y o a m p t : Bool) → IsTurn y (of o a m p t) (turn_of y (of o a m p t))
+    go y true a m p t = inl refl
+    go false false true m p t = (refl, refl, refl)
+    go true false true true p t = (refl, refl, inr refl)
+    go true false true false true t = inr (refl, refl, inr refl)
+    go true false true false false true = (record { overdue = refl; message = refl; packet = refl }, refl, inr refl)
+    go true false true false false false = (refl, refl, refl)
+    go y false false true p t = (refl, refl, inl refl)
+    go y false false false true t = inr (refl, refl, inl refl)
+    go y false false false false true = (record { overdue = refl; message = refl; packet = refl }, refl, inl refl)
+    go y false false false false false = (record { overdue = refl; message = refl; packet = refl }, refl, refl)
+
+pub turned : (w : Who) (H : List Call) (now : ℕ) (t : Option Turn) → next_turn w H now ≡ t → IsTurn (yields H) (ready w H now) t
+turned w H now t e = subst (IsTurn (yields H) (ready w H now)) e (turn_is (yields H) (ready w H now))
+
+-- a frame of the open broadcast that is due is next of it
+pub packet_there : (o : Option (ℕ × MessageRecord)) (i left : ℕ) → is_there (packet_by o i left) ≡ (is_left o i && nat_le left 100000)
+packet_there None i left = refl
+packet_there (Some x) i left = go (nat_le left 100000) (nat_le i (packets_of x.1))
+  where
+    go : (a b : Bool) → is_there (if a && b then Some (frame_of x.1 i) else None) ≡ (b && a)
+    go true true = refl
+    go true false = refl
+    go false true = refl
+    go false false = refl
+
+pub overdue_due : (b : Bool) (n : ℕ) → (b && nat_eq n 0) ≡ true → (b && nat_le n 100000) ≡ true
+overdue_due b n e = let x = and_parts b (nat_eq n 0) e in let z = eqb-true n 0 x.1 in and_from b (nat_le n 100000) x.0 (least n z)
+  where
+    least : (k : ℕ) → k ≡ 0 → nat_le k 100000 ≡ true
+    least k z = grind (arith, z)
+
+pub none_there : (o : Option Message) → is_there o ≡ false → o ≡ None
+none_there None e = refl
+none_there (Some m) e = absurd (cc)
+
+pub not_there : (o : Option Message) → is_there o ≡ true → o ≡ None → ⊥
+not_there None e f = absurd (cc)
+not_there (Some m) e f = absurd (cc)
+
+-- a frame of the open transfer that is due, and apart from the first reply
+apart_there : (o a : Option Message) → is_apart o a ≡ true → o ≡ None → ⊥
+apart_there None a e f = absurd (cc)
+apart_there (Some m) a e f = absurd (cc)
+
+apart_none : (o a : Option Message) → a ≡ None → is_apart o a ≡ false → o ≡ None
+apart_none None a f e = refl
+apart_none (Some m) None f e = absurd (cc)
+apart_none (Some m) (Some x) f e = absurd (cc)
+
+-- no reply, no message, and no frame of the open broadcast
+pub record Rest (w : Who) (H : List Call) (now : ℕ) : Type 0 where
+  pub reply : slice_get (reception w H).replies 0 ≡ None
+  pub message : slice_get (accepted w H) (length (sent H)) ≡ None
+  pub packet : next_packet w H now ≡ None
+
+-- what goes before the open transfer's frames isn't there
+pub nothing_else : (w : Who) (H : List Call) (now : ℕ) → NothingElse (ready w H now)
+    → (slice_get (accepted w H) (length (sent H)) ≡ None) × (next_packet w H now ≡ None)
+nothing_else w H now h = (
+  none_at (accepted w H) (length (sent H)) h.message,
+  none_there _ (packet_there (open_broadcast w H) (length (packets H)) (pause H - step H now) ∙ h.packet),
+)
+
+-- whose turn it is has a frame
+pub frame_there : (w : Who) (H : List Call) (now : ℕ) → is_turn (next_turn w H now) ≡ is_there (other w H now)
+frame_there w H now = go (next_turn w H now) (turned w H now _ refl) _ _ _ _ refl refl refl refl
+  where
+    there : (o : Option Message) → (o ≡ None → ⊥) → true ≡ is_there o
+    there None f = absurd (f refl)
+    there (Some m) f = refl
+
+    there_sent : (o : Option (ℕ × Message)) → (o ≡ None → ⊥) → true ≡ is_there (option_map content o)
+    there_sent None f = absurd (f refl)
+    there_sent (Some x) f = refl
+
+    due_packet : (ready w H now).packet ≡ true → next_packet w H now ≡ None → ⊥
+    due_packet e = not_there _ (packet_there (open_broadcast w H) (length (packets H)) (pause H - step H now) ∙ e)
+
+    go : (t : Option Turn) → IsTurn (yields H) (ready w H now) t → (r : Option Message) (o : Option (ℕ × Message)) (y z : Option Message)
+        → slice_get (reception w H).replies 0 ≡ r → slice_get (accepted w H) (length (sent H)) ≡ o → next_packet w H now ≡ y → next_transfer w H now ≡ z
+        → is_turn t ≡ is_there (turn_frame t r o y z)
+    go None h r o y z a b c d = refl
+    go (Some Reply) h r o y z a b c d = there r (λ e. some_at (reception w H).replies 0 h.0 (a ∙ e))
+    go (Some Single) h r o y z a b c d = there_sent o (λ e. some_at (accepted w H) (length (sent H)) h.0 (b ∙ e))
+    go (Some Packet) (inl h) r o y z a b c d = there y (λ e. due_packet (overdue_due (has_packets w H) (pause H - step H now) h) (c ∙ e))
+    go (Some Packet) (inr h) r o y z a b c d = there y (λ e. due_packet h.0 (c ∙ e))
+    go (Some Move) h r o y z a b c d = there z (λ e. apart_there (next_transfer w H now) (slice_get (reception w H).replies 0) h.1 (d ∙ e))
+
+-- where none of it goes, none is due
+pub none_other : (w : Who) (H : List Call) (now : ℕ) → other w H now ≡ None → Rest w H now × (next_transfer w H now ≡ None)
+none_other w H now e = go (next_turn w H now) (turned w H now _ refl) (frame_there w H now ∙ ap is_there e)
+  where
+    go : (t : Option Turn) → IsTurn (yields H) (ready w H now) t → is_turn t ≡ false → Rest w H now × (next_transfer w H now ≡ None)
+    go None h f =
+        let r = none_at (reception w H).replies 0 h.2 in
+        let n = nothing_else w H now h.0 in
+        (record { reply = r; message = n.0; packet = n.1 }, apart_none (next_transfer w H now) (slice_get (reception w H).replies 0) r h.1)
+    go (Some t) h f = absurd (cc)
+
+-- and where none is due, none goes
+pub other_none : (w : Who) (H : List Call) (now : ℕ) → Rest w H now → next_transfer w H now ≡ None → other w H now ≡ None
+other_none w H now h e = go (next_turn w H now)
+  where
+    go : (t : Option Turn)
+        → turn_frame t (slice_get (reception w H).replies 0) (slice_get (accepted w H) (length (sent H))) (next_packet w H now) (next_transfer w H now) ≡ None
+    go None = refl
+    go (Some Reply) = h.reply
+    go (Some Single) = ap (option_map content) h.message
+    go (Some Packet) = h.packet
+    go (Some Move) = e
 
 -- ---- who gives way
 
-no_claim_goes : (owes : Bool) → (owes && false) ≡ false
+pub no_claim_goes : (owes : Bool) → (owes && false) ≡ false
 no_claim_goes owes = grind arith
 
 pub goes_on : (owes : Bool) → (owes && true) ≡ owes
@@ -134,26 +295,21 @@ goes_on owes = grind arith
 
 -- where something gives way the other frame goes
 pub given_way : (w : Who) (H : List Call) (now : ℕ) → gives_way w H now ≡ true → (m : Message) × (next_other w H now ≡ Some m) × (next_frame w H now ≡ Some (now, m))
-given_way w H now g = go (next_other w H now) (holds w H now) refl refl (and_parts (nat_le 2 (turns H)) (is_there (next_other w H now)) g).1
+given_way w H now g = go (holds w H now) (other w H now) refl refl (and_parts (nat_le 2 (turns H)) (is_there (next_other w H now)) g).1
   where
     claim : Message
     claim = claim_from w (claim_address w (address_after w H))
 
-    go : (o : Option Message) (h : Bool) → next_other w H now ≡ o → holds w H now ≡ h → is_there o ≡ true
-        → (m : Message) × (next_other w H now ≡ Some m) × (next_frame w H now ≡ Some (now, m))
-    go None h e i t = absurd (cc)
-    go (Some m) false e i t = absurd (let z : None ≡ Some m =
-        sym (ap (λ (b : Bool). if b then first_of (slice_get (reception w H).replies 0) (slice_get (accepted w H) (length (sent H))) (next_long w H now) else None) i) ∙ e in cc)
-    go (Some m) true e i t = (
-      m,
-      e,
-      ap (λ (b : Bool). frame_by (owes_claim w H && not b) (holds w H now) (control_of (if b then None else slice_get (due w H) (length (acknowledged H))) (slice_get (reception w H).replies 0))
-          (slice_get (accepted w H) (length (sent H))) (next_long w H now) claim now) g
-          ∙ (ap (λ (b : Bool). frame_by b (holds w H now) (slice_get (reception w H).replies 0) (slice_get (accepted w H) (length (sent H))) (next_long w H now) claim now) (no_claim_goes (owes_claim w H))
-          ∙ (ap (λ (b : Bool). frame_by false b (slice_get (reception w H).replies 0) (slice_get (accepted w H) (length (sent H))) (next_long w H now) claim now) i
-          ∙ ap (option_map (λ m. (now, m)))
-          (sym (ap (λ (b : Bool). if b then first_of (slice_get (reception w H).replies 0) (slice_get (accepted w H) (length (sent H))) (next_long w H now) else None) i) ∙ e))),
-    )
+    is : (b h : Bool) (o : Option Message) → gives_way w H now ≡ b → holds w H now ≡ h → other w H now ≡ o
+        → next_frame w H now ≡ frame_by (claim_due w H now && not b) h (if b then None else slice_get (due w H) (length (acknowledged H))) o claim now
+    is b h o p q r = λ i. frame_by (claim_due w H now && not (p i)) (q i) (if p i then None else slice_get (due w H) (length (acknowledged H))) (r i) claim now
+
+    go : (h : Bool) (o : Option Message) → holds w H now ≡ h → other w H now ≡ o → is_there (if h then o else None) ≡ true
+        → (m : Message) × ((if h then o else None) ≡ Some m) × (next_frame w H now ≡ Some (now, m))
+    go false o p q t = absurd (cc)
+    go true None p q t = absurd (cc)
+    go true (Some m) p q t =
+        (m, refl, is true true (Some m) g p q ∙ ap (λ (b : Bool). frame_by b true None (Some m) claim now) (no_claim_goes (claim_due w H now)))
 
 -- where no frame goes nothing gives way: a claim that is owed goes, and an acknowledgment that is due
 pub none_gives : (w : Who) (H : List Call) (now : ℕ) → (let none : Option (ℕ × Message) = None in none) ≡ next_frame w H now → gives_way w H now ≡ false
@@ -163,8 +319,8 @@ none_gives w H now e = go (gives_way w H now) refl
     go true g = let x = given_way w H now g in absurd (let z : None ≡ Some (now, x.0) = e ∙ x.2 in cc)
     go false g = refl
 
-pub claim_is : (w : Who) (H : List Call) (now : ℕ) → gives_way w H now ≡ false → claim_goes w H now ≡ owes_claim w H
-claim_is w H now g = ap (λ (b : Bool). owes_claim w H && not b) g ∙ goes_on (owes_claim w H)
+pub claim_is : (w : Who) (H : List Call) (now : ℕ) → gives_way w H now ≡ false → claim_goes w H now ≡ claim_due w H now
+claim_is w H now g = ap (λ (b : Bool). claim_due w H now && not b) g ∙ goes_on (claim_due w H now)
 
 pub due_is : (w : Who) (H : List Call) (now : ℕ) → gives_way w H now ≡ false → next_acknowledgment w H now ≡ slice_get (due w H) (length (acknowledged H))
 due_is w H now g = ap (λ (b : Bool). if b then None else slice_get (due w H) (length (acknowledged H))) g
@@ -185,24 +341,45 @@ none_due_goes w H now e = go (gives_way w H now)
     go true = refl
     go false = e
 
+-- where no frame goes from an address that is held, nothing is due
+pub record NoneDue (w : Who) (H : List Call) (now : ℕ) : Type 0 where
+  pub acknowledgment : slice_get (due w H) (length (acknowledged H)) ≡ None
+  pub rest : Rest w H now
+  pub transfer : next_transfer w H now ≡ None
+
+pub none_next : (w : Who) (H : List Call) (now : ℕ) → holds w H now ≡ true → (let none : Option (ℕ × Message) = None in none) ≡ next_frame w H now → NoneDue w H now
+none_next w H now held e = go (claim_goes w H now) (holds w H now) (next_acknowledgment w H now) (other w H now) held refl refl e
+  where
+    go : (o h : Bool) (a b : Option Message) → h ≡ true → next_acknowledgment w H now ≡ a → other w H now ≡ b
+        → (let none : Option (ℕ × Message) = None in none) ≡ frame_by o h a b (claim_from w (claim_address w (address_after w H))) now → NoneDue w H now
+    go true h a b p q r i = absurd (cc)
+    go false false a b p q r i = absurd (cc)
+    go false true (Some m) b p q r i = absurd (cc)
+    go false true None (Some m) p q r i = absurd (cc)
+    go false true None None p q r i = let n = none_other w H now r in record {
+      acknowledgment = sym (due_is w H now (none_gives w H now e)) ∙ q;
+      rest = n.0;
+      transfer = n.1;
+    }
+
 -- which frame of a broadcast is next
 pub record PacketCase (o : Option (ℕ × MessageRecord)) (i left : ℕ) (m : Message) : Type 0 where
   pub token : ℕ
   pub message : MessageRecord
   pub is : o ≡ Some (token, message)
-  pub over : left ≡ 0
+  pub over : left ≤ 100000
   pub within : i ≤ packets_of message
   pub frame : m ≡ frame_of message i
 
 pub packet_case : (o : Option (ℕ × MessageRecord)) (i left : ℕ) (m : Message) → packet_by o i left ≡ Some m → PacketCase o i left m
 packet_case None i left m e = absurd (cc)
-packet_case (Some x) i left m e = go (nat_eq left 0) (nat_le i (packets_of x.1)) refl refl e
+packet_case (Some x) i left m e = go (nat_le left 100000) (nat_le i (packets_of x.1)) refl refl e
   where
     le_is : (k n : ℕ) → nat_le k n ≡ true → k ≤ n
     le_is k n f = grind arith
 
-    go : (a b : Bool) → nat_eq left 0 ≡ a → nat_le i (packets_of x.1) ≡ b → (if a && b then Some (frame_of x.1 i) else None) ≡ Some m → PacketCase (Some x) i left m
-    go true true p q r = record { token = x.0; message = x.1; is = refl; over = eqb-true _ _ p; within = le_is _ _ q; frame = (let z : frame_of x.1 i ≡ m = cc in sym z) }
+    go : (a b : Bool) → nat_le left 100000 ≡ a → nat_le i (packets_of x.1) ≡ b → (if a && b then Some (frame_of x.1 i) else None) ≡ Some m → PacketCase (Some x) i left m
+    go true true p q r = record { token = x.0; message = x.1; is = refl; over = le_is _ _ p; within = le_is _ _ q; frame = (let z : frame_of x.1 i ≡ m = cc in sym z) }
     go true false p q r = absurd (cc)
     go false b p q r = absurd (cc)
 
@@ -244,6 +421,14 @@ reply_taken own f now m e is =
 
 -- ---- a frame of a session is one of a broadcast, or of a transfer
 
+pub is_directed : (f : FrameRecord) → is_session f ≡ true → is_packet f ≡ false → is_transfer f ≡ true
+is_directed f e g = go (is_session f) (is_some (destination_of f.id) 255) e g
+  where
+    go : (a b : Bool) → a ≡ true → (a && b) ≡ false → (a && not b) ≡ true
+    go true false p q = refl
+    go true true p q = absurd (cc)
+    go false b p q = absurd (cc)
+
 pub no_packet : (f : FrameRecord) → is_session f ≡ false → is_packet f ≡ false
 no_packet f e = ap (λ (b : Bool). b && is_some (destination_of f.id) 255) e
 
@@ -262,26 +447,39 @@ packet_session f e = go (is_session f) (is_some (destination_of f.id) 255) refl 
     go false b p q r = absurd (cc)
 
 pub no_move : (w : Who) (H : List Call) (f : FrameRecord) → is_transfer f ≡ false → is_move w H f ≡ false
-no_move w H f e = ap (λ (b : Bool). b && none_waits (reception w H).replies) e
+no_move w H f e = ap (λ (b : Bool). b && not (is_that (message_of f) (slice_get (reception w H).replies 0))) e
 
--- where a reply waits
-pub reply_no_move : (w : Who) (H : List Call) (f : FrameRecord) (m : Message) → slice_get (reception w H).replies 0 ≡ Some m → is_move w H f ≡ false
-reply_no_move w H f m e = ap (λ (b : Bool). is_transfer f && b) (some_wait (reception w H).replies e) ∙ off (is_transfer f)
+-- a frame is that which it is
+pub that_same : (m : Message) → is_that m (Some m) ≡ true
+that_same m = λ i. eq-eqb m.group m.group refl i && (same_address m.destination i && (bytes_eq-Decides m.bytes m.bytes).1 refl i)
   where
-    some_wait : (L : List Message) → slice_get L 0 ≡ Some m → none_waits L ≡ false
-    some_wait [] g = absurd (cc)
-    some_wait (x ∷ L) g = refl
+    same_address : (o : Option ℕ) → is_same o o ≡ true
+    same_address None = refl
+    same_address (Some n) = eq-eqb n n refl
 
+-- the first reply is none of the open transfer
+pub reply_is : (w : Who) (H : List Call) (f : FrameRecord) (m : Message) → slice_get (reception w H).replies 0 ≡ Some m → message_of f ≡ m
+    → is_that (message_of f) (slice_get (reception w H).replies 0) ≡ true
+reply_is w H f m e i = ap (is_that (message_of f)) e ∙ (ap (λ x. is_that x (Some m)) i ∙ that_same m)
+
+pub reply_no_move : (w : Who) (H : List Call) (f : FrameRecord) (m : Message) → slice_get (reception w H).replies 0 ≡ Some m → message_of f ≡ m → is_move w H f ≡ false
+reply_no_move w H f m e i = ap (λ (b : Bool). is_transfer f && not b) (reply_is w H f m e i) ∙ off (is_transfer f)
+  where
     off : (b : Bool) → (b && false) ≡ false
     off b = grind arith
 
--- and where none does
-pub is_moved : (w : Who) (H : List Call) (f : FrameRecord) → is_transfer f ≡ true → slice_get (reception w H).replies 0 ≡ None → is_move w H f ≡ true
-is_moved w H f e g = ap (λ (b : Bool). b && none_waits (reception w H).replies) e ∙ none_wait (reception w H).replies g
+-- one of the open transfer that goes apart from it is no reply
+pub apart_is : (w : Who) (H : List Call) (now : ℕ) (f : FrameRecord) (m : Message) → next_transfer w H now ≡ Some m → message_of f ≡ m
+    → (ready w H now).transfer ≡ true → is_that (message_of f) (slice_get (reception w H).replies 0) ≡ false
+apart_is w H now f m g e t = ap (λ x. is_that x (slice_get (reception w H).replies 0)) e
+    ∙ flip _ (sym (ap (λ o. is_apart o (slice_get (reception w H).replies 0)) g) ∙ t)
   where
-    none_wait : (L : List Message) → slice_get L 0 ≡ None → none_waits L ≡ true
-    none_wait [] h = refl
-    none_wait (x ∷ L) h = absurd (cc)
+    flip : (b : Bool) → not b ≡ true → b ≡ false
+    flip true i = absurd (cc)
+    flip false i = refl
+
+pub is_moved : (w : Who) (H : List Call) (f : FrameRecord) → is_transfer f ≡ true → is_that (message_of f) (slice_get (reception w H).replies 0) ≡ false → is_move w H f ≡ true
+is_moved w H f e g = λ i. e i && not (g i)
 
 -- what a frame of the open transfer is
 pub record IsOfTransfer (w : Who) (f : FrameRecord) : Type 0 where
@@ -496,6 +694,9 @@ single_taken w f now x e own =
 pub claim_single : (f : FrameRecord) → is_claim f ≡ true → is_session f ≡ false
 claim_single f e = ap (λ (g : ℕ). nat_eq g transport_control_group || nat_eq g transport_data_group) (eqb-true (pgn_of f.id) address_claimed_group e)
 
+pub acknowledgment_single : (f : FrameRecord) → is_acknowledgment f ≡ true → is_session f ≡ false
+acknowledgment_single f e = ap (λ (g : ℕ). nat_eq g transport_control_group || nat_eq g transport_data_group) (eqb-true (pgn_of f.id) acknowledgment_group e)
+
 pub due_taken : (w : Who) (f : FrameRecord) (now : ℕ) (m : Message) → stamped f ≡ (now, m) → IsDue w m
     → (is_claim f ≡ false) × (is_acknowledgment f ≡ true) × (is_session f ≡ false)
 due_taken w f now m e is =
@@ -516,8 +717,8 @@ pub packets_is : (H : List Call) (now : ℕ) (f : FrameRecord) (p : Bool) → is
 packets_is H now f p e = ap (λ (y : Bool). if y then packets H ++ message_of f ∷ [] else packets H) e
 
 pub pause_is : (H : List Call) (now : ℕ) (f : FrameRecord) (p : Bool) → is_packet f ≡ p
-    → pause (At now (TakeFrame (Some f)) ∷ H) ≡ (if p then 50000 else pause H - step H now)
-pause_is H now f p e = ap (λ (y : Bool). if y then 50000 else pause H - step H now) e
+    → pause (At now (TakeFrame (Some f)) ∷ H) ≡ (if p then 150000 else pause H - step H now)
+pause_is H now f p e = ap (λ (y : Bool). if y then 150000 else pause H - step H now) e
 
 pub acknowledged_is : (H : List Call) (now : ℕ) (f : FrameRecord) (a b : Bool) → is_claim f ≡ a → is_acknowledgment f ≡ b
     → acknowledged (At now (TakeFrame (Some f)) ∷ H) ≡ (if a || not b then acknowledged H else acknowledged H ++ message_of f ∷ [])
@@ -576,10 +777,10 @@ sound_frame w H now f right (replies m owes held none g e) h =
 sound_frame w H now f right (sends x owes held none g e) h =
     let own = own_get w _ _ x h.own g in
     sound_send w H now f x (message_taken w f now x e own) (plain_taken w f now x e own) (single_taken w f now x e own) held g e h
-sound_frame w H now f right (packs m owes held none past g e) h =
+sound_frame w H now f right (packs m owes held none g e) h =
     let is = packet_taken f now m (open_broadcast w H) (length (packets H)) (pause H - step H now) e g in
     sound_packet w H now f (is.0, is.1, (packet_session f is.2).0) h
-sound_frame w H now f right (transfers m owes held none past nothing g e) h =
+sound_frame w H now f right (transfers m owes held none g e) h =
     let is = transfer_taken w H now f m right e g in sound_packet w H now f (is.claim, is.plain, is.session) h
 
 sound_accept : (w : Who) (H : List Call) (now k : ℕ) (d : Draft) → can_send w d ≡ true → k ≡ length (accepted w H) → Sound w H → Sound w (At now (Send d (Ok k)) ∷ H)
@@ -661,12 +862,48 @@ request_front w room (Some r) xs ys h = go (is_served w r.group && room)
 heard_desk : (w : Who) (H : List Call) (when : ℕ) (f : FrameRecord) → Desked w H → Desked w (At when (Hear f) ∷ H)
 heard_desk w H when f h =
     let room = nat_lt (length (requests w H) - length (handed H)) 16 in
-    let place = nat_lt (length (due w H) - length (acknowledged H)) 16 in
-    let o = asked w (holds w H when) f in (
+    let o = fresh w (drop (length (handed H)) (requests w H)) (asked w (holds w H when) f) in
+    let place = nat_lt (length (due w H) - length (acknowledged H)) 16 && not (is_refusal_due w (drop (length (acknowledged H)) (due w H)) o) in (
       refusal_due w room place o (due w H) h.0,
       refusal_front w room place o (due w H) (acknowledged H) h.1,
       request_front w room o (requests w H) (handed H) h.2,
     )
+
+-- which message is renewed
+
+pub record RenewCase (w : Who) (H : List Call) (d : Draft) (k : ℕ) : Type 0 where
+  pub can : can_send w d ≡ true
+  pub is : latest (message_from w d) (max (length (sent H)) (length (told H))) 0 (accepted w H) None ≡ Some k
+  pub at : IsLatest (message_from w d) (max (length (sent H)) (length (told H))) 0 k (accepted w H)
+
+pub renew_case : (w : Who) (H : List Call) (d : Draft) (k : ℕ) → Some k ≡ next_renewed w H d → RenewCase w H d k
+renew_case w H d k e = go (can_send w d) refl e
+  where
+    found : (latest (message_from w d) (max (length (sent H)) (length (told H))) 0 (accepted w H) None ≡ Some k) → IsLatest (message_from w d) (max (length (sent H)) (length (told H))) 0 k (accepted w H)
+    found i = elim (latest_is (message_from w d) (max (length (sent H)) (length (told H))) 0 k (accepted w H) None i) [ inl z ↦ absurd (cc) | inr z ↦ z ]
+
+    go : (b : Bool) → can_send w d ≡ b → Some k ≡ (if b then latest (message_from w d) (max (length (sent H)) (length (told H))) 0 (accepted w H) None else None) → RenewCase w H d k
+    go false c i = absurd (cc)
+    go true c i = record { can = c; is = sym i; at = found (sym i) }
+
+own_set : (w : Who) (xs : List (ℕ × Message)) (k : ℕ) (x : ℕ × Message) → AllOwn w xs → IsOwn w x.1 → AllOwn w (slice_set xs k x)
+own_set w [] k x h e = h
+own_set w (y ∷ xs) zero x h e = (e, h.1)
+own_set w (y ∷ xs) (suc k) x h e = (h.0, own_set w xs k x h.1 e)
+
+sound_renewed : (w : Who) (H : List Call) (d : Draft) (k : ℕ) → RenewCase w H d k → Sound w H → Sound w (Renew d (Some k) ∷ H)
+sound_renewed w H d k c h = record {
+  own = own_set w (accepted w H) k (k, message_from w d) h.own (is_own w d c.can);
+  fronts = set_front (sent H) (accepted w H) k (k, message_from w d) (let l = c.at.from in omega (arith, l)) h.fronts;
+  within = (let a = h.within in let b = set_length (accepted w H) k (k, message_from w d) in omega (arith, a, b));
+  in_turn = h.in_turn;
+  reads = h.reads;
+  desk = h.desk;
+  numbered = λ i x e. elim (set_get (accepted w H) k i (k, message_from w d) x e) [
+    | inl z ↦ ap (λ (y : ℕ × Message). y.0) (sym z.1) ∙ sym z.0
+    | inr z ↦ h.numbered i x z
+  ];
+}
 
 sound_more : (w : Who) (H : List Call) (call : Call) → AreAnswered w H → IsAnswered w H call → Sound w H → Sound w (call ∷ H)
 sound_more w H (At when (Hear f)) right e h = rests w H _ refl refl refl (lost_if w (is_smaller w (claim_of f)) (step H when) (address_after w H))
@@ -693,6 +930,8 @@ sound_more w H (TakeReceived (Some x)) right e h = rests w H _ refl refl refl (�
 sound_more w H (TakeRequest (Some r)) right e h = rests w H _ refl refl refl (λ l. l) h.reads (h.desk.0, h.desk.1, front_longer (handed H) (requests w H) r h.desk.2 (sym e)) h
 sound_more w H (At now (Acknowledge r answer (Ok x))) right e h = rests w H _ refl refl refl (λ l. sym (lost_older (step H now) (address_after w H)) ∙ l) h.reads
     (due_append w (due w H) answer r h.desk.0, front_append (acknowledged H) (due w H) (acknowledgment w answer r) h.desk.1, h.desk.2) h
+sound_more w H (Renew d (Some k)) right e h = sound_renewed w H d k (renew_case w H d k e) h
+sound_more w H (At now Again) right e h = rests w H _ refl refl refl (λ l. sym (lost_older (step H now) (address_after w H)) ∙ (sym (lost_unclaimed _) ∙ l)) h.reads h.desk h
 sound_more w H call right e h = rests w H (call ∷ H) refl refl refl (λ l. let z = lost_older (step H (moment (call ∷ H))) (address_after w H) in cc) h.reads h.desk h
 
 pub sound : (w : Who) (H : List Call) → AreAnswered w H → Sound w H

@@ -1,5 +1,5 @@
 -- A frame of a stranger changes nothing of what is sent to others, received from others, or told to have ended.
-use Rattle.std.proofs.Common.{◌≡◌, ◌≢◌, ◌⊎◌, ℕ, ◌-◌, List, [], ◌∷◌, ◌++◌, length, Option, Some, None, Bool, true, false, not, ◌&&◌, ◌||◌, if◌then◌else◌, nat_eq, nat_lt, ◌==◌, refl, sym, ap, ◌∙◌, subst, inl, inr, arith, eqb-true, eq-eqb, nat_le}
+use Rattle.std.proofs.Common.{drop, ◌≡◌, ◌≢◌, ◌⊎◌, ℕ, ◌-◌, List, [], ◌∷◌, ◌++◌, length, Option, Some, None, Bool, true, false, not, ◌&&◌, ◌||◌, if◌then◌else◌, nat_eq, nat_lt, ◌==◌, refl, sym, ap, ◌∙◌, subst, inl, inr, arith, eqb-true, eq-eqb, nat_le, ◌*◌}
 use Rattle.std.proofs.lemmas.Bool.{cond_both, and_parts}
 use Rattle.std.specs.List.{slice_get}
 use Rattle.std.specs.Option.{option_map}
@@ -17,13 +17,15 @@ use Rattle.j39_transport.specs.Sending.{hears as listens_to, send_step}
 use Rattle.j39_transport.specs.SenderNext.{granted_by}
 use Rattle.j39_transport.specs.Signals.{Signal, BroadcastAnnounce, RequestToSend, ClearToSend, Acknowledgment, Abort, Packet, said_between, said_by}
 use Rattle.j39_node.specs.declared.controller.Controller.{Controller}
-use Rattle.j39_node.specs.History.{is_another, is_claim, patience, turns, Who, Message, Call, Address, Asked, accepted, acknowledged, address_after, asked_group, asked_with, calls_for_claim, claim_address, claim_from, due, handed, holds, is_held, is_larger, is_lost, is_some, is_smaller, older, owes_claim, requests, sent, step, with_refusal}
+use Rattle.j39_node.specs.History.{fresh, is_refusal_due, pause, has_packets, yields, is_another, is_claim, patience, turns, Who, Message, Call, Address, Asked, accepted, acknowledged, address_after, asked_group, asked_with, calls_for_claim, claim_address, claim_from, due, handed, holds, is_held, is_larger, is_lost, is_some, is_smaller, older, owes_claim, requests, sent, step, with_refusal, of_other, delayed}
 use Rattle.j39_node.specs.History.Address.{Lost}
 use Rattle.j39_node.specs.History.Call.{At}
 use Rattle.j39_node.specs.History.Act.{Hear, Tick, TakeFrame}
-use Rattle.j39_node.specs.Reception.{Reception, goes_to, has_place, heard_by, held_then, holder, keeps, leaves, left, reception, replied, reply_from, says, time_heard, whole_by, without}
+use Rattle.j39_node.specs.Reception.{Reception, goes_to, has_place, heard_by, held_then, holder, keeps, leaves, left, reception, replied, reply_from, says, time_heard, whole_by, without, shown, known}
+use Rattle.j39_node.proofs.ReceptionLemmas.{unclaimed_known}
 use Rattle.j39_node.specs.Transfers.{Running, clock_at, granted_after, hears_if, is_replaced, is_spent, listens, next_transfer_ended, open_transfer, spent_after, transfer_by, transfer_end}
-use Rattle.j39_node.specs.Is.{is_there, AreAnswered, Is, control_of, first_of, long_by, next_frame, next_long, next_packet}
+use Rattle.j39_node.specs.Is.{is_apart, turn_frame, turn_of, is_there, AreAnswered, Is, control_of, long_by, next_frame, next_long, next_packet}
+use Rattle.j39_node.specs.declared.turn.Ready.{Ready}
 use Rattle.j39_node.proofs.PortLemmas.{Ported, ported}
 use Rattle.j39_node.proofs.ReceptionLaws.{goes_there, left_waits, none_delivered, not_left_by, says_it, to_others, waits_after}
 
@@ -109,8 +111,8 @@ same_held None = refl
 same_held (Some n) = ap not (eq-eqb n n refl)
 
 -- what is no claim leaves who holds an address
-pub unclaimed : (w : Who) (H : List Call) (when : ℕ) (f : FrameRecord) (a : ℕ) → claim_of f ≡ None → holder w (At when (Hear f) ∷ H) a ≡ holder w H a
-unclaimed w H when f a e = ap (λ (o : Option Claim). held_then a o (holder w H a)) e
+unclaimed : (w : Who) (H : List Call) (when : ℕ) (f : FrameRecord) (a : ℕ) → claim_of f ≡ None → holder w (At when (Hear f) ∷ H) a ≡ holder w H a
+unclaimed w H when f a e = ap (λ (o : Option Claim). held_then a (of_other w o) (holder w H a)) e
 
 pub open_stays : (w : Who) (H : List Call) (when : ℕ) (f : FrameRecord) → AreAnswered w H → claim_of f ≡ None → destination_of f.id ≢ Some w.address
     → open_transfer w (At when (Hear f) ∷ H) ≡ open_transfer w H
@@ -133,18 +135,26 @@ none_asked w held f (Some to) = refl
 pub frame_stays : (w : Who) (H : List Call) (c : Controller) (when : ℕ) (f : FrameRecord) (now : ℕ) → Is w H c → claim_of f ≡ None → asked_group f ≡ None
     → destination_of f.id ≢ Some w.address → source_of f.id ≢ w.address → next_frame w (At when (Hear f) ∷ H) now ≡ next_frame w (At when (TakeFrame None) ∷ H) now
 frame_stays w H c when f now is e g n m =
-    λ i. by (owes i) (lives i) (owed i) (said i) (moved i)
+    λ i. by (owes i) (delays i) (lives i) (owed i) (said i) (moved i)
   where
-    by : Bool → Address → List Message → List Message → Option Running → Option (ℕ × Message)
-    by b a acks replies t =
+    by : Bool → ℕ → Address → List Message → List Message → Option Running → Option (ℕ × Message)
+    by b d a acks replies t =
         let held = is_held (older (step (At when (Hear f) ∷ H) now) a) in
-        let message = slice_get (accepted w H) (length (sent H)) in
-        let long = long_by (next_packet w (At when (Hear f) ∷ H) now) (transfer_by t (clock_at (At when (Hear f) ∷ H) now)) in
-        let gives = nat_le 2 (turns H) && is_there (if held then first_of (slice_get replies 0) message long else None) in
-        if b && not gives then Some (now, claim_from w (claim_address w a))
+        let transfer = transfer_by t (clock_at (At when (Hear f) ∷ H) now) in
+        let left = pause H - step H when - step (At when (Hear f) ∷ H) now in
+        let due : Ready = record {
+          overdue = has_packets w H && nat_eq left 0;
+          reply = nat_lt 0 (length replies);
+          message = nat_lt (length (sent H)) (length (accepted w H));
+          packet = has_packets w H && nat_le left 100000;
+          transfer = is_apart transfer (slice_get replies 0);
+        } in
+        let others = turn_frame (turn_of (yields H) due) (slice_get replies 0) (slice_get (accepted w H) (length (sent H)))
+        (next_packet w (At when (Hear f) ∷ H) now) transfer in
+        let gives = nat_le 2 (turns H) && is_there (if held then others else None) in
+        if (b && (not (is_lost a) || nat_eq (d - step (At when (Hear f) ∷ H) now) 0)) && not gives then Some (now, claim_from w (claim_address w a))
         else if held
-        then option_map (λ m. (now, m)) (first_of (control_of (if gives then None else slice_get acks (length (acknowledged H))) (slice_get replies 0))
-        message long) else None
+        then option_map (λ m. (now, m)) (control_of (if gives then None else slice_get acks (length (acknowledged H))) others) else None
 
     never : (b : Bool) → (b && false) ≡ false
     never b = grind arith
@@ -163,6 +173,10 @@ frame_stays w H c when f now is e g n m =
     owes : owes_claim w (At when (Hear f) ∷ H) ≡ owes_claim w H
     owes = (λ i. owes_claim w H || (calls i || (not_here (holds w H when) i && nat_eq (patience w H - step H when) 0))) ∙ no_more (owes_claim w H)
 
+    delays : delayed w (At when (Hear f) ∷ H) ≡ delayed w H - step H when
+    delays = λ i. if (calls i || (not_here (holds w H when) i && nat_eq (patience w H - step H when) 0)) && not (is_lost (address_after w H) && owes_claim w H) then w.delay * 600
+        else delayed w H - step H when
+
     mine : is_smaller w (claim_of f) ≡ false
     mine = ap (is_smaller w) e
 
@@ -170,11 +184,14 @@ frame_stays w H c when f now is e g n m =
     lives = ap (λ (b : Bool). if b then Lost else older (step H when) (address_after w H)) mine
 
     owed : due w (At when (Hear f) ∷ H) ≡ due w H
-    owed = ap (λ (o : Option Asked). with_refusal w (nat_lt (length (requests w H) - length (handed H)) 16) (nat_lt (length (due w H) - length (acknowledged H)) 16) o (due w H))
+    owed = ap (λ (o : Option Asked). with_refusal w (nat_lt (length (requests w H) - length (handed H)) 16)
+        (nat_lt (length (due w H) - length (acknowledged H)) 16
+        && not (is_refusal_due w (drop (length (acknowledged H)) (due w H)) (fresh w (drop (length (handed H)) (requests w H)) o)))
+        (fresh w (drop (length (handed H)) (requests w H)) o) (due w H))
         (ap (asked_with w (holds w H when) f (destination_of f.id)) g ∙ none_asked w (holds w H when) f (destination_of f.id))
 
     said : (reception w (At when (Hear f) ∷ H)).replies ≡ (reception w H).replies
-    said = ap (λ (r : Reception). r.replies) (to_others w H when f mine (λ r z. unclaimed w H when f r.message.source e) n)
+    said = ap (λ (r : Reception). r.replies) (to_others w H when f mine (λ r z. unclaimed_known w H when f r.message.source e) n)
 
     moved : open_transfer w (At when (Hear f) ∷ H) ≡ open_transfer w H
     moved = open_stays w H when f is.answered e n
@@ -214,14 +231,14 @@ pub whole_by_none : (own : ℕ) (lost held b : Bool) (f : FrameRecord) (now : �
     → ((x : ReceptionRecord) → r.session ≡ Some x → source_of f.id ≢ x.message.source) → whole_by own lost held f now (left b r) ≡ None
 whole_by_none own true held b f now r n = refl
 whole_by_none own false false b f now r n = refl
-whole_by_none own false true true f now r n = none_whole own f now (has_place r.waits) None (λ x z. absurd (cc))
-whole_by_none own false true false f now r n = none_whole own f now (has_place r.waits) r.session n
+whole_by_none own false true true f now r n = none_whole own (shown own None f) now (has_place r.waits) None (λ x z. absurd (cc))
+whole_by_none own false true false f now r n = none_whole own (shown own r.session f) now (has_place r.waits) r.session n
 
 pub waits_stay : (w : Who) (H : List Call) (when : ℕ) (f : FrameRecord)
     → ((r : ReceptionRecord) → (reception w H).session ≡ Some r → source_of f.id ≢ r.message.source)
     → (reception w (At when (Hear f) ∷ H)).waits ≡ (reception w H).waits
 waits_stay w H when f n =
-    let b = leaves (holder w H) (holder w (At when (Hear f) ∷ H)) (reception w H).session in
+    let b = leaves (known w H when f) (holder w (At when (Hear f) ∷ H)) (reception w H).session in
     waits_after w.address (is_smaller w (claim_of f)) (holds w H when) f (time_heard (At when (Hear f) ∷ H)) (left b (reception w H))
     ∙ (ap (λ (o : Option MessageRecord). keeps f.stamp o (left b (reception w H)).waits)
     (whole_by_none w.address (is_smaller w (claim_of f)) (holds w H when) b f (time_heard (At when (Hear f) ∷ H)) (reception w H) n)
@@ -256,7 +273,7 @@ replies_stay w H when f e = go (holds w H when) refl
   where
     go : (b : Bool) → holds w H when ≡ b → without (source_of f.id) (reception w (At when (Hear f) ∷ H)).replies ≡ without (source_of f.id) (reception w H).replies
     go true h = ap (without (source_of f.id)) (says_it w H when f h e) ∙ to_others_stay w.address (source_of f.id) (says w H when f) (reception w H).replies
-    go false h = ap (without (source_of f.id)) (idle (is_smaller w (claim_of f)) (holds w H when) (leaves (holder w H) (holder w (At when (Hear f) ∷ H)) (reception w H).session) (ap (is_smaller w) e) h (not_left_by w H when f e))
+    go false h = ap (without (source_of f.id)) (idle (is_smaller w (claim_of f)) (holds w H when) (leaves (known w H when f) (holder w (At when (Hear f) ∷ H)) (reception w H).session) (ap (is_smaller w) e) h (not_left_by w H when f e))
       where
         idle : (a b c : Bool) → a ≡ false → b ≡ false → c ≡ false
             → (heard_by w.address a b f (time_heard (At when (Hear f) ∷ H)) (left c (reception w H))).replies ≡ (reception w H).replies

@@ -4,14 +4,14 @@ use Rattle.std.specs.Option.{option_map}
 use Rattle.std.proofs.lemmas.Bool.{cond_both}
 use Rattle.j39_transport.specs.Protocol.{broadcast_limit}
 use Rattle.j39_transport.specs.Reception.{ReceptionRecord, Reaction, asks_again, granted_at, grants, limit_of, takes_tick}
-use Rattle.j39_transport.specs.Receiving.{ReceiverRecord, Tick as Ticks, recv_step}
+use Rattle.j39_transport.specs.Receiving.{ReceiverRecord, RecvResult, Tick as Ticks, recv_step}
 use Rattle.j39_node.specs.declared.controller.Controller.{Controller}
 use Rattle.j39_node.specs.declared.kinds.AskEnding.{AskEnding}
 use Rattle.j39_node.specs.declared.kinds.AskEnding.TheVariants.{TimedOut, Withdrawn}
 use Rattle.j39_node.specs.History.{Who, Call, address_after, is_lost, moment, sent}
 use Rattle.j39_node.specs.History.Call.{At, TakeAskEnded}
 use Rattle.j39_node.specs.History.Act.{Hear, Tick}
-use Rattle.j39_node.specs.Reception.{heard_at, reception, receiver_at, session_tick, time_heard}
+use Rattle.j39_node.specs.Reception.{Reception, heard_at, is_over, reception, receiver_at, session_tick, ticked_at, time_heard}
 use Rattle.j39_node.specs.Hearing.{OpenBroadcast, hearing, hearing_tick, is_late, is_out, is_whole, left}
 use Rattle.j39_node.specs.Asking.{Question, ask_end, comes, ended, in_broadcast, in_session, is_coming, is_from, is_taken, is_waiting, next_ask_ended, open_ask, out_at, request_tick, seeks, wait}
 use Rattle.j39_node.specs.Is.{Is}
@@ -58,6 +58,10 @@ session_left r now = go r.session
         cond_both (nat_lt (x.message.last + limit_of x) now) _ _ (Left x)
         (λ t. cond_both (x.asks == 2) _ _ (Left x) (λ t. inr refl) (λ t. inl refl)) (λ t. inl refl)
 
+left_at : (own now : ℕ) (r : Reception) → (in_session (ticked_at own now r).after.session ≡ in_session r.session) ⊎ (in_session (ticked_at own now r).after.session ≡ None)
+left_at own now r =
+    cond_both (is_over r.since now r.session) _ _ (λ (x : RecvResult). (in_session x.after.session ≡ in_session r.session) ⊎ (in_session x.after.session ≡ None)) (λ t. inr refl) (λ t. session_left (receiver_at own r) now)
+
 broadcast_left : (t s : ℕ) (o : Option OpenBroadcast) → t ≤ s → (in_broadcast s o ≡ in_broadcast t o) ⊎ (in_broadcast s o ≡ None)
 broadcast_left t s None l = inl refl
 broadcast_left t s (Some x) l = go (is_whole x) (is_late t x) (is_late s x) refl refl refl
@@ -85,7 +89,7 @@ ticked_left t s (Some x) l = go (is_late s x && not (is_whole x)) (broadcast_lef
     go true h = inr refl
     go false h = h
 
-none_begins : (o : Option Question) (a b : Option ℕ) (c d : Option (ℕ × ℕ)) → (b ≡ a) ⊎ (b ≡ None) → (d ≡ c) ⊎ (d ≡ None) → is_coming o a c ≡ false → is_coming o b d ≡ false
+none_begins : (o : Option Question) (a b c d : Option (ℕ × ℕ)) → (b ≡ a) ⊎ (b ≡ None) → (d ≡ c) ⊎ (d ≡ None) → is_coming o a c ≡ false → is_coming o b d ≡ false
 none_begins None a b c d i j e = refl
 none_begins (Some q) a b c d i j e =
     let s = split (is_from q a) (seeks q c) e in (λ z. one (is_from q) refl a b i s.0 z || one (seeks q) refl c d j s.1 z)
@@ -102,7 +106,7 @@ none_begins (Some q) a b c d i j e =
 none_comes : (w : Who) (H : List Call) (now : ℕ) → comes w H (time_heard H) ≡ false → comes w (At now Tick ∷ H) (time_heard (At now Tick ∷ H)) ≡ false
 none_comes w H now e =
     let l = time_fits H in
-    none_begins (open_ask H) _ _ _ _ (session_left (receiver_at w.address (reception w H)) (time_heard (At now Tick ∷ H)))
+    none_begins (open_ask H) _ _ _ _ (left_at w.address (time_heard (At now Tick ∷ H)) (reception w H))
     (ticked_left (time_heard H) (time_heard (At now Tick ∷ H)) (hearing w H) (omega (arith, l))) e
 
 -- ---- at a tick from its moment on a request is told as timed out

@@ -1,12 +1,13 @@
 -- Frames that others exchange.
-use Rattle.std.specs.Prelude.{◌≡◌, ◌≢◌, ℕ, Some, None}
+use Rattle.std.specs.Prelude.{◌≡◌, ◌≢◌, ℕ, false, Some, None}
 use Rattle.j39_frame.specs.Address.{global_address}
 use Rattle.j39_frame.specs.Frame.{FrameRecord}
 use Rattle.j39_frame.specs.Identifier.{destination_of, source_of}
 use Rattle.j39_address.specs.Claim.{claim_of}
 use Rattle.j39_node.specs.History.{Who}
+use Rattle.j39_node.specs.Reception.{asks_claims}
 
--- the frame goes from another's address to another's, and claims none
+-- the frame goes from another's address to another's, claims none, and asks for no claims
 pub record IsAside (w : Who) (f : FrameRecord) : Type 0 where
   pub to : ℕ
   pub goes : destination_of f.id ≡ Some to
@@ -14,3 +15,4 @@ pub record IsAside (w : Who) (f : FrameRecord) : Type 0 where
   pub not_all : to ≢ global_address
   pub source : source_of f.id ≢ w.address
   pub claims : claim_of f ≡ None
+  pub asks : asks_claims f ≡ false

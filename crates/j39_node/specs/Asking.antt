@@ -11,11 +11,11 @@ use Rattle.j39_node.specs.declared.kinds.AskEnding.{AskEnding}
 use Rattle.j39_node.specs.declared.kinds.AskEnding.TheVariants.{Answered, Acknowledged, TimedOut, Withdrawn}
 use Rattle.j39_node.specs.declared.kinds.Refused.{Refused}
 use Rattle.j39_node.specs.declared.kinds.Refused.TheVariants.{NoAddress, BadValue, Full}
-use Rattle.j39_node.specs.History.{Who, Call, accepted, address_after, holds, is_acknowledgment, is_claim, is_full, is_lost, is_none, is_sendable, is_session, is_some, moment, sent, stamp_at, step}
+use Rattle.j39_node.specs.History.{Who, Call, accepted, address_after, holds, is_acknowledgment, is_full, is_lost, is_none, is_sendable, is_some, moment, sent, stamp_at, step}
 use Rattle.j39_node.specs.History.Call.{At, TakeAskEnded}
 use Rattle.j39_node.specs.History.Act.{Ask, Hear, TakeFrame}
 use Rattle.j39_node.specs.Since.{passed_in}
-use Rattle.j39_node.specs.Reception.{reception, time_heard, whole}
+use Rattle.j39_node.specs.Reception.{is_message, reception, time_heard, whole}
 use Rattle.j39_node.specs.Hearing.{OpenBroadcast, hearing, is_late, is_whole, made_whole}
 use Rattle.j39_transport.specs.Message.{MessageRecord}
 use Rattle.j39_transport.specs.Reception.{ReceptionRecord}
@@ -57,9 +57,6 @@ abbrev pub is_taken : Question → List Call → Bool
 is_taken q H = nat_lt q.token (length (sent H))
 
 -- the frame that is taken is that of the open request
-abbrev pub is_message : FrameRecord → Bool
-is_message f = not (is_claim f || (is_acknowledgment f || is_session f))
-
 abbrev pub has_token : Option Question → ℕ → Bool
 has_token None n = false
 has_token (Some q) n = nat_eq q.token n
@@ -126,21 +123,21 @@ says_to w q f made =
 
 -- ---- an answer in packets on its way (J1939-21, 5.12.3: the 1,250 ms are for its begin)
 
--- the source of an open session; the source and the group of a broadcast that isn't whole, and in time
-abbrev pub in_session : Option ReceptionRecord → Option ℕ
+-- the source and the group of an open session, and of a broadcast that isn't whole, and in time
+abbrev pub in_session : Option ReceptionRecord → Option (ℕ × ℕ)
 in_session None = None
-in_session (Some r) = Some r.message.source
+in_session (Some r) = Some (r.message.source, r.message.group)
 
 abbrev pub in_broadcast : ℕ → Option OpenBroadcast → Option (ℕ × ℕ)
 in_broadcast time None = None
 in_broadcast time (Some x) = if is_whole x || is_late time x then None else Some (x.source, x.group)
 
--- it is a session of whom was asked, which has one to an address at a time, so what it sends there goes before its answer (own)
-abbrev pub is_from : Question → Option ℕ → Bool
+-- it is a session of whom was asked, and of the group (J1939-21, 5.10.3.1: its RTS tells it)
+abbrev pub is_from : Question → Option (ℕ × ℕ) → Bool
 is_from q None = false
-is_from q (Some source) = nat_eq source q.to
+is_from q (Some x) = nat_eq x.0 q.to && nat_eq x.1 q.group
 
-abbrev pub is_coming : Option Question → Option ℕ → Option (ℕ × ℕ) → Bool
+abbrev pub is_coming : Option Question → Option (ℕ × ℕ) → Option (ℕ × ℕ) → Bool
 is_coming None session broadcast = false
 is_coming (Some q) session broadcast = is_from q session || seeks q broadcast
 

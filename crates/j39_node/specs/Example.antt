@@ -12,7 +12,7 @@ use Rattle.j39_node.specs.History.Act.{Acknowledge, Broadcast, Hear, Tick, TakeF
 
 -- NAME 2 at address 128, whose program serves group 65259 and subscribes 0 and 65226
 abbrev pub two : Who
-two = record { name = 2; address = 128; served = 65259 ∷ []; subscribed = Some (0 ∷ 65226 ∷ []); brought = nothing }
+two = record { name = 2; address = 128; delay = 10; served = 65259 ∷ []; subscribed = Some (0 ∷ 65226 ∷ []); brought = nothing }
 
 -- its claim, and 'cannot claim'
 abbrev pub own_claim : ℕ → FrameRecord
@@ -115,9 +115,10 @@ first_to_all now = record { stamp = now; id = 485228299; bytes = 1 ∷ 1 ∷ 2 �
 abbrev pub last_to_all : ℕ → FrameRecord
 last_to_all now = record { stamp = now; id = 485228299; bytes = 2 ∷ 8 ∷ 9 ∷ 255 ∷ 255 ∷ 255 ∷ 255 ∷ 255 ∷ [] }
 
--- it claims its address, hears a broadcast in packets and misses another, and holds the address 250 ms later; sends a message, refuses one to itself, gets one in packets and one of one frame,
--- answers a request and refuses another; broadcasts a message in packets, and sends it to an address; then a smaller NAME claims the
--- address, so that a message and a broadcast that wait are withdrawn and none is accepted; the newest call first
+-- it claims its address, hears a broadcast in packets and misses another, and holds the address 250 ms later; sends a message,
+-- refuses one to itself, gets one in packets and one of one frame, answers a request and refuses another; broadcasts a message in
+-- packets, and sends it to an address; then a smaller NAME claims the address, so that a message and a broadcast that wait are
+-- withdrawn and none is accepted; the newest call first
 abbrev pub example : List Call
 example =
     At 400004 (Send speed (Err NoAddress))
@@ -125,7 +126,7 @@ example =
     ∷ TakeEnded None
     ∷ TakeEnded (Some (1, Withdrawn))
     ∷ At 400003 (TakeFrame None)
-    ∷ At 400002 (TakeFrame (Some (cannot_claim 400002)))
+    ∷ At 406001 (TakeFrame (Some (cannot_claim 406001)))
     ∷ At 400001 (Hear (smaller_claim 400001))
     ∷ At 400000 (Broadcast 65226 nine (Ok 1))
     ∷ At 400000 (Send speed (Ok 1))

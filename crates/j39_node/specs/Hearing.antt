@@ -11,7 +11,7 @@ use Rattle.j39_node.specs.declared.kinds.News.TheVariants.{MessagesMissed}
 use Rattle.j39_node.specs.History.{Who, Call, is_own_group, is_subscribed, stamp_at}
 use Rattle.j39_node.specs.History.Call.{At, TakeNews, ReleaseBroadcast}
 use Rattle.j39_node.specs.History.Act.{Hear, Tick, TakeFrame}
-use Rattle.j39_node.specs.Reception.{KeepsHolder, frames_heard, heard_at, holder, is_same, listed, time_heard}
+use Rattle.j39_node.specs.Reception.{KeepsHolder, frames_heard, heard_at, holder, is_same, known, listed, time_heard}
 
 -- what was announced and by whom, how many packets were appended and their data, and the moment and the time of the last, or of the
 -- announcement before the first
@@ -137,7 +137,7 @@ abbrev pub hearing : Who → List Call → Option OpenBroadcast
 hearing w [] = None
 hearing w (At now (Hear f) ∷ H) =
     hears w (time_heard (At now (Hear f) ∷ H)) f
-    (left (is_over (holder w H) (holder w (At now (Hear f) ∷ H)) (time_heard (At now (Hear f) ∷ H)) (hearing w H)) (hearing w H))
+    (left (is_over (known w H now f) (holder w (At now (Hear f) ∷ H)) (time_heard (At now (Hear f) ∷ H)) (hearing w H)) (hearing w H))
 hearing w (At now Tick ∷ H) = in_time (time_heard (At now Tick ∷ H)) (hearing w H)
 hearing w (At now (TakeFrame (Some f)) ∷ H) = left (changes (holder w H) (holder w (At now (TakeFrame (Some f)) ∷ H)) (hearing w H)) (hearing w H)
 hearing w (ReleaseBroadcast true ∷ H) = None
@@ -145,12 +145,12 @@ hearing w (call ∷ H) = hearing w H
 
 -- the broadcast that f finds
 abbrev pub found : Who → List Call → ℕ → FrameRecord → Option OpenBroadcast
-found w H now f = left (is_over (holder w H) (holder w (At now (Hear f) ∷ H)) (time_heard (At now (Hear f) ∷ H)) (hearing w H)) (hearing w H)
+found w H now f = left (is_over (known w H now f) (holder w (At now (Hear f) ∷ H)) (time_heard (At now (Hear f) ∷ H)) (hearing w H)) (hearing w H)
 
 -- the open one is over by the call: its source has another holder, or it is late
 abbrev pub ends_by : Who → List Call → Call → Bool
 ends_by w H (At now (Hear f)) =
-    breaks (is_over (holder w H) (holder w (At now (Hear f) ∷ H)) (time_heard (At now (Hear f) ∷ H)) (hearing w H)) (hearing w H)
+    breaks (is_over (known w H now f) (holder w (At now (Hear f) ∷ H)) (time_heard (At now (Hear f) ∷ H)) (hearing w H)) (hearing w H)
 ends_by w H (At now Tick) = breaks (is_out (time_heard (At now Tick ∷ H)) (hearing w H)) (hearing w H)
 ends_by w H (At now (TakeFrame (Some f))) = breaks (changes (holder w H) (holder w (At now (TakeFrame (Some f)) ∷ H)) (hearing w H)) (hearing w H)
 ends_by w H call = false

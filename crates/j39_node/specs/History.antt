@@ -1,6 +1,6 @@
 -- Histories of a controller's calls, each with its arguments, its moment and its answer, the newest first; and what a
 -- history says. All lists of messages have the oldest first.
-use Rattle.std.specs.Prelude.{◌≡◌, ◌≤◌, ℕ, zero, suc, ◌+◌, ◌-◌, ◌%◌, ◌/◌, ◌++◌, ◌&&◌, ◌||◌, ◌==◌, nat_lt, nat_le, nat_eq, not, Bool, true, false, List, [], ◌∷◌, length, Option, Some, None, Result, Ok, if◌then◌else◌}
+use Rattle.std.specs.Prelude.{drop, ◌≡◌, ◌≤◌, ℕ, zero, suc, ◌+◌, ◌-◌, ◌%◌, ◌/◌, ◌++◌, ◌&&◌, ◌||◌, ◌==◌, max, nat_lt, nat_le, nat_eq, not, Bool, true, false, List, [], ◌∷◌, length, Option, Some, None, Result, Ok, if◌then◌else◌, ◌*◌, slice_set}
 use Rattle.byteorder.specs.Endian.{little_bytes, little_number}
 use Rattle.j39_frame.specs.Address.{null_address, global_address}
 use Rattle.j39_frame.specs.Frame.{FrameRecord}
@@ -9,16 +9,17 @@ use Rattle.j39_frame.specs.Network.{address_claimed_group, request_group, transp
 use Rattle.j39_address.specs.Claim.{Claim, claim_of}
 use Rattle.j39_transport.specs.Cutting.{cut_frame}
 use Rattle.j39_transport.specs.Message.{MessageRecord, packets_of, as_broadcast}
-use Rattle.j39_transport.specs.Protocol.{gap}
 use Rattle.j39_node.specs.declared.kinds.Ending.{Ending}
 use Rattle.j39_node.specs.declared.kinds.TransferEnding.{TransferEnding}
 use Rattle.j39_node.specs.declared.kinds.AskEnding.{AskEnding}
 use Rattle.j39_node.specs.declared.kinds.News.{News}
-use Rattle.j39_node.specs.declared.kinds.News.TheVariants.{AddressLost, AnotherAtAddress, MessagesMissed}
+use Rattle.j39_node.specs.declared.kinds.News.TheVariants.{AddressLost, AnotherAtAddress, MessagesMissed, NameDoubled}
 use Rattle.j39_node.specs.declared.kinds.Refused.{Refused}
 use Rattle.j39_node.specs.declared.kinds.Answer.{Answer}
 use Rattle.j39_node.specs.declared.kinds.Answer.TheVariants.{Ack, Nack, Denied, Busy}
 use Rattle.std.specs.List.{list_any}
+use Rattle.std.specs.Str.{bytes_eq}
+use Rattle.std.specs.Option.{is_some as is_there, option_or}
 
 -- which transfers rest: none, those of a group to a destination, or all
 pub data Resting : Type 0 where
@@ -37,11 +38,12 @@ pub record Brought : Type 0 where
 abbrev pub nothing : Brought
 nothing = record { known = []; resting = NoneRests; rests_until = 0 }
 
--- the NAME of a controller, the address that it claims, the groups that its program serves, those that it subscribed (none told:
--- all), and what it brought along
+-- the NAME of a controller, the address that it claims, how long it waits before it says that it can't claim one (in 0.6 ms), the
+-- groups that its program serves, those that it subscribed (none told: all), and what it brought along
 pub record Who : Type 0 where
   pub name : ℕ
   pub address : ℕ
+  pub delay : ℕ
   pub served : List ℕ
   pub subscribed : Option (List ℕ)
   pub brought : Brought
@@ -71,6 +73,7 @@ pub record Draft : Type 0 where
 pub data Act : Type 0 where
   Hear : FrameRecord → Act
   Tick : Act
+  Again : Act
   TakeFrame : Option FrameRecord → Act
   Send : Draft → Result ℕ Refused → Act
   Ask : ℕ → ℕ → Result ℕ Refused → Act
@@ -80,6 +83,7 @@ pub data Act : Type 0 where
 
 pub data Call : Type 0 where
   At : ℕ → Act → Call
+  Renew : Draft → Option ℕ → Call
   TakeEnded : Option (ℕ × Ending) → Call
   TakeReceived : Option (ℕ × Message) → Call
   TakeRequest : Option Asked → Call
@@ -136,11 +140,30 @@ older s NotClaimed = NotClaimed
 older s (Claimed e) = Claimed (e + s)
 older s Lost = Lost
 
+-- when it is to be claimed anew
+abbrev pub unclaimed : Address → Address
+unclaimed NotClaimed = NotClaimed
+unclaimed (Claimed e) = NotClaimed
+unclaimed Lost = Lost
+
 -- when a claim is taken
 abbrev pub claimed : Address → Address
 claimed NotClaimed = Claimed 0
 claimed (Claimed e) = Claimed e
 claimed Lost = Lost
+
+-- the address that another of who's NAME claims
+abbrev pub double : Who → Option Claim → Option ℕ
+double w None = None
+double w (Some c) = if nat_eq c.name w.name then Some c.address else None
+
+abbrev pub is_double : Who → Option Claim → Bool
+is_double w c = is_there (double w c)
+
+-- a claim of another NAME
+abbrev pub of_other : Who → Option Claim → Option Claim
+of_other w None = None
+of_other w (Some c) = if nat_eq c.name w.name then None else Some c
 
 abbrev pub is_claim : FrameRecord → Bool
 is_claim f = nat_eq (pgn_of f.id) address_claimed_group
@@ -160,6 +183,7 @@ address_after w [] = NotClaimed
 address_after w (At now (Hear f) ∷ H) = if is_smaller w (claim_of f) then Lost else older (step H now) (address_after w H)
 address_after w (At now (TakeFrame (Some f)) ∷ H) =
     if is_claim f then claimed (older (step H now) (address_after w H)) else older (step H now) (address_after w H)
+address_after w (At now Again ∷ H) = unclaimed (older (step H now) (address_after w H))
 address_after w (At now act ∷ H) = older (step H now) (address_after w H)
 address_after w (call ∷ H) = address_after w H
 
@@ -203,6 +227,16 @@ abbrev pub is_some : Option ℕ → ℕ → Bool
 is_some None n = false
 is_some (Some m) n = nat_eq m n
 
+abbrev pub is_one : Option ℕ → Option ℕ → Bool
+is_one None None = true
+is_one None (Some n) = false
+is_one (Some m) n = is_some n m
+
+-- a message that asks for this group
+abbrev pub asks_with : Message → ℕ → Bool
+asks_with m group =
+    is_some (if nat_eq m.group request_group && nat_le 3 (length m.bytes) then Some (little_number 3 m.bytes) else None) group
+
 abbrev pub is_none : Option ℕ → Bool
 is_none None = true
 is_none (Some m) = false
@@ -236,12 +270,26 @@ answers_another w H now f = is_another w (holds w H now) f && nat_eq (patience w
 abbrev pub calls : Who → List Call → ℕ → FrameRecord → Bool
 calls w H now f = calls_for_claim w (is_lost (address_after w H)) f || answers_another w H now f
 
--- a claim is owed: the first, or since a claim was taken last something was heard that is answered by one
+-- a claim is owed: the first, one anew, or since a claim was taken last something was heard that is answered by one
 abbrev pub owes_claim : Who → List Call → Bool
 owes_claim w [] = true
+owes_claim w (At now Again ∷ H) = true
 owes_claim w (At now (Hear f) ∷ H) = owes_claim w H || calls w H now f
 owes_claim w (At now (TakeFrame (Some f)) ∷ H) = if is_claim f then false else owes_claim w H
 owes_claim w (call ∷ H) = owes_claim w H
+
+-- what is left of the time that 'cannot claim' waits behind what calls for it (J1939-81, 4.2.2)
+abbrev pub delayed : Who → List Call → ℕ
+delayed w [] = 0
+delayed w (At now Again ∷ H) = w.delay * 600
+delayed w (At now (Hear f) ∷ H) =
+    if calls w H now f && not (is_lost (address_after w H) && owes_claim w H) then w.delay * 600 else delayed w H - step H now
+delayed w (At now act ∷ H) = delayed w H - step H now
+delayed w (call ∷ H) = delayed w H
+
+-- the claim that is owed may go, where so much is left of that time
+abbrev pub may_claim : Who → List Call → ℕ → Bool
+may_claim w H left = owes_claim w H && (not (is_lost (address_after w H)) || nat_eq left 0)
 
 -- ---- messages out
 
@@ -289,10 +337,21 @@ request_for group to = record {
   bytes = group % 256 ∷ group / 256 % 256 ∷ group / 65536 % 256 ∷ [];
 }
 
--- the messages that were accepted, each with its token: a request is one
+-- the two have one priority, one group and one destination, and are no requests
+abbrev pub is_alike : Message → Message → Bool
+is_alike m n =
+    (nat_eq m.priority n.priority && nat_eq m.group n.group) && (is_one m.destination n.destination && not (nat_eq m.group request_group))
+
+-- the place of the last of these, from the nth on, that is alike, if the first has place i
+abbrev pub latest : Message → ℕ → ℕ → List (ℕ × Message) → Option ℕ → Option ℕ
+latest m n i [] found = found
+latest m n i (x ∷ xs) found = latest m n (suc i) xs (if nat_le n i && is_alike m x.1 then Some i else found)
+
+-- the messages that were accepted, each with its token, which is its place: a request is one, and one may be renewed
 abbrev pub accepted : Who → List Call → List (ℕ × Message)
 accepted w [] = []
 accepted w (At now (Send draft (Ok token)) ∷ H) = accepted w H ++ (token, message_from w draft) ∷ []
+accepted w (Renew draft (Some token) ∷ H) = slice_set (accepted w H) token (token, message_from w draft)
 accepted w (At now (Ask group to (Ok token)) ∷ H) = accepted w H ++ (token, message_from w (request_for group to)) ∷ []
 accepted w (call ∷ H) = accepted w H
 
@@ -315,6 +374,12 @@ is_packet f = is_session f && is_some (destination_of f.id) global_address
 
 abbrev pub is_transfer : FrameRecord → Bool
 is_transfer f = is_session f && not (is_some (destination_of f.id) global_address)
+
+-- the frame that was taken last, but for claims and acknowledgments, was one to an address of a message in packets, as a reply is
+abbrev pub yields : List Call → Bool
+yields [] = false
+yields (At now (TakeFrame (Some f)) ∷ H) = if is_claim f || is_acknowledgment f then yields H else is_transfer f
+yields (call ∷ H) = yields H
 
 -- the messages whose frames were taken
 abbrev pub sent : List Call → List Message
@@ -393,10 +458,12 @@ packets (At now (Broadcast group bytes (Ok token)) ∷ H) = []
 packets (At now (TakeFrame (Some f)) ∷ H) = if is_packet f then packets H ++ message_of f ∷ [] else packets H
 packets (call ∷ H) = packets H
 
--- what is left of the 50 ms that follow a frame of packets
+-- what is left of the 150 ms that follow a frame of a broadcast: its next is due where 100 ms are left at most, 50 ms behind it, and
+-- overdue where nothing is (own). At least these 100 ms are left when one is accepted
 abbrev pub pause : List Call → ℕ
 pause [] = 0
-pause (At now (TakeFrame (Some f)) ∷ H) = if is_packet f then gap else pause H - step H now
+pause (At now (TakeFrame (Some f)) ∷ H) = if is_packet f then 150000 else pause H - step H now
+pause (At now (Broadcast group bytes (Ok token)) ∷ H) = max 100000 (pause H - step H now)
 pause (At now act ∷ H) = pause H - step H now
 pause (call ∷ H) = pause H
 
@@ -518,16 +585,26 @@ handed [] = []
 handed (TakeRequest (Some r) ∷ H) = handed H ++ r ∷ []
 handed (call ∷ H) = handed H
 
+-- one of the same source, to the same destination and for the same group
+abbrev pub repeats : Asked → Asked → Bool
+repeats r x = nat_eq x.source r.source && (nat_eq x.destination r.destination && nat_eq x.group r.group)
+
+-- a request for a served group counts once while it waits for the program
+abbrev pub fresh : Who → List Asked → Option Asked → Option Asked
+fresh w waiting None = None
+fresh w waiting (Some r) = if is_served w r.group && list_any (repeats r) waiting then None else Some r
+
 -- a request for a served group waits, if there is room
 abbrev pub with_request : Who → Bool → Option Asked → List Asked → List Asked
 with_request w room None waiting = waiting
 with_request w room (Some r) waiting = if is_served w r.group && room then waiting ++ r ∷ [] else waiting
 
--- the requests for the program: those that came while fewer than sixteen waited
+-- the requests for the program: those that came while fewer than sixteen waited, and none that repeats one of these
 abbrev pub requests : Who → List Call → List Asked
 requests w [] = []
 requests w (At now (Hear f) ∷ H) =
-    with_request w (nat_lt (length (requests w H) - length (handed H)) 16) (asked w (holds w H now) f) (requests w H)
+    with_request w (nat_lt (length (requests w H) - length (handed H)) 16)
+    (fresh w (drop (length (handed H)) (requests w H)) (asked w (holds w H now) f)) (requests w H)
 requests w (call ∷ H) = requests w H
 
 -- the acknowledgments whose frames were taken
@@ -538,28 +615,43 @@ acknowledged (At now (TakeFrame (Some f)) ∷ H) =
 acknowledged (call ∷ H) = acknowledged H
 
 -- how the controller itself answers a request to its address: what isn't served is refused; what is, if there is no room
+abbrev pub refusal : Who → Asked → Message
+refusal w r = acknowledgment w (if is_served w r.group then Busy else Nack) r
+
 abbrev pub with_refusal : Who → Bool → Bool → Option Asked → List Message → List Message
 with_refusal w room place None due = due
 with_refusal w room place (Some r) due =
-    if (nat_eq r.destination w.address && place) && not (is_served w r.group && room)
-    then due ++ acknowledgment w (if is_served w r.group then Busy else Nack) r ∷ []
-    else due
+    if (nat_eq r.destination w.address && place) && not (is_served w r.group && room) then due ++ refusal w r ∷ [] else due
 
--- the acknowledgments that are due, and were: at most sixteen wait
+-- this refusal of it is due already
+abbrev pub is_refusal_due : Who → List Message → Option Asked → Bool
+is_refusal_due w waiting None = false
+is_refusal_due w waiting (Some r) = list_any (λ m. bytes_eq m.bytes (refusal w r).bytes) waiting
+
+-- the acknowledgments that are due, and were: at most sixteen wait, and no refusal twice
 abbrev pub due : Who → List Call → List Message
 due w [] = []
 due w (At now (Hear f) ∷ H) =
-    with_refusal w (nat_lt (length (requests w H) - length (handed H)) 16) (nat_lt (length (due w H) - length (acknowledged H)) 16)
-    (asked w (holds w H now) f) (due w H)
+    let request = fresh w (drop (length (handed H)) (requests w H)) (asked w (holds w H now) f) in
+    with_refusal w (nat_lt (length (requests w H) - length (handed H)) 16)
+    (nat_lt (length (due w H) - length (acknowledged H)) 16 && not (is_refusal_due w (drop (length (acknowledged H)) (due w H)) request))
+    request (due w H)
 due w (At now (Acknowledge r answer (Ok x)) ∷ H) = due w H ++ acknowledgment w answer r ∷ []
 due w (call ∷ H) = due w H
 
+-- such a request waits for the program already; its refusal is due already
+abbrev pub waits_already : Who → List Call → Asked → Bool
+waits_already w H r = list_any (repeats r) (drop (length (handed H)) (requests w H))
+
+abbrev pub refusal_waits : Who → List Call → Asked → Bool
+refusal_waits w H r = is_refusal_due w (drop (length (acknowledged H)) (due w H)) (Some r)
+
 -- ---- who holds which address
 
--- the frames that tell it: those known before, all that were heard, and its own claims that were taken
+-- the frames that tell it: those known before, all that were heard but claims of its own NAME, and its own claims that were taken
 abbrev pub told_claims : Who → List Call → List FrameRecord
 told_claims w [] = w.brought.known
-told_claims w (At now (Hear f) ∷ H) = told_claims w H ++ f ∷ []
+told_claims w (At now (Hear f) ∷ H) = if is_double w (claim_of f) then told_claims w H else told_claims w H ++ f ∷ []
 told_claims w (At now (TakeFrame (Some f)) ∷ H) = if is_claim f then told_claims w H ++ f ∷ [] else told_claims w H
 told_claims w (call ∷ H) = told_claims w H
 
@@ -577,6 +669,13 @@ another_news w [] = false
 another_news w (At now (Hear f) ∷ H) = another_news w H || is_another w (holds w H now) f
 another_news w (TakeNews (Some AnotherAtAddress) ∷ H) = false
 another_news w (call ∷ H) = another_news w H
+
+-- another of its NAME claimed this address, the last that did
+abbrev pub doubled_news : Who → List Call → Option ℕ
+doubled_news w [] = None
+doubled_news w (At now (Hear f) ∷ H) = option_or (double w (claim_of f)) (doubled_news w H)
+doubled_news w (TakeNews (Some (NameDoubled address)) ∷ H) = None
+doubled_news w (call ∷ H) = doubled_news w H
 
 -- messages were missed
 abbrev pub missed_news : Who → List Call → Bool

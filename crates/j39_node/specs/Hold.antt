@@ -1,6 +1,5 @@
 -- How far a controller is with its address, in its own counts.
-use Rattle.std.specs.Prelude.{ℕ, suc, min, ◌+◌, ◌-◌, nat_lt, Option, None, ◌||◌, nat_eq, ◌&&◌, Bool, true, false, if◌then◌else◌}
-use Rattle.j39_transport.specs.Protocol.{gap}
+use Rattle.std.specs.Prelude.{ℕ, suc, max, min, ◌+◌, ◌-◌, nat_lt, Option, None, ◌||◌, nat_eq, ◌&&◌, Bool, true, false, if◌then◌else◌, not}
 use Rattle.j39_node.specs.declared.hold.Hold.{Hold}
 use Rattle.j39_node.specs.declared.hold.Standing.{Standing}
 use Rattle.j39_node.specs.declared.hold.Standing.TheVariants as standing
@@ -18,13 +17,24 @@ less s standing.Idle = standing.Idle
 less s (standing.Claimed left) = standing.Claimed (left - s)
 less s standing.Lost = standing.Lost
 
+abbrev pub lost : Standing → Bool
+lost standing.Lost = true
+lost standing.Idle = false
+lost (standing.Claimed left) = false
+
+-- a claim that is owed may go
+abbrev pub can_claim : Hold → Bool
+can_claim h = h.owes_claim && (not (lost h.standing) || nat_eq h.delay 0)
+
 abbrev pub passed : ℕ → Hold → Hold
 passed now h = record {
   moment = now;
   standing = less (now - h.moment) h.standing;
   owes_claim = h.owes_claim;
   turns = h.turns;
+  yields = h.yields;
   patience = h.patience - (now - h.moment);
+  delay = h.delay - (now - h.moment);
   pause = h.pause - (now - h.moment);
   age = min (h.age + (now - h.moment)) 18446744073709551615;
   wait = h.wait - (now - h.moment);
@@ -35,13 +45,15 @@ passed now h = record {
 abbrev pub answers : Bool → Hold → Bool
 answers another h = another && nat_eq h.patience 0
 
-abbrev pub heard : Bool → Bool → Bool → Hold → Hold
-heard drives_away calls another h = record {
+abbrev pub heard : Bool → Bool → Bool → ℕ → Hold → Hold
+heard drives_away calls another delay h = record {
   moment = h.moment;
   standing = if drives_away then standing.Lost else h.standing;
   owes_claim = h.owes_claim || (calls || answers another h);
   turns = h.turns;
+  yields = h.yields;
   patience = if answers another h then 5000000 else h.patience;
+  delay = if (calls || answers another h) && not (lost h.standing && h.owes_claim) then delay else h.delay;
   pause = h.pause;
   age = h.age;
   wait = h.wait;
@@ -50,18 +62,27 @@ heard drives_away calls another h = record {
 
 -- nothing was claimed, and the first claim is owed
 abbrev pub first : Hold
-first = record { moment = 0; standing = standing.Idle; owes_claim = true; turns = 0; patience = 0; pause = 0; age = 0; wait = 0; rest = 0 }
+first = record { moment = 0; standing = standing.Idle; owes_claim = true; turns = 0; yields = false; patience = 0; delay = 0; pause = 0; age = 0; wait = 0; rest = 0 }
 
 -- it moves: it begins anew at the same moment, and what rests goes on to rest
 abbrev pub moved : Hold → Hold
 moved h = record (passed h.moment first) { rest = h.rest }
+
+-- it is to be claimed anew
+abbrev pub unclaims : Standing → Standing
+unclaims standing.Idle = standing.Idle
+unclaims (standing.Claimed left) = standing.Idle
+unclaims standing.Lost = standing.Lost
+
+abbrev pub anew : ℕ → Hold → Hold
+anew delay h = record h { standing = unclaims h.standing; owes_claim = true; delay = delay }
 
 abbrev pub claims : Standing → Standing
 claims standing.Idle = standing.Claimed 250000
 claims (standing.Claimed left) = standing.Claimed left
 claims standing.Lost = standing.Lost
 
--- a claim was taken; an acknowledgment; another frame
+-- a claim was taken; an acknowledgment; a frame of a session to an address
 abbrev pub claimed : Hold → Hold
 claimed h = record h { standing = claims h.standing; owes_claim = false; turns = min (suc h.turns) 2 }
 
@@ -69,11 +90,15 @@ abbrev pub acknowledged : Hold → Hold
 acknowledged h = record h { turns = min (suc h.turns) 2 }
 
 abbrev pub spoken : Hold → Hold
-spoken h = record h { turns = 0 }
+spoken h = record h { turns = 0; yields = true }
 
--- a frame of packets was taken
+-- a frame of a broadcast was taken
 abbrev pub paused : Hold → Hold
-paused h = record h { turns = 0; pause = gap }
+paused h = record h { turns = 0; yields = false; pause = 150000 }
+
+-- a broadcast was accepted
+abbrev pub opens : Hold → Hold
+opens h = record h { pause = max 100000 h.pause }
 
 -- a transfer was accepted
 abbrev pub renewed : Hold → Hold
@@ -81,7 +106,7 @@ renewed h = record h { age = 0 }
 
 -- a message was taken: whether it was the request
 abbrev pub asked : Bool → Hold → Hold
-asked b h = record h { turns = 0; wait = if b then 1250000 else h.wait }
+asked b h = record h { turns = 0; yields = false; wait = if b then 1250000 else h.wait }
 
 -- the end of a transfer was told: whether one rests by it
 abbrev pub rested : Bool → Hold → Hold
@@ -91,11 +116,6 @@ abbrev pub stands : Standing → Bool
 stands standing.Idle = false
 stands (standing.Claimed left) = nat_eq left 0
 stands standing.Lost = false
-
-abbrev pub lost : Standing → Bool
-lost standing.Lost = true
-lost standing.Idle = false
-lost (standing.Claimed left) = false
 
 abbrev pub left_at : Standing → ℕ → Option ℕ
 left_at standing.Idle m = None

@@ -1,5 +1,5 @@
 -- The histories that a controller can have had.
-use Rattle.std.specs.Prelude.{◌≡◌, ℕ, ◌-◌, nat_eq, nat_lt, nat_le, not, ◌&&◌, ◌||◌, ◌++◌, ◌+◌, Bool, true, false, List, [], ◌∷◌, length, drop, map, min, Option, Some, None, Result, Ok, Err, if◌then◌else◌}
+use Rattle.std.specs.Prelude.{◌≡◌, ℕ, ◌-◌, nat_eq, nat_lt, nat_le, not, ◌&&◌, ◌||◌, ◌++◌, ◌+◌, Bool, true, false, List, [], ◌∷◌, length, drop, map, min, slice_index, suc, Option, Some, None, Result, Ok, Err, if◌then◌else◌, max, slice_set}
 use Rattle.std.specs.List.{slice_get}
 use Rattle.std.specs.Option.{option_map}
 use Rattle.j39_frame.specs.Address.{global_address, null_address}
@@ -8,6 +8,7 @@ use Rattle.j39_frame.specs.Identifier.{id_raw}
 use Rattle.j39_frame.specs.Network.{request_group}
 use Rattle.j39_frame.specs.Pgn.{pgn_raw}
 use Rattle.j39_frame.specs.Stamp.{stamp_micros}
+use Rattle.j39_address.specs.Claim.{claim_of}
 use Rattle.j39_address.specs.Name.{name_raw}
 use Rattle.j39_address.specs.Claims.{Knows}
 use Rattle.j39_transport.specs.Message.{MessageRecord, packets_of}
@@ -17,6 +18,9 @@ use Rattle.j39_node.specs.declared.controller.Controller.{Controller}
 use Rattle.j39_node.specs.declared.hold.Hold.{Hold}
 use Rattle.j39_node.specs.declared.lane.Lane.{Lane}
 use Rattle.j39_node.specs.declared.lane.Open.{Open}
+use Rattle.j39_node.specs.declared.turn.Ready.{Ready}
+use Rattle.j39_node.specs.declared.turn.Turn.{Turn}
+use Rattle.j39_node.specs.declared.turn.Turn.TheVariants.{Reply, Single, Packet, Move}
 use Rattle.j39_node.specs.declared.own.Own.{Own}
 use Rattle.j39_node.specs.declared.transfers.Open as transfers
 use Rattle.j39_node.specs.declared.transfers.Transfers.{Transfers}
@@ -30,28 +34,31 @@ use Rattle.j39_node.specs.declared.kinds.Ending.{Ending}
 use Rattle.j39_node.specs.declared.kinds.Ending.TheVariants.{Done, Withdrawn}
 use Rattle.j39_node.specs.declared.news.Untold.{Untold}
 use Rattle.j39_node.specs.declared.kinds.News.{News}
-use Rattle.j39_node.specs.declared.kinds.News.TheVariants.{AddressLost, AnotherAtAddress, MessagesMissed}
+use Rattle.j39_node.specs.declared.kinds.News.TheVariants.{AddressLost, AnotherAtAddress, MessagesMissed, NameDoubled}
 use Rattle.j39_node.specs.declared.kinds.Refused.{Refused}
 use Rattle.j39_node.specs.declared.kinds.Refused.TheVariants.{NoAddress, BadValue, Full}
 use Rattle.j39_node.specs.Hold.{standing_of}
-use Rattle.j39_node.specs.History.{Brought, Who, Message, Draft, Call, Address, carried, message_of, moment, address_after, holds, is_lost, claim_address, claim_from, owes_claim, patience, turns, can_send, accepted, sent, told, is_full, got, kept, missed, Asked, requests, handed, due, acknowledged, acknowledgment, told_claims, lost_news, another_news, missed_news, broadcast_from, broadcasts, can_broadcast, frame_of, is_busy, open_broadcast, packets, pause, step}
-use Rattle.j39_node.specs.History.Call.{At, TakeAskEnded, TakeEnded, TakeReceived, TakeRequest, TakeNews, TakeBroadcastEnded, ReleaseTransfer, TakeTransferEnded, ReleaseBroadcast}
+use Rattle.j39_node.specs.History.{Brought, Who, Message, Draft, Call, Address, carried, message_of, moment, address_after, holds, is_lost, claim_address, claim_from, owes_claim, patience, turns, can_send, accepted, sent, told, is_full, got, kept, missed, Asked, requests, handed, due, acknowledged, acknowledgment, told_claims, lost_news, another_news, missed_news, broadcast_from, broadcasts, can_broadcast, frame_of, is_busy, open_broadcast, packets, pause, stamp_at, step, nothing, yields, content, has_packets, is_left, delayed, doubled_news, may_claim, latest, message_from}
+use Rattle.j39_node.specs.History.Call.{At, TakeAskEnded, TakeEnded, TakeReceived, TakeRequest, TakeNews, TakeBroadcastEnded, ReleaseTransfer, TakeTransferEnded, ReleaseBroadcast, Renew}
 use Rattle.j39_node.specs.History.Act.{Ask, TakeFrame, Send, Acknowledge, Broadcast, Transfer}
 use Rattle.j39_node.specs.History.Address.{NotClaimed, Claimed, Lost}
-use Rattle.j39_node.specs.Reception.{Reception, time_heard, has_place, heard_at, heard_by, keeps, later, leaves, left, reception, reply_from, ticked}
+use Rattle.j39_node.specs.Reception.{Reception, called, calls_claims, claimed_again, still, time_heard, longest, has_place, heard_at, heard_by, keeps, later, leaves, left, reception, reply_from, ticked, is_that}
 use Rattle.j39_node.specs.Asking.{Question, answer_to_ask, ended, first, lacks_answer, next_ask_ended, open_ask, question, says_to, silent_end, wait}
 use Rattle.j39_node.specs.declared.kinds.AskEnding.{AskEnding}
 use Rattle.j39_node.specs.declared.asking.Asking.{Asking}
 use Rattle.j39_node.specs.declared.asking.Open as asking
 use Rattle.j39_node.specs.declared.incoming.Incoming.{Incoming}
 use Rattle.j39_node.specs.declared.incoming.Kept.{Kept}
+use Rattle.j39_node.specs.declared.incoming.Named.{Named}
 use Rattle.j39_node.specs.declared.incoming.Said.{Said}
 use Rattle.j39_node.specs.Hearing.{OpenBroadcast, hearing, unheard, unheard_news, waiting}
 use Rattle.j39_node.specs.declared.hearing.Heard.{Heard as Bytes}
 use Rattle.j39_node.specs.declared.hearing.Hearing.{Hearing}
 use Rattle.j39_transport.specs.Cutting.{ToSend}
+use Rattle.j39_transport.specs.Announced.{announced_by}
+use Rattle.j39_transport.specs.Reception.{ReceptionRecord, limit_of}
 use Rattle.j39_transport.specs.Receiving.{BoxedReceiver, Heard, recv_step}
-use Rattle.j39_node.specs.Transfers.{Running, joined, rest, resting, age, answer_to_transfer, next_transfer, next_transfer_ended, open_transfer, transfers as all_transfers}
+use Rattle.j39_node.specs.Transfers.{clock, transfer_by, Running, joined, rest, resting, age, answer_to_transfer, next_transfer, next_transfer_ended, open_transfer, transfers as all_transfers}
 use Rattle.j39_node.specs.History.{Resting, NoneRests, PairRests, AllRest}
 
 -- ---- the answers that a history asks for
@@ -59,10 +66,10 @@ use Rattle.j39_node.specs.History.{Resting, NoneRests, PairRests, AllRest}
 abbrev pub stamped : FrameRecord → ℕ × Message
 stamped f = (f.stamp, message_of f)
 
--- frame i of the open broadcast, once the pause is over
+-- frame i of the open broadcast, once it is due
 abbrev pub packet_by : Option (ℕ × MessageRecord) → ℕ → ℕ → Option Message
 packet_by None i left = None
-packet_by (Some x) i left = if nat_eq left 0 && nat_le i (packets_of x.1) then Some (frame_of x.1 i) else None
+packet_by (Some x) i left = if nat_le left 100000 && nat_le i (packets_of x.1) then Some (frame_of x.1 i) else None
 
 abbrev pub next_packet : Who → List Call → ℕ → Option Message
 next_packet w H now = packet_by (open_broadcast w H) (length (packets H)) (pause H - step H now)
@@ -75,50 +82,88 @@ long_by (Some m) transfer = Some m
 abbrev pub next_long : Who → List Call → ℕ → Option Message
 next_long w H now = long_by (next_packet w H now) (next_transfer w H now)
 
--- an acknowledgment goes before a message, and this before a packet
-abbrev pub first_of : Option Message → Option (ℕ × Message) → Option Message → Option Message
-first_of (Some m) message packet = Some m
-first_of None (Some x) packet = Some x.1
-first_of None None packet = packet
-
--- an acknowledgment goes before a reply
-abbrev pub control_of : Option Message → Option Message → Option Message
-control_of (Some m) reply = Some m
-control_of None reply = reply
-
--- beside claims and acknowledgments: the first reply that waits, the first message that was accepted and wasn't taken, the next frame of
--- the open broadcast, or of the open transfer
-abbrev pub next_other : Who → List Call → ℕ → Option Message
-next_other w H now =
-    if holds w H now
-    then first_of (slice_get (reception w H).replies 0) (slice_get (accepted w H) (length (sent H))) (next_long w H now)
-    else None
-
 abbrev pub is_there : Option Message → Bool
 is_there None = false
 is_there (Some m) = true
+
+abbrev pub is_turn : Option Turn → Bool
+is_turn None = false
+is_turn (Some turn) = true
+
+-- a frame of the open broadcast is overdue
+abbrev pub is_overdue : Who → List Call → ℕ → Bool
+is_overdue w H now = has_packets w H && nat_eq (pause H - step H now) 0
+
+-- a frame of the open transfer is due, and isn't the very frame that the first reply is
+abbrev pub is_apart : Option Message → Option Message → Bool
+is_apart None reply = false
+is_apart (Some m) reply = not (is_that m reply)
+
+-- what is due beside claims and acknowledgments: such a frame; a reply that waits; a message that was accepted and wasn't taken; a frame
+-- of the open broadcast, overdue or not; one of the open transfer
+abbrev pub ready : Who → List Call → ℕ → Ready
+ready w H now = record {
+  overdue = is_overdue w H now;
+  reply = nat_lt 0 (length (reception w H).replies);
+  message = nat_lt (length (sent H)) (length (accepted w H));
+  packet = has_packets w H && nat_le (pause H - step H now) 100000;
+  transfer = is_apart (next_transfer w H now) (slice_get (reception w H).replies 0);
+}
+
+-- what goes first of it. Behind a frame of a session to an address a reply yields to the rest
+abbrev pub turn_of : Bool → Ready → Option Turn
+turn_of yields r =
+    if r.overdue then Some Packet
+    else if r.reply && not (yields && (r.message || (r.packet || r.transfer))) then Some Reply
+    else if r.message then Some Single
+    else if r.packet then Some Packet
+    else if r.transfer then Some Move
+    else None
+
+abbrev pub next_turn : Who → List Call → ℕ → Option Turn
+next_turn w H now = turn_of (yields H) (ready w H now)
+
+-- its frame: of a reply, the first that waits; of a message, the first that wasn't taken
+abbrev pub turn_frame : Option Turn → Option Message → Option (ℕ × Message) → Option Message → Option Message → Option Message
+turn_frame None reply message packet transfer = None
+turn_frame (Some Reply) reply message packet transfer = reply
+turn_frame (Some Single) reply message packet transfer = option_map content message
+turn_frame (Some Packet) reply message packet transfer = packet
+turn_frame (Some Move) reply message packet transfer = transfer
+
+abbrev pub other : Who → List Call → ℕ → Option Message
+other w H now =
+    turn_frame (next_turn w H now) (slice_get (reception w H).replies 0) (slice_get (accepted w H) (length (sent H)))
+    (next_packet w H now) (next_transfer w H now)
+
+-- beside claims and acknowledgments, what goes from an address that is held
+abbrev pub next_other : Who → List Call → ℕ → Option Message
+next_other w H now = if holds w H now then other w H now else None
 
 -- behind two claims or acknowledgments in a row another frame goes first, where there is one
 abbrev pub gives_way : Who → List Call → ℕ → Bool
 gives_way w H now = nat_le 2 (turns H) && is_there (next_other w H now)
 
+abbrev pub claim_due : Who → List Call → ℕ → Bool
+claim_due w H now = may_claim w H (delayed w H - step H now)
+
 abbrev pub claim_goes : Who → List Call → ℕ → Bool
-claim_goes w H now = owes_claim w H && not (gives_way w H now)
+claim_goes w H now = claim_due w H now && not (gives_way w H now)
 
 abbrev pub next_acknowledgment : Who → List Call → ℕ → Option Message
 next_acknowledgment w H now = if gives_way w H now then None else slice_get (due w H) (length (acknowledged H))
 
-abbrev pub next_control : Who → List Call → ℕ → Option Message
-next_control w H now = control_of (next_acknowledgment w H now) (slice_get (reception w H).replies 0)
+-- an acknowledgment goes before what else is due
+abbrev pub control_of : Option Message → Option Message → Option Message
+control_of (Some m) other = Some m
+control_of None other = other
 
--- the claim that is owed goes first; else, from an address that is held, the first acknowledgment that is due and wasn't taken,
--- the first reply that waits, the first message that was accepted and wasn't taken, the next frame of packets
+-- the claim that is owed goes first; else, from an address that is held, the first acknowledgment that is due and wasn't taken, or
+-- what is next of the rest
 abbrev pub next_frame : Who → List Call → ℕ → Option (ℕ × Message)
 next_frame w H now =
     if claim_goes w H now then Some (now, claim_from w (claim_address w (address_after w H)))
-    else if holds w H now
-    then option_map (λ m. (now, m)) (first_of (next_control w H now) (slice_get (accepted w H) (length (sent H)))
-    (next_long w H now))
+    else if holds w H now then option_map (λ m. (now, m)) (control_of (next_acknowledgment w H now) (other w H now))
     else None
 
 -- a request for the claims of all, or of an address, from the null address: it goes where no address is held (J1939-81, 4.2.1)
@@ -139,6 +184,10 @@ abbrev pub answer_to_send : Who → List Call → ℕ → Draft → Result ℕ R
 answer_to_send w H now d =
     if holds w H now then (if can_send w d then (if is_full w H then Err Full else Ok (length (accepted w H))) else Err BadValue)
     else Err NoAddress
+
+-- the last that is alike, and neither taken nor told to have ended, is renewed
+abbrev pub next_renewed : Who → List Call → Draft → Option ℕ
+next_renewed w H d = if can_send w d then latest (message_from w d) (max (length (sent H)) (length (told H))) 0 (accepted w H) None else None
 
 -- what was taken is done; what wasn't is withdrawn where the address is lost
 abbrev pub ending_of : Bool → Bool → ℕ → Option (ℕ × Ending)
@@ -174,14 +223,15 @@ next_received w H = slice_get (kept w H) (length (got H))
 abbrev pub next_request : Who → List Call → Option Asked
 next_request w H = slice_get (requests w H) (length (handed H))
 
-abbrev pub news_of : Bool → Bool → Bool → Option News
-news_of true another missed = Some AddressLost
-news_of false true missed = Some AnotherAtAddress
-news_of false false true = Some MessagesMissed
-news_of false false false = None
+abbrev pub news_of : Bool → Bool → Option ℕ → Bool → Option News
+news_of true another doubled missed = Some AddressLost
+news_of false true doubled missed = Some AnotherAtAddress
+news_of false false (Some address) missed = Some (NameDoubled address)
+news_of false false None true = Some MessagesMissed
+news_of false false None false = None
 
 abbrev pub next_news : Who → List Call → Option News
-next_news w H = news_of (lost_news w H) (another_news w H) (missed_news w H || unheard_news w H)
+next_news w H = news_of (lost_news w H) (another_news w H) (doubled_news w H) (missed_news w H || unheard_news w H)
 
 -- a request to all is never acknowledged
 abbrev pub answer_to_acknowledge : Who → List Call → ℕ → Asked → Result (Unit {0}) Refused
@@ -196,6 +246,7 @@ answer_to_acknowledge w H now r =
 abbrev pub IsAnswered : Who → List Call → Call → Type 0
 IsAnswered w H (At now (TakeFrame answer)) = option_map stamped answer ≡ next_frame w H now
 IsAnswered w H (At now (Send draft answer)) = answer ≡ answer_to_send w H now draft
+IsAnswered w H (Renew draft answer) = answer ≡ next_renewed w H draft
 IsAnswered w H (TakeEnded answer) = answer ≡ next_ended w H
 IsAnswered w H (TakeReceived answer) = answer ≡ next_received w H
 IsAnswered w H (TakeRequest answer) = answer ≡ next_request w H
@@ -231,6 +282,7 @@ abbrev pub who_of : Brought → Own → Who
 who_of brought own = record {
   name = name_raw own.name;
   address = own.address;
+  delay = own.delay;
   served = own.served.items;
   subscribed = option_map (λ groups. groups.items) own.subscribed;
   brought = brought;
@@ -242,7 +294,9 @@ hold_after w H = record {
   standing = standing_of (address_after w H);
   owes_claim = owes_claim w H;
   turns = min (turns H) 2;
+  yields = yields H;
   patience = patience w H;
+  delay = delayed w H;
   pause = pause H;
   age = min (age H) 18446744073709551615;
   wait = wait H;
@@ -270,12 +324,29 @@ said_by own x = reply_from own x.to x.bytes
 abbrev pub kept_by : Kept → ℕ × MessageRecord
 kept_by x = (stamp_micros x.stamp, record { source = x.source; pgn = pgn_raw x.group; bytes = x.bytes.items })
 
--- what is received, when the receiver was told the time, how late it is there, its address, and that it has its buffer
+-- what is known of the open session: its group, how many packets, the number of the next one, and that behind the last granted
+pub record Course : Type 0 where
+  pub group : ℕ
+  pub packets : ℕ
+  pub next : ℕ
+  pub behind : ℕ
+
+abbrev pub named_in : Option ReceptionRecord → Option Course
+named_in None = None
+named_in (Some r) = Some (record { group = r.message.group; packets = r.message.packets; next = r.message.count + 1; behind = r.granted + 1 })
+
+abbrev pub named_by : Named → Course
+named_by x = record { group = pgn_raw x.group; packets = x.packets; next = x.next; behind = x.behind }
+
+-- what is received, when the receiver was told the time, how late it is there, its address, that it has its buffer, and what is known of
+-- the open session
 pub record IncomingRecord : Type 0 where
   pub moment : ℕ
   pub clock : ℕ
   pub own : ℕ
   pub has_box : Bool
+  pub named : Option Course
+  pub called : ℕ
   pub reception : Reception
 
 abbrev pub incoming_of : Incoming → IncomingRecord
@@ -284,27 +355,90 @@ incoming_of x = record {
   clock = stamp_micros x.clock;
   own = x.receiver.state.own;
   has_box = x.receiver.has_box;
+  named = option_map (λ r. named_by x.named) x.receiver.state.session;
+  called = x.called;
   reception = record {
     session = x.receiver.state.session;
+    since = stamp_micros x.since;
     waits = option_map kept_by x.place;
     replies = map (said_by x.receiver.state.own) x.replies.items;
   };
 }
 
 abbrev pub with_reception : Reception → IncomingRecord → IncomingRecord
-with_reception r x = record { moment = x.moment; clock = x.clock; own = x.own; has_box = x.has_box; reception = r }
+with_reception r x = record
+    { moment = x.moment; clock = x.clock; own = x.own; has_box = x.has_box; named = named_in r.session; called = x.called; reception = r }
 
 abbrev pub with_replies : List Message → IncomingRecord → IncomingRecord
-with_replies replies x = with_reception (record { session = x.reception.session; waits = x.reception.waits; replies = replies }) x
+with_replies replies x = record {
+  moment = x.moment;
+  clock = x.clock;
+  own = x.own;
+  has_box = x.has_box;
+  named = x.named;
+  called = x.called;
+  reception = record { session = x.reception.session; since = x.reception.since; waits = x.reception.waits; replies = replies };
+}
+
+-- that is so
+abbrev pub IsNamed : IncomingRecord → Type 0
+IsNamed x = x.named ≡ named_in x.reception.session
+
+-- the source and the group of the open session, and the first moment at which a tick says something, by what is known
+abbrev pub session_by : Option ReceptionRecord → Option Course → Option (ℕ × ℕ)
+session_by None named = None
+session_by (Some r) named = option_map (λ n. (r.message.source, n.group)) named
+
+abbrev pub tick_by : ℕ → Option ReceptionRecord → Option Course → ℕ → ℕ → Option ℕ
+tick_by since None named last clock = None
+tick_by since (Some r) None last clock = None
+tick_by since (Some r) (Some n) last clock =
+    stamp_at (last + (suc (min (r.message.last + limit_of r) (since + longest n.packets)) - clock))
+
+-- how many packets a CTS that is said grants, and from which on
+abbrev pub clear_in : Option ToSend → Option (ℕ × ℕ)
+clear_in None = None
+clear_in (Some s) = if nat_eq (slice_index s.bytes 0) 17 then Some (slice_index s.bytes 1, slice_index s.bytes 2) else None
+
+-- what is known by it; by what was announced; and by a packet of the session
+abbrev pub cleared : Option (ℕ × ℕ) → Course → Course
+cleared None n = n
+cleared (Some c) n = record n { next = c.1; behind = c.0 + c.1 }
+
+abbrev pub announced : FrameRecord → Option ℕ → Course → Course
+announced f None n = n
+announced f (Some group) n = record n { group = group; packets = slice_index f.bytes 3 }
+
+abbrev pub appended : Option ℕ → Course → Course
+appended None n = n
+appended (Some k) n = if nat_eq k n.next then record n { next = k + 1 } else n
+
+abbrev pub strays_by : Option ℕ → Course → Bool
+strays_by None n = false
+strays_by (Some k) n = not (nat_eq k n.next || nat_eq (k + 1) n.behind)
+
+-- a frame was heard, and a CTS was said to it or not
+abbrev pub named_then : Option ℕ → FrameRecord → Option (ℕ × ℕ) → Course → Course
+named_then k f None n = appended k n
+named_then k f (Some c) n = cleared (Some c) (announced f (announced_by f) n)
 
 abbrev pub passed_to : ℕ → IncomingRecord → IncomingRecord
 passed_to now x = record
-    { moment = now; clock = later x.clock (now - x.moment); own = x.own; has_box = x.has_box; reception = x.reception }
+    { moment = now; clock = later x.clock (now - x.moment); own = x.own; has_box = x.has_box; named = x.named; called = x.called - (now - x.moment); reception = x.reception }
+
+abbrev pub with_called : ℕ → IncomingRecord → IncomingRecord
+with_called n x = record
+    { moment = x.moment; clock = x.clock; own = x.own; has_box = x.has_box; named = x.named; called = n; reception = x.reception }
+
+-- who holds an address since before, by who did
+abbrev pub still_by : (ℕ → Option ℕ) → ℕ → FrameRecord → IncomingRecord → ℕ → Option ℕ
+still_by before now f x = still (claimed_again before (x.called - (now - x.moment)) (claim_of f)) before
 
 abbrev pub hears : Bool → Bool → ℕ → FrameRecord → (ℕ → Option ℕ) → (ℕ → Option ℕ) → IncomingRecord → IncomingRecord
 hears lost held now f before after x =
-    with_reception (heard_by x.own lost held f (later x.clock (now - x.moment))
-    (left (leaves before after x.reception.session) x.reception)) (passed_to now x)
+    with_called (if calls_claims before f (claim_of f) then 1250000 else x.called - (now - x.moment))
+    (with_reception (heard_by x.own lost held f (later x.clock (now - x.moment))
+    (left (leaves (still_by before now f x) after x.reception.session) x.reception)) (passed_to now x))
 
 abbrev pub ticks : ℕ → IncomingRecord → IncomingRecord
 ticks now x = with_reception (ticked x.own now (later x.clock (now - x.moment)) x.reception) (passed_to now x)
@@ -323,6 +457,8 @@ incoming_after w H = record {
   clock = time_heard H;
   own = w.address;
   has_box = true;
+  named = named_in (reception w H).session;
+  called = called w H;
   reception = reception w H;
 }
 
@@ -402,10 +538,17 @@ abbrev pub asking_after : Who → List Call → Option AskRecord
 asking_after w H = asked_by (open_ask H) (length (sent H)) (ended w H)
 
 abbrev pub news_after : Who → List Call → Untold
-news_after w H = record { lost = lost_news w H; another = another_news w H; missed = missed_news w H || unheard_news w H }
+news_after w H = record { lost = lost_news w H; another = another_news w H; doubled = doubled_news w H; missed = missed_news w H || unheard_news w H }
 
 abbrev pub posted : Outgoing → ℕ × Message
 posted x = (x.token, carried (id_raw x.id) x.bytes.items)
+
+-- the message of a place, which keeps its token, is now this one
+pub record Renews (old : List Outgoing) (place : ℕ) (x : ℕ × Message) (token : ℕ) (new : List Outgoing) : Type 0 where
+  pub before : Outgoing
+  pub was : slice_get old place ≡ Some before
+  pub same : token ≡ before.token
+  pub renewed : map posted new ≡ slice_set (map posted old) place (token, x.1)
 
 abbrev pub received_by : Received → ℕ × Message
 received_by r = (
@@ -423,7 +566,8 @@ abbrev pub request_by : Request → Asked
 request_by r = record { source = r.source; destination = r.destination; group = pgn_raw r.group }
 
 abbrev pub refusal_by : Who → Due → Message
-refusal_by w x = acknowledgment w x.answer (request_by x.request)
+refusal_by w x =
+    acknowledgment w x.answer (record { source = x.source; destination = global_address; group = pgn_raw x.group })
 
 -- the inbox when a frame was heard
 abbrev pub offered : Bool → ℕ × Message → List (ℕ × Message) → List (ℕ × Message)
@@ -453,6 +597,16 @@ hearing_of x = record { current = option_map broadcast_by x.current; missed = x.
 
 abbrev pub hearing_after : Who → List Call → HearingRecord
 hearing_after w H = record { current = hearing w H; missed = min (unheard w H) 18446744073709551615 }
+
+-- what is due, by the controller at a moment that its hold was led to
+abbrev pub ready_in : Controller → Hold → Ready
+ready_in c hold = record {
+  overdue = is_left (lane_of (who_of nothing c.own) c.lane).current c.lane.count && nat_eq hold.pause 0;
+  reply = nat_lt 0 (length c.incoming.replies.items);
+  message = nat_lt c.taken (length c.outgoing.items);
+  packet = is_left (lane_of (who_of nothing c.own) c.lane).current c.lane.count && nat_le hold.pause 100000;
+  transfer = is_apart (transfer_by (port_of c.transfers).current (clock hold.age)) (slice_get (incoming_of c.incoming).reception.replies 0);
+}
 
 -- c was made for w and called as H says
 pub record Is (w : Who) (H : List Call) (c : Controller) : Type 0 where

@@ -13,6 +13,8 @@ pub mod Moves
 pub mod Asking
 -- the moments of ticks
 pub mod Ticks
+-- the packets of one session
+pub mod Packets
 -- the histories that a controller can have had
 pub mod Is
 -- a driver that is prompt

@@ -28,6 +28,7 @@ abbrev pub moved : Who → List Call → ℕ → Who
 moved w H address = record {
   name = w.name;
   address = address;
+  delay = w.delay;
   served = w.served;
   subscribed = w.subscribed;
   brought = record {
@@ -56,4 +57,4 @@ has_given c =
     nat_eq (length c.inbox.unread.items) 0
     && (nat_eq (length c.desk.waiting.items) 0
     && (has_place (incoming_of c.incoming).reception.waits
-    && (has_place (whole_of (hearing_of c.hearing).current) && not (c.news.lost || (c.news.another || c.news.missed)))))
+    && (has_place (whole_of (hearing_of c.hearing).current) && not (c.news.lost || (c.news.another || (is_some c.news.doubled || c.news.missed))))))

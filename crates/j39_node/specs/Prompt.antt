@@ -1,8 +1,10 @@
 -- A driver that is prompt, by its calls alone.
-use Rattle.std.specs.Prelude.{◌≡◌, ◌≤◌, ℕ, ◌+◌, Bool, true, false, List, [], ◌∷◌, ◌++◌, Some, None}
-use Rattle.j39_node.specs.History.{Call, moment, step}
+use Rattle.std.specs.Prelude.{◌&&◌, suc, if◌then◌else◌, ◌||◌, not, ◌≡◌, ◌≤◌, ℕ, ◌+◌, Bool, true, false, List, [], ◌∷◌, ◌++◌, Some, None}
+use Rattle.j39_frame.specs.Frame.{FrameRecord}
+use Rattle.j39_frame.specs.Identifier.{destination_of}
+use Rattle.j39_node.specs.History.{is_some, is_transfer, is_packet, is_acknowledgment, is_claim, Call, moment, step}
 use Rattle.j39_node.specs.History.Call.{At, TakeBroadcastEnded, TakeTransferEnded}
-use Rattle.j39_node.specs.History.Act.{TakeFrame}
+use Rattle.j39_node.specs.History.Act.{Again, TakeFrame}
 
 -- the sum of the forward steps since a take answered none, or since the earlier calls
 abbrev pub waited_in : List Call → List Call → ℕ
@@ -10,12 +12,17 @@ waited_in [] earlier = 0
 waited_in (At now (TakeFrame None) ∷ later) earlier = 0
 waited_in (call ∷ later) earlier = waited_in later earlier + step (later ++ earlier) (moment (call ∷ later ++ earlier))
 
+-- the address is to be claimed anew
+abbrev pub claims_anew : Call → Bool
+claims_anew (At now Again) = true
+claims_anew call = false
+
 -- from the earlier calls to the first take that answers none, and from each such take to the next, at most g microseconds pass:
--- the driver comes back in time, and then takes frames until there is none
+-- the driver comes back in time, and then takes frames until there is none. It doesn't claim the address anew
 abbrev pub IsPrompt : ℕ → List Call → List Call → Type 0
 IsPrompt g [] earlier = Unit {0}
 IsPrompt g (call ∷ later) earlier =
-    IsPrompt g later earlier × (waited_in later earlier + step (later ++ earlier) (moment (call ∷ later ++ earlier)) ≤ g)
+    IsPrompt g later earlier × ((waited_in later earlier + step (later ++ earlier) (moment (call ∷ later ++ earlier)) ≤ g) × (claims_anew call ≡ false))
 
 -- no end of a broadcast is told
 abbrev pub tells_broadcast : Call → Bool
@@ -30,3 +37,37 @@ NoneTold tells (call ∷ later) = (tells call ≡ false) × NoneTold tells later
 abbrev pub tells_transfer : Call → Bool
 tells_transfer (TakeTransferEnded (Some x)) = true
 tells_transfer call = false
+
+-- a frame is taken that is neither a claim nor an acknowledgment
+abbrev pub takes_other : Call → Bool
+takes_other (At now (TakeFrame (Some f))) = not (is_claim f || is_acknowledgment f)
+takes_other call = false
+
+-- the sum of the forward steps since the driver came for a frame, whether it got one or none was due, or since the earlier calls
+abbrev pub since_take : List Call → List Call → ℕ
+since_take [] earlier = 0
+since_take (At now (TakeFrame answer) ∷ later) earlier = 0
+since_take (call ∷ later) earlier = since_take later earlier + step (later ++ earlier) (moment (call ∷ later ++ earlier))
+
+-- from the earlier calls to the first take, and from each take to the next, at most g microseconds pass: the driver takes one frame at
+-- least in each g, if one is due. It doesn't claim the address anew
+abbrev pub IsSteady : ℕ → List Call → List Call → Type 0
+IsSteady g [] earlier = Unit {0}
+IsSteady g (call ∷ later) earlier =
+    IsSteady g later earlier × ((since_take later earlier + step (later ++ earlier) (moment (call ∷ later ++ earlier)) ≤ g) × (claims_anew call ≡ false))
+
+-- how many frames of broadcasts are taken
+abbrev pub packets_taken : List Call → ℕ
+packets_taken [] = 0
+packets_taken (At now (TakeFrame (Some f)) ∷ later) = if is_packet f then suc (packets_taken later) else packets_taken later
+packets_taken (call ∷ later) = packets_taken later
+
+-- the frame counts for a transfer to this address: it is neither a claim nor an acknowledgment, nor one of a session to another address
+abbrev pub counts_for : ℕ → FrameRecord → Bool
+counts_for to f = not (is_claim f || is_acknowledgment f) && not (is_transfer f && not (is_some (destination_of f.id) to))
+
+-- how many such frames are taken
+abbrev pub taken_for : ℕ → List Call → ℕ
+taken_for to [] = 0
+taken_for to (At now (TakeFrame (Some f)) ∷ later) = if counts_for to f then suc (taken_for to later) else taken_for to later
+taken_for to (call ∷ later) = taken_for to later

@@ -1,17 +1,21 @@
 -- Messages that come in packets to the address that is held (J1939-21, 5.10.3): what a history says of them.
-use Rattle.std.specs.Prelude.{◌≡◌, ◌⊎◌, ℕ, suc, ◌+◌, ◌-◌, ◌++◌, ◌&&◌, ◌||◌, min, nat_lt, nat_eq, not, Bool, true, false, List, [], ◌∷◌, length, drop, Option, Some, None, if◌then◌else◌}
+use Rattle.std.specs.Prelude.{◌≡◌, ◌⊎◌, ℕ, suc, ◌+◌, ◌*◌, ◌-◌, ◌++◌, ◌&&◌, ◌||◌, min, nat_lt, nat_eq, ◌==◌, not, Bool, true, false, List, [], ◌∷◌, length, drop, Option, Some, None, if◌then◌else◌}
+use Rattle.std.specs.List.{slice_get}
 use Rattle.std.specs.Option.{option_map}
+use Rattle.std.specs.Str.{bytes_eq}
 use Rattle.j39_frame.specs.Address.{null_address}
 use Rattle.j39_frame.specs.Frame.{FrameRecord}
 use Rattle.j39_frame.specs.Identifier.{source_of}
-use Rattle.j39_frame.specs.Network.{transport_control_group}
+use Rattle.j39_frame.specs.Network.{address_claimed_group, transport_control_group}
 use Rattle.j39_address.specs.Claim.{Claim, claim_of}
 use Rattle.j39_transport.specs.Cutting.{ToSend}
 use Rattle.j39_transport.specs.Message.{MessageRecord}
-use Rattle.j39_transport.specs.Reception.{ReceptionRecord, limit_of}
-use Rattle.j39_transport.specs.Receiving.{ReceiverRecord, RecvResult, Heard, Tick as Ticks, partner_of, recv_step}
+use Rattle.j39_transport.specs.Protocol.{timeout, timer_t2}
+use Rattle.j39_transport.specs.Reception.{ReceptionRecord, answers, limit_of}
+use Rattle.j39_transport.specs.Receiving.{ReceiverRecord, RecvResult, Heard, Tick as Ticks, partner_of, recv_step, result_of, said_to}
 use Rattle.j39_transport.specs.ReceiverStands.{WasHanded}
-use Rattle.j39_node.specs.History.{Who, Message, Call, accepted, acknowledged, due, holds, is_acknowledgment, is_claim, is_smaller, is_some, is_transfer, sent, stamp_at}
+use Rattle.j39_transport.specs.Signals.{Signal, Abort, Packet}
+use Rattle.j39_node.specs.History.{Who, Message, Call, accepted, acknowledged, due, holds, asks_with, is_claim, is_session, is_smaller, is_some, is_transfer, message_of, sent, stamp_at, of_other, is_acknowledgment}
 use Rattle.j39_node.specs.History.Call.{At, ReleaseTransfer}
 use Rattle.j39_node.specs.History.Act.{Hear, Tick, TakeFrame}
 
@@ -29,10 +33,10 @@ abbrev pub held_through : ℕ → List FrameRecord → Option ℕ → Option ℕ
 held_through a [] holder = holder
 held_through a (f ∷ frames) holder = held_through a frames (held_then a (claim_of f) holder)
 
--- the NAME that holds it, by what was known before, the claims heard, and its own that were taken
+-- the NAME that holds it, by what was known before, the claims heard but those of its own NAME, and its own that were taken
 abbrev pub holder : Who → List Call → ℕ → Option ℕ
 holder w [] a = held_through a w.brought.known None
-holder w (At now (Hear f) ∷ H) a = held_then a (claim_of f) (holder w H a)
+holder w (At now (Hear f) ∷ H) a = held_then a (of_other w (claim_of f)) (holder w H a)
 holder w (At now (TakeFrame (Some f)) ∷ H) a = if is_claim f then held_then a (claim_of f) (holder w H a) else holder w H a
 holder w (call ∷ H) a = holder w H a
 
@@ -59,11 +63,58 @@ time_heard (At now (Hear f) ∷ H) = later (time_heard H) (now - heard_at H)
 time_heard (At now Tick ∷ H) = later (time_heard H) (now - heard_at H)
 time_heard (call ∷ H) = time_heard H
 
+-- ---- who restarts claims first, and nothing called for that (own)
+
+-- a message of one frame
+abbrev pub is_message : FrameRecord → Bool
+is_message f = not (is_claim f || (is_acknowledgment f || is_session f))
+
+-- a request for claims
+abbrev pub asks_claims : FrameRecord → Bool
+asks_claims f = asks_with (message_of f) address_claimed_group
+
+-- it calls for claims, or is the claim of an address by who doesn't hold it, which calls for its holder's
+abbrev pub calls_claims : (ℕ → Option ℕ) → FrameRecord → Option Claim → Bool
+calls_claims holder f None = asks_claims f
+calls_claims holder f (Some c) = not (is_some (holder c.address) c.name)
+
+-- what is left, from the last frame heard or tick on, of the 1,250 ms in which a claim was called for: by what was heard, or by its own
+-- claim or request that was taken
+abbrev pub called : Who → List Call → ℕ
+called w [] = 0
+called w (At now (Hear f) ∷ H) = if calls_claims (holder w H) f (claim_of f) then 1250000 else called w H - (now - heard_at H)
+called w (At now Tick ∷ H) = called w H - (now - heard_at H)
+called w (At now (TakeFrame (Some f)) ∷ H) =
+    if is_claim f || (is_message f && asks_claims f) then 1250000 + (now - heard_at H) else called w H
+called w (call ∷ H) = called w H
+
+-- the address that its holder claims again, where nothing called for that
+abbrev pub claimed_again : (ℕ → Option ℕ) → ℕ → Option Claim → Option ℕ
+claimed_again holder left None = None
+claimed_again holder left (Some c) = if is_some (holder c.address) c.name && nat_eq left 0 then Some c.address else None
+
+abbrev pub restarts : Who → List Call → ℕ → FrameRecord → Option ℕ
+restarts w H now f = claimed_again (holder w H) (called w H - (now - heard_at H)) (claim_of f)
+
+-- who holds an address since before: nobody, if its holder restarted
+abbrev pub still : Option ℕ → (ℕ → Option ℕ) → ℕ → Option ℕ
+still gone holder a = if is_some gone a then None else holder a
+
+abbrev pub known : Who → List Call → ℕ → FrameRecord → ℕ → Option ℕ
+known w H now f = still (restarts w H now f) (holder w H)
+
+-- before a call
+abbrev pub known_by : Who → Call → List Call → ℕ → Option ℕ
+known_by w (At now (Hear f)) H = known w H now f
+known_by w call H = holder w H
+
 -- ---- what is received
 
--- the open session, the message that waits for the program with the moment of its last packet, and the replies that wait
+-- the open session, and the time since which its source has one open; the message that waits for the program with the moment of its last
+-- packet, and the replies that wait
 pub record Reception : Type 0 where
   pub session : Option ReceptionRecord
+  pub since : ℕ
   pub waits : Option (ℕ × MessageRecord)
   pub replies : List Message
 
@@ -97,16 +148,42 @@ replied own a None replies = replies
 replied own a (Some f) replies =
     if nat_lt (length (without a replies)) 16 then without a replies ++ reply_from own a f.bytes ∷ [] else without a replies
 
-abbrev pub takes : ℕ → ℕ → RecvResult → Reception → Reception
-takes stamp a x r = record {
+abbrev pub takes : ℕ → ℕ → ℕ → RecvResult → Reception → Reception
+takes stamp since a x r = record {
   session = x.after.session;
+  since = since;
   waits = keeps stamp x.delivers r.waits;
   replies = replied x.after.own a x.sends r.replies;
 }
 
--- the receiver's step at a frame, by the standard: there is room for the message of an RTS where none waits
+-- the number of a packet of the open session's source
+abbrev pub number_in : Option Signal → Option ℕ
+number_in (Some (Packet number part)) = Some number
+number_in other = None
+
+abbrev pub packet_in : ℕ → FrameRecord → Option ReceptionRecord → Option ℕ
+packet_in own f None = None
+packet_in own f (Some r) = if nat_eq (source_of f.id) r.message.source then number_in (said_to own f) else None
+
+-- it is neither the next one nor the last that was granted
+abbrev pub strays : Option ℕ → Option ReceptionRecord → Bool
+strays None o = false
+strays (Some k) None = false
+strays (Some k) (Some r) = not (k == r.message.count + 1 || k == r.granted)
+
+-- what the receiver is shown: of such a packet nothing that it says (own)
+abbrev pub shown : ℕ → Option ReceptionRecord → FrameRecord → FrameRecord
+shown own o f = record { stamp = f.stamp; id = f.id; bytes = if strays (packet_in own f o) o then [] else f.bytes }
+
+-- the receiver's step at it, by the standard: there is room for the message of an RTS where none waits
 abbrev pub step_at : ℕ → FrameRecord → ℕ → Reception → RecvResult
-step_at own f now r = recv_step (receiver_at own r) (Heard f) now (has_place r.waits)
+step_at own f now r = recv_step (receiver_at own r) (Heard (shown own r.session f)) now (has_place r.waits)
+
+-- it counts from an RTS by which one is open where none was: one in place of an open session begins no new account
+abbrev pub since_by : Option ReceptionRecord → Option ReceptionRecord → ℕ → ℕ → ℕ
+since_by None (Some r) now since = now
+since_by None None now since = since
+since_by (Some r) after now since = since
 
 -- another NAME holds the source of the session
 abbrev pub leaves : (ℕ → Option ℕ) → (ℕ → Option ℕ) → Option ReceptionRecord → Bool
@@ -116,38 +193,67 @@ leaves before after (Some r) = not (is_same (before r.message.source) (after r.m
 -- the session and what waits to be said to its source are dropped
 abbrev pub left : Bool → Reception → Reception
 left false r = r
-left true r = record { session = None; waits = r.waits; replies = without (partner_of r.session) r.replies }
+left true r = record { session = None; since = r.since; waits = r.waits; replies = without (partner_of r.session) r.replies }
 
 -- the address is lost, it is held, or neither
 abbrev pub heard_by : ℕ → Bool → Bool → FrameRecord → ℕ → Reception → Reception
-heard_by own true held f now r = record { session = None; waits = r.waits; replies = [] }
-heard_by own false true f now r = takes f.stamp (source_of f.id) (step_at own f now r) r
+heard_by own true held f now r = record { session = None; since = r.since; waits = r.waits; replies = [] }
+heard_by own false true f now r =
+    takes f.stamp (since_by r.session (step_at own f now r).after.session now r.since) (source_of f.id) (step_at own f now r) r
 heard_by own false false f now r = r
 
-abbrev pub ticked : ℕ → ℕ → ℕ → Reception → Reception
-ticked own stamp now r = takes stamp (partner_of r.session) (recv_step (receiver_at own r) Ticks now true) r
+-- sessions of one source may take so long till one of n packets is whole (own)
+abbrev pub longest : ℕ → ℕ
+longest n = (n + 3) * timer_t2
 
--- the frame that is taken is a claim, an acknowledgment, or the first reply where one waits
+abbrev pub is_over : ℕ → ℕ → Option ReceptionRecord → Bool
+is_over since now None = false
+is_over since now (Some r) = nat_lt (since + longest r.message.packets) now
+
+abbrev pub group_of : Option ReceptionRecord → ℕ
+group_of None = 0
+group_of (Some r) = r.message.group
+
+-- a tick: abort 3 where that is over, else the receiver's step
+abbrev pub ticked_at : ℕ → ℕ → Reception → RecvResult
+ticked_at own now r =
+    if is_over r.since now r.session
+    then result_of own (partner_of r.session) (answers None (Abort timeout (group_of r.session)))
+    else recv_step (receiver_at own r) Ticks now true
+
+abbrev pub ticked : ℕ → ℕ → ℕ → Reception → Reception
+ticked own stamp now r = takes stamp r.since (partner_of r.session) (ticked_at own now r) r
+
+-- x is this reply
+abbrev pub is_that : Message → Option Message → Bool
+is_that x None = false
+is_that x (Some m) = nat_eq x.group m.group && (is_same x.destination m.destination && bytes_eq x.bytes m.bytes)
+
+-- a frame of a session to an address that is taken is the first reply, where it is that; else one of the open transfer
+abbrev pub is_reply : List Message → FrameRecord → Bool
+is_reply replies f = is_transfer f && is_that (message_of f) (slice_get replies 0)
+
+-- the frame that is taken is a claim, another than a reply, or the first reply
 abbrev pub taken_by : Bool → Bool → Bool → Reception → Reception
-taken_by true acknowledges leaves r = left leaves r
-taken_by false true leaves r = r
-taken_by false false leaves r = record { session = r.session; waits = r.waits; replies = drop 1 r.replies }
+taken_by true replies leaves r = left leaves r
+taken_by false false leaves r = r
+taken_by false true leaves r = record { session = r.session; since = r.since; waits = r.waits; replies = drop 1 r.replies }
 
 abbrev pub released_by : Bool → Reception → Reception
 released_by false r = r
-released_by true r = record { session = r.session; waits = None; replies = r.replies }
+released_by true r = record { session = r.session; since = r.since; waits = None; replies = r.replies }
 
 abbrev pub no_reception : Reception
-no_reception = record { session = None; waits = None; replies = [] }
+no_reception = record { session = None; since = 0; waits = None; replies = [] }
 
 abbrev pub reception : Who → List Call → Reception
 reception w [] = no_reception
 reception w (At now (Hear f) ∷ H) =
     heard_by w.address (is_smaller w (claim_of f)) (holds w H now) f (time_heard (At now (Hear f) ∷ H))
-    (left (leaves (holder w H) (holder w (At now (Hear f) ∷ H)) (reception w H).session) (reception w H))
+    (left (leaves (known w H now f) (holder w (At now (Hear f) ∷ H)) (reception w H).session) (reception w H))
 reception w (At now Tick ∷ H) = ticked w.address now (time_heard (At now Tick ∷ H)) (reception w H)
 reception w (At now (TakeFrame (Some f)) ∷ H) =
-    taken_by (is_claim f) (is_acknowledgment f)
+    taken_by (is_claim f) (is_reply (reception w H).replies f)
     (leaves (holder w H) (holder w (At now (TakeFrame (Some f)) ∷ H)) (reception w H).session) (reception w H)
 reception w (ReleaseTransfer answer ∷ H) = released_by answer (reception w H)
 reception w (call ∷ H) = reception w H
@@ -156,13 +262,8 @@ reception w (call ∷ H) = reception w H
 abbrev pub IsApart : Reception → Type 0
 IsApart r = (r.waits ≡ None) ⊎ (r.session ≡ None)
 
--- a frame of a session to an address that is taken is a reply where one waits, else one of the open transfer
-abbrev pub none_waits : List Message → Bool
-none_waits [] = true
-none_waits (m ∷ replies) = false
-
 abbrev pub is_move : Who → List Call → FrameRecord → Bool
-is_move w H f = is_transfer f && none_waits (reception w H).replies
+is_move w H f = is_transfer f && not (is_that (message_of f) (slice_get (reception w H).replies 0))
 
 -- ---- which messages
 
@@ -179,7 +280,7 @@ whole_by own false false f now r = None
 abbrev pub whole : Who → List Call → ℕ → FrameRecord → Option MessageRecord
 whole w H now f =
     whole_by w.address (is_smaller w (claim_of f)) (holds w H now) f (time_heard (At now (Hear f) ∷ H))
-    (left (leaves (holder w H) (holder w (At now (Hear f) ∷ H)) (reception w H).session) (reception w H))
+    (left (leaves (known w H now f) (holder w (At now (Hear f) ∷ H)) (reception w H).session) (reception w H))
 
 abbrev pub says_by : ℕ → Bool → Bool → FrameRecord → ℕ → Reception → Option ToSend
 says_by own true held f now r = None
@@ -190,7 +291,7 @@ says_by own false false f now r = None
 abbrev pub says : Who → List Call → ℕ → FrameRecord → Option ToSend
 says w H now f =
     says_by w.address (is_smaller w (claim_of f)) (holds w H now) f (time_heard (At now (Hear f) ∷ H))
-    (left (leaves (holder w H) (holder w (At now (Hear f) ∷ H)) (reception w H).session) (reception w H))
+    (left (leaves (known w H now f) (holder w (At now (Hear f) ∷ H)) (reception w H).session) (reception w H))
 
 -- those that were whole, each with the moment of its last packet
 abbrev pub delivered : Who → List Call → List (ℕ × MessageRecord)
@@ -211,10 +312,10 @@ frames_heard [] = []
 frames_heard (At now (Hear f) ∷ H) = frames_heard H ++ f ∷ []
 frames_heard (call ∷ H) = frames_heard H
 
--- the NAME that holds a, or that none does, is the same after each of the later calls
+-- the NAME that holds a, or that none does, is the same after each of the later calls, and doesn't restart by one
 abbrev pub KeepsHolder : Who → ℕ → List Call → List Call → Type 0
 KeepsHolder w a [] earlier = Unit {0}
-KeepsHolder w a (call ∷ later) earlier = (holder w (call ∷ later ++ earlier) a ≡ holder w (later ++ earlier) a) × KeepsHolder w a later earlier
+KeepsHolder w a (call ∷ later) earlier = (holder w (call ∷ later ++ earlier) a ≡ known_by w call (later ++ earlier) a) × KeepsHolder w a later earlier
 
 -- the frames heard from a call on hand over an RTS of the message and its packets, in order; and since, one NAME held its source,
 -- or none did
@@ -236,9 +337,12 @@ is_waiting w H =
     || nat_lt 0 (length (reception w H).replies))
 
 -- the first moment at which a tick says something, by when the last one was
-abbrev pub tick_at : Option ReceptionRecord → ℕ → ℕ → Option ℕ
-tick_at None last clock = None
-tick_at (Some r) last clock = stamp_at (last + (suc (r.message.last + limit_of r) - clock))
+abbrev pub limit_in : ℕ → ReceptionRecord → ℕ
+limit_in since r = min (r.message.last + limit_of r) (since + longest r.message.packets)
+
+abbrev pub tick_at : ℕ → Option ReceptionRecord → ℕ → ℕ → Option ℕ
+tick_at since None last clock = None
+tick_at since (Some r) last clock = stamp_at (last + (suc (limit_in since r) - clock))
 
 abbrev pub session_tick : Who → List Call → Option ℕ
-session_tick w H = tick_at (reception w H).session (heard_at H) (time_heard H)
+session_tick w H = tick_at (reception w H).since (reception w H).session (heard_at H) (time_heard H)

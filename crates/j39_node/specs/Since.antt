@@ -1,10 +1,10 @@
 -- Since when an address is claimed, and since when a frame of packets was taken, by places of the history.
-use Rattle.std.specs.Prelude.{◌≡◌, ◌≤◌, ℕ, ◌+◌, Bool, false, List, [], ◌∷◌, ◌++◌, Some, IsTrue}
+use Rattle.std.specs.Prelude.{◌≡◌, ◌≤◌, ℕ, ◌+◌, Bool, true, false, List, [], ◌∷◌, ◌++◌, Some, IsTrue}
 use Rattle.j39_frame.specs.Frame.{FrameRecord}
 use Rattle.j39_address.specs.Claim.{claim_of}
 use Rattle.j39_node.specs.History.{Who, Call, claim_from, is_packet, is_smaller, message_of, moment, step}
 use Rattle.j39_node.specs.History.Call.{At, TakeTransferEnded}
-use Rattle.j39_node.specs.History.Act.{Hear, TakeFrame}
+use Rattle.j39_node.specs.History.Act.{Again, Hear, TakeFrame}
 use Rattle.j39_node.specs.declared.kinds.TransferEnding.{TransferEnding}
 
 -- the sum of the forward steps of these later calls, from the moment of the earlier ones on
@@ -17,16 +17,17 @@ abbrev pub NeverBack : List Call → List Call → Type 0
 NeverBack [] earlier = Unit {0}
 NeverBack (call ∷ later) earlier = NeverBack later earlier × (moment (later ++ earlier) ≤ moment (call ∷ later ++ earlier))
 
--- a smaller NAME's claim of the address is heard
-abbrev pub drives_away : Who → Call → Bool
-drives_away w (At now (Hear f)) = is_smaller w (claim_of f)
-drives_away w call = false
+-- a claim that was taken no longer stands: a smaller NAME's claim of the address is heard, or it is to be claimed anew
+abbrev pub unclaims : Who → Call → Bool
+unclaims w (At now (Hear f)) = is_smaller w (claim_of f)
+unclaims w (At now Again) = true
+unclaims w call = false
 
-abbrev pub NoneDrivesAway : Who → List Call → Type 0
-NoneDrivesAway w [] = Unit {0}
-NoneDrivesAway w (call ∷ later) = (drives_away w call ≡ false) × NoneDrivesAway w later
+abbrev pub NoneUnclaims : Who → List Call → Type 0
+NoneUnclaims w [] = Unit {0}
+NoneUnclaims w (call ∷ later) = (unclaims w call ≡ false) × NoneUnclaims w later
 
--- a claim of the address was taken at a call of H, and no smaller NAME's claim was heard since; e microseconds passed since
+-- a claim of the address was taken at a call of H, and stands since; e microseconds passed since
 pub record ClaimedSince (w : Who) (H : List Call) (e : ℕ) : Type 0 where
   pub later : List Call
   pub earlier : List Call
@@ -34,8 +35,17 @@ pub record ClaimedSince (w : Who) (H : List Call) (e : ℕ) : Type 0 where
   pub claim : FrameRecord
   pub is : H ≡ later ++ At at (TakeFrame (Some claim)) ∷ earlier
   pub claims : message_of claim ≡ claim_from w w.address
-  pub stays : NoneDrivesAway w later
+  pub stays : NoneUnclaims w later
   pub passed : e ≡ passed_in later (At at (TakeFrame (Some claim)) ∷ earlier)
+
+-- another of its NAME claimed this address at a call of H
+pub record HasDouble (w : Who) (address : ℕ) (H : List Call) : Type 0 where
+  pub later : List Call
+  pub at : ℕ
+  pub claim : FrameRecord
+  pub earlier : List Call
+  pub is : H ≡ later ++ At at (Hear claim) ∷ earlier
+  pub of_it : claim_of claim ≡ Some (record { name = w.name; address = address })
 
 -- a frame of packets was taken at a call of H; e microseconds passed since
 pub record PacketSince (H : List Call) (e : ℕ) : Type 0 where

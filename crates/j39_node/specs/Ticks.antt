@@ -1,11 +1,35 @@
--- The first moment at which a tick does something but let time pass.
-use Rattle.std.specs.Prelude.{ℕ, List, Option}
-use Rattle.j39_node.specs.History.{Who, Call}
+-- The first moment at which a tick does something but let time pass; and a driver that ticks in time, by its calls alone.
+use Rattle.std.specs.Prelude.{◌≤◌, ℕ, ◌+◌, List, [], ◌∷◌, ◌++◌, Option, Some, None}
+use Rattle.j39_transport.specs.Reception.{ReceptionRecord}
+use Rattle.j39_node.specs.History.{Who, Call, moment, step}
+use Rattle.j39_node.specs.History.Call.{At}
+use Rattle.j39_node.specs.History.Act.{Tick}
 use Rattle.j39_node.specs.Asking.{request_tick}
 use Rattle.j39_node.specs.Hearing.{hearing_tick}
-use Rattle.j39_node.specs.Reception.{session_tick}
+use Rattle.j39_node.specs.Reception.{reception, session_tick}
 use Rattle.j39_node.specs.Transfers.{sooner}
 
 -- of the session, of the broadcast that is heard, or of the open request
 abbrev pub next_tick : Who → List Call → Option ℕ
 next_tick w H = sooner (session_tick w H) (sooner (hearing_tick w H) (request_tick w H))
+
+-- the sum of the forward steps since a tick, or since the earlier calls
+abbrev pub unticked_in : List Call → List Call → ℕ
+unticked_in [] earlier = 0
+unticked_in (At now Tick ∷ later) earlier = 0
+unticked_in (call ∷ later) earlier = unticked_in later earlier + step (later ++ earlier) (moment (call ∷ later ++ earlier))
+
+-- from the earlier calls to the first tick, and from each tick to the next, at most g microseconds pass
+abbrev pub TicksWithin : ℕ → List Call → List Call → Type 0
+TicksWithin g [] earlier = Unit {0}
+TicksWithin g (call ∷ later) earlier =
+    TicksWithin g later earlier × (unticked_in later earlier + step (later ++ earlier) (moment (call ∷ later ++ earlier)) ≤ g)
+
+-- a session is open after each of these calls, each of a message of at most n packets
+abbrev pub IsOpenOf : ℕ → Option ReceptionRecord → Type 0
+IsOpenOf n None = ⊥
+IsOpenOf n (Some r) = r.message.packets ≤ n
+
+abbrev pub StaysOpen : Who → ℕ → List Call → List Call → Type 0
+StaysOpen w n [] earlier = IsOpenOf n (reception w earlier).session
+StaysOpen w n (call ∷ later) earlier = StaysOpen w n later earlier × IsOpenOf n (reception w (call ∷ later ++ earlier)).session

@@ -12,7 +12,7 @@ use Rattle.j39_node.specs.declared.kinds.TransferEnding.{TransferEnding}
 use Rattle.j39_node.specs.declared.kinds.TransferEnding.TheVariants.{Done, Withdrawn, Failed, Gone}
 use Rattle.j39_node.specs.declared.kinds.Refused.{Refused}
 use Rattle.j39_node.specs.declared.kinds.Refused.TheVariants.{NoAddress, BadValue, Full}
-use Rattle.j39_node.specs.History.{Who, Message, Call, Resting, NoneRests, PairRests, AllRest, address_after, broadcast_from, can_broadcast, has_packets, held_at, holds, is_held, is_lost, is_some, moment, owes_claim, pause, stamp_at, step}
+use Rattle.j39_node.specs.History.{Who, Message, Call, Resting, NoneRests, PairRests, AllRest, address_after, broadcast_from, can_broadcast, delayed, has_packets, held_at, holds, is_held, is_lost, is_some, may_claim, moment, owes_claim, pause, stamp_at, step}
 use Rattle.j39_node.specs.Reception.{holder, is_move, is_waiting}
 use Rattle.j39_node.specs.History.Call.{At, TakeTransferEnded}
 use Rattle.j39_node.specs.History.Act.{Hear, TakeFrame, Transfer}
@@ -241,9 +241,9 @@ abbrev pub transfer_in : Option Running → ℕ → Option ℕ
 transfer_in None now = None
 transfer_in (Some t) now = running_in t now
 
--- in how long a frame of the open broadcast is
+-- in how long a frame of the open broadcast is, by what is left of its pause
 abbrev pub packet_in : Bool → ℕ → Option ℕ
-packet_in left pause = if left then Some pause else None
+packet_in left pause = if left then Some (pause - 100000) else None
 
 abbrev pub sooner : Option ℕ → Option ℕ → Option ℕ
 sooner None other = other
@@ -257,11 +257,11 @@ abbrev pub at_in : ℕ → Option ℕ → Option ℕ
 at_in m None = None
 at_in m (Some n) = stamp_at (m + n)
 
--- the moment of the last call, if a frame can be taken; else that at which one of packets can be, or the address is held
+-- the moment of the last call, if a frame can be taken; else that at which one of packets can be, 'cannot claim', or the address is held
 abbrev pub next_due : Who → List Call → Option ℕ
 next_due w H =
-    if owes_claim w H || (is_held (address_after w H) && is_waiting w H)
+    if may_claim w H (delayed w H) || (is_held (address_after w H) && is_waiting w H)
     then stamp_at (moment H)
     else if is_held (address_after w H)
     then at_in (moment H) (packets_in w H)
-    else held_at (address_after w H) (moment H)
+    else if owes_claim w H then stamp_at (moment H + delayed w H) else held_at (address_after w H) (moment H)

@@ -104,7 +104,7 @@ pub fn ask_done_means()
 
 /// A message in packets, of the group and from whom was asked (from anybody where all were), answers a request by the frame that makes
 /// it whole: one to this address, or a broadcast that is heard, which `announcements_heard` tells. It is coming from its begin on: while
-/// a session of whom was asked is open, or the broadcast isn't whole, nor late.
+/// its session, of the group and from who was asked, is open, or the broadcast isn't whole, nor late.
 pub fn packets_answer()
     ensures transfer { (w : Who) (H : List Call) (now : ℕ) (f : FrameRecord) (m : MessageRecord) (q : Question) → whole w H now f ≡ Some m
         → m.pgn ≡ q.group → (q.to ≡ global_address) ⊎ (m.source ≡ q.to) → says_to w q f (made w H now f) ≡ Some ending.Answered }
@@ -112,7 +112,7 @@ pub fn packets_answer()
         → made_whole w H now f ≡ Some x → x.1.pgn ≡ q.group → (q.to ≡ global_address) ⊎ (x.1.source ≡ q.to)
         → says_to w q f (made w H now f) ≡ Some ending.Answered }
     ensures coming { (w : Who) (H : List Call) (time : ℕ) (q : Question) → open_ask H ≡ Some q → (IsTrue (comes w H time)
-        ↔ (((r : ReceptionRecord) × ((reception w H).session ≡ Some r) × (r.message.source ≡ q.to))
+        ↔ (((r : ReceptionRecord) × ((reception w H).session ≡ Some r) × (r.message.source ≡ q.to) × (r.message.group ≡ q.group))
         ⊎ ((x : OpenBroadcast) × (hearing w H ≡ Some x) × (is_whole x ≡ false) × (is_late time x ≡ false) × (x.group ≡ q.group)
         × ((q.to ≡ global_address) ⊎ (x.source ≡ q.to))))) }
 {}

@@ -82,12 +82,12 @@ impl Open {
         }
     }
 
-    /// Whether a session of this source is one of whom was asked.
-    fn is_from(&self, session: Option<u8>) -> bool
+    /// Whether a session of this source and group is one of whom was asked, and of the group.
+    fn is_from(&self, session: Option<(u8, u32)>) -> bool
         ensures { result ≡ is_from (ask_record self.now).question session }
     {
         match session {
-            Some(source) => source == self.to,
+            Some((source, group)) => source == self.to && group == self.group.raw(),
             None => false,
         }
     }
@@ -162,9 +162,8 @@ impl Asking {
         }
     }
 
-    /// Whether an answer to the open request is on its way: behind the session of this source, or in the broadcast of this source and
-    /// group.
-    pub(crate) fn is_coming(&self, session: Option<u8>, broadcast: Option<(u8, u32)>) -> bool
+    /// Whether an answer to the open request is on its way, in the session or the broadcast of this source and group.
+    pub(crate) fn is_coming(&self, session: Option<(u8, u32)>, broadcast: Option<(u8, u32)>) -> bool
         ensures { result ≡ is_coming (option_map (λ x. x.question) (asking_of self.now)) session broadcast }
     {
         match &self.current {
@@ -174,7 +173,7 @@ impl Asking {
     }
 
     /// How the open request ended without a word, with so much left of its time.
-    pub(crate) fn silence(&self, left: u64, is_coming: bool, is_lost: bool) -> Option<AskEnding>
+    pub(crate) fn silence(&self, left: u32, is_coming: bool, is_lost: bool) -> Option<AskEnding>
         ensures { result ≡ silence left is_coming is_lost (asking_of self.now) }
     {
         match &self.current {
@@ -266,7 +265,7 @@ fn first(one: Option<AskEnding>, later: Option<AskEnding>) -> Option<AskEnding>
 }
 
 /// How a request ended without a word.
-fn silent_end(is_taken: bool, left: u64, is_coming: bool, is_lost: bool) -> Option<AskEnding>
+fn silent_end(is_taken: bool, left: u32, is_coming: bool, is_lost: bool) -> Option<AskEnding>
     ensures { result ≡ silent_end is_taken left is_coming is_lost }
 {
     if is_taken && (left == 0 && !is_coming) {

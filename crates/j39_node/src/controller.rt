@@ -1,5 +1,5 @@
 //! A controller.
-ghost use Rattle.std.specs.Prelude.{IsTrue, true, ◌≡◌, ℕ, List, [], ◌∷◌, ◌↔◌, ◌&&◌, ◌||◌, ◌==◌, ◌+◌, nat_eq, nat_lt, nat_le, not, if◌then◌else◌, min, IsSome, IfSome, Some, None, length, map, ◌<◌, ◌≤◌, false};
+ghost use Rattle.std.specs.Prelude.{IsTrue, true, ◌≡◌, ℕ, Option, List, [], ◌∷◌, ◌↔◌, ◌&&◌, ◌||◌, ◌==◌, ◌+◌, nat_eq, nat_lt, nat_le, not, if◌then◌else◌, min, IsSome, IfSome, Some, None, length, map, ◌<◌, ◌≤◌, false};
 ghost use Rattle.std.specs.List.{slice_get};
 ghost use Rattle.std.specs.Option.{option_map};
 ghost use Rattle.j39_frame.specs.Address.{IsAddress, null_address};
@@ -11,29 +11,30 @@ ghost use Rattle.j39_address.specs.Claims.{holder_in};
 ghost use Rattle.j39_address.specs.Holder.{IsHolderAfter};
 ghost use Rattle.j39_address.specs.Node.{IsLeastFree, NoneFree};
 ghost use Rattle.j39_transport.specs.ReceiverModel.{message_shown};
-ghost use Rattle.j39_node.specs.History.{Who, Call, is_left, missed, told_claims, nothing};
-ghost use Rattle.j39_node.specs.Reception.{reception};
+ghost use Rattle.j39_node.specs.History.{Who, Call, is_left, missed, told_claims, nothing, content};
+ghost use Rattle.j39_node.specs.Reception.{reception, still};
 ghost use Rattle.j39_node.specs.Ticks.{next_tick};
 ghost use Rattle.j39_node.specs.Hearing.{unheard, waiting};
 ghost use Rattle.j39_node.specs.Transfers.{clock, is_replaced, next_due, packet_in, packets_in, sooner, transfer_by, transfer_in};
-ghost use Rattle.j39_node.specs.Hold.{lost, stands};
+ghost use Rattle.j39_node.specs.Hold.{can_claim, lost, stands};
 ghost use Rattle.j39_node.specs.Moving.{HasMoved, IsSettled, has_given, has_told};
-ghost use Rattle.j39_node.specs.History.Call.{At, TakeAskEnded, TakeEnded, TakeReceived, TakeRequest, TakeNews, TakeBroadcastEnded, ReleaseTransfer, TakeTransferEnded, ReleaseBroadcast};
-ghost use Rattle.j39_node.specs.History.Act.{Ask, Hear, Tick, TakeFrame, Send, Acknowledge, Broadcast, Transfer};
-ghost use Rattle.j39_node.specs.Asking.{in_broadcast, in_session, is_asking, is_coming, out_at};
-ghost use Rattle.j39_node.specs.Is.{asking_of, is_there, Is, next_claims_request, first_of, lane_of, next_frame, packet_by, posted, received_by, request_by, silence, stamped, status_after, who_of, long_by, port_of, hearing_of, incoming_of, waits_with};
+ghost use Rattle.j39_node.specs.History.Call.{At, TakeAskEnded, TakeEnded, TakeReceived, TakeRequest, TakeNews, TakeBroadcastEnded, ReleaseTransfer, TakeTransferEnded, ReleaseBroadcast, Renew};
+ghost use Rattle.j39_node.specs.History.Act.{Ask, Hear, Tick, TakeFrame, Send, Acknowledge, Broadcast, Transfer, Again};
+ghost use Rattle.j39_node.specs.Asking.{in_broadcast, is_asking, is_coming, out_at};
+ghost use Rattle.j39_node.specs.Is.{asking_of, Is, next_claims_request, lane_of, next_frame, packet_by, posted, received_by, request_by, silence, stamped, status_after, who_of, port_of, hearing_of, incoming_of, session_by, waits_with, is_apart, is_turn, ready_in, turn_frame, turn_of};
 
 use crate::asking::{self, Asking};
 use crate::hearing::Hearing;
-use crate::hold::{Hold, Standing};
-use crate::incoming::{Incoming, is_same};
+use crate::hold::{Hold, SLACK, Standing};
+use crate::incoming::{Bearing, Incoming, is_same};
 use crate::lane::{Lane, Open};
 use crate::news::Untold;
-use crate::outgoing::Outgoing;
+use crate::outgoing::{Outgoing, latest, renew};
 use crate::own::{Own, numbers, subscriptions};
 use crate::received::Inbox;
 use crate::requests::{Desk, Due, asked};
 use crate::transfers::{self, Transfers};
+use crate::turn::{Ready, Turn, is_that};
 use crate::{Answer, AskEnding, Ending, News, Received, Refused, Request, TransferEnding};
 use arrayvec::ArrayVec;
 use j39_address::{Claims, Name, Status};
@@ -41,10 +42,11 @@ use j39_frame::{Frame, GLOBAL_ADDRESS, NULL_ADDRESS, Pgn, Stamp, is_address};
 use j39_transport::Message;
 use std::alloc::{AllocError, Global};
 
-/// A controller of one address: it claims it, defends it, sends messages of one frame and receives those of others, sends
-/// longer ones in packets, to all or to one address, and receives those that come in packets to its own, or to all. Claims go
-/// first, then acknowledgments, what it says as a receiver, messages, packets to all, and packets to one. `new` takes memory, and no other
-/// call does or fails.
+/// A controller of one address: it claims it, defends it, sends messages of one frame and receives those of others, sends longer
+/// ones in packets, to all or to one address, and receives those that come in packets to its own, or to all. Claims go first,
+/// then acknowledgments, packets to all that are 100 ms late, what it says as a receiver, messages, packets to all, and packets
+/// to one; but of three frames one is neither of the first two, and what it says as a receiver takes turns with all behind it
+/// (own). `new` takes memory, and no other call does or fails.
 #[derive(Drop)]
 pub struct Controller {
     own: Own,
@@ -72,12 +74,15 @@ impl Controller {
     ghost use Rattle.j39_node.specs.History.{Who, Call, AreFew};
 
     /// A controller of this NAME that will claim this address, whose program serves these groups, and subscribes these, or all
-    /// where there are none: of others it receives neither frames nor broadcasts in packets, and misses none. `None` for an address
-    /// above 253, more than 16 groups served, or more than 64 subscribed, where no memory is taken. An error where memory is refused.
+    /// where there are none: of others it receives neither frames nor broadcasts in packets, and misses none. Its word that it can't
+    /// claim one waits for `delay` times 0.6 ms (J1939-81, 4.2.2): a number by chance, so that two that lose at once don't say it at once.
+    /// `None` for an address above 253, more than 16 groups served, or more than 64 subscribed, where no memory is taken. An error
+    /// where memory is refused.
     pub fn new(
         alloc: Global,
         name: Name,
         address: u8,
+        delay: u8,
         served: &[Pgn],
         subscribed: Option<&[Pgn]>,
     ) -> Result<Option<Controller>, AllocError>
@@ -86,6 +91,7 @@ impl Controller {
         ensures is { IfOk result (λ found. IfSome found (λ c. Is (record {
           name = name_raw name;
           address = address;
+          delay = delay;
           served = map pgn_raw served.now;
           subscribed = option_map (λ g. map pgn_raw g.now) subscribed.entry;
           brought = nothing;
@@ -109,6 +115,7 @@ impl Controller {
             own: Own {
                 name,
                 address,
+                delay,
                 served,
                 subscribed,
             },
@@ -143,6 +150,13 @@ impl Controller {
             }
             Standing::Lost => Status::Cannot,
         }
+    }
+
+    /// The address that it claims.
+    pub fn address(&self) -> u8
+        ensures { (w : Who) (H : List Call) → Is w H self.now → result ≡ w.address }
+    {
+        self.own.address
     }
 
     /// The NAME that holds the address, by the claims heard and its own that were taken; `None` where nobody does.
@@ -184,10 +198,10 @@ impl Controller {
         None
     }
 
-    /// Begins anew at another address, which it will claim: with the same NAME and groups, with what it knows of who holds
-    /// which address and which transfers rest, and with nothing else, as a controller that `new` gives. What was due is dropped, a
-    /// session too, without a frame. False, where nothing changes, for an address above 253, or as long as something that was accepted isn't told to have
-    /// ended, or something received or news wasn't taken.
+    /// Begins anew at another address, which it will claim: with the same NAME and groups, with what it knows of who holds which
+    /// address and which transfers rest, and with nothing else, as a controller that `new` gives. What was due is dropped, a
+    /// session too, without a frame. False, where nothing changes, for an address above 253, or as long as something that was
+    /// accepted isn't told to have ended, or something received or news wasn't taken.
     ///
     /// A command to move (J1939-81, 4.2.3) is received as a broadcast in packets: `j39_address::commanded_of` reads it.
     pub fn move_to(&mut self, address: u8) -> bool
@@ -224,7 +238,7 @@ impl Controller {
     }
 
     /// The moment before which `take_frame` answers none, if nothing is heard or handed in till then: that of the last call,
-    /// where a frame can be taken, or that at which a packet can be, or its address is held. `None` where there is none.
+    /// where a frame can be taken, or that at which a packet can be, or 'cannot claim', or its address is held. `None` where there is none.
     pub fn next_due(&self) -> Option<Stamp>
         ensures { (w : Who) (H : List Call) → Is w H self.now → option_map stamp_micros result ≡ next_due w H }
     {
@@ -233,7 +247,7 @@ impl Controller {
         } else if self.hold.is_held() {
             self.hold.later(self.packets_in()?)
         } else {
-            self.hold.held_at()
+            self.hold.claim_at()
         }
     }
 
@@ -261,17 +275,22 @@ impl Controller {
         let misses = self.inbox.misses(wanted);
         self.inbox.offer(wanted, frame);
         let request = asked(&self.own, is_held, frame);
+        let request = self.desk.fresh(&self.own, request);
         self.desk.hear(&self.own, request);
         let before = self.peer();
         let speaker = self.speaker();
         let has_place = self.incoming.has_place();
         let waited = self.hearing.is_waiting();
-        let drives_away = self.own.is_driven_away(frame);
-        self.incoming
-            .hear(&mut self.holders, drives_away, is_held, frame, now);
+        let doubled = self.own.double(frame);
+        let bearing = Bearing {
+            drives_away: self.own.is_driven_away(frame),
+            is_double: doubled.is_some(),
+            is_held,
+        };
+        let gone = self.incoming.hear(&mut self.holders, bearing, frame, now);
         let transferred = self.incoming.made(has_place);
         let is_replaced = is_replaced(before, self.peer());
-        let is_left = !is_same(speaker, self.speaker());
+        let is_left = !is_same(self.still(gone, speaker), self.speaker());
         let time = self.incoming.clock;
         let is_over = self.hearing.is_over(is_left, time);
         let breaks = self.hearing.leave(is_over);
@@ -283,13 +302,25 @@ impl Controller {
         let another = self.own.is_another(is_held, frame);
         self.news = self
             .news
-            .heard(drives_away, is_lost, another, misses, unheard);
-        self.news = self.news.with_missed(breaks);
-        self.hold = self.hold.heard(drives_away, calls, another);
+            .heard(bearing.drives_away, is_lost, another, misses, unheard);
+        self.news = self.news.with_double(doubled).with_missed(breaks);
+        self.hold = self
+            .hold
+            .heard(bearing.drives_away, calls, another, self.own.delay());
         self.transfers
             .hear(self.hold.is_lost(), is_replaced, frame, self.hold.clock());
         let silence = self.silence(is_coming);
         self.asking.hear(&self.own, silence, frame, made);
+    }
+
+    /// Claims its address anew, and forgets nothing else: for a driver whose bus was away (after bus-off, or where its interface
+    /// was down), so that others may have missed the claim, or this one theirs. It holds the address 250 ms after that claim is
+    /// taken, and what was accepted waits till then. Where the address is lost it says again that it can't claim one. To another
+    /// such controller the claim is that of a restart (own): what comes to it in packets from here is over.
+    pub fn again(&mut self, now: Stamp)
+        ensures { (w : Who) (H : List Call) → Is w H self.old → Is w (At (stamp_micros now) Again ∷ H) self.new }
+    {
+        self.hold = self.hold.passed(now).anew(self.own.delay());
     }
 
     /// Time passes.
@@ -310,7 +341,7 @@ impl Controller {
     {
         let hold = self.hold.passed(now);
         let gives_way = self.gives_way(hold, now);
-        if self.is_claim_due(gives_way) {
+        if hold.claims(gives_way) {
             let address = self.claim_address();
             return self.own.claim(address, now);
         }
@@ -319,10 +350,7 @@ impl Controller {
         }
         match self.first_due(gives_way) {
             Some(due) => self.own.acknowledgment(due, now),
-            None => match self.incoming.frame(now) {
-                Some(reply) => Some(reply),
-                None => self.peek_message(hold, now),
-            },
+            None => self.peek_other(hold, now),
         }
     }
 
@@ -332,12 +360,13 @@ impl Controller {
     {
         self.hold = self.hold.passed(now);
         let gives_way = self.gives_way(self.hold, now);
-        if self.is_claim_due(gives_way) {
+        if self.hold.claims(gives_way) {
             let address = self.claim_address();
             self.hold = self.hold.claimed();
             let claim = self.own.claim(address, now)?;
             let speaker = self.speaker();
-            self.incoming.note(&mut self.holders, &claim);
+            self.incoming.note(&mut self.holders, &claim, None, false);
+            self.incoming.call(true, now);
             let is_left = !is_same(speaker, self.speaker());
             let breaks = self.hearing.leave(is_left);
             self.news = self.news.with_missed(breaks);
@@ -350,32 +379,33 @@ impl Controller {
             self.hold = self.hold.acknowledged();
             return self.own.acknowledgment(&self.desk.due.remove(0), now);
         }
-        if !self.incoming.replies.is_empty() {
-            self.hold = self.hold.spoken();
-            return self.incoming.replies.remove(0).frame(self.own.address, now);
-        }
-        match self.outgoing.as_slice().get(self.taken) {
-            Some(next) => {
+        match self.turn(self.hold, now)? {
+            Turn::Reply => {
+                self.hold = self.hold.spoken();
+                self.incoming.replies.remove(0).frame(self.own.address, now)
+            }
+            Turn::Single => {
+                let next = self.outgoing.as_slice().get(self.taken)?;
                 let frame = next.frame(now);
                 let is_request = self.asking.take(next.token);
+                self.incoming.call(next.asks_claims(), now);
                 self.hold = self.hold.asked(is_request);
                 self.taken += 1;
                 frame
             }
-            None => match self.lane.frame(&self.own, self.hold.pause, now) {
-                Some(packet) => {
-                    self.lane.count += 1;
-                    self.hold = self.hold.paused();
-                    Some(packet)
-                }
-                None => {
-                    let clock = self.hold.clock();
-                    let frame = self.transfers.frame(clock, now)?;
-                    self.transfers.taken(clock);
-                    self.hold = self.hold.spoken();
-                    Some(frame)
-                }
-            },
+            Turn::Packet => {
+                let packet = self.lane.frame(&self.own, self.hold.pause, now)?;
+                self.lane.count += 1;
+                self.hold = self.hold.paused();
+                Some(packet)
+            }
+            Turn::Move => {
+                let clock = self.hold.clock();
+                let frame = self.transfers.frame(clock, now)?;
+                self.transfers.taken(clock);
+                self.hold = self.hold.spoken();
+                Some(frame)
+            }
         }
     }
 
@@ -425,6 +455,18 @@ impl Controller {
         }
     }
 
+    /// Puts a message of 0 to 8 bytes in the place of the last that waits to be taken with its priority, group and destination, and is no
+    /// request, so that the newest value goes: answers its token, which stays, and the older bytes are never sent. `None`, where nothing
+    /// changes, if none waits, or the message can't be sent (`send` tells why): then hand it in by `send`.
+    pub fn renew(&mut self, priority: u8, group: Pgn, to: u8, bytes: &[u8]) -> Option<u64>
+        ensures { (w : Who) (H : List Call) → Is w H self.old → Is w (Renew (record
+            { priority = priority; group = pgn_raw group; to = to; bytes = bytes.now }) result ∷ H) self.new }
+    {
+        let message = Outgoing::new(0, &self.own, priority, group, to, bytes)?;
+        let place = latest(self.outgoing.as_slice(), self.taken, &message)?;
+        renew(&mut self.outgoing, place, message)
+    }
+
     /// Tells a message that ended, each once.
     pub fn take_ended(&mut self) -> Option<(u64, Ending)>
         ensures { (w : Who) (H : List Call) → Is w H self.old → Is w (TakeEnded result ∷ H) self.new }
@@ -464,6 +506,7 @@ impl Controller {
                 self.lane.current = Some(broadcast);
                 self.lane.count = 0;
                 self.lane.next_token += 1;
+                self.hold = self.hold.opens();
                 Ok(token)
             }
             None => Err(Refused::BadValue),
@@ -523,11 +566,12 @@ impl Controller {
         Some(ended)
     }
 
-    /// Asks an address, or all (255), for a group, also for claims, by a message of priority 6; answers its token, one of those of `send`, to which
-    /// `take_ended` tells that its frame was taken. `Full` while one is accepted and not told by `take_ask_ended`, or sixteen
-    /// messages are. The answer itself is received like any message: subscribe its group, unless it comes by a transfer. One
-    /// that is broadcast in packets counts if it is heard: if its group is subscribed, and no other broadcast lies there or is open.
-    /// Where one in packets comes, its end is waited for, even if the 1,250 ms of the request are over before.
+    /// Asks an address, or all (255), for a group, also for claims, by a message of priority 6; answers its token, one of those
+    /// of `send`, to which `take_ended` tells that its frame was taken. `Full` while one is accepted and not told by
+    /// `take_ask_ended`, or sixteen messages are. The answer itself is received like any message: subscribe its group, unless it
+    /// comes by a transfer. One that is broadcast in packets counts if it is heard: if its group is subscribed, and no other
+    /// broadcast lies there or is open. Where one in packets comes, its end is waited for, even if the 1,250 ms of the request
+    /// are over before.
     pub fn ask(&mut self, now: Stamp, group: Pgn, to: u8) -> Result<u64, Refused>
         ensures { (w : Who) (H : List Call) → Is w H self.old
             → Is w (At (stamp_micros now) (Ask (pgn_raw group) to result) ∷ H) self.new }
@@ -621,6 +665,10 @@ impl Controller {
             self.news.another = false;
             return Some(News::AnotherAtAddress);
         }
+        if let Some(address) = self.news.doubled {
+            self.news.doubled = None;
+            return Some(News::NameDoubled(address));
+        }
         if self.news.missed {
             self.news.missed = false;
             return Some(News::MessagesMissed);
@@ -628,8 +676,8 @@ impl Controller {
         None
     }
 
-    /// A request for a served group, each once, the oldest first. Answer it by `acknowledge`, or by `send` of its group: to
-    /// all where all were asked, else to who asked.
+    /// A request for a served group, each once, the oldest first; one that is repeated while it waits is no other (own). Answer
+    /// it by `acknowledge`, or by `send` of its group: to all where all were asked, else to who asked.
     pub fn take_request(&mut self) -> Option<Request>
         ensures { (w : Who) (H : List Call) → Is w H self.old
             → Is w (TakeRequest (option_map request_by result) ∷ H) self.new }
@@ -662,7 +710,7 @@ impl Controller {
         if self.desk.due.is_full() {
             return Err(Refused::Full);
         }
-        self.desk.due.push(Due { answer, request });
+        self.desk.due.push(Due::new(answer, &request));
         Ok(())
     }
 
@@ -694,26 +742,72 @@ impl Controller {
             && self.news.is_none()
     }
 
-    /// The frame of the first message that wasn't taken, or else of packets.
-    fn peek_message(&self, hold: Hold, now: Stamp) -> Option<Frame>
+    /// The frame that goes next, beside claims and acknowledgments.
+    fn peek_other(&self, hold: Hold, now: Stamp) -> Option<Frame>
         ensures { option_map stamped result ≡ option_map (λ m. (stamp_micros now, m))
-            (first_of None (option_map posted (slice_get self.now.outgoing.items self.now.taken))
-            (long_by (packet_by (lane_of (who_of nothing self.now.own) self.now.lane).current self.now.lane.count hold.pause)
-            (transfer_by (port_of self.now.transfers).current (clock hold.age)))) }
+            (turn_frame (turn_of hold.yields (ready_in self.now hold)) (slice_get (incoming_of self.now.incoming).reception.replies 0)
+            (option_map posted (slice_get self.now.outgoing.items self.now.taken))
+            (packet_by (lane_of (who_of nothing self.now.own) self.now.lane).current self.now.lane.count hold.pause)
+            (transfer_by (port_of self.now.transfers).current (clock hold.age))) }
+    {
+        match self.turn(hold, now)? {
+            Turn::Reply => self.incoming.frame(now),
+            Turn::Single => self.peek_message(now),
+            Turn::Packet => self.lane.frame(&self.own, hold.pause, now),
+            Turn::Move => self.transfers.frame(hold.clock(), now),
+        }
+    }
+
+    /// The frame of the first message that wasn't taken.
+    fn peek_message(&self, now: Stamp) -> Option<Frame>
+        ensures { option_map stamped result ≡ option_map (λ m. (stamp_micros now, m))
+            (option_map content (option_map posted (slice_get self.now.outgoing.items self.now.taken))) }
     {
         match self.outgoing.as_slice().get(self.taken) {
             Some(next) => next.frame(now),
-            None => match self.lane.frame(&self.own, hold.pause, now) {
-                Some(packet) => Some(packet),
-                None => self.transfers.frame(hold.clock(), now),
-            },
+            None => None,
+        }
+    }
+
+    /// What goes next, beside claims and acknowledgments.
+    fn turn(&self, hold: Hold, now: Stamp) -> Option<Turn>
+        ensures { result ≡ turn_of hold.yields (ready_in self.now hold) }
+    {
+        self.ready(hold, now).turn(hold.yields)
+    }
+
+    /// What is due, beside claims and acknowledgments.
+    fn ready(&self, hold: Hold, now: Stamp) -> Ready
+        ensures { result ≡ ready_in self.now hold }
+    {
+        let is_left = self.lane.is_left();
+        Ready {
+            overdue: is_left && hold.pause == 0,
+            reply: 0 < self.incoming.replies.len(),
+            message: self.taken < self.outgoing.len(),
+            packet: is_left && hold.pause <= SLACK,
+            transfer: self.sends_apart(hold, now),
+        }
+    }
+
+    /// A frame of the open transfer is due, and isn't the very frame that the first reply is.
+    fn sends_apart(&self, hold: Hold, now: Stamp) -> bool
+        ensures { result ≡ is_apart (transfer_by (port_of self.now.transfers).current (clock hold.age))
+            (slice_get (incoming_of self.now.incoming).reception.replies 0) }
+    {
+        let frame = self.transfers.frame(hold.clock(), now);
+        let reply = self.incoming.frame(now);
+        match (frame, reply) {
+            (None, _) => false,
+            (Some(_), None) => true,
+            (Some(frame), Some(reply)) => !is_that(&frame, &reply),
         }
     }
 
     /// An answer to the open request is on its way, at this time.
     fn is_coming(&self, time: Stamp) -> bool
         ensures { result ≡ is_coming (option_map (λ x. x.question) (asking_of self.now.asking))
-            (in_session (incoming_of self.now.incoming).reception.session)
+            (session_by (incoming_of self.now.incoming).reception.session (incoming_of self.now.incoming).named)
             (in_broadcast (stamp_micros time) (hearing_of self.now.hearing).current) }
     {
         let session = self.incoming.session();
@@ -732,12 +826,12 @@ impl Controller {
     /// When the open request times out.
     fn request_tick(&self) -> Option<Stamp>
         ensures { option_map stamp_micros result ≡ out_at (waits_with (is_coming (option_map (λ x. x.question) (asking_of self.now.asking))
-            (in_session (incoming_of self.now.incoming).reception.session)
+            (session_by (incoming_of self.now.incoming).reception.session (incoming_of self.now.incoming).named)
             (in_broadcast (incoming_of self.now.incoming).clock (hearing_of self.now.hearing).current)) (asking_of self.now.asking))
             self.now.hold.moment self.now.hold.wait }
     {
         if self.asking.is_waiting(self.is_coming(self.incoming.clock)) {
-            self.hold.later(self.hold.wait)
+            self.hold.later(u64::from(self.hold.wait))
         } else {
             None
         }
@@ -765,13 +859,24 @@ impl Controller {
         }
     }
 
+    /// Who held the address from which the open broadcast comes, and holds it still: nobody, if its holder restarted.
+    fn still(&self, gone: Option<u8>, speaker: Option<Name>) -> Option<Name>
+        ensures { (before : ℕ → Option ℕ) → IfSome (hearing_of self.now.hearing).current (λ x. option_map name_raw speaker ≡ before x.source)
+            → IfSome (hearing_of self.now.hearing).current (λ x. option_map name_raw result ≡ still gone before x.source) }
+    {
+        match self.hearing.source() {
+            Some(source) => { if gone == Some(source) { None } else { speaker } }
+            None => None,
+        }
+    }
+
     /// A frame can be taken.
     fn has_frame(&self) -> bool
-        ensures { result ≡ (self.now.hold.owes_claim || (stands self.now.hold.standing
+        ensures { result ≡ (can_claim self.now.hold || (stands self.now.hold.standing
             && (nat_lt self.now.taken (length self.now.outgoing.items) || (nat_lt 0 (length self.now.desk.due.items)
             || nat_lt 0 (length self.now.incoming.replies.items))))) }
     {
-        self.hold.owes_claim || (self.hold.is_held() && self.is_waiting())
+        self.hold.claims(false) || (self.hold.is_held() && self.is_waiting())
     }
 
     /// In how long a frame of packets can be taken.
@@ -781,7 +886,7 @@ impl Controller {
             (transfer_in (port_of self.now.transfers).current (clock self.now.hold.age)) }
     {
         let packet = if self.lane.is_left() {
-            Some(self.hold.pause)
+            Some(u64::from(self.hold.pause.saturating_sub(SLACK)))
         } else {
             None
         };
@@ -800,22 +905,10 @@ impl Controller {
 
     /// Two claims or acknowledgments were taken in a row, and another frame can be taken, which goes first.
     fn gives_way(&self, hold: Hold, now: Stamp) -> bool
-        ensures { result ≡ (nat_le 2 hold.turns && (stands hold.standing && is_there (first_of
-            (slice_get (incoming_of self.now.incoming).reception.replies 0)
-            (option_map posted (slice_get self.now.outgoing.items self.now.taken))
-            (long_by (packet_by (lane_of (who_of nothing self.now.own) self.now.lane).current self.now.lane.count hold.pause)
-            (transfer_by (port_of self.now.transfers).current (clock hold.age)))))) }
+        ensures { result
+            ≡ (nat_le 2 hold.turns && (stands hold.standing && is_turn (turn_of hold.yields (ready_in self.now hold)))) }
     {
-        hold.turns >= 2
-            && hold.is_held()
-            && (self.incoming.frame(now).is_some() || self.peek_message(hold, now).is_some())
-    }
-
-    /// A claim goes before all else, unless it gives way.
-    fn is_claim_due(&self, gives_way: bool) -> bool
-        ensures { result ≡ (self.now.hold.owes_claim && not gives_way) }
-    {
-        self.hold.owes_claim && !gives_way
+        hold.turns >= 2 && hold.is_held() && self.turn(hold, now).is_some()
     }
 
     /// An acknowledgment goes before what is left, unless it gives way.

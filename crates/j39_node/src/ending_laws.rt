@@ -1,17 +1,18 @@
-//! Laws of a driver that is prompt: what was accepted ends.
-ghost use Rattle.std.specs.Prelude.{◌≡◌, ◌⊎◌, ◌+◌, ◌*◌, ◌<◌, ◌≤◌, ◌++◌, ℕ, List, ◌∷◌, length, Some, Ok, IsTrue};
+//! Laws of a driver that comes back in time: what was accepted ends.
+ghost use Rattle.std.specs.Prelude.{◌≡◌, ◌⊎◌, ◌+◌, ◌-◌, ◌*◌, false, ◌<◌, ◌≤◌, ◌++◌, ℕ, List, ◌∷◌, length, Some, Ok, IsTrue};
 ghost use Rattle.j39_transport.specs.Message.{packets_of};
 ghost use Rattle.j39_transport.specs.Protocol.{gap, timer_t3};
 ghost use Rattle.j39_node.specs.declared.controller.Controller.{Controller};
 ghost use Rattle.j39_node.specs.declared.kinds.Ending.{Ending};
 ghost use Rattle.j39_node.specs.declared.kinds.TransferEnding.{TransferEnding};
 ghost use Rattle.j39_node.specs.declared.kinds.TransferEnding.TheVariants as ending;
-ghost use Rattle.j39_node.specs.History.{Who, Call, Draft, address_after, broadcast_from, is_lost, sent, told};
+ghost use Rattle.j39_frame.specs.Frame.{FrameRecord};
+ghost use Rattle.j39_node.specs.History.{Who, Call, Draft, accepted, address_after, broadcast_from, has_packets, is_held, is_lost, is_packet, sent, told};
 ghost use Rattle.j39_node.specs.History.Call.{At};
-ghost use Rattle.j39_node.specs.History.Act.{Ask, Broadcast, Send, Transfer};
+ghost use Rattle.j39_node.specs.History.Act.{Ask, Broadcast, Send, TakeFrame, Transfer};
 ghost use Rattle.j39_node.specs.Is.{AreAnswered, Is, next_broadcast_ended, next_ended};
 ghost use Rattle.j39_node.specs.Transfers.{next_transfer_ended};
-ghost use Rattle.j39_node.specs.Prompt.{IsPrompt, NoneTold, tells_broadcast, tells_transfer};
+ghost use Rattle.j39_node.specs.Prompt.{IsPrompt, IsSteady, NoneTold, packets_taken, taken_for, tells_broadcast, tells_transfer};
 ghost use Rattle.j39_node.specs.Since.{passed_in};
 ghost use Rattle.j39_node.specs.Example.{nine, two};
 ghost use Rattle.j39_node.specs.PromptExample.{prompt_example, prompt_start, transfer_example, transfer_start};
@@ -63,6 +64,58 @@ pub fn message_ends()
         → g < passed_in later (At now (Ask group to (Ok k)) ∷ earlier) → length (told (later ++ At now (Ask group to (Ok k)) ∷ earlier)) ≤ k
         → (e : Ending) × (next_ended w (later ++ At now (Ask group to (Ok k)) ∷ earlier)
         ≡ Some (length (told (later ++ At now (Ask group to (Ok k)) ∷ earlier)), e)) }
+{}
+
+/// To a driver that takes one frame at least in each g, two frames of a broadcast are at most 150 ms + 3 g apart, whoever asks and
+/// whatever else is due: as long as the next isn't taken, and at the call that takes it, no more passed. So a broadcast of n packets ends
+/// within (n + 1) * (150 ms + 3 g). In 50 ms one is taken at most.
+pub fn packets_go()
+    ensures apart { (w : Who) (later earlier : List Call) (call : Call) (c : Controller) (g now : ℕ) (f : FrameRecord)
+        → Is w (call ∷ later ++ At now (TakeFrame (Some f)) ∷ earlier) c → IsTrue (is_packet f)
+        → IsTrue (has_packets w (At now (TakeFrame (Some f)) ∷ earlier)) → NoneTold tells_broadcast later → packets_taken later ≡ 0
+        → is_lost (address_after w (later ++ At now (TakeFrame (Some f)) ∷ earlier)) ≡ false
+        → IsSteady g (call ∷ later) (At now (TakeFrame (Some f)) ∷ earlier)
+        → passed_in (call ∷ later) (At now (TakeFrame (Some f)) ∷ earlier) ≤ 150000 + 3 * g }
+    ensures ends { (w : Who) (later earlier : List Call) (c : Controller) (g now group k : ℕ) (bytes : List ℕ)
+        → Is w (later ++ At now (Broadcast group bytes (Ok k)) ∷ earlier) c → NoneTold tells_broadcast later
+        → IsSteady g later (At now (Broadcast group bytes (Ok k)) ∷ earlier)
+        → (packets_of (broadcast_from w group bytes) + 1) * (150000 + 3 * g) < passed_in later (At now (Broadcast group bytes (Ok k)) ∷ earlier)
+        → (e : Ending) × (next_broadcast_ended w (later ++ At now (Broadcast group bytes (Ok k)) ∷ earlier) ≡ Some (k, e)) }
+    ensures few { (w : Who) (later earlier : List Call) (c : Controller) → Is w (later ++ earlier) c
+        → 50000 * packets_taken later ≤ passed_in later earlier + 50000 }
+{}
+
+/// To such a driver a message that was accepted goes, that of a request too, whoever asks: where q accepted before it wait, its frame is
+/// taken within 6 g * (q + p + 1), or the address is lost; p frames of broadcasts are taken in this time. Then `take_ended` would tell an
+/// end: that of the oldest message that it didn't tell.
+pub fn messages_go()
+    ensures sent { (w : Who) (later earlier : List Call) (c : Controller) (g k : ℕ) → Is w (later ++ earlier) c
+        → IsTrue (is_held (address_after w earlier)) → k < length (accepted w earlier) → IsSteady g later earlier
+        → (k - length (sent earlier) + packets_taken later + 1) * (6 * g) < passed_in later earlier
+        → (k < length (sent (later ++ earlier))) ⊎ IsTrue (is_lost (address_after w (later ++ earlier))) }
+    ensures told { (w : Who) (later earlier : List Call) (c : Controller) (g k : ℕ) → Is w (later ++ earlier) c
+        → IsTrue (is_held (address_after w earlier)) → k < length (accepted w earlier) → IsSteady g later earlier
+        → (k - length (sent earlier) + packets_taken later + 1) * (6 * g) < passed_in later earlier
+        → length (told (later ++ earlier)) ≤ k
+        → (e : Ending) × (next_ended w (later ++ earlier) ≡ Some (length (told (later ++ earlier)), e)) }
+{}
+
+/// To such a driver a transfer of n packets ends, whoever asks: within (n + 65) * (T3 + 3 g) + 6 g * (q + 1), if that is below
+/// 9 * 10^15 microseconds, where q messages, frames of broadcasts and frames of sessions to its destination are taken in this time, its
+/// own too. Messages without end hold it up, and so may its destination by RTS without end.
+pub fn transfers_go()
+    ensures { (w : Who) (later earlier : List Call) (c : Controller) (g now group to k : ℕ) (bytes : List ℕ)
+        → Is w (later ++ At now (Transfer group to bytes (Ok k)) ∷ earlier) c → NoneTold tells_transfer later
+        → IsSteady g later (At now (Transfer group to bytes (Ok k)) ∷ earlier)
+        → (packets_of (broadcast_from w group bytes) + 65) * (timer_t3 + 3 * g) + (taken_for to later + 1) * (6 * g) < 9000000000000000
+        → (packets_of (broadcast_from w group bytes) + 65) * (timer_t3 + 3 * g) + (taken_for to later + 1) * (6 * g)
+        < passed_in later (At now (Transfer group to bytes (Ok k)) ∷ earlier)
+        → (e : TransferEnding) × (next_transfer_ended w (later ++ At now (Transfer group to bytes (Ok k)) ∷ earlier) ≡ Some (k, e)) }
+{}
+
+/// A driver that is prompt by g microseconds takes one frame at least in each g too.
+pub fn prompt_is_steady()
+    ensures { (g : ℕ) (later earlier : List Call) → IsPrompt g later earlier → IsSteady g later earlier }
 {}
 
 /// All answers of this history are those that a controller gives, its driver is prompt by 100 ms, and a broadcast of two packets

@@ -11,11 +11,11 @@ ghost use Rattle.j39_node.specs.History.Call.{At, ReleaseBroadcast};
 ghost use Rattle.j39_node.specs.History.Act.{Hear, TakeFrame};
 ghost use Rattle.j39_node.specs.Hearing.{OpenBroadcast, WasBroadcast, announced, announces, begun, found, got_broadcasts, grown, hearing, in_time, is_late, is_partial, is_whole, made_whole, more, packs, unheard, unheard_news, waiting, whole_broadcasts};
 ghost use Rattle.j39_node.specs.Is.{Is};
-ghost use Rattle.j39_node.specs.Reception.{holder, listed, time_heard};
+ghost use Rattle.j39_node.specs.Reception.{holder, known, listed, time_heard};
 
 /// What packets to all make whole is got by the program, each once, in order, or waits. It was sent by one: its announcement was heard,
 /// then its packets in order, and of its source nothing between them but packets of numbers that came before; and since the
-/// announcement one NAME held its source, or none.
+/// announcement one NAME held its source, and didn't restart, or none.
 pub fn broadcasts_received()
     ensures in_order { (w : Who) (H : List Call) → whole_broadcasts w H ≡ got_broadcasts w H ++ listed (waiting w H) }
     ensures got { (w : Who) (H : List Call) (c : Controller) (answer : Bool) → Is w (ReleaseBroadcast answer ∷ H) c
@@ -43,10 +43,10 @@ pub fn announcements_heard()
     ensures told { (w : Who) (H : List Call) (call : Call) → unheard w (call ∷ H) ≢ unheard w H → IsTrue (unheard_news w (call ∷ H)) }
 {}
 
-/// The next packet of the broadcast that is open is appended, in time, and the last makes it whole; a repeat changes nothing, one that
-/// leaves a gap ends it, and so does any frame that is late, and a claim by which its source has another holder, or none. What is no
-/// claim, no announcement and no packet of its source does what a tick does; in time, no frame of another source changes anything, unless
-/// by it the source has another holder; nor does a frame taken that is no claim.
+/// The next packet of the broadcast that is open is appended, in time, and the last makes it whole; a repeat changes nothing, one
+/// that leaves a gap ends it, and so does any frame that is late, and a claim by which its source has another holder, or none, or
+/// restarts. What is no claim, no announcement and no packet of its source does what a tick does; in time, no frame of another
+/// source changes anything, unless by it the source has another holder or restarts; nor does a frame taken that is no claim.
 pub fn packets_heard()
     ensures next { (w : Who) (H : List Call) (now : ℕ) (f : FrameRecord) (x : OpenBroadcast) → claim_of f ≡ None → announces f ≡ false → IsTrue (packs f)
         → hearing w H ≡ Some x → is_whole x ≡ false → source_of f.id ≡ x.source → is_late (time_heard (At now (Hear f) ∷ H)) x ≡ false
@@ -68,12 +68,12 @@ pub fn packets_heard()
     ensures late { (w : Who) (H : List Call) (now : ℕ) (f : FrameRecord) (x : OpenBroadcast) → hearing w H ≡ Some x → is_whole x ≡ false
         → IsTrue (is_late (time_heard (At now (Hear f) ∷ H)) x) → found w H now f ≡ None }
     ensures left { (w : Who) (H : List Call) (now : ℕ) (f : FrameRecord) (x : OpenBroadcast) → hearing w H ≡ Some x → is_whole x ≡ false
-        → holder w (At now (Hear f) ∷ H) x.source ≢ holder w H x.source → found w H now f ≡ None }
+        → holder w (At now (Hear f) ∷ H) x.source ≢ known w H now f x.source → found w H now f ≡ None }
     ensures strangers { (w : Who) (H : List Call) (now : ℕ) (f : FrameRecord) → claim_of f ≡ None → announces f ≡ false
         → (packs f ≡ false) ⊎ ((x : OpenBroadcast) → hearing w H ≡ Some x → source_of f.id ≢ x.source)
         → hearing w (At now (Hear f) ∷ H) ≡ in_time (time_heard (At now (Hear f) ∷ H)) (hearing w H) }
     ensures others { (w : Who) (H : List Call) (now : ℕ) (f : FrameRecord) (x : OpenBroadcast) → hearing w H ≡ Some x
-        → holder w (At now (Hear f) ∷ H) x.source ≡ holder w H x.source → source_of f.id ≢ x.source
+        → holder w (At now (Hear f) ∷ H) x.source ≡ known w H now f x.source → source_of f.id ≢ x.source
         → is_late (time_heard (At now (Hear f) ∷ H)) x ≡ false → hearing w (At now (Hear f) ∷ H) ≡ Some x }
     ensures own { (w : Who) (H : List Call) (now : ℕ) (f : FrameRecord) → is_claim f ≡ false
         → hearing w (At now (TakeFrame (Some f)) ∷ H) ≡ hearing w H }

@@ -1,24 +1,28 @@
 //! How far a controller is with its address, and the moment that it is at.
-ghost use Rattle.std.specs.Prelude.{◌≡◌, ◌+◌, ◌-◌, min, true};
+ghost use Rattle.std.specs.Prelude.{◌≡◌, ◌+◌, ◌-◌, ◌&&◌, ◌||◌, not, nat_eq, if◌then◌else◌, min, true};
 ghost use Rattle.std.specs.Option.{option_map};
 ghost use Rattle.j39_frame.specs.Stamp.{stamp_micros};
 ghost use Rattle.j39_node.specs.History.{stamp_at};
 ghost use Rattle.j39_node.specs.declared.hold.Standing.TheVariants as standing;
-ghost use Rattle.j39_node.specs.Hold.{acknowledged, asked, first, passed, heard, moved, claimed, paused, renewed, rested, spoken, stands, lost, less, claims, left_at};
+ghost use Rattle.j39_node.specs.Hold.{acknowledged, asked, first, passed, heard, moved, claimed, paused, renewed, rested, spoken, opens, stands, lost, less, claims, left_at, anew, can_claim, unclaims};
 
 use j39_frame::Stamp;
 
 /// How long an address is claimed before it is held, in microseconds (J1939-81, 4.5).
-const CLAIM_TIME: u64 = 250_000;
+const CLAIM_TIME: u32 = 250_000;
 
-/// The least time between two frames of packets, in microseconds (J1939-21, 5.12.3).
-const PACKET_TIME: u64 = 50_000;
+/// The time from one frame of a broadcast to the moment at which the next is overdue, in microseconds: 50 ms, the least
+/// (J1939-21, 5.12.3), and for how long that is due without being overdue (own).
+const PACKET_TIME: u32 = 50_000 + SLACK;
+
+/// For how long a frame of a broadcast is due without being overdue, in microseconds (own).
+pub(crate) const SLACK: u32 = 100_000;
 
 /// How long a request waits for its answer, in microseconds (own).
-const ANSWER_TIME: u64 = 1_250_000;
+const ANSWER_TIME: u32 = 1_250_000;
 
 /// How long a transfer rests after an end without acknowledgment, in microseconds (own).
-const REST_TIME: u64 = 4_000_000;
+const REST_TIME: u32 = 4_000_000;
 
 /// How long another at the address isn't answered again, in microseconds (own).
 const PATIENCE: u32 = 5_000_000;
@@ -29,7 +33,7 @@ pub(crate) enum Standing {
     /// No claim of it was taken.
     Idle,
     /// A claim of it was taken; so many microseconds are left until it is held.
-    Claimed(u64),
+    Claimed(u32),
     /// A smaller NAME claimed it.
     Lost,
 }
@@ -40,7 +44,17 @@ impl Standing {
     {
         match self {
             Standing::Idle => Standing::Idle,
-            Standing::Claimed(left) => Standing::Claimed(left.saturating_sub(step)),
+            Standing::Claimed(left) => Standing::Claimed(left_of(left, step)),
+            Standing::Lost => Standing::Lost,
+        }
+    }
+
+    fn unclaimed(self) -> Standing
+        ensures { result ≡ unclaims self }
+    {
+        match self {
+            Standing::Idle => Standing::Idle,
+            Standing::Claimed(_left) => Standing::Idle,
             Standing::Lost => Standing::Lost,
         }
     }
@@ -63,16 +77,20 @@ pub(crate) struct Hold {
     pub(crate) owes_claim: bool,
     /// How many of the frames taken last were claims or acknowledgments, up to two.
     pub(crate) turns: u8,
+    /// The frame taken last, but for these, was one of a session to an address.
+    pub(crate) yields: bool,
     /// What is left of the time in which another at its address isn't answered again.
     pub(crate) patience: u32,
-    /// What is left of the time between two frames of packets.
-    pub(crate) pause: u64,
+    /// What is left of the time for which 'cannot claim' waits.
+    pub(crate) delay: u32,
+    /// What is left of the time until the next frame of a broadcast is overdue.
+    pub(crate) pause: u32,
     /// How long ago a transfer was accepted last.
     pub(crate) age: u64,
     /// What is left of the time that the open request waits.
-    pub(crate) wait: u64,
+    pub(crate) wait: u32,
     /// What is left of the time for which transfers rest.
-    pub(crate) rest: u64,
+    pub(crate) rest: u32,
 }
 
 impl Hold {
@@ -85,7 +103,9 @@ impl Hold {
             standing: Standing::Idle,
             owes_claim: true,
             turns: 0,
+            yields: false,
             patience: 0,
+            delay: 0,
             pause: 0,
             age: 0,
             wait: 0,
@@ -118,20 +138,29 @@ impl Hold {
             standing: self.standing.less(step),
             owes_claim: self.owes_claim,
             turns: self.turns,
+            yields: self.yields,
             patience: left_of(self.patience, step),
-            pause: self.pause.saturating_sub(step),
+            delay: left_of(self.delay, step),
+            pause: left_of(self.pause, step),
             age: self.age.saturating_add(step),
-            wait: self.wait.saturating_sub(step),
-            rest: self.rest.saturating_sub(step),
+            wait: left_of(self.wait, step),
+            rest: left_of(self.rest, step),
         }
     }
 
-    /// A frame was heard that drives away from the address, or that is answered by a claim, or is another's from the address.
-    pub(crate) fn heard(self, drives_away: bool, calls: bool, another: bool) -> Hold
-        ensures { result ≡ heard drives_away calls another self }
+    /// A frame was heard that drives away from the address, or that is answered by a claim, or is another's from the address; a
+    /// word that none can be claimed waits for this long.
+    pub(crate) fn heard(self, drives_away: bool, calls: bool, another: bool, delay: u32) -> Hold
+        ensures { result ≡ heard drives_away calls another delay self }
     {
         let answers = another && self.patience == 0;
         let patience = if answers { PATIENCE } else { self.patience };
+        let waits = self.is_lost() && self.owes_claim;
+        let delay = if (calls || answers) && !waits {
+            delay
+        } else {
+            self.delay
+        };
         let standing = if drives_away {
             Standing::Lost
         } else {
@@ -142,12 +171,31 @@ impl Hold {
             standing,
             owes_claim: self.owes_claim || calls || answers,
             turns: self.turns,
+            yields: self.yields,
             patience,
+            delay,
             pause: self.pause,
             age: self.age,
             wait: self.wait,
             rest: self.rest,
         }
+    }
+
+    /// It is to be claimed anew; a word that none can be claimed waits for this long.
+    pub(crate) fn anew(mut self, delay: u32) -> Hold
+        ensures { result ≡ anew delay self }
+    {
+        self.standing = self.standing.unclaimed();
+        self.owes_claim = true;
+        self.delay = delay;
+        self
+    }
+
+    /// A claim that is owed goes, unless it gives way.
+    pub(crate) fn claims(self, gives_way: bool) -> bool
+        ensures { result ≡ (can_claim self && not gives_way) }
+    {
+        self.owes_claim && (!self.is_lost() || self.delay == 0) && !gives_way
     }
 
     /// A claim was taken.
@@ -159,7 +207,9 @@ impl Hold {
             standing: self.standing.claimed(),
             owes_claim: false,
             turns: self.turns.saturating_add(1).min(2),
+            yields: self.yields,
             patience: self.patience,
+            delay: self.delay,
             pause: self.pause,
             age: self.age,
             wait: self.wait,
@@ -175,29 +225,31 @@ impl Hold {
         self
     }
 
-    /// A frame was taken that is neither a claim nor an acknowledgment.
+    /// A frame of a session to an address was taken.
     pub(crate) fn spoken(mut self) -> Hold
         ensures { result ≡ spoken self }
     {
         self.turns = 0;
+        self.yields = true;
         self
     }
 
-    /// A frame of packets was taken.
-    pub(crate) fn paused(self) -> Hold
+    /// A frame of a broadcast was taken.
+    pub(crate) fn paused(mut self) -> Hold
         ensures { result ≡ paused self }
     {
-        Hold {
-            moment: self.moment,
-            standing: self.standing,
-            owes_claim: self.owes_claim,
-            turns: 0,
-            patience: self.patience,
-            pause: PACKET_TIME,
-            age: self.age,
-            wait: self.wait,
-            rest: self.rest,
-        }
+        self.turns = 0;
+        self.yields = false;
+        self.pause = PACKET_TIME;
+        self
+    }
+
+    /// A broadcast was accepted.
+    pub(crate) fn opens(mut self) -> Hold
+        ensures { result ≡ opens self }
+    {
+        self.pause = self.pause.max(SLACK);
+        self
     }
 
     /// A transfer was accepted.
@@ -209,7 +261,9 @@ impl Hold {
             standing: self.standing,
             owes_claim: self.owes_claim,
             turns: self.turns,
+            yields: self.yields,
             patience: self.patience,
+            delay: self.delay,
             pause: self.pause,
             age: 0,
             wait: self.wait,
@@ -227,7 +281,9 @@ impl Hold {
             standing: self.standing,
             owes_claim: self.owes_claim,
             turns: 0,
+            yields: false,
             patience: self.patience,
+            delay: self.delay,
             pause: self.pause,
             age: self.age,
             wait,
@@ -245,7 +301,9 @@ impl Hold {
             standing: self.standing,
             owes_claim: self.owes_claim,
             turns: self.turns,
+            yields: self.yields,
             patience: self.patience,
+            delay: self.delay,
             pause: self.pause,
             age: self.age,
             wait: self.wait,
@@ -295,15 +353,27 @@ impl Hold {
         Stamp::new(self.moment.saturating_add(micros))
     }
 
+    /// When the claim that is owed goes; or else when the address will be held.
+    pub(crate) fn claim_at(self) -> Option<Stamp>
+        ensures { option_map stamp_micros result
+            ≡ (if self.owes_claim then stamp_at (self.moment + self.delay) else left_at self.standing self.moment) }
+    {
+        if self.owes_claim {
+            self.later(u64::from(self.delay))
+        } else {
+            self.held_at()
+        }
+    }
+
     /// When the address will be held.
-    pub(crate) fn held_at(self) -> Option<Stamp>
+    fn held_at(self) -> Option<Stamp>
         ensures { option_map stamp_micros result ≡ left_at self.standing self.moment }
     {
         match self.standing {
             Standing::Idle => None,
             Standing::Claimed(left) => {
                 if left > 0 {
-                    Stamp::new(self.moment.saturating_add(left))
+                    self.later(u64::from(left))
                 } else {
                     None
                 }

@@ -1,26 +1,39 @@
 //! Messages that come in packets to the address that is held (J1939-21, 5.10.3).
-ghost use Rattle.std.specs.Prelude.{IsTrue, ◌≡◌, ◌≤◌, ◌-◌, ◌↔◌, ◌++◌, ◌∷◌, [], ℕ, List, length, true, false, IsSome, IfSome, IsSomeAnd, IfOk, OnErr, Some, None};
+ghost use Rattle.std.specs.Prelude.{if◌then◌else◌, IsTrue, ◌≡◌, ◌≤◌, ◌<◌, ◌+◌, ◌-◌, ◌^◌, ◌↔◌, ◌++◌, ◌∷◌, [], ℕ, List, length, true, false, Option, IsSome, IfSome, IsSomeAnd, IfOk, OnErr, Some, None, slice_index};
 ghost use Rattle.std.specs.List.{slice_get};
-ghost use Rattle.std.specs.Option.{option_map};
+ghost use Rattle.std.specs.Option.{is_some, option_map};
+ghost use Rattle.j39_transport.specs.Announced.{announced_by};
+ghost use Rattle.j39_transport.specs.Reception.{ReceptionRecord};
+ghost use Rattle.j39_transport.specs.Receiving.{said_to};
+ghost use Rattle.j39_transport.specs.Signals.{Abort, written};
 ghost use Rattle.j39_frame.specs.Address.{IsAddress};
 ghost use Rattle.j39_frame.specs.Frame.{FrameRecord};
 ghost use Rattle.j39_frame.specs.Identifier.{id_raw};
+ghost use Rattle.j39_frame.specs.Pgn.{pgn_raw};
 ghost use Rattle.j39_frame.specs.Stamp.{stamp_micros};
 ghost use Rattle.j39_address.specs.Name.{name_raw};
 ghost use Rattle.j39_address.specs.Claims.{Knows, holder_in};
 ghost use Rattle.j39_transport.specs.Cutting.{to_send};
 ghost use Rattle.j39_transport.specs.ReceiverModel.{message_shown};
 ghost use Rattle.j39_node.specs.History.{carried};
-ghost use Rattle.j39_node.specs.Reception.{has_place, IsApart, heard_by, is_same, later, leaves, left, no_reception, replied, reply_from, tick_at, without};
-ghost use Rattle.j39_node.specs.Asking.{in_session};
-ghost use Rattle.j39_node.specs.Is.{made_by, Receives, hears, incoming_of, kept_by, passed_to, said_by, stamped, ticks, with_reception, with_replies};
+ghost use Rattle.j39_address.specs.Claim.{claim_of};
+ghost use Rattle.j39_node.specs.History.{is_some as is_some_of};
+ghost use Rattle.j39_node.specs.Reception.{calls_claims, claimed_again, still, has_place, IsApart, heard_by, is_over, is_same, later, leaves, left, longest, no_reception, number_in, packet_in, replied, reply_from, since_by, strays, without};
+ghost use Rattle.j39_node.specs.Is.{IsNamed, announced, appended, clear_in, cleared, made_by, named_by, named_then, Receives, hears, incoming_of, kept_by, passed_to, said_by, session_by, stamped, strays_by, tick_by, ticks, with_called, with_reception, with_replies};
 
-use crate::own::TRANSPORT_CONTROL;
+use crate::own::{ADDRESS_CLAIMED, TRANSPORT_CONTROL, is_request_for};
 use arrayvec::ArrayVec;
-use j39_address::{Claims, Name};
-use j39_frame::{Frame, Id, Pgn, Stamp};
-use j39_transport::{LONGEST, Message, Receiver, Reply};
+use byteorder::{ByteOrder, LittleEndian};
+use j39_address::{Claims, Name, claim_of};
+use j39_frame::{Frame, Id, NULL_ADDRESS, Pgn, Stamp};
+use j39_transport::{LONGEST, Message, Receiver, Reply, announced_group};
 use std::alloc::{AllocError, Global};
+
+/// The first byte of a clear to send (J1939-21, 5.10.3.2).
+const CLEAR_TO_SEND: u8 = 17;
+
+/// The longest wait of the two ends, in microseconds (T2 of J1939-21, 5.10.2.4).
+const T2: u64 = 1_250_000;
 
 /// A message that was whole, and waits for the program.
 #[derive(Drop)]
@@ -79,14 +92,136 @@ impl Said {
     }
 }
 
+/// What a frame that is heard means to the own address.
+#[derive(Clone, Copy)]
+pub(crate) struct Bearing {
+    /// It is a smaller NAME's claim of the address, which is lost by it.
+    pub(crate) drives_away: bool,
+    /// It is a claim by another of the own NAME, which tells nothing of who holds an address.
+    pub(crate) is_double: bool,
+    /// The address is held.
+    pub(crate) is_held: bool,
+}
+
+/// What is known of a session.
+#[derive(Clone, Copy)]
+pub(crate) struct Named {
+    pub(crate) group: Pgn,
+    pub(crate) packets: u8,
+    /// The number of the packet that is next.
+    pub(crate) next: u16,
+    /// That behind the last that was granted.
+    pub(crate) behind: u16,
+}
+
+impl Named {
+    /// Nothing yet.
+    fn nothing() -> Named {
+        Named {
+            group: Pgn::new(0).unwrap(),
+            packets: 0,
+            next: 0,
+            behind: 0,
+        }
+    }
+
+    /// Once a frame was heard, a packet of the session or none, and a CTS was said to it or not.
+    fn then(self, packet: Option<u8>, frame: &Frame, clear: Option<(u8, u8)>) -> Named
+        ensures { named_by result ≡ named_then packet frame.now clear (named_by self) }
+    {
+        if clear.is_some() {
+            self.announced(frame).cleared(clear)
+        } else {
+            self.appended(packet)
+        }
+    }
+
+    /// What an RTS announces.
+    fn announced(self, frame: &Frame) -> Named
+        ensures { named_by result ≡ announced frame.now (announced_by frame.now) (named_by self) }
+    {
+        match announced_group(frame) {
+            Some(group) => Named {
+                group,
+                packets: packets_named(frame),
+                next: self.next,
+                behind: self.behind,
+            },
+            None => self,
+        }
+    }
+
+    /// A CTS grants so many packets, from this one on.
+    fn cleared(self, clear: Option<(u8, u8)>) -> Named
+        ensures { named_by result ≡ cleared clear (named_by self) }
+    {
+        match clear {
+            Some((count, next)) => Named {
+                group: self.group,
+                packets: self.packets,
+                next: u16::from(next),
+                behind: u16::from(count) + u16::from(next),
+            },
+            None => self,
+        }
+    }
+
+    /// A packet of this number is appended, if it is next.
+    fn appended(self, packet: Option<u8>) -> Named
+        ensures { named_by result ≡ appended packet (named_by self) }
+    {
+        match packet {
+            Some(number) => {
+                if u16::from(number) != self.next {
+                    return self;
+                }
+                Named {
+                    group: self.group,
+                    packets: self.packets,
+                    next: u16::from(number) + 1,
+                    behind: self.behind,
+                }
+            }
+            None => self,
+        }
+    }
+
+    /// Whether a packet of the session is neither the next one nor the last that was granted.
+    fn strays(self, packet: Option<u8>) -> bool
+        ensures { result ≡ strays_by packet (named_by self) }
+    {
+        match packet {
+            Some(number) => {
+                let number = u16::from(number);
+                !(number == self.next || number + 1 == self.behind)
+            }
+            None => false,
+        }
+    }
+
+    /// How long a session may take in all.
+    fn longest(self) -> u64
+        ensures value { result ≡ longest (named_by self).packets }
+        ensures fits { result < 2 ^ 29 }
+    {
+        (u64::from(self.packets) + 3) * T2
+    }
+}
+
 /// What is received in packets, one message at a time.
 #[derive(Drop)]
 pub(crate) struct Incoming {
     pub(crate) receiver: Receiver,
+    /// What is known of its session.
+    pub(crate) named: Named,
+    /// The receiver's time since which the source of its session has one open.
+    pub(crate) since: Stamp,
     /// The moment of the last frame heard or tick.
     pub(crate) moment: u64,
     /// The sum of the forward steps from one of these to the next: the receiver's time.
     pub(crate) clock: Stamp,
+    /// What is left of the time in which a claim was called for, from this moment on.
+    pub(crate) called: u64,
     /// The message that waits for the program.
     pub(crate) place: Option<Kept>,
     /// What is to be said, one frame to an address.
@@ -98,41 +233,73 @@ impl Incoming {
     pub(crate) fn new(alloc: Global, own: u8) -> Result<Option<Incoming>, AllocError>
         ensures known { IfOk result (λ found. IsSome found ↔ IsAddress own) }
         ensures value { IfOk result (λ found. IfSome found (λ x. incoming_of x ≡ record
-            { moment = 0; clock = 0; own = own; has_box = true; reception = no_reception })) }
+            { moment = 0; clock = 0; own = own; has_box = true; named = None; called = 0; reception = no_reception })) }
         ensures refused { OnErr result (IsAddress own) }
     {
-        match Receiver::with_buffer(alloc, own)? {
-            Some(receiver) => Ok(Some(Incoming {
-                receiver,
-                moment: 0,
-                clock: Stamp::new(0).unwrap(),
-                place: None,
-                replies: ArrayVec::new(),
-            })),
-            None => Ok(None),
-        }
+        let Some(receiver) = Receiver::with_buffer(alloc, own)? else {
+            return Ok(None);
+        };
+        let start = Stamp::new(0).unwrap();
+        Ok(Some(Incoming {
+            receiver,
+            named: Named::nothing(),
+            since: start,
+            called: 0,
+            moment: 0,
+            clock: start,
+            place: None,
+            replies: ArrayVec::new(),
+        }))
     }
 
-    /// A frame was heard: it may be a claim, by which the source of the session has another holder or the address is lost, or one
-    /// of a session, if the address is held.
+    /// A frame was heard: it may be a claim, by which the source of the session has another holder, or restarted, or the address is lost,
+    /// or one of a session, if the address is held. Answers the address whose holder restarted.
     pub(crate) fn hear(
         &mut self,
         holders: &mut Claims,
-        is_lost: bool,
-        is_held: bool,
+        bearing: Bearing,
         frame: &Frame,
         now: Stamp,
-    )
-        ensures knows { (F : List FrameRecord) → Knows holders.old F → Knows holders.new (F ++ frame.now ∷ []) }
-        ensures heard { self.old.receiver.has_box ≡ true → IsApart (incoming_of self.old).reception → incoming_of self.new
-            ≡ hears is_lost is_held (stamp_micros now) frame.now (holder_in holders.old) (holder_in holders.new) (incoming_of self.old) }
+    ) -> Option<u8>
+        ensures restarted { result ≡ claimed_again (holder_in holders.old) ((incoming_of self.old).called - (stamp_micros now - (incoming_of self.old).moment))
+            (claim_of frame.now) }
+        ensures knows { (F : List FrameRecord) → Knows holders.old F
+            → Knows holders.new (if bearing.is_double then F else F ++ frame.now ∷ []) }
+        ensures heard { self.old.receiver.has_box ≡ true → IsApart (incoming_of self.old).reception → IsNamed (incoming_of self.old) → incoming_of self.new
+            ≡ hears bearing.drives_away bearing.is_held (stamp_micros now) frame.now (holder_in holders.old) (holder_in holders.new) (incoming_of self.old) }
     {
         self.pass(now);
-        self.note(holders, frame);
-        if is_lost {
+        let gone = self.claimed_again(holders, frame);
+        let calls = calls_claims(holders, frame);
+        self.note(holders, frame, gone, bearing.is_double);
+        if bearing.drives_away {
             self.lose();
-        } else if is_held {
+        } else if bearing.is_held {
             self.take_in(frame);
+        }
+        self.call(calls, now);
+        gone
+    }
+
+    /// The address that its holder claims again, where nothing called for that.
+    fn claimed_again(&self, holders: &Claims, frame: &Frame) -> Option<u8>
+        ensures { result ≡ claimed_again (holder_in holders.now) (incoming_of self.now).called (claim_of frame.now) }
+    {
+        let (name, address) = claim_of(frame)?;
+        if holds(holders, address, name) && self.called == 0 {
+            Some(address)
+        } else {
+            None
+        }
+    }
+
+    /// Claims are called for at this moment, or not.
+    pub(crate) fn call(&mut self, calls: bool, now: Stamp)
+        ensures { incoming_of self.new ≡ with_called (if calls then 1250000 + (stamp_micros now - (incoming_of self.old).moment)
+            else (incoming_of self.old).called) (incoming_of self.old) }
+    {
+        if calls {
+            self.called = T2 + now.micros().saturating_sub(self.moment);
         }
     }
 
@@ -141,7 +308,7 @@ impl Incoming {
     pub(crate) fn move_to(&mut self, own: u8, moment: u64) -> bool
         ensures known { IsTrue result ↔ IsAddress own }
         ensures moved { result ≡ true → self.old.receiver.has_box ≡ true → incoming_of self.new ≡ record
-            { moment = moment; clock = later 0 moment; own = own; has_box = true; reception = no_reception } }
+            { moment = moment; clock = later 0 moment; own = own; has_box = true; named = None; called = 0; reception = no_reception } }
         ensures stays { result ≡ false → self.new ≡ self.old }
     {
         if !self.receiver.move_to(own) {
@@ -149,6 +316,8 @@ impl Incoming {
         }
         self.moment = moment;
         self.clock = later(Stamp::new(0).unwrap(), moment);
+        self.since = Stamp::new(0).unwrap();
+        self.called = 0;
         self.place = None;
         self.replies.clear();
         true
@@ -182,52 +351,97 @@ impl Incoming {
 
     /// Time passes.
     pub(crate) fn tick(&mut self, now: Stamp)
-        ensures { incoming_of self.new ≡ ticks (stamp_micros now) (incoming_of self.old) }
+        ensures { IsNamed (incoming_of self.old) → incoming_of self.new ≡ ticks (stamp_micros now) (incoming_of self.old) }
     {
         self.pass(now);
         if let Some(source) = self.receiver.source() {
-            let said = self.receiver.tick(self.clock);
-            self.reply(source, said);
+            if self.is_over() {
+                self.abort(source);
+            } else {
+                let said = self.receiver.tick(self.clock);
+                self.named = self.named.cleared(clear_in(said));
+                self.reply(source, said);
+            }
         }
     }
 
-    /// Notes a claim. Where the source of the session has another holder by it, the session is dropped.
-    pub(crate) fn note(&mut self, holders: &mut Claims, frame: &Frame)
-        ensures knows { (F : List FrameRecord) → Knows holders.old F → Knows holders.new (F ++ frame.now ∷ []) }
-        ensures left { incoming_of self.new ≡ with_reception (left (leaves (holder_in holders.old) (holder_in holders.new)
+    /// Notes a claim, unless it is another's of the own NAME. Where the source of the session has another holder by it, or is gone, the
+    /// session is dropped.
+    pub(crate) fn note(
+        &mut self,
+        holders: &mut Claims,
+        frame: &Frame,
+        gone: Option<u8>,
+        is_double: bool,
+    )
+        ensures knows { (F : List FrameRecord) → Knows holders.old F → Knows holders.new (if is_double then F else F ++ frame.now ∷ []) }
+        ensures left { IsNamed (incoming_of self.old) → incoming_of self.new ≡ with_reception (left (leaves (still gone (holder_in holders.old)) (holder_in holders.new)
             (incoming_of self.old).reception.session) (incoming_of self.old).reception) (incoming_of self.old) }
     {
         match self.receiver.source() {
             Some(source) => {
-                let before = holders.holder(source);
-                let _changed = holders.note(frame);
+                let before = still(gone, holders, source);
+                tell(holders, frame, is_double);
                 let after = holders.holder(source);
                 if !is_same(before, after) {
                     self.receiver.end();
                     self.silence(source);
                 }
             }
-            None => {
-                let _changed = holders.note(frame);
-            }
+            None => tell(holders, frame, is_double),
         }
     }
 
     /// The first moment at which a tick says something.
     pub(crate) fn next_tick(&self) -> Option<Stamp>
-        ensures { option_map stamp_micros result ≡ tick_at (incoming_of self.now).reception.session (incoming_of self.now).moment
-            (incoming_of self.now).clock }
+        ensures { option_map stamp_micros result ≡ tick_by (incoming_of self.now).reception.since (incoming_of self.now).reception.session
+            (incoming_of self.now).named (incoming_of self.now).moment (incoming_of self.now).clock }
     {
-        let limit = self.receiver.limit()?;
+        let limit = self.receiver.limit()?.min(self.latest());
         let left = (limit + 1).saturating_sub(self.clock.micros());
         Stamp::new(self.moment.saturating_add(left))
     }
 
-    /// The source of the open session.
-    pub(crate) fn session(&self) -> Option<u8>
-        ensures { result ≡ in_session (incoming_of self.now).reception.session }
+    /// The time after which a tick aborts the session.
+    fn latest(&self) -> u64
+        ensures value { result ≡ (incoming_of self.now).reception.since + longest (named_by self.now.named).packets }
+        ensures fits { result < 2 ^ 54 }
     {
-        self.receiver.source()
+        self.since.micros() + self.named.longest()
+    }
+
+    /// Whether the session's time is over.
+    fn is_over(&self) -> bool
+        ensures { IsNamed (incoming_of self.now)
+            → result ≡ is_over (incoming_of self.now).reception.since (incoming_of self.now).clock (incoming_of self.now).reception.session }
+    {
+        self.receiver.busy() && self.latest() < self.clock.micros()
+    }
+
+    /// Ends the session of this source, whose time is over (abort 3).
+    fn abort(&mut self, source: u8)
+        ensures { incoming_of self.new ≡ with_replies (replied self.old.receiver.state.own source
+            (Some (written self.old.receiver.state.own source (Abort 3 (named_by self.old.named).group))) (incoming_of self.old).reception.replies)
+            (with_reception (record {
+              session = None;
+              since = (incoming_of self.old).reception.since;
+              waits = (incoming_of self.old).reception.waits;
+              replies = (incoming_of self.old).reception.replies;
+            }) (incoming_of self.old)) }
+    {
+        let bytes = abort_bytes(self.named.group);
+        self.receiver.end();
+        self.say(source, bytes);
+    }
+
+    /// The source and the group of the open session.
+    pub(crate) fn session(&self) -> Option<(u8, u32)>
+        ensures { result ≡ session_by (incoming_of self.now).reception.session (incoming_of self.now).named }
+    {
+        match self.receiver.source() {
+            Some(source) => Some((source, self.named.group.raw())),
+            None => None,
+        }
     }
 
     /// The receiver's time at this moment: time that goes back is no time.
@@ -270,13 +484,17 @@ impl Incoming {
         ensures { incoming_of self.new ≡ passed_to (stamp_micros now) (incoming_of self.old) }
     {
         self.clock = self.clock_at(now);
+        self.called = self
+            .called
+            .saturating_sub(now.micros().saturating_sub(self.moment));
         self.moment = now.micros();
     }
 
     /// The address is lost: nothing is said from it.
     fn lose(&mut self)
         ensures { incoming_of self.new ≡ with_reception (record
-            { session = None; waits = (incoming_of self.old).reception.waits; replies = [] }) (incoming_of self.old) }
+            { session = None; since = (incoming_of self.old).reception.since; waits = (incoming_of self.old).reception.waits; replies = [] })
+            (incoming_of self.old) }
     {
         self.receiver.end();
         self.replies = ArrayVec::new();
@@ -284,7 +502,7 @@ impl Incoming {
 
     /// A frame to the address that is held. While a message waits, there is no room for another.
     fn take_in(&mut self, frame: &Frame)
-        ensures { self.old.receiver.has_box ≡ true → IsApart (incoming_of self.old).reception → incoming_of self.new
+        ensures { self.old.receiver.has_box ≡ true → IsApart (incoming_of self.old).reception → IsNamed (incoming_of self.old) → incoming_of self.new
             ≡ with_reception (heard_by (incoming_of self.old).own false true frame.now (incoming_of self.old).clock
             (incoming_of self.old).reception) (incoming_of self.old) }
     {
@@ -293,8 +511,54 @@ impl Incoming {
             let refusal = self.receiver.refuse(frame);
             self.reply(source, refusal);
         } else {
-            let said = receive(&mut self.receiver, &mut self.place, frame, self.clock);
-            self.reply(source, said);
+            let packet = self.packet(frame);
+            if self.named.strays(packet) {
+                return;
+            }
+            self.show(packet, frame);
+        }
+    }
+
+    /// The receiver is shown a frame, a packet of the session or none.
+    fn show(&mut self, packet: Option<u8>, frame: &Frame)
+        ensures { self.old.receiver.has_box ≡ true → IsNamed (incoming_of self.old) → (incoming_of self.old).reception.waits ≡ None
+            → packet ≡ packet_in (incoming_of self.old).own frame.now (incoming_of self.old).reception.session
+            → strays packet (incoming_of self.old).reception.session ≡ false → incoming_of self.new
+            ≡ with_reception (heard_by (incoming_of self.old).own false true frame.now (incoming_of self.old).clock
+            (incoming_of self.old).reception) (incoming_of self.old) }
+    {
+        let was_open = self.receiver.busy();
+        let said = receive(&mut self.receiver, &mut self.place, frame, self.clock);
+        self.since = self.since_then(was_open);
+        self.named = self.named.then(packet, frame, clear_in(said));
+        self.reply(frame.id.source(), said);
+    }
+
+    /// The number of a packet of the session.
+    fn packet(&self, frame: &Frame) -> Option<u8>
+        ensures { result ≡ packet_in (incoming_of self.now).own frame.now (incoming_of self.now).reception.session }
+    {
+        match self.receiver.source() {
+            Some(source) => {
+                if frame.id.source() == source {
+                    number_in(self.receiver.address(), frame)
+                } else {
+                    None
+                }
+            }
+            None => None,
+        }
+    }
+
+    /// Since when the source of the session has one open, once a frame was heard before which one was open or not.
+    fn since_then(&self, was_open: bool) -> Stamp
+        ensures { (before : Option ReceptionRecord) → was_open ≡ is_some before → stamp_micros result
+            ≡ since_by before self.now.receiver.state.session (stamp_micros self.now.clock) (stamp_micros self.now.since) }
+    {
+        if !was_open && self.receiver.busy() {
+            self.clock
+        } else {
+            self.since
         }
     }
 
@@ -304,11 +568,17 @@ impl Incoming {
             (incoming_of self.old).reception.replies) (incoming_of self.old) }
     {
         if let Some(frame) = said {
-            let bytes = frame.1;
-            self.silence(address);
-            if !self.replies.is_full() {
-                self.replies.push(Said::new(address, bytes));
-            }
+            self.say(address, frame.1);
+        }
+    }
+
+    fn say(&mut self, address: u8, bytes: [u8; 8])
+        ensures { (id : ℕ) → incoming_of self.new ≡ with_replies (replied self.old.receiver.state.own address
+            (Some (record { id = id; bytes = bytes })) (incoming_of self.old).reception.replies) (incoming_of self.old) }
+    {
+        self.silence(address);
+        if !self.replies.is_full() {
+            self.replies.push(Said::new(address, bytes));
         }
     }
 
@@ -341,12 +611,100 @@ fn receive(
     }
 }
 
+/// The abort of a session of this group whose time is over (J1939-21, 5.10.3.4).
+#[tactic(auto, unfolding(j39_transport::specs::Signals::written))]
+fn abort_bytes(group: Pgn) -> [u8; 8]
+    ensures { (source to : ℕ) → result ≡ (written source to (Abort 3 (pgn_raw group))).bytes }
+{
+    let mut bytes = [255, 3, 255, 255, 255, 0, 0, 0];
+    LittleEndian::write_u24(&mut bytes[5..], group.raw());
+    bytes
+}
+
+/// How many packets a CTS that is said grants, and from which on.
+fn clear_in(said: Option<(Id, [u8; 8])>) -> Option<(u8, u8)>
+    ensures { result ≡ clear_in (option_map to_send said) }
+{
+    let frame = said?;
+    let [control, count, next, _, _, _, _, _] = frame.1;
+    if control == CLEAR_TO_SEND {
+        Some((count, next))
+    } else {
+        None
+    }
+}
+
+/// The number of a packet that goes from an address to this one; none goes to the null address.
+#[tactic(auto, using(crate::proofs::PacketLemmas::number_is))]
+fn number_in(own: u8, frame: &Frame) -> Option<u8>
+    ensures { result ≡ number_in (said_to own frame.now) }
+{
+    if frame.id.source() < NULL_ADDRESS
+        && (frame.id.ps() == own && own != NULL_ADDRESS)
+        && (frame.id.is_transport_data() && frame.bytes.len() == 8)
+    {
+        frame.bytes.as_slice().get(0).copied()
+    } else {
+        None
+    }
+}
+
+/// How many packets an RTS names, in its byte 4.
+fn packets_named(frame: &Frame) -> u8
+    ensures { result ≡ slice_index frame.now.bytes 3 }
+{
+    match frame.bytes.as_slice().get(3) {
+        Some(packets) => *packets,
+        None => 0,
+    }
+}
+
+/// Notes a claim, unless it is another's of the own NAME.
+fn tell(holders: &mut Claims, frame: &Frame, is_double: bool)
+    ensures knows { (F : List FrameRecord) → Knows holders.old F → Knows holders.new (if is_double then F else F ++ frame.now ∷ []) }
+{
+    if !is_double {
+        let _changed = holders.note(frame);
+    }
+}
+
 /// This much later, at most the last moment that a stamp can tell.
 fn later(clock: Stamp, step: u64) -> Stamp
     ensures { stamp_micros result ≡ later (stamp_micros clock) step }
 {
     let moment = clock.micros().saturating_add(step);
     Stamp::new(moment.min(Stamp::LIMIT - 1)).unwrap()
+}
+
+/// Whether this NAME holds the address.
+fn holds(holders: &Claims, address: u8, name: Name) -> bool
+    ensures { result ≡ is_some_of (holder_in holders.now address) (name_raw name) }
+{
+    match holders.holder(address) {
+        Some(holder) => holder.raw() == name.raw(),
+        None => false,
+    }
+}
+
+/// Who holds an address since before: nobody, if its holder restarted.
+pub(crate) fn still(gone: Option<u8>, holders: &Claims, address: u8) -> Option<Name>
+    ensures { option_map name_raw result ≡ still gone (holder_in holders.now) address }
+{
+    if gone == Some(address) {
+        None
+    } else {
+        holders.holder(address)
+    }
+}
+
+/// Whether a frame calls for claims.
+fn calls_claims(holders: &Claims, frame: &Frame) -> bool
+    ensures { result ≡ calls_claims (holder_in holders.now) frame.now (claim_of frame.now) }
+{
+    match claim_of(frame) {
+        Some((name, address)) => !holds(holders, address, name),
+        None => is_request_for(frame, ADDRESS_CLAIMED),
+    }
 }
 
 pub(crate) fn is_same(before: Option<Name>, after: Option<Name>) -> bool

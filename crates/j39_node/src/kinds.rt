@@ -59,10 +59,12 @@ pub enum Refused {
     /// No address is held.
     NoAddress,
     /// A priority above 7, a group that no identifier can have or that the stack itself speaks (claims, acknowledgments,
-    /// packets), no other's address, or more than 8 bytes; a broadcast or a transfer outside 9 to 1,785 bytes; an acknowledgment of a request to all.
+    /// packets), no other's address, or more than 8 bytes; a broadcast or a transfer outside 9 to 1,785 bytes; an acknowledgment
+    /// of a request to all.
     BadValue,
-    /// Sixteen messages are accepted and not told to have ended; a broadcast is, or a transfer, or a request; sixteen acknowledgments are due. Where none
-    /// is: a transfer of this group to this address ended without acknowledgment less than 4 seconds ago, or after others did.
+    /// Sixteen messages are accepted and not told to have ended; a broadcast is, or a transfer, or a request; sixteen
+    /// acknowledgments are due. Where none is: a transfer of this group to this address ended without acknowledgment less than 4
+    /// seconds ago, or after others did.
     Full,
 }
 
@@ -100,6 +102,8 @@ pub enum News {
     AddressLost,
     /// Another sends from the address that it holds, and not a claim.
     AnotherAtAddress,
+    /// Another of its NAME claims this address. Whose NAME it is can't be told from the bus: one of the two has to get another.
+    NameDoubled(u8),
     /// Messages were missed, since sixteen lay unread; `missed` tells how many.
     MessagesMissed,
 }

@@ -9,6 +9,7 @@ ghost use Rattle.j39_transport.specs.Message.{packets_of};
 ghost use Rattle.j39_node.specs.History.{Who, broadcast_from, can_broadcast, carried, is_left, is_open, nothing};
 
 use crate::Ending;
+use crate::hold::SLACK;
 use crate::outgoing::is_sendable;
 use crate::own::{Own, TRANSPORT_CONTROL, TRANSPORT_DATA};
 use arrayvec::ArrayVec;
@@ -88,13 +89,13 @@ impl Lane {
         }
     }
 
-    /// The next frame of the open broadcast, once nothing is left of the pause.
-    pub(crate) fn frame(&self, own: &Own, pause: u64, now: Stamp) -> Option<Frame>
+    /// The next frame of the open broadcast, once it is due.
+    pub(crate) fn frame(&self, own: &Own, pause: u32, now: Stamp) -> Option<Frame>
         ensures frame { option_map stamped result ≡ option_map (λ m. (stamp_micros now, m))
             (packet_by (lane_of (who_of nothing own.now) self.now).current self.now.count pause) }
         ensures count { IfSome result (λ f. self.now.count ≤ 255) }
     {
-        if pause > 0 {
+        if pause > SLACK {
             return None;
         }
         match &self.current {

@@ -1,6 +1,6 @@
 //! Laws over histories, each the contract of a function that does nothing. `Is w H c` says that the controller c was made for
 //! w and called as H says since, with the answers that H has; in H the newest call stands first.
-ghost use Rattle.std.specs.Prelude.{◌≡◌, ◌||◌, ◌≢◌, ◌⊎◌, ◌+◌, ◌-◌, ◌<◌, ◌≤◌, ◌↔◌, ◌++◌, ℕ, Bool, List, [], ◌∷◌, length, drop, map, Some, None, Option, Result, Ok, Err, IsTrue, true, false};
+ghost use Rattle.std.specs.Prelude.{◌≡◌, ◌||◌, ◌≢◌, ◌⊎◌, ◌+◌, ◌*◌, ◌-◌, ◌<◌, ◌≤◌, ◌↔◌, ◌++◌, ℕ, Bool, List, [], ◌∷◌, length, drop, map, Some, None, Option, Result, Ok, Err, IsTrue, true, false};
 ghost use Rattle.std.specs.List.{slice_get};
 ghost use Rattle.j39_frame.specs.Frame.{FrameRecord};
 ghost use Rattle.j39_frame.specs.Identifier.{destination_of, source_of, pgn_of};
@@ -18,25 +18,26 @@ ghost use Rattle.j39_node.specs.declared.kinds.News.{News};
 ghost use Rattle.j39_node.specs.declared.kinds.News.TheVariants as news;
 ghost use Rattle.j39_node.specs.declared.kinds.Refused.{Refused};
 ghost use Rattle.j39_node.specs.declared.kinds.Refused.TheVariants as refused;
-ghost use Rattle.j39_node.specs.History.{Act, Who, is_smaller, Asked, Call, Message, Draft, IsFront, accepted, acknowledgment, acknowledgment_group, asked, asked_group, handed, is_served, requests, lost_news, another_news, missed_news, address_after, answers_another, calls, can_send, claim_address, claim_from, content, acknowledged, due, frames, got, heard, holds, is_held, is_lost, is_subscribed, kept, message_of, missed, moment, owes_claim, sent, step, told, all_frames, broadcasts, can_broadcast, first_frames, frame_of, has_packets, is_acknowledgment, is_claim, is_packet, is_transfer, open_broadcast, packets, told_broadcasts};
-ghost use Rattle.j39_node.specs.History.Call.{At, TakeBroadcastEnded, ReleaseTransfer, TakeNews, TakeRequest, TakeAskEnded, TakeEnded, TakeReceived, TakeTransferEnded};
-ghost use Rattle.j39_node.specs.History.Act.{Acknowledge, Broadcast, Hear, Tick, TakeFrame, Send, Transfer};
-ghost use Rattle.j39_node.specs.Reception.{CameFromOne, delivered, got_transfers, heard_at, holder, is_move, listed, reception, session_tick, replied, reply_from, says, time_heard, whole, without};
+ghost use Rattle.j39_node.specs.History.{Act, Who, is_smaller, Asked, Call, Message, Draft, IsFront, accepted, acknowledgment, acknowledgment_group, asked, asked_group, handed, is_served, requests, lost_news, another_news, missed_news, address_after, answers_another, calls, can_send, claim_address, claim_from, content, acknowledged, due, frames, got, heard, holds, is_held, is_lost, is_subscribed, kept, message_of, missed, moment, owes_claim, sent, step, told, all_frames, broadcasts, can_broadcast, first_frames, frame_of, has_packets, is_acknowledgment, is_claim, is_packet, is_transfer, open_broadcast, packets, told_broadcasts, refusal_waits, waits_already, yields, is_alike, message_from, told_claims, delayed, doubled_news};
+ghost use Rattle.j39_node.specs.History.Call.{At, TakeBroadcastEnded, ReleaseTransfer, TakeNews, TakeRequest, TakeAskEnded, TakeEnded, TakeReceived, TakeTransferEnded, Renew};
+ghost use Rattle.j39_node.specs.History.Act.{Acknowledge, Broadcast, Hear, Tick, TakeFrame, Send, Transfer, Again};
+ghost use Rattle.j39_node.specs.Reception.{CameFromOne, delivered, got_transfers, heard_at, holder, is_move, known, listed, reception, session_tick, replied, reply_from, says, time_heard, whole, without};
 ghost use Rattle.j39_transport.specs.Cutting.{ToSend};
 ghost use Rattle.j39_transport.specs.Receiving.{said_to};
 ghost use Rattle.j39_transport.specs.Signals.{RequestToSend};
 ghost use Rattle.byteorder.specs.Endian.{little_bytes};
 ghost use Rattle.j39_node.specs.Hearing.{hearing, hearing_tick, unheard_news};
-ghost use Rattle.j39_node.specs.Transfers.{age, next_due, told_transfers, transfers};
+ghost use Rattle.j39_node.specs.Transfers.{age, next_due, next_transfer, told_transfers, transfers};
 ghost use Rattle.j39_node.specs.Moves.{moves};
 ghost use Rattle.j39_node.specs.Asking.{Question, asks, ended, next_ask_ended, open_ask, request_tick, told_asks};
 ghost use Rattle.j39_node.specs.Ticks.{next_tick};
 ghost use Rattle.j39_node.specs.declared.kinds.AskEnding.{AskEnding};
 ghost use Rattle.j39_node.specs.declared.kinds.AskEnding.TheVariants.{TimedOut};
 ghost use Rattle.j39_node.specs.Aside.{IsAside};
-ghost use Rattle.j39_node.specs.Since.{ClaimedSince, NeverBack, PacketSince, passed_in};
+ghost use Rattle.j39_node.specs.Prompt.{NoneTold, takes_other};
+ghost use Rattle.j39_node.specs.Since.{ClaimedSince, NeverBack, PacketSince, passed_in, HasDouble};
 ghost use Rattle.j39_node.specs.Example.{example, two};
-ghost use Rattle.j39_node.specs.Is.{AreAnswered, Is, gives_way, next_acknowledgment, next_frame, next_long, next_other, status_after};
+ghost use Rattle.j39_node.specs.Is.{AreAnswered, Is, gives_way, next_acknowledgment, next_frame, next_long, next_other, next_packet, is_apart, is_overdue, status_after};
 
 /// Each frame that is taken has the moment of its taking, and is the claim of its NAME, or comes from its address, which it
 /// holds at that moment, and is no claim.
@@ -114,6 +115,22 @@ pub fn refused_means()
         → answer ≡ Ok (length (accepted w H)) }
 {}
 
+/// `renew` changes the last message that waits of its priority, group and destination, and is no request: that has these bytes from then
+/// on, its token and its place stay, and no other changes. Where it answers none and the message can be sent, no such waits.
+pub fn renew_means()
+    ensures renewed { (w : Who) (H : List Call) (c : Controller) (d : Draft) (k : ℕ) → Is w (Renew d (Some k) ∷ H) c
+        → (m : Message) × (slice_get (accepted w H) k ≡ Some (k, m)) × IsTrue (is_alike (message_from w d) m)
+        × (length (sent H) ≤ k) × (length (told H) ≤ k)
+        × (slice_get (accepted w (Renew d (Some k) ∷ H)) k ≡ Some (k, message_from w d)) }
+    ensures newest { (w : Who) (H : List Call) (c : Controller) (d : Draft) (k j : ℕ) (m : Message) → Is w (Renew d (Some k) ∷ H) c
+        → k < j → slice_get (accepted w H) j ≡ Some (j, m) → is_alike (message_from w d) m ≡ false }
+    ensures others { (w : Who) (H : List Call) (d : Draft) (k j : ℕ) → j ≢ k
+        → slice_get (accepted w (Renew d (Some k) ∷ H)) j ≡ slice_get (accepted w H) j }
+    ensures none { (w : Who) (H : List Call) (c : Controller) (d : Draft) (j : ℕ) (m : Message) → Is w (Renew d None ∷ H) c
+        → IsTrue (can_send w d) → length (sent H) ≤ j → length (told H) ≤ j → slice_get (accepted w H) j ≡ Some (j, m)
+        → is_alike (message_from w d) m ≡ false }
+{}
+
 /// What was heard for the program and kept is got in order, each once, and nothing else; where none is got, all that was kept
 /// is got. All but what was kept is missed, and one is missed only where sixteen lie unread. What is of a group that isn't subscribed is
 /// neither kept nor missed.
@@ -127,9 +144,12 @@ pub fn received()
         → (kept w (At now (Hear f) ∷ H) ≡ kept w H) × (missed w (At now (Hear f) ∷ H) ≡ missed w H) }
 {}
 
-/// After a frame was heard that a claim answers (another's claim of the address, a request for claims, or another's frame from the
-/// address that is held, unless such a one was answered in the 5 seconds before), the next frame taken is its claim, or 'cannot claim' where the address is lost, unless that gives way; then the one after it is. A claim is taken only
-/// where one is owed.
+/// A claim that is owed is taken at once, but 'cannot claim' waits for the delay that `new` was given, from when the address is
+/// lost, a request for claims is heard, or `again` is called; then it is, and no frame goes before it. After `again` the next
+/// frame taken is the claim, where the address isn't lost. After a frame was heard that a claim answers (another's claim of the
+/// address, a request for claims, or another's frame from the address that is held, unless such a one was answered in the 5
+/// seconds before), the next frame taken is its claim, or 'cannot claim' where the address is lost, unless that gives way; then
+/// the one after it is. A claim is taken only where one is owed.
 pub fn claims()
     ensures next { (w : Who) (H later : List Call) (c : Controller) (now when : ℕ) (f g : FrameRecord)
         → Is w (At now (TakeFrame (Some g)) ∷ later ++ At when (Hear f) ∷ H) c → frames later ≡ []
@@ -146,13 +166,23 @@ pub fn claims()
         → passed_in later (At when (Hear f) ∷ H) + step (later ++ At when (Hear f) ∷ H) now < 5000000
         → answers_another w (later ++ At when (Hear f) ∷ H) now g ≡ false }
     ensures at_once { (w : Who) (H : List Call) (c : Controller) (now : ℕ) (answer : Option FrameRecord)
-        → Is w (At now (TakeFrame answer) ∷ H) c → IsTrue (owes_claim w H) → answer ≢ None }
+        → Is w (At now (TakeFrame answer) ∷ H) c → IsTrue (owes_claim w H)
+        → (IsTrue (is_lost (address_after w H)) → delayed w H ≤ step H now) → answer ≢ None }
+    ensures waits { (w : Who) (H later : List Call) (c : Controller) (when now : ℕ) (f : FrameRecord) (answer : Option FrameRecord)
+        → Is w (At now (TakeFrame answer) ∷ later ++ At when (Hear f) ∷ H) c → frames later ≡ []
+        → IsTrue (is_smaller w (claim_of f)) → is_lost (address_after w H) ≡ false
+        → passed_in later (At when (Hear f) ∷ H) + step (later ++ At when (Hear f) ∷ H) now < w.delay * 600 → answer ≡ None }
+    ensures most { (w : Who) (H : List Call) → delayed w H ≤ w.delay * 600 }
+    ensures anew { (w : Who) (H later : List Call) (c : Controller) (when now : ℕ) (g : FrameRecord)
+        → Is w (At now (TakeFrame (Some g)) ∷ later ++ At when Again ∷ H) c → frames later ≡ []
+        → message_of g ≡ claim_from w (claim_address w (address_after w (later ++ At when Again ∷ H))) }
     ensures only { (w : Who) (H : List Call) (c : Controller) (now : ℕ) (f : FrameRecord)
         → Is w (At now (TakeFrame (Some f)) ∷ H) c → pgn_of f.id ≡ address_claimed_group → IsTrue (owes_claim w H) }
 {}
 
-/// Whatever is heard: where two claims or acknowledgments were taken in a row and another frame is due, that goes next. A message that
-/// waits is due, a reply, and a frame of packets whose time has come.
+/// Whatever is heard: where two claims or acknowledgments were taken in a row and another frame is due, that goes next. A message
+/// that waits is due, a reply, and a frame of packets whose time has come. Behind a frame of a session to an address, as a reply
+/// is, what else is due, so a message or a frame of packets, goes before the next reply.
 pub fn takes_turns()
     ensures others { (w : Who) (H later between : List Call) (c : Controller) (last second first : ℕ) (f g i : FrameRecord) (m : Message)
         → Is w (At last (TakeFrame (Some i)) ∷ between ++ (At second (TakeFrame (Some g)) ∷ later ++ At first (TakeFrame (Some f)) ∷ H)) c
@@ -162,6 +192,13 @@ pub fn takes_turns()
         → message_of i ≡ m }
     ensures due { (w : Who) (H : List Call) (now : ℕ) → IsTrue (holds w H now)
         → (length (sent H) < length (accepted w H)) ⊎ (((reception w H).replies ≢ []) ⊎ (next_long w H now ≢ None)) → next_other w H now ≢ None }
+    ensures behind_a_reply { (w : Who) (H later : List Call) (c : Controller) (last first : ℕ) (f i : FrameRecord)
+        → Is w (At last (TakeFrame (Some i)) ∷ later ++ At first (TakeFrame (Some f)) ∷ H) c → IsTrue (is_transfer f) → NoneTold takes_other later
+        → (length (sent (later ++ At first (TakeFrame (Some f)) ∷ H)) < length (accepted w (later ++ At first (TakeFrame (Some f)) ∷ H)))
+        ⊎ ((next_packet w (later ++ At first (TakeFrame (Some f)) ∷ H) last ≢ None)
+        ⊎ IsTrue (is_apart (next_transfer w (later ++ At first (TakeFrame (Some f)) ∷ H) last)
+        (slice_get (reception w (later ++ At first (TakeFrame (Some f)) ∷ H)).replies 0)))
+        → (is_transfer i ≡ false) ⊎ IsTrue (is_move w (later ++ At first (TakeFrame (Some f)) ∷ H) i) }
 {}
 
 /// No frame is taken before the moment that `next_due` tells, if nothing is heard or handed in till then; and one is taken at the
@@ -181,13 +218,19 @@ pub fn quiet_till_due()
 {}
 
 /// News is told while it stands, and where none is told none stands: that the address was lost, which it then is; that another
-/// sends from it; that messages were missed, of which there then are some.
+/// sends from it; that another of its NAME claims an address, which that one did, and which takes no address from it; that messages
+/// were missed, of which there then are some.
 pub fn news()
     ensures none { (w : Who) (H : List Call) (c : Controller) → Is w (TakeNews None ∷ H) c
-        → (lost_news w H ≡ false) × (another_news w H ≡ false) × ((missed_news w H || unheard_news w H) ≡ false) }
+        → (lost_news w H ≡ false) × (another_news w H ≡ false) × (doubled_news w H ≡ None) × ((missed_news w H || unheard_news w H) ≡ false) }
     ensures told { (w : Who) (H : List Call) (c : Controller) (n : News) → Is w (TakeNews (Some n) ∷ H) c
         → ((n ≡ news.AddressLost) × IsTrue (lost_news w H)) ⊎ ((n ≡ news.AnotherAtAddress) × IsTrue (another_news w H))
+        ⊎ ((address : ℕ) × (n ≡ news.NameDoubled address) × (doubled_news w H ≡ Some address))
         ⊎ ((n ≡ news.MessagesMissed) × IsTrue (missed_news w H || unheard_news w H)) }
+    ensures doubled { (w : Who) (H : List Call) (now : ℕ) (f : FrameRecord) (a : ℕ) → claim_of f ≡ Some (record { name = w.name; address = a })
+        → (doubled_news w (At now (Hear f) ∷ H) ≡ Some a) × (told_claims w (At now (Hear f) ∷ H) ≡ told_claims w H) }
+    ensures claimed { (w : Who) (H : List Call) (a : ℕ) → doubled_news w H ≡ Some a
+        → HasDouble w a H }
     ensures lost { (w : Who) (H : List Call) → IsTrue (lost_news w H) → IsTrue (is_lost (address_after w H)) }
     ensures missed { (w : Who) (H : List Call) → IsTrue (missed_news w H) → 0 < missed w H }
 {}
@@ -209,21 +252,27 @@ pub fn an_example()
 
 /// What becomes of a request of an address for a group, to all or to the address that it holds: if the group is served, the program
 /// is handed it, once, in order, and nothing is sent. A request to its address for what isn't served is refused by a NACK without
-/// the program, and one for which there is no room by 'cannot respond'. A request to all is never acknowledged.
+/// the program, and one for which there is no room by 'cannot respond'. A request to all is never acknowledged. While a request waits for
+/// the program, the same of the same source changes nothing; and while a refusal is due, the same isn't due again.
 pub fn requests()
     ensures handed { (w : Who) (H : List Call) (now : ℕ) (f : FrameRecord) (r : Asked) → asked w (holds w H now) f ≡ Some r
-        → IsTrue (is_served w r.group) → length (requests w H) < length (handed H) + 16
+        → IsTrue (is_served w r.group) → waits_already w H r ≡ false → length (requests w H) < length (handed H) + 16
         → (requests w (At now (Hear f) ∷ H) ≡ requests w H ++ r ∷ []) × (due w (At now (Hear f) ∷ H) ≡ due w H) }
+    ensures again { (w : Who) (H : List Call) (now : ℕ) (f : FrameRecord) (r : Asked) → asked w (holds w H now) f ≡ Some r
+        → IsTrue (is_served w r.group) → IsTrue (waits_already w H r)
+        → (requests w (At now (Hear f) ∷ H) ≡ requests w H) × (due w (At now (Hear f) ∷ H) ≡ due w H) }
     ensures refused { (w : Who) (H : List Call) (now : ℕ) (f : FrameRecord) (r : Asked) → asked w (holds w H now) f ≡ Some r
-        → r.destination ≡ w.address → (IsTrue (is_served w r.group) → ⊥)
+        → r.destination ≡ w.address → (IsTrue (is_served w r.group) → ⊥) → refusal_waits w H r ≡ false
         → length (due w H) < length (acknowledged H) + 16
         → (requests w (At now (Hear f) ∷ H) ≡ requests w H)
         × (due w (At now (Hear f) ∷ H) ≡ due w H ++ acknowledgment w answer.Nack r ∷ []) }
     ensures no_room { (w : Who) (H : List Call) (now : ℕ) (f : FrameRecord) (r : Asked) → asked w (holds w H now) f ≡ Some r
-        → r.destination ≡ w.address → IsTrue (is_served w r.group) → length (handed H) + 16 ≤ length (requests w H)
-        → length (due w H) < length (acknowledged H) + 16
+        → r.destination ≡ w.address → IsTrue (is_served w r.group) → waits_already w H r ≡ false → refusal_waits w H r ≡ false
+        → length (handed H) + 16 ≤ length (requests w H) → length (due w H) < length (acknowledged H) + 16
         → (requests w (At now (Hear f) ∷ H) ≡ requests w H)
         × (due w (At now (Hear f) ∷ H) ≡ due w H ++ acknowledgment w answer.Busy r ∷ []) }
+    ensures refused_once { (w : Who) (H : List Call) (now : ℕ) (f : FrameRecord) (r : Asked) → asked w (holds w H now) f ≡ Some r
+        → IsTrue (refusal_waits w H r) → due w (At now (Hear f) ∷ H) ≡ due w H }
     ensures to_all { (w : Who) (H : List Call) (now : ℕ) (f : FrameRecord) (r : Asked) → asked w (holds w H now) f ≡ Some r
         → r.destination ≢ w.address → due w (At now (Hear f) ∷ H) ≡ due w H }
     ensures no_request { (w : Who) (H : List Call) (now : ℕ) (f : FrameRecord) → asked w (holds w H now) f ≡ None
@@ -232,8 +281,8 @@ pub fn requests()
     ensures all { (w : Who) (H : List Call) (c : Controller) → Is w (TakeRequest None ∷ H) c → handed H ≡ requests w H }
 {}
 
-/// The acknowledgments that are taken are those that are due, in order, before any message, unless they give way. The program acknowledges a request to
-/// the address that it holds, unless sixteen are due, and no other.
+/// The acknowledgments that are taken are those that are due, in order, before any message, unless they give way. The program
+/// acknowledges a request to the address that it holds, unless sixteen are due, and no other.
 pub fn acknowledgments()
     ensures in_order { (w : Who) (H : List Call) (c : Controller) → Is w H c → IsFront (acknowledged H) (due w H) }
     ensures first { (w : Who) (H : List Call) (c : Controller) (now : ℕ) (f : FrameRecord)
@@ -268,8 +317,9 @@ pub fn broadcast_means()
 {}
 
 /// The frames of packets that are taken since a broadcast was accepted are its announcement and packets, in order, and no others are
-/// taken. Each comes from the address that is held, where no message and no acknowledgment waits, and 50 ms or more after the one
-/// before. Where the address is held and one is left, but no frame is taken, one of packets was taken less than 50 ms before.
+/// taken. Each comes from the address that is held, where no acknowledgment waits, or it gives way, and no message, unless the frame is
+/// overdue, and 50 ms or more after the one before. One that is overdue goes before all but claims and acknowledgments. Where the address
+/// is held and one is left, but no frame is taken, one of packets was taken less than 50 ms before.
 pub fn packets_mean()
     ensures in_order { (w : Who) (H : List Call) (c : Controller) (k : ℕ) (m : MessageRecord) → Is w H c
         → open_broadcast w H ≡ Some (k, m)
@@ -280,7 +330,11 @@ pub fn packets_mean()
         × (message_of f ≡ frame_of m (length (packets H))) × (length (packets H) ≤ packets_of m) }
     ensures behind { (w : Who) (H : List Call) (c : Controller) (now : ℕ) (f : FrameRecord)
         → Is w (At now (TakeFrame (Some f)) ∷ H) c → IsTrue (is_packet f)
-        → IsTrue (holds w H now) × (length (sent H) ≡ length (accepted w H)) × (IsTrue (gives_way w H now) ⊎ (acknowledged H ≡ due w H)) }
+        → IsTrue (holds w H now) × (IsTrue (is_overdue w H now) ⊎ (length (sent H) ≡ length (accepted w H)))
+        × (IsTrue (gives_way w H now) ⊎ (acknowledged H ≡ due w H)) }
+    ensures overdue { (w : Who) (H : List Call) (c : Controller) (now : ℕ) (f : FrameRecord)
+        → Is w (At now (TakeFrame (Some f)) ∷ H) c → IsTrue (is_overdue w H now) → is_claim f ≡ false → is_acknowledgment f ≡ false
+        → IsTrue (is_packet f) }
     ensures spaced { (w : Who) (H later : List Call) (c : Controller) (now at : ℕ) (f g : FrameRecord)
         → Is w (At now (TakeFrame (Some g)) ∷ later ++ At at (TakeFrame (Some f)) ∷ H) c
         → IsTrue (is_packet f) → IsTrue (is_packet g)
@@ -307,9 +361,10 @@ pub fn broadcast_done_means()
         ⊎ (IsTrue (has_packets w H) × (IsTrue (is_lost (address_after w H)) → ⊥)) }
 {}
 
-/// What comes in packets to its address and is made whole by a frame is got by the program, each once, in order, or waits. It was handed
-/// over by one sender: an RTS, then its packets in order, and since the RTS one NAME held its source, or none. Where the address is held,
-/// nothing waits and no session is open, an RTS begins one, and a CTS (its first byte is 17) is said to its source.
+/// What comes in packets to its address and is made whole by a frame is got by the program, each once, in order, or waits. It was
+/// handed over by one sender: an RTS, then its packets in order, and since the RTS one NAME held its source, and didn't restart,
+/// or none. Where the address is held, nothing waits and no session is open, an RTS begins one, and a CTS (its first byte is 17)
+/// is said to its source.
 pub fn transfers_received()
     ensures in_order { (w : Who) (H : List Call) → delivered w H ≡ got_transfers w H ++ listed (reception w H).waits }
     ensures got { (w : Who) (H : List Call) (c : Controller) (answer : Bool) → Is w (ReleaseTransfer answer ∷ H) c
@@ -336,8 +391,10 @@ pub fn acknowledged_is_there()
         → slice_get x.bytes 0 ≡ Some 19 → (m : MessageRecord) × (whole w H now f ≡ Some m) }
 {}
 
-/// A frame taken that belongs to a session, goes to an address and is none of the open transfer is the first reply that waits: it comes from the address that is held,
-/// behind claims and acknowledgments and before all else, and each is taken once. From an address that is lost nothing is said.
+/// A frame taken that belongs to a session, goes to an address and is none of the open transfer is the first reply that waits: it
+/// comes from the address that is held, behind claims, acknowledgments and an overdue frame of a broadcast, and before all else
+/// unless it yields, and each is taken once. Where the address is held and no frame is taken, none waits. From an address that is
+/// lost nothing is said.
 pub fn replies_mean()
     ensures first { (w : Who) (H : List Call) (c : Controller) (now : ℕ) (f : FrameRecord)
         → Is w (At now (TakeFrame (Some f)) ∷ H) c → IsTrue (is_transfer f) → is_move w H f ≡ false
@@ -345,23 +402,28 @@ pub fn replies_mean()
         × (next_acknowledgment w H now ≡ None) }
     ensures before { (w : Who) (H : List Call) (c : Controller) (now : ℕ) (f : FrameRecord) (m : Message)
         → Is w (At now (TakeFrame (Some f)) ∷ H) c → slice_get (reception w H).replies 0 ≡ Some m
-        → is_claim f ≡ false → is_acknowledgment f ≡ false → message_of f ≡ m }
-    ensures once { (w : Who) (H : List Call) (now : ℕ) (f : FrameRecord) → is_claim f ≡ false → is_acknowledgment f ≡ false
+        → is_claim f ≡ false → is_acknowledgment f ≡ false → is_overdue w H now ≡ false → yields H ≡ false → message_of f ≡ m }
+    ensures once { (w : Who) (H : List Call) (now : ℕ) (f : FrameRecord) → is_claim f ≡ false → IsTrue (is_transfer f) → is_move w H f ≡ false
         → (reception w (At now (TakeFrame (Some f)) ∷ H)).replies ≡ drop 1 (reception w H).replies }
+    ensures others { (w : Who) (H : List Call) (now : ℕ) (f : FrameRecord) → is_claim f ≡ false
+        → (is_transfer f ≡ false) ⊎ IsTrue (is_move w H f)
+        → (reception w (At now (TakeFrame (Some f)) ∷ H)).replies ≡ (reception w H).replies }
+    ensures none_waits { (w : Who) (H : List Call) (c : Controller) (now : ℕ) → Is w (At now (TakeFrame None) ∷ H) c
+        → IsTrue (holds w H now) → (reception w H).replies ≡ [] }
     ensures lost { (w : Who) (H : List Call) → IsTrue (is_lost (address_after w H))
         → ((reception w H).session ≡ None) × ((reception w H).replies ≡ []) }
 {}
 
 /// A frame that doesn't go to its address changes nothing of what is received, and one of another source nothing of the session,
-/// unless by it the address is lost or the session's source gets another holder; nor of the message that waits. What is said to others
-/// than its source stays, unless it is a claim.
+/// unless by it the address is lost or the session's source gets another holder or restarts; nor of the message that waits. What
+/// is said to others than its source stays, unless it is a claim.
 pub fn strangers()
     ensures to_others { (w : Who) (H : List Call) (now : ℕ) (f : FrameRecord) → is_smaller w (claim_of f) ≡ false
         → ((r : ReceptionRecord) → (reception w H).session ≡ Some r
-        → holder w (At now (Hear f) ∷ H) r.message.source ≡ holder w H r.message.source)
+        → holder w (At now (Hear f) ∷ H) r.message.source ≡ known w H now f r.message.source)
         → destination_of f.id ≢ Some w.address → reception w (At now (Hear f) ∷ H) ≡ reception w H }
     ensures from_others { (w : Who) (H : List Call) (now : ℕ) (f : FrameRecord) (r : ReceptionRecord)
-        → is_lost (address_after w (At now (Hear f) ∷ H)) ≡ false → holder w (At now (Hear f) ∷ H) r.message.source ≡ holder w H r.message.source
+        → is_lost (address_after w (At now (Hear f) ∷ H)) ≡ false → holder w (At now (Hear f) ∷ H) r.message.source ≡ known w H now f r.message.source
         → (reception w H).session ≡ Some r → source_of f.id ≢ r.message.source → (reception w (At now (Hear f) ∷ H)).session ≡ Some r }
     ensures waits { (w : Who) (H : List Call) (now : ℕ) (f : FrameRecord)
         → ((r : ReceptionRecord) → (reception w H).session ≡ Some r → source_of f.id ≢ r.message.source)
@@ -385,8 +447,8 @@ pub fn strangers_and_sending()
         → next_frame w (At when (Hear f) ∷ H) now ≡ next_frame w (At when (TakeFrame None) ∷ H) now }
 {}
 
-/// Which frame others exchange, no claim, makes no difference to any answer, whatever comes later. Neither does it whether a tick stands
-/// in its place, unless a session (`ticks_wait`) or a request is out of time by it.
+/// Which frame others exchange, no claim and no request for claims, makes no difference to any answer, whatever comes later.
+/// Neither does it whether a tick stands in its place, unless a session (`ticks_wait`) or a request is out of time by it.
 pub fn strangers_unheard()
     ensures alike { (w : Who) (later H : List Call) (now : ℕ) (f g : FrameRecord) → IsAside w f → IsAside w g
         → AreAnswered w (later ++ At now (Hear f) ∷ H) → AreAnswered w (later ++ At now (Hear g) ∷ H) }
@@ -403,6 +465,7 @@ pub fn full_refuses()
         → length (without (source_of f.id) (reception w H).replies) < 16
         → reception w (At now (Hear f) ∷ H) ≡ record {
           session = None;
+          since = (reception w H).since;
           waits = Some x;
           replies = without (source_of f.id) (reception w H).replies
               ++ reply_from w.address (source_of f.id) (255 ∷ 2 ∷ 255 ∷ 255 ∷ 255 ∷ little_bytes 3 pgn) ∷ [];

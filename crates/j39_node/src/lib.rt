@@ -17,8 +17,10 @@ mod outgoing;
 mod own;
 mod received;
 mod requests;
+pub mod session_laws;
 pub mod transfer_laws;
 mod transfers;
+mod turn;
 
 pub use controller::Controller;
 pub use kinds::{Answer, AskEnding, Ending, News, Refused, TransferEnding};

@@ -1,12 +1,12 @@
 //! Messages that were accepted, and are not told to have ended.
-ghost use Rattle.std.specs.Prelude.{◌≡◌, ◌↔◌, IsSome, IfSome, Some, true, List, []};
+ghost use Rattle.std.specs.Prelude.{◌≡◌, ◌↔◌, ◌≤◌, IsSome, IfSome, Some, None, true, List, [], length, map, nat_le, ◌&&◌, if◌then◌else◌};
 ghost use Rattle.std.specs.Option.{option_map};
 ghost use Rattle.j39_frame.specs.Pgn.{pgn_raw};
 ghost use Rattle.j39_frame.specs.Stamp.{stamp_micros};
-ghost use Rattle.j39_node.specs.History.{can_send, is_sendable, message_from, is_directed, nothing};
-ghost use Rattle.j39_node.specs.Is.{who_of, posted, stamped};
+ghost use Rattle.j39_node.specs.History.{asks_with, can_send, is_sendable, message_from, is_directed, nothing, is_alike, is_one, latest};
+ghost use Rattle.j39_node.specs.Is.{who_of, posted, stamped, Renews};
 
-use crate::own::{ACKNOWLEDGMENT, Own, is_own_group};
+use crate::own::{ACKNOWLEDGMENT, ADDRESS_CLAIMED, Own, asks_for, is_own_group};
 use arrayvec::ArrayVec;
 use j39_frame::{Frame, GLOBAL_ADDRESS, Id, NULL_ADDRESS, Pgn, Stamp};
 
@@ -59,12 +59,81 @@ impl Outgoing {
         })
     }
 
+    /// The two have one priority, one group and one destination, and are no requests.
+    pub(crate) fn is_alike(&self, other: &Outgoing) -> bool
+        ensures { result ≡ is_alike (posted self.now).1 (posted other.now).1 }
+    {
+        self.id.priority() == other.id.priority()
+            && self.id.pgn() == other.id.pgn()
+            && (is_one(self.id.destination(), other.id.destination()) && !self.id.is_request())
+    }
+
     /// Its frame.
     pub(crate) fn frame(&self, now: Stamp) -> Option<Frame>
         ensures { option_map stamped result ≡ Some (stamp_micros now, (posted self.now).1) }
     {
         Frame::new(now, self.id, self.bytes.as_slice())
     }
+
+    /// Whether it asks for claims.
+    pub(crate) fn asks_claims(&self) -> bool
+        ensures { result ≡ asks_with (posted self.now).1 60928 }
+    {
+        asks_for(self.id, self.bytes.as_slice(), ADDRESS_CLAIMED)
+    }
+}
+
+fn is_one(one: Option<u8>, other: Option<u8>) -> bool
+    ensures { result ≡ is_one one other }
+{
+    match (one, other) {
+        (None, None) => true,
+        (None, Some(_)) => false,
+        (Some(_), None) => false,
+        (Some(one), Some(other)) => one == other,
+    }
+}
+
+/// The place of the last of these, from the nth on, that is alike.
+pub(crate) fn latest(outgoing: &[Outgoing], n: usize, message: &Outgoing) -> Option<usize>
+    ensures value { result ≡ latest (posted message.now).1 n 0 (map posted outgoing.now) None }
+{
+    let mut found = None;
+    let mut place = 0;
+    for waits in outgoing {
+        found = later_of(n, place, message.is_alike(waits), found);
+        place += 1;
+    }
+    found
+}
+
+/// This place, if it isn't before the nth and alike; else the one that was found.
+fn later_of(n: usize, place: usize, is_alike: bool, found: Option<usize>) -> Option<usize>
+    ensures { result ≡ (if nat_le n place && is_alike then Some place else found) }
+{
+    if n <= place && is_alike {
+        Some(place)
+    } else {
+        found
+    }
+}
+
+/// The message of this place, which keeps its token, is now this one.
+pub(crate) fn renew(
+    outgoing: &mut ArrayVec<Outgoing, 16>,
+    place: usize,
+    message: Outgoing,
+) -> Option<u64>
+    ensures renewed { IfSome result (λ token. Renews outgoing.old.items place (posted message) token outgoing.new.items) }
+    ensures none { result ≡ None → length outgoing.old.items ≤ place }
+{
+    let token = outgoing.as_slice().get(place)?.token;
+    outgoing.as_mut_slice()[place] = Outgoing {
+        token,
+        id: message.id,
+        bytes: message.bytes,
+    };
+    Some(token)
 }
 
 fn can_send(own: &Own, priority: u8, group: Pgn, to: u8, bytes: &[u8]) -> bool

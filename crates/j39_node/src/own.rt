@@ -1,12 +1,12 @@
 //! Who a controller is, and what the frames of others are to it (J1939-81, 4.2; J1939-21, 5.4.2).
-ghost use Rattle.std.specs.Prelude.{◌≡◌, ◌&&◌, ◌||◌, not, nat_eq, Option, Some, Bool, IsSomeAnd, IsSome, IfSome, ◌↔◌, ◌≤◌, length, map, ℕ, List, ◌==◌, []};
+ghost use Rattle.std.specs.Prelude.{◌≡◌, ◌&&◌, ◌||◌, not, nat_eq, Option, Some, Bool, IsSomeAnd, IsSome, IfSome, ◌↔◌, ◌≤◌, ◌*◌, length, map, ℕ, List, ◌==◌, []};
 ghost use Rattle.std.specs.List.{list_any};
 ghost use Rattle.std.specs.Option.{option_map};
 ghost use Rattle.j39_frame.specs.Identifier.{pgn_of, id_raw, destination_of};
 ghost use Rattle.j39_frame.specs.Pgn.{pgn_raw};
 ghost use Rattle.j39_frame.specs.Stamp.{stamp_micros};
 ghost use Rattle.j39_address.specs.Claim.{claim_of};
-ghost use Rattle.j39_node.specs.History.{is_smaller, is_larger, asked_group, is_some, is_none, is_asked, calls_for_claim, is_for_program, is_own_group, is_subscribed, has_group, AreFew, claim_from, claim_with, carried, is_another, is_served, nothing};
+ghost use Rattle.j39_node.specs.History.{is_smaller, is_larger, asked_group, is_some, is_none, is_asked, calls_for_claim, is_for_program, is_own_group, is_subscribed, has_group, AreFew, asks_with, claim_from, claim_with, carried, is_another, is_served, nothing, double};
 ghost use Rattle.j39_frame.specs.Address.{IsAddress};
 
 use crate::requests::Due;
@@ -29,11 +29,16 @@ pub(crate) const TRANSPORT_CONTROL: u32 = 60_416;
 
 pub(crate) const TRANSPORT_DATA: u32 = 60_160;
 
+/// The unit in which the time is told for which 'cannot claim' waits, in microseconds (J1939-81, 4.2.2).
+const DELAY_UNIT: u32 = 600;
+
 /// The NAME of a controller, the address that it claims, and the groups that its program serves and subscribed.
 #[derive(Drop)]
 pub(crate) struct Own {
     pub(crate) name: Name,
     pub(crate) address: u8,
+    /// How long 'cannot claim' waits, in 0.6 ms.
+    pub(crate) delay: u8,
     pub(crate) served: ArrayVec<u32, 16>,
     /// All where there is none.
     pub(crate) subscribed: Option<ArrayVec<u32, 64>>,
@@ -61,6 +66,29 @@ impl Own {
             Some((name, address)) => address == self.address && self.name.raw() < name.raw(),
             None => false,
         }
+    }
+
+    /// The address that another of its NAME claims.
+    pub(crate) fn double(&self, frame: &Frame) -> Option<u8>
+        ensures { result ≡ double (who_of nothing self.now) (claim_of frame.now) }
+    {
+        match claim_of(frame) {
+            Some((name, address)) => {
+                if name.raw() == self.name.raw() {
+                    Some(address)
+                } else {
+                    None
+                }
+            }
+            None => None,
+        }
+    }
+
+    /// How long 'cannot claim' waits behind what calls for it, in microseconds.
+    pub(crate) fn delay(&self) -> u32
+        ensures { result ≡ self.now.delay * 600 }
+    {
+        u32::from(self.delay) * DELAY_UNIT
     }
 
     /// Whether the frame is a request for claims, to all or, unless the address is lost, to it.
@@ -191,11 +219,17 @@ fn claim_id(address: u8) -> Option<Id>
     Id::compose(6, group, GLOBAL_ADDRESS, address)
 }
 
-fn is_request_for(frame: &Frame, group: u32) -> bool
+pub(crate) fn is_request_for(frame: &Frame, group: u32) -> bool
     ensures { result ≡ is_some (asked_group frame.now) group }
 {
-    let bytes = frame.bytes.as_slice();
-    frame.id.is_request() && bytes.len() >= 3 && LittleEndian::read_u24(bytes) == group
+    asks_for(frame.id, frame.bytes.as_slice(), group)
+}
+
+/// Whether a message asks for the group.
+pub(crate) fn asks_for(id: Id, bytes: &[u8], group: u32) -> bool
+    ensures { result ≡ asks_with (carried (id_raw id) bytes.now) group }
+{
+    id.is_request() && bytes.len() >= 3 && LittleEndian::read_u24(bytes) == group
 }
 
 pub(crate) fn is_to(frame: &Frame, address: u8) -> bool

@@ -45,11 +45,11 @@ pub fn transfer_means()
         → Is w (At now (Transfer group to bytes (Ok k)) ∷ H) c → k ≡ length (transfers w H) }
 {}
 
-/// A frame of a transfer that is taken is one of the transfer that was accepted last and isn't told: first its request to send, then
-/// packets of its message, or an abort. It is taken where the address is held, no message and no acknowledgment waits, and no frame of
-/// the open broadcast is due; where none is taken though the address is held, its sender has none. A transfer takes so many clears to send as it has packets, and 65 more, at most; where more than 64
-/// granted nothing new, and only there, its next frame is abort 5. At what is heard and taken its sender takes the steps that
-/// `j39_transport` defines.
+/// A frame of a transfer that is taken is one of the transfer that was accepted last and isn't told: first its request to send,
+/// then packets of its message, or an abort. It is taken where the address is held, no message and no acknowledgment waits, and
+/// no frame of the open broadcast is due; where none is taken though the address is held, its sender has none. A transfer takes
+/// so many clears to send as it has packets, and 65 more, at most; where more than 64 granted nothing new, and only there, its
+/// next frame is abort 5. At what is heard and taken its sender takes the steps that `j39_transport` defines.
 pub fn moves_mean()
     ensures only { (w : Who) (H : List Call) (c : Controller) (now : ℕ) (f : FrameRecord)
         → Is w (At now (TakeFrame (Some f)) ∷ H) c → IsTrue (is_move w H f)
@@ -83,11 +83,12 @@ pub fn moves_mean()
         × (x.sender ≡ (send_step t.sender Tick (clock_at H now)).after) }
 {}
 
-/// The tokens of the transfers accepted are 0, 1, 2 and so on, and in this order each is told at most once to have ended: as done only
-/// where its destination acknowledged its size, packets and group after all its packets were taken, as failed only by an abort for that
-/// reason, heard or taken; as gone only where its destination's address was left or lost by its holder, and there unless it was over;
-/// as withdrawn only where the address is lost. One that waits with its last packet taken, and hears its acknowledgment, is told as done. Where none is told, all
-/// are, or one is open and nothing of this is so. `holder` is `j39_address`'s holder.
+/// The tokens of the transfers accepted are 0, 1, 2 and so on, and in this order each is told at most once to have ended: as done
+/// only where its destination acknowledged its size, packets and group after all its packets were taken, as failed only by an
+/// abort for that reason, heard or taken; as gone only where its destination's address was left or lost by its holder, and there
+/// unless it was over; as withdrawn only where the address is lost. One that waits with its last packet taken, and hears its
+/// acknowledgment, is told as done. Where none is told, all are, or one is open and nothing of this is so. `holder` is
+/// `j39_address`'s holder.
 pub fn transfer_done_means()
     ensures told { (w : Who) (H : List Call) (c : Controller) (k : ℕ) (e : TransferEnding)
         → Is w (TakeTransferEnded (Some (k, e)) ∷ H) c → (k ≡ length (told_transfers H)) × (k < length (transfers w H)) }

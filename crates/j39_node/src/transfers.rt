@@ -306,7 +306,7 @@ impl Transfers {
     }
 
     /// Whether this one can't be accepted, where so much is left of the time for which transfers rest.
-    pub(crate) fn refuses(&self, left: u64, group: Pgn, to: u8) -> bool
+    pub(crate) fn refuses(&self, left: u32, group: Pgn, to: u8) -> bool
         ensures room { result ≡ false → self.now.next_token < 18446744073709551615 }
         ensures value { result ≡ (is_engaged (port_of self.now).current self.now.next_token
             || (nat_lt 0 left && holds_back (port_of self.now).resting (pgn_raw group) to)) }
@@ -315,7 +315,7 @@ impl Transfers {
     }
 
     /// The end of the open transfer is told: whether it rests by it.
-    pub(crate) fn close(&mut self, rests: bool, left: u64)
+    pub(crate) fn close(&mut self, rests: bool, left: u32)
         ensures { port_of self.new ≡ closed rests left (port_of self.old) }
     {
         if rests {
@@ -325,7 +325,7 @@ impl Transfers {
     }
 
     /// What rests with the open transfer, where so much is left of the time for which others rest.
-    fn joined(&self, left: u64) -> Resting
+    fn joined(&self, left: u32) -> Resting
         ensures { resting_by result ≡ joined left (port_of self.now).resting (port_of self.now).current }
     {
         let before = if left == 0 {

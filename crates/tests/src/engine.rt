@@ -23,7 +23,7 @@ impl Engine {
         let Some(speeds) = Pgn::new(61_444) else {
             return Ok(None);
         };
-        let Some(controller) = Controller::new(alloc, name, 0, served, Some(&[speeds]))? else {
+        let Some(controller) = Controller::new(alloc, name, 0, 0, served, Some(&[speeds]))? else {
             return Ok(None);
         };
         Ok(Some(Engine {

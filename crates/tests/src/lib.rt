@@ -17,13 +17,18 @@ mod fault_messages;
 #[cfg(test)]
 mod node;
 #[cfg(test)]
+mod node_address;
 mod node_asks;
 #[cfg(test)]
 mod node_clock;
 #[cfg(test)]
+mod node_flood;
+#[cfg(test)]
 mod node_hears;
 #[cfg(test)]
 mod node_receives;
+#[cfg(test)]
+mod node_session;
 #[cfg(test)]
 mod node_stranger;
 #[cfg(test)]

@@ -271,8 +271,20 @@ static LONG: &[Step] = &[
     Wakes(Some(31_250_000)),
     Ends(Some((7, TimedOut))),
     Wakes(None),
+    // A session of another group isn't its answer.
+    Asks(33_000_000, 65_227, 11, Ok(8)),
+    Gives(33_000_000, Some("(0000000033.000000) can0 18EA0B80#CBFE00")),
+    Hears("(33.020000) can0 1CEC800B#10D2001EFFECFE00"),
+    Gives(
+        33_020_000,
+        Some("(0000000033.020000) can0 1CEC0B80#111E01FFFFECFE00"),
+    ),
+    Wakes(Some(34_250_000)),
+    Ticks(34_250_000),
+    Ends(Some((8, TimedOut))),
+    Hears("(34.260000) can0 1CEC800B#FF01FFFFFFECFE00"),
     // Whole, to this address.
-    Asks(40_000_000, 65_227, 11, Ok(8)),
+    Asks(40_000_000, 65_227, 11, Ok(9)),
     Gives(40_000_000, Some("(0000000040.000000) can0 18EA0B80#CBFE00")),
     Hears("(40.020000) can0 1CEC800B#10D2001EFFCBFE00"),
     Gives(
@@ -282,7 +294,7 @@ static LONG: &[Step] = &[
     HearsPackets(40_070_000, 128, 1, 29),
     Ends(None),
     HearsPackets(41_520_000, 128, 30, 30),
-    Ends(Some((8, Answered))),
+    Ends(Some((9, Answered))),
 ];
 
 /// Whether the controller does as the step says; `None` where the step isn't one.
@@ -333,14 +345,14 @@ fn wrong_step(node: &mut Controller, steps: &[Step]) -> Option<usize> {
 
 #[test]
 fn node_asks(rt: HostRuntime) -> Result<(), Fail> {
-    let mut node = Controller::new(rt.alloc(), Name::new(2), 128, &[], None)?.ok_or("node")?;
+    let mut node = Controller::new(rt.alloc(), Name::new(2), 128, 0, &[], None)?.ok_or("node")?;
     assert_eq!(rt; wrong_step(&mut node, STEPS), None);
     Ok(())
 }
 
 #[test]
 fn node_asks_for_long_messages(rt: HostRuntime) -> Result<(), Fail> {
-    let mut node = Controller::new(rt.alloc(), Name::new(2), 128, &[], None)?.ok_or("node")?;
+    let mut node = Controller::new(rt.alloc(), Name::new(2), 128, 0, &[], None)?.ok_or("node")?;
     assert_eq!(rt; wrong_step(&mut node, LONG), None);
     Ok(())
 }

@@ -71,7 +71,7 @@ fn wake(node: &mut Controller, seen: &mut Seen, now: u64, period: u64) -> Option
 
 /// What is seen of a controller that is woken 60 times so.
 fn driven(alloc: Global, period: u64) -> Result<Seen, Fail> {
-    let mut node = Controller::new(alloc, Name::new(2), OWN, &[], None)?.ok_or("controller")?;
+    let mut node = Controller::new(alloc, Name::new(2), OWN, 0, &[], None)?.ok_or("controller")?;
     let mut seen = Seen {
         claimed: None,
         held: None,
@@ -107,7 +107,7 @@ fn stamps_are_no_moments(rt: HostRuntime) -> Result<(), Fail> {
 
 /// Holds the address, since it heard no claim of another.
 fn holding(alloc: Global, name: u64) -> Result<Controller, Fail> {
-    let mut node = Controller::new(alloc, Name::new(name), OWN, &[], None)?.ok_or("controller")?;
+    let mut node = Controller::new(alloc, Name::new(name), OWN, 0, &[], None)?.ok_or("controller")?;
     node.take_frame(Stamp::new(0).ok_or("moment")?);
     node.tick(Stamp::new(250_000).ok_or("moment")?);
     Ok(node)

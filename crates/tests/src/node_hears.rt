@@ -176,7 +176,7 @@ fn does(node: &mut Controller, step: &Step) -> Option<bool> {
 
 #[test]
 fn node_hears(rt: HostRuntime) -> Result<(), Fail> {
-    let mut node = Controller::new(rt.alloc(), Name::new(2), 128, &[], None)?.ok_or("node")?;
+    let mut node = Controller::new(rt.alloc(), Name::new(2), 128, 0, &[], None)?.ok_or("node")?;
     let mut wrong = None;
     for (place, step) in STEPS.iter().enumerate() {
         if wrong.is_none() && does(&mut node, step) != Some(true) {

@@ -61,8 +61,8 @@ fn noise(random: &mut Pcg32, now: Stamp) -> Option<Frame> {
 impl Pair {
     /// Both hold their addresses, and the broadcast and the first transfer are announced.
     fn new(alloc: Global) -> Result<Pair, Fail> {
-        let sender = Controller::new(alloc, Name::new(2), SENDER, &[], None)?.ok_or("sender")?;
-        let receiver = Controller::new(alloc, Name::new(3), RECEIVER, &[], None)?.ok_or(
+        let sender = Controller::new(alloc, Name::new(2), SENDER, 0, &[], None)?.ok_or("sender")?;
+        let receiver = Controller::new(alloc, Name::new(3), RECEIVER, 0, &[], None)?.ok_or(
             "receiver",
         )?;
         let mut pair = Pair {

@@ -58,9 +58,9 @@ impl Station {
     pub fn new(alloc: Global, name: Name, address: u8) -> Result<Option<Station>, AllocError>
         ensures known { IfOk result (λ found. IsSome found ↔ IsAddress address) }
         ensures fresh { IfOk result (λ found. IfSome found (λ station. Is (record
-            { name = name_raw name; address = address; served = []; subscribed = None; brought = nothing }) [] station.controller)) }
+            { name = name_raw name; address = address; delay = 0; served = []; subscribed = None; brought = nothing }) [] station.controller)) }
     {
-        let Some(controller) = Controller::new(alloc, name, address, &[], None)? else {
+        let Some(controller) = Controller::new(alloc, name, address, 0, &[], None)? else {
             return Ok(None);
         };
         Ok(Some(Station {

@@ -15,3 +15,12 @@ returns-clause-second c = law.second_claim
 
 pub returns-clause-once : goal.returns-clause-once
 returns-clause-once c = law.answered_once
+
+pub returns-clause-waits : goal.returns-clause-waits
+returns-clause-waits c = law.cannot_claim_waits
+
+pub returns-clause-most : goal.returns-clause-most
+returns-clause-most c = law.most_delayed
+
+pub returns-clause-anew : goal.returns-clause-anew
+returns-clause-anew c = law.anew_claims

@@ -12,3 +12,9 @@ returns-clause-lost c = law.lost_is_lost
 
 pub returns-clause-missed : goal.returns-clause-missed
 returns-clause-missed c = law.some_missed
+
+pub returns-clause-doubled : goal.returns-clause-doubled
+returns-clause-doubled c = law.double_heard
+
+pub returns-clause-claimed : goal.returns-clause-claimed
+returns-clause-claimed c = law.double_claimed

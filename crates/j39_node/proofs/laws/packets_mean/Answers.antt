@@ -15,3 +15,6 @@ returns-clause-spaced c = law.spaced
 
 pub returns-clause-waits : goal.returns-clause-waits
 returns-clause-waits c = law.waits
+
+pub returns-clause-overdue : goal.returns-clause-overdue
+returns-clause-overdue c = law.overdue_goes

@@ -12,3 +12,9 @@ returns-clause-once c = law.taken_rest
 
 pub returns-clause-lost : goal.returns-clause-lost
 returns-clause-lost c = law.lost_is_silent
+
+pub returns-clause-others : goal.returns-clause-others
+returns-clause-others c = law.others_taken
+
+pub returns-clause-none_waits : goal.returns-clause-none_waits
+returns-clause-none_waits c = law.none_replied

@@ -21,3 +21,9 @@ returns-clause-in_order c = law.handed_in_order
 
 pub returns-clause-all : goal.returns-clause-all
 returns-clause-all c = law.all_handed
+
+pub returns-clause-again : goal.returns-clause-again
+returns-clause-again c = law.is_again
+
+pub returns-clause-refused_once : goal.returns-clause-refused_once
+returns-clause-refused_once c = law.refused_once

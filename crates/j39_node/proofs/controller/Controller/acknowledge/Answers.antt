@@ -10,8 +10,8 @@ pub returns : goal.returns
 returns c = λ w H h.
     let p = passed_is w H (stamp_micros c.args.now) c.args.self.now.hold c.passed-self.result h.hold c.passed-self.ensures in
     let b = sym (holds_is w H (stamp_micros c.args.now) c.passed-self.result c.is_held.result p c.is_held.ensures) ∙ c.if-not-is_held.false in
-    due_more w H c.args.self.now _ (stamp_micros c.args.now) c.args.answer _ h p
+    due_more w H c.args.self.now _ (stamp_micros c.args.now) c.args.answer c.args.request _ h p
     (sym (acknowledge_is w H (stamp_micros c.args.now) (request_by c.args.request) true true false b
     (eq-eqb _ _ (c.if-request-self.false ∙ ap (λ (v : Who). v.address) h.who))
     (ap (λ (n : ℕ). nat_eq n 16) (sym (length_rest (refusal_by w) c.args.self.now.desk.due.items (length (acknowledged H)) (due w H) h.acknowledgments))
-    ∙ (sym c.is_full.ensures.value ∙ c.if-is_full.false)))) refl c.push.ensures.items refl
+    ∙ (sym c.is_full.ensures.value ∙ c.if-is_full.false)))) (c.new.ensures w) c.push.ensures.items refl

@@ -13,7 +13,7 @@ pub returns-else-is_busy : goal.returns-else-is_busy
 returns-else-is_busy c = λ w H h.
     let p = passed_is w H (stamp_micros c.args.now) c.args.self.now.hold c.passed-self.result h.hold c.passed-self.ensures in
     let b = sym (holds_is w H (stamp_micros c.args.now) c.passed-self.result c.is_held.result p c.is_held.ensures) ∙ c.if-not-is_held.false in
-    begins w H c.args.self.now _ (stamp_micros c.args.now) (pgn_raw c.args.group) c.args.bytes.now c.in-Some.broadcast h p
+    begins w H c.args.self.now _ (stamp_micros c.args.now) (pgn_raw c.args.group) c.args.bytes.now c.in-Some.broadcast c.passed-self.result h p c.opens-self.ensures
     (sym (broadcast_is w H (stamp_micros c.args.now) (pgn_raw c.args.group) c.args.bytes.now true true false b (c.in-Some.ensures.known.0 refl)
     (sym (busy_is w H c.args.self.now h) ∙ (sym (c.is_busy.ensures.value w) ∙ c.if-is_busy.false))
     ∙ ap Ok (sym (ap (λ (l : LaneRecord). l.next_token) h.lane))))

@@ -9,6 +9,6 @@ returns-clause-known c = λ w H h.
 
 pub returns-clause-moved : goal.returns-clause-moved
 returns-clause-moved c = λ e w H h.
-    begins_anew w H c.args.self.now _ c.args.address h (sym c.is_settled.ensures ∙ c.if-not-is_settled.false) refl refl refl refl c.moved-self.ensures
+    begins_anew w H c.args.self.now _ c.args.address h (sym c.is_settled.ensures ∙ c.if-not-is_settled.false) refl refl refl refl refl c.moved-self.ensures
     refl refl refl refl refl refl refl c.clear.ensures refl refl c.new-self.ensures
     (c.move_to.ensures.moved c.if-not-move_to.false (ap (λ (x : IncomingRecord). x.has_box) h.incoming)) c.begin_anew.ensures (ap hearing_of c.new-self-2.ensures)

@@ -1,9 +1,9 @@
-use Rattle.std.proofs.Common.{◌∙◌, ◌+◌, ap, sym, true, false}
+use Rattle.std.proofs.Common.{◌∙◌, ◌+◌, ap, sym, true, false, ℕ, Option, if◌then◌else◌}
 use Rattle.std.specs.Option.{option_map}
 use Rattle.j39_frame.specs.Stamp.{stamp_micros}
 use Rattle.j39_node.specs.declared.hold.Hold.{Hold}
 use Rattle.j39_node.specs.Hold.{left_at}
-use Rattle.j39_node.specs.History.{moment, address_after, stamp_at}
+use Rattle.j39_node.specs.History.{moment, address_after, delayed, owes_claim, stamp_at}
 use Rattle.j39_node.specs.Transfers.{at_in}
 use Rattle.j39_node.proofs.CallLemmas.{frame_due, held_due, packets_due, held_at_is, due_is}
 use Rattle.j39_node.proofs.controller.Controller.next_due.Goals as goal
@@ -29,6 +29,7 @@ returns-in_err-packets_in c = λ w H h.
 
 pub returns-else-is_held : goal.returns-else-is_held
 returns-else-is_held c = λ w H h.
-    c.held_at.ensures ∙ (ap (λ (k : Hold). left_at k.standing k.moment) h.hold ∙ (held_at_is (address_after w H) (moment H)
+    c.claim_at.ensures ∙ (ap (λ (k : Hold). if k.owes_claim then stamp_at (k.moment + k.delay) else left_at k.standing k.moment) h.hold
+    ∙ (ap (λ (o : Option ℕ). if owes_claim w H then stamp_at (moment H + delayed w H) else o) (held_at_is (address_after w H) (moment H))
     ∙ due_is w H false false (sym c.if-has_frame.false ∙ (c.has_frame.ensures ∙ frame_due w H c.args.self.now h))
     (held_due w H c.args.self.now false h (sym c.if-is_held.false ∙ c.is_held.ensures))))

@@ -1,0 +1,659 @@
+-- A driver that takes one frame at least in each g: how long a frame of a broadcast and a message wait, whoever asks.
+use Rattle.std.proofs.Math.Nat.{add-mul, suc-mul}
+use Rattle.std.proofs.Common.{◌≡◌, ◌⊎◌, ℕ, zero, suc, ◌+◌, ◌-◌, ◌*◌, ◌<◌, ◌≤◌, List, [], ◌∷◌, ◌++◌, length, Option, Some, None, Ok, Bool, true, false, ◌&&◌, ◌||◌, not, if◌then◌else◌, nat_eq, nat_le, nat_lt, IsTrue, refl, sym, ap, ◌∙◌, subst, arith, inl, inr, eqb-true, eq-eqb, lt-ltb}
+use Rattle.std.proofs.lemmas.Bool.{and_from, and_parts}
+use Rattle.j39_frame.specs.Frame.{FrameRecord}
+use Rattle.j39_transport.specs.Message.{MessageRecord, packets_of}
+use Rattle.j39_node.specs.declared.controller.Controller.{Controller}
+use Rattle.j39_node.specs.declared.kinds.Ending.{Ending}
+use Rattle.j39_node.specs.declared.turn.Ready.{Ready}
+use Rattle.j39_node.specs.declared.turn.Turn.TheVariants.{Reply, Single, Packet, Move}
+use Rattle.j39_node.specs.History.{Who, Message, Call, accepted, address_after, broadcast_from, broadcasts, due, has_packets, holds, is_acknowledgment, is_claim, is_held, is_left, is_lost, is_open, is_packet, is_session, is_transfer, message_of, moment, older, open_broadcast, packets, pause, sent, step, told, turns, yields}
+use Rattle.j39_node.specs.History.Call.{At, TakeBroadcastEnded}
+use Rattle.j39_node.specs.History.Act.{Broadcast, Hear, TakeFrame, Again}
+use Rattle.j39_node.specs.Is.{AreAnswered, Is, IsAnswered, claim_goes, gives_way, is_overdue, is_there, is_turn, next_broadcast_ended, next_ended, next_frame, next_other, next_turn, other, ready, turn_of}
+use Rattle.j39_node.specs.Prompt.{IsPrompt, waited_in, IsSteady, NoneTold, packets_taken, since_take, tells_broadcast, claims_anew}
+use Rattle.j39_node.specs.Reception.{reception}
+use Rattle.j39_node.specs.Since.{passed_in}
+use Rattle.j39_node.proofs.LaneLaws.{overdue_goes_by, taken_packet_of}
+use Rattle.j39_node.proofs.LaneLemmas.{BroadcastCase, broadcast_case}
+use Rattle.j39_node.proofs.LaneLemmas.BroadcastCase.{homeless, unfit, busy, opens}
+use Rattle.j39_node.proofs.LawLemmas.{not_both, past_end}
+use Rattle.j39_node.proofs.MessageLaws.{accepts_more, told_next}
+use Rattle.j39_node.proofs.PromptLaws.{answered_from, ends_by, keeps_heard, keeps_taken, lost_heard, lost_taken, pause_most}
+use Rattle.j39_node.proofs.QueueLemmas.{length_one_more}
+use Rattle.j39_node.proofs.ReceptionLemmas.{replied_get, tidy}
+use Rattle.j39_node.proofs.SoundLemmas.{FrameCase, IsTurn, acknowledgment_single, address_is, claim_single, claim_taken, due_get, due_taken, frame_case, frame_there, held_older, is_directed, lost_older, message_taken, no_packet, no_transfer, none_next, none_other, own_get, packet_session, packet_taken, packets_is, pause_is, plain_taken, reply_taken, sent_is, single_taken, some_at, sound, turned}
+use Rattle.j39_node.proofs.SoundLemmas.FrameCase.{claims, acknowledges, replies, sends, packs, transfers}
+
+-- ---- of three frames one is neither a claim nor an acknowledgment
+
+-- a claim or an acknowledgment goes behind fewer than two in a row, where another is due
+pub few_turns : (w : Who) (H : List Call) (now : ℕ) (f : FrameRecord) → FrameCase w H now f → is_there (next_other w H now) ≡ true
+    → (gives_way w H now ≡ false) ⊎ ((is_claim f || is_acknowledgment f) ≡ false) → (is_claim f || is_acknowledgment f) ≡ true → turns H < 2
+few_turns w H now f case there (inl g) e = less (turns H) (sym (ap (λ (b : Bool). nat_le 2 (turns H) && b) there) ∙ g)
+  where
+    less : (n : ℕ) → (nat_le 2 n && true) ≡ false → n < 2
+    less n z = grind (arith, z)
+few_turns w H now f case there (inr g) e = absurd (not_both _ g e)
+
+-- a claim or an acknowledgment is taken where it doesn't give way
+pub steers : (w : Who) (H : List Call) (now : ℕ) (f : FrameRecord) → AreAnswered w H → FrameCase w H now f
+    → (gives_way w H now ≡ false) ⊎ ((is_claim f || is_acknowledgment f) ≡ false)
+steers w H now f right (claims o e) = inl (off (gives_way w H now) (and_parts _ (not (gives_way w H now)) o).1)
+  where
+    off : (b : Bool) → not b ≡ true → b ≡ false
+    off true z = absurd (cc)
+    off false z = refl
+steers w H now f right (acknowledges m o h g e way) = inl way
+steers w H now f right (replies m o h n g e) =
+    let r = reply_taken w.address f now m e (replied_get w.address (reception w H).replies 0 m (tidy w H).replies g) in inr (λ i. r.0 i || r.1 i)
+steers w H now f right (sends x o h n g e) =
+    let own = own_get w (accepted w H) (length (sent H)) x (sound w H right).own g in
+    inr (λ i. message_taken w f now x e own i || plain_taken w f now x e own i)
+steers w H now f right (packs m o h n g e) =
+    let p = packet_taken f now m (open_broadcast w H) (length (packets H)) (pause H - step H now) e g in inr (λ i. p.0 i || p.1 i)
+steers w H now f right (transfers m o h n g e) = let t = Rattle.j39_node.proofs.SoundLemmas.transfer_taken w H now f m right e g in inr (λ i. t.claim i || t.plain i)
+
+-- what such frames cost in time
+abbrev pub turn_time : ℕ → ℕ → ℕ
+turn_time g zero = 0
+turn_time g (suc zero) = g
+turn_time g (suc (suc t)) = g + g
+
+pub turn_most : (g t : ℕ) → turn_time g t ≤ g + g
+turn_most g zero = omega arith
+turn_most g (suc zero) = omega arith
+turn_most g (suc (suc t)) = omega arith
+
+pub turn_more : (g t : ℕ) → t < 2 → turn_time g (suc t) ≡ turn_time g t + g
+turn_more g zero l = omega arith
+turn_more g (suc zero) l = refl
+turn_more g (suc (suc t)) l = absurd (omega (arith, l))
+
+pub turns_then : (H : List Call) (now : ℕ) (f : FrameRecord) (b : Bool) → (is_claim f || is_acknowledgment f) ≡ b
+    → turns (At now (TakeFrame (Some f)) ∷ H) ≡ (if b then suc (turns H) else 0)
+turns_then H now f b e = ap (λ (b : Bool). if b then suc (turns H) else 0) e
+
+pub held_holds : (w : Who) (H : List Call) (now : ℕ) → is_held (address_after w H) ≡ true → holds w H now ≡ true
+held_holds w H now e = held_older (step H now) (address_after w H) e
+
+-- an overdue frame is due, and a message that waits
+overdue_there : (w : Who) (H : List Call) (now : ℕ) → holds w H now ≡ true → is_overdue w H now ≡ true → is_there (next_other w H now) ≡ true
+overdue_there w H now h o =
+    ap (λ (b : Bool). is_there (if b then other w H now else None)) h ∙ (sym (frame_there w H now) ∙ first (ready w H now) o)
+  where
+    first : (r : Ready) → r.overdue ≡ true → is_turn (turn_of (yields H) r) ≡ true
+    first r e = ap (λ (b : Bool). is_turn (if b then Some Packet else if r.reply && not (yields H && (r.message || (r.packet || r.transfer))) then Some Reply
+        else if r.message then Some Single else if r.packet then Some Packet else if r.transfer then Some Move else None)) e
+
+pub message_there : (w : Who) (H : List Call) (now : ℕ) → holds w H now ≡ true → length (sent H) < length (accepted w H) → is_there (next_other w H now) ≡ true
+message_there w H now h l = ap (λ (b : Bool). is_there (if b then other w H now else None)) h ∙ go (other w H now) refl
+  where
+    go : (o : Option Message) → other w H now ≡ o → is_there o ≡ true
+    go (Some m) e = refl
+    go None e = absurd (some_at (accepted w H) (length (sent H)) (lt-ltb _ _ l) (none_other w H now e).0.message)
+
+pub plain_packet : (f : FrameRecord) → is_packet f ≡ true → (is_claim f || is_acknowledgment f) ≡ false
+plain_packet f e = go (is_claim f) (is_acknowledgment f) refl refl
+  where
+    session : is_session f ≡ true
+    session = (packet_session f e).0
+
+    go : (a b : Bool) → is_claim f ≡ a → is_acknowledgment f ≡ b → (a || b) ≡ false
+    go true b p q = absurd (not_both _ (claim_single f p) session)
+    go false true p q = absurd (not_both _ (acknowledgment_single f q) session)
+    go false false p q = refl
+
+-- ---- how long a frame of a broadcast waits
+
+-- after c more of its frames the next is overdue so long after the beginning at most
+overdue_by : ℕ → ℕ → ℕ
+overdue_by g c = 150000 + c * (150000 + 3 * g)
+
+overdue_more : (g c : ℕ) → overdue_by g (suc c) ≡ overdue_by g c + (150000 + 3 * g)
+unfolding overdue_by
+overdue_more g c = let e = suc-mul c (150000 + 3 * g) in omega (arith, e)
+
+overdue_last : (g c n : ℕ) → c ≤ n → overdue_by g c + 3 * g ≤ (n + 1) * (150000 + 3 * g)
+unfolding overdue_by
+overdue_last g c n l =
+    let e : n + 1 ≡ suc c + (n - c) = omega (arith, l) in
+    let a = ap (λ (k : ℕ). k * (150000 + 3 * g)) e in
+    let b = add-mul (suc c) (n - c) (150000 + 3 * g) in
+    let d = suc-mul c (150000 + 3 * g) in
+    omega (arith, a, b, d)
+
+record Timely (g count passed left t waited : ℕ) : Type 0 where
+  pub soon : 0 < left → passed + left ≤ overdue_by g count
+  pub late : passed ≤ overdue_by g count + turn_time g t + waited
+
+passes : (g count passed left t waited s rest : ℕ) → rest ≡ left - s → Timely g count passed left t waited → Timely g count (passed + s) rest t (waited + s)
+passes g count passed left t waited s rest e h = record {
+  soon = λ z. (let a = h.soon (omega (arith, e, z)) in omega (arith, a, e, z));
+  late = (let a = h.late in omega (arith, a));
+}
+
+-- it isn't overdue yet
+not_over : (g count passed left t waited s rest u : ℕ) → rest ≡ left - s → 0 < rest → Timely g count passed left t waited → Timely g count (passed + s) rest u 0
+not_over g count passed left t waited s rest u e l h = record {
+  soon = λ z. (let a = h.soon (omega (arith, e, l)) in omega (arith, a, e, l));
+  late = (let a = h.soon (omega (arith, e, l)) in let b = turn_most g u in omega (arith, a, e, l, b));
+}
+
+-- it is, and a claim or an acknowledgment goes
+steers_one : (g count passed left t waited s rest : ℕ) → rest ≡ 0 → t < 2 → waited + s ≤ g → Timely g count passed left t waited
+    → Timely g count (passed + s) rest (suc t) 0
+steers_one g count passed left t waited s rest e l p h = record {
+  soon = λ z. absurd (omega (arith, e, z));
+  late = (let a = h.late in let b = turn_more g t l in omega (arith, a, b, p));
+}
+
+packs_one : (g count passed left t waited s : ℕ) → Timely g count passed left t waited → waited + s ≤ g → Timely g (suc count) (passed + s) 150000 0 0
+packs_one g count passed left t waited s h p =
+    let a = h.late in let b = turn_most g t in let e = overdue_more g count in
+    record { soon = λ z. omega (arith, a, b, e, p); late = omega (arith, a, b, e, p) }
+
+module _ (w : Who) (B : List Call) (g k c0 : ℕ) (m : MessageRecord) where
+  data Course (later : List Call) : Type 0 where
+    over : packets_of m < length (packets (later ++ B)) → Course later
+    gone : is_lost (address_after w (later ++ B)) ≡ true → Course later
+    runs : is_held (address_after w (later ++ B)) ≡ true
+        → Timely g (packets_taken later) (passed_in later B) (pause (later ++ B)) (turns (later ++ B)) (since_take later B) → Course later
+
+  record Stands (later : List Call) : Type 0 where
+    pub broadcast : open_broadcast w (later ++ B) ≡ Some (k, m)
+    pub count : length (packets (later ++ B)) ≡ c0 + packets_taken later
+    pub course : Course later
+
+  hears_one : (when : ℕ) (f : FrameRecord) (later : List Call) → Stands later → Stands (At when (Hear f) ∷ later)
+  hears_one when f later h = record { broadcast = h.broadcast; count = h.count; course = go h.course }
+    where
+      go : Course later → Course (At when (Hear f) ∷ later)
+      go (over l) = over l
+      go (gone e) = gone (lost_heard w (later ++ B) when f e)
+      go (runs e t) = elim (keeps_heard w (later ++ B) when f e) [
+        | inl z ↦ gone z
+        | inr z ↦ runs z (passes g _ _ _ _ _ (step (later ++ B) when) _ refl t)
+      ]
+
+  counts : (now : ℕ) (f : FrameRecord) (later : List Call) (b : Bool) → is_packet f ≡ b → Stands later
+      → length (packets (At now (TakeFrame (Some f)) ∷ later ++ B)) ≡ c0 + packets_taken (At now (TakeFrame (Some f)) ∷ later)
+  counts now f later true i h =
+      let n = ap length (packets_is (later ++ B) now f true i) in let o = length_one_more (packets (later ++ B)) (message_of f) in
+      let q = ap (λ (b : Bool). if b then suc (packets_taken later) else packets_taken later) i in let a = h.count in omega (arith, a, n, o, q)
+  counts now f later false i h =
+      let n = ap length (packets_is (later ++ B) now f false i) in
+      let q = ap (λ (b : Bool). if b then suc (packets_taken later) else packets_taken later) i in let a = h.count in omega (arith, a, n, q)
+
+  takes_one : (now : ℕ) (f : FrameRecord) (later : List Call) → AreAnswered w (later ++ B) → IsAnswered w (later ++ B) (At now (TakeFrame (Some f)))
+      → since_take later B + step (later ++ B) now ≤ g → Stands later → Stands (At now (TakeFrame (Some f)) ∷ later)
+  takes_one now f later right a p h =
+      record { broadcast = h.broadcast; count = counts now f later (is_packet f) refl h; course = go (is_packet f) refl h.course }
+    where
+      G : List Call
+      G = At now (TakeFrame (Some f)) ∷ later ++ B
+
+      left : ℕ
+      left = pause (later ++ B) - step (later ++ B) now
+
+      case : FrameCase w (later ++ B) now f
+      case = frame_case w (later ++ B) now f a
+
+      T : ℕ → ℕ → ℕ → Type 0
+      T n l t = Timely g n (passed_in later B + step (later ++ B) now) l t 0
+
+      same : (n l t : ℕ) → packets_taken (At now (TakeFrame (Some f)) ∷ later) ≡ n → pause G ≡ l → turns G ≡ t → T n l t
+          → Timely g (packets_taken (At now (TakeFrame (Some f)) ∷ later)) (passed_in later B + step (later ++ B) now) (pause G) (turns G) 0
+      same n l t x y z h = subst (λ (n : ℕ). T n (pause G) (turns G)) (sym x) (subst (λ (l : ℕ). T n l (turns G)) (sym y) (subst (T n l) (sym z) h))
+
+      late_is : is_left (open_broadcast w (later ++ B)) (length (packets (later ++ B))) ≡ nat_le (length (packets (later ++ B))) (packets_of m)
+      late_is = ap (λ (o : Option (ℕ × MessageRecord)). is_left o (length (packets (later ++ B)))) h.broadcast
+
+      past : (a b : ℕ) → nat_le a b ≡ false → b < a
+      past a b z = grind arith
+
+      zero_or : (n : ℕ) → (n ≡ 0) ⊎ (0 < n)
+      zero_or zero = inl refl
+      zero_or (suc n) = inr (omega arith)
+
+      -- it is none of a broadcast
+      rest : is_packet f ≡ false → is_held (address_after w (later ++ B)) ≡ true
+          → Timely g (packets_taken later) (passed_in later B) (pause (later ++ B)) (turns (later ++ B)) (since_take later B)
+          → Course (At now (TakeFrame (Some f)) ∷ later)
+      rest i e t = elim (zero_or left) [
+        | inl z ↦ by (nat_le (length (packets (later ++ B))) (packets_of m)) refl z
+        | inr l ↦ runs (keeps_taken w (later ++ B) now f e)
+            (same _ left (turns G) taken (pause_is (later ++ B) now f false i) refl (not_over g _ _ _ _ _ (step (later ++ B) now) left (turns G) refl l t))
+      ]
+        where
+          taken : packets_taken (At now (TakeFrame (Some f)) ∷ later) ≡ packets_taken later
+          taken = ap (λ (b : Bool). if b then suc (packets_taken later) else packets_taken later) i
+
+          none_left : length (packets G) ≡ length (packets (later ++ B))
+          none_left = ap length (packets_is (later ++ B) now f false i)
+
+          steer : is_overdue w (later ++ B) now ≡ true → (b : Bool) → (is_claim f || is_acknowledgment f) ≡ b → b ≡ true
+          steer o true q = refl
+          steer o false q = absurd (not_both _ i (overdue_goes_by w (later ++ B) now f right case o (neither (is_claim f) (is_acknowledgment f) q).0 (neither (is_claim f) (is_acknowledgment f) q).1))
+            where
+              neither : (a b : Bool) → (a || b) ≡ false → (a ≡ false) × (b ≡ false)
+              neither true b z = absurd (cc)
+              neither false b z = (refl, z)
+
+          by : (b : Bool) → nat_le (length (packets (later ++ B))) (packets_of m) ≡ b → left ≡ 0 → Course (At now (TakeFrame (Some f)) ∷ later)
+          by false y z = over (let l = past _ _ y in omega (arith, l, none_left))
+          by true y z =
+              let o : is_overdue w (later ++ B) now ≡ true = and_from _ (nat_eq left 0) (late_is ∙ y) (eq-eqb left 0 z) in
+              let s : (is_claim f || is_acknowledgment f) ≡ true = ap (λ (b : Bool). b) (steer_is o) in
+              let l = few_turns w (later ++ B) now f case (overdue_there w (later ++ B) now (held_holds w (later ++ B) now e) o) (steers w (later ++ B) now f right case) s in
+              runs (keeps_taken w (later ++ B) now f e)
+              (same _ left (suc (turns (later ++ B))) taken (pause_is (later ++ B) now f false i) (turns_then (later ++ B) now f true s)
+              (steers_one g _ _ _ _ _ (step (later ++ B) now) left z l p t))
+            where
+              steer_is : is_overdue w (later ++ B) now ≡ true → (is_claim f || is_acknowledgment f) ≡ true
+              steer_is o = steer o (is_claim f || is_acknowledgment f) refl
+
+      go : (b : Bool) → is_packet f ≡ b → Course later → Course (At now (TakeFrame (Some f)) ∷ later)
+      go true i (over l) =
+          over (let n = ap length (packets_is (later ++ B) now f true i) in let o = length_one_more (packets (later ++ B)) (message_of f) in omega (arith, l, n, o))
+      go false i (over l) = over (let n = ap length (packets_is (later ++ B) now f false i) in omega (arith, l, n))
+      go b i (gone e) = gone (lost_taken w (later ++ B) now f e)
+      go true i (runs e t) = runs (keeps_taken w (later ++ B) now f e)
+          (same (suc (packets_taken later)) 150000 0 (ap (λ (b : Bool). if b then suc (packets_taken later) else packets_taken later) i)
+          (pause_is (later ++ B) now f true i) (turns_then (later ++ B) now f false (plain_packet f i))
+          (packs_one g _ _ _ _ _ (step (later ++ B) now) t p))
+      go false i (runs e t) = rest i e t
+
+  none_taken : (now : ℕ) (later : List Call) → (let none : Option (ℕ × Message) = None in none) ≡ next_frame w (later ++ B) now → Stands later
+      → Stands (At now (TakeFrame None) ∷ later)
+  none_taken now later answer h = record { broadcast = h.broadcast; count = h.count; course = go h.course }
+    where
+      go : Course later → Course (At now (TakeFrame None) ∷ later)
+      go (over l) = over l
+      go (gone e) = gone (lost_older (step (later ++ B) now) (address_after w (later ++ B)) ∙ e)
+      go (runs e t) =
+          elim (Rattle.j39_node.proofs.PromptLaws.no_packet w B g k m now (length (packets (later ++ B))) (pause (later ++ B) - step (later ++ B) now)
+          (ap (λ (o : Option (ℕ × MessageRecord)). Rattle.j39_node.specs.Is.packet_by o (length (packets (later ++ B))) (pause (later ++ B) - step (later ++ B) now)) (sym h.broadcast)
+          ∙ (none_next w (later ++ B) now (held_holds w (later ++ B) now e) answer).rest.packet)) [
+            | inl z ↦ over z
+            | inr z ↦ runs (held_holds w (later ++ B) now e) (not_over g _ _ _ _ _ (step (later ++ B) now) _ _ refl (omega (arith, z)) t)
+          ]
+
+  none_begins : (later : List Call) (now group j : ℕ) (bytes : List ℕ) → open_broadcast w (later ++ B) ≡ Some (k, m)
+      → BroadcastCase w (later ++ B) now group bytes (Ok j) → ⊥
+  none_begins later now group j bytes o (homeless a e) = absurd (cc)
+  none_begins later now group j bytes o (unfit a b e) = absurd (cc)
+  none_begins later now group j bytes o (busy a b f e) = absurd (cc)
+  none_begins later now group j bytes o (opens a b f e) =
+      let z : true ≡ false = sym (ap (λ (x : Option (ℕ × MessageRecord)). is_open x || nat_eq (length (broadcasts w (later ++ B))) 18446744073709551615) o) ∙ f in
+      absurd (cc)
+
+  one_more : (call : Call) (later : List Call) → AreAnswered w (later ++ B) → IsAnswered w (later ++ B) call → tells_broadcast call ≡ false
+      → (since_take later B + step (later ++ B) (moment (call ∷ later ++ B)) ≤ g) × (claims_anew call ≡ false) → Stands later → Stands (call ∷ later)
+  one_more (At when (Hear f)) later right a n p h = hears_one when f later h
+  one_more (At now (TakeFrame (Some f))) later right a n p h = takes_one now f later right a p.0 h
+  one_more (At now Again) later right a n p h = absurd (let z : true ≡ false = p.1 in cc)
+  one_more (At now (TakeFrame None)) later right a n p h = none_taken now later a h
+  one_more (At now (Broadcast group bytes (Ok j))) later right a n p h =
+      absurd (none_begins later now group j bytes h.broadcast (broadcast_case w (later ++ B) now group bytes (Ok j) a))
+  one_more (TakeBroadcastEnded (Some x)) later right a n p h = absurd (let z : true ≡ false = n in cc)
+  one_more call later right a n p h = record { broadcast = h.broadcast; count = h.count; course = go h.course }
+    where
+      go : Course later → Course (call ∷ later)
+      go (over l) = over l
+      go (gone e) = gone (let z = lost_older (step (later ++ B) (moment (call ∷ later ++ B))) (address_after w (later ++ B)) in cc)
+      go (runs e t) = runs (let z = held_older (step (later ++ B) (moment (call ∷ later ++ B))) (address_after w (later ++ B)) e in cc)
+          (passes g _ _ _ _ _ (step (later ++ B) (moment (call ∷ later ++ B))) _ (omega arith) t)
+
+  stands : (later : List Call) → AreAnswered w (later ++ B) → NoneTold tells_broadcast later → IsSteady g later B → Stands [] → Stands later
+  stands [] a n p h = h
+  stands (call ∷ later) a n p h = one_more call later a.0 a.1 n.0 p.1 (stands later a.0 n.1 p.0 h)
+
+  -- as long as none of its frames is taken, it isn't long ago
+  soon_enough : (call : Call) (later : List Call) → Stands later → packets_taken later ≡ 0 → is_left (Some (k, m)) c0 ≡ true → is_lost (address_after w (later ++ B)) ≡ false
+      → since_take later B + step (later ++ B) (moment (call ∷ later ++ B)) ≤ g → passed_in (call ∷ later) B ≤ 150000 + 3 * g
+  unfolding overdue_by
+  soon_enough call later h none some kept p = go h.course
+    where
+      le_is : (a b : ℕ) → nat_le a b ≡ true → a ≤ b
+      le_is a b z = grind arith
+
+      go : Course later → passed_in (call ∷ later) B ≤ 150000 + 3 * g
+      go (over l) = absurd (let a = h.count in let b = le_is c0 (packets_of m) some in omega (arith, a, b, l, none))
+      go (gone e) = absurd (not_both _ kept e)
+      go (runs e t) =
+          let a = t.late in let b = turn_most g (turns (later ++ B)) in
+          let d = ap (λ (n : ℕ). n * (150000 + 3 * g)) none in
+          omega (arith, a, b, d, p)
+
+  ends_so : (later : List Call) → c0 ≡ 0 → Stands later → (packets_of m + 1) * (150000 + 3 * g) < passed_in later B → since_take later B ≤ g
+      → (e : Ending) × (next_broadcast_ended w (later ++ B) ≡ Some (k, e))
+  ends_so later z h l p =
+      let x = ends_by w B g k m (length (packets (later ++ B))) (nat_lt (packets_of m) (length (packets (later ++ B)))) (is_lost (address_after w (later ++ B))) refl (go h.course) in
+      (x.0, ap (λ (o : Option (ℕ × MessageRecord)). Rattle.j39_node.specs.Is.broadcast_end o (length (packets (later ++ B))) (is_lost (address_after w (later ++ B)))) h.broadcast ∙ x.1)
+    where
+      past : (a b : ℕ) → nat_le a b ≡ false → b < a
+      past a b z = grind arith
+
+      le_is : (a b : ℕ) → nat_le a b ≡ true → a ≤ b
+      le_is a b z = grind arith
+
+      go : Course later → (packets_of m < length (packets (later ++ B))) ⊎ (is_lost (address_after w (later ++ B)) ≡ true)
+      go (over z) = inl z
+      go (gone e) = inr e
+      go (runs e t) = most (nat_le (packets_taken later) (packets_of m)) refl
+        where
+          most : (b : Bool) → nat_le (packets_taken later) (packets_of m) ≡ b
+              → (packets_of m < length (packets (later ++ B))) ⊎ (is_lost (address_after w (later ++ B)) ≡ true)
+          most true y =
+              let d = overdue_last g (packets_taken later) (packets_of m) (le_is _ _ y) in
+              let b = turn_most g (turns (later ++ B)) in
+              let a = t.late in absurd (omega (arith, a, b, d, l, p))
+          most false y = inl (let b = past _ _ y in let a = h.count in omega (arith, a, b, z))
+
+-- the driver came in time
+pub since_most : (g : ℕ) (later B : List Call) → IsSteady g later B → since_take later B ≤ g
+since_most g [] B p = omega arith
+since_most g (At now (TakeFrame answer) ∷ later) B p = omega arith
+since_most g (call ∷ later) B p = p.1.0
+
+pub apart : (w : Who) (later earlier : List Call) (call : Call) (c : Controller) (g now : ℕ) (f : FrameRecord)
+    → Is w (call ∷ later ++ At now (TakeFrame (Some f)) ∷ earlier) c → IsTrue (is_packet f) → IsTrue (has_packets w (At now (TakeFrame (Some f)) ∷ earlier))
+    → NoneTold tells_broadcast later → packets_taken later ≡ 0 → is_lost (address_after w (later ++ At now (TakeFrame (Some f)) ∷ earlier)) ≡ false
+    → IsSteady g (call ∷ later) (At now (TakeFrame (Some f)) ∷ earlier) → passed_in (call ∷ later) (At now (TakeFrame (Some f)) ∷ earlier) ≤ 150000 + 3 * g
+unfolding overdue_by
+apart w later earlier call c g now f is i some none quiet kept steady =
+    let B = At now (TakeFrame (Some f)) ∷ earlier in
+    let right = answered_from w later B is.answered.0 in
+    let p = taken_packet_of w earlier now f right.0 (frame_case w earlier now f right.1) i in
+    let count = length (packets B) in
+    soon_enough w B g p.token count p.message call later
+    (stands w B g p.token count p.message later is.answered.0 none steady.0 (record {
+      broadcast = p.current;
+      count = omega arith;
+      course = runs (p.held) (record { soon = λ z. (let y = pause_most B in omega (arith, y)); late = omega arith });
+    }))
+    quiet (sym (ap (λ (o : Option (ℕ × MessageRecord)). is_left o count) p.current) ∙ some) kept steady.1.0
+
+pub ends : (w : Who) (later earlier : List Call) (c : Controller) (g now group k : ℕ) (bytes : List ℕ)
+    → Is w (later ++ At now (Broadcast group bytes (Ok k)) ∷ earlier) c → NoneTold tells_broadcast later
+    → IsSteady g later (At now (Broadcast group bytes (Ok k)) ∷ earlier)
+    → (packets_of (broadcast_from w group bytes) + 1) * (150000 + 3 * g) < passed_in later (At now (Broadcast group bytes (Ok k)) ∷ earlier)
+    → (e : Ending) × (next_broadcast_ended w (later ++ At now (Broadcast group bytes (Ok k)) ∷ earlier) ≡ Some (k, e))
+unfolding overdue_by
+ends w later earlier c g now group k bytes is none steady l =
+    let B = At now (Broadcast group bytes (Ok k)) ∷ earlier in
+    ends_so w B g k 0 (broadcast_from w group bytes) later refl
+    (stands w B g k 0 (broadcast_from w group bytes) later is.answered none steady (record {
+      broadcast = refl;
+      count = refl;
+      course = runs (held (broadcast_case w earlier now group bytes (Ok k) ((answered_from w later B is.answered).1)))
+          (record { soon = λ z. (let y = pause_most B in omega (arith, y)); late = omega arith });
+    }))
+    l (since_most g later B steady)
+  where
+    held : BroadcastCase w earlier now group bytes (Ok k) → is_held (address_after w (At now (Broadcast group bytes (Ok k)) ∷ earlier)) ≡ true
+    held (homeless a e) = absurd (cc)
+    held (unfit a b e) = absurd (cc)
+    held (busy a b f e) = absurd (cc)
+    held (opens a b f e) = a
+
+-- ---- how many frames of broadcasts are taken in a time
+
+few_or : (b : Bool) (p q s n : ℕ) → 50000 * n ≤ q + (p - 100000) → (b ≡ true → p - s ≤ 100000)
+    → 50000 * (if b then suc n else n) ≤ q + s + ((if b then 150000 else p - s) - 100000)
+few_or true p q s n l d = let a = d refl in omega (arith, l, a)
+few_or false p q s n l d = omega (arith, l)
+
+few_so : (w : Who) (later B : List Call) → AreAnswered w (later ++ B) → 50000 * packets_taken later ≤ passed_in later B + (pause (later ++ B) - 100000)
+few_so w [] B right = omega arith
+few_so w (At now (TakeFrame (Some f)) ∷ later) B right =
+    few_or (is_packet f) (pause (later ++ B)) (passed_in later B) (step (later ++ B) now) (packets_taken later) (few_so w later B right.0)
+    (λ i. (taken_packet_of w (later ++ B) now f right.0 (frame_case w (later ++ B) now f right.1) i).over)
+few_so w (At now (Broadcast group bytes (Ok k)) ∷ later) B right = let h = few_so w later B right.0 in omega (arith, h)
+few_so w (call ∷ later) B right = let h = few_so w later B right.0 in omega (arith, h)
+
+pub few : (w : Who) (later earlier : List Call) (c : Controller) → Is w (later ++ earlier) c → 50000 * packets_taken later ≤ passed_in later earlier + 50000
+few w later earlier c is = let h = few_so w later earlier is.answered in let p = pause_most (later ++ earlier) in omega (arith, h, p)
+
+-- ---- how long a message waits
+
+abbrev pub one : Bool → ℕ
+one true = 1
+one false = 0
+
+one_most : (y : Bool) → one y ≤ 1
+one_most true = omega arith
+one_most false = omega arith
+
+-- so many were taken that are neither claims nor acknowledgments, of them so many messages and frames of broadcasts
+record Counted (g singles casts others passed t waited : ℕ) (y : Bool) : Type 0 where
+  pub few : others ≤ 2 * (singles + casts) + one y
+  pub late : passed ≤ others * (3 * g) + turn_time g t + waited
+
+-- another is taken
+goes : (g singles casts others passed t waited s : ℕ) (y : Bool) (singles_then casts_then : ℕ) (y_then : Bool) → waited + s ≤ g
+    → suc others ≤ 2 * (singles_then + casts_then) + one y_then
+    → Counted g singles casts others passed t waited y → Counted g singles_then casts_then (suc others) (passed + s) 0 0 y_then
+goes g singles casts others passed t waited s y singles_then casts_then y_then p e h = record {
+  few = e;
+  late = (let a = h.late in let b = turn_most g t in let d = suc-mul others (3 * g) in omega (arith, a, b, d, p));
+}
+
+pub most_others : (g n others : ℕ) → others ≤ 2 * n + 1 → others * (3 * g) + 3 * g ≤ (n + 1) * (6 * g)
+most_others g n others l =
+    let e : 2 * n + 2 ≡ suc others + (2 * n + 1 - others) = omega (arith, l) in
+    let a = ap (λ (x : ℕ). x * (3 * g)) e in
+    let b = add-mul (suc others) (2 * n + 1 - others) (3 * g) in
+    let d = suc-mul others (3 * g) in
+    let u : 2 * n + 2 ≡ (n + 1) + (n + 1) = omega arith in
+    let v = ap (λ (x : ℕ). x * (3 * g)) u in
+    let z = add-mul (n + 1) (n + 1) (3 * g) in
+    let t = twice (n + 1) (3 * g) (6 * g) (omega arith) in
+    omega (arith, a, b, d, v, z, t)
+  where
+    twice : (n x y : ℕ) → y ≡ x + x → n * y ≡ n * x + n * x
+    twice zero x y e = omega arith
+    twice (suc n) x y e = let h = twice n x y e in let a = suc-mul n x in let b = suc-mul n y in omega (arith, h, a, b, e)
+
+module _ (w : Who) (B : List Call) (g k : ℕ) where
+  data Waiting (later : List Call) : Type 0 where
+    taken : k < length (sent (later ++ B)) → Waiting later
+    away : is_lost (address_after w (later ++ B)) ≡ true → Waiting later
+    waits : (n others : ℕ) → length (sent (later ++ B)) ≡ length (sent B) + n → is_held (address_after w (later ++ B)) ≡ true
+        → Counted g n (packets_taken later) others (passed_in later B) (turns (later ++ B)) (since_take later B) (yields (later ++ B)) → Waiting later
+
+  record Among (later : List Call) : Type 0 where
+    pub among : k < length (accepted w (later ++ B))
+    pub course : Waiting later
+
+  passes_on : (later : List Call) (call : Call) (n others : ℕ) (t s : ℕ) → (y : Bool)
+      → Counted g n (packets_taken later) others (passed_in later B) t (since_take later B) y
+      → Counted g n (packets_taken later) others (passed_in later B + s) t (since_take later B + s) y
+  passes_on later call n others t s y h = record { few = h.few; late = (let a = h.late in omega (arith, a)) }
+
+  more_sent : (H : List Call) (now : ℕ) (f : FrameRecord) → length (sent H) ≤ length (sent (At now (TakeFrame (Some f)) ∷ H))
+  more_sent H now f = go (is_claim f || (is_acknowledgment f || is_session f))
+    where
+      go : (b : Bool) → length (sent H) ≤ length (if b then sent H else sent H ++ message_of f ∷ [])
+      go true = omega arith
+      go false = let e = length_one_more (sent H) (message_of f) in omega (arith, e)
+
+  takes_next : (now : ℕ) (f : FrameRecord) (later : List Call) (n others : ℕ) → AreAnswered w (later ++ B) → FrameCase w (later ++ B) now f
+      → since_take later B + step (later ++ B) now ≤ g → length (sent (later ++ B)) < length (accepted w (later ++ B))
+      → length (sent (later ++ B)) ≡ length (sent B) + n → is_held (address_after w (later ++ B)) ≡ true
+      → Counted g n (packets_taken later) others (passed_in later B) (turns (later ++ B)) (since_take later B) (yields (later ++ B))
+      → Waiting (At now (TakeFrame (Some f)) ∷ later)
+  takes_next now f later n others right case p l count held h = go (is_claim f || is_acknowledgment f) refl case
+    where
+      H : List Call
+      H = later ++ B
+
+      G : List Call
+      G = At now (TakeFrame (Some f)) ∷ later ++ B
+
+      still : is_held (address_after w G) ≡ true
+      still = keeps_taken w (later ++ B) now f held
+
+      there : is_there (next_other w H now) ≡ true
+      there = message_there w (later ++ B) now (held_holds w (later ++ B) now held) l
+
+      -- what is counted then
+      counted : (n2 o2 p2 t2 : ℕ) (y2 : Bool) → length (sent G) ≡ length (sent B) + n2 → packets_taken (At now (TakeFrame (Some f)) ∷ later) ≡ p2 → turns G ≡ t2 → yields G ≡ y2
+          → Counted g n2 p2 o2 (passed_in later B + step (later ++ B) now) t2 0 y2 → Waiting (At now (TakeFrame (Some f)) ∷ later)
+      counted n2 o2 p2 t2 y2 a b d e x = waits n2 o2 a still
+          (subst (λ (p3 : ℕ). Counted g n2 p3 o2 (passed_in later B + step (later ++ B) now) (turns G) 0 (yields G)) (sym b)
+          (subst (λ (t3 : ℕ). Counted g n2 p2 o2 (passed_in later B + step (later ++ B) now) t3 0 (yields G)) (sym d)
+          (subst (λ (y3 : Bool). Counted g n2 p2 o2 (passed_in later B + step (later ++ B) now) t2 0 y3) (sym e) x)))
+
+      packs_then : (b : Bool) → is_packet f ≡ b → packets_taken (At now (TakeFrame (Some f)) ∷ later) ≡ (if b then suc (packets_taken later) else packets_taken later)
+      packs_then b e = ap (λ (b : Bool). if b then suc (packets_taken later) else packets_taken later) e
+
+      yields_then : (b d : Bool) → (is_claim f || is_acknowledgment f) ≡ b → is_transfer f ≡ d → yields G ≡ (if b then yields (later ++ B) else d)
+      yields_then b d e i = λ j. if e j then yields (later ++ B) else i j
+
+      sent_then : (a b s : Bool) → is_claim f ≡ a → is_acknowledgment f ≡ b → is_session f ≡ s → length (sent G) ≡ length (if a || (b || s) then sent (later ++ B) else sent (later ++ B) ++ message_of f ∷ [])
+      sent_then a b s x y z = ap length (sent_is (later ++ B) now f a b s x y z)
+
+      -- a claim or an acknowledgment
+      steer : (a b : Bool) → is_claim f ≡ a → is_acknowledgment f ≡ b → (a || b) ≡ true → is_session f ≡ false → Waiting (At now (TakeFrame (Some f)) ∷ later)
+      steer a b x y z s =
+          let e : (is_claim f || is_acknowledgment f) ≡ true = (λ i. x i || y i) ∙ z in
+          let t = few_turns w (later ++ B) now f case there (steers w (later ++ B) now f right case) e in
+          counted n others (packets_taken later) (suc (turns (later ++ B))) (yields (later ++ B)) (same a b x y z s) (packs_then false (no_packet f s))
+          (turns_then (later ++ B) now f true e) (yields_then true (is_transfer f) e refl)
+          (record { few = h.few; late = (let u = h.late in let v = turn_more g (turns (later ++ B)) t in omega (arith, u, v, p)) })
+        where
+          same : (a b : Bool) → is_claim f ≡ a → is_acknowledgment f ≡ b → (a || b) ≡ true → is_session f ≡ false → length (sent G) ≡ length (sent B) + n
+          same true b x y z s = sent_then true b false x y s ∙ count
+          same false true x y z s = sent_then false true false x y s ∙ count
+          same false false x y z s = absurd (cc)
+
+      go : (b : Bool) → (is_claim f || is_acknowledgment f) ≡ b → FrameCase w (later ++ B) now f → Waiting (At now (TakeFrame (Some f)) ∷ later)
+      go b z (claims o e) = let i = claim_taken f now w _ e in steer true (is_acknowledgment f) i refl refl (claim_single f i)
+      go b z (acknowledges m o q i e way) =
+          let r = due_taken w f now m e (due_get w (due w (later ++ B)) (length (Rattle.j39_node.specs.History.acknowledged (later ++ B))) m (sound w (later ++ B) right).desk.0 i) in steer false true r.0 r.1 refl r.2
+      go b z (replies m o q i x e) =
+          let r = reply_taken w.address f now m e (replied_get w.address (reception w (later ++ B)).replies 0 m (tidy w (later ++ B)).replies x) in
+          let y = silent (turned w (later ++ B) now (Some Reply) i.1) in
+          counted n (suc others) (packets_taken later) 0 true (sent_then false false true r.0 r.1 r.2 ∙ count) (packs_then false r.3)
+          (turns_then (later ++ B) now f false (λ j. r.0 j || r.1 j)) (yields_then false true (λ j. r.0 j || r.1 j) (is_directed f r.2 r.3))
+          (goes g n (packets_taken later) others _ _ _ (step (later ++ B) now) (yields (later ++ B)) n (packets_taken later) true p
+          (let u = h.few in let v = ap one y in omega (arith, u, v)) h)
+        where
+          silent : IsTurn (yields (later ++ B)) (ready w (later ++ B) now) (Some Reply) → yields (later ++ B) ≡ false
+          silent t = by (yields (later ++ B)) (lt-ltb _ _ l) t.2
+            where
+              by : (y : Bool) → (ready w (later ++ B) now).message ≡ true → (y && ((ready w (later ++ B) now).message || ((ready w (later ++ B) now).packet || (ready w (later ++ B) now).transfer))) ≡ false → y ≡ false
+              by false u v = refl
+              by true u v = absurd (let z : true ≡ false = (λ j. sym u j || ((ready w (later ++ B) now).packet || (ready w (later ++ B) now).transfer)) ∙ v in cc)
+      go b z (sends x o q i y e) =
+          let own = own_get w (accepted w (later ++ B)) (length (sent (later ++ B))) x (sound w (later ++ B) right).own y in
+          let r0 = message_taken w f now x e own in let r1 = plain_taken w f now x e own in let r2 = single_taken w f now x e own in
+          counted (suc n) (suc others) (packets_taken later) 0 false
+          (sent_then false false false r0 r1 r2 ∙ (let u = length_one_more (sent (later ++ B)) (message_of f) in omega (arith, u, count))) (packs_then false (no_packet f r2))
+          (turns_then (later ++ B) now f false (λ j. r0 j || r1 j)) (yields_then false false (λ j. r0 j || r1 j) (no_transfer f r2))
+          (goes g n (packets_taken later) others _ _ _ (step (later ++ B) now) (yields (later ++ B)) (suc n) (packets_taken later) false p
+          (let u = h.few in let v = one_most (yields (later ++ B)) in omega (arith, u, v)) h)
+      go b z (packs m o q i x e) =
+          let r = packet_taken f now m (open_broadcast w (later ++ B)) (length (packets (later ++ B))) (pause (later ++ B) - step (later ++ B) now) e x in
+          let s = packet_session f r.2 in
+          counted n (suc others) (suc (packets_taken later)) 0 false (sent_then false false true r.0 r.1 s.0 ∙ count) (packs_then true r.2)
+          (turns_then (later ++ B) now f false (λ j. r.0 j || r.1 j)) (yields_then false false (λ j. r.0 j || r.1 j) s.1)
+          (goes g n (packets_taken later) others _ _ _ (step (later ++ B) now) (yields (later ++ B)) n (suc (packets_taken later)) false p
+          (let u = h.few in let v = one_most (yields (later ++ B)) in omega (arith, u, v)) h)
+      go b z (transfers m o q i x e) = absurd (not_both _ (turned w (later ++ B) now (Some Move) i.1).0.message (lt-ltb _ _ l))
+
+  one_later : (call : Call) (later : List Call) → AreAnswered w (later ++ B) → IsAnswered w (later ++ B) call
+      → (since_take later B + step (later ++ B) (moment (call ∷ later ++ B)) ≤ g) × (claims_anew call ≡ false) → Among later → Among (call ∷ later)
+  one_later (At when (Hear f)) later right a p h = record { among = h.among; course = go h.course }
+    where
+      go : Waiting later → Waiting (At when (Hear f) ∷ later)
+      go (taken l) = taken l
+      go (away e) = away (lost_heard w (later ++ B) when f e)
+      go (waits n others c e x) = elim (keeps_heard w (later ++ B) when f e) [
+        | inl z ↦ away z
+        | inr z ↦ waits n others c z (passes_on later (At when (Hear f)) n others _ (step (later ++ B) when) _ x)
+      ]
+  one_later (At now (TakeFrame (Some f))) later right a p h = record { among = h.among; course = go h.course }
+    where
+      go : Waiting later → Waiting (At now (TakeFrame (Some f)) ∷ later)
+      go (taken l) = taken (let e = more_sent (later ++ B) now f in omega (arith, e, l))
+      go (away e) = away (lost_taken w (later ++ B) now f e)
+      go (waits n others c e x) = by (nat_lt k (length (sent (later ++ B)))) refl
+        where
+          by : (b : Bool) → nat_lt k (length (sent (later ++ B))) ≡ b → Waiting (At now (TakeFrame (Some f)) ∷ later)
+          by true z = taken (let l = Rattle.std.proofs.Common.ltb-true _ _ z in let y = more_sent (later ++ B) now f in omega (arith, l, y))
+          by false z = takes_next now f later n others right (frame_case w (later ++ B) now f a) p.0 (let l = not_less _ _ z in let y = h.among in omega (arith, l, y)) c e x
+            where
+              not_less : (a b : ℕ) → nat_lt a b ≡ false → b ≤ a
+              not_less a b z = grind arith
+  one_later (At now Again) later right a p h = absurd (let z : true ≡ false = p.1 in cc)
+  one_later (At now (TakeFrame None)) later right a p h = record { among = h.among; course = go h.course }
+    where
+      go : Waiting later → Waiting (At now (TakeFrame None) ∷ later)
+      go (taken l) = taken l
+      go (away e) = away (lost_older (step (later ++ B) now) (address_after w (later ++ B)) ∙ e)
+      go (waits n others c e x) = taken (let l = past_end (accepted w (later ++ B)) (length (sent (later ++ B)))
+          (none_next w (later ++ B) now (held_holds w (later ++ B) now e) a).rest.message in
+          let b = h.among in omega (arith, l, b))
+  one_later call later right a p h = record { among = (let m = accepts_more w (later ++ B) call in let b = h.among in omega (arith, m, b)); course = go h.course }
+    where
+      go : Waiting later → Waiting (call ∷ later)
+      go (taken l) = taken l
+      go (away e) = away (let z = lost_older (step (later ++ B) (moment (call ∷ later ++ B))) (address_after w (later ++ B)) in cc)
+      go (waits n others c e x) = waits n others c (let z = held_older (step (later ++ B) (moment (call ∷ later ++ B))) (address_after w (later ++ B)) e in cc)
+          (passes_on later call n others _ (step (later ++ B) (moment (call ∷ later ++ B))) _ x)
+
+  among : (later : List Call) → AreAnswered w (later ++ B) → IsSteady g later B → Among [] → Among later
+  among [] a p h = h
+  among (call ∷ later) a p h = one_later call later a.0 a.1 p.1 (among later a.0 p.0 h)
+
+  goes_so : (later : List Call) → Among later → (k - length (sent B) + packets_taken later + 1) * (6 * g) < passed_in later B → since_take later B ≤ g
+      → (k < length (sent (later ++ B))) ⊎ (is_lost (address_after w (later ++ B)) ≡ true)
+  goes_so later h l p = go h.course
+    where
+      go : Waiting later → (k < length (sent (later ++ B))) ⊎ (is_lost (address_after w (later ++ B)) ≡ true)
+      go (taken z) = inl z
+      go (away e) = inr e
+      go (waits n others c e x) = by (nat_lt k (length (sent (later ++ B)))) refl
+        where
+          not_less : (a b : ℕ) → nat_lt a b ≡ false → b ≤ a
+          not_less a b z = grind arith
+
+          by : (b : Bool) → nat_lt k (length (sent (later ++ B))) ≡ b → (k < length (sent (later ++ B))) ⊎ (is_lost (address_after w (later ++ B)) ≡ true)
+          by true z = inl (Rattle.std.proofs.Common.ltb-true _ _ z)
+          by false z =
+              let y = not_less _ _ z in
+              let f = x.few in let o = one_most (yields (later ++ B)) in
+              let a = x.late in let b = turn_most g (turns (later ++ B)) in
+              let d = most_others g (k - length (sent B) + packets_taken later) others (omega (arith, f, o, y, c)) in
+              absurd (omega (arith, a, b, d, l, p))
+
+module _ (w : Who) (later earlier : List Call) (c : Controller) (g k : ℕ) (is : Is w (later ++ earlier) c) (held : IsTrue (is_held (address_after w earlier)))
+    (some : k < length (accepted w earlier)) (steady : IsSteady g later earlier)
+    (l : (k - length (sent earlier) + packets_taken later + 1) * (6 * g) < passed_in later earlier) where
+  here : Among w earlier g k later
+  here = among w earlier g k later is.answered steady (record {
+    among = some;
+    course = waits 0 0 (omega arith) held (record { few = omega arith; late = omega arith });
+  })
+
+  pub message_goes : (k < length (sent (later ++ earlier))) ⊎ IsTrue (is_lost (address_after w (later ++ earlier)))
+  message_goes = goes_so w earlier g k later here l (since_most g later earlier steady)
+
+  pub message_told : length (told (later ++ earlier)) ≤ k → (e : Ending) × (next_ended w (later ++ earlier) ≡ Some (length (told (later ++ earlier)), e))
+  message_told t = told_next w (later ++ earlier) k is.answered here.among t message_goes
+
+-- ---- who takes all that is due takes one frame at least
+
+since_less : (later B : List Call) → since_take later B ≤ waited_in later B
+since_less [] B = omega arith
+since_less (At now (TakeFrame None) ∷ later) B = omega arith
+since_less (At now (TakeFrame (Some f)) ∷ later) B = omega arith
+since_less (call ∷ later) B = let h = since_less later B in omega (arith, h)
+
+pub prompt_steady : (g : ℕ) (later earlier : List Call) → IsPrompt g later earlier → IsSteady g later earlier
+prompt_steady g [] B p = tt
+prompt_steady g (call ∷ later) B p = (prompt_steady g later B p.0, ((let a = since_less later B in let b = p.1.0 in omega (arith, a, b)), p.1.1))

@@ -1,0 +1,13 @@
+use Rattle.std.proofs.Common.{◌≡◌, false, take}
+use Rattle.std.specs.List.{list_any}
+use Rattle.std.specs.Str.{bytes_eq}
+use Rattle.j39_node.specs.declared.own.Own.{Own}
+use Rattle.j39_node.specs.History.{acknowledgment, nothing}
+use Rattle.j39_node.specs.Is.{refusal_by, request_by, who_of}
+use Rattle.j39_node.proofs.requests.Desk.is_due.Given as goal
+
+-- none of those so far is this one
+abbrev pub invariant-loop-other : goal.invariant-loop-other
+invariant-loop-other l = (own : Own) → list_any
+    (λ x. bytes_eq (refusal_by (who_of nothing own) x).bytes (acknowledgment (who_of nothing own) l.answer (request_by l.request)).bytes)
+    (take l.other-index l.due) ≡ false

@@ -1,0 +1,5 @@
+use Rattle.j39_node.proofs.BringLaws as law
+use Rattle.j39_node.proofs.session_laws.transfers_heard.Goals as goal
+
+pub returns : goal.returns
+returns c = law.received

@@ -1,0 +1,100 @@
+//! The laws of sessions in which messages come in packets to its address (J1939-21, 5.10.3).
+ghost use Rattle.std.specs.Prelude.{◌≡◌, ◌≢◌, ◌↔◌, ◌||◌, ◌&&◌, ◌+◌, ◌-◌, ◌*◌, ◌<◌, ◌≤◌, ◌++◌, ℕ, suc, List, ◌∷◌, length, take, Some, None, IsTrue, false};
+ghost use Rattle.j39_frame.specs.Frame.{FrameRecord};
+ghost use Rattle.j39_frame.specs.Identifier.{source_of};
+ghost use Rattle.j39_transport.specs.Message.{MessageRecord};
+ghost use Rattle.j39_transport.specs.Protocol.{timer_t2};
+ghost use Rattle.j39_transport.specs.Reception.{ReceptionRecord};
+ghost use Rattle.j39_transport.specs.Receiving.{said_to};
+ghost use Rattle.j39_transport.specs.Session.{grown};
+ghost use Rattle.j39_transport.specs.Signals.{Abort, Packet, RequestToSend, written};
+ghost use Rattle.j39_node.specs.History.{Who, Call, holds, is_claim, step};
+ghost use Rattle.j39_node.specs.History.Call.{At};
+ghost use Rattle.j39_node.specs.History.Act.{Hear, TakeFrame, Tick};
+ghost use Rattle.j39_node.specs.Packets.{Bring, IsPacket};
+ghost use Rattle.j39_address.specs.Claim.{Claim, claim_of};
+ghost use Rattle.j39_node.specs.Hearing.{OpenBroadcast, found, hearing, is_whole};
+ghost use Rattle.j39_node.specs.Reception.{KeepsHolder, asks_claims, called, calls_claims, heard_at, holder, is_message, restarts, longest, reception, replied, time_heard, whole};
+ghost use Rattle.j39_node.specs.Since.{NeverBack, passed_in};
+ghost use Rattle.j39_node.specs.Ticks.{StaysOpen, TicksWithin};
+
+/// A session ends by itself, whatever its source or anybody else sends (own). Its account runs from the RTS by which one is open
+/// where none was; no call begins another while it is open, an RTS in its place neither. Behind each tick it is at most (n + 3) *
+/// 1,250 ms old, of a message of n packets; one that is older is aborted by it (abort 3), and its place is free. So to a driver
+/// whose clock never goes back and that ticks within each g, it is whole, or closed, within (n + 3) * 1,250 ms + g of that RTS,
+/// where n is the most packets that one of its source's RTS named.
+pub fn sessions_end()
+    ensures begins { (w : Who) (H : List Call) (now : ℕ) (f : FrameRecord) (r : ReceptionRecord) → (reception w H).session ≡ None
+        → (reception w (At now (Hear f) ∷ H)).session ≡ Some r
+        → (reception w (At now (Hear f) ∷ H)).since ≡ time_heard (At now (Hear f) ∷ H) }
+    ensures runs { (w : Who) (H : List Call) (call : Call) (r s : ReceptionRecord) → (reception w H).session ≡ Some r
+        → (reception w (call ∷ H)).session ≡ Some s → (reception w (call ∷ H)).since ≡ (reception w H).since }
+    ensures over { (w : Who) (H : List Call) (now : ℕ) (r : ReceptionRecord) → (reception w (At now Tick ∷ H)).session ≡ Some r
+        → time_heard (At now Tick ∷ H) ≤ (reception w H).since + longest r.message.packets }
+    ensures aborts { (w : Who) (H : List Call) (now : ℕ) (r : ReceptionRecord) → (reception w H).session ≡ Some r
+        → (reception w H).since + longest r.message.packets < time_heard (At now Tick ∷ H)
+        → ((reception w (At now Tick ∷ H)).session ≡ None) × ((reception w (At now Tick ∷ H)).replies
+        ≡ replied w.address r.message.source (Some (written w.address r.message.source (Abort 3 r.message.group))) (reception w H).replies) }
+    ensures ends { (w : Who) (later earlier : List Call) (g n at : ℕ) (f : FrameRecord) → (reception w earlier).session ≡ None
+        → StaysOpen w n later (At at (Hear f) ∷ earlier) → TicksWithin g later (At at (Hear f) ∷ earlier)
+        → NeverBack later (At at (Hear f) ∷ earlier)
+        → time_heard (At at (Hear f) ∷ earlier) + passed_in later (At at (Hear f) ∷ earlier) < 10000000000000000
+        → passed_in later (At at (Hear f) ∷ earlier) ≤ (n + 3) * timer_t2 + g }
+{}
+
+/// Of the open session's packets the next one is appended, and the last makes the message whole, which then waits for the program, and its
+/// place is free. One that is neither next nor the last that was granted changes nothing: of the session's time neither.
+pub fn session_packets_heard()
+    ensures next { (w : Who) (H : List Call) (now : ℕ) (f : FrameRecord) (r : ReceptionRecord) (part : List ℕ) → IsTrue (holds w H now)
+        → (reception w H).session ≡ Some r → source_of f.id ≡ r.message.source
+        → said_to w.address f ≡ Some (Packet (suc r.message.count) part) → suc r.message.count ≢ r.message.packets
+        → (s : ReceptionRecord) × ((reception w (At now (Hear f) ∷ H)).session ≡ Some s)
+        × (s.message ≡ grown (time_heard (At now (Hear f) ∷ H)) part r.message) }
+    ensures whole { (w : Who) (H : List Call) (now : ℕ) (f : FrameRecord) (r : ReceptionRecord) (part : List ℕ) (m : MessageRecord)
+        → IsTrue (holds w H now) → (reception w H).session ≡ Some r → source_of f.id ≡ r.message.source
+        → said_to w.address f ≡ Some (Packet (suc r.message.count) part) → suc r.message.count ≡ r.message.packets
+        → m ≡ record { source = r.message.source; pgn = r.message.group; bytes = take r.message.size (r.message.bytes ++ part) }
+        → (whole w H now f ≡ Some m) × ((reception w (At now (Hear f) ∷ H)).session ≡ None)
+        × ((reception w (At now (Hear f) ∷ H)).waits ≡ Some (f.stamp, m)) }
+    ensures strays { (w : Who) (H : List Call) (now number : ℕ) (f : FrameRecord) (r : ReceptionRecord) (part : List ℕ)
+        → (reception w H).session ≡ Some r → said_to w.address f ≡ Some (Packet number part) → number ≢ suc r.message.count
+        → number ≢ r.granted → reception w (At now (Hear f) ∷ H) ≡ reception w H }
+{}
+
+/// What is sent to it whole is received: where an RTS of s is heard while the address is held, no session is open and nothing waits for the
+/// program, and behind it packets 1 to n of s in order, each while the address is held, and at most 750 ms (T1) behind the one before, the
+/// message is whole at the last, and waits. Between them may come any frames of others, those of s that are no sender's, ticks in time,
+/// and all other calls; but no claim by which s has another holder, or restarts, or the address is lost, and no `again` or `move_to`.
+pub fn transfers_heard()
+    ensures { (w : Who) (later earlier : List Call) (at now : ℕ) (rts f : FrameRecord) (size n most pgn last : ℕ) (joined part : List ℕ)
+        (m : MessageRecord) → IsTrue (holds w earlier at) → (reception w earlier).session ≡ None → (reception w earlier).waits ≡ None
+        → said_to w.address rts ≡ Some (RequestToSend size (suc n) most pgn)
+        → Bring w (source_of rts.id) (At at (Hear rts) ∷ earlier) later n joined last
+        → IsPacket w (source_of rts.id) (suc n) last part (later ++ At at (Hear rts) ∷ earlier) now f
+        → m ≡ record { source = source_of rts.id; pgn = pgn; bytes = take size (joined ++ part) }
+        → (whole w (later ++ At at (Hear rts) ∷ earlier) now f ≡ Some m)
+        × ((reception w (At now (Hear f) ∷ later ++ At at (Hear rts) ∷ earlier)).waits ≡ Some (f.stamp, m)) }
+{}
+
+/// A restart is met: where the holder of an address claims it again and nothing called for that in the 1,250 ms before (own), the
+/// open session of that address ends by it, and the broadcast that is heard. For called for it is by a request for claims that
+/// was heard, a claim of an address by who doesn't hold it, or the controller's own claim or request for claims that was taken;
+/// not by a frame of `claims_request`, which is in no history. So since the RTS or the announcement of what is received in
+/// packets no such claim of its source came (`between`, and `of_one` of both laws). Behind a request for claims, whoever sends
+/// it, a restart isn't seen.
+pub fn restarts_are_met()
+    ensures means { (w : Who) (H : List Call) (now a : ℕ) (f : FrameRecord) → (restarts w H now f ≡ Some a
+        ↔ ((c : Claim) × (claim_of f ≡ Some c) × (c.address ≡ a) × (holder w H a ≡ Some c.name) × (called w H ≤ now - heard_at H))) }
+    ensures session { (w : Who) (H : List Call) (now : ℕ) (f : FrameRecord) (r : ReceptionRecord) → (reception w H).session ≡ Some r
+        → restarts w H now f ≡ Some r.message.source → (reception w (At now (Hear f) ∷ H)).session ≡ None }
+    ensures broadcast { (w : Who) (H : List Call) (now : ℕ) (f : FrameRecord) (x : OpenBroadcast) → hearing w H ≡ Some x → is_whole x ≡ false
+        → restarts w H now f ≡ Some x.source → found w H now f ≡ None }
+    ensures heard { (w : Who) (later H : List Call) (when now : ℕ) (f g : FrameRecord) → IsTrue (calls_claims (holder w H) f (claim_of f))
+        → passed_in later (At when (Hear f) ∷ H) + step (later ++ At when (Hear f) ∷ H) now < 1250000
+        → restarts w (later ++ At when (Hear f) ∷ H) now g ≡ None }
+    ensures taken { (w : Who) (later H : List Call) (when now : ℕ) (f g : FrameRecord) → IsTrue (is_claim f || (is_message f && asks_claims f))
+        → passed_in later (At when (TakeFrame (Some f)) ∷ H) + step (later ++ At when (TakeFrame (Some f)) ∷ H) now < 1250000
+        → restarts w (later ++ At when (TakeFrame (Some f)) ∷ H) now g ≡ None }
+    ensures between { (w : Who) (a : ℕ) (after before earlier : List Call) (now : ℕ) (f : FrameRecord)
+        → KeepsHolder w a (after ++ At now (Hear f) ∷ before) earlier → restarts w (before ++ earlier) now f ≢ Some a }
+{}

@@ -1,0 +1,78 @@
+//! What goes next, beside claims and acknowledgments.
+ghost use Rattle.std.specs.Prelude.{◌≡◌, Some};
+ghost use Rattle.j39_node.specs.History.{message_of};
+ghost use Rattle.j39_node.specs.Is.{turn_of};
+ghost use Rattle.j39_node.specs.Reception.{is_same, is_that};
+
+use j39_frame::Frame;
+
+/// What goes next.
+#[derive(Clone, Copy)]
+pub(crate) enum Turn {
+    /// The first reply that waits.
+    Reply,
+    /// The first message of one frame that waits.
+    Single,
+    /// A frame of the open broadcast.
+    Packet,
+    /// A frame of the open transfer.
+    Move,
+}
+
+/// What is due.
+#[derive(Clone, Copy)]
+pub(crate) struct Ready {
+    /// A frame of the open broadcast has been due for 100 ms.
+    pub(crate) overdue: bool,
+    pub(crate) reply: bool,
+    pub(crate) message: bool,
+    pub(crate) packet: bool,
+    pub(crate) transfer: bool,
+}
+
+impl Ready {
+    /// What goes first: an overdue frame, a reply, unless it yields, a message, a frame of the open broadcast, one of the open
+    /// transfer.
+    pub(crate) fn turn(self, yields: bool) -> Option<Turn>
+        ensures { result ≡ turn_of yields self }
+    {
+        if self.overdue {
+            return Some(Turn::Packet);
+        }
+        let gives_way = yields && (self.message || self.packet || self.transfer);
+        if self.reply && !gives_way {
+            return Some(Turn::Reply);
+        }
+        if self.message {
+            return Some(Turn::Single);
+        }
+        if self.packet {
+            return Some(Turn::Packet);
+        }
+        if self.transfer {
+            Some(Turn::Move)
+        } else {
+            None
+        }
+    }
+}
+
+/// Whether one is the very frame that another is, but for stamp, priority and source.
+pub(crate) fn is_that(one: &Frame, other: &Frame) -> bool
+    ensures { result ≡ is_that (message_of one.now) (Some (message_of other.now)) }
+{
+    one.id.pgn().raw() == other.id.pgn().raw()
+        && is_same(one.id.destination(), other.id.destination())
+        && one.bytes.as_slice() == other.bytes.as_slice()
+}
+
+fn is_same(one: Option<u8>, other: Option<u8>) -> bool
+    ensures { result ≡ is_same one other }
+{
+    match (one, other) {
+        (None, None) => true,
+        (None, Some(_)) => false,
+        (Some(_), None) => false,
+        (Some(one), Some(other)) => one == other,
+    }
+}

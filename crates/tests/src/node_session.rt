@@ -1,0 +1,128 @@
+//! A source that holds the only session for messages in packets: when another gets in; and one that restarts.
+use crate::node::{frame, hear_line};
+use j39_address::Name;
+use j39_frame::Stamp;
+use j39_node::Controller;
+use std::alloc::Global;
+use std::test::Fail;
+
+/// An RTS of address 11, and one of address 12: 18 bytes of group 65260 to address 128.
+const FIRST: &str = "(0.000000) can0 1CEC800B#10120003FFECFE00";
+
+const OTHER: &str = "(0.000000) can0 1CEC800C#10120003FFECFE00";
+
+/// A packet of address 11 that is never next.
+const PACKET: &str = "(0.000000) can0 1CEB800B#003146554A413643";
+
+/// Whether it gives a CTS to address 12 among the frames that are due.
+fn clears_other(node: &mut Controller, now: Stamp) -> bool {
+    let mut clears = false;
+    for _ in 0..20 {
+        if let Some(given) = node.take_frame(now) {
+            let bytes = given.bytes.as_slice();
+            clears = clears || (given.id.ps() == 12 && bytes.get(0) == Some(&17));
+        }
+    }
+    clears
+}
+
+/// After how many milliseconds since its RTS address 12 gets in, which tries each second, while address 11 sends this so often.
+fn let_in_after(node: &mut Controller, again: &str, every: u64) -> Option<u64> {
+    let first = frame(FIRST)?;
+    let other = frame(OTHER)?;
+    let again = frame(again)?;
+    let _claim = node.take_frame(Stamp::new(0)?);
+    node.hear(&first, Stamp::new(1_000_000)?);
+    for step in 1..600u64 {
+        let now = Stamp::new(1_000_000 + step * 100_000)?;
+        node.tick(now);
+        if (step * 100).checked_rem(every) == Some(0) {
+            node.hear(&again, now);
+        }
+        if step % 10 == 5 {
+            node.hear(&other, now);
+        }
+        if clears_other(node, now) {
+            return Some(step * 100);
+        }
+    }
+    None
+}
+
+#[test]
+fn node_lets_another_in_beside_one_that_begins_again(rt: HostRuntime) -> Result<(), Fail> {
+    let mut node = Controller::new(rt.alloc(), Name::new(2), 128, 0, &[], None)?.ok_or("node")?;
+    assert_eq!(rt; let_in_after(&mut node, FIRST, 3_000), Some(8_500));
+    Ok(())
+}
+
+#[test]
+fn node_lets_another_in_beside_one_whose_packets_are_never_next(
+    rt: HostRuntime,
+) -> Result<(), Fail> {
+    let mut node = Controller::new(rt.alloc(), Name::new(2), 128, 0, &[], None)?.ok_or("node")?;
+    assert_eq!(rt; let_in_after(&mut node, PACKET, 700), Some(4_500));
+    Ok(())
+}
+
+/// NAME 5 claims address 11, then sends 18 bytes of group 65260 to address 128 by RTS, and to all by BAM.
+const BEGINS: &[&str] = &[
+    "(0.300000) can0 18EEFF0B#0500000000000000",
+    "(2.000000) can0 1CEC800B#10120003FFECFE00",
+    "(2.000100) can0 1CECFF0B#20120003FFECFE00",
+    "(2.050000) can0 1CEB800B#013146554A413643",
+    "(2.050100) can0 1CEBFF0B#013146554A413643",
+];
+
+/// It claims its address again.
+const CLAIM: &str = "(2.060000) can0 18EEFF0B#0500000000000000";
+
+/// What others say that calls for that: a request for claims, and a larger NAME's claim of the address.
+const REQUEST: &str = "(2.055000) can0 18EAFFFE#00EE00";
+
+const RIVAL: &str = "(2.055000) can0 18EEFF0B#0600000000000000";
+
+/// The packets that are left.
+const ENDS: &[&str] = &[
+    "(2.100000) can0 1CEB800B#025631324C4B3132",
+    "(2.100100) can0 1CEBFF0B#025631324C4B3132",
+    "(2.150000) can0 1CEB800B#033334352AFFFFFF",
+    "(2.150100) can0 1CEBFF0B#033334352AFFFFFF",
+];
+
+/// Whether it receives both messages, where these frames come before their last packets.
+fn receives(node: &mut Controller, between: &[&str]) -> Option<(bool, bool)> {
+    let _claim = node.take_frame(Stamp::new(0)?);
+    for line in BEGINS.iter() {
+        hear_line(node, line)?;
+    }
+    for line in between.iter() {
+        hear_line(node, line)?;
+    }
+    for line in ENDS.iter() {
+        hear_line(node, line)?;
+    }
+    Some((
+        node.received_transfer().is_some(),
+        node.received_broadcast().is_some(),
+    ))
+}
+
+/// The same of a new controller.
+fn received(alloc: Global, between: &[&str]) -> Result<Option<(bool, bool)>, Fail> {
+    let mut node = Controller::new(alloc, Name::new(2), 128, 0, &[], None)?.ok_or("node")?;
+    Ok(receives(&mut node, between))
+}
+
+#[test]
+fn node_meets_a_restart(rt: HostRuntime) -> Result<(), Fail> {
+    let with_nothing = received(rt.alloc(), &[])?;
+    let with_a_claim = received(rt.alloc(), &[CLAIM])?;
+    let when_asked = received(rt.alloc(), &[REQUEST, CLAIM])?;
+    let beside_a_rival = received(rt.alloc(), &[RIVAL, CLAIM])?;
+    assert_eq!(rt; with_nothing, Some((true, true)));
+    assert_eq!(rt; with_a_claim, Some((false, false)));
+    assert_eq!(rt; when_asked, Some((true, true)));
+    assert_eq!(rt; beside_a_rival, Some((true, true)));
+    Ok(())
+}
