@@ -18,6 +18,7 @@ mod fault_messages;
 mod node;
 #[cfg(test)]
 mod node_address;
+#[cfg(test)]
 mod node_asks;
 #[cfg(test)]
 mod node_clock;
