@@ -6,9 +6,11 @@
 # them; else it is proved and built by the Rattle kit. No time of a file decides that, only the sums of what stands in them.
 : "${top:?}"
 
-# What is shipped. tools/portable/make makes the library for other processors, all of it at once, and the program for aarch64.
+# What is shipped. tools/portable/make makes the library for other processors, all of it at once, and the program for aarch64. Of what
+# only a package has prebuilt/SUMS holds the sum.
 portable_products=(j1939_32.c libj1939-{cortex-m4,rv32imac,aarch64}.a)
-products=(j1939 libj1939.a j1939.html "${portable_products[@]}" j1939-aarch64)
+packaged_products=(libj1939-{cortex-m0plus,cortex-m3,cortex-m33,armhf}.a)
+products=(j1939 libj1939.a j1939.html "${portable_products[@]}" j1939-aarch64 "${packaged_products[@]}")
 # Which of them are for the machine that this runs on.
 program_here=j1939 library_here=libj1939.a
 [ "$HOSTTYPE" != aarch64 ] || program_here=j1939-aarch64 library_here=libj1939-aarch64.a
@@ -31,6 +33,10 @@ describe() {
     j1939-aarch64) crate=j1939 files='c/heap.c c/memory.h tools/portable/make tools/portable/system.c' made=$top/c/out/$1 ;;
     *) crate=j39_c files=$portable_files made=$top/c/out/$1 ;;
   esac
+}
+
+is_packaged() {
+  [[ " ${packaged_products[*]} " = *" $1 "* ]]
 }
 
 # The version, which stands in the program's source.
@@ -151,7 +157,7 @@ look_at_prebuilt() {
     why="prebuilt/SUMS has no line of $1" is_damaged=yes
   elif [ "$of" != "$sources" ]; then
     why="prebuilt/$1 was made of other sources: $(first_other "$1") differs"
-  elif [ "$wanted" != "$shipped" ]; then
+  elif [ "$wanted" != "$shipped" ] && ! is_packaged "$1"; then
     why="prebuilt/$1 isn't what prebuilt/SUMS says: it was cut short or changed"
   fi
 }
@@ -166,9 +172,13 @@ first_other() {
   echo "${other:-prebuilt/SOURCES}"
 }
 
-# What this machine lacks to run or link it; nothing where it lacks nothing.
+# What is lacking to run or link what lies in prebuilt/ on this machine; nothing where nothing is.
 lacking() {
   local needs machine=x86_64 word='' flags='' flag glibc
+  if is_packaged "$1"; then
+    echo "it lies in a package, and not in prebuilt/"
+    return
+  fi
   case $1 in
     j1939 | libj1939.a) needs="prebuilt/$1 is for Linux on x86-64-v2" ;;
     j1939-aarch64) needs="prebuilt/$1 is for Linux on aarch64" machine=aarch64 ;;
@@ -206,7 +216,7 @@ build_product() {
     libj1939.a) "$top/c/archive" ;;
     j1939.html) "$top/web/build" ;;
     j1939-aarch64) "$top/tools/portable/make" "$product" ;;
-    *) "$top/tools/portable/make" ;;
+    *) if is_packaged "$product"; then "$top/tools/portable/make" "${packaged_products[@]}"; else "$top/tools/portable/make"; fi ;;
   esac >"$log" 2>&1 </dev/null || status=$?
   if [ "$status" -ne 0 ]; then
     tail -n 20 "$log" >&2

@@ -6,7 +6,7 @@ ghost use Rattle.j39_io.specs.Puts.{Puts};
 ghost use Rattle.j39_io.specs.Turn.{turn};
 ghost use Rattle.j39_log.specs.Canonical.{line_text};
 ghost use Rattle.bus_demo.specs.Playing.{AreAllNoted, AreTold, HaveTurned};
-ghost use Rattle.bus_demo.specs.Run.{PlaysTo, TellsFault};
+ghost use Rattle.bus_demo.specs.Run.{Admits, PlaysTo, TellsFault};
 ghost use Rattle.bus_demo.specs.Sending.{Goes, IsSeen, Sends, Steps, TakesAt};
 ghost use Rattle.bus_demo.specs.Turning.{AreAsked, KeepsButTurned, TurnsAt};
 ghost use Rattle.bus_demo.specs.declared.bus.BusFault.TheVariants.{Memory, Write};
@@ -120,6 +120,23 @@ impl<'a> Bus<'a> {
         }
         log.flush()?;
         Ok(())
+    }
+
+    /// Runs the bus to the moment of a frame from outside, which all controllers then hear: it is a line of the log as each.
+    pub fn admit<W: Sink>(&mut self, frame: Frame, log: &mut W) -> Result<(), BusFault>
+        ensures admits { OnOk result (Admits frame self.old self.new (turn W.written W.has_failed log.old log.new)) }
+        ensures faults { TellsFault result (turn W.written W.has_failed log.old log.new) }
+        ensures lose { self.new.lose ≡ self.old.lose }
+    {
+        self.run(frame.stamp.micros(), log)?;
+        self.frames = self.frames.saturating_add(1);
+        let seen = Frame {
+            stamp: self.now,
+            id: frame.id,
+            bytes: frame.bytes,
+        };
+        let outside = self.controllers.len();
+        self.show(outside, &seen, log)
     }
 
     /// Lets each controller take its turn, and then sends the frame that wins the bus.

@@ -12,7 +12,8 @@ use bus::book::Book;
 use bus::player::Player;
 use bus::scenario::controllers;
 use bus::{Bus, BusFault};
-use j39_io::Told;
+use j39_io::{Sink, Told};
+use j39_log::{Line, read_line};
 use std::io::BufWriter;
 use std::process::ExitCode;
 use std::{env, io};
@@ -37,12 +38,37 @@ fn main(rt: HostRuntime) -> io::Result<ExitCode> {
 /// exit status.
 fn play(rt: &HostRuntime, words: &Words) -> io::Result<u8> {
     let mut out = Told::new(BufWriter::with_capacity(rt.alloc(), OUT_BUFFER, rt.stdout())?);
-    let controllers = controllers(rt.alloc(), words.seed)?;
+    let controllers = controllers(rt.alloc(), words.seed, words.outside)?;
     let mut bus = Bus::new(rt.alloc(), controllers, words.lose.as_slice());
+    if words.outside {
+        let status = hear_outside(rt, &mut bus, &mut out)?;
+        if status != 0 {
+            return Ok(status);
+        }
+    }
     match bus.run(words.seconds.saturating_mul(1_000_000), &mut out) {
         Ok(()) => tell(rt, &bus, words.book),
         Err(fault) => complain(rt, fault),
     }
+}
+
+/// Has the bus hear the frames that come on standard input, each at its moment, until that ends, and answers the exit status.
+fn hear_outside<W: Sink>(rt: &HostRuntime, bus: &mut Bus<'_>, out: &mut W) -> io::Result<u8> {
+    for line in rt.lines(rt.alloc()) {
+        let line = line?;
+        match read_line(line.as_bytes()) {
+            Line::Frame { bus: _, frame } => {
+                if let Err(fault) = bus.admit(frame, out) {
+                    return complain(rt, fault);
+                }
+            }
+            _ => {
+                eprintln!(rt; "bus_demo: no frame: {line}")?;
+                return Ok(1);
+            }
+        }
+    }
+    Ok(0)
 }
 
 /// Tells the counts of a bus, or its book, and answers the exit status.

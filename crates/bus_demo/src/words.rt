@@ -14,15 +14,21 @@ Examples:
   bus_demo | j1939 report
   bus_demo --seed 7 --seconds 10 --lose 98,105
   bus_demo --book 2> bus.book > bus.log
+  bus_demo --outside < frames
 
 Four controllers share the bus: two want one address, one is commanded to another,
 each sends engine speed, temperatures and distance, one broadcasts its vehicle's
 identification, and one sends its component's to another. A frame that is lost is
 seen by no one: neither the log nor another controller has it.
 
+With --outside another controller shares the bus: its frames come on standard input,
+as lines of a log. The bus goes on to the moment of each, all hear it, and it is a
+line of the log as well. One of the four then asks address 00 for its vehicle's
+identification.
+
 Exit status:
   0  done, or help was asked for
-  1  out of memory, or a write failed
+  1  out of memory, a read or a write failed, or a line is no frame
   2  the words are wrong";
 
 /// The longest time that is played, in seconds.
@@ -39,6 +45,8 @@ pub(crate) struct Words {
     pub lose: Vec<u64>,
     /// Whether the book is told in the place of the counts.
     pub book: bool,
+    /// Whether frames of a controller outside come on standard input.
+    pub outside: bool,
 }
 
 /// Why there is nothing to play.
@@ -76,6 +84,7 @@ fn words_of(alloc: Global, matches: &ArgMatches<'_>) -> Result<Words, Refusal> {
         seconds: value(matches, "seconds", 3, 1, LONGEST).ok_or(Refusal::BadValue("--seconds"))?,
         lose: numbers(alloc, matches.get_str("lose"))?,
         book: matches.get_flag("book"),
+        outside: matches.get_flag("outside"),
     })
 }
 
@@ -85,14 +94,13 @@ fn command<'a>(alloc: Global) -> Result<Command<'a>, AllocError> {
     let seconds = "How long it goes, 1 to 3600; without it 3";
     let lose = "The frames that are lost, counted from 1";
     let book = "Tell what was handed in, and what became of it, in the place of the counts";
+    let outside = "Take the frames of one more controller from standard input";
     let args = [
         option(alloc, "seed", "N", seed),
         option(alloc, "seconds", "N", seconds),
         option(alloc, "lose", "N,N..", lose),
-        Arg::new(alloc, "book")
-            .long("book")
-            .action(ArgAction::SetTrue)
-            .help(book),
+        flag(alloc, "book", book),
+        flag(alloc, "outside", outside),
     ];
     let args = Vec::from_array(alloc, args)?;
     Command::new(alloc, "bus_demo")
@@ -106,6 +114,14 @@ fn option<'a>(alloc: Global, name: &'a str, value: &'a str, help: &'a str) -> Ar
     Arg::new(alloc, name)
         .long(name)
         .value_name(value)
+        .help(help)
+}
+
+/// `--name`
+fn flag<'a>(alloc: Global, name: &'a str, help: &'a str) -> Arg<'a> {
+    Arg::new(alloc, name)
+        .long(name)
+        .action(ArgAction::SetTrue)
         .help(help)
 }
 

@@ -20,7 +20,7 @@ pub(crate) struct Hints {
 
 impl Hints {
     /// No hints.
-    pub fn new() -> Hints {
+    pub(crate) fn new() -> Hints {
         Hints {
             places: [NOWHERE; HINTS],
         }
@@ -28,12 +28,12 @@ impl Hints {
 
     /// One of the hints of an origin.
     #[inline]
-    pub fn get(&self, origin: Origin, step: usize) -> usize {
+    pub(crate) fn get(&self, origin: Origin, step: usize) -> usize {
         usize::from(self.places[hint_at(origin, step)])
     }
 
     /// Hints at the place of an origin: in the first hint of its that is free, or else in its first one.
-    pub fn put(&mut self, origin: Origin, place: u16) {
+    pub(crate) fn put(&mut self, origin: Origin, place: u16) {
         for step in 0..NEIGHBOURS {
             let at = hint_at(origin, step);
             if self.places[at] == NOWHERE {

@@ -36,6 +36,9 @@ const COMPONENT_IDENTIFICATION: u32 = 65_259;
 
 const COMMANDED_ADDRESS: u32 = 65_240;
 
+/// A request (J1939-21, 5.4.2).
+const REQUEST: u32 = 59_904;
+
 /// SPN 110, the temperature of the coolant, is above normal (FMI 0); SPN 175, that of the oil, is erratic (FMI 2); and
 /// SPN 520201, one of its maker's own, is there (FMI 31), which isn't counted.
 static ENGINE_FAULTS: [Fault; 3] = [
@@ -85,12 +88,26 @@ static RIVAL_PLANS: [Plan; 1] = [Plan {
     payload: COMPONENT,
 }];
 
-static TOOL_PLANS: [Plan; 1] = [Plan {
+/// The tool commands the gearbox to move.
+const MOVE: Plan = Plan {
     at: 2_200_000,
     to: None,
     pgn: COMMANDED_ADDRESS,
     payload: COMMAND,
-}];
+};
+
+static TOOL_PLANS: [Plan; 1] = [MOVE];
+
+/// It then asks address 00 for its vehicle's identification, where a controller is outside.
+static ASKING_TOOL_PLANS: [Plan; 2] = [
+    MOVE,
+    Plan {
+        at: 2_500_000,
+        to: Some(0x00),
+        pgn: REQUEST,
+        payload: &[0xEC, 0xFE, 0x00],
+    },
+];
 
 /// The rates of the three groups, in microseconds.
 fn rates(engine: u64, temperatures: u64, distance: u64) -> [Rate; 3] {
@@ -145,7 +162,7 @@ fn gearbox() -> Role
     }
 }
 
-fn tool() -> Role
+fn tool(asks: bool) -> Role
     ensures { (result.name ≡ 0x8000000004401004) × (result.preferred ≡ 0xF9) × (result.starts ≡ 100000) }
 {
     Role {
@@ -153,21 +170,25 @@ fn tool() -> Role
         preferred: TOOL,
         starts: 100_000,
         rates: rates(500_000, 1_000_000, 1_000_000),
-        plans: &TOOL_PLANS,
+        plans: if asks {
+            &ASKING_TOOL_PLANS
+        } else {
+            &TOOL_PLANS
+        },
         faults: &[],
     }
 }
 
 /// The four controllers. The seed decides when in a time of 10 ms each one's loop turns, and what its
-/// gauges show.
-pub fn controllers(alloc: Global, seed: u64) -> Result<Vec<Player>, AllocError>
+/// gauges show. Where another is outside, the tool asks it.
+pub fn controllers(alloc: Global, seed: u64, outside: bool) -> Result<Vec<Player>, AllocError>
     ensures { IfOk result (λ players. PlaysAll players.items) }
 {
     let mut players = Vec::new(alloc);
     join(&mut players, alloc, &engine(), Gauges::new(seed, 0))?;
     join(&mut players, alloc, &rival(), Gauges::new(seed, 1))?;
     join(&mut players, alloc, &gearbox(), Gauges::new(seed, 2))?;
-    join(&mut players, alloc, &tool(), Gauges::new(seed, 3))?;
+    join(&mut players, alloc, &tool(outside), Gauges::new(seed, 3))?;
     Ok(players)
 }
 
