@@ -75,7 +75,7 @@ unfolding bits_meaning
 bits_are_short count slot raw short =
     let value = number (pos raw *ℤ slot.step +ℤ slot.offset) slot in
     either_is_short (count % 8 == 0) _ _ (top_is_short (top_byte (count / 8) raw) value short)
-    (of_two (nat_lt 1 count && raw + 1 == 2 ^ count) ((count == 2 || count == 4) && raw + 2 == 2 ^ count) value short)
+    (of_two (nat_lt 1 count && raw + 1 == 2 ^ count) (count == 2 && raw == 2) value short)
 
 switch_is_short : (bits : ℕ) → is_short (switch_meaning bits)
 unfolding switch_meaning

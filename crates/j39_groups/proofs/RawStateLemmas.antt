@@ -107,36 +107,24 @@ unfolding bits_meaning raw_behind error_in
 bits_behind byte low count step raw slot value c1 c2 some is small read =
     let part : (count % 8 == 0) ≡ false = not_whole (count % 8 == 0) refl in
     let valid : ValueRecord = number (above raw slot) slot in
-    of (nat_lt 1 count && raw + 1 == 2 ^ count) ((count == 2 || count == 4) && raw + 2 == 2 ^ count) refl
-    (ap (λ (whole : Bool). meant whole (nat_lt 1 count && raw + 1 == 2 ^ count) ((count == 2 || count == 4) && raw + 2 == 2 ^ count)
+    of (nat_lt 1 count && raw + 1 == 2 ^ count) (count == 2) (raw == 2) refl refl
+    (ap (λ (whole : Bool). meant whole (nat_lt 1 count && raw + 1 == 2 ^ count) (count == 2 && raw == 2)
     (number_meaning (count / 8) slot raw) valid) (sym part) ∙ read)
   where
     not_whole : (b : Bool) → (count % 8 == 0) ≡ b → b ≡ false
     not_whole true e = absurd (let n = eqb-true (count % 8) 0 e in omega arith)
     not_whole false e = refl
 
-    two_or_four : (x y z : Bool) → (count == 2) ≡ x → (count == 4) ≡ y → (raw + 2 == 2 ^ count) ≡ z → ((x || y) && z) ≡ true
-        → (if x then Some 2 else (if y then Some 14 else (if count == 8 then Some 0xFE else None))) ≡ Some raw
-    two_or_four true y true ex ey ez e =
-        let n : count ≡ 2 = eqb-true count 2 ex in
-        let m : raw + 2 ≡ 2 ^ 2 = eqb-true (raw + 2) (2 ^ count) ez ∙ ap (λ (k : ℕ). 2 ^ k) n in
-        ap (λ (k : ℕ). Some k) (omega arith)
-    two_or_four false true true ex ey ez e =
-        let n : count ≡ 4 = eqb-true count 4 ey in
-        let m : raw + 2 ≡ 2 ^ 4 = eqb-true (raw + 2) (2 ^ count) ez ∙ ap (λ (k : ℕ). 2 ^ k) n in
-        ap (λ (k : ℕ). Some k) (omega arith)
-    two_or_four false false z ex ey ez e = cc
-    two_or_four true y false ex ey ez e = cc
-    two_or_four false true false ex ey ez e = cc
+    valid_back : number (above raw slot) slot ≡ value → raw_behind (bits_field byte low count slot) value ≡ Some raw
+    valid_back this = ap (raw_behind (bits_field byte low count slot)) (sym this) ∙ back raw step slot some is
 
-    of : (absent wrong : Bool) → ((count == 2 || count == 4) && raw + 2 == 2 ^ count) ≡ wrong
-        → meant false absent wrong (number_meaning (count / 8) slot raw) (number (above raw slot) slot) ≡ Some value
+    of : (absent two second : Bool) → (count == 2) ≡ two → (raw == 2) ≡ second
+        → meant false absent (two && second) (number_meaning (count / 8) slot raw) (number (above raw slot) slot) ≡ Some value
         → raw_behind (bits_field byte low count slot) value ≡ Some raw
-    of true wrong e read = cc
-    of false true e read =
+    of true two second et es read = cc
+    of false true true et es read =
         let this : error ≡ value = cc in
         ap (raw_behind (bits_field byte low count slot)) (sym this)
-        ∙ two_or_four (count == 2) (count == 4) (raw + 2 == 2 ^ count) refl refl refl e
-    of false false e read =
-        let this : number (above raw slot) slot ≡ value = cc in
-        ap (raw_behind (bits_field byte low count slot)) (sym this) ∙ back raw step slot some is
+        ∙ (ap (λ (b : Bool). if b then Some 2 else (if count == 8 then Some 0xFE else None)) et ∙ ap (λ (n : ℕ). Some n) (sym (eqb-true raw 2 es)))
+    of false true false et es read = valid_back (cc)
+    of false false second et es read = valid_back (cc)

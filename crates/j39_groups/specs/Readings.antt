@@ -39,13 +39,13 @@ raw_bits byte low count bytes =
     (slice_range bytes (byte - 1) (last_byte byte low count)) / 2 ^ (low - 1) % 2 ^ count)
     else None
 
--- a number of 8, 16, 24 or 32 bits means what one of as many bytes does; of fewer, two and more that are all set are not
--- available, and of two and of four the one below is an error (J1939-71, 5.1.4); any other is valid (own)
+-- a number of 8, 16, 24 or 32 bits means what one of as many bytes does; of others, two and more that are all set are not
+-- available, and of two the one below is an error (J1939-71, 5.1.4); any other is valid (own)
 unfoldable pub bits_meaning : ℕ → SlotRecord → ℕ → Option ValueRecord
 bits_meaning count slot raw =
     if count % 8 == 0 then number_meaning (count / 8) slot raw else
     (if nat_lt 1 count && raw + 1 == 2 ^ count then None else
-    (if (count == 2 || count == 4) && raw + 2 == 2 ^ count then Some error else
+    (if count == 2 && raw == 2 then Some error else
     Some (number (pos raw *ℤ slot.step +ℤ slot.offset) slot)))
 
 -- what so many bits are in two's complement: 2 ^ count less where the highest of them is set

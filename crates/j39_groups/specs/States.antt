@@ -49,11 +49,11 @@ steps_up n slot =
     (if unsigned_abs (n -ℤ slot.offset) % unsigned_abs slot.step == 0
     then Some (unsigned_abs (n -ℤ slot.offset) / unsigned_abs slot.step) else None)
 
--- the one raw number that is an error: 10 of two bits, 1110 of four, FE of a byte (J1939-71, 5.1.4); of more bytes many are
+-- the one raw number that is an error: 10 of two bits, FE of a byte (J1939-71, 5.1.4); of more bytes many are
 unfoldable pub error_in : FieldRecord → Option ℕ
 error_in (number_field first last slot) = if first == last then Some 0xFE else None
 error_in (bits_field byte low count slot) =
-    if count == 2 then Some 2 else (if count == 4 then Some 14 else (if count == 8 then Some 0xFE else None))
+    if count == 2 then Some 2 else (if count == 8 then Some 0xFE else None)
 error_in (signed_field byte low count slot) = None
 error_in (switch_field byte low high) = Some 2
 error_in (text_field part) = None

@@ -173,11 +173,10 @@ impl Field<'_> {
 
 /// The error of a number of so many bits.
 fn error_of_bits(count: u8) -> Option<u64>
-    ensures { result ≡ if count == 2 then Some 2 else (if count == 4 then Some 14 else (if count == 8 then Some 0xFE else None)) }
+    ensures { result ≡ if count == 2 then Some 2 else (if count == 8 then Some 0xFE else None) }
 {
     match count {
         2 => Some(2),
-        4 => Some(14),
         8 => Some(0xFE),
         _ => None,
     }

@@ -168,11 +168,10 @@ fn bits_meaning(raw: u32, count: u8, scale: &Slot<'_>) -> Option<Short>
     if count % 8 == 0 {
         return number(raw, count / 8, scale);
     }
-    let behind = 1u64 << count;
-    if count > 1 && u64::from(raw) + 1 == behind {
+    if count > 1 && u64::from(raw) + 1 == 1u64 << count {
         return None;
     }
-    if (count == 2 || count == 4) && u64::from(raw) + 2 == behind {
+    if count == 2 && raw == 2 {
         return Some(Short::Error);
     }
     Some(Short::Number(scale.value(raw)))
