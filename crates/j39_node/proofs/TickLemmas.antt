@@ -2,7 +2,6 @@
 use Rattle.std.proofs.Common.{◌≡◌, ◌⊎◌, ℕ, ◌+◌, ◌-◌, ◌<◌, ◌≤◌, ◌==◌, List, [], ◌∷◌, length, min, Option, Some, None, Bool, true, false, not, ◌&&◌, ◌||◌, if◌then◌else◌, nat_eq, nat_lt, refl, sym, ap, ◌∙◌, inl, inr, arith, ltb-false, ltb-true, lt-ltb}
 use Rattle.std.specs.Option.{option_map}
 use Rattle.std.proofs.lemmas.Bool.{cond_both}
-use Rattle.j39_transport.specs.Protocol.{broadcast_limit}
 use Rattle.j39_transport.specs.Reception.{ReceptionRecord, Reaction, asks_again, granted_at, grants, limit_of, takes_tick}
 use Rattle.j39_transport.specs.Receiving.{ReceiverRecord, RecvResult, Tick as Ticks, recv_step}
 use Rattle.j39_node.specs.declared.controller.Controller.{Controller}
@@ -12,7 +11,7 @@ use Rattle.j39_node.specs.History.{Who, Call, address_after, is_lost, moment, se
 use Rattle.j39_node.specs.History.Call.{At, TakeAskEnded}
 use Rattle.j39_node.specs.History.Act.{Hear, Tick}
 use Rattle.j39_node.specs.Reception.{Reception, heard_at, is_over, reception, receiver_at, session_tick, ticked_at, time_heard}
-use Rattle.j39_node.specs.Hearing.{OpenBroadcast, hearing, hearing_tick, is_late, is_out, is_whole, left}
+use Rattle.j39_node.specs.Hearing.{OpenBroadcast, hearing, hearing_tick, is_late, is_out, is_whole, left, expires}
 use Rattle.j39_node.specs.Asking.{Question, ask_end, comes, ended, in_broadcast, in_session, is_coming, is_from, is_taken, is_waiting, next_ask_ended, open_ask, out_at, request_tick, seeks, wait}
 use Rattle.j39_node.specs.Is.{Is}
 use Rattle.j39_node.specs.Ticks.{next_tick}
@@ -75,7 +74,7 @@ broadcast_left t s (Some x) l = go (is_whole x) (is_late t x) (is_late s x) refl
     go : (a b c : Bool) → is_whole x ≡ a → is_late t x ≡ b → is_late s x ≡ c → (in_broadcast s (Some x) ≡ in_broadcast t (Some x)) ⊎ (in_broadcast s (Some x) ≡ None)
     go true b c i j k = inr (λ z. by (i z) (is_late s x))
     go false b true i j k = inr (λ z. by (i z) (k z))
-    go false true false i j k = absurd (let z : true ≡ false = sym (after (x.time + broadcast_limit) j) ∙ k in cc)
+    go false true false i j k = absurd (let z : true ≡ false = sym (after (expires x) j) ∙ k in cc)
     go false false false i j k = inl ((λ z. by (is_whole x) (k z)) ∙ λ z. by (is_whole x) (sym j z))
 
 ticked_left : (t s : ℕ) (o : Option OpenBroadcast) → t ≤ s → (in_broadcast s (left (is_out s o) o) ≡ in_broadcast t o) ⊎ (in_broadcast s (left (is_out s o) o) ≡ None)

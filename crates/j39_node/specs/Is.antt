@@ -590,6 +590,7 @@ broadcast_by x = record {
   bytes = x.bytes.items;
   stamp = stamp_micros x.stamp;
   time = stamp_micros x.time;
+  since = stamp_micros x.since;
 }
 
 abbrev pub hearing_of : Hearing → HearingRecord
