@@ -27,7 +27,7 @@ use Rattle.j39_node.specs.Is.{is_overdue, ready, Is, next_acknowledgment}
 use Rattle.j39_node.specs.Asking.{made_of}
 use Rattle.j39_node.specs.Is.{made_by}
 use Rattle.j39_node.specs.Reception.{is_reply, is_that, CameFromOne, IsApart, KeepsHolder, Reception, time_heard, delivered, frames_heard, got_transfers, has_place, heard_at, heard_by, is_move, held_then, holder, is_same, keeps, later, leaves, left, listed, receiver_at, reception, released_by, replied, reply_from, says, says_by, session_tick, step_at, taken_by, takes, tick_at, ticked, whole, whole_by, without, group_of, is_over, limit_in, longest, shown, since_by, ticked_at, known, known_by}
-use Rattle.j39_node.proofs.SoundLemmas.{apart_is, IsTurn, none_at, none_next, turned, FrameCase, frame_case, sound, own_get, due_get, due_taken, single_taken, packet_taken, claim_taken, is_moved, lost_older, lost_claimed, lost_unclaimed}
+use Rattle.j39_node.proofs.SoundLemmas.{apart_is, IsTurn, none_at, none_next, turned, FrameCase, frame_case, sound, own_of, due_get, due_taken, single_taken, packet_taken, claim_taken, is_moved, lost_older, lost_claimed, lost_unclaimed}
 use Rattle.j39_node.proofs.PacketLemmas.{hushed, quiet_step, shown_both, shown_none, since_same}
 use Rattle.j39_node.proofs.SoundLemmas.FrameCase.{claims, acknowledges, replies, sends, packs, transfers}
 use Rattle.j39_node.proofs.ReceptionLemmas.{Acknowledges, Fits, Gives, Tidy, own_after, refused_step, replied_get, taken_is, tame_signal, tame_tick, quiet_at, unclaimed_known, tidy, tidy_left, own_ticked as own_kept, no_reply}
@@ -409,7 +409,7 @@ replies_first w H c now f is t away = go (frame_case w H now f is.answered.1)
       g ∙ ap (λ (y : ℕ × Message). Some y.1) (sym e),
       n.0,
     )
-    go (sends x o h n g e) = absurd (not_session (single_taken w f now x e (own_get w _ _ x (sound w H is.answered.0).own g)))
+    go (sends x o h n g e) = absurd (not_session (single_taken w f now x e (own_of w H x is.answered.0 g)))
     go (packs m o h n g e) =
         let p = and_parts (is_session f) _ (packet_taken f now m (open_broadcast w H) (length (packets H)) (pause H - step H now) e g).2 in
         absurd (let z : not true ≡ true = ap not (sym p.1) ∙ k.1 in cc)

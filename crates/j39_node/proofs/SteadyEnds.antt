@@ -13,7 +13,7 @@ use Rattle.j39_transport.specs.Signals.{Signal, Abort}
 use Rattle.j39_node.specs.declared.controller.Controller.{Controller}
 use Rattle.j39_node.specs.declared.kinds.TransferEnding.{TransferEnding}
 use Rattle.j39_node.specs.declared.turn.Turn.TheVariants.{Reply, Move}
-use Rattle.j39_node.specs.History.{is_session, Who, Message, Call, accepted, acknowledged, address_after, broadcast_from, due, holds, is_acknowledgment, is_claim, is_held, is_lost, is_some, is_transfer, message_of, moment, open_broadcast, packets, pause, sent, step, turns, yields}
+use Rattle.j39_node.specs.History.{reached, is_session, Who, Message, Call, accepted, acknowledged, address_after, broadcast_from, due, holds, is_acknowledgment, is_claim, is_held, is_lost, is_some, is_transfer, message_of, moment, open_broadcast, packets, pause, sent, step, turns, yields}
 use Rattle.j39_node.specs.History.Call.{At, TakeTransferEnded}
 use Rattle.j39_node.specs.History.Act.{Hear, TakeFrame, Transfer, Again}
 use Rattle.j39_node.specs.Is.{AreAnswered, Is, IsAnswered, is_apart, is_there, next_frame, next_other, other, ready}
@@ -30,7 +30,7 @@ use Rattle.j39_node.proofs.PortLemmas.TransferCase.{homeless, unfit, busy, opens
 use Rattle.j39_node.proofs.PromptLaws.{answered_from, keeps_heard, keeps_taken, lost_heard, lost_taken}
 use Rattle.j39_node.proofs.LawLemmas.{not_both}
 use Rattle.j39_node.proofs.ReceptionLemmas.{replied_get, tidy}
-use Rattle.j39_node.proofs.SoundLemmas.{acknowledgment_single, FrameCase, IsTurn, claim_single, claim_taken, due_get, due_taken, frame_case, held_older, is_directed, lost_older, message_taken, no_transfer, none_next, none_other, own_get, packet_session, packet_taken, plain_taken, reply_taken, single_taken, sound, transfer_taken, turned}
+use Rattle.j39_node.proofs.SoundLemmas.{acknowledgment_single, FrameCase, IsTurn, claim_single, claim_taken, due_get, due_taken, frame_case, held_older, is_directed, lost_older, message_taken, no_transfer, none_next, none_other, own_of, packet_session, packet_taken, plain_taken, reply_taken, single_taken, sound, transfer_taken, turned}
 use Rattle.j39_node.proofs.SoundLemmas.FrameCase.{claims, acknowledges, replies, sends as sends_one, packs, transfers}
 use Rattle.j39_node.proofs.SteadyLaws.{few_turns, held_holds, one, since_most, steers, turns_then}
 use Rattle.j39_node.proofs.SteadySteps.{Account, Late, Listened, account_goes, account_holds, account_passes, account_rests, account_steers, due_late, heard_late, most, no_older, none_late, passes, ticked_late}
@@ -126,7 +126,7 @@ kind_of w to H now f right (replies m o h n g e) away = go (is_some (destination
     go true x = counted (turns_then H now f false a) (counts_is to f false true true a t x)
     go false x = answered (turns_then H now f false a) (counts_is to f false true false a t x) (yields_is H now f false true a t) (silent x)
 kind_of w to H now f right (sends_one x o h n g e) away =
-    let own = own_get w (accepted w H) (length (sent H)) x (sound w H right).own g in
+    let own = own_of w H x right g in
     let a : (is_claim f || is_acknowledgment f) ≡ false = λ i. message_taken w f now x e own i || plain_taken w f now x e own i in
     counted (turns_then H now f false a) (counts_is to f false false _ a (no_transfer f (single_taken w f now x e own)) refl)
 kind_of w to H now f right (packs m o h n g e) away =

@@ -7,7 +7,7 @@ use Rattle.j39_transport.specs.Receiving.{ReceiverRecord, RecvResult, Tick as Ti
 use Rattle.j39_node.specs.declared.controller.Controller.{Controller}
 use Rattle.j39_node.specs.declared.kinds.AskEnding.{AskEnding}
 use Rattle.j39_node.specs.declared.kinds.AskEnding.TheVariants.{TimedOut, Withdrawn}
-use Rattle.j39_node.specs.History.{Who, Call, address_after, is_lost, moment, sent}
+use Rattle.j39_node.specs.History.{reached, Who, Call, address_after, is_lost, moment, sent}
 use Rattle.j39_node.specs.History.Call.{At, TakeAskEnded}
 use Rattle.j39_node.specs.History.Act.{Hear, Tick}
 use Rattle.j39_node.specs.Reception.{Reception, heard_at, is_over, reception, receiver_at, session_tick, ticked_at, time_heard}
@@ -122,7 +122,7 @@ request_ends w H c now t answer e l is = go (open_ask H) (ended w H) (comes w H 
         (q, o, is.answered.1 ∙ over_told w (At now Tick ∷ H) q (ended w H) (inl n) o k (omega (arith, m, l)) (none_comes w H now d))
 
     go : (o : Option Question) (h : Option AskEnding) (d : Bool) → open_ask H ≡ o → ended w H ≡ h → comes w H (time_heard H) ≡ d
-        → out_at (is_waiting o (length (sent H)) h d) (moment H) (wait H) ≡ Some t → Goal
+        → out_at (is_waiting o (reached H) h d) (moment H) (wait H) ≡ Some t → Goal
     go None h d i j k z = absurd (cc)
     go (Some q) (Some x) d i j k z = absurd (cc)
     go (Some q) None d i j k z = by (is_taken q H) d (nat_lt (moment H + wait H) 10000000000000000) refl k z
@@ -160,7 +160,7 @@ none_ends w H now l m q =
     let d = before_each now (hearing_tick w H) (request_tick w H) b.1 in
     let f = time_fits H in
     let e = stays_heard (time_heard H) (time_heard (At now Tick ∷ H)) (hearing w H) (omega (arith, f)) (tick_keeps w H now l m d.0) in
-    (λ i. ask_end (open_ask H) (length (sent H)) (ended w H) (wait H - (now - moment H))
+    (λ i. ask_end (open_ask H) (reached H) (ended w H) (wait H - (now - moment H))
     (is_coming (open_ask H) (in_session (tick_waits w H now l m b.0 i).session) (e i)) (lost_older (now - moment H) (address_after w H) i))
     ∙ go (open_ask H) (ended w H) (comes w H (time_heard H)) d.1
   where
@@ -183,8 +183,8 @@ none_ends w H now l m q =
         by true g = k (moment H + wait H) (ap (λ (b : Bool). if b then Some (moment H + wait H) else None) g)
         by false g = let z = ltb-false _ _ g in omega (arith, z, m)
 
-    go : (o : Option Question) (h : Option AskEnding) (d : Bool) → ((t : ℕ) → out_at (is_waiting o (length (sent H)) h d) (moment H) (wait H) ≡ Some t → now < t)
-        → ask_end o (length (sent H)) h (wait H - (now - moment H)) d lost ≡ ask_end o (length (sent H)) h (wait H) d lost
+    go : (o : Option Question) (h : Option AskEnding) (d : Bool) → ((t : ℕ) → out_at (is_waiting o (reached H) h d) (moment H) (wait H) ≡ Some t → now < t)
+        → ask_end o (reached H) h (wait H - (now - moment H)) d lost ≡ ask_end o (reached H) h (wait H) d lost
     go None h d k = refl
     go (Some p) (Some x) d k = refl
     go (Some p) None d k = ap (option_map (λ (x : AskEnding). (let y : ℕ × AskEnding = (p.token, x) in y))) (same (is_taken p H) d k)

@@ -15,7 +15,7 @@ use Rattle.j39_transport.specs.Reception.{ReceptionRecord, answers, limit_of}
 use Rattle.j39_transport.specs.Receiving.{ReceiverRecord, RecvResult, Heard, Tick as Ticks, partner_of, recv_step, result_of, said_to}
 use Rattle.j39_transport.specs.ReceiverStands.{WasHanded}
 use Rattle.j39_transport.specs.Signals.{Signal, Abort, Packet}
-use Rattle.j39_node.specs.History.{Who, Message, Call, accepted, acknowledged, due, holds, asks_with, is_claim, is_session, is_smaller, is_some, is_transfer, message_of, sent, stamp_at, of_other, is_acknowledgment}
+use Rattle.j39_node.specs.History.{reached, Who, Message, Call, accepted, acknowledged, due, holds, asks_with, is_claim, is_session, is_smaller, is_some, is_transfer, message_of, sent, stamp_at, of_other, is_acknowledgment}
 use Rattle.j39_node.specs.History.Call.{At, ReleaseTransfer}
 use Rattle.j39_node.specs.History.Act.{Hear, Tick, TakeFrame}
 
@@ -333,7 +333,7 @@ pub record CameFromOne (w : Who) (H : List Call) (m : MessageRecord) : Type 0 wh
 -- a message, an acknowledgment or a reply waits
 abbrev pub is_waiting : Who → List Call → Bool
 is_waiting w H =
-    nat_lt (length (sent H)) (length (accepted w H)) || (nat_lt (length (acknowledged H)) (length (due w H))
+    nat_lt (reached H) (length (accepted w H)) || (nat_lt (length (acknowledged H)) (length (due w H))
     || nat_lt 0 (length (reception w H).replies))
 
 -- the first moment at which a tick says something, by when the last one was

@@ -7,7 +7,7 @@ ghost use Rattle.j39_node.specs.declared.kinds.Ending.{Ending};
 ghost use Rattle.j39_node.specs.declared.kinds.TransferEnding.{TransferEnding};
 ghost use Rattle.j39_node.specs.declared.kinds.TransferEnding.TheVariants as ending;
 ghost use Rattle.j39_frame.specs.Frame.{FrameRecord};
-ghost use Rattle.j39_node.specs.History.{Who, Call, Draft, accepted, address_after, broadcast_from, has_packets, is_held, is_lost, is_packet, sent, told};
+ghost use Rattle.j39_node.specs.History.{reached, Who, Call, Draft, accepted, address_after, broadcast_from, has_packets, is_held, is_lost, is_packet, sent, told};
 ghost use Rattle.j39_node.specs.History.Call.{At};
 ghost use Rattle.j39_node.specs.History.Act.{Ask, Broadcast, Send, TakeFrame, Transfer};
 ghost use Rattle.j39_node.specs.Is.{AreAnswered, Is, next_broadcast_ended, next_ended};
@@ -47,7 +47,7 @@ pub fn message_ends()
     ensures sent { (w : Who) (later earlier : List Call) (c : Controller) (g now k : ℕ) (d : Draft)
         → Is w (later ++ At now (Send d (Ok k)) ∷ earlier) c → IsPrompt g later (At now (Send d (Ok k)) ∷ earlier)
         → g < passed_in later (At now (Send d (Ok k)) ∷ earlier)
-        → (k < length (sent (later ++ At now (Send d (Ok k)) ∷ earlier)))
+        → (k < reached (later ++ At now (Send d (Ok k)) ∷ earlier))
         ⊎ IsTrue (is_lost (address_after w (later ++ At now (Send d (Ok k)) ∷ earlier))) }
     ensures sent_told { (w : Who) (later earlier : List Call) (c : Controller) (g now k : ℕ) (d : Draft)
         → Is w (later ++ At now (Send d (Ok k)) ∷ earlier) c → IsPrompt g later (At now (Send d (Ok k)) ∷ earlier)
@@ -57,7 +57,7 @@ pub fn message_ends()
     ensures asked { (w : Who) (later earlier : List Call) (c : Controller) (g now group to k : ℕ)
         → Is w (later ++ At now (Ask group to (Ok k)) ∷ earlier) c → IsPrompt g later (At now (Ask group to (Ok k)) ∷ earlier)
         → g < passed_in later (At now (Ask group to (Ok k)) ∷ earlier)
-        → (k < length (sent (later ++ At now (Ask group to (Ok k)) ∷ earlier)))
+        → (k < reached (later ++ At now (Ask group to (Ok k)) ∷ earlier))
         ⊎ IsTrue (is_lost (address_after w (later ++ At now (Ask group to (Ok k)) ∷ earlier))) }
     ensures asked_told { (w : Who) (later earlier : List Call) (c : Controller) (g now group to k : ℕ)
         → Is w (later ++ At now (Ask group to (Ok k)) ∷ earlier) c → IsPrompt g later (At now (Ask group to (Ok k)) ∷ earlier)
@@ -91,11 +91,11 @@ pub fn packets_go()
 pub fn messages_go()
     ensures sent { (w : Who) (later earlier : List Call) (c : Controller) (g k : ℕ) → Is w (later ++ earlier) c
         → IsTrue (is_held (address_after w earlier)) → k < length (accepted w earlier) → IsSteady g later earlier
-        → (k - length (sent earlier) + packets_taken later + 1) * (6 * g) < passed_in later earlier
-        → (k < length (sent (later ++ earlier))) ⊎ IsTrue (is_lost (address_after w (later ++ earlier))) }
+        → (k - reached earlier + packets_taken later + 1) * (6 * g) < passed_in later earlier
+        → (k < reached (later ++ earlier)) ⊎ IsTrue (is_lost (address_after w (later ++ earlier))) }
     ensures told { (w : Who) (later earlier : List Call) (c : Controller) (g k : ℕ) → Is w (later ++ earlier) c
         → IsTrue (is_held (address_after w earlier)) → k < length (accepted w earlier) → IsSteady g later earlier
-        → (k - length (sent earlier) + packets_taken later + 1) * (6 * g) < passed_in later earlier
+        → (k - reached earlier + packets_taken later + 1) * (6 * g) < passed_in later earlier
         → length (told (later ++ earlier)) ≤ k
         → (e : Ending) × (next_ended w (later ++ earlier) ≡ Some (length (told (later ++ earlier)), e)) }
 {}
