@@ -11,11 +11,11 @@ use Rattle.j39_node.specs.declared.kinds.Ending.{Ending}
 use Rattle.j39_node.specs.declared.kinds.News.TheVariants.{AddressLost, AnotherAtAddress, MessagesMissed, NameDoubled}
 use Rattle.j39_node.specs.declared.kinds.Refused.TheVariants.{NoAddress, BadValue, Full}
 use Rattle.j39_node.specs.Aside.{IsAside}
-use Rattle.j39_node.specs.History.{reached, fresh, is_refusal_due, yields, is_left, patience, turns, Who, Message, Call, Address, Asked, accepted, acknowledged, acknowledgment, address_after, another_news, asked, asked_group, asked_with, broadcast_from, broadcasts, calls_for_claim, can_broadcast, can_send, claim_address, claim_from, claimed, due, got, handed, holds, is_acknowledgment, is_another, is_claim, is_for_program, is_held, is_lost, is_open, is_packet, is_session, is_smaller, is_transfer, kept, lost_news, message_from, message_of, missed_news, moment, older, open_broadcast, owes_claim, packets, pause, request_for, requests, sent, step, told, with_refusal, with_request, delayed, of_other, doubled_news, double, latest, marks, past, blank}
+use Rattle.j39_node.specs.History.{reached, fresh, is_refusal_due, is_left, patience, turns, Who, Message, Call, Address, Asked, accepted, acknowledged, acknowledgment, address_after, another_news, asked, asked_group, asked_with, broadcast_from, broadcasts, calls_for_claim, can_broadcast, can_send, claim_address, claim_from, claimed, due, got, handed, holds, is_acknowledgment, is_another, is_claim, is_for_program, is_held, is_lost, is_open, is_packet, is_session, is_smaller, is_transfer, kept, lost_news, message_from, message_of, missed_news, moment, older, open_broadcast, owes_claim, packets, pause, request_for, requests, sent, step, told, with_refusal, with_request, delayed, of_other, doubled_news, double, latest, marks, past, blank}
 use Rattle.j39_node.specs.History.Address.{Lost}
 use Rattle.j39_node.specs.History.Call.{At, TakeAskEnded, TakeEnded, TakeReceived, TakeRequest, TakeNews, TakeBroadcastEnded, ReleaseTransfer, TakeTransferEnded, ReleaseBroadcast, Renew, Withdraw}
 use Rattle.j39_node.specs.History.Act.{Ask, Hear, Tick, TakeFrame, Send, Acknowledge, Broadcast, Transfer, Again}
-use Rattle.j39_node.specs.Reception.{Reception, has_place, heard_at, heard_by, held_then, holder, later, leaves, left, reception, released_by, taken_by, ticked, time_heard, whole_by, is_message, asks_claims, called, calls_claims, claimed_again, known, still, is_reply, is_that}
+use Rattle.j39_node.specs.Reception.{yields, Reception, has_place, heard_at, heard_by, held_then, holder, later, leaves, left, reception, released_by, taken_by, ticked, time_heard, whole_by, is_message, asks_claims, called, calls_claims, claimed_again, known, still, is_reply, is_that}
 use Rattle.j39_node.specs.Hearing.{OpenBroadcast, announces, breaks, changes, ends_by, found, hearing, hears as hears_it, in_time, is_out, is_over, is_unheard, left as leaves_it, newly, packs, unheard_news, whole_of}
 use Rattle.j39_node.specs.Transfers.{Running, age, begun, can_transfer, clock, hears_if, holds_back, is_engaged, is_replaced, joined, open_transfer, rest, resting, rests_after, sends_if, transfer_by, transfer_end, transfers}
 use Rattle.j39_node.specs.History.{Resting}
@@ -87,7 +87,7 @@ state w H = record {
   address = address_after w H;
   owes = owes_claim w H;
   turns = turns H;
-  yields = yields H;
+  yields = yields w H;
   patience = patience w H;
   delay = delayed w H;
   accepted = accepted w H;
@@ -190,7 +190,7 @@ takes_with now f holds s = record (passes now s) {
   address = if is_claim f then claimed (older (now - s.moment) s.address) else older (now - s.moment) s.address;
   owes = if is_claim f then false else s.owes;
   turns = if is_claim f || is_acknowledgment f then suc s.turns else 0;
-  yields = if is_claim f || is_acknowledgment f then s.yields else is_transfer f;
+  yields = if is_claim f || is_acknowledgment f then s.yields else is_reply s.reception.replies f;
   reached = if is_claim f || (is_acknowledgment f || is_session f) then s.reached else past s.marks (suc s.reached);
   packets = if is_packet f then s.packets ++ message_of f ∷ [] else s.packets;
   pause = if is_packet f then 150000 else s.pause - (now - s.moment);

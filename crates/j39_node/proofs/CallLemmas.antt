@@ -31,12 +31,12 @@ use Rattle.j39_transport.specs.Reception.{ReceptionRecord}
 use Rattle.j39_node.specs.Asking.{comes, in_broadcast, in_session, is_coming, made, made_of, ended, has_token, open_ask, wait}
 use Rattle.j39_node.proofs.AskLemmas.{ask_heard, ask_more, ask_same, takes, token_of, wait_more, wait_same, ask_withdrawn}
 use Rattle.j39_node.specs.Is.{AskRecord, made_by, asking_of, hears_with, silence, claim_due, next_renewed, Renews, may_go, next_withdrawn, place_of, ending_of, AreAnswered}
-use Rattle.j39_node.specs.Hold.{acknowledged as hold_acknowledged, claimed as hold_claimed, rested, spoken as hold_spoken, asked as hold_asked, standing_of, less, passed, heard, claims, paused, stands, lost, left_at, opens as hold_opens, can_claim, unclaims, anew}
-use Rattle.j39_node.specs.History.{reached, nothing, patience, turns, Who, Message, Draft, Call, Address, message_of, older, claimed, address_after, holds, is_lost, is_held, is_smaller, claim_address, claim_from, owes_claim, calls_for_claim, can_send, message_from, accepted, sent, told, is_full, step, moment, is_for_program, kept, got, missed, Asked, asked, acknowledgment, acknowledged, due, handed, requests, is_served, with_request, with_refusal, stamp_at, held_at, told_claims, is_another, is_acknowledgment, is_claim, lost_news, another_news, missed_news, broadcasts, broadcast_from, can_broadcast, has_packets, is_busy, is_left, is_open, is_packet, open_broadcast, packets, pause, asks_with, is_session, yields, content, is_transfer, fresh, is_refusal_due, delayed, is_double, may_claim, double, unclaimed, latest, marks, past, blank, is_blank}
+use Rattle.j39_node.specs.Hold.{acknowledged as hold_acknowledged, claimed as hold_claimed, rested, spoken as hold_spoken, went as hold_went, asked as hold_asked, standing_of, less, passed, heard, claims, paused, stands, lost, left_at, opens as hold_opens, can_claim, unclaims, anew}
+use Rattle.j39_node.specs.History.{reached, nothing, patience, turns, Who, Message, Draft, Call, Address, message_of, older, claimed, address_after, holds, is_lost, is_held, is_smaller, claim_address, claim_from, owes_claim, calls_for_claim, can_send, message_from, accepted, sent, told, is_full, step, moment, is_for_program, kept, got, missed, Asked, asked, acknowledgment, acknowledged, due, handed, requests, is_served, with_request, with_refusal, stamp_at, held_at, told_claims, is_another, is_acknowledgment, is_claim, lost_news, another_news, missed_news, broadcasts, broadcast_from, can_broadcast, has_packets, is_busy, is_left, is_open, is_packet, open_broadcast, packets, pause, asks_with, is_session, content, is_transfer, fresh, is_refusal_due, delayed, is_double, may_claim, double, unclaimed, latest, marks, past, blank, is_blank}
 use Rattle.j39_node.specs.History.Call.{At, TakeEnded, TakeRequest, TakeTransferEnded, Renew, Withdraw}
 use Rattle.j39_node.specs.History.Act.{Hear, Tick, TakeFrame, Send, Acknowledge, Broadcast, Transfer, Again}
 use Rattle.j39_node.proofs.ReceptionLaws.{made_is}
-use Rattle.j39_node.specs.Reception.{has_place, IsApart, heard_at, heard_by, holder, is_same, is_waiting, later, leaves, left, reception, time_heard, whole, known, asks_claims, called, claimed_again, is_message, restarts, still, is_reply}
+use Rattle.j39_node.specs.Reception.{yields, has_place, IsApart, heard_at, heard_by, holder, is_same, is_waiting, later, leaves, left, reception, time_heard, whole, known, asks_claims, called, claimed_again, is_message, restarts, still, is_reply}
 use Rattle.j39_node.specs.declared.incoming.Incoming.{Incoming}
 use Rattle.j39_node.specs.declared.incoming.Said.{Said}
 use Rattle.j39_address.specs.declared.claims.Claims.{Claims}
@@ -82,7 +82,7 @@ pub record Passed (w : Who) (H : List Call) (now : ℕ) (h : Hold) : Type 0 wher
   pub standing : h.standing ≡ standing_of (older (step H now) (address_after w H))
   pub owes : h.owes_claim ≡ owes_claim w H
   pub turns : h.turns ≡ min (turns H) 2
-  pub yields : h.yields ≡ yields H
+  pub yields : h.yields ≡ yields w H
   pub patience : h.patience ≡ patience w H - step H now
   pub delay : h.delay ≡ delayed w H - step H now
   pub pause : h.pause ≡ pause H - step H now
@@ -254,12 +254,12 @@ turns_more H now f t e g = more (turns H) t g ∙ ap (λ (b : Bool). min (if b t
     more n t g = omega (arith, g)
 
 -- whether replies yield then
-yields_same : (H : List Call) (now : ℕ) (f : FrameRecord) (y : Bool) → (is_claim f || is_acknowledgment f) ≡ true → y ≡ yields H → y ≡ yields (At now (TakeFrame (Some f)) ∷ H)
-yields_same H now f y e g = g ∙ ap (λ (b : Bool). if b then yields H else is_transfer f) (sym e)
+yields_same : (w : Who) (H : List Call) (now : ℕ) (f : FrameRecord) (y : Bool) → (is_claim f || is_acknowledgment f) ≡ true → y ≡ yields w H → y ≡ yields w (At now (TakeFrame (Some f)) ∷ H)
+yields_same w H now f y e g = g ∙ ap (λ (b : Bool). if b then yields w H else is_reply (reception w H).replies f) (sym e)
 
-yields_now : (H : List Call) (now : ℕ) (f : FrameRecord) (y : Bool) → is_claim f ≡ false → is_acknowledgment f ≡ false → is_transfer f ≡ y
-    → y ≡ yields (At now (TakeFrame (Some f)) ∷ H)
-yields_now H now f y n l e = sym e ∙ ap (λ (b : Bool). if b then yields H else is_transfer f) (sym (ap (λ (b : Bool). b || is_acknowledgment f) n ∙ l))
+yields_now : (w : Who) (H : List Call) (now : ℕ) (f : FrameRecord) (y : Bool) → is_claim f ≡ false → is_acknowledgment f ≡ false → is_reply (reception w H).replies f ≡ y
+    → y ≡ yields w (At now (TakeFrame (Some f)) ∷ H)
+yields_now w H now f y n l e = sym e ∙ ap (λ (b : Bool). if b then yields w H else is_reply (reception w H).replies f) (sym (ap (λ (b : Bool). b || is_acknowledgment f) n ∙ l))
 
 owes_same : (w : Who) (H : List Call) (now : ℕ) (f : FrameRecord) → is_claim f ≡ false → owes_claim w H ≡ owes_claim w (At now (TakeFrame (Some f)) ∷ H)
 owes_same w H now f n = ap (λ (b : Bool). if b then false else owes_claim w H) (sym n)
@@ -396,7 +396,7 @@ taken w H old new now (Some f) x mid h p owes held none turn g m e d request cal
         ap Some k ∙ sym (next_is w H now None (Some (posted x).1) owes held none
             (other_is w H now (Some Single) (sym (turn_next w H old now mid h p held) ∙ turn) ∙ ap (option_map content) i)),
       );
-      hold = a3 ∙ is_hold _ _ (turns_same H now f n l) (yields_now H now f false n l (no_transfer f one)) p.patience p.delay p.rest p.moment (p.standing ∙ ap standing_of (sym (address_is w H now f false n))) (p.owes ∙ owes_same w H now f n) (p.pause ∙ sym (pause_is H now f false (no_packet f one))) p.age
+      hold = a3 ∙ is_hold _ _ (turns_same H now f n l) (yields_now w H now f false n l (no_reply (reception w H).replies f (no_transfer f one))) p.patience p.delay p.rest p.moment (p.standing ∙ ap standing_of (sym (address_is w H now f false n))) (p.owes ∙ owes_same w H now f n) (p.pause ∙ sym (pause_is H now f false (no_packet f one))) p.age
           (ap (λ (k : ℕ). if request then 1250000 else k) p.wait
           ∙ wait_more w H now x.token f request n l one number (a2 ∙ ap (λ (o : Option AskRecord). has_token (option_map (λ (y : AskRecord). y.question) o) x.token) h.asking));
       asking = a1 ∙ (ap (option_map (takes x.token)) h.asking ∙ ask_more w H now x.token f h.answered number more);
@@ -463,7 +463,7 @@ taken_packet w H old new now f mid h p owes held none turn m e e0 e1 more =
             i ∙ sym (next_is w H now None (Some y) owes held none
                 (other_is w H now (Some Packet) (sym (turn_next w H old now mid h p held) ∙ turn) ∙ q)),
           );
-          hold = e0 ∙ is_hold _ _ (turns_same H now f is.0 is.1) (yields_now H now f false is.0 is.1 (packet_session f is.2).1) p.patience p.delay p.rest p.moment (p.standing ∙ ap standing_of (sym (address_is w H now f false is.0))) (p.owes ∙ owes_same w H now f is.0) (sym (pause_is H now f true is.2)) p.age (p.wait ∙ wait_same H now f false false true is.0 is.1 (packet_session f is.2).0 refl);
+          hold = e0 ∙ is_hold _ _ (turns_same H now f is.0 is.1) (yields_now w H now f false is.0 is.1 (no_reply (reception w H).replies f (packet_session f is.2).1)) p.patience p.delay p.rest p.moment (p.standing ∙ ap standing_of (sym (address_is w H now f false is.0))) (p.owes ∙ owes_same w H now f is.0) (sym (pause_is H now f true is.2)) p.age (p.wait ∙ wait_same H now f false false true is.0 is.1 (packet_session f is.2).0 refl);
           outgoing = ap (λ c. map posted c.outgoing.items) e ∙ h.outgoing;
           taken = ap (λ c. c.taken) e ∙ (h.taken ∙ ap (λ (n : ℕ). n - length (told H)) (sym (reached_is H now f false false true is.0 is.1 (packet_session f is.2).0)));
           token = ap (λ c. c.next_token) e ∙ h.token;
@@ -489,7 +489,7 @@ pub taken_transfer : (w : Who) (H : List Call) (old new : Controller) (now : ℕ
     → Some (stamped f) ≡ option_map (at_now now) (transfer_by (port_of old.transfers).current (clock mid.age))
     → new ≡ record old { hold = new.hold; transfers = new.transfers }
     → (port_of new.transfers).current ≡ sends_if true (clock mid.age) (port_of old.transfers).current → new.transfers.next_token ≡ old.transfers.next_token
-    → new.transfers.resting ≡ old.transfers.resting → new.hold ≡ hold_spoken mid → Is w (At now (TakeFrame (Some f)) ∷ H) new
+    → new.transfers.resting ≡ old.transfers.resting → new.hold ≡ hold_went mid → Is w (At now (TakeFrame (Some f)) ∷ H) new
 taken_transfer w H old new now f mid h p owes held none turn u e e0 e1 e2 e3 =
     go (next_transfer w H now) refl (u ∙ ap (option_map (at_now now)) (transfer_next w H old now mid.age h p.age))
   where
@@ -508,7 +508,7 @@ taken_transfer w H old new now f mid h p owes held none turn u e e0 e1 e2 e3 =
             i ∙ sym (next_is w H now None (Some y) owes held none
                 (other_is w H now (Some Move) (sym (turn_next w H old now mid h p held) ∙ turn) ∙ q)),
           );
-          hold = e3 ∙ is_hold _ _ (turns_same H now f is.claim is.plain) (yields_now H now f true is.claim is.plain is.transfer) p.patience p.delay p.rest p.moment (p.standing ∙ ap standing_of (sym (address_is w H now f false is.claim))) (p.owes ∙ owes_same w H now f is.claim)
+          hold = e3 ∙ is_hold _ _ (turns_same H now f is.claim is.plain) (yields_now w H now f false is.claim is.plain (λ i. is.transfer i && apart_is w H now f y q (ap (λ (z : ℕ × Message). z.1) k) due_now i)) p.patience p.delay p.rest p.moment (p.standing ∙ ap standing_of (sym (address_is w H now f false is.claim))) (p.owes ∙ owes_same w H now f is.claim)
               (p.pause ∙ sym (pause_is H now f false is.packet)) p.age (p.wait ∙ wait_same H now f false false true is.claim is.plain is.session refl);
           outgoing = ap (λ c. map posted c.outgoing.items) e ∙ h.outgoing;
           taken = ap (λ c. c.taken) e ∙ (h.taken ∙ ap (λ (n : ℕ). n - length (told H)) (sym (reached_is H now f false false true is.claim is.plain is.session)));
@@ -545,7 +545,7 @@ taken_due w H old new now (Some f) x mid h p owes held next first m e e0 =
       who = ap (λ c. who_of w.brought c.own) e ∙ h.who;
       answered = (h.answered, ap Some k ∙ sym (next_is w H now (Some (refusal_by w x)) _ owes held next refl));
       hold = e0 ∙ is_hold _ _ (turns_more H now f mid.turns (ap (λ (b : Bool). b || is_acknowledgment f) is.0 ∙ is.1) p.turns)
-          (yields_same H now f mid.yields (ap (λ (b : Bool). b || is_acknowledgment f) is.0 ∙ is.1) p.yields) p.patience p.delay p.rest p.moment (p.standing ∙ ap standing_of (sym (address_is w H now f false is.0))) (p.owes ∙ owes_same w H now f is.0) (p.pause ∙ sym (pause_is H now f false (no_packet f is.2))) p.age (p.wait ∙ wait_same H now f false true false is.0 is.1 is.2 refl);
+          (yields_same w H now f mid.yields (ap (λ (b : Bool). b || is_acknowledgment f) is.0 ∙ is.1) p.yields) p.patience p.delay p.rest p.moment (p.standing ∙ ap standing_of (sym (address_is w H now f false is.0))) (p.owes ∙ owes_same w H now f is.0) (p.pause ∙ sym (pause_is H now f false (no_packet f is.2))) p.age (p.wait ∙ wait_same H now f false true false is.0 is.1 is.2 refl);
       outgoing = ap (λ c. map posted c.outgoing.items) e ∙ h.outgoing;
       taken = ap (λ c. c.taken) e ∙ (h.taken ∙ ap (λ (n : ℕ). n - length (told H)) (sym (reached_is H now f false true false is.0 is.1 is.2)));
       token = ap (λ c. c.next_token) e ∙ h.token;
@@ -582,7 +582,7 @@ taken_reply w H old new now (Some f) x mid h p owes held none turn first m e e0 
         ap Some k ∙ sym (next_is w H now None (Some (said_by w.address x)) owes held none
             (other_is w H now (Some Reply) (sym (turn_next w H old now mid h p held) ∙ turn) ∙ at)),
       );
-      hold = e1 ∙ is_hold _ _ (turns_same H now f is.0 is.1) (yields_now H now f true is.0 is.1 (is_directed f is.2 is.3)) p.patience p.delay p.rest p.moment (p.standing ∙ ap standing_of (sym (address_is w H now f false is.0))) (p.owes ∙ owes_same w H now f is.0) (p.pause ∙ sym (pause_is H now f false is.3)) p.age (p.wait ∙ wait_same H now f false false true is.0 is.1 is.2 refl);
+      hold = e1 ∙ is_hold _ _ (turns_same H now f is.0 is.1) (yields_now w H now f true is.0 is.1 (λ i. is_directed f is.2 is.3 i && reply_is w H f _ at (ap (λ (y : ℕ × Message). y.1) k) i)) p.patience p.delay p.rest p.moment (p.standing ∙ ap standing_of (sym (address_is w H now f false is.0))) (p.owes ∙ owes_same w H now f is.0) (p.pause ∙ sym (pause_is H now f false is.3)) p.age (p.wait ∙ wait_same H now f false false true is.0 is.1 is.2 refl);
       outgoing = ap (λ c. map posted c.outgoing.items) e ∙ h.outgoing;
       taken = ap (λ c. c.taken) e ∙ (h.taken ∙ ap (λ (n : ℕ). n - length (told H)) (sym (reached_is H now f false false true is.0 is.1 is.2)));
       token = ap (λ c. c.next_token) e ∙ h.token;
@@ -1429,7 +1429,7 @@ claims_more w H old new now f mid a h p owes e0 m at knows drops left_by broken 
         ap Some j ∙ sym (ap (λ (b : Bool). frame_by b (holds w H now) (next_acknowledgment w H now) (other w H now) (claim_from w (claim_address w (address_after w H))) now) owes),
       );
       hold = e0 ∙ is_hold _ _ (turns_more H now f mid.turns (ap (λ (b : Bool). b || is_acknowledgment f) n) p.turns)
-          (yields_same H now f mid.yields (ap (λ (b : Bool). b || is_acknowledgment f) n) p.yields) p.patience p.delay p.rest p.moment
+          (yields_same w H now f mid.yields (ap (λ (b : Bool). b || is_acknowledgment f) n) p.yields) p.patience p.delay p.rest p.moment
           (ap claims p.standing ∙ (claims_after (older (step H now) (address_after w H)) ∙ ap standing_of (sym (address_is w H now f true n)))) (sym (ap (λ (b : Bool). if b then false else owes_claim w H) n))
           (p.pause ∙ sym (pause_is H now f false (no_packet f (claim_single f n)))) p.age (p.wait ∙ wait_same H now f true _ _ n refl refl refl);
       outgoing = ap (λ c. map posted c.outgoing.items) e ∙ h.outgoing;

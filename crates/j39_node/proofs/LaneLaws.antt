@@ -10,10 +10,10 @@ use Rattle.j39_node.specs.declared.kinds.Ending.TheVariants.{Done, Withdrawn}
 use Rattle.j39_node.specs.declared.kinds.Refused.{Refused}
 use Rattle.j39_node.specs.declared.kinds.Refused.TheVariants.{NoAddress, BadValue, Full}
 use Rattle.j39_node.specs.declared.turn.Turn.TheVariants.{Reply, Single, Packet, Move}
-use Rattle.j39_node.specs.History.{reached, is_held, is_claim, is_acknowledgment, yields, Who, Message, Call, accepted, acknowledged, address_after, all_frames, broadcasts, can_broadcast, due, first_frames, frame_of, has_packets, holds, is_busy, is_left, is_lost, is_open, is_packet, message_of, moment, open_broadcast, packets, pause, sent, step, told_broadcasts}
+use Rattle.j39_node.specs.History.{reached, is_held, is_claim, is_acknowledgment, Who, Message, Call, accepted, acknowledged, address_after, all_frames, broadcasts, can_broadcast, due, first_frames, frame_of, has_packets, holds, is_busy, is_left, is_lost, is_open, is_packet, message_of, moment, open_broadcast, packets, pause, sent, step, told_broadcasts}
 use Rattle.j39_node.specs.History.Call.{At, TakeBroadcastEnded}
 use Rattle.j39_node.specs.History.Act.{TakeFrame, Broadcast}
-use Rattle.j39_node.specs.Reception.{reception}
+use Rattle.j39_node.specs.Reception.{yields, reception}
 use Rattle.j39_node.specs.Is.{is_overdue, is_there, ready, gives_way, next_acknowledgment, AreAnswered, Is, broadcast_end, next_packet, packet_by, long_by, next_frame, next_long}
 use Rattle.j39_node.specs.Transfers.{next_transfer}
 use Rattle.j39_node.specs.Since.{PacketSince, passed_in}
@@ -150,7 +150,7 @@ packed_by w H now f right p = go
           over = x.over;
         }
       where
-        waits : IsTurn (yields H) (ready w H now) (Some Packet) → IsTrue (is_overdue w H now) ⊎ (nat_lt (reached H) (length (accepted w H)) ≡ false)
+        waits : IsTurn (yields w H) (ready w H now) (Some Packet) → IsTrue (is_overdue w H now) ⊎ (nat_lt (reached H) (length (accepted w H)) ≡ false)
         waits (inl o) = inl o
         waits (inr t) = inr t.1
 

@@ -19,10 +19,10 @@ use Rattle.j39_node.specs.declared.kinds.News.{News}
 use Rattle.j39_node.specs.declared.kinds.News.TheVariants.{AddressLost, AnotherAtAddress, MessagesMissed, NameDoubled}
 use Rattle.j39_node.specs.declared.kinds.Refused.{Refused}
 use Rattle.j39_node.specs.declared.kinds.Refused.TheVariants.{NoAddress, BadValue, Full}
-use Rattle.j39_node.specs.History.{reached, fresh, is_refusal_due, refusal_waits, waits_already, is_session, is_transfer, yields, answers_another, calls, is_another, is_acknowledgment, patience, turns, Who, Message, Draft, Call, Address, IsFront, accepted, address_after, can_send, claim_address, claim_from, content, frames, got, heard, holds, is_claim, is_smaller, claimed, is_for_program, is_held, is_lost, is_none, is_own_group, is_some, is_subscribed, kept, message_of, missed, moment, older, owes_claim, sent, step, told, Asked, asked, acknowledgment, acknowledgment_group, acknowledged, due, handed, requests, is_served, with_request, with_refusal, stamp_at, held_at, lost_news, another_news, missed_news, open_broadcast, packets, pause, delayed, unclaimed, Again, may_claim, doubled_news, double, told_claims, is_double, is_larger, calls_for_claim, is_alike, latest, message_from, marks, unblanked, is_blank}
+use Rattle.j39_node.specs.History.{reached, fresh, is_refusal_due, refusal_waits, waits_already, is_session, is_transfer, answers_another, calls, is_another, is_acknowledgment, patience, turns, Who, Message, Draft, Call, Address, IsFront, accepted, address_after, can_send, claim_address, claim_from, content, frames, got, heard, holds, is_claim, is_smaller, claimed, is_for_program, is_held, is_lost, is_none, is_own_group, is_some, is_subscribed, kept, message_of, missed, moment, older, owes_claim, sent, step, told, Asked, asked, acknowledgment, acknowledgment_group, acknowledged, due, handed, requests, is_served, with_request, with_refusal, stamp_at, held_at, lost_news, another_news, missed_news, open_broadcast, packets, pause, delayed, unclaimed, Again, may_claim, doubled_news, double, told_claims, is_double, is_larger, calls_for_claim, is_alike, latest, message_from, marks, unblanked, is_blank}
 use Rattle.j39_node.specs.History.Call.{At, TakeEnded, TakeReceived, TakeRequest, TakeNews, Renew, Withdraw}
 use Rattle.j39_node.specs.History.Act.{Hear, Tick, TakeFrame, Send, Acknowledge, Again}
-use Rattle.j39_node.specs.Reception.{is_move, is_waiting, reception}
+use Rattle.j39_node.specs.Reception.{yields, is_move, is_waiting, reception, is_reply}
 use Rattle.j39_node.proofs.ReceptionLemmas.{replied_get, tidy}
 use Rattle.j39_node.specs.History.Address.{NotClaimed, Claimed, Lost}
 use Rattle.j39_node.specs.Hearing.{unheard_news}
@@ -543,30 +543,30 @@ pub or_false : (a b : Bool) → (a || b) ≡ false → (a ≡ false) × (b ≡ f
 or_false true b e = absurd (cc)
 or_false false b e = (refl, e)
 
--- behind a frame of a session to an address replies yield, as long as no other frame but claims and acknowledgments is taken
-still_yields : (later H : List Call) → NoneTold takes_other later → yields H ≡ true → yields (later ++ H) ≡ true
-still_yields [] H n e = e
-still_yields (At now (TakeFrame (Some f)) ∷ later) H n e = go (is_claim f || is_acknowledgment f) n.0 (still_yields later H n.1 e)
+-- behind a reply the next yields, as long as no other frame but claims and acknowledgments is taken
+still_yields : (w : Who) (later H : List Call) → NoneTold takes_other later → yields w H ≡ true → yields w (later ++ H) ≡ true
+still_yields w [] H n e = e
+still_yields w (At now (TakeFrame (Some f)) ∷ later) H n e = go (is_claim f || is_acknowledgment f) n.0 (still_yields w later H n.1 e)
   where
-    go : (b : Bool) → not b ≡ false → yields (later ++ H) ≡ true → (if b then yields (later ++ H) else is_transfer f) ≡ true
+    go : (b : Bool) → not b ≡ false → yields w (later ++ H) ≡ true → (if b then yields w (later ++ H) else is_reply (reception w (later ++ H)).replies f) ≡ true
     go true i h = h
     go false i h = absurd (cc)
-still_yields (call ∷ later) H n e = still_yields later H n.1 e
+still_yields w (call ∷ later) H n e = still_yields w later H n.1 e
 
-yields_then : (H : List Call) (now : ℕ) (f : FrameRecord) → is_transfer f ≡ true → yields (At now (TakeFrame (Some f)) ∷ H) ≡ true
-yields_then H now f t = go (is_claim f) (is_acknowledgment f) refl refl
+yields_then : (w : Who) (H : List Call) (now : ℕ) (f : FrameRecord) → is_reply (reception w H).replies f ≡ true → yields w (At now (TakeFrame (Some f)) ∷ H) ≡ true
+yields_then w H now f t = go (is_claim f) (is_acknowledgment f) refl refl
   where
     session : is_session f ≡ true
-    session = (and_parts (is_session f) _ t).0
+    session = (and_parts (is_session f) _ (and_parts (is_transfer f) _ t).0).0
 
-    go : (a b : Bool) → is_claim f ≡ a → is_acknowledgment f ≡ b → (if is_claim f || is_acknowledgment f then yields H else is_transfer f) ≡ true
+    go : (a b : Bool) → is_claim f ≡ a → is_acknowledgment f ≡ b → (if is_claim f || is_acknowledgment f then yields w H else is_reply (reception w H).replies f) ≡ true
     go true b p q = absurd (not_both _ (claim_single f p) session)
     go false true p q = absurd (not_both _ (acknowledgment_single f q) session)
-    go false false p q = (λ i. if p i || q i then yields H else is_transfer f) ∙ t
+    go false false p q = (λ i. if p i || q i then yields w H else is_reply (reception w H).replies f) ∙ t
 
 -- and behind it what else is due goes before the next reply
 pub behind_a_reply : (w : Who) (H later : List Call) (c : Controller) (last first : ℕ) (f i : FrameRecord)
-    → Is w (At last (TakeFrame (Some i)) ∷ later ++ At first (TakeFrame (Some f)) ∷ H) c → IsTrue (is_transfer f) → NoneTold takes_other later
+    → Is w (At last (TakeFrame (Some i)) ∷ later ++ At first (TakeFrame (Some f)) ∷ H) c → IsTrue (is_reply (reception w H).replies f) → NoneTold takes_other later
     → (reached (later ++ At first (TakeFrame (Some f)) ∷ H) < length (accepted w (later ++ At first (TakeFrame (Some f)) ∷ H)))
     ⊎ ((next_packet w (later ++ At first (TakeFrame (Some f)) ∷ H) last ≢ None)
     ⊎ IsTrue (is_apart (next_transfer w (later ++ At first (TakeFrame (Some f)) ∷ H) last) (slice_get (reception w (later ++ At first (TakeFrame (Some f)) ∷ H)).replies 0)))
@@ -585,10 +585,10 @@ behind_a_reply w H later c last first f i is t none due_one = go (frame_case w G
       ]
     ]
 
-    yield : IsTurn (yields G) (ready w G last) (Some Reply) → ⊥
+    yield : IsTurn (yields w G) (ready w G last) (Some Reply) → ⊥
     yield x =
         let r = ready w G last in
-        let z = or_false _ _ (sym (ap (λ (y : Bool). y && (r.message || (r.packet || r.transfer))) (still_yields later _ none (yields_then H first f t))) ∙ x.2) in
+        let z = or_false _ _ (sym (ap (λ (y : Bool). y && (r.message || (r.packet || r.transfer))) (still_yields w later _ none (yields_then w H first f t))) ∙ x.2) in
         let y = or_false _ _ z.1 in waits z.0 y.0 y.1
 
     go : FrameCase w G last i → (is_transfer i ≡ false) ⊎ IsTrue (is_move w G i)

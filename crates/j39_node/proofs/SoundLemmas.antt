@@ -17,11 +17,11 @@ use Rattle.j39_node.specs.declared.kinds.Answer.{Answer}
 use Rattle.j39_node.specs.declared.kinds.Answer.TheVariants.{Nack, Busy}
 use Rattle.j39_node.specs.declared.kinds.Refused.{Refused}
 use Rattle.j39_node.specs.declared.kinds.Refused.TheVariants.{NoAddress, BadValue, Full}
-use Rattle.j39_node.specs.History.{reached, fresh, is_refusal_due, turns, yields, has_packets, is_left, Who, Message, Draft, Call, Address, IsFront, Asked, accepted, acknowledged, acknowledgment, acknowledgment_group, address_after, asked, can_send, claim_address, claim_from, claimed, content, due, frame_of, got, handed, holds, is_acknowledgment, is_claim, is_full, is_held, is_lost, is_own_group, is_packet, is_sendable, is_served, is_session, is_smaller, is_some, is_transfer, kept, message_from, message_of, moment, older, open_broadcast, packets, pause, request_for, requests, sent, step, told, with_refusal, with_request, unclaimed, latest, marks, past, unblanked, is_blank, blank}
+use Rattle.j39_node.specs.History.{reached, fresh, is_refusal_due, turns, has_packets, is_left, Who, Message, Draft, Call, Address, IsFront, Asked, accepted, acknowledged, acknowledgment, acknowledgment_group, address_after, asked, can_send, claim_address, claim_from, claimed, content, due, frame_of, got, handed, holds, is_acknowledgment, is_claim, is_full, is_held, is_lost, is_own_group, is_packet, is_sendable, is_served, is_session, is_smaller, is_some, is_transfer, kept, message_from, message_of, moment, older, open_broadcast, packets, pause, request_for, requests, sent, step, told, with_refusal, with_request, unclaimed, latest, marks, past, unblanked, is_blank, blank}
 use Rattle.j39_node.specs.History.Call.{At, TakeEnded, TakeReceived, TakeRequest, Renew, Withdraw, TakeAskEnded}
 use Rattle.j39_node.specs.History.Act.{Ask, Hear, TakeFrame, Send, Acknowledge, Again}
 use Rattle.std.proofs.lemmas.Slice.Eq.{bytes_eq-Decides}
-use Rattle.j39_node.specs.Reception.{is_move, is_same, is_that, reception}
+use Rattle.j39_node.specs.Reception.{yields, is_move, is_same, is_that, reception}
 use Rattle.j39_node.proofs.ReceptionLemmas.{IsReply, replied_get, tidy}
 use Rattle.j39_node.specs.History.Address.{NotClaimed, Claimed, Lost}
 use Rattle.j39_node.specs.Is.{is_apart, claim_goes, gives_way, is_there, is_turn, next_acknowledgment, next_other, next_turn, other, ready, turn_frame, turn_of, AreAnswered, IsAnswered, control_of, stamped, packet_by, next_packet, next_frame, next_ended, end_of, answer_to_send, claim_due, next_renewed, next_withdrawn, may_go}
@@ -187,8 +187,8 @@ turn_is y r = go y r.overdue r.reply r.message r.packet r.transfer
     go y false false false false true = (record { overdue = refl; message = refl; packet = refl }, refl, inl refl)
     go y false false false false false = (record { overdue = refl; message = refl; packet = refl }, refl, refl)
 
-pub turned : (w : Who) (H : List Call) (now : ℕ) (t : Option Turn) → next_turn w H now ≡ t → IsTurn (yields H) (ready w H now) t
-turned w H now t e = subst (IsTurn (yields H) (ready w H now)) e (turn_is (yields H) (ready w H now))
+pub turned : (w : Who) (H : List Call) (now : ℕ) (t : Option Turn) → next_turn w H now ≡ t → IsTurn (yields w H) (ready w H now) t
+turned w H now t e = subst (IsTurn (yields w H) (ready w H now)) e (turn_is (yields w H) (ready w H now))
 
 -- a frame of the open broadcast that is due is next of it
 pub packet_there : (o : Option (ℕ × MessageRecord)) (i left : ℕ) → is_there (packet_by o i left) ≡ (is_left o i && nat_le left 100000)
@@ -254,7 +254,7 @@ frame_there w H now = go (next_turn w H now) (turned w H now _ refl) _ _ _ _ ref
     due_packet : (ready w H now).packet ≡ true → next_packet w H now ≡ None → ⊥
     due_packet e = not_there _ (packet_there (open_broadcast w H) (length (packets H)) (pause H - step H now) ∙ e)
 
-    go : (t : Option Turn) → IsTurn (yields H) (ready w H now) t → (r : Option Message) (o : Option (ℕ × Message)) (y z : Option Message)
+    go : (t : Option Turn) → IsTurn (yields w H) (ready w H now) t → (r : Option Message) (o : Option (ℕ × Message)) (y z : Option Message)
         → slice_get (reception w H).replies 0 ≡ r → slice_get (accepted w H) (reached H) ≡ o → next_packet w H now ≡ y → next_transfer w H now ≡ z
         → is_turn t ≡ is_there (turn_frame t r o y z)
     go None h r o y z a b c d = refl
@@ -268,7 +268,7 @@ frame_there w H now = go (next_turn w H now) (turned w H now _ refl) _ _ _ _ ref
 pub none_other : (w : Who) (H : List Call) (now : ℕ) → other w H now ≡ None → Rest w H now × (next_transfer w H now ≡ None)
 none_other w H now e = go (next_turn w H now) (turned w H now _ refl) (frame_there w H now ∙ ap is_there e)
   where
-    go : (t : Option Turn) → IsTurn (yields H) (ready w H now) t → is_turn t ≡ false → Rest w H now × (next_transfer w H now ≡ None)
+    go : (t : Option Turn) → IsTurn (yields w H) (ready w H now) t → is_turn t ≡ false → Rest w H now × (next_transfer w H now ≡ None)
     go None h f =
         let r = none_at (reception w H).replies 0 h.2 in
         let n = nothing_else w H now h.0 in

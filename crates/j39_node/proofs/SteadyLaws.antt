@@ -9,12 +9,12 @@ use Rattle.j39_node.specs.declared.controller.Controller.{Controller}
 use Rattle.j39_node.specs.declared.kinds.Ending.{Ending}
 use Rattle.j39_node.specs.declared.turn.Ready.{Ready}
 use Rattle.j39_node.specs.declared.turn.Turn.TheVariants.{Reply, Single, Packet, Move}
-use Rattle.j39_node.specs.History.{reached, Who, Message, Call, accepted, address_after, broadcast_from, broadcasts, due, has_packets, holds, is_acknowledgment, is_claim, is_held, is_left, is_lost, is_open, is_packet, is_session, is_transfer, message_of, moment, older, open_broadcast, packets, pause, sent, step, told, turns, yields, marks}
+use Rattle.j39_node.specs.History.{reached, Who, Message, Call, accepted, address_after, broadcast_from, broadcasts, due, has_packets, holds, is_acknowledgment, is_claim, is_held, is_left, is_lost, is_open, is_packet, is_session, is_transfer, message_of, moment, older, open_broadcast, packets, pause, sent, step, told, turns, marks}
 use Rattle.j39_node.specs.History.Call.{At, TakeBroadcastEnded}
 use Rattle.j39_node.specs.History.Act.{Broadcast, Hear, TakeFrame, Again}
 use Rattle.j39_node.specs.Is.{AreAnswered, Is, IsAnswered, claim_goes, gives_way, is_overdue, is_there, is_turn, next_broadcast_ended, next_ended, next_frame, next_other, next_turn, other, ready, turn_of}
 use Rattle.j39_node.specs.Prompt.{IsPrompt, waited_in, IsSteady, NoneTold, packets_taken, since_take, tells_broadcast, claims_anew}
-use Rattle.j39_node.specs.Reception.{reception}
+use Rattle.j39_node.specs.Reception.{yields, reception, is_reply}
 use Rattle.j39_node.specs.Since.{passed_in}
 use Rattle.j39_node.proofs.LaneLaws.{overdue_goes_by, taken_packet_of}
 use Rattle.j39_node.proofs.LaneLemmas.{BroadcastCase, broadcast_case}
@@ -23,8 +23,8 @@ use Rattle.j39_node.proofs.LawLemmas.{not_both, past_end}
 use Rattle.j39_node.proofs.MessageLaws.{accepts_more, told_next, more_sent}
 use Rattle.j39_node.proofs.PromptLaws.{answered_from, ends_by, keeps_heard, keeps_taken, lost_heard, lost_taken, pause_most}
 use Rattle.j39_node.proofs.QueueLemmas.{length_one_more}
-use Rattle.j39_node.proofs.ReceptionLemmas.{replied_get, tidy}
-use Rattle.j39_node.proofs.SoundLemmas.{FrameCase, IsTurn, acknowledgment_single, address_is, claim_single, claim_taken, due_get, due_taken, frame_case, frame_there, held_older, is_directed, lost_older, message_taken, no_packet, no_transfer, none_next, none_other, own_of, packet_session, packet_taken, packets_is, pause_is, plain_taken, reply_taken, sent_is, single_taken, some_at, sound, turned, reached_is}
+use Rattle.j39_node.proofs.ReceptionLemmas.{replied_get, tidy, no_reply}
+use Rattle.j39_node.proofs.SoundLemmas.{FrameCase, IsTurn, acknowledgment_single, address_is, claim_single, claim_taken, due_get, due_taken, frame_case, frame_there, held_older, is_directed, lost_older, message_taken, no_packet, no_transfer, none_next, none_other, own_of, packet_session, packet_taken, packets_is, pause_is, plain_taken, reply_taken, sent_is, single_taken, some_at, sound, turned, reached_is, reply_is}
 use Rattle.j39_node.proofs.SoundLemmas.FrameCase.{claims, acknowledges, replies, sends, packs, transfers}
 
 -- ---- of three frames one is neither a claim nor an acknowledgment
@@ -84,8 +84,8 @@ overdue_there : (w : Who) (H : List Call) (now : ℕ) → holds w H now ≡ true
 overdue_there w H now h o =
     ap (λ (b : Bool). is_there (if b then other w H now else None)) h ∙ (sym (frame_there w H now) ∙ first (ready w H now) o)
   where
-    first : (r : Ready) → r.overdue ≡ true → is_turn (turn_of (yields H) r) ≡ true
-    first r e = ap (λ (b : Bool). is_turn (if b then Some Packet else if r.reply && not (yields H && (r.message || (r.packet || r.transfer))) then Some Reply
+    first : (r : Ready) → r.overdue ≡ true → is_turn (turn_of (yields w H) r) ≡ true
+    first r e = ap (λ (b : Bool). is_turn (if b then Some Packet else if r.reply && not (yields w H && (r.message || (r.packet || r.transfer))) then Some Reply
         else if r.message then Some Single else if r.packet then Some Packet else if r.transfer then Some Move else None)) e
 
 pub message_there : (w : Who) (H : List Call) (now : ℕ) → holds w H now ≡ true → reached H < length (accepted w H) → is_there (next_other w H now) ≡ true
@@ -463,7 +463,7 @@ module _ (w : Who) (B : List Call) (g k : ℕ) where
     taken : k < reached (later ++ B) → Waiting later
     away : is_lost (address_after w (later ++ B)) ≡ true → Waiting later
     waits : (n others : ℕ) → reached B + n ≤ reached (later ++ B) → is_held (address_after w (later ++ B)) ≡ true
-        → Counted g n (packets_taken later) others (passed_in later B) (turns (later ++ B)) (since_take later B) (yields (later ++ B)) → Waiting later
+        → Counted g n (packets_taken later) others (passed_in later B) (turns (later ++ B)) (since_take later B) (yields w (later ++ B)) → Waiting later
 
   record Among (later : List Call) : Type 0 where
     pub among : k < length (accepted w (later ++ B))
@@ -477,7 +477,7 @@ module _ (w : Who) (B : List Call) (g k : ℕ) where
   takes_next : (now : ℕ) (f : FrameRecord) (later : List Call) (n others : ℕ) → AreAnswered w (later ++ B) → FrameCase w (later ++ B) now f
       → since_take later B + step (later ++ B) now ≤ g → reached (later ++ B) < length (accepted w (later ++ B))
       → reached B + n ≤ reached (later ++ B) → is_held (address_after w (later ++ B)) ≡ true
-      → Counted g n (packets_taken later) others (passed_in later B) (turns (later ++ B)) (since_take later B) (yields (later ++ B))
+      → Counted g n (packets_taken later) others (passed_in later B) (turns (later ++ B)) (since_take later B) (yields w (later ++ B))
       → Waiting (At now (TakeFrame (Some f)) ∷ later)
   takes_next now f later n others right case p l count held h = go (is_claim f || is_acknowledgment f) refl case
     where
@@ -494,18 +494,18 @@ module _ (w : Who) (B : List Call) (g k : ℕ) where
       there = message_there w (later ++ B) now (held_holds w (later ++ B) now held) l
 
       -- what is counted then
-      counted : (n2 o2 p2 t2 : ℕ) (y2 : Bool) → reached B + n2 ≤ reached G → packets_taken (At now (TakeFrame (Some f)) ∷ later) ≡ p2 → turns G ≡ t2 → yields G ≡ y2
+      counted : (n2 o2 p2 t2 : ℕ) (y2 : Bool) → reached B + n2 ≤ reached G → packets_taken (At now (TakeFrame (Some f)) ∷ later) ≡ p2 → turns G ≡ t2 → yields w G ≡ y2
           → Counted g n2 p2 o2 (passed_in later B + step (later ++ B) now) t2 0 y2 → Waiting (At now (TakeFrame (Some f)) ∷ later)
       counted n2 o2 p2 t2 y2 a b d e x = waits n2 o2 a still
-          (subst (λ (p3 : ℕ). Counted g n2 p3 o2 (passed_in later B + step (later ++ B) now) (turns G) 0 (yields G)) (sym b)
-          (subst (λ (t3 : ℕ). Counted g n2 p2 o2 (passed_in later B + step (later ++ B) now) t3 0 (yields G)) (sym d)
+          (subst (λ (p3 : ℕ). Counted g n2 p3 o2 (passed_in later B + step (later ++ B) now) (turns G) 0 (yields w G)) (sym b)
+          (subst (λ (t3 : ℕ). Counted g n2 p2 o2 (passed_in later B + step (later ++ B) now) t3 0 (yields w G)) (sym d)
           (subst (λ (y3 : Bool). Counted g n2 p2 o2 (passed_in later B + step (later ++ B) now) t2 0 y3) (sym e) x)))
 
       packs_then : (b : Bool) → is_packet f ≡ b → packets_taken (At now (TakeFrame (Some f)) ∷ later) ≡ (if b then suc (packets_taken later) else packets_taken later)
       packs_then b e = ap (λ (b : Bool). if b then suc (packets_taken later) else packets_taken later) e
 
-      yields_then : (b d : Bool) → (is_claim f || is_acknowledgment f) ≡ b → is_transfer f ≡ d → yields G ≡ (if b then yields (later ++ B) else d)
-      yields_then b d e i = λ j. if e j then yields (later ++ B) else i j
+      yields_then : (b d : Bool) → (is_claim f || is_acknowledgment f) ≡ b → is_reply (reception w (later ++ B)).replies f ≡ d → yields w G ≡ (if b then yields w (later ++ B) else d)
+      yields_then b d e i = λ j. if e j then yields w (later ++ B) else i j
 
       -- no fewer messages are passed
       no_fewer : reached B + n ≤ reached G
@@ -516,8 +516,8 @@ module _ (w : Who) (B : List Call) (g k : ℕ) where
       steer a b x y z s =
           let e : (is_claim f || is_acknowledgment f) ≡ true = (λ i. x i || y i) ∙ z in
           let t = few_turns w (later ++ B) now f case there (steers w (later ++ B) now f right case) e in
-          counted n others (packets_taken later) (suc (turns (later ++ B))) (yields (later ++ B)) no_fewer (packs_then false (no_packet f s))
-          (turns_then (later ++ B) now f true e) (yields_then true (is_transfer f) e refl)
+          counted n others (packets_taken later) (suc (turns (later ++ B))) (yields w (later ++ B)) no_fewer (packs_then false (no_packet f s))
+          (turns_then (later ++ B) now f true e) (yields_then true _ e refl)
           (record { few = h.few; late = (let u = h.late in let v = turn_more g (turns (later ++ B)) t in omega (arith, u, v, p)) })
 
       go : (b : Bool) → (is_claim f || is_acknowledgment f) ≡ b → FrameCase w (later ++ B) now f → Waiting (At now (TakeFrame (Some f)) ∷ later)
@@ -528,12 +528,12 @@ module _ (w : Who) (B : List Call) (g k : ℕ) where
           let r = reply_taken w.address f now m e (replied_get w.address (reception w (later ++ B)).replies 0 m (tidy w (later ++ B)).replies x) in
           let y = silent (turned w (later ++ B) now (Some Reply) i.1) in
           counted n (suc others) (packets_taken later) 0 true no_fewer (packs_then false r.3)
-          (turns_then (later ++ B) now f false (λ j. r.0 j || r.1 j)) (yields_then false true (λ j. r.0 j || r.1 j) (is_directed f r.2 r.3))
-          (goes g n (packets_taken later) others _ _ _ (step (later ++ B) now) (yields (later ++ B)) n (packets_taken later) true p
+          (turns_then (later ++ B) now f false (λ j. r.0 j || r.1 j)) (yields_then false true (λ j. r.0 j || r.1 j) (λ j. is_directed f r.2 r.3 j && reply_is w (later ++ B) f m x (ap (λ (y : ℕ × Message). y.1) e) j))
+          (goes g n (packets_taken later) others _ _ _ (step (later ++ B) now) (yields w (later ++ B)) n (packets_taken later) true p
           (let u = h.few in let v = ap one y in omega (arith, u, v)) h)
         where
-          silent : IsTurn (yields (later ++ B)) (ready w (later ++ B) now) (Some Reply) → yields (later ++ B) ≡ false
-          silent t = by (yields (later ++ B)) (lt-ltb _ _ l) t.2
+          silent : IsTurn (yields w (later ++ B)) (ready w (later ++ B) now) (Some Reply) → yields w (later ++ B) ≡ false
+          silent t = by (yields w (later ++ B)) (lt-ltb _ _ l) t.2
             where
               by : (y : Bool) → (ready w (later ++ B) now).message ≡ true → (y && ((ready w (later ++ B) now).message || ((ready w (later ++ B) now).packet || (ready w (later ++ B) now).transfer))) ≡ false → y ≡ false
               by false u v = refl
@@ -543,16 +543,16 @@ module _ (w : Who) (B : List Call) (g k : ℕ) where
           let r0 = message_taken w f now x e own in let r1 = plain_taken w f now x e own in let r2 = single_taken w f now x e own in
           counted (suc n) (suc others) (packets_taken later) 0 false
           (let u = reached_is (later ++ B) now f false false false r0 r1 r2 in let v = past_more (marks (later ++ B)) (suc (reached (later ++ B))) in omega (arith, u, v, count)) (packs_then false (no_packet f r2))
-          (turns_then (later ++ B) now f false (λ j. r0 j || r1 j)) (yields_then false false (λ j. r0 j || r1 j) (no_transfer f r2))
-          (goes g n (packets_taken later) others _ _ _ (step (later ++ B) now) (yields (later ++ B)) (suc n) (packets_taken later) false p
-          (let u = h.few in let v = one_most (yields (later ++ B)) in omega (arith, u, v)) h)
+          (turns_then (later ++ B) now f false (λ j. r0 j || r1 j)) (yields_then false false (λ j. r0 j || r1 j) (no_reply (reception w (later ++ B)).replies f (no_transfer f r2)))
+          (goes g n (packets_taken later) others _ _ _ (step (later ++ B) now) (yields w (later ++ B)) (suc n) (packets_taken later) false p
+          (let u = h.few in let v = one_most (yields w (later ++ B)) in omega (arith, u, v)) h)
       go b z (packs m o q i x e) =
           let r = packet_taken f now m (open_broadcast w (later ++ B)) (length (packets (later ++ B))) (pause (later ++ B) - step (later ++ B) now) e x in
           let s = packet_session f r.2 in
           counted n (suc others) (suc (packets_taken later)) 0 false no_fewer (packs_then true r.2)
-          (turns_then (later ++ B) now f false (λ j. r.0 j || r.1 j)) (yields_then false false (λ j. r.0 j || r.1 j) s.1)
-          (goes g n (packets_taken later) others _ _ _ (step (later ++ B) now) (yields (later ++ B)) n (suc (packets_taken later)) false p
-          (let u = h.few in let v = one_most (yields (later ++ B)) in omega (arith, u, v)) h)
+          (turns_then (later ++ B) now f false (λ j. r.0 j || r.1 j)) (yields_then false false (λ j. r.0 j || r.1 j) (no_reply (reception w (later ++ B)).replies f s.1))
+          (goes g n (packets_taken later) others _ _ _ (step (later ++ B) now) (yields w (later ++ B)) n (suc (packets_taken later)) false p
+          (let u = h.few in let v = one_most (yields w (later ++ B)) in omega (arith, u, v)) h)
       go b z (transfers m o q i x e) = absurd (not_both _ (turned w (later ++ B) now (Some Move) i.1).0.message (lt-ltb _ _ l))
 
   one_later : (call : Call) (later : List Call) → AreAnswered w (later ++ B) → IsAnswered w (later ++ B) call
@@ -619,7 +619,7 @@ module _ (w : Who) (B : List Call) (g k : ℕ) where
           by true z = inl (Rattle.std.proofs.Common.ltb-true _ _ z)
           by false z =
               let y = not_less _ _ z in
-              let f = x.few in let o = one_most (yields (later ++ B)) in
+              let f = x.few in let o = one_most (yields w (later ++ B)) in
               let a = x.late in let b = turn_most g (turns (later ++ B)) in
               let d = most_others g (k - reached B + packets_taken later) others (omega (arith, f, o, y, c)) in
               absurd (omega (arith, a, b, d, l, p))

@@ -384,12 +384,6 @@ is_packet f = is_session f && is_some (destination_of f.id) global_address
 abbrev pub is_transfer : FrameRecord → Bool
 is_transfer f = is_session f && not (is_some (destination_of f.id) global_address)
 
--- the frame that was taken last, but for claims and acknowledgments, was one to an address of a message in packets, as a reply is
-abbrev pub yields : List Call → Bool
-yields [] = false
-yields (At now (TakeFrame (Some f)) ∷ H) = if is_claim f || is_acknowledgment f then yields H else is_transfer f
-yields (call ∷ H) = yields H
-
 -- which of the messages that were accepted were withdrawn
 abbrev pub marks : List Call → List Bool
 marks [] = []

@@ -38,11 +38,11 @@ use Rattle.j39_node.specs.declared.kinds.News.TheVariants.{AddressLost, AnotherA
 use Rattle.j39_node.specs.declared.kinds.Refused.{Refused}
 use Rattle.j39_node.specs.declared.kinds.Refused.TheVariants.{NoAddress, BadValue, Full}
 use Rattle.j39_node.specs.Hold.{standing_of}
-use Rattle.j39_node.specs.History.{reached, Brought, Who, Message, Draft, Call, Address, carried, message_of, moment, address_after, holds, is_lost, claim_address, claim_from, owes_claim, patience, turns, can_send, accepted, sent, told, is_full, got, kept, missed, Asked, requests, handed, due, acknowledged, acknowledgment, told_claims, lost_news, another_news, missed_news, broadcast_from, broadcasts, can_broadcast, frame_of, is_busy, open_broadcast, packets, pause, stamp_at, step, nothing, yields, content, is_blank, has_packets, is_left, delayed, doubled_news, may_claim, latest, message_from}
+use Rattle.j39_node.specs.History.{reached, Brought, Who, Message, Draft, Call, Address, carried, message_of, moment, address_after, holds, is_lost, claim_address, claim_from, owes_claim, patience, turns, can_send, accepted, sent, told, is_full, got, kept, missed, Asked, requests, handed, due, acknowledged, acknowledgment, told_claims, lost_news, another_news, missed_news, broadcast_from, broadcasts, can_broadcast, frame_of, is_busy, open_broadcast, packets, pause, stamp_at, step, nothing, content, is_blank, has_packets, is_left, delayed, doubled_news, may_claim, latest, message_from}
 use Rattle.j39_node.specs.History.Call.{At, Withdraw, TakeAskEnded, TakeEnded, TakeReceived, TakeRequest, TakeNews, TakeBroadcastEnded, ReleaseTransfer, TakeTransferEnded, ReleaseBroadcast, Renew}
 use Rattle.j39_node.specs.History.Act.{Ask, TakeFrame, Send, Acknowledge, Broadcast, Transfer}
 use Rattle.j39_node.specs.History.Address.{NotClaimed, Claimed, Lost}
-use Rattle.j39_node.specs.Reception.{Reception, called, calls_claims, claimed_again, still, time_heard, longest, has_place, heard_at, heard_by, keeps, later, leaves, left, reception, reply_from, ticked, is_that}
+use Rattle.j39_node.specs.Reception.{yields, Reception, called, calls_claims, claimed_again, still, time_heard, longest, has_place, heard_at, heard_by, keeps, later, leaves, left, reception, reply_from, ticked, is_that}
 use Rattle.j39_node.specs.Asking.{Question, answer_to_ask, ended, first, lacks_answer, next_ask_ended, open_ask, question, says_to, silent_end, wait}
 use Rattle.j39_node.specs.declared.kinds.AskEnding.{AskEnding}
 use Rattle.j39_node.specs.declared.asking.Asking.{Asking}
@@ -110,7 +110,7 @@ ready w H now = record {
   transfer = is_apart (next_transfer w H now) (slice_get (reception w H).replies 0);
 }
 
--- what goes first of it. Behind a frame of a session to an address a reply yields to the rest
+-- what goes first of it. Behind a reply the next yields to the rest
 abbrev pub turn_of : Bool → Ready → Option Turn
 turn_of yields r =
     if r.overdue then Some Packet
@@ -121,7 +121,7 @@ turn_of yields r =
     else None
 
 abbrev pub next_turn : Who → List Call → ℕ → Option Turn
-next_turn w H now = turn_of (yields H) (ready w H now)
+next_turn w H now = turn_of (yields w H) (ready w H now)
 
 -- its frame: of a reply, the first that waits; of a message, the first that wasn't taken
 abbrev pub turn_frame : Option Turn → Option Message → Option (ℕ × Message) → Option Message → Option Message → Option Message
@@ -303,7 +303,7 @@ hold_after w H = record {
   standing = standing_of (address_after w H);
   owes_claim = owes_claim w H;
   turns = min (turns H) 2;
-  yields = yields H;
+  yields = yields w H;
   patience = patience w H;
   delay = delayed w H;
   pause = pause H;

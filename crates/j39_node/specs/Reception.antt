@@ -258,6 +258,12 @@ reception w (At now (TakeFrame (Some f)) ∷ H) =
 reception w (ReleaseTransfer answer ∷ H) = released_by answer (reception w H)
 reception w (call ∷ H) = reception w H
 
+-- the frame that was taken last, but for claims and acknowledgments, was a reply
+abbrev pub yields : Who → List Call → Bool
+yields w [] = false
+yields w (At now (TakeFrame (Some f)) ∷ H) = if is_claim f || is_acknowledgment f then yields w H else is_reply (reception w H).replies f
+yields w (call ∷ H) = yields w H
+
 -- no session is open while a message waits
 abbrev pub IsApart : Reception → Type 0
 IsApart r = (r.waits ≡ None) ⊎ (r.session ≡ None)

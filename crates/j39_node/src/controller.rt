@@ -403,7 +403,7 @@ impl Controller {
                 let clock = self.hold.clock();
                 let frame = self.transfers.frame(clock, now)?;
                 self.transfers.taken(clock);
-                self.hold = self.hold.spoken();
+                self.hold = self.hold.went();
                 Some(frame)
             }
         }

@@ -18,10 +18,10 @@ ghost use Rattle.j39_node.specs.declared.kinds.News.{News};
 ghost use Rattle.j39_node.specs.declared.kinds.News.TheVariants as news;
 ghost use Rattle.j39_node.specs.declared.kinds.Refused.{Refused};
 ghost use Rattle.j39_node.specs.declared.kinds.Refused.TheVariants as refused;
-ghost use Rattle.j39_node.specs.History.{reached, Act, Who, is_smaller, Asked, Call, Message, Draft, IsFront, accepted, acknowledgment, acknowledgment_group, asked, asked_group, handed, is_served, requests, lost_news, another_news, missed_news, address_after, answers_another, calls, can_send, claim_address, claim_from, content, acknowledged, due, frames, got, heard, holds, is_held, is_lost, is_subscribed, kept, message_of, missed, moment, owes_claim, sent, step, told, all_frames, broadcasts, can_broadcast, first_frames, frame_of, has_packets, is_acknowledgment, is_claim, is_packet, is_transfer, open_broadcast, packets, told_broadcasts, refusal_waits, waits_already, yields, is_alike, message_from, told_claims, delayed, doubled_news, marks, unblanked, is_blank};
+ghost use Rattle.j39_node.specs.History.{reached, Act, Who, is_smaller, Asked, Call, Message, Draft, IsFront, accepted, acknowledgment, acknowledgment_group, asked, asked_group, handed, is_served, requests, lost_news, another_news, missed_news, address_after, answers_another, calls, can_send, claim_address, claim_from, content, acknowledged, due, frames, got, heard, holds, is_held, is_lost, is_subscribed, kept, message_of, missed, moment, owes_claim, sent, step, told, all_frames, broadcasts, can_broadcast, first_frames, frame_of, has_packets, is_acknowledgment, is_claim, is_packet, is_transfer, open_broadcast, packets, told_broadcasts, refusal_waits, waits_already, is_alike, message_from, told_claims, delayed, doubled_news, marks, unblanked, is_blank};
 ghost use Rattle.j39_node.specs.History.Call.{At, TakeBroadcastEnded, ReleaseTransfer, TakeNews, TakeRequest, TakeAskEnded, TakeEnded, TakeReceived, TakeTransferEnded, Renew, Withdraw};
 ghost use Rattle.j39_node.specs.History.Act.{Acknowledge, Broadcast, Hear, Tick, TakeFrame, Send, Transfer, Again};
-ghost use Rattle.j39_node.specs.Reception.{CameFromOne, delivered, got_transfers, heard_at, holder, is_move, known, listed, reception, session_tick, replied, reply_from, says, time_heard, whole, without};
+ghost use Rattle.j39_node.specs.Reception.{is_reply, yields, CameFromOne, delivered, got_transfers, heard_at, holder, is_move, known, listed, reception, session_tick, replied, reply_from, says, time_heard, whole, without};
 ghost use Rattle.j39_transport.specs.Cutting.{ToSend};
 ghost use Rattle.j39_transport.specs.Receiving.{said_to};
 ghost use Rattle.j39_transport.specs.Signals.{RequestToSend};
@@ -197,8 +197,8 @@ pub fn claims()
 {}
 
 /// Whatever is heard: where two claims or acknowledgments were taken in a row and another frame is due, that goes next. A message
-/// that waits is due, a reply, and a frame of packets whose time has come. Behind a frame of a session to an address, as a reply
-/// is, what else is due, so a message or a frame of packets, goes before the next reply.
+/// that waits is due, a reply, and a frame of packets whose time has come. Behind a reply what else is due, so a message or a frame of
+/// packets, goes before the next.
 pub fn takes_turns()
     ensures others { (w : Who) (H later between : List Call) (c : Controller) (last second first : ℕ) (f g i : FrameRecord) (m : Message)
         → Is w (At last (TakeFrame (Some i)) ∷ between ++ (At second (TakeFrame (Some g)) ∷ later ++ At first (TakeFrame (Some f)) ∷ H)) c
@@ -209,7 +209,8 @@ pub fn takes_turns()
     ensures due { (w : Who) (H : List Call) (now : ℕ) → IsTrue (holds w H now)
         → (reached H < length (accepted w H)) ⊎ (((reception w H).replies ≢ []) ⊎ (next_long w H now ≢ None)) → next_other w H now ≢ None }
     ensures behind_a_reply { (w : Who) (H later : List Call) (c : Controller) (last first : ℕ) (f i : FrameRecord)
-        → Is w (At last (TakeFrame (Some i)) ∷ later ++ At first (TakeFrame (Some f)) ∷ H) c → IsTrue (is_transfer f) → NoneTold takes_other later
+        → Is w (At last (TakeFrame (Some i)) ∷ later ++ At first (TakeFrame (Some f)) ∷ H) c → IsTrue (is_reply (reception w H).replies f)
+        → NoneTold takes_other later
         → (reached (later ++ At first (TakeFrame (Some f)) ∷ H) < length (accepted w (later ++ At first (TakeFrame (Some f)) ∷ H)))
         ⊎ ((next_packet w (later ++ At first (TakeFrame (Some f)) ∷ H) last ≢ None)
         ⊎ IsTrue (is_apart (next_transfer w (later ++ At first (TakeFrame (Some f)) ∷ H) last)
@@ -418,7 +419,7 @@ pub fn replies_mean()
         × (next_acknowledgment w H now ≡ None) }
     ensures before { (w : Who) (H : List Call) (c : Controller) (now : ℕ) (f : FrameRecord) (m : Message)
         → Is w (At now (TakeFrame (Some f)) ∷ H) c → slice_get (reception w H).replies 0 ≡ Some m
-        → is_claim f ≡ false → is_acknowledgment f ≡ false → is_overdue w H now ≡ false → yields H ≡ false → message_of f ≡ m }
+        → is_claim f ≡ false → is_acknowledgment f ≡ false → is_overdue w H now ≡ false → yields w H ≡ false → message_of f ≡ m }
     ensures once { (w : Who) (H : List Call) (now : ℕ) (f : FrameRecord) → is_claim f ≡ false → IsTrue (is_transfer f) → is_move w H f ≡ false
         → (reception w (At now (TakeFrame (Some f)) ∷ H)).replies ≡ drop 1 (reception w H).replies }
     ensures others { (w : Who) (H : List Call) (now : ℕ) (f : FrameRecord) → is_claim f ≡ false

@@ -103,7 +103,7 @@ returns-in_ok-frame-in-Move c = λ w H h.
     taken_transfer w H c.args.self.now _ (stamp_micros c.args.now) c.in_ok-frame-in-Move.frame c.passed-self.result h p o b n t
     (c.in_ok-frame-in-Move.ensures
     ∙ ap (λ (n : ℕ). option_map (at_now (stamp_micros c.args.now)) (transfer_by (port_of c.args.self.now.transfers).current n)) c.clock-clock.ensures)
-    refl (c.taken.ensures.current ∙ ap (λ (n : ℕ). sends_if true n (port_of c.args.self.now.transfers).current) c.clock-clock.ensures) c.taken.ensures.token c.taken.ensures.resting c.spoken-self-in-Move.ensures
+    refl (c.taken.ensures.current ∙ ap (λ (n : ℕ). sends_if true n (port_of c.args.self.now.transfers).current) c.clock-clock.ensures) c.taken.ensures.token c.taken.ensures.resting c.went-self.ensures
 
 pub returns-in_err-frame-in-Move : goal.returns-in_err-frame-in-Move
 returns-in_err-frame-in-Move c = λ w H h.
