@@ -6,7 +6,7 @@ use Rattle.j39_node.specs.declared.asking.Open as asking
 use Rattle.j39_node.specs.declared.outgoing.Outgoing.{Outgoing}
 use Rattle.j39_node.specs.declared.kinds.Refused.{Refused}
 use Rattle.std.specs.Option.{option_map}
-use Rattle.j39_node.specs.History.{reached, Who, Message, Call, accepted, is_full, message_from, request_for, sent, told, told_claims}
+use Rattle.j39_node.specs.History.{reached, Who, Message, Call, accepted, is_full, message_from, request_for, told, told_claims}
 use Rattle.j39_node.specs.History.Call.{At}
 use Rattle.j39_node.specs.History.Act.{Ask}
 use Rattle.j39_node.specs.Asking.{answer_to_ask, ended, is_asking, open_ask, question}

@@ -1,5 +1,5 @@
 -- The laws of requests.
-use Rattle.std.proofs.Common.{◌≡◌, ◌⊎◌, ◌↔◌, ℕ, zero, suc, ◌+◌, ◌-◌, ◌<◌, ◌≤◌, List, [], ◌∷◌, ◌++◌, length, Option, Some, None, Result, Ok, Err, Bool, true, false, not, ◌&&◌, ◌||◌, if◌then◌else◌, nat_eq, nat_lt, refl, sym, ap, ◌∙◌, subst, inl, inr, arith, eqb-true, IsTrue, max, slice_set}
+use Rattle.std.proofs.Common.{◌≡◌, ◌⊎◌, ◌↔◌, ℕ, suc, ◌+◌, ◌-◌, ◌<◌, ◌≤◌, List, [], ◌∷◌, ◌++◌, length, Option, Some, None, Result, Ok, Err, Bool, true, false, not, ◌&&◌, ◌||◌, if◌then◌else◌, nat_eq, nat_lt, refl, sym, ap, ◌∙◌, subst, inl, inr, arith, eqb-true, IsTrue, slice_set}
 use Rattle.std.specs.List.{slice_get}
 use Rattle.std.specs.Option.{option_map}
 use Rattle.j39_frame.specs.Frame.{FrameRecord}
@@ -11,9 +11,9 @@ use Rattle.j39_node.specs.declared.kinds.AskEnding.{AskEnding}
 use Rattle.j39_node.specs.declared.kinds.AskEnding.TheVariants.{Answered, Acknowledged, TimedOut, Withdrawn}
 use Rattle.j39_node.specs.declared.kinds.Refused.{Refused}
 use Rattle.j39_node.specs.declared.kinds.Refused.TheVariants.{NoAddress, BadValue, Full}
-use Rattle.j39_node.specs.History.{reached, Who, Message, Call, accepted, address_after, holds, is_acknowledgment, is_claim, is_full, is_lost, is_session, is_smaller, message_from, message_of, moment, request_for, sent, step, told, marks, past}
-use Rattle.j39_node.specs.History.Call.{At, TakeAskEnded, Renew, Withdraw}
-use Rattle.j39_node.specs.History.Act.{Ask, Hear, Send, TakeFrame, Again}
+use Rattle.j39_node.specs.History.{reached, Who, Call, accepted, address_after, holds, is_acknowledgment, is_claim, is_full, is_lost, is_session, is_smaller, message_from, moment, request_for, step, told, marks, past}
+use Rattle.j39_node.specs.History.Call.{At, TakeAskEnded, Withdraw}
+use Rattle.j39_node.specs.History.Act.{Ask, Hear, TakeFrame, Again}
 use Rattle.j39_address.specs.Claim.{claim_of}
 use Rattle.j39_node.specs.Since.{passed_in}
 use Rattle.j39_node.specs.Reception.{time_heard, is_message}
@@ -21,10 +21,8 @@ use Rattle.j39_node.specs.Asking.{seeks, made, AskedSince, HeardFirst, NoneEnds,
 use Rattle.j39_node.specs.Is.{AreAnswered, Is, IsAnswered}
 use Rattle.j39_node.proofs.AskCases.{AskCase, ask_case, homeless, unfit, busy, asks as accepts}
 use Rattle.j39_node.proofs.QueueLemmas.{get_append, length_one_more}
-use Rattle.j39_node.proofs.SoundLemmas.{both, lost_older, sound, lost_unclaimed, renew_case, grows_on, passes_request, request_stays}
+use Rattle.j39_node.proofs.SoundLemmas.{both, lost_older, sound, lost_unclaimed, grows_on, passes_request, request_stays}
 use Rattle.j39_node.proofs.LawLemmas.{full_from, full_parts, not_both, sent_within, stays_lost, stays_lost_claimed}
-use Rattle.j39_node.proofs.RenewLemmas.{IsLatest, no_request, set_other}
-use Rattle.j39_frame.specs.Network.{request_group}
 
 -- ---- which is open
 

@@ -1,17 +1,16 @@
 -- The open request, a call more.
-use Rattle.std.proofs.Common.{◌≡◌, ℕ, suc, ◌-◌, List, [], ◌∷◌, ◌++◌, length, Option, Some, None, Bool, true, false, not, ◌||◌, ◌&&◌, if◌then◌else◌, nat_eq, nat_lt, refl, sym, ap, ◌∙◌, arith, slice_set}
+use Rattle.std.proofs.Common.{◌≡◌, ℕ, suc, ◌-◌, List, ◌∷◌, Option, Some, None, Bool, true, false, not, ◌||◌, ◌&&◌, if◌then◌else◌, nat_eq, nat_lt, refl, sym, ap, ◌∙◌, arith, slice_set}
 use Rattle.std.specs.Option.{option_map}
 use Rattle.j39_frame.specs.Frame.{FrameRecord}
 use Rattle.j39_node.proofs.WithdrawLemmas.{unpassed}
 use Rattle.j39_node.specs.declared.kinds.AskEnding.{AskEnding}
-use Rattle.j39_node.specs.History.{reached, Who, Message, Call, is_acknowledgment, is_claim, is_session, message_of, sent, step, marks, past}
+use Rattle.j39_node.specs.History.{reached, Who, Call, is_acknowledgment, is_claim, is_session, step, marks, past}
 use Rattle.j39_node.specs.History.Call.{At, Withdraw}
 use Rattle.j39_node.specs.History.Act.{TakeFrame}
 use Rattle.j39_node.specs.Reception.{is_message}
 use Rattle.j39_node.specs.Asking.{Question, end_at, ended, first, has_token, is_asking, is_request, open_ask, wait, ask_end}
 use Rattle.j39_node.specs.Is.{AskRecord, asked_by, asking_after, ended_with, hears_with, silence, AreAnswered}
-use Rattle.j39_node.proofs.SoundLemmas.{sent_is, reached_is, passes_request, request_stays}
-use Rattle.j39_node.proofs.QueueLemmas.{length_one_more}
+use Rattle.j39_node.proofs.SoundLemmas.{reached_is, passes_request, request_stays}
 
 pub no_message : (f : FrameRecord) (a b s : Bool) → is_claim f ≡ a → is_acknowledgment f ≡ b → is_session f ≡ s → not (a || (b || s)) ≡ is_message f
 no_message f a b s e g i = sym (ap (λ (x : Bool). not (x || (is_acknowledgment f || is_session f))) e

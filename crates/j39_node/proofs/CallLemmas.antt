@@ -6,7 +6,7 @@ use Rattle.j39_frame.specs.Frame.{FrameRecord}
 use Rattle.j39_address.specs.Claim.{claim_of}
 use Rattle.j39_address.specs.Claims.{Knows, holder_in}
 use Rattle.j39_transport.specs.Message.{MessageRecord}
-use Rattle.std.proofs.lemmas.List.{drop-map}
+use Rattle.std.proofs.lemmas.List.{drop-map, length-drop, length-set}
 use Rattle.j39_node.specs.declared.kinds.Ending.{Ending}
 use Rattle.j39_node.proofs.WithdrawLemmas.{past_rest}
 use Rattle.j39_node.specs.declared.controller.Controller.{Controller}
@@ -17,7 +17,7 @@ use Rattle.j39_node.specs.declared.lane.Open.{Open}
 use Rattle.j39_node.specs.declared.transfers.Open as transfers
 use Rattle.j39_node.specs.declared.kinds.TransferEnding.{TransferEnding}
 use Rattle.j39_node.specs.declared.outgoing.Outgoing.{Outgoing}
-use Rattle.std.proofs.lemmas.Option.{slice_get_past}
+use Rattle.std.proofs.lemmas.Option.{slice_get_past, slice_get_within}
 use Rattle.j39_node.specs.declared.news.Untold.{Untold}
 use Rattle.j39_node.specs.declared.requests.Due.{Due}
 use Rattle.j39_node.specs.declared.requests.Request.{Request}
@@ -32,7 +32,7 @@ use Rattle.j39_node.specs.Asking.{comes, in_broadcast, in_session, is_coming, ma
 use Rattle.j39_node.proofs.AskLemmas.{ask_heard, ask_more, ask_same, takes, token_of, wait_more, wait_same, ask_withdrawn}
 use Rattle.j39_node.specs.Is.{AskRecord, made_by, asking_of, hears_with, silence, claim_due, next_renewed, Renews, may_go, next_withdrawn, place_of, ending_of, AreAnswered}
 use Rattle.j39_node.specs.Hold.{acknowledged as hold_acknowledged, claimed as hold_claimed, rested, spoken as hold_spoken, went as hold_went, asked as hold_asked, standing_of, less, passed, heard, claims, paused, stands, lost, left_at, opens as hold_opens, can_claim, unclaims, anew}
-use Rattle.j39_node.specs.History.{reached, nothing, patience, turns, Who, Message, Draft, Call, Address, message_of, older, claimed, address_after, holds, is_lost, is_held, is_smaller, claim_address, claim_from, owes_claim, calls_for_claim, can_send, message_from, accepted, sent, told, is_full, step, moment, is_for_program, kept, got, missed, Asked, asked, acknowledgment, acknowledged, due, handed, requests, is_served, with_request, with_refusal, stamp_at, held_at, told_claims, is_another, is_acknowledgment, is_claim, lost_news, another_news, missed_news, broadcasts, broadcast_from, can_broadcast, has_packets, is_busy, is_left, is_open, is_packet, open_broadcast, packets, pause, asks_with, is_session, content, is_transfer, fresh, is_refusal_due, delayed, is_double, may_claim, double, unclaimed, latest, marks, past, blank, is_blank}
+use Rattle.j39_node.specs.History.{reached, nothing, patience, turns, Who, Message, Draft, Call, Address, message_of, older, claimed, address_after, holds, is_lost, is_held, is_smaller, claim_address, claim_from, owes_claim, calls_for_claim, can_send, message_from, accepted, told, is_full, step, moment, is_for_program, kept, got, missed, Asked, asked, acknowledgment, acknowledged, due, handed, requests, is_served, with_request, with_refusal, stamp_at, held_at, told_claims, is_another, is_acknowledgment, is_claim, lost_news, another_news, missed_news, broadcasts, broadcast_from, can_broadcast, has_packets, is_busy, is_left, is_open, is_packet, open_broadcast, packets, pause, asks_with, is_session, content, fresh, is_refusal_due, delayed, is_double, may_claim, double, unclaimed, latest, marks, past, blank, is_blank}
 use Rattle.j39_node.specs.History.Call.{At, TakeEnded, TakeRequest, TakeTransferEnded, Renew, Withdraw}
 use Rattle.j39_node.specs.History.Act.{Hear, Tick, TakeFrame, Send, Acknowledge, Broadcast, Transfer, Again}
 use Rattle.j39_node.proofs.ReceptionLaws.{made_is}
@@ -50,11 +50,11 @@ use Rattle.j39_node.specs.declared.turn.Turn.TheVariants.{Reply, Single, Packet,
 use Rattle.j39_frame.specs.Stamp.{stamp_micros}
 use Rattle.j39_node.specs.Hearing.{IsFit, breaks as breaks_it, hearing, hears as hears_it, is_out, is_unheard, left as leaves_it, made_whole, newly, unheard_news, waiting, whole_of, OpenBroadcast}
 use Rattle.j39_node.proofs.HearingLemmas.{always, broken_news, claimed_on, either_news, hearing_same, heard_on, is_hearing, leaves_on, news_same, missed_one}
-use Rattle.j39_node.proofs.QueueLemmas.{length_one_more, length_map, map_append, length_rest, in_rest, not_in_rest, First, drop_append, length_drop, get_at, get_map, get_within, get_of_drop}
-use Rattle.j39_node.proofs.SoundLemmas.{apart_is, reply_is, IsTurn, frame_there, is_directed, overdue_due, packet_there, some_at, turn_is, turned, sound, own_of, due_get, due_taken, claim_taken, message_taken, plain_taken, sent_is, acknowledged_is, address_is, frame_by, front_length, held_not_lost, holding_not_lost, lost_older, read, single_taken, claim_single, no_packet, packet_session, reply_taken, packet_taken, packets_is, pause_is, no_transfer, transfer_taken, no_move, reply_no_move, is_moved, reached_is, Sound, withdraw_case}
+use Rattle.j39_node.proofs.QueueLemmas.{length_one_more, length_map, map_append, length_rest, in_rest, not_in_rest, First, drop_append, get_at, get_map, get_of_drop}
+use Rattle.j39_node.proofs.SoundLemmas.{apart_is, reply_is, IsTurn, frame_there, is_directed, overdue_due, packet_there, some_at, turn_is, turned, sound, own_of, due_get, due_taken, claim_taken, message_taken, plain_taken, acknowledged_is, address_is, frame_by, front_length, held_not_lost, holding_not_lost, lost_older, read, single_taken, claim_single, no_packet, packet_session, reply_taken, packet_taken, packets_is, pause_is, no_transfer, transfer_taken, no_move, reply_no_move, is_moved, reached_is, Sound, withdraw_case}
 use Rattle.j39_node.proofs.FrameLemmas.{at_now}
 use Rattle.j39_node.proofs.PortLemmas.{clock_is, is_port, port_more, port_same, ported, replaced_is}
-use Rattle.j39_node.proofs.RenewLemmas.{latest_rest, latest_is, set_length, set_rest}
+use Rattle.j39_node.proofs.RenewLemmas.{latest_rest, latest_is, set_rest}
 
 -- ---- the hold
 
@@ -727,7 +727,7 @@ kept_rest : (wanted : Bool) (K unread : List (ℕ × Message)) (n : ℕ) (x : �
     → offered wanted x unread ≡ drop n (if wanted && nat_lt (length K - n) 16 then K ++ x ∷ [] else K)
 kept_rest wanted K unread n x l e =
     ap (offered wanted x) e
-    ∙ (ap (λ (k : ℕ). if wanted && nat_lt k 16 then drop n K ++ x ∷ [] else drop n K) (length_drop n K) ∙ go (wanted && nat_lt (length K - n) 16))
+    ∙ (ap (λ (k : ℕ). if wanted && nat_lt k 16 then drop n K ++ x ∷ [] else drop n K) (length-drop n K) ∙ go (wanted && nat_lt (length K - n) 16))
   where
     go : (b : Bool) → (if b then drop n K ++ x ∷ [] else drop n K) ≡ drop n (if b then K ++ x ∷ [] else K)
     go true = sym (drop_append n K x l)
@@ -736,7 +736,7 @@ kept_rest wanted K unread n x l e =
 missed_rest : (wanted : Bool) (K unread : List (ℕ × Message)) (n m c : ℕ) → unread ≡ drop n K → c ≡ min m 18446744073709551615
     → counted wanted unread c ≡ min (if wanted && not (nat_lt (length K - n) 16) then suc m else m) 18446744073709551615
 missed_rest wanted K unread n m c e f =
-    ap (λ (k : ℕ). if wanted && not (nat_lt k 16) then min (c + 1) 18446744073709551615 else c) (ap length e ∙ length_drop n K)
+    ap (λ (k : ℕ). if wanted && not (nat_lt k 16) then min (c + 1) 18446744073709551615 else c) (ap length e ∙ length-drop n K)
     ∙ go (wanted && not (nat_lt (length K - n) 16))
   where
     go : (b : Bool) → (if b then min (c + 1) 18446744073709551615 else c) ≡ min (if b then suc m else m) 18446744073709551615
@@ -1042,7 +1042,7 @@ pub renews : (w : Who) (H : List Call) (old new : Controller) (d : Draft) (x : O
 renews w H old new d x t place None h can e f g n u =
     absurd (elim (latest_is (posted x).1 old.taken 0 place (map posted old.outgoing.items) None (sym f)) [
       | inl z ↦ (let y : None ≡ Some place = z in absurd (cc))
-      | inr z ↦ (let a = get_within (map posted old.outgoing.items) (place - 0) z.entry z.is in
+      | inr z ↦ (let a = slice_get_within (map posted old.outgoing.items) (place - 0) z.entry z.is in
           let b = length_map posted old.outgoing.items in let l = n refl in omega (arith, a, b, l))
     ])
 renews w H old new d x t place (Some k) h can e f g n u =
@@ -1056,7 +1056,7 @@ renews w H old new d x t place (Some k) h can e f g n u =
     (ap Some token ∙ sym (renewal w H old d x t (Some place) h can e f))
     (g.renewed ∙ ((λ i. slice_set (h.outgoing i) place (k, message i))
     ∙ (sym (set_rest T place L (k, message_from w d)) ∙ ap (λ (n : ℕ). drop T (slice_set L n (k, message_from w d))) (sym token))))
-    (set_length L k (k, message_from w d)) u
+    (length-set L k (k, message_from w d)) u
 
 -- a message is withdrawn, or none is
 pub none_withdrawn : (w : Who) (H : List Call) (c : Controller) (k : ℕ) → Is w H c → false ≡ next_withdrawn w H k → Is w (Withdraw k false ∷ H) c
@@ -1117,7 +1117,7 @@ place_is w H c k h away =
 
     go : (D : List (ℕ × Message)) → drop T L ≡ D → place_of c.taken k D ≡ (if nat_le (reached H) k && may_go (slice_get L k) then Some (k - T) else None)
     go [] e = sym (ap (λ (b : Bool). if b then Some (k - T) else None) (none_there (nat_le (reached H) k) (slice_get L k)
-        (λ z. slice_get_past L k (let a = le_is _ _ z in let b = ap length e in let d = length_drop T L in omega (arith, a, b, d, t)))))
+        (λ z. slice_get_past L k (let a = le_is _ _ z in let b = ap length e in let d = length-drop T L in omega (arith, a, b, d, t)))))
     go (x ∷ xs) e = by (nat_lt k T) refl
       where
         first : x.0 ≡ T
@@ -1169,8 +1169,8 @@ withdraws w H old new k place x r h l blanked e f g p u = go r f g (by (next_wit
         → (next_withdrawn w H k ≡ true) × (place ≡ k - T) → Is w (Withdraw k true ∷ H) new
     go None f g q =
         let c = withdraw_case w H k (sym q.0) in
-        let a = get_within L k c.entry c.is in
-        let b = length_map posted old.outgoing.items in let d = ap length h.outgoing in let i = length_drop T L in
+        let a = slice_get_within L k c.entry c.is in
+        let b = length_map posted old.outgoing.items in let d = ap length h.outgoing in let i = length-drop T L in
         let m = g refl in let n = q.1 in let t = s.in_turn away in let v = c.from in absurd (omega (arith, a, b, d, i, m, n, t, v))
     go (Some token) f g q =
         let G = Withdraw k true ∷ H in
@@ -1193,7 +1193,7 @@ withdraws w H old new k place x r h l blanked e f g p u = go r f g (by (next_wit
           outgoing = out;
           taken = (let a = h.taken in let b = past_queued w G new.outgoing.items T old.taken (sound w G right) out in
               let d = ap (past (marks G)) (let z : old.taken + T ≡ reached H = omega (arith, a, t) in z) in omega (arith, b, d, p));
-          token = ap (λ c. c.next_token) u ∙ (h.token ∙ sym (set_length L k (k, blank)));
+          token = ap (λ c. c.next_token) u ∙ (h.token ∙ sym (length-set L k (k, blank)));
           asking = ap (λ c. asking_of c.asking) u ∙ (h.asking ∙ ask_withdrawn w H k right);
           unread = ap (λ c. map received_by c.inbox.unread.items) u ∙ h.unread;
           requests = ap (λ c. map request_by c.desk.waiting.items) u ∙ h.requests;

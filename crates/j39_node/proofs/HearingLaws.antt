@@ -2,7 +2,7 @@
 use Rattle.std.proofs.Common.{◌≡◌, ◌≢◌, ◌⊎◌, ◌↔◌, ℕ, suc, ◌+◌, ◌-◌, ◌*◌, ◌<◌, ◌≤◌, List, [], ◌∷◌, ◌++◌, length, take, drop, slice_index, Option, Some, None, IfSome, Bool, true, false, not, ◌&&◌, ◌||◌, if◌then◌else◌, nat_eq, nat_le, IsTrue, refl, sym, ap, ◌∙◌, subst, inl, inr, arith, append-nil, eq-eqb, lt-ltb, ltb-false}
 use Rattle.std.proofs.lemmas.Bool.{leb-false, leb-true, lt-leb}
 use Rattle.std.proofs.lemmas.Grind.{flat_map-append}
-use Rattle.std.proofs.lemmas.List.{length-append, length-take-le, take-append-drop}
+use Rattle.std.proofs.lemmas.List.{length-append, length-take-le, take-append-drop, length-drop}
 use Rattle.j39_frame.specs.Frame.{FrameRecord}
 use Rattle.j39_frame.specs.Identifier.{source_of}
 use Rattle.j39_address.specs.Claim.{claim_of}
@@ -20,7 +20,6 @@ use Rattle.j39_node.specs.Hearing.{account, announced, announces, begun, breaks,
 use Rattle.j39_node.specs.Is.{AreAnswered, HearingRecord, Is}
 use Rattle.j39_node.specs.Reception.{KeepsHolder, frames_heard, has_place, heard_at, holder, is_same, listed, time_heard, known, known_by}
 use Rattle.j39_node.proofs.ReceptionLemmas.{unclaimed_known}
-use Rattle.j39_node.proofs.QueueLemmas.{length_drop}
 use Rattle.j39_node.proofs.ReceptionLaws.{after_moment, before_moment, same_is}
 use Rattle.j39_node.proofs.HearingLemmas.{Effect, begins, ends, grows, stays, effect, fit, hearing_same, left_keeps, left_none, same_same, unchanged, packs_eight, drop_one}
 use Rattle.j39_node.proofs.FrameLemmas.{le_true, lt_false}
@@ -597,7 +596,7 @@ done who H x h w seven =
         count = (let a = facts.count in let b = h.came.size in let c = h.came.count in let d = h.came.few in omega (arith, a, b, c, d, seven, enough));
         numbered = h.came.numbered;
         padding = drop x.size x.bytes;
-        few = (let d = h.came.few in let l = length_drop x.size x.bytes in omega (arith, d, l, enough));
+        few = (let d = h.came.few in let l = length-drop x.size x.bytes in omega (arith, d, l, enough));
         joined_are = h.came.bytes ∙ sym (take-append-drop x.size x.bytes);
       };
     }

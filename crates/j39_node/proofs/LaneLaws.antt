@@ -10,7 +10,7 @@ use Rattle.j39_node.specs.declared.kinds.Ending.TheVariants.{Done, Withdrawn}
 use Rattle.j39_node.specs.declared.kinds.Refused.{Refused}
 use Rattle.j39_node.specs.declared.kinds.Refused.TheVariants.{NoAddress, BadValue, Full}
 use Rattle.j39_node.specs.declared.turn.Turn.TheVariants.{Reply, Single, Packet, Move}
-use Rattle.j39_node.specs.History.{reached, is_held, is_claim, is_acknowledgment, Who, Message, Call, accepted, acknowledged, address_after, all_frames, broadcasts, can_broadcast, due, first_frames, frame_of, has_packets, holds, is_busy, is_left, is_lost, is_open, is_packet, message_of, moment, open_broadcast, packets, pause, sent, step, told_broadcasts}
+use Rattle.j39_node.specs.History.{reached, is_held, is_claim, is_acknowledgment, Who, Message, Call, accepted, acknowledged, address_after, all_frames, broadcasts, can_broadcast, due, first_frames, frame_of, has_packets, holds, is_busy, is_left, is_lost, is_open, is_packet, message_of, moment, open_broadcast, packets, pause, step, told_broadcasts}
 use Rattle.j39_node.specs.History.Call.{At, TakeBroadcastEnded}
 use Rattle.j39_node.specs.History.Act.{TakeFrame, Broadcast}
 use Rattle.j39_node.specs.Reception.{yields, reception}

@@ -7,7 +7,7 @@ use Rattle.j39_node.specs.declared.kinds.Ending.{Ending}
 use Rattle.j39_node.specs.declared.kinds.Ending.TheVariants.{Done, Withdrawn}
 use Rattle.j39_node.specs.declared.kinds.Refused.{Refused}
 use Rattle.j39_node.specs.declared.kinds.Refused.TheVariants.{NoAddress, BadValue, Full}
-use Rattle.j39_node.specs.History.{reached, Who, Message, Call, accepted, acknowledged, due, sent, address_after, broadcast_from, broadcasts, can_broadcast, first_frames, frame_of, holds, is_busy, is_lost, is_open, is_packet, open_broadcast, packets, pause, step, told_broadcasts}
+use Rattle.j39_node.specs.History.{Who, Message, Call, acknowledged, due, address_after, broadcast_from, broadcasts, can_broadcast, first_frames, frame_of, holds, is_busy, is_lost, is_open, is_packet, open_broadcast, packets, pause, step, told_broadcasts}
 use Rattle.j39_node.specs.History.Call.{At, TakeBroadcastEnded}
 use Rattle.j39_node.specs.History.Act.{TakeFrame, Broadcast}
 use Rattle.j39_node.specs.Reception.{reception}

@@ -8,7 +8,7 @@ use Rattle.j39_frame.specs.Identifier.{destination_of, source_of, pgn_of}
 use Rattle.j39_frame.specs.Network.{address_claimed_group, request_group}
 use Rattle.j39_address.specs.Claim.{claim_of, Claim}
 use Rattle.j39_address.specs.declared.status.Status.TheVariants as status
-use Rattle.std.proofs.lemmas.Option.{slice_get-map}
+use Rattle.std.proofs.lemmas.Option.{slice_get-map, slice_get_within}
 use Rattle.j39_node.proofs.FrameLemmas.{le_true}
 use Rattle.j39_node.specs.declared.controller.Controller.{Controller}
 use Rattle.j39_node.specs.declared.kinds.Ending.{Ending}
@@ -32,7 +32,7 @@ use Rattle.j39_node.specs.declared.turn.Turn.TheVariants.{Reply, Move}
 use Rattle.j39_node.specs.Is.{is_apart, ready, AreAnswered, Is, claim_goes, other, next_packet, long_by, gives_way, is_there, next_acknowledgment, next_other, stamped, next_frame, end_of, status_of, status_after, news_of, next_long, claim_due, may_go, next_withdrawn}
 use Rattle.j39_node.specs.Transfers.{next_transfer, age, at_in, next_due}
 use Rattle.j39_node.proofs.DueLemmas.{both_none, from_long, quiet_long, then_long}
-use Rattle.j39_node.proofs.QueueLemmas.{get_within, length_one_more, length_map}
+use Rattle.j39_node.proofs.QueueLemmas.{length_one_more}
 use Rattle.j39_node.proofs.SoundLemmas.{apart_is, is_moved, IsTurn, acknowledgment_single, claim_single, no_transfer, none_there, packet_session, packet_there, single_taken, turned, Rest, none_at, none_next, none_other, other_none, claim_is, given_way, none_acknowledged, none_due_goes, none_gives, plain_taken, EndCase, FrameCase, SendCase, Sound, claim_taken, due_get, due_taken, end_case, frame_by, frame_case, front_length, held_older, lost_claimed, lost_older, message_taken, own_of, packet_case, packet_taken, reply_taken, send_case, sound, transfer_taken, lost_unclaimed, holding_not_lost, no_claim_goes, renew_case, WithdrawCase, withdraw_case}
 use Rattle.j39_node.proofs.KnownLemmas.{fresh_one, not_refused, served_not}
 use Rattle.j39_node.proofs.LaneLemmas.{laned, opened_by}
@@ -147,7 +147,7 @@ pub in_turn : (w : Who) (H : List Call) (c : Controller) (k : ℕ) (e : Ending) 
 in_turn w H c k e is =
     let t = told_is w H c k e is in
     let a : k ≡ length (told H) = (sound w H is.answered.0).numbered (length (told H)) (k, t.message) t.at in
-    (a, (let b = get_within (accepted w H) (length (told H)) (k, t.message) t.at in omega (arith, a, b)))
+    (a, (let b = slice_get_within (accepted w H) (length (told H)) (k, t.message) t.at in omega (arith, a, b)))
 
 none_ended : (b l : Bool) (o : Option (ℕ × Message)) → None ≡ end_of b l o → (o ≡ None) ⊎ ((b ≡ false) × (l ≡ false))
 none_ended b l None e = inl refl

@@ -1,11 +1,11 @@
 -- That every message of one frame ends.
 use Rattle.std.proofs.Common.{slice_set, ◌≡◌, ◌⊎◌, ℕ, zero, suc, ◌+◌, ◌<◌, ◌≤◌, List, [], ◌∷◌, ◌++◌, length, Option, Some, None, Ok, Bool, true, false, ◌||◌, if◌then◌else◌, nat_lt, refl, ap, ◌∙◌, arith, inl, inr, IsTrue, not}
 use Rattle.std.specs.List.{slice_get}
-use Rattle.j39_frame.specs.Frame.{FrameRecord}
+use Rattle.std.proofs.lemmas.List.{length-set}
 use Rattle.j39_node.specs.declared.controller.Controller.{Controller}
 use Rattle.j39_node.specs.declared.kinds.Ending.{Ending}
 use Rattle.j39_node.specs.declared.kinds.Ending.TheVariants.{Done, Withdrawn}
-use Rattle.j39_node.specs.History.{reached, Who, Message, Draft, Call, accepted, address_after, holds, is_acknowledgment, is_claim, is_held, is_lost, is_session, message_from, message_of, moment, request_for, sent, step, told, marks, past, blank, is_blank}
+use Rattle.j39_node.specs.History.{reached, Who, Message, Draft, Call, accepted, address_after, holds, is_acknowledgment, is_claim, is_held, is_lost, is_session, message_from, moment, request_for, step, told, marks, past, blank, is_blank}
 use Rattle.j39_node.specs.History.Call.{At, Renew, Withdraw}
 use Rattle.j39_node.specs.History.Act.{Ask, Hear, Send, TakeFrame, Again}
 use Rattle.j39_node.specs.Is.{AreAnswered, Is, IsAnswered, end_of, next_ended, next_frame, ending_of}
@@ -18,7 +18,6 @@ use Rattle.j39_node.proofs.PromptLaws.{answered_from, keeps_heard, keeps_taken, 
 use Rattle.j39_node.proofs.QueueLemmas.{length_one_more}
 use Rattle.j39_node.proofs.SoundLemmas.{SendCase, held_older, none_next, lost_older, send_case, sound}
 use Rattle.j39_node.proofs.SoundLemmas.SendCase.{no_address, bad_value, full, accepts}
-use Rattle.j39_node.proofs.RenewLemmas.{set_length}
 use Rattle.j39_node.proofs.WithdrawLemmas.{past_more}
 
 -- where no frame is taken from an address that is held, no message waits
@@ -38,8 +37,8 @@ more_sent H call = omega arith
 pub accepts_more : (w : Who) (H : List Call) (call : Call) → length (accepted w H) ≤ length (accepted w (call ∷ H))
 accepts_more w H (At now (Send d (Ok k))) = let e = length_one_more (accepted w H) (k, message_from w d) in omega (arith, e)
 accepts_more w H (At now (Ask group to (Ok k))) = let e = length_one_more (accepted w H) (k, message_from w (request_for group to)) in omega (arith, e)
-accepts_more w H (Withdraw k true) = let e = set_length (accepted w H) k (k, blank) in omega (arith, e)
-accepts_more w H (Renew d (Some k)) = let e = set_length (accepted w H) k (k, message_from w d) in omega (arith, e)
+accepts_more w H (Withdraw k true) = let e = length-set (accepted w H) k (k, blank) in omega (arith, e)
+accepts_more w H (Renew d (Some k)) = let e = length-set (accepted w H) k (k, message_from w d) in omega (arith, e)
 accepts_more w H call = omega arith
 
 module _ (w : Who) (B : List Call) (g k : ℕ) where

@@ -9,7 +9,7 @@ use Rattle.j39_transport.specs.Sending.{Tick, aborted, is_running, new_sender, s
 use Rattle.j39_transport.specs.Signals.{Signal, Abort}
 use Rattle.j39_node.specs.declared.kinds.TransferEnding.{TransferEnding}
 use Rattle.j39_node.specs.declared.turn.Turn.TheVariants.{Move}
-use Rattle.j39_node.specs.History.{reached, Who, Message, Call, accepted, acknowledged, address_after, broadcast_from, due, holds, is_lost, message_of, open_broadcast, packets, pause, sent, step}
+use Rattle.j39_node.specs.History.{reached, Who, Message, Call, accepted, acknowledged, address_after, broadcast_from, due, holds, is_lost, message_of, open_broadcast, packets, pause, step}
 use Rattle.j39_node.specs.History.Call.{At, TakeTransferEnded}
 use Rattle.j39_node.specs.History.Act.{Hear, TakeFrame, Transfer}
 use Rattle.j39_node.specs.Is.{AreAnswered, next_packet, next_acknowledgment}

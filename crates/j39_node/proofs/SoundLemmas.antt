@@ -1,7 +1,7 @@
 -- What every answered history says of what was accepted, sent and told.
-use Rattle.std.proofs.Common.{drop, ◌≡◌, ℕ, zero, suc, ◌+◌, ◌-◌, ◌<◌, ◌≤◌, List, [], ◌∷◌, ◌++◌, length, map, Option, Some, None, Result, Ok, Err, Bool, true, false, not, ◌&&◌, ◌||◌, if◌then◌else◌, nat_eq, nat_lt, nat_le, ◌==◌, refl, sym, ap, ◌∙◌, subst, inl, inr, arith, append_assoc, length-append, eq-eqb, eqb-true, ltb-true, ◌⊎◌, IsTrue, slice_set, max, take, ◌≢◌}
+use Rattle.std.proofs.Common.{drop, ◌≡◌, ℕ, zero, suc, ◌+◌, ◌-◌, ◌<◌, ◌≤◌, List, [], ◌∷◌, ◌++◌, length, map, Option, Some, None, Result, Ok, Err, Bool, true, false, not, ◌&&◌, ◌||◌, if◌then◌else◌, nat_eq, nat_lt, nat_le, ◌==◌, refl, sym, ap, ◌∙◌, subst, inl, inr, arith, append_assoc, length-append, eq-eqb, eqb-true, ltb-true, ◌⊎◌, IsTrue, slice_set, max, take}
 use Rattle.std.proofs.lemmas.Bool.{and_from, and_parts, or_parts, leb-true}
-use Rattle.std.proofs.lemmas.Option.{slice_get_past, slice_get-map}
+use Rattle.std.proofs.lemmas.Option.{slice_get_past, slice_get-map, slice_get_within}
 use Rattle.std.specs.List.{slice_get}
 use Rattle.std.specs.Option.{option_map}
 use Rattle.j39_frame.specs.Frame.{FrameRecord}
@@ -29,11 +29,11 @@ use Rattle.j39_node.specs.declared.turn.Ready.{Ready}
 use Rattle.j39_node.specs.declared.turn.Turn.{Turn}
 use Rattle.j39_node.specs.declared.turn.Turn.TheVariants.{Reply, Single, Packet, Move}
 use Rattle.j39_node.specs.Transfers.{next_transfer, open_transfer, clock_at}
-use Rattle.j39_node.specs.Asking.{can_ask, has_token, open_ask, Question, question}
+use Rattle.j39_node.specs.Asking.{can_ask, open_ask, Question, question}
 use Rattle.j39_node.proofs.AskCases.{AskCase, ask_case, homeless, unfit, busy, asks, sendable}
 use Rattle.j39_node.proofs.PortLemmas.{ported, SaidCase, said_case}
-use Rattle.j39_node.proofs.QueueLemmas.{get_within, get_append, get_map, length_one_more, map_append, length_map}
-use Rattle.j39_node.proofs.RenewLemmas.{IsLatest, latest_is, set_front, set_get, set_length, set_other, no_request}
+use Rattle.j39_node.proofs.QueueLemmas.{get_append, length_one_more, map_append, length_map}
+use Rattle.j39_node.proofs.RenewLemmas.{IsLatest, latest_is, set_get, set_other, no_request}
 
 -- ---- the address
 
@@ -791,7 +791,7 @@ sound_send w H now f x e k n held g i h =
       own = h.own;
       marked = h.marked;
       next = ap (past (marks H)) on ∙ (past_stops (marks H) (suc (reached H)) ∙ sym on);
-      passed = (let a = past_within (marks H) (suc (reached H)) (let b = get_within L (reached H) x g in let c = many_marks w H h in omega (arith, b, c)) in
+      passed = (let a = past_within (marks H) (suc (reached H)) (let b = slice_get_within L (reached H) x g in let c = many_marks w H h in omega (arith, b, c)) in
           let c = many_marks w H h in omega (arith, a, c, on));
       in_order = more ∙ (ap (λ xs. xs ++ x.1 ∷ []) h.in_order
           ∙ (sym (map_append content (unblanked (take (reached H) L)) x)
@@ -860,7 +860,7 @@ sound_ended w H x (done m l g e) h = record {
   next = h.next;
   passed = h.passed;
   in_order = h.in_order;
-  within = (let a = get_within (accepted w H) (length (told H)) (x.0, m) g in let b = length_one_more (told H) x in omega (arith, a, b));
+  within = (let a = slice_get_within (accepted w H) (length (told H)) (x.0, m) g in let b = length_one_more (told H) x in omega (arith, a, b));
   in_turn = λ i. (let b = length_one_more (told H) x in let c = ltb-true (length (told H)) (reached H) l in omega (arith, b, c));
   reads = h.reads;
   desk = h.desk;
@@ -872,7 +872,7 @@ sound_ended w H x (withdrawn m l lost g e) h = record {
   next = h.next;
   passed = h.passed;
   in_order = h.in_order;
-  within = (let a = get_within (accepted w H) (length (told H)) (x.0, m) g in let b = length_one_more (told H) x in omega (arith, a, b));
+  within = (let a = slice_get_within (accepted w H) (length (told H)) (x.0, m) g in let b = length_one_more (told H) x in omega (arith, a, b));
   in_turn = λ i. absurd (let z : true ≡ false = sym lost ∙ i in cc);
   reads = h.reads;
   desk = h.desk;

@@ -4,6 +4,8 @@ use Rattle.std.proofs.Common.{◌≡◌, ◌⊎◌, ℕ, zero, suc, ◌+◌, ◌
 use Rattle.std.proofs.lemmas.Bool.{and_from, and_parts}
 use Rattle.j39_frame.specs.Frame.{FrameRecord}
 use Rattle.j39_transport.specs.Message.{MessageRecord, packets_of}
+use Rattle.std.specs.List.{slice_get}
+use Rattle.j39_node.proofs.EndSteps.{times_more}
 use Rattle.j39_node.proofs.WithdrawLemmas.{past_more}
 use Rattle.j39_node.specs.declared.controller.Controller.{Controller}
 use Rattle.j39_node.specs.declared.kinds.Ending.{Ending}
@@ -13,7 +15,7 @@ use Rattle.j39_node.specs.History.{reached, Who, Message, Call, accepted, addres
 use Rattle.j39_node.specs.History.Call.{At, TakeBroadcastEnded}
 use Rattle.j39_node.specs.History.Act.{Broadcast, Hear, TakeFrame, Again}
 use Rattle.j39_node.specs.Is.{AreAnswered, Is, IsAnswered, claim_goes, gives_way, is_overdue, is_there, is_turn, next_broadcast_ended, next_ended, next_frame, next_other, next_turn, other, ready, turn_of}
-use Rattle.j39_node.specs.Prompt.{IsPrompt, waited_in, IsSteady, NoneTold, packets_taken, since_take, tells_broadcast, claims_anew}
+use Rattle.j39_node.specs.Prompt.{IsPrompt, waited_in, IsSteady, NoneTold, packets_taken, since_take, tells_broadcast, claims_anew, StaysFirst, takes_reply}
 use Rattle.j39_node.specs.Reception.{yields, reception, is_reply}
 use Rattle.j39_node.specs.Since.{passed_in}
 use Rattle.j39_node.proofs.LaneLaws.{overdue_goes_by, taken_packet_of}
@@ -24,7 +26,7 @@ use Rattle.j39_node.proofs.MessageLaws.{accepts_more, told_next, more_sent}
 use Rattle.j39_node.proofs.PromptLaws.{answered_from, ends_by, keeps_heard, keeps_taken, lost_heard, lost_taken, pause_most}
 use Rattle.j39_node.proofs.QueueLemmas.{length_one_more}
 use Rattle.j39_node.proofs.ReceptionLemmas.{replied_get, tidy, no_reply}
-use Rattle.j39_node.proofs.SoundLemmas.{FrameCase, IsTurn, acknowledgment_single, address_is, claim_single, claim_taken, due_get, due_taken, frame_case, frame_there, held_older, is_directed, lost_older, message_taken, no_packet, no_transfer, none_next, none_other, own_of, packet_session, packet_taken, packets_is, pause_is, plain_taken, reply_taken, sent_is, single_taken, some_at, sound, turned, reached_is, reply_is}
+use Rattle.j39_node.proofs.SoundLemmas.{FrameCase, IsTurn, acknowledgment_single, address_is, claim_single, claim_taken, due_get, due_taken, frame_case, frame_there, held_older, is_directed, lost_older, message_taken, no_packet, no_transfer, none_next, none_other, own_of, packet_session, packet_taken, packets_is, pause_is, plain_taken, reply_taken, sent_is, single_taken, some_at, sound, turned, reached_is, reply_is, none_at}
 use Rattle.j39_node.proofs.SoundLemmas.FrameCase.{claims, acknowledges, replies, sends, packs, transfers}
 
 -- ---- of three frames one is neither a claim nor an acknowledgment
@@ -638,6 +640,130 @@ module _ (w : Who) (later earlier : List Call) (c : Controller) (g k : ℕ) (is 
 
   pub message_told : length (told (later ++ earlier)) ≤ k → (e : Ending) × (next_ended w (later ++ earlier) ≡ Some (length (told (later ++ earlier)), e))
   message_told t = told_next w (later ++ earlier) k is.answered here.among t message_goes
+
+-- ---- how long a reply waits
+
+-- one that waits is due
+reply_there : (w : Who) (H : List Call) (now : ℕ) (m : Message) → holds w H now ≡ true → slice_get (reception w H).replies 0 ≡ Some m → is_there (next_other w H now) ≡ true
+reply_there w H now m h first = ap (λ (b : Bool). is_there (if b then other w H now else None)) h ∙ go (other w H now) refl
+  where
+    go : (o : Option Message) → other w H now ≡ o → is_there o ≡ true
+    go (Some x) e = refl
+    go None e = absurd (let z : Some m ≡ None = sym first ∙ (none_other w H now e).0.reply in cc)
+
+-- of what is due beside an overdue frame nothing goes before it but behind another
+behind : (w : Who) (H : List Call) (now : ℕ) (m : Message) → slice_get (reception w H).replies 0 ≡ Some m → ((ready w H now).reply ≡ false) ⊎ (yields w H ≡ true) → yields w H ≡ true
+behind w H now m first (inl e) = absurd (let z : Some m ≡ None = sym first ∙ none_at (reception w H).replies 0 e in cc)
+behind w H now m first (inr e) = e
+
+module _ (w : Who) (B : List Call) (g : ℕ) (m : Message) where
+  -- so many frames that are neither claims nor acknowledgments went before it
+  record Before (later : List Call) (others : ℕ) : Type 0 where
+    pub few : others + one (yields w (later ++ B)) ≤ packets_taken later + 1
+    pub late : passed_in later B ≤ others * (3 * g) + turn_time g (turns (later ++ B)) + since_take later B
+
+  data Replying (later : List Call) : Type 0 where
+    gone : is_lost (address_after w (later ++ B)) ≡ true → Replying later
+    stays : (others : ℕ) → is_held (address_after w (later ++ B)) ≡ true → Before later others → Replying later
+
+  beside : (now : ℕ) (f : FrameRecord) (later : List Call) (others : ℕ) → AreAnswered w (later ++ B) → FrameCase w (later ++ B) now f
+      → since_take later B + step (later ++ B) now ≤ g → slice_get (reception w (later ++ B)).replies 0 ≡ Some m
+      → is_reply (reception w (later ++ B)).replies f ≡ false → is_held (address_after w (later ++ B)) ≡ true → Before later others
+      → Replying (At now (TakeFrame (Some f)) ∷ later)
+  beside now f later others right case p first untaken held b = go case
+    where
+      H : List Call
+      H = later ++ B
+
+      G : List Call
+      G = At now (TakeFrame (Some f)) ∷ later ++ B
+
+      packs_then : (c : Bool) → is_packet f ≡ c → packets_taken (At now (TakeFrame (Some f)) ∷ later) ≡ (if c then suc (packets_taken later) else packets_taken later)
+      packs_then c e = ap (λ (d : Bool). if d then suc (packets_taken later) else packets_taken later) e
+
+      yields_then : (c : Bool) → (is_claim f || is_acknowledgment f) ≡ c → yields w G ≡ (if c then yields w (later ++ B) else false)
+      yields_then c e = λ j. if e j then yields w (later ++ B) else untaken j
+
+      -- a claim or an acknowledgment
+      steer : (is_claim f || is_acknowledgment f) ≡ true → is_session f ≡ false → Replying (At now (TakeFrame (Some f)) ∷ later)
+      steer e s =
+          let t = few_turns w H now f case (reply_there w H now m (held_holds w H now held) first) (steers w H now f right case) e in
+          stays others (keeps_taken w H now f held) (record {
+            few = (let a = b.few in let c = ap one (yields_then true e) in let d = packs_then false (no_packet f s) in omega (arith, a, c, d));
+            late = (let a = b.late in let c = ap (turn_time g) (turns_then H now f true e) in let d = turn_more g (turns H) t in omega (arith, a, c, d, p));
+          })
+
+      -- another: so many frames of broadcasts were taken then
+      goes_by : (n : ℕ) → (is_claim f || is_acknowledgment f) ≡ false → packets_taken (At now (TakeFrame (Some f)) ∷ later) ≡ n → others ≤ n → Replying (At now (TakeFrame (Some f)) ∷ later)
+      goes_by n e i l =
+          stays (suc others) (keeps_taken w H now f held) (record {
+            few = (let c = ap one (yields_then false e) in omega (arith, c, i, l));
+            late = (let a = b.late in let c = ap (turn_time g) (turns_then H now f false e) in let d = turn_most g (turns H) in let k = suc-mul others (3 * g) in omega (arith, a, c, d, k, p));
+          })
+
+      few_then : yields w H ≡ true → others ≤ packets_taken later
+      few_then y = let a = b.few in let c = ap one y in omega (arith, a, c)
+
+      go : FrameCase w H now f → Replying (At now (TakeFrame (Some f)) ∷ later)
+      go (claims o e) = let i = claim_taken f now w _ e in steer (ap (λ (c : Bool). c || is_acknowledgment f) i) (claim_single f i)
+      go (acknowledges x o q i e way) =
+          let r = due_taken w f now x e (due_get w (due w H) (length (Rattle.j39_node.specs.History.acknowledged H)) x (sound w H right).desk.0 i) in steer (λ j. r.0 j || r.1 j) r.2
+      go (replies x o q i y e) =
+          let r = reply_taken w.address f now x e (replied_get w.address (reception w H).replies 0 x (tidy w H).replies y) in
+          absurd (let z : true ≡ false = sym (λ j. is_directed f r.2 r.3 j && reply_is w H f x y (ap (λ (u : ℕ × Message). u.1) e) j) ∙ untaken in cc)
+      go (sends x o q i y e) =
+          let own = own_of w H x right y in
+          goes_by (packets_taken later) (λ j. message_taken w f now x e own j || plain_taken w f now x e own j) (packs_then false (no_packet f (single_taken w f now x e own)))
+          (few_then (behind w H now m first (turned w H now (Some Single) i.1).2))
+      go (packs x o q i y e) =
+          let r = packet_taken f now x (open_broadcast w H) (length (packets H)) (pause H - step H now) e y in
+          goes_by (suc (packets_taken later)) (λ j. r.0 j || r.1 j) (packs_then true r.2) (let a = b.few in omega (arith, a))
+      go (transfers x o q i y e) =
+          let t = Rattle.j39_node.proofs.SoundLemmas.transfer_taken w H now f x right e y in
+          goes_by (packets_taken later) (λ j. t.claim j || t.plain j) (packs_then false t.packet) (few_then (behind w H now m first (turned w H now (Some Move) i.1).2))
+
+  reply_later : (call : Call) (later : List Call) → AreAnswered w (later ++ B) → IsAnswered w (later ++ B) call
+      → (since_take later B + step (later ++ B) (moment (call ∷ later ++ B)) ≤ g) × (claims_anew call ≡ false) → slice_get (reception w (later ++ B)).replies 0 ≡ Some m
+      → takes_reply w (later ++ B) call ≡ false → Replying later → Replying (call ∷ later)
+  reply_later (At when (Hear f)) later right a p first untaken (gone e) = gone (lost_heard w (later ++ B) when f e)
+  reply_later (At when (Hear f)) later right a p first untaken (stays others e b) = elim (keeps_heard w (later ++ B) when f e) [
+    | inl z ↦ gone z
+    | inr z ↦ stays others z (record { few = b.few; late = (let l = b.late in omega (arith, l)) })
+  ]
+  reply_later (At now (TakeFrame (Some f))) later right a p first untaken (gone e) = gone (lost_taken w (later ++ B) now f e)
+  reply_later (At now (TakeFrame (Some f))) later right a p first untaken (stays others e b) = beside now f later others right (frame_case w (later ++ B) now f a) p.0 first untaken e b
+  reply_later (At now (TakeFrame None)) later right a p first untaken (gone e) = gone (lost_older (step (later ++ B) now) (address_after w (later ++ B)) ∙ e)
+  reply_later (At now (TakeFrame None)) later right a p first untaken (stays others e b) =
+      absurd (let z : Some m ≡ None = sym first ∙ (none_next w (later ++ B) now (held_holds w (later ++ B) now e) a).rest.reply in cc)
+  reply_later (At now Again) later right a p first untaken r = absurd (let z : true ≡ false = p.1 in cc)
+  reply_later call later right a p first untaken (gone e) = gone (let z = lost_older (step (later ++ B) (moment (call ∷ later ++ B))) (address_after w (later ++ B)) in cc)
+  reply_later call later right a p first untaken (stays others e b) =
+      stays others (let z = held_older (step (later ++ B) (moment (call ∷ later ++ B))) (address_after w (later ++ B)) e in cc) (record { few = b.few; late = (let l = b.late in omega (arith, l)) })
+
+  first_now : (later : List Call) → StaysFirst w m later B → slice_get (reception w (later ++ B)).replies 0 ≡ Some m
+  first_now [] s = s
+  first_now (call ∷ later) s = s.2
+
+  replying : (later : List Call) → AreAnswered w (later ++ B) → IsSteady g later B → StaysFirst w m later B → Replying [] → Replying later
+  replying [] a p s h = h
+  replying (call ∷ later) a p s h = reply_later call later a.0 a.1 p.1 (first_now later s.0) s.1 (replying later a.0 p.0 s.0 h)
+
+pub reply_goes : (w : Who) (later earlier : List Call) (c : Controller) (g : ℕ) (m : Message) → Is w (later ++ earlier) c → IsTrue (is_held (address_after w earlier))
+    → StaysFirst w m later earlier → IsSteady g later earlier → is_lost (address_after w (later ++ earlier)) ≡ false → passed_in later earlier ≤ (packets_taken later + 2) * (3 * g)
+reply_goes w later earlier c g m is held first steady there =
+    go (replying w earlier g m later is.answered steady first (stays 0 held (record { few = (let y = one_most (yields w earlier) in omega (arith, y)); late = omega arith })))
+  where
+    go : Replying w earlier g m later → passed_in later earlier ≤ (packets_taken later + 2) * (3 * g)
+    go (gone e) = absurd (not_both _ there e)
+    go (stays others e b) =
+        let a = b.few in
+        let d = times_more (others + 1) (packets_taken later + 2) (3 * g) (omega (arith, a)) in
+        let k = suc-mul others (3 * g) in
+        let u : (others + 1) * (3 * g) ≡ suc others * (3 * g) = ap (λ (n : ℕ). n * (3 * g)) (omega arith) in
+        let l = b.late in
+        let t = turn_most g (turns (later ++ earlier)) in
+        let s = since_most g later earlier steady in
+        omega (arith, d, k, u, l, t, s)
 
 -- ---- who takes all that is due takes one frame at least
 

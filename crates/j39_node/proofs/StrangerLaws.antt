@@ -17,7 +17,7 @@ use Rattle.j39_transport.specs.Sending.{hears as listens_to, send_step}
 use Rattle.j39_transport.specs.SenderNext.{granted_by}
 use Rattle.j39_transport.specs.Signals.{Signal, BroadcastAnnounce, RequestToSend, ClearToSend, Acknowledgment, Abort, Packet, said_between, said_by}
 use Rattle.j39_node.specs.declared.controller.Controller.{Controller}
-use Rattle.j39_node.specs.History.{reached, fresh, is_refusal_due, pause, has_packets, is_another, is_claim, patience, turns, Who, Message, Call, Address, Asked, accepted, acknowledged, address_after, asked_group, asked_with, calls_for_claim, claim_address, claim_from, due, handed, holds, is_held, is_larger, is_lost, is_some, is_smaller, older, owes_claim, requests, sent, step, with_refusal, of_other, delayed}
+use Rattle.j39_node.specs.History.{reached, fresh, is_refusal_due, pause, has_packets, is_another, is_claim, patience, turns, Who, Message, Call, Address, Asked, accepted, acknowledged, address_after, asked_group, asked_with, calls_for_claim, claim_address, claim_from, due, handed, holds, is_held, is_larger, is_lost, is_some, is_smaller, older, owes_claim, requests, step, with_refusal, of_other, delayed}
 use Rattle.j39_node.specs.History.Address.{Lost}
 use Rattle.j39_node.specs.History.Call.{At}
 use Rattle.j39_node.specs.History.Act.{Hear, Tick, TakeFrame}

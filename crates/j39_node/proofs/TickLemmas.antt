@@ -1,5 +1,5 @@
 -- When a tick does something.
-use Rattle.std.proofs.Common.{◌≡◌, ◌⊎◌, ℕ, ◌+◌, ◌-◌, ◌<◌, ◌≤◌, ◌==◌, List, [], ◌∷◌, length, min, Option, Some, None, Bool, true, false, not, ◌&&◌, ◌||◌, if◌then◌else◌, nat_eq, nat_lt, refl, sym, ap, ◌∙◌, inl, inr, arith, ltb-false, ltb-true, lt-ltb}
+use Rattle.std.proofs.Common.{◌≡◌, ◌⊎◌, ℕ, ◌+◌, ◌-◌, ◌<◌, ◌≤◌, ◌==◌, List, [], ◌∷◌, min, Option, Some, None, Bool, true, false, not, ◌&&◌, ◌||◌, if◌then◌else◌, nat_eq, nat_lt, refl, sym, ap, ◌∙◌, inl, inr, arith, ltb-false, ltb-true, lt-ltb}
 use Rattle.std.specs.Option.{option_map}
 use Rattle.std.proofs.lemmas.Bool.{cond_both}
 use Rattle.j39_transport.specs.Reception.{ReceptionRecord, Reaction, asks_again, granted_at, grants, limit_of, takes_tick}
@@ -7,7 +7,7 @@ use Rattle.j39_transport.specs.Receiving.{ReceiverRecord, RecvResult, Tick as Ti
 use Rattle.j39_node.specs.declared.controller.Controller.{Controller}
 use Rattle.j39_node.specs.declared.kinds.AskEnding.{AskEnding}
 use Rattle.j39_node.specs.declared.kinds.AskEnding.TheVariants.{TimedOut, Withdrawn}
-use Rattle.j39_node.specs.History.{reached, Who, Call, address_after, is_lost, moment, sent}
+use Rattle.j39_node.specs.History.{reached, Who, Call, address_after, is_lost, moment}
 use Rattle.j39_node.specs.History.Call.{At, TakeAskEnded}
 use Rattle.j39_node.specs.History.Act.{Hear, Tick}
 use Rattle.j39_node.specs.Reception.{Reception, heard_at, is_over, reception, receiver_at, session_tick, ticked_at, time_heard}

@@ -16,7 +16,7 @@ use Rattle.j39_node.specs.declared.kinds.TransferEnding.{TransferEnding}
 use Rattle.j39_node.specs.declared.kinds.TransferEnding.TheVariants.{Done, Withdrawn, Failed, Gone}
 use Rattle.j39_node.specs.declared.kinds.Refused.{Refused}
 use Rattle.j39_node.specs.declared.kinds.Refused.TheVariants.{NoAddress, BadValue, Full}
-use Rattle.j39_node.specs.History.{reached, Who, Message, Call, accepted, acknowledged, address_after, due, has_packets, holds, is_lost, message_of, packets, sent, step}
+use Rattle.j39_node.specs.History.{reached, Who, Message, Call, accepted, acknowledged, address_after, due, has_packets, holds, is_lost, message_of, packets, step}
 use Rattle.j39_node.specs.History.Call.{At, TakeTransferEnded}
 use Rattle.j39_node.specs.History.Act.{Hear, TakeFrame, Transfer}
 use Rattle.j39_node.specs.Is.{AreAnswered, Is, long_by, next_packet, gives_way}

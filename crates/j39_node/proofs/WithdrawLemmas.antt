@@ -1,10 +1,11 @@
 -- Messages that were withdrawn are passed over.
-use Rattle.std.proofs.Common.{◌≡◌, ℕ, zero, suc, ◌+◌, ◌<◌, ◌≤◌, List, [], ◌∷◌, ◌++◌, length, map, drop, take, slice_index_or, slice_set, Option, Some, None, Bool, true, false, not, ◌&&◌, ◌-◌, if◌then◌else◌, nat_lt, nat_le, refl, sym, ap, ◌∙◌, arith, ltb-true}
+use Rattle.std.proofs.Common.{◌≡◌, ℕ, zero, suc, ◌+◌, ◌<◌, ◌≤◌, List, [], ◌∷◌, ◌++◌, length, map, drop, take, slice_index_or, slice_set, Option, Some, Bool, true, false, if◌then◌else◌, nat_lt, refl, sym, ap, ◌∙◌, arith, ltb-true}
 use Rattle.std.specs.List.{slice_get}
+use Rattle.std.proofs.lemmas.Option.{slice_get_within}
 use Rattle.j39_node.specs.History.{is_blank, past, unblanked, Message}
 use Rattle.j39_node.specs.declared.outgoing.Outgoing.{Outgoing}
 use Rattle.j39_node.specs.Is.{posted}
-use Rattle.j39_node.proofs.QueueLemmas.{get_map, get_within, length_map, read}
+use Rattle.j39_node.proofs.QueueLemmas.{get_map, length_map, read}
 
 -- no fewer are passed, none that isn't there, and the one that is reached isn't one of them
 pub past_more : (bs : List Bool) (n : ℕ) → n ≤ past bs n
@@ -97,7 +98,7 @@ mark_of xs i x b e l g =
 
 pub none_past : (xs : List Outgoing) (i : ℕ) → length xs ≤ i → slice_get (map is_blank (map posted xs)) i ≡ Some true → ⊥
 none_past xs i l e =
-    let a = get_within (map is_blank (map posted xs)) i true e in
+    let a = slice_get_within (map is_blank (map posted xs)) i true e in
     let b = length_map is_blank (map posted xs) in let d = length_map posted xs in absurd (omega (arith, a, b, d, l))
 
 -- ---- what of the messages that are passed wasn't withdrawn

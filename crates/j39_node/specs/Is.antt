@@ -38,7 +38,7 @@ use Rattle.j39_node.specs.declared.kinds.News.TheVariants.{AddressLost, AnotherA
 use Rattle.j39_node.specs.declared.kinds.Refused.{Refused}
 use Rattle.j39_node.specs.declared.kinds.Refused.TheVariants.{NoAddress, BadValue, Full}
 use Rattle.j39_node.specs.Hold.{standing_of}
-use Rattle.j39_node.specs.History.{reached, Brought, Who, Message, Draft, Call, Address, carried, message_of, moment, address_after, holds, is_lost, claim_address, claim_from, owes_claim, patience, turns, can_send, accepted, sent, told, is_full, got, kept, missed, Asked, requests, handed, due, acknowledged, acknowledgment, told_claims, lost_news, another_news, missed_news, broadcast_from, broadcasts, can_broadcast, frame_of, is_busy, open_broadcast, packets, pause, stamp_at, step, nothing, content, is_blank, has_packets, is_left, delayed, doubled_news, may_claim, latest, message_from}
+use Rattle.j39_node.specs.History.{reached, Brought, Who, Message, Draft, Call, Address, carried, message_of, moment, address_after, holds, is_lost, claim_address, claim_from, owes_claim, patience, turns, can_send, accepted, told, is_full, got, kept, missed, Asked, requests, handed, due, acknowledged, acknowledgment, told_claims, lost_news, another_news, missed_news, broadcast_from, broadcasts, can_broadcast, frame_of, is_busy, open_broadcast, packets, pause, stamp_at, step, nothing, content, is_blank, has_packets, is_left, delayed, doubled_news, may_claim, latest, message_from}
 use Rattle.j39_node.specs.History.Call.{At, Withdraw, TakeAskEnded, TakeEnded, TakeReceived, TakeRequest, TakeNews, TakeBroadcastEnded, ReleaseTransfer, TakeTransferEnded, ReleaseBroadcast, Renew}
 use Rattle.j39_node.specs.History.Act.{Ask, TakeFrame, Send, Acknowledge, Broadcast, Transfer}
 use Rattle.j39_node.specs.History.Address.{NotClaimed, Claimed, Lost}

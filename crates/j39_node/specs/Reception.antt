@@ -15,7 +15,7 @@ use Rattle.j39_transport.specs.Reception.{ReceptionRecord, answers, limit_of}
 use Rattle.j39_transport.specs.Receiving.{ReceiverRecord, RecvResult, Heard, Tick as Ticks, partner_of, recv_step, result_of, said_to}
 use Rattle.j39_transport.specs.ReceiverStands.{WasHanded}
 use Rattle.j39_transport.specs.Signals.{Signal, Abort, Packet}
-use Rattle.j39_node.specs.History.{reached, Who, Message, Call, accepted, acknowledged, due, holds, asks_with, is_claim, is_session, is_smaller, is_some, is_transfer, message_of, sent, stamp_at, of_other, is_acknowledgment}
+use Rattle.j39_node.specs.History.{reached, Who, Message, Call, accepted, acknowledged, due, holds, asks_with, is_claim, is_session, is_smaller, is_some, is_transfer, message_of, stamp_at, of_other, is_acknowledgment}
 use Rattle.j39_node.specs.History.Call.{At, ReleaseTransfer}
 use Rattle.j39_node.specs.History.Act.{Hear, Tick, TakeFrame}
 

@@ -9,12 +9,12 @@ ghost use Rattle.j39_node.specs.declared.kinds.Ending.{Ending};
 ghost use Rattle.j39_node.specs.declared.kinds.TransferEnding.{TransferEnding};
 ghost use Rattle.j39_node.specs.declared.kinds.TransferEnding.TheVariants as ending;
 ghost use Rattle.j39_frame.specs.Frame.{FrameRecord};
-ghost use Rattle.j39_node.specs.History.{reached, Who, Call, Draft, accepted, address_after, broadcast_from, has_packets, is_held, is_lost, is_packet, sent, told, is_claim, message_of};
+ghost use Rattle.j39_node.specs.History.{reached, Who, Call, Draft, accepted, address_after, broadcast_from, has_packets, is_held, is_lost, is_packet, sent, told, is_claim, message_of, Message};
 ghost use Rattle.j39_node.specs.History.Call.{At};
 ghost use Rattle.j39_node.specs.History.Act.{Ask, Broadcast, Send, TakeFrame, Transfer, Hear};
 ghost use Rattle.j39_node.specs.Is.{AreAnswered, Is, next_broadcast_ended, next_ended, next_other};
 ghost use Rattle.j39_node.specs.Transfers.{next_transfer_ended};
-ghost use Rattle.j39_node.specs.Prompt.{IsPrompt, IsSteady, NoneTold, packets_taken, taken_for, tells_broadcast, tells_transfer};
+ghost use Rattle.j39_node.specs.Prompt.{IsPrompt, IsSteady, NoneTold, packets_taken, taken_for, tells_broadcast, tells_transfer, StaysFirst};
 ghost use Rattle.j39_node.specs.Since.{passed_in};
 ghost use Rattle.j39_node.specs.Example.{nine, two, announcement, busy_to, clear_to, own_claim};
 ghost use Rattle.j39_node.specs.PromptExample.{prompt_example, prompt_start, transfer_example, transfer_start};
@@ -100,6 +100,15 @@ pub fn messages_go()
         → (k - reached earlier + packets_taken later + 1) * (6 * g) < passed_in later earlier
         → length (told (later ++ earlier)) ≤ k
         → (e : Ending) × (next_ended w (later ++ earlier) ≡ Some (length (told (later ++ earlier)), e)) }
+{}
+
+/// To such a driver a reply goes, whatever else is due, packets of its own transfer too: as long as one is the first that waits, and none
+/// is taken, at most 3 g * (p + 2) pass, where p frames of broadcasts are taken meanwhile; or the address is lost.
+pub fn replies_go()
+    ensures { (w : Who) (later earlier : List Call) (c : Controller) (g : ℕ) (m : Message) → Is w (later ++ earlier) c
+        → IsTrue (is_held (address_after w earlier)) → StaysFirst w m later earlier → IsSteady g later earlier
+        → is_lost (address_after w (later ++ earlier)) ≡ false
+        → passed_in later earlier ≤ (packets_taken later + 2) * (3 * g) }
 {}
 
 /// To such a driver a transfer of n packets ends, whoever asks: within (n + 65) * (T3 + 3 g) + 6 g * (q + 1), if that is below

@@ -1,15 +1,14 @@
-use Rattle.std.proofs.Common.{◌≡◌, ◌≤◌, List, [], ◌∷◌, Some, refl, inl, arith}
+use Rattle.std.proofs.Common.{[], ◌∷◌, Some, refl, inl, arith}
 use Rattle.j39_transport.specs.Frames.{is_announcement, is_packet, goes, group_of, source_of, destination_of, names_message}
 use Rattle.j39_transport.specs.Key.{key_between}
 use Rattle.j39_transport.specs.Receiving.{said_to}
 use Rattle.j39_transport.specs.Signals.{request_in, said_by, control_in, packet_in, said_between}
-use Rattle.j39_node.specs.History.{Call}
 use Rattle.j39_node.specs.History.Call.{At}
 use Rattle.j39_node.specs.History.Act.{Hear, TakeFrame}
 use Rattle.j39_node.specs.Example.{clear_to, first_from, other_request_from, two}
 use Rattle.j39_node.specs.Packets.{Bring}
 use Rattle.j39_node.specs.Packets.Bring.{begins, brings, spares}
-use Rattle.j39_node.specs.SteadyExample.{brought, brought_start}
+use Rattle.j39_node.specs.SteadyExample.{brought_start}
 use Rattle.j39_node.proofs.session_laws.an_example_of_packets.Goals as goal
 
 pub returns-clause-bring : goal.returns-clause-bring
