@@ -61,6 +61,7 @@ int32_t j39_controller_new_subscribed(j1939_handle *controller, uint64_t name, u
 int32_t j39_controller_again(j1939_handle *controller, uint64_t micros);
 int32_t j39_controller_renew(j1939_handle *controller, uint8_t priority, uint32_t pgn, uint8_t to,
                              const uint8_t *payload, uint64_t size, uint64_t *token);
+int32_t j39_controller_withdraw(j1939_handle *controller, uint64_t token);
 int32_t j39_controller_hear(j1939_handle *controller, const j1939_frame *frame, uint64_t micros);
 int32_t j39_controller_tick(j1939_handle *controller, uint64_t micros);
 int32_t j39_controller_next_tick(j1939_handle *controller, uint64_t *due);
@@ -361,6 +362,10 @@ int32_t j1939_controller_renew(j1939_controller *controller, uint8_t priority, u
     return controller && payload && token
                ? j39_controller_renew(&controller->handle, priority, pgn, to, payload, size, token)
                : J1939_NULL;
+}
+
+int32_t j1939_controller_withdraw(j1939_controller *controller, uint64_t token) {
+    return controller ? j39_controller_withdraw(&controller->handle, token) : J1939_NULL;
 }
 
 int32_t j1939_controller_broadcast(j1939_controller *controller, uint64_t micros, uint32_t pgn, const uint8_t *payload,

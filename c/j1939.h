@@ -516,6 +516,12 @@ int32_t j1939_controller_send(j1939_controller *controller, uint64_t micros, uin
 int32_t j1939_controller_renew(j1939_controller *controller, uint8_t priority, uint32_t pgn, uint8_t to,
                                const uint8_t *payload, size_t size, uint64_t *token);
 
+/** Withdraws a message of .._send that waits to be taken: 1; it is never sent, and told as J1939_ENDED_WITHDRAWN once all
+ * before it have ended. 0, where nothing changes, if none waits under this token, for a request, and where the address is
+ * lost, by which all that wait end.
+ * @return 0, 1, J1939_NO_PART */
+int32_t j1939_controller_withdraw(j1939_controller *controller, uint64_t token);
+
 /** Hands in a message of 9 to 1785 bytes to all (J1939-21, 5.10.3.5), 50 ms or more from frame to frame: 1 and its
  * token, of a count of its own. J1939_BAD_VALUE as of .._send. J1939_FULL while one is accepted and not told. The bytes
  * are copied.
@@ -548,7 +554,7 @@ enum j1939_ended_kind {
 /** How it ended. */
 enum j1939_ending {
     J1939_ENDED_DONE = 1,         /**< its frames were taken; a transfer was acknowledged; a group came in answer */
-    J1939_ENDED_WITHDRAWN = 2,    /**< the address was lost before */
+    J1939_ENDED_WITHDRAWN = 2,    /**< the address was lost before, or .._withdraw took it back */
     J1939_ENDED_FAILED = 3,       /**< a transfer was aborted, as detail says: by the receiver for its reason, for 3
                                        where that was silent, for 5 where it cleared nothing new too often; it may have
                                        arrived */

@@ -79,6 +79,7 @@ static void null_pointers(void) {
     EXPECT(j1939_controller_tick(NULL, 0) == J1939_NULL);
     EXPECT(j1939_controller_again(NULL, 0) == J1939_NULL);
     EXPECT(j1939_controller_renew(&controller, 6, 65262, 255, NULL, 8, &name) == J1939_NULL);
+    EXPECT(j1939_controller_withdraw(NULL, 0) == J1939_NULL);
     EXPECT(j1939_controller_next_tick(&controller, NULL) == J1939_NULL);
     EXPECT(j1939_controller_take_frame(&controller, 0, NULL) == J1939_NULL);
     EXPECT(j1939_controller_peek_frame(NULL, 0, &out) == J1939_NULL);
@@ -368,6 +369,7 @@ static void no_controller(j1939_controller *controller) {
     EXPECT(j1939_controller_tick(controller, 0) == J1939_NO_PART);
     EXPECT(j1939_controller_again(controller, 0) == J1939_NO_PART);
     EXPECT(j1939_controller_renew(controller, 6, 65262, 255, payload, 8, &number) == J1939_NO_PART);
+    EXPECT(j1939_controller_withdraw(controller, 0) == J1939_NO_PART);
     EXPECT(j1939_controller_next_tick(controller, &number) == J1939_NO_PART);
     EXPECT(j1939_controller_take_frame(controller, 0, &out) == J1939_NO_PART);
     EXPECT(j1939_controller_peek_frame(controller, 0, &out) == J1939_NO_PART);
@@ -532,6 +534,11 @@ static void again_of(j1939_controller *controller) {
     EXPECT(!memcmp(out.data, newest, 8) && taken(controller, 5250000) == 0);
     EXPECT(j1939_controller_take_ended(controller, &ended) == J1939_ENDED_MESSAGE && ended.token == 18);
     EXPECT(ended.ending == J1939_ENDED_DONE && j1939_controller_take_ended(controller, &ended) == 0);
+    EXPECT(j1939_controller_withdraw(controller, 18) == 0 && j1939_controller_withdraw(controller, 19) == 0);
+    EXPECT(j1939_controller_send(controller, 5250000, 6, 65262, 255, payload, 8, &token) == 1 && token == 19);
+    EXPECT(j1939_controller_withdraw(controller, 19) == 1 && j1939_controller_withdraw(controller, 19) == 0);
+    EXPECT(taken(controller, 5250000) == 0 && j1939_controller_take_ended(controller, &ended) == J1939_ENDED_MESSAGE);
+    EXPECT(ended.token == 19 && ended.ending == J1939_ENDED_WITHDRAWN && j1939_controller_take_ended(controller, &ended) == 0);
 }
 
 /* What it hears: requests, and messages of one frame. */

@@ -246,6 +246,7 @@ static void call_controller(j1939_controller *controller, uint8_t address) {
     case 11:
         answered(j1939_controller_renew(controller, priority, 61444, 255, payload, size % 10, &token), J1939_NO_PART, 1);
         mix(token);
+        answered(j1939_controller_withdraw(controller, next() % 64), J1939_NO_PART, 1);
         break;
     case 12:
         answered(j1939_controller_new_subscribed(controller, name, address, delay, served, 2, wanted, 3), J1939_IN_USE, 0);

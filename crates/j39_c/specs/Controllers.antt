@@ -8,7 +8,7 @@ use Rattle.j39_address.specs.Node.{IsLeastFree, NoneFree}
 use Rattle.j39_frame.specs.Address.{IsAddress}
 use Rattle.j39_transport.specs.Message.{MessageRecord}
 use Rattle.j39_node.specs.History.{Act, Asked, Call, Message, Who, nothing, missed, told_claims}
-use Rattle.j39_node.specs.History.Call.{At, ReleaseBroadcast, ReleaseTransfer, TakeAskEnded, TakeBroadcastEnded, TakeEnded, TakeReceived, TakeTransferEnded}
+use Rattle.j39_node.specs.History.Call.{At, ReleaseBroadcast, ReleaseTransfer, TakeAskEnded, TakeBroadcastEnded, TakeEnded, TakeReceived, TakeTransferEnded, Withdraw}
 use Rattle.j39_node.specs.Hearing.{unheard, waiting}
 use Rattle.j39_node.specs.Is.{Is}
 use Rattle.j39_node.specs.Moving.{HasMoved, IsSettled}
@@ -99,6 +99,12 @@ Moves address (pos zero) old new = (new ≡ old) × Says (λ w H. IsAddress addr
 Moves address (pos (suc n)) old new =
     (w : Who) (H : List Call) → Is w H old → IsAddress address × IsSettled w H × HasMoved w H address new
 Moves address (negsuc n) old new = ⊥
+
+-- a message is withdrawn: 1, or 0
+abbrev pub Withdraws : ℕ → ℤ → Controller → Controller → Type 0
+Withdraws token (pos zero) old new = Continues (Withdraw token false) old new
+Withdraws token (pos (suc n)) old new = Continues (Withdraw token true) old new
+Withdraws token (negsuc n) old new = ⊥
 
 -- ---- messages are handed in
 

@@ -47,7 +47,7 @@ pub use node::{
 };
 pub use offering::{
     j39_controller_acknowledge, j39_controller_ask, j39_controller_broadcast, j39_controller_renew,
-    j39_controller_send, j39_controller_transfer,
+    j39_controller_send, j39_controller_transfer, j39_controller_withdraw,
 };
 pub use reading::{PlainReading, j39_raw_of, j39_reading, j39_reading_text};
 pub use receiver::{j39_receiver_busy, j39_receiver_new, j39_receiver_on, j39_receiver_tick};

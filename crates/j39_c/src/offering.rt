@@ -1,5 +1,5 @@
 //! What a controller is handed in, to be sent (J1939-21, 5.4 and 5.10).
-ghost use Rattle.std.specs.Prelude.{◌≡◌, ◌<◌, ◌^◌, ◌∷◌, [], Some, None, IfSome, IsSome, ◌↔◌, pos};
+ghost use Rattle.std.specs.Prelude.{⊤, ◌≡◌, ◌<◌, ◌^◌, ◌∷◌, [], Some, None, IfSome, IsSome, ◌↔◌, pos};
 ghost use Rattle.j39_frame.specs.Pgn.{pgn_raw};
 ghost use Rattle.j39_frame.specs.Stamp.{stamp_micros};
 ghost use Rattle.j39_node.specs.declared.kinds.Answer.{Answer};
@@ -8,7 +8,7 @@ ghost use Rattle.j39_node.specs.History.Act.{Acknowledge, Ask, Broadcast, Send, 
 ghost use Rattle.j39_c.specs.Calls.{Answers, Asks, Fills, Never};
 ghost use Rattle.j39_c.specs.Codes.{bad_value, full, no_address, no_part, told};
 ghost use Rattle.j39_c.specs.Parts.{controller_in};
-ghost use Rattle.j39_c.specs.Controllers.{Continues, IsAccepted, IsAt, IsTaken, Offers, answer_in, request_in};
+ghost use Rattle.j39_c.specs.Controllers.{Continues, IsAccepted, IsAt, IsTaken, Offers, Withdraws, answer_in, request_in};
 
 use crate::handed_out::{PlainRequest, answer_of, put, put_token, request_of, taken};
 use crate::handle::Handle;
@@ -67,6 +67,22 @@ pub extern "C" fn j39_controller_renew(
         return Refusal::BadValue.code();
     };
     ask!(alloc, controller, Controlling(held) => put(held.renew(priority, group, to, payload), token))
+}
+
+/// Withdraws a message of `j39_controller_send` that waits: 1; it is never sent, and told as withdrawn once all before it have
+/// ended. 0, where nothing changes, if none waits under this token, for a request, and where the address is lost. -2 where the
+/// handle holds no controller.
+#[unsafe(no_mangle)]
+pub extern "C" fn j39_controller_withdraw(
+    alloc: Global,
+    controller: &mut Handle,
+    token: u64,
+) -> i32
+    ensures asks { Asks controller_in ⊤ controller.old.part result controller.new.part
+        (λ old new. Withdraws token result old new) Never }
+    ensures answers { Answers 1 (no_part ∷ []) result }
+{
+    ask!(alloc, controller, Controlling(held) => i32::from(held.withdraw(token)))
 }
 
 /// Hands in a message of 9 to 1,785 bytes, to all: 1, and its token. -8 where no address is held. -1 for another number of

@@ -11,11 +11,11 @@ use Rattle.j39_node.specs.declared.kinds.Ending.{Ending}
 use Rattle.j39_node.specs.declared.kinds.News.TheVariants.{AddressLost, AnotherAtAddress, MessagesMissed, NameDoubled}
 use Rattle.j39_node.specs.declared.kinds.Refused.TheVariants.{NoAddress, BadValue, Full}
 use Rattle.j39_node.specs.Aside.{IsAside}
-use Rattle.j39_node.specs.History.{fresh, is_refusal_due, yields, is_left, patience, turns, Who, Message, Call, Address, Asked, accepted, acknowledged, acknowledgment, address_after, another_news, asked, asked_group, asked_with, broadcast_from, broadcasts, calls_for_claim, can_broadcast, can_send, claim_address, claim_from, claimed, due, got, handed, holds, is_acknowledgment, is_another, is_claim, is_for_program, is_held, is_lost, is_open, is_packet, is_session, is_smaller, is_transfer, kept, lost_news, message_from, message_of, missed_news, moment, older, open_broadcast, owes_claim, packets, pause, request_for, requests, sent, step, told, with_refusal, with_request, delayed, of_other, doubled_news, double, latest}
+use Rattle.j39_node.specs.History.{reached, fresh, is_refusal_due, is_left, patience, turns, Who, Message, Call, Address, Asked, accepted, acknowledged, acknowledgment, address_after, another_news, asked, asked_group, asked_with, broadcast_from, broadcasts, calls_for_claim, can_broadcast, can_send, claim_address, claim_from, claimed, due, got, handed, holds, is_acknowledgment, is_another, is_claim, is_for_program, is_held, is_lost, is_open, is_packet, is_session, is_smaller, is_transfer, kept, lost_news, message_from, message_of, missed_news, moment, older, open_broadcast, owes_claim, packets, pause, request_for, requests, sent, step, told, with_refusal, with_request, delayed, of_other, doubled_news, double, latest, marks, past, blank}
 use Rattle.j39_node.specs.History.Address.{Lost}
-use Rattle.j39_node.specs.History.Call.{At, TakeAskEnded, TakeEnded, TakeReceived, TakeRequest, TakeNews, TakeBroadcastEnded, ReleaseTransfer, TakeTransferEnded, ReleaseBroadcast, Renew}
+use Rattle.j39_node.specs.History.Call.{At, TakeAskEnded, TakeEnded, TakeReceived, TakeRequest, TakeNews, TakeBroadcastEnded, ReleaseTransfer, TakeTransferEnded, ReleaseBroadcast, Renew, Withdraw}
 use Rattle.j39_node.specs.History.Act.{Ask, Hear, Tick, TakeFrame, Send, Acknowledge, Broadcast, Transfer, Again}
-use Rattle.j39_node.specs.Reception.{Reception, has_place, heard_at, heard_by, held_then, holder, later, leaves, left, reception, released_by, taken_by, ticked, time_heard, whole_by, is_message, asks_claims, called, calls_claims, claimed_again, known, still, is_reply, is_that}
+use Rattle.j39_node.specs.Reception.{yields, Reception, has_place, heard_at, heard_by, held_then, holder, later, leaves, left, reception, released_by, taken_by, ticked, time_heard, whole_by, is_message, asks_claims, called, calls_claims, claimed_again, known, still, is_reply, is_that}
 use Rattle.j39_node.specs.Hearing.{OpenBroadcast, announces, breaks, changes, ends_by, found, hearing, hears as hears_it, in_time, is_out, is_over, is_unheard, left as leaves_it, newly, packs, unheard_news, whole_of}
 use Rattle.j39_node.specs.Transfers.{Running, age, begun, can_transfer, clock, hears_if, holds_back, is_engaged, is_replaced, joined, open_transfer, rest, resting, rests_after, sends_if, transfer_by, transfer_end, transfers}
 use Rattle.j39_node.specs.History.{Resting}
@@ -32,7 +32,7 @@ use Rattle.j39_node.proofs.ReceptionLaws.{goes_there, to_others}
 use Rattle.j39_node.proofs.RequestStrangers.{and_false, to_another}
 use Rattle.j39_node.proofs.StrangerLaws.{no_more, open_stays}
 use Rattle.j39_node.proofs.ReceptionLemmas.{unclaimed_known}
-use Rattle.j39_node.specs.Is.{is_there, AreAnswered, IsAnswered, broadcast_end, control_of, end_of, news_of, packet_by, stamped, is_apart, turn_frame, turn_of}
+use Rattle.j39_node.specs.Is.{is_there, AreAnswered, IsAnswered, broadcast_end, control_of, end_of, news_of, packet_by, stamped, is_apart, turn_frame, turn_of, may_go}
 use Rattle.j39_node.specs.declared.turn.Ready.{Ready}
 use Rattle.j39_node.proofs.LawLemmas.{is_false as not_so}
 use Rattle.j39_node.proofs.PromptLaws.{answered_from as before}
@@ -48,7 +48,8 @@ record State : Type 0 where
   pub patience : ℕ
   pub delay : ℕ
   pub accepted : List (ℕ × Message)
-  pub sent : List Message
+  pub reached : ℕ
+  pub marks : List Bool
   pub told : List (ℕ × Ending)
   pub broadcasts : List MessageRecord
   pub broadcast : Option (ℕ × MessageRecord)
@@ -86,11 +87,12 @@ state w H = record {
   address = address_after w H;
   owes = owes_claim w H;
   turns = turns H;
-  yields = yields H;
+  yields = yields w H;
   patience = patience w H;
   delay = delayed w H;
   accepted = accepted w H;
-  sent = sent H;
+  reached = reached H;
+  marks = marks H;
   told = told H;
   broadcasts = broadcasts w H;
   broadcast = open_broadcast w H;
@@ -168,7 +170,7 @@ hears_with w when f a held time holds ends found r s = record (passes when s) {
   hearing = hears_it w time f found;
   ended =
       first s.ended
-      (end_at w s.ask (length s.sent) (s.wait - (when - s.moment)) (comes_at time s) (is_lost a) f
+      (end_at w s.ask (s.reached) (s.wait - (when - s.moment)) (comes_at time s) (is_lost a) f
       (option_or (made_of (whole_by w.address (is_smaller w (claim_of f)) held f time r))
       (made_of (option_map (λ (x : ℕ × MessageRecord). x.1) (newly (whole_of s.hearing) (whole_of (hears_it w time f found)))))));
   transfer = hears_if (is_lost a) (λ b. is_replaced (s.holder b) (holds b)) f (clock (s.age + (when - s.moment))) s.transfer;
@@ -188,12 +190,12 @@ takes_with now f holds s = record (passes now s) {
   address = if is_claim f then claimed (older (now - s.moment) s.address) else older (now - s.moment) s.address;
   owes = if is_claim f then false else s.owes;
   turns = if is_claim f || is_acknowledgment f then suc s.turns else 0;
-  yields = if is_claim f || is_acknowledgment f then s.yields else is_transfer f;
-  sent = if is_claim f || (is_acknowledgment f || is_session f) then s.sent else s.sent ++ message_of f ∷ [];
+  yields = if is_claim f || is_acknowledgment f then s.yields else is_reply s.reception.replies f;
+  reached = if is_claim f || (is_acknowledgment f || is_session f) then s.reached else past s.marks (suc s.reached);
   packets = if is_packet f then s.packets ++ message_of f ∷ [] else s.packets;
   pause = if is_packet f then 150000 else s.pause - (now - s.moment);
   acknowledged = if is_claim f || not (is_acknowledgment f) then s.acknowledged else s.acknowledged ++ message_of f ∷ [];
-  wait = if is_message f && has_token s.ask (length s.sent) then 1250000 else s.wait - (now - s.moment);
+  wait = if is_message f && has_token s.ask (s.reached) then 1250000 else s.wait - (now - s.moment);
   called = if is_claim f || (is_message f && asks_claims f) then 1250000 + (now - s.heard_at) else s.called;
   holder = holds;
   reception = taken_by (is_claim f) (is_reply s.reception.replies f) (leaves s.holder holds s.reception.session) s.reception;
@@ -215,10 +217,11 @@ next w (At now Tick) s = record (passes now s) {
 }
 next w (At now (TakeFrame None)) s = passes now s
 next w (At now (TakeFrame (Some f))) s = takes_with now f (λ b. if is_claim f then held_then b (claim_of f) (s.holder b) else s.holder b) s
-next w (At now (Send d (Ok k))) s = record (passes now s) { accepted = s.accepted ++ (k, message_from w d) ∷ [] }
+next w (At now (Send d (Ok k))) s = record (passes now s) { accepted = s.accepted ++ (k, message_from w d) ∷ []; marks = s.marks ++ false ∷ [] }
 next w (At now (Send d (Err r))) s = passes now s
 next w (At now (Ask group to (Ok k))) s = record (passes now s) {
   accepted = s.accepted ++ (k, message_from w (request_for group to)) ∷ [];
+  marks = s.marks ++ false ∷ [];
   ask = Some (question k group to);
   ended = None;
 }
@@ -238,6 +241,12 @@ next w (At now (Transfer group to bytes (Ok k))) s = record (passes now s) {
   age = 0;
 }
 next w (At now (Transfer group to bytes (Err r))) s = passes now s
+next w (Withdraw k false) s = s
+next w (Withdraw k true) s = record s {
+  accepted = slice_set s.accepted k (k, blank);
+  marks = slice_set s.marks k true;
+  reached = past (slice_set s.marks k true) s.reached;
+}
 next w (Renew d None) s = s
 next w (Renew d (Some k)) s = record s { accepted = slice_set s.accepted k (k, message_from w d) }
 next w (TakeEnded None) s = s
@@ -272,6 +281,7 @@ state_is w (At now (Ask group to (Ok k))) H = refl
 state_is w (At now (Acknowledge r a (Ok x))) H = refl
 state_is w (At now (Broadcast group bytes (Ok k))) H = refl
 state_is w (At now (Transfer group to bytes (Ok k))) H = refl
+state_is w (Withdraw k false) H = refl
 state_is w (Renew d None) H = refl
 state_is w (TakeEnded None) H = refl
 state_is w (TakeReceived None) H = refl
@@ -298,11 +308,11 @@ frame_by w s now =
     let due : Ready = record {
       overdue = is_left s.broadcast (length s.packets) && nat_eq left 0;
       reply = nat_lt 0 (length s.reception.replies);
-      message = nat_lt (length s.sent) (length s.accepted);
+      message = nat_lt (s.reached) (length s.accepted);
       packet = is_left s.broadcast (length s.packets) && nat_le left 100000;
       transfer = is_apart transfer (slice_get s.reception.replies 0);
     } in
-    let others = turn_frame (turn_of s.yields due) (slice_get s.reception.replies 0) (slice_get s.accepted (length s.sent))
+    let others = turn_frame (turn_of s.yields due) (slice_get s.reception.replies 0) (slice_get s.accepted (s.reached))
     (packet_by s.broadcast (length s.packets) left) transfer in
     let gives = nat_le 2 s.turns && is_there (if holds_at s now then others else None) in
     if (s.owes && (not (is_lost s.address) || nat_eq (s.delay - (now - s.moment)) 0)) && not gives then Some (now, claim_from w (claim_address w s.address))
@@ -317,8 +327,9 @@ abbrev Answers : Who → State → Call → Type 0
 Answers w s (At now (TakeFrame answer)) = option_map stamped answer ≡ frame_by w s now
 Answers w s (At now (Send d answer)) =
     answer ≡ (if holds_at s now then (if can_send w d then (if full_by s then Err Full else Ok (length s.accepted)) else Err BadValue) else Err NoAddress)
-Answers w s (Renew d answer) = answer ≡ (if can_send w d then latest (message_from w d) (max (length s.sent) (length s.told)) 0 s.accepted None else None)
-Answers w s (TakeEnded answer) = answer ≡ end_of (nat_lt (length s.told) (length s.sent)) (is_lost s.address) (slice_get s.accepted (length s.told))
+Answers w s (Renew d answer) = answer ≡ (if can_send w d then latest (message_from w d) (max (s.reached) (length s.told)) 0 s.accepted None else None)
+Answers w s (Withdraw k answer) = answer ≡ (not (is_lost s.address) && (nat_le s.reached k && may_go (slice_get s.accepted k)))
+Answers w s (TakeEnded answer) = answer ≡ end_of (nat_lt (length s.told) (s.reached)) (is_lost s.address) (slice_get s.accepted (length s.told))
 Answers w s (TakeReceived answer) = answer ≡ slice_get s.kept (length s.got)
 Answers w s (TakeRequest answer) = answer ≡ slice_get s.requests (length s.handed)
 Answers w s (TakeNews answer) = answer ≡ news_of s.lost s.another s.doubled (s.missed || s.unheard)
@@ -350,7 +361,7 @@ Answers w s (At now (Ask group to answer)) =
     ≡ (if holds_at s now
     then (if can_ask w group to then (if full_by s || is_asking s.ask then Err Full else Ok (length s.accepted)) else Err BadValue)
     else Err NoAddress)
-Answers w s (TakeAskEnded answer) = answer ≡ ask_end s.ask (length s.sent) s.ended s.wait (comes_at s.time s) (is_lost s.address)
+Answers w s (TakeAskEnded answer) = answer ≡ ask_end s.ask (s.reached) s.ended s.wait (comes_at s.time s) (is_lost s.address)
 Answers w s (ReleaseBroadcast answer) = answer ≡ not (has_place (whole_of s.hearing))
 Answers w s (At when (Hear f)) = Unit {0}
 Answers w s (At now Tick) = Unit {0}
@@ -392,7 +403,7 @@ aside w now s = record (passes now s) {
   time = later s.time (now - s.heard_at);
   unheard = (breaks (is_out (later s.time (now - s.heard_at)) s.hearing) s.hearing || false) || s.unheard;
   hearing = in_time (later s.time (now - s.heard_at)) s.hearing;
-  ended = first s.ended (silence_of s.ask (length s.sent) (s.wait - (now - s.moment)) (comes_at (later s.time (now - s.heard_at)) s) (is_lost (older (now - s.moment) s.address)));
+  ended = first s.ended (silence_of s.ask (s.reached) (s.wait - (now - s.moment)) (comes_at (later s.time (now - s.heard_at)) s) (is_lost (older (now - s.moment) s.address)));
 }
 
 -- no announcement and no packet to all
@@ -518,10 +529,10 @@ module _ (w : Who) (f : FrameRecord) (a : IsAside w f) where
       coming : Bool
       coming = comes w H (time_heard (At when (Hear f) ∷ H))
 
-      ends : ended w (At when (Hear f) ∷ H) ≡ first (ended w H) (silence_of (open_ask H) (length (sent H)) (wait H - step H when) coming (is_lost (older (step H when) (address_after w H))))
+      ends : ended w (At when (Hear f) ∷ H) ≡ first (ended w H) (silence_of (open_ask H) (reached H) (wait H - step H when) coming (is_lost (older (step H when) (address_after w H))))
       ends =
-          ap (λ (x : Address). first (ended w H) (end_at w (open_ask H) (length (sent H)) (wait H - step H when) coming (is_lost x) f (made w H when f))) lives
-          ∙ ap (first (ended w H)) (silent (open_ask H) (length (sent H)) (wait H - step H when) coming (is_lost (older (step H when) (address_after w H))))
+          ap (λ (x : Address). first (ended w H) (end_at w (open_ask H) (reached H) (wait H - step H when) coming (is_lost x) f (made w H when f))) lives
+          ∙ ap (first (ended w H)) (silent (open_ask H) (reached H) (wait H - step H when) coming (is_lost (older (step H when) (address_after w H))))
 
 -- ---- so no answer tells which it was
 

@@ -6,7 +6,7 @@ use Rattle.j39_node.specs.declared.asking.Open as asking
 use Rattle.j39_node.specs.declared.outgoing.Outgoing.{Outgoing}
 use Rattle.j39_node.specs.declared.kinds.Refused.{Refused}
 use Rattle.std.specs.Option.{option_map}
-use Rattle.j39_node.specs.History.{Who, Message, Call, accepted, is_full, message_from, request_for, sent, told, told_claims}
+use Rattle.j39_node.specs.History.{reached, Who, Message, Call, accepted, is_full, message_from, request_for, told, told_claims}
 use Rattle.j39_node.specs.History.Call.{At}
 use Rattle.j39_node.specs.History.Act.{Ask}
 use Rattle.j39_node.specs.Asking.{answer_to_ask, ended, is_asking, open_ask, question}
@@ -24,7 +24,7 @@ pub busy_is : (w : Who) (H : List Call) (c : Controller) → Is w H c
 busy_is w H c h =
     ap (λ (b : Bool). b || is_asking (option_map (λ (x : AskRecord). x.question) (asking_of c.asking))) (full_is w H c h)
     ∙ ap (λ (b : Bool). is_full w H || b)
-    (ap (λ (o : Option AskRecord). is_asking (option_map (λ (x : AskRecord). x.question) o)) h.asking ∙ asking_is (open_ask H) (length (sent H)) (ended w H))
+    (ap (λ (o : Option AskRecord). is_asking (option_map (λ (x : AskRecord). x.question) o)) h.asking ∙ asking_is (open_ask H) (reached H) (ended w H))
 
 pub refuses_ask : (w : Who) (H : List Call) (old new : Controller) (now group to : ℕ) (r : Refused) → Is w H old → Passed w H now new.hold
     → Err r ≡ answer_to_ask w H now group to → new ≡ record old { hold = new.hold } → Is w (At now (Ask group to (Err r)) ∷ H) new
@@ -70,7 +70,7 @@ asks_one w H old new now group to x q h p answer is e e0 e1 e2 e3 =
       token = (let a = h.token in let b = length_one_more (accepted w H) (old.next_token, m) in omega (arith, a, b, e1));
       asking = e2 ∙ (ap (λ (y : AskRecord). Some y) e3
           ∙ ap (λ (b : Bool). (let r : Option AskRecord = Some (record { question = question old.next_token group to; taken = b; ending = None }) in r))
-          (sym (not_taken old.next_token (length (sent H)) (let a = h.token in let b = sent_within w H s in omega (arith, a, b)))));
+          (sym (not_taken old.next_token (reached H) (let a = h.token in let b = sent_within w H s in omega (arith, a, b)))));
       unread = ap (λ c. map received_by c.inbox.unread.items) e ∙ h.unread;
       requests = ap (λ c. map request_by c.desk.waiting.items) e ∙ h.requests;
       acknowledgments = ap (λ c. map (refusal_by w) c.desk.due.items) e ∙ h.acknowledgments;

@@ -1,8 +1,9 @@
 -- The laws of requests.
-use Rattle.std.proofs.Common.{◌≡◌, ◌⊎◌, ◌↔◌, ℕ, zero, suc, ◌+◌, ◌-◌, ◌<◌, ◌≤◌, List, [], ◌∷◌, ◌++◌, length, Option, Some, None, Result, Ok, Err, Bool, true, false, not, ◌&&◌, ◌||◌, if◌then◌else◌, nat_eq, nat_lt, refl, sym, ap, ◌∙◌, subst, inl, inr, arith, eqb-true, IsTrue, max}
+use Rattle.std.proofs.Common.{◌≡◌, ◌⊎◌, ◌↔◌, ℕ, suc, ◌+◌, ◌-◌, ◌<◌, ◌≤◌, List, [], ◌∷◌, ◌++◌, length, Option, Some, None, Result, Ok, Err, Bool, true, false, not, ◌&&◌, ◌||◌, if◌then◌else◌, nat_eq, nat_lt, refl, sym, ap, ◌∙◌, subst, inl, inr, arith, eqb-true, IsTrue, slice_set}
 use Rattle.std.specs.List.{slice_get}
 use Rattle.std.specs.Option.{option_map}
 use Rattle.j39_frame.specs.Frame.{FrameRecord}
+use Rattle.j39_node.proofs.WithdrawLemmas.{get_front, unpassed}
 use Rattle.j39_node.specs.declared.controller.Controller.{Controller}
 use Rattle.j39_node.specs.declared.kinds.Answer.{Answer}
 use Rattle.j39_node.specs.declared.kinds.Answer.TheVariants.{Ack, Nack, Denied, Busy}
@@ -10,9 +11,9 @@ use Rattle.j39_node.specs.declared.kinds.AskEnding.{AskEnding}
 use Rattle.j39_node.specs.declared.kinds.AskEnding.TheVariants.{Answered, Acknowledged, TimedOut, Withdrawn}
 use Rattle.j39_node.specs.declared.kinds.Refused.{Refused}
 use Rattle.j39_node.specs.declared.kinds.Refused.TheVariants.{NoAddress, BadValue, Full}
-use Rattle.j39_node.specs.History.{Who, Message, Call, accepted, address_after, holds, is_acknowledgment, is_claim, is_full, is_lost, is_session, is_smaller, message_from, message_of, moment, request_for, sent, step, told}
-use Rattle.j39_node.specs.History.Call.{At, TakeAskEnded, Renew}
-use Rattle.j39_node.specs.History.Act.{Ask, Hear, Send, TakeFrame, Again}
+use Rattle.j39_node.specs.History.{reached, Who, Call, accepted, address_after, holds, is_acknowledgment, is_claim, is_full, is_lost, is_session, is_smaller, message_from, moment, request_for, step, told, marks, past}
+use Rattle.j39_node.specs.History.Call.{At, TakeAskEnded, Withdraw}
+use Rattle.j39_node.specs.History.Act.{Ask, Hear, TakeFrame, Again}
 use Rattle.j39_address.specs.Claim.{claim_of}
 use Rattle.j39_node.specs.Since.{passed_in}
 use Rattle.j39_node.specs.Reception.{time_heard, is_message}
@@ -20,10 +21,8 @@ use Rattle.j39_node.specs.Asking.{seeks, made, AskedSince, HeardFirst, NoneEnds,
 use Rattle.j39_node.specs.Is.{AreAnswered, Is, IsAnswered}
 use Rattle.j39_node.proofs.AskCases.{AskCase, ask_case, homeless, unfit, busy, asks as accepts}
 use Rattle.j39_node.proofs.QueueLemmas.{get_append, length_one_more}
-use Rattle.j39_node.proofs.SoundLemmas.{both, lost_older, sound, lost_unclaimed, renew_case}
+use Rattle.j39_node.proofs.SoundLemmas.{both, lost_older, sound, lost_unclaimed, grows_on, passes_request, request_stays}
 use Rattle.j39_node.proofs.LawLemmas.{full_from, full_parts, not_both, sent_within, stays_lost, stays_lost_claimed}
-use Rattle.j39_node.proofs.RenewLemmas.{IsLatest, no_request, set_other}
-use Rattle.j39_frame.specs.Network.{request_group}
 
 -- ---- which is open
 
@@ -63,31 +62,10 @@ listed w (call ∷ H) e = go call e.1 (listed w H e.0)
     go : (call : Call) → IsAnswered w H call → Listed (length (told_asks H)) (asks H) (open_ask H)
         → Listed (length (told_asks (call ∷ H))) (asks (call ∷ H)) (open_ask (call ∷ H))
     go (At now (Ask group to (Ok k))) right h = new (open_ask H) (question k group to) (opens w H now group to k (ask_case w H now group to (Ok k) right)).1 h
-    go (TakeAskEnded (Some x)) right h = over (open_ask H) (length (sent H)) (wait H) (ended w H) (comes w H (time_heard H)) (is_lost (address_after w H)) x right h
+    go (TakeAskEnded (Some x)) right h = over (open_ask H) (reached H) (wait H) (ended w H) (comes w H (time_heard H)) (is_lost (address_after w H)) x right h
     go call right h = h
 
 -- ---- what it sends
-
-get_before : {T : Type 0} (L : List T) (y : T) (i : ℕ) (x : T) → slice_get L i ≡ Some x → slice_get (L ++ y ∷ []) i ≡ Some x
-get_before [] y i x e = absurd (cc)
-get_before (z ∷ L) y zero x e = e
-get_before (z ∷ L) y (suc i) x e = get_before L y i x e
-
--- a request that is accepted stays where it is
-grows_on : (w : Who) (H : List Call) (call : Call) (n : ℕ) (x : ℕ × Message) → IsAnswered w H call → nat_eq x.1.group request_group ≡ true
-    → slice_get (accepted w H) n ≡ Some x → slice_get (accepted w (call ∷ H)) n ≡ Some x
-grows_on w H (At now (Send draft (Ok k))) n x right r e = get_before (accepted w H) _ n x e
-grows_on w H (At now (Ask group to (Ok k))) n x right r e = get_before (accepted w H) _ n x e
-grows_on w H (Renew draft (Some k)) n x right r e = set_other (accepted w H) k n (k, message_from w draft) (λ z. apart (renew_case w H draft k right).at z) ∙ e
-  where
-    apart : IsLatest (message_from w draft) (max (length (sent H)) (length (told H))) 0 k (accepted w H) → n ≡ k → ⊥
-    apart at z = no_request (message_from w draft) at.entry.1 at.alike
-        (ap (λ (y : ℕ × Message). nat_eq y.1.group request_group) (let s : at.entry ≡ x = same at z in s) ∙ r)
-      where
-        same : (at : IsLatest (message_from w draft) (max (length (sent H)) (length (told H))) 0 k (accepted w H)) → n ≡ k → at.entry ≡ x
-        same at z = let a = at.is in let i : slice_get (accepted w H) k ≡ Some x = subst (λ (m : ℕ). slice_get (accepted w H) m ≡ Some x) z e in
-            let j : slice_get (accepted w H) k ≡ Some at.entry = ap (slice_get (accepted w H)) (let y : k ≡ k - 0 = omega arith in y) ∙ a in cc
-grows_on w H call n x right r e = e
 
 pub request_sent : (w : Who) (H : List Call) → AreAnswered w H → (i : ℕ) (q : Question) → slice_get (asks H) i ≡ Some q
     → slice_get (accepted w H) q.token ≡ Some (q.token, message_from w (request_for q.group q.to))
@@ -99,7 +77,7 @@ request_sent w (call ∷ H) e i q g = go call e.1 (request_sent w H e.0) i q g
 
     new : (now group to k : ℕ) → k ≡ length (accepted w H) → Sent H → Sent (At now (Ask group to (Ok k)) ∷ H)
     new now group to k t h = λ i q g. elim (get_append (asks H) (question k group to) i q g) [
-      | inl old ↦ get_before (accepted w H) _ q.token _ (h i q old)
+      | inl old ↦ get_front (accepted w H) _ q.token _ (h i q old)
       | inr last ↦ subst (λ (p : Question). slice_get (accepted w H ++ (k, message_from w (request_for group to)) ∷ []) p.token ≡ Some (p.token, message_from w (request_for p.group p.to)))
           last.1
           (subst (λ (n : ℕ). slice_get (accepted w H ++ (k, message_from w (request_for group to)) ∷ []) n ≡ Some (k, message_from w (request_for group to))) (sym t)
@@ -131,19 +109,25 @@ Waits H q = (e : ℕ) × AskedSince H q e × (wait H ≡ 1250000 - e)
 waits_on : (H : List Call) (call : Call) (q : Question) → wait (call ∷ H) ≡ wait H - step H (moment (call ∷ H)) → Waits H q → Waits (call ∷ H) q
 waits_on H call q p h = let l = h.2 in (h.0 + step H (moment (call ∷ H)), later_asked H call q h.0 h.1, omega (arith, p, l))
 
+-- the frame of a message takes the request that is next
+taken_then : (w : Who) (H : List Call) (now : ℕ) (f : FrameRecord) (q : Question) (b : Bool) → AreAnswered w H → open_ask H ≡ Some q
+    → (is_claim f || (is_acknowledgment f || is_session f)) ≡ b → is_taken q (At now (TakeFrame (Some f)) ∷ H) ≡ (if b then is_taken q H else nat_lt q.token (suc (reached H)))
+taken_then w H now f q true a o e = ap (λ (x : Bool). nat_lt q.token (if x then reached H else past (marks H) (suc (reached H)))) e
+taken_then w H now f q false a o e = ap (λ (x : Bool). nat_lt q.token (if x then reached H else past (marks H) (suc (reached H)))) e ∙ passes_request w H a q o
+
 -- a frame that isn't its request takes nothing of it
-not_taken_by : (H : List Call) (now : ℕ) (f : FrameRecord) (q : Question) → open_ask H ≡ Some q → is_request H f ≡ false
+not_taken_by : (w : Who) (H : List Call) (now : ℕ) (f : FrameRecord) (q : Question) → AreAnswered w H → open_ask H ≡ Some q → is_request H f ≡ false
     → is_taken q (At now (TakeFrame (Some f)) ∷ H) ≡ true → is_taken q H ≡ true
-not_taken_by H now f q o r t = go (is_claim f || (is_acknowledgment f || is_session f)) refl r t
+not_taken_by w H now f q a o r t = go (is_claim f || (is_acknowledgment f || is_session f)) refl r t
   where
     less : (k n : ℕ) → nat_eq k n ≡ false → nat_lt k (suc n) ≡ true → nat_lt k n ≡ true
     less k n e g = grind arith
 
     go : (b : Bool) → (is_claim f || (is_acknowledgment f || is_session f)) ≡ b → is_request H f ≡ false → is_taken q (At now (TakeFrame (Some f)) ∷ H) ≡ true → is_taken q H ≡ true
-    go true e r t = sym (ap (λ (x : Bool). nat_lt q.token (length (if x then sent H else sent H ++ message_of f ∷ []))) e) ∙ t
+    go true e r t = sym (taken_then w H now f q true a o e) ∙ t
     go false e r t =
-        less q.token (length (sent H)) (sym (ap (λ (x : Bool). not x && has_token (open_ask H) (length (sent H))) e ∙ ap (λ (x : Option Question). has_token x (length (sent H))) o) ∙ r)
-        (sym (ap (λ (x : Bool). nat_lt q.token (length (if x then sent H else sent H ++ message_of f ∷ []))) e ∙ ap (nat_lt q.token) (length_one_more (sent H) (message_of f))) ∙ t)
+        less q.token (reached H) (sym (ap (λ (x : Bool). not x && has_token (open_ask H) (reached H)) e ∙ ap (λ (x : Option Question). has_token x (reached H)) o) ∙ r)
+        (sym (taken_then w H now f q false a o e) ∙ t)
 
 pub waits : (w : Who) (H : List Call) → AreAnswered w H → (q : Question) → open_ask H ≡ Some q → is_taken q H ≡ true → Waits H q
 waits w [] e q o t = absurd (cc)
@@ -153,7 +137,7 @@ waits w (call ∷ H) e q o t = go call e.1 (λ i k. waits w H e.0 q i k) o t
     late k n l g = grind arith
 
     fresh : (now group to k : ℕ) → k ≡ length (accepted w H) → question k group to ≡ q → is_taken q H ≡ true → Waits (At now (Ask group to (Ok k)) ∷ H) q
-    fresh now group to k z p g = absurd (late q.token (length (sent H))
+    fresh now group to k z p g = absurd (late q.token (reached H)
         (let a = sent_within w H (sound w H e.0) in let b = ap (λ (y : Question). y.token) p in omega (arith, a, b, z)) g)
 
     takes : (now : ℕ) (f : FrameRecord) (b : Bool) → (open_ask H ≡ Some q → is_taken q H ≡ true → Waits H q) → is_request H f ≡ b → open_ask H ≡ Some q → is_taken q (At now (TakeFrame (Some f)) ∷ H) ≡ true
@@ -161,13 +145,16 @@ waits w (call ∷ H) e q o t = go call e.1 (λ i k. waits w H e.0 q i k) o t
     takes now f true prior r o t =
         (0, record { later = []; earlier = H; at = now; frame = f; is = refl; current = o; request = r; passed = refl }, ap (λ (b : Bool). if b then 1250000 else wait H - step H now) r)
     takes now f false prior r o t =
-        waits_on H (At now (TakeFrame (Some f))) q (ap (λ (b : Bool). if b then 1250000 else wait H - step H now) r) (prior o (not_taken_by H now f q o r t))
+        waits_on H (At now (TakeFrame (Some f))) q (ap (λ (b : Bool). if b then 1250000 else wait H - step H now) r) (prior o (not_taken_by w H now f q e.0 o r t))
 
     go : (call : Call) → IsAnswered w H call → (open_ask H ≡ Some q → is_taken q H ≡ true → Waits H q) → open_ask (call ∷ H) ≡ Some q → is_taken q (call ∷ H) ≡ true → Waits (call ∷ H) q
     go (At now (Ask group to (Ok k))) right prior o t =
         fresh now group to k (opens w H now group to k (ask_case w H now group to (Ok k) right)).2 (let z : question k group to ≡ q = cc in z) t
     go (TakeAskEnded (Some x)) right prior o t = absurd (cc)
     go (At now (TakeFrame (Some f))) right prior o t = takes now f (is_request H f) prior refl o t
+    go (Withdraw k true) right prior o t =
+        waits_on H (Withdraw k true) q (omega arith) (prior o
+        (sym (unpassed (slice_set (marks H) k true) (reached H) q.token (request_stays w (Withdraw k true ∷ H) (e.0, right) q o)) ∙ t))
     go call right prior o t = waits_on H call q (omega arith) (prior o t)
 
 -- ---- how it ends
@@ -273,7 +260,7 @@ not_over taken left coming lost z = go taken (nat_eq left 0) coming lost refl re
 
 -- a frame ends it
 ends_by : (w : Who) (H : List Call) (when : ℕ) (f : FrameRecord) (q : Question) (e : AskEnding) → AreAnswered w H → open_ask H ≡ Some q → ended w H ≡ None
-    → end_at w (Some q) (length (sent H)) (wait H - step H when) (comes w H (time_heard (At when (Hear f) ∷ H))) (is_lost (address_after w (At when (Hear f) ∷ H))) f (made w H when f) ≡ Some e
+    → end_at w (Some q) (reached H) (wait H - step H when) (comes w H (time_heard (At when (Hear f) ∷ H))) (is_lost (address_after w (At when (Hear f) ∷ H))) f (made w H when f) ≡ Some e
     → Outcome w (At when (Hear f) ∷ H) q e
 ends_by w H when f q e right o n z =
     go (silent_end (is_taken q H) (wait H - step H when) (comes w H (time_heard (At when (Hear f) ∷ H))) (is_lost (address_after w (At when (Hear f) ∷ H)))) (is_taken q H) refl refl z
@@ -326,10 +313,10 @@ outcome w [] right q e o z = absurd (cc)
 outcome w (call ∷ H) right q e o z = go call (λ i k. outcome w H right.0 q e i k) o z
   where
     hears : (when : ℕ) (f : FrameRecord) (b : Option AskEnding) → (open_ask H ≡ Some q → ended w H ≡ Some e → Outcome w H q e) → open_ask H ≡ Some q → ended w H ≡ b
-        → first b (end_at w (open_ask H) (length (sent H)) (wait H - step H when) (comes w H (time_heard (At when (Hear f) ∷ H))) (is_lost (address_after w (At when (Hear f) ∷ H))) f (made w H when f)) ≡ Some e → Outcome w (At when (Hear f) ∷ H) q e
+        → first b (end_at w (open_ask H) (reached H) (wait H - step H when) (comes w H (time_heard (At when (Hear f) ∷ H))) (is_lost (address_after w (At when (Hear f) ∷ H))) f (made w H when f)) ≡ Some e → Outcome w (At when (Hear f) ∷ H) q e
     hears when f (Some x) prior o p z = later_outcome w H (At when (Hear f)) q e (stays_lost (is_smaller w (claim_of f)) (step H when) (address_after w H)) (prior o (p ∙ z))
     hears when f None prior o p z = ends_by w H when f q e right.0 o p
-        (sym (ap (λ (x : Option Question). end_at w x (length (sent H)) (wait H - step H when) (comes w H (time_heard (At when (Hear f) ∷ H))) (is_lost (address_after w (At when (Hear f) ∷ H))) f (made w H when f)) o) ∙ z)
+        (sym (ap (λ (x : Option Question). end_at w x (reached H) (wait H - step H when) (comes w H (time_heard (At when (Hear f) ∷ H))) (is_lost (address_after w (At when (Hear f) ∷ H))) f (made w H when f)) o) ∙ z)
 
     go : (call : Call) → (open_ask H ≡ Some q → ended w H ≡ Some e → Outcome w H q e) → open_ask (call ∷ H) ≡ Some q → ended w (call ∷ H) ≡ Some e
         → Outcome w (call ∷ H) q e
@@ -369,7 +356,7 @@ told_is w H c k e is = go (open_ask H) (ended w H) refl refl is.answered.1
     by q None x z = absurd (cc)
     by q (Some y) x z = let u : x ≡ (q.token, y) = cc in (sym (ap (λ (v : ℕ × AskEnding). v.0) u), sym (ap (λ (v : ℕ × AskEnding). Some v.1) u))
 
-    go : (o : Option Question) (h : Option AskEnding) → open_ask H ≡ o → ended w H ≡ h → Some (k, e) ≡ ask_end o (length (sent H)) h (wait H) (comes w H (time_heard H)) (is_lost (address_after w H)) → Told w H k e
+    go : (o : Option Question) (h : Option AskEnding) → open_ask H ≡ o → ended w H ≡ h → Some (k, e) ≡ ask_end o (reached H) h (wait H) (comes w H (time_heard H)) (is_lost (address_after w H)) → Told w H k e
     go None h o p z = absurd (cc)
     go (Some q) h o p z =
         let b = by q (first h (silent_end (is_taken q H) (wait H) (comes w H (time_heard H)) (is_lost (address_after w H)))) (k, e) z in
@@ -460,14 +447,13 @@ pub frame_is : (w : Who) (H : List Call) (c : Controller) (i : ℕ) (q : Questio
     → slice_get (accepted w H) q.token ≡ Some (q.token, message_from w (request_for q.group q.to))
 frame_is w H c i q is g = request_sent w H is.answered i q g
 
-pub taken_once : (H : List Call) (now : ℕ) (f : FrameRecord) (q : Question) → open_ask H ≡ Some q → IsTrue (is_request H f)
-    → (is_taken q H ≡ false) × IsTrue (is_taken q (At now (TakeFrame (Some f)) ∷ H)) × (length (sent H) ≡ q.token)
-taken_once H now f q o r =
-    let b = both (is_message f) (has_token (open_ask H) (length (sent H))) r in
-    let z = eqb-true q.token (length (sent H)) (sym (ap (λ (x : Option Question). has_token x (length (sent H))) o) ∙ b.1) in (
-      not_less q.token (length (sent H)) z,
-      ap (λ (x : Bool). nat_lt q.token (length (if x then sent H else sent H ++ message_of f ∷ []))) (single (is_claim f || (is_acknowledgment f || is_session f)) b.0)
-          ∙ (ap (nat_lt q.token) (length_one_more (sent H) (message_of f)) ∙ less q.token (length (sent H)) z),
+pub taken_once : (w : Who) (H : List Call) (c : Controller) (now : ℕ) (f : FrameRecord) (q : Question) → Is w H c → open_ask H ≡ Some q → IsTrue (is_request H f)
+    → (is_taken q H ≡ false) × IsTrue (is_taken q (At now (TakeFrame (Some f)) ∷ H)) × (reached H ≡ q.token)
+taken_once w H c now f q is o r =
+    let b = both (is_message f) (has_token (open_ask H) (reached H)) r in
+    let z = eqb-true q.token (reached H) (sym (ap (λ (x : Option Question). has_token x (reached H)) o) ∙ b.1) in (
+      not_less q.token (reached H) z,
+      taken_then w H now f q false is.answered o (single (is_claim f || (is_acknowledgment f || is_session f)) b.0) ∙ less q.token (reached H) z,
       sym z,
     )
   where
@@ -549,7 +535,7 @@ stays w (call ∷ later) H q e n o z = go call n.0 (stays w later H q e n.1 o z)
     go (TakeAskEnded (Some y)) x h = absurd (cc)
     go (At when (Hear f)) x h = (
       h.0,
-      ap (λ (o : Option AskEnding). first o (end_at w (open_ask (later ++ H)) (length (sent (later ++ H))) (wait (later ++ H) - step (later ++ H) when)
+      ap (λ (o : Option AskEnding). first o (end_at w (open_ask (later ++ H)) (reached (later ++ H)) (wait (later ++ H) - step (later ++ H) when)
           (comes w (later ++ H) (time_heard (At when (Hear f) ∷ later ++ H))) (is_lost (address_after w (At when (Hear f) ∷ later ++ H))) f (made w (later ++ H) when f))) h.1,
     )
     go call x h = h
@@ -573,13 +559,13 @@ first_stands w H later c when f q e answer is n o t none l kept says =
     let G = later ++ At when (Hear f) ∷ H in
     let d = comes w H (time_heard (At when (Hear f) ∷ H)) in
     let now : ended w (At when (Hear f) ∷ H) ≡ Some e =
-    (λ i. first (none i) (end_at w (o i) (length (sent H)) (wait H - step H when) d (kept i) f (made w H when f)))
+    (λ i. first (none i) (end_at w (o i) (reached H) (wait H - step H when) d (kept i) f (made w H when f)))
     ∙ (ap (λ (b : Bool). first (silent_end b (wait H - step H when) d false) (if b then says_to w q f (made w H when f) else None)) t
     ∙ (ap (λ (x : Option AskEnding). first x (says_to w q f (made w H when f))) (not_silent (wait H - step H when) d (left l)) ∙ says)) in
     let s = stays w later (At when (Hear f) ∷ H) q e n o now in
     is.answered.1
-    ∙ (ap (λ (x : Option Question). ask_end x (length (sent G)) (ended w G) (wait G) (comes w G (time_heard G)) (is_lost (address_after w G))) s.0
-    ∙ ap (λ (x : Option AskEnding). ask_end (Some q) (length (sent G)) x (wait G) (comes w G (time_heard G)) (is_lost (address_after w G))) s.1)
+    ∙ (ap (λ (x : Option Question). ask_end x (reached G) (ended w G) (wait G) (comes w G (time_heard G)) (is_lost (address_after w G))) s.0
+    ∙ ap (λ (x : Option AskEnding). ask_end (Some q) (reached G) x (wait G) (comes w G (time_heard G)) (is_lost (address_after w G))) s.1)
   where
     left : (step H when < wait H) ⊎ IsTrue (comes w H (time_heard (At when (Hear f) ∷ H))) → (0 < wait H - step H when) ⊎ IsTrue (comes w H (time_heard (At when (Hear f) ∷ H)))
     left (inl g) = inl (omega (arith, g))
@@ -588,9 +574,9 @@ first_stands w H later c when f q e answer is n o t none l kept says =
 -- ---- out of time
 
 pub over_told : (w : Who) (H : List Call) (q : Question) (h : Option AskEnding) → (h ≡ None) ⊎ (h ≡ Some TimedOut) → open_ask H ≡ Some q → is_taken q H ≡ true
-    → wait H ≡ 0 → comes w H (time_heard H) ≡ false → ask_end (open_ask H) (length (sent H)) h (wait H) (comes w H (time_heard H)) (is_lost (address_after w H)) ≡ Some (q.token, TimedOut)
+    → wait H ≡ 0 → comes w H (time_heard H) ≡ false → ask_end (open_ask H) (reached H) h (wait H) (comes w H (time_heard H)) (is_lost (address_after w H)) ≡ Some (q.token, TimedOut)
 over_told w H q h g o t l d =
-    (λ i. ask_end (o i) (length (sent H)) h (l i) (d i) (is_lost (address_after w H)))
+    (λ i. ask_end (o i) (reached H) h (l i) (d i) (is_lost (address_after w H)))
     ∙ (ap (λ (b : Bool). of_it (first h (silent_end b 0 false (is_lost (address_after w H))))) t ∙ by h g)
   where
     of_it : Option AskEnding → Option (ℕ × AskEnding)
@@ -641,7 +627,7 @@ all_told w H c is = go (open_ask H) refl (listed w H is.answered.0) is.answered.
         by false t = inl t
         by true t = since t (l t)
 
-    silent : (q : Question) (h : Option AskEnding) → (let none : Option (ℕ × AskEnding) = None in none) ≡ ask_end (Some q) (length (sent H)) h (wait H) (comes w H (time_heard H)) (is_lost (address_after w H))
+    silent : (q : Question) (h : Option AskEnding) → (let none : Option (ℕ × AskEnding) = None in none) ≡ ask_end (Some q) (reached H) h (wait H) (comes w H (time_heard H)) (is_lost (address_after w H))
         → silent_end (is_taken q H) (wait H) (comes w H (time_heard H)) (is_lost (address_after w H)) ≡ None
     silent q (Some x) z = absurd (cc)
     silent q None z = by (silent_end (is_taken q H) (wait H) (comes w H (time_heard H)) (is_lost (address_after w H))) z
@@ -651,7 +637,7 @@ all_told w H c is = go (open_ask H) refl (listed w H is.answered.0) is.answered.
         by (Some y) g = absurd (cc)
 
     go : (o : Option Question) → open_ask H ≡ o → Listed (length (told_asks H)) (asks H) o
-        → (let none : Option (ℕ × AskEnding) = None in none) ≡ ask_end o (length (sent H)) (ended w H) (wait H) (comes w H (time_heard H)) (is_lost (address_after w H)) → Goal
+        → (let none : Option (ℕ × AskEnding) = None in none) ≡ ask_end o (reached H) (ended w H) (wait H) (comes w H (time_heard H)) (is_lost (address_after w H)) → Goal
     go None o h z = inl (sym h)
     go (Some q) o h z =
         let n = not_over (is_taken q H) (wait H) (comes w H (time_heard H)) (is_lost (address_after w H)) (silent q (ended w H) z) in inr (q, o, waiting q o n.1, not_both _ n.0)

@@ -1,11 +1,14 @@
 -- A call more.
-use Rattle.std.proofs.Common.{ltb-true, ◌≡◌, ℕ, suc, ◌+◌, ◌-◌, ◌<◌, ◌≤◌, List, [], ◌∷◌, ◌++◌, length, map, drop, max, min, Option, Some, None, IfSome, Result, Ok, Err, Bool, true, false, not, ◌&&◌, ◌||◌, if◌then◌else◌, nat_eq, nat_lt, nat_le, refl, sym, ap, ◌∙◌, subst, arith, lt-ltb, eqb-true, inl, inr, ◌*◌, slice_set}
+use Rattle.std.proofs.Common.{ltb-true, ◌≡◌, ℕ, suc, ◌+◌, ◌-◌, ◌<◌, ◌≤◌, List, [], ◌∷◌, ◌++◌, length, map, drop, max, min, Option, Some, None, IfSome, Result, Ok, Err, Bool, true, false, not, ◌&&◌, ◌||◌, if◌then◌else◌, nat_eq, nat_lt, nat_le, refl, sym, ap, ◌∙◌, subst, arith, lt-ltb, eqb-true, inl, inr, ◌*◌, slice_set, ltb-false}
 use Rattle.std.specs.List.{slice_get}
 use Rattle.std.specs.Option.{option_map, option_or}
 use Rattle.j39_frame.specs.Frame.{FrameRecord}
 use Rattle.j39_address.specs.Claim.{claim_of}
 use Rattle.j39_address.specs.Claims.{Knows, holder_in}
 use Rattle.j39_transport.specs.Message.{MessageRecord}
+use Rattle.std.proofs.lemmas.List.{drop-map, length-drop, length-set}
+use Rattle.j39_node.specs.declared.kinds.Ending.{Ending}
+use Rattle.j39_node.proofs.WithdrawLemmas.{past_rest}
 use Rattle.j39_node.specs.declared.controller.Controller.{Controller}
 use Rattle.j39_node.specs.declared.hold.Hold.{Hold}
 use Rattle.j39_node.specs.declared.hold.Standing.{Standing}
@@ -14,7 +17,7 @@ use Rattle.j39_node.specs.declared.lane.Open.{Open}
 use Rattle.j39_node.specs.declared.transfers.Open as transfers
 use Rattle.j39_node.specs.declared.kinds.TransferEnding.{TransferEnding}
 use Rattle.j39_node.specs.declared.outgoing.Outgoing.{Outgoing}
-use Rattle.std.proofs.lemmas.Option.{slice_get_past}
+use Rattle.std.proofs.lemmas.Option.{slice_get_past, slice_get_within}
 use Rattle.j39_node.specs.declared.news.Untold.{Untold}
 use Rattle.j39_node.specs.declared.requests.Due.{Due}
 use Rattle.j39_node.specs.declared.requests.Request.{Request}
@@ -26,14 +29,14 @@ use Rattle.j39_node.specs.declared.kinds.Refused.TheVariants.{NoAddress, BadValu
 use Rattle.j39_node.specs.declared.kinds.AskEnding.{AskEnding}
 use Rattle.j39_transport.specs.Reception.{ReceptionRecord}
 use Rattle.j39_node.specs.Asking.{comes, in_broadcast, in_session, is_coming, made, made_of, ended, has_token, open_ask, wait}
-use Rattle.j39_node.proofs.AskLemmas.{ask_heard, ask_more, ask_same, takes, token_of, wait_more, wait_same}
-use Rattle.j39_node.specs.Is.{AskRecord, made_by, asking_of, hears_with, silence, claim_due, next_renewed, Renews}
-use Rattle.j39_node.specs.Hold.{acknowledged as hold_acknowledged, claimed as hold_claimed, rested, spoken as hold_spoken, asked as hold_asked, standing_of, less, passed, heard, claims, paused, stands, lost, left_at, opens as hold_opens, can_claim, unclaims, anew}
-use Rattle.j39_node.specs.History.{nothing, patience, turns, Who, Message, Draft, Call, Address, message_of, older, claimed, address_after, holds, is_lost, is_held, is_smaller, claim_address, claim_from, owes_claim, calls_for_claim, can_send, message_from, accepted, sent, told, is_full, step, moment, is_for_program, kept, got, missed, Asked, asked, acknowledgment, acknowledged, due, handed, requests, is_served, with_request, with_refusal, stamp_at, held_at, told_claims, is_another, is_acknowledgment, is_claim, lost_news, another_news, missed_news, broadcasts, broadcast_from, can_broadcast, has_packets, is_busy, is_left, is_open, is_packet, open_broadcast, packets, pause, asks_with, is_session, yields, content, is_transfer, fresh, is_refusal_due, delayed, is_double, may_claim, double, unclaimed, latest}
-use Rattle.j39_node.specs.History.Call.{At, TakeEnded, TakeRequest, TakeTransferEnded, Renew}
+use Rattle.j39_node.proofs.AskLemmas.{ask_heard, ask_more, ask_same, takes, token_of, wait_more, wait_same, ask_withdrawn}
+use Rattle.j39_node.specs.Is.{AskRecord, made_by, asking_of, hears_with, silence, claim_due, next_renewed, Renews, may_go, next_withdrawn, place_of, ending_of, AreAnswered}
+use Rattle.j39_node.specs.Hold.{acknowledged as hold_acknowledged, claimed as hold_claimed, rested, spoken as hold_spoken, went as hold_went, asked as hold_asked, standing_of, less, passed, heard, claims, paused, stands, lost, left_at, opens as hold_opens, can_claim, unclaims, anew}
+use Rattle.j39_node.specs.History.{reached, nothing, patience, turns, Who, Message, Draft, Call, Address, message_of, older, claimed, address_after, holds, is_lost, is_held, is_smaller, claim_address, claim_from, owes_claim, calls_for_claim, can_send, message_from, accepted, told, is_full, step, moment, is_for_program, kept, got, missed, Asked, asked, acknowledgment, acknowledged, due, handed, requests, is_served, with_request, with_refusal, stamp_at, held_at, told_claims, is_another, is_acknowledgment, is_claim, lost_news, another_news, missed_news, broadcasts, broadcast_from, can_broadcast, has_packets, is_busy, is_left, is_open, is_packet, open_broadcast, packets, pause, asks_with, is_session, content, fresh, is_refusal_due, delayed, is_double, may_claim, double, unclaimed, latest, marks, past, blank, is_blank}
+use Rattle.j39_node.specs.History.Call.{At, TakeEnded, TakeRequest, TakeTransferEnded, Renew, Withdraw}
 use Rattle.j39_node.specs.History.Act.{Hear, Tick, TakeFrame, Send, Acknowledge, Broadcast, Transfer, Again}
 use Rattle.j39_node.proofs.ReceptionLaws.{made_is}
-use Rattle.j39_node.specs.Reception.{has_place, IsApart, heard_at, heard_by, holder, is_same, is_waiting, later, leaves, left, reception, time_heard, whole, known, asks_claims, called, claimed_again, is_message, restarts, still, is_reply}
+use Rattle.j39_node.specs.Reception.{yields, has_place, IsApart, heard_at, heard_by, holder, is_same, is_waiting, later, leaves, left, reception, time_heard, whole, known, asks_claims, called, claimed_again, is_message, restarts, still, is_reply}
 use Rattle.j39_node.specs.declared.incoming.Incoming.{Incoming}
 use Rattle.j39_node.specs.declared.incoming.Said.{Said}
 use Rattle.j39_address.specs.declared.claims.Claims.{Claims}
@@ -47,11 +50,11 @@ use Rattle.j39_node.specs.declared.turn.Turn.TheVariants.{Reply, Single, Packet,
 use Rattle.j39_frame.specs.Stamp.{stamp_micros}
 use Rattle.j39_node.specs.Hearing.{IsFit, breaks as breaks_it, hearing, hears as hears_it, is_out, is_unheard, left as leaves_it, made_whole, newly, unheard_news, waiting, whole_of, OpenBroadcast}
 use Rattle.j39_node.proofs.HearingLemmas.{always, broken_news, claimed_on, either_news, hearing_same, heard_on, is_hearing, leaves_on, news_same, missed_one}
-use Rattle.j39_node.proofs.QueueLemmas.{length_one_more, length_map, map_append, length_rest, in_rest, not_in_rest, First, drop_append, length_drop, get_at, get_map, get_within}
-use Rattle.j39_node.proofs.SoundLemmas.{apart_is, reply_is, IsTurn, frame_there, is_directed, overdue_due, packet_there, some_at, turn_is, turned, sound, own_get, due_get, due_taken, claim_taken, message_taken, plain_taken, sent_is, acknowledged_is, address_is, frame_by, front_length, held_not_lost, holding_not_lost, lost_older, read, single_taken, claim_single, no_packet, packet_session, reply_taken, packet_taken, packets_is, pause_is, no_transfer, transfer_taken, no_move, reply_no_move, is_moved}
+use Rattle.j39_node.proofs.QueueLemmas.{length_one_more, length_map, map_append, length_rest, in_rest, not_in_rest, First, drop_append, get_at, get_map, get_of_drop}
+use Rattle.j39_node.proofs.SoundLemmas.{apart_is, reply_is, IsTurn, frame_there, is_directed, overdue_due, packet_there, some_at, turn_is, turned, sound, own_of, due_get, due_taken, claim_taken, message_taken, plain_taken, acknowledged_is, address_is, frame_by, front_length, held_not_lost, holding_not_lost, lost_older, read, single_taken, claim_single, no_packet, packet_session, reply_taken, packet_taken, packets_is, pause_is, no_transfer, transfer_taken, no_move, reply_no_move, is_moved, reached_is, Sound, withdraw_case}
 use Rattle.j39_node.proofs.FrameLemmas.{at_now}
 use Rattle.j39_node.proofs.PortLemmas.{clock_is, is_port, port_more, port_same, ported, replaced_is}
-use Rattle.j39_node.proofs.RenewLemmas.{latest_rest, latest_is, set_length, set_rest}
+use Rattle.j39_node.proofs.RenewLemmas.{latest_rest, latest_is, set_rest}
 
 -- ---- the hold
 
@@ -79,7 +82,7 @@ pub record Passed (w : Who) (H : List Call) (now : ℕ) (h : Hold) : Type 0 wher
   pub standing : h.standing ≡ standing_of (older (step H now) (address_after w H))
   pub owes : h.owes_claim ≡ owes_claim w H
   pub turns : h.turns ≡ min (turns H) 2
-  pub yields : h.yields ≡ yields H
+  pub yields : h.yields ≡ yields w H
   pub patience : h.patience ≡ patience w H - step H now
   pub delay : h.delay ≡ delayed w H - step H now
   pub pause : h.pause ≡ pause H - step H now
@@ -251,25 +254,25 @@ turns_more H now f t e g = more (turns H) t g ∙ ap (λ (b : Bool). min (if b t
     more n t g = omega (arith, g)
 
 -- whether replies yield then
-yields_same : (H : List Call) (now : ℕ) (f : FrameRecord) (y : Bool) → (is_claim f || is_acknowledgment f) ≡ true → y ≡ yields H → y ≡ yields (At now (TakeFrame (Some f)) ∷ H)
-yields_same H now f y e g = g ∙ ap (λ (b : Bool). if b then yields H else is_transfer f) (sym e)
+yields_same : (w : Who) (H : List Call) (now : ℕ) (f : FrameRecord) (y : Bool) → (is_claim f || is_acknowledgment f) ≡ true → y ≡ yields w H → y ≡ yields w (At now (TakeFrame (Some f)) ∷ H)
+yields_same w H now f y e g = g ∙ ap (λ (b : Bool). if b then yields w H else is_reply (reception w H).replies f) (sym e)
 
-yields_now : (H : List Call) (now : ℕ) (f : FrameRecord) (y : Bool) → is_claim f ≡ false → is_acknowledgment f ≡ false → is_transfer f ≡ y
-    → y ≡ yields (At now (TakeFrame (Some f)) ∷ H)
-yields_now H now f y n l e = sym e ∙ ap (λ (b : Bool). if b then yields H else is_transfer f) (sym (ap (λ (b : Bool). b || is_acknowledgment f) n ∙ l))
+yields_now : (w : Who) (H : List Call) (now : ℕ) (f : FrameRecord) (y : Bool) → is_claim f ≡ false → is_acknowledgment f ≡ false → is_reply (reception w H).replies f ≡ y
+    → y ≡ yields w (At now (TakeFrame (Some f)) ∷ H)
+yields_now w H now f y n l e = sym e ∙ ap (λ (b : Bool). if b then yields w H else is_reply (reception w H).replies f) (sym (ap (λ (b : Bool). b || is_acknowledgment f) n ∙ l))
 
 owes_same : (w : Who) (H : List Call) (now : ℕ) (f : FrameRecord) → is_claim f ≡ false → owes_claim w H ≡ owes_claim w (At now (TakeFrame (Some f)) ∷ H)
 owes_same w H now f n = ap (λ (b : Bool). if b then false else owes_claim w H) (sym n)
 
 -- the next reply or message
 pub message_next : (w : Who) (H : List Call) (c : Controller) → Is w H c → is_lost (address_after w H) ≡ false
-    → option_map posted (slice_get c.outgoing.items c.taken) ≡ slice_get (accepted w H) (length (sent H))
+    → option_map posted (slice_get c.outgoing.items c.taken) ≡ slice_get (accepted w H) (reached H)
 message_next w H c h l = next (slice_get c.outgoing.items c.taken) refl ((sound w H h.answered).in_turn l)
   where
-    next : (o : Option Outgoing) → slice_get c.outgoing.items c.taken ≡ o → length (told H) ≤ length (sent H)
-        → option_map posted o ≡ slice_get (accepted w H) (length (sent H))
-    next None e t = sym (not_in_rest posted c.outgoing.items (accepted w H) (length (told H)) (length (sent H)) c.taken h.outgoing h.taken t e)
-    next (Some y) e t = sym (in_rest posted c.outgoing.items y (accepted w H) (length (told H)) (length (sent H)) c.taken h.outgoing h.taken t e)
+    next : (o : Option Outgoing) → slice_get c.outgoing.items c.taken ≡ o → length (told H) ≤ reached H
+        → option_map posted o ≡ slice_get (accepted w H) (reached H)
+    next None e t = sym (not_in_rest posted c.outgoing.items (accepted w H) (length (told H)) (reached H) c.taken h.outgoing h.taken t e)
+    next (Some y) e t = sym (in_rest posted c.outgoing.items y (accepted w H) (length (told H)) (reached H) c.taken h.outgoing h.taken t e)
 
 two_turns : (t n : ℕ) → t ≡ min n 2 → nat_le 2 t ≡ nat_le 2 n
 two_turns t n e = go (nat_le 2 n) refl
@@ -289,10 +292,10 @@ lt_less a t s l = grind arith
 
 -- what is due, and whose turn it is
 sent_due : (w : Who) (H : List Call) (c : Controller) → Is w H c → is_lost (address_after w H) ≡ false
-    → nat_lt c.taken (length c.outgoing.items) ≡ nat_lt (length (sent H)) (length (accepted w H))
+    → nat_lt c.taken (length c.outgoing.items) ≡ nat_lt (reached H) (length (accepted w H))
 sent_due w H c h e =
     ap (λ (n : ℕ). nat_lt n (length c.outgoing.items)) h.taken
-    ∙ (ap (λ (n : ℕ). nat_lt (length (sent H) - length (told H)) n) (length_rest posted c.outgoing.items (length (told H)) (accepted w H) h.outgoing)
+    ∙ (ap (λ (n : ℕ). nat_lt (reached H - length (told H)) n) (length_rest posted c.outgoing.items (length (told H)) (accepted w H) h.outgoing)
     ∙ lt_less _ _ _ ((sound w H h.answered).in_turn e))
 
 left_next : (w : Who) (H : List Call) (c : Controller) → Is w H c → is_left (lane_of (who_of w.brought c.own) c.lane).current c.lane.count ≡ has_packets w H
@@ -354,14 +357,21 @@ next_is w H now a o e f g k = λ i. frame_by (e i) (f i) (g i) (k i) (claim_from
 
 -- the frame of whose turn it is
 other_is : (w : Who) (H : List Call) (now : ℕ) (t : Option Turn) → next_turn w H now ≡ t
-    → other w H now ≡ turn_frame t (slice_get (reception w H).replies 0) (slice_get (accepted w H) (length (sent H))) (next_packet w H now) (next_transfer w H now)
+    → other w H now ≡ turn_frame t (slice_get (reception w H).replies 0) (slice_get (accepted w H) (reached H)) (next_packet w H now) (next_transfer w H now)
 other_is w H now t e =
-    ap (λ (t : Option Turn). turn_frame t (slice_get (reception w H).replies 0) (slice_get (accepted w H) (length (sent H))) (next_packet w H now) (next_transfer w H now)) e
+    ap (λ (t : Option Turn). turn_frame t (slice_get (reception w H).replies 0) (slice_get (accepted w H) (reached H)) (next_packet w H now) (next_transfer w H now)) e
+
+-- the next that isn't withdrawn, of those that aren't told
+past_queued : (w : Who) (G : List Call) (items : List Outgoing) (t n : ℕ) → Sound w G → map posted items ≡ drop t (accepted w G)
+    → past (map is_blank (map posted items)) n + t ≡ past (marks G) (n + t)
+past_queued w G items t n s e =
+    (λ i. past (map is_blank (e i)) n + t)
+    ∙ (ap (λ bs. past bs n + t) (sym (drop-map is_blank t (accepted w G)) ∙ ap (drop t) (sym s.marked)) ∙ past_rest (marks G) t n)
 
 pub taken : (w : Who) (H : List Call) (old new : Controller) (now : ℕ) (r : Option FrameRecord) (x : Outgoing) (mid : Hold) → Is w H old
     → Passed w H now mid → claim_goes w H now ≡ false → holds w H now ≡ true → next_acknowledgment w H now ≡ None
     → turn_of mid.yields (ready_in old mid) ≡ Some Single → slice_get old.outgoing.items old.taken ≡ Some x → option_map stamped r ≡ Some (now, (posted x).1)
-    → new ≡ record old { hold = new.hold; taken = new.taken; asking = new.asking; incoming = new.incoming } → new.taken ≡ suc old.taken → (request calls : Bool)
+    → new ≡ record old { hold = new.hold; taken = new.taken; asking = new.asking; incoming = new.incoming } → new.taken ≡ past (map is_blank (map posted old.outgoing.items)) (suc old.taken) → (request calls : Bool)
     → incoming_of new.incoming ≡ with_called (if calls then 1250000 + (now - (incoming_of old.incoming).moment) else (incoming_of old.incoming).called) (incoming_of old.incoming)
     → calls ≡ asks_with (posted x).1 60928
     → asking_of new.asking ≡ option_map (takes x.token) (asking_of old.asking)
@@ -371,14 +381,14 @@ taken w H old new now None x mid h p owes held none turn g m e d request calls c
 taken w H old new now (Some f) x mid h p owes held none turn g m e d request calls c1 c2 a1 a2 a3 =
     let s = sound w H h.answered in
     let t = s.in_turn (holding_not_lost w H now held) in
-    let i = in_rest posted old.outgoing.items x (accepted w H) (length (told H)) (length (sent H)) old.taken h.outgoing h.taken t g in
+    let i = in_rest posted old.outgoing.items x (accepted w H) (length (told H)) (reached H) old.taken h.outgoing h.taken t g in
     let k : stamped f ≡ (now, (posted x).1) = cc in
-    let own = own_get w (accepted w H) (length (sent H)) (posted x) s.own i in
+    let own = own_of w H (posted x) h.answered i in
     let n = message_taken w f now (posted x) k own in
     let l = plain_taken w f now (posted x) k own in
     let one = single_taken w f now (posted x) k own in
-    let more = sent_is H now f false false false n l one in
-    let number = s.numbered (length (sent H)) (posted x) i in
+    let more = reached_is H now f false false false n l one in
+    let number = s.numbered (reached H) (posted x) i in
     record {
       who = ap (λ c. who_of w.brought c.own) e ∙ h.who;
       answered = (
@@ -386,12 +396,13 @@ taken w H old new now (Some f) x mid h p owes held none turn g m e d request cal
         ap Some k ∙ sym (next_is w H now None (Some (posted x).1) owes held none
             (other_is w H now (Some Single) (sym (turn_next w H old now mid h p held) ∙ turn) ∙ ap (option_map content) i)),
       );
-      hold = a3 ∙ is_hold _ _ (turns_same H now f n l) (yields_now H now f false n l (no_transfer f one)) p.patience p.delay p.rest p.moment (p.standing ∙ ap standing_of (sym (address_is w H now f false n))) (p.owes ∙ owes_same w H now f n) (p.pause ∙ sym (pause_is H now f false (no_packet f one))) p.age
+      hold = a3 ∙ is_hold _ _ (turns_same H now f n l) (yields_now w H now f false n l (no_reply (reception w H).replies f (no_transfer f one))) p.patience p.delay p.rest p.moment (p.standing ∙ ap standing_of (sym (address_is w H now f false n))) (p.owes ∙ owes_same w H now f n) (p.pause ∙ sym (pause_is H now f false (no_packet f one))) p.age
           (ap (λ (k : ℕ). if request then 1250000 else k) p.wait
           ∙ wait_more w H now x.token f request n l one number (a2 ∙ ap (λ (o : Option AskRecord). has_token (option_map (λ (y : AskRecord). y.question) o) x.token) h.asking));
-      asking = a1 ∙ (ap (option_map (takes x.token)) h.asking ∙ ask_more w H now x.token f number more);
+      asking = a1 ∙ (ap (option_map (takes x.token)) h.asking ∙ ask_more w H now x.token f h.answered number more);
       outgoing = ap (λ c. map posted c.outgoing.items) e ∙ h.outgoing;
-      taken = (let a = h.taken in let b = ap length more in let c = length_one_more (sent H) (message_of f) in omega (arith, a, b, c, d, t));
+      taken = (let a = h.taken in let b = past_queued w H old.outgoing.items (length (told H)) (suc old.taken) s h.outgoing in
+          let c = ap (past (marks H)) (let z : suc old.taken + length (told H) ≡ suc (reached H) = omega (arith, a, t) in z) in omega (arith, b, c, d, more));
       token = ap (λ c. c.next_token) e ∙ h.token;
       unread = ap (λ c. map received_by c.inbox.unread.items) e ∙ h.unread;
       requests = ap (λ c. map request_by c.desk.waiting.items) e ∙ h.requests;
@@ -452,9 +463,9 @@ taken_packet w H old new now f mid h p owes held none turn m e e0 e1 more =
             i ∙ sym (next_is w H now None (Some y) owes held none
                 (other_is w H now (Some Packet) (sym (turn_next w H old now mid h p held) ∙ turn) ∙ q)),
           );
-          hold = e0 ∙ is_hold _ _ (turns_same H now f is.0 is.1) (yields_now H now f false is.0 is.1 (packet_session f is.2).1) p.patience p.delay p.rest p.moment (p.standing ∙ ap standing_of (sym (address_is w H now f false is.0))) (p.owes ∙ owes_same w H now f is.0) (sym (pause_is H now f true is.2)) p.age (p.wait ∙ wait_same H now f false false true is.0 is.1 (packet_session f is.2).0 refl);
+          hold = e0 ∙ is_hold _ _ (turns_same H now f is.0 is.1) (yields_now w H now f false is.0 is.1 (no_reply (reception w H).replies f (packet_session f is.2).1)) p.patience p.delay p.rest p.moment (p.standing ∙ ap standing_of (sym (address_is w H now f false is.0))) (p.owes ∙ owes_same w H now f is.0) (sym (pause_is H now f true is.2)) p.age (p.wait ∙ wait_same H now f false false true is.0 is.1 (packet_session f is.2).0 refl);
           outgoing = ap (λ c. map posted c.outgoing.items) e ∙ h.outgoing;
-          taken = ap (λ c. c.taken) e ∙ (h.taken ∙ ap (λ (xs : List Message). length xs - length (told H)) (sym (sent_is H now f false false true is.0 is.1 (packet_session f is.2).0)));
+          taken = ap (λ c. c.taken) e ∙ (h.taken ∙ ap (λ (n : ℕ). n - length (told H)) (sym (reached_is H now f false false true is.0 is.1 (packet_session f is.2).0)));
           token = ap (λ c. c.next_token) e ∙ h.token;
           asking = ap (λ c. asking_of c.asking) e ∙ (h.asking ∙ ask_same w H now f false false true is.0 is.1 (packet_session f is.2).0 refl);
           unread = ap (λ c. map received_by c.inbox.unread.items) e ∙ h.unread;
@@ -478,7 +489,7 @@ pub taken_transfer : (w : Who) (H : List Call) (old new : Controller) (now : ℕ
     → Some (stamped f) ≡ option_map (at_now now) (transfer_by (port_of old.transfers).current (clock mid.age))
     → new ≡ record old { hold = new.hold; transfers = new.transfers }
     → (port_of new.transfers).current ≡ sends_if true (clock mid.age) (port_of old.transfers).current → new.transfers.next_token ≡ old.transfers.next_token
-    → new.transfers.resting ≡ old.transfers.resting → new.hold ≡ hold_spoken mid → Is w (At now (TakeFrame (Some f)) ∷ H) new
+    → new.transfers.resting ≡ old.transfers.resting → new.hold ≡ hold_went mid → Is w (At now (TakeFrame (Some f)) ∷ H) new
 taken_transfer w H old new now f mid h p owes held none turn u e e0 e1 e2 e3 =
     go (next_transfer w H now) refl (u ∙ ap (option_map (at_now now)) (transfer_next w H old now mid.age h p.age))
   where
@@ -497,10 +508,10 @@ taken_transfer w H old new now f mid h p owes held none turn u e e0 e1 e2 e3 =
             i ∙ sym (next_is w H now None (Some y) owes held none
                 (other_is w H now (Some Move) (sym (turn_next w H old now mid h p held) ∙ turn) ∙ q)),
           );
-          hold = e3 ∙ is_hold _ _ (turns_same H now f is.claim is.plain) (yields_now H now f true is.claim is.plain is.transfer) p.patience p.delay p.rest p.moment (p.standing ∙ ap standing_of (sym (address_is w H now f false is.claim))) (p.owes ∙ owes_same w H now f is.claim)
+          hold = e3 ∙ is_hold _ _ (turns_same H now f is.claim is.plain) (yields_now w H now f false is.claim is.plain (λ i. is.transfer i && apart_is w H now f y q (ap (λ (z : ℕ × Message). z.1) k) due_now i)) p.patience p.delay p.rest p.moment (p.standing ∙ ap standing_of (sym (address_is w H now f false is.claim))) (p.owes ∙ owes_same w H now f is.claim)
               (p.pause ∙ sym (pause_is H now f false is.packet)) p.age (p.wait ∙ wait_same H now f false false true is.claim is.plain is.session refl);
           outgoing = ap (λ c. map posted c.outgoing.items) e ∙ h.outgoing;
-          taken = ap (λ c. c.taken) e ∙ (h.taken ∙ ap (λ (xs : List Message). length xs - length (told H)) (sym (sent_is H now f false false true is.claim is.plain is.session)));
+          taken = ap (λ c. c.taken) e ∙ (h.taken ∙ ap (λ (n : ℕ). n - length (told H)) (sym (reached_is H now f false false true is.claim is.plain is.session)));
           token = ap (λ c. c.next_token) e ∙ h.token;
           asking = ap (λ c. asking_of c.asking) e ∙ (h.asking ∙ ask_same w H now f false false true is.claim is.plain is.session refl);
           unread = ap (λ c. map received_by c.inbox.unread.items) e ∙ h.unread;
@@ -534,9 +545,9 @@ taken_due w H old new now (Some f) x mid h p owes held next first m e e0 =
       who = ap (λ c. who_of w.brought c.own) e ∙ h.who;
       answered = (h.answered, ap Some k ∙ sym (next_is w H now (Some (refusal_by w x)) _ owes held next refl));
       hold = e0 ∙ is_hold _ _ (turns_more H now f mid.turns (ap (λ (b : Bool). b || is_acknowledgment f) is.0 ∙ is.1) p.turns)
-          (yields_same H now f mid.yields (ap (λ (b : Bool). b || is_acknowledgment f) is.0 ∙ is.1) p.yields) p.patience p.delay p.rest p.moment (p.standing ∙ ap standing_of (sym (address_is w H now f false is.0))) (p.owes ∙ owes_same w H now f is.0) (p.pause ∙ sym (pause_is H now f false (no_packet f is.2))) p.age (p.wait ∙ wait_same H now f false true false is.0 is.1 is.2 refl);
+          (yields_same w H now f mid.yields (ap (λ (b : Bool). b || is_acknowledgment f) is.0 ∙ is.1) p.yields) p.patience p.delay p.rest p.moment (p.standing ∙ ap standing_of (sym (address_is w H now f false is.0))) (p.owes ∙ owes_same w H now f is.0) (p.pause ∙ sym (pause_is H now f false (no_packet f is.2))) p.age (p.wait ∙ wait_same H now f false true false is.0 is.1 is.2 refl);
       outgoing = ap (λ c. map posted c.outgoing.items) e ∙ h.outgoing;
-      taken = ap (λ c. c.taken) e ∙ (h.taken ∙ ap (λ (xs : List Message). length xs - length (told H)) (sym (sent_is H now f false true false is.0 is.1 is.2)));
+      taken = ap (λ c. c.taken) e ∙ (h.taken ∙ ap (λ (n : ℕ). n - length (told H)) (sym (reached_is H now f false true false is.0 is.1 is.2)));
       token = ap (λ c. c.next_token) e ∙ h.token;
       asking = ap (λ c. asking_of c.asking) e ∙ (h.asking ∙ ask_same w H now f false true false is.0 is.1 is.2 refl);
       unread = ap (λ c. map received_by c.inbox.unread.items) e ∙ h.unread;
@@ -571,9 +582,9 @@ taken_reply w H old new now (Some f) x mid h p owes held none turn first m e e0 
         ap Some k ∙ sym (next_is w H now None (Some (said_by w.address x)) owes held none
             (other_is w H now (Some Reply) (sym (turn_next w H old now mid h p held) ∙ turn) ∙ at)),
       );
-      hold = e1 ∙ is_hold _ _ (turns_same H now f is.0 is.1) (yields_now H now f true is.0 is.1 (is_directed f is.2 is.3)) p.patience p.delay p.rest p.moment (p.standing ∙ ap standing_of (sym (address_is w H now f false is.0))) (p.owes ∙ owes_same w H now f is.0) (p.pause ∙ sym (pause_is H now f false is.3)) p.age (p.wait ∙ wait_same H now f false false true is.0 is.1 is.2 refl);
+      hold = e1 ∙ is_hold _ _ (turns_same H now f is.0 is.1) (yields_now w H now f true is.0 is.1 (λ i. is_directed f is.2 is.3 i && reply_is w H f _ at (ap (λ (y : ℕ × Message). y.1) k) i)) p.patience p.delay p.rest p.moment (p.standing ∙ ap standing_of (sym (address_is w H now f false is.0))) (p.owes ∙ owes_same w H now f is.0) (p.pause ∙ sym (pause_is H now f false is.3)) p.age (p.wait ∙ wait_same H now f false false true is.0 is.1 is.2 refl);
       outgoing = ap (λ c. map posted c.outgoing.items) e ∙ h.outgoing;
-      taken = ap (λ c. c.taken) e ∙ (h.taken ∙ ap (λ (xs : List Message). length xs - length (told H)) (sym (sent_is H now f false false true is.0 is.1 is.2)));
+      taken = ap (λ c. c.taken) e ∙ (h.taken ∙ ap (λ (n : ℕ). n - length (told H)) (sym (reached_is H now f false false true is.0 is.1 is.2)));
       token = ap (λ c. c.next_token) e ∙ h.token;
       asking = ap (λ c. asking_of c.asking) e ∙ (h.asking ∙ ask_same w H now f false false true is.0 is.1 is.2 refl);
       unread = ap (λ c. map received_by c.inbox.unread.items) e ∙ h.unread;
@@ -593,19 +604,19 @@ taken_reply w H old new now (Some f) x mid h p owes held none turn first m e e0 
 
 -- ---- an end is told
 
-pub told_done : (w : Who) (H : List Call) (old new : Controller) (x : Outgoing) → Is w H old
+pub told_done : (w : Who) (H : List Call) (old new : Controller) (x : Outgoing) (e : Ending) → e ≡ (if is_blank (posted x) then Withdrawn else Done) → Is w H old
     → First posted new.outgoing.items x (length (told H)) (accepted w H) → 0 < old.taken → new.taken + 1 ≡ old.taken
-    → new.own ≡ old.own → new.hold ≡ old.hold → new.next_token ≡ old.next_token → new.inbox ≡ old.inbox → new.desk ≡ old.desk → new.holders ≡ old.holders → new.news ≡ old.news → new.lane ≡ old.lane → new.incoming ≡ old.incoming → new.transfers ≡ old.transfers → new.asking ≡ old.asking → new.hearing ≡ old.hearing → Is w (TakeEnded (Some (x.token, Done)) ∷ H) new
-told_done w H old new x h f some less e1 e2 e3 e4 e5 e6 e7 e8 e9 e10 e11 e12 = record {
+    → new.own ≡ old.own → new.hold ≡ old.hold → new.next_token ≡ old.next_token → new.inbox ≡ old.inbox → new.desk ≡ old.desk → new.holders ≡ old.holders → new.news ≡ old.news → new.lane ≡ old.lane → new.incoming ≡ old.incoming → new.transfers ≡ old.transfers → new.asking ≡ old.asking → new.hearing ≡ old.hearing → Is w (TakeEnded (Some (x.token, e)) ∷ H) new
+told_done w H old new x e is h f some less e1 e2 e3 e4 e5 e6 e7 e8 e9 e10 e11 e12 = record {
   who = ap (who_of w.brought) e1 ∙ h.who;
   answered = (
     h.answered,
     sym (ap (λ (b : Bool). end_of b (is_lost (address_after w H)) (slice_get (accepted w H) (length (told H)))) before
-        ∙ ap (end_of true (is_lost (address_after w H))) f.is),
+        ∙ (ap (end_of true (is_lost (address_after w H))) f.is ∙ (ending (is_blank (posted x)) ∙ ap (λ (d : Ending). Some (x.token, d)) (sym is)))),
   );
   hold = e2 ∙ h.hold;
-  outgoing = f.rest ∙ ap (λ (n : ℕ). drop n (accepted w H)) (sym (length_one_more (told H) (x.token, Done)));
-  taken = (let a = h.taken in let b = length_one_more (told H) (x.token, Done) in omega (arith, a, b, less));
+  outgoing = f.rest ∙ ap (λ (n : ℕ). drop n (accepted w H)) (sym (length_one_more (told H) (x.token, e)));
+  taken = (let a = h.taken in let b = length_one_more (told H) (x.token, e) in omega (arith, a, b, less));
   token = e3 ∙ h.token;
   asking = ap asking_of e11 ∙ h.asking;
   unread = ap (λ o. map received_by o.unread.items) e4 ∙ h.unread;
@@ -620,8 +631,12 @@ told_done w H old new x h f some less e1 e2 e3 e4 e5 e6 e7 e8 e9 e10 e11 e12 = r
   port = ap port_of e10 ∙ h.port;
 }
   where
-    before : nat_lt (length (told H)) (length (sent H)) ≡ true
+    before : nat_lt (length (told H)) (reached H) ≡ true
     before = lt-ltb _ _ (let a = h.taken in omega (arith, a, some))
+
+    ending : (b : Bool) → ending_of (not b) true x.token ≡ Some (x.token, if b then Withdrawn else Done)
+    ending true = refl
+    ending false = refl
 
 not_before : (t s : ℕ) → s ≤ t → nat_lt t s ≡ false
 not_before t s l = grind arith
@@ -653,7 +668,7 @@ told_withdrawn w H old new x h f none is_away same e1 e2 e3 e4 e5 e6 e7 e8 e9 e1
   port = ap port_of e10 ∙ h.port;
 }
   where
-    after : nat_lt (length (told H)) (length (sent H)) ≡ false
+    after : nat_lt (length (told H)) (reached H) ≡ false
     after = not_before _ _ (let a = h.taken in omega (arith, a, none))
 
     away : is_lost (address_after w H) ≡ true
@@ -712,7 +727,7 @@ kept_rest : (wanted : Bool) (K unread : List (ℕ × Message)) (n : ℕ) (x : �
     → offered wanted x unread ≡ drop n (if wanted && nat_lt (length K - n) 16 then K ++ x ∷ [] else K)
 kept_rest wanted K unread n x l e =
     ap (offered wanted x) e
-    ∙ (ap (λ (k : ℕ). if wanted && nat_lt k 16 then drop n K ++ x ∷ [] else drop n K) (length_drop n K) ∙ go (wanted && nat_lt (length K - n) 16))
+    ∙ (ap (λ (k : ℕ). if wanted && nat_lt k 16 then drop n K ++ x ∷ [] else drop n K) (length-drop n K) ∙ go (wanted && nat_lt (length K - n) 16))
   where
     go : (b : Bool) → (if b then drop n K ++ x ∷ [] else drop n K) ≡ drop n (if b then K ++ x ∷ [] else K)
     go true = sym (drop_append n K x l)
@@ -721,7 +736,7 @@ kept_rest wanted K unread n x l e =
 missed_rest : (wanted : Bool) (K unread : List (ℕ × Message)) (n m c : ℕ) → unread ≡ drop n K → c ≡ min m 18446744073709551615
     → counted wanted unread c ≡ min (if wanted && not (nat_lt (length K - n) 16) then suc m else m) 18446744073709551615
 missed_rest wanted K unread n m c e f =
-    ap (λ (k : ℕ). if wanted && not (nat_lt k 16) then min (c + 1) 18446744073709551615 else c) (ap length e ∙ length_drop n K)
+    ap (λ (k : ℕ). if wanted && not (nat_lt k 16) then min (c + 1) 18446744073709551615 else c) (ap length e ∙ length-drop n K)
     ∙ go (wanted && not (nat_lt (length K - n) 16))
   where
     go : (b : Bool) → (if b then min (c + 1) 18446744073709551615 else c) ≡ min (if b then suc m else m) 18446744073709551615
@@ -767,7 +782,7 @@ pub coming_is : (w : Who) (H : List Call) (c : Controller) (t time : ℕ) → Is
     ≡ comes w H time
 coming_is w H c t time h e =
     (λ i. is_coming (option_map (λ (x : AskRecord). x.question) (h.asking i)) (session_by (h.incoming i).reception.session (h.incoming i).named) (in_broadcast (e i) (h.hearing i).current))
-    ∙ λ i. is_coming (token_of (open_ask H) (length (sent H)) (ended w H) i) (session_is (reception w H).session i) (in_broadcast time (hearing w H))
+    ∙ λ i. is_coming (token_of (open_ask H) (reached H) (ended w H) i) (session_is (reception w H).session i) (in_broadcast time (hearing w H))
   where
     session_is : (o : Option ReceptionRecord) → session_by o (named_in o) ≡ in_session o
     session_is None = refl
@@ -926,7 +941,7 @@ heard_more w H old new when f mid held wanted away gone calls another replaced b
           ∙ (ap (λ (o : Option (ℕ × ℕ)). option_map (hears_with w silent f o) (asking_of old.asking)) made_now
           ∙ (ap (λ (e : Option AskEnding). option_map (hears_with w e f (made w H when f)) (asking_of old.asking)) silent_is
           ∙ (ap (λ (o : Option AskRecord). option_map (hears_with w (silence (wait H - step H when) comes_now lost_now o) f (made w H when f)) o) h.asking
-          ∙ ask_heard w (open_ask H) (length (sent H)) (wait H - step H when) (ended w H) comes_now lost_now f (made w H when f)))));
+          ∙ ask_heard w (open_ask H) (reached H) (wait H - step H when) (ended w H) comes_now lost_now f (made w H when f)))));
       unread = e3 ∙ (ap (λ (b : Bool). offered b (stamped f) (map received_by old.inbox.unread.items)) wants
           ∙ kept_rest (is_for_program w (holds w H when) f) (kept w H) _ (length (got H)) (stamped f) (read w H s) h.unread);
       requests = q1 ∙ (ap (λ (v : Who). with_request v (nat_lt (length old.desk.waiting.items) 16) o (map request_by old.desk.waiting.items)) h.who
@@ -1004,18 +1019,18 @@ none_renewed w H c d h e = renewed_more w H c c d None h e h.outgoing refl refl
 
 -- the last that is alike, of those that wait or aren't told
 pub found_is : (w : Who) (H : List Call) (c : Controller) (d : Draft) → Is w H c
-    → latest (message_from w d) (max (length (sent H)) (length (told H))) 0 (accepted w H) None
+    → latest (message_from w d) (max (reached H) (length (told H))) 0 (accepted w H) None
     ≡ option_map (λ k. k + length (told H)) (latest (message_from w d) c.taken 0 (map posted c.outgoing.items) None)
 found_is w H c d h =
-    latest_rest (message_from w d) (length (told H)) (max (length (sent H)) (length (told H))) (accepted w H) (omega arith)
-    ∙ λ i. option_map (λ k. k + length (told H)) (latest (message_from w d) ((let e = h.taken in let z : max (length (sent H)) (length (told H)) - length (told H) ≡ c.taken = omega (arith, e) in z) i) 0
+    latest_rest (message_from w d) (length (told H)) (max (reached H) (length (told H))) (accepted w H) (omega arith)
+    ∙ λ i. option_map (λ k. k + length (told H)) (latest (message_from w d) ((let e = h.taken in let z : max (reached H) (length (told H)) - length (told H) ≡ c.taken = omega (arith, e) in z) i) 0
     (sym h.outgoing i) None)
 
 pub renewal : (w : Who) (H : List Call) (c : Controller) (d : Draft) (x : Outgoing) (t : ℕ) (o : Option ℕ) → Is w H c → can_send w d ≡ true
     → posted x ≡ (t, message_from (who_of w.brought c.own) d) → o ≡ latest (posted x).1 c.taken 0 (map posted c.outgoing.items) None
     → next_renewed w H d ≡ option_map (λ k. k + length (told H)) o
 renewal w H c d x t o h can e f =
-    ap (λ (b : Bool). if b then latest (message_from w d) (max (length (sent H)) (length (told H))) 0 (accepted w H) None else None) can
+    ap (λ (b : Bool). if b then latest (message_from w d) (max (reached H) (length (told H))) 0 (accepted w H) None else None) can
     ∙ (found_is w H c d h ∙ ap (option_map (λ k. k + length (told H)))
     (sym (f ∙ ap (λ (m : Message). latest m c.taken 0 (map posted c.outgoing.items) None)
     (ap (λ (y : ℕ × Message). y.1) e ∙ ap (λ (v : Who). message_from v d) h.who))))
@@ -1027,7 +1042,7 @@ pub renews : (w : Who) (H : List Call) (old new : Controller) (d : Draft) (x : O
 renews w H old new d x t place None h can e f g n u =
     absurd (elim (latest_is (posted x).1 old.taken 0 place (map posted old.outgoing.items) None (sym f)) [
       | inl z ↦ (let y : None ≡ Some place = z in absurd (cc))
-      | inr z ↦ (let a = get_within (map posted old.outgoing.items) (place - 0) z.entry z.is in
+      | inr z ↦ (let a = slice_get_within (map posted old.outgoing.items) (place - 0) z.entry z.is in
           let b = length_map posted old.outgoing.items in let l = n refl in omega (arith, a, b, l))
     ])
 renews w H old new d x t place (Some k) h can e f g n u =
@@ -1041,7 +1056,156 @@ renews w H old new d x t place (Some k) h can e f g n u =
     (ap Some token ∙ sym (renewal w H old d x t (Some place) h can e f))
     (g.renewed ∙ ((λ i. slice_set (h.outgoing i) place (k, message i))
     ∙ (sym (set_rest T place L (k, message_from w d)) ∙ ap (λ (n : ℕ). drop T (slice_set L n (k, message_from w d))) (sym token))))
-    (set_length L k (k, message_from w d)) u
+    (length-set L k (k, message_from w d)) u
+
+-- a message is withdrawn, or none is
+pub none_withdrawn : (w : Who) (H : List Call) (c : Controller) (k : ℕ) → Is w H c → false ≡ next_withdrawn w H k → Is w (Withdraw k false ∷ H) c
+none_withdrawn w H c k h e = record {
+  who = h.who;
+  answered = (h.answered, e);
+  hold = h.hold;
+  outgoing = h.outgoing;
+  taken = h.taken;
+  token = h.token;
+  asking = h.asking;
+  unread = h.unread;
+  requests = h.requests;
+  acknowledgments = h.acknowledgments;
+  holders = h.holders;
+  news = h.news;
+  missed = h.missed;
+  lane = h.lane;
+  incoming = h.incoming;
+  hearing = h.hearing;
+  port = h.port;
+}
+
+is_away : (w : Who) (H : List Call) (c : Controller) → Is w H c → lost c.hold.standing ≡ is_lost (address_after w H)
+is_away w H c h = ap (λ (k : Hold). lost k.standing) h.hold ∙ lost_is (address_after w H)
+
+pub lost_keeps : (w : Who) (H : List Call) (c : Controller) (k : ℕ) → Is w H c → lost c.hold.standing ≡ true → Is w (Withdraw k false ∷ H) c
+lost_keeps w H c k h e =
+    none_withdrawn w H c k h (sym (ap (λ (b : Bool). not b && (nat_le (reached H) k && may_go (slice_get (accepted w H) k))) (sym (is_away w H c h) ∙ e)))
+
+-- where it waits
+place_is : (w : Who) (H : List Call) (c : Controller) (k : ℕ) → Is w H c → is_lost (address_after w H) ≡ false
+    → place_of c.taken k (map posted c.outgoing.items) ≡ (if next_withdrawn w H k then Some (k - length (told H)) else None)
+place_is w H c k h away =
+    ap (place_of c.taken k) h.outgoing ∙ (go (drop T L) refl ∙ ap (λ (b : Bool). if not b && (nat_le (reached H) k && may_go (slice_get L k)) then Some (k - T) else None) (sym away))
+  where
+    L : List (ℕ × Message)
+    L = accepted w H
+
+    T : ℕ
+    T = length (told H)
+
+    s : Sound w H
+    s = sound w H h.answered
+
+    t : T ≤ reached H
+    t = s.in_turn away
+
+    none_there : (b : Bool) (o : Option (ℕ × Message)) → (b ≡ true → o ≡ None) → (b && may_go o) ≡ false
+    none_there false o z = refl
+    none_there true o z = ap may_go (z refl)
+
+    le_is : (a b : ℕ) → nat_le a b ≡ true → a ≤ b
+    le_is a b z = grind arith
+
+    less : (a b d : ℕ) → d ≤ a → d ≤ b → nat_le (a - d) (b - d) ≡ nat_le a b
+    less a b d x y = grind (arith, x, y)
+
+    go : (D : List (ℕ × Message)) → drop T L ≡ D → place_of c.taken k D ≡ (if nat_le (reached H) k && may_go (slice_get L k) then Some (k - T) else None)
+    go [] e = sym (ap (λ (b : Bool). if b then Some (k - T) else None) (none_there (nat_le (reached H) k) (slice_get L k)
+        (λ z. slice_get_past L k (let a = le_is _ _ z in let b = ap length e in let d = length-drop T L in omega (arith, a, b, d, t)))))
+    go (x ∷ xs) e = by (nat_lt k T) refl
+      where
+        first : x.0 ≡ T
+        first = s.numbered T x (get_of_drop L T x xs (sym e))
+
+        by : (b : Bool) → nat_lt k T ≡ b → place_of c.taken k (x ∷ xs) ≡ (if nat_le (reached H) k && may_go (slice_get L k) then Some (k - T) else None)
+        by true l =
+            (λ i. if not (nat_lt k (first i)) && (nat_le c.taken (k - x.0) && may_go (slice_get (x ∷ xs) (k - x.0))) then Some (k - x.0) else None)
+            ∙ (ap (λ (b : Bool). if not b && (nat_le c.taken (k - x.0) && may_go (slice_get (x ∷ xs) (k - x.0))) then Some (k - x.0) else None) l
+            ∙ sym (ap (λ (b : Bool). if b then Some (k - T) else None) (none_there (nat_le (reached H) k) (slice_get L k)
+            (λ z. (let a = le_is _ _ z in let b = ltb-true _ _ l in absurd (omega (arith, a, b, t)))))))
+        by false l =
+            let d = ltb-false k T l in
+            (λ i. if not (nat_lt k (first i)) && (nat_le (h.taken i) (k - first i) && may_go (slice_get (sym e i) (k - first i))) then Some (k - first i) else None)
+            ∙ (λ i. if not (l i) && (less (reached H) k T t d i && may_go (get_at L T (k - T) k (let z : k ≡ T + (k - T) = omega (arith, d) in z) i)) then Some (k - T) else None)
+
+pub none_at_place : (w : Who) (H : List Call) (c : Controller) (k : ℕ) → Is w H c → lost c.hold.standing ≡ false → None ≡ place_of c.taken k (map posted c.outgoing.items)
+    → Is w (Withdraw k false ∷ H) c
+none_at_place w H c k h l e = none_withdrawn w H c k h (sym (go (next_withdrawn w H k) (e ∙ place_is w H c k h (sym (is_away w H c h) ∙ l))))
+  where
+    go : (b : Bool) → None ≡ (if b then Some (k - length (told H)) else None) → b ≡ false
+    go false i = refl
+    go true i = absurd (cc)
+
+pub withdraws : (w : Who) (H : List Call) (old new : Controller) (k place : ℕ) (x : Outgoing) (r : Option ℕ) → Is w H old → lost old.hold.standing ≡ false
+    → posted x ≡ (0, blank) → Some place ≡ place_of old.taken k (map posted old.outgoing.items)
+    → IfSome r (λ token. Renews old.outgoing.items place (posted x) token new.outgoing.items) → (r ≡ None → length old.outgoing.items ≤ place)
+    → new.taken ≡ past (map is_blank (map posted new.outgoing.items)) old.taken
+    → new ≡ record old { outgoing = new.outgoing; taken = new.taken } → Is w (Withdraw k true ∷ H) new
+withdraws w H old new k place x r h l blanked e f g p u = go r f g (by (next_withdrawn w H k) refl (e ∙ place_is w H old k h away))
+  where
+    L : List (ℕ × Message)
+    L = accepted w H
+
+    T : ℕ
+    T = length (told H)
+
+    away : is_lost (address_after w H) ≡ false
+    away = sym (is_away w H old h) ∙ l
+
+    s : Sound w H
+    s = sound w H h.answered
+
+    by : (b : Bool) → next_withdrawn w H k ≡ b → Some place ≡ (if b then Some (k - T) else None) → (next_withdrawn w H k ≡ true) × (place ≡ k - T)
+    by true i j = (i, (let z : place ≡ k - T = cc in z))
+    by false i j = absurd (cc)
+
+    go : (r : Option ℕ) → IfSome r (λ token. Renews old.outgoing.items place (posted x) token new.outgoing.items) → (r ≡ None → length old.outgoing.items ≤ place)
+        → (next_withdrawn w H k ≡ true) × (place ≡ k - T) → Is w (Withdraw k true ∷ H) new
+    go None f g q =
+        let c = withdraw_case w H k (sym q.0) in
+        let a = slice_get_within L k c.entry c.is in
+        let b = length_map posted old.outgoing.items in let d = ap length h.outgoing in let i = length-drop T L in
+        let m = g refl in let n = q.1 in let t = s.in_turn away in let v = c.from in absurd (omega (arith, a, b, d, i, m, n, t, v))
+    go (Some token) f g q =
+        let G = Withdraw k true ∷ H in
+        let c = withdraw_case w H k (sym q.0) in
+        let t = s.in_turn away in
+        let n = q.1 in
+        let v = c.from in
+        let sum : place + T ≡ k = omega (arith, n, t, v) in
+        let at : slice_get L (place + T) ≡ Some (posted f.before) =
+        sym (get_at L T place (place + T) (omega arith)) ∙ (ap (λ zs. slice_get zs place) (sym h.outgoing) ∙ get_map posted old.outgoing.items place f.before f.was) in
+        let same : token ≡ k = f.same ∙ (s.numbered (place + T) (posted f.before) at ∙ sum) in
+        let out : map posted new.outgoing.items ≡ drop T (accepted w G) =
+        f.renewed ∙ ((λ i. slice_set (h.outgoing i) place (same i, (ap (λ (y : ℕ × Message). y.1) blanked) i))
+        ∙ (sym (set_rest T place L (k, blank)) ∙ ap (λ (m : ℕ). drop T (slice_set L m (k, blank))) sum)) in
+        let right : AreAnswered w G = (h.answered, sym q.0) in
+        record {
+          who = ap (λ c. who_of w.brought c.own) u ∙ h.who;
+          answered = right;
+          hold = ap (λ c. c.hold) u ∙ h.hold;
+          outgoing = out;
+          taken = (let a = h.taken in let b = past_queued w G new.outgoing.items T old.taken (sound w G right) out in
+              let d = ap (past (marks G)) (let z : old.taken + T ≡ reached H = omega (arith, a, t) in z) in omega (arith, b, d, p));
+          token = ap (λ c. c.next_token) u ∙ (h.token ∙ sym (length-set L k (k, blank)));
+          asking = ap (λ c. asking_of c.asking) u ∙ (h.asking ∙ ask_withdrawn w H k right);
+          unread = ap (λ c. map received_by c.inbox.unread.items) u ∙ h.unread;
+          requests = ap (λ c. map request_by c.desk.waiting.items) u ∙ h.requests;
+          acknowledgments = ap (λ c. map (refusal_by w) c.desk.due.items) u ∙ h.acknowledgments;
+          holders = subst (λ t. Knows t (told_claims w H)) (sym (ap (λ c. c.holders) u)) h.holders;
+          news = ap (λ c. c.news) u ∙ h.news;
+          missed = ap (λ c. c.inbox.missed) u ∙ h.missed;
+          lane = ap (λ c. lane_of w c.lane) u ∙ h.lane;
+          incoming = ap (λ c. incoming_of c.incoming) u ∙ h.incoming;
+          hearing = ap (λ c. hearing_of c.hearing) u ∙ h.hearing;
+          port = ap (λ c. port_of c.transfers) u ∙ h.port;
+        }
 
 -- the address is to be claimed anew
 unclaims_after : (a : Address) → unclaims (standing_of a) ≡ standing_of (unclaimed a)
@@ -1177,7 +1341,7 @@ waits_is : (w : Who) (H : List Call) (c : Controller) → Is w H c → is_held (
 waits_is w H c h e =
     ap (λ (b : Bool). b || (nat_lt 0 (length c.desk.due.items) || nat_lt 0 (length c.incoming.replies.items)))
     (sent_due w H c h (held_not_lost (address_after w H) e))
-    ∙ ap (λ (b : Bool). nat_lt (length (sent H)) (length (accepted w H)) || b)
+    ∙ ap (λ (b : Bool). nat_lt (reached H) (length (accepted w H)) || b)
     (ap (λ (b : Bool). b || nat_lt 0 (length c.incoming.replies.items))
     (ap (nat_lt 0) (length_rest (refusal_by w) c.desk.due.items (length (acknowledged H)) (due w H) h.acknowledgments) ∙ lt_some _ _)
     ∙ ap (λ (n : ℕ). nat_lt (length (acknowledged H)) (length (due w H)) || nat_lt 0 n) (replies_length w H c h))
@@ -1265,11 +1429,11 @@ claims_more w H old new now f mid a h p owes e0 m at knows drops left_by broken 
         ap Some j ∙ sym (ap (λ (b : Bool). frame_by b (holds w H now) (next_acknowledgment w H now) (other w H now) (claim_from w (claim_address w (address_after w H))) now) owes),
       );
       hold = e0 ∙ is_hold _ _ (turns_more H now f mid.turns (ap (λ (b : Bool). b || is_acknowledgment f) n) p.turns)
-          (yields_same H now f mid.yields (ap (λ (b : Bool). b || is_acknowledgment f) n) p.yields) p.patience p.delay p.rest p.moment
+          (yields_same w H now f mid.yields (ap (λ (b : Bool). b || is_acknowledgment f) n) p.yields) p.patience p.delay p.rest p.moment
           (ap claims p.standing ∙ (claims_after (older (step H now) (address_after w H)) ∙ ap standing_of (sym (address_is w H now f true n)))) (sym (ap (λ (b : Bool). if b then false else owes_claim w H) n))
           (p.pause ∙ sym (pause_is H now f false (no_packet f (claim_single f n)))) p.age (p.wait ∙ wait_same H now f true _ _ n refl refl refl);
       outgoing = ap (λ c. map posted c.outgoing.items) e ∙ h.outgoing;
-      taken = ap (λ c. c.taken) e ∙ (h.taken ∙ ap (λ (xs : List Message). length xs - length (told H)) (sym (sent_is H now f true _ _ n refl refl)));
+      taken = ap (λ c. c.taken) e ∙ (h.taken ∙ ap (λ (n : ℕ). n - length (told H)) (sym (reached_is H now f true _ _ n refl refl)));
       token = ap (λ c. c.next_token) e ∙ h.token;
       asking = ap (λ c. asking_of c.asking) e ∙ (h.asking ∙ ask_same w H now f true _ _ n refl refl refl);
       unread = ap (λ c. map received_by c.inbox.unread.items) e ∙ h.unread;

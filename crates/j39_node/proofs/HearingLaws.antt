@@ -1,30 +1,32 @@
 -- The laws of broadcasts in packets that are heard.
-use Rattle.std.proofs.Common.{◌≡◌, ◌≢◌, ◌⊎◌, ◌↔◌, ℕ, suc, ◌+◌, ◌-◌, ◌*◌, ◌<◌, ◌≤◌, List, [], ◌∷◌, ◌++◌, length, take, drop, slice_index, Option, Some, None, IfSome, Bool, true, false, not, ◌&&◌, ◌||◌, if◌then◌else◌, nat_eq, nat_le, IsTrue, refl, sym, ap, ◌∙◌, subst, inl, inr, arith, append-nil, eq-eqb, lt-ltb}
+use Rattle.std.proofs.Common.{◌≡◌, ◌≢◌, ◌⊎◌, ◌↔◌, ℕ, suc, ◌+◌, ◌-◌, ◌*◌, ◌<◌, ◌≤◌, List, [], ◌∷◌, ◌++◌, length, take, drop, slice_index, Option, Some, None, IfSome, Bool, true, false, not, ◌&&◌, ◌||◌, if◌then◌else◌, nat_eq, nat_le, IsTrue, refl, sym, ap, ◌∙◌, subst, inl, inr, arith, append-nil, eq-eqb, lt-ltb, ltb-false}
 use Rattle.std.proofs.lemmas.Bool.{leb-false, leb-true, lt-leb}
 use Rattle.std.proofs.lemmas.Grind.{flat_map-append}
-use Rattle.std.proofs.lemmas.List.{length-append, length-take-le, take-append-drop}
+use Rattle.std.proofs.lemmas.List.{length-append, length-take-le, take-append-drop, length-drop}
 use Rattle.j39_frame.specs.Frame.{FrameRecord}
 use Rattle.j39_frame.specs.Identifier.{source_of}
 use Rattle.j39_address.specs.Claim.{claim_of}
 use Rattle.j39_transport.specs.Carries.{AreNumbered, joined}
-use Rattle.j39_transport.specs.Frames.{is_announcement, is_packet, pgn_named, size_named}
+use Rattle.j39_transport.specs.Frames.{is_announcement, is_packet, packets_for, pgn_named, size_named}
 use Rattle.j39_transport.specs.Key.{Key, Broadcast as by}
 use Rattle.j39_transport.specs.Message.{MessageRecord}
-use Rattle.j39_transport.specs.Protocol.{broadcast_limit}
 use Rattle.j39_transport.proofs.FrameFacts.{announcement_facts}
 use Rattle.j39_node.specs.declared.controller.Controller.{Controller}
 use Rattle.j39_node.specs.declared.kinds.News.TheVariants.{MessagesMissed}
 use Rattle.j39_node.specs.History.{Who, Call, is_claim, is_own_group, is_subscribed, stamp_at}
 use Rattle.j39_node.specs.History.Call.{At, TakeNews, ReleaseBroadcast}
 use Rattle.j39_node.specs.History.Act.{Hear, Tick, TakeFrame}
-use Rattle.j39_node.specs.Hearing.{IsFit, IsPartOf, ended, passed, chosen, OpenBroadcast, WasBroadcast, announced, announces, begun, breaks, changes, ends_by, found, got_broadcasts, grown, has_room, hearing, hearing_tick, hears, in_time, is_beside, is_ignored, is_late, is_out, is_over, is_partial, is_unheard, is_wanted, is_whole, late_at, left, made_whole, message_by, more, newly, opens, packs, skips, unheard, unheard_by, unheard_news, waiting, whole_broadcasts, whole_of}
+use Rattle.j39_node.specs.Hearing.{account, announced, announces, begun, breaks, changes, chosen, ended, ends_by, found, got_broadcasts, grown, has_room, hearing, hearing_tick, hears, in_time, is_beside, is_ignored, is_late, is_out, is_over, is_partial, is_unheard, is_wanted, is_whole, IsFit, IsPartOf, late_at, left, expires, made_whole, message_by, more, newly, OpenBroadcast, opened, opens, packed, packs, passed, since_in, skips, unheard, unheard_by, unheard_news, waiting, WasBroadcast, whole_broadcasts, whole_of}
 use Rattle.j39_node.specs.Is.{AreAnswered, HearingRecord, Is}
 use Rattle.j39_node.specs.Reception.{KeepsHolder, frames_heard, has_place, heard_at, holder, is_same, listed, time_heard, known, known_by}
 use Rattle.j39_node.proofs.ReceptionLemmas.{unclaimed_known}
-use Rattle.j39_node.proofs.QueueLemmas.{length_drop}
 use Rattle.j39_node.proofs.ReceptionLaws.{after_moment, before_moment, same_is}
 use Rattle.j39_node.proofs.HearingLemmas.{Effect, begins, ends, grows, stays, effect, fit, hearing_same, left_keeps, left_none, same_same, unchanged, packs_eight, drop_one}
 use Rattle.j39_node.proofs.FrameLemmas.{le_true, lt_false}
+use Rattle.j39_node.proofs.SessionLaws.{ages}
+use Rattle.j39_node.specs.Since.{NeverBack, passed_in}
+use Rattle.j39_node.specs.Ticks.{IsHeardOf, StaysHeard, TicksWithin}
+use Rattle.j39_transport.specs.Protocol.{broadcast_limit}
 
 -- ---- each once, in order
 
@@ -87,6 +89,11 @@ released who H c answer is = go (waiting who H) answer refl is.answered.1
 
 -- ---- what isn't heard
 
+-- what stays open is in time
+stays_timely : (now : ℕ) (c : Bool) (o : Option OpenBroadcast) (x : OpenBroadcast) → left (c || is_out now o) o ≡ Some x → is_whole x ≡ false → is_late now x ≡ false
+stays_timely now c None x k w = absurd (cc)
+stays_timely now c (Some y) x k w = grind (arith, k, w)
+
 not_ignored : (who : Who) (group : ℕ) → is_ignored who group ≡ false → IsTrue (is_subscribed who group) × (is_own_group group ≡ false)
 not_ignored who group e = (grind (arith, e), grind (arith, e))
 
@@ -106,7 +113,7 @@ module _ (who : Who) (H : List Call) (when : ℕ) (f : FrameRecord) (e : announc
 
   -- it begins, or finds one that stays, and is counted
   abbrev Outcome : Type 0
-  Outcome = (hearing who G ≡ Some (begun (time_heard G) f))
+  Outcome = (hearing who G ≡ Some (opened who H when f))
       ⊎ ((x : OpenBroadcast) × (found who H when f ≡ Some x) × ((is_whole x ≡ true) ⊎ (is_beside x.source x.count f ≡ true)) × (unheard who G ≡ suc (unheard who H)))
 
   begins_or : Outcome
@@ -116,20 +123,22 @@ module _ (who : Who) (H : List Call) (when : ℕ) (f : FrameRecord) (e : announc
       not_for k = absurd (let z : true ≡ false = sym is_for ∙ k in cc)
 
       go : (b : Bool) → ends_by who H (At when (Hear f)) ≡ b → Effect who (time_heard G) f (found who H when f) (is_wanted who f) (is_unheard who f (found who H when f)) (hearing who G) → Outcome
-      go true i h = inl (ap (hears who (time_heard G) f) (broken _ (hearing who H) i)
-          ∙ λ j. if e j then (if for_program j then None else Some (begun (time_heard G) f)) else if packs f then None else None)
+      go true i h =
+          let n : found who H when f ≡ None = broken _ (hearing who H) i in
+          inl ((λ j. if e j then (if has_room (source_of f.id) (n j) then opens who (time_heard G) f (found who H when f) else found who H when f) else if packs f then packed (time_heard G) f (found who H when f) else found who H when f)
+          ∙ λ j. if for_program j then None else Some (opened who H when f))
       go false i (begins e1 e2 e3 e4 e5 e6 e7) = inl e7
       go false i (ends e1 e2 e3 e4 e5) = not_for e1
       go false i (grows x e1 e2 e3 e4 e5 e6 e7 e8 e9) = not_for e6
       go false i (stays x e1 e2 e3 e4) = inr (x, e1, e3, λ j. more ((e2 ∙ is_for) j) (more (i j) (unheard who H)))
 
-  pub heard_or_counted : (hearing who G ≡ Some (begun (time_heard G) f)) ⊎ (unheard who G ≡ suc (unheard who H))
+  pub heard_or_counted : (hearing who G ≡ Some (opened who H when f)) ⊎ (unheard who G ≡ suc (unheard who H))
   heard_or_counted = elim begins_or [
     | inl z ↦ inl z
     | inr z ↦ inr z.3
   ]
 
-  pub full : hearing who G ≢ Some (begun (time_heard G) f)
+  pub full : hearing who G ≢ Some (opened who H when f)
       → (x : OpenBroadcast) × (found who H when f ≡ Some x) × (IsTrue (is_whole x) ⊎ ((source_of f.id ≢ x.source) × (is_late (time_heard G) x ≡ false)))
   full n = elim begins_or [
     | inl z ↦ absurd (n z)
@@ -139,15 +148,11 @@ module _ (who : Who) (H : List Call) (when : ℕ) (f : FrameRecord) (e : announc
       other : (x : OpenBroadcast) → is_beside x.source x.count f ≡ true → source_of f.id ≢ x.source
       other x k s = absurd (let z : false ≡ true = (λ j. not (sym (eq-eqb _ _ s) j) || (not (sym e j) && (not (packs f) || nat_le (slice_index f.bytes 0) x.count))) ∙ k in cc)
 
-      timely : (c : Bool) (o : Option OpenBroadcast) (x : OpenBroadcast) → left (c || is_out (time_heard G) o) o ≡ Some x → is_whole x ≡ false → is_late (time_heard G) x ≡ false
-      timely c None x k w = absurd (cc)
-      timely c (Some y) x k w = grind (arith, k, w)
-
       why : (x : OpenBroadcast) → found who H when f ≡ Some x → (v : Bool) → is_whole x ≡ v → (is_whole x ≡ true) ⊎ (is_beside x.source x.count f ≡ true)
           → IsTrue (is_whole x) ⊎ ((source_of f.id ≢ x.source) × (is_late (time_heard G) x ≡ false))
       why x g true w k = inl w
       why x g false w (inl k) = inl k
-      why x g false w (inr k) = inr (other x k, timely (changes (known who H when f) (holder who G) (hearing who H)) (hearing who H) x g w)
+      why x g false w (inr k) = inr (other x k, stays_timely (time_heard G) (changes (known who H when f) (holder who G) (hearing who H)) (hearing who H) x g w)
 
 -- ---- all that was announced is whole, counted or open
 
@@ -162,8 +167,8 @@ left_counts : (b : Bool) (o : Option OpenBroadcast) → one (is_partial o) ≡ o
 left_counts b None = omega arith
 left_counts b (Some x) = grind arith
 
-pub begun_open : (now : ℕ) (f : FrameRecord) → announces f ≡ true → is_whole (begun now f) ≡ false
-begun_open now f e = lt-leb _ 0 (let l = (announcement_facts (by (source_of f.id)) f e).large in omega (arith, l))
+pub begun_open : (since now : ℕ) (f : FrameRecord) → announces f ≡ true → is_whole (begun since now f) ≡ false
+begun_open since now f e = lt-leb _ 0 (let l = (announcement_facts (by (source_of f.id)) f e).large in omega (arith, l))
 
 newly_same : (o : Option (ℕ × MessageRecord)) → length (listed (newly o o)) ≡ 0
 newly_same None = refl
@@ -174,8 +179,8 @@ heard_counts : (who : Who) (now : ℕ) (f : FrameRecord) (o y : Option OpenBroad
 heard_counts who now f o y a b (begins e1 e2 e3 e4 e5 e6 e7) =
     let a_one = ap one e3 in
     let p = ap one e4 in
-    let none = ap (λ (z : Option (ℕ × MessageRecord)). length (listed z)) ((λ i. newly (e5 i) (whole_of (e7 i))) ∙ open_none (begun now f) (begun_open now f e1)) in
-    let q = ap one (ap is_partial e7 ∙ ap not (begun_open now f e1)) in
+    let none = ap (λ (z : Option (ℕ × MessageRecord)). length (listed z)) ((λ i. newly (e5 i) (whole_of (e7 i))) ∙ open_none (begun (since_in now o) now f) (begun_open (since_in now o) now f e1)) in
+    let q = ap one (ap is_partial e7 ∙ ap not (begun_open (since_in now o) now f e1)) in
     omega (arith, a_one, p, none, q)
 heard_counts who now f o y a b (ends e1 e2 e3 e4 e5) =
     let a_none = ap one e1 in
@@ -323,7 +328,7 @@ module _ (who : Who) (H : List Call) (when : ℕ) (f : FrameRecord) where
       → skips f x ≡ g → nat_eq (slice_index f.bytes 0) (suc x.count) ≡ h
       → hears who now f (Some x) ≡ (if g then None else if h then Some (grown now f x) else Some x)
   packed_by x g h e p w s k l =
-      λ i. if e i then (if has_room (source_of f.id) (Some x) then opens who now f else Some x) else if p i
+      λ i. if e i then (if has_room (source_of f.id) (Some x) then opens who now f (Some x) else Some x) else if p i
       then (if w i || not (eq-eqb _ _ s i) then Some x else if k i then None else if l i then Some (grown now f x) else Some x) else Some x
 
   always : (b : Bool) → (b || true) ≡ true
@@ -366,7 +371,7 @@ module _ (who : Who) (H : List Call) (when : ℕ) (f : FrameRecord) where
       none b = grind arith
 
       gone : hears who now f None ≡ None
-      gone = (λ i. if g i then opens who now f else if packs f then None else None) ∙ none (packs f)
+      gone = (λ i. if g i then opens who now f None else if packs f then None else None) ∙ none (packs f)
 
       apart : (x : OpenBroadcast) → hearing who H ≡ Some x → (packs f ≡ false) ⊎ ((x : OpenBroadcast) → hearing who H ≡ Some x → source_of f.id ≢ x.source)
           → is_beside x.source x.count f ≡ true
@@ -424,8 +429,8 @@ AreBegun who H o = IfSome o (λ x. (is_whole x ≡ true) ⊎ Begun who H x)
 abbrev AreKept : Who → Call → List Call → Option OpenBroadcast → Type 0
 AreKept who call H o = IfSome o (λ x. (is_whole x ≡ true) ⊎ (Begun who H x × (holder who (call ∷ H) x.source ≡ known_by who call H x.source)))
 
-anew : (who : Who) (H : List Call) (now : ℕ) (when : ℕ) (f : FrameRecord) → announces f ≡ true → Begun who (At when (Hear f) ∷ H) (begun now f)
-anew who H now when f e = record {
+anew : (who : Who) (H : List Call) (since now when : ℕ) (f : FrameRecord) → announces f ≡ true → Begun who (At when (Hear f) ∷ H) (begun since now f)
+anew who H since now when f e = record {
   later = [];
   at = when;
   first = f;
@@ -485,7 +490,7 @@ open_one who call H x (inr h) w = h
 -- a frame is heard, where none waits
 heard_open : (who : Who) (H : List Call) (when now : ℕ) (f : FrameRecord) (o y : Option OpenBroadcast) (a b : Bool) → AreKept who (At when (Hear f)) H o → whole_of o ≡ None
     → Effect who now f o a b y → IfSome y (Begun who (At when (Hear f) ∷ H))
-heard_open who H when now f o y a b h n (begins e1 e2 e3 e4 e5 e6 e7) = subst (λ (z : Option OpenBroadcast). IfSome z (Begun who (At when (Hear f) ∷ H))) (sym e7) (anew who H now when f e1)
+heard_open who H when now f o y a b h n (begins e1 e2 e3 e4 e5 e6 e7) = subst (λ (z : Option OpenBroadcast). IfSome z (Begun who (At when (Hear f) ∷ H))) (sym e7) (anew who H (since_in now o) now when f e1)
 heard_open who H when now f o y a b h n (ends e1 e2 e3 e4 e5) = subst (λ (z : Option OpenBroadcast). IfSome z (Begun who (At when (Hear f) ∷ H))) (sym e5) tt
 heard_open who H when now f o y a b h n (grows x e1 e2 e3 e4 e5 e6 e7 e8 e9) =
     let k = open_one who (At when (Hear f)) H x (subst (AreKept who (At when (Hear f)) H) e1 h) e3 in
@@ -591,7 +596,7 @@ done who H x h w seven =
         count = (let a = facts.count in let b = h.came.size in let c = h.came.count in let d = h.came.few in omega (arith, a, b, c, d, seven, enough));
         numbered = h.came.numbered;
         padding = drop x.size x.bytes;
-        few = (let d = h.came.few in let l = length_drop x.size x.bytes in omega (arith, d, l, enough));
+        few = (let d = h.came.few in let l = length-drop x.size x.bytes in omega (arith, d, l, enough));
         joined_are = h.came.bytes ∙ sym (take-append-drop x.size x.bytes);
       };
     }
@@ -648,8 +653,8 @@ tick_keeps who H now l m q = go (hearing who H) q
         by true w = left_whole _ x w
         by false w =
             ap (λ (b : Bool). left b (Some x))
-            (lt_false _ _ (before_moment (x.time + broadcast_limit) (heard_at H) (time_heard H) now l m
-            (λ t e. k t (ap (λ (v : Bool). if v then None else stamp_at (heard_at H + (suc (x.time + broadcast_limit) - time_heard H))) w ∙ e))))
+            (lt_false _ _ (before_moment (expires x) (heard_at H) (time_heard H) now l m
+            (λ t e. k t (ap (λ (v : Bool). if v then None else stamp_at (heard_at H + (suc (expires x) - time_heard H))) w ∙ e))))
 
 -- from it on it is over
 pub tick_ends : (who : Who) (H : List Call) (now t : ℕ) → hearing_tick who H ≡ Some t → t ≤ now → time_heard H + (t - heard_at H) < 10000000000000000
@@ -660,8 +665,101 @@ tick_ends who H now t e l m = go (hearing who H) e
     go None k = refl
     go (Some x) k = by (is_whole x) refl k
       where
-        by : (v : Bool) → is_whole x ≡ v → (if v then None else stamp_at (heard_at H + (suc (x.time + broadcast_limit) - time_heard H))) ≡ Some t
+        by : (v : Bool) → is_whole x ≡ v → (if v then None else stamp_at (heard_at H + (suc (expires x) - time_heard H))) ≡ Some t
             → in_time (time_heard (At now Tick ∷ H)) (Some x) ≡ None
         by true w i = absurd (cc)
         by false w i =
-            λ j. if lt-ltb _ _ (after_moment (x.time + broadcast_limit) (heard_at H) (time_heard H) t now i l m) j && not (w j) then None else Some x
+            λ j. if lt-ltb _ _ (after_moment (expires x) (heard_at H) (time_heard H) t now i l m) j && not (w j) then None else Some x
+
+-- ---- its account
+
+pub account_begins : (who : Who) (H : List Call) (when : ℕ) (f : FrameRecord) (x : OpenBroadcast) → found who H when f ≡ None → hearing who (At when (Hear f) ∷ H) ≡ Some x
+    → x.since ≡ time_heard (At when (Hear f) ∷ H)
+account_begins who H when f x n e =
+    go None _ _ _ refl (effect who now f None) (sym (ap (hears who now f) n) ∙ e)
+  where
+    now : ℕ
+    now = time_heard (At when (Hear f) ∷ H)
+
+    go : (o y : Option OpenBroadcast) (a b : Bool) → o ≡ None → Effect who now f o a b y → y ≡ Some x → x.since ≡ now
+    go o y a b n (begins e1 e2 e3 e4 e5 e6 e7) g = let z : begun (since_in now o) now f ≡ x = cc in ap (λ (u : OpenBroadcast). u.since) (sym z) ∙ ap (since_in now) n
+    go o y a b n (ends e1 e2 e3 e4 e5) g = absurd (cc)
+    go o y a b n (grows z e1 e2 e3 e4 e5 e6 e7 e8 e9) g = absurd (cc)
+    go o y a b n (stays z e1 e2 e3 e4) g = absurd (cc)
+
+left_is : (b : Bool) (o : Option OpenBroadcast) (x y : OpenBroadcast) → o ≡ Some x → left b o ≡ Some y → y ≡ x
+left_is b None x y e g = absurd (cc)
+left_is b (Some z) x y e g = grind (arith, e, g)
+
+pub account_runs : (who : Who) (H : List Call) (call : Call) (x y : OpenBroadcast) → hearing who H ≡ Some x → is_whole x ≡ false → hearing who (call ∷ H) ≡ Some y
+    → ends_by who H call ≡ false → y.since ≡ x.since
+account_runs who H (At when (Hear f)) x y e w g n = go (found who H when f) _ _ _ (stayed (hearing who H) e n) (effect who now f (found who H when f)) g
+  where
+    now : ℕ
+    now = time_heard (At when (Hear f) ∷ H)
+
+    over : Option OpenBroadcast → Bool
+    over o = is_over (known who H when f) (holder who (At when (Hear f) ∷ H)) now o
+
+    stayed : (o : Option OpenBroadcast) → o ≡ Some x → breaks (over o) o ≡ false → left (over o) o ≡ Some x
+    stayed None e n = absurd (cc)
+    stayed (Some z) e n = ap (λ (b : Bool). if b then None else Some z) n ∙ e
+
+    go : (o p : Option OpenBroadcast) (a b : Bool) → o ≡ Some x → Effect who now f o a b p → p ≡ Some y → y.since ≡ x.since
+    go o p a b e (begins e1 e2 e3 e4 e5 e6 e7) g = let z : begun (since_in now o) now f ≡ y = cc in ap (λ (u : OpenBroadcast). u.since) (sym z) ∙ ap (since_in now) e
+    go o p a b e (ends e1 e2 e3 e4 e5) g = absurd (cc)
+    go o p a b e (grows z e1 e2 e3 e4 e5 e6 e7 e8 e9) g = let u : grown now f z ≡ y = cc in let v : z ≡ x = cc in ap (λ (q : OpenBroadcast). q.since) (sym u) ∙ ap (λ (q : OpenBroadcast). q.since) v
+    go o p a b e (stays z e1 e2 e3 e4) g = let v : y ≡ x = cc in ap (λ (q : OpenBroadcast). q.since) v
+account_runs who H (At now Tick) x y e w g n = ap (λ (q : OpenBroadcast). q.since) (left_is _ (hearing who H) x y e g)
+account_runs who H (At now (TakeFrame (Some f))) x y e w g n = ap (λ (q : OpenBroadcast). q.since) (left_is _ (hearing who H) x y e g)
+account_runs who H (ReleaseBroadcast true) x y e w g n = absurd (cc)
+account_runs who H call x y e w g n = let z : y ≡ x = cc in ap (λ (q : OpenBroadcast). q.since) z
+
+-- in time, by both
+in_account : (now : ℕ) (x : OpenBroadcast) → is_late now x ≡ false → (now ≤ x.time + broadcast_limit) × (now ≤ x.since + account (packets_for x.size))
+in_account now x e = let l = ltb-false (expires x) now e in (omega (arith, l), omega (arith, l))
+
+pub found_timely : (who : Who) (H : List Call) (when : ℕ) (f : FrameRecord) (x : OpenBroadcast) → found who H when f ≡ Some x → is_whole x ≡ false
+    → (time_heard (At when (Hear f) ∷ H) ≤ x.time + broadcast_limit) × (time_heard (At when (Hear f) ∷ H) ≤ x.since + account (packets_for x.size))
+found_timely who H when f x e w =
+    in_account _ x (stays_timely _ (changes (known who H when f) (holder who (At when (Hear f) ∷ H)) (hearing who H)) (hearing who H) x e w)
+
+pub ticked_timely : (who : Who) (H : List Call) (now : ℕ) (x : OpenBroadcast) → hearing who (At now Tick ∷ H) ≡ Some x → is_whole x ≡ false
+    → (time_heard (At now Tick ∷ H) ≤ x.time + broadcast_limit) × (time_heard (At now Tick ∷ H) ≤ x.since + account (packets_for x.size))
+ticked_timely who H when x e w = in_account _ x (stays_timely _ false (hearing who H) x e w)
+
+heard_of : (n : ℕ) (o : Option OpenBroadcast) → IsHeardOf n o → (x : OpenBroadcast) × (o ≡ Some x) × (is_whole x ≡ false) × (packets_for x.size ≤ n)
+heard_of n None h = absurd h
+heard_of n (Some x) h = (x, refl, h.0, h.1)
+
+heard_now : (who : Who) (n : ℕ) (later E : List Call) → StaysHeard who n later E → IsHeardOf n (hearing who (later ++ E))
+heard_now who n [] E h = h
+heard_now who n (call ∷ later) E h = h.2
+
+-- the account of all is that of the first
+on_account : (who : Who) (n : ℕ) (E : List Call) (x : OpenBroadcast) → hearing who E ≡ Some x → (later : List Call) → StaysHeard who n later E
+    → (y : OpenBroadcast) → hearing who (later ++ E) ≡ Some y → y.since ≡ x.since
+on_account who n E x e [] h y g = let z : y ≡ x = cc in ap (λ (q : OpenBroadcast). q.since) z
+on_account who n E x e (call ∷ later) h y g =
+    let z = heard_of n (hearing who (later ++ E)) (heard_now who n later E h.0) in
+    account_runs who (later ++ E) call z.0 y z.1 z.2 g h.1 ∙ on_account who n E x e later h.0 z.0 z.1
+
+pub account_ends : (who : Who) (later earlier : List Call) (g n at : ℕ) (f : FrameRecord) → found who earlier at f ≡ None
+    → StaysHeard who n later (At at (Hear f) ∷ earlier) → TicksWithin g later (At at (Hear f) ∷ earlier) → NeverBack later (At at (Hear f) ∷ earlier)
+    → time_heard (At at (Hear f) ∷ earlier) + passed_in later (At at (Hear f) ∷ earlier) < 10000000000000000
+    → passed_in later (At at (Hear f) ∷ earlier) ≤ (n + 1) * broadcast_limit + g
+account_ends who later earlier g n at f none h t b l =
+    let first = heard_of n (hearing who (At at (Hear f) ∷ earlier)) (begins_heard later h) in
+    let s = account_begins who earlier at f first.0 none first.1 in
+    ages (At at (Hear f) ∷ earlier) (account n) (λ later. StaysHeard who n later (At at (Hear f) ∷ earlier)) refl (λ call later h. h.0)
+    (λ now later h.
+    (let E = At at (Hear f) ∷ earlier in
+    let x = heard_of n (hearing who (At now Tick ∷ later ++ E)) h.2 in
+    let o = (ticked_timely who (later ++ E) now x.0 x.1 x.2).1 in
+    let t = on_account who n E first.0 first.1 (At now Tick ∷ later) h x.0 x.1 in
+    let m = x.3 in
+    omega (arith, o, t, m, s))) g later h t b l
+  where
+    begins_heard : (later : List Call) → StaysHeard who n later (At at (Hear f) ∷ earlier) → IsHeardOf n (hearing who (At at (Hear f) ∷ earlier))
+    begins_heard [] h = h
+    begins_heard (call ∷ later) h = begins_heard later h.0

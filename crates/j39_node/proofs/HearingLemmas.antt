@@ -13,7 +13,7 @@ use Rattle.j39_transport.proofs.FrameFacts.{announcement_facts}
 use Rattle.j39_node.specs.History.{Who, Call, is_claim, told_claims, is_some}
 use Rattle.j39_node.specs.History.Call.{At, ReleaseBroadcast}
 use Rattle.j39_node.specs.History.Act.{Hear, Tick, TakeFrame}
-use Rattle.j39_node.specs.Hearing.{IsFit, OpenBroadcast, announces, begun, breaks, changes, ends_by, found, grown, has_room, hearing, hears, is_beside, is_ignored, is_late, is_out, is_over, is_partial, is_unheard, is_wanted, is_whole, left, message_by, more, opens, packed, packs, skips, unheard, unheard_by, unheard_news, whole_of}
+use Rattle.j39_node.specs.Hearing.{IsFit, OpenBroadcast, announces, begun, breaks, changes, ends_by, found, grown, has_room, hearing, hears, is_beside, is_ignored, is_late, is_out, is_over, is_partial, is_unheard, is_wanted, is_whole, left, since_in, message_by, more, opens, packed, packs, skips, unheard, unheard_by, unheard_news, whole_of}
 use Rattle.j39_node.specs.Reception.{holder, is_same, time_heard, known, restarts, still}
 use Rattle.j39_node.specs.Is.{HearingRecord, hearing_after, news_after}
 use Rattle.j39_node.specs.declared.news.Untold.{Untold}
@@ -23,7 +23,7 @@ use Rattle.j39_node.proofs.ReceptionLemmas.{table_is}
 
 pub data Effect (w : Who) (now : ℕ) (f : FrameRecord) (o : Option OpenBroadcast) (wanted unheard : Bool) (after : Option OpenBroadcast) : Type 0 where
   begins : announces f ≡ true → is_ignored w (pgn_named f) ≡ false → wanted ≡ true → unheard ≡ is_partial o → whole_of o ≡ None
-      → IfSome o (λ x. is_beside x.source x.count f ≡ false) → after ≡ Some (begun now f) → Effect w now f o wanted unheard after
+      → IfSome o (λ x. is_beside x.source x.count f ≡ false) → after ≡ Some (begun (since_in now o) now f) → Effect w now f o wanted unheard after
   ends : wanted ≡ false → unheard ≡ is_partial o → whole_of o ≡ None → IfSome o (λ x. is_beside x.source x.count f ≡ false) → after ≡ None
       → Effect w now f o wanted unheard after
   grows : (x : OpenBroadcast) → o ≡ Some x → packs f ≡ true → is_whole x ≡ false → source_of f.id ≡ x.source → slice_index f.bytes 0 ≡ suc x.count
@@ -44,7 +44,7 @@ pub effect : (w : Who) (now : ℕ) (f : FrameRecord) (o : Option OpenBroadcast) 
 effect w now f None = go (announces f) (packs f) (is_ignored w (pgn_named f)) refl refl
   where
     go : (a b c : Bool) → announces f ≡ a → is_ignored w (pgn_named f) ≡ c
-        → Effect w now f None (a && not c) (if a then false else b && false) (if a then (if c then None else Some (begun now f)) else if b then None else None)
+        → Effect w now f None (a && not c) (if a then false else b && false) (if a then (if c then None else Some (begun now now f)) else if b then None else None)
     go true b true e g = ends refl refl refl tt refl
     go true b false e g = begins e g refl refl refl tt refl
     go false true c e g = ends refl refl refl tt refl
@@ -66,7 +66,7 @@ effect w now f (Some x) =
     go : (a b c d e g h : Bool) → announces f ≡ a → packs f ≡ b → is_ignored w (pgn_named f) ≡ c → is_whole x ≡ d → nat_eq (source_of f.id) x.source ≡ e
         → skips f x ≡ g → nat_eq (slice_index f.bytes 0) (suc x.count) ≡ h
         → Effect w now f (Some x) (a && not c) (if a then (if not d && e then not d else not c) else b && (not (d || not e) && g))
-        (if a then (if not d && e then (if c then None else Some (begun now f)) else Some x) else if b
+        (if a then (if not d && e then (if c then None else Some (begun x.since now f)) else Some x) else if b
         then (if d || not e then Some x else if g then None else if h then Some (grown now f x) else Some x) else Some x)
     go true b c true e g h p q r m s t u = stays x refl refl (inl m) refl
     go true b true false true g h p q r m s t u = ends refl (partial m) (none m) (beside true b true _ p q s refl) refl
@@ -222,8 +222,8 @@ fit w (call ∷ H) = fit w H
 
 -- by what it is
 pub hears_is : (w : Who) (now : ℕ) (f : FrameRecord) (o : Option OpenBroadcast) (a b : Bool) → announces f ≡ a → packs f ≡ b
-    → hears w now f o ≡ (if a then (if has_room (source_of f.id) o then opens w now f else o) else if b then packed now f o else o)
-hears_is w now f o a b e g = λ i. if e i then (if has_room (source_of f.id) o then opens w now f else o) else if g i then packed now f o else o
+    → hears w now f o ≡ (if a then (if has_room (source_of f.id) o then opens w now f o else o) else if b then packed now f o else o)
+hears_is w now f o a b e g = λ i. if e i then (if has_room (source_of f.id) o then opens w now f o else o) else if g i then packed now f o else o
 
 pub unheard_is : (w : Who) (f : FrameRecord) (o : Option OpenBroadcast) (a b : Bool) → announces f ≡ a → packs f ≡ b
     → is_unheard w f o ≡ (if a then (if has_room (source_of f.id) o then is_partial o else not (is_ignored w (pgn_named f))) else b && Rattle.j39_node.specs.Hearing.is_gap f o)

@@ -10,15 +10,15 @@ use Rattle.j39_node.specs.declared.kinds.Ending.TheVariants.{Done, Withdrawn}
 use Rattle.j39_node.specs.declared.kinds.Refused.{Refused}
 use Rattle.j39_node.specs.declared.kinds.Refused.TheVariants.{NoAddress, BadValue, Full}
 use Rattle.j39_node.specs.declared.turn.Turn.TheVariants.{Reply, Single, Packet, Move}
-use Rattle.j39_node.specs.History.{is_held, is_claim, is_acknowledgment, yields, Who, Message, Call, accepted, acknowledged, address_after, all_frames, broadcasts, can_broadcast, due, first_frames, frame_of, has_packets, holds, is_busy, is_left, is_lost, is_open, is_packet, message_of, moment, open_broadcast, packets, pause, sent, step, told_broadcasts}
+use Rattle.j39_node.specs.History.{reached, is_held, is_claim, is_acknowledgment, Who, Message, Call, accepted, acknowledged, address_after, all_frames, broadcasts, can_broadcast, due, first_frames, frame_of, has_packets, holds, is_busy, is_left, is_lost, is_open, is_packet, message_of, moment, open_broadcast, packets, pause, step, told_broadcasts}
 use Rattle.j39_node.specs.History.Call.{At, TakeBroadcastEnded}
 use Rattle.j39_node.specs.History.Act.{TakeFrame, Broadcast}
-use Rattle.j39_node.specs.Reception.{reception}
+use Rattle.j39_node.specs.Reception.{yields, reception}
 use Rattle.j39_node.specs.Is.{is_overdue, is_there, ready, gives_way, next_acknowledgment, AreAnswered, Is, broadcast_end, next_packet, packet_by, long_by, next_frame, next_long}
 use Rattle.j39_node.specs.Transfers.{next_transfer}
 use Rattle.j39_node.specs.Since.{PacketSince, passed_in}
 use Rattle.j39_node.proofs.QueueLemmas.{length_one_more}
-use Rattle.j39_node.proofs.SoundLemmas.{address_is, packet_taken, IsTurn, none_at, none_next, packet_there, turned, FrameCase, frame_case, packet_case, sound, claim_taken, claim_single, due_get, due_taken, no_packet, own_get, pause_is, reply_taken, single_taken, no_packet, transfer_taken}
+use Rattle.j39_node.proofs.SoundLemmas.{address_is, packet_taken, IsTurn, none_at, none_next, packet_there, turned, FrameCase, frame_case, packet_case, sound, claim_taken, claim_single, due_get, due_taken, no_packet, own_of, pause_is, reply_taken, single_taken, no_packet, transfer_taken}
 use Rattle.j39_node.proofs.ReceptionLemmas.{replied_get, tidy}
 use Rattle.j39_node.proofs.SoundLemmas.FrameCase.{claims, acknowledges, replies, sends, packs, transfers}
 use Rattle.j39_node.proofs.LaneLemmas.{BroadcastCase, broadcast_case, LaneEnd, lane_end, Opened, Laned, laned, closed, stands_open, opened_by}
@@ -124,7 +124,7 @@ record Packed (w : Who) (H : List Call) (now : ℕ) (f : FrameRecord) : Type 0 w
   pub within : length (packets H) ≤ packets_of message
   pub held : holds w H now ≡ true
   pub none_due : next_acknowledgment w H now ≡ None
-  pub none_waits : IsTrue (is_overdue w H now) ⊎ (nat_lt (length (sent H)) (length (accepted w H)) ≡ false)
+  pub none_waits : IsTrue (is_overdue w H now) ⊎ (nat_lt (reached H) (length (accepted w H)) ≡ false)
   pub over : pause H - step H now ≤ 100000
 
 packed_by : (w : Who) (H : List Call) (now : ℕ) (f : FrameRecord) → AreAnswered w H → is_packet f ≡ true → FrameCase w H now f → Packed w H now f
@@ -134,7 +134,7 @@ packed_by w H now f right p = go
     go (claims o e) = absurd (not_both _ (no_packet f (claim_single f (claim_taken f now w _ e))) p)
     go (acknowledges m o k g e way) = absurd (not_both _ (no_packet f (due_taken w f now m e (due_get w (due w H) (length (acknowledged H)) m (sound w H right).desk.0 g)).2) p)
     go (replies m o k n g e) = absurd (not_both _ (reply_taken w.address f now m e (replied_get w.address (reception w H).replies 0 m (tidy w H).replies g)).3 p)
-    go (sends x o k n g e) = absurd (not_both _ (no_packet f (single_taken w f now x e (own_get w (accepted w H) (length (sent H)) x (sound w H right).own g))) p)
+    go (sends x o k n g e) = absurd (not_both _ (no_packet f (single_taken w f now x e (own_of w H x right g))) p)
     go (transfers m o k n g e) = absurd (not_both _ (transfer_taken w H now f m right e g).packet p)
     go (packs m o k n g e) =
         let x = packet_case (open_broadcast w H) (length (packets H)) (pause H - step H now) m g in
@@ -150,7 +150,7 @@ packed_by w H now f right p = go
           over = x.over;
         }
       where
-        waits : IsTurn (yields H) (ready w H now) (Some Packet) → IsTrue (is_overdue w H now) ⊎ (nat_lt (length (sent H)) (length (accepted w H)) ≡ false)
+        waits : IsTurn (yields w H) (ready w H now) (Some Packet) → IsTrue (is_overdue w H now) ⊎ (nat_lt (reached H) (length (accepted w H)) ≡ false)
         waits (inl o) = inl o
         waits (inr t) = inr t.1
 
@@ -184,7 +184,7 @@ pub only : (w : Who) (H : List Call) (c : Controller) (now : ℕ) (f : FrameReco
 only w H c now f is p = let x = packed w H c now f is p in (x.token, x.message, x.current, x.is, x.within)
 
 pub behind : (w : Who) (H : List Call) (c : Controller) (now : ℕ) (f : FrameRecord) → Is w (At now (TakeFrame (Some f)) ∷ H) c → IsTrue (is_packet f)
-    → IsTrue (holds w H now) × (IsTrue (is_overdue w H now) ⊎ (length (sent H) ≡ length (accepted w H))) × (IsTrue (gives_way w H now) ⊎ (acknowledged H ≡ due w H))
+    → IsTrue (holds w H now) × (IsTrue (is_overdue w H now) ⊎ (reached H ≡ length (accepted w H))) × (IsTrue (gives_way w H now) ⊎ (acknowledged H ≡ due w H))
 behind w H c now f is p =
     let x = packed w H c now f is p in
     let s = sound w H is.answered.0 in
@@ -192,7 +192,7 @@ behind w H c now f is p =
       x.held,
       elim x.none_waits [
         | inl o ↦ inl o
-        | inr n ↦ inr (let a = past_end (accepted w H) (length (sent H)) (none_at (accepted w H) (length (sent H)) n) in omega (arith, a, b))
+        | inr n ↦ inr (let a = past_end (accepted w H) (reached H) (none_at (accepted w H) (reached H) n) in omega (arith, a, b))
       ],
       all_acknowledged w H now is.answered.0 x.none_due,
     )

@@ -7,13 +7,13 @@ use Rattle.j39_node.specs.declared.kinds.Ending.{Ending}
 use Rattle.j39_node.specs.declared.kinds.Ending.TheVariants.{Done, Withdrawn}
 use Rattle.j39_node.specs.declared.kinds.Refused.{Refused}
 use Rattle.j39_node.specs.declared.kinds.Refused.TheVariants.{NoAddress, BadValue, Full}
-use Rattle.j39_node.specs.History.{Who, Message, Call, accepted, acknowledged, due, sent, address_after, broadcast_from, broadcasts, can_broadcast, first_frames, frame_of, holds, is_busy, is_lost, is_open, is_packet, open_broadcast, packets, pause, step, told_broadcasts}
+use Rattle.j39_node.specs.History.{Who, Message, Call, acknowledged, due, address_after, broadcast_from, broadcasts, can_broadcast, first_frames, frame_of, holds, is_busy, is_lost, is_open, is_packet, open_broadcast, packets, pause, step, told_broadcasts}
 use Rattle.j39_node.specs.History.Call.{At, TakeBroadcastEnded}
 use Rattle.j39_node.specs.History.Act.{TakeFrame, Broadcast}
 use Rattle.j39_node.specs.Reception.{reception}
 use Rattle.j39_node.specs.Is.{AreAnswered, answer_to_broadcast, broadcast_end, stamped}
 use Rattle.j39_node.proofs.QueueLemmas.{length_one_more}
-use Rattle.j39_node.proofs.SoundLemmas.{FrameCase, PacketCase, frame_case, packet_case, packet_taken, packets_is, sound, claim_taken, claim_single, due_get, due_taken, no_packet, own_get, reply_taken, single_taken, no_packet, transfer_taken}
+use Rattle.j39_node.proofs.SoundLemmas.{FrameCase, PacketCase, frame_case, packet_case, packet_taken, packets_is, sound, claim_taken, claim_single, due_get, due_taken, no_packet, own_of, reply_taken, single_taken, no_packet, transfer_taken}
 use Rattle.j39_node.proofs.ReceptionLemmas.{replied_get, tidy}
 use Rattle.j39_node.proofs.SoundLemmas.FrameCase.{claims, acknowledges, replies, sends, packs, transfers}
 
@@ -123,7 +123,7 @@ lane_frame w H now f right case h = go case
     go (claims o e) = same (no_packet f (claim_single f (claim_taken f now w _ e)))
     go (acknowledges m o k g e way) = same (no_packet f (due_taken w f now m e (due_get w (due w H) (length (acknowledged H)) m (sound w H right).desk.0 g)).2)
     go (replies m o k n g e) = same (reply_taken w.address f now m e (replied_get w.address (reception w H).replies 0 m (tidy w H).replies g)).3
-    go (sends x o k n g e) = same (no_packet f (single_taken w f now x e (own_get w (accepted w H) (length (sent H)) x (sound w H right).own g)))
+    go (sends x o k n g e) = same (no_packet f (single_taken w f now x e (own_of w H x right g)))
     go (transfers m o k n g e) = same (transfer_taken w H now f m right e g).packet
     go (packs m o k n g e) =
         let is = packet_taken f now m (open_broadcast w H) (length (packets H)) (pause H - step H now) e g in

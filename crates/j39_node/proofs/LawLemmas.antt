@@ -1,5 +1,5 @@
 -- The laws.
-use Rattle.std.proofs.Common.{drop, ◌≡◌, ◌≢◌, ◌⊎◌, ◌↔◌, ℕ, zero, suc, ◌+◌, ◌-◌, ◌<◌, ◌≤◌, List, [], ◌∷◌, ◌++◌, length, map, Option, Some, None, Result, Ok, Err, Bool, true, false, not, ◌&&◌, ◌||◌, if◌then◌else◌, nat_eq, nat_lt, nat_le, IsTrue, refl, sym, ap, ◌∙◌, inl, inr, arith, length-append, append-nil, eqb-true, eq-eqb, ltb-true, lt-ltb, ◌*◌, max}
+use Rattle.std.proofs.Common.{drop, ◌≡◌, ◌≢◌, ◌⊎◌, ◌↔◌, ℕ, zero, suc, ◌+◌, ◌-◌, ◌<◌, ◌≤◌, List, [], ◌∷◌, ◌++◌, length, map, Option, Some, None, Result, Ok, Err, Bool, true, false, not, ◌&&◌, ◌||◌, if◌then◌else◌, nat_eq, nat_lt, nat_le, IsTrue, refl, sym, ap, ◌∙◌, inl, inr, arith, length-append, append-nil, eqb-true, eq-eqb, ltb-true, lt-ltb, ◌*◌, max, take}
 use Rattle.std.proofs.lemmas.Bool.{and_from, and_parts}
 use Rattle.std.specs.List.{slice_get}
 use Rattle.j39_frame.specs.Frame.{FrameRecord}
@@ -8,6 +8,8 @@ use Rattle.j39_frame.specs.Identifier.{destination_of, source_of, pgn_of}
 use Rattle.j39_frame.specs.Network.{address_claimed_group, request_group}
 use Rattle.j39_address.specs.Claim.{claim_of, Claim}
 use Rattle.j39_address.specs.declared.status.Status.TheVariants as status
+use Rattle.std.proofs.lemmas.Option.{slice_get-map, slice_get_within}
+use Rattle.j39_node.proofs.FrameLemmas.{le_true}
 use Rattle.j39_node.specs.declared.controller.Controller.{Controller}
 use Rattle.j39_node.specs.declared.kinds.Ending.{Ending}
 use Rattle.j39_node.specs.declared.kinds.Ending.TheVariants.{Done, Withdrawn}
@@ -17,28 +19,28 @@ use Rattle.j39_node.specs.declared.kinds.News.{News}
 use Rattle.j39_node.specs.declared.kinds.News.TheVariants.{AddressLost, AnotherAtAddress, MessagesMissed, NameDoubled}
 use Rattle.j39_node.specs.declared.kinds.Refused.{Refused}
 use Rattle.j39_node.specs.declared.kinds.Refused.TheVariants.{NoAddress, BadValue, Full}
-use Rattle.j39_node.specs.History.{fresh, is_refusal_due, refusal_waits, waits_already, is_session, is_transfer, yields, answers_another, calls, is_another, is_acknowledgment, patience, turns, Who, Message, Draft, Call, Address, IsFront, accepted, address_after, can_send, claim_address, claim_from, content, frames, got, heard, holds, is_claim, is_smaller, claimed, is_for_program, is_held, is_lost, is_none, is_own_group, is_some, is_subscribed, kept, message_of, missed, moment, older, owes_claim, sent, step, told, Asked, asked, acknowledgment, acknowledgment_group, acknowledged, due, handed, requests, is_served, with_request, with_refusal, stamp_at, held_at, lost_news, another_news, missed_news, open_broadcast, packets, pause, delayed, unclaimed, Again, may_claim, doubled_news, double, told_claims, is_double, is_larger, calls_for_claim, is_alike, latest, message_from}
-use Rattle.j39_node.specs.History.Call.{At, TakeEnded, TakeReceived, TakeRequest, TakeNews, Renew}
+use Rattle.j39_node.specs.History.{reached, fresh, is_refusal_due, refusal_waits, waits_already, is_session, is_transfer, answers_another, calls, is_another, is_acknowledgment, patience, turns, Who, Message, Draft, Call, Address, IsFront, accepted, address_after, can_send, claim_address, claim_from, content, frames, got, heard, holds, is_claim, is_smaller, claimed, is_for_program, is_held, is_lost, is_none, is_own_group, is_some, is_subscribed, kept, message_of, missed, moment, older, owes_claim, sent, step, told, Asked, asked, acknowledgment, acknowledgment_group, acknowledged, due, handed, requests, is_served, with_request, with_refusal, stamp_at, held_at, lost_news, another_news, missed_news, open_broadcast, packets, pause, delayed, unclaimed, Again, may_claim, doubled_news, double, told_claims, is_double, is_larger, calls_for_claim, is_alike, latest, message_from, marks, unblanked, is_blank}
+use Rattle.j39_node.specs.History.Call.{At, TakeEnded, TakeReceived, TakeRequest, TakeNews, Renew, Withdraw}
 use Rattle.j39_node.specs.History.Act.{Hear, Tick, TakeFrame, Send, Acknowledge, Again}
-use Rattle.j39_node.specs.Reception.{is_move, is_waiting, reception}
+use Rattle.j39_node.specs.Reception.{yields, is_move, is_waiting, reception, is_reply}
 use Rattle.j39_node.proofs.ReceptionLemmas.{replied_get, tidy}
 use Rattle.j39_node.specs.History.Address.{NotClaimed, Claimed, Lost}
 use Rattle.j39_node.specs.Hearing.{unheard_news}
 use Rattle.j39_node.specs.Since.{passed_in, HasDouble}
 use Rattle.j39_node.specs.Prompt.{NoneTold, takes_other}
 use Rattle.j39_node.specs.declared.turn.Turn.TheVariants.{Reply, Move}
-use Rattle.j39_node.specs.Is.{is_apart, ready, AreAnswered, Is, claim_goes, other, next_packet, long_by, gives_way, is_there, next_acknowledgment, next_other, stamped, next_frame, end_of, status_of, status_after, news_of, next_long, claim_due}
+use Rattle.j39_node.specs.Is.{is_apart, ready, AreAnswered, Is, claim_goes, other, next_packet, long_by, gives_way, is_there, next_acknowledgment, next_other, stamped, next_frame, end_of, status_of, status_after, news_of, next_long, claim_due, may_go, next_withdrawn}
 use Rattle.j39_node.specs.Transfers.{next_transfer, age, at_in, next_due}
 use Rattle.j39_node.proofs.DueLemmas.{both_none, from_long, quiet_long, then_long}
-use Rattle.j39_node.proofs.QueueLemmas.{get_within, length_one_more, length_map}
-use Rattle.j39_node.proofs.SoundLemmas.{apart_is, is_moved, IsTurn, acknowledgment_single, claim_single, no_transfer, none_there, packet_session, packet_there, single_taken, turned, Rest, none_at, none_next, none_other, other_none, claim_is, given_way, none_acknowledged, none_due_goes, none_gives, plain_taken, EndCase, FrameCase, SendCase, Sound, claim_taken, due_get, due_taken, end_case, frame_by, frame_case, front_length, held_older, lost_claimed, lost_older, message_taken, own_get, packet_case, packet_taken, reply_taken, send_case, sound, transfer_taken, lost_unclaimed, holding_not_lost, no_claim_goes, renew_case}
+use Rattle.j39_node.proofs.QueueLemmas.{length_one_more}
+use Rattle.j39_node.proofs.SoundLemmas.{apart_is, is_moved, IsTurn, acknowledgment_single, claim_single, no_transfer, none_there, packet_session, packet_there, single_taken, turned, Rest, none_at, none_next, none_other, other_none, claim_is, given_way, none_acknowledged, none_due_goes, none_gives, plain_taken, EndCase, FrameCase, SendCase, Sound, claim_taken, due_get, due_taken, end_case, frame_by, frame_case, front_length, held_older, lost_claimed, lost_older, message_taken, own_of, packet_case, packet_taken, reply_taken, send_case, sound, transfer_taken, lost_unclaimed, holding_not_lost, no_claim_goes, renew_case, WithdrawCase, withdraw_case}
 use Rattle.j39_node.proofs.KnownLemmas.{fresh_one, not_refused, served_not}
 use Rattle.j39_node.proofs.LaneLemmas.{laned, opened_by}
 use Rattle.j39_node.proofs.CallLemmas.{acknowledge_is, acknowledges_by, due_by}
 use Rattle.j39_node.proofs.SoundLemmas.FrameCase.{claims, acknowledges, replies, sends, packs, transfers}
 use Rattle.j39_node.proofs.SoundLemmas.SendCase.{no_address, bad_value, full, accepts}
 use Rattle.j39_node.proofs.SoundLemmas.EndCase.{done, withdrawn}
-use Rattle.std.specs.Option.{option_or}
+use Rattle.std.specs.Option.{option_or, option_map}
 use Rattle.j39_node.proofs.RenewLemmas.{none_past, set_here, set_other}
 
 -- ---- sources
@@ -80,7 +82,7 @@ sources w H c now f is = go (frame w H c now f is)
           λ z. (let a = (reply_taken w.address f now m e is_reply).0 in let b = eq-eqb (pgn_of f.id) address_claimed_group z in let d : true ≡ false = sym b ∙ a in absurd (cc)),
         )
     go (sends x o h k g e) =
-        let own = own_get w (accepted w H) (length (sent H)) x (sound w H is.answered.0).own g in
+        let own = own_of w H x is.answered.0 g in
         inr (
           h,
           ap (λ (y : ℕ × Message). y.1.source) e ∙ own.source,
@@ -113,30 +115,43 @@ token_is w H c now k d is = go (send_case w H now d (Ok k) is.answered.1)
 record Told (w : Who) (H : List Call) (k : ℕ) (e : Ending) : Type 0 where
   pub message : Message
   pub at : slice_get (accepted w H) (length (told H)) ≡ Some (k, message)
-  pub done : e ≡ Done ↔ (length (told H) < length (sent H))
-  pub withdrawn : e ≡ Withdrawn → is_lost (address_after w H) ≡ true
+  pub done : e ≡ Done ↔ ((length (told H) < reached H) × (is_blank (k, message) ≡ false))
+  pub withdrawn : e ≡ Withdrawn → (is_lost (address_after w H) ≡ true) ⊎ ((length (told H) < reached H) × (is_blank (k, message) ≡ true))
 
 told_is : (w : Who) (H : List Call) (c : Controller) (k : ℕ) (e : Ending) → Is w (TakeEnded (Some (k, e)) ∷ H) c → Told w H k e
 told_is w H c k e is = go (end_case w H (k, e) is.answered.1)
   where
     go : EndCase w H (k, e) → Told w H k e
-    go (done m l g i) = record { message = m; at = g; done = (λ z. ltb-true _ _ l, λ z. i); withdrawn = λ z. absurd (cc) }
+    go (done m l g i) = by (is_blank (k, m)) refl
+      where
+        by : (b : Bool) → is_blank (k, m) ≡ b → Told w H k e
+        by true z =
+            let y : e ≡ Withdrawn = i ∙ ap (λ (b : Bool). (let x : Ending = (if b then Withdrawn else Done) in x)) z in
+            record {
+              message = m;
+              at = g;
+              done = (λ x. absurd (cc), λ x. absurd (let v : true ≡ false = sym z ∙ x.1 in cc));
+              withdrawn = λ x. inr (ltb-true _ _ l, z);
+            }
+        by false z =
+            let y : e ≡ Done = i ∙ ap (λ (b : Bool). (let x : Ending = (if b then Withdrawn else Done) in x)) z in
+            record { message = m; at = g; done = (λ x. (ltb-true _ _ l, z), λ x. y); withdrawn = λ x. absurd (cc) }
     go (withdrawn m l a g i) = record {
       message = m;
       at = g;
-      done = (λ z. absurd (cc), λ z. absurd (let y = lt-ltb _ _ z in let x : false ≡ true = sym l ∙ y in cc));
-      withdrawn = λ z. a;
+      done = (λ z. absurd (cc), λ z. absurd (let y = lt-ltb _ _ z.0 in let x : false ≡ true = sym l ∙ y in cc));
+      withdrawn = λ z. inl a;
     }
 
 pub in_turn : (w : Who) (H : List Call) (c : Controller) (k : ℕ) (e : Ending) → Is w (TakeEnded (Some (k, e)) ∷ H) c → (k ≡ length (told H)) × (k < length (accepted w H))
 in_turn w H c k e is =
     let t = told_is w H c k e is in
     let a : k ≡ length (told H) = (sound w H is.answered.0).numbered (length (told H)) (k, t.message) t.at in
-    (a, (let b = get_within (accepted w H) (length (told H)) (k, t.message) t.at in omega (arith, a, b)))
+    (a, (let b = slice_get_within (accepted w H) (length (told H)) (k, t.message) t.at in omega (arith, a, b)))
 
 none_ended : (b l : Bool) (o : Option (ℕ × Message)) → None ≡ end_of b l o → (o ≡ None) ⊎ ((b ≡ false) × (l ≡ false))
 none_ended b l None e = inl refl
-none_ended true l (Some x) e = absurd (cc)
+none_ended true l (Some x) e = absurd (grind (arith, e))
 none_ended false true (Some x) e = absurd (cc)
 none_ended false false (Some x) e = inr (refl, refl)
 
@@ -145,18 +160,18 @@ past_end [] n e = omega arith
 past_end (x ∷ L) zero e = absurd (cc)
 past_end (x ∷ L) (suc n) e = let h = past_end L n e in omega (arith, h)
 
-pub sent_within : (w : Who) (H : List Call) → Sound w H → length (sent H) ≤ length (accepted w H)
-sent_within w H s = let a = front_length (sent H) (map content (accepted w H)) s.fronts in let b = length_map content (accepted w H) in omega (arith, a, b)
+pub sent_within : (w : Who) (H : List Call) → Sound w H → reached H ≤ length (accepted w H)
+sent_within w H s = s.passed
 
 pub all_told : (w : Who) (H : List Call) (c : Controller) → Is w (TakeEnded None ∷ H) c
-    → (length (sent H) ≤ length (told H)) × (IsTrue (is_lost (address_after w H)) → length (told H) ≡ length (accepted w H))
+    → (reached H ≤ length (told H)) × (IsTrue (is_lost (address_after w H)) → length (told H) ≡ length (accepted w H))
 all_told w H c is = go (none_ended _ _ _ is.answered.1)
   where
     s : Sound w H
     s = sound w H is.answered.0
 
-    go : (slice_get (accepted w H) (length (told H)) ≡ None) ⊎ ((nat_lt (length (told H)) (length (sent H)) ≡ false) × (is_lost (address_after w H) ≡ false))
-        → (length (sent H) ≤ length (told H)) × (IsTrue (is_lost (address_after w H)) → length (told H) ≡ length (accepted w H))
+    go : (slice_get (accepted w H) (length (told H)) ≡ None) ⊎ ((nat_lt (length (told H)) (reached H) ≡ false) × (is_lost (address_after w H) ≡ false))
+        → (reached H ≤ length (told H)) × (IsTrue (is_lost (address_after w H)) → length (told H) ≡ length (accepted w H))
     go (inl e) =
         let a = past_end (accepted w H) (length (told H)) e in
         let b = sent_within w H s in
@@ -168,25 +183,78 @@ all_told w H c is = go (none_ended _ _ _ is.answered.1)
 
 -- ---- done means
 
-pub in_order : (w : Who) (H : List Call) (c : Controller) → Is w H c → IsFront (sent H) (map content (accepted w H))
-in_order w H c is = (sound w H is.answered).fronts
+pub in_order : (w : Who) (H : List Call) (c : Controller) → Is w H c
+    → (sent H ≡ map content (unblanked (take (reached H) (accepted w H)))) × (reached H ≤ length (accepted w H)) × (marks H ≡ map is_blank (accepted w H))
+in_order w H c is = let s = sound w H is.answered in (s.in_order, s.passed, s.marked)
 
-pub done_means : (w : Who) (H : List Call) (c : Controller) (k : ℕ) (e : Ending) → Is w (TakeEnded (Some (k, e)) ∷ H) c → (e ≡ Done ↔ (k < length (sent H)))
+-- a token's mark
+mark_at : (w : Who) (H : List Call) (k : ℕ) (m : Message) → Sound w H → slice_get (accepted w H) (length (told H)) ≡ Some (k, m) → k ≡ length (told H)
+    → slice_get (marks H) k ≡ Some (is_blank (k, m))
+mark_at w H k m s e z =
+    (λ i. slice_get (s.marked i) (z i)) ∙ (slice_get-map is_blank (accepted w H) (length (told H)) ∙ ap (option_map is_blank) e)
+
+pub done_means : (w : Who) (H : List Call) (c : Controller) (k : ℕ) (e : Ending) → Is w (TakeEnded (Some (k, e)) ∷ H) c
+    → (e ≡ Done ↔ ((k < reached H) × (slice_get (marks H) k ≡ Some false)))
 done_means w H c k e is =
     let t = told_is w H c k e is in
     let a = (in_turn w H c k e is).0 in
-    (λ z. (let b = t.done.0 z in omega (arith, a, b)), λ z. t.done.1 (omega (arith, a, z)))
+    let m = mark_at w H k t.message (sound w H is.answered.0) t.at a in (
+      λ z. (let b = t.done.0 z in let l = b.0 in (omega (arith, a, l), m ∙ ap (λ (y : Bool). (let o : Option Bool = Some y in o)) b.1)),
+      λ z. t.done.1 ((let l = z.0 in omega (arith, a, l)), (let y : Some (is_blank (k, t.message)) ≡ Some false = sym m ∙ z.1 in cc)),
+    )
 
 pub withdrawn_means : (w : Who) (H : List Call) (c : Controller) (k : ℕ) (e : Ending) → Is w (TakeEnded (Some (k, e)) ∷ H) c → e ≡ Withdrawn
-    → IsTrue (is_lost (address_after w H))
-withdrawn_means w H c k e is z = (told_is w H c k e is).withdrawn z
+    → IsTrue (is_lost (address_after w H)) ⊎ (slice_get (marks H) k ≡ Some true)
+withdrawn_means w H c k e is z =
+    let t = told_is w H c k e is in
+    let m = mark_at w H k t.message (sound w H is.answered.0) t.at (in_turn w H c k e is).0 in
+    elim (t.withdrawn z) [ inl x ↦ inl x | inr x ↦ inr (m ∙ ap (λ (y : Bool). (let o : Option Bool = Some y in o)) x.1) ]
+
+-- ---- what is withdrawn
+
+pub withdrawn_is : (w : Who) (H : List Call) (c : Controller) (k : ℕ) (answer : Bool) → Is w (Withdraw k answer ∷ H) c
+    → (answer ≡ true ↔ ((is_lost (address_after w H) ≡ false) × (reached H ≤ k) × ((m : Message) × (slice_get (accepted w H) k ≡ Some (k, m))
+    × (nat_eq m.group request_group ≡ false) × (slice_get (marks H) k ≡ Some false))))
+withdrawn_is w H c k answer is = (λ z. to (withdraw_case w H k (sym z ∙ is.answered.1)), λ z. is.answered.1 ∙ from z.0 z.1 z.2)
+  where
+    s : Sound w H
+    s = sound w H is.answered.0
+
+    marked : (x : ℕ × Message) → slice_get (accepted w H) k ≡ Some x → slice_get (marks H) k ≡ Some (is_blank x)
+    marked x e = ap (λ bs. slice_get bs k) s.marked ∙ (slice_get-map is_blank (accepted w H) k ∙ ap (option_map is_blank) e)
+
+    to : WithdrawCase w H k → (is_lost (address_after w H) ≡ false) × (reached H ≤ k) × ((m : Message) × (slice_get (accepted w H) k ≡ Some (k, m))
+        × (nat_eq m.group request_group ≡ false) × (slice_get (marks H) k ≡ Some false))
+    to y = (
+      y.kept,
+      y.from,
+      (
+        y.entry.1,
+        y.is ∙ ap (λ (i : ℕ). (let z : Option (ℕ × Message) = Some (i, y.entry.1) in z)) (s.numbered k y.entry y.is),
+        y.plain,
+        marked y.entry y.is ∙ ap (λ (b : Bool). (let o : Option Bool = Some b in o)) y.stays,
+      ),
+    )
+
+    from : is_lost (address_after w H) ≡ false → reached H ≤ k → (m : Message) × (slice_get (accepted w H) k ≡ Some (k, m))
+        × (nat_eq m.group request_group ≡ false) × (slice_get (marks H) k ≡ Some false) → next_withdrawn w H k ≡ true
+    from l a z =
+        let b : Some (is_blank (k, z.0)) ≡ Some false = sym (marked (k, z.0) z.1) ∙ z.3 in
+        let d : is_blank (k, z.0) ≡ false = cc in
+        (λ i. not (l i) && (nat_le (reached H) k && may_go (z.1 i))) ∙ λ i. le_true (reached H) k a i && not (d i || z.2 i)
+
+pub others_unmarked : (H : List Call) (k j : ℕ) → j ≢ k → slice_get (marks (Withdraw k true ∷ H)) j ≡ slice_get (marks H) j
+others_unmarked H k j n = set_other (marks H) k j true n
+
+pub marked_now : (w : Who) (H : List Call) (c : Controller) (k : ℕ) → Is w (Withdraw k true ∷ H) c → slice_get (marks (Withdraw k true ∷ H)) k ≡ Some true
+marked_now w H c k is = set_here (marks H) k false true ((withdrawn_is w H c k true is).0 refl).2.3
 
 pub none_waits : (w : Who) (H : List Call) (c : Controller) (now : ℕ) → Is w (At now (TakeFrame None) ∷ H) c → IsTrue (holds w H now)
-    → (length (sent H) ≡ length (accepted w H)) × (length (acknowledged H) ≡ length (due w H))
+    → (reached H ≡ length (accepted w H)) × (length (acknowledged H) ≡ length (due w H))
 none_waits w H c now is held =
     let n = none_next w H now held is.answered.1 in
     let s = sound w H is.answered.0 in
-    let x = past_end (accepted w H) (length (sent H)) n.rest.message in
+    let x = past_end (accepted w H) (reached H) n.rest.message in
     let y = sent_within w H s in
     let u = past_end (due w H) (length (acknowledged H)) n.acknowledgment in
     let v = front_length (acknowledged H) (due w H) s.desk.1 in
@@ -391,7 +459,7 @@ other_plain w H now f right (claims o e) g = absurd (not_both _ (ap not g) (and_
 other_plain w H now f right (acknowledges m o h k e way) g = absurd (not_both _ way g)
 other_plain w H now f right (replies m o h k i e) g = let r = reply_taken w.address f now m e (replied_get w.address (reception w H).replies 0 m (tidy w H).replies i) in (r.0, r.1)
 other_plain w H now f right (sends x o h k i e) g =
-    let own = own_get w (accepted w H) (length (sent H)) x (sound w H right).own i in (message_taken w f now x e own, plain_taken w f now x e own)
+    let own = own_of w H x right i in (message_taken w f now x e own, plain_taken w f now x e own)
 other_plain w H now f right (packs m o h k i e) g =
     let p = packet_taken f now m (open_broadcast w H) (length (packets H)) (pause H - step H now) e i in (p.0, p.1)
 other_plain w H now f right (transfers m o h k i e) g = let t = transfer_taken w H now f m right e i in (t.claim, t.plain)
@@ -475,31 +543,31 @@ pub or_false : (a b : Bool) → (a || b) ≡ false → (a ≡ false) × (b ≡ f
 or_false true b e = absurd (cc)
 or_false false b e = (refl, e)
 
--- behind a frame of a session to an address replies yield, as long as no other frame but claims and acknowledgments is taken
-still_yields : (later H : List Call) → NoneTold takes_other later → yields H ≡ true → yields (later ++ H) ≡ true
-still_yields [] H n e = e
-still_yields (At now (TakeFrame (Some f)) ∷ later) H n e = go (is_claim f || is_acknowledgment f) n.0 (still_yields later H n.1 e)
+-- behind a reply the next yields, as long as no other frame but claims and acknowledgments is taken
+still_yields : (w : Who) (later H : List Call) → NoneTold takes_other later → yields w H ≡ true → yields w (later ++ H) ≡ true
+still_yields w [] H n e = e
+still_yields w (At now (TakeFrame (Some f)) ∷ later) H n e = go (is_claim f || is_acknowledgment f) n.0 (still_yields w later H n.1 e)
   where
-    go : (b : Bool) → not b ≡ false → yields (later ++ H) ≡ true → (if b then yields (later ++ H) else is_transfer f) ≡ true
+    go : (b : Bool) → not b ≡ false → yields w (later ++ H) ≡ true → (if b then yields w (later ++ H) else is_reply (reception w (later ++ H)).replies f) ≡ true
     go true i h = h
     go false i h = absurd (cc)
-still_yields (call ∷ later) H n e = still_yields later H n.1 e
+still_yields w (call ∷ later) H n e = still_yields w later H n.1 e
 
-yields_then : (H : List Call) (now : ℕ) (f : FrameRecord) → is_transfer f ≡ true → yields (At now (TakeFrame (Some f)) ∷ H) ≡ true
-yields_then H now f t = go (is_claim f) (is_acknowledgment f) refl refl
+yields_then : (w : Who) (H : List Call) (now : ℕ) (f : FrameRecord) → is_reply (reception w H).replies f ≡ true → yields w (At now (TakeFrame (Some f)) ∷ H) ≡ true
+yields_then w H now f t = go (is_claim f) (is_acknowledgment f) refl refl
   where
     session : is_session f ≡ true
-    session = (and_parts (is_session f) _ t).0
+    session = (and_parts (is_session f) _ (and_parts (is_transfer f) _ t).0).0
 
-    go : (a b : Bool) → is_claim f ≡ a → is_acknowledgment f ≡ b → (if is_claim f || is_acknowledgment f then yields H else is_transfer f) ≡ true
+    go : (a b : Bool) → is_claim f ≡ a → is_acknowledgment f ≡ b → (if is_claim f || is_acknowledgment f then yields w H else is_reply (reception w H).replies f) ≡ true
     go true b p q = absurd (not_both _ (claim_single f p) session)
     go false true p q = absurd (not_both _ (acknowledgment_single f q) session)
-    go false false p q = (λ i. if p i || q i then yields H else is_transfer f) ∙ t
+    go false false p q = (λ i. if p i || q i then yields w H else is_reply (reception w H).replies f) ∙ t
 
 -- and behind it what else is due goes before the next reply
 pub behind_a_reply : (w : Who) (H later : List Call) (c : Controller) (last first : ℕ) (f i : FrameRecord)
-    → Is w (At last (TakeFrame (Some i)) ∷ later ++ At first (TakeFrame (Some f)) ∷ H) c → IsTrue (is_transfer f) → NoneTold takes_other later
-    → (length (sent (later ++ At first (TakeFrame (Some f)) ∷ H)) < length (accepted w (later ++ At first (TakeFrame (Some f)) ∷ H)))
+    → Is w (At last (TakeFrame (Some i)) ∷ later ++ At first (TakeFrame (Some f)) ∷ H) c → IsTrue (is_reply (reception w H).replies f) → NoneTold takes_other later
+    → (reached (later ++ At first (TakeFrame (Some f)) ∷ H) < length (accepted w (later ++ At first (TakeFrame (Some f)) ∷ H)))
     ⊎ ((next_packet w (later ++ At first (TakeFrame (Some f)) ∷ H) last ≢ None)
     ⊎ IsTrue (is_apart (next_transfer w (later ++ At first (TakeFrame (Some f)) ∷ H) last) (slice_get (reception w (later ++ At first (TakeFrame (Some f)) ∷ H)).replies 0)))
     → (is_transfer i ≡ false) ⊎ IsTrue (is_move w (later ++ At first (TakeFrame (Some f)) ∷ H) i)
@@ -517,17 +585,17 @@ behind_a_reply w H later c last first f i is t none due_one = go (frame_case w G
       ]
     ]
 
-    yield : IsTurn (yields G) (ready w G last) (Some Reply) → ⊥
+    yield : IsTurn (yields w G) (ready w G last) (Some Reply) → ⊥
     yield x =
         let r = ready w G last in
-        let z = or_false _ _ (sym (ap (λ (y : Bool). y && (r.message || (r.packet || r.transfer))) (still_yields later _ none (yields_then H first f t))) ∙ x.2) in
+        let z = or_false _ _ (sym (ap (λ (y : Bool). y && (r.message || (r.packet || r.transfer))) (still_yields w later _ none (yields_then w H first f t))) ∙ x.2) in
         let y = or_false _ _ z.1 in waits z.0 y.0 y.1
 
     go : FrameCase w G last i → (is_transfer i ≡ false) ⊎ IsTrue (is_move w G i)
     go (claims o e) = inl (no_transfer i (claim_single i (claim_taken i last w _ e)))
     go (acknowledges m o h g e way) = inl (no_transfer i (due_taken w i last m e (due_get w (due w G) (length (acknowledged G)) m (sound w G is.answered.0).desk.0 g)).2)
     go (replies m o h n g e) = absurd (yield (turned w G last (Some Reply) n.1))
-    go (sends x o h n g e) = inl (no_transfer i (single_taken w i last x e (own_get w (accepted w G) (length (sent G)) x (sound w G is.answered.0).own g)))
+    go (sends x o h n g e) = inl (no_transfer i (single_taken w i last x e (own_of w G x is.answered.0 g)))
     go (packs m o h n g e) = inl (packet_session i (packet_taken i last m (open_broadcast w G) (length (packets G)) (pause G - step G last) e g).2).1
     go (transfers m o h n g e) = inr (is_moved w G i (transfer_taken w G last i m is.answered.0 e g).transfer
         (apart_is w G last i m g (ap (λ (y : ℕ × Message). y.1) e) (turned w G last (Some Move) n.1).1))
@@ -538,14 +606,14 @@ no_first (x ∷ L) e = absurd (cc)
 
 -- a message or a reply that waits is due, and so is a frame of packets
 pub others_due : (w : Who) (H : List Call) (now : ℕ) → IsTrue (holds w H now)
-    → (length (sent H) < length (accepted w H)) ⊎ (((reception w H).replies ≢ []) ⊎ (next_long w H now ≢ None)) → next_other w H now ≢ None
+    → (reached H < length (accepted w H)) ⊎ (((reception w H).replies ≢ []) ⊎ (next_long w H now ≢ None)) → next_other w H now ≢ None
 others_due w H now held one e = go one
   where
     n : Rest w H now × (next_transfer w H now ≡ None)
     n = none_other w H now (sym (ap (λ (b : Bool). if b then other w H now else None) held) ∙ e)
 
-    go : (length (sent H) < length (accepted w H)) ⊎ (((reception w H).replies ≢ []) ⊎ (next_long w H now ≢ None)) → ⊥
-    go (inl s) = let a = past_end (accepted w H) (length (sent H)) n.0.message in omega (arith, s, a)
+    go : (reached H < length (accepted w H)) ⊎ (((reception w H).replies ≢ []) ⊎ (next_long w H now ≢ None)) → ⊥
+    go (inl s) = let a = past_end (accepted w H) (reached H) n.0.message in omega (arith, s, a)
     go (inr (inl r)) = r (no_first (reception w H).replies n.0.reply)
     go (inr (inr l)) = l (ap (λ o. long_by o (next_transfer w H now)) n.0.packet ∙ n.1)
 
@@ -715,7 +783,7 @@ claims_only w H c now f is z = go (frame w H c now f is)
     go (replies m o h k g e) =
         absurd (not_both _ (reply_taken w.address f now m e (replied_get w.address (reception w H).replies 0 m (tidy w H).replies g)).0 (eq-eqb (pgn_of f.id) address_claimed_group z))
     go (sends x o h k g e) =
-        absurd (not_both _ (message_taken w f now x e (own_get w (accepted w H) (length (sent H)) x (sound w H is.answered.0).own g)) (eq-eqb (pgn_of f.id) address_claimed_group z))
+        absurd (not_both _ (message_taken w f now x e (own_of w H x is.answered.0 g)) (eq-eqb (pgn_of f.id) address_claimed_group z))
     go (packs m o h k g e) =
         absurd (not_both _ (packet_taken f now m (open_broadcast w H) (length (packets H)) (pause H - step H now) e g).0 (eq-eqb (pgn_of f.id) address_claimed_group z))
     go (transfers m o h k g e) = absurd (not_both _ (transfer_taken w H now f m is.answered.0 e g).claim (eq-eqb (pgn_of f.id) address_claimed_group z))
@@ -920,7 +988,7 @@ only_to_address w H c now r a is = go (holds w H now) (nat_eq r.destination w.ad
 -- ---- the newest value
 
 pub renewed : (w : Who) (H : List Call) (c : Controller) (d : Draft) (k : ℕ) → Is w (Renew d (Some k) ∷ H) c
-    → (m : Message) × (slice_get (accepted w H) k ≡ Some (k, m)) × IsTrue (is_alike (message_from w d) m) × (length (sent H) ≤ k) × (length (told H) ≤ k)
+    → (m : Message) × (slice_get (accepted w H) k ≡ Some (k, m)) × IsTrue (is_alike (message_from w d) m) × (reached H ≤ k) × (length (told H) ≤ k)
     × (slice_get (accepted w (Renew d (Some k) ∷ H)) k ≡ Some (k, message_from w d))
 renewed w H c d k is =
     let at = (renew_case w H d k is.answered.1).at in
@@ -946,10 +1014,10 @@ pub others_stay : (w : Who) (H : List Call) (d : Draft) (k j : ℕ) → j ≢ k 
 others_stay w H d k j n = set_other (accepted w H) k j (k, message_from w d) n
 
 pub none_waits_alike : (w : Who) (H : List Call) (c : Controller) (d : Draft) (j : ℕ) (m : Message) → Is w (Renew d None ∷ H) c → IsTrue (can_send w d)
-    → length (sent H) ≤ j → length (told H) ≤ j → slice_get (accepted w H) j ≡ Some (j, m) → is_alike (message_from w d) m ≡ false
+    → reached H ≤ j → length (told H) ≤ j → slice_get (accepted w H) j ≡ Some (j, m) → is_alike (message_from w d) m ≡ false
 none_waits_alike w H c d j m is can s t e =
     none_past (message_from w d) _ j (accepted w H) None (j, m)
-    (sym (is.answered.1 ∙ ap (λ (b : Bool). if b then latest (message_from w d) (max (length (sent H)) (length (told H))) 0 (accepted w H) None else None) can))
+    (sym (is.answered.1 ∙ ap (λ (b : Bool). if b then latest (message_from w d) (max (reached H) (length (told H))) 0 (accepted w H) None else None) can))
     e (omega (arith, s, t)) (λ i z. absurd (cc))
 
 -- ---- quiet till due
@@ -1072,7 +1140,7 @@ nothing_taken w H now l m q =
           none_due_goes w H now (none_at (due w H) (length (acknowledged H)) u.0),
           other_none w H now (record {
             reply = none_at (reception w H).replies 0 u.1;
-            message = none_at (accepted w H) (length (sent H)) v.0;
+            message = none_at (accepted w H) (reached H) v.0;
             packet = (long z).0;
           }) (long z).1,
         )
@@ -1128,7 +1196,7 @@ none_taken w H c now is long later = go (may_claim w H (delayed w H)) (is_held (
     go false true true p q r =
         let n = none_next w H now (held_older _ (address_after w H) q) is.answered.1 in
         let a = there (due w H) (length (acknowledged H)) n.acknowledgment in
-        let b = there (accepted w H) (length (sent H)) n.rest.message in
+        let b = there (accepted w H) (reached H) n.rest.message in
         let v = there (reception w H).replies 0 n.rest.reply in
         let d : is_waiting w H ≡ false =
         ap (λ (u : Bool). u || (nat_lt (length (acknowledged H)) (length (due w H)) || nat_lt 0 (length (reception w H).replies))) b

@@ -13,6 +13,8 @@ pub mod PortLemmas
 pub mod SaidLemmas
 -- what `ask` answers
 pub mod AskCases
+-- messages that were withdrawn
+pub mod WithdrawLemmas
 -- what every answered history says
 pub mod SoundLemmas
 -- what every answered history says of broadcasts

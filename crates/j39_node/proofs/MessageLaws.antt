@@ -1,14 +1,14 @@
 -- That every message of one frame ends.
-use Rattle.std.proofs.Common.{◌≡◌, ◌⊎◌, ℕ, zero, suc, ◌+◌, ◌<◌, ◌≤◌, List, [], ◌∷◌, ◌++◌, length, Option, Some, None, Ok, Bool, true, false, ◌||◌, if◌then◌else◌, nat_lt, refl, ap, ◌∙◌, arith, inl, inr, IsTrue}
+use Rattle.std.proofs.Common.{slice_set, ◌≡◌, ◌⊎◌, ℕ, zero, suc, ◌+◌, ◌<◌, ◌≤◌, List, [], ◌∷◌, ◌++◌, length, Option, Some, None, Ok, Bool, true, false, ◌||◌, if◌then◌else◌, nat_lt, refl, ap, ◌∙◌, arith, inl, inr, IsTrue, not}
 use Rattle.std.specs.List.{slice_get}
-use Rattle.j39_frame.specs.Frame.{FrameRecord}
+use Rattle.std.proofs.lemmas.List.{length-set}
 use Rattle.j39_node.specs.declared.controller.Controller.{Controller}
 use Rattle.j39_node.specs.declared.kinds.Ending.{Ending}
 use Rattle.j39_node.specs.declared.kinds.Ending.TheVariants.{Done, Withdrawn}
-use Rattle.j39_node.specs.History.{Who, Message, Draft, Call, accepted, address_after, holds, is_acknowledgment, is_claim, is_held, is_lost, is_session, message_from, message_of, moment, request_for, sent, step, told}
-use Rattle.j39_node.specs.History.Call.{At, Renew}
+use Rattle.j39_node.specs.History.{reached, Who, Message, Draft, Call, accepted, address_after, holds, is_acknowledgment, is_claim, is_held, is_lost, is_session, message_from, moment, request_for, step, told, marks, past, blank, is_blank}
+use Rattle.j39_node.specs.History.Call.{At, Renew, Withdraw}
 use Rattle.j39_node.specs.History.Act.{Ask, Hear, Send, TakeFrame, Again}
-use Rattle.j39_node.specs.Is.{AreAnswered, Is, IsAnswered, end_of, next_ended, next_frame}
+use Rattle.j39_node.specs.Is.{AreAnswered, Is, IsAnswered, end_of, next_ended, next_frame, ending_of}
 use Rattle.j39_node.specs.Prompt.{IsPrompt, waited_in, claims_anew}
 use Rattle.j39_node.specs.Since.{passed_in}
 use Rattle.j39_node.proofs.AskCases.{AskCase, ask_case}
@@ -18,30 +18,33 @@ use Rattle.j39_node.proofs.PromptLaws.{answered_from, keeps_heard, keeps_taken, 
 use Rattle.j39_node.proofs.QueueLemmas.{length_one_more}
 use Rattle.j39_node.proofs.SoundLemmas.{SendCase, held_older, none_next, lost_older, send_case, sound}
 use Rattle.j39_node.proofs.SoundLemmas.SendCase.{no_address, bad_value, full, accepts}
-use Rattle.j39_node.proofs.RenewLemmas.{set_length}
+use Rattle.j39_node.proofs.WithdrawLemmas.{past_more}
 
 -- where no frame is taken from an address that is held, no message waits
 none_waits : (w : Who) (H : List Call) (now : ℕ) → holds w H now ≡ true → (let none : Option (ℕ × Message) = None in none) ≡ next_frame w H now
-    → slice_get (accepted w H) (length (sent H)) ≡ None
+    → slice_get (accepted w H) (reached H) ≡ None
 none_waits w H now held e = (none_next w H now held e).rest.message
 
-more_sent : (H : List Call) (now : ℕ) (f : FrameRecord) → length (sent H) ≤ length (sent (At now (TakeFrame (Some f)) ∷ H))
-more_sent H now f = go (is_claim f || (is_acknowledgment f || is_session f))
+pub more_sent : (H : List Call) (call : Call) → reached H ≤ reached (call ∷ H)
+more_sent H (At now (TakeFrame (Some f))) = go (is_claim f || (is_acknowledgment f || is_session f))
   where
-    go : (b : Bool) → length (sent H) ≤ length (if b then sent H else sent H ++ message_of f ∷ [])
+    go : (b : Bool) → reached H ≤ (if b then reached H else past (marks H) (suc (reached H)))
     go true = omega arith
-    go false = let e = length_one_more (sent H) (message_of f) in omega (arith, e)
+    go false = let e = past_more (marks H) (suc (reached H)) in omega (arith, e)
+more_sent H (Withdraw k true) = past_more (slice_set (marks H) k true) (reached H)
+more_sent H call = omega arith
 
 pub accepts_more : (w : Who) (H : List Call) (call : Call) → length (accepted w H) ≤ length (accepted w (call ∷ H))
 accepts_more w H (At now (Send d (Ok k))) = let e = length_one_more (accepted w H) (k, message_from w d) in omega (arith, e)
 accepts_more w H (At now (Ask group to (Ok k))) = let e = length_one_more (accepted w H) (k, message_from w (request_for group to)) in omega (arith, e)
-accepts_more w H (Renew d (Some k)) = let e = set_length (accepted w H) k (k, message_from w d) in omega (arith, e)
+accepts_more w H (Withdraw k true) = let e = length-set (accepted w H) k (k, blank) in omega (arith, e)
+accepts_more w H (Renew d (Some k)) = let e = length-set (accepted w H) k (k, message_from w d) in omega (arith, e)
 accepts_more w H call = omega arith
 
 module _ (w : Who) (B : List Call) (g k : ℕ) where
   -- taken, or the address is lost; or it waits, and no take answered none since its acceptance
   data Course (later : List Call) : Type 0 where
-    taken : k < length (sent (later ++ B)) → Course later
+    taken : k < reached (later ++ B) → Course later
     gone : is_lost (address_after w (later ++ B)) ≡ true → Course later
     waits : is_held (address_after w (later ++ B)) ≡ true → passed_in later B ≡ waited_in later B → Course later
 
@@ -63,7 +66,7 @@ module _ (w : Who) (B : List Call) (g k : ℕ) where
   one_more (At now (TakeFrame (Some f))) later a n h = record { among = h.among; course = go h.course }
     where
       go : Course later → Course (At now (TakeFrame (Some f)) ∷ later)
-      go (taken l) = taken (let e = more_sent (later ++ B) now f in omega (arith, e, l))
+      go (taken l) = taken (let e = more_sent (later ++ B) (At now (TakeFrame (Some f))) in omega (arith, e, l))
       go (gone e) = gone (lost_taken w (later ++ B) now f e)
       go (waits e p) = waits (keeps_taken w (later ++ B) now f e) (passes later now p)
   one_more (At now (TakeFrame None)) later a n h = record { among = h.among; course = go h.course }
@@ -71,14 +74,14 @@ module _ (w : Who) (B : List Call) (g k : ℕ) where
       go : Course later → Course (At now (TakeFrame None) ∷ later)
       go (taken l) = taken l
       go (gone e) = gone (lost_older (step (later ++ B) now) (address_after w (later ++ B)) ∙ e)
-      go (waits e p) = taken (let l = past_end (accepted w (later ++ B)) (length (sent (later ++ B)))
+      go (waits e p) = taken (let l = past_end (accepted w (later ++ B)) (reached (later ++ B))
           (none_waits w (later ++ B) now (held_older (step (later ++ B) now) (address_after w (later ++ B)) e) a) in
           let b = h.among in omega (arith, l, b))
   one_more (At now Again) later a n h = absurd (let z : true ≡ false = n in cc)
   one_more call later a n h = record { among = (let m = accepts_more w (later ++ B) call in let b = h.among in omega (arith, m, b)); course = go h.course }
     where
       go : Course later → Course (call ∷ later)
-      go (taken l) = taken l
+      go (taken l) = taken (let e = more_sent (later ++ B) call in omega (arith, e, l))
       go (gone e) = gone (let z = lost_older (step (later ++ B) (moment (call ∷ later ++ B))) (address_after w (later ++ B)) in cc)
       go (waits e p) = waits (let z = held_older (step (later ++ B) (moment (call ∷ later ++ B))) (address_after w (later ++ B)) e in cc)
           (passes later (moment (call ∷ later ++ B)) p)
@@ -88,10 +91,10 @@ module _ (w : Who) (B : List Call) (g k : ℕ) where
   stands (call ∷ later) a p h = one_more call later a.1 p.1.1 (stands later a.0 p.0 h)
 
   ends_so : (later : List Call) → Stands later → g < passed_in later B → waited_in later B ≤ g
-      → (k < length (sent (later ++ B))) ⊎ (is_lost (address_after w (later ++ B)) ≡ true)
+      → (k < reached (later ++ B)) ⊎ (is_lost (address_after w (later ++ B)) ≡ true)
   ends_so later h l p = go h.course
     where
-      go : Course later → (k < length (sent (later ++ B))) ⊎ (is_lost (address_after w (later ++ B)) ≡ true)
+      go : Course later → (k < reached (later ++ B)) ⊎ (is_lost (address_after w (later ++ B)) ≡ true)
       go (taken z) = inl z
       go (gone e) = inr e
       go (waits e q) = absurd (omega (arith, l, p, q))
@@ -103,26 +106,30 @@ some_at (x ∷ L) zero l = (x, refl)
 some_at (x ∷ L) (suc n) l = some_at L n (omega (arith, l))
 
 tells : (b lost : Bool) (x : ℕ × Message) → (b ≡ true) ⊎ (lost ≡ true) → (e : Ending) × (end_of b lost (Some x) ≡ Some (x.0, e))
-tells true lost x h = (Done, refl)
+tells true lost x h = go (is_blank x)
+  where
+    go : (c : Bool) → (e : Ending) × (ending_of (not c) true x.0 ≡ Some (x.0, e))
+    go true = (Withdrawn, refl)
+    go false = (Done, refl)
 tells false true x h = (Withdrawn, refl)
 tells false false x (inl e) = absurd (let z : false ≡ true = e in cc)
 tells false false x (inr e) = absurd (let z : false ≡ true = e in cc)
 
 pub told_next : (w : Who) (H : List Call) (k : ℕ) → AreAnswered w H → k < length (accepted w H) → length (told H) ≤ k
-    → (k < length (sent H)) ⊎ (is_lost (address_after w H) ≡ true) → (e : Ending) × (next_ended w H ≡ Some (length (told H), e))
+    → (k < reached H) ⊎ (is_lost (address_after w H) ≡ true) → (e : Ending) × (next_ended w H ≡ Some (length (told H), e))
 told_next w H k a l t h =
     let x = some_at (accepted w H) (length (told H)) (omega (arith, l, t)) in
-    let y = tells (nat_lt (length (told H)) (length (sent H))) (is_lost (address_after w H)) x.0 (go h) in (
+    let y = tells (nat_lt (length (told H)) (reached H)) (is_lost (address_after w H)) x.0 (go h) in (
       y.0,
-      ap (end_of (nat_lt (length (told H)) (length (sent H))) (is_lost (address_after w H))) x.1
+      ap (end_of (nat_lt (length (told H)) (reached H)) (is_lost (address_after w H))) x.1
           ∙ (y.1 ∙ ap (λ (n : ℕ). (let z : Option (ℕ × Ending) = Some (n, y.0) in z)) ((sound w H a).numbered (length (told H)) x.0 x.1)),
     )
   where
     less : (m n : ℕ) → m < n → nat_lt m n ≡ true
     less m n z = grind arith
 
-    go : (k < length (sent H)) ⊎ (is_lost (address_after w H) ≡ true)
-        → (nat_lt (length (told H)) (length (sent H)) ≡ true) ⊎ (is_lost (address_after w H) ≡ true)
+    go : (k < reached H) ⊎ (is_lost (address_after w H) ≡ true)
+        → (nat_lt (length (told H)) (reached H) ≡ true) ⊎ (is_lost (address_after w H) ≡ true)
     go (inl z) = inl (less _ _ (omega (arith, z, t)))
     go (inr z) = inr z
 
@@ -151,7 +158,7 @@ module _ (w : Who) (later B : List Call) (c : Controller) (g k : ℕ) (is : Is w
   here : Stands w B g k later
   here = stands w B g k later is.answered prompt (record { among = fits.1; course = waits fits.0 refl })
 
-  ends_taken : (k < length (sent (later ++ B))) ⊎ (is_lost (address_after w (later ++ B)) ≡ true)
+  ends_taken : (k < reached (later ++ B)) ⊎ (is_lost (address_after w (later ++ B)) ≡ true)
   ends_taken = ends_so w B g k later here l (waited_last g later B prompt)
 
   ends_told : length (told (later ++ B)) ≤ k → (e : Ending) × (next_ended w (later ++ B) ≡ Some (length (told (later ++ B)), e))
@@ -170,14 +177,14 @@ asked_fits w later earlier c now group to k is =
 
 pub sent_ends : (w : Who) (later earlier : List Call) (c : Controller) (g now k : ℕ) (d : Draft) → Is w (later ++ At now (Send d (Ok k)) ∷ earlier) c
     → IsPrompt g later (At now (Send d (Ok k)) ∷ earlier) → g < passed_in later (At now (Send d (Ok k)) ∷ earlier)
-    → (k < length (sent (later ++ At now (Send d (Ok k)) ∷ earlier))) ⊎ IsTrue (is_lost (address_after w (later ++ At now (Send d (Ok k)) ∷ earlier)))
+    → (k < reached (later ++ At now (Send d (Ok k)) ∷ earlier)) ⊎ IsTrue (is_lost (address_after w (later ++ At now (Send d (Ok k)) ∷ earlier)))
 sent_ends w later earlier c g now k d is prompt l =
     ends_taken w later (At now (Send d (Ok k)) ∷ earlier) c g k is (sent_fits w later earlier c now k d is) prompt l
 
 pub asked_ends : (w : Who) (later earlier : List Call) (c : Controller) (g now group to k : ℕ)
     → Is w (later ++ At now (Ask group to (Ok k)) ∷ earlier) c → IsPrompt g later (At now (Ask group to (Ok k)) ∷ earlier)
     → g < passed_in later (At now (Ask group to (Ok k)) ∷ earlier)
-    → (k < length (sent (later ++ At now (Ask group to (Ok k)) ∷ earlier)))
+    → (k < reached (later ++ At now (Ask group to (Ok k)) ∷ earlier))
     ⊎ IsTrue (is_lost (address_after w (later ++ At now (Ask group to (Ok k)) ∷ earlier)))
 asked_ends w later earlier c g now group to k is prompt l =
     ends_taken w later (At now (Ask group to (Ok k)) ∷ earlier) c g k is (asked_fits w later earlier c now group to k is) prompt l

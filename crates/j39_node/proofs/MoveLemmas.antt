@@ -9,7 +9,7 @@ use Rattle.j39_transport.specs.Sending.{Tick, aborted, is_running, new_sender, s
 use Rattle.j39_transport.specs.Signals.{Signal, Abort}
 use Rattle.j39_node.specs.declared.kinds.TransferEnding.{TransferEnding}
 use Rattle.j39_node.specs.declared.turn.Turn.TheVariants.{Move}
-use Rattle.j39_node.specs.History.{Who, Message, Call, accepted, acknowledged, address_after, broadcast_from, due, holds, is_lost, message_of, open_broadcast, packets, pause, sent, step}
+use Rattle.j39_node.specs.History.{reached, Who, Message, Call, accepted, acknowledged, address_after, broadcast_from, due, holds, is_lost, message_of, open_broadcast, packets, pause, step}
 use Rattle.j39_node.specs.History.Call.{At, TakeTransferEnded}
 use Rattle.j39_node.specs.History.Act.{Hear, TakeFrame, Transfer}
 use Rattle.j39_node.specs.Is.{AreAnswered, next_packet, next_acknowledgment}
@@ -17,7 +17,7 @@ use Rattle.j39_node.specs.Transfers.{is_resting, Running, begun, clock_at, gives
 use Rattle.j39_node.specs.Reception.{holder, is_move}
 use Rattle.j39_node.specs.Moves.{Happened, begins, moves}
 use Rattle.j39_node.proofs.QueueLemmas.{length_one_more}
-use Rattle.j39_node.proofs.SoundLemmas.{nothing_else, turned, FrameCase, frame_case, claim_taken, claim_single, due_get, due_taken, no_move, no_transfer, own_get, packet_session, packet_taken, reply_no_move, single_taken, sound}
+use Rattle.j39_node.proofs.SoundLemmas.{nothing_else, turned, FrameCase, frame_case, claim_taken, claim_single, due_get, due_taken, no_move, no_transfer, own_of, packet_session, packet_taken, reply_no_move, single_taken, sound}
 use Rattle.j39_node.proofs.SoundLemmas.FrameCase.{claims, acknowledges, replies, sends as sends_one, packs, transfers}
 use Rattle.j39_node.proofs.PortLemmas.{TransferCase, transfer_case, hears_same, sends_same}
 use Rattle.j39_node.proofs.PortLemmas.TransferCase.{homeless, unfit, busy, opens}
@@ -35,11 +35,11 @@ pub record Sent (w : Who) (H : List Call) (now : ℕ) (f : FrameRecord) : Type 0
   pub frame : message_of f ≡ says running.sender signal
   pub held : holds w H now ≡ true
   pub none_due : next_acknowledgment w H now ≡ None
-  pub none_waits : slice_get (accepted w H) (length (sent H)) ≡ None
+  pub none_waits : slice_get (accepted w H) (reached H) ≡ None
   pub no_packet : next_packet w H now ≡ None
 
 said_by : (w : Who) (H : List Call) (now : ℕ) (f : FrameRecord) (m : Message) (o : Option Running) → open_transfer w H ≡ o → transfer_by o (clock_at H now) ≡ Some m
-    → message_of f ≡ m → holds w H now ≡ true → next_acknowledgment w H now ≡ None → slice_get (accepted w H) (length (sent H)) ≡ None
+    → message_of f ≡ m → holds w H now ≡ true → next_acknowledgment w H now ≡ None → slice_get (accepted w H) (reached H) ≡ None
     → next_packet w H now ≡ None → Sent w H now f
 said_by w H now f m None e g k a b c d = absurd (cc)
 said_by w H now f m (Some t) e g k a b c d = go (signal_by t (clock_at H now)) refl g
@@ -64,7 +64,7 @@ sent_case w H now f right (acknowledges m o k g e way) p =
     absurd (not_both _ (no_move w H f (no_transfer f (due_taken w f now m e (due_get w (due w H) (length (acknowledged H)) m (sound w H right).desk.0 g)).2)) p)
 sent_case w H now f right (replies m o k n g e) p = absurd (not_both _ (reply_no_move w H f m g (ap (λ (y : ℕ × Message). y.1) e)) p)
 sent_case w H now f right (sends_one x o k n g e) p =
-    absurd (not_both _ (no_move w H f (no_transfer f (single_taken w f now x e (own_get w (accepted w H) (length (sent H)) x (sound w H right).own g)))) p)
+    absurd (not_both _ (no_move w H f (no_transfer f (single_taken w f now x e (own_of w H x right g)))) p)
 sent_case w H now f right (packs m o k n g e) p =
     absurd (not_both _ (no_move w H f (packet_session f (packet_taken f now m (open_broadcast w H) (length (packets H)) (pause H - step H now) e g).2).1) p)
 sent_case w H now f right (transfers m o k n g e) p =

@@ -16,7 +16,7 @@ use Rattle.j39_node.specs.History.{Who, Call, holds, is_smaller}
 use Rattle.j39_node.specs.History.Call.{At}
 use Rattle.j39_node.specs.History.Act.{Hear}
 use Rattle.j39_node.specs.Reception.{Reception, has_place, holder, leaves, left, receiver_at, reception, time_heard, whole, whole_by, shown, known}
-use Rattle.j39_node.specs.Hearing.{OpenBroadcast, begun, found, grown, hearing, is_late, is_over, is_whole as is_full, made_whole, message_by, newly, packs, waiting, whole_of}
+use Rattle.j39_node.specs.Hearing.{OpenBroadcast, begun, found, grown, hearing, is_late, is_over, is_whole as is_full, made_whole, message_by, newly, packs, since_in, waiting, whole_of}
 use Rattle.j39_node.specs.Asking.{Question, comes, in_broadcast, in_session, is_coming, is_from, made, made_of, open_ask, says_to, seeks}
 use Rattle.j39_node.proofs.HearingLaws.{begun_open, whole_is, whole_of_left, none_is as not_both}
 use Rattle.j39_node.proofs.HearingLemmas.{Effect, begins, ends, grows, stays, effect}
@@ -49,7 +49,7 @@ transfer_answers w H when f m q e g a =
 by_packet : (who : Who) (now : ℕ) (f : FrameRecord) (o y : Option OpenBroadcast) (a b : Bool) (p : ℕ × MessageRecord) → Effect who now f o a b y → whole_of o ≡ None
     → whole_of y ≡ Some p → (packs f ≡ true) × (p.1.source ≡ source_of f.id)
 by_packet who now f o y a b p (begins e1 e2 e3 e4 e5 e6 e7) n e =
-    absurd (not_both _ p (ap whole_of e7 ∙ ap (λ (v : Bool). if v then Some (message_by (begun now f)) else None) (begun_open now f e1)) e)
+    absurd (not_both _ p (ap whole_of e7 ∙ ap (λ (v : Bool). if v then Some (message_by (begun (since_in now o) now f)) else None) (begun_open (since_in now o) now f e1)) e)
 by_packet who now f o y a b p (ends e1 e2 e3 e4 e5) n e = absurd (not_both _ p (ap whole_of e5) e)
 by_packet who now f o y a b p (grows x e1 e2 e3 e4 e5 e6 e7 e8 e9) n e =
     let z = whole_is y p e in

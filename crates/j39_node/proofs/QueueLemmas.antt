@@ -1,5 +1,6 @@
 -- Lists from which the first is taken, and to which one is added at the end.
 use Rattle.std.proofs.Common.{◌||◌, get_or, take, ◌≡◌, ◌⊎◌, ℕ, zero, suc, ◌+◌, ◌-◌, ◌<◌, ◌≤◌, List, [], ◌∷◌, ◌++◌, length, map, drop, remove, slice_index_or, Some, None, Bool, true, false, ◌==◌, refl, sym, ap, ◌∙◌, arith, length-append, inl, inr, eqb-true}
+use Rattle.std.proofs.lemmas.List.{length-drop}
 use Rattle.std.specs.List.{list_any, slice_get}
 use Rattle.std.proofs.lemmas.List.Folds.{list_any_at, list_any_more}
 use Rattle.std.proofs.lemmas.Option.{slice_get_past}
@@ -23,11 +24,6 @@ drop_more [] zero x xs e = absurd (cc)
 drop_more [] (suc n) x xs e = absurd (cc)
 drop_more (y ∷ L) zero x xs e = cc
 drop_more (y ∷ L) (suc n) x xs e = drop_more L n x xs e
-
-pub get_within : {T : Type 0} (L : List T) (n : ℕ) (x : T) → slice_get L n ≡ Some x → n < length L
-get_within [] n x e = absurd (cc)
-get_within (y ∷ L) zero x e = omega arith
-get_within (y ∷ L) (suc n) x e = let h = get_within L n x e in omega (arith, h)
 
 -- what is taken first
 pub record First {T : Type 0} {U : Type 0} (v : T → U) (ys : List T) (x : T) (n : ℕ) (L : List U) : Type 0 where
@@ -80,13 +76,8 @@ pub length_map : {T : Type 0} {U : Type 0} (v : T → U) (xs : List T) → lengt
 length_map v [] = refl
 length_map v (x ∷ xs) = ap suc (length_map v xs)
 
-pub length_drop : {T : Type 0} (n : ℕ) (L : List T) → length (drop n L) ≡ length L - n
-length_drop zero L = omega arith
-length_drop (suc n) [] = omega arith
-length_drop (suc n) (y ∷ L) = let h = length_drop n L in omega (arith, h)
-
 pub length_rest : {T : Type 0} {U : Type 0} (v : T → U) (xs : List T) (n : ℕ) (L : List U) → map v xs ≡ drop n L → length xs ≡ length L - n
-length_rest v xs n L e = sym (length_map v xs) ∙ (ap length e ∙ length_drop n L)
+length_rest v xs n L e = sym (length_map v xs) ∙ (ap length e ∙ length-drop n L)
 
 pub length_one_more : {T : Type 0} (L : List T) (x : T) → length (L ++ x ∷ []) ≡ suc (length L)
 length_one_more L x = let h = length-append L (x ∷ []) in omega (arith, h)

@@ -19,15 +19,15 @@ use Rattle.j39_transport.specs.Signals.{Signal, BroadcastAnnounce, RequestToSend
 use Rattle.j39_transport.proofs.Handed.{has_heard, stands_still, were_handed}
 use Rattle.j39_node.specs.declared.controller.Controller.{Controller}
 use Rattle.j39_node.specs.declared.turn.Turn.TheVariants.{Single, Packet, Move}
-use Rattle.j39_node.specs.History.{yields, Who, Message, Call, Address, acknowledged, address_after, due, holds, is_acknowledgment, is_claim, is_held, is_lost, is_packet, is_session, is_smaller, is_some, is_transfer, message_of, moment, older, open_broadcast, packets, pause, stamp_at, step, of_other}
+use Rattle.j39_node.specs.History.{Who, Message, Call, Address, acknowledged, address_after, due, holds, is_acknowledgment, is_claim, is_held, is_lost, is_packet, is_session, is_smaller, is_some, is_transfer, message_of, moment, older, open_broadcast, packets, pause, stamp_at, step, of_other}
 use Rattle.j39_node.specs.History.Address.{NotClaimed, Claimed, Lost}
 use Rattle.j39_node.specs.History.Call.{At, ReleaseTransfer}
 use Rattle.j39_node.specs.History.Act.{Ask, Hear, Tick, TakeFrame, Send, Acknowledge, Broadcast, Transfer, Again}
 use Rattle.j39_node.specs.Is.{is_overdue, ready, Is, next_acknowledgment}
 use Rattle.j39_node.specs.Asking.{made_of}
 use Rattle.j39_node.specs.Is.{made_by}
-use Rattle.j39_node.specs.Reception.{is_reply, is_that, CameFromOne, IsApart, KeepsHolder, Reception, time_heard, delivered, frames_heard, got_transfers, has_place, heard_at, heard_by, is_move, held_then, holder, is_same, keeps, later, leaves, left, listed, receiver_at, reception, released_by, replied, reply_from, says, says_by, session_tick, step_at, taken_by, takes, tick_at, ticked, whole, whole_by, without, group_of, is_over, limit_in, longest, shown, since_by, ticked_at, known, known_by}
-use Rattle.j39_node.proofs.SoundLemmas.{apart_is, IsTurn, none_at, none_next, turned, FrameCase, frame_case, sound, own_get, due_get, due_taken, single_taken, packet_taken, claim_taken, is_moved, lost_older, lost_claimed, lost_unclaimed}
+use Rattle.j39_node.specs.Reception.{yields, is_reply, is_that, CameFromOne, IsApart, KeepsHolder, Reception, time_heard, delivered, frames_heard, got_transfers, has_place, heard_at, heard_by, is_move, held_then, holder, is_same, keeps, later, leaves, left, listed, receiver_at, reception, released_by, replied, reply_from, says, says_by, session_tick, step_at, taken_by, takes, tick_at, ticked, whole, whole_by, without, group_of, is_over, limit_in, longest, shown, since_by, ticked_at, known, known_by}
+use Rattle.j39_node.proofs.SoundLemmas.{apart_is, IsTurn, none_at, none_next, turned, FrameCase, frame_case, sound, own_of, due_get, due_taken, single_taken, packet_taken, claim_taken, is_moved, lost_older, lost_claimed, lost_unclaimed}
 use Rattle.j39_node.proofs.PacketLemmas.{hushed, quiet_step, shown_both, shown_none, since_same}
 use Rattle.j39_node.proofs.SoundLemmas.FrameCase.{claims, acknowledges, replies, sends, packs, transfers}
 use Rattle.j39_node.proofs.ReceptionLemmas.{Acknowledges, Fits, Gives, Tidy, own_after, refused_step, replied_get, taken_is, tame_signal, tame_tick, quiet_at, unclaimed_known, tidy, tidy_left, own_ticked as own_kept, no_reply}
@@ -409,7 +409,7 @@ replies_first w H c now f is t away = go (frame_case w H now f is.answered.1)
       g ∙ ap (λ (y : ℕ × Message). Some y.1) (sym e),
       n.0,
     )
-    go (sends x o h n g e) = absurd (not_session (single_taken w f now x e (own_get w _ _ x (sound w H is.answered.0).own g)))
+    go (sends x o h n g e) = absurd (not_session (single_taken w f now x e (own_of w H x is.answered.0 g)))
     go (packs m o h n g e) =
         let p = and_parts (is_session f) _ (packet_taken f now m (open_broadcast w H) (length (packets H)) (pause H - step H now) e g).2 in
         absurd (let z : not true ≡ true = ap not (sym p.1) ∙ k.1 in cc)
@@ -418,17 +418,17 @@ replies_first w H c now f is t away = go (frame_case w H now f is.answered.1)
 
 -- one that waits goes before all but claims, acknowledgments and an overdue frame of a broadcast, unless it yields
 pub replies_before : (w : Who) (H : List Call) (c : Controller) (now : ℕ) (f : FrameRecord) (m : Message) → Is w (At now (TakeFrame (Some f)) ∷ H) c
-    → slice_get (reception w H).replies 0 ≡ Some m → is_claim f ≡ false → is_acknowledgment f ≡ false → is_overdue w H now ≡ false → yields H ≡ false → message_of f ≡ m
+    → slice_get (reception w H).replies 0 ≡ Some m → is_claim f ≡ false → is_acknowledgment f ≡ false → is_overdue w H now ≡ false → yields w H ≡ false → message_of f ≡ m
 replies_before w H c now f m is at k a late first = go (frame_case w H now f is.answered.1)
   where
     waits : slice_get (reception w H).replies 0 ≡ None → ⊥
     waits e = (let z : None ≡ Some m = sym e ∙ at in absurd (cc))
 
-    goes : (nat_lt 0 (length (reception w H).replies) ≡ false) ⊎ (yields H ≡ true) → ⊥
+    goes : (nat_lt 0 (length (reception w H).replies) ≡ false) ⊎ (yields w H ≡ true) → ⊥
     goes (inl e) = waits (none_at (reception w H).replies 0 e)
     goes (inr e) = absurd (let z : true ≡ false = sym e ∙ first in cc)
 
-    packet : IsTurn (yields H) (ready w H now) (Some Packet) → ⊥
+    packet : IsTurn (yields w H) (ready w H now) (Some Packet) → ⊥
     packet (inl o) = absurd (let z : true ≡ false = sym o ∙ late in cc)
     packet (inr t) = goes t.2
 

@@ -3,7 +3,7 @@ use Rattle.std.proofs.Common.{◌≡◌, ◌≢◌, ◌⊎◌, ℕ, zero, suc, �
 use Rattle.std.proofs.lemmas.Bool.{and_parts}
 use Rattle.std.specs.List.{refill, slice_get}
 use Rattle.std.proofs.Math.Seq.{take-append_seam, take-suc}
-use Rattle.std.proofs.lemmas.List.{length-take-le}
+use Rattle.std.proofs.lemmas.List.{length-take-le, length-set}
 use Rattle.j39_node.specs.declared.outgoing.Outgoing.{Outgoing}
 use Rattle.j39_node.specs.Is.{posted}
 use Rattle.j39_node.proofs.QueueLemmas.{length_map, map_append}
@@ -143,15 +143,10 @@ set_rest zero k xs x = ap (λ (n : ℕ). slice_set xs n x) (omega arith)
 set_rest (suc t) k [] x = refl
 set_rest (suc t) k (y ∷ xs) x = ap (λ (n : ℕ). drop (suc t) (slice_set (y ∷ xs) n x)) (let z : k + suc t ≡ suc (k + t) = omega arith in z) ∙ set_rest t k xs x
 
-pub set_length : {T : Type 0} (xs : List T) (k : ℕ) (x : T) → length (slice_set xs k x) ≡ length xs
-set_length [] k x = refl
-set_length (y ∷ xs) zero x = refl
-set_length (y ∷ xs) (suc k) x = ap suc (set_length xs k x)
-
 pub refilled : {T : Type 0} (xs ys : List T) (k : ℕ) (x : T) → ys ≡ xs → refill (length xs) xs (slice_set ys k x) ≡ slice_set xs k x
 refilled xs ys k x e =
     ap (λ zs. refill (length xs) xs (slice_set zs k x)) e
-    ∙ (ap (λ (n : ℕ). take n (slice_set xs k x ++ drop (length (slice_set xs k x)) xs)) (sym (set_length xs k x))
+    ∙ (ap (λ (n : ℕ). take n (slice_set xs k x ++ drop (length (slice_set xs k x)) xs)) (sym (length-set xs k x))
     ∙ take-append_seam (slice_set xs k x) (drop (length (slice_set xs k x)) xs))
 
 pub set_get : {T : Type 0} (xs : List T) (k i : ℕ) (x y : T) → slice_get (slice_set xs k x) i ≡ Some y → ((i ≡ k) × (x ≡ y)) ⊎ (slice_get xs i ≡ Some y)

@@ -1,5 +1,5 @@
 -- A frame of who wasn't asked, or to another address, says nothing to a request, and ends none.
-use Rattle.std.proofs.Common.{arith, ◌≡◌, ◌≢◌, ℕ, ◌-◌, List, ◌∷◌, length, Option, Some, None, Bool, true, false, ◌&&◌, ◌||◌, if◌then◌else◌, nat_eq, nat_lt, refl, sym, ap, ◌∙◌, eqb-true}
+use Rattle.std.proofs.Common.{arith, ◌≡◌, ◌≢◌, ℕ, ◌-◌, List, ◌∷◌, Option, Some, None, Bool, true, false, ◌&&◌, ◌||◌, if◌then◌else◌, nat_eq, nat_lt, refl, sym, ap, ◌∙◌, eqb-true}
 use Rattle.std.specs.List.{slice_get}
 use Rattle.std.specs.Option.{option_map, option_or}
 use Rattle.j39_frame.specs.Frame.{FrameRecord}
@@ -10,7 +10,7 @@ use Rattle.j39_transport.specs.Reception.{ReceptionRecord}
 use Rattle.j39_transport.specs.Receiving.{Heard, recv_step}
 use Rattle.j39_node.specs.declared.kinds.AskEnding.{AskEnding}
 use Rattle.j39_node.specs.declared.kinds.AskEnding.TheVariants.{Answered}
-use Rattle.j39_node.specs.History.{Who, Call, address_after, holds, is_acknowledgment, is_lost, is_none, is_some, is_smaller, older, sent, step}
+use Rattle.j39_node.specs.History.{reached, Who, Call, address_after, holds, is_acknowledgment, is_lost, is_none, is_some, is_smaller, older, step}
 use Rattle.j39_node.specs.History.Address.{Lost}
 use Rattle.j39_node.specs.History.Call.{At}
 use Rattle.j39_node.specs.History.Act.{Hear, Tick}
@@ -113,10 +113,10 @@ pub ends : (w : Who) (H : List Call) (when : ℕ) (f : FrameRecord) (q : Questio
     → comes w (At when Tick ∷ H) (time_heard (At when Tick ∷ H)) ≡ comes w H (time_heard (At when Tick ∷ H))
     → next_ask_ended w (At when (Hear f) ∷ H) ≡ next_ask_ended w (At when Tick ∷ H)
 ends w H when f q o none mine by_frame by_tick =
-    (λ i. ask_end (o i) (length (sent H)) (first (ended w H) (end_at w (o i) (length (sent H)) left_over coming (lost i) f (made w H when f))) left_over (by_frame i) (lost i))
+    (λ i. ask_end (o i) (reached H) (first (ended w H) (end_at w (o i) (reached H) left_over coming (lost i) f (made w H when f))) left_over (by_frame i) (lost i))
     ∙ (ap (λ (x : Option AskEnding). option_map (λ e. (q.token, e)) (first (first (ended w H) (first silence (if taken then x else None))) silence)) none
     ∙ (ap (λ (x : Option AskEnding). option_map (λ e. (q.token, e)) x) (once (ended w H) silence taken)
-    ∙ λ i. ask_end (sym o i) (length (sent H)) (ended w H) left_over (sym by_tick i) lost_now))
+    ∙ λ i. ask_end (sym o i) (reached H) (ended w H) left_over (sym by_tick i) lost_now))
   where
     left_over : ℕ
     left_over = wait H - step H when
@@ -131,7 +131,7 @@ ends w H when f q o none mine by_frame by_tick =
     lost = ap (λ (b : Bool). is_lost (if b then Lost else older (step H when) (address_after w H))) mine
 
     taken : Bool
-    taken = nat_lt q.token (length (sent H))
+    taken = nat_lt q.token (reached H)
 
     silence : Option AskEnding
     silence = silent_end taken left_over coming lost_now

@@ -148,28 +148,26 @@ since_is w n (call ∷ later) E h =
     let b = opened n (reception w (call ∷ later ++ E)).session h.1 in
     runs w (later ++ E) call a.0 b.0 a.1 b.1 ∙ since_is w n later E h.0
 
-ages : (w : Who) (n : ℕ) (later E : List Call) → (reception w E).since ≡ time_heard E → heard_at E ≡ moment E → StaysOpen w n later E → NeverBack later E
-    → time_heard E + passed_in later E < 10000000000000000 → passed_in later E ≤ longest n + unticked_in later E
-ages w n [] E s e h b l = omega arith
-ages w n (call ∷ later) E s e h b l =
-    let z : time_heard E + passed_in later E < 10000000000000000 = omega (arith, l) in
-    go call h (clock (call ∷ later) E e b l) (ages w n later E s e h.0 b.0 z)
+-- what stays open through all calls, and at each tick is at most so old, is so old but for what passed since the last tick
+pub ages : (E : List Call) (L : ℕ) (Stays : List Call → Type 0) → heard_at E ≡ moment E → ((call : Call) (later : List Call) → Stays (call ∷ later) → Stays later)
+    → ((now : ℕ) (later : List Call) → Stays (At now Tick ∷ later) → time_heard (At now Tick ∷ later ++ E) ≤ time_heard E + L)
+    → (g : ℕ) (later : List Call) → Stays later → TicksWithin g later E → NeverBack later E → time_heard E + passed_in later E < 10000000000000000
+    → passed_in later E ≤ L + g
+ages E L Stays e rest tick g later s t b l = let a = aged later s b l in let u = unticked later t in omega (arith, a, u)
   where
-    go : (call : Call) → StaysOpen w n (call ∷ later) E → Clock (call ∷ later) E → passed_in later E ≤ longest n + unticked_in later E
-        → passed_in (call ∷ later) E ≤ longest n + unticked_in (call ∷ later) E
-    go (At now Tick) h c a =
-        let r = opened n (reception w (At now Tick ∷ later ++ E)).session h.1 in
-        let o = over w (later ++ E) now r.0 r.1 in
-        let t = since_is w n later E h.0 in
-        let m = r.2 in
-        let k = c.sum in
-        omega (arith, o, t, m, k, s)
-    go call h c a = omega (arith, a)
+    aged : (later : List Call) → Stays later → NeverBack later E → time_heard E + passed_in later E < 10000000000000000 → passed_in later E ≤ L + unticked_in later E
+    aged [] s b l = omega arith
+    aged (call ∷ later) s b l = go call s (clock (call ∷ later) E e b l) (aged later (rest call later s) b.0 (omega (arith, l)))
+      where
+        go : (call : Call) → Stays (call ∷ later) → Clock (call ∷ later) E → passed_in later E ≤ L + unticked_in later E
+            → passed_in (call ∷ later) E ≤ L + unticked_in (call ∷ later) E
+        go (At now Tick) s c a = let o = tick now later s in let k = c.sum in omega (arith, o, k)
+        go call s c a = omega (arith, a)
 
-unticked : (g : ℕ) (later E : List Call) → TicksWithin g later E → unticked_in later E ≤ g
-unticked g [] E h = omega arith
-unticked g (At now Tick ∷ later) E h = omega arith
-unticked g (call ∷ later) E h = h.1
+    unticked : (later : List Call) → TicksWithin g later E → unticked_in later E ≤ g
+    unticked [] h = omega arith
+    unticked (At now Tick ∷ later) h = omega arith
+    unticked (call ∷ later) h = h.1
 
 pub ends : (w : Who) (later earlier : List Call) (g n at : ℕ) (f : FrameRecord) → (reception w earlier).session ≡ None
     → StaysOpen w n later (At at (Hear f) ∷ earlier) → TicksWithin g later (At at (Hear f) ∷ earlier) → NeverBack later (At at (Hear f) ∷ earlier)
@@ -177,9 +175,15 @@ pub ends : (w : Who) (later earlier : List Call) (g n at : ℕ) (f : FrameRecord
     → passed_in later (At at (Hear f) ∷ earlier) ≤ (n + 3) * timer_t2 + g
 ends w later earlier g n at f none h t b l =
     let first = opened n (reception w (At at (Hear f) ∷ earlier)).session (begins_open later h) in
-    let a = ages w n later (At at (Hear f) ∷ earlier) (begins w earlier at f first.0 none first.1) refl h b l in
-    let u = unticked g later (At at (Hear f) ∷ earlier) t in
-    omega (arith, a, u)
+    let s = begins w earlier at f first.0 none first.1 in
+    ages (At at (Hear f) ∷ earlier) (longest n) (λ later. StaysOpen w n later (At at (Hear f) ∷ earlier)) refl (λ call later h. h.0)
+    (λ now later h.
+    (let E = At at (Hear f) ∷ earlier in
+    let r = opened n (reception w (At now Tick ∷ later ++ E)).session h.1 in
+    let o = over w (later ++ E) now r.0 r.1 in
+    let t = since_is w n later E h.0 in
+    let m = r.2 in
+    omega (arith, o, t, m, s))) g later h t b l
   where
     begins_open : (later : List Call) → StaysOpen w n later (At at (Hear f) ∷ earlier) → IsOpenOf n (reception w (At at (Hear f) ∷ earlier)).session
     begins_open [] h = h

@@ -12,7 +12,7 @@ use Rattle.j39_node.specs.Is.{Is, AreAnswered}
 use Rattle.j39_node.specs.Since.{ClaimedSince, NeverBack, NoneUnclaims, unclaims, passed_in}
 use Rattle.j39_node.specs.Reception.{reception}
 use Rattle.j39_node.proofs.ReceptionLemmas.{replied_get, tidy}
-use Rattle.j39_node.proofs.SoundLemmas.{FrameCase, frame_case, own_get, due_get, due_taken, message_taken, packet_taken, reply_taken, sound, transfer_taken}
+use Rattle.j39_node.proofs.SoundLemmas.{FrameCase, frame_case, own_of, due_get, due_taken, message_taken, packet_taken, reply_taken, sound, transfer_taken}
 use Rattle.j39_node.proofs.SoundLemmas.FrameCase.{claims, acknowledges, replies, sends, packs, transfers}
 
 -- one call later
@@ -81,7 +81,7 @@ begins w H now f right (acknowledges m o h g e way) k a =
 begins w H now f right (replies m o h n g e) k a =
     absurd (let z = (reply_taken w.address f now m e (replied_get w.address (reception w H).replies 0 m (tidy w H).replies g)).0 in let y : true ≡ false = sym k ∙ z in cc)
 begins w H now f right (sends x o h n g e) k a =
-    absurd (let z = message_taken w f now x e (own_get w _ _ x (sound w H right).own g) in let y : true ≡ false = sym k ∙ z in cc)
+    absurd (let z = message_taken w f now x e (own_of w H x right g) in let y : true ≡ false = sym k ∙ z in cc)
 begins w H now f right (packs m o h n g e) k a =
     absurd (let z = (packet_taken f now m (open_broadcast w H) (length (packets H)) (pause H - step H now) e g).0 in let y : true ≡ false = sym k ∙ z in cc)
 begins w H now f right (transfers m o h n g e) k a =

@@ -1,37 +1,39 @@
 -- What every answered history says of what was accepted, sent and told.
-use Rattle.std.proofs.Common.{drop, ◌≡◌, ℕ, zero, suc, ◌+◌, ◌-◌, ◌<◌, ◌≤◌, List, [], ◌∷◌, ◌++◌, length, map, Option, Some, None, Result, Ok, Err, Bool, true, false, not, ◌&&◌, ◌||◌, if◌then◌else◌, nat_eq, nat_lt, nat_le, ◌==◌, refl, sym, ap, ◌∙◌, subst, inl, inr, arith, append_assoc, length-append, eq-eqb, eqb-true, ltb-true, ◌⊎◌, IsTrue, slice_set, max}
-use Rattle.std.proofs.lemmas.Bool.{and_from, and_parts}
-use Rattle.std.proofs.lemmas.Option.{slice_get_past}
+use Rattle.std.proofs.Common.{drop, ◌≡◌, ℕ, zero, suc, ◌+◌, ◌-◌, ◌<◌, ◌≤◌, List, [], ◌∷◌, ◌++◌, length, map, Option, Some, None, Result, Ok, Err, Bool, true, false, not, ◌&&◌, ◌||◌, if◌then◌else◌, nat_eq, nat_lt, nat_le, ◌==◌, refl, sym, ap, ◌∙◌, subst, inl, inr, arith, append_assoc, length-append, eq-eqb, eqb-true, ltb-true, ◌⊎◌, IsTrue, slice_set, max, take}
+use Rattle.std.proofs.lemmas.Bool.{and_from, and_parts, or_parts, leb-true}
+use Rattle.std.proofs.lemmas.Option.{slice_get_past, slice_get-map, slice_get_within}
 use Rattle.std.specs.List.{slice_get}
 use Rattle.std.specs.Option.{option_map}
 use Rattle.j39_frame.specs.Frame.{FrameRecord}
 use Rattle.j39_frame.specs.Identifier.{destination_of, pgn_of, source_of}
-use Rattle.j39_frame.specs.Network.{address_claimed_group, transport_control_group, transport_data_group}
+use Rattle.j39_frame.specs.Network.{address_claimed_group, transport_control_group, transport_data_group, request_group}
 use Rattle.j39_address.specs.Claim.{claim_of}
 use Rattle.j39_transport.specs.Message.{MessageRecord, packets_of}
+use Rattle.std.proofs.lemmas.List.{map-set, length-set, take-set-le, take-append-le}
+use Rattle.j39_node.proofs.WithdrawLemmas.{get_front, stops_append, past_more, next_false, past_stops, past_within, set_same, unblanked_more, unblanked_past, unpassed}
 use Rattle.j39_node.specs.declared.kinds.Ending.{Ending}
 use Rattle.j39_node.specs.declared.kinds.Ending.TheVariants.{Done, Withdrawn}
 use Rattle.j39_node.specs.declared.kinds.Answer.{Answer}
 use Rattle.j39_node.specs.declared.kinds.Answer.TheVariants.{Nack, Busy}
 use Rattle.j39_node.specs.declared.kinds.Refused.{Refused}
 use Rattle.j39_node.specs.declared.kinds.Refused.TheVariants.{NoAddress, BadValue, Full}
-use Rattle.j39_node.specs.History.{fresh, is_refusal_due, turns, yields, has_packets, is_left, Who, Message, Draft, Call, Address, IsFront, Asked, accepted, acknowledged, acknowledgment, acknowledgment_group, address_after, asked, can_send, claim_address, claim_from, claimed, content, due, frame_of, got, handed, holds, is_acknowledgment, is_claim, is_full, is_held, is_lost, is_own_group, is_packet, is_sendable, is_served, is_session, is_smaller, is_some, is_transfer, kept, message_from, message_of, moment, older, open_broadcast, packets, pause, request_for, requests, sent, step, told, with_refusal, with_request, unclaimed, latest}
-use Rattle.j39_node.specs.History.Call.{At, TakeEnded, TakeReceived, TakeRequest, Renew}
+use Rattle.j39_node.specs.History.{reached, fresh, is_refusal_due, turns, has_packets, is_left, Who, Message, Draft, Call, Address, IsFront, Asked, accepted, acknowledged, acknowledgment, acknowledgment_group, address_after, asked, can_send, claim_address, claim_from, claimed, content, due, frame_of, got, handed, holds, is_acknowledgment, is_claim, is_full, is_held, is_lost, is_own_group, is_packet, is_sendable, is_served, is_session, is_smaller, is_some, is_transfer, kept, message_from, message_of, moment, older, open_broadcast, packets, pause, request_for, requests, sent, step, told, with_refusal, with_request, unclaimed, latest, marks, past, unblanked, is_blank, blank}
+use Rattle.j39_node.specs.History.Call.{At, TakeEnded, TakeReceived, TakeRequest, Renew, Withdraw, TakeAskEnded}
 use Rattle.j39_node.specs.History.Act.{Ask, Hear, TakeFrame, Send, Acknowledge, Again}
 use Rattle.std.proofs.lemmas.Slice.Eq.{bytes_eq-Decides}
-use Rattle.j39_node.specs.Reception.{is_move, is_same, is_that, reception}
+use Rattle.j39_node.specs.Reception.{yields, is_move, is_same, is_that, reception}
 use Rattle.j39_node.proofs.ReceptionLemmas.{IsReply, replied_get, tidy}
 use Rattle.j39_node.specs.History.Address.{NotClaimed, Claimed, Lost}
-use Rattle.j39_node.specs.Is.{is_apart, claim_goes, gives_way, is_there, is_turn, next_acknowledgment, next_other, next_turn, other, ready, turn_frame, turn_of, AreAnswered, IsAnswered, control_of, stamped, packet_by, next_packet, next_frame, next_ended, end_of, answer_to_send, claim_due, next_renewed}
+use Rattle.j39_node.specs.Is.{is_apart, claim_goes, gives_way, is_there, is_turn, next_acknowledgment, next_other, next_turn, other, ready, turn_frame, turn_of, AreAnswered, IsAnswered, control_of, stamped, packet_by, next_packet, next_frame, next_ended, end_of, answer_to_send, claim_due, next_renewed, next_withdrawn, may_go}
 use Rattle.j39_node.specs.declared.turn.Ready.{Ready}
 use Rattle.j39_node.specs.declared.turn.Turn.{Turn}
 use Rattle.j39_node.specs.declared.turn.Turn.TheVariants.{Reply, Single, Packet, Move}
 use Rattle.j39_node.specs.Transfers.{next_transfer, open_transfer, clock_at}
-use Rattle.j39_node.specs.Asking.{can_ask}
+use Rattle.j39_node.specs.Asking.{can_ask, open_ask, Question, question}
 use Rattle.j39_node.proofs.AskCases.{AskCase, ask_case, homeless, unfit, busy, asks, sendable}
 use Rattle.j39_node.proofs.PortLemmas.{ported, SaidCase, said_case}
-use Rattle.j39_node.proofs.QueueLemmas.{get_within, get_append, get_map, length_one_more, map_append}
-use Rattle.j39_node.proofs.RenewLemmas.{IsLatest, latest_is, set_front, set_get, set_length}
+use Rattle.j39_node.proofs.QueueLemmas.{get_append, length_one_more, map_append, length_map}
+use Rattle.j39_node.proofs.RenewLemmas.{IsLatest, latest_is, set_get, set_other, no_request}
 
 -- ---- the address
 
@@ -101,7 +103,7 @@ pub data FrameCase (w : Who) (H : List Call) (now : ℕ) (f : FrameRecord) : Typ
   replies : (m : Message) → claim_goes w H now ≡ false → holds w H now ≡ true → IsNext w H now Reply
       → slice_get (reception w H).replies 0 ≡ Some m → stamped f ≡ (now, m) → FrameCase w H now f
   sends : (x : ℕ × Message) → claim_goes w H now ≡ false → holds w H now ≡ true → IsNext w H now Single
-      → slice_get (accepted w H) (length (sent H)) ≡ Some x → stamped f ≡ (now, x.1) → FrameCase w H now f
+      → slice_get (accepted w H) (reached H) ≡ Some x → stamped f ≡ (now, x.1) → FrameCase w H now f
   packs : (m : Message) → claim_goes w H now ≡ false → holds w H now ≡ true → IsNext w H now Packet
       → next_packet w H now ≡ Some m → stamped f ≡ (now, m) → FrameCase w H now f
   transfers : (m : Message) → claim_goes w H now ≡ false → holds w H now ≡ true → IsNext w H now Move
@@ -116,7 +118,7 @@ frame_case w H now f e = go (claim_goes w H now) (holds w H now) (next_acknowled
   where
     by : (t : Option Turn) (r : Option Message) (o : Option (ℕ × Message)) (y z : Option Message) → claim_goes w H now ≡ false → holds w H now ≡ true
         → next_acknowledgment w H now ≡ None → next_turn w H now ≡ t → slice_get (reception w H).replies 0 ≡ r
-        → slice_get (accepted w H) (length (sent H)) ≡ o → next_packet w H now ≡ y → next_transfer w H now ≡ z
+        → slice_get (accepted w H) (reached H) ≡ o → next_packet w H now ≡ y → next_transfer w H now ≡ z
         → Some (stamped f) ≡ option_map (λ m. (now, m)) (turn_frame t r o y z) → FrameCase w H now f
     by None r o y z p q n t a b c d i = absurd (cc)
     by (Some Reply) None o y z p q n t a b c d i = absurd (cc)
@@ -185,8 +187,8 @@ turn_is y r = go y r.overdue r.reply r.message r.packet r.transfer
     go y false false false false true = (record { overdue = refl; message = refl; packet = refl }, refl, inl refl)
     go y false false false false false = (record { overdue = refl; message = refl; packet = refl }, refl, refl)
 
-pub turned : (w : Who) (H : List Call) (now : ℕ) (t : Option Turn) → next_turn w H now ≡ t → IsTurn (yields H) (ready w H now) t
-turned w H now t e = subst (IsTurn (yields H) (ready w H now)) e (turn_is (yields H) (ready w H now))
+pub turned : (w : Who) (H : List Call) (now : ℕ) (t : Option Turn) → next_turn w H now ≡ t → IsTurn (yields w H) (ready w H now) t
+turned w H now t e = subst (IsTurn (yields w H) (ready w H now)) e (turn_is (yields w H) (ready w H now))
 
 -- a frame of the open broadcast that is due is next of it
 pub packet_there : (o : Option (ℕ × MessageRecord)) (i left : ℕ) → is_there (packet_by o i left) ≡ (is_left o i && nat_le left 100000)
@@ -226,14 +228,14 @@ apart_none (Some m) (Some x) f e = absurd (cc)
 -- no reply, no message, and no frame of the open broadcast
 pub record Rest (w : Who) (H : List Call) (now : ℕ) : Type 0 where
   pub reply : slice_get (reception w H).replies 0 ≡ None
-  pub message : slice_get (accepted w H) (length (sent H)) ≡ None
+  pub message : slice_get (accepted w H) (reached H) ≡ None
   pub packet : next_packet w H now ≡ None
 
 -- what goes before the open transfer's frames isn't there
 pub nothing_else : (w : Who) (H : List Call) (now : ℕ) → NothingElse (ready w H now)
-    → (slice_get (accepted w H) (length (sent H)) ≡ None) × (next_packet w H now ≡ None)
+    → (slice_get (accepted w H) (reached H) ≡ None) × (next_packet w H now ≡ None)
 nothing_else w H now h = (
-  none_at (accepted w H) (length (sent H)) h.message,
+  none_at (accepted w H) (reached H) h.message,
   none_there _ (packet_there (open_broadcast w H) (length (packets H)) (pause H - step H now) ∙ h.packet),
 )
 
@@ -252,12 +254,12 @@ frame_there w H now = go (next_turn w H now) (turned w H now _ refl) _ _ _ _ ref
     due_packet : (ready w H now).packet ≡ true → next_packet w H now ≡ None → ⊥
     due_packet e = not_there _ (packet_there (open_broadcast w H) (length (packets H)) (pause H - step H now) ∙ e)
 
-    go : (t : Option Turn) → IsTurn (yields H) (ready w H now) t → (r : Option Message) (o : Option (ℕ × Message)) (y z : Option Message)
-        → slice_get (reception w H).replies 0 ≡ r → slice_get (accepted w H) (length (sent H)) ≡ o → next_packet w H now ≡ y → next_transfer w H now ≡ z
+    go : (t : Option Turn) → IsTurn (yields w H) (ready w H now) t → (r : Option Message) (o : Option (ℕ × Message)) (y z : Option Message)
+        → slice_get (reception w H).replies 0 ≡ r → slice_get (accepted w H) (reached H) ≡ o → next_packet w H now ≡ y → next_transfer w H now ≡ z
         → is_turn t ≡ is_there (turn_frame t r o y z)
     go None h r o y z a b c d = refl
     go (Some Reply) h r o y z a b c d = there r (λ e. some_at (reception w H).replies 0 h.0 (a ∙ e))
-    go (Some Single) h r o y z a b c d = there_sent o (λ e. some_at (accepted w H) (length (sent H)) h.0 (b ∙ e))
+    go (Some Single) h r o y z a b c d = there_sent o (λ e. some_at (accepted w H) (reached H) h.0 (b ∙ e))
     go (Some Packet) (inl h) r o y z a b c d = there y (λ e. due_packet (overdue_due (has_packets w H) (pause H - step H now) h) (c ∙ e))
     go (Some Packet) (inr h) r o y z a b c d = there y (λ e. due_packet h.0 (c ∙ e))
     go (Some Move) h r o y z a b c d = there z (λ e. apart_there (next_transfer w H now) (slice_get (reception w H).replies 0) h.1 (d ∙ e))
@@ -266,7 +268,7 @@ frame_there w H now = go (next_turn w H now) (turned w H now _ refl) _ _ _ _ ref
 pub none_other : (w : Who) (H : List Call) (now : ℕ) → other w H now ≡ None → Rest w H now × (next_transfer w H now ≡ None)
 none_other w H now e = go (next_turn w H now) (turned w H now _ refl) (frame_there w H now ∙ ap is_there e)
   where
-    go : (t : Option Turn) → IsTurn (yields H) (ready w H now) t → is_turn t ≡ false → Rest w H now × (next_transfer w H now ≡ None)
+    go : (t : Option Turn) → IsTurn (yields w H) (ready w H now) t → is_turn t ≡ false → Rest w H now × (next_transfer w H now ≡ None)
     go None h f =
         let r = none_at (reception w H).replies 0 h.2 in
         let n = nothing_else w H now h.0 in
@@ -278,7 +280,7 @@ pub other_none : (w : Who) (H : List Call) (now : ℕ) → Rest w H now → next
 other_none w H now h e = go (next_turn w H now)
   where
     go : (t : Option Turn)
-        → turn_frame t (slice_get (reception w H).replies 0) (slice_get (accepted w H) (length (sent H))) (next_packet w H now) (next_transfer w H now) ≡ None
+        → turn_frame t (slice_get (reception w H).replies 0) (slice_get (accepted w H) (reached H)) (next_packet w H now) (next_transfer w H now) ≡ None
     go None = refl
     go (Some Reply) = h.reply
     go (Some Single) = ap (option_map content) h.message
@@ -525,7 +527,7 @@ pub packet_taken : (f : FrameRecord) (now : ℕ) (m : Message) (o : Option (ℕ 
 packet_taken f now m o i left e g =
     let x = packet_case o i left m g in packet_frame f now x.message i (e ∙ ap (λ (y : Message). (let z : ℕ × Message = (now, y) in z)) x.frame)
 
--- ---- all that is accepted is the controller's own
+-- ---- all that is accepted is the controller's own, or was withdrawn
 
 pub record IsOwn (w : Who) (m : Message) : Type 0 where
   pub source : m.source ≡ w.address
@@ -535,16 +537,16 @@ pub record IsOwn (w : Who) (m : Message) : Type 0 where
 
 abbrev pub AllOwn : Who → List (ℕ × Message) → Type 0
 AllOwn w [] = Unit {0}
-AllOwn w (x ∷ xs) = IsOwn w x.1 × AllOwn w xs
+AllOwn w (x ∷ xs) = (is_blank x ≡ false → IsOwn w x.1) × AllOwn w xs
 
 pub own_append : (w : Who) (xs : List (ℕ × Message)) (x : ℕ × Message) → AllOwn w xs → IsOwn w x.1 → AllOwn w (xs ++ x ∷ [])
-own_append w [] x h e = (e, tt)
+own_append w [] x h e = (λ z. e, tt)
 own_append w (y ∷ ys) x h e = (h.0, own_append w ys x h.1 e)
 
-pub own_get : (w : Who) (xs : List (ℕ × Message)) (n : ℕ) (x : ℕ × Message) → AllOwn w xs → slice_get xs n ≡ Some x → IsOwn w x.1
-own_get w [] n x h e = absurd (cc)
-own_get w (y ∷ ys) zero x h e = let z : y ≡ x = cc in subst (λ (u : ℕ × Message). IsOwn w u.1) z h.0
-own_get w (y ∷ ys) (suc n) x h e = own_get w ys n x h.1 e
+own_get : (w : Who) (xs : List (ℕ × Message)) (n : ℕ) (x : ℕ × Message) → AllOwn w xs → slice_get xs n ≡ Some x → is_blank x ≡ false → IsOwn w x.1
+own_get w [] n x h e b = absurd (cc)
+own_get w (y ∷ ys) zero x h e b = let z : y ≡ x = cc in subst (λ (u : ℕ × Message). is_blank u ≡ false → IsOwn w u.1) z h.0 b
+own_get w (y ∷ ys) (suc n) x h e b = own_get w ys n x h.1 e b
 
 -- ---- all that is due is an acknowledgment
 
@@ -586,9 +588,12 @@ Desked w H = AllDue w (due w H) × IsFront (acknowledged H) (due w H) × IsFront
 
 pub record Sound (w : Who) (H : List Call) : Type 0 where
   pub own : AllOwn w (accepted w H)
-  pub fronts : IsFront (sent H) (map content (accepted w H))
+  pub marked : marks H ≡ map is_blank (accepted w H)
+  pub next : past (marks H) (reached H) ≡ reached H
+  pub passed : reached H ≤ length (accepted w H)
+  pub in_order : sent H ≡ map content (unblanked (take (reached H) (accepted w H)))
   pub within : length (told H) ≤ length (accepted w H)
-  pub in_turn : is_lost (address_after w H) ≡ false → length (told H) ≤ length (sent H)
+  pub in_turn : is_lost (address_after w H) ≡ false → length (told H) ≤ reached H
   pub reads : IsFront (got H) (kept w H)
   pub desk : Desked w H
   pub numbered : (i : ℕ) (x : ℕ × Message) → slice_get (accepted w H) i ≡ Some x → x.0 ≡ i
@@ -599,14 +604,29 @@ front_length xs ys (zs, e) = let b = ap length e in let c = length-append xs zs 
 pub read : (w : Who) (H : List Call) → Sound w H → length (got H) ≤ length (kept w H)
 read w H h = front_length (got H) (kept w H) h.reads
 
+-- the message that is next isn't withdrawn
+next_stays : (w : Who) (H : List Call) (x : ℕ × Message) → Sound w H → slice_get (accepted w H) (reached H) ≡ Some x → is_blank x ≡ false
+next_stays w H x h e =
+    next_false (marks H) (reached H) (is_blank x) h.next
+    (ap (λ bs. slice_get bs (reached H)) h.marked ∙ (slice_get-map is_blank (accepted w H) (reached H) ∙ ap (option_map is_blank) e))
+
+next_own : (w : Who) (H : List Call) (x : ℕ × Message) → Sound w H → slice_get (accepted w H) (reached H) ≡ Some x → IsOwn w x.1
+next_own w H x h e = own_get w (accepted w H) (reached H) x h.own e (next_stays w H x h e)
+
+pub many_marks : (w : Who) (H : List Call) → Sound w H → length (marks H) ≡ length (accepted w H)
+many_marks w H h = ap length h.marked ∙ length_map is_blank (accepted w H)
+
 -- a call that accepts, sends and tells nothing
-rests : (w : Who) (H G : List Call) → accepted w G ≡ accepted w H → sent G ≡ sent H → told G ≡ told H
+rests : (w : Who) (H G : List Call) → accepted w G ≡ accepted w H → marks G ≡ marks H → (sent G ≡ sent H) × (reached G ≡ reached H) → told G ≡ told H
     → (is_lost (address_after w G) ≡ false → is_lost (address_after w H) ≡ false) → IsFront (got G) (kept w G) → Desked w G → Sound w H → Sound w G
-rests w H G e f g l r d h = record {
+rests w H G e m f g l r d h = record {
   own = subst (AllOwn w) (sym e) h.own;
-  fronts = subst (λ xs. IsFront xs (map content (accepted w G))) (sym f) (subst (λ ys. IsFront (sent H) (map content ys)) (sym e) h.fronts);
+  marked = m ∙ (h.marked ∙ ap (map is_blank) (sym e));
+  next = (λ i. past (m i) (f.1 i)) ∙ (h.next ∙ sym f.1);
+  passed = (let a = h.passed in let b = f.1 in let c = ap length e in omega (arith, a, b, c));
+  in_order = f.0 ∙ (h.in_order ∙ λ i. map content (unblanked (take (sym f.1 i) (sym e i))));
   within = (let a = h.within in let b = ap length e in let c = ap length g in omega (arith, a, b, c));
-  in_turn = λ i. (let a = h.in_turn (l i) in let b = ap length f in let c = ap length g in omega (arith, a, b, c));
+  in_turn = λ i. (let a = h.in_turn (l i) in let b = f.1 in let c = ap length g in omega (arith, a, b, c));
   reads = r;
   desk = d;
   numbered = subst (λ (L : List (ℕ × Message)). (i : ℕ) (x : ℕ × Message) → slice_get L i ≡ Some x → x.0 ≡ i) (sym e) h.numbered;
@@ -656,18 +676,24 @@ send_case w H now d answer e = go (holds w H now) (can_send w d) (is_full w H) r
 -- ---- which token was told
 
 pub data EndCase (w : Who) (H : List Call) (x : ℕ × Ending) : Type 0 where
-  done : (m : Message) → nat_lt (length (told H)) (length (sent H)) ≡ true → slice_get (accepted w H) (length (told H)) ≡ Some (x.0, m)
-      → x.1 ≡ Done → EndCase w H x
-  withdrawn : (m : Message) → nat_lt (length (told H)) (length (sent H)) ≡ false → is_lost (address_after w H) ≡ true
+  done : (m : Message) → nat_lt (length (told H)) (reached H) ≡ true → slice_get (accepted w H) (length (told H)) ≡ Some (x.0, m)
+      → x.1 ≡ (if is_blank (x.0, m) then Withdrawn else Done) → EndCase w H x
+  withdrawn : (m : Message) → nat_lt (length (told H)) (reached H) ≡ false → is_lost (address_after w H) ≡ true
       → slice_get (accepted w H) (length (told H)) ≡ Some (x.0, m) → x.1 ≡ Withdrawn → EndCase w H x
 
 pub end_case : (w : Who) (H : List Call) (x : ℕ × Ending) → Some x ≡ next_ended w H → EndCase w H x
-end_case w H x e = go (nat_lt (length (told H)) (length (sent H))) (is_lost (address_after w H)) (slice_get (accepted w H) (length (told H))) refl refl refl e
+end_case w H x e = go (nat_lt (length (told H)) (reached H)) (is_lost (address_after w H)) (slice_get (accepted w H) (length (told H))) refl refl refl e
   where
-    go : (b l : Bool) (o : Option (ℕ × Message)) → nat_lt (length (told H)) (length (sent H)) ≡ b → is_lost (address_after w H) ≡ l
+    go : (b l : Bool) (o : Option (ℕ × Message)) → nat_lt (length (told H)) (reached H) ≡ b → is_lost (address_after w H) ≡ l
         → slice_get (accepted w H) (length (told H)) ≡ o → Some x ≡ end_of b l o → EndCase w H x
     go b l None p q r i = absurd (cc)
-    go true l (Some y) p q r i = let z : x ≡ (y.0, Done) = cc in done y.1 p (r ∙ ap (λ (k : ℕ). Some (k, y.1)) (sym (ap (λ (u : ℕ × Ending). u.0) z))) (ap (λ (u : ℕ × Ending). u.1) z)
+    go true l (Some y) p q r i = by (is_blank y) refl
+      where
+        by : (b : Bool) → is_blank y ≡ b → EndCase w H x
+        by b g =
+            let z : x ≡ (y.0, if b then Withdrawn else Done) = grind (arith, i, g) in
+            done y.1 p (r ∙ ap (λ (k : ℕ). Some (k, y.1)) (sym (ap (λ (u : ℕ × Ending). u.0) z)))
+            (ap (λ (u : ℕ × Ending). u.1) z ∙ ap (λ (b : Bool). (let e : Ending = (if b then Withdrawn else Done) in e)) (sym g))
     go false true (Some y) p q r i = let z : x ≡ (y.0, Withdrawn) = cc in withdrawn y.1 p q (r ∙ ap (λ (k : ℕ). Some (k, y.1)) (sym (ap (λ (u : ℕ × Ending). u.0) z))) (ap (λ (u : ℕ × Ending). u.1) z)
     go false false (Some y) p q r i = absurd (cc)
 
@@ -712,6 +738,10 @@ sent_is H now f a b p e g i = ap (λ (x : Bool). if x || (is_acknowledgment f ||
     ∙ (ap (λ (y : Bool). if a || (y || is_session f) then sent H else sent H ++ message_of f ∷ []) g
     ∙ ap (λ (y : Bool). if a || (b || y) then sent H else sent H ++ message_of f ∷ []) i)
 
+pub reached_is : (H : List Call) (now : ℕ) (f : FrameRecord) (a b p : Bool) → is_claim f ≡ a → is_acknowledgment f ≡ b → is_session f ≡ p
+    → reached (At now (TakeFrame (Some f)) ∷ H) ≡ (if a || (b || p) then reached H else past (marks H) (suc (reached H)))
+reached_is H now f a b p e g i = λ j. if e j || (g j || i j) then reached H else past (marks H) (suc (reached H))
+
 pub packets_is : (H : List Call) (now : ℕ) (f : FrameRecord) (p : Bool) → is_packet f ≡ p
     → packets (At now (TakeFrame (Some f)) ∷ H) ≡ (if p then packets H ++ message_of f ∷ [] else packets H)
 packets_is H now f p e = ap (λ (y : Bool). if y then packets H ++ message_of f ∷ [] else packets H) e
@@ -730,13 +760,13 @@ pub address_is : (w : Who) (H : List Call) (now : ℕ) (f : FrameRecord) (a : Bo
 address_is w H now f a e = ap (λ (b : Bool). if b then claimed (older (step H now) (address_after w H)) else older (step H now) (address_after w H)) e
 
 sound_claim : (w : Who) (H : List Call) (now : ℕ) (f : FrameRecord) → is_claim f ≡ true → Sound w H → Sound w (At now (TakeFrame (Some f)) ∷ H)
-sound_claim w H now f e h = rests w H _ refl (sent_is H now f true _ _ e refl refl) refl
+sound_claim w H now f e h = rests w H _ refl refl (sent_is H now f true _ _ e refl refl, reached_is H now f true _ _ e refl refl) refl
     (λ l. sym (lost_older (step H now) (address_after w H)) ∙ (sym (lost_claimed _) ∙ (sym (ap is_lost (address_is w H now f true e)) ∙ l))) h.reads
     (h.desk.0, subst (λ xs. IsFront xs (due w H)) (sym (acknowledged_is H now f true _ e refl)) h.desk.1, h.desk.2) h
 
 sound_acknowledge : (w : Who) (H : List Call) (now : ℕ) (f : FrameRecord) (m : Message) → is_claim f ≡ false → is_acknowledgment f ≡ true
     → slice_get (due w H) (length (acknowledged H)) ≡ Some m → stamped f ≡ (now, m) → Sound w H → Sound w (At now (TakeFrame (Some f)) ∷ H)
-sound_acknowledge w H now f m e k g i h = rests w H _ refl (sent_is H now f false true _ e k refl) refl
+sound_acknowledge w H now f m e k g i h = rests w H _ refl refl (sent_is H now f false true _ e k refl, reached_is H now f false true _ e k refl) refl
     (λ l. sym (lost_older (step H now) (address_after w H)) ∙ (sym (ap is_lost (address_is w H now f false e)) ∙ l)) h.reads (
       h.desk.0,
       subst (λ xs. IsFront xs (due w H)) (sym (acknowledged_is H now f false true e k ∙ ap (λ (y : ℕ × Message). acknowledged H ++ y.1 ∷ []) i))
@@ -746,21 +776,29 @@ sound_acknowledge w H now f m e k g i h = rests w H _ refl (sent_is H now f fals
 
 sound_packet : (w : Who) (H : List Call) (now : ℕ) (f : FrameRecord) → (is_claim f ≡ false) × (is_acknowledgment f ≡ false) × (is_session f ≡ true)
     → Sound w H → Sound w (At now (TakeFrame (Some f)) ∷ H)
-sound_packet w H now f k h = rests w H _ refl (sent_is H now f false false true k.0 k.1 k.2) refl
+sound_packet w H now f k h = rests w H _ refl refl (sent_is H now f false false true k.0 k.1 k.2, reached_is H now f false false true k.0 k.1 k.2) refl
     (λ l. sym (lost_older (step H now) (address_after w H)) ∙ (sym (ap is_lost (address_is w H now f false k.0)) ∙ l)) h.reads
     (h.desk.0, subst (λ xs. IsFront xs (due w H)) (sym (acknowledged_is H now f false false k.0 k.1)) h.desk.1, h.desk.2) h
 
 sound_send : (w : Who) (H : List Call) (now : ℕ) (f : FrameRecord) (x : ℕ × Message) → is_claim f ≡ false → is_acknowledgment f ≡ false → is_session f ≡ false → holds w H now ≡ true
-    → slice_get (accepted w H) (length (sent H)) ≡ Some x → stamped f ≡ (now, x.1) → Sound w H → Sound w (At now (TakeFrame (Some f)) ∷ H)
+    → slice_get (accepted w H) (reached H) ≡ Some x → stamped f ≡ (now, x.1) → Sound w H → Sound w (At now (TakeFrame (Some f)) ∷ H)
 sound_send w H now f x e k n held g i h =
+    let L = accepted w H in
     let more : sent (At now (TakeFrame (Some f)) ∷ H) ≡ sent H ++ x.1 ∷ [] =
     sent_is H now f false false false e k n ∙ ap (λ (y : ℕ × Message). sent H ++ y.1 ∷ []) i in
+    let on = reached_is H now f false false false e k n in
     record {
       own = h.own;
-      fronts = subst (λ xs. IsFront xs (map content (accepted w H))) (sym more)
-          (front_longer (sent H) (map content (accepted w H)) x.1 h.fronts (get_map content (accepted w H) (length (sent H)) x g));
+      marked = h.marked;
+      next = ap (past (marks H)) on ∙ (past_stops (marks H) (suc (reached H)) ∙ sym on);
+      passed = (let a = past_within (marks H) (suc (reached H)) (let b = slice_get_within L (reached H) x g in let c = many_marks w H h in omega (arith, b, c)) in
+          let c = many_marks w H h in omega (arith, a, c, on));
+      in_order = more ∙ (ap (λ xs. xs ++ x.1 ∷ []) h.in_order
+          ∙ (sym (map_append content (unblanked (take (reached H) L)) x)
+          ∙ ap (map content) (sym (unblanked_more L (reached H) x g (next_stays w H x h g))
+          ∙ (sym (unblanked_past L (suc (reached H))) ∙ (λ j. unblanked (take (past (sym h.marked j) (suc (reached H))) L)) ∙ ap (λ (m : ℕ). unblanked (take m L)) (sym on)))));
       within = h.within;
-      in_turn = λ l. (let a = h.in_turn (holding_not_lost w H now held) in let b = ap length more in let c = length_one_more (sent H) x.1 in omega (arith, a, b, c));
+      in_turn = λ l. (let a = h.in_turn (holding_not_lost w H now held) in let b = past_more (marks H) (suc (reached H)) in omega (arith, a, b, on));
       reads = h.reads;
       desk = (h.desk.0, subst (λ xs. IsFront xs (due w H)) (sym (acknowledged_is H now f false false e k)) h.desk.1, h.desk.2);
       numbered = h.numbered;
@@ -775,7 +813,7 @@ sound_frame w H now f right (replies m owes held none g e) h =
     let k = reply_taken w.address f now m e (replied_get w.address (reception w H).replies 0 m (tidy w H).replies g) in
     sound_packet w H now f (k.0, k.1, k.2) h
 sound_frame w H now f right (sends x owes held none g e) h =
-    let own = own_get w _ _ x h.own g in
+    let own = next_own w H x h g in
     sound_send w H now f x (message_taken w f now x e own) (plain_taken w f now x e own) (single_taken w f now x e own) held g e h
 sound_frame w H now f right (packs m owes held none g e) h =
     let is = packet_taken f now m (open_broadcast w H) (length (packets H)) (pause H - step H now) e g in
@@ -786,8 +824,11 @@ sound_frame w H now f right (transfers m owes held none g e) h =
 sound_accept : (w : Who) (H : List Call) (now k : ℕ) (d : Draft) → can_send w d ≡ true → k ≡ length (accepted w H) → Sound w H → Sound w (At now (Send d (Ok k)) ∷ H)
 sound_accept w H now k d e g h = record {
   own = own_append w (accepted w H) (k, message_from w d) h.own (is_own w d e);
-  fronts = subst (λ ys. IsFront (sent H) ys) (sym (map_append content (accepted w H) (k, message_from w d)))
-      (front_append (sent H) (map content (accepted w H)) (message_from w d) h.fronts);
+  marked = ap (λ bs. bs ++ false ∷ []) h.marked
+      ∙ (ap (λ (b : Bool). map is_blank (accepted w H) ++ b ∷ []) (sym (is_own w d e).group) ∙ sym (map_append is_blank (accepted w H) (k, message_from w d)));
+  next = stops_append (marks H) (reached H) (let a = many_marks w H h in let b = h.passed in omega (arith, a, b)) h.next;
+  passed = (let a = h.passed in let b = length_one_more (accepted w H) (k, message_from w d) in omega (arith, a, b));
+  in_order = h.in_order ∙ ap (λ xs. map content (unblanked xs)) (sym (take-append-le (reached H) (accepted w H) ((k, message_from w d) ∷ []) h.passed));
   within = (let a = h.within in let b = length_one_more (accepted w H) (k, message_from w d) in omega (arith, a, b));
   in_turn = λ l. h.in_turn (sym (lost_older (step H now) (address_after w H)) ∙ l);
   reads = h.reads;
@@ -801,7 +842,10 @@ sound_accept w H now k d e g h = record {
 sound_ask : (w : Who) (H : List Call) (now k group to : ℕ) → can_ask w group to ≡ true → k ≡ length (accepted w H) → Sound w H → Sound w (At now (Ask group to (Ok k)) ∷ H)
 sound_ask w H now k group to e g h = let s = sound_accept w H now k (request_for group to) (sendable w group to e) g h in record {
   own = s.own;
-  fronts = s.fronts;
+  marked = s.marked;
+  next = s.next;
+  passed = s.passed;
+  in_order = s.in_order;
   within = s.within;
   in_turn = s.in_turn;
   reads = s.reads;
@@ -812,17 +856,23 @@ sound_ask w H now k group to e g h = let s = sound_accept w H now k (request_for
 sound_ended : (w : Who) (H : List Call) (x : ℕ × Ending) → EndCase w H x → Sound w H → Sound w (TakeEnded (Some x) ∷ H)
 sound_ended w H x (done m l g e) h = record {
   own = h.own;
-  fronts = h.fronts;
-  within = (let a = get_within (accepted w H) (length (told H)) (x.0, m) g in let b = length_one_more (told H) x in omega (arith, a, b));
-  in_turn = λ i. (let b = length_one_more (told H) x in let c = ltb-true (length (told H)) (length (sent H)) l in omega (arith, b, c));
+  marked = h.marked;
+  next = h.next;
+  passed = h.passed;
+  in_order = h.in_order;
+  within = (let a = slice_get_within (accepted w H) (length (told H)) (x.0, m) g in let b = length_one_more (told H) x in omega (arith, a, b));
+  in_turn = λ i. (let b = length_one_more (told H) x in let c = ltb-true (length (told H)) (reached H) l in omega (arith, b, c));
   reads = h.reads;
   desk = h.desk;
   numbered = h.numbered;
 }
 sound_ended w H x (withdrawn m l lost g e) h = record {
   own = h.own;
-  fronts = h.fronts;
-  within = (let a = get_within (accepted w H) (length (told H)) (x.0, m) g in let b = length_one_more (told H) x in omega (arith, a, b));
+  marked = h.marked;
+  next = h.next;
+  passed = h.passed;
+  in_order = h.in_order;
+  within = (let a = slice_get_within (accepted w H) (length (told H)) (x.0, m) g in let b = length_one_more (told H) x in omega (arith, a, b));
   in_turn = λ i. absurd (let z : true ≡ false = sym lost ∙ i in cc);
   reads = h.reads;
   desk = h.desk;
@@ -873,29 +923,33 @@ heard_desk w H when f h =
 
 pub record RenewCase (w : Who) (H : List Call) (d : Draft) (k : ℕ) : Type 0 where
   pub can : can_send w d ≡ true
-  pub is : latest (message_from w d) (max (length (sent H)) (length (told H))) 0 (accepted w H) None ≡ Some k
-  pub at : IsLatest (message_from w d) (max (length (sent H)) (length (told H))) 0 k (accepted w H)
+  pub is : latest (message_from w d) (max (reached H) (length (told H))) 0 (accepted w H) None ≡ Some k
+  pub at : IsLatest (message_from w d) (max (reached H) (length (told H))) 0 k (accepted w H)
 
 pub renew_case : (w : Who) (H : List Call) (d : Draft) (k : ℕ) → Some k ≡ next_renewed w H d → RenewCase w H d k
 renew_case w H d k e = go (can_send w d) refl e
   where
-    found : (latest (message_from w d) (max (length (sent H)) (length (told H))) 0 (accepted w H) None ≡ Some k) → IsLatest (message_from w d) (max (length (sent H)) (length (told H))) 0 k (accepted w H)
-    found i = elim (latest_is (message_from w d) (max (length (sent H)) (length (told H))) 0 k (accepted w H) None i) [ inl z ↦ absurd (cc) | inr z ↦ z ]
+    found : (latest (message_from w d) (max (reached H) (length (told H))) 0 (accepted w H) None ≡ Some k) → IsLatest (message_from w d) (max (reached H) (length (told H))) 0 k (accepted w H)
+    found i = elim (latest_is (message_from w d) (max (reached H) (length (told H))) 0 k (accepted w H) None i) [ inl z ↦ absurd (cc) | inr z ↦ z ]
 
-    go : (b : Bool) → can_send w d ≡ b → Some k ≡ (if b then latest (message_from w d) (max (length (sent H)) (length (told H))) 0 (accepted w H) None else None) → RenewCase w H d k
+    go : (b : Bool) → can_send w d ≡ b → Some k ≡ (if b then latest (message_from w d) (max (reached H) (length (told H))) 0 (accepted w H) None else None) → RenewCase w H d k
     go false c i = absurd (cc)
     go true c i = record { can = c; is = sym i; at = found (sym i) }
 
-own_set : (w : Who) (xs : List (ℕ × Message)) (k : ℕ) (x : ℕ × Message) → AllOwn w xs → IsOwn w x.1 → AllOwn w (slice_set xs k x)
+own_set : (w : Who) (xs : List (ℕ × Message)) (k : ℕ) (x : ℕ × Message) → AllOwn w xs → (is_blank x ≡ false → IsOwn w x.1) → AllOwn w (slice_set xs k x)
 own_set w [] k x h e = h
 own_set w (y ∷ xs) zero x h e = (e, h.1)
 own_set w (y ∷ xs) (suc k) x h e = (h.0, own_set w xs k x h.1 e)
 
 sound_renewed : (w : Who) (H : List Call) (d : Draft) (k : ℕ) → RenewCase w H d k → Sound w H → Sound w (Renew d (Some k) ∷ H)
 sound_renewed w H d k c h = record {
-  own = own_set w (accepted w H) k (k, message_from w d) h.own (is_own w d c.can);
-  fronts = set_front (sent H) (accepted w H) k (k, message_from w d) (let l = c.at.from in omega (arith, l)) h.fronts;
-  within = (let a = h.within in let b = set_length (accepted w H) k (k, message_from w d) in omega (arith, a, b));
+  own = own_set w (accepted w H) k (k, message_from w d) h.own (λ z. is_own w d c.can);
+  marked = h.marked ∙ sym (map-set is_blank (accepted w H) k (k, message_from w d)
+      ∙ (ap (slice_set (map is_blank (accepted w H)) k) plain ∙ set_same (map is_blank (accepted w H)) k false (slice_get-map is_blank (accepted w H) k ∙ there)));
+  next = h.next;
+  passed = (let a = h.passed in let b = length-set (accepted w H) k (k, message_from w d) in omega (arith, a, b));
+  in_order = h.in_order ∙ ap (λ xs. map content (unblanked xs)) (sym (take-set-le (reached H) (accepted w H) k (k, message_from w d) (let l = c.at.from in omega (arith, l))));
+  within = (let a = h.within in let b = length-set (accepted w H) k (k, message_from w d) in omega (arith, a, b));
   in_turn = h.in_turn;
   reads = h.reads;
   desk = h.desk;
@@ -904,9 +958,61 @@ sound_renewed w H d k c h = record {
     | inr z ↦ h.numbered i x z
   ];
 }
+  where
+    plain : is_blank (k, message_from w d) ≡ false
+    plain = (is_own w d c.can).group
+
+    there : option_map is_blank (slice_get (accepted w H) k) ≡ Some false
+    there = ap (option_map is_blank) (ap (slice_get (accepted w H)) (let z : k ≡ k - 0 = omega arith in z) ∙ c.at.is)
+        ∙ ap Some (sym (ap (λ (g : ℕ). nat_eq g address_claimed_group) (eqb-true (message_from w d).group c.at.entry.1.group
+        (and_parts (nat_eq d.priority c.at.entry.1.priority) _ (and_parts (nat_eq d.priority c.at.entry.1.priority && nat_eq d.group c.at.entry.1.group) _ c.at.alike).0).1)) ∙ plain)
+
+-- which message is withdrawn
+
+pub record WithdrawCase (w : Who) (H : List Call) (k : ℕ) : Type 0 where
+  pub entry : ℕ × Message
+  pub kept : is_lost (address_after w H) ≡ false
+  pub from : reached H ≤ k
+  pub is : slice_get (accepted w H) k ≡ Some entry
+  pub stays : is_blank entry ≡ false
+  pub plain : nat_eq entry.1.group request_group ≡ false
+
+pub withdraw_case : (w : Who) (H : List Call) (k : ℕ) → true ≡ next_withdrawn w H k → WithdrawCase w H k
+withdraw_case w H k e =
+    let a = and_parts (not (is_lost (address_after w H))) _ (sym e) in
+    let c = and_parts (nat_le (reached H) k) _ a.1 in
+    let x = there (slice_get (accepted w H) k) c.1 in
+    record { entry = x.0; kept = no _ a.0; from = leb-true _ _ c.0; is = x.1; stays = x.2.0; plain = x.2.1 }
+  where
+    there : (o : Option (ℕ × Message)) → may_go o ≡ true → (x : ℕ × Message) × (o ≡ Some x) × ((is_blank x ≡ false) × (nat_eq x.1.group request_group ≡ false))
+    there None i = absurd (cc)
+    there (Some x) i = (x, refl, or_parts _ _ (no _ i))
+
+sound_withdrawn : (w : Who) (H : List Call) (k : ℕ) → WithdrawCase w H k → Sound w H → Sound w (Withdraw k true ∷ H)
+sound_withdrawn w H k c h =
+    let L = accepted w H in
+    let bs = slice_set (marks H) k true in
+    let marked : bs ≡ map is_blank (slice_set L k (k, blank)) = ap (λ xs. slice_set xs k true) h.marked ∙ sym (map-set is_blank L k (k, blank)) in
+    let long : length bs ≡ length L = length-set (marks H) k true ∙ many_marks w H h in
+    record {
+      own = own_set w L k (k, blank) h.own (λ z. absurd (let y : true ≡ false = z in cc));
+      marked = marked;
+      next = past_stops bs (reached H);
+      passed = (let a = past_within bs (reached H) (let b = h.passed in omega (arith, b, long)) in let b = length-set L k (k, blank) in omega (arith, a, b, long));
+      in_order = h.in_order ∙ ap (map content) (ap unblanked (sym (take-set-le (reached H) L k (k, blank) c.from))
+          ∙ (sym (unblanked_past (slice_set L k (k, blank)) (reached H)) ∙ λ i. unblanked (take (past (sym marked i) (reached H)) (slice_set L k (k, blank)))));
+      within = (let a = h.within in let b = length-set L k (k, blank) in omega (arith, a, b));
+      in_turn = λ l. (let a = h.in_turn l in let b = past_more bs (reached H) in omega (arith, a, b));
+      reads = h.reads;
+      desk = h.desk;
+      numbered = λ i x e. elim (set_get L k i (k, blank) x e) [
+        | inl z ↦ ap (λ (y : ℕ × Message). y.0) (sym z.1) ∙ sym z.0
+        | inr z ↦ h.numbered i x z
+      ];
+    }
 
 sound_more : (w : Who) (H : List Call) (call : Call) → AreAnswered w H → IsAnswered w H call → Sound w H → Sound w (call ∷ H)
-sound_more w H (At when (Hear f)) right e h = rests w H _ refl refl refl (lost_if w (is_smaller w (claim_of f)) (step H when) (address_after w H))
+sound_more w H (At when (Hear f)) right e h = rests w H _ refl refl (refl, refl) refl (lost_if w (is_smaller w (claim_of f)) (step H when) (address_after w H))
     (kept_grows _ (kept w H) (f.stamp, message_of f) (got H) h.reads)
     (heard_desk w H when f h.desk) h
 sound_more w H (At now (TakeFrame (Some f))) right e h = sound_frame w H now f right (frame_case w H now f e) h
@@ -925,15 +1031,92 @@ sound_more w H (At now (Ask group to (Ok k))) right e h = go (ask_case w H now g
     go (busy a b c i) = absurd (cc)
     go (asks a b c i) = sound_ask w H now k group to b (let z : k ≡ length (accepted w H) = cc in z) h
 sound_more w H (TakeEnded (Some x)) right e h = sound_ended w H x (end_case w H x e) h
-sound_more w H (TakeReceived (Some x)) right e h = rests w H _ refl refl refl (λ l. l)
+sound_more w H (TakeReceived (Some x)) right e h = rests w H _ refl refl (refl, refl) refl (λ l. l)
     (front_longer (got H) (kept w H) x h.reads (sym e)) h.desk h
-sound_more w H (TakeRequest (Some r)) right e h = rests w H _ refl refl refl (λ l. l) h.reads (h.desk.0, h.desk.1, front_longer (handed H) (requests w H) r h.desk.2 (sym e)) h
-sound_more w H (At now (Acknowledge r answer (Ok x))) right e h = rests w H _ refl refl refl (λ l. sym (lost_older (step H now) (address_after w H)) ∙ l) h.reads
+sound_more w H (TakeRequest (Some r)) right e h = rests w H _ refl refl (refl, refl) refl (λ l. l) h.reads (h.desk.0, h.desk.1, front_longer (handed H) (requests w H) r h.desk.2 (sym e)) h
+sound_more w H (At now (Acknowledge r answer (Ok x))) right e h = rests w H _ refl refl (refl, refl) refl (λ l. sym (lost_older (step H now) (address_after w H)) ∙ l) h.reads
     (due_append w (due w H) answer r h.desk.0, front_append (acknowledged H) (due w H) (acknowledgment w answer r) h.desk.1, h.desk.2) h
+sound_more w H (Withdraw k true) right e h = sound_withdrawn w H k (withdraw_case w H k e) h
 sound_more w H (Renew d (Some k)) right e h = sound_renewed w H d k (renew_case w H d k e) h
-sound_more w H (At now Again) right e h = rests w H _ refl refl refl (λ l. sym (lost_older (step H now) (address_after w H)) ∙ (sym (lost_unclaimed _) ∙ l)) h.reads h.desk h
-sound_more w H call right e h = rests w H (call ∷ H) refl refl refl (λ l. let z = lost_older (step H (moment (call ∷ H))) (address_after w H) in cc) h.reads h.desk h
+sound_more w H (At now Again) right e h = rests w H _ refl refl (refl, refl) refl (λ l. sym (lost_older (step H now) (address_after w H)) ∙ (sym (lost_unclaimed _) ∙ l)) h.reads h.desk h
+sound_more w H call right e h = rests w H (call ∷ H) refl refl (refl, refl) refl (λ l. let z = lost_older (step H (moment (call ∷ H))) (address_after w H) in cc) h.reads h.desk h
 
 pub sound : (w : Who) (H : List Call) → AreAnswered w H → Sound w H
-sound w [] e = record { own = tt; fronts = ([], refl); within = omega arith; in_turn = λ l. omega arith; reads = ([], refl); desk = (tt, ([], refl), ([], refl)); numbered = λ i x e. absurd (cc) }
+sound w [] e = record { own = tt; marked = refl; next = refl; passed = omega arith; in_order = refl; within = omega arith; in_turn = λ l. omega arith; reads = ([], refl); desk = (tt, ([], refl), ([], refl)); numbered = λ i x e. absurd (cc) }
 sound w (call ∷ H) e = sound_more w H call e.0 e.1 (sound w H e.0)
+
+-- the message that is next is its own
+pub own_of : (w : Who) (H : List Call) (x : ℕ × Message) → AreAnswered w H → slice_get (accepted w H) (reached H) ≡ Some x → IsOwn w x.1
+own_of w H x right e = next_own w H x (sound w H right) e
+
+-- ---- a request that is accepted stays where it is
+
+pub grows_on : (w : Who) (H : List Call) (call : Call) (n : ℕ) (x : ℕ × Message) → IsAnswered w H call → nat_eq x.1.group request_group ≡ true
+    → slice_get (accepted w H) n ≡ Some x → slice_get (accepted w (call ∷ H)) n ≡ Some x
+grows_on w H (At now (Send draft (Ok k))) n x right r e = get_front (accepted w H) _ n x e
+grows_on w H (At now (Ask group to (Ok k))) n x right r e = get_front (accepted w H) _ n x e
+grows_on w H (Withdraw k true) n x right r e = set_other (accepted w H) k n (k, blank) apart ∙ e
+  where
+    case : WithdrawCase w H k
+    case = withdraw_case w H k right
+
+    apart : n ≡ k → ⊥
+    apart z =
+        let i : slice_get (accepted w H) k ≡ Some x = subst (λ (m : ℕ). slice_get (accepted w H) m ≡ Some x) z e in
+        let j = case.is in
+        let y : case.entry ≡ x = cc in
+        let p = case.plain in
+        absurd (let q : false ≡ true = sym p ∙ (ap (λ (u : ℕ × Message). nat_eq u.1.group request_group) y ∙ r) in cc)
+grows_on w H (Renew draft (Some k)) n x right r e = set_other (accepted w H) k n (k, message_from w draft) (λ z. apart (renew_case w H draft k right).at z) ∙ e
+  where
+    apart : IsLatest (message_from w draft) (max (reached H) (length (told H))) 0 k (accepted w H) → n ≡ k → ⊥
+    apart at z = no_request (message_from w draft) at.entry.1 at.alike
+        (ap (λ (y : ℕ × Message). nat_eq y.1.group request_group) (let s : at.entry ≡ x = same at z in s) ∙ r)
+      where
+        same : (at : IsLatest (message_from w draft) (max (reached H) (length (told H))) 0 k (accepted w H)) → n ≡ k → at.entry ≡ x
+        same at z = let a = at.is in let i : slice_get (accepted w H) k ≡ Some x = subst (λ (m : ℕ). slice_get (accepted w H) m ≡ Some x) z e in
+            let j : slice_get (accepted w H) k ≡ Some at.entry = ap (slice_get (accepted w H)) (let y : k ≡ k - 0 = omega arith in y) ∙ a in cc
+grows_on w H call n x right r e = e
+
+-- so does the open one's
+abbrev RequestAt : Who → List Call → ℕ → Type 0
+RequestAt w H k = (x : ℕ × Message) × (slice_get (accepted w H) k ≡ Some x) × (nat_eq x.1.group request_group ≡ true)
+
+request_new : (w : Who) (H : List Call) (now group to k : ℕ) → AskCase w H now group to (Ok k) → RequestAt w (At now (Ask group to (Ok k)) ∷ H) k
+request_new w H now group to k (homeless b i) = absurd (cc)
+request_new w H now group to k (unfit b c i) = absurd (cc)
+request_new w H now group to k (busy b c i j) = absurd (cc)
+request_new w H now group to k (asks b c i j) =
+    let z : k ≡ length (accepted w H) = cc in (x, ap (slice_get (accepted w H ++ x ∷ [])) z ∙ last (accepted w H), refl)
+  where
+    x : ℕ × Message
+    x = (k, message_from w (request_for group to))
+
+    last : (L : List (ℕ × Message)) → slice_get (L ++ x ∷ []) (length L) ≡ Some x
+    last [] = refl
+    last (y ∷ L) = last L
+
+request_on : (w : Who) (H : List Call) (q : Question) (call : Call) → (open_ask H ≡ Some q → RequestAt w H q.token) → IsAnswered w H call
+    → open_ask (call ∷ H) ≡ Some q → RequestAt w (call ∷ H) q.token
+request_on w H q (At now (Ask group to (Ok k))) h right i =
+    let y : question k group to ≡ q = cc in
+    subst (RequestAt w (At now (Ask group to (Ok k)) ∷ H)) (ap (λ (u : Question). u.token) y) (request_new w H now group to k (ask_case w H now group to (Ok k) right))
+request_on w H q (TakeAskEnded (Some x)) h right i = absurd (cc)
+request_on w H q call h right i = let x = h i in (x.0, grows_on w H call q.token x.0 right x.2 x.1, x.2)
+
+request_at : (w : Who) (H : List Call) → AreAnswered w H → (q : Question) → open_ask H ≡ Some q → RequestAt w H q.token
+request_at w [] a q e = absurd (cc)
+request_at w (call ∷ H) a q e = request_on w H q call (request_at w H a.0 q) a.1 e
+
+-- and isn't withdrawn
+pub request_stays : (w : Who) (H : List Call) → AreAnswered w H → (q : Question) → open_ask H ≡ Some q → slice_get (marks H) q.token ≡ Some false
+request_stays w H a q e =
+    let x = request_at w H a q e in
+    ap (λ bs. slice_get bs q.token) (sound w H a).marked
+    ∙ (slice_get-map is_blank (accepted w H) q.token ∙ (ap (option_map is_blank) x.1
+    ∙ ap (λ (g : ℕ). (let o : Option Bool = Some (nat_eq g address_claimed_group) in o)) (eqb-true x.0.1.group request_group x.2)))
+
+-- a frame of a message is taken: the open request is, if it is its
+pub passes_request : (w : Who) (H : List Call) → AreAnswered w H → (q : Question) → open_ask H ≡ Some q
+    → nat_lt q.token (past (marks H) (suc (reached H))) ≡ nat_lt q.token (suc (reached H))
+passes_request w H a q e = unpassed (marks H) (suc (reached H)) q.token (request_stays w H a q e)

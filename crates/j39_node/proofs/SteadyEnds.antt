@@ -13,12 +13,12 @@ use Rattle.j39_transport.specs.Signals.{Signal, Abort}
 use Rattle.j39_node.specs.declared.controller.Controller.{Controller}
 use Rattle.j39_node.specs.declared.kinds.TransferEnding.{TransferEnding}
 use Rattle.j39_node.specs.declared.turn.Turn.TheVariants.{Reply, Move}
-use Rattle.j39_node.specs.History.{is_session, Who, Message, Call, accepted, acknowledged, address_after, broadcast_from, due, holds, is_acknowledgment, is_claim, is_held, is_lost, is_some, is_transfer, message_of, moment, open_broadcast, packets, pause, sent, step, turns, yields}
+use Rattle.j39_node.specs.History.{reached, is_session, Who, Message, Call, accepted, acknowledged, address_after, broadcast_from, due, holds, is_acknowledgment, is_claim, is_held, is_lost, is_some, is_transfer, message_of, moment, open_broadcast, packets, pause, sent, step, turns}
 use Rattle.j39_node.specs.History.Call.{At, TakeTransferEnded}
 use Rattle.j39_node.specs.History.Act.{Hear, TakeFrame, Transfer, Again}
 use Rattle.j39_node.specs.Is.{AreAnswered, Is, IsAnswered, is_apart, is_there, next_frame, next_other, other, ready}
 use Rattle.j39_node.specs.Prompt.{IsSteady, NoneTold, counts_for, since_take, taken_for, tells_transfer, claims_anew}
-use Rattle.j39_node.specs.Reception.{holder, is_move, is_same, is_that, reception}
+use Rattle.j39_node.specs.Reception.{yields, holder, is_move, is_same, is_that, reception, is_reply}
 use Rattle.j39_node.specs.Since.{passed_in}
 use Rattle.j39_node.specs.Transfers.{Running, age, begun, clock_at, gives_up, hears, hears_if, is_engaged, is_replaced, is_resting, is_spent, listens, next_transfer, next_transfer_ended, open_transfer, said_to, says, sends, sends_if, signal_by, transfer_by, transfer_end, transfers as all_transfers}
 use Rattle.j39_node.specs.Moves.{clears}
@@ -29,8 +29,8 @@ use Rattle.j39_node.proofs.PortLemmas.{TransferCase, hears_same, sends_same, tra
 use Rattle.j39_node.proofs.PortLemmas.TransferCase.{homeless, unfit, busy, opens}
 use Rattle.j39_node.proofs.PromptLaws.{answered_from, keeps_heard, keeps_taken, lost_heard, lost_taken}
 use Rattle.j39_node.proofs.LawLemmas.{not_both}
-use Rattle.j39_node.proofs.ReceptionLemmas.{replied_get, tidy}
-use Rattle.j39_node.proofs.SoundLemmas.{acknowledgment_single, FrameCase, IsTurn, claim_single, claim_taken, due_get, due_taken, frame_case, held_older, is_directed, lost_older, message_taken, no_transfer, none_next, none_other, own_get, packet_session, packet_taken, plain_taken, reply_taken, single_taken, sound, transfer_taken, turned}
+use Rattle.j39_node.proofs.ReceptionLemmas.{replied_get, tidy, no_reply}
+use Rattle.j39_node.proofs.SoundLemmas.{acknowledgment_single, FrameCase, IsTurn, claim_single, claim_taken, due_get, due_taken, frame_case, held_older, is_directed, lost_older, message_taken, no_transfer, none_next, none_other, own_of, packet_session, packet_taken, plain_taken, reply_taken, single_taken, sound, transfer_taken, turned, reply_is}
 use Rattle.j39_node.proofs.SoundLemmas.FrameCase.{claims, acknowledges, replies, sends as sends_one, packs, transfers}
 use Rattle.j39_node.proofs.SteadyLaws.{few_turns, held_holds, one, since_most, steers, turns_then}
 use Rattle.j39_node.proofs.SteadySteps.{Account, Late, Listened, account_goes, account_holds, account_passes, account_rests, account_steers, due_late, heard_late, most, no_older, none_late, passes, ticked_late}
@@ -40,20 +40,20 @@ use Rattle.j39_node.proofs.TransferLaws.{Budgeted, BudgetedIf, budgeted}
 -- ---- what a frame that isn't one of the open transfer costs
 
 -- a claim or an acknowledgment; a frame that counts; or a reply to another, which where one of the transfer is due doesn't follow another
-data Kind (to : ℕ) (H : List Call) (now : ℕ) (f : FrameRecord) (is_due : Type 0) : Type 0 where
+data Kind (w : Who) (to : ℕ) (H : List Call) (now : ℕ) (f : FrameRecord) (is_due : Type 0) : Type 0 where
   steered : (is_due → turns H < 2) → turns (At now (TakeFrame (Some f)) ∷ H) ≡ suc (turns H) → counts_for to f ≡ false
-      → yields (At now (TakeFrame (Some f)) ∷ H) ≡ yields H → Kind to H now f is_due
-  counted : turns (At now (TakeFrame (Some f)) ∷ H) ≡ 0 → counts_for to f ≡ true → Kind to H now f is_due
-  answered : turns (At now (TakeFrame (Some f)) ∷ H) ≡ 0 → counts_for to f ≡ false → yields (At now (TakeFrame (Some f)) ∷ H) ≡ true
-      → (is_due → yields H ≡ false) → Kind to H now f is_due
+      → yields w (At now (TakeFrame (Some f)) ∷ H) ≡ yields w H → Kind w to H now f is_due
+  counted : turns (At now (TakeFrame (Some f)) ∷ H) ≡ 0 → counts_for to f ≡ true → Kind w to H now f is_due
+  answered : turns (At now (TakeFrame (Some f)) ∷ H) ≡ 0 → counts_for to f ≡ false → yields w (At now (TakeFrame (Some f)) ∷ H) ≡ true
+      → (is_due → yields w H ≡ false) → Kind w to H now f is_due
 
 counts_is : (to : ℕ) (f : FrameRecord) (a b d : Bool) → (is_claim f || is_acknowledgment f) ≡ a → is_transfer f ≡ b → is_some (destination_of f.id) to ≡ d
     → counts_for to f ≡ (not a && not (b && not d))
 counts_is to f a b d x y z = λ i. not (x i) && not (y i && not (z i))
 
-yields_is : (H : List Call) (now : ℕ) (f : FrameRecord) (a b : Bool) → (is_claim f || is_acknowledgment f) ≡ a → is_transfer f ≡ b
-    → yields (At now (TakeFrame (Some f)) ∷ H) ≡ (if a then yields H else b)
-yields_is H now f a b x y = λ i. if x i then yields H else y i
+yields_is : (w : Who) (H : List Call) (now : ℕ) (f : FrameRecord) (a b : Bool) → (is_claim f || is_acknowledgment f) ≡ a → is_reply (reception w H).replies f ≡ b
+    → yields w (At now (TakeFrame (Some f)) ∷ H) ≡ (if a then yields w H else b)
+yields_is w H now f a b x y = λ i. if x i then yields w H else y i
 
 -- a frame of the open transfer is due
 abbrev DueTo : Who → ℕ → List Call → ℕ → Type 0
@@ -67,19 +67,19 @@ due_there w to H now d = ap (λ (b : Bool). is_there (if b then other w H now el
     go None e = absurd (let x = d.1.1 in let y = (none_other w H now e).1 in let z : None ≡ Some d.1.0 = sym y ∙ x in cc)
 
 kind_of : (w : Who) (to : ℕ) (H : List Call) (now : ℕ) (f : FrameRecord) → AreAnswered w H → FrameCase w H now f → is_move w H f ≡ false
-    → Kind to H now f (DueTo w to H now)
+    → Kind w to H now f (DueTo w to H now)
 kind_of w to H now f right (claims o e) away =
     let i = claim_taken f now w _ e in
     let a : (is_claim f || is_acknowledgment f) ≡ true = ap (λ (b : Bool). b || is_acknowledgment f) i in
     let t = no_transfer f (claim_single f i) in
     steered (λ d. few_turns w H now f (claims o e) (due_there w to H now d) (steers w H now f right (claims o e)) a)
-    (turns_then H now f true a) (counts_is to f true false _ a t refl) (yields_is H now f true false a t)
+    (turns_then H now f true a) (counts_is to f true false _ a t refl) (yields_is w H now f true false a (no_reply (reception w H).replies f t))
 kind_of w to H now f right (acknowledges m o h g e way) away =
     let r = due_taken w f now m e (due_get w (due w H) (length (acknowledged H)) m (sound w H right).desk.0 g) in
     let a : (is_claim f || is_acknowledgment f) ≡ true = λ i. r.0 i || r.1 i in
     let t = no_transfer f r.2 in
     steered (λ d. few_turns w H now f (acknowledges m o h g e way) (due_there w to H now d) (steers w H now f right (acknowledges m o h g e way)) a)
-    (turns_then H now f true a) (counts_is to f true false _ a t refl) (yields_is H now f true false a t)
+    (turns_then H now f true a) (counts_is to f true false _ a t refl) (yields_is w H now f true false a (no_reply (reception w H).replies f t))
 kind_of w to H now f right (replies m o h n g e) away = go (is_some (destination_of f.id) to) refl
   where
     r : (is_claim f ≡ false) × (is_acknowledgment f ≡ false) × (is_session f ≡ true) × (Rattle.j39_node.specs.History.is_packet f ≡ false)
@@ -91,8 +91,8 @@ kind_of w to H now f right (replies m o h n g e) away = go (is_some (destination
     t : is_transfer f ≡ true
     t = is_directed f r.2 r.3
 
-    silent : is_some (destination_of f.id) to ≡ false → DueTo w to H now → yields H ≡ false
-    silent x d = by (yields H) (turned w H now (Some Reply) n.1).2
+    silent : is_some (destination_of f.id) to ≡ false → DueTo w to H now → yields w H ≡ false
+    silent x d = by (yields w H) (turned w H now (Some Reply) n.1).2
       where
         there : destination_of f.id ≡ m.destination
         there = ap (λ (y : ℕ × Message). y.1.destination) e
@@ -122,11 +122,11 @@ kind_of w to H now f right (replies m o h n g e) away = go (is_some (destination
             last false true s i = absurd (cc)
             last false false s i = i
 
-    go : (d : Bool) → is_some (destination_of f.id) to ≡ d → Kind to H now f (DueTo w to H now)
+    go : (d : Bool) → is_some (destination_of f.id) to ≡ d → Kind w to H now f (DueTo w to H now)
     go true x = counted (turns_then H now f false a) (counts_is to f false true true a t x)
-    go false x = answered (turns_then H now f false a) (counts_is to f false true false a t x) (yields_is H now f false true a t) (silent x)
+    go false x = answered (turns_then H now f false a) (counts_is to f false true false a t x) (yields_is w H now f false true a (λ i. t i && reply_is w H f m g (ap (λ (y : ℕ × Message). y.1) e) i)) (silent x)
 kind_of w to H now f right (sends_one x o h n g e) away =
-    let own = own_get w (accepted w H) (length (sent H)) x (sound w H right).own g in
+    let own = own_of w H x right g in
     let a : (is_claim f || is_acknowledgment f) ≡ false = λ i. message_taken w f now x e own i || plain_taken w f now x e own i in
     counted (turns_then H now f false a) (counts_is to f false false _ a (no_transfer f (single_taken w f now x e own)) refl)
 kind_of w to H now f right (packs m o h n g e) away =
@@ -164,7 +164,7 @@ module _ (w : Who) (B : List Call) (g k to : ℕ) (m : MessageRecord) where
     gone : is_lost (address_after w (later ++ B)) ≡ true → Course later t
     runs : (paid base waited streak others : ℕ) → is_held (address_after w (later ++ B)) ≡ true → t.gone ≡ false
         → Late t.granted t.spent (age (later ++ B)) base waited streak t.sender
-        → Account g (t.granted + t.spent) paid base waited (since_take later B) streak others (turns (later ++ B)) (taken_for to later) (yields (later ++ B))
+        → Account g (t.granted + t.spent) paid base waited (since_take later B) streak others (turns (later ++ B)) (taken_for to later) (yields w (later ++ B))
         → Course later t
 
   record Stands (later : List Call) : Type 0 where
@@ -182,7 +182,7 @@ module _ (w : Who) (B : List Call) (g k to : ℕ) (m : MessageRecord) where
   -- it is no older than the limit
   old_at_most : (later : List Call) (h : Stands later) (paid base waited streak others s : ℕ)
       → Late h.running.granted h.running.spent (age (later ++ B)) base waited streak h.running.sender
-      → Account g (h.running.granted + h.running.spent) paid base waited (since_take later B) streak others (turns (later ++ B)) (taken_for to later) (yields (later ++ B))
+      → Account g (h.running.granted + h.running.spent) paid base waited (since_take later B) streak others (turns (later ++ B)) (taken_for to later) (yields w (later ++ B))
       → (is_idle h.running.sender.state || is_running h.running.sender.state) ≡ true → since_take later B + s ≤ g
       → age (later ++ B) + s ≤ limit g (packets_of m) (taken_for to later)
   old_at_most later h paid base waited streak others s t a r p =
@@ -190,7 +190,7 @@ module _ (w : Who) (B : List Call) (g k to : ℕ) (m : MessageRecord) where
       let x : h.running.granted ≤ packets_of m = subst (λ (x : MessageRecord). h.running.granted ≤ packets_of x) h.message b.granted in
       let y = b.spent in
       no_older g (h.running.granted + h.running.spent) (packets_of m + 65) (age (later ++ B)) paid base waited (since_take later B) streak others (turns (later ++ B)) (taken_for to later) s
-      (yields (later ++ B)) (omega (arith, x, y))
+      (yields w (later ++ B)) (omega (arith, x, y))
       (most h.running.granted h.running.spent (age (later ++ B)) base waited streak (packets_of m) h.running.sender t r x y) p a
 
   -- its clock doesn't stand still
@@ -202,7 +202,7 @@ module _ (w : Who) (B : List Call) (g k to : ℕ) (m : MessageRecord) where
   rests_with : (call : Call) (later : List Call) → open_transfer w (call ∷ later ++ B) ≡ open_transfer w (later ++ B)
       → age (call ∷ later ++ B) ≡ age (later ++ B) + step (later ++ B) (moment (call ∷ later ++ B))
       → since_take (call ∷ later) B ≡ since_take later B + step (later ++ B) (moment (call ∷ later ++ B))
-      → turns (call ∷ later ++ B) ≡ turns (later ++ B) → taken_for to (call ∷ later) ≡ taken_for to later → yields (call ∷ later ++ B) ≡ yields (later ++ B)
+      → turns (call ∷ later ++ B) ≡ turns (later ++ B) → taken_for to (call ∷ later) ≡ taken_for to later → yields w (call ∷ later ++ B) ≡ yields w (later ++ B)
       → (is_lost (address_after w (later ++ B)) ≡ true → is_lost (address_after w (call ∷ later ++ B)) ≡ true)
       → (is_held (address_after w (later ++ B)) ≡ true → is_held (address_after w (call ∷ later ++ B)) ≡ true)
       → Stands later → Stands (call ∷ later)
@@ -228,12 +228,12 @@ module _ (w : Who) (B : List Call) (g k to : ℕ) (m : MessageRecord) where
       go (runs paid base waited streak others e n t c) = runs paid base (waited + step (later ++ B) (moment (call ∷ later ++ B))) streak others (held e) n
           (subst (λ (x : ℕ). Late h.running.granted h.running.spent x base (waited + step (later ++ B) (moment (call ∷ later ++ B))) streak h.running.sender) (sym a)
           (passes h.running.granted h.running.spent (age (later ++ B)) base waited streak (step (later ++ B) (moment (call ∷ later ++ B))) h.running.sender t))
-          (subst (λ (x : ℕ). Account g (h.running.granted + h.running.spent) paid base (waited + step (later ++ B) (moment (call ∷ later ++ B))) x streak others (turns (call ∷ later ++ B)) (taken_for to (call ∷ later)) (yields (call ∷ later ++ B))) (sym q)
-          (subst (λ (x : ℕ). Account g (h.running.granted + h.running.spent) paid base (waited + step (later ++ B) (moment (call ∷ later ++ B))) (since_take later B + step (later ++ B) (moment (call ∷ later ++ B))) streak others x (taken_for to (call ∷ later)) (yields (call ∷ later ++ B))) (sym e1)
-          (subst (λ (x : ℕ). Account g (h.running.granted + h.running.spent) paid base (waited + step (later ++ B) (moment (call ∷ later ++ B))) (since_take later B + step (later ++ B) (moment (call ∷ later ++ B))) streak others (turns (later ++ B)) x (yields (call ∷ later ++ B))) (sym e2)
+          (subst (λ (x : ℕ). Account g (h.running.granted + h.running.spent) paid base (waited + step (later ++ B) (moment (call ∷ later ++ B))) x streak others (turns (call ∷ later ++ B)) (taken_for to (call ∷ later)) (yields w (call ∷ later ++ B))) (sym q)
+          (subst (λ (x : ℕ). Account g (h.running.granted + h.running.spent) paid base (waited + step (later ++ B) (moment (call ∷ later ++ B))) (since_take later B + step (later ++ B) (moment (call ∷ later ++ B))) streak others x (taken_for to (call ∷ later)) (yields w (call ∷ later ++ B))) (sym e1)
+          (subst (λ (x : ℕ). Account g (h.running.granted + h.running.spent) paid base (waited + step (later ++ B) (moment (call ∷ later ++ B))) (since_take later B + step (later ++ B) (moment (call ∷ later ++ B))) streak others (turns (later ++ B)) x (yields w (call ∷ later ++ B))) (sym e2)
           (subst (λ (x : Bool). Account g (h.running.granted + h.running.spent) paid base (waited + step (later ++ B) (moment (call ∷ later ++ B))) (since_take later B + step (later ++ B) (moment (call ∷ later ++ B))) streak others (turns (later ++ B)) (taken_for to later) x) (sym e3)
           (account_passes g (h.running.granted + h.running.spent) (h.running.granted + h.running.spent) paid base waited (since_take later B) streak others (turns (later ++ B)) (taken_for to later)
-          (step (later ++ B) (moment (call ∷ later ++ B))) (yields (later ++ B)) (omega arith) c)))))
+          (step (later ++ B) (moment (call ∷ later ++ B))) (yields w (later ++ B)) (omega arith) c)))))
 
   -- a frame is heard
   heard_so : (later : List Call) (when : ℕ) (f : FrameRecord) (h : Stands later) (lost replaced : Bool) → is_lost (address_after w (At when (Hear f) ∷ later ++ B)) ≡ lost
@@ -265,10 +265,10 @@ module _ (w : Who) (B : List Call) (g k to : ℕ) (m : MessageRecord) where
       listened y (ends_so x) = over (inr x)
       listened y (kept i x) = runs paid base (waited + step (later ++ B) when) streak others y n x
           (account_passes g (h.running.granted + h.running.spent) _ paid base waited (since_take later B) streak others (turns (later ++ B)) (taken_for to later)
-          (step (later ++ B) when) (yields (later ++ B)) i a)
+          (step (later ++ B) when) (yields w (later ++ B)) i a)
       listened y (holds_on i x) = runs paid (base + (waited + step (later ++ B) when)) 0 0 others y n x
           (account_holds g (h.running.granted + h.running.spent) _ paid base waited (since_take later B) streak others (turns (later ++ B)) (taken_for to later)
-          (step (later ++ B) when) (yields (later ++ B)) i p a)
+          (step (later ++ B) when) (yields w (later ++ B)) i p a)
 
       go : (is_lost (address_after w (At when (Hear f) ∷ later ++ B)) ≡ true) ⊎ (is_held (address_after w (At when (Hear f) ∷ later ++ B)) ≡ true)
           → Course (At when (Hear f) ∷ later) (hears false false f now h.running)
@@ -277,7 +277,7 @@ module _ (w : Who) (B : List Call) (g k to : ℕ) (m : MessageRecord) where
           (λ i. runs paid base (waited + step (later ++ B) when) streak others y n
           (passes h.running.granted h.running.spent (age (later ++ B)) base waited streak (step (later ++ B) when) h.running.sender t)
           (account_passes g (h.running.granted + h.running.spent) (h.running.granted + h.running.spent) paid base waited (since_take later B) streak others (turns (later ++ B)) (taken_for to later)
-          (step (later ++ B) when) (yields (later ++ B)) (omega arith) a))
+          (step (later ++ B) when) (yields w (later ++ B)) (omega arith) a))
           (λ i. listened y by)
 
   hears_one : (when : ℕ) (f : FrameRecord) (later : List Call) → since_take later B + step (later ++ B) when ≤ g
@@ -304,64 +304,64 @@ module _ (w : Who) (B : List Call) (g k to : ℕ) (m : MessageRecord) where
 
   -- what is accounted then
   accounts : (now : ℕ) (f : FrameRecord) (later : List Call) (n paid base waited streak others t o : ℕ) (y : Bool) → turns (At now (TakeFrame (Some f)) ∷ later ++ B) ≡ t
-      → taken_for to (At now (TakeFrame (Some f)) ∷ later) ≡ o → yields (At now (TakeFrame (Some f)) ∷ later ++ B) ≡ y
+      → taken_for to (At now (TakeFrame (Some f)) ∷ later) ≡ o → yields w (At now (TakeFrame (Some f)) ∷ later ++ B) ≡ y
       → Account g n paid base waited 0 streak others t o y
-      → Account g n paid base waited 0 streak others (turns (At now (TakeFrame (Some f)) ∷ later ++ B)) (taken_for to (At now (TakeFrame (Some f)) ∷ later)) (yields (At now (TakeFrame (Some f)) ∷ later ++ B))
+      → Account g n paid base waited 0 streak others (turns (At now (TakeFrame (Some f)) ∷ later ++ B)) (taken_for to (At now (TakeFrame (Some f)) ∷ later)) (yields w (At now (TakeFrame (Some f)) ∷ later ++ B))
   accounts now f later n paid base waited streak others t o y a b d h =
-      subst (λ (x : ℕ). Account g n paid base waited 0 streak others x (taken_for to (At now (TakeFrame (Some f)) ∷ later)) (yields (At now (TakeFrame (Some f)) ∷ later ++ B))) (sym a)
-      (subst (λ (x : ℕ). Account g n paid base waited 0 streak others t x (yields (At now (TakeFrame (Some f)) ∷ later ++ B))) (sym b)
+      subst (λ (x : ℕ). Account g n paid base waited 0 streak others x (taken_for to (At now (TakeFrame (Some f)) ∷ later)) (yields w (At now (TakeFrame (Some f)) ∷ later ++ B))) (sym a)
+      (subst (λ (x : ℕ). Account g n paid base waited 0 streak others t x (yields w (At now (TakeFrame (Some f)) ∷ later ++ B))) (sym b)
       (subst (λ (x : Bool). Account g n paid base waited 0 streak others t o x) (sym d) h))
 
   -- another's frame is taken while nothing of it is due
-  idle_take : (now : ℕ) (f : FrameRecord) (later : List Call) (n paid base waited streak others : ℕ) → Kind to (later ++ B) now f (DueTo w to (later ++ B) now) → streak ≡ 0
-      → Account g n paid base waited (since_take later B) streak others (turns (later ++ B)) (taken_for to later) (yields (later ++ B))
-      → Account g n paid base 0 0 0 others (turns (At now (TakeFrame (Some f)) ∷ later ++ B)) (taken_for to (At now (TakeFrame (Some f)) ∷ later)) (yields (At now (TakeFrame (Some f)) ∷ later ++ B))
+  idle_take : (now : ℕ) (f : FrameRecord) (later : List Call) (n paid base waited streak others : ℕ) → Kind w to (later ++ B) now f (DueTo w to (later ++ B) now) → streak ≡ 0
+      → Account g n paid base waited (since_take later B) streak others (turns (later ++ B)) (taken_for to later) (yields w (later ++ B))
+      → Account g n paid base 0 0 0 others (turns (At now (TakeFrame (Some f)) ∷ later ++ B)) (taken_for to (At now (TakeFrame (Some f)) ∷ later)) (yields w (At now (TakeFrame (Some f)) ∷ later ++ B))
   idle_take now f later n paid base waited streak others (steered a b d e) z h =
       accounts now f later n paid base 0 0 others _ _ _ b (taken_then now f later false d) e
-      (account_rests g n paid base waited (since_take later B) streak others (turns (later ++ B)) (taken_for to later) _ _ (yields (later ++ B)) _ z h.few h)
+      (account_rests g n paid base waited (since_take later B) streak others (turns (later ++ B)) (taken_for to later) _ _ (yields w (later ++ B)) _ z h.few h)
   idle_take now f later n paid base waited streak others (counted b d) z h =
       accounts now f later n paid base 0 0 others _ _ _ b (taken_then now f later true d) refl
-      (account_rests g n paid base waited (since_take later B) streak others (turns (later ++ B)) (taken_for to later) _ _ (yields (later ++ B)) _ z
-      (let x = h.few in let y = one_most (yields (later ++ B)) in omega (arith, x, y)) h)
+      (account_rests g n paid base waited (since_take later B) streak others (turns (later ++ B)) (taken_for to later) _ _ (yields w (later ++ B)) _ z
+      (let x = h.few in let y = one_most (yields w (later ++ B)) in omega (arith, x, y)) h)
   idle_take now f later n paid base waited streak others (answered b d e i) z h =
       accounts now f later n paid base 0 0 others _ _ _ b (taken_then now f later false d) e
-      (account_rests g n paid base waited (since_take later B) streak others (turns (later ++ B)) (taken_for to later) _ _ (yields (later ++ B)) _ z
-      (let x = h.few in let y = one_most (yields (later ++ B)) in omega (arith, x, y)) h)
+      (account_rests g n paid base waited (since_take later B) streak others (turns (later ++ B)) (taken_for to later) _ _ (yields w (later ++ B)) _ z
+      (let x = h.few in let y = one_most (yields w (later ++ B)) in omega (arith, x, y)) h)
 
   -- and while one is
   data Cost (now : ℕ) (f : FrameRecord) (later : List Call) (n base waited : ℕ) : Type 0 where
     costs : (paid streak others : ℕ)
-        → Account g n paid base (waited + step (later ++ B) now) 0 streak others (turns (At now (TakeFrame (Some f)) ∷ later ++ B)) (taken_for to (At now (TakeFrame (Some f)) ∷ later)) (yields (At now (TakeFrame (Some f)) ∷ later ++ B))
+        → Account g n paid base (waited + step (later ++ B) now) 0 streak others (turns (At now (TakeFrame (Some f)) ∷ later ++ B)) (taken_for to (At now (TakeFrame (Some f)) ∷ later)) (yields w (At now (TakeFrame (Some f)) ∷ later ++ B))
         → Cost now f later n base waited
 
-  due_take : (now : ℕ) (f : FrameRecord) (later : List Call) (n paid base waited streak others : ℕ) → Kind to (later ++ B) now f (DueTo w to (later ++ B) now) → DueTo w to (later ++ B) now
+  due_take : (now : ℕ) (f : FrameRecord) (later : List Call) (n paid base waited streak others : ℕ) → Kind w to (later ++ B) now f (DueTo w to (later ++ B) now) → DueTo w to (later ++ B) now
       → since_take later B + step (later ++ B) now ≤ g
-      → Account g n paid base waited (since_take later B) streak others (turns (later ++ B)) (taken_for to later) (yields (later ++ B))
+      → Account g n paid base waited (since_take later B) streak others (turns (later ++ B)) (taken_for to later) (yields w (later ++ B))
       → Cost now f later n base waited
   due_take now f later n paid base waited streak others (steered a b d e) due p h =
       costs (paid + g) (streak + g) others (accounts now f later n (paid + g) base (waited + step (later ++ B) now) (streak + g) others _ _ _ b (taken_then now f later false d) e
-      (account_steers g n paid base waited (since_take later B) streak others (turns (later ++ B)) (taken_for to later) (step (later ++ B) now) (yields (later ++ B)) (a due) p h))
+      (account_steers g n paid base waited (since_take later B) streak others (turns (later ++ B)) (taken_for to later) (step (later ++ B) now) (yields w (later ++ B)) (a due) p h))
   due_take now f later n paid base waited streak others (counted b d) due p h =
       costs (paid + g) 0 (suc others) (accounts now f later n (paid + g) base (waited + step (later ++ B) now) 0 (suc others) _ _ _ b (taken_then now f later true d) refl
       (account_goes g n paid base waited (since_take later B) streak others (turns (later ++ B)) (taken_for to later) (step (later ++ B) now) base (waited + step (later ++ B) now) _
-      (yields (later ++ B)) _ refl (omega arith) p
-      (let x = h.few in let y = one_most (yields (later ++ B)) in omega (arith, x, y)) h))
+      (yields w (later ++ B)) _ refl (omega arith) p
+      (let x = h.few in let y = one_most (yields w (later ++ B)) in omega (arith, x, y)) h))
   due_take now f later n paid base waited streak others (answered b d e i) due p h =
       costs (paid + g) 0 (suc others) (accounts now f later n (paid + g) base (waited + step (later ++ B) now) 0 (suc others) _ _ _ b (taken_then now f later false d) e
       (account_goes g n paid base waited (since_take later B) streak others (turns (later ++ B)) (taken_for to later) (step (later ++ B) now) base (waited + step (later ++ B) now) _
-      (yields (later ++ B)) _ refl (omega arith) p
+      (yields w (later ++ B)) _ refl (omega arith) p
       (let x = h.few in let y = ap one (i due) in omega (arith, x, y)) h))
 
   -- its own frame
   own_take : (now : ℕ) (f : FrameRecord) (later : List Call) (n paid base waited streak others : ℕ) → (is_claim f || is_acknowledgment f) ≡ false → counts_for to f ≡ true
       → since_take later B + step (later ++ B) now ≤ g
-      → Account g n paid base waited (since_take later B) streak others (turns (later ++ B)) (taken_for to later) (yields (later ++ B))
-      → Account g n (paid + g) (base + (waited + step (later ++ B) now)) 0 0 0 (suc others) (turns (At now (TakeFrame (Some f)) ∷ later ++ B)) (taken_for to (At now (TakeFrame (Some f)) ∷ later)) (yields (At now (TakeFrame (Some f)) ∷ later ++ B))
+      → Account g n paid base waited (since_take later B) streak others (turns (later ++ B)) (taken_for to later) (yields w (later ++ B))
+      → Account g n (paid + g) (base + (waited + step (later ++ B) now)) 0 0 0 (suc others) (turns (At now (TakeFrame (Some f)) ∷ later ++ B)) (taken_for to (At now (TakeFrame (Some f)) ∷ later)) (yields w (At now (TakeFrame (Some f)) ∷ later ++ B))
   own_take now f later n paid base waited streak others a d p h =
       accounts now f later n (paid + g) (base + (waited + step (later ++ B) now)) 0 0 (suc others) _ _ _ (turns_then (later ++ B) now f false a) (taken_then now f later true d) refl
       (account_goes g n paid base waited (since_take later B) streak others (turns (later ++ B)) (taken_for to later) (step (later ++ B) now) (base + (waited + step (later ++ B) now)) 0 _
-      (yields (later ++ B)) _ (omega arith) (omega arith) p
-      (let x = h.few in let y = one_most (yields (later ++ B)) in omega (arith, x, y)) h)
+      (yields w (later ++ B)) _ (omega arith) (omega arith) p
+      (let x = h.few in let y = one_most (yields w (later ++ B)) in omega (arith, x, y)) h)
 
   -- something of it is due
   due_now : (later : List Call) (now : ℕ) (h : Stands later) (x : Signal) → is_held (address_after w (later ++ B)) ≡ true
@@ -413,7 +413,7 @@ module _ (w : Who) (B : List Call) (g k to : ℕ) (m : MessageRecord) where
   other_so later now f h right case away p short false z (runs paid base waited streak others e n t a) = over (inr z)
   other_so later now f h right case away p short true z (runs paid base waited streak others e n t a) = go (signal_by h.running (age (later ++ B) + step (later ++ B) now)) refl
     where
-      kind : Kind to (later ++ B) now f (DueTo w to (later ++ B) now)
+      kind : Kind w to (later ++ B) now f (DueTo w to (later ++ B) now)
       kind = kind_of w to (later ++ B) now f right case away
 
       still : is_held (address_after w (At now (TakeFrame (Some f)) ∷ later ++ B)) ≡ true
@@ -523,7 +523,7 @@ module _ (w : Who) (B : List Call) (g k to : ℕ) (m : MessageRecord) where
       idle q = elim (none_late h.running.granted h.running.spent (age (later ++ B)) base waited streak (step (later ++ B) now) h.running.sender t q.1 q.0) [
         | inl y ↦ over (inr y)
         | inr y ↦ runs paid base 0 0 others (held_holds w (later ++ B) now e) n y.0
-            (account_rests g (h.running.granted + h.running.spent) paid base waited (since_take later B) streak others (turns (later ++ B)) (taken_for to later) _ _ (yields (later ++ B)) _ y.1 a.few a)
+            (account_rests g (h.running.granted + h.running.spent) paid base waited (since_take later B) streak others (turns (later ++ B)) (taken_for to later) _ _ (yields w (later ++ B)) _ y.1 a.few a)
       ]
 
       go : (o : Option Signal) → signal_by h.running (age (later ++ B) + step (later ++ B) now) ≡ o → Course (At now (TakeFrame None) ∷ later) h.running

@@ -4,26 +4,29 @@ use Rattle.std.proofs.Common.{◌≡◌, ◌⊎◌, ℕ, zero, suc, ◌+◌, ◌
 use Rattle.std.proofs.lemmas.Bool.{and_from, and_parts}
 use Rattle.j39_frame.specs.Frame.{FrameRecord}
 use Rattle.j39_transport.specs.Message.{MessageRecord, packets_of}
+use Rattle.std.specs.List.{slice_get}
+use Rattle.j39_node.proofs.EndSteps.{times_more}
+use Rattle.j39_node.proofs.WithdrawLemmas.{past_more}
 use Rattle.j39_node.specs.declared.controller.Controller.{Controller}
 use Rattle.j39_node.specs.declared.kinds.Ending.{Ending}
 use Rattle.j39_node.specs.declared.turn.Ready.{Ready}
 use Rattle.j39_node.specs.declared.turn.Turn.TheVariants.{Reply, Single, Packet, Move}
-use Rattle.j39_node.specs.History.{Who, Message, Call, accepted, address_after, broadcast_from, broadcasts, due, has_packets, holds, is_acknowledgment, is_claim, is_held, is_left, is_lost, is_open, is_packet, is_session, is_transfer, message_of, moment, older, open_broadcast, packets, pause, sent, step, told, turns, yields}
+use Rattle.j39_node.specs.History.{reached, Who, Message, Call, accepted, address_after, broadcast_from, broadcasts, due, has_packets, holds, is_acknowledgment, is_claim, is_held, is_left, is_lost, is_open, is_packet, is_session, is_transfer, message_of, moment, older, open_broadcast, packets, pause, sent, step, told, turns, marks}
 use Rattle.j39_node.specs.History.Call.{At, TakeBroadcastEnded}
 use Rattle.j39_node.specs.History.Act.{Broadcast, Hear, TakeFrame, Again}
 use Rattle.j39_node.specs.Is.{AreAnswered, Is, IsAnswered, claim_goes, gives_way, is_overdue, is_there, is_turn, next_broadcast_ended, next_ended, next_frame, next_other, next_turn, other, ready, turn_of}
-use Rattle.j39_node.specs.Prompt.{IsPrompt, waited_in, IsSteady, NoneTold, packets_taken, since_take, tells_broadcast, claims_anew}
-use Rattle.j39_node.specs.Reception.{reception}
+use Rattle.j39_node.specs.Prompt.{IsPrompt, waited_in, IsSteady, NoneTold, packets_taken, since_take, tells_broadcast, claims_anew, StaysFirst, takes_reply}
+use Rattle.j39_node.specs.Reception.{yields, reception, is_reply}
 use Rattle.j39_node.specs.Since.{passed_in}
 use Rattle.j39_node.proofs.LaneLaws.{overdue_goes_by, taken_packet_of}
 use Rattle.j39_node.proofs.LaneLemmas.{BroadcastCase, broadcast_case}
 use Rattle.j39_node.proofs.LaneLemmas.BroadcastCase.{homeless, unfit, busy, opens}
 use Rattle.j39_node.proofs.LawLemmas.{not_both, past_end}
-use Rattle.j39_node.proofs.MessageLaws.{accepts_more, told_next}
+use Rattle.j39_node.proofs.MessageLaws.{accepts_more, told_next, more_sent}
 use Rattle.j39_node.proofs.PromptLaws.{answered_from, ends_by, keeps_heard, keeps_taken, lost_heard, lost_taken, pause_most}
 use Rattle.j39_node.proofs.QueueLemmas.{length_one_more}
-use Rattle.j39_node.proofs.ReceptionLemmas.{replied_get, tidy}
-use Rattle.j39_node.proofs.SoundLemmas.{FrameCase, IsTurn, acknowledgment_single, address_is, claim_single, claim_taken, due_get, due_taken, frame_case, frame_there, held_older, is_directed, lost_older, message_taken, no_packet, no_transfer, none_next, none_other, own_get, packet_session, packet_taken, packets_is, pause_is, plain_taken, reply_taken, sent_is, single_taken, some_at, sound, turned}
+use Rattle.j39_node.proofs.ReceptionLemmas.{replied_get, tidy, no_reply}
+use Rattle.j39_node.proofs.SoundLemmas.{FrameCase, IsTurn, acknowledgment_single, address_is, claim_single, claim_taken, due_get, due_taken, frame_case, frame_there, held_older, is_directed, lost_older, message_taken, no_packet, no_transfer, none_next, none_other, own_of, packet_session, packet_taken, packets_is, pause_is, plain_taken, reply_taken, sent_is, single_taken, some_at, sound, turned, reached_is, reply_is, none_at}
 use Rattle.j39_node.proofs.SoundLemmas.FrameCase.{claims, acknowledges, replies, sends, packs, transfers}
 
 -- ---- of three frames one is neither a claim nor an acknowledgment
@@ -49,7 +52,7 @@ steers w H now f right (acknowledges m o h g e way) = inl way
 steers w H now f right (replies m o h n g e) =
     let r = reply_taken w.address f now m e (replied_get w.address (reception w H).replies 0 m (tidy w H).replies g) in inr (λ i. r.0 i || r.1 i)
 steers w H now f right (sends x o h n g e) =
-    let own = own_get w (accepted w H) (length (sent H)) x (sound w H right).own g in
+    let own = own_of w H x right g in
     inr (λ i. message_taken w f now x e own i || plain_taken w f now x e own i)
 steers w H now f right (packs m o h n g e) =
     let p = packet_taken f now m (open_broadcast w H) (length (packets H)) (pause H - step H now) e g in inr (λ i. p.0 i || p.1 i)
@@ -83,16 +86,16 @@ overdue_there : (w : Who) (H : List Call) (now : ℕ) → holds w H now ≡ true
 overdue_there w H now h o =
     ap (λ (b : Bool). is_there (if b then other w H now else None)) h ∙ (sym (frame_there w H now) ∙ first (ready w H now) o)
   where
-    first : (r : Ready) → r.overdue ≡ true → is_turn (turn_of (yields H) r) ≡ true
-    first r e = ap (λ (b : Bool). is_turn (if b then Some Packet else if r.reply && not (yields H && (r.message || (r.packet || r.transfer))) then Some Reply
+    first : (r : Ready) → r.overdue ≡ true → is_turn (turn_of (yields w H) r) ≡ true
+    first r e = ap (λ (b : Bool). is_turn (if b then Some Packet else if r.reply && not (yields w H && (r.message || (r.packet || r.transfer))) then Some Reply
         else if r.message then Some Single else if r.packet then Some Packet else if r.transfer then Some Move else None)) e
 
-pub message_there : (w : Who) (H : List Call) (now : ℕ) → holds w H now ≡ true → length (sent H) < length (accepted w H) → is_there (next_other w H now) ≡ true
+pub message_there : (w : Who) (H : List Call) (now : ℕ) → holds w H now ≡ true → reached H < length (accepted w H) → is_there (next_other w H now) ≡ true
 message_there w H now h l = ap (λ (b : Bool). is_there (if b then other w H now else None)) h ∙ go (other w H now) refl
   where
     go : (o : Option Message) → other w H now ≡ o → is_there o ≡ true
     go (Some m) e = refl
-    go None e = absurd (some_at (accepted w H) (length (sent H)) (lt-ltb _ _ l) (none_other w H now e).0.message)
+    go None e = absurd (some_at (accepted w H) (reached H) (lt-ltb _ _ l) (none_other w H now e).0.message)
 
 pub plain_packet : (f : FrameRecord) → is_packet f ≡ true → (is_claim f || is_acknowledgment f) ≡ false
 plain_packet f e = go (is_claim f) (is_acknowledgment f) refl refl
@@ -459,10 +462,10 @@ most_others g n others l =
 
 module _ (w : Who) (B : List Call) (g k : ℕ) where
   data Waiting (later : List Call) : Type 0 where
-    taken : k < length (sent (later ++ B)) → Waiting later
+    taken : k < reached (later ++ B) → Waiting later
     away : is_lost (address_after w (later ++ B)) ≡ true → Waiting later
-    waits : (n others : ℕ) → length (sent (later ++ B)) ≡ length (sent B) + n → is_held (address_after w (later ++ B)) ≡ true
-        → Counted g n (packets_taken later) others (passed_in later B) (turns (later ++ B)) (since_take later B) (yields (later ++ B)) → Waiting later
+    waits : (n others : ℕ) → reached B + n ≤ reached (later ++ B) → is_held (address_after w (later ++ B)) ≡ true
+        → Counted g n (packets_taken later) others (passed_in later B) (turns (later ++ B)) (since_take later B) (yields w (later ++ B)) → Waiting later
 
   record Among (later : List Call) : Type 0 where
     pub among : k < length (accepted w (later ++ B))
@@ -473,17 +476,10 @@ module _ (w : Who) (B : List Call) (g k : ℕ) where
       → Counted g n (packets_taken later) others (passed_in later B + s) t (since_take later B + s) y
   passes_on later call n others t s y h = record { few = h.few; late = (let a = h.late in omega (arith, a)) }
 
-  more_sent : (H : List Call) (now : ℕ) (f : FrameRecord) → length (sent H) ≤ length (sent (At now (TakeFrame (Some f)) ∷ H))
-  more_sent H now f = go (is_claim f || (is_acknowledgment f || is_session f))
-    where
-      go : (b : Bool) → length (sent H) ≤ length (if b then sent H else sent H ++ message_of f ∷ [])
-      go true = omega arith
-      go false = let e = length_one_more (sent H) (message_of f) in omega (arith, e)
-
   takes_next : (now : ℕ) (f : FrameRecord) (later : List Call) (n others : ℕ) → AreAnswered w (later ++ B) → FrameCase w (later ++ B) now f
-      → since_take later B + step (later ++ B) now ≤ g → length (sent (later ++ B)) < length (accepted w (later ++ B))
-      → length (sent (later ++ B)) ≡ length (sent B) + n → is_held (address_after w (later ++ B)) ≡ true
-      → Counted g n (packets_taken later) others (passed_in later B) (turns (later ++ B)) (since_take later B) (yields (later ++ B))
+      → since_take later B + step (later ++ B) now ≤ g → reached (later ++ B) < length (accepted w (later ++ B))
+      → reached B + n ≤ reached (later ++ B) → is_held (address_after w (later ++ B)) ≡ true
+      → Counted g n (packets_taken later) others (passed_in later B) (turns (later ++ B)) (since_take later B) (yields w (later ++ B))
       → Waiting (At now (TakeFrame (Some f)) ∷ later)
   takes_next now f later n others right case p l count held h = go (is_claim f || is_acknowledgment f) refl case
     where
@@ -500,35 +496,31 @@ module _ (w : Who) (B : List Call) (g k : ℕ) where
       there = message_there w (later ++ B) now (held_holds w (later ++ B) now held) l
 
       -- what is counted then
-      counted : (n2 o2 p2 t2 : ℕ) (y2 : Bool) → length (sent G) ≡ length (sent B) + n2 → packets_taken (At now (TakeFrame (Some f)) ∷ later) ≡ p2 → turns G ≡ t2 → yields G ≡ y2
+      counted : (n2 o2 p2 t2 : ℕ) (y2 : Bool) → reached B + n2 ≤ reached G → packets_taken (At now (TakeFrame (Some f)) ∷ later) ≡ p2 → turns G ≡ t2 → yields w G ≡ y2
           → Counted g n2 p2 o2 (passed_in later B + step (later ++ B) now) t2 0 y2 → Waiting (At now (TakeFrame (Some f)) ∷ later)
       counted n2 o2 p2 t2 y2 a b d e x = waits n2 o2 a still
-          (subst (λ (p3 : ℕ). Counted g n2 p3 o2 (passed_in later B + step (later ++ B) now) (turns G) 0 (yields G)) (sym b)
-          (subst (λ (t3 : ℕ). Counted g n2 p2 o2 (passed_in later B + step (later ++ B) now) t3 0 (yields G)) (sym d)
+          (subst (λ (p3 : ℕ). Counted g n2 p3 o2 (passed_in later B + step (later ++ B) now) (turns G) 0 (yields w G)) (sym b)
+          (subst (λ (t3 : ℕ). Counted g n2 p2 o2 (passed_in later B + step (later ++ B) now) t3 0 (yields w G)) (sym d)
           (subst (λ (y3 : Bool). Counted g n2 p2 o2 (passed_in later B + step (later ++ B) now) t2 0 y3) (sym e) x)))
 
       packs_then : (b : Bool) → is_packet f ≡ b → packets_taken (At now (TakeFrame (Some f)) ∷ later) ≡ (if b then suc (packets_taken later) else packets_taken later)
       packs_then b e = ap (λ (b : Bool). if b then suc (packets_taken later) else packets_taken later) e
 
-      yields_then : (b d : Bool) → (is_claim f || is_acknowledgment f) ≡ b → is_transfer f ≡ d → yields G ≡ (if b then yields (later ++ B) else d)
-      yields_then b d e i = λ j. if e j then yields (later ++ B) else i j
+      yields_then : (b d : Bool) → (is_claim f || is_acknowledgment f) ≡ b → is_reply (reception w (later ++ B)).replies f ≡ d → yields w G ≡ (if b then yields w (later ++ B) else d)
+      yields_then b d e i = λ j. if e j then yields w (later ++ B) else i j
 
-      sent_then : (a b s : Bool) → is_claim f ≡ a → is_acknowledgment f ≡ b → is_session f ≡ s → length (sent G) ≡ length (if a || (b || s) then sent (later ++ B) else sent (later ++ B) ++ message_of f ∷ [])
-      sent_then a b s x y z = ap length (sent_is (later ++ B) now f a b s x y z)
+      -- no fewer messages are passed
+      no_fewer : reached B + n ≤ reached G
+      no_fewer = let m = more_sent (later ++ B) (At now (TakeFrame (Some f))) in omega (arith, m, count)
 
       -- a claim or an acknowledgment
       steer : (a b : Bool) → is_claim f ≡ a → is_acknowledgment f ≡ b → (a || b) ≡ true → is_session f ≡ false → Waiting (At now (TakeFrame (Some f)) ∷ later)
       steer a b x y z s =
           let e : (is_claim f || is_acknowledgment f) ≡ true = (λ i. x i || y i) ∙ z in
           let t = few_turns w (later ++ B) now f case there (steers w (later ++ B) now f right case) e in
-          counted n others (packets_taken later) (suc (turns (later ++ B))) (yields (later ++ B)) (same a b x y z s) (packs_then false (no_packet f s))
-          (turns_then (later ++ B) now f true e) (yields_then true (is_transfer f) e refl)
+          counted n others (packets_taken later) (suc (turns (later ++ B))) (yields w (later ++ B)) no_fewer (packs_then false (no_packet f s))
+          (turns_then (later ++ B) now f true e) (yields_then true _ e refl)
           (record { few = h.few; late = (let u = h.late in let v = turn_more g (turns (later ++ B)) t in omega (arith, u, v, p)) })
-        where
-          same : (a b : Bool) → is_claim f ≡ a → is_acknowledgment f ≡ b → (a || b) ≡ true → is_session f ≡ false → length (sent G) ≡ length (sent B) + n
-          same true b x y z s = sent_then true b false x y s ∙ count
-          same false true x y z s = sent_then false true false x y s ∙ count
-          same false false x y z s = absurd (cc)
 
       go : (b : Bool) → (is_claim f || is_acknowledgment f) ≡ b → FrameCase w (later ++ B) now f → Waiting (At now (TakeFrame (Some f)) ∷ later)
       go b z (claims o e) = let i = claim_taken f now w _ e in steer true (is_acknowledgment f) i refl refl (claim_single f i)
@@ -537,32 +529,32 @@ module _ (w : Who) (B : List Call) (g k : ℕ) where
       go b z (replies m o q i x e) =
           let r = reply_taken w.address f now m e (replied_get w.address (reception w (later ++ B)).replies 0 m (tidy w (later ++ B)).replies x) in
           let y = silent (turned w (later ++ B) now (Some Reply) i.1) in
-          counted n (suc others) (packets_taken later) 0 true (sent_then false false true r.0 r.1 r.2 ∙ count) (packs_then false r.3)
-          (turns_then (later ++ B) now f false (λ j. r.0 j || r.1 j)) (yields_then false true (λ j. r.0 j || r.1 j) (is_directed f r.2 r.3))
-          (goes g n (packets_taken later) others _ _ _ (step (later ++ B) now) (yields (later ++ B)) n (packets_taken later) true p
+          counted n (suc others) (packets_taken later) 0 true no_fewer (packs_then false r.3)
+          (turns_then (later ++ B) now f false (λ j. r.0 j || r.1 j)) (yields_then false true (λ j. r.0 j || r.1 j) (λ j. is_directed f r.2 r.3 j && reply_is w (later ++ B) f m x (ap (λ (y : ℕ × Message). y.1) e) j))
+          (goes g n (packets_taken later) others _ _ _ (step (later ++ B) now) (yields w (later ++ B)) n (packets_taken later) true p
           (let u = h.few in let v = ap one y in omega (arith, u, v)) h)
         where
-          silent : IsTurn (yields (later ++ B)) (ready w (later ++ B) now) (Some Reply) → yields (later ++ B) ≡ false
-          silent t = by (yields (later ++ B)) (lt-ltb _ _ l) t.2
+          silent : IsTurn (yields w (later ++ B)) (ready w (later ++ B) now) (Some Reply) → yields w (later ++ B) ≡ false
+          silent t = by (yields w (later ++ B)) (lt-ltb _ _ l) t.2
             where
               by : (y : Bool) → (ready w (later ++ B) now).message ≡ true → (y && ((ready w (later ++ B) now).message || ((ready w (later ++ B) now).packet || (ready w (later ++ B) now).transfer))) ≡ false → y ≡ false
               by false u v = refl
               by true u v = absurd (let z : true ≡ false = (λ j. sym u j || ((ready w (later ++ B) now).packet || (ready w (later ++ B) now).transfer)) ∙ v in cc)
       go b z (sends x o q i y e) =
-          let own = own_get w (accepted w (later ++ B)) (length (sent (later ++ B))) x (sound w (later ++ B) right).own y in
+          let own = own_of w (later ++ B) x right y in
           let r0 = message_taken w f now x e own in let r1 = plain_taken w f now x e own in let r2 = single_taken w f now x e own in
           counted (suc n) (suc others) (packets_taken later) 0 false
-          (sent_then false false false r0 r1 r2 ∙ (let u = length_one_more (sent (later ++ B)) (message_of f) in omega (arith, u, count))) (packs_then false (no_packet f r2))
-          (turns_then (later ++ B) now f false (λ j. r0 j || r1 j)) (yields_then false false (λ j. r0 j || r1 j) (no_transfer f r2))
-          (goes g n (packets_taken later) others _ _ _ (step (later ++ B) now) (yields (later ++ B)) (suc n) (packets_taken later) false p
-          (let u = h.few in let v = one_most (yields (later ++ B)) in omega (arith, u, v)) h)
+          (let u = reached_is (later ++ B) now f false false false r0 r1 r2 in let v = past_more (marks (later ++ B)) (suc (reached (later ++ B))) in omega (arith, u, v, count)) (packs_then false (no_packet f r2))
+          (turns_then (later ++ B) now f false (λ j. r0 j || r1 j)) (yields_then false false (λ j. r0 j || r1 j) (no_reply (reception w (later ++ B)).replies f (no_transfer f r2)))
+          (goes g n (packets_taken later) others _ _ _ (step (later ++ B) now) (yields w (later ++ B)) (suc n) (packets_taken later) false p
+          (let u = h.few in let v = one_most (yields w (later ++ B)) in omega (arith, u, v)) h)
       go b z (packs m o q i x e) =
           let r = packet_taken f now m (open_broadcast w (later ++ B)) (length (packets (later ++ B))) (pause (later ++ B) - step (later ++ B) now) e x in
           let s = packet_session f r.2 in
-          counted n (suc others) (suc (packets_taken later)) 0 false (sent_then false false true r.0 r.1 s.0 ∙ count) (packs_then true r.2)
-          (turns_then (later ++ B) now f false (λ j. r.0 j || r.1 j)) (yields_then false false (λ j. r.0 j || r.1 j) s.1)
-          (goes g n (packets_taken later) others _ _ _ (step (later ++ B) now) (yields (later ++ B)) n (suc (packets_taken later)) false p
-          (let u = h.few in let v = one_most (yields (later ++ B)) in omega (arith, u, v)) h)
+          counted n (suc others) (suc (packets_taken later)) 0 false no_fewer (packs_then true r.2)
+          (turns_then (later ++ B) now f false (λ j. r.0 j || r.1 j)) (yields_then false false (λ j. r.0 j || r.1 j) (no_reply (reception w (later ++ B)).replies f s.1))
+          (goes g n (packets_taken later) others _ _ _ (step (later ++ B) now) (yields w (later ++ B)) n (suc (packets_taken later)) false p
+          (let u = h.few in let v = one_most (yields w (later ++ B)) in omega (arith, u, v)) h)
       go b z (transfers m o q i x e) = absurd (not_both _ (turned w (later ++ B) now (Some Move) i.1).0.message (lt-ltb _ _ l))
 
   one_later : (call : Call) (later : List Call) → AreAnswered w (later ++ B) → IsAnswered w (later ++ B) call
@@ -579,12 +571,12 @@ module _ (w : Who) (B : List Call) (g k : ℕ) where
   one_later (At now (TakeFrame (Some f))) later right a p h = record { among = h.among; course = go h.course }
     where
       go : Waiting later → Waiting (At now (TakeFrame (Some f)) ∷ later)
-      go (taken l) = taken (let e = more_sent (later ++ B) now f in omega (arith, e, l))
+      go (taken l) = taken (let e = more_sent (later ++ B) (At now (TakeFrame (Some f))) in omega (arith, e, l))
       go (away e) = away (lost_taken w (later ++ B) now f e)
-      go (waits n others c e x) = by (nat_lt k (length (sent (later ++ B)))) refl
+      go (waits n others c e x) = by (nat_lt k (reached (later ++ B))) refl
         where
-          by : (b : Bool) → nat_lt k (length (sent (later ++ B))) ≡ b → Waiting (At now (TakeFrame (Some f)) ∷ later)
-          by true z = taken (let l = Rattle.std.proofs.Common.ltb-true _ _ z in let y = more_sent (later ++ B) now f in omega (arith, l, y))
+          by : (b : Bool) → nat_lt k (reached (later ++ B)) ≡ b → Waiting (At now (TakeFrame (Some f)) ∷ later)
+          by true z = taken (let l = Rattle.std.proofs.Common.ltb-true _ _ z in let y = more_sent (later ++ B) (At now (TakeFrame (Some f))) in omega (arith, l, y))
           by false z = takes_next now f later n others right (frame_case w (later ++ B) now f a) p.0 (let l = not_less _ _ z in let y = h.among in omega (arith, l, y)) c e x
             where
               not_less : (a b : ℕ) → nat_lt a b ≡ false → b ≤ a
@@ -595,56 +587,183 @@ module _ (w : Who) (B : List Call) (g k : ℕ) where
       go : Waiting later → Waiting (At now (TakeFrame None) ∷ later)
       go (taken l) = taken l
       go (away e) = away (lost_older (step (later ++ B) now) (address_after w (later ++ B)) ∙ e)
-      go (waits n others c e x) = taken (let l = past_end (accepted w (later ++ B)) (length (sent (later ++ B)))
+      go (waits n others c e x) = taken (let l = past_end (accepted w (later ++ B)) (reached (later ++ B))
           (none_next w (later ++ B) now (held_holds w (later ++ B) now e) a).rest.message in
           let b = h.among in omega (arith, l, b))
   one_later call later right a p h = record { among = (let m = accepts_more w (later ++ B) call in let b = h.among in omega (arith, m, b)); course = go h.course }
     where
+      more : reached (later ++ B) ≤ reached (call ∷ later ++ B)
+      more = more_sent (later ++ B) call
+
       go : Waiting later → Waiting (call ∷ later)
-      go (taken l) = taken l
+      go (taken l) = taken (omega (arith, l, more))
       go (away e) = away (let z = lost_older (step (later ++ B) (moment (call ∷ later ++ B))) (address_after w (later ++ B)) in cc)
-      go (waits n others c e x) = waits n others c (let z = held_older (step (later ++ B) (moment (call ∷ later ++ B))) (address_after w (later ++ B)) e in cc)
+      go (waits n others c e x) = waits n others (omega (arith, c, more)) (let z = held_older (step (later ++ B) (moment (call ∷ later ++ B))) (address_after w (later ++ B)) e in cc)
           (passes_on later call n others _ (step (later ++ B) (moment (call ∷ later ++ B))) _ x)
 
   among : (later : List Call) → AreAnswered w (later ++ B) → IsSteady g later B → Among [] → Among later
   among [] a p h = h
   among (call ∷ later) a p h = one_later call later a.0 a.1 p.1 (among later a.0 p.0 h)
 
-  goes_so : (later : List Call) → Among later → (k - length (sent B) + packets_taken later + 1) * (6 * g) < passed_in later B → since_take later B ≤ g
-      → (k < length (sent (later ++ B))) ⊎ (is_lost (address_after w (later ++ B)) ≡ true)
+  goes_so : (later : List Call) → Among later → (k - reached B + packets_taken later + 1) * (6 * g) < passed_in later B → since_take later B ≤ g
+      → (k < reached (later ++ B)) ⊎ (is_lost (address_after w (later ++ B)) ≡ true)
   goes_so later h l p = go h.course
     where
-      go : Waiting later → (k < length (sent (later ++ B))) ⊎ (is_lost (address_after w (later ++ B)) ≡ true)
+      go : Waiting later → (k < reached (later ++ B)) ⊎ (is_lost (address_after w (later ++ B)) ≡ true)
       go (taken z) = inl z
       go (away e) = inr e
-      go (waits n others c e x) = by (nat_lt k (length (sent (later ++ B)))) refl
+      go (waits n others c e x) = by (nat_lt k (reached (later ++ B))) refl
         where
           not_less : (a b : ℕ) → nat_lt a b ≡ false → b ≤ a
           not_less a b z = grind arith
 
-          by : (b : Bool) → nat_lt k (length (sent (later ++ B))) ≡ b → (k < length (sent (later ++ B))) ⊎ (is_lost (address_after w (later ++ B)) ≡ true)
+          by : (b : Bool) → nat_lt k (reached (later ++ B)) ≡ b → (k < reached (later ++ B)) ⊎ (is_lost (address_after w (later ++ B)) ≡ true)
           by true z = inl (Rattle.std.proofs.Common.ltb-true _ _ z)
           by false z =
               let y = not_less _ _ z in
-              let f = x.few in let o = one_most (yields (later ++ B)) in
+              let f = x.few in let o = one_most (yields w (later ++ B)) in
               let a = x.late in let b = turn_most g (turns (later ++ B)) in
-              let d = most_others g (k - length (sent B) + packets_taken later) others (omega (arith, f, o, y, c)) in
+              let d = most_others g (k - reached B + packets_taken later) others (omega (arith, f, o, y, c)) in
               absurd (omega (arith, a, b, d, l, p))
 
 module _ (w : Who) (later earlier : List Call) (c : Controller) (g k : ℕ) (is : Is w (later ++ earlier) c) (held : IsTrue (is_held (address_after w earlier)))
     (some : k < length (accepted w earlier)) (steady : IsSteady g later earlier)
-    (l : (k - length (sent earlier) + packets_taken later + 1) * (6 * g) < passed_in later earlier) where
+    (l : (k - reached earlier + packets_taken later + 1) * (6 * g) < passed_in later earlier) where
   here : Among w earlier g k later
   here = among w earlier g k later is.answered steady (record {
     among = some;
     course = waits 0 0 (omega arith) held (record { few = omega arith; late = omega arith });
   })
 
-  pub message_goes : (k < length (sent (later ++ earlier))) ⊎ IsTrue (is_lost (address_after w (later ++ earlier)))
+  pub message_goes : (k < reached (later ++ earlier)) ⊎ IsTrue (is_lost (address_after w (later ++ earlier)))
   message_goes = goes_so w earlier g k later here l (since_most g later earlier steady)
 
   pub message_told : length (told (later ++ earlier)) ≤ k → (e : Ending) × (next_ended w (later ++ earlier) ≡ Some (length (told (later ++ earlier)), e))
   message_told t = told_next w (later ++ earlier) k is.answered here.among t message_goes
+
+-- ---- how long a reply waits
+
+-- one that waits is due
+reply_there : (w : Who) (H : List Call) (now : ℕ) (m : Message) → holds w H now ≡ true → slice_get (reception w H).replies 0 ≡ Some m → is_there (next_other w H now) ≡ true
+reply_there w H now m h first = ap (λ (b : Bool). is_there (if b then other w H now else None)) h ∙ go (other w H now) refl
+  where
+    go : (o : Option Message) → other w H now ≡ o → is_there o ≡ true
+    go (Some x) e = refl
+    go None e = absurd (let z : Some m ≡ None = sym first ∙ (none_other w H now e).0.reply in cc)
+
+-- of what is due beside an overdue frame nothing goes before it but behind another
+behind : (w : Who) (H : List Call) (now : ℕ) (m : Message) → slice_get (reception w H).replies 0 ≡ Some m → ((ready w H now).reply ≡ false) ⊎ (yields w H ≡ true) → yields w H ≡ true
+behind w H now m first (inl e) = absurd (let z : Some m ≡ None = sym first ∙ none_at (reception w H).replies 0 e in cc)
+behind w H now m first (inr e) = e
+
+module _ (w : Who) (B : List Call) (g : ℕ) (m : Message) where
+  -- so many frames that are neither claims nor acknowledgments went before it
+  record Before (later : List Call) (others : ℕ) : Type 0 where
+    pub few : others + one (yields w (later ++ B)) ≤ packets_taken later + 1
+    pub late : passed_in later B ≤ others * (3 * g) + turn_time g (turns (later ++ B)) + since_take later B
+
+  data Replying (later : List Call) : Type 0 where
+    gone : is_lost (address_after w (later ++ B)) ≡ true → Replying later
+    stays : (others : ℕ) → is_held (address_after w (later ++ B)) ≡ true → Before later others → Replying later
+
+  beside : (now : ℕ) (f : FrameRecord) (later : List Call) (others : ℕ) → AreAnswered w (later ++ B) → FrameCase w (later ++ B) now f
+      → since_take later B + step (later ++ B) now ≤ g → slice_get (reception w (later ++ B)).replies 0 ≡ Some m
+      → is_reply (reception w (later ++ B)).replies f ≡ false → is_held (address_after w (later ++ B)) ≡ true → Before later others
+      → Replying (At now (TakeFrame (Some f)) ∷ later)
+  beside now f later others right case p first untaken held b = go case
+    where
+      H : List Call
+      H = later ++ B
+
+      G : List Call
+      G = At now (TakeFrame (Some f)) ∷ later ++ B
+
+      packs_then : (c : Bool) → is_packet f ≡ c → packets_taken (At now (TakeFrame (Some f)) ∷ later) ≡ (if c then suc (packets_taken later) else packets_taken later)
+      packs_then c e = ap (λ (d : Bool). if d then suc (packets_taken later) else packets_taken later) e
+
+      yields_then : (c : Bool) → (is_claim f || is_acknowledgment f) ≡ c → yields w G ≡ (if c then yields w (later ++ B) else false)
+      yields_then c e = λ j. if e j then yields w (later ++ B) else untaken j
+
+      -- a claim or an acknowledgment
+      steer : (is_claim f || is_acknowledgment f) ≡ true → is_session f ≡ false → Replying (At now (TakeFrame (Some f)) ∷ later)
+      steer e s =
+          let t = few_turns w H now f case (reply_there w H now m (held_holds w H now held) first) (steers w H now f right case) e in
+          stays others (keeps_taken w H now f held) (record {
+            few = (let a = b.few in let c = ap one (yields_then true e) in let d = packs_then false (no_packet f s) in omega (arith, a, c, d));
+            late = (let a = b.late in let c = ap (turn_time g) (turns_then H now f true e) in let d = turn_more g (turns H) t in omega (arith, a, c, d, p));
+          })
+
+      -- another: so many frames of broadcasts were taken then
+      goes_by : (n : ℕ) → (is_claim f || is_acknowledgment f) ≡ false → packets_taken (At now (TakeFrame (Some f)) ∷ later) ≡ n → others ≤ n → Replying (At now (TakeFrame (Some f)) ∷ later)
+      goes_by n e i l =
+          stays (suc others) (keeps_taken w H now f held) (record {
+            few = (let c = ap one (yields_then false e) in omega (arith, c, i, l));
+            late = (let a = b.late in let c = ap (turn_time g) (turns_then H now f false e) in let d = turn_most g (turns H) in let k = suc-mul others (3 * g) in omega (arith, a, c, d, k, p));
+          })
+
+      few_then : yields w H ≡ true → others ≤ packets_taken later
+      few_then y = let a = b.few in let c = ap one y in omega (arith, a, c)
+
+      go : FrameCase w H now f → Replying (At now (TakeFrame (Some f)) ∷ later)
+      go (claims o e) = let i = claim_taken f now w _ e in steer (ap (λ (c : Bool). c || is_acknowledgment f) i) (claim_single f i)
+      go (acknowledges x o q i e way) =
+          let r = due_taken w f now x e (due_get w (due w H) (length (Rattle.j39_node.specs.History.acknowledged H)) x (sound w H right).desk.0 i) in steer (λ j. r.0 j || r.1 j) r.2
+      go (replies x o q i y e) =
+          let r = reply_taken w.address f now x e (replied_get w.address (reception w H).replies 0 x (tidy w H).replies y) in
+          absurd (let z : true ≡ false = sym (λ j. is_directed f r.2 r.3 j && reply_is w H f x y (ap (λ (u : ℕ × Message). u.1) e) j) ∙ untaken in cc)
+      go (sends x o q i y e) =
+          let own = own_of w H x right y in
+          goes_by (packets_taken later) (λ j. message_taken w f now x e own j || plain_taken w f now x e own j) (packs_then false (no_packet f (single_taken w f now x e own)))
+          (few_then (behind w H now m first (turned w H now (Some Single) i.1).2))
+      go (packs x o q i y e) =
+          let r = packet_taken f now x (open_broadcast w H) (length (packets H)) (pause H - step H now) e y in
+          goes_by (suc (packets_taken later)) (λ j. r.0 j || r.1 j) (packs_then true r.2) (let a = b.few in omega (arith, a))
+      go (transfers x o q i y e) =
+          let t = Rattle.j39_node.proofs.SoundLemmas.transfer_taken w H now f x right e y in
+          goes_by (packets_taken later) (λ j. t.claim j || t.plain j) (packs_then false t.packet) (few_then (behind w H now m first (turned w H now (Some Move) i.1).2))
+
+  reply_later : (call : Call) (later : List Call) → AreAnswered w (later ++ B) → IsAnswered w (later ++ B) call
+      → (since_take later B + step (later ++ B) (moment (call ∷ later ++ B)) ≤ g) × (claims_anew call ≡ false) → slice_get (reception w (later ++ B)).replies 0 ≡ Some m
+      → takes_reply w (later ++ B) call ≡ false → Replying later → Replying (call ∷ later)
+  reply_later (At when (Hear f)) later right a p first untaken (gone e) = gone (lost_heard w (later ++ B) when f e)
+  reply_later (At when (Hear f)) later right a p first untaken (stays others e b) = elim (keeps_heard w (later ++ B) when f e) [
+    | inl z ↦ gone z
+    | inr z ↦ stays others z (record { few = b.few; late = (let l = b.late in omega (arith, l)) })
+  ]
+  reply_later (At now (TakeFrame (Some f))) later right a p first untaken (gone e) = gone (lost_taken w (later ++ B) now f e)
+  reply_later (At now (TakeFrame (Some f))) later right a p first untaken (stays others e b) = beside now f later others right (frame_case w (later ++ B) now f a) p.0 first untaken e b
+  reply_later (At now (TakeFrame None)) later right a p first untaken (gone e) = gone (lost_older (step (later ++ B) now) (address_after w (later ++ B)) ∙ e)
+  reply_later (At now (TakeFrame None)) later right a p first untaken (stays others e b) =
+      absurd (let z : Some m ≡ None = sym first ∙ (none_next w (later ++ B) now (held_holds w (later ++ B) now e) a).rest.reply in cc)
+  reply_later (At now Again) later right a p first untaken r = absurd (let z : true ≡ false = p.1 in cc)
+  reply_later call later right a p first untaken (gone e) = gone (let z = lost_older (step (later ++ B) (moment (call ∷ later ++ B))) (address_after w (later ++ B)) in cc)
+  reply_later call later right a p first untaken (stays others e b) =
+      stays others (let z = held_older (step (later ++ B) (moment (call ∷ later ++ B))) (address_after w (later ++ B)) e in cc) (record { few = b.few; late = (let l = b.late in omega (arith, l)) })
+
+  first_now : (later : List Call) → StaysFirst w m later B → slice_get (reception w (later ++ B)).replies 0 ≡ Some m
+  first_now [] s = s
+  first_now (call ∷ later) s = s.2
+
+  replying : (later : List Call) → AreAnswered w (later ++ B) → IsSteady g later B → StaysFirst w m later B → Replying [] → Replying later
+  replying [] a p s h = h
+  replying (call ∷ later) a p s h = reply_later call later a.0 a.1 p.1 (first_now later s.0) s.1 (replying later a.0 p.0 s.0 h)
+
+pub reply_goes : (w : Who) (later earlier : List Call) (c : Controller) (g : ℕ) (m : Message) → Is w (later ++ earlier) c → IsTrue (is_held (address_after w earlier))
+    → StaysFirst w m later earlier → IsSteady g later earlier → is_lost (address_after w (later ++ earlier)) ≡ false → passed_in later earlier ≤ (packets_taken later + 2) * (3 * g)
+reply_goes w later earlier c g m is held first steady there =
+    go (replying w earlier g m later is.answered steady first (stays 0 held (record { few = (let y = one_most (yields w earlier) in omega (arith, y)); late = omega arith })))
+  where
+    go : Replying w earlier g m later → passed_in later earlier ≤ (packets_taken later + 2) * (3 * g)
+    go (gone e) = absurd (not_both _ there e)
+    go (stays others e b) =
+        let a = b.few in
+        let d = times_more (others + 1) (packets_taken later + 2) (3 * g) (omega (arith, a)) in
+        let k = suc-mul others (3 * g) in
+        let u : (others + 1) * (3 * g) ≡ suc others * (3 * g) = ap (λ (n : ℕ). n * (3 * g)) (omega arith) in
+        let l = b.late in
+        let t = turn_most g (turns (later ++ earlier)) in
+        let s = since_most g later earlier steady in
+        omega (arith, d, k, u, l, t, s)
 
 -- ---- who takes all that is due takes one frame at least
 

@@ -17,11 +17,11 @@ use Rattle.j39_transport.specs.Sending.{hears as listens_to, send_step}
 use Rattle.j39_transport.specs.SenderNext.{granted_by}
 use Rattle.j39_transport.specs.Signals.{Signal, BroadcastAnnounce, RequestToSend, ClearToSend, Acknowledgment, Abort, Packet, said_between, said_by}
 use Rattle.j39_node.specs.declared.controller.Controller.{Controller}
-use Rattle.j39_node.specs.History.{fresh, is_refusal_due, pause, has_packets, yields, is_another, is_claim, patience, turns, Who, Message, Call, Address, Asked, accepted, acknowledged, address_after, asked_group, asked_with, calls_for_claim, claim_address, claim_from, due, handed, holds, is_held, is_larger, is_lost, is_some, is_smaller, older, owes_claim, requests, sent, step, with_refusal, of_other, delayed}
+use Rattle.j39_node.specs.History.{reached, fresh, is_refusal_due, pause, has_packets, is_another, is_claim, patience, turns, Who, Message, Call, Address, Asked, accepted, acknowledged, address_after, asked_group, asked_with, calls_for_claim, claim_address, claim_from, due, handed, holds, is_held, is_larger, is_lost, is_some, is_smaller, older, owes_claim, requests, step, with_refusal, of_other, delayed}
 use Rattle.j39_node.specs.History.Address.{Lost}
 use Rattle.j39_node.specs.History.Call.{At}
 use Rattle.j39_node.specs.History.Act.{Hear, Tick, TakeFrame}
-use Rattle.j39_node.specs.Reception.{Reception, goes_to, has_place, heard_by, held_then, holder, keeps, leaves, left, reception, replied, reply_from, says, time_heard, whole_by, without, shown, known}
+use Rattle.j39_node.specs.Reception.{yields, Reception, goes_to, has_place, heard_by, held_then, holder, keeps, leaves, left, reception, replied, reply_from, says, time_heard, whole_by, without, shown, known}
 use Rattle.j39_node.proofs.ReceptionLemmas.{unclaimed_known}
 use Rattle.j39_node.specs.Transfers.{Running, clock_at, granted_after, hears_if, is_replaced, is_spent, listens, next_transfer_ended, open_transfer, spent_after, transfer_by, transfer_end}
 use Rattle.j39_node.specs.Is.{is_apart, turn_frame, turn_of, is_there, AreAnswered, Is, control_of, long_by, next_frame, next_long, next_packet}
@@ -145,11 +145,11 @@ frame_stays w H c when f now is e g n m =
         let due : Ready = record {
           overdue = has_packets w H && nat_eq left 0;
           reply = nat_lt 0 (length replies);
-          message = nat_lt (length (sent H)) (length (accepted w H));
+          message = nat_lt (reached H) (length (accepted w H));
           packet = has_packets w H && nat_le left 100000;
           transfer = is_apart transfer (slice_get replies 0);
         } in
-        let others = turn_frame (turn_of (yields H) due) (slice_get replies 0) (slice_get (accepted w H) (length (sent H)))
+        let others = turn_frame (turn_of (yields w H) due) (slice_get replies 0) (slice_get (accepted w H) (reached H))
         (next_packet w (At when (Hear f) ∷ H) now) transfer in
         let gives = nat_le 2 (turns H) && is_there (if held then others else None) in
         if (b && (not (is_lost a) || nat_eq (d - step (At when (Hear f) ∷ H) now) 0)) && not gives then Some (now, claim_from w (claim_address w a))

@@ -1,18 +1,17 @@
 -- When a tick does something.
-use Rattle.std.proofs.Common.{◌≡◌, ◌⊎◌, ℕ, ◌+◌, ◌-◌, ◌<◌, ◌≤◌, ◌==◌, List, [], ◌∷◌, length, min, Option, Some, None, Bool, true, false, not, ◌&&◌, ◌||◌, if◌then◌else◌, nat_eq, nat_lt, refl, sym, ap, ◌∙◌, inl, inr, arith, ltb-false, ltb-true, lt-ltb}
+use Rattle.std.proofs.Common.{◌≡◌, ◌⊎◌, ℕ, ◌+◌, ◌-◌, ◌<◌, ◌≤◌, ◌==◌, List, [], ◌∷◌, min, Option, Some, None, Bool, true, false, not, ◌&&◌, ◌||◌, if◌then◌else◌, nat_eq, nat_lt, refl, sym, ap, ◌∙◌, inl, inr, arith, ltb-false, ltb-true, lt-ltb}
 use Rattle.std.specs.Option.{option_map}
 use Rattle.std.proofs.lemmas.Bool.{cond_both}
-use Rattle.j39_transport.specs.Protocol.{broadcast_limit}
 use Rattle.j39_transport.specs.Reception.{ReceptionRecord, Reaction, asks_again, granted_at, grants, limit_of, takes_tick}
 use Rattle.j39_transport.specs.Receiving.{ReceiverRecord, RecvResult, Tick as Ticks, recv_step}
 use Rattle.j39_node.specs.declared.controller.Controller.{Controller}
 use Rattle.j39_node.specs.declared.kinds.AskEnding.{AskEnding}
 use Rattle.j39_node.specs.declared.kinds.AskEnding.TheVariants.{TimedOut, Withdrawn}
-use Rattle.j39_node.specs.History.{Who, Call, address_after, is_lost, moment, sent}
+use Rattle.j39_node.specs.History.{reached, Who, Call, address_after, is_lost, moment}
 use Rattle.j39_node.specs.History.Call.{At, TakeAskEnded}
 use Rattle.j39_node.specs.History.Act.{Hear, Tick}
 use Rattle.j39_node.specs.Reception.{Reception, heard_at, is_over, reception, receiver_at, session_tick, ticked_at, time_heard}
-use Rattle.j39_node.specs.Hearing.{OpenBroadcast, hearing, hearing_tick, is_late, is_out, is_whole, left}
+use Rattle.j39_node.specs.Hearing.{OpenBroadcast, hearing, hearing_tick, is_late, is_out, is_whole, left, expires}
 use Rattle.j39_node.specs.Asking.{Question, ask_end, comes, ended, in_broadcast, in_session, is_coming, is_from, is_taken, is_waiting, next_ask_ended, open_ask, out_at, request_tick, seeks, wait}
 use Rattle.j39_node.specs.Is.{Is}
 use Rattle.j39_node.specs.Ticks.{next_tick}
@@ -75,7 +74,7 @@ broadcast_left t s (Some x) l = go (is_whole x) (is_late t x) (is_late s x) refl
     go : (a b c : Bool) → is_whole x ≡ a → is_late t x ≡ b → is_late s x ≡ c → (in_broadcast s (Some x) ≡ in_broadcast t (Some x)) ⊎ (in_broadcast s (Some x) ≡ None)
     go true b c i j k = inr (λ z. by (i z) (is_late s x))
     go false b true i j k = inr (λ z. by (i z) (k z))
-    go false true false i j k = absurd (let z : true ≡ false = sym (after (x.time + broadcast_limit) j) ∙ k in cc)
+    go false true false i j k = absurd (let z : true ≡ false = sym (after (expires x) j) ∙ k in cc)
     go false false false i j k = inl ((λ z. by (is_whole x) (k z)) ∙ λ z. by (is_whole x) (sym j z))
 
 ticked_left : (t s : ℕ) (o : Option OpenBroadcast) → t ≤ s → (in_broadcast s (left (is_out s o) o) ≡ in_broadcast t o) ⊎ (in_broadcast s (left (is_out s o) o) ≡ None)
@@ -123,7 +122,7 @@ request_ends w H c now t answer e l is = go (open_ask H) (ended w H) (comes w H 
         (q, o, is.answered.1 ∙ over_told w (At now Tick ∷ H) q (ended w H) (inl n) o k (omega (arith, m, l)) (none_comes w H now d))
 
     go : (o : Option Question) (h : Option AskEnding) (d : Bool) → open_ask H ≡ o → ended w H ≡ h → comes w H (time_heard H) ≡ d
-        → out_at (is_waiting o (length (sent H)) h d) (moment H) (wait H) ≡ Some t → Goal
+        → out_at (is_waiting o (reached H) h d) (moment H) (wait H) ≡ Some t → Goal
     go None h d i j k z = absurd (cc)
     go (Some q) (Some x) d i j k z = absurd (cc)
     go (Some q) None d i j k z = by (is_taken q H) d (nat_lt (moment H + wait H) 10000000000000000) refl k z
@@ -161,7 +160,7 @@ none_ends w H now l m q =
     let d = before_each now (hearing_tick w H) (request_tick w H) b.1 in
     let f = time_fits H in
     let e = stays_heard (time_heard H) (time_heard (At now Tick ∷ H)) (hearing w H) (omega (arith, f)) (tick_keeps w H now l m d.0) in
-    (λ i. ask_end (open_ask H) (length (sent H)) (ended w H) (wait H - (now - moment H))
+    (λ i. ask_end (open_ask H) (reached H) (ended w H) (wait H - (now - moment H))
     (is_coming (open_ask H) (in_session (tick_waits w H now l m b.0 i).session) (e i)) (lost_older (now - moment H) (address_after w H) i))
     ∙ go (open_ask H) (ended w H) (comes w H (time_heard H)) d.1
   where
@@ -184,8 +183,8 @@ none_ends w H now l m q =
         by true g = k (moment H + wait H) (ap (λ (b : Bool). if b then Some (moment H + wait H) else None) g)
         by false g = let z = ltb-false _ _ g in omega (arith, z, m)
 
-    go : (o : Option Question) (h : Option AskEnding) (d : Bool) → ((t : ℕ) → out_at (is_waiting o (length (sent H)) h d) (moment H) (wait H) ≡ Some t → now < t)
-        → ask_end o (length (sent H)) h (wait H - (now - moment H)) d lost ≡ ask_end o (length (sent H)) h (wait H) d lost
+    go : (o : Option Question) (h : Option AskEnding) (d : Bool) → ((t : ℕ) → out_at (is_waiting o (reached H) h d) (moment H) (wait H) ≡ Some t → now < t)
+        → ask_end o (reached H) h (wait H - (now - moment H)) d lost ≡ ask_end o (reached H) h (wait H) d lost
     go None h d k = refl
     go (Some p) (Some x) d k = refl
     go (Some p) None d k = ap (option_map (λ (x : AskEnding). (let y : ℕ × AskEnding = (p.token, x) in y))) (same (is_taken p H) d k)

@@ -11,7 +11,7 @@ use Rattle.j39_node.specs.declared.kinds.AskEnding.{AskEnding}
 use Rattle.j39_node.specs.declared.kinds.AskEnding.TheVariants.{Answered, Acknowledged, TimedOut, Withdrawn}
 use Rattle.j39_node.specs.declared.kinds.Refused.{Refused}
 use Rattle.j39_node.specs.declared.kinds.Refused.TheVariants.{NoAddress, BadValue, Full}
-use Rattle.j39_node.specs.History.{Who, Call, accepted, address_after, holds, is_acknowledgment, is_full, is_lost, is_none, is_sendable, is_some, moment, sent, stamp_at, step}
+use Rattle.j39_node.specs.History.{reached, Who, Call, accepted, address_after, holds, is_acknowledgment, is_full, is_lost, is_none, is_sendable, is_some, moment, stamp_at, step}
 use Rattle.j39_node.specs.History.Call.{At, TakeAskEnded}
 use Rattle.j39_node.specs.History.Act.{Ask, Hear, TakeFrame}
 use Rattle.j39_node.specs.Since.{passed_in}
@@ -52,9 +52,9 @@ open_ask (At now (Ask group to (Ok token)) ∷ H) = Some (question token group t
 open_ask (TakeAskEnded (Some x) ∷ H) = None
 open_ask (call ∷ H) = open_ask H
 
--- its frame was taken: it is the message of its token
+-- its frame was taken: it is the message of its token, which isn't withdrawn
 abbrev pub is_taken : Question → List Call → Bool
-is_taken q H = nat_lt q.token (length (sent H))
+is_taken q H = nat_lt q.token (reached H)
 
 -- the frame that is taken is that of the open request
 abbrev pub has_token : Option Question → ℕ → Bool
@@ -62,7 +62,7 @@ has_token None n = false
 has_token (Some q) n = nat_eq q.token n
 
 abbrev pub is_request : List Call → FrameRecord → Bool
-is_request H f = is_message f && has_token (open_ask H) (length (sent H))
+is_request H f = is_message f && has_token (open_ask H) (reached H)
 
 -- what is left of the 1,250 ms that it waits after that (own); time that goes back is no time
 abbrev pub wait : List Call → ℕ
@@ -168,7 +168,7 @@ abbrev pub ended : Who → List Call → Option AskEnding
 ended w [] = None
 ended w (At now (Hear f) ∷ H) =
     first (ended w H)
-    (end_at w (open_ask H) (length (sent H)) (wait H - step H now) (comes w H (time_heard (At now (Hear f) ∷ H)))
+    (end_at w (open_ask H) (reached H) (wait H - step H now) (comes w H (time_heard (At now (Hear f) ∷ H)))
     (is_lost (address_after w (At now (Hear f) ∷ H))) f (made w H now f))
 ended w (At now (Ask group to (Ok token)) ∷ H) = None
 ended w (call ∷ H) = ended w H
@@ -194,7 +194,7 @@ ask_end (Some q) n heard left coming lost =
 
 abbrev pub next_ask_ended : Who → List Call → Option (ℕ × AskEnding)
 next_ask_ended w H =
-    ask_end (open_ask H) (length (sent H)) (ended w H) (wait H) (comes w H (time_heard H)) (is_lost (address_after w H))
+    ask_end (open_ask H) (reached H) (ended w H) (wait H) (comes w H (time_heard H)) (is_lost (address_after w H))
 
 -- its frame was taken, nothing ended it, and no answer is coming
 abbrev pub lacks_answer : Bool → Option AskEnding → Bool → Bool
@@ -210,7 +210,7 @@ abbrev pub out_at : Bool → ℕ → ℕ → Option ℕ
 out_at waited last left = if waited then stamp_at (last + left) else None
 
 abbrev pub request_tick : Who → List Call → Option ℕ
-request_tick w H = out_at (is_waiting (open_ask H) (length (sent H)) (ended w H) (comes w H (time_heard H))) (moment H) (wait H)
+request_tick w H = out_at (is_waiting (open_ask H) (reached H) (ended w H) (comes w H (time_heard H))) (moment H) (wait H)
 
 -- ---- by places of the history
 

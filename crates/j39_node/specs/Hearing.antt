@@ -1,9 +1,9 @@
 -- Broadcasts in packets that are heard (J1939-21, 5.10.3.5 and 5.13.3), one at a time: what a history says of them.
-use Rattle.std.specs.Prelude.{◌≡◌, ◌≤◌, ℕ, suc, ◌+◌, ◌*◌, ◌++◌, ◌-◌, ◌&&◌, ◌||◌, nat_lt, nat_le, nat_eq, not, Bool, true, false, List, [], ◌∷◌, length, take, drop, slice_index, Option, Some, None, if◌then◌else◌, IsTrue}
+use Rattle.std.specs.Prelude.{◌≡◌, ◌≤◌, ℕ, suc, ◌+◌, ◌*◌, ◌++◌, ◌-◌, ◌&&◌, ◌||◌, min, nat_lt, nat_le, nat_eq, not, Bool, true, false, List, [], ◌∷◌, length, take, drop, slice_index, Option, Some, None, if◌then◌else◌, IsTrue}
 use Rattle.j39_frame.specs.Frame.{FrameRecord}
 use Rattle.j39_frame.specs.Identifier.{source_of}
 use Rattle.j39_transport.specs.Carries.{CarriesCut}
-use Rattle.j39_transport.specs.Frames.{is_announcement, is_packet, pgn_named, size_named}
+use Rattle.j39_transport.specs.Frames.{is_announcement, is_packet, packets_for, pgn_named, size_named}
 use Rattle.j39_transport.specs.Key.{Broadcast as by}
 use Rattle.j39_transport.specs.Message.{MessageRecord}
 use Rattle.j39_transport.specs.Protocol.{broadcast_limit}
@@ -13,8 +13,8 @@ use Rattle.j39_node.specs.History.Call.{At, TakeNews, ReleaseBroadcast}
 use Rattle.j39_node.specs.History.Act.{Hear, Tick, TakeFrame}
 use Rattle.j39_node.specs.Reception.{KeepsHolder, frames_heard, heard_at, holder, is_same, known, listed, time_heard}
 
--- what was announced and by whom, how many packets were appended and their data, and the moment and the time of the last, or of the
--- announcement before the first
+-- what was announced and by whom, how many packets were appended and their data, the moment and the time of the last, or of the
+-- announcement before the first, and the time since which its source has one open
 pub record OpenBroadcast : Type 0 where
   pub source : ℕ
   pub group : ℕ
@@ -23,6 +23,7 @@ pub record OpenBroadcast : Type 0 where
   pub bytes : List ℕ
   pub stamp : ℕ
   pub time : ℕ
+  pub since : ℕ
 
 -- the last packet came: it waits for the program
 abbrev pub is_whole : OpenBroadcast → Bool
@@ -33,9 +34,17 @@ abbrev pub is_partial : Option OpenBroadcast → Bool
 is_partial None = false
 is_partial (Some x) = not (is_whole x)
 
--- more than 750 ms passed since
+-- broadcasts of one source that take one another's place may take so long till one of n packets is whole (own)
+abbrev pub account : ℕ → ℕ
+account n = (n + 1) * broadcast_limit
+
+-- till when its next packet may come
+abbrev pub expires : OpenBroadcast → ℕ
+expires x = min (x.time + broadcast_limit) (x.since + account (packets_for x.size))
+
+-- that is over
 abbrev pub is_late : ℕ → OpenBroadcast → Bool
-is_late now x = nat_lt (x.time + broadcast_limit) now
+is_late now x = nat_lt (expires x) now
 
 abbrev pub is_out : ℕ → Option OpenBroadcast → Bool
 is_out now None = false
@@ -50,8 +59,8 @@ announces f = is_announcement (by (source_of f.id)) f
 abbrev pub packs : FrameRecord → Bool
 packs f = is_packet (by (source_of f.id)) f
 
-abbrev pub begun : ℕ → FrameRecord → OpenBroadcast
-begun now f = record {
+abbrev pub begun : ℕ → ℕ → FrameRecord → OpenBroadcast
+begun since now f = record {
   source = source_of f.id;
   group = pgn_named f;
   size = size_named f;
@@ -59,7 +68,13 @@ begun now f = record {
   bytes = [];
   stamp = f.stamp;
   time = now;
+  since = since;
 }
+
+-- its account: that of the one whose place it takes, or else it begins now
+abbrev pub since_in : ℕ → Option OpenBroadcast → ℕ
+since_in now None = now
+since_in now (Some x) = x.since
 
 -- an announcement is heard where none waits, nor one of another source is open
 abbrev pub has_room : ℕ → Option OpenBroadcast → Bool
@@ -75,8 +90,8 @@ abbrev pub is_wanted : Who → FrameRecord → Bool
 is_wanted w f = announces f && not (is_ignored w (pgn_named f))
 
 -- one that isn't for the program opens nothing
-abbrev pub opens : Who → ℕ → FrameRecord → Option OpenBroadcast
-opens w now f = if is_ignored w (pgn_named f) then None else Some (begun now f)
+abbrev pub opens : Who → ℕ → FrameRecord → Option OpenBroadcast → Option OpenBroadcast
+opens w now f o = if is_ignored w (pgn_named f) then None else Some (begun (since_in now o) now f)
 
 -- the packet of the next number is appended
 abbrev pub grown : ℕ → FrameRecord → OpenBroadcast → OpenBroadcast
@@ -99,7 +114,7 @@ packed now f (Some x) = if passes_by (source_of f.id) x then Some x else goes_on
 
 abbrev pub hears : Who → ℕ → FrameRecord → Option OpenBroadcast → Option OpenBroadcast
 hears w now f o =
-    if announces f then (if has_room (source_of f.id) o then opens w now f else o) else if packs f then packed now f o else o
+    if announces f then (if has_room (source_of f.id) o then opens w now f o else o) else if packs f then packed now f o else o
 
 -- the packet leaves a gap
 abbrev pub is_gap : FrameRecord → Option OpenBroadcast → Bool
@@ -146,6 +161,10 @@ hearing w (call ∷ H) = hearing w H
 -- the broadcast that f finds
 abbrev pub found : Who → List Call → ℕ → FrameRecord → Option OpenBroadcast
 found w H now f = left (is_over (known w H now f) (holder w (At now (Hear f) ∷ H)) (time_heard (At now (Hear f) ∷ H)) (hearing w H)) (hearing w H)
+
+-- what an announcement opens by it
+abbrev pub opened : Who → List Call → ℕ → FrameRecord → OpenBroadcast
+opened w H now f = begun (since_in (time_heard (At now (Hear f) ∷ H)) (found w H now f)) (time_heard (At now (Hear f) ∷ H)) f
 
 -- the open one is over by the call: its source has another holder, or it is late
 abbrev pub ends_by : Who → List Call → Call → Bool
@@ -239,7 +258,7 @@ pub record WasBroadcast (w : Who) (H : List Call) (m : MessageRecord) : Type 0 w
 
 abbrev pub late_at : Option OpenBroadcast → ℕ → ℕ → Option ℕ
 late_at None last clock = None
-late_at (Some x) last clock = if is_whole x then None else stamp_at (last + (suc (x.time + broadcast_limit) - clock))
+late_at (Some x) last clock = if is_whole x then None else stamp_at (last + (suc (expires x) - clock))
 
 -- the first moment at which a tick ends it, by when the last one was
 abbrev pub hearing_tick : Who → List Call → Option ℕ

@@ -84,6 +84,7 @@ pub data Act : Type 0 where
 pub data Call : Type 0 where
   At : ℕ → Act → Call
   Renew : Draft → Option ℕ → Call
+  Withdraw : ℕ → Bool → Call
   TakeEnded : Option (ℕ × Ending) → Call
   TakeReceived : Option (ℕ × Message) → Call
   TakeRequest : Option Asked → Call
@@ -347,11 +348,19 @@ abbrev pub latest : Message → ℕ → ℕ → List (ℕ × Message) → Option
 latest m n i [] found = found
 latest m n i (x ∷ xs) found = latest m n (suc i) xs (if nat_le n i && is_alike m x.1 then Some i else found)
 
--- the messages that were accepted, each with its token, which is its place: a request is one, and one may be renewed
+-- what stands in the place of one that was withdrawn: none has this group
+abbrev pub blank : Message
+blank = claim_with null_address []
+
+abbrev pub is_blank : ℕ × Message → Bool
+is_blank x = nat_eq x.1.group address_claimed_group
+
+-- the messages that were accepted, each with its token, which is its place: a request is one, and one may be renewed, or withdrawn
 abbrev pub accepted : Who → List Call → List (ℕ × Message)
 accepted w [] = []
 accepted w (At now (Send draft (Ok token)) ∷ H) = accepted w H ++ (token, message_from w draft) ∷ []
 accepted w (Renew draft (Some token) ∷ H) = slice_set (accepted w H) token (token, message_from w draft)
+accepted w (Withdraw token true ∷ H) = slice_set (accepted w H) token (token, blank)
 accepted w (At now (Ask group to (Ok token)) ∷ H) = accepted w H ++ (token, message_from w (request_for group to)) ∷ []
 accepted w (call ∷ H) = accepted w H
 
@@ -375,11 +384,32 @@ is_packet f = is_session f && is_some (destination_of f.id) global_address
 abbrev pub is_transfer : FrameRecord → Bool
 is_transfer f = is_session f && not (is_some (destination_of f.id) global_address)
 
--- the frame that was taken last, but for claims and acknowledgments, was one to an address of a message in packets, as a reply is
-abbrev pub yields : List Call → Bool
-yields [] = false
-yields (At now (TakeFrame (Some f)) ∷ H) = if is_claim f || is_acknowledgment f then yields H else is_transfer f
-yields (call ∷ H) = yields H
+-- which of the messages that were accepted were withdrawn
+abbrev pub marks : List Call → List Bool
+marks [] = []
+marks (At now (Send draft (Ok token)) ∷ H) = marks H ++ false ∷ []
+marks (At now (Ask group to (Ok token)) ∷ H) = marks H ++ false ∷ []
+marks (Withdraw token true ∷ H) = slice_set (marks H) token true
+marks (call ∷ H) = marks H
+
+-- the first place from the nth on that isn't so
+abbrev pub past : List Bool → ℕ → ℕ
+past [] n = n
+past (b ∷ bs) zero = if b then suc (past bs zero) else zero
+past (b ∷ bs) (suc n) = suc (past bs n)
+
+-- the place of the message that is next: those before it were taken or withdrawn
+abbrev pub reached : List Call → ℕ
+reached [] = 0
+reached (At now (TakeFrame (Some f)) ∷ H) =
+    if is_claim f || (is_acknowledgment f || is_session f) then reached H else past (marks H) (suc (reached H))
+reached (Withdraw token true ∷ H) = past (slice_set (marks H) token true) (reached H)
+reached (call ∷ H) = reached H
+
+-- those of these messages that weren't withdrawn
+abbrev pub unblanked : List (ℕ × Message) → List (ℕ × Message)
+unblanked [] = []
+unblanked (x ∷ xs) = if is_blank x then unblanked xs else x ∷ unblanked xs
 
 -- the messages whose frames were taken
 abbrev pub sent : List Call → List Message

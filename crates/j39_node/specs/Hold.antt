@@ -89,6 +89,9 @@ claimed h = record h { standing = claims h.standing; owes_claim = false; turns =
 abbrev pub acknowledged : Hold → Hold
 acknowledged h = record h { turns = min (suc h.turns) 2 }
 
+abbrev pub went : Hold → Hold
+went h = record h { turns = 0; yields = false }
+
 abbrev pub spoken : Hold → Hold
 spoken h = record h { turns = 0; yields = true }
 

@@ -38,11 +38,11 @@ use Rattle.j39_node.specs.declared.kinds.News.TheVariants.{AddressLost, AnotherA
 use Rattle.j39_node.specs.declared.kinds.Refused.{Refused}
 use Rattle.j39_node.specs.declared.kinds.Refused.TheVariants.{NoAddress, BadValue, Full}
 use Rattle.j39_node.specs.Hold.{standing_of}
-use Rattle.j39_node.specs.History.{Brought, Who, Message, Draft, Call, Address, carried, message_of, moment, address_after, holds, is_lost, claim_address, claim_from, owes_claim, patience, turns, can_send, accepted, sent, told, is_full, got, kept, missed, Asked, requests, handed, due, acknowledged, acknowledgment, told_claims, lost_news, another_news, missed_news, broadcast_from, broadcasts, can_broadcast, frame_of, is_busy, open_broadcast, packets, pause, stamp_at, step, nothing, yields, content, has_packets, is_left, delayed, doubled_news, may_claim, latest, message_from}
-use Rattle.j39_node.specs.History.Call.{At, TakeAskEnded, TakeEnded, TakeReceived, TakeRequest, TakeNews, TakeBroadcastEnded, ReleaseTransfer, TakeTransferEnded, ReleaseBroadcast, Renew}
+use Rattle.j39_node.specs.History.{reached, Brought, Who, Message, Draft, Call, Address, carried, message_of, moment, address_after, holds, is_lost, claim_address, claim_from, owes_claim, patience, turns, can_send, accepted, told, is_full, got, kept, missed, Asked, requests, handed, due, acknowledged, acknowledgment, told_claims, lost_news, another_news, missed_news, broadcast_from, broadcasts, can_broadcast, frame_of, is_busy, open_broadcast, packets, pause, stamp_at, step, nothing, content, is_blank, has_packets, is_left, delayed, doubled_news, may_claim, latest, message_from}
+use Rattle.j39_node.specs.History.Call.{At, Withdraw, TakeAskEnded, TakeEnded, TakeReceived, TakeRequest, TakeNews, TakeBroadcastEnded, ReleaseTransfer, TakeTransferEnded, ReleaseBroadcast, Renew}
 use Rattle.j39_node.specs.History.Act.{Ask, TakeFrame, Send, Acknowledge, Broadcast, Transfer}
 use Rattle.j39_node.specs.History.Address.{NotClaimed, Claimed, Lost}
-use Rattle.j39_node.specs.Reception.{Reception, called, calls_claims, claimed_again, still, time_heard, longest, has_place, heard_at, heard_by, keeps, later, leaves, left, reception, reply_from, ticked, is_that}
+use Rattle.j39_node.specs.Reception.{yields, Reception, called, calls_claims, claimed_again, still, time_heard, longest, has_place, heard_at, heard_by, keeps, later, leaves, left, reception, reply_from, ticked, is_that}
 use Rattle.j39_node.specs.Asking.{Question, answer_to_ask, ended, first, lacks_answer, next_ask_ended, open_ask, question, says_to, silent_end, wait}
 use Rattle.j39_node.specs.declared.kinds.AskEnding.{AskEnding}
 use Rattle.j39_node.specs.declared.asking.Asking.{Asking}
@@ -105,12 +105,12 @@ abbrev pub ready : Who → List Call → ℕ → Ready
 ready w H now = record {
   overdue = is_overdue w H now;
   reply = nat_lt 0 (length (reception w H).replies);
-  message = nat_lt (length (sent H)) (length (accepted w H));
+  message = nat_lt (reached H) (length (accepted w H));
   packet = has_packets w H && nat_le (pause H - step H now) 100000;
   transfer = is_apart (next_transfer w H now) (slice_get (reception w H).replies 0);
 }
 
--- what goes first of it. Behind a frame of a session to an address a reply yields to the rest
+-- what goes first of it. Behind a reply the next yields to the rest
 abbrev pub turn_of : Bool → Ready → Option Turn
 turn_of yields r =
     if r.overdue then Some Packet
@@ -121,7 +121,7 @@ turn_of yields r =
     else None
 
 abbrev pub next_turn : Who → List Call → ℕ → Option Turn
-next_turn w H now = turn_of (yields H) (ready w H now)
+next_turn w H now = turn_of (yields w H) (ready w H now)
 
 -- its frame: of a reply, the first that waits; of a message, the first that wasn't taken
 abbrev pub turn_frame : Option Turn → Option Message → Option (ℕ × Message) → Option Message → Option Message → Option Message
@@ -133,7 +133,7 @@ turn_frame (Some Move) reply message packet transfer = transfer
 
 abbrev pub other : Who → List Call → ℕ → Option Message
 other w H now =
-    turn_frame (next_turn w H now) (slice_get (reception w H).replies 0) (slice_get (accepted w H) (length (sent H)))
+    turn_frame (next_turn w H now) (slice_get (reception w H).replies 0) (slice_get (accepted w H) (reached H))
     (next_packet w H now) (next_transfer w H now)
 
 -- beside claims and acknowledgments, what goes from an address that is held
@@ -187,9 +187,17 @@ answer_to_send w H now d =
 
 -- the last that is alike, and neither taken nor told to have ended, is renewed
 abbrev pub next_renewed : Who → List Call → Draft → Option ℕ
-next_renewed w H d = if can_send w d then latest (message_from w d) (max (length (sent H)) (length (told H))) 0 (accepted w H) None else None
+next_renewed w H d = if can_send w d then latest (message_from w d) (max (reached H) (length (told H))) 0 (accepted w H) None else None
 
--- what was taken is done; what wasn't is withdrawn where the address is lost
+-- a message that waits is withdrawn, unless it is a request, or the address is lost, by which it ends
+abbrev pub may_go : Option (ℕ × Message) → Bool
+may_go None = false
+may_go (Some x) = not (is_blank x || nat_eq x.1.group request_group)
+
+abbrev pub next_withdrawn : Who → List Call → ℕ → Bool
+next_withdrawn w H token = not (is_lost (address_after w H)) && (nat_le (reached H) token && may_go (slice_get (accepted w H) token))
+
+-- what was taken is done; what wasn't is withdrawn where that was asked, once those before it have ended, or the address is lost
 abbrev pub ending_of : Bool → Bool → ℕ → Option (ℕ × Ending)
 ending_of true lost token = Some (token, Done)
 ending_of false true token = Some (token, Withdrawn)
@@ -197,11 +205,11 @@ ending_of false false token = None
 
 abbrev pub end_of : Bool → Bool → Option (ℕ × Message) → Option (ℕ × Ending)
 end_of taken lost None = None
-end_of taken lost (Some x) = ending_of taken lost x.0
+end_of taken lost (Some x) = ending_of (taken && not (is_blank x)) (taken || lost) x.0
 
 abbrev pub next_ended : Who → List Call → Option (ℕ × Ending)
 next_ended w H =
-    end_of (nat_lt (length (told H)) (length (sent H))) (is_lost (address_after w H)) (slice_get (accepted w H) (length (told H)))
+    end_of (nat_lt (length (told H)) (reached H)) (is_lost (address_after w H)) (slice_get (accepted w H) (length (told H)))
 
 abbrev pub answer_to_broadcast : Who → List Call → ℕ → ℕ → List ℕ → Result ℕ Refused
 answer_to_broadcast w H now group bytes =
@@ -247,6 +255,7 @@ abbrev pub IsAnswered : Who → List Call → Call → Type 0
 IsAnswered w H (At now (TakeFrame answer)) = option_map stamped answer ≡ next_frame w H now
 IsAnswered w H (At now (Send draft answer)) = answer ≡ answer_to_send w H now draft
 IsAnswered w H (Renew draft answer) = answer ≡ next_renewed w H draft
+IsAnswered w H (Withdraw token answer) = answer ≡ next_withdrawn w H token
 IsAnswered w H (TakeEnded answer) = answer ≡ next_ended w H
 IsAnswered w H (TakeReceived answer) = answer ≡ next_received w H
 IsAnswered w H (TakeRequest answer) = answer ≡ next_request w H
@@ -294,7 +303,7 @@ hold_after w H = record {
   standing = standing_of (address_after w H);
   owes_claim = owes_claim w H;
   turns = min (turns H) 2;
-  yields = yields H;
+  yields = yields w H;
   patience = patience w H;
   delay = delayed w H;
   pause = pause H;
@@ -535,13 +544,19 @@ ended_with silent None = None
 ended_with silent (Some x) = option_map (λ e. (x.question.token, e)) (first x.ending silent)
 
 abbrev pub asking_after : Who → List Call → Option AskRecord
-asking_after w H = asked_by (open_ask H) (length (sent H)) (ended w H)
+asking_after w H = asked_by (open_ask H) (reached H) (ended w H)
 
 abbrev pub news_after : Who → List Call → Untold
 news_after w H = record { lost = lost_news w H; another = another_news w H; doubled = doubled_news w H; missed = missed_news w H || unheard_news w H }
 
 abbrev pub posted : Outgoing → ℕ × Message
 posted x = (x.token, carried (id_raw x.id) x.bytes.items)
+
+-- the place of the message of this token, of which the first has the least, if it is none before the nth and may be withdrawn
+abbrev pub place_of : ℕ → ℕ → List (ℕ × Message) → Option ℕ
+place_of n token [] = None
+place_of n token (x ∷ xs) =
+    if not (nat_lt token x.0) && (nat_le n (token - x.0) && may_go (slice_get (x ∷ xs) (token - x.0))) then Some (token - x.0) else None
 
 -- the message of a place, which keeps its token, is now this one
 pub record Renews (old : List Outgoing) (place : ℕ) (x : ℕ × Message) (token : ℕ) (new : List Outgoing) : Type 0 where
@@ -590,6 +605,7 @@ broadcast_by x = record {
   bytes = x.bytes.items;
   stamp = stamp_micros x.stamp;
   time = stamp_micros x.time;
+  since = stamp_micros x.since;
 }
 
 abbrev pub hearing_of : Hearing → HearingRecord
@@ -614,7 +630,7 @@ pub record Is (w : Who) (H : List Call) (c : Controller) : Type 0 where
   pub answered : AreAnswered w H
   pub hold : c.hold ≡ hold_after w H
   pub outgoing : map posted c.outgoing.items ≡ drop (length (told H)) (accepted w H)
-  pub taken : c.taken ≡ length (sent H) - length (told H)
+  pub taken : c.taken ≡ reached H - length (told H)
   pub token : c.next_token ≡ length (accepted w H)
   pub asking : asking_of c.asking ≡ asking_after w H
   pub unread : map received_by c.inbox.unread.items ≡ drop (length (got H)) (kept w H)

@@ -29,3 +29,4 @@ pub mod Aside
 pub mod Example
 pub mod AskExample
 pub mod PromptExample
+pub mod SteadyExample

@@ -2,7 +2,9 @@
 use Rattle.std.specs.Prelude.{◌&&◌, suc, if◌then◌else◌, ◌||◌, not, ◌≡◌, ◌≤◌, ℕ, ◌+◌, Bool, true, false, List, [], ◌∷◌, ◌++◌, Some, None}
 use Rattle.j39_frame.specs.Frame.{FrameRecord}
 use Rattle.j39_frame.specs.Identifier.{destination_of}
-use Rattle.j39_node.specs.History.{is_some, is_transfer, is_packet, is_acknowledgment, is_claim, Call, moment, step}
+use Rattle.std.specs.List.{slice_get}
+use Rattle.j39_node.specs.Reception.{is_reply, reception}
+use Rattle.j39_node.specs.History.{is_some, is_transfer, is_packet, is_acknowledgment, is_claim, Call, moment, step, Message, Who}
 use Rattle.j39_node.specs.History.Call.{At, TakeBroadcastEnded, TakeTransferEnded}
 use Rattle.j39_node.specs.History.Act.{Again, TakeFrame}
 
@@ -71,3 +73,13 @@ abbrev pub taken_for : ℕ → List Call → ℕ
 taken_for to [] = 0
 taken_for to (At now (TakeFrame (Some f)) ∷ later) = if counts_for to f then suc (taken_for to later) else taken_for to later
 taken_for to (call ∷ later) = taken_for to later
+
+-- this reply is the first that waits, before each of these calls and behind them, and none is taken
+abbrev pub takes_reply : Who → List Call → Call → Bool
+takes_reply w H (At now (TakeFrame (Some f))) = is_reply (reception w H).replies f
+takes_reply w H call = false
+
+abbrev pub StaysFirst : Who → Message → List Call → List Call → Type 0
+StaysFirst w m [] earlier = slice_get (reception w earlier).replies 0 ≡ Some m
+StaysFirst w m (call ∷ later) earlier =
+    StaysFirst w m later earlier × (takes_reply w (later ++ earlier) call ≡ false) × (slice_get (reception w (call ∷ later ++ earlier)).replies 0 ≡ Some m)

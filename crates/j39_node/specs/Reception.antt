@@ -15,7 +15,7 @@ use Rattle.j39_transport.specs.Reception.{ReceptionRecord, answers, limit_of}
 use Rattle.j39_transport.specs.Receiving.{ReceiverRecord, RecvResult, Heard, Tick as Ticks, partner_of, recv_step, result_of, said_to}
 use Rattle.j39_transport.specs.ReceiverStands.{WasHanded}
 use Rattle.j39_transport.specs.Signals.{Signal, Abort, Packet}
-use Rattle.j39_node.specs.History.{Who, Message, Call, accepted, acknowledged, due, holds, asks_with, is_claim, is_session, is_smaller, is_some, is_transfer, message_of, sent, stamp_at, of_other, is_acknowledgment}
+use Rattle.j39_node.specs.History.{reached, Who, Message, Call, accepted, acknowledged, due, holds, asks_with, is_claim, is_session, is_smaller, is_some, is_transfer, message_of, stamp_at, of_other, is_acknowledgment}
 use Rattle.j39_node.specs.History.Call.{At, ReleaseTransfer}
 use Rattle.j39_node.specs.History.Act.{Hear, Tick, TakeFrame}
 
@@ -258,6 +258,12 @@ reception w (At now (TakeFrame (Some f)) ∷ H) =
 reception w (ReleaseTransfer answer ∷ H) = released_by answer (reception w H)
 reception w (call ∷ H) = reception w H
 
+-- the frame that was taken last, but for claims and acknowledgments, was a reply
+abbrev pub yields : Who → List Call → Bool
+yields w [] = false
+yields w (At now (TakeFrame (Some f)) ∷ H) = if is_claim f || is_acknowledgment f then yields w H else is_reply (reception w H).replies f
+yields w (call ∷ H) = yields w H
+
 -- no session is open while a message waits
 abbrev pub IsApart : Reception → Type 0
 IsApart r = (r.waits ≡ None) ⊎ (r.session ≡ None)
@@ -333,7 +339,7 @@ pub record CameFromOne (w : Who) (H : List Call) (m : MessageRecord) : Type 0 wh
 -- a message, an acknowledgment or a reply waits
 abbrev pub is_waiting : Who → List Call → Bool
 is_waiting w H =
-    nat_lt (length (sent H)) (length (accepted w H)) || (nat_lt (length (acknowledged H)) (length (due w H))
+    nat_lt (reached H) (length (accepted w H)) || (nat_lt (length (acknowledged H)) (length (due w H))
     || nat_lt 0 (length (reception w H).replies))
 
 -- the first moment at which a tick says something, by when the last one was

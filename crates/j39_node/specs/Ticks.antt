@@ -1,11 +1,12 @@
 -- The first moment at which a tick does something but let time pass; and a driver that ticks in time, by its calls alone.
-use Rattle.std.specs.Prelude.{◌≤◌, ℕ, ◌+◌, List, [], ◌∷◌, ◌++◌, Option, Some, None}
+use Rattle.std.specs.Prelude.{◌≡◌, ◌≤◌, ℕ, ◌+◌, List, [], ◌∷◌, ◌++◌, Option, Some, None, false}
+use Rattle.j39_transport.specs.Frames.{packets_for}
 use Rattle.j39_transport.specs.Reception.{ReceptionRecord}
 use Rattle.j39_node.specs.History.{Who, Call, moment, step}
 use Rattle.j39_node.specs.History.Call.{At}
 use Rattle.j39_node.specs.History.Act.{Tick}
 use Rattle.j39_node.specs.Asking.{request_tick}
-use Rattle.j39_node.specs.Hearing.{hearing_tick}
+use Rattle.j39_node.specs.Hearing.{OpenBroadcast, ends_by, hearing, hearing_tick, is_whole}
 use Rattle.j39_node.specs.Reception.{reception, session_tick}
 use Rattle.j39_node.specs.Transfers.{sooner}
 
@@ -33,3 +34,13 @@ IsOpenOf n (Some r) = r.message.packets ≤ n
 abbrev pub StaysOpen : Who → ℕ → List Call → List Call → Type 0
 StaysOpen w n [] earlier = IsOpenOf n (reception w earlier).session
 StaysOpen w n (call ∷ later) earlier = StaysOpen w n later earlier × IsOpenOf n (reception w (call ∷ later ++ earlier)).session
+
+-- a broadcast that isn't whole is heard after each of these calls, on one account, each of at most n packets
+abbrev pub IsHeardOf : ℕ → Option OpenBroadcast → Type 0
+IsHeardOf n None = ⊥
+IsHeardOf n (Some x) = (is_whole x ≡ false) × (packets_for x.size ≤ n)
+
+abbrev pub StaysHeard : Who → ℕ → List Call → List Call → Type 0
+StaysHeard w n [] earlier = IsHeardOf n (hearing w earlier)
+StaysHeard w n (call ∷ later) earlier =
+    StaysHeard w n later earlier × (ends_by w (later ++ earlier) call ≡ false) × IsHeardOf n (hearing w (call ∷ later ++ earlier))

@@ -12,7 +12,7 @@ ghost use Rattle.j39_node.specs.declared.kinds.AskEnding.{AskEnding};
 ghost use Rattle.j39_node.specs.declared.kinds.AskEnding.TheVariants as ending;
 ghost use Rattle.j39_node.specs.declared.kinds.Refused.{Refused};
 ghost use Rattle.j39_node.specs.declared.kinds.Refused.TheVariants as refused;
-ghost use Rattle.j39_node.specs.History.{Who, Call, accepted, address_after, holds, is_lost, is_smaller, message_of, sent, step, told};
+ghost use Rattle.j39_node.specs.History.{reached, Who, Call, accepted, address_after, holds, is_lost, is_smaller, message_of, sent, step, told};
 ghost use Rattle.j39_node.specs.History.Call.{At, TakeAskEnded};
 ghost use Rattle.j39_node.specs.History.Act.{Ask, Hear, TakeFrame, Tick};
 ghost use Rattle.j39_node.specs.Reception.{reception, time_heard, whole};
@@ -62,8 +62,9 @@ pub fn request_means()
             bytes = q.group % 256 ∷ q.group / 256 % 256 ∷ q.group / 65536 % 256 ∷ [];
           },
         ) }
-    ensures once { (H : List Call) (now : ℕ) (f : FrameRecord) (q : Question) → open_ask H ≡ Some q → IsTrue (is_request H f)
-        → (is_taken q H ≡ false) × IsTrue (is_taken q (At now (TakeFrame (Some f)) ∷ H)) × (length (sent H) ≡ q.token) }
+    ensures once { (w : Who) (H : List Call) (c : Controller) (now : ℕ) (f : FrameRecord) (q : Question) → Is w H c → open_ask H ≡ Some q
+        → IsTrue (is_request H f)
+        → (is_taken q H ≡ false) × IsTrue (is_taken q (At now (TakeFrame (Some f)) ∷ H)) × (reached H ≡ q.token) }
     ensures since { (w : Who) (H : List Call) (c : Controller) (q : Question) → Is w H c → open_ask H ≡ Some q
         → IsTrue (is_taken q H) → (e : ℕ) × AskedSince H q e × (wait H ≡ 1250000 - e) }
 {}

@@ -18,7 +18,7 @@ ghost use Rattle.j39_node.specs.Hearing.{unheard, waiting};
 ghost use Rattle.j39_node.specs.Transfers.{clock, is_replaced, next_due, packet_in, packets_in, sooner, transfer_by, transfer_in};
 ghost use Rattle.j39_node.specs.Hold.{can_claim, lost, stands};
 ghost use Rattle.j39_node.specs.Moving.{HasMoved, IsSettled, has_given, has_told};
-ghost use Rattle.j39_node.specs.History.Call.{At, TakeAskEnded, TakeEnded, TakeReceived, TakeRequest, TakeNews, TakeBroadcastEnded, ReleaseTransfer, TakeTransferEnded, ReleaseBroadcast, Renew};
+ghost use Rattle.j39_node.specs.History.Call.{At, TakeAskEnded, TakeEnded, TakeReceived, TakeRequest, TakeNews, TakeBroadcastEnded, ReleaseTransfer, TakeTransferEnded, ReleaseBroadcast, Renew, Withdraw};
 ghost use Rattle.j39_node.specs.History.Act.{Ask, Hear, Tick, TakeFrame, Send, Acknowledge, Broadcast, Transfer, Again};
 ghost use Rattle.j39_node.specs.Asking.{in_broadcast, is_asking, is_coming, out_at};
 ghost use Rattle.j39_node.specs.Is.{asking_of, Is, next_claims_request, lane_of, next_frame, packet_by, posted, received_by, request_by, silence, stamped, status_after, who_of, port_of, hearing_of, incoming_of, session_by, waits_with, is_apart, is_turn, ready_in, turn_frame, turn_of};
@@ -29,7 +29,7 @@ use crate::hold::{Hold, SLACK, Standing};
 use crate::incoming::{Bearing, Incoming, is_same};
 use crate::lane::{Lane, Open};
 use crate::news::Untold;
-use crate::outgoing::{Outgoing, latest, renew};
+use crate::outgoing::{Outgoing, latest, past, place_of, renew};
 use crate::own::{Own, numbers, subscriptions};
 use crate::received::Inbox;
 use crate::requests::{Desk, Due, asked};
@@ -53,7 +53,7 @@ pub struct Controller {
     hold: Hold,
     /// What was accepted and is not told to have ended, the oldest first.
     outgoing: ArrayVec<Outgoing, 16>,
-    /// How many of these were taken.
+    /// The place of the first of these that waits: those before it were taken or withdrawn.
     taken: usize,
     next_token: u64,
     asking: Asking,
@@ -390,7 +390,7 @@ impl Controller {
                 let is_request = self.asking.take(next.token);
                 self.incoming.call(next.asks_claims(), now);
                 self.hold = self.hold.asked(is_request);
-                self.taken += 1;
+                self.taken = past(self.outgoing.as_slice(), self.taken + 1);
                 frame
             }
             Turn::Packet => {
@@ -403,7 +403,7 @@ impl Controller {
                 let clock = self.hold.clock();
                 let frame = self.transfers.frame(clock, now)?;
                 self.transfers.taken(clock);
-                self.hold = self.hold.spoken();
+                self.hold = self.hold.went();
                 Some(frame)
             }
         }
@@ -467,7 +467,25 @@ impl Controller {
         renew(&mut self.outgoing, place, message)
     }
 
-    /// Tells a message that ended, each once.
+    /// Withdraws a message of `send` that waits to be taken: it is never sent, and is told as `Withdrawn` once all before it have
+    /// ended. False, where nothing changes, if none waits under this token, for a request, and where the address is lost, by which
+    /// all that wait end.
+    pub fn withdraw(&mut self, token: u64) -> bool
+        ensures { (w : Who) (H : List Call) → Is w H self.old → Is w (Withdraw token result ∷ H) self.new }
+    {
+        if self.hold.is_lost() {
+            return false;
+        }
+        let place = match place_of(self.outgoing.as_slice(), self.taken, token) {
+            Some(place) => place,
+            None => return false,
+        };
+        renew(&mut self.outgoing, place, Outgoing::blank());
+        self.taken = past(self.outgoing.as_slice(), self.taken);
+        true
+    }
+
+    /// Tells a message that ended, each once, in the order of their tokens.
     pub fn take_ended(&mut self) -> Option<(u64, Ending)>
         ensures { (w : Who) (H : List Call) → Is w H self.old → Is w (TakeEnded result ∷ H) self.new }
     {
@@ -477,7 +495,7 @@ impl Controller {
         if self.taken > 0 {
             self.taken -= 1;
             let first = self.outgoing.remove(0);
-            return Some((first.token, Ending::Done));
+            return Some((first.token, first.ending()));
         }
         if self.hold.is_lost() {
             let first = self.outgoing.remove(0);

@@ -1,20 +1,22 @@
 //! Laws of a driver that comes back in time: what was accepted ends.
-ghost use Rattle.std.specs.Prelude.{◌≡◌, ◌⊎◌, ◌+◌, ◌-◌, ◌*◌, false, ◌<◌, ◌≤◌, ◌++◌, ℕ, List, ◌∷◌, length, Some, Ok, IsTrue};
+ghost use Rattle.std.specs.Prelude.{◌≡◌, ◌⊎◌, ◌+◌, ◌-◌, ◌*◌, false, ◌<◌, ◌≤◌, ◌++◌, ℕ, List, ◌∷◌, length, Some, Ok, IsTrue, []};
 ghost use Rattle.j39_transport.specs.Message.{packets_of};
 ghost use Rattle.j39_transport.specs.Protocol.{gap, timer_t3};
+ghost use Rattle.j39_node.specs.Reception.{is_reply, reception};
+ghost use Rattle.j39_node.specs.SteadyExample.{announced_start, asked_start, between_packets, claims_asked, message_start, steady_example, steady_start, transfer_accepted, turns_example, two_claims};
 ghost use Rattle.j39_node.specs.declared.controller.Controller.{Controller};
 ghost use Rattle.j39_node.specs.declared.kinds.Ending.{Ending};
 ghost use Rattle.j39_node.specs.declared.kinds.TransferEnding.{TransferEnding};
 ghost use Rattle.j39_node.specs.declared.kinds.TransferEnding.TheVariants as ending;
 ghost use Rattle.j39_frame.specs.Frame.{FrameRecord};
-ghost use Rattle.j39_node.specs.History.{Who, Call, Draft, accepted, address_after, broadcast_from, has_packets, is_held, is_lost, is_packet, sent, told};
+ghost use Rattle.j39_node.specs.History.{reached, Who, Call, Draft, accepted, address_after, broadcast_from, has_packets, is_held, is_lost, is_packet, sent, told, is_claim, message_of, Message};
 ghost use Rattle.j39_node.specs.History.Call.{At};
-ghost use Rattle.j39_node.specs.History.Act.{Ask, Broadcast, Send, TakeFrame, Transfer};
-ghost use Rattle.j39_node.specs.Is.{AreAnswered, Is, next_broadcast_ended, next_ended};
+ghost use Rattle.j39_node.specs.History.Act.{Ask, Broadcast, Send, TakeFrame, Transfer, Hear};
+ghost use Rattle.j39_node.specs.Is.{AreAnswered, Is, next_broadcast_ended, next_ended, next_other};
 ghost use Rattle.j39_node.specs.Transfers.{next_transfer_ended};
-ghost use Rattle.j39_node.specs.Prompt.{IsPrompt, IsSteady, NoneTold, packets_taken, taken_for, tells_broadcast, tells_transfer};
+ghost use Rattle.j39_node.specs.Prompt.{IsPrompt, IsSteady, NoneTold, packets_taken, taken_for, tells_broadcast, tells_transfer, StaysFirst};
 ghost use Rattle.j39_node.specs.Since.{passed_in};
-ghost use Rattle.j39_node.specs.Example.{nine, two};
+ghost use Rattle.j39_node.specs.Example.{nine, two, announcement, busy_to, clear_to, own_claim};
 ghost use Rattle.j39_node.specs.PromptExample.{prompt_example, prompt_start, transfer_example, transfer_start};
 
 /// A broadcast of n packets ends: where the driver is prompt by g microseconds since its acceptance, and more than
@@ -47,7 +49,7 @@ pub fn message_ends()
     ensures sent { (w : Who) (later earlier : List Call) (c : Controller) (g now k : ℕ) (d : Draft)
         → Is w (later ++ At now (Send d (Ok k)) ∷ earlier) c → IsPrompt g later (At now (Send d (Ok k)) ∷ earlier)
         → g < passed_in later (At now (Send d (Ok k)) ∷ earlier)
-        → (k < length (sent (later ++ At now (Send d (Ok k)) ∷ earlier)))
+        → (k < reached (later ++ At now (Send d (Ok k)) ∷ earlier))
         ⊎ IsTrue (is_lost (address_after w (later ++ At now (Send d (Ok k)) ∷ earlier))) }
     ensures sent_told { (w : Who) (later earlier : List Call) (c : Controller) (g now k : ℕ) (d : Draft)
         → Is w (later ++ At now (Send d (Ok k)) ∷ earlier) c → IsPrompt g later (At now (Send d (Ok k)) ∷ earlier)
@@ -57,7 +59,7 @@ pub fn message_ends()
     ensures asked { (w : Who) (later earlier : List Call) (c : Controller) (g now group to k : ℕ)
         → Is w (later ++ At now (Ask group to (Ok k)) ∷ earlier) c → IsPrompt g later (At now (Ask group to (Ok k)) ∷ earlier)
         → g < passed_in later (At now (Ask group to (Ok k)) ∷ earlier)
-        → (k < length (sent (later ++ At now (Ask group to (Ok k)) ∷ earlier)))
+        → (k < reached (later ++ At now (Ask group to (Ok k)) ∷ earlier))
         ⊎ IsTrue (is_lost (address_after w (later ++ At now (Ask group to (Ok k)) ∷ earlier))) }
     ensures asked_told { (w : Who) (later earlier : List Call) (c : Controller) (g now group to k : ℕ)
         → Is w (later ++ At now (Ask group to (Ok k)) ∷ earlier) c → IsPrompt g later (At now (Ask group to (Ok k)) ∷ earlier)
@@ -91,13 +93,22 @@ pub fn packets_go()
 pub fn messages_go()
     ensures sent { (w : Who) (later earlier : List Call) (c : Controller) (g k : ℕ) → Is w (later ++ earlier) c
         → IsTrue (is_held (address_after w earlier)) → k < length (accepted w earlier) → IsSteady g later earlier
-        → (k - length (sent earlier) + packets_taken later + 1) * (6 * g) < passed_in later earlier
-        → (k < length (sent (later ++ earlier))) ⊎ IsTrue (is_lost (address_after w (later ++ earlier))) }
+        → (k - reached earlier + packets_taken later + 1) * (6 * g) < passed_in later earlier
+        → (k < reached (later ++ earlier)) ⊎ IsTrue (is_lost (address_after w (later ++ earlier))) }
     ensures told { (w : Who) (later earlier : List Call) (c : Controller) (g k : ℕ) → Is w (later ++ earlier) c
         → IsTrue (is_held (address_after w earlier)) → k < length (accepted w earlier) → IsSteady g later earlier
-        → (k - length (sent earlier) + packets_taken later + 1) * (6 * g) < passed_in later earlier
+        → (k - reached earlier + packets_taken later + 1) * (6 * g) < passed_in later earlier
         → length (told (later ++ earlier)) ≤ k
         → (e : Ending) × (next_ended w (later ++ earlier) ≡ Some (length (told (later ++ earlier)), e)) }
+{}
+
+/// To such a driver a reply goes, whatever else is due, packets of its own transfer too: as long as one is the first that waits, and none
+/// is taken, at most 3 g * (p + 2) pass, where p frames of broadcasts are taken meanwhile; or the address is lost.
+pub fn replies_go()
+    ensures { (w : Who) (later earlier : List Call) (c : Controller) (g : ℕ) (m : Message) → Is w (later ++ earlier) c
+        → IsTrue (is_held (address_after w earlier)) → StaysFirst w m later earlier → IsSteady g later earlier
+        → is_lost (address_after w (later ++ earlier)) ≡ false
+        → passed_in later earlier ≤ (packets_taken later + 2) * (3 * g) }
 {}
 
 /// To such a driver a transfer of n packets ends, whoever asks: within (n + 65) * (T3 + 3 g) + 6 g * (q + 1), if that is below
@@ -138,4 +149,33 @@ pub fn an_example_of_a_transfer()
     ensures long { (packets_of (broadcast_from two 65226 nine) + 65) * (timer_t3 + 1000000) + 1000000
         < passed_in transfer_example transfer_start }
     ensures ended { next_transfer_ended two (transfer_example ++ transfer_start) ≡ Some (0, ending.Done) }
+{}
+
+/// All answers of this history are those that a controller gives, its driver takes one frame at least in each second, and a message, a
+/// broadcast and a transfer have gone: so `messages_go`, `packets_go` and `transfers_go` speak of something.
+#[tactic(auto, unfolding(j39_transport::specs::Cutting::cut_frame, j39_transport::specs::Cutting::announcement_of, j39_transport::specs::Cutting::packet_of, j39_transport::specs::Cutting::packet_data, j39_transport::specs::Sending::new_sender, j39_transport::specs::Sending::send_step, j39_transport::specs::Sending::ticks_in, j39_transport::specs::Sending::sends_packet, j39_transport::specs::Sending::hears, j39_transport::specs::Sending::cleared, j39_transport::specs::Sending::acknowledged, j39_transport::specs::Sending::aborted, j39_transport::specs::Signals::said_between, j39_transport::specs::Signals::said_by, j39_transport::specs::Signals::control_in, j39_transport::specs::Signals::packet_in, j39_transport::specs::Frames::is_announcement, j39_transport::specs::Frames::is_packet, j39_transport::specs::Frames::goes, j39_transport::specs::Frames::group_of, j39_transport::specs::Frames::source_of, j39_transport::specs::Frames::destination_of, j39_transport::specs::Reception::takes_request, j39_transport::specs::Reception::begun, j39_transport::specs::Reception::grants, j39_transport::specs::Reception::granted_at, j39_transport::specs::Reception::takes_data, j39_transport::specs::Reception::takes_packet, j39_transport::specs::Reception::goes_on, j39_transport::specs::Reception::delivers_message, j39_transport::specs::Signals::request_in, j39_transport::specs::Signals::written, j39_transport::specs::Frames::names_message, j39_transport::specs::Key::key_between, j39_transport::specs::Receiving::recv_step, j39_transport::specs::Receiving::said_to, j39_transport::specs::Reception::takes_signal, j39_transport::specs::Reception::takes_tick))]
+pub fn an_example_of_steadiness()
+    ensures answered { AreAnswered two (steady_example ++ steady_start) }
+    ensures steady { IsSteady 1000000 (steady_example ++ transfer_accepted ++ At 300000 (Broadcast 65226 nine (Ok 0)) ∷ []) message_start }
+    ensures not_told { NoneTold tells_transfer steady_example × NoneTold tells_broadcast (steady_example ++ transfer_accepted) }
+    ensures message { IsTrue (is_held (address_after two steady_start)) × (0 < length (accepted two steady_start))
+        × ((0 - reached steady_start + packets_taken steady_example + 1) * (6 * 1000000) < passed_in steady_example steady_start) }
+    ensures broadcast { (packets_of (broadcast_from two 65226 nine) + 1) * (150000 + 3 * 1000000)
+        < passed_in (steady_example ++ transfer_accepted) (At 300000 (Broadcast 65226 nine (Ok 0)) ∷ message_start) }
+    ensures apart { IsTrue (is_packet (announcement 400000)) × IsTrue (has_packets two announced_start) × (packets_taken between_packets ≡ 0)
+        × (is_lost (address_after two (between_packets ++ announced_start)) ≡ false) }
+    ensures transfer { (packets_of (broadcast_from two 65226 nine) + 65) * (timer_t3 + 3 * 1000000)
+        + (taken_for 11 steady_example + 1) * (6 * 1000000) < passed_in steady_example steady_start }
+{}
+
+/// All answers of this history are those that a controller gives; two claims are taken in a row, and then a reply that is due; and
+/// behind a reply a message that waits: so `takes_turns` speaks of something.
+#[tactic(auto, unfolding(j39_transport::specs::Cutting::cut_frame, j39_transport::specs::Cutting::announcement_of, j39_transport::specs::Cutting::packet_of, j39_transport::specs::Cutting::packet_data, j39_transport::specs::Sending::new_sender, j39_transport::specs::Sending::send_step, j39_transport::specs::Sending::ticks_in, j39_transport::specs::Sending::sends_packet, j39_transport::specs::Sending::hears, j39_transport::specs::Sending::cleared, j39_transport::specs::Sending::acknowledged, j39_transport::specs::Sending::aborted, j39_transport::specs::Signals::said_between, j39_transport::specs::Signals::said_by, j39_transport::specs::Signals::control_in, j39_transport::specs::Signals::packet_in, j39_transport::specs::Frames::is_announcement, j39_transport::specs::Frames::is_packet, j39_transport::specs::Frames::goes, j39_transport::specs::Frames::group_of, j39_transport::specs::Frames::source_of, j39_transport::specs::Frames::destination_of, j39_transport::specs::Reception::takes_request, j39_transport::specs::Reception::begun, j39_transport::specs::Reception::grants, j39_transport::specs::Reception::granted_at, j39_transport::specs::Reception::takes_data, j39_transport::specs::Reception::takes_packet, j39_transport::specs::Reception::goes_on, j39_transport::specs::Reception::delivers_message, j39_transport::specs::Signals::request_in, j39_transport::specs::Signals::written, j39_transport::specs::Frames::names_message, j39_transport::specs::Key::key_between, j39_transport::specs::Receiving::recv_step, j39_transport::specs::Receiving::said_to, j39_transport::specs::Reception::takes_signal, j39_transport::specs::Reception::takes_tick))]
+pub fn an_example_of_turns()
+    ensures answered { AreAnswered two turns_example }
+    ensures others { IsTrue (is_claim (own_claim 300006)) × (next_other two (At 300007 (Hear (claims_asked 300007)) ∷ two_claims) 300008
+        ≡ Some (message_of (busy_to 300008))) }
+    ensures behind_a_reply { IsTrue (is_reply (reception two asked_start).replies (clear_to 300001))
+        × (reached (At 300001 (TakeFrame (Some (clear_to 300001))) ∷ asked_start)
+        < length (accepted two (At 300001 (TakeFrame (Some (clear_to 300001))) ∷ asked_start))) }
 {}

@@ -8,7 +8,7 @@ ghost use Rattle.j39_transport.specs.Frames.{agree, goes, pgn_named, size_named}
 ghost use Rattle.j39_transport.specs.Key.{Broadcast, is_key};
 ghost use Rattle.j39_transport.specs.ReceiverModel.{message_shown};
 ghost use Rattle.j39_node.specs.Reception.{has_place};
-ghost use Rattle.j39_node.specs.Hearing.{IsFit, announces, begun, breaks, goes_on, grown, has_room, hears, is_gap, is_ignored, is_late, is_out, is_partial, is_unheard, is_whole, late_at, left, opens, packed, packs, passes_by, skips, whole_of};
+ghost use Rattle.j39_node.specs.Hearing.{IsFit, announces, begun, breaks, goes_on, grown, has_room, hears, is_gap, is_ignored, is_late, is_out, is_partial, is_unheard, is_whole, late_at, left, expires, opens, packed, packs, passes_by, since_in, skips, whole_of};
 ghost use Rattle.j39_node.specs.Asking.{in_broadcast};
 ghost use Rattle.j39_node.specs.History.{nothing};
 ghost use Rattle.j39_node.specs.Is.{broadcast_by, hearing_of, made_by, who_of};
@@ -60,13 +60,15 @@ pub(crate) struct Heard {
     pub(crate) stamp: Stamp,
     /// The same, by the sum of the forward steps.
     pub(crate) time: Stamp,
+    /// The time since which its source has one open.
+    pub(crate) since: Stamp,
 }
 
 impl Heard {
-    fn new(announcement: Announcement, frame: &Frame, time: Stamp) -> Heard
+    fn new(announcement: Announcement, frame: &Frame, since: Stamp, time: Stamp) -> Heard
         requires group { pgn_raw announcement.group ≡ pgn_named frame.now }
         requires size { announcement.size ≡ size_named frame.now }
-        ensures { broadcast_by result ≡ begun (stamp_micros time) frame.now }
+        ensures { broadcast_by result ≡ begun (stamp_micros since) (stamp_micros time) frame.now }
     {
         Heard {
             source: frame.id.source(),
@@ -76,6 +78,7 @@ impl Heard {
             bytes: ArrayVec::new(),
             stamp: frame.stamp,
             time,
+            since,
         }
     }
 
@@ -88,7 +91,17 @@ impl Heard {
     fn is_late(&self, time: Stamp) -> bool
         ensures { result ≡ is_late (stamp_micros time) (broadcast_by self.now) }
     {
-        self.time.micros() + LIMIT < time.micros()
+        self.expires() < time.micros()
+    }
+
+    /// Till when its next packet may come: 750 ms after the last, or its announcement, and (n + 1) * 750 ms, of n packets, after
+    /// the first of its source's that took one another's place (own).
+    fn expires(&self) -> u64
+        ensures { result ≡ expires (broadcast_by self.now) }
+    {
+        let packets = (u64::from(self.size) + 6) / 7;
+        let account = self.since.micros() + (packets + 1) * LIMIT;
+        account.min(self.time.micros() + LIMIT)
     }
 
     /// Whether packets of this source are its own, and it isn't whole.
@@ -192,7 +205,7 @@ impl Hearing {
         is_left || self.is_out(time)
     }
 
-    /// More than 750 ms passed since its last packet, or its announcement.
+    /// The time till which its next packet may come is over.
     pub(crate) fn is_out(&self, time: Stamp) -> bool
         ensures { result ≡ is_out (stamp_micros time) (hearing_of self.now).current }
     {
@@ -211,7 +224,7 @@ impl Hearing {
                 if heard.is_whole() {
                     return None;
                 }
-                let left = (heard.time.micros() + LIMIT + 1).saturating_sub(clock.micros());
+                let left = (heard.expires() + 1).saturating_sub(clock.micros());
                 Stamp::new(moment.saturating_add(left))
             }
             None => None,
@@ -317,6 +330,16 @@ impl Hearing {
         }
     }
 
+    /// The time since which the source of the open one has one open; else this one.
+    fn since(&self, time: Stamp) -> Stamp
+        ensures { stamp_micros result ≡ since_in (stamp_micros time) (hearing_of self.now).current }
+    {
+        match &self.current {
+            Some(heard) => heard.since,
+            None => time,
+        }
+    }
+
     /// A message is announced.
     fn announce(
         &mut self,
@@ -333,13 +356,14 @@ impl Hearing {
             ≡ (if result then min (self.old.missed + 1) 18446744073709551615 else self.old.missed) }
         ensures current { (hearing_of self.new).current
             ≡ (if has_room (source_of frame.now.id) (hearing_of self.old).current
-            then opens (who_of nothing own.now) (stamp_micros time) frame.now else (hearing_of self.old).current) }
+            then opens (who_of nothing own.now) (stamp_micros time) frame.now (hearing_of self.old).current else (hearing_of self.old).current) }
     {
         let is_ignored = is_own_group(announcement.group) || !own.is_subscribed(announcement.group);
         if self.has_room(frame.id.source()) {
+            let since = self.since(time);
             let breaks = self.leave(true);
             if !is_ignored {
-                self.current = Some(Heard::new(announcement, frame, time));
+                self.current = Some(Heard::new(announcement, frame, since, time));
             }
             return breaks;
         }

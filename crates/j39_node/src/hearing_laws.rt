@@ -1,17 +1,20 @@
 //! The laws of broadcasts in packets that are heard.
-ghost use Rattle.std.specs.Prelude.{◌≡◌, ◌≢◌, ◌⊎◌, ◌<◌, ◌≤◌, ◌↔◌, ◌++◌, ◌+◌, ℕ, suc, Bool, List, ◌∷◌, length, take, drop, slice_index, None, Some, IsTrue, true, false};
+ghost use Rattle.std.specs.Prelude.{◌≡◌, ◌≢◌, ◌⊎◌, ◌<◌, ◌≤◌, ◌↔◌, ◌++◌, ◌+◌, ◌*◌, ℕ, suc, Bool, List, ◌∷◌, length, take, drop, slice_index, None, Some, IsTrue, true, false};
 ghost use Rattle.j39_frame.specs.Frame.{FrameRecord};
 ghost use Rattle.j39_frame.specs.Identifier.{source_of};
 ghost use Rattle.j39_address.specs.Claim.{claim_of};
-ghost use Rattle.j39_transport.specs.Frames.{pgn_named};
+ghost use Rattle.j39_transport.specs.Frames.{packets_for, pgn_named};
 ghost use Rattle.j39_transport.specs.Message.{MessageRecord};
+ghost use Rattle.j39_transport.specs.Protocol.{broadcast_limit};
 ghost use Rattle.j39_node.specs.declared.controller.Controller.{Controller};
 ghost use Rattle.j39_node.specs.History.{Who, Call, is_claim, is_own_group, is_subscribed};
 ghost use Rattle.j39_node.specs.History.Call.{At, ReleaseBroadcast};
-ghost use Rattle.j39_node.specs.History.Act.{Hear, TakeFrame};
-ghost use Rattle.j39_node.specs.Hearing.{OpenBroadcast, WasBroadcast, announced, announces, begun, found, got_broadcasts, grown, hearing, in_time, is_late, is_partial, is_whole, made_whole, more, packs, unheard, unheard_news, waiting, whole_broadcasts};
+ghost use Rattle.j39_node.specs.History.Act.{Hear, Tick, TakeFrame};
+ghost use Rattle.j39_node.specs.Hearing.{OpenBroadcast, WasBroadcast, account, announced, announces, ends_by, found, got_broadcasts, grown, hearing, in_time, is_late, is_partial, is_whole, made_whole, more, opened, packs, unheard, unheard_news, waiting, whole_broadcasts};
 ghost use Rattle.j39_node.specs.Is.{Is};
 ghost use Rattle.j39_node.specs.Reception.{holder, known, listed, time_heard};
+ghost use Rattle.j39_node.specs.Since.{NeverBack, passed_in};
+ghost use Rattle.j39_node.specs.Ticks.{StaysHeard, TicksWithin};
 
 /// What packets to all make whole is got by the program, each once, in order, or waits. It was sent by one: its announcement was heard,
 /// then its packets in order, and of its source nothing between them but packets of numbers that came before; and since the
@@ -30,9 +33,9 @@ pub fn broadcasts_received()
 pub fn announcements_heard()
     ensures heard { (w : Who) (H : List Call) (now : ℕ) (f : FrameRecord) → announces f ≡ true → is_own_group (pgn_named f) ≡ false
         → IsTrue (is_subscribed w (pgn_named f))
-        → (hearing w (At now (Hear f) ∷ H) ≡ Some (begun (time_heard (At now (Hear f) ∷ H)) f)) ⊎ (unheard w (At now (Hear f) ∷ H) ≡ suc (unheard w H)) }
+        → (hearing w (At now (Hear f) ∷ H) ≡ Some (opened w H now f)) ⊎ (unheard w (At now (Hear f) ∷ H) ≡ suc (unheard w H)) }
     ensures full { (w : Who) (H : List Call) (now : ℕ) (f : FrameRecord) → announces f ≡ true → is_own_group (pgn_named f) ≡ false
-        → IsTrue (is_subscribed w (pgn_named f)) → hearing w (At now (Hear f) ∷ H) ≢ Some (begun (time_heard (At now (Hear f) ∷ H)) f)
+        → IsTrue (is_subscribed w (pgn_named f)) → hearing w (At now (Hear f) ∷ H) ≢ Some (opened w H now f)
         → (x : OpenBroadcast) × (found w H now f ≡ Some x)
         × (IsTrue (is_whole x) ⊎ ((source_of f.id ≢ x.source) × (is_late (time_heard (At now (Hear f) ∷ H)) x ≡ false))) }
     ensures exact { (w : Who) (H : List Call) (c : Controller) → Is w H c
@@ -41,6 +44,29 @@ pub fn announcements_heard()
         → IsTrue (is_subscribed w x.1.pgn) × (is_own_group x.1.pgn ≡ false) }
     ensures news { (w : Who) (H : List Call) → IsTrue (unheard_news w H) → 0 < unheard w H }
     ensures told { (w : Who) (H : List Call) (call : Call) → unheard w (call ∷ H) ≢ unheard w H → IsTrue (unheard_news w (call ∷ H)) }
+{}
+
+/// A broadcast's place is free by itself, whatever its source or anybody else sends (own). Its account runs from the announcement
+/// that finds the place free; one that takes the place of another of its source goes on with it. What a frame finds, or a tick
+/// leaves, had its last packet at most 750 ms before, and is at most (n + 1) * 750 ms old, of a message of n packets; what is
+/// older is over by it. So to a driver whose clock never goes back and that ticks within each g, the place is free, or holds
+/// what is whole, within (n + 1) * 750 ms + g of that announcement, where n is the most packets that one of its source's named.
+pub fn broadcasts_end()
+    ensures begins { (w : Who) (H : List Call) (now : ℕ) (f : FrameRecord) (x : OpenBroadcast) → found w H now f ≡ None
+        → hearing w (At now (Hear f) ∷ H) ≡ Some x → x.since ≡ time_heard (At now (Hear f) ∷ H) }
+    ensures runs { (w : Who) (H : List Call) (call : Call) (x y : OpenBroadcast) → hearing w H ≡ Some x → is_whole x ≡ false
+        → hearing w (call ∷ H) ≡ Some y → ends_by w H call ≡ false → y.since ≡ x.since }
+    ensures heard { (w : Who) (H : List Call) (now : ℕ) (f : FrameRecord) (x : OpenBroadcast) → found w H now f ≡ Some x → is_whole x ≡ false
+        → (time_heard (At now (Hear f) ∷ H) ≤ x.time + broadcast_limit)
+        × (time_heard (At now (Hear f) ∷ H) ≤ x.since + account (packets_for x.size)) }
+    ensures ticked { (w : Who) (H : List Call) (now : ℕ) (x : OpenBroadcast) → hearing w (At now Tick ∷ H) ≡ Some x → is_whole x ≡ false
+        → (time_heard (At now Tick ∷ H) ≤ x.time + broadcast_limit)
+        × (time_heard (At now Tick ∷ H) ≤ x.since + account (packets_for x.size)) }
+    ensures ends { (w : Who) (later earlier : List Call) (g n at : ℕ) (f : FrameRecord) → found w earlier at f ≡ None
+        → StaysHeard w n later (At at (Hear f) ∷ earlier) → TicksWithin g later (At at (Hear f) ∷ earlier)
+        → NeverBack later (At at (Hear f) ∷ earlier)
+        → time_heard (At at (Hear f) ∷ earlier) + passed_in later (At at (Hear f) ∷ earlier) < 10000000000000000
+        → passed_in later (At at (Hear f) ∷ earlier) ≤ (n + 1) * broadcast_limit + g }
 {}
 
 /// The next packet of the broadcast that is open is appended, in time, and the last makes it whole; a repeat changes nothing, one

@@ -4,7 +4,7 @@ ghost use Rattle.std.specs.Option.{option_map};
 ghost use Rattle.j39_frame.specs.Stamp.{stamp_micros};
 ghost use Rattle.j39_node.specs.History.{stamp_at};
 ghost use Rattle.j39_node.specs.declared.hold.Standing.TheVariants as standing;
-ghost use Rattle.j39_node.specs.Hold.{acknowledged, asked, first, passed, heard, moved, claimed, paused, renewed, rested, spoken, opens, stands, lost, less, claims, left_at, anew, can_claim, unclaims};
+ghost use Rattle.j39_node.specs.Hold.{acknowledged, asked, first, passed, heard, moved, claimed, paused, renewed, rested, spoken, went, opens, stands, lost, less, claims, left_at, anew, can_claim, unclaims};
 
 use j39_frame::Stamp;
 
@@ -77,7 +77,7 @@ pub(crate) struct Hold {
     pub(crate) owes_claim: bool,
     /// How many of the frames taken last were claims or acknowledgments, up to two.
     pub(crate) turns: u8,
-    /// The frame taken last, but for these, was one of a session to an address.
+    /// The frame taken last, but for these, was a reply.
     pub(crate) yields: bool,
     /// What is left of the time in which another at its address isn't answered again.
     pub(crate) patience: u32,
@@ -225,7 +225,16 @@ impl Hold {
         self
     }
 
-    /// A frame of a session to an address was taken.
+    /// A frame was taken behind which no reply yields.
+    pub(crate) fn went(mut self) -> Hold
+        ensures { result ≡ went self }
+    {
+        self.turns = 0;
+        self.yields = false;
+        self
+    }
+
+    /// A reply was taken.
     pub(crate) fn spoken(mut self) -> Hold
         ensures { result ≡ spoken self }
     {
@@ -238,10 +247,8 @@ impl Hold {
     pub(crate) fn paused(mut self) -> Hold
         ensures { result ≡ paused self }
     {
-        self.turns = 0;
-        self.yields = false;
         self.pause = PACKET_TIME;
-        self
+        self.went()
     }
 
     /// A broadcast was accepted.

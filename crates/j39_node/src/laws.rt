@@ -1,12 +1,12 @@
 //! Laws over histories, each the contract of a function that does nothing. `Is w H c` says that the controller c was made for
 //! w and called as H says since, with the answers that H has; in H the newest call stands first.
-ghost use Rattle.std.specs.Prelude.{◌≡◌, ◌||◌, ◌≢◌, ◌⊎◌, ◌+◌, ◌*◌, ◌-◌, ◌<◌, ◌≤◌, ◌↔◌, ◌++◌, ℕ, Bool, List, [], ◌∷◌, length, drop, map, Some, None, Option, Result, Ok, Err, IsTrue, true, false};
+ghost use Rattle.std.specs.Prelude.{◌≡◌, ◌||◌, ◌≢◌, ◌⊎◌, ◌+◌, ◌*◌, ◌-◌, ◌<◌, ◌≤◌, ◌↔◌, ◌++◌, ℕ, Bool, List, [], ◌∷◌, length, drop, map, Some, None, Option, Result, Ok, Err, IsTrue, true, false, take, nat_eq};
 ghost use Rattle.std.specs.List.{slice_get};
 ghost use Rattle.j39_frame.specs.Frame.{FrameRecord};
 ghost use Rattle.j39_frame.specs.Identifier.{destination_of, source_of, pgn_of};
 ghost use Rattle.j39_address.specs.Claim.{claim_of};
 ghost use Rattle.j39_transport.specs.Reception.{ReceptionRecord};
-ghost use Rattle.j39_frame.specs.Network.{address_claimed_group};
+ghost use Rattle.j39_frame.specs.Network.{address_claimed_group, request_group};
 ghost use Rattle.j39_transport.specs.Message.{MessageRecord, packets_of};
 ghost use Rattle.j39_address.specs.declared.status.Status.TheVariants as status;
 ghost use Rattle.j39_node.specs.declared.controller.Controller.{Controller};
@@ -18,10 +18,10 @@ ghost use Rattle.j39_node.specs.declared.kinds.News.{News};
 ghost use Rattle.j39_node.specs.declared.kinds.News.TheVariants as news;
 ghost use Rattle.j39_node.specs.declared.kinds.Refused.{Refused};
 ghost use Rattle.j39_node.specs.declared.kinds.Refused.TheVariants as refused;
-ghost use Rattle.j39_node.specs.History.{Act, Who, is_smaller, Asked, Call, Message, Draft, IsFront, accepted, acknowledgment, acknowledgment_group, asked, asked_group, handed, is_served, requests, lost_news, another_news, missed_news, address_after, answers_another, calls, can_send, claim_address, claim_from, content, acknowledged, due, frames, got, heard, holds, is_held, is_lost, is_subscribed, kept, message_of, missed, moment, owes_claim, sent, step, told, all_frames, broadcasts, can_broadcast, first_frames, frame_of, has_packets, is_acknowledgment, is_claim, is_packet, is_transfer, open_broadcast, packets, told_broadcasts, refusal_waits, waits_already, yields, is_alike, message_from, told_claims, delayed, doubled_news};
-ghost use Rattle.j39_node.specs.History.Call.{At, TakeBroadcastEnded, ReleaseTransfer, TakeNews, TakeRequest, TakeAskEnded, TakeEnded, TakeReceived, TakeTransferEnded, Renew};
+ghost use Rattle.j39_node.specs.History.{reached, Act, Who, is_smaller, Asked, Call, Message, Draft, IsFront, accepted, acknowledgment, acknowledgment_group, asked, asked_group, handed, is_served, requests, lost_news, another_news, missed_news, address_after, answers_another, calls, can_send, claim_address, claim_from, content, acknowledged, due, frames, got, heard, holds, is_held, is_lost, is_subscribed, kept, message_of, missed, moment, owes_claim, sent, step, told, all_frames, broadcasts, can_broadcast, first_frames, frame_of, has_packets, is_acknowledgment, is_claim, is_packet, is_transfer, open_broadcast, packets, told_broadcasts, refusal_waits, waits_already, is_alike, message_from, told_claims, delayed, doubled_news, marks, unblanked, is_blank};
+ghost use Rattle.j39_node.specs.History.Call.{At, TakeBroadcastEnded, ReleaseTransfer, TakeNews, TakeRequest, TakeAskEnded, TakeEnded, TakeReceived, TakeTransferEnded, Renew, Withdraw};
 ghost use Rattle.j39_node.specs.History.Act.{Acknowledge, Broadcast, Hear, Tick, TakeFrame, Send, Transfer, Again};
-ghost use Rattle.j39_node.specs.Reception.{CameFromOne, delivered, got_transfers, heard_at, holder, is_move, known, listed, reception, session_tick, replied, reply_from, says, time_heard, whole, without};
+ghost use Rattle.j39_node.specs.Reception.{is_reply, yields, CameFromOne, delivered, got_transfers, heard_at, holder, is_move, known, listed, reception, session_tick, replied, reply_from, says, time_heard, whole, without};
 ghost use Rattle.j39_transport.specs.Cutting.{ToSend};
 ghost use Rattle.j39_transport.specs.Receiving.{said_to};
 ghost use Rattle.j39_transport.specs.Signals.{RequestToSend};
@@ -77,23 +77,39 @@ pub fn accounted_once()
     ensures told { (w : Who) (H : List Call) (c : Controller) (k : ℕ) (e : Ending)
         → Is w (TakeEnded (Some (k, e)) ∷ H) c → (k ≡ length (told H)) × (k < length (accepted w H)) }
     ensures all { (w : Who) (H : List Call) (c : Controller) → Is w (TakeEnded None ∷ H) c
-        → (length (sent H) ≤ length (told H))
+        → (reached H ≤ length (told H))
         × (IsTrue (is_lost (address_after w H)) → length (told H) ≡ length (accepted w H)) }
 {}
 
-/// The frames taken that are no claims, no acknowledgments and none of packets are the messages accepted, in order, none left
-/// out. One is told as done where its frame was taken, and only there; as withdrawn only where the address is lost. Where an
-/// address is held and no frame is taken, none waits.
+/// The frames taken that are no claims, no acknowledgments and none of packets are the messages accepted but for those that were
+/// withdrawn, in order, none left out. One is told as done where its frame was taken, and only there; as withdrawn only where it was
+/// withdrawn, or the address is lost. Where an address is held and no frame is taken, none waits.
 pub fn done_means()
     ensures in_order { (w : Who) (H : List Call) (c : Controller) → Is w H c
-        → IsFront (sent H) (map content (accepted w H)) }
+        → (sent H ≡ map content (unblanked (take (reached H) (accepted w H)))) × (reached H ≤ length (accepted w H))
+        × (marks H ≡ map is_blank (accepted w H)) }
     ensures done { (w : Who) (H : List Call) (c : Controller) (k : ℕ) (e : Ending)
-        → Is w (TakeEnded (Some (k, e)) ∷ H) c → (e ≡ ending.Done ↔ (k < length (sent H))) }
+        → Is w (TakeEnded (Some (k, e)) ∷ H) c
+        → (e ≡ ending.Done ↔ ((k < reached H) × (slice_get (marks H) k ≡ Some false))) }
     ensures withdrawn { (w : Who) (H : List Call) (c : Controller) (k : ℕ) (e : Ending)
-        → Is w (TakeEnded (Some (k, e)) ∷ H) c → e ≡ ending.Withdrawn → IsTrue (is_lost (address_after w H)) }
+        → Is w (TakeEnded (Some (k, e)) ∷ H) c → e ≡ ending.Withdrawn
+        → IsTrue (is_lost (address_after w H)) ⊎ (slice_get (marks H) k ≡ Some true) }
     ensures none_waits { (w : Who) (H : List Call) (c : Controller) (now : ℕ) → Is w (At now (TakeFrame None) ∷ H) c
         → IsTrue (holds w H now)
-        → (length (sent H) ≡ length (accepted w H)) × (length (acknowledged H) ≡ length (due w H)) }
+        → (reached H ≡ length (accepted w H)) × (length (acknowledged H) ≡ length (due w H)) }
+{}
+
+/// `withdraw` takes back a message that waits, isn't withdrawn yet and is no request, unless the address is lost; and answers
+/// whether it did. From then on it is withdrawn, and no other is by it; so its frame is never taken (`done_means`).
+pub fn withdraw_means()
+    ensures known { (w : Who) (H : List Call) (c : Controller) (k : ℕ) (answer : Bool) → Is w (Withdraw k answer ∷ H) c
+        → (answer ≡ true ↔ ((is_lost (address_after w H) ≡ false) × (reached H ≤ k)
+        × ((m : Message) × (slice_get (accepted w H) k ≡ Some (k, m)) × (nat_eq m.group request_group ≡ false)
+        × (slice_get (marks H) k ≡ Some false)))) }
+    ensures marks { (w : Who) (H : List Call) (c : Controller) (k : ℕ) → Is w (Withdraw k true ∷ H) c
+        → slice_get (marks (Withdraw k true ∷ H)) k ≡ Some true }
+    ensures others { (H : List Call) (k j : ℕ) → j ≢ k
+        → slice_get (marks (Withdraw k true ∷ H)) j ≡ slice_get (marks H) j }
 {}
 
 /// What `send` answers: `NoAddress` where no address is held, `BadValue` where the message can't be sent, `Full` where sixteen
@@ -120,14 +136,14 @@ pub fn refused_means()
 pub fn renew_means()
     ensures renewed { (w : Who) (H : List Call) (c : Controller) (d : Draft) (k : ℕ) → Is w (Renew d (Some k) ∷ H) c
         → (m : Message) × (slice_get (accepted w H) k ≡ Some (k, m)) × IsTrue (is_alike (message_from w d) m)
-        × (length (sent H) ≤ k) × (length (told H) ≤ k)
+        × (reached H ≤ k) × (length (told H) ≤ k)
         × (slice_get (accepted w (Renew d (Some k) ∷ H)) k ≡ Some (k, message_from w d)) }
     ensures newest { (w : Who) (H : List Call) (c : Controller) (d : Draft) (k j : ℕ) (m : Message) → Is w (Renew d (Some k) ∷ H) c
         → k < j → slice_get (accepted w H) j ≡ Some (j, m) → is_alike (message_from w d) m ≡ false }
     ensures others { (w : Who) (H : List Call) (d : Draft) (k j : ℕ) → j ≢ k
         → slice_get (accepted w (Renew d (Some k) ∷ H)) j ≡ slice_get (accepted w H) j }
     ensures none { (w : Who) (H : List Call) (c : Controller) (d : Draft) (j : ℕ) (m : Message) → Is w (Renew d None ∷ H) c
-        → IsTrue (can_send w d) → length (sent H) ≤ j → length (told H) ≤ j → slice_get (accepted w H) j ≡ Some (j, m)
+        → IsTrue (can_send w d) → reached H ≤ j → length (told H) ≤ j → slice_get (accepted w H) j ≡ Some (j, m)
         → is_alike (message_from w d) m ≡ false }
 {}
 
@@ -181,8 +197,8 @@ pub fn claims()
 {}
 
 /// Whatever is heard: where two claims or acknowledgments were taken in a row and another frame is due, that goes next. A message
-/// that waits is due, a reply, and a frame of packets whose time has come. Behind a frame of a session to an address, as a reply
-/// is, what else is due, so a message or a frame of packets, goes before the next reply.
+/// that waits is due, a reply, and a frame of packets whose time has come. Behind a reply what else is due, so a message or a frame of
+/// packets, goes before the next.
 pub fn takes_turns()
     ensures others { (w : Who) (H later between : List Call) (c : Controller) (last second first : ℕ) (f g i : FrameRecord) (m : Message)
         → Is w (At last (TakeFrame (Some i)) ∷ between ++ (At second (TakeFrame (Some g)) ∷ later ++ At first (TakeFrame (Some f)) ∷ H)) c
@@ -191,10 +207,11 @@ pub fn takes_turns()
         → next_other w (between ++ (At second (TakeFrame (Some g)) ∷ later ++ At first (TakeFrame (Some f)) ∷ H)) last ≡ Some m
         → message_of i ≡ m }
     ensures due { (w : Who) (H : List Call) (now : ℕ) → IsTrue (holds w H now)
-        → (length (sent H) < length (accepted w H)) ⊎ (((reception w H).replies ≢ []) ⊎ (next_long w H now ≢ None)) → next_other w H now ≢ None }
+        → (reached H < length (accepted w H)) ⊎ (((reception w H).replies ≢ []) ⊎ (next_long w H now ≢ None)) → next_other w H now ≢ None }
     ensures behind_a_reply { (w : Who) (H later : List Call) (c : Controller) (last first : ℕ) (f i : FrameRecord)
-        → Is w (At last (TakeFrame (Some i)) ∷ later ++ At first (TakeFrame (Some f)) ∷ H) c → IsTrue (is_transfer f) → NoneTold takes_other later
-        → (length (sent (later ++ At first (TakeFrame (Some f)) ∷ H)) < length (accepted w (later ++ At first (TakeFrame (Some f)) ∷ H)))
+        → Is w (At last (TakeFrame (Some i)) ∷ later ++ At first (TakeFrame (Some f)) ∷ H) c → IsTrue (is_reply (reception w H).replies f)
+        → NoneTold takes_other later
+        → (reached (later ++ At first (TakeFrame (Some f)) ∷ H) < length (accepted w (later ++ At first (TakeFrame (Some f)) ∷ H)))
         ⊎ ((next_packet w (later ++ At first (TakeFrame (Some f)) ∷ H) last ≢ None)
         ⊎ IsTrue (is_apart (next_transfer w (later ++ At first (TakeFrame (Some f)) ∷ H) last)
         (slice_get (reception w (later ++ At first (TakeFrame (Some f)) ∷ H)).replies 0)))
@@ -330,7 +347,7 @@ pub fn packets_mean()
         × (message_of f ≡ frame_of m (length (packets H))) × (length (packets H) ≤ packets_of m) }
     ensures behind { (w : Who) (H : List Call) (c : Controller) (now : ℕ) (f : FrameRecord)
         → Is w (At now (TakeFrame (Some f)) ∷ H) c → IsTrue (is_packet f)
-        → IsTrue (holds w H now) × (IsTrue (is_overdue w H now) ⊎ (length (sent H) ≡ length (accepted w H)))
+        → IsTrue (holds w H now) × (IsTrue (is_overdue w H now) ⊎ (reached H ≡ length (accepted w H)))
         × (IsTrue (gives_way w H now) ⊎ (acknowledged H ≡ due w H)) }
     ensures overdue { (w : Who) (H : List Call) (c : Controller) (now : ℕ) (f : FrameRecord)
         → Is w (At now (TakeFrame (Some f)) ∷ H) c → IsTrue (is_overdue w H now) → is_claim f ≡ false → is_acknowledgment f ≡ false
@@ -402,7 +419,7 @@ pub fn replies_mean()
         × (next_acknowledgment w H now ≡ None) }
     ensures before { (w : Who) (H : List Call) (c : Controller) (now : ℕ) (f : FrameRecord) (m : Message)
         → Is w (At now (TakeFrame (Some f)) ∷ H) c → slice_get (reception w H).replies 0 ≡ Some m
-        → is_claim f ≡ false → is_acknowledgment f ≡ false → is_overdue w H now ≡ false → yields H ≡ false → message_of f ≡ m }
+        → is_claim f ≡ false → is_acknowledgment f ≡ false → is_overdue w H now ≡ false → yields w H ≡ false → message_of f ≡ m }
     ensures once { (w : Who) (H : List Call) (now : ℕ) (f : FrameRecord) → is_claim f ≡ false → IsTrue (is_transfer f) → is_move w H f ≡ false
         → (reception w (At now (TakeFrame (Some f)) ∷ H)).replies ≡ drop 1 (reception w H).replies }
     ensures others { (w : Who) (H : List Call) (now : ℕ) (f : FrameRecord) → is_claim f ≡ false

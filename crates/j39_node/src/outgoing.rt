@@ -1,12 +1,15 @@
 //! Messages that were accepted, and are not told to have ended.
 ghost use Rattle.std.specs.Prelude.{◌≡◌, ◌↔◌, ◌≤◌, IsSome, IfSome, Some, None, true, List, [], length, map, nat_le, ◌&&◌, if◌then◌else◌};
+ghost use Rattle.std.specs.List.{slice_get};
 ghost use Rattle.std.specs.Option.{option_map};
 ghost use Rattle.j39_frame.specs.Pgn.{pgn_raw};
 ghost use Rattle.j39_frame.specs.Stamp.{stamp_micros};
-ghost use Rattle.j39_node.specs.History.{asks_with, can_send, is_sendable, message_from, is_directed, nothing, is_alike, is_one, latest};
-ghost use Rattle.j39_node.specs.Is.{who_of, posted, stamped, Renews};
+ghost use Rattle.j39_node.specs.declared.kinds.Ending.TheVariants.{Done, Withdrawn};
+ghost use Rattle.j39_node.specs.History.{blank, is_blank, past, asks_with, can_send, is_sendable, message_from, is_directed, nothing, is_alike, is_one, latest};
+ghost use Rattle.j39_node.specs.Is.{who_of, may_go, place_of, posted, stamped, Renews};
 
-use crate::own::{ACKNOWLEDGMENT, ADDRESS_CLAIMED, Own, asks_for, is_own_group};
+use crate::Ending;
+use crate::own::{ACKNOWLEDGMENT, ADDRESS_CLAIMED, Own, asks_for, claim_id, is_own_group};
 use arrayvec::ArrayVec;
 use j39_frame::{Frame, GLOBAL_ADDRESS, Id, NULL_ADDRESS, Pgn, Stamp};
 
@@ -57,6 +60,42 @@ impl Outgoing {
             id,
             bytes: kept,
         })
+    }
+
+    /// What stands in the place of one that was withdrawn.
+    pub(crate) fn blank() -> Outgoing
+        ensures { posted result ≡ (0, blank) }
+    {
+        Outgoing {
+            token: 0,
+            id: claim_id(NULL_ADDRESS).unwrap(),
+            bytes: ArrayVec::new(),
+        }
+    }
+
+    /// Whether it was withdrawn.
+    pub(crate) fn is_blank(&self) -> bool
+        ensures { result ≡ is_blank (posted self.now) }
+    {
+        self.id.pgn().raw() == ADDRESS_CLAIMED
+    }
+
+    /// How it ends in its turn.
+    pub(crate) fn ending(&self) -> Ending
+        ensures { result ≡ (if is_blank (posted self.now) then Withdrawn else Done) }
+    {
+        if self.is_blank() {
+            Ending::Withdrawn
+        } else {
+            Ending::Done
+        }
+    }
+
+    /// Whether it may be withdrawn: it wasn't, and is no request.
+    fn may_go(&self) -> bool
+        ensures { result ≡ may_go (Some (posted self.now)) }
+    {
+        !(self.is_blank() || self.id.is_request())
     }
 
     /// The two have one priority, one group and one destination, and are no requests.
@@ -134,6 +173,40 @@ pub(crate) fn renew(
         bytes: message.bytes,
     };
     Some(token)
+}
+
+/// The place of the message of this token, of which the first has the least, if it isn't before the nth and may be withdrawn.
+pub(crate) fn place_of(outgoing: &[Outgoing], n: usize, token: u64) -> Option<usize>
+    ensures { result ≡ place_of n token (map posted outgoing.now) }
+{
+    let first = outgoing.get(0)?.token;
+    let place = usize::try_from(token.checked_sub(first)?).ok()?;
+    if waits(outgoing, n, place) {
+        Some(place)
+    } else {
+        None
+    }
+}
+
+/// Whether one that may be withdrawn is at this place, and not before the nth.
+fn waits(outgoing: &[Outgoing], n: usize, place: usize) -> bool
+    ensures { result ≡ (nat_le n place && may_go (slice_get (map posted outgoing.now) place)) }
+{
+    match outgoing.get(place) {
+        Some(message) => n <= place && message.may_go(),
+        None => false,
+    }
+}
+
+/// The place of the first from the nth on that wasn't withdrawn.
+pub(crate) fn past(outgoing: &[Outgoing], n: usize) -> usize
+    ensures { result ≡ past (map is_blank (map posted outgoing.now)) n }
+{
+    let mut place = n;
+    while place < outgoing.len() && outgoing[place].is_blank() {
+        place += 1;
+    }
+    place
 }
 
 fn can_send(own: &Own, priority: u8, group: Pgn, to: u8, bytes: &[u8]) -> bool

@@ -212,7 +212,7 @@ fn acknowledgment_id(address: u8) -> Option<Id>
     Id::compose(6, group, GLOBAL_ADDRESS, address)
 }
 
-fn claim_id(address: u8) -> Option<Id>
+pub(crate) fn claim_id(address: u8) -> Option<Id>
     ensures { IsSomeAnd result (λ id. carried (id_raw id) ≡ claim_with address) }
 {
     let group = Pgn::new(ADDRESS_CLAIMED)?;

@@ -1,5 +1,5 @@
 //! The laws of sessions in which messages come in packets to its address (J1939-21, 5.10.3).
-ghost use Rattle.std.specs.Prelude.{◌≡◌, ◌≢◌, ◌↔◌, ◌||◌, ◌&&◌, ◌+◌, ◌-◌, ◌*◌, ◌<◌, ◌≤◌, ◌++◌, ℕ, suc, List, ◌∷◌, length, take, Some, None, IsTrue, false};
+ghost use Rattle.std.specs.Prelude.{◌≡◌, ◌≢◌, ◌↔◌, ◌||◌, ◌&&◌, ◌+◌, ◌-◌, ◌*◌, ◌<◌, ◌≤◌, ◌++◌, ℕ, suc, List, ◌∷◌, length, take, Some, None, IsTrue, false, []};
 ghost use Rattle.j39_frame.specs.Frame.{FrameRecord};
 ghost use Rattle.j39_frame.specs.Identifier.{source_of};
 ghost use Rattle.j39_transport.specs.Message.{MessageRecord};
@@ -8,6 +8,9 @@ ghost use Rattle.j39_transport.specs.Reception.{ReceptionRecord};
 ghost use Rattle.j39_transport.specs.Receiving.{said_to};
 ghost use Rattle.j39_transport.specs.Session.{grown};
 ghost use Rattle.j39_transport.specs.Signals.{Abort, Packet, RequestToSend, written};
+ghost use Rattle.j39_node.specs.SteadyExample.{brought, brought_start, holding};
+ghost use Rattle.j39_node.specs.Example.{last_from, request_from, two};
+ghost use Rattle.j39_node.specs.Is.{AreAnswered};
 ghost use Rattle.j39_node.specs.History.{Who, Call, holds, is_claim, step};
 ghost use Rattle.j39_node.specs.History.Call.{At};
 ghost use Rattle.j39_node.specs.History.Act.{Hear, TakeFrame, Tick};
@@ -74,6 +77,16 @@ pub fn transfers_heard()
         → m ≡ record { source = source_of rts.id; pgn = pgn; bytes = take size (joined ++ part) }
         → (whole w (later ++ At at (Hear rts) ∷ earlier) now f ≡ Some m)
         × ((reception w (At now (Hear f) ∷ later ++ At at (Hear rts) ∷ earlier)).waits ≡ Some (f.stamp, m)) }
+{}
+
+/// Address 11 sends two packets whole, beside a request of address 12: so `transfers_heard` speaks of something.
+#[tactic(auto, unfolding(j39_transport::specs::Cutting::cut_frame, j39_transport::specs::Cutting::announcement_of, j39_transport::specs::Cutting::packet_of, j39_transport::specs::Cutting::packet_data, j39_transport::specs::Sending::new_sender, j39_transport::specs::Sending::send_step, j39_transport::specs::Sending::ticks_in, j39_transport::specs::Sending::sends_packet, j39_transport::specs::Sending::hears, j39_transport::specs::Sending::cleared, j39_transport::specs::Sending::acknowledged, j39_transport::specs::Sending::aborted, j39_transport::specs::Signals::said_between, j39_transport::specs::Signals::said_by, j39_transport::specs::Signals::control_in, j39_transport::specs::Signals::packet_in, j39_transport::specs::Frames::is_announcement, j39_transport::specs::Frames::is_packet, j39_transport::specs::Frames::goes, j39_transport::specs::Frames::group_of, j39_transport::specs::Frames::source_of, j39_transport::specs::Frames::destination_of, j39_transport::specs::Reception::takes_request, j39_transport::specs::Reception::begun, j39_transport::specs::Reception::grants, j39_transport::specs::Reception::granted_at, j39_transport::specs::Reception::takes_data, j39_transport::specs::Reception::takes_packet, j39_transport::specs::Reception::goes_on, j39_transport::specs::Reception::delivers_message, j39_transport::specs::Signals::request_in, j39_transport::specs::Signals::written, j39_transport::specs::Frames::names_message, j39_transport::specs::Key::key_between, j39_transport::specs::Receiving::recv_step, j39_transport::specs::Receiving::said_to, j39_transport::specs::Reception::takes_signal, j39_transport::specs::Reception::takes_tick))]
+pub fn an_example_of_packets()
+    ensures answered { AreAnswered two (brought ++ brought_start) }
+    ensures opens { IsTrue (holds two holding 300000) × ((reception two holding).session ≡ None) × ((reception two holding).waits ≡ None)
+        × (said_to two.address (request_from 300000) ≡ Some (RequestToSend 9 2 255 65226)) }
+    ensures bring { Bring two 11 brought_start brought 1 (1 ∷ 2 ∷ 3 ∷ 4 ∷ 5 ∷ 6 ∷ 7 ∷ []) 300003 }
+    ensures last { IsPacket two 11 2 300003 (8 ∷ 9 ∷ 255 ∷ 255 ∷ 255 ∷ 255 ∷ 255 ∷ []) (brought ++ brought_start) 300004 (last_from 300004) }
 {}
 
 /// A restart is met: where the holder of an address claims it again and nothing called for that in the 1,250 ms before (own), the

@@ -13,7 +13,7 @@ ghost use Rattle.j39_node.specs.declared.kinds.TransferEnding.{TransferEnding};
 ghost use Rattle.j39_node.specs.declared.kinds.TransferEnding.TheVariants as ending;
 ghost use Rattle.j39_node.specs.declared.kinds.Refused.{Refused};
 ghost use Rattle.j39_node.specs.declared.kinds.Refused.TheVariants as refused;
-ghost use Rattle.j39_node.specs.History.{Who, Call, accepted, acknowledged, address_after, due, has_packets, holds, is_lost, is_smaller, message_of, sent, step, told_claims};
+ghost use Rattle.j39_node.specs.History.{reached, Who, Call, accepted, acknowledged, address_after, due, has_packets, holds, is_lost, is_smaller, message_of, sent, step, told_claims};
 ghost use Rattle.j39_node.specs.History.Call.{At, TakeTransferEnded};
 ghost use Rattle.j39_node.specs.History.Act.{Hear, TakeFrame, Tick as Ticks, Transfer};
 ghost use Rattle.j39_node.specs.Since.{PacketSince, ToldSince, passed_in};
@@ -57,7 +57,7 @@ pub fn moves_mean()
         × IsMove to m (moves w H) (message_of f) }
     ensures behind { (w : Who) (H : List Call) (c : Controller) (now : ℕ) (f : FrameRecord)
         → Is w (At now (TakeFrame (Some f)) ∷ H) c → IsTrue (is_move w H f)
-        → IsTrue (holds w H now) × (length (sent H) ≡ length (accepted w H)) × (IsTrue (gives_way w H now) ⊎ (acknowledged H ≡ due w H)) }
+        → IsTrue (holds w H now) × (reached H ≡ length (accepted w H)) × (IsTrue (gives_way w H now) ⊎ (acknowledged H ≡ due w H)) }
     ensures after_broadcasts { (w : Who) (H : List Call) (c : Controller) (now : ℕ) (f : FrameRecord)
         → Is w (At now (TakeFrame (Some f)) ∷ H) c → IsTrue (is_move w H f) → IsTrue (has_packets w H)
         → (e : ℕ) × PacketSince H e × (e + step H now < 50000) }

@@ -67,6 +67,51 @@ fn the_last_that_waits_is_renewed(rt: HostRuntime) -> Result<(), Fail> {
     Ok(())
 }
 
+/// Of four that wait, the last but one asks.
+fn four(node: &mut Controller, now: Stamp) -> Option<()> {
+    let group = Pgn::new(65_265)?;
+    for value in 0..4u8 {
+        if value == 2 {
+            node.ask(now, group, 0x0B).ok()?;
+        } else {
+            node.send(now, 6, group, GLOBAL_ADDRESS, &[value]).ok()?;
+        }
+    }
+    Some(())
+}
+
+/// The tokens that are told to have been withdrawn, those that are done beside, each with 10 more.
+fn told(node: &mut Controller) -> Option<[u64; 4]> {
+    let mut tokens = [99; 4];
+    for place in 0..4 {
+        let (token, ending) = node.take_ended()?;
+        tokens[place] = match ending {
+            Ending::Done => token.saturating_add(10),
+            Ending::Withdrawn => token,
+        };
+    }
+    Some(tokens)
+}
+
+#[test]
+fn what_waits_is_withdrawn(rt: HostRuntime) -> Result<(), Fail> {
+    let mut node = holding(rt.alloc())?;
+    let now = at(300_000)?;
+    four(&mut node, now).ok_or("four")?;
+    assert!(rt; node.withdraw(1) && !node.withdraw(1));
+    assert!(rt; !node.withdraw(2) && !node.withdraw(4));
+    let first = Some("(0000000000.300000) can0 18FEF180#00");
+    assert!(rt; is_line(node.take_frame(now), first) == Some(true));
+    assert!(rt; !node.withdraw(0));
+    let asks = Some("(0000000000.300000) can0 18EA0B80#F1FE00");
+    assert!(rt; is_line(node.take_frame(now), asks) == Some(true));
+    assert!(rt; node.withdraw(3));
+    assert!(rt; node.take_frame(now).is_none());
+    assert!(rt; told(&mut node) == Some([10, 1, 12, 3]));
+    assert!(rt; node.take_ended().is_none());
+    Ok(())
+}
+
 #[test]
 fn claims_anew(rt: HostRuntime) -> Result<(), Fail> {
     let mut node = holding(rt.alloc())?;

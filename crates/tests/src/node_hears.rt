@@ -141,6 +141,26 @@ static STEPS: &[Step] = &[
     Hears("(9.150000) can0 1CEBFF0B#03333435FFFFFFFF"),
     HasNothing,
     Missed(9, false),
+    // All that a source announces anew has 3 s together, of three packets; then another has its place, by a frame of any source.
+    Hears("(10.000000) can0 1CECFF0B#20110003FFECFE00"),
+    Hears("(10.700000) can0 1CECFF0B#20110003FFECFE00"),
+    Hears("(11.400000) can0 1CECFF0B#20110003FFECFE00"),
+    IsDue(Some(12_150_001)),
+    Hears("(12.100000) can0 1CECFF0B#20110003FFECFE00"),
+    Hears("(12.800000) can0 1CECFF0B#20110003FFECFE00"),
+    IsDue(Some(13_000_001)),
+    Missed(13, true),
+    Hears("(13.000000) can0 1CECFF0C#20110003FFECFE00"),
+    Missed(14, true),
+    Hears("(13.000001) can0 1CECFF0C#20110003FFECFE00"),
+    Missed(15, true),
+    Hears("(13.010000) can0 1CECFF0B#20110003FFECFE00"),
+    Missed(16, true),
+    Hears("(13.020000) can0 1CEBFF0C#013146554A413643"),
+    Hears("(13.030000) can0 1CEBFF0C#025631324C4B3132"),
+    Hears("(13.040000) can0 1CEBFF0C#03333435FFFFFFFF"),
+    Has(12, 13_040_000),
+    Missed(16, false),
 ];
 
 /// Whether the controller does as the step says; `None` where the step isn't one.

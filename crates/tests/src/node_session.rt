@@ -1,4 +1,4 @@
-//! A source that holds the only session for messages in packets: when another gets in; and one that restarts.
+//! A source that holds the only session, or the only broadcast, for messages in packets: when another gets in; and one that restarts.
 use crate::node::{frame, hear_line};
 use j39_address::Name;
 use j39_frame::Stamp;
@@ -62,6 +62,45 @@ fn node_lets_another_in_beside_one_whose_packets_are_never_next(
 ) -> Result<(), Fail> {
     let mut node = Controller::new(rt.alloc(), Name::new(2), 128, 0, &[], None)?.ok_or("node")?;
     assert_eq!(rt; let_in_after(&mut node, PACKET, 700), Some(4_500));
+    Ok(())
+}
+
+/// Address 11 announces 18 bytes to all, and address 12 sends as many, whole.
+const ANNOUNCED: &str = "(0.000000) can0 1CECFF0B#20120003FFECFE00";
+
+const WHOLE: &[&str] = &[
+    "(0.000000) can0 1CECFF0C#20120003FFECFE00",
+    "(0.000000) can0 1CEBFF0C#013146554A413643",
+    "(0.000000) can0 1CEBFF0C#025631324C4B3132",
+    "(0.000000) can0 1CEBFF0C#033334352AFFFFFF",
+];
+
+/// How many of address 12's broadcasts, one each second, are received in so many seconds beside those of address 11, which announces
+/// one each 700 ms: all that begin between the end of an account of 3 s and the next announcement.
+fn received_beside(node: &mut Controller, seconds: u64) -> Option<u64> {
+    let announced = frame(ANNOUNCED)?;
+    let mut received = 0u64;
+    for step in 0..seconds.checked_mul(20)? {
+        let now = Stamp::new(step.checked_mul(50_000)?)?;
+        if step % 14 == 0 {
+            node.hear(&announced, now);
+        }
+        let place = usize::try_from(step.checked_add(19)? % 20).ok()?;
+        if let Some(line) = WHOLE.get(place) {
+            let part = frame(line)?;
+            node.hear(&part, now);
+        }
+        if node.release_broadcast() {
+            received = received.saturating_add(1);
+        }
+    }
+    Some(received)
+}
+
+#[test]
+fn node_hears_another_beside_one_that_announces_anew(rt: HostRuntime) -> Result<(), Fail> {
+    let mut node = Controller::new(rt.alloc(), Name::new(2), 128, 0, &[], None)?.ok_or("node")?;
+    assert_eq!(rt; received_beside(&mut node, 300), Some(43));
     Ok(())
 }
 

@@ -109,6 +109,34 @@ static WINDOWS: &[Step] = &[
     Transfers(2_250_001, 11, &MESSAGE, Ok(1)),
 ];
 
+/// It answers others while its own packets may go: a reply goes behind each frame of its transfer, and one of these behind each reply.
+static ANSWERS: &[Step] = &[
+    Hears("(1.000000) can0 1CEC800B#110301FFFFCAFE00"),
+    Hears("(1.000000) can0 1CEC800C#10120003FFECFE00"),
+    Hears("(1.000000) can0 1CEC800D#10120003FFECFE00"),
+    Gives(
+        1_000_000,
+        Some("(0000000001.000000) can0 1CEC0C80#110301FFFFECFE00"),
+    ),
+    Gives(
+        1_000_000,
+        Some("(0000000001.000000) can0 1CEB0B80#013146554A413643"),
+    ),
+    Gives(
+        1_000_000,
+        Some("(0000000001.000000) can0 1CEC0D80#FF01FFFFFFECFE00"),
+    ),
+    Gives(
+        1_000_000,
+        Some("(0000000001.000000) can0 1CEB0B80#025631324C4B3132"),
+    ),
+    Gives(
+        1_000_000,
+        Some("(0000000001.000000) can0 1CEB0B80#033334352AFFFFFF"),
+    ),
+    Gives(1_000_000, None),
+];
+
 /// Aborted by its destination.
 static ABORTED: &[Step] = &[
     Hears("(1.000000) can0 1CEC800B#FF01FFFFFFCAFE00"),
@@ -256,6 +284,7 @@ fn wrong_after(alloc: Global, steps: &[Step]) -> Option<usize> {
 #[test]
 fn transfers_of_a_node(rt: HostRuntime) {
     assert_eq!(rt; wrong_after(rt.alloc(), WINDOWS), None);
+    assert_eq!(rt; wrong_after(rt.alloc(), ANSWERS), None);
     assert_eq!(rt; wrong_after(rt.alloc(), ABORTED), None);
     assert_eq!(rt; wrong_after(rt.alloc(), ABSENT), None);
     assert_eq!(rt; wrong_after(rt.alloc(), HOLDS), None);

@@ -9,7 +9,7 @@ pub returns-then-self-gt0 : goal.returns-then-self-gt0
 returns-then-self-gt0 c = λ w H h.
     let f = first posted _ _ c.remove-first.result (length (told H)) (accepted w H) h.outgoing
     (not_empty _ _ c.is_empty.ensures c.if-is_empty.false) c.remove-first.ensures.value c.remove-first.ensures.items in
-    told_done w H c.args.self.now _ c.remove-first.result h f (omega (arith, c.if-self-gt0.true)) (omega arith) refl refl refl refl refl refl refl refl refl refl refl refl
+    told_done w H c.args.self.now _ c.remove-first.result _ c.ending.ensures h f (omega (arith, c.if-self-gt0.true)) (omega arith) refl refl refl refl refl refl refl refl refl refl refl refl
 
 pub returns-then-is_lost : goal.returns-then-is_lost
 returns-then-is_lost c = λ w H h.

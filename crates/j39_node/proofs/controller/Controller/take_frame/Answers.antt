@@ -1,9 +1,9 @@
-use Rattle.std.proofs.Common.{◌≡◌, ◌∙◌, ◌+◌, ◌-◌, ap, sym, refl, ℕ, Some, Option, List, ◌∷◌, true, not, subst, length, false}
+use Rattle.std.proofs.Common.{map, suc, ◌≡◌, ◌∙◌, ◌+◌, ◌-◌, ap, sym, refl, ℕ, Some, Option, List, ◌∷◌, true, not, subst, length, false}
 use Rattle.j39_frame.specs.Frame.{FrameRecord}
 use Rattle.j39_node.specs.History.Call.{At}
 use Rattle.j39_node.specs.History.Act.{TakeFrame}
-use Rattle.j39_node.specs.History.{Who, acknowledged, due}
-use Rattle.j39_node.specs.Is.{IncomingRecord, with_called, refusal_by, said_by, Is, port_of}
+use Rattle.j39_node.specs.History.{is_blank, past, Who, acknowledged, due}
+use Rattle.j39_node.specs.Is.{posted, IncomingRecord, with_called, refusal_by, said_by, Is, port_of}
 use Rattle.j39_node.specs.Reception.{reception}
 use Rattle.j39_node.proofs.QueueLemmas.{read, read_none, first}
 use Rattle.std.specs.Option.{option_map}
@@ -67,7 +67,8 @@ returns-in_ok-next-in-Single c = λ w H h.
     let n = none_acknowledged w H c.args.self.now (stamp_micros c.args.now) c.gives_way-gives_way.result h g (sym c.is_acknowledgment_due.ensures ∙ c.if-is_acknowledgment_due.false) in
     let t = sym c.turn.ensures ∙ (c.in_ok-turn.was ∙ ap Some c.in-Single.is) in
     taken w H c.args.self.now _ (stamp_micros c.args.now) _ c.in_ok-next-in-Single.next.now c.passed-self.result h p o b n t
-    (read c.as_slice.result.now _ _ _ c.as_slice.ensures.value c.in_ok-next-in-Single.ensures.lookup.3.0 c.in_ok-next-in-Single.ensures.lookup.1) c.frame-frame.ensures refl (omega Rattle.std.proofs.Common.arith)
+    (read c.as_slice.result.now _ _ _ c.as_slice.ensures.value c.in_ok-next-in-Single.ensures.lookup.3.0 c.in_ok-next-in-Single.ensures.lookup.1) c.frame-frame.ensures refl
+    (c.past-self.ensures ∙ λ i. past (map is_blank (map posted (c.as_slice-in-Single.ensures.value i))) ((let z : c.args.self.now.taken + 1 ≡ suc c.args.self.now.taken = omega Rattle.std.proofs.Common.arith in z) i))
     c.take-is_request.result c.asks_claims.result c.call-in-Single.ensures c.asks_claims.ensures c.take-is_request.ensures.current c.take-is_request.ensures.value c.asked-self.ensures
 
 pub returns-in_err-next-in-Single : goal.returns-in_err-next-in-Single
@@ -102,7 +103,7 @@ returns-in_ok-frame-in-Move c = λ w H h.
     taken_transfer w H c.args.self.now _ (stamp_micros c.args.now) c.in_ok-frame-in-Move.frame c.passed-self.result h p o b n t
     (c.in_ok-frame-in-Move.ensures
     ∙ ap (λ (n : ℕ). option_map (at_now (stamp_micros c.args.now)) (transfer_by (port_of c.args.self.now.transfers).current n)) c.clock-clock.ensures)
-    refl (c.taken.ensures.current ∙ ap (λ (n : ℕ). sends_if true n (port_of c.args.self.now.transfers).current) c.clock-clock.ensures) c.taken.ensures.token c.taken.ensures.resting c.spoken-self-in-Move.ensures
+    refl (c.taken.ensures.current ∙ ap (λ (n : ℕ). sends_if true n (port_of c.args.self.now.transfers).current) c.clock-clock.ensures) c.taken.ensures.token c.taken.ensures.resting c.went-self.ensures
 
 pub returns-in_err-frame-in-Move : goal.returns-in_err-frame-in-Move
 returns-in_err-frame-in-Move c = λ w H h.
