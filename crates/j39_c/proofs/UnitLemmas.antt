@@ -1,19 +1,19 @@
 -- The units of the built-in table are short.
-use Rattle.std.proofs.Common.{◌≡◌, ◌<◌, ◌∙◌, ◌+◌, ◌-◌, ◌/◌, ◌%◌, ◌^◌, ◌==◌, ℕ, zero, suc, List, [], ◌∷◌, Bool, true, false, Some, None, ap, arith, drop, get_or, inl, inr, length, map, refl, sym, take}
+use Rattle.std.proofs.Common.{◌≡◌, ◌∙◌, ◌+◌, ◌-◌, ◌/◌, ◌%◌, ◌^◌, ◌==◌, ℕ, List, [], ◌∷◌, Bool, true, false, Some, None, ap, arith, drop, inl, inr, length, map, refl, subst, take}
 use Rattle.std.specs.Prelude.{◌+ℤ◌, ◌*ℤ◌, ◌&&◌, ◌||◌, Option, if◌then◌else◌, nat_le, nat_lt, pos, slice_get}
 use Rattle.std.specs.List.{filter_map, flat_map, list_all}
 use Rattle.std.specs.Option.{option_and_then, option_map, option_to_list}
 use Rattle.std.proofs.lemmas.Bool.{and_parts, cases_Bool}
 use Rattle.std.proofs.lemmas.List.Concat.{flat_map-cons}
 use Rattle.std.proofs.lemmas.List.Folds.{list_all-append, list_all-map}
-use Rattle.j39_groups.specs.Models.{reading_of, value_of}
+use Rattle.std.proofs.lemmas.List.Sums.{AllPass-from_list_all}
+use Rattle.std.proofs.lemmas.Option.{get_or_from_slice_get, slice_get_within}
 use Rattle.j39_groups.specs.Parts.{parts_of}
 use Rattle.j39_groups.specs.Ranges.{is_valid, top_byte}
 use Rattle.j39_groups.specs.Readings.{bits_meaning, by_top_byte, filled_text_meaning, group_rows, number_meaning, raw_bits, raw_number, readings_at, readings_in, readings_of, signed_value, switch_meaning, text_meaning, values_at}
 use Rattle.j39_groups.specs.Row.{FieldRecord, number_field, bits_field, signed_field, switch_field, text_field, texts_field, RowRecord}
 use Rattle.j39_groups.specs.Table.{the_table}
 use Rattle.j39_groups.specs.Value.{SlotRecord, ReadingRecord, ValueRecord, number, on, off, error, reserved, indicator, text}
-use Rattle.j39_groups.specs.declared.value.Reading.{Reading}
 use Rattle.j39_c.specs.Units.{has_short_unit}
 
 abbrev has_short_scale : FieldRecord → Bool
@@ -147,13 +147,9 @@ readings_are_short : (pgn : ℕ) (bytes : List ℕ) → list_all has_short_readi
 unfolding readings_in
 readings_are_short pgn bytes = rows_are_short pgn bytes the_table table_is_short
 
-all_at : {X : Type 0} (p : X → Bool) (xs : List X) (i : ℕ) (d : X) → i < length xs → list_all p xs ≡ true → p (get_or xs i d) ≡ true
-all_at p [] i d below all = absurd (omega arith)
-all_at p (x ∷ xs) zero d below all = (and_parts (p x) (list_all p xs) all).0
-all_at p (x ∷ xs) (suc i) d below all = all_at p xs i d (omega arith) (and_parts (p x) (list_all p xs) all).1
-
-pub reading_is_short : (pgn : ℕ) (bytes : List ℕ) (found : List Reading) (i : ℕ) (d : Reading) → map reading_of found ≡ readings_of pgn bytes
-    → i < length found → has_short_unit (value_of (get_or found i d).value) ≡ true
-reading_is_short pgn bytes found i d are below =
-    all_at (λ reading. has_short_unit (value_of reading.value)) found i d below
-    (sym (list_all-map has_short_reading reading_of found) ∙ ap (list_all has_short_reading) are ∙ readings_are_short pgn bytes)
+pub reading_is_short : (pgn : ℕ) (bytes : List ℕ) (i : ℕ) (reading : ReadingRecord) → slice_get (readings_of pgn bytes) i ≡ Some reading
+    → has_short_unit reading.value ≡ true
+reading_is_short pgn bytes i reading found =
+    let readings = readings_of pgn bytes in
+    subst (λ r. has_short_reading r ≡ true) (get_or_from_slice_get readings i reading reading found)
+    (AllPass-from_list_all has_short_reading readings (readings_are_short pgn bytes) i reading (slice_get_within readings i reading found))

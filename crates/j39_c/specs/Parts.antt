@@ -33,10 +33,10 @@ use Rattle.j39_node.specs.declared.controller.Controller.{Controller}
 abbrev by_kind : {T : Type 0} → (heard.Listener → Option T) → (BoxedReceiver → Option T) → (SenderRecord → Option T)
     → (AssemblerRecord → Option T) → (Controller → Option T) → Option Part → Option T
 by_kind listener receiver sender assembler controller None = None
-by_kind listener receiver sender assembler controller (Some (Listening b)) = listener b.value
+by_kind listener receiver sender assembler controller (Some (Listening b)) = listener b.part.value
 by_kind listener receiver sender assembler controller (Some (Receiving b)) = receiver b.value
 by_kind listener receiver sender assembler controller (Some (Sending b)) = sender b.value
-by_kind listener receiver sender assembler controller (Some (Assembling b)) = assembler b.value
+by_kind listener receiver sender assembler controller (Some (Assembling b)) = assembler b.part.value
 by_kind listener receiver sender assembler controller (Some (Controlling b)) = controller b.value
 
 abbrev no : {P T : Type 0} → P → Option T

@@ -46,7 +46,7 @@ pub extern "C" fn j39_assembler_feed(
     let Some(fed) = frame_in(frame) else {
         return Refusal::BadValue.code();
     };
-    ask!(alloc, assembler, Assembling(held) => assemble(held, &fed, out))
+    ask!(alloc, assembler, Assembling(held) => assemble(&mut held.part, &fed, out))
 }
 
 /// Ends all messages that a source has begun, as where its address has another holder: 0; -2 where the handle holds no
@@ -59,7 +59,7 @@ pub extern "C" fn j39_assembler_forget(alloc: Global, assembler: &mut Handle, so
     ensures answers { Answers 0 (no_part ∷ []) result }
 {
     ask!(alloc, assembler, Assembling(held) => {
-        forget(held, source);
+        forget(&mut held.part, source);
         0
     })
 }

@@ -56,7 +56,7 @@ pub extern "C" fn j39_controller_new(
         return Refusal::InUse.code();
     }
     match make(alloc, name, address, delay, served, None) {
-        Ok(made) => put_controller(alloc, controller, made),
+        Ok(made) => controller.put_new(alloc, Part::Controlling(made)),
         Err(refusal) => refusal.code(),
     }
 }
@@ -80,7 +80,7 @@ pub extern "C" fn j39_controller_new_subscribed(
         return Refusal::InUse.code();
     }
     match make(alloc, name, address, delay, served, Some(subscribed)) {
-        Ok(made) => put_controller(alloc, controller, made),
+        Ok(made) => controller.put_new(alloc, Part::Controlling(made)),
         Err(refusal) => refusal.code(),
     }
 }
@@ -356,17 +356,6 @@ pub extern "C" fn j39_controller_take_news(alloc: Global, controller: &mut Handl
     ask!(alloc, controller, Controlling(held) => number_of(held.take_news()))
 }
 
-/// Puts a new controller into a handle: 0, or -3 where memory is refused.
-fn put_controller(alloc: Global, handle: &mut Handle, made: Controller) -> i32
-    ensures made { IsDone result → (result ≡ pos 0) × (controller_in handle.new.part ≡ Some made) }
-    ensures refused { IsRefused result → (result ≡ no_memory) × (handle.new.part ≡ handle.old.part) }
-{
-    match Box::new(alloc, made) {
-        Ok(made) => handle.put_new(alloc, Part::Controlling(made)),
-        Err(_) => Refusal::NoMemory.code(),
-    }
-}
-
 /// A controller of these values, or why there is none.
 fn make(
     alloc: Global,
@@ -375,9 +364,9 @@ fn make(
     delay: u8,
     served: &[u32],
     subscribed: Option<&[u32]>,
-) -> Result<Controller, Refusal>
+) -> Result<Box<Controller>, Refusal>
     ensures made { IfOk result (λ made. CanServe address served.now (option_map (λ g. g.now) subscribed.entry)
-        × IsNew name address delay served.now (option_map (λ g. g.now) subscribed.entry) made) }
+        × IsNew name address delay served.now (option_map (λ g. g.now) subscribed.entry) made.value) }
     ensures refused { IfErr result (λ refusal. IsMakeRefusal address served.now (option_map (λ g. g.now) subscribed.entry) refusal) }
 {
     let mut groups = [Pgn::new(0).unwrap(); MOST_SUBSCRIBED];
@@ -388,7 +377,7 @@ fn make(
     let Some(subscribed) = read_wanted(subscribed, &mut wanted) else {
         return Err(Refusal::BadValue);
     };
-    match Controller::new(
+    match Controller::boxed(
         alloc,
         Name::new(name),
         address,

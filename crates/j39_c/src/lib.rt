@@ -7,6 +7,7 @@ mod can;
 mod claims;
 mod controller;
 mod cut;
+mod emptied;
 mod fields;
 mod handed_out;
 mod handle;

@@ -46,7 +46,7 @@ pub extern "C" fn j39_listener_feed(
     let Some(fed) = frame_in(frame) else {
         return Refusal::BadValue.code();
     };
-    ask!(alloc, listener, Listening(held) => hear(held, &fed, out))
+    ask!(alloc, listener, Listening(held) => hear(&mut held.part, &fed, out))
 }
 
 /// Who holds an address, by the claims that a listener heard: 1 and the NAME, or 0 where no claim tells it and for 254
@@ -64,7 +64,7 @@ pub extern "C" fn j39_listener_holder(
     ensures answers { Answers 1 (no_part ∷ []) result }
     ensures fills { Fills (pos 1 ∷ []) result (name.new ≡ name.old) }
 {
-    ask!(alloc, listener, Listening(held) => put_name(held.holder(address), name))
+    ask!(alloc, listener, Listening(held) => put_name(held.part.holder(address), name))
 }
 
 /// What is heard at the next frame: 1 where it is a message.

@@ -1,5 +1,6 @@
 //! The parts of the stack that a handle can hold.
 
+use crate::emptied::Emptied;
 use j39_listen::Listener;
 use j39_node::Controller;
 use j39_transport::{Assembler, OwnedSender, Receiver};
@@ -7,10 +8,10 @@ use j39_transport::{Assembler, OwnedSender, Receiver};
 /// What a handle holds. Each kind lies in a box of its own size.
 #[derive(Drop)]
 pub(crate) enum Part {
-    Listening(Box<Listener>),
+    Listening(Emptied<Listener>),
     Receiving(Box<Receiver>),
     Sending(Box<OwnedSender>),
-    Assembling(Box<Assembler>),
+    Assembling(Emptied<Assembler>),
     Controlling(Box<Controller>),
 }
 
@@ -54,7 +55,7 @@ macro_rules! open {
         if $handle.is_open($alloc) {
             return $crate::refusal::Refusal::InUse.code();
         }
-        let Ok(made) = Box::new($alloc, $made) else {
+        let Ok(made) = $crate::emptied::Emptied::new($alloc, $made) else {
             return $crate::refusal::Refusal::NoMemory.code();
         };
         $handle.put_new($alloc, $crate::part::Part::$kind(made))

@@ -1,8 +1,5 @@
 //! The readings of a message (J1939-71).
-ghost use Rattle.std.specs.Prelude.{◌≡◌, ◌≢◌, ◌≤◌, ◌↔◌, ◌∷◌, [], ℕ, Some, None, IfOk, IfErr, IfSome, IsSome, length, pos, replicate, slice_get, take, true};
-ghost use Rattle.std.specs.Option.{option_map};
-ghost use Rattle.j39_frame.specs.Pgn.{pgn_raw};
-ghost use Rattle.j39_groups.specs.Readings.{readings_of};
+ghost use Rattle.std.specs.Prelude.{◌≡◌, ◌≢◌, ◌≤◌, ◌↔◌, ◌∷◌, [], ℕ, Some, None, IfOk, IfErr, IfSome, IsSome, length, pos, replicate, take, true};
 ghost use Rattle.j39_groups.specs.Models.{reading_of, scale_record, value_of};
 ghost use Rattle.j39_groups.specs.Slots.{IsRawOf};
 ghost use Rattle.j39_groups.specs.ValueText.{value_text};
@@ -16,7 +13,7 @@ use crate::handed_out::put;
 use crate::message::WholeMessage;
 use crate::refusal::Refusal;
 use j39_frame::Pgn;
-use j39_groups::{Reading, Slot, Value, put_value, raw_of, readings};
+use j39_groups::{Reading, Slot, Value, put_value, raw_of, reading_at};
 use j39_io::{DeviceFault, Sink};
 use std::alloc::Global;
 
@@ -92,19 +89,6 @@ fn payload_of(message: &WholeMessage) -> Option<&[u8]>
     ensures value { IfSome result (λ payload. payload.now ≡ take message.now.len message.now.data) }
 {
     message.data.get(..usize::from(message.len))
-}
-
-/// Reading number `index` of a payload.
-fn reading_at(pgn: Pgn, payload: &[u8], index: usize) -> Option<Reading<'static, '_>>
-    ensures value { option_map reading_of result ≡ slice_get (readings_of (pgn_raw pgn) payload.now) index }
-    ensures short { IfSome result (λ reading. has_short_unit (value_of reading.value) ≡ true) }
-{
-    let found = readings(pgn, payload);
-    if index < found.len() {
-        Some(found.as_slice()[index])
-    } else {
-        None
-    }
 }
 
 /// A reading in plain numbers.

@@ -1,8 +1,9 @@
 -- Elements of lists.
-use Rattle.std.proofs.Common.{◌≡◌, ◌<◌, ◌≤◌, ◌+◌, ◌-◌, ℕ, zero, suc, List, [], ◌∷◌, ◌++◌, Bool, true, length, take, drop, get_or, refl, ap, ◌∙◌, sym, arith, take-append-drop, drop-cons, append_assoc}
+use Rattle.std.proofs.Common.{◌≡◌, ◌<◌, ◌≤◌, ◌+◌, ◌-◌, ℕ, zero, suc, List, [], ◌∷◌, ◌++◌, Bool, true, length, take, drop, get_or, refl, ap, ◌∙◌, sym, arith, take-append-drop, drop-cons, append-nil, append_assoc}
 use Rattle.std.specs.Prelude.{Option, Some, None, slice_get, filter, map}
 use Rattle.std.specs.Option.{option_to_list}
-use Rattle.std.proofs.lemmas.List.{take_more, map-append}
+use Rattle.std.proofs.lemmas.List.{length-append, take_more, map-append}
+use Rattle.std.proofs.lemmas.Option.{slice_get_within}
 use Rattle.std.proofs.Math.Seq.{take-nil}
 use Rattle.std.specs.List.{filter_map, flat_map, Contains}
 use Rattle.std.proofs.lemmas.List.Concat.{flat_map-cons}
@@ -88,3 +89,41 @@ given_more f g xs n m x o front old new below next here is before after =
     after ∙ ap (λ ys. ys ++ map g (option_to_list o)) before
     ∙ append_assoc front (map g (filter_map f (take n xs))) (map g (option_to_list o))
     ∙ ap (λ ys. front ++ ys) (sym (map-append g (filter_map f (take n xs)) (option_to_list o)) ∙ ap (map g) (sym whole))
+
+-- ---- one element of what all give: behind so many
+
+gives : {X Y : Type 0} (f : X → List Y) (xs : List X) (i : ℕ) (d : X) → i < length xs → flat_map f (take (i + 1) xs) ≡ flat_map f (take i xs) ++ f (get_or xs i d)
+gives f xs i d below =
+    ap (flat_map f) (take_more xs i d below) ∙ flat_map-append f (take i xs) (get_or xs i d ∷ [])
+    ∙ ap (λ ys. flat_map f (take i xs) ++ ys) (flat_map-cons f (get_or xs i d) [] ∙ append-nil (f (get_or xs i d)))
+
+behind : {X : Type 0} (xs ys : List X) (n : ℕ) → slice_get (xs ++ ys) (length xs + n) ≡ slice_get ys n
+behind [] ys n = let none : 0 + n ≡ n = omega arith in rw none refl
+behind (x ∷ xs) ys n = let next : length (x ∷ xs) + n ≡ suc (length xs + n) = omega arith in rw next (behind xs ys n)
+
+in_front : {X : Type 0} (xs ys : List X) (n : ℕ) (x : X) → slice_get xs n ≡ Some x → slice_get (xs ++ ys) n ≡ Some x
+in_front [] ys n x here = let below = slice_get_within [] n x here in absurd (omega (arith, below))
+in_front (y ∷ xs) ys zero x here = here
+in_front (y ∷ xs) ys (suc n) x here = in_front xs ys n x here
+
+-- it is one of what this one gives
+pub pick_here : {X Y : Type 0} (f : X → List Y) (xs : List X) (i : ℕ) (d : X) (n k : ℕ) (y : Y) → i < length xs → n ≡ length (flat_map f (take i xs)) + k
+    → slice_get (f (get_or xs i d)) k ≡ Some y → slice_get (flat_map f xs) n ≡ Some y
+pick_here f xs i d n k y below left here =
+    rw (flat_map-at f xs i d below, left) (behind (flat_map f (take i xs)) _ k ∙ in_front (f (get_or xs i d)) _ k y here)
+
+-- it is behind what this one gives
+pub pick_next : {X Y : Type 0} (f : X → List Y) (xs : List X) (i : ℕ) (d : X) (n k r : ℕ) → i < length xs → n ≡ length (flat_map f (take i xs)) + k
+    → k ≡ length (f (get_or xs i d)) + r → n ≡ length (flat_map f (take (i + 1) xs)) + r
+pick_next f xs i d n k r below left more =
+    let lengths = ap length (gives f xs i d below) ∙ length-append (flat_map f (take i xs)) (f (get_or xs i d)) in
+    omega (arith, left, more, lengths)
+
+-- what is made of each element, where there is something
+pub made_of_each : {X Y Z : Type 0} (f : X → Option Y) (g : Y → Z) (xs : List X) → map g (filter_map f xs) ≡ flat_map (λ x. map g (option_to_list (f x))) xs
+made_of_each f g [] = refl
+made_of_each {Y = Y} f g (x ∷ xs) = one (f x) refl ∙ ap (λ zs. map g (option_to_list (f x)) ++ zs) (made_of_each f g xs) ∙ sym (flat_map-cons (λ x. map g (option_to_list (f x))) x xs)
+  where
+    one : (o : Option Y) → f x ≡ o → map g (filter_map f (x ∷ xs)) ≡ map g (option_to_list (f x)) ++ map g (filter_map f xs)
+    one None is = rw is refl
+    one (Some y) is = rw is refl

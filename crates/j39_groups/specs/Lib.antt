@@ -22,3 +22,4 @@ pub mod Fields
 pub mod Ready
 pub mod Rows
 pub mod Runs
+pub mod Picks

@@ -1,12 +1,14 @@
 //! What is read in the payload of a group (J1939-71), by the built-in table.
-ghost use Rattle.std.specs.Prelude.{◌≡◌, ◌+◌, ◌≤◌, ◌<◌, ◌==◌, ◌++◌, map, filter, take, true};
+ghost use Rattle.std.specs.Prelude.{◌≡◌, ◌+◌, ◌≤◌, ◌<◌, ◌==◌, ◌++◌, map, filter, slice_get, take, true};
 ghost use Rattle.std.specs.List.{filter_map, flat_map, list_all};
 ghost use Rattle.std.specs.Option.{option_map, option_to_list};
 ghost use Rattle.arrayvec.specs.ArrayVec.{array_vec_len};
 ghost use Rattle.j39_frame.specs.Pgn.{pgn_raw};
 ghost use Rattle.j39_groups.specs.Fields.{is_sound};
+ghost use Rattle.j39_groups.specs.Lines.{row_readings};
 ghost use Rattle.j39_groups.specs.Models.{reading_of, row_record, value_of};
 ghost use Rattle.j39_groups.specs.Parts.{parts_of};
+ghost use Rattle.j39_groups.specs.Picks.{IsPicked};
 ghost use Rattle.j39_groups.specs.Readings.{filled_text_meaning, readings_at, readings_of};
 ghost use Rattle.j39_groups.specs.Rows.{is_built_in, is_row, most_values};
 
@@ -101,4 +103,99 @@ pub(crate) fn push_texts<'t, 'v>(
     for part in bytes.split(|b| *b == b'*').take(usize::from(count)) {
         push_value(found, spn, filled_text_of(part));
     }
+}
+
+/// Reading number `index`, from 0 on, of those that `readings` gives; `None` behind the last. It makes no list of them.
+#[tactic(auto, unfolding(crate::specs::Readings::readings_in))]
+pub fn reading_at(pgn: Pgn, bytes: &[u8], index: usize) -> Option<Reading<'static, '_>>
+    ensures { option_map reading_of result ≡ slice_get (readings_of (pgn_raw pgn) bytes.now) index }
+{
+    match pick_of_rows(built_in_rows(), pgn.raw(), bytes, index) {
+        Ok(reading) => Some(reading),
+        Err(_) => None,
+    }
+}
+
+/// Picks the reading behind so many, by those of these rows that are the group's; else how many are still to be left out.
+fn pick_of_rows<'t, 'v>(
+    rows: &[Row<'t>],
+    pgn: u32,
+    bytes: &'v [u8],
+    mut left: usize,
+) -> Result<Reading<'t, 'v>, usize>
+    requires { list_all is_row rows.now ≡ true }
+    ensures { IsPicked (flat_map (row_readings pgn bytes.now) rows.now) left result }
+{
+    for row in rows {
+        match pick_of_row(row, pgn, bytes, left) {
+            Ok(reading) => return Ok(reading),
+            Err(rest) => left = rest,
+        }
+    }
+    Err(left)
+}
+
+/// The same, by one row.
+#[inline(always)]
+#[tactic(auto, unfolding(crate::specs::Readings::values_at))]
+fn pick_of_row<'t, 'v>(
+    row: &Row<'t>,
+    pgn: u32,
+    bytes: &'v [u8],
+    left: usize,
+) -> Result<Reading<'t, 'v>, usize>
+    requires { is_sound row.now.field ≡ true }
+    ensures { IsPicked (row_readings pgn bytes.now row.now) left result }
+{
+    if row.pgn != pgn {
+        return Err(left);
+    }
+    match row.field {
+        Field::Texts { byte, count } => pick_text(row.spn, bytes_from(bytes, byte), count, left),
+        Field::Number { .. } => pick_value(row.spn, value_in(bytes, row.field), left),
+        Field::Bits { .. } => pick_value(row.spn, value_in(bytes, row.field), left),
+        Field::Signed { .. } => pick_value(row.spn, value_in(bytes, row.field), left),
+        Field::Switch { .. } => pick_value(row.spn, value_in(bytes, row.field), left),
+        Field::Text { .. } => pick_value(row.spn, value_in(bytes, row.field), left),
+    }
+}
+
+/// The same, of a value, where there is one.
+fn pick_value<'t, 'v>(
+    spn: u32,
+    value: Option<Value<'t, 'v>>,
+    left: usize,
+) -> Result<Reading<'t, 'v>, usize>
+    ensures { IsPicked (map (λ value. record { spn = spn; value = value })
+        (option_to_list (option_map value_of value.entry))) left result }
+{
+    match value {
+        None => Err(left),
+        Some(value) => {
+            if left == 0 {
+                Ok(Reading { spn, value })
+            } else {
+                Err(left - 1)
+            }
+        }
+    }
+}
+
+/// The same, of the first `count` parts.
+fn pick_text<'t, 'v>(
+    spn: u32,
+    bytes: &'v [u8],
+    count: u8,
+    mut left: usize,
+) -> Result<Reading<'t, 'v>, usize>
+    ensures { IsPicked (map (λ value. record { spn = spn; value = value })
+        (filter_map filled_text_meaning (take count (parts_of bytes.now)))) left result }
+{
+    for part in bytes.split(|b| *b == b'*').take(usize::from(count)) {
+        match pick_value(spn, filled_text_of(part), left) {
+            Ok(reading) => return Ok(reading),
+            Err(rest) => left = rest,
+        }
+    }
+    Err(left)
 }

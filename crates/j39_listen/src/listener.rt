@@ -11,7 +11,7 @@ ghost use Rattle.j39_frame.specs.Identifier.{pgn_of};
 ghost use Rattle.j39_groups.specs.Readings.{is_network_group};
 ghost use Rattle.j39_groups.specs.Table.{the_table};
 ghost use Rattle.j39_transport.specs.Answers.{IsAnnouncement};
-ghost use Rattle.j39_transport.specs.AssemblerStep.{messages_open};
+ghost use Rattle.j39_transport.specs.AssemblerStep.{messages_open, new_assembler};
 ghost use Rattle.j39_listen.specs.Heard.{HeardAt, HeardAtWith, LeavesNetwork};
 ghost use Rattle.j39_listen.specs.Listening.{AreHeld, AreOpen, Hears, HearsOneMore, WantsMemoryBehind, holder_of};
 ghost use Rattle.j39_listen.specs.OneFrameMore.{IsMany, heard_alone, hearing_alone};
@@ -154,6 +154,15 @@ impl Listener {
             Fed::Taken => Ok(None),
             Fed::Ignored => Ok(None),
         }
+    }
+
+    /// Forgets all that it has heard, and gives all memory back.
+    pub fn clear(&mut self)
+        ensures hears { Hears self.new [] }
+        ensures memory { self.new.assembler ≡ new_assembler }
+    {
+        self.assembler.clear();
+        self.claims = Claims::new();
     }
 
     /// The NAME that holds the address; `None` where no claim tells it, and for 254 and 255.

@@ -11,6 +11,7 @@ ghost use Rattle.j39_address.specs.Claims.{holder_in};
 ghost use Rattle.j39_address.specs.Holder.{IsHolderAfter};
 ghost use Rattle.j39_address.specs.Node.{IsLeastFree, NoneFree};
 ghost use Rattle.j39_transport.specs.ReceiverModel.{message_shown};
+ghost use Rattle.j39_transport.specs.Receiving.{new_receiver};
 ghost use Rattle.j39_node.specs.History.{Who, Call, is_left, missed, told_claims, nothing, content};
 ghost use Rattle.j39_node.specs.Reception.{reception, still};
 ghost use Rattle.j39_node.specs.Ticks.{next_tick};
@@ -30,7 +31,7 @@ use crate::incoming::{Bearing, Incoming, is_same};
 use crate::lane::{Lane, Open};
 use crate::news::Untold;
 use crate::outgoing::{Outgoing, latest, past, place_of, renew};
-use crate::own::{Own, numbers, subscriptions};
+use crate::own::Own;
 use crate::received::Inbox;
 use crate::requests::{Desk, Due, asked};
 use crate::transfers::{self, Transfers};
@@ -38,8 +39,8 @@ use crate::turn::{Ready, Turn, is_that};
 use crate::{Answer, AskEnding, Ending, News, Received, Refused, Request, TransferEnding};
 use arrayvec::ArrayVec;
 use j39_address::{Claims, Name, Status};
-use j39_frame::{Frame, GLOBAL_ADDRESS, NULL_ADDRESS, Pgn, Stamp, is_address};
-use j39_transport::Message;
+use j39_frame::{Frame, GLOBAL_ADDRESS, NULL_ADDRESS, Pgn, Stamp};
+use j39_transport::{Message, Receiver};
 use std::alloc::{AllocError, Global};
 
 /// A controller of one address: it claims it, defends it, sends messages of one frame and receives those of others, sends longer
@@ -99,26 +100,57 @@ impl Controller {
         ensures refused { OnErr result (IsAddress address × (length served.now ≤ 16)
             × AreFew (option_map (λ g. map pgn_raw g.now) subscribed.entry)) }
     {
-        if !is_address(address) {
+        let Some(own) = Own::new(name, address, delay, served, subscribed) else {
             return Ok(None);
+        };
+        let Some(receiver) = Receiver::with_buffer(alloc, address)? else {
+            return Ok(None);
+        };
+        Ok(Some(Controller::begun(own, receiver)))
+    }
+
+    /// The same, built in a box of its own: so it takes little stack.
+    pub fn boxed(
+        alloc: Global,
+        name: Name,
+        address: u8,
+        delay: u8,
+        served: &[Pgn],
+        subscribed: Option<&[Pgn]>,
+    ) -> Result<Option<Box<Controller>>, AllocError>
+        ensures known { IfOk result (λ found. IsSome found ↔ (IsAddress address × (length served.now ≤ 16)
+            × AreFew (option_map (λ g. map pgn_raw g.now) subscribed.entry))) }
+        ensures is { IfOk result (λ found. IfSome found (λ b. Is (record {
+          name = name_raw name;
+          address = address;
+          delay = delay;
+          served = map pgn_raw served.now;
+          subscribed = option_map (λ g. map pgn_raw g.now) subscribed.entry;
+          brought = nothing;
+        }) [] b.value)) }
+        ensures refused { OnErr result (IsAddress address × (length served.now ≤ 16)
+            × AreFew (option_map (λ g. map pgn_raw g.now) subscribed.entry)) }
+    {
+        let Some(own) = Own::new(name, address, delay, served, subscribed) else {
+            return Ok(None);
+        };
+        let Some(receiver) = Receiver::with_buffer(alloc, address)? else {
+            return Ok(None);
+        };
+        match Box::new(alloc, Controller::begun(own, receiver)) {
+            Ok(controller) => Ok(Some(controller)),
+            Err(_) => Err(AllocError),
         }
-        let Some(served) = numbers(served) else {
-            return Ok(None);
-        };
-        let Some(subscribed) = subscriptions(subscribed) else {
-            return Ok(None);
-        };
-        let Some(incoming) = Incoming::new(alloc, address)? else {
-            return Ok(None);
-        };
-        Ok(Some(Controller {
-            own: Own {
-                name,
-                address,
-                delay,
-                served,
-                subscribed,
-            },
+    }
+
+    /// Nothing was called of it.
+    #[inline(always)]
+    fn begun(own: Own, receiver: Receiver) -> Controller
+        requires { receiver ≡ record { state = new_receiver own.address; has_box = true } }
+        ensures { Is (who_of nothing own) [] result }
+    {
+        Controller {
+            own,
             hold: Hold::new(),
             outgoing: ArrayVec::new(),
             taken: 0,
@@ -129,10 +161,10 @@ impl Controller {
             news: Untold::none(),
             holders: Claims::new(),
             lane: Lane::new(),
+            incoming: Incoming::new(receiver),
             transfers: Transfers::new(),
             hearing: Hearing::new(),
-            incoming,
-        }))
+        }
     }
 
     /// How far it is with its address, at the moment of the last call: `Idle` until its first claim is taken.

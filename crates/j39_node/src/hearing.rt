@@ -50,12 +50,13 @@ impl Announcement {
 /// A broadcast of which packets came, or all.
 #[derive(Drop)]
 pub(crate) struct Heard {
+    /// First: so an empty one is written where it stays.
+    pub(crate) bytes: ArrayVec<u8, LONGEST>,
     pub(crate) source: u8,
     pub(crate) group: Pgn,
     pub(crate) size: u16,
     /// The number of its last packet.
     pub(crate) count: u8,
-    pub(crate) bytes: ArrayVec<u8, LONGEST>,
     /// The moment of its last packet, or of its announcement.
     pub(crate) stamp: Stamp,
     /// The same, by the sum of the forward steps.
@@ -65,17 +66,18 @@ pub(crate) struct Heard {
 }
 
 impl Heard {
+    #[inline(always)]
     fn new(announcement: Announcement, frame: &Frame, since: Stamp, time: Stamp) -> Heard
         requires group { pgn_raw announcement.group ≡ pgn_named frame.now }
         requires size { announcement.size ≡ size_named frame.now }
         ensures { broadcast_by result ≡ begun (stamp_micros since) (stamp_micros time) frame.now }
     {
         Heard {
+            bytes: ArrayVec::new(),
             source: frame.id.source(),
             group: announcement.group,
             size: announcement.size,
             count: 0,
-            bytes: ArrayVec::new(),
             stamp: frame.stamp,
             time,
             since,

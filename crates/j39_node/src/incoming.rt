@@ -1,10 +1,10 @@
 //! Messages that come in packets to the address that is held (J1939-21, 5.10.3).
-ghost use Rattle.std.specs.Prelude.{if◌then◌else◌, IsTrue, ◌≡◌, ◌≤◌, ◌<◌, ◌+◌, ◌-◌, ◌^◌, ◌↔◌, ◌++◌, ◌∷◌, [], ℕ, List, length, true, false, Option, IsSome, IfSome, IsSomeAnd, IfOk, OnErr, Some, None, slice_index};
+ghost use Rattle.std.specs.Prelude.{if◌then◌else◌, IsTrue, ◌≡◌, ◌≤◌, ◌<◌, ◌+◌, ◌-◌, ◌^◌, ◌↔◌, ◌++◌, ◌∷◌, [], ℕ, List, length, true, false, Option, IfSome, IsSomeAnd, Some, None, slice_index};
 ghost use Rattle.std.specs.List.{slice_get};
 ghost use Rattle.std.specs.Option.{is_some, option_map};
 ghost use Rattle.j39_transport.specs.Announced.{announced_by};
 ghost use Rattle.j39_transport.specs.Reception.{ReceptionRecord};
-ghost use Rattle.j39_transport.specs.Receiving.{said_to};
+ghost use Rattle.j39_transport.specs.Receiving.{new_receiver, said_to};
 ghost use Rattle.j39_transport.specs.Signals.{Abort, written};
 ghost use Rattle.j39_frame.specs.Address.{IsAddress};
 ghost use Rattle.j39_frame.specs.Frame.{FrameRecord};
@@ -27,7 +27,6 @@ use byteorder::{ByteOrder, LittleEndian};
 use j39_address::{Claims, Name, claim_of};
 use j39_frame::{Frame, Id, NULL_ADDRESS, Pgn, Stamp};
 use j39_transport::{LONGEST, Message, Receiver, Reply, announced_group};
-use std::alloc::{AllocError, Global};
 
 /// The first byte of a clear to send (J1939-21, 5.10.3.2).
 const CLEAR_TO_SEND: u8 = 17;
@@ -39,24 +38,25 @@ const T2: u64 = 1_250_000;
 #[derive(Drop)]
 pub(crate) struct Kept {
     pub(crate) stamp: Stamp,
+    /// Behind what ends at a multiple of eight bytes: so an empty one is written where it stays.
+    pub(crate) bytes: ArrayVec<u8, LONGEST>,
     pub(crate) source: u8,
     pub(crate) group: Pgn,
-    pub(crate) bytes: ArrayVec<u8, LONGEST>,
 }
 
-impl Kept {
-    fn of(message: &Message<'_>, stamp: Stamp) -> Kept
-        requires { length message.now.payload.now ≤ 1785 }
-        ensures { kept_by result ≡ (stamp_micros stamp, message_shown message.now) }
-    {
-        let mut bytes = ArrayVec::new();
-        bytes.try_extend_from_slice(message.payload).unwrap();
-        Kept {
-            stamp,
-            source: message.source,
-            group: message.pgn,
-            bytes,
-        }
+/// Keeps a message, whose bytes are copied to where they stay.
+fn keep(place: &mut Option<Kept>, message: &Message<'_>, stamp: Stamp)
+    requires { length message.now.payload.now ≤ 1785 }
+    ensures { option_map kept_by place.new ≡ Some (stamp_micros stamp, message_shown message.now) }
+{
+    *place = Some(Kept {
+        stamp,
+        bytes: ArrayVec::new(),
+        source: message.source,
+        group: message.pgn,
+    });
+    if let Some(kept) = place {
+        kept.bytes.try_extend_from_slice(message.payload).unwrap();
     }
 }
 
@@ -229,18 +229,14 @@ pub(crate) struct Incoming {
 }
 
 impl Incoming {
-    /// Nothing was received at this address; `None` above 253.
-    pub(crate) fn new(alloc: Global, own: u8) -> Result<Option<Incoming>, AllocError>
-        ensures known { IfOk result (λ found. IsSome found ↔ IsAddress own) }
-        ensures value { IfOk result (λ found. IfSome found (λ x. incoming_of x ≡ record
-            { moment = 0; clock = 0; own = own; has_box = true; named = None; called = 0; reception = no_reception })) }
-        ensures refused { OnErr result (IsAddress own) }
+    /// Nothing was received by this receiver.
+    #[inline(always)]
+    pub(crate) fn new(receiver: Receiver) -> Incoming
+        ensures { (own : ℕ) → receiver ≡ record { state = new_receiver own; has_box = true } → incoming_of result ≡ record
+            { moment = 0; clock = 0; own = own; has_box = true; named = None; called = 0; reception = no_reception } }
     {
-        let Some(receiver) = Receiver::with_buffer(alloc, own)? else {
-            return Ok(None);
-        };
         let start = Stamp::new(0).unwrap();
-        Ok(Some(Incoming {
+        Incoming {
             receiver,
             named: Named::nothing(),
             since: start,
@@ -249,7 +245,7 @@ impl Incoming {
             clock: start,
             place: None,
             replies: ArrayVec::new(),
-        }))
+        }
     }
 
     /// A frame was heard: it may be a claim, by which the source of the session has another holder, or restarted, or the address is lost,
@@ -605,7 +601,7 @@ fn receive(
         Reply::Nothing => None,
         Reply::Send(id, bytes) => Some((id, bytes)),
         Reply::Delivered(message, id, bytes) => {
-            *place = Some(Kept::of(&message, frame.stamp));
+            keep(place, &message, frame.stamp);
             Some((id, bytes))
         }
     }

@@ -6,6 +6,7 @@ ghost use Rattle.j39_frame.specs.Identifier.{pgn_of, id_raw, destination_of};
 ghost use Rattle.j39_frame.specs.Pgn.{pgn_raw};
 ghost use Rattle.j39_frame.specs.Stamp.{stamp_micros};
 ghost use Rattle.j39_address.specs.Claim.{claim_of};
+ghost use Rattle.j39_address.specs.Name.{name_raw};
 ghost use Rattle.j39_node.specs.History.{is_smaller, is_larger, asked_group, is_some, is_none, is_asked, calls_for_claim, is_for_program, is_own_group, is_subscribed, has_group, AreFew, asks_with, claim_from, claim_with, carried, is_another, is_served, nothing, double};
 ghost use Rattle.j39_frame.specs.Address.{IsAddress};
 
@@ -13,7 +14,7 @@ use crate::requests::Due;
 use arrayvec::ArrayVec;
 use byteorder::{ByteOrder, LittleEndian};
 use j39_address::{Name, claim_of};
-use j39_frame::{Frame, GLOBAL_ADDRESS, Id, NULL_ADDRESS, Pgn, Stamp};
+use j39_frame::{Frame, GLOBAL_ADDRESS, Id, NULL_ADDRESS, Pgn, Stamp, is_address};
 
 /// The group of claims.
 pub(crate) const ADDRESS_CLAIMED: u32 = 60_928;
@@ -47,6 +48,38 @@ pub(crate) struct Own {
 
 impl Own {
     ghost use Rattle.j39_node.specs.Is.{who_of, stamped, refusal_by};
+
+    /// `None` for an address above 253, more than 16 groups served, or more than 64 subscribed.
+    #[inline(always)]
+    pub(crate) fn new(
+        name: Name,
+        address: u8,
+        delay: u8,
+        served: &[Pgn],
+        subscribed: Option<&[Pgn]>,
+    ) -> Option<Own>
+        ensures known { IsSome result ↔ (IsAddress address × (length served.now ≤ 16)
+            × AreFew (option_map (λ g. map pgn_raw g.now) subscribed.entry)) }
+        ensures value { IfSome result (λ own. who_of nothing own ≡ record {
+          name = name_raw name;
+          address = address;
+          delay = delay;
+          served = map pgn_raw served.now;
+          subscribed = option_map (λ g. map pgn_raw g.now) subscribed.entry;
+          brought = nothing;
+        }) }
+    {
+        if !is_address(address) {
+            return None;
+        }
+        Some(Own {
+            name,
+            address,
+            delay,
+            served: numbers(served)?,
+            subscribed: subscriptions(subscribed)?,
+        })
+    }
 
     /// Whether a smaller NAME claims the address.
     pub(crate) fn is_driven_away(&self, frame: &Frame) -> bool
@@ -168,7 +201,7 @@ fn is_among(groups: &[u32], group: u32) -> bool
 }
 
 /// The numbers of these groups; `None` for more than 16.
-pub(crate) fn numbers(groups: &[Pgn]) -> Option<ArrayVec<u32, 16>>
+fn numbers(groups: &[Pgn]) -> Option<ArrayVec<u32, 16>>
     ensures known { IsSome result ↔ (length groups.now ≤ 16) }
     ensures value { IfSome result (λ numbers. numbers.items ≡ map pgn_raw groups.now) }
 {
@@ -180,7 +213,7 @@ pub(crate) fn numbers(groups: &[Pgn]) -> Option<ArrayVec<u32, 16>>
 }
 
 /// The numbers of the groups that are subscribed, or all; `None` for more than 64.
-pub(crate) fn subscriptions(groups: Option<&[Pgn]>) -> Option<Option<ArrayVec<u32, 64>>>
+fn subscriptions(groups: Option<&[Pgn]>) -> Option<Option<ArrayVec<u32, 64>>>
     ensures known { IsSome result ↔ AreFew (option_map (λ g. map pgn_raw g.now) groups.entry) }
     ensures value { IfSome result (λ numbers. option_map (λ n. n.items) numbers ≡ option_map (λ g. map pgn_raw g.now) groups.entry) }
 {

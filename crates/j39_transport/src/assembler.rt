@@ -130,6 +130,15 @@ impl Assembler {
         self.sessions.forget(source);
     }
 
+    /// Ends all messages, and gives all memory back, also that of the message last lent.
+    pub fn clear(&mut self)
+        ensures stands { Stands [] self.new }
+        ensures empty { self.new ≡ new_assembler }
+    {
+        self.sessions.clear();
+        self.lent = None;
+    }
+
     /// How many messages are open, 0 to 270.
     pub fn open(&self) -> usize
         ensures value { result ≡ messages_open self.now.sessions }

@@ -144,6 +144,14 @@ impl OpenMessages {
         }
     }
 
+    /// Ends all messages.
+    pub(crate) fn clear(&mut self)
+        ensures { self.new ≡ empty_state }
+    {
+        self.broadcasts.clear();
+        self.directed.clear();
+    }
+
     /// Ends all messages of a source.
     pub(crate) fn forget(&mut self, source: u8)
         ensures { self.new ≡ state_without self.old source }

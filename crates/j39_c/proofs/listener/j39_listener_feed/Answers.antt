@@ -7,8 +7,9 @@ use Rattle.j39_c.proofs.listener.j39_listener_feed.Goals as goal
 pub returns-after-deref_mut-clause-refused : goal.returns-after-deref_mut-clause-refused
 returns-after-deref_mut-clause-refused c = elim c.match-deref_mut.branch [
   | goal.in-Listening w ↦ λ r.
-      let same : w.hear-code.new.listener ≡ w.in-Listening.held.value = search rules in
-      c.put.ensures ∙ ap (λ b. Some b.value) w.part-is ∙ ap (λ v. Some (Listening (with_value w.in-Listening.held v))) same ∙ search rules
+      let same : w.hear-code.new.listener ≡ w.in-Listening.held.part.value = search rules in
+      let was : Some (Listening w.in-Listening.held) ≡ c.args.listener.now.part = search rules in
+      c.put.ensures ∙ ap (λ b. Some b.value) w.part-is ∙ ap (λ v. Some (Listening (record { part = with_value w.in-Listening.held.part v }))) same ∙ was
   | goal.in-Receiving w ↦ search rules
   | goal.in-Sending w ↦ search rules
   | goal.in-Assembling w ↦ search rules
