@@ -1,0 +1,158 @@
+//! What a controller makes of frames that it hears, and of time.
+ghost use Rattle.std.specs.Prelude.{true, ◌≡◌, ℕ, Option, List, ◌∷◌, ◌==◌, IfSome, Some, None, ◌<◌, false};
+ghost use Rattle.std.specs.Option.{option_map};
+ghost use Rattle.j39_frame.specs.Stamp.{stamp_micros};
+ghost use Rattle.j39_address.specs.Name.{name_raw};
+ghost use Rattle.j39_address.specs.Claims.{holder_in};
+ghost use Rattle.j39_node.specs.History.{Who, Call, is_left};
+ghost use Rattle.j39_node.specs.Reception.{still};
+ghost use Rattle.j39_node.specs.Hearing.{unheard};
+ghost use Rattle.j39_node.specs.Transfers.{is_replaced};
+ghost use Rattle.j39_node.specs.Hold.{lost};
+ghost use Rattle.j39_node.specs.History.Call.{At};
+ghost use Rattle.j39_node.specs.History.Act.{Hear, Tick, Again};
+ghost use Rattle.j39_node.specs.Asking.{in_broadcast, is_coming};
+ghost use Rattle.j39_node.specs.Is.{asking_of, Is, silence, port_of, hearing_of, incoming_of, session_by};
+
+use crate::AskEnding;
+use crate::controller::Controller;
+use crate::incoming::{Bearing, is_same};
+use crate::requests::asked;
+use j39_address::Name;
+use j39_frame::{Frame, Stamp};
+
+impl Controller {
+    /// Hears a frame of another controller, at the moment of this call. The frame's own stamp goes into what is received, and is
+    /// no moment: it may be of another clock.
+    pub fn hear(&mut self, frame: &Frame, now: Stamp)
+        ensures { (w : Who) (H : List Call) → Is w H self.old → Is w (At (stamp_micros now) (Hear frame.now) ∷ H) self.new }
+    {
+        self.hold = self.hold.passed(now);
+        let is_coming = self.is_coming(self.incoming.clock_at(now));
+        let is_held = self.hold.is_held();
+        let wanted = self.own.is_for_program(is_held, frame);
+        let misses = self.inbox.misses(wanted);
+        self.inbox.offer(wanted, frame);
+        let request = asked(&self.own, is_held, frame);
+        let request = self.desk.fresh(&self.own, request);
+        self.desk.hear(&self.own, request);
+        let before = self.peer();
+        let speaker = self.speaker();
+        let has_place = self.incoming.has_place();
+        let waited = self.hearing.is_waiting();
+        let doubled = self.own.double(frame);
+        let bearing = Bearing {
+            drives_away: self.own.is_driven_away(frame),
+            is_double: doubled.is_some(),
+            is_held,
+        };
+        let gone = self.incoming.hear(&mut self.holders, bearing, frame, now);
+        let transferred = self.incoming.made(has_place);
+        let is_replaced = is_replaced(before, self.peer());
+        let is_left = !is_same(self.still(gone, speaker), self.speaker());
+        let time = self.incoming.clock;
+        let is_over = self.hearing.is_over(is_left, time);
+        let breaks = self.hearing.leave(is_over);
+        let unheard = self.hearing.hear(&self.own, frame, time);
+        let broadcast = self.hearing.made(waited);
+        let made = transferred.or(broadcast);
+        let is_lost = self.hold.is_lost();
+        let calls = self.own.calls_for_claim(is_lost, frame);
+        let another = self.own.is_another(is_held, frame);
+        self.news = self
+            .news
+            .heard(bearing.drives_away, is_lost, another, misses, unheard);
+        self.news = self.news.with_double(doubled).with_missed(breaks);
+        self.hold = self
+            .hold
+            .heard(bearing.drives_away, calls, another, self.own.delay());
+        self.transfers
+            .hear(self.hold.is_lost(), is_replaced, frame, self.hold.clock());
+        let silence = self.silence(is_coming);
+        self.asking.hear(&self.own, silence, frame, made);
+    }
+
+    /// Claims its address anew, and forgets nothing else: for a driver whose bus was away (after bus-off, or where its interface
+    /// was down), so that others may have missed the claim, or this one theirs. It holds the address 250 ms after that claim is
+    /// taken, and what was accepted waits till then. Where the address is lost it says again that it can't claim one. To another
+    /// such controller the claim is that of a restart (own): what comes to it in packets from here is over.
+    pub fn again(&mut self, now: Stamp)
+        ensures { (w : Who) (H : List Call) → Is w H self.old → Is w (At (stamp_micros now) Again ∷ H) self.new }
+    {
+        self.hold = self.hold.passed(now).anew(self.own.delay());
+    }
+
+    /// Time passes.
+    pub fn tick(&mut self, now: Stamp)
+        ensures { (w : Who) (H : List Call) → Is w H self.old → Is w (At (stamp_micros now) Tick ∷ H) self.new }
+    {
+        self.hold = self.hold.passed(now);
+        self.incoming.tick(now);
+        let is_out = self.hearing.is_out(self.incoming.clock);
+        let breaks = self.hearing.leave(is_out);
+        self.news = self.news.with_missed(breaks);
+    }
+
+    /// An answer to the open request is on its way, at this time.
+    pub(super) fn is_coming(&self, time: Stamp) -> bool
+        ensures { result ≡ is_coming (option_map (λ x. x.question) (asking_of self.now.asking))
+            (session_by (incoming_of self.now.incoming).reception.session (incoming_of self.now.incoming).named)
+            (in_broadcast (stamp_micros time) (hearing_of self.now.hearing).current) }
+    {
+        let session = self.incoming.session();
+        let broadcast = self.hearing.broadcast(time);
+        self.asking.is_coming(session, broadcast)
+    }
+
+    /// How the open request ended without a word.
+    pub(super) fn silence(&self, is_coming: bool) -> Option<AskEnding>
+        ensures { result ≡ silence self.now.hold.wait is_coming (lost self.now.hold.standing) (asking_of self.now.asking) }
+    {
+        self.asking
+            .silence(self.hold.wait, is_coming, self.hold.is_lost())
+    }
+
+    /// The NAME that holds the address to which the open transfer goes.
+    fn peer(&self) -> Option<Name>
+        ensures { IfSome (port_of self.now.transfers).current (λ x.
+            option_map name_raw result ≡ holder_in self.now.holders x.sender.destination) }
+    {
+        match self.transfers.destination() {
+            Some(address) => self.holders.holder(address),
+            None => None,
+        }
+    }
+
+    /// The NAME that holds the address from which the open broadcast comes.
+    pub(super) fn speaker(&self) -> Option<Name>
+        ensures { IfSome (hearing_of self.now.hearing).current (λ x.
+            option_map name_raw result ≡ holder_in self.now.holders x.source) }
+    {
+        match self.hearing.source() {
+            Some(address) => self.holders.holder(address),
+            None => None,
+        }
+    }
+
+    /// Who held the address from which the open broadcast comes, and holds it still: nobody, if its holder restarted.
+    fn still(&self, gone: Option<u8>, speaker: Option<Name>) -> Option<Name>
+        ensures { (before : ℕ → Option ℕ) → IfSome (hearing_of self.now.hearing).current (λ x. option_map name_raw speaker ≡ before x.source)
+            → IfSome (hearing_of self.now.hearing).current (λ x. option_map name_raw result ≡ still gone before x.source) }
+    {
+        match self.hearing.source() {
+            Some(source) => { if gone == Some(source) { None } else { speaker } }
+            None => None,
+        }
+    }
+}
+
+/// Who held an address no longer does.
+fn is_replaced(before: Option<Name>, now: Option<Name>) -> bool
+    ensures { result ≡ is_replaced (option_map name_raw before) (option_map name_raw now) }
+{
+    match (before, now) {
+        (None, _) => false,
+        (Some(_), None) => true,
+        (Some(one), Some(other)) => other.raw() != one.raw(),
+    }
+}
