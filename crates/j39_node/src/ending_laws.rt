@@ -43,8 +43,8 @@ pub fn transfer_ends()
 {}
 
 /// A message of one frame ends, also that of a request: where the driver is prompt by g microseconds since its acceptance, and more
-/// than g passed, its frame was taken, or the address is lost. What goes before it, claims, acknowledgments, replies and older
-/// messages, is taken in this time too. Then `take_ended` would tell an end: that of the oldest message that it didn't tell.
+/// than g passed, its frame was taken, it is withdrawn, or the address is lost. What goes before it, claims, acknowledgments, replies
+/// and older messages, is taken in this time too. Then `take_ended` would tell an end: that of the oldest message that it didn't tell.
 pub fn message_ends()
     ensures sent { (w : Who) (later earlier : List Call) (c : Controller) (g now k : ℕ) (d : Draft)
         → Is w (later ++ At now (Send d (Ok k)) ∷ earlier) c → IsPrompt g later (At now (Send d (Ok k)) ∷ earlier)
@@ -88,7 +88,7 @@ pub fn packets_go()
 {}
 
 /// To such a driver a message that was accepted goes, that of a request too, whoever asks: where q accepted before it wait, its frame is
-/// taken within 6 g * (q + p + 1), or the address is lost; p frames of broadcasts are taken in this time. Then `take_ended` would tell an
+/// taken within 6 g * (q + p + 1), unless it is withdrawn or the address is lost; p frames of broadcasts are taken in this time. Then `take_ended` would tell an
 /// end: that of the oldest message that it didn't tell.
 pub fn messages_go()
     ensures sent { (w : Who) (later earlier : List Call) (c : Controller) (g k : ℕ) → Is w (later ++ earlier) c

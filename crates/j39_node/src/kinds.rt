@@ -8,7 +8,7 @@ ghost use Rattle.j39_node.specs.Transfers.{rests_after};
 pub enum Ending {
     /// Its frames were taken.
     Done,
-    /// The address was lost before.
+    /// The address was lost before, or the program took it back.
     Withdrawn,
 }
 
