@@ -620,20 +620,20 @@ static void loss_of(j1939_controller *controller) {
     EXPECT(j1939_controller_hear(controller, &other, other.micros) == 0);
     EXPECT(j1939_controller_take_news(controller) == J1939_NEWS_ANOTHER);
     EXPECT(j1939_controller_take_received(controller, &message, &priority) == J1939_RECEIVED_FRAME);
-    EXPECT(j1939_controller_send(controller, 7800000, 6, 65262, 255, payload, 8, &token) == 1 && token == 19);
+    EXPECT(j1939_controller_send(controller, 7800000, 6, 65262, 255, payload, 8, &token) == 1 && token == 20);
     EXPECT(j1939_controller_broadcast(controller, 7800000, 65260, payload, 9, &token) == 1 && token == 1);
     EXPECT(j1939_controller_transfer(controller, 7800000, 65260, 3, payload, 9, &token) == 1 && token == 1);
-    EXPECT(j1939_controller_ask(controller, 7800000, 65260, 3, &token) == 1 && token == 20);
+    EXPECT(j1939_controller_ask(controller, 7800000, 65260, 3, &token) == 1 && token == 21);
     EXPECT(j1939_controller_hear(controller, &claim, claim.micros) == 0);
     EXPECT(j1939_controller_status(controller, &own) == J1939_CANNOT && own == 254);
     EXPECT(j1939_controller_take_news(controller) == J1939_NEWS_LOST && !j1939_controller_take_news(controller));
-    EXPECT(j1939_controller_take_ended(controller, &ended) == J1939_ENDED_MESSAGE && ended.token == 19);
-    EXPECT(ended.ending == J1939_ENDED_WITHDRAWN);
     EXPECT(j1939_controller_take_ended(controller, &ended) == J1939_ENDED_MESSAGE && ended.token == 20);
+    EXPECT(ended.ending == J1939_ENDED_WITHDRAWN);
+    EXPECT(j1939_controller_take_ended(controller, &ended) == J1939_ENDED_MESSAGE && ended.token == 21);
     EXPECT(j1939_controller_take_ended(controller, &ended) == J1939_ENDED_BROADCAST && ended.token == 1);
     EXPECT(j1939_controller_take_ended(controller, &ended) == J1939_ENDED_TRANSFER && ended.token == 1);
     EXPECT(ended.ending == J1939_ENDED_WITHDRAWN);
-    EXPECT(j1939_controller_take_ended(controller, &ended) == J1939_ENDED_REQUEST && ended.token == 20);
+    EXPECT(j1939_controller_take_ended(controller, &ended) == J1939_ENDED_REQUEST && ended.token == 21);
     EXPECT(ended.ending == J1939_ENDED_WITHDRAWN && j1939_controller_take_ended(controller, &ended) == 0);
     EXPECT(taken(controller, 7905999) == 0); /* 10 times 0.6 ms */
     EXPECT(taken(controller, 7906000) == 0x18EEFFFE && taken(controller, 7906000) == 0);
