@@ -28,7 +28,7 @@ use Rattle.j39_faults.specs.declared.conversion.Version.{Version}
 use Rattle.j39_reports.specs.News.{Chosen, is_clearing, is_news, is_of_codes, is_of_faults, last_from, says_other}
 use Rattle.j39_reports.specs.FaultChanges.{bytes_before, changes_by, changes_in, changes_of, is_active}
 use Rattle.j39_reports.specs.Told.{told_of}
-use Rattle.j39_reports.specs.FaultRecords.{faults_text}
+use Rattle.j39_reports.specs.FaultRows.{faults_text}
 use Rattle.j39_reports.specs.Remembered.{Remembers, noted, said_at, said_in}
 use Rattle.j39_reports.specs.LastMessages.{differs, said_before}
 use Rattle.j39_reports.specs.FaultsSoFar.{Tells, TellsFaults, TellsFront, tells_clearing, told_faults, told_next, told_since}

@@ -6,8 +6,9 @@ use Rattle.j39_groups.specs.Value.{ValueRecord, number, on, off, error, reserved
 use Rattle.j39_groups.specs.ValueText.{magnitude_text, scaled_text}
 use Rattle.j39_listen.specs.Members.{address_string, in_marks, name_string, or_null}
 use Rattle.j39_listen.specs.Report.{Entry}
-use Rattle.j39_reports.specs.Json.{bytes_member, string_or_null, string_text}
-use Rattle.j39_reports.specs.Utc.{utc_text}
+use Rattle.j39_reports.specs.Json.{bytes_member, string_or_null}
+use Rattle.j39_rows.specs.Json.{string_text}
+use Rattle.j39_rows.specs.Utc.{utc_text}
 
 -- a moment: the seconds of a stamp, a number, which has no zeros before it; and the same in UTC
 unfoldable pub moment_members : ℕ → List ℕ
