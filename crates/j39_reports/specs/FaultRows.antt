@@ -17,11 +17,15 @@ use Rattle.j39_reports.specs.declared.fault_news.telling.Telling.{Telling}
 use Rattle.j39_reports.specs.declared.fault_news.telling.Telling.TheVariants.{News, All, Changes}
 use Rattle.j39_rows.specs.Row.{CellRecord, ColumnRecord, HeadRecord, PlaceRecord, address_cell, always, aside, beside_lines, if_any, in_all, name_cell, nothing, number_cell, or_nothing, plain, row_text, seconds, text, text_or_nothing, utc_cell, word}
 
--- the names of the columns of records
+-- the names of the columns of records, with this one for the state
+abbrev pub columns_with : List ℕ → List ℕ
+columns_with state =
+    codes "stamp,utc,address,destination,name," ++ (state ++ codes ",spn,fmi,count,lamps,parameter,meaning\r\n")
+
 abbrev pub fault_columns : Telling → List ℕ
-fault_columns News = codes "stamp,utc,address,destination,name,state,spn,fmi,count,lamps,parameter,meaning\r\n"
-fault_columns All = codes "stamp,utc,address,destination,name,state,spn,fmi,count,lamps,parameter,meaning\r\n"
-fault_columns Changes = codes "stamp,utc,address,destination,name,change,spn,fmi,count,lamps,parameter,meaning\r\n"
+fault_columns News = columns_with (codes "state")
+fault_columns All = columns_with (codes "state")
+fault_columns Changes = columns_with (codes "change")
 
 -- behind a space, with a dash for nothing
 abbrev pub dash : PlaceRecord
@@ -84,6 +88,11 @@ clearing_columns kind = uncoded (codes "state") (clear_text kind) (codes "all") 
 abbrev pub saying_columns : List RowRecord → Saying → List ColumnRecord
 saying_columns rows (says how lamps code) = said_columns rows how lamps code
 saying_columns rows (clears kind) = clearing_columns kind
+
+-- what the column of the state is called in its row
+abbrev pub saying_name : Saying → List ℕ
+saying_name (says how lamps code) = state_name how
+saying_name (clears kind) = codes "state"
 
 -- if its code is asked for
 abbrev pub fault_in : Format → Manner → Fault → List ℕ
