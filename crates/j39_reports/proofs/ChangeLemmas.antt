@@ -125,9 +125,4 @@ module _ (form : Format) (rows : Manner) (m : Hearing) (lamps : Lamps) (side : S
 
 pub active_is : (kind : Kind) → is_active kind ≡ true → kind ≡ Active
 active_is Active e = refl
-active_is Previous e = cc
-active_is EmissionPending e = cc
-active_is EmissionActive e = cc
-active_is EmissionPrevious e = cc
-active_is Pending e = cc
-active_is Permanent e = cc
+active_is kind e = cc

@@ -48,12 +48,7 @@ value_json (text bytes) = string_text bytes ++ bytes_member bytes
 -- a number has a unit
 unfoldable pub unit_in : ValueRecord → Option (List ℕ)
 unit_in (number n slot) = Some slot.unit
-unit_in on = None
-unit_in off = None
-unit_in error = None
-unit_in reserved = None
-unit_in indicator = None
-unit_in (text bytes) = None
+unit_in value = None
 
 -- the value, its unit, what the table calls its state, and the end of the line
 unfoldable pub value_members : ValueRecord → Option (List ℕ) → List ℕ

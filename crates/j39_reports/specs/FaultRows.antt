@@ -23,9 +23,8 @@ columns_with state =
     codes "stamp,utc,address,destination,name," ++ (state ++ codes ",spn,fmi,count,lamps,parameter,meaning\r\n")
 
 abbrev pub fault_columns : Telling → List ℕ
-fault_columns News = columns_with (codes "state")
-fault_columns All = columns_with (codes "state")
 fault_columns Changes = columns_with (codes "change")
+fault_columns telling = columns_with (codes "state")
 
 -- behind a space, with a dash for nothing
 abbrev pub dash : PlaceRecord

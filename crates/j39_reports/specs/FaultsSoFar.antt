@@ -65,15 +65,13 @@ told_faults is_told faults = if is_told then faults else []
 
 -- whether one that asks to clear codes is told
 abbrev pub tells_clearing : Telling → Bool
-tells_clearing News = true
-tells_clearing All = true
 tells_clearing Changes = false
+tells_clearing telling = true
 
 -- whether it is told what became of the codes of a message
 abbrev pub tells_changes : Telling → Kind → Bool
-tells_changes News kind = false
-tells_changes All kind = false
 tells_changes Changes kind = is_active kind
+tells_changes telling kind = false
 
 -- whether the codes of a message are told
 abbrev pub is_told : Telling → Bool → Bool
