@@ -1,5 +1,6 @@
 -- A message of faults is read as what it was made of.
 use Rattle.std.proofs.Common.{◌≡◌, ◌∙◌, ℕ, zero, suc, ◌+◌, ◌-◌, ◌*◌, ◌/◌, ◌%◌, ◌<◌, ◌≤◌, ◌++◌, ◌&&◌, ◌||◌, ◌==◌, Bool, true, false, not, List, [], ◌∷◌, Option, Some, None, length, nat_lt, replicate, refl, sym, ap, ap₂, subst, arith, append_assoc, if◌then◌else◌}
+use Rattle.std.proofs.lemmas.Bool.{and_parts}
 use Rattle.std.proofs.lemmas.Bool.Decides.{Decides-eqb, nat_tests}
 use Rattle.std.proofs.lemmas.List.{get_or-append-add, length-append, length-replicate}
 use Rattle.std.specs.List.{cons_option, filter_map, flat_map, list_all, range_with_len}
@@ -98,11 +99,6 @@ not_filling : (count : Option ℕ) → is_count count ≡ true → (count_bits c
 not_filling None is = refl
 not_filling (Some n) is = grind (arith, nat_tests)
 
-both : (a b : Bool) → (a && b) ≡ true → (a ≡ true) × (b ≡ true)
-both true true e = (refl, refl)
-both true _ e = cc
-both _ b e = cc
-
 below : (a n : ℕ) → nat_lt a n ≡ true → a < n
 below a n e = grind (arith, nat_tests)
 
@@ -135,9 +131,9 @@ code_back code can = of code.parameter code.fmi code.count can
         ≡ Some (with_fields p fmi count)
     of (OneOf spns) fmi count can = cc
     of (Known spn) fmi count can =
-        let not_zero = both (nat_lt spn 524288 && nat_lt fmi 32 && is_count count) (not (spn == 0 && fmi == 0)) can in
-        let counted = both (nat_lt spn 524288 && nat_lt fmi 32) (is_count count) not_zero.0 in
-        let in_range = both (nat_lt spn 524288) (nat_lt fmi 32) counted.0 in
+        let not_zero = and_parts (nat_lt spn 524288 && nat_lt fmi 32 && is_count count) (not (spn == 0 && fmi == 0)) can in
+        let counted = and_parts (nat_lt spn 524288 && nat_lt fmi 32) (is_count count) not_zero.0 in
+        let in_range = and_parts (nat_lt spn 524288) (nat_lt fmi 32) counted.0 in
         let small = below spn 524288 in_range.0 in
         let few = below fmi 32 in_range.1 in
         let back = spn_back spn fmi small few in
@@ -169,7 +165,7 @@ codes_from : (front rest : List ℕ) (codes : List Code) (k : ℕ) → length fr
     → filter_map (code_at (front ++ (flat_map code_bytes codes ++ rest))) (range_with_len k (length codes)) ≡ codes
 codes_from front rest [] k long told = refl
 codes_from front rest (code ∷ more) k long told =
-    let parts = both _ _ told in
+    let parts = and_parts _ _ told in
     let behind : List ℕ = flat_map code_bytes more ++ rest in
     let apart : front ++ (code_bytes code ++ flat_map code_bytes more ++ rest) ≡ (front ++ code_bytes code) ++ behind =
     ap (λ (xs : List ℕ). front ++ xs) (append_assoc (code_bytes code) (flat_map code_bytes more) rest)

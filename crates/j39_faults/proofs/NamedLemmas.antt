@@ -1,5 +1,6 @@
 -- Codes of one SPN and FMI are named by the same codes.
 use Rattle.std.proofs.Common.{◌≡◌, ◌∙◌, ◌&&◌, ◌==◌, Bool, true, List, [], ◌∷◌, Option, Some, refl, ap, ap₂, if◌then◌else◌}
+use Rattle.std.proofs.lemmas.Bool.{and_parts}
 use Rattle.std.proofs.lemmas.Bool.Decides.{Decides-eqb}
 use Rattle.j39_faults.specs.declared.code.Code.{Code}
 use Rattle.j39_faults.specs.declared.code.Parameter.{Parameter}
@@ -7,15 +8,10 @@ use Rattle.j39_faults.specs.Changes.{is_same_fault, named_in}
 use Rattle.j39_faults.specs.Sameness.{is_same_parameter}
 use Rattle.j39_faults.proofs.SamenessLemmas.{decides_parameter}
 
-both : (a b : Bool) → (a && b) ≡ true → (a ≡ true) × (b ≡ true)
-both true true e = (refl, refl)
-both true _ e = cc
-both _ b e = cc
-
 -- the SPN and the FMI
 pub same_fault : (a b : Code) → is_same_fault a b ≡ true → (a.parameter ≡ b.parameter) × (a.fmi ≡ b.fmi)
 same_fault a b same =
-    let parts = both (is_same_parameter a.parameter b.parameter) (a.fmi == b.fmi) same in
+    let parts = and_parts (is_same_parameter a.parameter b.parameter) (a.fmi == b.fmi) same in
     ((decides_parameter a.parameter b.parameter).0 parts.0, (Decides-eqb a.fmi b.fmi).0 parts.1)
 
 pub named_same : (a b : Code) → is_same_fault a b ≡ true → (ks : List Code) → named_in ks a ≡ named_in ks b

@@ -135,7 +135,3 @@ unfoldable pub code_text : State → Lamps → Option (List ℕ) → Code → Li
 code_text how lamps name code =
     columns_text how lamps code ++ codes " " ++ unwrap_or name (parameter_words code.parameter)
     ++ meaning_text code.fmi
-
--- as `active none - -`, where a message has no code
-unfoldable pub no_code_text : State → Lamps → List ℕ
-no_code_text how lamps = state_text how ++ codes " none - " ++ lamps_text lamps

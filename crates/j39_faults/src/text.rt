@@ -4,7 +4,7 @@ ghost use Rattle.std.specs.Option.{option_map};
 ghost use Rattle.arrayvec.specs.ArrayVec.{array_vec_len};
 ghost use Rattle.j39_io.specs.Puts.{Puts};
 ghost use Rattle.j39_io.specs.Turn.{turn};
-ghost use Rattle.j39_faults.specs.Text.{candidates_words, clear_text, code_text, columns_text, count_text, change_text, kind_text, lamps_text, meaning_text, no_code_text, parameter_words, spn_text, state_text};
+ghost use Rattle.j39_faults.specs.Text.{candidates_words, clear_text, code_text, columns_text, count_text, change_text, kind_text, lamps_text, meaning_text, parameter_words, spn_text, state_text};
 
 use crate::change::Change;
 use crate::code::{Candidates, Code, Parameter};
@@ -51,14 +51,6 @@ pub fn put_code<W: Sink>(
     put_all(sink, columns.as_slice())?;
     put_name(name, code.parameter, sink)?;
     put_meaning(code.fmi, sink)
-}
-
-/// Writes that a message has no code (own), with no newline: `active none - -`, with what is told of the lamps in the
-/// place of the last dash. After a fault a front of the text was written.
-pub fn put_no_code<W: Sink>(state: State, lamps: Lamps, sink: &mut W) -> Result<(), DeviceFault>
-    ensures { Puts (no_code_text state lamps) result (turn W.written W.has_failed sink.old sink.new) }
-{
-    put_all(sink, no_code_text(state, lamps).as_slice())
 }
 
 fn put_name<W: Sink>(
@@ -129,17 +121,6 @@ fn columns_of(state: State, lamps: Lamps, code: Code) -> Columns
     push_bytes(&mut text, b" ");
     push_bytes(&mut text, lamps_text(lamps).as_slice());
     push_bytes(&mut text, b" ");
-    text
-}
-
-#[tactic(auto, unfolding(crate::specs::Text::no_code_text))]
-fn no_code_text(state: State, lamps: Lamps) -> Columns
-    ensures { result.items ≡ no_code_text state lamps }
-{
-    let mut text = ArrayVec::new();
-    push_bytes(&mut text, state_word(state));
-    push_bytes(&mut text, b" none - ");
-    push_bytes(&mut text, lamps_text(lamps).as_slice());
     text
 }
 

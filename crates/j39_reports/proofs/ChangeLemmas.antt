@@ -19,11 +19,11 @@ use Rattle.j39_faults.specs.declared.lamps.Lamps.{Lamps}
 use Rattle.j39_faults.specs.declared.text.State.TheVariants.{Became}
 use Rattle.j39_listen.specs.Heard.{Hearing}
 use Rattle.j39_listen.specs.declared.format.Format.{Format}
-use Rattle.j39_listen.specs.declared.format.Format.TheVariants.{Line, Object, Record}
 use Rattle.j39_reports.specs.FaultChanges.{became, is_active}
-use Rattle.j39_reports.specs.FaultRecords.{fault_object, fault_record, faults_text}
-use Rattle.j39_reports.specs.Faults.{Fault, Manner, fault_line, lines_in, says_asked}
-use Rattle.j39_reports.specs.FaultsSoFar.{change_by, changed, head_in, line_of}
+use Rattle.j39_reports.specs.FaultRows.{faults_text, message_head}
+use Rattle.j39_reports.specs.Faults.{Fault, Manner, lines_in, says_asked}
+use Rattle.j39_reports.specs.FaultsSoFar.{change_by, changed, line_of}
+use Rattle.j39_rows.specs.Row.{HeadRecord}
 use Rattle.j39_reports.specs.declared.fault_news.changes.Side.{Side}
 use Rattle.j39_reports.proofs.CountLemmas.{count_by-append}
 use Rattle.j39_reports.proofs.FaultAccountLemmas.{faults_text-append}
@@ -31,14 +31,12 @@ use Rattle.j39_reports.proofs.FaultLineLemmas.{few_codes}
 
 -- the line of a code that changed
 pub change_text : (form : Format) (rows : Manner) (m : Hearing) (lamps : Lamps) (code : Code) (change : Change)
-    → line_of form (head_in form m.stamp m.message.source m.destination m.name) rows (Became change) lamps (Some code) ≡ faults_text form rows (became m lamps code (Some change))
-unfolding faults_text fault_line fault_object fault_record
-change_text Line rows m lamps code change = sym (append-nil _)
-change_text Record rows m lamps code change = sym (append-nil _)
-change_text Object rows m lamps code change = sym (append-nil _)
+    → line_of form (message_head m.stamp m.message.source m.destination m.name) rows (Became change) lamps (Some code) ≡ faults_text form rows (became m lamps code (Some change))
+unfolding faults_text
+change_text form rows m lamps code change = sym (append-nil _)
 
-pub change_put : {T E : Type 0} (form : Format) (rows : Manner) (m : Hearing) (lamps : Lamps) (code : Code) (change : Change) (head : List ℕ) (r : Result T E) (sink : Turn)
-    → head ≡ head_in form m.stamp m.message.source m.destination m.name → Puts (line_of form head rows (Became change) lamps (Some code)) r sink
+pub change_put : {T E : Type 0} (form : Format) (rows : Manner) (m : Hearing) (lamps : Lamps) (code : Code) (change : Change) (head : HeadRecord) (r : Result T E) (sink : Turn)
+    → head ≡ message_head m.stamp m.message.source m.destination m.name → Puts (line_of form head rows (Became change) lamps (Some code)) r sink
     → Puts (faults_text form rows (became m lamps code (Some change))) r sink
 change_put form rows m lamps code change head r sink is put =
     puts_as _ _ _ _ (ap (λ h. line_of form h rows (Became change) lamps (Some code)) is ∙ change_text form rows m lamps code change) put
@@ -127,9 +125,4 @@ module _ (form : Format) (rows : Manner) (m : Hearing) (lamps : Lamps) (side : S
 
 pub active_is : (kind : Kind) → is_active kind ≡ true → kind ≡ Active
 active_is Active e = refl
-active_is Previous e = cc
-active_is EmissionPending e = cc
-active_is EmissionActive e = cc
-active_is EmissionPrevious e = cc
-active_is Pending e = cc
-active_is Permanent e = cc
+active_is kind e = cc

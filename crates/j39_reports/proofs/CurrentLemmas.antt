@@ -1,7 +1,8 @@
 -- What is kept of each address, with one message of active codes more, and what is written of it.
 use Rattle.std.proofs.Common.{◌≡◌, ◌∙◌, ◌+◌, ◌<◌, ◌≤◌, ◌&&◌, ◌||◌, ◌++◌, ◌∷◌, [], ℕ, zero, suc, Bool, true, false, not, List, Option, Some, None, refl, sym, ap, append-nil, append_assoc, arith, filter, inl, inr, length, length-append, map, replicate, subst}
+use Rattle.std.proofs.Math.Bool.{or-true}
 use Rattle.std.specs.List.{flat_map, list_all, list_any}
-use Rattle.std.proofs.lemmas.Bool.{cases_Bool, cases_eq, cond-false, cond-true, eq-eqb, eqb-true, ne_eqb}
+use Rattle.std.proofs.lemmas.Bool.{and_parts, cases_Bool, cases_eq, cond-false, cond-true, eq-eqb, eqb-true, ne_eqb}
 use Rattle.std.proofs.lemmas.List.{get_or-replicate, length-replicate}
 use Rattle.std.proofs.lemmas.List.Elements.{filter-append}
 use Rattle.std.proofs.lemmas.List.Folds.{list_any-append}
@@ -18,7 +19,7 @@ use Rattle.j39_reports.specs.CurrentPlaces.{HaveTaken, LastRecord, Places, Stand
 use Rattle.j39_reports.specs.CurrentSoFar.{AreKept, IsEmptyAt, IsKeptAt, IsLastAt, now_shown, nows_shown, shown_below, standing_of}
 use Rattle.j39_reports.specs.Faults.{codes_or_none}
 use Rattle.j39_reports.specs.FaultsNow.{codes_in, first_stamp, is_about, is_at, is_same_name, lasts, names, now_at, now_below, now_by, now_in, telling, tells}
-use Rattle.j39_reports.proofs.TellingLemmas.{filter_turned, first_of_more, first_of_some, lasts_more, lasts_none, names_any, none_left, none_telling, or_none_self, or_true, same_name, same_or_none, stays, telling_ends, telling_more, telling_same, telling_stays}
+use Rattle.j39_reports.proofs.TellingLemmas.{filter_turned, first_of_more, first_of_some, lasts_more, lasts_none, names_any, none_left, none_telling, or_none_self, same_name, same_or_none, stays, telling_ends, telling_more, telling_same, telling_stays}
 
 -- ---- a code that is named again
 
@@ -142,13 +143,8 @@ module _ (cs : List Conversion) (ms : List Hearing) (m : Hearing) (lamps : Lamps
       → map (continued (standings_under before m.name) m.stamp) os ≡ map (standing_of cs (ms ++ m ∷ []) m) os
   all_standing before kept [] named = refl
   all_standing before kept (o ∷ os) named =
-      let parts = both (names (codes_in cs m) o) (list_all (names (codes_in cs m)) os) named in
+      let parts = and_parts (names (codes_in cs m) o) (list_all (names (codes_in cs m)) os) named in
       λ i. each_standing before kept o parts.0 i ∷ all_standing before kept os parts.1 i
-    where
-      both : (a b : Bool) → (a && b) ≡ true → (a ≡ true) × (b ≡ true)
-      both true true e = (refl, refl)
-      both true false e = cc
-      both false b e = cc
 
   none_stays : (x : Hearing) → is_at s x ≡ true → stays m x ≡ false
   none_stays x here = ap not (about_here x.message.source x.name m (sym (eqb-true x.message.source s here)))
@@ -179,7 +175,7 @@ each_named : (ks : List Code) (pre post : List (Option Code)) → codes_or_none 
 each_named ks pre [] is = refl
 each_named ks pre (c ∷ post) is =
     let here : names ks c ≡ true = sym (names_any ks c) ∙ ap (list_any (λ o. is_same_code o c)) is ∙ list_any-append (λ o. is_same_code o c) pre (c ∷ post)
-    ∙ ap (λ b. list_any (λ o. is_same_code o c) pre || (b || list_any (λ o. is_same_code o c) post)) (same_code_self c) ∙ or_true (list_any (λ o. is_same_code o c) pre) in
+    ∙ ap (λ b. list_any (λ o. is_same_code o c) pre || (b || list_any (λ o. is_same_code o c) post)) (same_code_self c) ∙ or-true (list_any (λ o. is_same_code o c) pre) in
     rw here (each_named ks (pre ++ c ∷ []) post (is ∙ sym (append_assoc pre (c ∷ []) post)))
 
 pub all_named : (ks : List Code) → list_all (names ks) (codes_or_none ks) ≡ true
@@ -222,10 +218,10 @@ module _ (cs : List Conversion) (ms : List Hearing) (m : Hearing) (a : ℕ) (oth
       self name is = ap (is_same_name m.name) (is ∙ one) ∙ ap (λ n. is_same_name n m.name) (sym one) ∙ same
 
       moved : (x : Hearing) → last.name ≡ x.name → is_about x.message.source x.name m ≡ true
-      moved x called = rw (self x.name (sym called)) (or_true (is_at x.message.source m))
+      moved x called = rw (self x.name (sym called)) (or-true (is_at x.message.source m))
 
       about : (name : Option ℕ) → is_same_name m.name name ≡ true → is_about a name m ≡ true
-      about name is = rw is (or_true (is_at a m))
+      about name is = rw is (or-true (is_at a m))
 
       named : (name : Option ℕ) (code : Option Code) → tells cs a name code kept.message ≡ true → is_same_name m.name name ≡ true
       named name code so_is = self name (sym (tells_named cs a name code kept.message so_is) ∙ sym kept.name_is)

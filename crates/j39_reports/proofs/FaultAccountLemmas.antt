@@ -27,7 +27,7 @@ use Rattle.j39_reports.specs.Faults.{Fault, Manner, asks_fault, faults_taken, li
 use Rattle.j39_reports.specs.Told.{told, told_below, told_here}
 use Rattle.j39_reports.specs.News.{Chosen, chosen_of, faults_among, is_fault_group, is_of_faults}
 use Rattle.j39_reports.specs.FaultRun.{MakesFaults, MakesFaultsIn, faults_of}
-use Rattle.j39_reports.specs.FaultRecords.{fault_in, faults_text}
+use Rattle.j39_reports.specs.FaultRows.{fault_in, faults_text}
 use Rattle.j39_reports.specs.Remembered.{Remembers}
 use Rattle.j39_reports.specs.FaultsSoFar.{HasTold, MeetsFrame, StopsFrame, Subject, Tells, added, announced_in, manner_of, told_next, with_either, with_frame}
 use Rattle.j39_reports.specs.Broken.{announces_codes, is_whole}

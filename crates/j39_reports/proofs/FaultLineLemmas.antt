@@ -21,15 +21,15 @@ use Rattle.j39_listen.specs.Heard.{Hearing}
 use Rattle.std.specs.Prelude.{count_by}
 use Rattle.std.proofs.lemmas.Bool.{cond-false}
 use Rattle.std.proofs.lemmas.List.Sums.{count_by-le-length}
-use Rattle.j39_reports.specs.Faults.{Fault, Manner, clearing_of, codes_or_none, fault_line, fault_of, lines_in, names_asked, says_asked}
+use Rattle.j39_reports.specs.Faults.{Fault, Manner, clearing_of, codes_or_none, fault_of, lines_in, names_asked, says_asked}
 use Rattle.j39_reports.specs.Interfaces.{one_if}
 use Rattle.j39_reports.proofs.CountLemmas.{count_by-append, count_here}
-use Rattle.j39_reports.specs.FaultRecords.{fault_in, fault_object, fault_record, faults_text}
-use Rattle.j39_reports.specs.FaultsSoFar.{clearing_in, head_in, line_of}
+use Rattle.j39_reports.specs.FaultRows.{clearing_columns, fault_in, faults_text, message_head}
+use Rattle.j39_reports.specs.FaultsSoFar.{line_of}
+use Rattle.j39_rows.specs.Row.{HeadRecord, row_text}
 use Rattle.j39_listen.specs.declared.format.Format.{Format}
-use Rattle.j39_listen.specs.declared.format.Format.TheVariants.{Line, Object, Record}
 
-abbrev pub lines_of : Format → List ℕ → Manner → State → Lamps → List Code → List ℕ
+abbrev pub lines_of : Format → HeadRecord → Manner → State → Lamps → List Code → List ℕ
 lines_of form head rows how lamps cs = flat_map (λ code. line_of form head rows how lamps (Some code)) cs
 
 -- how many of these codes are asked for
@@ -37,14 +37,14 @@ abbrev pub named_in : Manner → List Code → ℕ
 named_in rows cs = count_by (λ code. names_asked rows.spns (Some code)) cs
 
 -- the lines of the codes before these, the last of a payload by a version of the conversion, were written, and no fault came
-pub record HasPut (form : Format) (head : List ℕ) (rows : Manner) (version : Option Version) (how : State) (lamps : Lamps) (payload : List ℕ) (left : List Code)
+pub record HasPut (form : Format) (head : HeadRecord) (rows : Manner) (version : Option Version) (how : State) (lamps : Lamps) (payload : List ℕ) (left : List Code)
     (count : ℕ) (sink : Turn) : Type 0 where
   pub before : List Code
   pub all_are : codes_by version payload ≡ before ++ map (code_by version) left
   pub count_is : count ≡ named_in rows before
   pub written : Puts {T = Unit} {E = Unit} (lines_of form head rows how lamps before) (Ok tt) sink
 
-module _ (form : Format) (head : List ℕ) (rows : Manner) (version : Option Version) (how : State) (lamps : Lamps) (payload : List ℕ) where
+module _ (form : Format) (head : HeadRecord) (rows : Manner) (version : Option Version) (how : State) (lamps : Lamps) (payload : List ℕ) where
   abbrev line : Code → List ℕ
   line code = line_of form head rows how lamps (Some code)
 
@@ -101,7 +101,7 @@ few_codes payload =
     let p : places_of payload ≤ length payload = omega arith in
     omega arith
 
-pub few_put : (form : Format) (head : List ℕ) (rows : Manner) (version : Option Version) (how : State) (lamps : Lamps) (payload : List ℕ) (left : List Code) (count : ℕ) (sink : Turn)
+pub few_put : (form : Format) (head : HeadRecord) (rows : Manner) (version : Option Version) (how : State) (lamps : Lamps) (payload : List ℕ) (left : List Code) (count : ℕ) (sink : Turn)
     → HasPut form head rows version how lamps payload left count sink → count ≤ length payload
 few_put form head rows version how lamps payload left count sink h =
     let c = h.count_is in
@@ -138,13 +138,11 @@ unnamed rows c cs none = by rows.spns refl
 
 -- of what stands before them
 text_by : (form : Format) (rows : Manner) (m : Hearing) (how : State) (lamps : Lamps) (cs : List (Option Code))
-    → faults_text form rows (map (fault_of m how lamps) cs) ≡ flat_map (λ code. line_of form (head_in form m.stamp m.message.source m.destination m.name) rows how lamps code) cs
-unfolding faults_text fault_line fault_object fault_record
-text_by Line rows m how lamps cs = flat_map-map (fault_in Line rows) (fault_of m how lamps) cs
-text_by Record rows m how lamps cs = flat_map-map (fault_in Record rows) (fault_of m how lamps) cs
-text_by Object rows m how lamps cs = flat_map-map (fault_in Object rows) (fault_of m how lamps) cs
+    → faults_text form rows (map (fault_of m how lamps) cs) ≡ flat_map (λ code. line_of form (message_head m.stamp m.message.source m.destination m.name) rows how lamps code) cs
+unfolding faults_text
+text_by form rows m how lamps cs = flat_map-map (fault_in form rows) (fault_of m how lamps) cs
 
-module _ (form : Format) (rows : Manner) (m : Hearing) (how : State) (lamps : Lamps) (head : List ℕ) (is : head ≡ head_in form m.stamp m.message.source m.destination m.name) where
+module _ (form : Format) (rows : Manner) (m : Hearing) (how : State) (lamps : Lamps) (head : HeadRecord) (is : head ≡ message_head m.stamp m.message.source m.destination m.name) where
   abbrev text : List (Option Code) → List ℕ
   text cs = faults_text form rows (map (fault_of m how lamps) cs)
 
@@ -206,8 +204,6 @@ module _ (rows : Manner) (m : Hearing) (how : State) (lamps : Lamps) where
 
 -- that codes are to be cleared
 pub clearing_text : (form : Format) (rows : Manner) (m : Hearing) (kind : Kind) → names_asked rows.spns None ≡ true
-    → head_in form m.stamp m.message.source m.destination m.name ++ clearing_in form kind ≡ faults_text form rows (clearing_of m kind ∷ [])
-unfolding faults_text fault_line fault_object fault_record
-clearing_text Line rows m kind named = rw named (sym (append-nil _))
-clearing_text Record rows m kind named = rw named (sym (append-nil _))
-clearing_text Object rows m kind named = rw named (sym (append-nil _))
+    → row_text form (message_head m.stamp m.message.source m.destination m.name) (clearing_columns kind) ≡ faults_text form rows (clearing_of m kind ∷ [])
+unfolding faults_text
+clearing_text form rows m kind named = rw named (sym (append-nil _))

@@ -1,5 +1,6 @@
 -- The interfaces of some frames, and of one more.
 use Rattle.std.proofs.Common.{◌≡◌, ◌==◌, ◌||◌, ◌+◌, ◌++◌, ◌<◌, ◌≤◌, ℕ, List, [], ◌∷◌, Bool, true, false, not, length, refl, sym, ap, ap₂, ◌∙◌, append-nil, arith, map, take, take_all, length-take, drop, take-append-drop, subst, zero, suc, get_or}
+use Rattle.std.proofs.Math.Bool.{or-false}
 use Rattle.std.specs.Prelude.{if◌then◌else◌, nat_lt}
 use Rattle.std.specs.List.{list_any, refill}
 use Rattle.std.specs.Str.{bytes_eq}
@@ -252,11 +253,7 @@ pub any_more : {X : Type 0} (view : X → InterfaceRecord) (p : InterfaceRecord 
     → list_any p (map view (take (i + 1) init)) ≡ (list_any p (map view (take i init)) || p (view (get_or init i d)))
 any_more view p init i d below =
     ap (λ xs. list_any p (map view xs)) (take_more init i d below) ∙ ap (list_any p) (map-append view (take i init) (get_or init i d ∷ []))
-    ∙ list_any-append p (map view (take i init)) (view (get_or init i d) ∷ []) ∙ ap (λ b. list_any p (map view (take i init)) || b) (or_none (p (view (get_or init i d))))
-  where
-    or_none : (b : Bool) → (b || false) ≡ b
-    or_none true = refl
-    or_none false = refl
+    ∙ list_any-append p (map view (take i init)) (view (get_or init i d) ∷ []) ∙ ap (λ b. list_any p (map view (take i init)) || b) (or-false (p (view (get_or init i d))))
 
 -- ---- what the calls made of the interfaces
 

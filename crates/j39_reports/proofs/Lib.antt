@@ -1,8 +1,3 @@
--- the calendar
-mod CalendarLemmas
--- parts that stand one behind the other, and how long numbers are
-pub mod PartLemmas
-pub mod NumberLemmas
 -- the report as records and as objects: a message's entries
 pub mod JsonLemmas
 pub mod EntryLemmas

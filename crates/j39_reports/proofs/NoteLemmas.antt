@@ -2,7 +2,8 @@
 use Rattle.std.proofs.Common.{◌≡◌, ◌||◌, ◌∙◌, ◌++◌, ◌∷◌, [], ℕ, Bool, true, false, not, List, Option, None, Some, Result, Ok, Err, ap, append-nil, length, map, refl, subst, sym}
 use Rattle.std.specs.Prelude.{IfOk, OnErr, OnOk, if◌then◌else◌}
 use Rattle.std.specs.List.{flat_map}
-use Rattle.std.proofs.lemmas.Bool.{both_ways}
+use Rattle.std.proofs.Math.Bool.{or_comm}
+use Rattle.std.proofs.lemmas.Bool.{both_ways, or_parts}
 use Rattle.std.proofs.lemmas.List.{map-append}
 use Rattle.std.proofs.lemmas.List.Elements.{filter_map-append}
 use Rattle.j39_frame.specs.Frame.{FrameRecord}
@@ -73,12 +74,6 @@ neither_network groups pgn single = by (is_network_group pgn) refl
         let none : (is_reported_in groups pgn || is_fault_group pgn) ≡ false = rw (reported_leaves groups pgn is, faults_leave pgn is) refl in
         absurd (both_ways _ none single)
 
-pub or_turned : (a b : Bool) → (a || b) ≡ (b || a)
-or_turned true true = refl
-or_turned true false = refl
-or_turned false true = refl
-or_turned false false = refl
-
 -- a message, if it counts
 abbrev pub counted : Bool → Option Hearing → Option Hearing
 counted counts o = if counts then o else None
@@ -110,8 +105,8 @@ pub of_faults : (groups : List RowRecord) (l : Listener) (F : List FrameRecord) 
     → Hears l F → HeardAtWith is_fault_group (F ++ f ∷ []) (length F) (counted has o)
 of_faults groups l F f r a single has o is_r is_a is_single is_has at h =
     subst (λ counts. HeardAtWith is_fault_group (F ++ f ∷ []) (length F) (counted counts o)) (sym is_has)
-    (by_kind is_fault_group faults_leave l F f a r o is_a (λ one. neither_network groups (pgn_of f.id) ((λ i. is_r i || is_a i) ∙ or_turned r a ∙ one))
-    (λ singles leaves is. at singles leaves (is ∙ or_turned a r ∙ sym is_single)) h)
+    (by_kind is_fault_group faults_leave l F f a r o is_a (λ one. neither_network groups (pgn_of f.id) ((λ i. is_r i || is_a i) ∙ or_comm r a ∙ one))
+    (λ singles leaves is. at singles leaves (is ∙ or_comm a r ∙ sym is_single)) h)
 
 pub counted_none : (counts : Bool) → counted counts None ≡ None
 counted_none true = refl
@@ -138,16 +133,12 @@ notes_silent groups F f l' values places before ms at fault_at hears are kept = 
   messages_are = refl;
 }
 
-both_false : (a b : Bool) → (a || b) ≡ false → (a ≡ false) × (b ≡ false)
-both_false true b none = absurd (cc none)
-both_false false b none = (refl, none)
-
 -- nor can it be at a frame of a group that is neither the network's nor heard in one frame
 pub notes_other : (groups : List RowRecord) (F : List FrameRecord) (f : FrameRecord) (l : Listener) (values : Values) (places : Places) (before : List Entry) (ms : List Hearing)
     → (is_reported_in groups (pgn_of f.id) || is_fault_group (pgn_of f.id)) ≡ false → is_network_group (pgn_of f.id) ≡ false → Hears l F
     → AreLatest (pairs_of values.rows) before → AreKept [] places ms → Notes groups F f l values places before ms 0
 notes_other groups F f l values places before ms other free h are kept =
-    let neither = both_false _ _ other in
+    let neither = or_parts _ _ other in
     notes_silent groups F f l values places before ms (silent_outside (is_reported_in groups) (reported_leaves groups) l F f free neither.0 h)
     (silent_outside is_fault_group faults_leave l F f free neither.1 h) (hears_single l F f free (outside_claims f free) h) are kept
 

@@ -12,7 +12,6 @@ use Rattle.j39_groups.proofs.VisitLemmas.{flat_map-next}
 use Rattle.j39_listen.specs.Counting.{capped}
 use Rattle.j39_listen.specs.Filter.{FilterRecord, asks_for, no_filter}
 use Rattle.j39_listen.specs.declared.format.Format.{Format}
-use Rattle.j39_listen.specs.declared.format.Format.TheVariants.{Line, Object, Record}
 use Rattle.j39_faults.specs.declared.kind.Kind.TheVariants.{Active}
 use Rattle.j39_faults.specs.declared.text.State.TheVariants.{Is}
 use Rattle.j39_reports.specs.CurrentPlaces.{LastRecord, Places, StandingRecord, at, standing_record}
@@ -30,11 +29,9 @@ use Rattle.j39_reports.specs.declared.current_faults.standing.Standing.{Standing
 
 -- ---- the text of one
 
-pub one_text : (form : Format) (rows : Manner) (n : Now) → line_of form (now_head form n) rows (Is Active) n.lamps n.code ≡ now_text form rows (n ∷ [])
+pub one_text : (form : Format) (rows : Manner) (n : Now) → line_of form (now_head n) rows (Is Active) n.lamps n.code ≡ now_text form rows (n ∷ [])
 unfolding now_text
-one_text Line rows n = sym (append-nil _)
-one_text Record rows n = sym (append-nil _)
-one_text Object rows n = sym (append-nil _)
+one_text form rows n = sym (append-nil _)
 
 pub no_text : (form : Format) (rows : Manner) → now_text form rows [] ≡ []
 unfolding now_text

@@ -1,5 +1,6 @@
 -- What is told of one message.
 use Rattle.std.proofs.Common.{◌≡◌, ◌≢◌, ◌∙◌, ◌<◌, ◌≤◌, ◌^◌, ◌&&◌, ◌||◌, ℕ, Bool, true, false, List, [], ◌∷◌, ◌++◌, Option, Some}
+use Rattle.std.proofs.Math.Bool.{or-true}
 use Rattle.std.proofs.Common.{None, ap, arith, is_some, length, nat_le, refl}
 use Rattle.std.proofs.Common.{subst, sym, Result, Ok, Err}
 use Rattle.std.specs.Prelude.{IfOk, OnOk}
@@ -28,7 +29,7 @@ use Rattle.j39_faults.specs.declared.conversion.Version.{Version}
 use Rattle.j39_reports.specs.News.{Chosen, is_clearing, is_news, is_of_codes, is_of_faults, last_from, says_other}
 use Rattle.j39_reports.specs.FaultChanges.{bytes_before, changes_by, changes_in, changes_of, is_active}
 use Rattle.j39_reports.specs.Told.{told_of}
-use Rattle.j39_reports.specs.FaultRecords.{faults_text}
+use Rattle.j39_reports.specs.FaultRows.{faults_text}
 use Rattle.j39_reports.specs.Remembered.{Remembers, noted, said_at, said_in}
 use Rattle.j39_reports.specs.LastMessages.{differs, said_before}
 use Rattle.j39_reports.specs.FaultsSoFar.{Tells, TellsFaults, TellsFront, tells_clearing, told_faults, told_next, told_since}
@@ -52,13 +53,9 @@ too_short [] e = refl
 too_short (x ∷ []) e = refl
 too_short (x ∷ y ∷ rest) e = cc
 
-or_true : (b : Bool) → (b || true) ≡ true
-or_true true = refl
-or_true false = refl
-
 pub of_faults : (h : Hearing) (kind : Kind) (lamps : Lamps) → kind_of h.message.pgn ≡ Some kind → lamps_of h.message.bytes ≡ Some lamps → is_of_faults h ≡ true
 of_faults h kind lamps k l =
-    ap (λ b. is_clearing h || b) (ap (λ (o : Option Kind). is_some o && nat_le 2 (length h.message.bytes)) k ∙ long_enough h.message.bytes lamps l) ∙ or_true (is_clearing h)
+    ap (λ b. is_clearing h || b) (ap (λ (o : Option Kind). is_some o && nat_le 2 (length h.message.bytes)) k ∙ long_enough h.message.bytes lamps l) ∙ or-true (is_clearing h)
 
 -- where it asks to clear none
 or_codes : (h : Hearing) → cleared_in h.message.pgn h.message.bytes ≡ None → is_of_faults h ≡ is_of_codes h

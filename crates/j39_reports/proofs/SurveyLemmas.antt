@@ -1,5 +1,6 @@
 -- A survey, one line more.
 use Rattle.std.proofs.Common.{◌≡◌, ◌||◌, ◌+◌, ◌++◌, ℕ, List, [], ◌∷◌, Bool, true, false, length, refl, sym, ap, ◌∙◌, append-nil, subst, map, Option, Some, None, ap₂, inl, inr}
+use Rattle.std.proofs.Math.Bool.{or-false, or-true}
 use Rattle.std.specs.List.{AllByRecursion, filter_map}
 use Rattle.std.specs.Prelude.{Err, Ok, OnErr, OnOk, Result, unwrap_or}
 use Rattle.std.specs.Str.{bytes_eq}
@@ -82,14 +83,6 @@ module _ (lines : List LogLine) (line : LogLine) where
   form_more : has_log_line (lines ++ line ∷ []) ≡ (has_log_line lines || (has_form line.spelled || false))
   form_more = list_any-append (λ (l : LogLine). has_form l.spelled) lines (line ∷ [])
 
-  or_true : (b : Bool) → (b || true) ≡ true
-  or_true true = refl
-  or_true false = refl
-
-  or_false : (b : Bool) → b ≡ (b || false)
-  or_false true = refl
-  or_false false = refl
-
   spelled_more : spelled_in (lines ++ line ∷ []) ≡ spelled_in lines ++ line.spelled ∷ []
   spelled_more = map-append (λ (l : LogLine). l.spelled) lines (line ∷ [])
 
@@ -144,10 +137,10 @@ module _ (lines : List LogLine) (line : LogLine) where
     same_others none others = ap others_record others ∙ h.others_are ∙ ap others_of (sym (others_kept none))
 
     has_more_form : has_form line.spelled ≡ true → b.has_log_line ≡ true → b.has_log_line ≡ has_log_line (lines ++ line ∷ [])
-    has_more_form is form = form ∙ sym (form_more ∙ rw is (or_true (has_log_line lines)))
+    has_more_form is form = form ∙ sym (form_more ∙ rw is (or-true (has_log_line lines)))
 
     same_form : has_form line.spelled ≡ false → b.has_log_line ≡ a.has_log_line → b.has_log_line ≡ has_log_line (lines ++ line ∷ [])
-    same_form is form = form ∙ h.has_form ∙ or_false (has_log_line lines) ∙ sym (form_more ∙ rw is refl)
+    same_form is form = form ∙ h.has_form ∙ sym (or-false (has_log_line lines)) ∙ sym (form_more ∙ rw is refl)
 
   -- in a frame
   pub surveys_frame : (a b : Survey) (given : Option (List ℕ)) (bus : List ℕ) (f : FrameRecord) → (h : HasSurveyed a given lines) → line.spelled ≡ frame bus f → b.lines ≡ capped (a.lines + 1)

@@ -154,12 +154,7 @@ whole_more ms m short whole x pgn a e = elim (cases_Bool (is_of pgn a m)) [
 -- what was noted of a kind, and of another one
 noted_there : (l : LastFaults) (kind : Kind) (a : ℕ) (s : LastRecord) → kept (noted l kind a s) kind ≡ slice_set (kept l kind) a (Some s)
 noted_there l Active a s = refl
-noted_there l Previous a s = refl
-noted_there l EmissionPending a s = refl
-noted_there l EmissionActive a s = refl
-noted_there l EmissionPrevious a s = refl
-noted_there l Pending a s = refl
-noted_there l Permanent a s = refl
+noted_there l kind a s = refl
 
 noted_else : (l : LastFaults) (kind other : Kind) (a : ℕ) (s : LastRecord) → kind ≢ other → kept (noted l kind a s) other ≡ kept l other
 noted_else l Active Active a s n = absurd (n refl)

@@ -1,5 +1,6 @@
 -- One message of active codes more: whose last it is, and which messages tell a code one behind the other.
 use Rattle.std.proofs.Common.{◌≡◌, ◌∙◌, ◌&&◌, ◌||◌, ◌++◌, ◌∷◌, [], ℕ, Bool, true, false, not, List, Option, Some, None, refl, sym, ap, append-nil, filter, inl, inr, is_some, map}
+use Rattle.std.proofs.Math.Bool.{and-false, and-true, or-true}
 use Rattle.std.specs.List.{list_all, list_any}
 use Rattle.std.proofs.lemmas.Bool.{cases_Bool, cond-false, cond-true, eq-eqb, eqb-true}
 use Rattle.std.proofs.lemmas.List.Elements.{filter-append}
@@ -15,18 +16,6 @@ use Rattle.j39_reports.specs.Faults.{codes_or_none}
 use Rattle.j39_reports.specs.FaultsNow.{codes_in, first_stamp, is_about, is_at, is_same_name, lasts, longest_end, names, telling, tells}
 
 -- ---- tests
-
-and_false : (a : Bool) → (a && false) ≡ false
-and_false true = refl
-and_false false = refl
-
-and_true : (a : Bool) → (a && true) ≡ a
-and_true true = refl
-and_true false = refl
-
-pub or_true : (a : Bool) → (a || true) ≡ true
-or_true true = refl
-or_true false = refl
 
 pub same_or_none : (a b : Option ℕ) → is_same_or_none a b ≡ true → a ≡ b
 same_or_none None None e = refl
@@ -48,10 +37,10 @@ same_name (Some a) (Some b) e = ap (λ (x : ℕ). Some x) (eqb-true a b e)
 module _ (so : Hearing → Bool) where
   longest_more : (xs : List Hearing) (m : Hearing) → so m ≡ true → longest_end so (xs ++ m ∷ []) ≡ longest_end so xs ++ m ∷ []
   unfolding longest_end
-  longest_more [] m so_is = cond-true _ _ _ (and_true (so m) ∙ so_is)
+  longest_more [] m so_is = cond-true _ _ _ (and-true (so m) ∙ so_is)
   longest_more (x ∷ xs) m so_is =
       let all : list_all so ((x ∷ xs) ++ m ∷ []) ≡ list_all so (x ∷ xs) =
-      list_all-append so (x ∷ xs) (m ∷ []) ∙ ap (λ b. list_all so (x ∷ xs) && b) (and_true (so m) ∙ so_is) ∙ and_true (list_all so (x ∷ xs)) in
+      list_all-append so (x ∷ xs) (m ∷ []) ∙ ap (λ b. list_all so (x ∷ xs) && b) (and-true (so m) ∙ so_is) ∙ and-true (list_all so (x ∷ xs)) in
       elim (cases_Bool (list_all so (x ∷ xs))) [
         | inl is ↦ cond-true _ _ _ (all ∙ is) ∙ sym (ap (λ ys. ys ++ m ∷ []) (cond-true _ _ _ is))
         | inr isnt ↦ cond-false _ _ _ (all ∙ isnt) ∙ longest_more xs m so_is ∙ sym (ap (λ ys. ys ++ m ∷ []) (cond-false _ _ _ isnt))
@@ -59,10 +48,10 @@ module _ (so : Hearing → Bool) where
 
   longest_none : (xs : List Hearing) (m : Hearing) → so m ≡ false → longest_end so (xs ++ m ∷ []) ≡ []
   unfolding longest_end
-  longest_none [] m isnt = cond-false _ _ _ (and_true (so m) ∙ isnt)
+  longest_none [] m isnt = cond-false _ _ _ (and-true (so m) ∙ isnt)
   longest_none (x ∷ xs) m isnt =
       let all : list_all so ((x ∷ xs) ++ m ∷ []) ≡ false =
-      list_all-append so (x ∷ xs) (m ∷ []) ∙ ap (λ b. list_all so (x ∷ xs) && b) (and_true (so m) ∙ isnt) ∙ and_false (list_all so (x ∷ xs)) in
+      list_all-append so (x ∷ xs) (m ∷ []) ∙ ap (λ b. list_all so (x ∷ xs) && b) (and-true (so m) ∙ isnt) ∙ and-false (list_all so (x ∷ xs)) in
       cond-false _ _ _ all ∙ longest_none xs m isnt
 
 -- ---- the messages that tell a code
@@ -116,7 +105,7 @@ lasts_more (x ∷ xs) m =
     elim (cases_Bool (list_any q xs)) [
       | inl some ↦ cond-true _ _ _ (any ∙ ap (λ b. b || (q m || false)) some) ∙ lasts_more xs m ∙ sym (ap (λ ys. filter (stays m) ys ++ m ∷ []) (cond-true _ _ _ some))
       | inr none ↦ elim (cases_Bool (q m)) [
-        | inl here ↦ cond-true _ _ _ (any ∙ ap (λ b. list_any q xs || (b || false)) here ∙ or_true (list_any q xs)) ∙ lasts_more xs m
+        | inl here ↦ cond-true _ _ _ (any ∙ ap (λ b. list_any q xs || (b || false)) here ∙ or-true (list_any q xs)) ∙ lasts_more xs m
             ∙ sym (ap (λ ys. filter (stays m) ys ++ m ∷ []) (cond-false _ _ _ none) ∙ ap (λ ys. ys ++ m ∷ []) (cond-false _ _ _ (ap not here)))
         | inr other ↦ cond-false _ _ _ (any ∙ ap (λ b. b || (q m || false)) none ∙ ap (λ b. b || false) other) ∙ ap (λ ys. x ∷ ys) (lasts_more xs m)
             ∙ sym (ap (λ ys. filter (stays m) ys ++ m ∷ []) (cond-false _ _ _ none) ∙ ap (λ ys. ys ++ m ∷ []) (cond-true _ _ _ (ap not other)))

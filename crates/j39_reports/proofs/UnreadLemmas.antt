@@ -1,5 +1,6 @@
 -- The unread lines, and one more.
 use Rattle.std.proofs.Common.{◌≡◌, ◌&&◌, ◌+◌, ◌++◌, ◌<◌, ◌≤◌, ℕ, List, [], ◌∷◌, Bool, true, false, length, refl, sym, ap, ap₂, ◌∙◌, append-nil, append_assoc, arith, map, take, take_all, length-take, zero, suc, min, inl, inr}
+use Rattle.std.proofs.Math.Bool.{and-true}
 use Rattle.std.proofs.lemmas.Bool.{cases_lt, lt-leb, lt-ltb}
 use Rattle.std.proofs.lemmas.List.{length-map, map-append, take-append-le}
 use Rattle.std.proofs.lemmas.List.Folds.{list_all-append}
@@ -29,11 +30,7 @@ unread_in-more lines line =
     unread_from-more 1 lines line ∙ ap (λ k. unread_in lines ++ unread_at k line.text line.spelled) at
 
 printed_more : (unread : List UnreadRecord) (line : UnreadRecord) → are_printed (unread ++ line ∷ []) ≡ (are_printed unread && is_printed line.text)
-printed_more unread line = list_all-append (λ (l : UnreadRecord). is_printed l.text) unread (line ∷ []) ∙ ap (λ b. are_printed unread && b) (and_all (is_printed line.text))
-  where
-    and_all : (b : Bool) → (b && true) ≡ b
-    and_all true = refl
-    and_all false = refl
+printed_more unread line = list_all-append (λ (l : UnreadRecord). is_printed l.text) unread (line ∷ []) ∙ ap (λ b. are_printed unread && b) (and-true (is_printed line.text))
 
 length_shown : (unread : List UnreadRecord) → length (shown_in unread) ≡ length (take 5 unread)
 length_shown unread = length-map (take 5 unread) shown_of

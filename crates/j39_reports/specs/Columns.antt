@@ -4,7 +4,7 @@ use Rattle.hex.specs.Hex.{encode_upper}
 use Rattle.j39_io.specs.Records.{later_text, line_end}
 use Rattle.j39_listen.specs.Report.{name_field}
 use Rattle.j39_log.specs.StampText.{seconds_text}
-use Rattle.j39_reports.specs.Utc.{utc_text}
+use Rattle.j39_rows.specs.Utc.{utc_text}
 
 -- the last field of a record, and the end of its line
 abbrev pub last_field : List ℕ → List ℕ

@@ -6,8 +6,9 @@ use Rattle.j39_groups.specs.Value.{ValueRecord, number, on, off, error, reserved
 use Rattle.j39_groups.specs.ValueText.{magnitude_text, scaled_text}
 use Rattle.j39_listen.specs.Members.{address_string, in_marks, name_string, or_null}
 use Rattle.j39_listen.specs.Report.{Entry}
-use Rattle.j39_reports.specs.Json.{bytes_member, string_or_null, string_text}
-use Rattle.j39_reports.specs.Utc.{utc_text}
+use Rattle.j39_reports.specs.Json.{bytes_member, string_or_null}
+use Rattle.j39_rows.specs.Json.{string_text}
+use Rattle.j39_rows.specs.Utc.{utc_text}
 
 -- a moment: the seconds of a stamp, a number, which has no zeros before it; and the same in UTC
 unfoldable pub moment_members : ℕ → List ℕ
@@ -47,12 +48,7 @@ value_json (text bytes) = string_text bytes ++ bytes_member bytes
 -- a number has a unit
 unfoldable pub unit_in : ValueRecord → Option (List ℕ)
 unit_in (number n slot) = Some slot.unit
-unit_in on = None
-unit_in off = None
-unit_in error = None
-unit_in reserved = None
-unit_in indicator = None
-unit_in (text bytes) = None
+unit_in value = None
 
 -- the value, its unit, what the table calls its state, and the end of the line
 unfoldable pub value_members : ValueRecord → Option (List ℕ) → List ℕ

@@ -38,12 +38,7 @@ changes_by version before m lamps =
 -- in DM1
 abbrev pub is_active : Kind → Bool
 is_active Active = true
-is_active Previous = false
-is_active EmissionPending = false
-is_active EmissionActive = false
-is_active EmissionPrevious = false
-is_active Pending = false
-is_active Permanent = false
+is_active kind = false
 
 abbrev pub changes_of : Option Version → List ℕ → Hearing → Option Kind → Option Lamps → List Fault
 changes_of version before m None lamps = []

@@ -7,7 +7,7 @@ use Rattle.j39_listen.specs.Output.{Making, Output}
 use Rattle.j39_reports.specs.News.{Chosen, faults_among, is_fault_group}
 use Rattle.j39_reports.specs.Faults.{Manner, faults_taken, lines_in}
 use Rattle.j39_reports.specs.Told.{told}
-use Rattle.j39_reports.specs.FaultRecords.{fault_columns, faults_text}
+use Rattle.j39_reports.specs.FaultRows.{fault_columns, faults_text}
 use Rattle.j39_listen.specs.declared.format.Format.{Format}
 
 -- the text of each fault that is told of the messages of faults, and that is asked for; each message of faults counts

@@ -1,11 +1,9 @@
--- What is told of a message of faults, and its text (own).
-use Rattle.std.specs.Prelude.{◌++◌, ◌==◌, ◌||◌, ℕ, Bool, true, false, List, [], ◌∷◌, Option, Some, None, codes, count_by, filter, map}
+-- What is told of a message of faults (own).
+use Rattle.std.specs.Prelude.{◌==◌, ◌||◌, ℕ, Bool, true, false, List, [], ◌∷◌, Option, Some, None, count_by, filter, map}
 use Rattle.std.specs.List.{list_any}
-use Rattle.hex.specs.Hex.{encode_upper}
 use Rattle.j39_faults.specs.Conversions.{codes_by, version_for}
 use Rattle.j39_faults.specs.FaultGroups.{cleared_in, kind_of}
 use Rattle.j39_faults.specs.LampBits.{lamps_of}
-use Rattle.j39_faults.specs.Text.{clear_text, code_text, no_code_text}
 use Rattle.j39_faults.specs.declared.text.State.{State}
 use Rattle.j39_faults.specs.declared.text.State.TheVariants.{Is}
 use Rattle.j39_faults.specs.declared.code.Code.{Code}
@@ -19,10 +17,6 @@ use Rattle.j39_groups.specs.Names.{parameter_name}
 use Rattle.j39_groups.specs.Row.{RowRecord}
 use Rattle.j39_listen.specs.Filter.{FilterRecord, asks_for}
 use Rattle.j39_listen.specs.Heard.{Hearing}
-use Rattle.j39_listen.specs.Report.{name_text}
-use Rattle.j39_log.specs.StampText.{stamp_text}
-use Rattle.j39_reports.specs.RowText.{destination_text}
-use Rattle.j39_io.specs.Chars.{newline}
 
 -- a code of a kind, what became of it, or that a message has none, and with which lamps; or that the codes of a kind are to be
 -- cleared
@@ -124,23 +118,3 @@ name_of rows (OneOf spns) = None
 
 abbrev pub name_in : List RowRecord → Code → Option (List ℕ)
 name_in rows code = name_of rows code.parameter
-
--- the stamp, the address with the destination, where there is one, and the NAME, a space after each
-abbrev pub head_text : ℕ → ℕ → Option ℕ → Option ℕ → List ℕ
-head_text stamp address destination name =
-    stamp_text stamp ++ codes " " ++ encode_upper (address ∷ []) ++ destination_text destination ++ codes " "
-    ++ name_text name ++ codes " "
-
-abbrev pub said_text : List RowRecord → State → Lamps → Option Code → List ℕ
-said_text rows how lamps None = no_code_text how lamps
-said_text rows how lamps (Some code) = code_text how lamps (name_in rows code) code
-
--- as `clear-active all - -`
-abbrev pub saying_text : List RowRecord → Saying → List ℕ
-saying_text rows (says how lamps code) = said_text rows how lamps code
-saying_text rows (clears kind) = clear_text kind ++ codes " all - -"
-
--- the line of a fault, with its newline
-unfoldable pub fault_line : List RowRecord → Fault → List ℕ
-fault_line rows f =
-    head_text f.stamp f.address f.destination f.name ++ (saying_text rows f.saying ++ (newline ∷ []))

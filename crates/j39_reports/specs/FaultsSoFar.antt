@@ -24,18 +24,16 @@ use Rattle.j39_listen.specs.Output.{Output}
 use Rattle.j39_listen.specs.ReportSoFar.{made_of}
 use Rattle.j39_listen.specs.declared.counts.Made.{Made}
 use Rattle.j39_listen.specs.declared.listener.Listener.{Listener}
-use Rattle.j39_io.specs.Records.{record_text}
-use Rattle.j39_faults.specs.Text.{clear_text, state_text}
 use Rattle.j39_faults.specs.declared.text.State.{State}
-use Rattle.j39_io.specs.Chars.{newline}
-use Rattle.j39_reports.specs.Faults.{Fault, Manner, faults_by, faults_taken, head_text, lines_in, names_asked, said_text}
+use Rattle.j39_reports.specs.Faults.{Fault, Manner, faults_by, faults_taken, lines_in, names_asked}
 use Rattle.std.specs.Borrow.{Bor}
 use Rattle.j39_reports.specs.declared.fault_news.form.Writing.{Writing}
 use Rattle.j39_reports.specs.FaultChanges.{became, changes_by, is_active}
 use Rattle.j39_reports.specs.Told.{told_here}
 use Rattle.j39_reports.specs.News.{Chosen, chosen_of, faults_among, is_fault_group, is_of_faults}
 use Rattle.j39_reports.specs.FaultRun.{faults_of}
-use Rattle.j39_reports.specs.FaultRecords.{clearing_fields, clearing_object, faults_text, head_fields, head_members, said_fields, said_object}
+use Rattle.j39_reports.specs.FaultRows.{faults_text, said_columns}
+use Rattle.j39_rows.specs.Row.{HeadRecord, row_text}
 use Rattle.j39_reports.specs.LastMessages.{LastRecord, differs, said_before}
 use Rattle.j39_reports.specs.Remembered.{Remembers}
 use Rattle.j39_reports.specs.Broken.{announces_codes, broken_in, is_whole}
@@ -47,7 +45,6 @@ use Rattle.j39_reports.specs.declared.fault_news.telling.Telling.{Telling}
 use Rattle.j39_reports.specs.declared.fault_news.telling.Telling.TheVariants.{News, All, Changes}
 use Rattle.j39_reports.specs.declared.fault_news.account.FaultNews.{FaultNews}
 use Rattle.j39_listen.specs.declared.format.Format.{Format}
-use Rattle.j39_listen.specs.declared.format.Format.TheVariants.{Line, Object, Record}
 use Rattle.j39_reports.specs.declared.fault_news.last_faults.LastFaults.{LastFaults}
 
 -- the SPNs that are asked for, where some are
@@ -57,31 +54,10 @@ spns_now = option_map (λ spns. spns.now)
 abbrev pub manner_of : Writing → Manner
 manner_of w = record { rows = w.groups.now; spns = spns_now w.spns }
 
--- what stands before what is said
-abbrev pub head_in : Format → ℕ → ℕ → Option ℕ → Option ℕ → List ℕ
-head_in Line stamp address destination name = head_text stamp address destination name
-head_in Record stamp address destination name = head_fields stamp address destination name
-head_in Object stamp address destination name = head_members stamp address destination name
-
--- what is said, as a line or a record ends with it
-abbrev pub said_in : Format → List RowRecord → State → Lamps → Option Code → List ℕ
-said_in Line rows how lamps code = said_text rows how lamps code ++ (newline ∷ [])
-said_in Record rows how lamps code = record_text (state_text how) (said_fields rows lamps code)
-said_in Object rows how lamps code = said_object rows how lamps code
-
--- a line or a record, of what stands before what is said in it
-abbrev pub shown_line : Format → List ℕ → List RowRecord → State → Lamps → Option Code → List ℕ
-shown_line form head rows how lamps code = head ++ said_in form rows how lamps code
-
--- if the code is asked for
-abbrev pub line_of : Format → List ℕ → Manner → State → Lamps → Option Code → List ℕ
-line_of form head manner how lamps code = if names_asked manner.spns code then shown_line form head manner.rows how lamps code else []
-
--- that codes are to be cleared, as a line or a record ends with it
-abbrev pub clearing_in : Format → Kind → List ℕ
-clearing_in Line kind = (clear_text kind ++ codes " all - -") ++ (newline ∷ [])
-clearing_in Record kind = record_text (clear_text kind) clearing_fields
-clearing_in Object kind = clearing_object kind
+-- what is said behind what stands before it, if its code is asked for
+abbrev pub line_of : Format → HeadRecord → Manner → State → Lamps → Option Code → List ℕ
+line_of form head manner how lamps code =
+    if names_asked manner.spns code then row_text form head (said_columns manner.rows how lamps code) else []
 
 -- what is told of a message, where it is told
 abbrev pub told_faults : Bool → List Fault → List Fault
@@ -89,15 +65,13 @@ told_faults is_told faults = if is_told then faults else []
 
 -- whether one that asks to clear codes is told
 abbrev pub tells_clearing : Telling → Bool
-tells_clearing News = true
-tells_clearing All = true
 tells_clearing Changes = false
+tells_clearing telling = true
 
 -- whether it is told what became of the codes of a message
 abbrev pub tells_changes : Telling → Kind → Bool
-tells_changes News kind = false
-tells_changes All kind = false
 tells_changes Changes kind = is_active kind
+tells_changes telling kind = false
 
 -- whether the codes of a message are told
 abbrev pub is_told : Telling → Bool → Bool

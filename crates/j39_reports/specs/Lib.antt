@@ -1,6 +1,4 @@
--- moments in UTC (ISO 8601), and columns that several records have
-pub mod Calendar
-pub mod Utc
+-- columns that the records of a report have
 pub mod Columns
 -- the report as records: the record of an entry, and what a run makes of the frames
 pub mod EntryText
@@ -28,7 +26,7 @@ pub mod News
 pub mod Faults
 pub mod FaultChanges
 pub mod Told
-pub mod FaultRecords
+pub mod FaultRows
 -- the news of faults: what a run makes of the frames, and where it may want memory
 pub mod FaultRun
 pub mod FaultAsking

@@ -29,13 +29,10 @@ AreApart (e ∷ es) = (list_any (have_one_origin e) es ≡ false) × AreApart es
 
 -- what stands in the place of a number: an error, a reserved value, an indicator
 abbrev pub is_word_value : ValueRecord → Bool
-is_word_value (number n slot) = false
-is_word_value on = false
-is_word_value off = false
 is_word_value error = true
 is_word_value reserved = true
 is_word_value indicator = true
-is_word_value (text bytes) = false
+is_word_value value = false
 
 abbrev pub is_word : Entry → Bool
 is_word e = is_word_value e.value
@@ -52,12 +49,7 @@ pub record Number : Type 0 where
 
 abbrev pub number_in : ValueRecord → Option Number
 number_in (number n slot) = Some (record { value = n; slot = slot })
-number_in on = None
-number_in off = None
-number_in error = None
-number_in reserved = None
-number_in indicator = None
-number_in (text bytes) = None
+number_in value = None
 
 abbrev pub number_of : Entry → Option Number
 number_of e = number_in e.value

@@ -36,13 +36,8 @@ abbrev pub MakesSummary : Format → FilterRecord → List RowRecord → Making
 MakesSummary form which groups = Columned summary_columns form (MakesSummaryIn form which groups)
 
 abbrev pub IsText : ValueRecord → Type 0
-IsText (number n slot) = ⊥
-IsText on = ⊥
-IsText off = ⊥
-IsText error = ⊥
-IsText reserved = ⊥
-IsText indicator = ⊥
 IsText (text bytes) = Unit {0}
+IsText value = ⊥
 
 -- behind these entries this one wants memory: it is the first of its origin, or a text
 abbrev pub WantsRow : List Entry → Entry → Type 0

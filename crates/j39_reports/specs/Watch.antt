@@ -9,7 +9,7 @@ use Rattle.j39_faults.specs.declared.kind.Kind.TheVariants.{Active}
 use Rattle.j39_faults.specs.declared.text.State.TheVariants.{Is}
 use Rattle.j39_frame.specs.Frame.{FrameRecord}
 use Rattle.j39_frame.specs.Origin.{is_same_or_none}
-use Rattle.j39_groups.specs.Names.{state_in}
+use Rattle.j39_groups.specs.Names.{name_in as parameter_in, state_in}
 use Rattle.j39_groups.specs.Row.{RowRecord}
 use Rattle.j39_groups.specs.ValueText.{value_text}
 use Rattle.j39_listen.specs.Asking.{AsksForBoxes, Wanting}
@@ -18,11 +18,13 @@ use Rattle.j39_listen.specs.Heard.{AreHeard, AreHeardWith, HeardAt, Hearing}
 use Rattle.j39_listen.specs.Output.{Making}
 use Rattle.j39_listen.specs.Report.{Entry, entries_of, name_text}
 use Rattle.j39_log.specs.StampText.{stamp_text}
-use Rattle.j39_reports.specs.Faults.{said_text}
+use Rattle.j39_reports.specs.Faults.{name_in}
+use Rattle.j39_faults.specs.Text.{code_text}
+use Rattle.j39_faults.specs.declared.code.Code.{Code}
+use Rattle.j39_faults.specs.declared.lamps.Lamps.{Lamps}
 use Rattle.j39_reports.specs.FaultsNow.{Now, active_among, faults_now}
 use Rattle.j39_reports.specs.FaultsNowRun.{IsFirstActive}
 use Rattle.j39_reports.specs.News.{is_fault_group}
-use Rattle.j39_reports.specs.RowText.{called_in, destination_text, state_behind}
 use Rattle.j39_reports.specs.Summary.{firsts, last_of, values_like}
 use Rattle.j39_reports.specs.SummaryRun.{WantsRow}
 
@@ -81,6 +83,20 @@ faults_shown holder heard = filter (is_shown holder) (faults_now [] (active_amon
 
 -- ---- lines
 
+-- the destination behind the address, where there is one
+abbrev pub destination_text : Option ℕ → List ℕ
+destination_text None = []
+destination_text (Some address) = codes ">" ++ encode_upper (address ∷ [])
+
+-- what the table calls a parameter, or a dash
+abbrev pub called_in : List RowRecord → ℕ → ℕ → List ℕ
+called_in groups pgn spn = unwrap_or (parameter_in groups pgn spn) (codes "-")
+
+-- behind it the name of a state, if it has one
+abbrev pub state_behind : Option (List ℕ) → List ℕ
+state_behind None = []
+state_behind (Some words) = codes " = " ++ words
+
 abbrev pub spaces : ℕ → List ℕ
 spaces n = replicate n 0x20
 
@@ -109,8 +125,13 @@ value_line groups now l =
     ++ called_in groups l.entry.pgn l.entry.spn ++ state_behind (state_in groups l.entry.pgn l.entry.spn l.entry.value)
 
 -- the controller, and what a line of its fault says
+-- what a line of `faults` says of an active code; a message without codes shows none
+abbrev pub said_text : List RowRecord → Lamps → Option Code → List ℕ
+said_text groups lamps None = []
+said_text groups lamps (Some code) = code_text (Is Active) lamps (name_in groups code) code
+
 unfoldable pub fault_shown_line : List RowRecord → Now → List ℕ
-fault_shown_line groups n = controller_columns n.address None n.name ++ said_text groups (Is Active) n.lamps n.code
+fault_shown_line groups n = controller_columns n.address None n.name ++ said_text groups n.lamps n.code
 
 -- the stamp of the last frame, the faults, and the values
 abbrev pub screen_lines : List RowRecord → (ℕ → Option ℕ) → ℕ → List Entry → List Hearing → List (List ℕ)

@@ -3,15 +3,14 @@
 pub(crate) mod account;
 pub(crate) mod announced;
 mod changes;
+pub(crate) mod columns;
 pub(crate) mod form;
 mod last_faults;
 pub(crate) mod last_message;
 mod last_messages;
 pub mod laws;
 pub(crate) mod lines;
-mod names;
-mod objects;
-mod records;
+pub(crate) mod names;
 pub(crate) mod run;
 mod since;
 mod telling;

@@ -1,26 +1,20 @@
 //! Strings of JSON (RFC 8259, 7).
 ghost use Rattle.j39_listen.specs.Members.{in_marks};
-ghost use Rattle.std.specs.Prelude.{◌≡◌, ◌∷◌, ◌++◌, [], ◌+◌, ◌≤◌, IfSome, codes, false, length, map, nat_lt, true};
-ghost use Rattle.std.specs.List.{flat_map, list_any};
+ghost use Rattle.std.specs.Prelude.{◌≡◌, ◌+◌, ◌≤◌, IfSome, false, length, map, nat_lt, true};
+ghost use Rattle.std.specs.List.{list_any};
 ghost use Rattle.std.specs.Option.{option_map};
 ghost use Rattle.std.specs.Simd.Lanes.{mask_l};
-ghost use Rattle.std.specs.Str.{is_utf8};
-ghost use Rattle.std.specs.Str.Lossy.{utf8_lossy};
-ghost use Rattle.hex.specs.Hex.{encode_upper};
 ghost use Rattle.j39_io.specs.Backwards.{WritesBefore};
 ghost use Rattle.j39_io.specs.Puts.{Puts};
 ghost use Rattle.j39_io.specs.Turn.{turn};
-ghost use Rattle.j39_reports.specs.Json.{bytes_under, character_text, hex_text, is_marked, number_or_null, string_or_null, string_text, text_or_null};
+ghost use Rattle.j39_reports.specs.Json.{is_marked, string_or_null};
+ghost use Rattle.j39_rows.specs.Json.{string_text};
 
 use crate::report_records::bits_of;
-use arrayvec::ArrayVec;
 use j39_io::backwards::{byte_before, bytes_before, slice_before};
-use j39_io::printing::{push_bytes, push_hex};
 use j39_io::{DeviceFault, Sink, put_all};
+use j39_rows::put_string;
 use std::simd::prelude::*;
-
-/// The bytes of U+FFFD.
-const REPLACEMENT: &[u8] = b"\xEF\xBF\xBD";
 
 /// Writes a text as a string, or `null` where there is none. After a fault a front of that was written.
 pub(crate) fn put_string_or_null<W: Sink>(
@@ -34,132 +28,6 @@ pub(crate) fn put_string_or_null<W: Sink>(
         Some(text) => put_string(text, sink),
         None => put_all(sink, b"null"),
     }
-}
-
-/// Writes bytes as a string, with U+FFFD for what is no UTF-8. After a fault a front of that was written.
-#[tactic(auto, unfolding(crate::specs::Json::string_text))]
-pub(crate) fn put_string<W: Sink>(text: &[u8], sink: &mut W) -> Result<(), DeviceFault>
-    ensures { Puts (string_text text.now) result (turn W.written W.has_failed sink.old sink.new) }
-{
-    put_all(sink, b"\"")?;
-    put_characters(text, sink)?;
-    put_all(sink, b"\"")
-}
-
-/// Writes the characters of a string.
-fn put_characters<W: Sink>(text: &[u8], sink: &mut W) -> Result<(), DeviceFault>
-    ensures { Puts (flat_map character_text (utf8_lossy text.now)) result
-        (turn W.written W.has_failed sink.old sink.new) }
-{
-    for chunk in text.utf8_chunks() {
-        put_bytes(chunk.valid().as_bytes(), sink)?;
-        if !chunk.invalid().is_empty() {
-            put_all(sink, REPLACEMENT)?;
-        }
-    }
-    Ok(())
-}
-
-/// Writes bytes that are UTF-8.
-fn put_bytes<W: Sink>(bytes: &[u8], sink: &mut W) -> Result<(), DeviceFault>
-    ensures { Puts (flat_map character_text bytes.now) result (turn W.written W.has_failed sink.old sink.new) }
-{
-    for &byte in bytes {
-        put_all(sink, character(byte).as_slice())?;
-    }
-    Ok(())
-}
-
-/// A byte of a character as it stands in a string.
-fn character(byte: u8) -> ArrayVec<u8, 6>
-    ensures { result.items ≡ character_text byte }
-{
-    let mut out = ArrayVec::new();
-    match byte {
-        b'"' => push_bytes(&mut out, b"\\\""),
-        b'\\' => push_bytes(&mut out, b"\\\\"),
-        0..=31 => {
-            push_bytes(&mut out, b"\\u00");
-            push_hex(&mut out, &[byte]);
-        }
-        _ => out.push(byte),
-    }
-    out
-}
-
-/// Writes the bytes of a text that isn't all UTF-8 under this key; nothing of any other. After a fault a front of that was
-/// written.
-pub(crate) fn put_bytes_under<W: Sink>(
-    key: &[u8],
-    text: &[u8],
-    sink: &mut W,
-) -> Result<(), DeviceFault>
-    ensures { Puts (bytes_under key.now text.now) result (turn W.written W.has_failed sink.old sink.new) }
-{
-    if is_utf8(text) {
-        Ok(())
-    } else {
-        put_in_hex(key, text, sink)
-    }
-}
-
-fn is_utf8(text: &[u8]) -> bool
-    ensures { result ≡ is_utf8 text.now }
-{
-    std::str::from_utf8(text).is_ok()
-}
-
-/// Writes the key of the bytes, and the bytes.
-fn put_in_hex<W: Sink>(key: &[u8], text: &[u8], sink: &mut W) -> Result<(), DeviceFault>
-    ensures { Puts (key.now ++ in_marks (hex_text text.now)) result (turn W.written W.has_failed sink.old sink.new) }
-{
-    put_all(sink, key)?;
-    put_hex_string(text, sink)
-}
-
-/// Writes bytes in hex, as a string.
-fn put_hex_string<W: Sink>(text: &[u8], sink: &mut W) -> Result<(), DeviceFault>
-    ensures { Puts (in_marks (hex_text text.now)) result (turn W.written W.has_failed sink.old sink.new) }
-{
-    put_all(sink, b"\"")?;
-    put_hex(text, sink)?;
-    put_all(sink, b"\"")
-}
-
-/// Writes bytes as pairs of hex digits.
-fn put_hex<W: Sink>(bytes: &[u8], sink: &mut W) -> Result<(), DeviceFault>
-    ensures { Puts (hex_text bytes.now) result (turn W.written W.has_failed sink.old sink.new) }
-{
-    for &byte in bytes {
-        put_all(sink, hex_pair(byte).as_slice())?;
-    }
-    Ok(())
-}
-
-fn hex_pair(byte: u8) -> ArrayVec<u8, 2>
-    ensures { result.items ≡ encode_upper (byte ∷ []) }
-{
-    let mut pair = ArrayVec::new();
-    push_hex(&mut pair, &[byte]);
-    pair
-}
-
-/// Writes a field as a string; `null` for an empty one.
-pub(crate) fn put_text_or_null<W: Sink>(field: &[u8], sink: &mut W) -> Result<(), DeviceFault>
-    ensures { Puts (text_or_null field.now) result (turn W.written W.has_failed sink.old sink.new) }
-{
-    if field.is_empty() {
-        put_all(sink, b"null")
-    } else {
-        put_string(field, sink)
-    }
-}
-
-/// The digits of a number; `null` where there are none.
-pub(crate) fn number_or_null<'f>(field: &'f [u8]) -> &'f [u8]
-    ensures { result.now ≡ number_or_null field.now }
-{
-    if field.is_empty() { b"null" } else { field }
 }
 
 /// Writes a text as a string before `end`, or `null`. `None`, and nothing of use is written, where it is long, or has a byte that

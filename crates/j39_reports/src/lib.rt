@@ -1,17 +1,14 @@
 //! What a log is made into, beside its report in lines: records, a summary, the news of faults and a survey.
 #![tactic(auto)]
 
-mod columns;
 pub mod current_faults;
 pub mod fault_news;
 mod json;
-mod parts;
 mod report_objects;
 mod report_records;
 mod second;
 pub mod summaries;
 pub mod surveys;
-mod utc;
 mod watching;
 
 pub use current_faults::faults_now;

@@ -5,5 +5,4 @@ mod opening;
 mod quick_object;
 mod run;
 
-pub(crate) use objects::put_member;
 pub use run::report_json;

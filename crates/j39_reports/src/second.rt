@@ -4,11 +4,11 @@ ghost use Rattle.j39_io.specs.Backwards.{WritesBefore};
 ghost use Rattle.j39_io.specs.Printing.{last_digits};
 ghost use Rattle.j39_frame.specs.Stamp.{stamp_micros};
 ghost use Rattle.j39_reports.specs.Columns.{moment_fields};
-ghost use Rattle.j39_reports.specs.Utc.{second_text, utc_text};
+ghost use Rattle.j39_rows.specs.Utc.{second_text, utc_text};
 
-use crate::utc::second_text;
 use j39_frame::Stamp;
 use j39_io::backwards::{byte_before, bytes_before, last_digits_before};
+use j39_rows::second_text;
 
 /// A second and its texts, kept from message to message: most come within the second of the message before.
 #[derive(Clone, Copy, Debug)]

@@ -5,8 +5,6 @@ mod account;
 pub(crate) mod guesses;
 pub mod laws;
 pub(crate) mod lines;
-mod objects;
-mod records;
 mod rows;
 pub(crate) mod statistics;
 pub(crate) mod stored_value;

@@ -7,17 +7,20 @@ ghost use Rattle.j39_faults.specs.Conversions.{codes_by};
 ghost use Rattle.j39_frame.specs.Stamp.{stamp_micros};
 ghost use Rattle.j39_listen.specs.HeardModel.{hearing_of};
 ghost use Rattle.j39_reports.specs.FaultChanges.{became, changes_by};
-ghost use Rattle.j39_reports.specs.FaultRecords.{faults_text};
-ghost use Rattle.j39_reports.specs.FaultsSoFar.{change_by, changed, head_in, manner_of};
+ghost use Rattle.j39_reports.specs.FaultRows.{faults_text, message_head};
+ghost use Rattle.j39_rows.specs.Models.{head_of};
+ghost use Rattle.j39_reports.specs.FaultsSoFar.{change_by, changed, manner_of};
 ghost use Rattle.j39_reports.specs.Faults.{lines_in};
 
+use crate::fault_news::columns::message_columns;
 use crate::fault_news::form::{Said, Writing};
-use crate::fault_news::lines::{head_of, put_fault};
+use crate::fault_news::lines::{message_head, put_fault};
 use j39_faults::{
     Change, Code, Lamps, State, Version, change_since, clearing_by, code_by, codes_of,
 };
 use j39_io::{DeviceFault, Sink};
 use j39_listen::Heard;
+use j39_rows::Head;
 
 /// Which of two messages, one behind the other, names a code.
 #[derive(Clone, Copy)]
@@ -39,8 +42,8 @@ pub(crate) fn put_changes<W: Sink>(
     ensures puts { Puts (faults_text writing.entry.form (manner_of writing.entry) (changes_by version before.now (hearing_of heard.now) lamps))
         result (turn W.written W.has_failed sink.old sink.new) }
 {
-    let head = head_of(writing.form, heard);
-    let head = head.as_slice();
+    let columns = message_columns(heard);
+    let head = message_head(heard, &columns);
     let payload = heard.message.payload;
     let later = put_changed(
         heard,
@@ -70,7 +73,7 @@ pub(crate) fn put_changes<W: Sink>(
 /// Writes a line for each code of a payload that changed, the other message having these, and answers how many.
 fn put_changed<W: Sink>(
     heard: &Heard<'_>,
-    head: &[u8],
+    head: Head<'_>,
     writing: Writing<'_, '_>,
     version: Option<Version>,
     lamps: Lamps,
@@ -79,7 +82,7 @@ fn put_changed<W: Sink>(
     others: &[u8],
     sink: &mut W,
 ) -> Result<u64, DeviceFault>
-    requires { head.now ≡ head_in writing.form (stamp_micros heard.now.message.stamp) heard.now.message.source
+    requires { head_of head ≡ message_head (stamp_micros heard.now.message.stamp) heard.now.message.source
         heard.now.destination (option_map name_raw heard.now.name) }
     ensures lines { IfOk result (λ n. n
         ≡ lines_in (manner_of writing.entry) (changed side (hearing_of heard.now) lamps (codes_by version others.now) (codes_by version payload.now))) }
@@ -110,14 +113,14 @@ fn change_by(side: Side, version: Option<Version>, others: &[u8], code: Code) ->
 /// Writes a line for a code that changed, and answers how many.
 fn put_change<W: Sink>(
     heard: &Heard<'_>,
-    head: &[u8],
+    head: Head<'_>,
     writing: Writing<'_, '_>,
     lamps: Lamps,
     code: Code,
     change: Option<Change>,
     sink: &mut W,
 ) -> Result<u64, DeviceFault>
-    requires { head.now ≡ head_in writing.form (stamp_micros heard.now.message.stamp) heard.now.message.source
+    requires { head_of head ≡ message_head (stamp_micros heard.now.message.stamp) heard.now.message.source
         heard.now.destination (option_map name_raw heard.now.name) }
     ensures lines { IfOk result (λ n. n ≡ lines_in (manner_of writing.entry) (became (hearing_of heard.now) lamps code change)) }
     ensures puts { Puts (faults_text writing.entry.form (manner_of writing.entry) (became (hearing_of heard.now) lamps code change))

@@ -10,7 +10,10 @@ ghost use Rattle.j39_reports.specs.Broken.{announces_codes, is_whole};
 ghost use Rattle.j39_reports.specs.Faults.{Fault, Manner, faults_taken};
 ghost use Rattle.j39_reports.specs.Told.{told_of};
 ghost use Rattle.j39_reports.specs.declared.fault_news.telling.Telling.{Telling};
+ghost use Rattle.j39_reports.specs.FaultRows.{columns_with, message_head, saying_columns, saying_name};
 ghost use Rattle.j39_reports.specs.FaultRun.{MakesFaultsIn};
+ghost use Rattle.j39_rows.specs.Row.{names_text};
+ghost use Rattle.j39_groups.specs.Row.{RowRecord};
 ghost use Rattle.j39_listen.specs.declared.format.Format.{Format};
 ghost use Rattle.j39_reports.specs.News.{Chosen, is_fault_group};
 
@@ -34,4 +37,11 @@ pub fn filters()
         (m : Hearing) → faults_taken which first (told_of telling conversions before m)
         ≡ (if takes_message which first m then told_of telling conversions before m else []) }
     ensures all { (first : ℕ) (faults : List Fault) → faults_taken no_filter first faults ≡ faults }
+{}
+
+/// The names of a record's columns are those above the records that tell the same.
+pub fn names()
+    ensures { (rows : List RowRecord) (f : Fault)
+        → names_text (message_head f.stamp f.address f.destination f.name) (saying_columns rows f.saying)
+        ≡ columns_with (saying_name f.saying) }
 {}

@@ -6,7 +6,7 @@ ghost use Rattle.j39_listen.specs.Ran.{PassesOn};
 ghost use Rattle.j39_reports.specs.Broken.{ToldFaults, counts_in};
 ghost use Rattle.j39_reports.specs.FaultAsking.{AsksForFaults};
 ghost use Rattle.j39_reports.specs.FaultRun.{MakesFaults};
-ghost use Rattle.j39_reports.specs.FaultRecords.{fault_columns};
+ghost use Rattle.j39_reports.specs.FaultRows.{fault_columns};
 ghost use Rattle.j39_reports.specs.FaultsSoFar.{spns_now};
 ghost use Rattle.j39_reports.specs.News.{chosen_of};
 

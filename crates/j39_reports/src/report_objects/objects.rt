@@ -10,9 +10,10 @@ ghost use Rattle.j39_groups.specs.Models.{value_of};
 ghost use Rattle.j39_listen.specs.HeardModel.{hearing_of};
 ghost use Rattle.j39_reports.specs.EntryObject.{group_member, opening_text, parameter_members, value_json, value_members};
 ghost use Rattle.j39_reports.specs.MessageObjects.{opened};
-ghost use Rattle.j39_reports.specs.Json.{bytes_member, string_or_null, string_text};
+ghost use Rattle.j39_reports.specs.Json.{bytes_member, string_or_null};
+ghost use Rattle.j39_rows.specs.Json.{string_text};
 
-use crate::json::{put_bytes_under, put_string, put_string_or_null};
+use crate::json::put_string_or_null;
 use crate::report_objects::opening::{HEAD, Opening, group_before, moment_before, sender_before};
 use crate::report_objects::quick_object::{OBJECT, object_before, unit_in};
 use crate::report_records::digits_before;
@@ -23,6 +24,7 @@ use j39_io::backwards::bytes_before;
 use j39_io::printing::push_bytes;
 use j39_io::{DeviceFault, Sink, put_all};
 use j39_listen::{EntryForm, Heard};
+use j39_rows::{put_bytes_under, put_string};
 
 /// The objects of a message so far.
 #[derive(Drop)]
@@ -252,11 +254,7 @@ fn put_value_members<W: Sink>(
 }
 
 /// Writes a key and a text.
-pub(crate) fn put_member<W: Sink>(
-    key: &[u8],
-    text: Option<&[u8]>,
-    sink: &mut W,
-) -> Result<(), DeviceFault>
+fn put_member<W: Sink>(key: &[u8], text: Option<&[u8]>, sink: &mut W) -> Result<(), DeviceFault>
     ensures { Puts (key.now ++ string_or_null (option_map (λ bytes. bytes.now) text.entry)) result
         (turn W.written W.has_failed sink.old sink.new) }
 {
@@ -294,7 +292,7 @@ fn put_text<W: Sink>(text: &[u8], sink: &mut W) -> Result<(), DeviceFault>
     ensures { Puts (string_text text.now ++ bytes_member text.now) result (turn W.written W.has_failed sink.old sink.new) }
 {
     put_string(text, sink)?;
-    put_bytes_under(b",\"bytes\":", text, sink)
+    put_bytes_under(b"bytes", b"", text, sink)
 }
 
 /// The key and the number of a parameter.

@@ -10,10 +10,10 @@ ghost use Rattle.j39_frame.specs.Stamp.{stamp_micros};
 ghost use Rattle.j39_frame.specs.Pgn.{pgn_raw};
 ghost use Rattle.j39_groups.specs.Models.{value_of};
 ghost use Rattle.j39_listen.specs.HeardModel.{hearing_of};
+ghost use Rattle.j39_reports.specs.Columns.{last_field};
 ghost use Rattle.j39_reports.specs.EntryText.{begin_text, group_called, named_fields, parameter_called, state_called, value_fields};
 ghost use Rattle.j39_reports.specs.MessageRecords.{begun_fields};
 
-use crate::columns::put_last_field;
 use crate::report_records::begin::{Begin, HEAD, begin_before, group_before};
 use crate::report_records::quick_record::{RECORD, record_before};
 use crate::second::Second;
@@ -276,4 +276,12 @@ fn group_of<'r>(groups: &'r Groups<'_>, pgn: Pgn) -> &'r [u8]
         Some(name) => name,
         None => b"",
     }
+}
+
+/// Writes a comma, the last field of a record, and the end of its line.
+fn put_last_field<W: Sink>(field: &[u8], sink: &mut W) -> Result<(), DeviceFault>
+    ensures { Puts (last_field field.now) result (turn W.written W.has_failed sink.old sink.new) }
+{
+    put_behind_comma(field, sink)?;
+    put_all(sink, b"\r\n")
 }

@@ -17,7 +17,7 @@ pub(crate) struct Guesses {
 
 impl Guesses {
     /// Each is the first place.
-    pub fn new() -> Guesses {
+    pub(crate) fn new() -> Guesses {
         Guesses {
             places: [0; PLACES],
         }

@@ -9,7 +9,9 @@ ghost use Rattle.j39_listen.specs.Report.{Entry};
 ghost use Rattle.j39_listen.specs.declared.format.Format.TheVariants.{Line};
 ghost use Rattle.j39_reports.specs.Bounds.{IsLeast, IsMost};
 ghost use Rattle.j39_reports.specs.SummaryRun.{MakesSummary};
-ghost use Rattle.j39_reports.specs.Summary.{AreApart, Number, comparable_with, firsts, have_one_origin, range_of, summary_of};
+ghost use Rattle.j39_reports.specs.RowText.{origin_head, row_columns, summary_columns};
+ghost use Rattle.j39_reports.specs.Summary.{AreApart, Number, Row, comparable_with, firsts, have_one_origin, range_of, summary_of};
+ghost use Rattle.j39_rows.specs.Row.{names_text};
 
 use j39_listen::laws::{one_report, some_report};
 
@@ -38,4 +40,10 @@ pub fn bounds()
         → IfSome (range_of (n ∷ ms)) (λ range. IsLeast n.value (comparable_with n ms) range.least) }
     ensures most { (n : Number) (ms : List Number)
         → IfSome (range_of (n ∷ ms)) (λ range. IsMost n.value (comparable_with n ms) range.most) }
+{}
+
+/// The names above the records are those of each row's columns.
+pub fn names()
+    ensures { (groups : List RowRecord) (absent : ℕ) (row : Row)
+        → names_text (origin_head row.first) (row_columns groups absent row) ≡ summary_columns }
 {}

@@ -1,34 +1,27 @@
-//! The rows of a summary, as lines, as records or as objects.
-ghost use Rattle.std.specs.Prelude.{◌≡◌, ◌+◌, ◌≤◌, ◌++◌, ◌∷◌, [], Some, codes, map};
-ghost use Rattle.arrayvec.specs.ArrayVec.{array_vec_len};
+//! The rows of a summary as they are written.
+ghost use Rattle.std.specs.Prelude.{◌≡◌, codes, map};
 ghost use Rattle.std.specs.Option.{option_map};
+ghost use Rattle.j39_frame.specs.declared.origin.Origin.{Origin};
 ghost use Rattle.j39_io.specs.Puts.{Puts};
 ghost use Rattle.j39_io.specs.Turn.{turn};
 ghost use Rattle.j39_memory.specs.ByOrigin.{pairs_of};
-ghost use Rattle.j39_io.specs.Chars.{newline};
-ghost use Rattle.j39_groups.specs.Names.{state_in};
-ghost use Rattle.j39_reports.specs.RowText.{bounds_in, called_in, destination_text, end_in, head_in, line_head, no_range, range_in, row_in, separator_of, state_behind, summary_text, text_as, unit_in, value_as, value_in, values_in, word_as};
+ghost use Rattle.j39_reports.specs.RowText.{least_cell, most_cell, origin_columns, row_columns_with, row_in, summary_text, unit_cell, value_cell};
 ghost use Rattle.j39_reports.specs.RowsSoFar.{counted};
 ghost use Rattle.j39_reports.specs.RowModels.{kept_value, range_of_span, row_shown};
+ghost use Rattle.j39_rows.specs.Models.{cell_of, column_of, head_of};
+ghost use Rattle.j39_rows.specs.Row.{address_word, or_nothing};
 
-use crate::columns::{push_behind, put_last_field};
-use crate::parts::put_parts;
-use crate::summaries::objects::{
-    put_object_head, put_state_member, put_text_member, put_unit_member,
-};
-use crate::summaries::records::put_record_head;
+use crate::fault_news::columns::{DASH, name_column};
 use crate::summaries::rows::Rows;
 use crate::summaries::statistics::{NumberRange, Statistics};
 use crate::summaries::stored_value::StoredValue;
-use arrayvec::ArrayVec;
 use j39_frame::Origin;
-use j39_groups::{Groups, Value, put_value, scaled_text};
-use j39_io::printing::push_hex;
-use j39_io::{DeviceFault, Sink, put_all, put_behind_comma};
-use j39_listen::{Format, push_name_or_dashes};
-use j39_log::push_stamp;
+use j39_groups::Groups;
+use j39_io::{DeviceFault, Sink};
+use j39_listen::Format;
+use j39_rows::{Cell, Column, Head, Place, Plain};
 
-/// Writes a line for each row, or a record, in their order.
+/// Writes each row, in their order.
 pub(crate) fn put_rows<W: Sink>(
     rows: &Rows<'_>,
     form: Format,
@@ -46,324 +39,128 @@ pub(crate) fn put_rows<W: Sink>(
             origin,
             statistics,
             rows.absences.of(origin),
-            groups,
+            &*groups,
             sink,
         )?;
     }
     Ok(())
 }
 
-/// Writes a row: what it begins with, the range and the values, and what it ends with.
-#[tactic(auto, unfolding(crate::specs::RowText::row_in))]
-fn put_row<W: Sink>(
+/// Writes a row.
+fn put_row<'r, W: Sink>(
     form: Format,
     origin: Origin,
-    statistics: &Statistics<'_>,
+    statistics: &'r Statistics<'_>,
     absent: u64,
-    groups: &Groups<'_>,
+    groups: &'r Groups<'_>,
     sink: &mut W,
 ) -> Result<(), DeviceFault>
     ensures { Puts (row_in form groups.now absent (row_shown (origin, statistics.now)))
         result (turn W.written W.has_failed sink.old sink.new) }
 {
-    put_head(form, origin, statistics, absent, groups, sink)?;
-    put_values(form, statistics, sink)?;
-    put_end(form, groups, origin, &statistics.last.value, sink)
+    let columns = origin_columns(origin);
+    let head = row_head(origin, &columns);
+    let name = Cell::optional(groups.parameter_name_in(origin.pgn, origin.spn));
+    let last = statistics.last.value.value();
+    let state = Cell::optional(groups.state_in(origin.pgn, origin.spn, last));
+    j39_rows::put_row(
+        form,
+        head,
+        &row_columns(name, statistics, absent, state),
+        sink,
+    )
 }
 
-/// Writes what a row begins with.
-#[tactic(auto, unfolding(crate::specs::RowText::head_in))]
-fn put_head<W: Sink>(
-    form: Format,
-    origin: Origin,
-    statistics: &Statistics<'_>,
+/// What the row of an origin begins with, of these columns.
+fn row_head<'a>(origin: Origin, columns: &'a [Column<'a>; 4]) -> Head<'a>
+    ensures { head_of result ≡ record {
+      name = codes "address";
+      first = address_word origin.address;
+      columns = map column_of columns.now;
+    } }
+{
+    Head {
+        name: b"address",
+        first: Plain::Address(origin.address),
+        columns,
+    }
+}
+
+/// What the row of an origin has behind the address.
+fn origin_columns(origin: Origin) -> [Column<'static>; 4]
+    ensures { map column_of result ≡ origin_columns origin.destination origin.name origin.pgn origin.spn }
+{
+    [
+        Column::All(
+            b"destination",
+            Place::IfAny(b">"),
+            Cell::address(origin.destination),
+        ),
+        name_column(origin.name),
+        Column::All(b"pgn", DASH, Cell::number(u64::from(origin.pgn))),
+        Column::All(b"spn", DASH, Cell::number(u64::from(origin.spn))),
+    ]
+}
+
+/// What it has behind the origin, with what the table calls the parameter and the state of the last value.
+fn row_columns<'s>(
+    name: Cell<'s>,
+    statistics: &'s Statistics<'_>,
     absent: u64,
-    groups: &Groups<'_>,
-    sink: &mut W,
-) -> Result<(), DeviceFault>
-    ensures { Puts (head_in form groups.now absent (row_shown (origin, statistics.now)))
-        result (turn W.written W.has_failed sink.old sink.new) }
+    state: Cell<'s>,
+) -> [Column<'s>; 15]
+    ensures { (origin : Origin) → map column_of result
+        ≡ row_columns_with (cell_of name.entry) absent (row_shown (origin, statistics.now)) (cell_of state.entry) }
 {
-    match form {
-        Format::Line => put_all(sink, line_head_of(origin, statistics, absent).as_slice()),
-        Format::Record => put_record_head(origin, statistics, absent, groups, sink),
-        Format::Object => put_object_head(origin, statistics, absent, groups, sink),
-    }
+    let (first, last) = (&statistics.first, &statistics.last);
+    let (least, most, unit) = range_cells(&statistics.range);
+    [
+        Column::BesideLines(b"parameter", name),
+        Column::All(b"values", DASH, Cell::number(statistics.count)),
+        Column::All(b"words", DASH, Cell::number(statistics.words)),
+        Column::All(b"absent", DASH, Cell::number(absent)),
+        Column::All(b"first_stamp", DASH, Cell::Is(Plain::Seconds(first.stamp))),
+        Column::BesideLines(b"first_utc", Cell::Is(Plain::Utc(first.stamp))),
+        Column::All(b"last_stamp", DASH, Cell::Is(Plain::Seconds(last.stamp))),
+        Column::BesideLines(b"last_utc", Cell::Is(Plain::Utc(last.stamp))),
+        Column::All(b"least", DASH, least),
+        Column::All(b"most", DASH, most),
+        Column::All(b"unit", DASH, unit),
+        Column::All(b"first", DASH, value_cell(&first.value)),
+        Column::All(b"last", DASH, value_cell(&last.value)),
+        Column::InLines(DASH, name),
+        Column::All(b"state", Place::IfAny(b" = "), state),
+    ]
 }
 
-/// What the line of a row begins with.
-#[tactic(auto, unfolding(crate::specs::RowText::line_head))]
-fn line_head_of(origin: Origin, statistics: &Statistics<'_>, absent: u64) -> ArrayVec<u8, 192>
-    ensures { result.items ≡ line_head absent (row_shown (origin, statistics.now)) }
-{
-    let mut head = ArrayVec::new();
-    push_hex(&mut head, &[origin.address]);
-    push_destination(&mut head, origin.destination);
-    head.push(b' ');
-    push_name_or_dashes(&mut head, origin.name);
-    push_behind(&mut head, b' ', u64::from(origin.pgn));
-    push_behind(&mut head, b' ', u64::from(origin.spn));
-    push_behind(&mut head, b' ', statistics.count);
-    push_behind(&mut head, b' ', statistics.words);
-    push_behind(&mut head, b' ', absent);
-    head.push(b' ');
-    push_stamp(&mut head, statistics.first.stamp);
-    head.push(b' ');
-    push_stamp(&mut head, statistics.last.stamp);
-    head
-}
-
-/// Appends the destination behind the address, where there is one.
-pub(crate) fn push_destination<const N: usize>(head: &mut ArrayVec<u8, N>, destination: Option<u8>)
-    requires { array_vec_len head.old + 3 ≤ N }
-    ensures items { head.new.items ≡ head.old.items ++ destination_text destination }
-    ensures len { array_vec_len head.new ≤ array_vec_len head.old + 3 }
-{
-    match destination {
-        Some(address) => {
-            head.push(b'>');
-            push_hex(head, &[address]);
-        }
-        None => {}
-    }
-}
-
-/// Writes the least number, the most and their unit, the first value and the last.
-#[tactic(auto, unfolding(crate::specs::RowText::values_in))]
-fn put_values<W: Sink>(
-    form: Format,
-    statistics: &Statistics<'_>,
-    sink: &mut W,
-) -> Result<(), DeviceFault>
-    ensures { Puts (values_in form (option_map range_of_span statistics.now.range) (kept_value statistics.now.first.value) (kept_value statistics.now.last.value))
-        result (turn W.written W.has_failed sink.old sink.new) }
-{
-    let (first, last) = (&statistics.first.value, &statistics.last.value);
-    put_range(form, &statistics.range, sink)?;
-    put_column(form, b",\"first\":", b",\"first_bytes\":", first, sink)?;
-    put_column(form, b",\"last\":", b",\"last_bytes\":", last, sink)
-}
-
-/// Writes the least number, the most and their unit, or what stands where there is no number.
-#[tactic(auto, unfolding(crate::specs::RowText::range_in))]
-fn put_range<W: Sink>(
-    form: Format,
-    range: &Option<NumberRange<'_>>,
-    sink: &mut W,
-) -> Result<(), DeviceFault>
-    ensures { Puts (range_in form (option_map range_of_span range.now))
-        result (turn W.written W.has_failed sink.old sink.new) }
+/// The bounds of the numbers and their unit, if there are numbers.
+fn range_cells<'t>(range: &Option<NumberRange<'t>>) -> (Cell<'t>, Cell<'t>, Cell<'t>)
+    ensures least { cell_of result.0 ≡ or_nothing least_cell (option_map range_of_span range.now) }
+    ensures most { cell_of result.1 ≡ or_nothing most_cell (option_map range_of_span range.now) }
+    ensures unit { cell_of result.2 ≡ or_nothing unit_cell (option_map range_of_span range.now) }
 {
     match range {
-        None => put_all(sink, no_range(form)),
-        Some(span) => put_span(form, span, sink),
-    }
-}
-
-/// What stands where there is no number.
-#[tactic(auto, unfolding(crate::specs::RowText::no_range))]
-fn no_range(form: Format) -> &'static [u8]
-    ensures { result.now ≡ no_range form }
-{
-    match form {
-        Format::Line => b" - - -",
-        Format::Record => b",,,",
-        Format::Object => b",\"least\":null,\"most\":null,\"unit\":null",
-    }
-}
-
-#[tactic(auto, unfolding(crate::specs::RowText::range_in))]
-fn put_span<W: Sink>(form: Format, span: &NumberRange<'_>, sink: &mut W) -> Result<(), DeviceFault>
-    ensures { Puts (range_in form (Some (range_of_span span.now))) result (turn W.written W.has_failed sink.old sink.new) }
-{
-    put_bounds(form, span, sink)?;
-    put_unit(form, span.scale.unit(), sink)
-}
-
-/// Writes the least number and the most.
-#[tactic(auto, unfolding(crate::specs::RowText::bounds_in))]
-fn put_bounds<W: Sink>(
-    form: Format,
-    span: &NumberRange<'_>,
-    sink: &mut W,
-) -> Result<(), DeviceFault>
-    ensures { Puts (bounds_in form (range_of_span span.now)) result (turn W.written W.has_failed sink.old sink.new) }
-{
-    let first = separator(form, b",\"least\":");
-    let least = scaled_text(span.least, span.scale.places());
-    let second = separator(form, b",\"most\":");
-    let most = scaled_text(span.most, span.scale.places());
-    let parts: [&[u8]; 4] = [first, least.as_slice(), second, most.as_slice()];
-    put_parts(&parts, sink)
-}
-
-/// Writes the unit of the numbers, in a record in quotes where it must be.
-#[tactic(auto, unfolding(crate::specs::RowText::unit_in))]
-fn put_unit<W: Sink>(form: Format, unit: &[u8], sink: &mut W) -> Result<(), DeviceFault>
-    ensures { Puts (unit_in form unit.now) result (turn W.written W.has_failed sink.old sink.new) }
-{
-    match form {
-        Format::Line => {
-            let parts: [&[u8]; 2] = [b" ", unit];
-            put_parts(&parts, sink)
+        Some(span) => {
+            let places = span.scale.places();
+            let least = Cell::Is(Plain::Scaled(span.least, places));
+            let most = Cell::Is(Plain::Scaled(span.most, places));
+            (least, most, Cell::Text(span.scale.unit()))
         }
-        Format::Record => put_behind_comma(unit, sink),
-        Format::Object => put_unit_member(unit, sink),
+        None => (Cell::Nothing, Cell::Nothing, Cell::Nothing),
     }
 }
 
-/// Writes a value, behind what stands before a column.
-#[tactic(auto, unfolding(crate::specs::RowText::value_in))]
-fn put_column<W: Sink>(
-    form: Format,
-    key: &[u8],
-    bytes_key: &[u8],
-    kept: &StoredValue<'_>,
-    sink: &mut W,
-) -> Result<(), DeviceFault>
-    ensures { Puts (value_in form key.now bytes_key.now (kept_value kept.now))
-        result (turn W.written W.has_failed sink.old sink.new) }
-{
-    put_all(sink, separator(form, key))?;
-    put_kept(form, bytes_key, kept, sink)
-}
-
-/// What stands before a column; in an object its key.
-#[tactic(auto, unfolding(crate::specs::RowText::separator_of))]
-fn separator<'k>(form: Format, key: &'k [u8]) -> &'k [u8]
-    ensures { result.now ≡ separator_of form key.now }
-{
-    match form {
-        Format::Line => b" ",
-        Format::Record => b",",
-        Format::Object => key,
-    }
-}
-
-/// Writes a value: a number without its unit.
-#[tactic(auto, unfolding(crate::specs::RowText::value_as))]
-fn put_kept<W: Sink>(
-    form: Format,
-    bytes_key: &[u8],
-    kept: &StoredValue<'_>,
-    sink: &mut W,
-) -> Result<(), DeviceFault>
-    ensures { Puts (value_as form bytes_key.now (kept_value kept.now))
-        result (turn W.written W.has_failed sink.old sink.new) }
+/// A value: a number without its unit.
+fn value_cell<'v>(kept: &'v StoredValue<'_>) -> Cell<'v>
+    ensures { cell_of result ≡ value_cell (kept_value kept.now) }
 {
     match kept {
-        StoredValue::Number(number, scale) => {
-            put_all(sink, scaled_text(*number, scale.places()).as_slice())
-        }
-        StoredValue::On => put_word(form, b"on", sink),
-        StoredValue::Off => put_word(form, b"off", sink),
-        StoredValue::Error => put_word(form, b"error", sink),
-        StoredValue::Reserved => put_word(form, b"reserved", sink),
-        StoredValue::Indicator => put_word(form, b"indicator", sink),
-        StoredValue::Text(text) => put_text(form, bytes_key, text.as_slice(), sink),
-    }
-}
-
-/// Writes a word that stands for a value.
-fn put_word<W: Sink>(form: Format, word: &[u8], sink: &mut W) -> Result<(), DeviceFault>
-    ensures { Puts (word_as form word.now) result (turn W.written W.has_failed sink.old sink.new) }
-{
-    match form {
-        Format::Line => put_all(sink, word),
-        Format::Record => put_all(sink, word),
-        Format::Object => {
-            let parts: [&[u8]; 3] = [b"\"", word, b"\""];
-            put_parts(&parts, sink)
-        }
-    }
-}
-
-/// Writes a text, in a record as a field.
-#[tactic(auto, unfolding(j39_groups::specs::ValueText::value_text, j39_groups::specs::ValueText::value_field))]
-fn put_text<W: Sink>(
-    form: Format,
-    bytes_key: &[u8],
-    text: &[u8],
-    sink: &mut W,
-) -> Result<(), DeviceFault>
-    ensures { Puts (text_as form bytes_key.now text.now) result (turn W.written W.has_failed sink.old sink.new) }
-{
-    match form {
-        Format::Line => put_value(&Value::Text(text), sink),
-        Format::Record => Value::Text(text).put_field(sink),
-        Format::Object => put_text_member(bytes_key, text, sink),
-    }
-}
-
-/// Writes what a row ends with: the state of the last value, in a line behind what the table calls the parameter.
-#[tactic(auto, unfolding(crate::specs::RowText::end_in))]
-fn put_end<W: Sink>(
-    form: Format,
-    groups: &Groups<'_>,
-    origin: Origin,
-    last: &StoredValue<'_>,
-    sink: &mut W,
-) -> Result<(), DeviceFault>
-    ensures { Puts (end_in form groups.now origin.pgn origin.spn (kept_value last.now)) result (turn W.written W.has_failed sink.old sink.new) }
-{
-    let state = state_of(groups, origin, last);
-    match form {
-        Format::Line => put_name(name_of(groups, origin.pgn, origin.spn), state, sink),
-        Format::Record => put_last_field(state.unwrap_or(b""), sink),
-        Format::Object => put_state_member(state, sink),
-    }
-}
-
-/// Writes a space, what a parameter is called, its state and a newline.
-fn put_name<'x, W: Sink>(
-    name: &'x [u8],
-    state: Option<&'x [u8]>,
-    sink: &mut W,
-) -> Result<(), DeviceFault>
-    ensures { Puts (codes " " ++ (name.now ++ (state_behind (option_map (λ words. words.now) state.entry) ++ (newline ∷ []))))
-        result (turn W.written W.has_failed sink.old sink.new) }
-{
-    match state {
-        None => {
-            let parts: [&[u8]; 3] = [b" ", name, b"\n"];
-            put_parts(&parts, sink)
-        }
-        Some(words) => {
-            let parts: [&[u8]; 5] = [b" ", name, b" = ", words, b"\n"];
-            put_parts(&parts, sink)
-        }
-    }
-}
-
-/// What the table calls the state of a value.
-pub(crate) fn state_of<'r>(
-    groups: &'r Groups<'_>,
-    origin: Origin,
-    kept: &StoredValue<'_>,
-) -> Option<&'r [u8]>
-    ensures { option_map (λ words. words.now) result ≡ state_in groups.now origin.pgn origin.spn (kept_value kept.now) }
-{
-    match kept {
-        StoredValue::Number(number, scale) => {
-            groups.state_in(origin.pgn, origin.spn, Value::Number(*number, *scale))
-        }
-        StoredValue::On => groups.state_in(origin.pgn, origin.spn, Value::On),
-        StoredValue::Off => groups.state_in(origin.pgn, origin.spn, Value::Off),
-        StoredValue::Error => groups.state_in(origin.pgn, origin.spn, Value::Error),
-        StoredValue::Reserved => groups.state_in(origin.pgn, origin.spn, Value::Reserved),
-        StoredValue::Indicator => groups.state_in(origin.pgn, origin.spn, Value::Indicator),
-        StoredValue::Text(text) => {
-            groups.state_in(origin.pgn, origin.spn, Value::Text(text.as_slice()))
-        }
-    }
-}
-
-/// What the table calls a parameter, or a dash.
-pub(crate) fn name_of<'r>(groups: &'r Groups<'_>, pgn: u32, spn: u32) -> &'r [u8]
-    ensures { result.now ≡ called_in groups.now pgn spn }
-{
-    match groups.parameter_name_in(pgn, spn) {
-        Some(name) => name,
-        None => b"-",
+        StoredValue::Number(number, scale) => Cell::Is(Plain::Scaled(*number, scale.places())),
+        StoredValue::On => Cell::Is(Plain::Word(b"on")),
+        StoredValue::Off => Cell::Is(Plain::Word(b"off")),
+        StoredValue::Error => Cell::Is(Plain::Word(b"error")),
+        StoredValue::Reserved => Cell::Is(Plain::Word(b"reserved")),
+        StoredValue::Indicator => Cell::Is(Plain::Word(b"indicator")),
+        StoredValue::Text(text) => Cell::Sent(text.as_slice()),
     }
 }

@@ -18,7 +18,7 @@ use j39_io::printing::{push_bytes, push_hex, push_last_digits, push_number};
 use j39_log::push_seconds;
 
 /// Appends a name and a number, of 20 digits at most.
-#[tactic(auto, using(crate::proofs::NumberLemmas::short_decimal))]
+#[tactic(auto, using(j39_rows::proofs::NumberLemmas::short_decimal))]
 fn push_field<const N: usize>(line: &mut ArrayVec<u8, N>, name: &[u8], value: u64)
     requires { array_vec_len line.old + length name.now + 20 ≤ N }
     ensures items { line.new.items ≡ line.old.items ++ name.now ++ decimal value }
@@ -128,7 +128,7 @@ pub(crate) fn spread_part(spread: &Option<Spread>) -> ArrayVec<u8, 128>
 }
 
 /// Appends a name and a number of microseconds, as seconds: of 21 digits and a point at most.
-#[tactic(auto, using(crate::proofs::NumberLemmas::short_decimal))]
+#[tactic(auto, using(j39_rows::proofs::NumberLemmas::short_decimal))]
 fn push_seconds_field<const N: usize>(part: &mut ArrayVec<u8, N>, name: &[u8], micros: u64)
     requires { array_vec_len part.old + length name.now + 27 ≤ N }
     ensures items { part.new.items ≡ part.old.items ++ name.now ++ seconds_text micros }

@@ -15,7 +15,6 @@ ghost use Rattle.j39_reports.specs.SurveyModels.{HasCounted, HasSurveyed, HaveCo
 ghost use Rattle.j39_reports.specs.UnreadLines.{is_printed_log};
 ghost use Rattle.j39_reports.specs.SurveyText.{class_text, group_line, group_text, groups_from, groups_text, interface_text, name_text, printed_text, shown_text, survey_end, survey_head, survey_text};
 
-use crate::parts::put_parts;
 use crate::surveys::group_table::{GroupCount, GroupTable};
 use crate::surveys::interfaces::{InterfaceCounts, Interfaces};
 use crate::surveys::log_survey::Survey;
@@ -27,6 +26,7 @@ use crate::surveys::unread::{UnreadLine, UnreadLines};
 use j39_frame::Pgn;
 use j39_groups::{Groups, is_network_group};
 use j39_io::{DeviceFault, Sink, put_all};
+use j39_rows::put_parts;
 
 /// Writes the survey of all lines, and passes it on. After a fault a front was written.
 pub(crate) fn put_survey<W: Sink>(

@@ -2,8 +2,6 @@
 ghost use Rattle.std.specs.Prelude.{◌≡◌, ◌+◌, ◌≤◌, ◌++◌, ◌∷◌, [], IfSome, None, Some, codes, decimal, option_map, take, unwrap_or};
 ghost use Rattle.hex.specs.Hex.{encode_upper};
 ghost use Rattle.j39_address.specs.Name.{name_raw};
-ghost use Rattle.j39_faults.specs.declared.kind.Kind.TheVariants.{Active};
-ghost use Rattle.j39_faults.specs.declared.text.State.TheVariants.{Is};
 ghost use Rattle.j39_frame.specs.Stamp.{stamp_micros};
 ghost use Rattle.j39_groups.specs.Models.{scale_record};
 ghost use Rattle.j39_groups.specs.ValueText.{number_text, value_text};
@@ -12,21 +10,18 @@ ghost use Rattle.j39_io.specs.Puts.{Puts};
 ghost use Rattle.j39_io.specs.Turn.{turn};
 ghost use Rattle.j39_listen.specs.Report.{name_text};
 ghost use Rattle.j39_log.specs.StampText.{stamp_text};
-ghost use Rattle.j39_reports.specs.Faults.{said_text};
 ghost use Rattle.j39_reports.specs.LatestSoFar.{latest_at, latest_row};
 ghost use Rattle.j39_reports.specs.RowModels.{kept_value};
-ghost use Rattle.j39_reports.specs.RowText.{destination_text, state_behind};
-ghost use Rattle.j39_reports.specs.Watch.{age_text, column, controller_columns, line_end, tenths, value_line};
+ghost use Rattle.j39_reports.specs.Watch.{age_text, column, controller_columns, destination_text, line_end, said_text, state_behind, tenths, value_line};
 
-use crate::fault_news::form::Said;
-use crate::fault_news::lines::put_said;
+use crate::fault_news::names::name_in;
 use crate::report_records::scaled_before;
 use crate::summaries::stored_value::StoredValue;
 use crate::watching::cut_line::{BLANK, Block, CutLine, END};
 use crate::watching::latest::Latest;
 use arrayvec::ArrayVec;
 use j39_address::Name;
-use j39_faults::{Code, Kind, Lamps, State};
+use j39_faults::{Code, Kind, Lamps, State, put_code};
 use j39_frame::{Origin, Stamp};
 use j39_groups::{Groups, Slot, put_value};
 use j39_io::backwards::{byte_before, bytes_before, hex_before, number_before, slice_before};
@@ -65,7 +60,7 @@ pub(crate) fn fault_line(
 ) -> CutLine
     requires { width ≤ 512 }
     ensures { result.bytes.items ≡ take width (controller_columns address None (option_map name_raw name)
-        ++ said_text groups.now (Is Active) lamps (Some code)) }
+        ++ said_text groups.now lamps (Some code)) }
 {
     let mut line = CutLine::new(width);
     push_controller(&mut line, address, None, name.map(Name::raw));
@@ -183,7 +178,7 @@ fn name_before(block: &mut Block, name: Option<u64>) -> usize
 }
 
 /// Appends a number in a column.
-#[tactic(auto, using(crate::proofs::NumberLemmas::short_decimal))]
+#[tactic(auto, using(j39_rows::proofs::NumberLemmas::short_decimal))]
 fn push_number_column(line: &mut CutLine, width: usize, number: u64)
     requires { width ≤ 16 }
     ensures cut { line.new.bytes.items ≡ take line.old.width (line.old.bytes.items ++ column width (decimal number)) }
@@ -248,7 +243,7 @@ fn measure_before(block: &mut Block, number: i64, scale: Slot<'_>) -> Option<usi
 }
 
 /// Appends how old a value is, in its column.
-#[tactic(auto, using(crate::proofs::NumberLemmas::short_decimal))]
+#[tactic(auto, using(j39_rows::proofs::NumberLemmas::short_decimal))]
 fn push_age(line: &mut CutLine, now: Stamp, then: Stamp)
     ensures cut { line.new.bytes.items ≡ take line.old.width (line.old.bytes.items
         ++ column 6 (age_text (tenths (stamp_micros now) (stamp_micros then)))) }
@@ -264,7 +259,7 @@ fn push_age(line: &mut CutLine, now: Stamp, then: Stamp)
 }
 
 /// Appends how many came in a second, in its column.
-#[tactic(auto, using(crate::proofs::NumberLemmas::short_decimal))]
+#[tactic(auto, using(j39_rows::proofs::NumberLemmas::short_decimal))]
 fn push_came(line: &mut CutLine, came: u64)
     ensures cut { line.new.bytes.items ≡ take line.old.width (line.old.bytes.items ++ column 5 (decimal came ++ codes "/s")) }
     ensures width { line.new.width ≡ line.old.width }
@@ -298,10 +293,14 @@ fn push_kept(line: &mut CutLine, value: &StoredValue<'_>)
 /// Appends what is said of a code; a line that is full keeps a front of it.
 fn push_said(line: &mut CutLine, groups: &Groups<'_>, lamps: Lamps, code: Code)
     ensures cut { line.new.bytes.items ≡ take line.old.width (line.old.bytes.items
-        ++ said_text groups.now (Is Active) lamps (Some code)) }
+        ++ said_text groups.now lamps (Some code)) }
     ensures width { line.new.width ≡ line.old.width }
 {
-    let state = State::Is(Kind::Active);
-    let code = Some(code);
-    let _ = put_said(groups, Said { state, lamps, code }, line);
+    let _ = put_code(
+        State::Is(Kind::Active),
+        lamps,
+        name_in(groups, code),
+        code,
+        line,
+    );
 }

@@ -1,18 +1,11 @@
--- The head and what is said, one behind the other.
-use Rattle.std.proofs.Common.{◌∙◌}
-use Rattle.j39_io.proofs.PutsLemmas.{puts_first, puts_then}
-use Rattle.j39_reports.specs.FaultsSoFar.{clearing_in}
+-- The row of it.
+use Rattle.std.proofs.Common.{◌∙◌, List, ℕ, ap, ap₂, codes}
+use Rattle.j39_io.proofs.PutsLemmas.{puts_as}
+use Rattle.j39_reports.specs.FaultRows.{uncoded}
+use Rattle.j39_rows.specs.Row.{nothing, row_text}
 use Rattle.j39_reports.proofs.fault_news.lines.put_clearing.Goals as goal
 
-pub returns-in_err-put_all : goal.returns-in_err-put_all
-returns-in_err-put_all g c =
-    rw (← (c.as_slice.ensures.value ∙ c.head_of.ensures)) (puts_first _ (clearing_in c.args.form c.args.kind) _ _ _ c.from_residual.ensures.0 c.in_err-put_all.ensures.puts)
-
-pub returns-in-Line : goal.returns-in-Line
-returns-in-Line g c = rw (← (c.as_slice.ensures.value ∙ c.head_of.ensures), c.in-Line.is) (puts_then _ _ _ _ _ _ _ c.in_ok-put_all.ensures.puts c.put_clearing_line.ensures)
-
-pub returns-in-Record : goal.returns-in-Record
-returns-in-Record g c = rw (← (c.as_slice.ensures.value ∙ c.head_of.ensures), c.in-Record.is) (puts_then _ _ _ _ _ _ _ c.in_ok-put_all.ensures.puts c.put_clearing_record.ensures)
-
-pub returns-in-Object : goal.returns-in-Object
-returns-in-Object g c = rw (← (c.as_slice.ensures.value ∙ c.head_of.ensures), c.in-Object.is) (puts_then _ _ _ _ _ _ _ c.in_ok-put_all.ensures.puts c.put_clearing_object.ensures)
+pub returns : goal.returns
+returns g c =
+    puts_as _ _ _ _ (ap₂ (row_text c.args.form) c.message_head-head.ensures (c.uncoded-said.ensures
+    ∙ ap (λ (word : List ℕ). uncoded (codes "state") word (codes "all") nothing (codes "all codes")) (c.as_slice.ensures.value ∙ c.clear_word-word.ensures))) c.put_row.ensures

@@ -10,14 +10,14 @@ use Rattle.j39_reports.proofs.fault_news.lines.put_message.Goals as goal
 
 pub returns-in_err-lines-clause-puts : goal.returns-in_err-lines-clause-puts
 returns-in_err-lines-clause-puts g c =
-    codes_stop c.args.writing.form (manner_of c.args.writing) (hearing_of c.args.heard.now) (Is c.args.kind) c.args.lamps _ (c.as_slice-head.ensures.value ∙ c.head_of-head.ensures)
+    codes_stop c.args.writing.form (manner_of c.args.writing) (hearing_of c.args.heard.now) (Is c.args.kind) c.args.lamps _ c.message_head-head.ensures
     (codes_by c.args.version c.args.heard.now.message.payload.now) _ _ _ c.from_residual.ensures.0 c.in_err-lines.ensures.puts
 
 pub returns-then-lines-gt0-clause-puts : goal.returns-then-lines-gt0-clause-puts
 returns-then-lines-gt0-clause-puts g c =
     let count = c.in_ok-lines.ensures.lines in
     let some = c.if-lines-gt0.true in
-    codes_put c.args.writing.form (manner_of c.args.writing) (hearing_of c.args.heard.now) (Is c.args.kind) c.args.lamps _ (c.as_slice-head.ensures.value ∙ c.head_of-head.ensures)
+    codes_put c.args.writing.form (manner_of c.args.writing) (hearing_of c.args.heard.now) (Is c.args.kind) c.args.lamps _ c.message_head-head.ensures
     (codes_by c.args.version c.args.heard.now.message.payload.now) _ _ _ (omega arith) c.in_ok-lines.ensures.puts
 
 pub returns-then-lines-gt0-clause-lines : goal.returns-then-lines-gt0-clause-lines
@@ -31,7 +31,7 @@ pub returns-clause-puts : goal.returns-clause-puts
 returns-clause-puts g c =
     let count = c.in_ok-lines.ensures.lines in
     let none = c.if-lines-gt0.false in
-    none_put c.args.writing.form (manner_of c.args.writing) (hearing_of c.args.heard.now) (Is c.args.kind) c.args.lamps _ (c.as_slice-head.ensures.value ∙ c.head_of-head.ensures)
+    none_put c.args.writing.form (manner_of c.args.writing) (hearing_of c.args.heard.now) (Is c.args.kind) c.args.lamps _ c.message_head-head.ensures
     (codes_by c.args.version c.args.heard.now.message.payload.now) _ _ _ _ _ (omega arith) c.in_ok-lines.ensures.puts c.put_fault.ensures.puts
 
 pub returns-clause-lines : goal.returns-clause-lines

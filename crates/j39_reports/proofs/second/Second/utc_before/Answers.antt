@@ -4,7 +4,7 @@ use Rattle.j39_io.specs.Backwards.{WritesBefore}
 use Rattle.j39_io.specs.Printing.{last_digits}
 use Rattle.j39_io.proofs.BackwardsLemmas.{before_then}
 use Rattle.j39_frame.specs.Stamp.{stamp_micros}
-use Rattle.j39_reports.specs.Utc.{second_text, utc_text}
+use Rattle.j39_rows.specs.Utc.{second_text, utc_text}
 use Rattle.j39_reports.proofs.second.Second.utc_before.Goals as goal
 
 regroup : (fraction utc : List ℕ) → utc ++ ((46 ∷ []) ++ (fraction ++ (90 ∷ []))) ≡ utc ++ (46 ∷ []) ++ fraction ++ (90 ∷ [])

@@ -1,17 +1,19 @@
--- The head, the values and the end, one behind the other.
-use Rattle.j39_reports.specs.RowText.{row_in}
-use Rattle.j39_reports.proofs.PartLemmas.{first_of_three, second_of_three, third_of_three}
+-- The row of the origin.
+use Rattle.std.proofs.Common.{◌∙◌, List, ap, ap₂, codes}
+use Rattle.j39_groups.specs.Names.{name_in, state_in}
+use Rattle.j39_io.proofs.PutsLemmas.{puts_as}
+use Rattle.j39_reports.specs.RowModels.{row_shown}
+use Rattle.j39_reports.specs.RowText.{row_columns_with}
+use Rattle.j39_rows.specs.Models.{cell_of}
+use Rattle.j39_rows.specs.Row.{ColumnRecord, HeadRecord, address_word, or_nothing, row_text, text}
 use Rattle.j39_reports.proofs.summaries.lines.put_row.Goals as goal
 
-pub returns-in_err-put_head : goal.returns-in_err-put_head
-unfolding row_in
-returns-in_err-put_head g c = first_of_three _ _ _ _ _ _ c.from_residual.ensures.0 c.in_err-put_head.ensures
-
-pub returns-in_err-put_values : goal.returns-in_err-put_values
-unfolding row_in
-returns-in_err-put_values g c =
-    second_of_three _ _ _ _ _ _ _ _ _ c.from_residual-in_err-put_values.ensures.0 c.in_ok-put_head.ensures c.in_err-put_values.ensures
-
 pub returns : goal.returns
-unfolding row_in
-returns g c = third_of_three _ _ _ _ _ _ _ _ _ _ c.in_ok-put_head.ensures c.in_ok-put_values.ensures c.put_end.ensures
+returns g c =
+    let origin = c.args.origin in
+    let row = row_shown (origin, c.args.statistics.now) in
+    let head : List ColumnRecord → HeadRecord = λ cs. record { name = codes "address"; first = address_word origin.address; columns = cs } in
+    puts_as _ _ _ _ (ap₂ (row_text c.args.form) (c.row_head-head.ensures ∙ ap head c.origin_columns-columns.ensures) (c.row_columns.ensures origin
+    ∙ ap (λ name. row_columns_with name c.args.absent row (cell_of c.optional-state.result)) (c.optional-name.ensures ∙ ap (or_nothing text) c.parameter_name_in.ensures)
+    ∙ ap (row_columns_with (or_nothing text (name_in c.args.groups.now origin.pgn origin.spn)) c.args.absent row)
+    (c.optional-state.ensures ∙ ap (or_nothing text) (c.state_in.ensures ∙ ap (state_in c.args.groups.now origin.pgn origin.spn) c.value-last.ensures)))) c.put_row.ensures

@@ -4,7 +4,7 @@ use Rattle.std.specs.Fmt.{decimal}
 use Rattle.j39_groups.specs.Names.{state_in}
 use Rattle.j39_reports.proofs.CutLemmas.{cut_none, cut_step}
 use Rattle.j39_reports.specs.Watch.{column, value_line}
-use Rattle.j39_reports.specs.RowText.{state_behind}
+use Rattle.j39_reports.specs.Watch.{state_behind}
 use Rattle.j39_reports.proofs.watching.lines.make_value_line.Goals as goal
 
 pub returns-clause-cut : goal.returns-clause-cut

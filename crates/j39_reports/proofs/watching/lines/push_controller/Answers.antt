@@ -3,7 +3,7 @@ use Rattle.std.proofs.Common.{◌++◌, ◌∷◌, ◌∙◌, [], ap, append_ass
 use Rattle.hex.specs.Hex.{encode_upper}
 use Rattle.j39_listen.specs.Report.{name_text}
 use Rattle.j39_reports.proofs.CutLemmas.{cut_step}
-use Rattle.j39_reports.specs.RowText.{destination_text}
+use Rattle.j39_reports.specs.Watch.{destination_text}
 use Rattle.j39_reports.specs.Watch.{column, controller_columns}
 use Rattle.j39_reports.proofs.watching.lines.push_controller.Goals as goal
 

@@ -1,14 +1,11 @@
 -- The line of the code, whose controller is there.
 use Rattle.std.proofs.Common.{◌≡◌, ◌<◌, ◌∷◌, ◌++◌, ◌∙◌, [], List, None, Some, ℕ, true, ap, arith, refl, rules, sym, take}
-use Rattle.j39_faults.specs.declared.kind.Kind.TheVariants.{Active}
-use Rattle.j39_faults.specs.declared.text.State.TheVariants.{Is}
 use Rattle.j39_io.proofs.PutsLemmas.{puts_as, puts_done, puts_failed}
 use Rattle.j39_listen.specs.Listening.{holder_of}
 use Rattle.j39_reports.proofs.ScreenLemmas.{limited_one}
 use Rattle.j39_reports.specs.CurrentPlaces.{standing_record}
 use Rattle.j39_reports.specs.CurrentSoFar.{now_shown}
-use Rattle.j39_reports.specs.Faults.{said_text}
-use Rattle.j39_reports.specs.Watch.{controller_columns, fault_shown_line, is_there}
+use Rattle.j39_reports.specs.Watch.{controller_columns, fault_shown_line, is_there, said_text}
 use Rattle.j39_reports.specs.WatchSoFar.{fault_lines, limited}
 use Rattle.j39_reports.proofs.watching.screen.put_standing.Goals as goal
 
@@ -18,7 +15,7 @@ returns-in_err-put_line-clause-puts g c =
     let view = c.args.view in
     let n = now_shown c.args.address c.args.last.now (standing_record c.args.standing) in
     let some : 0 < c.args.left = omega (arith, c.if-left-eq0.false) in
-    let line : List ℕ = controller_columns c.args.address None c.args.last.now.name ++ said_text view.groups.now (Is Active) c.args.last.now.lamps (Some c.in-Some.code) in
+    let line : List ℕ = controller_columns c.args.address None c.args.last.now.name ++ said_text view.groups.now c.args.last.now.lamps (Some c.in-Some.code) in
     let cut : c.fault_line.result.bytes.items ≡ take view.width line = search rules in
     let there : is_there (holder_of view.listener.now) c.args.address c.args.last.now.name ≡ true = search rules in
     let lines : fault_lines view.groups.now (holder_of view.listener.now) n ≡ line ∷ [] = rw (c.in-Some.is, there) refl in
@@ -31,7 +28,7 @@ returns-clause-puts g c =
     let view = c.args.view in
     let n = now_shown c.args.address c.args.last.now (standing_record c.args.standing) in
     let some : 0 < c.args.left = omega (arith, c.if-left-eq0.false) in
-    let line : List ℕ = controller_columns c.args.address None c.args.last.now.name ++ said_text view.groups.now (Is Active) c.args.last.now.lamps (Some c.in-Some.code) in
+    let line : List ℕ = controller_columns c.args.address None c.args.last.now.name ++ said_text view.groups.now c.args.last.now.lamps (Some c.in-Some.code) in
     let cut : c.fault_line.result.bytes.items ≡ take view.width line = search rules in
     let there : is_there (holder_of view.listener.now) c.args.address c.args.last.now.name ≡ true = search rules in
     let lines : fault_lines view.groups.now (holder_of view.listener.now) n ≡ line ∷ [] = rw (c.in-Some.is, there) refl in
