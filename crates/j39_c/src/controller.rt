@@ -369,8 +369,8 @@ fn make(
         × IsNew name address delay served.now (option_map (λ g. g.now) subscribed.entry) made.value) }
     ensures refused { IfErr result (λ refusal. IsMakeRefusal address served.now (option_map (λ g. g.now) subscribed.entry) refusal) }
 {
-    let mut groups = [Pgn::new(0).unwrap(); MOST_SUBSCRIBED];
-    if !read_groups(served, MOST_SERVED, &mut groups) {
+    let mut groups = [Pgn::new(0).unwrap(); MOST_SERVED];
+    if !read_groups(served, &mut groups) {
         return Err(Refusal::BadValue);
     }
     let mut wanted = [Pgn::new(0).unwrap(); MOST_SUBSCRIBED];
@@ -401,7 +401,7 @@ fn read_wanted<'a>(
 {
     match numbers {
         Some(numbers) => {
-            if !read_groups(numbers, MOST_SUBSCRIBED, groups) {
+            if !read_groups(numbers, groups) {
                 return None;
             }
             Some(Some(&groups[..numbers.len()]))
@@ -410,13 +410,12 @@ fn read_wanted<'a>(
     }
 }
 
-/// Reads the groups of these numbers, so many at most, into the front of an array: whether all are groups, and there is room.
-fn read_groups(numbers: &[u32], most: usize, groups: &mut [Pgn; MOST_SUBSCRIBED]) -> bool
-    requires { most ≤ 64 }
-    ensures known { (result ≡ true) ↔ CanRead most numbers.now }
+/// Reads the groups of these numbers to the front of a slice: whether all are groups, and there is room.
+fn read_groups(numbers: &[u32], groups: &mut [Pgn]) -> bool
+    ensures known { (result ≡ true) ↔ CanRead (length groups.old) numbers.now }
     ensures read { result ≡ true → map pgn_raw (take (length numbers.now) groups.new) ≡ numbers.now }
 {
-    if numbers.len() > most {
+    if numbers.len() > groups.len() {
         return false;
     }
     for place in 0..numbers.len() {

@@ -17,6 +17,7 @@ use crate::row::Row;
 use crate::table::built_in_rows;
 use crate::value::{Reading, Value};
 use crate::value_in::{bytes_from, filled_text_of, value_in};
+use crate::visiting::texts_of;
 use arrayvec::ArrayVec;
 use j39_frame::Pgn;
 
@@ -127,36 +128,30 @@ fn pick_of_rows<'t, 'v>(
     ensures { IsPicked (flat_map (row_readings pgn bytes.now) rows.now) left result }
 {
     for row in rows {
-        match pick_of_row(row, pgn, bytes, left) {
-            Ok(reading) => return Ok(reading),
-            Err(rest) => left = rest,
+        if row.pgn == pgn {
+            match pick_of_row(row, bytes, left) {
+                Ok(reading) => return Ok(reading),
+                Err(rest) => left = rest,
+            }
         }
     }
     Err(left)
 }
 
 /// The same, by one row.
-#[inline(always)]
+#[inline(never)]
 #[tactic(auto, unfolding(crate::specs::Readings::values_at))]
 fn pick_of_row<'t, 'v>(
     row: &Row<'t>,
-    pgn: u32,
     bytes: &'v [u8],
     left: usize,
 ) -> Result<Reading<'t, 'v>, usize>
     requires { is_sound row.now.field ≡ true }
-    ensures { IsPicked (row_readings pgn bytes.now row.now) left result }
+    ensures { IsPicked (readings_at bytes.now (row_record row.now)) left result }
 {
-    if row.pgn != pgn {
-        return Err(left);
-    }
-    match row.field {
-        Field::Texts { byte, count } => pick_text(row.spn, bytes_from(bytes, byte), count, left),
-        Field::Number { .. } => pick_value(row.spn, value_in(bytes, row.field), left),
-        Field::Bits { .. } => pick_value(row.spn, value_in(bytes, row.field), left),
-        Field::Signed { .. } => pick_value(row.spn, value_in(bytes, row.field), left),
-        Field::Switch { .. } => pick_value(row.spn, value_in(bytes, row.field), left),
-        Field::Text { .. } => pick_value(row.spn, value_in(bytes, row.field), left),
+    match texts_of(row.field) {
+        Some((byte, count)) => pick_text(row.spn, bytes_from(bytes, byte), count, left),
+        None => pick_value(row.spn, value_in(bytes, row.field), left),
     }
 }
 

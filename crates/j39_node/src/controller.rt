@@ -53,13 +53,14 @@ pub struct Controller {
     asking: Asking,
     inbox: Inbox,
     desk: Desk,
-    news: Untold,
-    /// Who holds which address, by the claims heard and its own that were taken.
+    /// Who holds which address, by the claims heard and its own that were taken. Behind what ends at a multiple of eight bytes: so it
+    /// is written where it stays.
     holders: Claims,
     lane: Lane,
     incoming: Incoming,
     transfers: Transfers,
     hearing: Hearing,
+    news: Untold,
 }
 
 impl Controller {
@@ -151,12 +152,12 @@ impl Controller {
             asking: Asking::new(),
             inbox: Inbox::new(),
             desk: Desk::new(),
-            news: Untold::none(),
             holders: Claims::new(),
             lane: Lane::new(),
             incoming: Incoming::new(receiver),
             transfers: Transfers::new(),
             hearing: Hearing::new(),
+            news: Untold::none(),
         }
     }
 

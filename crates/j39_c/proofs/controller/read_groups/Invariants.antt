@@ -8,4 +8,4 @@ use Rattle.j39_c.proofs.controller.read_groups.Given as goal
 abbrev pub invariant-loop-place : goal.invariant-loop-place
 invariant-loop-place l =
     (list_all (λ group. nat_lt group 262144) (take l.place l.numbers) ≡ true)
-    × ((map pgn_raw (take l.place l.groups) ≡ take l.place l.numbers) × (length l.groups ≡ 64))
+    × ((map pgn_raw (take l.place l.groups) ≡ take l.place l.numbers) × (length l.groups ≡ length l.initial.groups))
