@@ -1,7 +1,7 @@
 -- A moment in UTC (ISO 8601) as it is asked for: `2026-11-27T08:30:00Z`, perhaps with decimals behind the seconds.
 use Rattle.std.specs.Prelude.{◌≡◌, ◌==◌, ◌≤◌, ◌<◌, ◌+◌, ◌-◌, ◌*◌, ℕ, zero, suc, Bool, List, drop, if◌then◌else◌, length, slice_index, take}
 use Rattle.std.specs.Str.Parse.{AllDigits, digits_value}
-use Rattle.j39_reports.specs.Calendar.{Day, days_in_month, is_leap_year}
+use Rattle.j39_rows.specs.Calendar.{Day, days_in_month, is_leap_year}
 use Rattle.j39_cli.specs.Seconds.{AreSeconds, seconds_value, whole_of}
 
 -- ---- days

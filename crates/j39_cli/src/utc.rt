@@ -2,7 +2,7 @@
 ghost use Rattle.std.specs.Prelude.{◌≡◌, ◌<◌, ◌≤◌, ◌+◌, ◌*◌, ◌^◌, IfSome, Some, length, ℕ};
 ghost use Rattle.std.specs.Str.Parse.{AllDigits};
 ghost use Rattle.std.specs.Option.{SomeIff};
-ghost use Rattle.j39_reports.specs.Calendar.{day_after, days_in_month, is_leap_year};
+ghost use Rattle.j39_rows.specs.Calendar.{day_after, days_in_month, is_leap_year};
 ghost use Rattle.j39_cli.specs.UtcMoment.{IsClock, IsDate, IsSecond, IsUtc, day_number, days_of_months, days_of_years, is_utc, minutes_in, number_at, part, utc_value, year_length};
 ghost use Rattle.j39_cli.specs.Seconds.{seconds_value};
 
