@@ -1,5 +1,5 @@
 -- A message of faults is read as what it was made of.
-use Rattle.std.proofs.Common.{◌≡◌, ◌∙◌, ℕ, zero, suc, ◌+◌, ◌-◌, ◌*◌, ◌/◌, ◌%◌, ◌<◌, ◌≤◌, ◌++◌, ◌&&◌, ◌||◌, ◌==◌, Bool, true, false, not, List, [], ◌∷◌, Option, Some, None, length, nat_lt, replicate, refl, sym, ap, ap₂, subst, arith, append_assoc, if◌then◌else◌}
+use Rattle.std.proofs.Common.{◌≡◌, ◌∙◌, ℕ, zero, suc, ◌+◌, ◌-◌, ◌*◌, ◌/◌, ◌%◌, ◌<◌, ◌++◌, ◌&&◌, ◌||◌, ◌==◌, Bool, true, false, not, List, [], ◌∷◌, Option, Some, None, length, nat_lt, replicate, refl, sym, ap, ap₂, arith, append_assoc, if◌then◌else◌}
 use Rattle.std.proofs.lemmas.Bool.{and_parts}
 use Rattle.std.proofs.lemmas.Bool.Decides.{Decides-eqb, nat_tests}
 use Rattle.std.proofs.lemmas.List.{get_or-append-add, length-append, length-replicate}
@@ -15,7 +15,7 @@ use Rattle.j39_faults.specs.declared.lamps.LampState.{LampState}
 use Rattle.j39_faults.specs.declared.lamps.LampState.TheVariants as state
 use Rattle.j39_faults.specs.declared.lamps.Lamps.{Lamps}
 use Rattle.j39_faults.specs.Codes.{candidates_of, code_at, code_of, codes_of, count_of, is_no_code, parameter_of, places_of, spn_of}
-use Rattle.j39_faults.specs.FaultsMessage.{can_tell, code_bytes, codes_or_none, count_bits, faults_message, filled, flash_bits, flashes_byte, is_count, is_spn, pairs, spn_in, state_bits, states_byte}
+use Rattle.j39_faults.specs.FaultsMessage.{can_tell, code_bytes, count_bits, faults_message, filled, flash_bits, flashes_byte, is_count, pairs, spn_in, state_bits, states_byte}
 use Rattle.j39_faults.specs.LampBits.{flash_of, lamp_of, lamps_of, state_of}
 
 -- ---- the lamps

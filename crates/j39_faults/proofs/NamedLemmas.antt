@@ -1,9 +1,8 @@
 -- Codes of one SPN and FMI are named by the same codes.
-use Rattle.std.proofs.Common.{◌≡◌, ◌∙◌, ◌&&◌, ◌==◌, Bool, true, List, [], ◌∷◌, Option, Some, refl, ap, ap₂, if◌then◌else◌}
+use Rattle.std.proofs.Common.{◌≡◌, ◌&&◌, ◌==◌, true, List, [], ◌∷◌, Some, refl, ap₂, if◌then◌else◌}
 use Rattle.std.proofs.lemmas.Bool.{and_parts}
 use Rattle.std.proofs.lemmas.Bool.Decides.{Decides-eqb}
 use Rattle.j39_faults.specs.declared.code.Code.{Code}
-use Rattle.j39_faults.specs.declared.code.Parameter.{Parameter}
 use Rattle.j39_faults.specs.Changes.{is_same_fault, named_in}
 use Rattle.j39_faults.specs.Sameness.{is_same_parameter}
 use Rattle.j39_faults.proofs.SamenessLemmas.{decides_parameter}

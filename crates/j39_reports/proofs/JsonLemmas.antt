@@ -1,22 +1,17 @@
 -- Strings of JSON.
 use Rattle.j39_listen.specs.Members.{in_marks}
-use Rattle.std.proofs.Common.{◌≡◌, ◌<◌, ◌≤◌, ◌∙◌, ◌++◌, ◌∷◌, [], ℕ, zero, suc, Bool, false, List, Result, Ok, Err, ap, ap₂, arith, drop, eq-zero-or-pos, inl, inr, length, map, refl, sym, take, take-append-drop, ◌-◌}
-use Rattle.std.specs.Prelude.{◌==◌, ◌||◌, IsErr, nat_lt, if◌then◌else◌, codes}
+use Rattle.std.proofs.Common.{◌≡◌, ◌<◌, ◌≤◌, ◌∙◌, ◌++◌, ◌∷◌, [], ℕ, zero, suc, Bool, false, List, ap, ap₂, arith, drop, length, map, refl, sym, take, take-append-drop, ◌-◌}
+use Rattle.std.specs.Prelude.{◌==◌, ◌||◌, nat_lt, if◌then◌else◌, codes}
 use Rattle.std.specs.List.{flat_map, list_any}
 use Rattle.std.specs.Simd.Lanes.{mask_l}
 use Rattle.std.specs.Str.{IsAscii}
-use Rattle.std.specs.Str.Lossy.{replacement_bytes, utf8_invalid_len, utf8_lossy, utf8_valid_len}
 use Rattle.std.proofs.lemmas.Bool.{or_parts}
 use Rattle.std.proofs.lemmas.Bool.Decides.{nat_tests}
-use Rattle.std.proofs.lemmas.Grind.{flat_map-append}
 use Rattle.std.proofs.lemmas.List.{drop-drop}
 use Rattle.std.proofs.lemmas.List.Folds.{list_any-append}
-use Rattle.std.proofs.lemmas.Str.{IsUtf8-from_ascii, utf8_lossy-IsUtf8, utf8_lossy_chunk, utf8_lossy_last_chunk}
+use Rattle.std.proofs.lemmas.Str.{IsUtf8-from_ascii, utf8_lossy-IsUtf8}
 use Rattle.hex.specs.Hex.{encode_upper}
 use Rattle.j39_io.specs.Chars.{backslash, quote, space}
-use Rattle.j39_io.specs.Puts.{Puts}
-use Rattle.j39_io.specs.Turn.{Device}
-use Rattle.j39_io.proofs.PutsLemmas.{puts_as, puts_done, puts_first, puts_then}
 use Rattle.j39_reports.proofs.QuoteLemmas.{unset}
 use Rattle.j39_reports.specs.Json.{is_marked}
 use Rattle.j39_rows.specs.Json.{character_text, string_text}

@@ -1,5 +1,5 @@
 -- The unread lines, and one more.
-use Rattle.std.proofs.Common.{◌≡◌, ◌&&◌, ◌+◌, ◌++◌, ◌<◌, ◌≤◌, ℕ, List, [], ◌∷◌, Bool, true, false, length, refl, sym, ap, ap₂, ◌∙◌, append-nil, append_assoc, arith, map, take, take_all, length-take, zero, suc, min, inl, inr}
+use Rattle.std.proofs.Common.{◌≡◌, ◌&&◌, ◌+◌, ◌++◌, ◌<◌, ◌≤◌, ℕ, List, [], ◌∷◌, true, false, length, refl, sym, ap, ap₂, ◌∙◌, append-nil, append_assoc, arith, map, take, take_all, length-take, zero, suc, min, inl, inr}
 use Rattle.std.proofs.Math.Bool.{and-true}
 use Rattle.std.proofs.lemmas.Bool.{cases_lt, lt-leb, lt-ltb}
 use Rattle.std.proofs.lemmas.List.{length-map, map-append, take-append-le}

@@ -1,5 +1,5 @@
 -- The text of what the last messages of active codes name, what a run makes of the frames, and where it may want memory.
-use Rattle.std.specs.Prelude.{◌≡◌, ◌⊎◌, ◌++◌, ◌∷◌, [], true, ℕ, List, Option, codes, count_by, filter, if◌then◌else◌, length}
+use Rattle.std.specs.Prelude.{◌≡◌, ◌⊎◌, ◌++◌, ◌∷◌, [], true, ℕ, List, codes, count_by, filter, if◌then◌else◌, length}
 use Rattle.std.specs.List.{flat_map}
 use Rattle.j39_frame.specs.Frame.{FrameRecord}
 use Rattle.j39_faults.specs.declared.conversion.Conversion.{Conversion}

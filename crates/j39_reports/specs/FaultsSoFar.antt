@@ -1,5 +1,5 @@
 -- The steps of a run that tells faults, frame by frame.
-use Rattle.std.specs.Prelude.{◌≡◌, ◌++◌, ◌∷◌, [], ℕ, Bool, true, false, List, Option, codes, if◌then◌else◌, length, option_map, None, Some, Err, IfOk, OnOk, Result, ◌<◌, ◌^◌, ◌+◌, count_by}
+use Rattle.std.specs.Prelude.{◌≡◌, ◌++◌, ◌∷◌, [], ℕ, Bool, true, false, List, Option, if◌then◌else◌, length, option_map, None, Some, Err, IfOk, OnOk, Result, ◌<◌, ◌^◌, ◌+◌, count_by}
 use Rattle.std.specs.Io.KnownBytes.{Appends}
 use Rattle.j39_io.specs.Device.{AppendsFront}
 use Rattle.j39_io.specs.Turn.{Turn}
@@ -15,7 +15,6 @@ use Rattle.j39_faults.specs.declared.conversion.Version.{Version}
 use Rattle.j39_faults.specs.declared.kind.Kind.{Kind}
 use Rattle.j39_faults.specs.declared.lamps.Lamps.{Lamps}
 use Rattle.j39_frame.specs.Frame.{FrameRecord}
-use Rattle.j39_groups.specs.Row.{RowRecord}
 use Rattle.j39_listen.specs.Chooses.{Chooses}
 use Rattle.j39_listen.specs.Filter.{first_stamp}
 use Rattle.j39_listen.specs.Heard.{AreHeardWith, Hearing, HeardAtWith, or_none}

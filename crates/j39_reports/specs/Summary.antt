@@ -7,7 +7,7 @@ use Rattle.j39_frame.specs.Origin.{is_same, is_same_or_none}
 use Rattle.j39_frame.specs.declared.origin.Origin.{Origin}
 use Rattle.j39_groups.specs.Row.{RowRecord}
 use Rattle.j39_groups.specs.Sightings.{absences_in}
-use Rattle.j39_groups.specs.Value.{SlotRecord, ValueRecord, number, on, off, error, reserved, indicator, text}
+use Rattle.j39_groups.specs.Value.{SlotRecord, ValueRecord, number, error, reserved, indicator}
 use Rattle.j39_listen.specs.Counting.{capped}
 use Rattle.j39_listen.specs.Heard.{Hearing}
 use Rattle.j39_listen.specs.Report.{Entry}

@@ -5,7 +5,7 @@ use Rattle.j39_frame.specs.Frame.{FrameRecord}
 use Rattle.j39_frame.specs.Origin.{is_same}
 use Rattle.j39_frame.specs.declared.origin.Origin.{Origin}
 use Rattle.j39_groups.specs.Row.{RowRecord}
-use Rattle.j39_groups.specs.Value.{ValueRecord, number, on, off, error, reserved, indicator, text}
+use Rattle.j39_groups.specs.Value.{ValueRecord, text}
 use Rattle.j39_listen.specs.Asking.{AsksForBoxes, Wanting}
 use Rattle.j39_listen.specs.Filter.{FilterRecord, first_stamp, messages_taken, takes_message}
 use Rattle.j39_listen.specs.Heard.{AreHeard, HeardAt, Hearing}

@@ -1,5 +1,5 @@
 -- What was pushed is the message, which is read as what it was made of.
-use Rattle.std.proofs.Common.{◌≡◌, ◌∙◌, ◌++◌, ◌∷◌, [], ℕ, List, ap, ap₂, sym}
+use Rattle.std.proofs.Common.{◌≡◌, ◌∙◌, ◌++◌, ◌∷◌, [], ℕ, List, ap, ap₂}
 use Rattle.j39_faults.specs.Codes.{codes_of}
 use Rattle.j39_faults.specs.FaultsMessage.{codes_or_none, faults_message, filled, flashes_byte, states_byte}
 use Rattle.j39_faults.specs.LampBits.{lamps_of}

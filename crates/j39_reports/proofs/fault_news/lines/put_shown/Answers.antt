@@ -1,5 +1,5 @@
 -- The row of a code, or that there is none.
-use Rattle.std.proofs.Common.{◌≡◌, ◌∙◌, List, ℕ, ap, codes}
+use Rattle.std.proofs.Common.{◌∙◌, List, ℕ, ap, codes}
 use Rattle.std.specs.Prelude.{unwrap_or}
 use Rattle.j39_faults.specs.Text.{lamps_told, state_text}
 use Rattle.j39_io.proofs.PutsLemmas.{puts_as}
