@@ -77,10 +77,10 @@ pub extern "C" fn j39_reading_text(
     let (Some(pgn), Some(payload)) = (Pgn::new(message.pgn), payload_of(message)) else {
         return Refusal::BadValue.code();
     };
-    let Some(reading) = reading_at(pgn, payload, index) else {
+    let Some(found) = reading_at(pgn, payload, index) else {
         return Refusal::End.code();
     };
-    put_text(alloc, &reading.value, text)
+    put_text(alloc, &found.value, text)
 }
 
 /// The bytes of a message; `None` for one that says too many.

@@ -17,7 +17,6 @@ use crate::row::Row;
 use crate::table::built_in_rows;
 use crate::value::{Reading, Value};
 use crate::value_in::{bytes_from, filled_text_of, value_in};
-use crate::visiting::texts_of;
 use arrayvec::ArrayVec;
 use j39_frame::Pgn;
 
@@ -139,7 +138,7 @@ fn pick_of_rows<'t, 'v>(
 }
 
 /// The same, by one row.
-#[inline(never)]
+#[inline(always)]
 #[tactic(auto, unfolding(crate::specs::Readings::values_at))]
 fn pick_of_row<'t, 'v>(
     row: &Row<'t>,
@@ -149,13 +148,18 @@ fn pick_of_row<'t, 'v>(
     requires { is_sound row.now.field ≡ true }
     ensures { IsPicked (readings_at bytes.now (row_record row.now)) left result }
 {
-    match texts_of(row.field) {
-        Some((byte, count)) => pick_text(row.spn, bytes_from(bytes, byte), count, left),
-        None => pick_value(row.spn, value_in(bytes, row.field), left),
+    match row.field {
+        Field::Texts { byte, count } => pick_text(row.spn, bytes_from(bytes, byte), count, left),
+        Field::Number { .. } => pick_value(row.spn, value_in(bytes, row.field), left),
+        Field::Bits { .. } => pick_value(row.spn, value_in(bytes, row.field), left),
+        Field::Signed { .. } => pick_value(row.spn, value_in(bytes, row.field), left),
+        Field::Switch { .. } => pick_value(row.spn, value_in(bytes, row.field), left),
+        Field::Text { .. } => pick_value(row.spn, value_in(bytes, row.field), left),
     }
 }
 
 /// The same, of a value, where there is one.
+#[inline(always)]
 fn pick_value<'t, 'v>(
     spn: u32,
     value: Option<Value<'t, 'v>>,

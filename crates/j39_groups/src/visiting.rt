@@ -278,7 +278,7 @@ fn visit_other<'t, M, V: ReadingVisitor<'t, M>>(
 
 /// The first byte of several texts, and how many they are at most; `None` for any other field.
 #[inline(always)]
-pub(crate) fn texts_of(field: Field<'_>) -> Option<(u8, u8)>
+fn texts_of(field: Field<'_>) -> Option<(u8, u8)>
     ensures some { IfSome result (λ texts. field.entry ≡ Texts texts.0 texts.1) }
     ensures none { IfNone result (HasOneValue field.entry) }
 {
