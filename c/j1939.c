@@ -20,7 +20,7 @@ int32_t j39_id_split(uint32_t id, j1939_id_fields *fields);
 int32_t j39_id_compose(const j1939_id_fields *fields, uint32_t *id);
 void j39_name_split(uint64_t name, j1939_name_fields *fields);
 int32_t j39_name_compose(const j1939_name_fields *fields, uint64_t *name);
-int32_t j39_reading(const j1939_message *message, uint64_t index, j1939_reading *reading);
+int32_t j39_reading(const j1939_message *message, j1939_reading *reading, uint64_t index);
 int32_t j39_reading_text(const j1939_message *message, uint64_t index, char *text, uint64_t room);
 int32_t j39_raw_of(uint32_t spn, int64_t value, uint32_t *raw);
 int32_t j39_cut_frame(uint8_t source, uint32_t pgn, const uint8_t *payload, uint64_t size, uint16_t k, uint64_t micros,
@@ -108,7 +108,7 @@ int32_t j1939_name_compose(const j1939_name_fields *fields, uint64_t *name) {
 }
 
 int32_t j1939_read(const j1939_message *message, size_t index, j1939_reading *reading) {
-    return message && reading ? j39_reading(message, index, reading) : J1939_NULL;
+    return message && reading ? j39_reading(message, reading, index) : J1939_NULL;
 }
 
 int32_t j1939_read_text(const j1939_message *message, size_t index, char *text, size_t room) {

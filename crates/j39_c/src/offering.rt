@@ -73,11 +73,7 @@ pub extern "C" fn j39_controller_renew(
 /// ended. 0, where nothing changes, if none waits under this token, for a request, and where the address is lost. -2 where the
 /// handle holds no controller.
 #[unsafe(no_mangle)]
-pub extern "C" fn j39_controller_withdraw(
-    alloc: Global,
-    controller: &mut Handle,
-    token: u64,
-) -> i32
+pub extern "C" fn j39_controller_withdraw(alloc: Global, controller: &mut Handle, token: u64) -> i32
     ensures asks { Asks controller_in ⊤ controller.old.part result controller.new.part
         (λ old new. Withdraws token result old new) Never }
     ensures answers { Answers 1 (no_part ∷ []) result }

@@ -39,7 +39,7 @@ pub struct PlainReading {
 /// Reads reading number `index` of a message, by the built-in table: 0; -1 for a message that is none, -6 behind the
 /// last reading.
 #[unsafe(no_mangle)]
-pub extern "C" fn j39_reading(message: &WholeMessage, index: usize, out: &mut PlainReading) -> i32
+pub extern "C" fn j39_reading(message: &WholeMessage, out: &mut PlainReading, index: usize) -> i32
     ensures read { IsReadable message.now → IfSome (reading_in message.now index) (λ reading.
         (result ≡ pos 0) × IsPlain out.new reading) }
     ensures behind { IsReadable message.now → reading_in message.now index ≡ None → result ≡ end }
