@@ -1,22 +1,23 @@
--- Where the rows of a group are sought: a mark stands for some groups, and all rows of these lie in its run.
-use Rattle.std.specs.Prelude.{◌≡◌, ◌/◌, ◌%◌, ◌<◌, ◌≤◌, ◌==◌, ℕ, List, Bool, not, true, take, drop, length, slice_index_or}
-use Rattle.std.specs.Int.Bits.{bit_xor}
+-- Where the rows of a group are: all rows of a place lie in its run.
+use Rattle.std.specs.Prelude.{◌≡◌, ◌+◌, ◌*◌, ◌/◌, ◌%◌, ◌<◌, ◌≤◌, ◌==◌, ℕ, List, Bool, not, true, nat_lt, if◌then◌else◌, take, drop, length, slice_index_or}
 use Rattle.std.specs.List.{list_all}
 use Rattle.j39_groups.specs.declared.row.Row.{Row}
 use Rattle.j39_groups.specs.declared.runs.Run.{Run}
 
--- one of 2,048; of a page, at most two groups of PF 240 and more share one
-abbrev pub mark_of : ℕ → ℕ
-mark_of pgn = bit_xor pgn (pgn / 256) % 2048
+-- in each of four pages one for each PF, and behind all these one for each group of PF 240 and more: the low byte of the others is 0
+abbrev pub place_of : ℕ → ℕ
+place_of pgn =
+    if nat_lt (pgn / 256 % 256) 240 then pgn / 65536 % 4 * 256 + pgn / 256 % 256 else
+    1024 + pgn / 65536 % 4 * 4096 + pgn % 4096
 
 abbrev pub is_elsewhere : ℕ → Row → Bool
-is_elsewhere mark row = not (mark_of row.pgn == mark)
+is_elsewhere place row = not (place_of row.pgn == place)
 
-pub record IsRun (rows : List Row) (mark : ℕ) (run : Run) : Type 0 where
+pub record IsRun (rows : List Row) (place : ℕ) (run : Run) : Type 0 where
   pub ordered : run.first ≤ run.end
   pub inside : run.end ≤ length rows
-  pub none_before : list_all (is_elsewhere mark) (take run.first rows) ≡ true
-  pub none_behind : list_all (is_elsewhere mark) (drop run.end rows) ≡ true
+  pub none_before : list_all (is_elsewhere place) (take run.first rows) ≡ true
+  pub none_behind : list_all (is_elsewhere place) (drop run.end rows) ≡ true
 
 abbrev pub AreRuns : List Run → List Row → Type 0
-AreRuns runs rows = (mark : ℕ) (d : Run) → mark < 2048 → IsRun rows mark (slice_index_or runs mark d)
+AreRuns runs rows = (place : ℕ) (d : Run) → place < 17408 → IsRun rows place (slice_index_or runs place d)

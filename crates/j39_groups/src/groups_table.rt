@@ -42,7 +42,7 @@ use std::marker::Model;
 #[derive(Drop)]
 pub struct Groups<'t> {
     listed: Listed<LentRows<'t>, List<Row<'t>>>,
-    runs: [Run; 2048],
+    runs: [Run; 17408],
     ghost sound: { list_all is_row (listed_rows listed) ≡ true },
     ghost few: { length (listed_rows listed) ≤ 65536 },
     ghost sought: { AreRuns runs (listed_rows listed) } by { Prim.hlevel props },

@@ -1,16 +1,15 @@
-//! Where the rows of a group are sought: each of 2,048 marks has the run of the rows of its groups.
+//! Where the rows of a group are: each group that can be heard has a place of its own, with the run of its rows.
 ghost use Rattle.std.specs.Prelude.{◌≡◌, ◌==◌, ◌+◌, ◌<◌, ◌≤◌, filter, length, true};
 ghost use Rattle.std.specs.List.{list_all, list_any};
 ghost use Rattle.j39_groups.specs.Rows.{is_row};
-ghost use Rattle.j39_groups.specs.Runs.{AreRuns, mark_of};
+ghost use Rattle.j39_groups.specs.Runs.{AreRuns, place_of};
 
 use crate::row::Row;
 
-/// How many marks there are: half as many as a page has groups of PF 240 and more, so that few groups share one. A run of two
-/// groups has all rows between them too.
-const MARKS: usize = 2048;
+/// How many places there are: in each of four pages one for each PF, and one for each group of PF 240 and more.
+const PLACES: usize = 4 * 256 + 4 * 16 * 256;
 
-/// Where all rows with a mark lie, and other rows may.
+/// Where all rows of a place lie: no others do where those of a group stand together.
 #[derive(Clone, Copy)]
 pub(crate) struct Run {
     pub first: u32,
@@ -31,29 +30,29 @@ impl Run {
     }
 }
 
-/// The runs of the marks of these rows.
-pub(crate) fn runs_of(rows: &[Row<'_>]) -> [Run; MARKS]
+/// The runs of the places of these rows.
+pub(crate) fn runs_of(rows: &[Row<'_>]) -> [Run; PLACES]
     requires { length rows.now ≤ 65536 }
     ensures { AreRuns result rows.now }
 {
-    let mut runs = [Run { first: 0, end: 0 }; MARKS];
+    let mut runs = [Run { first: 0, end: 0 }; PLACES];
     for (at, row) in rows.iter().enumerate() {
-        let mark = mark_of(row.pgn);
-        runs[mark] = runs[mark].up_to(at as u32);
+        let place = place_of(row.pgn);
+        runs[place] = runs[place].up_to(at as u32);
     }
     runs
 }
 
 /// The rows among which all of a group lie.
 #[inline(always)]
-pub(crate) fn run_of<'r, 't>(runs: &[Run; MARKS], rows: &'r [Row<'t>], pgn: u32) -> &'r [Row<'t>]
+pub(crate) fn run_of<'r, 't>(runs: &[Run; PLACES], rows: &'r [Row<'t>], pgn: u32) -> &'r [Row<'t>]
     requires runs { AreRuns runs.now rows.now }
     requires sound { list_all is_row rows.now ≡ true }
     ensures same { filter (λ row. row.pgn == pgn) result.now ≡ filter (λ row. row.pgn == pgn) rows.now }
     ensures sound { list_all is_row result.now ≡ true }
     ensures few { length result.now ≤ length rows.now }
 {
-    let run = runs[mark_of(pgn)];
+    let run = runs[place_of(pgn)];
     &rows[run.first as usize..run.end as usize]
 }
 
@@ -65,11 +64,18 @@ pub(crate) fn has_group(rows: &[Row<'_>], pgn: u32) -> bool
     rows.iter().any(|row| row.pgn == pgn)
 }
 
-/// Which mark stands for a group: not its low bits alone, which are few in the groups below PF 240.
+/// The place of a group, which no other has that can be heard: below PF 240 its low byte is 0.
 #[inline(always)]
-fn mark_of(pgn: u32) -> usize
-    ensures value { result ≡ mark_of pgn }
-    ensures fits { result < 2048 }
+fn place_of(pgn: u32) -> usize
+    ensures value { result ≡ place_of pgn }
+    ensures fits { result < 17408 }
 {
-    ((pgn ^ pgn >> 8) % 2048) as usize
+    let page = pgn / 65536 % 4;
+    let format = pgn / 256 % 256;
+    let place = if format < 240 {
+        page * 256 + format
+    } else {
+        1024 + page * 4096 + pgn % 4096
+    };
+    place as usize
 }

@@ -1,4 +1,4 @@
--- All rows of the group lie in the run of its mark.
+-- All rows of the group lie in the run of its place.
 use Rattle.std.proofs.Common.{◌-◌, get_or, subst}
 use Rattle.j39_groups.specs.Rows.{is_row}
 use Rattle.j39_groups.specs.Runs.{IsRun}
@@ -9,11 +9,11 @@ use Rattle.j39_groups.proofs.runs.run_of.Goals as goal
 
 pub returns-clause-same : goal.returns-clause-same
 returns-clause-same c =
-    let run : Run = get_or c.args.runs.now c.mark_of.result (record { first = 0; end = 0 }) in
+    let run : Run = get_or c.args.runs.now c.place_of.result (record { first = 0; end = 0 }) in
     all_sought c.args.rows.now c.args.pgn run
-    (subst (λ mark. IsRun c.args.rows.now mark run) c.mark_of.ensures.value (c.requires.runs c.mark_of.result _ c.mark_of.ensures.fits))
+    (subst (λ place. IsRun c.args.rows.now place run) c.place_of.ensures.value (c.requires.runs c.place_of.result _ c.place_of.ensures.fits))
 
 pub returns-clause-sound : goal.returns-clause-sound
 returns-clause-sound c =
-    let run : Run = get_or c.args.runs.now c.mark_of.result (record { first = 0; end = 0 }) in
+    let run : Run = get_or c.args.runs.now c.place_of.result (record { first = 0; end = 0 }) in
     all_part is_row c.args.rows.now run.first (run.end - run.first) c.requires.sound

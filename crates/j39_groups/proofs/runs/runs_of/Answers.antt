@@ -9,9 +9,9 @@ loop-at-init c = (no_runs _ refl refl, refl)
 
 pub loop-at-preserved : goal.loop-at-preserved
 loop-at-preserved c =
-    let fits = c.mark_of-mark.ensures.fits in
+    let fits = c.place_of-place.ensures.fits in
     let size = c.loop-at.invariant.1 in (
-      runs_more c.loop-at.runs c.args.rows.now c.loop-at.at c.mark_of-mark.result _ (record { first = 0; end = 0 }) c.up_to.result c.loop-at-test.true
-          c.mark_of-mark.ensures.value (omega (arith, fits, size)) c.up_to.ensures.begun c.up_to.ensures.grown c.up_to.ensures.end c.loop-at.invariant.0,
-      length-set c.loop-at.runs c.mark_of-mark.result c.up_to.result ∙ size,
+      runs_more c.loop-at.runs c.args.rows.now c.loop-at.at c.place_of-place.result _ (record { first = 0; end = 0 }) c.up_to.result c.loop-at-test.true
+          c.place_of-place.ensures.value (omega (arith, fits, size)) c.up_to.ensures.begun c.up_to.ensures.grown c.up_to.ensures.end c.loop-at.invariant.0,
+      length-set c.loop-at.runs c.place_of-place.result c.up_to.result ∙ size,
     )
