@@ -21,5 +21,6 @@ pub mod Shape
 pub mod LineParts
 pub mod LineRead
 pub mod Lanes
+pub mod Identifiers
 pub mod LastSecond
 pub mod SplitterChanges

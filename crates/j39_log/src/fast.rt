@@ -1,5 +1,6 @@
 //! The fast way of most lines: a frame as `candump` writes it, whose fields stand where they mostly stand.
 
+mod identifiers;
 mod lanes;
 mod last_second;
 mod plain;

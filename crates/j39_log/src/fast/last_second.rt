@@ -3,24 +3,71 @@ ghost use Rattle.std.specs.Prelude.{◌≡◌, ◌++◌, ◌⊎◌, ℕ, List, l
 ghost use Rattle.std.specs.Bool.{OnTrue};
 ghost use Rattle.std.specs.Str.Parse.{AllDigits};
 ghost use Rattle.j39_frame.specs.Stamp.{stamp_micros};
+ghost use Rattle.j39_log.specs.Identifiers.{IsWritten};
 ghost use Rattle.j39_log.specs.LastSecond.{IsSecond, kept_text};
 ghost use Rattle.j39_log.specs.Text.{IsStampText};
 
+use crate::fast::identifiers::Identifiers;
 use crate::fast::plain::{decimals_of, second_of};
-use j39_frame::Stamp;
+use j39_frame::{Id, Stamp};
 use std::marker::Model;
+
+/// What most lines share with one before: the second of the stamp that was read last, and the identifiers that were read.
+#[derive(Debug, Drop)]
+pub struct LastSecond {
+    second: Second,
+    identifiers: Identifiers,
+}
+
+// A clause sees the microseconds before the second.
+impl Model for LastSecond {
+    ghost use Rattle.std.specs.Prelude.{ℕ};
+
+    ghost Value = { ℕ };
+
+    ghost view = { λ s. s.second };
+}
+
+impl LastSecond {
+    /// The second 0, and no identifiers.
+    pub fn new() -> LastSecond
+        ensures { result ≡ 0 }
+    {
+        LastSecond {
+            second: Second::new(),
+            identifiers: Identifiers::new(),
+        }
+    }
+
+    /// The stamp that begins with `(`, ten digits, `.` and six digits, as `plain::stamp_of` reads it.
+    #[inline(always)]
+    pub(crate) fn stamp_of(&mut self, front: &[u8; 18]) -> Option<Stamp>
+        ensures { IfSome result (λ stamp. (cut : List ℕ) → AllDigits 10 cut → (length cut ≡ 0) ⊎ (length cut ≡ 3)
+            → IsStampText (front.now ++ (cut ++ codes ")")) (stamp_micros stamp)) }
+    {
+        self.second.stamp_of(front)
+    }
+
+    /// The identifier of eight hex digits.
+    #[inline(always)]
+    pub(crate) fn id_of(&mut self, digits: &[u8; 8]) -> Option<Id>
+        ensures { IfSome result (IsWritten digits.now) }
+    {
+        self.identifiers.of(digits)
+    }
+}
 
 /// The second of the stamp that was read last, by the twelve bytes that each stamp within it begins with: most lines
 /// come within the second of the line before, and of theirs the decimals alone are read.
 #[derive(Debug, Drop)]
-pub struct LastSecond {
+pub(crate) struct Second {
     head: u64,
     tail: u32,
     micros: u64,
 }
 
 // A clause sees the microseconds before the second.
-impl Model for LastSecond {
+impl Model for Second {
     ghost use Rattle.std.specs.Prelude.{ℕ, ◌<◌, ◌^◌};
     ghost use Rattle.j39_log.specs.LastSecond.{IsSecond, kept_text};
 
@@ -31,12 +78,12 @@ impl Model for LastSecond {
     ghost invariant = { λ s. IsSecond (kept_text s.head s.tail) s.micros × (s.micros < 2 ^ 60) };
 }
 
-impl LastSecond {
+impl Second {
     /// The second 0.
-    pub fn new() -> LastSecond
+    fn new() -> Second
         ensures { result ≡ 0 }
     {
-        LastSecond {
+        Second {
             head: u64::from_le_bytes(*b"(0000000"),
             tail: u32::from_le_bytes(*b"000."),
             micros: 0,
@@ -84,7 +131,7 @@ impl LastSecond {
     fn turn_to(&mut self, front: &[u8; 18]) -> bool
         ensures { OnTrue result (IsSecond (take 12 front.now) self.new) }
     {
-        match LastSecond::of(front) {
+        match Second::of(front) {
             Some(second) => {
                 *self = second;
                 true
@@ -94,12 +141,12 @@ impl LastSecond {
     }
 
     /// The second of a stamp.
-    fn of(front: &[u8; 18]) -> Option<LastSecond>
+    fn of(front: &[u8; 18]) -> Option<Second>
         ensures { IfSome result (λ second. IsSecond (take 12 front.now) second) }
     {
         let micros = second_of(front)?;
         let (head, tail) = words_of(front)?;
-        Some(LastSecond { head, tail, micros })
+        Some(Second { head, tail, micros })
     }
 }
 

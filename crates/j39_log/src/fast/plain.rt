@@ -4,12 +4,11 @@ ghost use Rattle.std.specs.Prelude.{◌≡◌, ◌<◌, ◌+◌, ◌*◌, ◌^�
 ghost use Rattle.std.specs.Bool.{OnTrue};
 ghost use Rattle.std.specs.List.{AllByRecursion, prefix_len, range_with_len};
 ghost use Rattle.std.specs.Str.Parse.{AllDigits};
-ghost use Rattle.std.specs.Int.{to_be_bytes, w32};
 ghost use Rattle.hex.specs.Hex.{decode_of};
 ghost use Rattle.j39_log.specs.Bus.{IsBusName};
 ghost use Rattle.j39_io.specs.Chars.{space};
 ghost use Rattle.j39_log.specs.Fields.{IsField};
-ghost use Rattle.j39_frame.specs.Identifier.{id_raw};
+ghost use Rattle.j39_log.specs.Identifiers.{IsWritten};
 ghost use Rattle.j39_log.specs.Line.{HasParts};
 ghost use Rattle.j39_log.specs.Lanes.{is_gap, pair_at, stamp_lanes};
 ghost use Rattle.j39_log.specs.LastSecond.{AreDecimals, IsSecond};
@@ -213,16 +212,26 @@ pub(crate) fn frame_at(stamp: Stamp, text: &[u8]) -> Option<Frame>
     ensures { IfSome result (λ frame. (frame.stamp ≡ stamp_micros stamp) × IsFrameText text.now frame.id frame.bytes) }
 {
     let (digits, rest) = text.split_first_chunk::<8>()?;
-    let id = id_of(digits)?;
+    frame_behind(stamp, digits, id_of(digits)?, rest)
+}
+
+/// The frame of the identifier that 8 hex digits write, where `#` and pairs of hex digits follow them.
+#[inline(always)]
+pub(crate) fn frame_behind(stamp: Stamp, digits: &[u8; 8], id: Id, rest: &[u8]) -> Option<Frame>
+    requires { IsWritten digits.now id }
+    ensures { IfSome result (λ frame. (frame.stamp ≡ stamp_micros stamp)
+        × IsFrameText (digits.now ++ rest.now) frame.id frame.bytes) }
+{
     match rest.split_first() {
         Some((b'#', pairs)) => Some(Frame::from_parts(stamp, id, data_of(pairs)?)),
         _ => None,
     }
 }
 
+/// The identifier that 8 hex digits write.
 #[inline(always)]
-fn id_of(digits: &[u8; 8]) -> Option<Id>
-    ensures { IfSome result (λ id. (decode_of digits.now ≡ Ok (to_be_bytes w32 (id_raw id))) × (id_raw id < 2 ^ 29)) }
+pub(crate) fn id_of(digits: &[u8; 8]) -> Option<Id>
+    ensures { IfSome result (IsWritten digits.now) }
 {
     Id::new(u32::from_be_bytes(four(digits)?))
 }

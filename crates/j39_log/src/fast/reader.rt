@@ -8,7 +8,7 @@ ghost use Rattle.j39_log.specs.Line.{IsFrameLine};
 ghost use Rattle.j39_log.specs.Newline.{TakesLine};
 
 use crate::fast::lanes::alike_len;
-use crate::fast::plain::{frame_at, is_digit};
+use crate::fast::plain::{frame_behind, is_digit};
 use crate::{Bus, LastSecond};
 use j39_frame::Frame;
 
@@ -16,7 +16,7 @@ use j39_frame::Frame;
 const SHORTEST: usize = 48;
 
 /// The frame of this bus in the line that the bytes begin with, and what follows its newline, where the line has the form of
-/// most (`Splitter::frame_on`). `None` says nothing of the line. The second of the line is kept for the next one.
+/// most (`Splitter::frame_on`). `None` says nothing of the line. The second of the line and its identifier are kept for the next ones.
 #[inline(always)]
 pub(crate) fn first_frame<'a>(
     bytes: &'a [u8],
@@ -34,7 +34,9 @@ pub(crate) fn first_frame<'a>(
     let rest = after_bus(rest, bus)?;
     let (third, rest) = last_of(rest)?;
     let stamp = second.stamp_of(front)?;
-    let frame = frame_at(stamp, third)?;
+    let (digits, data) = third.split_first_chunk::<8>()?;
+    let id = second.id_of(digits)?;
+    let frame = frame_behind(stamp, digits, id, data)?;
     Some((frame, rest))
 }
 

@@ -5,7 +5,7 @@ use Rattle.std.proofs.lemmas.Option.{IfSome_then}
 use Rattle.j39_log.specs.LastSecond.{IsSecond}
 use Rattle.j39_log.specs.Text.{IsStampText}
 use Rattle.j39_log.proofs.StampLaneLemmas.{stamp_read}
-use Rattle.j39_log.proofs.fast.last_second.LastSecond.stamp_of.Goals as goal
+use Rattle.j39_log.proofs.fast.last_second.Second.stamp_of.Goals as goal
 
 pub returns : goal.returns
 returns c =

@@ -1,0 +1,73 @@
+//! Identifiers by their digits, remembered: most lines have one of a few.
+ghost use Rattle.std.specs.Prelude.{◌≡◌, ◌<◌, IfSome};
+ghost use Rattle.std.specs.Int.{to_le_bytes, w64};
+ghost use Rattle.std.proofs.Props.{props};
+ghost use Rattle.j39_log.specs.Identifiers.{AreKnown, IsWritten};
+
+use crate::fast::plain::id_of;
+use j39_frame::Id;
+
+/// How many identifiers are remembered.
+const PLACES: usize = 2048;
+
+/// Eight bytes as a number, and the identifier whose digits they are, where they are.
+#[derive(Clone, Copy, Debug)]
+struct Known {
+    digits: u64,
+    id: Option<Id>,
+}
+
+/// The identifiers that were read last.
+#[derive(Debug, Drop)]
+pub(crate) struct Identifiers {
+    known: [Known; PLACES],
+    ghost sound: { AreKnown known } by { Prim.hlevel props },
+}
+
+impl Identifiers {
+    /// With none remembered.
+    pub fn new() -> Identifiers {
+        let none = Known {
+            digits: 0,
+            id: None,
+        };
+        Identifiers {
+            known: [none; PLACES],
+        }
+    }
+
+    /// The identifier of eight hex digits.
+    #[inline(always)]
+    pub fn of(&mut self, digits: &[u8; 8]) -> Option<Id>
+        ensures { IfSome result (IsWritten digits.now) }
+    {
+        let number = u64::from_le_bytes(*digits);
+        let place = place_of(number);
+        let known = self.known[place];
+        if known.digits == number {
+            known.id
+        } else {
+            self.learn(place, number, digits)
+        }
+    }
+
+    /// Reads the digits, and remembers what they write.
+    #[inline(never)]
+    fn learn(&mut self, place: usize, number: u64, digits: &[u8; 8]) -> Option<Id>
+        requires place { place < 2048 }
+        requires number { digits.now ≡ to_le_bytes w64 number }
+        ensures { IfSome result (IsWritten digits.now) }
+    {
+        let id = id_of(digits);
+        self.known[place] = Known { digits: number, id };
+        id
+    }
+}
+
+/// Where eight digits are remembered.
+#[inline(always)]
+fn place_of(digits: u64) -> usize
+    ensures { result < 2048 }
+{
+    (digits.wrapping_mul(0x9E37_79B9_7F4A_7C15) >> 53) as usize
+}
