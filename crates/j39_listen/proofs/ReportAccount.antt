@@ -101,10 +101,10 @@ module _ (form : Form) (subject : Subject) where
   }
 
   -- a frame goes to the report
-  pub report_meets : {E : Type 0} (r r' : Report E) → r'.groups ≡ r.groups → (f : FrameRecord)
+  pub report_meets : {E : Type 0} (r r' : Report E) → r'.roles.groups ≡ r.roles.groups → (f : FrameRecord)
       → ((asked : FilterRecord) (F : List FrameRecord) → Chooses asked r.chooser F → Chooses asked r'.chooser (F ++ f ∷ [])) → (made : Made) (old new : Option (List ℕ))
       → ((asked : FilterRecord) (F : List FrameRecord) → Hears r.listener F → Chooses asked r'.chooser (F ++ f ∷ [])
-      → MeetsFrame form (record { rows = r.groups.now; which = asked }) r'.listener F f made old new)
+      → MeetsFrame form (record { rows = r.roles.groups.now; which = asked }) r'.listener F f made old new)
       → r'.made ≡ made_sum r.made made → Meets (HasReported form subject) r r' (f ∷ []) old new
   report_meets r r' kept f notes made old new meets sum = λ F before has.
       let chooses = notes which F has.chooses in
@@ -162,7 +162,7 @@ module _ (form : Form) (subject : Subject) where
   -- a fault of the writer at a frame
   pub report_stops : {E : Type 0} (r : Report E) (f : FrameRecord)
       (old new : Option (List ℕ))
-      → ((F : List FrameRecord) → Hears r.listener F → Chooses which r.chooser F → StopsFrame form (record { rows = r.groups.now; which = which }) F f old new)
+      → ((F : List FrameRecord) → Hears r.listener F → Chooses which r.chooser F → StopsFrame form (record { rows = r.roles.groups.now; which = which }) F f old new)
       → (bus : List ℕ) → Stops (HasReported form subject) (MakesFilteredIn form groups which bus) r (f ∷ []) old new
   report_stops r f old new stops bus = λ F G before all has made.
       let m : StopsFrame form subject F f old new =

@@ -31,6 +31,7 @@ pub mod Chooses
 -- the code's steps, below the rules
 pub mod OneFrameMore
 pub mod AccountCalls
+pub mod RolesSoFar
 pub mod ReportSoFar
 pub mod NodesSoFar
 pub mod SeenSoFar

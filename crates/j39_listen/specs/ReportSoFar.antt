@@ -38,7 +38,7 @@ Makes form subject = MakesFilteredIn form subject.rows subject.which
 -- the report of F in this form was made, and its listener was fed F
 pub record HasReported {E : Type 0} (form : Form) (subject : Subject) (report : Report E)
     (F : List FrameRecord) (output : Output) : Type 0 where
-  pub by : report.groups.now ≡ subject.rows
+  pub by : report.roles.groups.now ≡ subject.rows
   pub chooses : Chooses subject.which report.chooser F
   pub heard : List Hearing
   pub are_heard : AreHeard subject.rows F heard

@@ -22,6 +22,7 @@ mod pieces;
 mod report;
 mod report_lines;
 mod report_runs;
+mod roles;
 mod running;
 mod seen_nodes;
 

@@ -22,9 +22,10 @@ use crate::chooser::Chooser;
 use crate::counts::Made;
 use crate::entry_form::EntryForm;
 use crate::filter::Filter;
+use crate::roles::Roles;
 use crate::{Heard, Listener};
 use j39_frame::Frame;
-use j39_groups::{Groups, is_network_group};
+use j39_groups::Groups;
 use j39_io::{DeviceFault, Sink};
 use j39_log::Bus;
 use std::alloc::{AllocError, Global};
@@ -32,7 +33,7 @@ use std::alloc::{AllocError, Global};
 /// What is heard so far, and the numbers of its report in a form.
 #[derive(Drop)]
 pub struct Report<'g, 't, E> {
-    groups: &'g Groups<'t>,
+    roles: Roles<'g, 't>,
     chooser: Chooser<'g>,
     listener: Listener,
     made: Made,
@@ -51,7 +52,7 @@ impl<'g, 't, E: EntryForm> Report<'g, 't, E> {
             (filtered_of E.text_by groups.entry.now (which_of filter.entry) 0 []) }
     {
         Report {
-            groups,
+            roles: Roles::new(groups),
             chooser: Chooser::new(filter),
             listener: Listener::new(alloc),
             made: Made::default(),
@@ -76,17 +77,18 @@ impl<'g, 't, E: EntryForm> Account for Report<'g, 't, E> {
     #[inline(always)]
     fn feed<W: Sink>(&mut self, _: &Bus, frame: &Frame, sink: &mut W) -> Result<(), LineFault> {
         self.chooser.note(frame);
-        let is_single = self.groups.is_reported(frame.id.pgn());
-        if !is_single && !is_network_group(frame.id.pgn()) {
+        let groups = self.roles.groups;
+        let role = self.roles.of(frame.id);
+        if !role.is_single && !role.is_network {
             self.made = self.made.and(NOTHING);
             return Ok(());
         }
         match put_frame(
             &mut self.listener,
-            is_single,
+            role.is_single,
             frame,
             &self.chooser,
-            self.groups,
+            groups,
             &mut self.form,
             &mut self.made,
             sink,

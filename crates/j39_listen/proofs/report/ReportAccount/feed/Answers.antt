@@ -1,6 +1,7 @@
 -- A frame of a group that is heard, or of another.
-use Rattle.std.proofs.Common.{◌≡◌, ◌∙◌, ap, false, refl, sym}
+use Rattle.std.proofs.Common.{◌≡◌, ◌∙◌, ap, false, sym}
 use Rattle.std.specs.Prelude.{Err, None}
+use Rattle.std.proofs.lemmas.Bool.{not-true}
 use Rattle.j39_frame.specs.Frame.{FrameRecord}
 use Rattle.j39_frame.specs.Identifier.{pgn_of}
 use Rattle.j39_groups.specs.Readings.{is_network_group, is_reported_in}
@@ -13,20 +14,20 @@ use Rattle.j39_listen.proofs.Reported.{reported_leaves}
 use Rattle.j39_listen.proofs.report.ReportAccount.feed.Goals as goal
 
 pub put_frame-requires : goal.put_frame-requires
-put_frame-requires g c = c.is_reported-is_single.ensures ∙ ap (is_reported_in c.args.self.now.groups.now) (c.pgn.ensures ∙ ap (λ (x : FrameRecord). pgn_of x.id) c.frame.view_is)
+put_frame-requires g c = c.of-role.ensures.role.single ∙ ap (λ (x : FrameRecord). is_reported_in c.args.self.now.roles.groups.now (pgn_of x.id)) c.frame.view_is
 
-pub returns-then-not-is_network_group-clause-met : goal.returns-then-not-is_network_group-clause-met
-returns-then-not-is_network_group-clause-met g c =
+pub returns-then-not-role-2-clause-met : goal.returns-then-not-role-2-clause-met
+returns-then-not-role-2-clause-met g c =
     let self = c.args.self.now in
-    let groups = self.groups.now in
+    let groups = self.roles.groups.now in
     let frame = c.args.frame.now in
     let report : Report g.row.E.Denot =
-    record { groups = self.groups; chooser = c.note.new.self; listener = self.listener; made = c.and-self.result; form = self.form } in
+    record { roles = c.of-role.new.self; chooser = c.note.new.self; listener = self.listener; made = c.and-self.result; form = self.form } in
     let other : is_reported_in groups (pgn_of frame.id) ≡ false =
-    ap (is_reported_in groups) (sym (c.pgn.ensures ∙ ap (λ (x : FrameRecord). pgn_of x.id) c.frame.view_is)) ∙ (sym c.is_reported-is_single.ensures ∙ c.if-not-is_single.true) in
+    sym (c.of-role.ensures.role.single ∙ ap (λ (x : FrameRecord). is_reported_in groups (pgn_of x.id)) c.frame.view_is) ∙ not-true _ c.if-not-role.true in
     let free : is_network_group (pgn_of frame.id) ≡ false =
-    ap is_network_group (sym (c.pgn-then-not-is_single.ensures ∙ ap (λ (x : FrameRecord). pgn_of x.id) c.frame.view_is)) ∙ (sym c.is_network_group.ensures ∙ c.if-not-is_network_group.true) in
-    λ subject. report_meets g.E.EntryForm.text_by subject self report refl frame c.note.ensures (made_by None) _ _ (λ which F h chosen.
+    sym (c.of-role.ensures.role.network ∙ ap (λ (x : FrameRecord). is_network_group (pgn_of x.id)) c.frame.view_is) ∙ not-true _ c.if-not-role-2.true in
+    λ subject. report_meets g.E.EntryForm.text_by subject self report c.of-role.ensures.table frame c.note.ensures (made_by None) _ _ (λ which F h chosen.
     meets_silent g.E.EntryForm.text_by (record { rows = groups; which = which }) self.listener F frame _
     (silent_outside (is_reported_in groups) (reported_leaves groups) self.listener F frame free other h)
     (hears_single self.listener F frame free (outside_claims frame free) h)) c.and-self.ensures
@@ -36,8 +37,8 @@ returns-in-Ok-clause-met g c =
     let self = c.args.self.now in
     let met = c.in-Ok.ensures.met in
     let report : Report g.row.E.Denot =
-    record { groups = self.groups; chooser = c.note.new.self; listener = c.put_frame.new.listener; made = c.put_frame.new.made; form = c.put_frame.new.form } in
-    λ subject. report_meets g.E.EntryForm.text_by subject self report refl c.args.frame.now c.note.ensures met.0 _ _ (λ which F h chosen. met.2 which F h chosen) met.1
+    record { roles = c.of-role.new.self; chooser = c.note.new.self; listener = c.put_frame.new.listener; made = c.put_frame.new.made; form = c.put_frame.new.form } in
+    λ subject. report_meets g.E.EntryForm.text_by subject self report c.of-role.ensures.table c.args.frame.now c.note.ensures met.0 _ _ (λ which F h chosen. met.2 which F h chosen) met.1
 
 pub returns-in-Err-clause-stops : goal.returns-in-Err-clause-stops
 returns-in-Err-clause-stops g c = λ fails subject.
