@@ -108,7 +108,7 @@ function showLog(it, rows) {
 function showFacts(besides = {}) {
   const { frames, other, unread, messages, values } = log.counts;
   const facts = { log: log.name, size: megabytes(log.size), frames: number(frames), 'other lines': number(other), 'unread lines': number(unread),
-    messages: number(messages), values: number(values), table: log.table || 'built-in', ...besides };
+    messages: number(messages), values: number(values), table: log.table || 'built-in', ...log.kind && { 'turned from': `${log.kind}, which isn't proved` }, ...besides };
   $('facts').replaceChildren(...Object.entries(facts).map(([name, value]) => {
     const pair = element('div');
     pair.append(element('dt', name), element('dd', value));
@@ -147,7 +147,7 @@ function showBuses(buses, isMore) {
 
 function showHint({ frames, other, unread, values }) {
   const hints = [];
-  if (!frames && unread) hints.push('None of its lines was read: this page reads what candump -l or candump -L writes.');
+  if (!frames && unread) hints.push('None of its lines was read: this page reads what candump -l or -L writes, and ASC, BLF, TRC and SavvyCAN\'s CSV, also packed (gz).');
   if (!frames && other) hints.push('It has no frame of this interface.');
   if (frames && !values) hints.push('Its frames hold none of the parameters that are read.');
   $('hint').textContent = hints.join(' ');

@@ -50,14 +50,15 @@ function fieldsOf({ it, told }, name) {
 // Posts the parameters of a log.
 async function readLog({ file, bus, table }, tell, post) {
   const given = tableOf(table);
-  asked = { file, bus: new TextEncoder().encode(bus), table: given.bytes, names: groupNames(given), rows: [] };
+  const turned = await asCandump(file);
+  asked = { file: turned.file, bus: new TextEncoder().encode(bus), table: given.bytes, names: groupNames(given), rows: [] };
   await layLog(tell);
   tell(0, 0);
   const summary = textOf(place, 'j39_summary', place.given, 4 * ROOM);
   asked.rows = rowsOf(textIn(summary.bytes), asked.names);
   const { frames, other, unread, messages } = summary.counts;
   const values = asked.rows.reduce((sum, row) => sum + row.count, 0);
-  const told = { name: file.name, size: file.size, table: given.name, counts: { frames, other, unread, messages, values } };
+  const told = { name: file.name, size: file.size, kind: turned.kind, table: given.name, counts: { frames, other, unread, messages, values } };
   post({ log: told, rows: asked.rows });
 }
 
