@@ -7,7 +7,7 @@ use Rattle.j39_groups.specs.declared.runs.Run.{Run}
 -- in each of four pages one for each PF, and behind all these one for each group of PF 240 and more: the low byte of the others is 0
 abbrev pub place_of : ℕ → ℕ
 place_of pgn =
-    if nat_lt (pgn / 256 % 256) 240 then pgn / 65536 % 4 * 256 + pgn / 256 % 256 else
+    if nat_lt (pgn / 256 % 256) 240 then pgn / 256 % 1024 else
     1024 + pgn / 65536 % 4 * 4096 + pgn % 4096
 
 abbrev pub is_elsewhere : ℕ → Row → Bool

@@ -70,12 +70,10 @@ fn place_of(pgn: u32) -> usize
     ensures value { result ≡ place_of pgn }
     ensures fits { result < 17408 }
 {
-    let page = pgn / 65536 % 4;
-    let format = pgn / 256 % 256;
-    let place = if format < 240 {
-        page * 256 + format
+    let place = if pgn / 256 % 256 < 240 {
+        pgn / 256 % 1024
     } else {
-        1024 + page * 4096 + pgn % 4096
+        1024 + pgn / 65536 % 4 * 4096 + pgn % 4096
     };
     place as usize
 }
