@@ -1,6 +1,7 @@
 -- What is told of a message of faults (own).
 use Rattle.std.specs.Prelude.{◌==◌, ◌||◌, ℕ, Bool, true, false, List, [], ◌∷◌, Option, Some, None, count_by, filter, map}
 use Rattle.std.specs.List.{list_any}
+use Rattle.std.specs.Option.{option_or}
 use Rattle.j39_faults.specs.Conversions.{codes_by, version_for}
 use Rattle.j39_faults.specs.FaultGroups.{cleared_in, kind_of}
 use Rattle.j39_faults.specs.LampBits.{lamps_of}
@@ -17,6 +18,7 @@ use Rattle.j39_groups.specs.Names.{parameter_name}
 use Rattle.j39_groups.specs.Row.{RowRecord}
 use Rattle.j39_listen.specs.Filter.{FilterRecord, asks_for}
 use Rattle.j39_listen.specs.Heard.{Hearing}
+use Rattle.j39_names.specs.Names.{parameter_called}
 
 -- a code of a kind, what became of it, or that a message has none, and with which lamps; or that the codes of a kind are to be
 -- cleared
@@ -111,9 +113,9 @@ lines_in manner faults = count_by (says_asked manner.spns) faults
 abbrev pub faults_in : List Conversion → Hearing → List Fault
 faults_in conversions m = faults_or_clearing conversions m (cleared_in m.message.pgn m.message.bytes)
 
--- what a table calls a parameter, where its SPN is known
+-- what a parameter is called, where its SPN is known: by a table, or else by the names that are built in
 abbrev pub name_of : List RowRecord → Parameter → Option (List ℕ)
-name_of rows (Known spn) = parameter_name rows spn
+name_of rows (Known spn) = option_or (parameter_name rows spn) (parameter_called spn)
 name_of rows (OneOf spns) = None
 
 abbrev pub name_in : List RowRecord → Code → Option (List ℕ)

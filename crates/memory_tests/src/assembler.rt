@@ -1,20 +1,9 @@
 //! An assembler: an announcement alone may be refused memory, and then nothing changes.
+use crate::fed::Kind::{self, Ignored, Taken, Whole};
+use crate::fed::fed;
 use j39_frame::{Frame, Id, Stamp};
-use j39_transport::{Assembler, Fed};
+use j39_transport::Assembler;
 use std::alloc::{AllocError, Global};
-
-/// What a frame is to an assembler.
-#[derive(Clone, Copy, Debug, PartialEq, Eq)]
-enum Kind {
-    /// It completes the message that is wanted.
-    Whole,
-    /// It completes another.
-    Other,
-    Taken,
-    Ignored,
-}
-
-use Kind::{Ignored, Other, Taken, Whole};
 
 // From 00 to all.
 pub(crate) const BAM: u32 = 0x1CECFF00;
@@ -50,21 +39,6 @@ static ROWS: &[Row] = &[
 
 /// Behind `ROWS`, once its source is forgotten.
 const FORGOTTEN: Row = (3_100_000, DATA, P2, Ignored, (0, 0));
-
-fn fed(assembler: &mut Assembler, frame: &Frame, payload: &[u8]) -> Result<Kind, AllocError> {
-    Ok(match assembler.feed(frame)? {
-        Fed::Whole(message) => {
-            let is_heard = message.source == 0 && message.pgn.raw() == 65_260;
-            if is_heard && message.payload == payload {
-                Whole
-            } else {
-                Other
-            }
-        }
-        Fed::Taken => Taken,
-        Fed::Ignored => Ignored,
-    })
-}
 
 fn open_in(assembler: &Assembler) -> (usize, usize) {
     (assembler.open(), assembler.held())

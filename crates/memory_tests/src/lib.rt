@@ -4,6 +4,7 @@
 
 #[cfg(test)]
 mod assembler;
+pub mod fed;
 #[cfg(test)]
 mod listener;
 #[cfg(test)]

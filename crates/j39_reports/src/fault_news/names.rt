@@ -4,13 +4,17 @@ ghost use Rattle.j39_reports.specs.Faults.{name_in};
 
 use j39_faults::{Code, Parameter};
 use j39_groups::Groups;
+use j39_names::parameter_name;
 
-/// What the table calls the parameter of a code, where its SPN is known.
+/// What the parameter of a code is called, where its SPN is known: by the table, or else by the names that are built in.
 pub(crate) fn name_in<'g>(groups: &'g Groups<'_>, code: Code) -> Option<&'g [u8]>
     ensures { option_map (λ name. name.now) result ≡ name_in groups.now code }
 {
-    match code.parameter {
-        Parameter::Known(spn) => groups.parameter_name(spn),
-        Parameter::OneOf(_) => None,
+    let Parameter::Known(spn) = code.parameter else {
+        return None;
+    };
+    match groups.parameter_name(spn) {
+        Some(name) => Some(name),
+        None => parameter_name(spn),
     }
 }
