@@ -1,7 +1,7 @@
 //! Where the rows of a group are: each group that can be heard has a place of its own, with the run of its rows.
-ghost use Rattle.std.specs.Prelude.{◌≡◌, ◌==◌, ◌+◌, ◌<◌, ◌≤◌, filter, length, true};
+ghost use Rattle.std.specs.Prelude.{◌≡◌, ◌==◌, ◌+◌, ◌<◌, ◌≤◌, ℕ, filter, length, true};
 ghost use Rattle.std.specs.List.{list_all, list_any};
-ghost use Rattle.j39_groups.specs.Rows.{is_row};
+ghost use Rattle.j39_groups.specs.Rows.{is_listed_group, is_row};
 ghost use Rattle.j39_groups.specs.Runs.{AreRuns, place_of};
 
 use crate::row::Row;
@@ -64,11 +64,12 @@ pub(crate) fn has_group(rows: &[Row<'_>], pgn: u32) -> bool
     rows.iter().any(|row| row.pgn == pgn)
 }
 
-/// The place of a group, which no other has that can be heard: below PF 240 its low byte is 0.
+/// The place of a group, which no other has that a table may list.
 #[inline(always)]
 fn place_of(pgn: u32) -> usize
     ensures value { result ≡ place_of pgn }
     ensures fits { result < 17408 }
+    ensures own { (other : ℕ) → is_listed_group pgn ≡ true → is_listed_group other ≡ true → place_of other ≡ result → other ≡ pgn }
 {
     let place = if pgn / 256 % 256 < 240 {
         pgn / 256 % 1024

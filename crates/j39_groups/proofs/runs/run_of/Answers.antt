@@ -17,3 +17,12 @@ pub returns-clause-sound : goal.returns-clause-sound
 returns-clause-sound c =
     let run : Run = get_or c.args.runs.now c.place_of.result (record { first = 0; end = 0 }) in
     all_part is_row c.args.rows.now run.first (run.end - run.first) c.requires.sound
+
+pub slice_bounds-result-count : goal.slice_bounds-result-count
+slice_bounds-result-count c = (c.requires.runs c.place_of.result (record { first = 0; end = 0 }) c.place_of.ensures.fits).ordered
+
+pub slice_bounds-result-start : goal.slice_bounds-result-start
+slice_bounds-result-start c = (c.requires.runs c.place_of.result (record { first = 0; end = 0 }) c.place_of.ensures.fits).ordered
+
+pub slice_bounds-result-end : goal.slice_bounds-result-end
+slice_bounds-result-end c = (c.requires.runs c.place_of.result (record { first = 0; end = 0 }) c.place_of.ensures.fits).inside
