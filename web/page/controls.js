@@ -30,6 +30,7 @@ function wirePlot() {
   for (const id of ['together', 'scaled']) $(id).onchange = makePanels;
   for (const id of ['zone-utc', 'zone-local']) $(id).onchange = () => {
     faults.draw();
+    drawGlance();
     look();
   };
   $('plots').onkeydown = hearKey;
@@ -46,6 +47,7 @@ function wireSaving() {
   $('save-values').onclick = askValues;
   $('save-svg').onclick = saveSvg;
   $('save-png').onclick = savePng;
+  $('print').onclick = () => window.print();
 }
 
 function wireNotices() {
@@ -57,6 +59,8 @@ function wireNotices() {
 }
 
 function start() {
+  functionNames = namesOf('function-names');
+  addressNames = namesOf('address-names');
   parameters = new Table('parameters', PARAMETER_COLUMNS, { before: { name: 'plot', make: tickOf }, mark: markLine });
   faults = new Table('faults', FAULT_COLUMNS);
   wireLog();

@@ -28,4 +28,5 @@ async function showFaults(blob) {
   const all = lines.map(faultOf);
   $('faults-section').hidden = all.every(({ spn }) => spn === 'none');
   faults.show(all);
+  drawGlance({ codes: all });
 }

@@ -38,6 +38,7 @@ function read(chosenFile, chosenBus = '') {
   if (!chosenFile || $('file').disabled) return;
   [file, bus, log] = [chosenFile, chosenBus, null];
   $('result').hidden = $('welcome').hidden = true;
+  document.body.classList.add('read');
   $('progress').hidden = true;
   delete document.body.dataset.done;
   forgetPlots();
@@ -95,6 +96,8 @@ function showLog(it, rows) {
   $('survey').textContent = '';
   for (const part of ['faults-section', 'nodes-box', 'nobody', 'buses']) $(part).hidden = true;
   showParameters(rows);
+  glance = { rows, codes: null, nodes: [] };
+  drawGlance();
   worker.postMessage({ rest: true }); // behind what the first plot asks for
   sayRead();
   showFacts();
@@ -155,7 +158,7 @@ const dateOf = stamp => stamp ? clock(Number(stamp.slice(1, -1)) * 1000) : '';
 const NODE_COLUMNS = [
   ['address', node => `${parseInt(node.address, 16)} (${node.address})`], ['NAME', node => node.name || '-'.repeat(16), 'code'],
   ['last claim', node => dateOf(node.claimed)], ['last frame', node => dateOf(node.heard)],
-  ['function', ({ fields }) => fields.function, 'n'], ['manufacturer code', ({ fields }) => fields.manufacturer, 'n'],
+  ['function', ({ fields }) => [fields.function, functionNames.get(fields.function)].filter(word => word !== undefined).join(', ')], ['manufacturer code', ({ fields }) => fields.manufacturer, 'n'],
   ['industry group', ({ fields }) => [fields.industry, INDUSTRIES[fields.industry]].filter(word => word !== undefined).join(', ')],
   ['vehicle system', ({ fields }) => fields.system, 'n'], ['function instance', ({ fields }) => fields.functionInstance, 'n'],
   ['ECU instance', ({ fields }) => fields.ecuInstance, 'n'], ['system instance', ({ fields }) => fields.systemInstance, 'n'],
@@ -167,4 +170,5 @@ function showNodes(nodes) {
   $('nodes').tBodies[0].replaceChildren(...nodes.map(node => rowOf(NODE_COLUMNS.map(([, value, kind]) => [value(node) ?? '', kind]))));
   $('nodes-box').hidden = !nodes.length;
   $('nobody').hidden = nodes.some(node => node.name);
+  drawGlance({ nodes });
 }

@@ -2,7 +2,7 @@
 const MOST_PLOTS = 8;
 const PARAMETER_COLUMNS = [
   { name: 'address', value: row => row.address }, { name: 'destination', value: row => row.destination }, { name: 'name', value: row => row.title }, { name: 'unit', value: row => row.unit },
-  { name: 'values', value: row => row.count, kind: 'n' }, { name: 'absent', value: row => row.absent, kind: 'n' }, { name: 'least', value: row => row.least, kind: 'n' }, { name: 'most', value: row => row.most, kind: 'n' },
+  { name: 'values', value: row => row.count, kind: 'n' }, { name: 'errors', value: row => row.errors, kind: 'n' }, { name: 'absent', value: row => row.absent, kind: 'n' }, { name: 'least', value: row => row.least, kind: 'n' }, { name: 'most', value: row => row.most, kind: 'n' },
   { name: 'first', value: row => row.first, kind: 'n' }, { name: 'last', value: row => row.last, text: row => row.state ? `${row.last} ${row.state}` : row.last, kind: 'n' }, { name: 'SPN', value: row => row.spn, kind: 'n' },
   { name: 'group', value: row => row.group }, { name: 'PGN', value: row => row.pgn, kind: 'n' }, { name: 'NAME', value: row => row.name, kind: 'code' },
 ];
@@ -34,6 +34,7 @@ function markLine(line) {
   tick.checked = chosen.includes(line.row.i);
   tick.disabled = !line.row.isPlotted || !tick.checked && chosen.length >= MOST_PLOTS;
   line.classList.toggle('chosen', tick.checked);
+  line.classList.toggle('errs', line.row.errors > 0);
 }
 
 // Ticks a row, or unticks it.

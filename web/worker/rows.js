@@ -34,7 +34,7 @@ function rowsOf(text, names) {
     const record = Object.fromEntries(columns.map((column, k) => [column, fields[k]]));
     const { address, destination, name, pgn, spn, values, words, absent, least, most, first, last, state } = record;
     return {
-      address, destination, name: name || '-'.repeat(16), pgn, group: names.get(pgn + ' ' + spn) || '', spn, title: bare(record.parameter), unit: bare(record.unit), count: Number(values), absent: Number(absent),
+      address, destination, name: name || '-'.repeat(16), pgn, group: names.get(pgn + ' ' + spn) || '', spn, title: bare(record.parameter), unit: bare(record.unit), count: Number(values), errors: Number(words), absent: Number(absent),
       first, last, state: bare(state), least, most, isPlotted: values !== words && !isQuoted(first) && !isQuoted(last), isSwitch: least === '',
       places: least.includes('.') ? least.length - least.indexOf('.') - 1 : 0,
     };
