@@ -1,11 +1,12 @@
 -- Elements of lists.
-use Rattle.std.proofs.Common.{◌≡◌, ◌<◌, ◌≤◌, ◌+◌, ◌-◌, ℕ, zero, suc, List, [], ◌∷◌, ◌++◌, Bool, true, length, take, drop, get_or, refl, ap, ◌∙◌, sym, arith, take-append-drop, drop-cons, append-nil, append_assoc}
+use Rattle.std.proofs.Common.{◌≡◌, ◌<◌, ◌≤◌, ◌+◌, ◌-◌, ℕ, zero, suc, List, [], ◌∷◌, ◌++◌, Bool, true, length, take, drop, get_or, inl, inr, refl, ap, ◌∙◌, sym, arith, take-append-drop, drop-cons, append-nil, append_assoc}
 use Rattle.std.specs.Prelude.{Option, Some, None, slice_get, filter, map}
 use Rattle.std.specs.Option.{option_to_list}
 use Rattle.std.proofs.lemmas.List.{length-append, take_more, map-append}
 use Rattle.std.proofs.lemmas.Option.{slice_get_within}
 use Rattle.std.proofs.Math.Seq.{take-nil}
-use Rattle.std.specs.List.{filter_map, flat_map, Contains}
+use Rattle.std.proofs.lemmas.Bool.{and_parts, cases_Bool}
+use Rattle.std.specs.List.{filter_map, flat_map, list_all, Contains}
 use Rattle.std.proofs.lemmas.List.Concat.{flat_map-cons}
 use Rattle.std.proofs.lemmas.Grind.{flat_map-append}
 use Rattle.std.proofs.lemmas.List.Elements.{filter-append, filter_map-append, Contains-append_left, Contains-append_right}
@@ -127,3 +128,19 @@ made_of_each {Y = Y} f g (x ∷ xs) = one (f x) refl ∙ ap (λ zs. map g (optio
     one : (o : Option Y) → f x ≡ o → map g (filter_map f (x ∷ xs)) ≡ map g (option_to_list (f x)) ++ map g (filter_map f xs)
     one None is = rw is refl
     one (Some y) is = rw is refl
+
+-- ---- what passes a test
+
+pub filter_holds : {X : Type 0} (p : X → Bool) (xs : List X) → list_all p (filter p xs) ≡ true
+filter_holds p [] = refl
+filter_holds p (x ∷ xs) = elim (cases_Bool (p x)) [
+  | inl passes ↦ rw (passes, passes) (filter_holds p xs)
+  | inr fails ↦ rw fails (filter_holds p xs)
+]
+
+pub filter_whole : {X : Type 0} (p : X → Bool) (xs : List X) → list_all p xs ≡ true → filter p xs ≡ xs
+filter_whole p [] all = refl
+filter_whole p (x ∷ xs) all =
+    let both = and_parts (p x) (list_all p xs) all in
+    let passes : p x ≡ true = both.0 in
+    rw passes (ap (λ ys. x ∷ ys) (filter_whole p xs both.1))

@@ -1,8 +1,8 @@
 -- What is known of the rows of a table.
-use Rattle.std.proofs.Common.{◌≡◌, ◌<◌, arith, inl, inr, ℕ, List, [], ◌∷◌, Bool, true, false, length, take, drop, get_or, map, refl, sym, ap, ◌∙◌, take-append-drop}
-use Rattle.std.specs.Prelude.{◌==◌, filter}
+use Rattle.std.proofs.Common.{◌≡◌, ◌<◌, ◌≤◌, arith, inl, inr, ℕ, zero, suc, List, [], ◌∷◌, Bool, true, false, length, take, drop, get_or, map, refl, sym, ap, ◌∙◌, take-append-drop}
+use Rattle.std.specs.Prelude.{◌==◌, ◌||◌, filter}
 use Rattle.std.specs.List.{Contains, list_all, list_any}
-use Rattle.std.proofs.lemmas.Bool.{and_parts, cases_Bool, eq-eqb, not-true}
+use Rattle.std.proofs.lemmas.Bool.{and_parts, cases_Bool, eq-eqb, eqb-false, eqb-true, false≢true, not-true}
 use Rattle.std.proofs.lemmas.List.Folds.{list_all-append}
 use Rattle.std.proofs.lemmas.List.{get_or-map, length-map}
 use Rattle.std.proofs.lemmas.List.Elements.{All-contains, Contains-append_right}
@@ -14,7 +14,7 @@ use Rattle.j39_groups.specs.Fields.{is_sound}
 use Rattle.j39_groups.specs.Models.{row_record}
 use Rattle.j39_groups.specs.Readings.{is_network_group}
 use Rattle.j39_groups.specs.Ready.{is_prepared}
-use Rattle.j39_groups.specs.Rows.{is_listed_group, is_row}
+use Rattle.j39_groups.specs.Rows.{StandTogether, are_together, is_listed_group, is_not_of, is_of, is_row}
 
 pub record RowIs (row : Row) : Type 0 where
   pub sound : is_sound row.field ≡ true
@@ -51,7 +51,7 @@ rows_free (row ∷ rows) all =
     rw free (rows_free rows both.1)
 
 -- what holds of the rows of each group holds of all
-all_chosen : {X : Type 0} (p q : X → Bool) (xs : List X) → list_all p xs ≡ true → list_all p (filter q xs) ≡ true
+pub all_chosen : {X : Type 0} (p q : X → Bool) (xs : List X) → list_all p xs ≡ true → list_all p (filter q xs) ≡ true
 all_chosen p q [] all = refl
 all_chosen p q (x ∷ xs) all =
     let both = and_parts (p x) (list_all p xs) all in
@@ -83,3 +83,46 @@ sorted_seen view n (x ∷ xs) rising = λ i j d up below.
     let first = get_or-map view (x ∷ xs) i x d (omega (arith, up, inside)) in
     let second = get_or-map view (x ∷ xs) j x d inside in
     rw (first, second) (rising i j x up inside)
+
+-- ---- the rows of a group stand together
+
+the_other : (a b : Bool) → (a || b) ≡ true → a ≡ false → b ≡ true
+the_other true b either fails = absurd (false≢true (sym fails))
+the_other false b either fails = either
+
+first_of : (rows : List Row) (pgn : ℕ) (d : Row) → list_any (is_of pgn) (take 1 rows) ≡ true → (get_or rows 0 d).pgn ≡ pgn
+first_of [] pgn d h = absurd (false≢true h)
+first_of (row ∷ rows) pgn d h = elim (cases_Bool (is_of pgn row)) [
+  | inl same ↦ eqb-true _ _ same
+  | inr other ↦ absurd (false≢true (sym (rw other refl) ∙ h))
+]
+
+together_at : (rows : List Row) (i j k : ℕ) (d : Row) → are_together rows ≡ true → i ≤ j → j ≤ k → k < length rows
+    → (get_or rows i d).pgn ≡ (get_or rows k d).pgn → (get_or rows j d).pgn ≡ (get_or rows i d).pgn
+together_at [] i j k d h up down below same = absurd (omega (arith, below))
+together_at (row ∷ rows) zero zero k d h up down below same = refl
+together_at (row ∷ rows) zero (suc j) zero d h up down below same = absurd (omega (arith, down))
+together_at (row ∷ rows) zero (suc j) (suc k) d h up down below same =
+    let both = and_parts _ _ h in
+    let inside : k < length rows = omega (arith, below) in
+    elim (cases_Bool (list_any (is_of row.pgn) (take 1 rows))) [
+      | inl next ↦
+          let first = first_of rows row.pgn d next in
+          together_at rows 0 j k d both.1 (omega arith) (omega (arith, down)) inside (first ∙ same) ∙ first
+      | inr last ↦
+          let other = AllPass-from_list_all (is_not_of row.pgn) rows (the_other _ _ both.0 last) k d inside in
+          absurd (eqb-false _ _ (not-true _ other) (sym same))
+    ]
+together_at (row ∷ rows) (suc i) zero k d h up down below same = absurd (omega (arith, up))
+together_at (row ∷ rows) (suc i) (suc j) zero d h up down below same = absurd (omega (arith, down))
+together_at (row ∷ rows) (suc i) (suc j) (suc k) d h up down below same =
+    together_at rows i j k d (and_parts _ _ h).1 (omega (arith, up)) (omega (arith, down)) (omega (arith, below)) same
+
+pub all_together : (rows : List Row) → are_together rows ≡ true → StandTogether rows
+all_together rows h = λ i j k d up down below same. together_at rows i j k d h up down below same
+
+pub rising_together : (rows : List Row) → IsNonDecreasingBy (λ row. row.pgn) rows → StandTogether rows
+rising_together rows rising = λ i j k d up down below same.
+    let first = rising i j d up (omega (arith, down, below)) in
+    let last = rising j k d down below in
+    omega (arith, first, last, same)

@@ -1,15 +1,18 @@
 -- The runs of the places.
-use Rattle.std.proofs.Common.{◌≡◌, ◌<◌, ◌+◌, ◌-◌, ◌∙◌, ◌++◌, ℕ, zero, suc, ◌⊎◌, List, [], ◌∷◌, Bool, true, false, length, take, drop, get_or, refl, sym, ap, subst, arith, inl, inr, append-nil, drop-drop, length-append, take-append-drop}
-use Rattle.std.specs.Prelude.{◌==◌, filter, not, replicate, slice_set}
-use Rattle.std.specs.List.{list_all}
-use Rattle.std.proofs.lemmas.Bool.{and_parts, cases_Bool, eq-eqb, eqb-true, eqb-false, false≢true, ne_eqb}
+use Rattle.std.proofs.Common.{◌≡◌, ◌<◌, ◌≤◌, ◌+◌, ◌-◌, ◌∙◌, ◌++◌, ℕ, zero, suc, ◌⊎◌, List, [], ◌∷◌, Bool, true, false, length, take, drop, get_or, refl, sym, ap, subst, arith, inl, inr, append-nil, drop-drop, length-append, take-append-drop}
+use Rattle.std.specs.Prelude.{◌==◌, filter, nat_lt, not, replicate, slice_set}
+use Rattle.std.specs.List.{list_all, list_any}
+use Rattle.std.proofs.lemmas.Bool.{and_parts, cases_Bool, eq-eqb, eqb-true, eqb-false, false≢true, ltb-false, ltb-true, ne_eqb, not-true}
 use Rattle.std.proofs.lemmas.Grind.{get_or-set_at}
-use Rattle.std.proofs.lemmas.List.{drop-append-le, drop_all, get_or-replicate, get_or-set_other, length-take, take-append-le, take_all, take_more}
+use Rattle.std.proofs.lemmas.List.{drop-append-le, drop_all, get_or-drop, get_or-replicate, get_or-set_other, get_or-take, length-drop, length-take, take-append-le, take_all, take_more}
+use Rattle.std.proofs.lemmas.List.Sums.{AllPass-from_list_all}
+use Rattle.j39_groups.specs.Rows.{StandTogether, is_listed_group, is_row}
+use Rattle.j39_groups.proofs.RowLemmas.{all_part, row_at, row_is}
 use Rattle.std.proofs.lemmas.List.Elements.{filter-append}
 use Rattle.std.proofs.lemmas.List.Folds.{list_all-append}
 use Rattle.j39_groups.specs.declared.row.Row.{Row}
 use Rattle.j39_groups.specs.declared.runs.Run.{Run}
-use Rattle.j39_groups.specs.Runs.{AreRuns, IsRun, is_elsewhere, place_of}
+use Rattle.j39_groups.specs.Runs.{AreRuns, IsRun, is_elsewhere, is_here, place_of}
 
 cases_zero : (n : ℕ) → (n ≡ 0) ⊎ (0 < n)
 cases_zero zero = inl refl
@@ -26,7 +29,7 @@ none_elsewhere pgn (row ∷ rows) all =
     rw other (none_elsewhere pgn rows both.1)
 
 -- so all of them lie in the run of its place
-pub all_sought : (rows : List Row) (pgn : ℕ) (run : Run) → IsRun rows (place_of pgn) run
+all_sought : (rows : List Row) (pgn : ℕ) (run : Run) → IsRun rows (place_of pgn) run
     → filter (λ row. row.pgn == pgn) (take (run.end - run.first) (drop run.first rows)) ≡ filter (λ row. row.pgn == pgn) rows
 all_sought rows pgn run is =
     let p : Row → Bool = λ row. row.pgn == pgn in
@@ -42,11 +45,71 @@ all_sought rows pgn run is =
     ∙ ap (λ found. filter p (take n (drop run.first rows)) ++ found) back ∙ append-nil (filter p (take n (drop run.first rows)))
     )
 
+-- what no group of a place but this one has
+abbrev Alone : ℕ → ℕ → Type 0
+Alone pgn place = (other : ℕ) → is_listed_group pgn ≡ true → is_listed_group other ≡ true → place_of other ≡ place → other ≡ pgn
+
+all_pass : (xs : List Row) (pgn place : ℕ) → is_listed_group pgn ≡ true → Alone pgn place → list_all is_row xs ≡ true → list_all (is_here place) xs ≡ true
+    → filter (λ row. row.pgn == pgn) xs ≡ xs
+all_pass [] pgn place listed alone sound here = refl
+all_pass (x ∷ xs) pgn place listed alone sound here =
+    let rows = and_parts _ _ sound in
+    let places = and_parts _ _ here in
+    let same : x.pgn ≡ pgn = alone x.pgn listed (row_is x rows.0).listed (eqb-true _ _ places.0) in
+    let passes : (x.pgn == pgn) ≡ true = eq-eqb _ _ same in
+    rw passes (ap (λ ys. x ∷ ys) (all_pass xs pgn place listed alone rows.1 places.1))
+
+none_passes : (xs : List Row) (pgn : ℕ) → is_listed_group pgn ≡ false → list_all is_row xs ≡ true → filter (λ row. row.pgn == pgn) xs ≡ []
+none_passes [] pgn free sound = refl
+none_passes (x ∷ xs) pgn free sound =
+    let rows = and_parts _ _ sound in
+    let other : (x.pgn == pgn) ≡ false = ne_eqb _ _ (λ same. false≢true (sym free ∙ ap is_listed_group (sym same) ∙ (row_is x rows.0).listed)) in
+    rw other (none_passes xs pgn free rows.1)
+
+of_first : (xs : List Row) (pgn place : ℕ) → Alone pgn place → list_all is_row xs ≡ true → list_all (is_here place) xs ≡ true
+    → list_any (λ row. row.pgn == pgn) (take 1 xs) ≡ true → xs ≡ filter (λ row. row.pgn == pgn) xs
+of_first [] pgn place alone sound here first = refl
+of_first (x ∷ xs) pgn place alone sound here first = elim (cases_Bool (x.pgn == pgn)) [
+  | inl same ↦
+      let listed = ap is_listed_group (sym (eqb-true _ _ same)) ∙ (row_is x (and_parts _ _ sound).0).listed in
+      sym (all_pass (x ∷ xs) pgn place listed alone sound here)
+  | inr other ↦ absurd (false≢true (sym (rw other refl) ∙ first))
+]
+
+not_first : (xs : List Row) (pgn place : ℕ) → Alone pgn place → list_all is_row xs ≡ true → list_all (is_here place) xs ≡ true
+    → list_any (λ row. row.pgn == pgn) (take 1 xs) ≡ false → [] ≡ filter (λ row. row.pgn == pgn) xs
+not_first [] pgn place alone sound here first = refl
+not_first (x ∷ xs) pgn place alone sound here first = elim (cases_Bool (is_listed_group pgn)) [
+  | inl listed ↦
+      let same : x.pgn ≡ pgn = alone x.pgn listed (row_is x (and_parts _ _ sound).0).listed (eqb-true _ _ (and_parts _ _ here).0) in
+      let passes : (x.pgn == pgn) ≡ true = eq-eqb _ _ same in
+      absurd (false≢true (sym first ∙ (rw passes refl)))
+  | inr free ↦ sym (none_passes (x ∷ xs) pgn free sound)
+]
+
+-- a run is the rows of the group of its first row
+pub run_is : (rows : List Row) (pgn place : ℕ) (run : Run) → place ≡ place_of pgn → IsRun rows place run → list_all is_row rows ≡ true → Alone pgn place
+    → list_any (λ row. row.pgn == pgn) (take 1 (take (run.end - run.first) (drop run.first rows))) ≡ true
+    → take (run.end - run.first) (drop run.first rows) ≡ filter (λ row. row.pgn == pgn) rows
+run_is rows pgn place run at is sound alone first =
+    of_first _ pgn place alone (all_part is_row rows run.first (run.end - run.first) sound) is.own first
+    ∙ all_sought rows pgn run (subst (λ p. IsRun rows p run) at is)
+
+-- and has none of another
+pub run_is_not : (rows : List Row) (pgn place : ℕ) (run : Run) → place ≡ place_of pgn → IsRun rows place run → list_all is_row rows ≡ true → Alone pgn place
+    → list_any (λ row. row.pgn == pgn) (take 1 (take (run.end - run.first) (drop run.first rows))) ≡ false
+    → [] ≡ filter (λ row. row.pgn == pgn) rows
+run_is_not rows pgn place run at is sound alone first =
+    not_first _ pgn place alone (all_part is_row rows run.first (run.end - run.first) sound) is.own first
+    ∙ all_sought rows pgn run (subst (λ p. IsRun rows p run) at is)
+
 -- the run of a place that stands for no row yet
 no_run : (place : ℕ) (run : Run) → run.first ≡ 0 → run.end ≡ 0 → IsRun [] place run
 no_run place run first end = record {
   ordered = omega (arith, first, end);
   inside = omega (arith, end);
+  filled = λ some. absurd (omega (arith, end, some));
+  own = rw (first, end) refl;
   none_before = rw first refl;
   none_behind = rw end refl;
 }
@@ -62,21 +125,68 @@ run_kept : (rows : List Row) (row : Row) (place : ℕ) (run : Run) → is_elsewh
 run_kept rows row place run other is =
     let len = length-append rows (row ∷ []) in
     let inside = is.inside in
+    let ordered = is.ordered in
+    let behind = drop-append-le run.first rows (row ∷ []) (omega (arith, ordered, inside)) in
     record {
       ordered = is.ordered;
       inside = omega (arith, len, inside);
+      filled = is.filled;
+      own = ap (λ rs. list_all (is_here place) (take (run.end - run.first) rs)) behind
+          ∙ ap (list_all (is_here place)) (take-append-le (run.end - run.first) (drop run.first rows) (row ∷ []) (simp length-drop (omega (arith, ordered, inside)))) ∙ is.own;
       none_before = ap (list_all (is_elsewhere place)) (take-append-le run.first rows (row ∷ []) (let ordered = is.ordered in omega (arith, ordered, inside))) ∙ is.none_before;
       none_behind = ap (list_all (is_elsewhere place)) (drop-append-le run.end rows (row ∷ []) inside) ∙ all_of_one (is_elsewhere place) row (drop run.end rows) other is.none_behind;
     }
 
+-- the last row of a run
+last_here : (rows : List Row) (place : ℕ) (run : Run) (d : Row) → IsRun rows place run → 0 < run.end → place_of (get_or rows (run.end - 1) d).pgn ≡ place
+last_here rows place run d is some =
+    let filled = is.filled some in
+    let inside = is.inside in
+    let n = run.end - run.first in
+    let part = take n (drop run.first rows) in
+    let below : n - 1 < length part = simp (length-take, length-drop) (omega (arith, filled, inside)) in
+    let at : get_or part (n - 1) d ≡ get_or rows (run.end - 1) d =
+    get_or-take n (drop run.first rows) (n - 1) d (omega (arith, filled)) ∙ get_or-drop run.first rows (n - 1) d ∙ ap (λ k. get_or rows k d) (omega (arith, filled)) in
+    eqb-true _ _ (subst (λ row. is_here place row ≡ true) at (AllPass-from_list_all (is_here place) part is.own (n - 1) d below))
+
+-- a row behind those of its place stands behind all rows so far: between two of a group stand rows of this group alone
+run_ends : (rows : List Row) (i place : ℕ) (run : Run) (d : Row) → i < length rows → IsRun (take i rows) place run → 0 < run.end
+    → StandTogether rows → list_all is_row rows ≡ true → place ≡ place_of (get_or rows i d).pgn
+    → Alone (get_or rows i d).pgn place
+    → run.end ≡ i
+run_ends rows i place run d below is some together sound here alone =
+    let len = length-take i rows in
+    let inside = is.inside in
+    let row = get_or rows i d in
+    elim (cases_Bool (nat_lt run.end i)) [
+      | inl less ↦
+          let l : run.end < i = ltb-true _ _ less in
+          let first : get_or (take i rows) (run.end - 1) d ≡ get_or rows (run.end - 1) d = get_or-take i rows (run.end - 1) d (omega (arith, l)) in
+          let next : get_or (drop run.end (take i rows)) 0 d ≡ get_or rows run.end d =
+          get_or-drop run.end (take i rows) 0 d ∙ ap (λ k. get_or (take i rows) k d) (omega arith) ∙ get_or-take i rows run.end d l in
+          let listed = λ (k : ℕ) (h : k < length rows). (row_is (get_or rows k d) (row_at rows k d sound h)).listed in
+          let same : (get_or rows (run.end - 1) d).pgn ≡ row.pgn =
+          alone _ (listed i below) (listed (run.end - 1) (omega (arith, l, below))) (ap (λ (r : Row). place_of r.pgn) (sym first) ∙ last_here (take i rows) place run d is some) in
+          let between : (get_or rows run.end d).pgn ≡ row.pgn = together (run.end - 1) run.end i d (omega arith) (omega (arith, l)) below same ∙ same in
+          let elsewhere = AllPass-from_list_all (is_elsewhere place) (drop run.end (take i rows)) is.none_behind 0 d (simp length-drop (omega (arith, l, len, below))) in
+          let other = subst (λ r. is_elsewhere place r ≡ true) next elsewhere in
+          absurd (eqb-false _ _ (not-true _ other) (ap place_of between ∙ sym here))
+      | inr more ↦ let m = ltb-false _ _ more in omega (arith, m, inside, len, below)
+    ]
+
 -- and of this one
 run_grown : (rows : List Row) (row : Row) (place : ℕ) (run next : Run) → (run.end ≡ 0 → next.first ≡ length rows) → (0 < run.end → next.first ≡ run.first)
-    → next.end ≡ length rows + 1 → IsRun rows place run → IsRun (rows ++ (row ∷ [])) place next
-run_grown rows row place run next begun grown end is =
+    → next.end ≡ length rows + 1 → (0 < run.end → run.end ≡ length rows) → is_here place row ≡ true → IsRun rows place run → IsRun (rows ++ (row ∷ [])) place next
+run_grown rows row place run next begun grown end last here is =
     let all = rows ++ (row ∷ []) in
     let len = length-append rows (row ∷ []) in
     let behind : drop next.end all ≡ [] = drop_all next.end all (omega (arith, len, end)) in
     let none_behind : list_all (is_elsewhere place) (drop next.end all) ≡ true = ap (list_all (is_elsewhere place)) behind in
+    let own : (first : ℕ) → next.first ≡ first → first ≤ length rows → list_all (is_here place) (drop first rows) ≡ true
+    → list_all (is_here place) (take (next.end - next.first) (drop next.first all)) ≡ true = λ first same fits holds.
+    ap (λ k. list_all (is_here place) (take (next.end - k) (drop k all))) same
+    ∙ ap (list_all (is_here place)) (take_all (next.end - first) (drop first all) (simp length-drop (omega (arith, len, end))) ∙ drop-append-le first rows (row ∷ []) fits)
+    ∙ all_of_one (is_here place) row (drop first rows) here holds in
     elim (cases_zero run.end) [
       | inl empty ↦
           let first = begun empty in
@@ -84,6 +194,8 @@ run_grown rows row place run next begun grown end is =
           record {
             ordered = omega (arith, first, end);
             inside = omega (arith, len, end);
+            filled = λ some. omega (arith, first, end);
+            own = own (length rows) first (omega arith) (ap (list_all (is_here place)) (drop_all (length rows) rows (omega arith)));
             none_before = ap (list_all (is_elsewhere place)) whole ∙ is.none_behind;
             none_behind = none_behind;
           }
@@ -91,9 +203,13 @@ run_grown rows row place run next begun grown end is =
           let first = grown some in
           let inside = is.inside in
           let ordered = is.ordered in
+          let whole = last some in
+          let part : take (run.end - run.first) (drop run.first rows) ≡ drop run.first rows = take_all (run.end - run.first) (drop run.first rows) (simp length-drop (omega (arith, whole, ordered))) in
           record {
             ordered = omega (arith, first, end, inside, ordered);
             inside = omega (arith, len, end);
+            filled = λ more. omega (arith, first, end, inside, ordered);
+            own = own run.first first (omega (arith, inside, ordered)) (ap (list_all (is_here place)) (sym part) ∙ is.own);
             none_before = ap (λ k. list_all (is_elsewhere place) (take k all)) first
                 ∙ ap (list_all (is_elsewhere place)) (take-append-le run.first rows (row ∷ []) (omega (arith, ordered, inside))) ∙ is.none_before;
             none_behind = none_behind;
@@ -103,8 +219,10 @@ run_grown rows row place run next begun grown end is =
 -- the runs of one row more
 pub runs_more : (runs : List Run) (rows : List Row) (i k : ℕ) (d : Row) (o next : Run) → i < length rows → k ≡ place_of (get_or rows i d).pgn → k < length runs
     → ((get_or runs k o).end ≡ 0 → next.first ≡ i) → (0 < (get_or runs k o).end → next.first ≡ (get_or runs k o).first) → next.end ≡ i + 1
+    → StandTogether rows → list_all is_row rows ≡ true
+    → Alone (get_or rows i d).pgn k
     → AreRuns runs (take i rows) → AreRuns (slice_set runs k next) (take (i + 1) rows)
-runs_more runs rows i k d o next below is inside begun grown end are place e few =
+runs_more runs rows i k d o next below is inside begun grown end together sound alone are place e few =
     let row = get_or rows i d in
     let len = length-take i rows in
     let here : length (take i rows) ≡ i = omega (arith, len, below) in
@@ -114,7 +232,8 @@ runs_more runs rows i k d o next below is inside begun grown end are place e few
           let at = get_or-set_at runs k place next e (eqb-true _ _ same) inside in
           let this = subst (λ m. IsRun (take i rows) m (get_or runs m o)) (eqb-true _ _ same) (are place o few) in
           let that : IsRun (take i rows ++ (row ∷ [])) k next =
-          run_grown (take i rows) row k (get_or runs k o) next (λ z. begun z ∙ sym here) grown (end ∙ ap (λ n. n + 1) (sym here)) this in
+          run_grown (take i rows) row k (get_or runs k o) next (λ z. begun z ∙ sym here) grown (end ∙ ap (λ n. n + 1) (sym here))
+          (λ some. run_ends rows i k (get_or runs k o) d below this some together sound is alone ∙ sym here) (eq-eqb _ _ (sym is)) this in
           rw at (subst (λ m. IsRun (take i rows ++ (row ∷ [])) m next) (sym (eqb-true _ _ same)) that)
       | inr other ↦
           let at = get_or-set_other runs k place next e (eqb-false _ _ other) in

@@ -21,8 +21,12 @@ in_group head pgn = head ++ decimal pgn ++ codes " "
 abbrev pub row_readings : ℕ → List ℕ → Row → List ReadingRecord
 row_readings pgn bytes row = if row.pgn == pgn then readings_at bytes (row_record row) else []
 
-abbrev pub row_lines : ℕ → List ℕ → List ℕ → Row → List ℕ
-row_lines pgn head bytes row = flat_map (reading_line (in_group head pgn)) (row_readings pgn bytes row)
+-- what it gives in one of its own group
+abbrev pub readings_by : List ℕ → Row → List ReadingRecord
+readings_by bytes row = readings_at bytes (row_record row)
+
+abbrev pub row_lines : List ℕ → List ℕ → Row → List ℕ
+row_lines head bytes row = flat_map (reading_line (in_group head row.pgn)) (readings_by bytes row)
 
 -- the readings of the first parts of a payload
 abbrev pub text_readings : ℕ → List ℕ → ℕ → List ReadingRecord

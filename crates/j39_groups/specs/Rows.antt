@@ -1,6 +1,6 @@
 -- What private contracts know of a table's rows.
-use Rattle.std.specs.Prelude.{◌<◌, ◌≤◌, ◌==◌, ◌&&◌, ◌^◌, not, ℕ, List, Bool, true, nat_lt, nat_le, if◌then◌else◌}
-use Rattle.std.specs.List.{list_all, sum_by}
+use Rattle.std.specs.Prelude.{◌≡◌, ◌<◌, ◌≤◌, ◌==◌, ◌&&◌, ◌||◌, ◌^◌, not, ℕ, List, [], ◌∷◌, Bool, true, length, nat_lt, nat_le, if◌then◌else◌, slice_index_or, take}
+use Rattle.std.specs.List.{list_all, list_any, sum_by}
 use Rattle.j39_groups.specs.declared.by_number.SizedScale.{SizedScale}
 use Rattle.j39_groups.specs.declared.field.Field.{Field}
 use Rattle.j39_groups.specs.declared.field.Field.TheVariants.{Number, Bits, Signed, Switch, Text, Texts}
@@ -19,6 +19,11 @@ is_listed_group pgn = nat_lt pgn (2 ^ 18) && (not (is_network_group pgn) && is_h
 -- a row may stand in a table, and what its line takes is prepared
 unfoldable pub is_row : Row → Bool
 is_row row = is_sound row.field && (is_listed_group row.pgn && is_prepared row.prepared row.pgn row.spn row.field)
+
+-- between two rows of a group stand rows of this group alone
+abbrev pub StandTogether : List Row → Type 0
+StandTogether rows = (i j k : ℕ) (d : Row) → i ≤ j → j ≤ k → k < length rows
+    → (slice_index_or rows i d).pgn ≡ (slice_index_or rows k d).pgn → (slice_index_or rows j d).pgn ≡ (slice_index_or rows i d).pgn
 
 -- ---- the built-in table alone
 
@@ -57,3 +62,14 @@ is_built_in_row rows row = is_rising row.field && nat_le (most_values_of row.pgn
 
 abbrev pub is_built_in : List Row → Bool
 is_built_in rows = list_all (is_built_in_row rows) rows
+
+abbrev pub is_of : ℕ → Row → Bool
+is_of pgn row = row.pgn == pgn
+
+abbrev pub is_not_of : ℕ → Row → Bool
+is_not_of pgn row = not (is_of pgn row)
+
+-- behind each row stands one of its group, or none does
+abbrev pub are_together : List Row → Bool
+are_together [] = true
+are_together (row ∷ rows) = (list_any (is_of row.pgn) (take 1 rows) || list_all (is_not_of row.pgn) rows) && are_together rows

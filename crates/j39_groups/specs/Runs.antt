@@ -1,5 +1,5 @@
--- Where the rows of a group are: all rows of a place lie in its run.
-use Rattle.std.specs.Prelude.{◌≡◌, ◌+◌, ◌*◌, ◌/◌, ◌%◌, ◌<◌, ◌≤◌, ◌==◌, ℕ, List, Bool, not, true, nat_lt, if◌then◌else◌, take, drop, length, slice_index_or}
+-- Where the rows of a group are: the run of a place has all its rows, and no others.
+use Rattle.std.specs.Prelude.{◌≡◌, ◌+◌, ◌-◌, ◌*◌, ◌/◌, ◌%◌, ◌<◌, ◌≤◌, ◌==◌, ℕ, List, Bool, not, true, nat_lt, if◌then◌else◌, take, drop, length, slice_index_or}
 use Rattle.std.specs.List.{list_all}
 use Rattle.j39_groups.specs.declared.row.Row.{Row}
 use Rattle.j39_groups.specs.declared.runs.Run.{Run}
@@ -7,15 +7,20 @@ use Rattle.j39_groups.specs.declared.runs.Run.{Run}
 -- in each of four pages one for each PF, and behind all these one for each group of PF 240 and more: the low byte of the others is 0
 abbrev pub place_of : ℕ → ℕ
 place_of pgn =
-    if nat_lt (pgn / 256 % 256) 240 then pgn / 65536 % 4 * 256 + pgn / 256 % 256 else
+    if nat_lt (pgn / 256 % 256) 240 then pgn / 256 % 1024 else
     1024 + pgn / 65536 % 4 * 4096 + pgn % 4096
 
+abbrev pub is_here : ℕ → Row → Bool
+is_here place row = place_of row.pgn == place
+
 abbrev pub is_elsewhere : ℕ → Row → Bool
-is_elsewhere place row = not (place_of row.pgn == place)
+is_elsewhere place row = not (is_here place row)
 
 pub record IsRun (rows : List Row) (place : ℕ) (run : Run) : Type 0 where
   pub ordered : run.first ≤ run.end
   pub inside : run.end ≤ length rows
+  pub filled : 0 < run.end → run.first < run.end
+  pub own : list_all (is_here place) (take (run.end - run.first) (drop run.first rows)) ≡ true
   pub none_before : list_all (is_elsewhere place) (take run.first rows) ≡ true
   pub none_behind : list_all (is_elsewhere place) (drop run.end rows) ≡ true
 

@@ -1,13 +1,13 @@
 -- What a visitor makes of sightings: those that it has taken, and where it stops.
-use Rattle.std.specs.Prelude.{◌≡◌, ◌==◌, ◌∷◌, ◌++◌, [], ℕ, List, if◌then◌else◌}
+use Rattle.std.specs.Prelude.{◌≡◌, ◌∷◌, ◌++◌, ℕ, List}
 use Rattle.j39_groups.specs.declared.row.Row.{Row}
 use Rattle.j39_groups.specs.declared.value.Value.{Value}
 use Rattle.j39_groups.specs.Models.{row_record, value_of}
 use Rattle.j39_groups.specs.Sightings.{SightingRecord, sightings_at, told}
 
--- what a row says of a payload of a group: nothing where it is of another
-abbrev pub row_sightings : ℕ → List ℕ → Row → List SightingRecord
-row_sightings pgn bytes row = if row.pgn == pgn then sightings_at bytes (row_record row) else []
+-- what a row says of a payload of its group
+abbrev pub row_sightings : List ℕ → Row → List SightingRecord
+row_sightings bytes row = sightings_at bytes (row_record row)
 
 -- the number of a parameter with a value that a table gives
 abbrev pub visited : ℕ → Value → SightingRecord

@@ -3,7 +3,7 @@ ghost use Rattle.std.specs.Prelude.{◌≡◌, ◌≤◌, ◌*◌, IfOk, drop, l
 ghost use Rattle.std.specs.List.{flat_map, list_all};
 ghost use Rattle.j39_io.specs.Puts.{Puts};
 ghost use Rattle.j39_io.specs.Turn.{turn};
-ghost use Rattle.j39_groups.specs.Lines.{in_group, reading_line, row_lines, row_readings};
+ghost use Rattle.j39_groups.specs.Lines.{in_group, reading_line, readings_by, row_lines};
 ghost use Rattle.j39_groups.specs.Models.{row_record};
 ghost use Rattle.j39_groups.specs.Readings.{readings_at};
 ghost use Rattle.j39_groups.specs.Rows.{is_row};
@@ -19,29 +19,28 @@ use j39_io::{DeviceFault, Sink, put_all};
 /// The most rows that are written in one block.
 const PART: usize = 8;
 
-/// Writes a line for each reading of a payload of a group by those of these rows that are the group's, and answers how
-/// many. What stands in `block` afterwards is not known.
+/// Writes a line for each reading of a payload by these rows, and answers how many. What stands in `block` afterwards is
+/// not known.
 #[inline(always)]
 pub(crate) fn put_rows<W: Sink>(
     block: &mut [u8; LINES],
     rows: &[Row<'_>],
     head: &[u8; HEAD],
     from: usize,
-    pgn: u32,
     bytes: &[u8],
     sink: &mut W,
 ) -> Result<u64, DeviceFault>
     requires from { from ≤ 48 }
     requires few { length rows.now ≤ 65536 }
     requires sound { list_all is_row rows.now ≡ true }
-    ensures lines { IfOk result (λ n. n ≡ length (flat_map (row_readings pgn bytes.now) rows.now)) }
-    ensures puts { Puts (flat_map (row_lines pgn (drop from head.now) bytes.now) rows.now)
+    ensures lines { IfOk result (λ n. n ≡ length (flat_map (readings_by bytes.now) rows.now)) }
+    ensures puts { Puts (flat_map (row_lines (drop from head.now) bytes.now) rows.now)
         result (turn W.written W.has_failed sink.old sink.new) }
 {
     if rows.len() <= PART {
-        put_part(block, rows, head, from, pgn, bytes, sink)
+        put_part(block, rows, head, from, bytes, sink)
     } else {
-        put_parts_of(block, rows, head, from, pgn, bytes, sink)
+        put_parts_of(block, rows, head, from, bytes, sink)
     }
 }
 
@@ -52,53 +51,51 @@ fn put_parts_of<W: Sink>(
     rows: &[Row<'_>],
     head: &[u8; HEAD],
     from: usize,
-    pgn: u32,
     bytes: &[u8],
     sink: &mut W,
 ) -> Result<u64, DeviceFault>
     requires from { from ≤ 48 }
     requires few { length rows.now ≤ 65536 }
     requires sound { list_all is_row rows.now ≡ true }
-    ensures lines { IfOk result (λ n. n ≡ length (flat_map (row_readings pgn bytes.now) rows.now)) }
-    ensures puts { Puts (flat_map (row_lines pgn (drop from head.now) bytes.now) rows.now)
+    ensures lines { IfOk result (λ n. n ≡ length (flat_map (readings_by bytes.now) rows.now)) }
+    ensures puts { Puts (flat_map (row_lines (drop from head.now) bytes.now) rows.now)
         result (turn W.written W.has_failed sink.old sink.new) }
 {
     let mut lines = 0u64;
     let mut at = 0;
     'parts: while at < rows.len() {
         let end = rows.len().min(at + PART);
-        let more = put_part(block, &rows[at..end], head, from, pgn, bytes, sink)?;
+        let more = put_part(block, &rows[at..end], head, from, bytes, sink)?;
         lines += more;
         at = end;
     }
     Ok(lines)
 }
 
-/// The same, of as many rows as one block has room for: in one piece where each of the group's has its end.
+/// The same, of as many rows as one block has room for: in one piece where each has its end.
 #[inline(always)]
 fn put_part<W: Sink>(
     block: &mut [u8; LINES],
     rows: &[Row<'_>],
     head: &[u8; HEAD],
     from: usize,
-    pgn: u32,
     bytes: &[u8],
     sink: &mut W,
 ) -> Result<u64, DeviceFault>
     requires from { from ≤ 48 }
     requires few { length rows.now ≤ 8 }
     requires sound { list_all is_row rows.now ≡ true }
-    ensures lines { IfOk result (λ n. n ≡ length (flat_map (row_readings pgn bytes.now) rows.now)) }
+    ensures lines { IfOk result (λ n. n ≡ length (flat_map (readings_by bytes.now) rows.now)) }
     ensures few { IfOk result (λ n. n ≤ 32 * length rows.now) }
-    ensures puts { Puts (flat_map (row_lines pgn (drop from head.now) bytes.now) rows.now)
+    ensures puts { Puts (flat_map (row_lines (drop from head.now) bytes.now) rows.now)
         result (turn W.written W.has_failed sink.old sink.new) }
 {
-    match rows_before(block, head, from, rows, pgn, bytes) {
+    match rows_before(block, head, from, rows, bytes) {
         Some((start, lines)) => {
             put_all(sink, &block[start..])?;
             Ok(lines)
         }
-        None => put_each_row(rows, head, from, pgn, bytes, sink),
+        None => put_each_row(rows, head, from, bytes, sink),
     }
 }
 
@@ -108,21 +105,20 @@ fn put_each_row<W: Sink>(
     rows: &[Row<'_>],
     head: &[u8; HEAD],
     from: usize,
-    pgn: u32,
     bytes: &[u8],
     sink: &mut W,
 ) -> Result<u64, DeviceFault>
     requires from { from ≤ 48 }
     requires few { length rows.now ≤ 8 }
     requires sound { list_all is_row rows.now ≡ true }
-    ensures lines { IfOk result (λ n. n ≡ length (flat_map (row_readings pgn bytes.now) rows.now)) }
+    ensures lines { IfOk result (λ n. n ≡ length (flat_map (readings_by bytes.now) rows.now)) }
     ensures few { IfOk result (λ n. n ≤ 32 * length rows.now) }
-    ensures puts { Puts (flat_map (row_lines pgn (drop from head.now) bytes.now) rows.now)
+    ensures puts { Puts (flat_map (row_lines (drop from head.now) bytes.now) rows.now)
         result (turn W.written W.has_failed sink.old sink.new) }
 {
     let mut lines = 0u64;
     for row in rows {
-        let more = put_row(row, &head[from..], pgn, bytes, sink)?;
+        let more = put_row(row, &head[from..], bytes, sink)?;
         lines += more;
     }
     Ok(lines)
@@ -130,28 +126,6 @@ fn put_each_row<W: Sink>(
 
 /// The same, of one row.
 fn put_row<W: Sink>(
-    row: &Row<'_>,
-    head: &[u8],
-    pgn: u32,
-    bytes: &[u8],
-    sink: &mut W,
-) -> Result<u64, DeviceFault>
-    requires short { length head.now ≤ 48 }
-    requires sound { is_row row.now ≡ true }
-    ensures lines { IfOk result (λ n. n ≡ length (row_readings pgn bytes.now row.now)) }
-    ensures few { IfOk result (λ n. n ≤ 32) }
-    ensures puts { Puts (row_lines pgn head.now bytes.now row.now)
-        result (turn W.written W.has_failed sink.old sink.new) }
-{
-    if row.pgn == pgn {
-        put_in_group(row, head, bytes, sink)
-    } else {
-        Ok(0)
-    }
-}
-
-/// The same, of a row of the group.
-fn put_in_group<W: Sink>(
     row: &Row<'_>,
     head: &[u8],
     bytes: &[u8],

@@ -1,5 +1,5 @@
 //! A table of parameters, as its callers see it.
-ghost use Rattle.std.specs.Prelude.{◌≡◌, ◌<◌, ◌≤◌, IfOk, IsOk, OnErr, OnOk, drop, length, map, true};
+ghost use Rattle.std.specs.Prelude.{◌≡◌, ◌==◌, ◌<◌, ◌≤◌, IfOk, IsOk, OnErr, OnOk, drop, length, map, true};
 ghost use Rattle.std.specs.List.{flat_map, list_all};
 ghost use Rattle.std.specs.List.Sorted.{IsNonDecreasingBy};
 ghost use Rattle.std.specs.Option.{option_copied, option_map};
@@ -13,7 +13,7 @@ ghost use Rattle.j39_groups.specs.Models.{listed_rows, row_record, value_of};
 ghost use Rattle.j39_groups.specs.Names.{group_name_in, name_in, parameter_name, state_in};
 ghost use Rattle.j39_groups.specs.Printed.{rows_text};
 ghost use Rattle.j39_groups.specs.Readings.{HaveSameGroups, group_rows, is_reported_in, readings_in, rows_of_spns};
-ghost use Rattle.j39_groups.specs.Rows.{is_row};
+ghost use Rattle.j39_groups.specs.Rows.{StandTogether, is_row};
 ghost use Rattle.j39_groups.specs.Runs.{AreRuns};
 ghost use Rattle.j39_groups.specs.Sightings.{sightings_in};
 ghost use Rattle.j39_groups.specs.Table.{the_table};
@@ -84,16 +84,18 @@ impl<'t> Groups<'t> {
     fn of(listed: Listed<LentRows<'t>, List<Row<'t>>>) -> Groups<'t>
         requires sound { list_all is_row (listed_rows listed) ≡ true }
         requires few { length (listed_rows listed) ≤ 65536 }
+        requires together { StandTogether (listed_rows listed) }
         ensures { result ≡ map row_record (listed_rows listed.entry) }
     {
         let runs = runs_of(rows_of(&listed));
         Groups { listed, runs }
     }
 
-    /// The rows among which all of a group lie.
+    /// The rows of a group.
     #[inline(always)]
     fn rows_for(&self, pgn: u32) -> &[Row<'t>]
-        ensures same { group_rows pgn (map row_record result.now) ≡ group_rows pgn self.now }
+        ensures rows { map row_record result.now ≡ group_rows pgn self.now }
+        ensures own { list_all (λ row. row.pgn == pgn) result.now ≡ true }
         ensures sound { list_all is_row result.now ≡ true }
         ensures few { length result.now ≤ 65536 }
     {
@@ -115,8 +117,7 @@ impl<'t> Groups<'t> {
     pub fn is_reported(&self, pgn: Pgn) -> bool
         ensures { result ≡ is_reported_in self.now (pgn_raw pgn) }
     {
-        let pgn = pgn.raw();
-        has_group(self.rows_for(pgn), pgn)
+        !self.rows_for(pgn.raw()).is_empty()
     }
 
     /// What the table calls a group, as its first row does; `None` where it lists none.
@@ -163,7 +164,7 @@ impl<'t> Groups<'t> {
             result (turn W.written W.has_failed sink.old sink.new) }
     {
         let pgn = pgn.raw();
-        put_rows(block, self.rows_for(pgn), head, from, pgn, bytes, sink)
+        put_rows(block, self.rows_for(pgn), head, from, bytes, sink)
     }
 
     /// Hands each reading of a payload to a visitor, and each parameter whose number is not available, in the table's order.
@@ -182,7 +183,7 @@ impl<'t> Groups<'t> {
             (sightings_in self.now (pgn_raw pgn) bytes.now)) }
     {
         let pgn = pgn.raw();
-        visit_rows(self.rows_for(pgn), pgn, bytes, visitor, medium)
+        visit_rows(self.rows_for(pgn), bytes, visitor, medium)
     }
 
     /// What a parameter of a group is called: by the first row of the table that lists it.

@@ -5,7 +5,7 @@ ghost use Rattle.std.specs.List.{flat_map, list_all};
 ghost use Rattle.std.specs.Option.{option_map, option_to_list};
 ghost use Rattle.j39_io.specs.Backwards.{WritesBefore};
 ghost use Rattle.j39_io.specs.Chars.{newline};
-ghost use Rattle.j39_groups.specs.Lines.{in_group, reading_line, row_lines, row_readings};
+ghost use Rattle.j39_groups.specs.Lines.{in_group, reading_line, readings_by, row_lines};
 ghost use Rattle.j39_groups.specs.Models.{field_record, field_slot, row_record, short_value};
 ghost use Rattle.j39_groups.specs.Readings.{readings_at, values_at};
 ghost use Rattle.j39_groups.specs.Ready.{HasEnd, short_text};
@@ -28,24 +28,22 @@ const LINE: usize = HEAD + 16 + 56;
 /// The bytes of a block that the lines of eight rows fit in.
 pub const LINES: usize = 8 * LINE;
 
-/// Writes a line for each reading of a payload of a group by those of these rows that are the group's. The lines end at
-/// the end of `out`; answers where they start, and how many they are. `None`, and nothing of use is written, where one
-/// of these rows has no end.
+/// Writes a line for each reading of a payload by these rows. The lines end at the end of `out`; answers where they start,
+/// and how many they are. `None`, and nothing of use is written, where one of these rows has no end.
 #[inline(always)]
 pub(crate) fn rows_before(
     out: &mut [u8; LINES],
     head: &[u8; HEAD],
     from: usize,
     rows: &[Row<'_>],
-    pgn: u32,
     bytes: &[u8],
 ) -> Option<(usize, u64)>
     requires from { from ≤ 48 }
     requires few { length rows.now ≤ 8 }
     requires sound { list_all is_row rows.now ≡ true }
     ensures written { IfSome result (λ found. WritesBefore out.old out.new 960 found.0
-        (flat_map (row_lines pgn (drop from head.now) bytes.now) rows.now)) }
-    ensures lines { IfSome result (λ found. found.1 ≡ length (flat_map (row_readings pgn bytes.now) rows.now)) }
+        (flat_map (row_lines (drop from head.now) bytes.now) rows.now)) }
+    ensures lines { IfSome result (λ found. found.1 ≡ length (flat_map (readings_by bytes.now) rows.now)) }
     ensures few { IfSome result (λ found. found.1 ≤ length rows.now) }
 {
     let mut left = rows.len();
@@ -53,43 +51,14 @@ pub(crate) fn rows_before(
     let mut lines = 0;
     'rows: while left > 0 {
         left -= 1;
-        let (start, more) = row_before_if_of(out, at, head, from, &rows[left], pgn, bytes)?;
+        let (start, more) = row_before(out, at, head, from, &rows[left], bytes)?;
         at = start;
         lines += more;
     }
     Some((at, lines))
 }
 
-/// Writes the line of a row, where it is the group's and its value is there, and answers where it starts, and how many
-/// lines these are.
-#[inline(always)]
-fn row_before_if_of(
-    out: &mut [u8],
-    end: usize,
-    head: &[u8; HEAD],
-    from: usize,
-    row: &Row<'_>,
-    pgn: u32,
-    bytes: &[u8],
-) -> Option<(usize, u64)>
-    requires from { from ≤ 48 }
-    requires sound { is_row row.now ≡ true }
-    requires room { 120 ≤ end }
-    requires within { end ≤ length out.old }
-    ensures written { IfSome result (λ found. WritesBefore out.old out.new end found.0
-        (row_lines pgn (drop from head.now) bytes.now row.now)) }
-    ensures lines { IfSome result (λ found. found.1 ≡ length (row_readings pgn bytes.now row.now)) }
-    ensures one { IfSome result (λ found. found.1 ≤ 1) }
-    ensures short { IfSome result (λ found. end ≤ found.0 + 120) }
-{
-    if row.pgn == pgn {
-        row_before(out, end, head, from, row, bytes)
-    } else {
-        Some((end, 0))
-    }
-}
-
-/// The same, of a row of the group.
+/// Writes the line of a row, where its value is there, and answers where it starts, and how many lines these are.
 #[inline(always)]
 fn row_before(
     out: &mut [u8],

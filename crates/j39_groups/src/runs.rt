@@ -1,7 +1,7 @@
 //! Where the rows of a group are: each group that can be heard has a place of its own, with the run of its rows.
-ghost use Rattle.std.specs.Prelude.{◌≡◌, ◌==◌, ◌+◌, ◌<◌, ◌≤◌, filter, length, true};
+ghost use Rattle.std.specs.Prelude.{◌≡◌, ◌==◌, ◌+◌, ◌<◌, ◌≤◌, ℕ, filter, length, take, true};
 ghost use Rattle.std.specs.List.{list_all, list_any};
-ghost use Rattle.j39_groups.specs.Rows.{is_row};
+ghost use Rattle.j39_groups.specs.Rows.{StandTogether, is_listed_group, is_row};
 ghost use Rattle.j39_groups.specs.Runs.{AreRuns, place_of};
 
 use crate::row::Row;
@@ -9,7 +9,7 @@ use crate::row::Row;
 /// How many places there are: in each of four pages one for each PF, and one for each group of PF 240 and more.
 const PLACES: usize = 4 * 256 + 4 * 16 * 256;
 
-/// Where all rows of a place lie: no others do where those of a group stand together.
+/// Where all rows of a place lie, and no others.
 #[derive(Clone, Copy)]
 pub(crate) struct Run {
     pub first: u32,
@@ -32,7 +32,9 @@ impl Run {
 
 /// The runs of the places of these rows.
 pub(crate) fn runs_of(rows: &[Row<'_>]) -> [Run; PLACES]
-    requires { length rows.now ≤ 65536 }
+    requires few { length rows.now ≤ 65536 }
+    requires sound { list_all is_row rows.now ≡ true }
+    requires together { StandTogether rows.now }
     ensures { AreRuns result rows.now }
 {
     let mut runs = [Run { first: 0, end: 0 }; PLACES];
@@ -43,17 +45,28 @@ pub(crate) fn runs_of(rows: &[Row<'_>]) -> [Run; PLACES]
     runs
 }
 
-/// The rows among which all of a group lie.
+/// The rows of a group.
 #[inline(always)]
 pub(crate) fn run_of<'r, 't>(runs: &[Run; PLACES], rows: &'r [Row<'t>], pgn: u32) -> &'r [Row<'t>]
     requires runs { AreRuns runs.now rows.now }
     requires sound { list_all is_row rows.now ≡ true }
-    ensures same { filter (λ row. row.pgn == pgn) result.now ≡ filter (λ row. row.pgn == pgn) rows.now }
-    ensures sound { list_all is_row result.now ≡ true }
+    ensures same { result.now ≡ filter (λ row. row.pgn == pgn) rows.now }
     ensures few { length result.now ≤ length rows.now }
 {
     let run = runs[place_of(pgn)];
-    &rows[run.first as usize..run.end as usize]
+    let rows = &rows[run.first as usize..run.end as usize];
+    if is_first(rows, pgn) { rows } else { &[] }
+}
+
+/// Whether the first of these rows is of a group.
+#[inline(always)]
+fn is_first(rows: &[Row<'_>], pgn: u32) -> bool
+    ensures { result ≡ list_any (λ row. row.pgn == pgn) (take 1 rows.now) }
+{
+    match rows.first() {
+        Some(row) => row.pgn == pgn,
+        None => false,
+    }
 }
 
 /// Whether one of these rows is of a group.
@@ -64,18 +77,17 @@ pub(crate) fn has_group(rows: &[Row<'_>], pgn: u32) -> bool
     rows.iter().any(|row| row.pgn == pgn)
 }
 
-/// The place of a group, which no other has that can be heard: below PF 240 its low byte is 0.
+/// The place of a group, which no other has that a table may list.
 #[inline(always)]
 fn place_of(pgn: u32) -> usize
     ensures value { result ≡ place_of pgn }
     ensures fits { result < 17408 }
+    ensures own { (other : ℕ) → is_listed_group pgn ≡ true → is_listed_group other ≡ true → place_of other ≡ result → other ≡ pgn }
 {
-    let page = pgn / 65536 % 4;
-    let format = pgn / 256 % 256;
-    let place = if format < 240 {
-        page * 256 + format
+    let place = if pgn / 256 % 256 < 240 {
+        pgn / 256 % 1024
     } else {
-        1024 + page * 4096 + pgn % 4096
+        1024 + pgn / 65536 % 4 * 4096 + pgn % 4096
     };
     place as usize
 }

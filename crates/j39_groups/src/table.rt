@@ -2,7 +2,7 @@
 ghost use Rattle.std.specs.Prelude.{◌≡◌, ◌≤◌, length, map, true};
 ghost use Rattle.std.specs.List.{list_all};
 ghost use Rattle.j39_groups.specs.Models.{row_record};
-ghost use Rattle.j39_groups.specs.Rows.{is_built_in, is_row};
+ghost use Rattle.j39_groups.specs.Rows.{are_together, is_built_in, is_row};
 ghost use Rattle.j39_groups.specs.Table.{the_table};
 
 use crate::field::Field;
@@ -16,6 +16,7 @@ pub(crate) fn built_in_rows() -> &'static [Row<'static>]
     ensures table { map row_record result.now ≡ the_table }
     ensures sound { list_all is_row result.now ≡ true }
     ensures built_in { is_built_in result.now ≡ true }
+    ensures together { are_together result.now ≡ true }
     ensures few { length result.now ≤ 65536 }
 {
     TABLE

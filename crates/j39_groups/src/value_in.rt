@@ -106,8 +106,11 @@ pub(crate) fn number_of(bytes: &[u8], first: u8, last: u8, scale: &Slot<'_>) -> 
         ≡ option_and_then (number_meaning (last - (first - 1)) (scale_record scale.now))
         (raw_number first last bytes.now) }
 {
+    // Most have one byte.
+    if first == last {
+        return number(raw_of::<1>(bytes, first)?, 1, scale);
+    }
     match last - (first - 1) {
-        1 => number(raw_of::<1>(bytes, first)?, 1, scale),
         2 => number(raw_of::<2>(bytes, first)?, 2, scale),
         count => number(raw_number(bytes, first, last)?, count, scale),
     }

@@ -69,46 +69,23 @@ fn visit_found<'t, M, V: ReadingVisitor<'t, M>>(
     Ok(())
 }
 
-/// Hands on what a payload of a group says by those of these rows that are the group's.
+/// Hands on what a payload says by these rows.
 pub(crate) fn visit_rows<'t, M, V: ReadingVisitor<'t, M>>(
     rows: &[Row<'t>],
-    pgn: u32,
     bytes: &[u8],
     visitor: &mut V,
     medium: &mut M,
 ) -> Result<(), V::Fault>
     requires { list_all is_row rows.now ≡ true }
     ensures taken { OnOk result (Takes V.has_taken visitor.old medium.old visitor.new medium.new
-        (flat_map (row_sightings pgn bytes.now) rows.now)) }
+        (flat_map (row_sightings bytes.now) rows.now)) }
     ensures stopped { OnErr result (Stops V.has_taken V.has_stopped visitor.old medium.old visitor.new medium.new
-        (flat_map (row_sightings pgn bytes.now) rows.now)) }
+        (flat_map (row_sightings bytes.now) rows.now)) }
 {
     for row in rows {
-        visit_if_of(row, pgn, bytes, visitor, medium)?;
+        visit_row(row, bytes, visitor, medium)?;
     }
     Ok(())
-}
-
-/// Hands on what is said by one row, where it is the group's.
-#[inline(always)]
-fn visit_if_of<'t, M, V: ReadingVisitor<'t, M>>(
-    row: &Row<'t>,
-    pgn: u32,
-    bytes: &[u8],
-    visitor: &mut V,
-    medium: &mut M,
-) -> Result<(), V::Fault>
-    requires { is_row row.now ≡ true }
-    ensures taken { OnOk result (Takes V.has_taken visitor.old medium.old visitor.new medium.new
-        (row_sightings pgn bytes.now row.now)) }
-    ensures stopped { OnErr result (Stops V.has_taken V.has_stopped visitor.old medium.old visitor.new medium.new
-        (row_sightings pgn bytes.now row.now)) }
-{
-    if row.pgn == pgn {
-        visit_row(row, bytes, visitor, medium)
-    } else {
-        Ok(())
-    }
 }
 
 /// Hands on what is said by one row.

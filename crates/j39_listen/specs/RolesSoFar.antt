@@ -1,5 +1,5 @@
 -- What is remembered of identifiers.
-use Rattle.std.specs.Prelude.{◌≡◌, ◌<◌, ◌^◌, ℕ, List, slice_index_or}
+use Rattle.std.specs.Prelude.{◌≡◌, ◌<◌, ◌^◌, ◌||◌, ℕ, List, slice_index_or}
 use Rattle.j39_frame.specs.Identifier.{pgn_of}
 use Rattle.j39_groups.specs.Readings.{is_network_group, is_reported_in}
 use Rattle.j39_groups.specs.Row.{RowRecord}
@@ -9,7 +9,7 @@ use Rattle.j39_listen.specs.declared.roles.Role.{Role}
 -- the frames of this identifier are this
 pub record IsRole (rows : List RowRecord) (id : ℕ) (role : Role) : Type 0 where
   pub single : role.is_single ≡ is_reported_in rows (pgn_of id)
-  pub network : role.is_network ≡ is_network_group (pgn_of id)
+  pub heard : role.is_heard ≡ (is_reported_in rows (pgn_of id) || is_network_group (pgn_of id))
 
 -- what is remembered of an identifier is so
 abbrev pub IsKnown : List RowRecord → Known → Type 0

@@ -79,7 +79,7 @@ impl<'g, 't, E: EntryForm> Account for Report<'g, 't, E> {
         self.chooser.note(frame);
         let groups = self.roles.groups;
         let role = self.roles.of(frame.id);
-        if !role.is_single && !role.is_network {
+        if !role.is_heard {
             self.made = self.made.and(NOTHING);
             return Ok(());
         }

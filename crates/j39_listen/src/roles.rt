@@ -15,8 +15,8 @@ const PLACES: usize = 2048;
 pub(crate) struct Role {
     /// A message each, of a group that the table reports.
     pub is_single: bool,
-    /// Claims, or parts of messages.
-    pub is_network: bool,
+    /// That, or claims, or parts of messages.
+    pub is_heard: bool,
 }
 
 /// An identifier, of more than 29 bits where none is remembered, and what its frames are.
@@ -43,7 +43,7 @@ impl<'g, 't> Roles<'g, 't> {
             id: u32::MAX,
             role: Role {
                 is_single: false,
-                is_network: false,
+                is_heard: false,
             },
         };
         Roles {
@@ -76,9 +76,11 @@ impl<'g, 't> Roles<'g, 't> {
         ensures table { self.new.groups ≡ self.old.groups }
     {
         let pgn = id.pgn();
+        let is_single = self.groups.is_reported(pgn);
+        let is_heard = is_single || is_network_group(pgn);
         let role = Role {
-            is_single: self.groups.is_reported(pgn),
-            is_network: is_network_group(pgn),
+            is_single,
+            is_heard,
         };
         self.known[place] = Known { id: id.raw(), role };
         role

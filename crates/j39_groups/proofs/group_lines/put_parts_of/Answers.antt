@@ -3,7 +3,7 @@ use Rattle.std.proofs.Common.{◌≡◌, ◌≤◌, ◌-◌, ◌*◌, ℕ, List,
 use Rattle.std.specs.List.{flat_map}
 use Rattle.std.proofs.lemmas.List.{length-take}
 use Rattle.j39_groups.specs.declared.row.Row.{Row}
-use Rattle.j39_groups.specs.Lines.{row_lines, row_readings}
+use Rattle.j39_groups.specs.Lines.{readings_by, row_lines}
 use Rattle.j39_groups.specs.Value.{ReadingRecord}
 use Rattle.j39_groups.proofs.ListLemmas.{flat_map-around, flat_map-part}
 use Rattle.j39_io.proofs.PutsLemmas.{puts_as, puts_done, puts_first, puts_then}
@@ -13,7 +13,7 @@ use Rattle.j39_groups.proofs.group_lines.put_parts_of.Goals as goal
 
 pub returns-in_err-more-clause-puts : goal.returns-in_err-more-clause-puts
 returns-in_err-more-clause-puts g c =
-    let text : Row → List ℕ = row_lines c.args.pgn (drop c.args.from c.args.head.now) c.args.bytes.now in
+    let text : Row → List ℕ = row_lines (drop c.args.from c.args.head.now) c.args.bytes.now in
     let rows = c.args.rows.now in
     let i = c.parts.at in
     let j = c.min-end.result in
@@ -24,8 +24,8 @@ returns-in_err-more-clause-puts g c =
 
 pub parts-preserved : goal.parts-preserved
 parts-preserved g c =
-    let text : Row → List ℕ = row_lines c.args.pgn (drop c.args.from c.args.head.now) c.args.bytes.now in
-    let found : Row → List ReadingRecord = row_readings c.args.pgn c.args.bytes.now in
+    let text : Row → List ℕ = row_lines (drop c.args.from c.args.head.now) c.args.bytes.now in
+    let found : Row → List ReadingRecord = readings_by c.args.bytes.now in
     let rows = c.args.rows.now in
     let i = c.parts.at in
     let j = c.min-end.result in

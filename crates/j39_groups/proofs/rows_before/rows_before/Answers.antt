@@ -5,13 +5,13 @@ use Rattle.j39_groups.proofs.RowLemmas.{row_at}
 use Rattle.j39_groups.proofs.rows_before.rows_before.Goals as goal
 
 pub rows-init : goal.rows-init
-rows-init c = none_written _ _ _ _ _
+rows-init c = none_written _ _ _ _
 
 pub returns-clause-written : goal.returns-clause-written
-returns-clause-written c = (all_rows _ _ _ _ _ _ _ _ _ c.rows.invariant (omega arith)).0
+returns-clause-written c = (all_rows _ _ _ _ _ _ _ _ c.rows.invariant (omega arith)).0
 
 pub returns-clause-lines : goal.returns-clause-lines
-returns-clause-lines c = (all_rows _ _ _ _ _ _ _ _ _ c.rows.invariant (omega arith)).1
+returns-clause-lines c = (all_rows _ _ _ _ _ _ _ _ c.rows.invariant (omega arith)).1
 
-pub row_before_if_of-requires-clause-sound : goal.row_before_if_of-requires-clause-sound
-row_before_if_of-requires-clause-sound c = row_at c.args.rows.now (c.rows.left - 1) _ c.requires.sound (omega (arith, c.rows.invariant.inside, c.rows-test.true))
+pub row_before-requires-clause-sound : goal.row_before-requires-clause-sound
+row_before-requires-clause-sound c = row_at c.args.rows.now (c.rows.left - 1) _ c.requires.sound (omega (arith, c.rows.invariant.inside, c.rows-test.true))

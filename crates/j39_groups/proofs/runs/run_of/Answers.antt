@@ -1,19 +1,23 @@
--- All rows of the group lie in the run of its place.
-use Rattle.std.proofs.Common.{◌-◌, get_or, subst}
-use Rattle.j39_groups.specs.Rows.{is_row}
-use Rattle.j39_groups.specs.Runs.{IsRun}
-use Rattle.j39_groups.specs.declared.runs.Run.{Run}
-use Rattle.j39_groups.proofs.RowLemmas.{all_part}
-use Rattle.j39_groups.proofs.RunLemmas.{all_sought}
+-- The run of the group's place, where its first row is the group's.
+use Rattle.std.proofs.Common.{sym, ◌∙◌}
+use Rattle.j39_groups.proofs.RunLemmas.{run_is, run_is_not}
 use Rattle.j39_groups.proofs.runs.run_of.Goals as goal
 
-pub returns-clause-same : goal.returns-clause-same
-returns-clause-same c =
-    let run : Run = get_or c.args.runs.now c.place_of.result (record { first = 0; end = 0 }) in
-    all_sought c.args.rows.now c.args.pgn run
-    (subst (λ place. IsRun c.args.rows.now place run) c.place_of.ensures.value (c.requires.runs c.place_of.result _ c.place_of.ensures.fits))
+pub slice_bounds-rows-count : goal.slice_bounds-rows-count
+slice_bounds-rows-count c = (c.requires.runs c.place_of.result (record { first = 0; end = 0 }) c.place_of.ensures.fits).ordered
 
-pub returns-clause-sound : goal.returns-clause-sound
-returns-clause-sound c =
-    let run : Run = get_or c.args.runs.now c.place_of.result (record { first = 0; end = 0 }) in
-    all_part is_row c.args.rows.now run.first (run.end - run.first) c.requires.sound
+pub slice_bounds-rows-start : goal.slice_bounds-rows-start
+slice_bounds-rows-start c = (c.requires.runs c.place_of.result (record { first = 0; end = 0 }) c.place_of.ensures.fits).ordered
+
+pub slice_bounds-rows-end : goal.slice_bounds-rows-end
+slice_bounds-rows-end c = (c.requires.runs c.place_of.result (record { first = 0; end = 0 }) c.place_of.ensures.fits).inside
+
+pub returns-then-is_first-clause-same : goal.returns-then-is_first-clause-same
+returns-then-is_first-clause-same c =
+    run_is c.args.rows.now c.args.pgn c.place_of.result _ c.place_of.ensures.value (c.requires.runs c.place_of.result (record { first = 0; end = 0 }) c.place_of.ensures.fits)
+    c.requires.sound c.place_of.ensures.own (sym c.is_first.ensures ∙ c.if-is_first.true)
+
+pub returns-else-is_first-clause-same : goal.returns-else-is_first-clause-same
+returns-else-is_first-clause-same c =
+    run_is_not c.args.rows.now c.args.pgn c.place_of.result _ c.place_of.ensures.value (c.requires.runs c.place_of.result (record { first = 0; end = 0 }) c.place_of.ensures.fits)
+    c.requires.sound c.place_of.ensures.own (sym c.is_first.ensures ∙ c.if-is_first.false)

@@ -12,6 +12,6 @@ loop-at-preserved c =
     let fits = c.place_of-place.ensures.fits in
     let size = c.loop-at.invariant.1 in (
       runs_more c.loop-at.runs c.args.rows.now c.loop-at.at c.place_of-place.result _ (record { first = 0; end = 0 }) c.up_to.result c.loop-at-test.true
-          c.place_of-place.ensures.value (omega (arith, fits, size)) c.up_to.ensures.begun c.up_to.ensures.grown c.up_to.ensures.end c.loop-at.invariant.0,
+          c.place_of-place.ensures.value (omega (arith, fits, size)) c.up_to.ensures.begun c.up_to.ensures.grown c.up_to.ensures.end c.requires.together c.requires.sound c.place_of-place.ensures.own c.loop-at.invariant.0,
       length-set c.loop-at.runs c.place_of-place.result c.up_to.result ∙ size,
     )

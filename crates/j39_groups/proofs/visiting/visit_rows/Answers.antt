@@ -9,10 +9,10 @@ use Rattle.j39_groups.proofs.ListLemmas.{flat_map-at}
 use Rattle.j39_groups.proofs.VisitLemmas.{stops_within}
 use Rattle.j39_groups.proofs.visiting.visit_rows.Goals as goal
 
-pub returns-in_err-visit_if_of-clause-stopped : goal.returns-in_err-visit_if_of-clause-stopped
-returns-in_err-visit_if_of-clause-stopped g c =
-    let found : Row → List SightingRecord = row_sightings c.args.pgn c.args.bytes.now in
+pub returns-in_err-visit_row-clause-stopped : goal.returns-in_err-visit_row-clause-stopped
+returns-in_err-visit_row-clause-stopped g c =
+    let found : Row → List SightingRecord = row_sightings c.args.bytes.now in
     let rows = c.args.rows.now in
     let i = c.loop-row.row-index in
-    on_err c.from_residual.result _ (stops_within (with_medium g.V.ReadingVisitor.has_taken) (λ s before at. g.V.ReadingVisitor.has_stopped s before at c.visit_if_of.new.visitor c.visit_if_of.new.medium) _ _ (flat_map found (take i rows)) _ (flat_map found (drop (suc i) rows)) (flat_map found rows)
-    (flat_map-at found rows i _ c.loop-row-test.true) c.loop-row.invariant c.in_err-visit_if_of.ensures.stopped)
+    on_err c.from_residual.result _ (stops_within (with_medium g.V.ReadingVisitor.has_taken) (λ s before at. g.V.ReadingVisitor.has_stopped s before at c.visit_row.new.visitor c.visit_row.new.medium) _ _ (flat_map found (take i rows)) _ (flat_map found (drop (suc i) rows)) (flat_map found rows)
+    (flat_map-at found rows i _ c.loop-row-test.true) c.loop-row.invariant c.in_err-visit_row.ensures.stopped)

@@ -10,20 +10,20 @@ pub returns-in-Some-clause-parameter : goal.returns-in-Some-clause-parameter
 returns-in-Some-clause-parameter c =
     ap Some c.called_by.ensures.called
     ∙ ap (option_map (λ row. called row.name))
-    (c.in-Some.ensures ∙ row_by_group c.rows_for.result.now c.args.self.now c.args.pgn c.args.spn c.rows_for.ensures.same)
+    (c.in-Some.ensures ∙ row_by_group c.rows_for.result.now c.args.self.now c.args.pgn c.args.spn c.rows_for.ensures.rows)
 
 pub returns-in-Some-clause-state : goal.returns-in-Some-clause-state
 returns-in-Some-clause-state c =
     c.called_by.ensures.state
     ∙ ap (λ row. option_and_then (state_by (value_of c.args.value)) row)
-    (c.in-Some.ensures ∙ row_by_group c.rows_for.result.now c.args.self.now c.args.pgn c.args.spn c.rows_for.ensures.same)
+    (c.in-Some.ensures ∙ row_by_group c.rows_for.result.now c.args.self.now c.args.pgn c.args.spn c.rows_for.ensures.rows)
 
 pub returns-in-None-clause-parameter : goal.returns-in-None-clause-parameter
 returns-in-None-clause-parameter c =
     ap (option_map (λ row. called row.name))
-    (c.in-None.ensures ∙ row_by_group c.rows_for.result.now c.args.self.now c.args.pgn c.args.spn c.rows_for.ensures.same)
+    (c.in-None.ensures ∙ row_by_group c.rows_for.result.now c.args.self.now c.args.pgn c.args.spn c.rows_for.ensures.rows)
 
 pub returns-in-None-clause-state : goal.returns-in-None-clause-state
 returns-in-None-clause-state c =
     ap (λ row. option_and_then (state_by (value_of c.args.value)) row)
-    (c.in-None.ensures ∙ row_by_group c.rows_for.result.now c.args.self.now c.args.pgn c.args.spn c.rows_for.ensures.same)
+    (c.in-None.ensures ∙ row_by_group c.rows_for.result.now c.args.self.now c.args.pgn c.args.spn c.rows_for.ensures.rows)

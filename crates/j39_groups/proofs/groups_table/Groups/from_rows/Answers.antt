@@ -7,7 +7,7 @@ use Rattle.j39_groups.specs.Readings.{group_rows}
 use Rattle.j39_groups.specs.Row.{RowRecord}
 use Rattle.j39_groups.specs.Rows.{is_row}
 use Rattle.j39_memory.specs.Items.{items_of}
-use Rattle.j39_groups.proofs.RowLemmas.{all_sorted, sorted_seen}
+use Rattle.j39_groups.proofs.RowLemmas.{all_sorted, rising_together, sorted_seen}
 use Rattle.j39_groups.proofs.TableLemmas.{filter-seen}
 use Rattle.j39_groups.proofs.groups_table.Groups.from_rows.Goals as goal
 
@@ -26,3 +26,6 @@ returns-clause-sorted c = subst (IsNonDecreasingBy (λ (row : RowRecord). row.pg
 
 pub of-requires-clause-sound : goal.of-requires-clause-sound
 of-requires-clause-sound c = all_sorted is_row (λ (row : Row). row.pgn) (items_of c.args.rows.list) (items_of c.sort.new.self) c.args.rows.sound c.in_ok-sort.ensures.kept
+
+pub of-requires-clause-together : goal.of-requires-clause-together
+of-requires-clause-together c = rising_together (items_of c.sort.new.self) c.in_ok-sort.ensures.sorted

@@ -9,9 +9,9 @@ pub returns-in-Some : goal.returns-in-Some
 returns-in-Some c =
     ap Some c.called.ensures
     ∙ ap (option_map (λ row. called row.name))
-    (c.in-Some.ensures ∙ row_by_group c.rows_for.result.now c.args.self.now c.args.pgn c.args.spn c.rows_for.ensures.same)
+    (c.in-Some.ensures ∙ row_by_group c.rows_for.result.now c.args.self.now c.args.pgn c.args.spn c.rows_for.ensures.rows)
 
 pub returns-in-None : goal.returns-in-None
 returns-in-None c =
     ap (option_map (λ row. called row.name))
-    (c.in-None.ensures ∙ row_by_group c.rows_for.result.now c.args.self.now c.args.pgn c.args.spn c.rows_for.ensures.same)
+    (c.in-None.ensures ∙ row_by_group c.rows_for.result.now c.args.self.now c.args.pgn c.args.spn c.rows_for.ensures.rows)

@@ -10,9 +10,9 @@ pub returns-in-Some : goal.returns-in-Some
 returns-in-Some c =
     c.state_by.ensures
     ∙ ap (λ row. option_and_then (state_by (value_of c.args.value)) row)
-    (c.in-Some.ensures ∙ row_by_group c.rows_for.result.now c.args.self.now c.args.pgn c.args.spn c.rows_for.ensures.same)
+    (c.in-Some.ensures ∙ row_by_group c.rows_for.result.now c.args.self.now c.args.pgn c.args.spn c.rows_for.ensures.rows)
 
 pub returns-in-None : goal.returns-in-None
 returns-in-None c =
     ap (λ row. option_and_then (state_by (value_of c.args.value)) row)
-    (c.in-None.ensures ∙ row_by_group c.rows_for.result.now c.args.self.now c.args.pgn c.args.spn c.rows_for.ensures.same)
+    (c.in-None.ensures ∙ row_by_group c.rows_for.result.now c.args.self.now c.args.pgn c.args.spn c.rows_for.ensures.rows)

@@ -1,7 +1,7 @@
 -- A frame of a group that is heard, or of another.
-use Rattle.std.proofs.Common.{◌≡◌, ◌∙◌, ap, false, sym}
+use Rattle.std.proofs.Common.{◌≡◌, ◌||◌, ◌∙◌, ap, false, sym}
 use Rattle.std.specs.Prelude.{Err, None}
-use Rattle.std.proofs.lemmas.Bool.{not-true}
+use Rattle.std.proofs.lemmas.Bool.{not-true, or_parts}
 use Rattle.j39_frame.specs.Frame.{FrameRecord}
 use Rattle.j39_frame.specs.Identifier.{pgn_of}
 use Rattle.j39_groups.specs.Readings.{is_network_group, is_reported_in}
@@ -16,17 +16,19 @@ use Rattle.j39_listen.proofs.report.ReportAccount.feed.Goals as goal
 pub put_frame-requires : goal.put_frame-requires
 put_frame-requires g c = c.of-role.ensures.role.single ∙ ap (λ (x : FrameRecord). is_reported_in c.args.self.now.roles.groups.now (pgn_of x.id)) c.frame.view_is
 
-pub returns-then-not-role-2-clause-met : goal.returns-then-not-role-2-clause-met
-returns-then-not-role-2-clause-met g c =
+pub returns-then-not-role-clause-met : goal.returns-then-not-role-clause-met
+returns-then-not-role-clause-met g c =
     let self = c.args.self.now in
     let groups = self.roles.groups.now in
     let frame = c.args.frame.now in
     let report : Report g.row.E.Denot =
     record { roles = c.of-role.new.self; chooser = c.note.new.self; listener = self.listener; made = c.and-self.result; form = self.form } in
-    let other : is_reported_in groups (pgn_of frame.id) ≡ false =
-    sym (c.of-role.ensures.role.single ∙ ap (λ (x : FrameRecord). is_reported_in groups (pgn_of x.id)) c.frame.view_is) ∙ not-true _ c.if-not-role.true in
-    let free : is_network_group (pgn_of frame.id) ≡ false =
-    sym (c.of-role.ensures.role.network ∙ ap (λ (x : FrameRecord). is_network_group (pgn_of x.id)) c.frame.view_is) ∙ not-true _ c.if-not-role-2.true in
+    let neither = or_parts _ _ (
+    sym (c.of-role.ensures.role.heard ∙ ap (λ (x : FrameRecord). is_reported_in groups (pgn_of x.id) || is_network_group (pgn_of x.id)) c.frame.view_is)
+    ∙ not-true _ c.if-not-role.true
+    ) in
+    let other : is_reported_in groups (pgn_of frame.id) ≡ false = neither.0 in
+    let free : is_network_group (pgn_of frame.id) ≡ false = neither.1 in
     λ subject. report_meets g.E.EntryForm.text_by subject self report c.of-role.ensures.table frame c.note.ensures (made_by None) _ _ (λ which F h chosen.
     meets_silent g.E.EntryForm.text_by (record { rows = groups; which = which }) self.listener F frame _
     (silent_outside (is_reported_in groups) (reported_leaves groups) self.listener F frame free other h)

@@ -2,7 +2,7 @@
 use Rattle.std.proofs.Common.{◌≤◌, length, arith, ap}
 use Rattle.std.specs.Fmt.{decimal}
 use Rattle.j39_groups.proofs.TextLemmas.{decimal_ten}
-use Rattle.j39_groups.proofs.group_lines.put_in_group.Goals as goal
+use Rattle.j39_groups.proofs.group_lines.put_row.Goals as goal
 
 pub push_number-requires : goal.push_number-requires
 push_number-requires g c =
