@@ -1,6 +1,7 @@
 -- What numbers are called.
 use Rattle.std.specs.Prelude.{◌==◌, ◌&&◌, ℕ, ◌+◌, List, Option, Some, None, if◌then◌else◌, length, nat_le, option_and_then, position, slice_get, slice_range}
-use Rattle.j39_names.specs.declared.parameters.TheConstants.{NAMES, NUMBERS, STARTS}
+use Rattle.j39_names.specs.declared.groups.TheConstants as groups
+use Rattle.j39_names.specs.declared.parameters.TheConstants as parameters
 
 -- what lies in a text from one place to another
 abbrev pub between : List ℕ → ℕ → ℕ → Option (List ℕ)
@@ -16,4 +17,8 @@ name_in numbers starts text number = option_and_then (name_at starts text) (posi
 
 -- what a parameter is called
 unfoldable pub parameter_called : ℕ → Option (List ℕ)
-parameter_called spn = name_in NUMBERS STARTS NAMES.now spn
+parameter_called spn = name_in parameters.NUMBERS parameters.STARTS parameters.NAMES.now spn
+
+-- the short name of a group
+unfoldable pub group_called : ℕ → Option (List ℕ)
+group_called pgn = name_in groups.NUMBERS groups.STARTS groups.NAMES.now pgn

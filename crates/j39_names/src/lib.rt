@@ -2,38 +2,28 @@
 #![tactic(auto)]
 
 ghost use Rattle.std.specs.Prelude.{◌≡◌, ◌==◌, option_map, position};
-ghost use Rattle.j39_names.specs.Names.{between, name_at, name_in, parameter_called};
+ghost use Rattle.j39_names.specs.Names.{between, group_called, name_at, name_in, parameter_called};
 
+mod groups;
 mod parameters;
-
-use parameters::{NAMES, NUMBERS, STARTS};
 
 /// What a parameter is called (J1939-71, J1939-73); `None` where its name isn't known.
 pub fn parameter_name(spn: u32) -> Option<&'static [u8]>
     ensures { option_map (λ name. name.now) result ≡ parameter_called spn }
 {
-    name_in(numbers(), starts(), names(), spn)
+    name_in(
+        parameters::numbers(),
+        parameters::starts(),
+        parameters::names(),
+        spn,
+    )
 }
 
-/// The numbers of parameters.
-fn numbers() -> &'static [u32]
-    ensures { result.now ≡ NUMBERS }
+/// The short name of a group (J1939-21, J1939-71, J1939-73); `None` where it isn't known.
+pub fn group_name(pgn: u32) -> Option<&'static [u8]>
+    ensures { option_map (λ name. name.now) result ≡ group_called pgn }
 {
-    &NUMBERS
-}
-
-/// Where the name of each starts.
-fn starts() -> &'static [u32]
-    ensures { result.now ≡ STARTS }
-{
-    &STARTS
-}
-
-/// Their names.
-fn names() -> &'static [u8]
-    ensures { result.now ≡ NAMES.now }
-{
-    NAMES.as_bytes()
+    name_in(groups::numbers(), groups::starts(), groups::names(), pgn)
 }
 
 /// The name of a number: numbers and their names stand in one order.

@@ -1,4 +1,5 @@
 //! What parameters are called (J1939-71, J1939-73), by SPN. Made by tools/names of tables/spns.
+ghost use Rattle.std.specs.Prelude.{◌≡◌};
 
 /// The SPNs that have a name, from the least on.
 pub const NUMBERS: [u32; 1424] = [
@@ -1623,3 +1624,24 @@ SCR monitoring system malfunction\
 aftertreatment 1 SCR intermediate ammonia\
 aftertreatment 1 SCR intermediate temperature\
 water in fuel indicator 2";
+
+/// The SPNs.
+pub(crate) fn numbers() -> &'static [u32]
+    ensures { result.now ≡ NUMBERS }
+{
+    &NUMBERS
+}
+
+/// Where their names start.
+pub(crate) fn starts() -> &'static [u32]
+    ensures { result.now ≡ STARTS }
+{
+    &STARTS
+}
+
+/// Their names.
+pub(crate) fn names() -> &'static [u8]
+    ensures { result.now ≡ NAMES.now }
+{
+    NAMES.as_bytes()
+}

@@ -14,13 +14,12 @@ use Rattle.j39_frame.specs.Groups.{IsHeardGroup}
 use Rattle.j39_groups.specs.Row.{RowRecord}
 use Rattle.j39_listen.specs.Heard.{Hearing}
 use Rattle.j39_reports.specs.GroupCounts.{Came, GroupRecord, came_in, group_of}
-use Rattle.j39_groups.specs.Names.{group_name_in}
 use Rattle.j39_io.specs.Chars.{newline}
 use Rattle.j39_reports.specs.LogLines.{LogLine, others_in, seen_in, unread_in}
 use Rattle.j39_reports.proofs.GroupLemmas.{came_none}
 use Rattle.j39_reports.specs.SurveyModels.{HasSurveyed, interface_record, others_record, shown_record}
 use Rattle.j39_reports.specs.UnreadLines.{is_printed_log, shown_in}
-use Rattle.j39_reports.specs.SurveyText.{class_text, counts_text, group_line, group_text, groups_end, groups_from, groups_text, name_text, spread_text, survey_end, survey_head}
+use Rattle.j39_reports.specs.SurveyText.{class_text, counts_text, group_line, group_named, group_text, groups_end, groups_from, groups_text, name_text, spread_text, survey_end, survey_head}
 use Rattle.j39_listen.specs.Counting.{capped}
 use Rattle.j39_reports.specs.Interfaces.{interfaces_of, untold_in}
 use Rattle.j39_reports.specs.OtherLines.{others_of}
@@ -110,7 +109,7 @@ module _ (table : List RowRecord) (F : List FrameRecord) (heard : List Hearing) 
 
 -- the parts that are joined
 pub group_joined : (table : List RowRecord) (pgn : ℕ) (group : GroupRecord) (head spread class space name : List ℕ) → head ≡ counts_text pgn group
-    → spread ≡ spread_text group.spread → class ≡ class_text table pgn → space ++ name ≡ name_text (group_name_in table pgn)
+    → spread ≡ spread_text group.spread → class ≡ class_text table pgn → space ++ name ≡ name_text (group_named table pgn)
     → head ++ (spread ++ (class ++ (space ++ (name ++ (newline ∷ []))))) ≡ group_line table pgn group
 group_joined table pgn group head spread class space name head_is spread_is class_is name_is =
     ap (λ t. t ++ (spread ++ (class ++ (space ++ (name ++ (newline ∷ [])))))) head_is

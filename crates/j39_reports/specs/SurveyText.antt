@@ -1,6 +1,7 @@
 -- The text of a survey (own).
 use Rattle.std.specs.Prelude.{◌==◌, ◌&&◌, ◌+◌, ◌/◌, ◌^◌, ℕ, zero, suc, List, [], ◌∷◌, ◌++◌, Bool, Option, Some, None, codes, decimal, length, nat_le, if◌then◌else◌}
 use Rattle.std.specs.List.{flat_map}
+use Rattle.std.specs.Option.{option_or}
 use Rattle.hex.specs.Hex.{encode_upper}
 use Rattle.j39_io.specs.Printing.{last_digits}
 use Rattle.j39_groups.specs.Names.{group_name_in}
@@ -10,6 +11,7 @@ use Rattle.j39_listen.specs.Counting.{capped}
 use Rattle.j39_listen.specs.Heard.{Hearing}
 use Rattle.j39_log.specs.Log.{frames_of}
 use Rattle.j39_log.specs.StampText.{stamp_text}
+use Rattle.j39_names.specs.Names.{group_called}
 use Rattle.j39_reports.specs.GroupCounts.{Came, GroupRecord, Spread, came_in, group_of, is_of_network}
 use Rattle.j39_reports.specs.Interfaces.{InterfaceRecord, interfaces_of, untold_in}
 use Rattle.j39_reports.specs.LogLines.{LogLine, others_in, seen_in, spelled_in, unread_in}
@@ -56,6 +58,10 @@ spread_text (Some s) =
     codes " least " ++ seconds_text s.least ++ codes " mean " ++ seconds_text (s.sum / s.count) ++ codes " most "
     ++ seconds_text s.most
 
+-- what a group is called: by a table, or else by its short name
+abbrev pub group_named : List RowRecord → ℕ → Option (List ℕ)
+group_named table pgn = option_or (group_name_in table pgn) (group_called pgn)
+
 abbrev pub counts_text : ℕ → GroupRecord → List ℕ
 counts_text pgn group =
     codes "group " ++ decimal pgn ++ codes " frames " ++ decimal group.frames ++ codes " announced "
@@ -64,7 +70,7 @@ counts_text pgn group =
 abbrev pub group_line : List RowRecord → ℕ → GroupRecord → List ℕ
 group_line table pgn group =
     counts_text pgn group
-    ++ (spread_text group.spread ++ (class_text table pgn ++ (name_text (group_name_in table pgn) ++ (newline ∷ []))))
+    ++ (spread_text group.spread ++ (class_text table pgn ++ (name_text (group_named table pgn) ++ (newline ∷ []))))
 
 -- a group that didn't come has no line
 unfoldable pub group_text : List RowRecord → ℕ → GroupRecord → List ℕ

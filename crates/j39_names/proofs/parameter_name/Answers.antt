@@ -1,6 +1,6 @@
 -- It is the name in the text that is built in.
 use Rattle.std.proofs.Common.{◌∙◌, ap}
-use Rattle.j39_names.specs.Names.{name_in, parameter_called}
+use Rattle.j39_names.specs.Names.{parameter_called, name_in}
 use Rattle.j39_names.specs.declared.parameters.TheConstants.{NUMBERS, STARTS}
 use Rattle.j39_names.proofs.parameter_name.Goals as goal
 

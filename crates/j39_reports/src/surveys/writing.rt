@@ -1,5 +1,5 @@
 //! A survey, written.
-ghost use Rattle.std.specs.Prelude.{◌≡◌, ◌<◌, ◌≤◌, ◌+◌, ◌*◌, ◌/◌, ◌%◌, ◌++◌, ℕ, List, Option, true, map, OnOk};
+ghost use Rattle.std.specs.Prelude.{◌≡◌, ◌<◌, ◌≤◌, ◌+◌, ◌*◌, ◌/◌, ◌%◌, ◌++◌, ℕ, List, Option, true, map, option_map, OnOk};
 ghost use Rattle.std.specs.List.{flat_map};
 ghost use Rattle.j39_io.specs.Puts.{Puts};
 ghost use Rattle.j39_io.specs.Turn.{turn};
@@ -7,13 +7,12 @@ ghost use Rattle.j39_io.specs.Device.{Marks};
 ghost use Rattle.j39_frame.specs.Frame.{FrameRecord};
 ghost use Rattle.j39_frame.specs.Groups.{IsHeardGroup};
 ghost use Rattle.j39_frame.specs.Pgn.{pgn_raw};
-ghost use Rattle.j39_groups.specs.Names.{group_name_in};
 ghost use Rattle.j39_reports.specs.GroupCounts.{Came, came_in, group_of};
 ghost use Rattle.j39_listen.specs.Heard.{Hearing};
 ghost use Rattle.j39_reports.specs.LogLines.{LogLine};
 ghost use Rattle.j39_reports.specs.SurveyModels.{HasCounted, HasSurveyed, HaveCounted, interface_record, others_record, shown_record};
 ghost use Rattle.j39_reports.specs.UnreadLines.{is_printed_log};
-ghost use Rattle.j39_reports.specs.SurveyText.{class_text, group_line, group_text, groups_from, groups_text, interface_text, name_text, printed_text, shown_text, survey_end, survey_head, survey_text};
+ghost use Rattle.j39_reports.specs.SurveyText.{class_text, group_line, group_named, group_text, groups_from, groups_text, interface_text, name_text, printed_text, shown_text, survey_end, survey_head, survey_text};
 
 use crate::surveys::group_table::{GroupCount, GroupTable};
 use crate::surveys::interfaces::{InterfaceCounts, Interfaces};
@@ -26,6 +25,7 @@ use crate::surveys::unread::{UnreadLine, UnreadLines};
 use j39_frame::Pgn;
 use j39_groups::{Groups, is_network_group};
 use j39_io::{DeviceFault, Sink, put_all};
+use j39_names::group_name;
 use j39_rows::put_parts;
 
 /// Writes the survey of all lines, and passes it on. After a fault a front was written.
@@ -207,15 +207,25 @@ fn class_of<'r>(groups: &'r Groups<'_>, pgn: Pgn) -> &'r [u8]
     }
 }
 
-/// What the table calls a group, behind a space; both are empty where it lists none.
+/// What a group is called, behind a space; both are empty where it has no name.
 fn name_of<'r>(groups: &'r Groups<'_>, pgn: Pgn) -> (&'r [u8], &'r [u8])
-    ensures { result.0.now ++ result.1.now ≡ name_text (group_name_in groups.now (pgn_raw pgn)) }
+    ensures { result.0.now ++ result.1.now ≡ name_text (group_named groups.now (pgn_raw pgn)) }
 {
     let nothing: &[u8] = b"";
     let space: &[u8] = b" ";
-    match groups.group_name(pgn) {
+    match group_named(groups, pgn) {
         None => (nothing, nothing),
         Some(name) => (space, name),
+    }
+}
+
+/// What a group is called: by the table, or else by its short name.
+fn group_named<'r>(groups: &'r Groups<'_>, pgn: Pgn) -> Option<&'r [u8]>
+    ensures { option_map (λ name. name.now) result ≡ group_named groups.now (pgn_raw pgn) }
+{
+    match groups.group_name(pgn) {
+        Some(name) => Some(name),
+        None => group_name(pgn.raw()),
     }
 }
 
