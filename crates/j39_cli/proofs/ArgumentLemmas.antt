@@ -3,17 +3,16 @@
 -- What comes of every choice is computed at once: of a command it is one equation, and that of the choice at hand is a part
 -- of it.
 use Rattle.std.proofs.Common.{◌≡◌, ◌∙◌, ◌++◌, ◌∷◌, [], ℕ, Bool, true, false, List, Option, Some, None, ap, ap₂, append-nil, append_assoc, codes, map, refl, subst, sym, if◌then◌else◌}
-use Rattle.std.specs.Prelude.{Err, option_map}
+use Rattle.std.specs.Prelude.{option_map}
 use Rattle.std.proofs.lemmas.List.{map-append}
 use Rattle.clap.specs.Words.{App, Row, Rule, Shape, Text, built, first_of}
 use Rattle.clap.specs.Walk.{Waiting, Walk, arg_by_index, finished, nothing_held, positional, walk_from}
 use Rattle.j39_cli.specs.Command.{line_app}
-use Rattle.j39_cli.specs.CommandWords.{CommandWords, HasValues, IsAnswer, form_of}
+use Rattle.j39_cli.specs.CommandWords.{CommandWords, HasValues, form_of}
 use Rattle.j39_cli.specs.Form.{AreValues, ArgumentText, HasText, HasValue, HaveTexts, HaveValues, argument_words, flag, option, spelled, texts_of, value, values, words_in}
-use Rattle.j39_cli.specs.declared.task.ParseFault.TheVariants.{Memory}
 use Rattle.j39_cli.proofs.EachLemmas.{EndsWith, TakesEach, behind_word, found_each, rows_of_each, taken_each, takes_each}
 use Rattle.j39_cli.proofs.PartLemmas.{AreParts, Enters, Part, given, held_after, parts_walk, takes_parts, text_of, written}
-use Rattle.j39_cli.proofs.TakenLemmas.{IsParsed, IsRead, leaf_of, read, rows_of_parts}
+use Rattle.j39_cli.proofs.TakenLemmas.{IsRead, leaf_of, read, rows_of_parts}
 
 -- ---- arguments in parts
 
@@ -183,23 +182,20 @@ all_taken mets = (true, mets)
 abbrev pub IsOf : Text → App → CommandWords → List ArgumentText → Type 0
 IsOf program a s arguments =
     Enters (built line_app) (form_of s).called (leaf_of a) → (leaf_of a).name ≡ (form_of s).called
-    → (form_of s).arguments ≡ arguments → IsAnswer s (Err Memory) → IsParsed program s
+    → (form_of s).arguments ≡ arguments → HasValues s → IsRead program s
 
 -- it is parsed where clap takes its parts and meets its texts
 of_parts : (program : Text) (a : App) (s : CommandWords) (arguments : List ArgumentText)
     → taken_and_met (leaf_of a) arguments (parts_in arguments) ≡ all_taken (map wanted_of arguments) → IsOf program a s arguments
-of_parts program a s arguments met enters named are memory = record { read = reads; memory = memory }
-  where
-    reads : HasValues s → IsRead program s
-    reads have = read program (form_of s).called a enters (parts_in arguments) s
-        (are_parts arguments (subst HaveValues are have))
-        (ap (λ (xs : List ArgumentText). (form_of s).called ∷ words_in xs) are
-        ∙ ap (λ (ws : List Text). (form_of s).called ∷ ws) (words-parts arguments))
-        (ap (λ (q : Bool × List Met). q.0) met) (
-          named,
-          subst (λ (xs : List ArgumentText). HaveTexts (rows_of_parts a (parts_in arguments)).1 xs) (sym are)
-              (have_texts (rows_of_parts a (parts_in arguments)).1 arguments (ap (λ (q : Bool × List Met). q.1) met)),
-        )
+of_parts program a s arguments met enters named are have = read program (form_of s).called a enters (parts_in arguments) s
+    (are_parts arguments (subst HaveValues are have))
+    (ap (λ (xs : List ArgumentText). (form_of s).called ∷ words_in xs) are
+    ∙ ap (λ (ws : List Text). (form_of s).called ∷ ws) (words-parts arguments))
+    (ap (λ (q : Bool × List Met). q.0) met) (
+      named,
+      subst (λ (xs : List ArgumentText). HaveTexts (rows_of_parts a (parts_in arguments)).1 xs) (sym are)
+          (have_texts (rows_of_parts a (parts_in arguments)).1 arguments (ap (λ (q : Bool × List Met). q.1) met)),
+    )
 
 -- clap takes a command whose arguments are these, of which the first must be given and the others may be left out
 pub parsed : (program : Text) (a : App) (s : CommandWords) (must may : List ArgumentText)

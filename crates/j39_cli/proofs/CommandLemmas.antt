@@ -5,7 +5,7 @@ use Rattle.clap.specs.Simple.{filled, with_index}
 use Rattle.clap.specs.Walk.{arg_by_id}
 use Rattle.clap.proofs.OnLiterals.{clap_on_literals}
 use Rattle.j39_cli.specs.Command.{line_app}
-use Rattle.j39_cli.specs.CommandWords.{CommandWords, answer, cut, faults, form_of, groups, id, name, nodes, report, summary, survey, watch}
+use Rattle.j39_cli.specs.CommandWords.{CommandWords, HasValues, answer, cut, faults, form_of, groups, id, name, nodes, report, summary, survey, watch}
 use Rattle.j39_cli.specs.AnswerCommand.{answer_app}
 use Rattle.j39_cli.specs.CutCommand.{cut_app}
 use Rattle.j39_cli.specs.FaultsCommand.{faults_app}
@@ -23,7 +23,7 @@ use Rattle.j39_cli.proofs.ArgumentLemmas.{before_each, parsed, parsed_each}
 use Rattle.j39_cli.proofs.ChoiceLemmas.{parsed_choices}
 use Rattle.j39_cli.proofs.EachLemmas.{TakesEach}
 use Rattle.j39_cli.proofs.PartLemmas.{parts_pass}
-use Rattle.j39_cli.proofs.TakenLemmas.{IsParsed, memory_checked, memory_of_bus, memory_of_value}
+use Rattle.j39_cli.proofs.TakenLemmas.{IsRead}
 
 -- FILE, as clap builds it
 abbrev file_rule : Rule
@@ -40,52 +40,42 @@ takes_file known = record {
   passes = λ text rows. refl;
 }
 
-pub is_parsed : (program : Text) (s : CommandWords) → IsParsed program s
+pub is_read : (program : Text) (s : CommandWords) → HasValues s → IsRead program s
 unfolding clap_on_literals line_app parts_pass
-is_parsed program (report bus table spn from to pgn since until csv json file) =
-    parsed_choices program report_app (report bus table spn from to pgn since until csv json file) (before_each (form_of (report bus table spn from to pgn since until csv json file)).arguments) file_rule file (takes_file refl)
+is_read program (report texts) =
+    parsed_choices program report_app (report texts) (before_each (form_of (report texts)).arguments) file_rule texts.file (takes_file refl)
     (record { choices = tt; known = refl; apart = refl; defaults = refl; none_by_default = refl; first = refl; valid = λ rows. refl })
     (record { step = refl; passes = refl; found = refl; checks = refl }) refl refl
-    (memory_of_bus bus _ (memory_of_value _ _ spn _ (memory_of_value _ _ from _ (memory_of_value _ _ to _
-    (memory_of_value _ _ pgn _ (memory_of_value _ _ since _ (memory_of_value _ _ until _ (memory_checked _ _ _ tt))))))))
-is_parsed program (summary bus table spn from to pgn since until csv json file) =
-    parsed_choices program summary_app (summary bus table spn from to pgn since until csv json file) (before_each (form_of (summary bus table spn from to pgn since until csv json file)).arguments) file_rule file (takes_file refl)
+is_read program (summary texts) =
+    parsed_choices program summary_app (summary texts) (before_each (form_of (summary texts)).arguments) file_rule texts.file (takes_file refl)
     (record { choices = tt; known = refl; apart = refl; defaults = refl; none_by_default = refl; first = refl; valid = λ rows. refl })
     (record { step = refl; passes = refl; found = refl; checks = refl }) refl refl
-    (memory_of_bus bus _ (memory_of_value _ _ spn _ (memory_of_value _ _ from _ (memory_of_value _ _ to _
-    (memory_of_value _ _ pgn _ (memory_of_value _ _ since _ (memory_of_value _ _ until _ (memory_checked _ _ _ tt))))))))
-is_parsed program (faults bus table conversion spn from to pgn since until all changes now csv json file) =
-    parsed_choices program faults_app (faults bus table conversion spn from to pgn since until all changes now csv json file) (before_each (form_of (faults bus table conversion spn from to pgn since until all changes now csv json file)).arguments) file_rule file (takes_file refl)
+is_read program (faults conversion all changes now texts) =
+    parsed_choices program faults_app (faults conversion all changes now texts) (before_each (form_of (faults conversion all changes now texts)).arguments) file_rule texts.file (takes_file refl)
     (record { choices = tt; known = refl; apart = refl; defaults = refl; none_by_default = refl; first = refl; valid = λ rows. refl })
     (record { step = refl; passes = refl; found = refl; checks = refl }) refl refl
-    (memory_of_bus bus _ (memory_of_value _ _ conversion _ (memory_of_value _ _ spn _ (memory_of_value _ _ from _ (memory_of_value _ _ to _
-    (memory_of_value _ _ pgn _ (memory_of_value _ _ since _ (memory_of_value _ _ until _ (memory_checked _ _ _ (memory_checked _ _ _ tt))))))))))
-is_parsed program (nodes bus from seen csv json file) =
+is_read program (nodes bus from seen csv json file) =
     parsed_choices program nodes_app (nodes bus from seen csv json file) (before_each (form_of (nodes bus from seen csv json file)).arguments) file_rule file (takes_file refl)
     (record { choices = tt; known = refl; apart = refl; defaults = refl; none_by_default = refl; first = refl; valid = λ rows. refl })
-    (record { step = refl; passes = refl; found = refl; checks = refl }) refl refl (memory_of_bus bus _ (memory_of_value _ _ from _ (memory_checked _ _ _ tt)))
-is_parsed program (answer node address bus file) = parsed_each program answer_app (answer node address bus file)
+    (record { step = refl; passes = refl; found = refl; checks = refl }) refl refl
+is_read program (answer node address bus file) = parsed_each program answer_app (answer node address bus file)
     (option (codes "name") (Some node) ∷ option (codes "address") (Some address) ∷ []) (option (codes "bus") bus ∷ []) file_rule file (takes_file refl)
     refl refl (λ text more. refl) (record { step = refl; passes = refl; found = refl; checks = refl }) refl refl
-    (memory_checked _ _ _ (memory_checked _ _ _ (memory_of_bus bus _ tt)))
-is_parsed program (id hex) = parsed program id_app (id hex) (value (codes "hex") (Some hex) ∷ []) [] refl
-    (record { step = refl; passes = refl; found = refl; checks = refl }) refl refl (memory_checked _ _ _ tt)
-is_parsed program (name hex) = parsed program name_app (name hex) (value (codes "hex") (Some hex) ∷ []) [] refl
-    (record { step = refl; passes = refl; found = refl; checks = refl }) refl refl (memory_checked _ _ _ tt)
-is_parsed program (cut source pgn moment bus hex) = parsed program cut_app (cut source pgn moment bus hex)
+is_read program (id hex) = parsed program id_app (id hex) (value (codes "hex") (Some hex) ∷ []) [] refl
+    (record { step = refl; passes = refl; found = refl; checks = refl }) refl refl
+is_read program (name hex) = parsed program name_app (name hex) (value (codes "hex") (Some hex) ∷ []) [] refl
+    (record { step = refl; passes = refl; found = refl; checks = refl }) refl refl
+is_read program (cut source pgn moment bus hex) = parsed program cut_app (cut source pgn moment bus hex)
     (option (codes "source") (Some source) ∷ option (codes "pgn") (Some pgn) ∷ option (codes "at") (Some moment)
     ∷ option (codes "bus") (Some bus) ∷ value (codes "hex") (Some hex) ∷ []) [] refl
     (record { step = refl; passes = refl; found = refl; checks = refl }) refl refl
-    (memory_checked _ _ _ (memory_checked _ _ _ (memory_checked _ _ _ (memory_checked _ _ _
-    (memory_checked _ _ _ (memory_checked _ _ _ tt))))))
-is_parsed program (groups table) = parsed program groups_app (groups table) [] (form_of (groups table)).arguments refl
-    (record { step = refl; passes = refl; found = refl; checks = refl }) refl refl tt
-is_parsed program (survey bus table file) =
+is_read program (groups table) = parsed program groups_app (groups table) [] (form_of (groups table)).arguments refl
+    (record { step = refl; passes = refl; found = refl; checks = refl }) refl refl
+is_read program (survey bus table file) =
     parsed_choices program survey_app (survey bus table file) (before_each (form_of (survey bus table file)).arguments) file_rule file (takes_file refl)
     (record { choices = tt; known = refl; apart = refl; defaults = refl; none_by_default = refl; first = refl; valid = λ rows. refl })
-    (record { step = refl; passes = refl; found = refl; checks = refl }) refl refl (memory_of_bus bus _ tt)
-is_parsed program (watch bus table rows width file) =
+    (record { step = refl; passes = refl; found = refl; checks = refl }) refl refl
+is_read program (watch bus table rows width file) =
     parsed_choices program watch_app (watch bus table rows width file) (before_each (form_of (watch bus table rows width file)).arguments) file_rule file (takes_file refl)
     (record { choices = tt; known = refl; apart = refl; defaults = refl; none_by_default = refl; first = refl; valid = λ rows. refl })
     (record { step = refl; passes = refl; found = refl; checks = refl }) refl refl
-    (memory_of_bus bus _ (memory_of_value _ _ rows _ (memory_of_value _ _ width _ tt)))

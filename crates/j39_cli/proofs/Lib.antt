@@ -6,7 +6,7 @@ pub mod DayLemmas
 pub mod PartLemmas
 pub mod EachLemmas
 pub mod TakenLemmas
-pub mod AskedLemmas
+pub mod CheckLemmas
 pub mod ArgumentLemmas
 pub mod ChoiceLemmas
 pub mod CommandLemmas

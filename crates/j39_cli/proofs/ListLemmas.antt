@@ -1,7 +1,7 @@
 -- The values of a list in one word, word by word.
-use Rattle.std.proofs.Common.{◌≡◌, ◌≤◌, ◌<◌, ◌+◌, ◌∙◌, ◌++◌, ◌∷◌, [], ℕ, List, ap, get_or, length, map, subst, sym, take}
+use Rattle.std.proofs.Common.{◌≡◌, ◌≤◌, ◌<◌, ◌+◌, ◌∙◌, ◌++◌, ◌∷◌, [], ℕ, List, ap, arith, get_or, length, map, subst, sym, take}
 use Rattle.std.specs.Prelude.{All}
-use Rattle.std.proofs.lemmas.List.{map-append, take_all, take_more}
+use Rattle.std.proofs.lemmas.List.{get_or-map, length-map, map-append, take_all, take_more}
 use Rattle.std.proofs.lemmas.List.Elements.{All-get_or, All-more}
 use Rattle.j39_cli.specs.Lists.{IsListOf, values_in, words_in}
 
@@ -34,3 +34,11 @@ module _ {T : Type 0} (Is : List ℕ → Type 0) (value : List ℕ → T) where
   all_read text n values end few read =
       let whole = take_all n (words_in text) end in
       (record { few = few; all = subst (All Is) whole read.all }, read.are ∙ ap (map value) whole)
+
+-- a word as it stands among the words of the text
+pub word_at : {A : Type 0} (shown : A → List ℕ) (words : List A) (texts : List (List ℕ)) (n : ℕ) (d : A) → map shown words ≡ texts → n < length words
+    → (n < length texts) × (shown (get_or words n d) ≡ get_or texts n (shown (get_or words n d)))
+word_at shown words texts n d same below = (
+  subst (λ ts. n < length ts) same (let long = length-map words shown in omega arith),
+  sym (ap (λ ts. get_or ts n (shown (get_or words n d))) (sym same) ∙ get_or-map shown words n d (shown (get_or words n d)) below),
+)

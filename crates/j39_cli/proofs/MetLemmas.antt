@@ -1,5 +1,5 @@
 -- From the command that clap met to the command that was spelled.
-use Rattle.std.proofs.Common.{◌≡◌, ◌∙◌, ◌∷◌, [], ap, codes, sym, subst, List, refl, Some, None, Option}
+use Rattle.std.proofs.Common.{◌≡◌, ◌∙◌, ◌++◌, ◌∷◌, [], ap, codes, sym, subst, List, refl, Some, None, Option}
 use Rattle.std.specs.Prelude.{Result, Ok, Err, IfOk, Box, option_map, unwrap_or}
 use Rattle.std.specs.Box.{box_value}
 use Rattle.std.specs.Result.{IsErr}
@@ -10,9 +10,12 @@ use Rattle.clap.specs.declared.parser.matches.Found.{Found}
 use Rattle.clap.specs.declared.parser.matches.SubCommand.{SubCommand}
 use Rattle.clap.proofs.WalkLemmas.{first_value-rows, raw_values-rows}
 use Rattle.j39_cli.specs.Answer.{Answer}
+use Rattle.j39_cli.specs.Asked.{AskedTexts, asked_arguments, asked_found}
 use Rattle.j39_cli.specs.CommandWords as command
-use Rattle.j39_cli.specs.CommandWords.{CommandWords, HasTexts, IsAnswer, Tells, command_found, form_of, text_found, texts_found}
-use Rattle.j39_cli.specs.Form.{ArgumentText, HasText, HaveTexts, flag, option, texts_of, value, values}
+use Rattle.j39_cli.specs.CommandWords.{CommandWords, HasTexts, IsAnswer, Tells, command_found, form_of}
+use Rattle.j39_cli.specs.Form.{ArgumentText, HasText, HaveTexts, flag, option, text_found, texts_found, texts_of, value, values}
+use Rattle.j39_cli.specs.LogCommand.{log_arguments}
+use Rattle.j39_cli.specs.RowOptions.{RowTexts, rows_found}
 use Rattle.j39_cli.specs.Rules.{is_given}
 
 name_of_met : (m : ArgMatches) → option_map (λ met. met.0) (subcommand_rows_of m) ≡ subcommand_name_of m
@@ -83,12 +86,46 @@ found_texts found (x ∷ xs) have = (of x have.0, found_texts found xs have.1)
 is_text_found : (found : Found) (id text : Text) → first_value found id ≡ Some text → text ≡ text_found found id
 is_text_found found id text is = rw is
 
+asked_are_found : (texts : AskedTexts) (others : List ArgumentText) (found : Found) → AreFound found (asked_arguments texts ++ others)
+    → (texts ≡ asked_found found) × AreFound found others
+asked_are_found texts others found are = (
+  λ i. record {
+    spn = sym are.0 i;
+    from = sym are.1.0 i;
+    to = sym are.1.1.0 i;
+    pgn = sym are.1.1.1.0 i;
+    since = sym are.1.1.1.1.0 i;
+    until = sym are.1.1.1.1.1.0 i;
+  },
+  are.1.1.1.1.1.1,
+)
+
+rows_are_found : (texts : RowTexts) (found : Found) → first_value found (codes "bus") ≡ texts.bus → first_value found (codes "table") ≡ texts.table
+    → texts.asked ≡ asked_found found → AreFound found (log_arguments texts.csv texts.json texts.file) → texts ≡ rows_found found
+rows_are_found texts found bus table asked log = λ i. record {
+  bus = sym bus i;
+  table = sym table i;
+  asked = asked i;
+  csv = sym log.0 i;
+  json = sym log.1.0 i;
+  file = sym log.1.1.0 i;
+}
+
 -- a command is that of its name whose texts are found
 is_command_found : (s : CommandWords) (found : Found) → AreFound found (form_of s).arguments
     → s ≡ command_found (form_of s).called found
-is_command_found (command.report bus table spn from to pgn since until csv json file) found are = cc
-is_command_found (command.summary bus table spn from to pgn since until csv json file) found are = cc
-is_command_found (command.faults bus table conversion spn from to pgn since until all changes now csv json file) found are = cc
+is_command_found (command.report texts) found are =
+    let asked = asked_are_found texts.asked (log_arguments texts.csv texts.json texts.file) found are.1.1 in
+    ap command.report (rows_are_found texts found are.0 are.1.0 asked.0 asked.1)
+is_command_found (command.summary texts) found are =
+    let asked = asked_are_found texts.asked (log_arguments texts.csv texts.json texts.file) found are.1.1 in
+    ap command.summary (rows_are_found texts found are.0 are.1.0 asked.0 asked.1)
+is_command_found (command.faults conversion all changes now texts) found are =
+    let flags = flag (codes "all") all ∷ flag (codes "changes") changes ∷ flag (codes "now") now ∷ log_arguments texts.csv texts.json texts.file in
+    let asked = asked_are_found texts.asked flags found are.1.1.1 in
+    let told = asked.1 in
+    let rows = rows_are_found texts found are.0 are.1.0 asked.0 told.1.1.1 in
+    λ i. command.faults (sym are.1.1.0 i) (sym told.0 i) (sym told.1.0 i) (sym told.1.1.0 i) (rows i)
 is_command_found (command.nodes bus from seen csv json file) found are = cc
 is_command_found (command.answer node address bus file) found are =
     cc (is_text_found found (codes "name") node are.0, is_text_found found (codes "address") address are.1.0)

@@ -1,5 +1,6 @@
 -- What answers a command: its task, or why there is none.
-use Rattle.std.specs.Prelude.{◌≡◌, ◌≢◌, ℕ, List, [], Option, Some, None, Result, Ok, Err, codes}
+use Rattle.std.specs.Prelude.{◌≡◌, ◌≢◌, ◌∷◌, [], ℕ, List, Option, Result, Ok, Err, codes}
+use Rattle.std.specs.Option.{ForSome}
 use Rattle.clap.specs.Words.{Text}
 use Rattle.j39_log.specs.Bus.{IsBusName}
 use Rattle.j39_cli.specs.declared.task.Argument.{Argument}
@@ -34,49 +35,65 @@ argument_text argument.Forms = codes "--csv, --json together"
 abbrev pub Answer : Type 0
 Answer = Result Task ParseFault
 
--- a task that is this one, or memory was refused
-abbrev pub IsTask : (Task → Type 0) → Answer → Type 0
-IsTask Is (Ok t) = Is t
-IsTask Is (Err fault.Memory) = Unit {0}
-IsTask Is (Err (fault.Usage text)) = ⊥
-IsTask Is (Err (fault.BadValue a)) = ⊥
-IsTask Is (Err (fault.Help text)) = ⊥
+-- this one, or memory was refused
+abbrev pub IsMemory : ParseFault → Type 0
+IsMemory fault.Memory = Unit {0}
+IsMemory (fault.Usage text) = ⊥
+IsMemory (fault.BadValue a) = ⊥
+IsMemory (fault.Help text) = ⊥
+
+abbrev pub OrMemory : {T : Type 0} → (T → Type 0) → Result T ParseFault → Type 0
+OrMemory Is (Ok x) = Is x
+OrMemory Is (Err e) = IsMemory e
 
 -- this argument's value is wrong, or memory was refused
+abbrev pub IsFaultOf : Argument → ParseFault → Type 0
+IsFaultOf a fault.Memory = Unit {0}
+IsFaultOf a (fault.Usage text) = ⊥
+IsFaultOf a (fault.BadValue b) = b ≡ a
+IsFaultOf a (fault.Help text) = ⊥
+
 abbrev pub IsWrong : {T : Type 0} → Argument → Result T ParseFault → Type 0
-IsWrong a (Ok t) = ⊥
-IsWrong a (Err fault.Memory) = Unit {0}
-IsWrong a (Err (fault.Usage text)) = ⊥
-IsWrong a (Err (fault.BadValue b)) = b ≡ a
-IsWrong a (Err (fault.Help text)) = ⊥
+IsWrong a (Ok x) = ⊥
+IsWrong a (Err e) = IsFaultOf a e
 
 -- where the value of the argument is in range, the answer is the next one; else that it is wrong
-pub record IsChecked (InRange : Type 0) (a : Argument) (Next : Answer → Type 0) (r : Answer) : Type 0 where
+pub record IsChecked {T : Type 0} (InRange : Type 0) (a : Argument) (Next : Result T ParseFault → Type 0) (r : Result T ParseFault)
+    : Type 0 where
   pub in_range : InRange → Next r
   pub wrong : ¬ InRange → IsWrong a r
 
--- the same of `--bus`, which may be left out
-abbrev pub IsBusChecked : Option Text → (Answer → Type 0) → Answer → Type 0
-IsBusChecked None Next r = Next r
-IsBusChecked (Some bus) Next r = IsChecked (IsBusName bus) argument.Bus Next r
+-- what an argument's value has to be
+pub record Check : Type 1 where
+  pub InRange : Type 0
+  pub argument : Argument
 
--- the same of any that may be left out
-abbrev pub IsValueChecked : (Text → Type 0) → Argument → Option Text → (Answer → Type 0) → Answer → Type 0
-IsValueChecked InRange a None Next r = Next r
-IsValueChecked InRange a (Some text) Next r = IsChecked (InRange text) a Next r
+abbrev pub check : Type 0 → Argument → Check
+check InRange a = record { InRange = InRange; argument = a }
 
--- ---- what is read of a value that may be left out, and of FILE
+-- the same of a value that may be left out
+abbrev pub value_check : (Text → Type 0) → Argument → Option Text → Check
+value_check InRange a text = check (ForSome text InRange) a
 
--- what the text stands for, where it is in range; else that it is wrong
-abbrev pub IsValueRead : {T : Type 0} → (Text → Type 0) → (Text → T) → Argument → Option Text → Result (Option T) ParseFault
-    → Type 0
-IsValueRead InRange value a None r = r ≡ Ok None
-IsValueRead InRange value a (Some text) (Ok read) = InRange text × (read ≡ Some (value text))
-IsValueRead InRange value a (Some text) (Err e) = (¬ InRange text) × (e ≡ fault.BadValue a)
+abbrev pub bus_check : Option Text → Check
+bus_check bus = value_check IsBusName argument.Bus bus
 
--- the same of `--bus`, which stands for itself
-abbrev pub IsBusRead : Option Text → Result (Option (List ℕ)) ParseFault → Type 0
-IsBusRead text r = IsValueRead IsBusName (λ name. name) argument.Bus text r
+-- values are checked one after the other: the first that is wrong is told; where none is, comes what is next
+abbrev pub AreChecked : {T : Type 0} → List Check → (Result T ParseFault → Type 0) → Result T ParseFault → Type 0
+AreChecked [] Next r = Next r
+AreChecked (c ∷ cs) Next r = IsChecked c.InRange c.argument (AreChecked cs Next) r
+
+-- ---- what is read of values, and of FILE
+
+-- it is so, and nothing is wrong
+abbrev pub IsRead : {T : Type 0} → (T → Type 0) → Result T ParseFault → Type 0
+IsRead Is (Ok x) = Is x
+IsRead Is (Err e) = ⊥
+
+-- what is read of the values that are checked is so; it wants no memory
+pub record IsReadAs {T : Type 0} (checks : List Check) (Is : T → Type 0) (r : Result T ParseFault) : Type 0 where
+  pub read : AreChecked checks (IsRead Is) r
+  pub memory : r ≢ Err fault.Memory
 
 -- the log of the bus, and of each FILE; else memory to keep them was refused
 abbrev pub IsInput : Option Text → List Text → Result LogInput ParseFault → Type 0

@@ -9,7 +9,7 @@ use Rattle.j39_frame.specs.Address.{IsAddress}
 use Rattle.j39_log.specs.Bus.{IsBusName}
 use Rattle.j39_listen.specs.Asking.{AsksForBoxes}
 use Rattle.j39_listen.specs.Output.{MakesAnswers}
-use Rattle.j39_cli.specs.Answer.{IsBusChecked, IsChecked, IsTask}
+use Rattle.j39_cli.specs.Answer.{bus_check, check}
 use Rattle.j39_cli.specs.Numbers.{IsNumberBelow}
 use Rattle.j39_cli.specs.Form.{Form, Meaning, option, values}
 use Rattle.j39_cli.specs.LogCommand.{runs, with_log}
@@ -34,8 +34,8 @@ answer_form node address bus file = record {
   called = codes "answer";
   arguments = option (codes "name") (Some node) ∷ option (codes "address") (Some address) ∷ option (codes "bus") bus
       ∷ values (codes "file") file ∷ [];
-  Answers = IsChecked (IsNameText node) argument.Name (IsChecked (IsNumberBelow 254 address) argument.Address
-      (IsBusChecked bus (IsTask (IsNodeTask (digits_value 16 node) (digits_value 10 address) bus file))));
+  checks = check (IsNameText node) argument.Name ∷ check (IsNumberBelow 254 address) argument.Address ∷ bus_check bus ∷ [];
+  Is = IsNodeTask (digits_value 16 node) (digits_value 10 address) bus file;
 }
 
 abbrev pub answer_meaning : ℕ → ℕ → LogInput → Meaning

@@ -1,11 +1,10 @@
 -- The commands, each with the texts of its values.
-use Rattle.std.specs.Prelude.{◌≡◌, ◌∷◌, [], Bool, List, Option, Err, IfOk, codes, if◌then◌else◌, option_map, unwrap_or}
-use Rattle.std.specs.Option.{option_map_or}
+use Rattle.std.specs.Prelude.{◌≡◌, ◌∷◌, Bool, List, Option, Err, IfOk, codes, if◌then◌else◌}
 use Rattle.std.specs.Str.{bytes_eq}
-use Rattle.clap.specs.Words.{Row, Text, first_value, matched_of, raw_values, rows_of}
+use Rattle.clap.specs.Words.{Row, Text, first_value, rows_of}
 use Rattle.clap.specs.declared.parser.matches.Found.{Found}
-use Rattle.j39_cli.specs.Answer.{Answer}
-use Rattle.j39_cli.specs.Form.{Form, HaveTexts, HaveValues, WantsMemory, words_in}
+use Rattle.j39_cli.specs.Answer.{Answer, AreChecked, OrMemory}
+use Rattle.j39_cli.specs.Form.{Form, HaveTexts, HaveValues, WantsMemory, text_found, texts_found, words_in}
 use Rattle.j39_cli.specs.AnswerCommand.{answer_form}
 use Rattle.j39_cli.specs.CutCommand.{cut_form}
 use Rattle.j39_cli.specs.FaultsCommand.{faults_form}
@@ -14,6 +13,7 @@ use Rattle.j39_cli.specs.IdCommand.{id_form}
 use Rattle.j39_cli.specs.NameCommand.{name_form}
 use Rattle.j39_cli.specs.NodesCommand.{nodes_form}
 use Rattle.j39_cli.specs.ReportCommand.{report_form}
+use Rattle.j39_cli.specs.RowOptions.{RowTexts, rows_found}
 use Rattle.j39_cli.specs.SummaryCommand.{summary_form}
 use Rattle.j39_cli.specs.SurveyCommand.{survey_form}
 use Rattle.j39_cli.specs.WatchCommand.{watch_form}
@@ -23,12 +23,9 @@ use Rattle.j39_cli.specs.declared.task.ParseFault.TheVariants.{Memory}
 
 -- a command with the texts of its values, in the order of its spelling
 pub data CommandWords : Type 0 where
-  report : Option Text → Option Text → Option Text → Option Text → Option Text → Option Text → Option Text → Option Text → Bool → Bool
-      → List Text → CommandWords
-  summary : Option Text → Option Text → Option Text → Option Text → Option Text → Option Text → Option Text → Option Text → Bool → Bool
-      → List Text → CommandWords
-  faults : Option Text → Option Text → Option Text → Option Text → Option Text → Option Text → Option Text → Option Text → Option Text → Bool → Bool
-      → Bool → Bool → Bool → List Text → CommandWords
+  report : RowTexts → CommandWords
+  summary : RowTexts → CommandWords
+  faults : Option Text → Bool → Bool → Bool → RowTexts → CommandWords
   nodes : Option Text → Option Text → Bool → Bool → Bool → List Text → CommandWords
   answer : Text → Text → Option Text → List Text → CommandWords
   id : Text → CommandWords
@@ -39,10 +36,9 @@ pub data CommandWords : Type 0 where
   watch : Option Text → Option Text → Option Text → Option Text → List Text → CommandWords
 
 abbrev pub form_of : CommandWords → Form
-form_of (report bus table spn from to pgn since until csv json file) = report_form bus table spn from to pgn since until csv json file
-form_of (summary bus table spn from to pgn since until csv json file) = summary_form bus table spn from to pgn since until csv json file
-form_of (faults bus table conversion spn from to pgn since until all changes now csv json file) =
-    faults_form bus table conversion spn from to pgn since until all changes now csv json file
+form_of (report texts) = report_form texts
+form_of (summary texts) = summary_form texts
+form_of (faults conversion all changes now texts) = faults_form conversion all changes now texts
 form_of (nodes bus from seen csv json file) = nodes_form bus from seen csv json file
 form_of (answer node address bus file) = answer_form node address bus file
 form_of (id hex) = id_form hex
@@ -63,35 +59,20 @@ HasValues s = HaveValues (form_of s).arguments
 abbrev pub HasTexts : CommandWords → Text × List Row → Type 0
 HasTexts s met = (met.0 ≡ (form_of s).called) × HaveTexts met.1 (form_of s).arguments
 
--- a text that must be given: empty where it isn't found
-abbrev pub text_found : Found → Text → Text
-text_found found argument = option_map_or (λ text. text) (first_value found argument) []
-
--- the texts of an argument that takes as many as there are
-abbrev pub texts_found : Found → Text → List Text
-texts_found found argument = unwrap_or (option_map raw_values (matched_of found argument)) []
-
 -- the command of this name, which clap knows, with the texts that are found
 abbrev pub command_found : Text → Found → CommandWords
 command_found called found =
     let bus = first_value found (codes "bus") in
     let table = first_value found (codes "table") in
-    let csv = is_given (first_value found (codes "csv")) in
-    let json = is_given (first_value found (codes "json")) in
     let file = texts_found found (codes "file") in
-    let from = first_value found (codes "from") in
-    let to = first_value found (codes "to") in
-    let pgn = first_value found (codes "pgn") in
-    let since = first_value found (codes "since") in
-    let until = first_value found (codes "until") in
-    let spn = first_value found (codes "spn") in
-    if bytes_eq called (codes "report") then report bus table spn from to pgn since until csv json file
-    else if bytes_eq called (codes "summary") then summary bus table spn from to pgn since until csv json file
+    if bytes_eq called (codes "report") then report (rows_found found)
+    else if bytes_eq called (codes "summary") then summary (rows_found found)
     else if bytes_eq called (codes "faults") then
-    faults bus table (first_value found (codes "conversion")) spn from to pgn since until (is_given (first_value found (codes "all")))
-    (is_given (first_value found (codes "changes"))) (is_given (first_value found (codes "now"))) csv json file
+    faults (first_value found (codes "conversion")) (is_given (first_value found (codes "all")))
+    (is_given (first_value found (codes "changes"))) (is_given (first_value found (codes "now"))) (rows_found found)
     else if bytes_eq called (codes "nodes") then
-    nodes bus from (is_given (first_value found (codes "seen"))) csv json file
+    nodes bus (first_value found (codes "from")) (is_given (first_value found (codes "seen"))) (is_given (first_value found (codes "csv")))
+    (is_given (first_value found (codes "json"))) file
     else if bytes_eq called (codes "answer") then
     answer (text_found found (codes "name")) (text_found found (codes "address")) bus file
     else if bytes_eq called (codes "id") then id (text_found found (codes "hex"))
@@ -105,7 +86,7 @@ command_found called found =
 
 -- the values are checked in the order of the words, and the first wrong one is the answer
 abbrev pub IsAnswer : CommandWords → Answer → Type 0
-IsAnswer s r = (form_of s).Answers r
+IsAnswer s r = AreChecked (form_of s).checks (OrMemory (form_of s).Is) r
 
 -- what is answered: memory is wanted for FILE alone, where it is given, and a task is in range
 pub record IsAnswered (s : CommandWords) (r : Answer) : Type 0 where

@@ -6,7 +6,7 @@ use Rattle.clap.specs.Words.{App, Text, new_app, with_rule}
 use Rattle.hex.specs.Hex.{decode_of}
 use Rattle.hex.specs.declared.error.FromHexError.{FromHexError}
 use Rattle.j39_log.specs.Bus.{IsBusName}
-use Rattle.j39_cli.specs.Answer.{Answer, IsChecked, IsTask}
+use Rattle.j39_cli.specs.Answer.{check}
 use Rattle.j39_cli.specs.Form.{Form, Meaning, option, shows, value}
 use Rattle.j39_cli.specs.Numbers.{IsNumberBelow}
 use Rattle.j39_cli.specs.Outgoing.{EndsInTime, IsOutgoing, OutgoingRecord, cut_text, outgoing}
@@ -69,14 +69,6 @@ abbrev pub IsCutTask : OutgoingRecord → Task → Type 0
 IsCutTask o (Cut o') = o' ≡ o
 IsCutTask o t = ⊥
 
--- the values are checked in the order of the words, and the end last
-abbrev pub IsCutAnswer : Text → Text → Text → Text → Text → Answer → Type 0
-IsCutAnswer source pgn at bus hex r =
-    IsChecked (IsNumberBelow 254 source) Source (IsChecked (IsNumberBelow (2 ^ 18) pgn) Pgn
-    (IsChecked (IsMomentText at) At (IsChecked (IsBusName bus) Bus (IsChecked (IsPayloadText hex) Hex
-    (IsChecked (EndsInTime (outgoing_of source pgn at bus hex)) At
-    (IsTask (IsCutTask (outgoing_of source pgn at bus hex)))))))) r
-
 -- ---- the command
 
 abbrev pub cut_form : Text → Text → Text → Text → Text → Form
@@ -84,7 +76,9 @@ cut_form source pgn at bus hex = record {
   called = codes "cut";
   arguments = option (codes "source") (Some source) ∷ option (codes "pgn") (Some pgn) ∷ option (codes "at") (Some at)
       ∷ option (codes "bus") (Some bus) ∷ value (codes "hex") (Some hex) ∷ [];
-  Answers = IsCutAnswer source pgn at bus hex;
+  checks = check (IsNumberBelow 254 source) Source ∷ check (IsNumberBelow (2 ^ 18) pgn) Pgn ∷ check (IsMomentText at) At
+      ∷ check (IsBusName bus) Bus ∷ check (IsPayloadText hex) Hex ∷ check (EndsInTime (outgoing_of source pgn at bus hex)) At ∷ [];
+  Is = IsCutTask (outgoing_of source pgn at bus hex);
 }
 
 abbrev pub cut_meaning : OutgoingRecord → Meaning

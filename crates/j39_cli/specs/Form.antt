@@ -1,11 +1,14 @@
 -- What a command is: its words, and what a task comes to.
-use Rattle.std.specs.Prelude.{◌≡◌, ◌≢◌, ◌⊎◌, ◌==◌, ◌∷◌, ◌++◌, ℕ, Bool, true, false, List, [], Option, Some, None, codes, unwrap_or}
+use Rattle.std.specs.Prelude.{◌≡◌, ◌≢◌, ◌⊎◌, ◌==◌, ◌∷◌, ◌++◌, ℕ, Bool, true, false, List, [], Option, Some, None, codes, option_map, unwrap_or}
+use Rattle.std.specs.Option.{option_map_or}
 use Rattle.j39_io.specs.Turn.{Turn}
-use Rattle.clap.specs.Words.{Row, Text, all_of, first_of}
+use Rattle.clap.specs.Words.{Row, Text, all_of, first_of, first_value, matched_of, raw_values}
+use Rattle.clap.specs.declared.parser.matches.Found.{Found}
 use Rattle.j39_groups.specs.Row.{RowRecord}
-use Rattle.j39_cli.specs.Answer.{Answer}
+use Rattle.j39_cli.specs.Answer.{Check}
 use Rattle.j39_cli.specs.Rules.{is_given}
 use Rattle.j39_cli.specs.WholeText.{IsShown}
+use Rattle.j39_cli.specs.declared.task.Task.{Task}
 
 -- ---- words
 
@@ -67,6 +70,14 @@ HaveValues (x ∷ xs) = HasValue x × HaveValues xs
 abbrev pub texts_of : Text → List Row → List Text
 texts_of name rows = unwrap_or (all_of name rows) []
 
+-- a text that must be given: empty where it isn't found
+abbrev pub text_found : Found → Text → Text
+text_found found argument = option_map_or (λ text. text) (first_value found argument) []
+
+-- the texts of an argument that takes as many as there are
+abbrev pub texts_found : Found → Text → List Text
+texts_found found argument = unwrap_or (option_map raw_values (matched_of found argument)) []
+
 abbrev pub HasText : List Row → ArgumentText → Type 0
 HasText rows (option name text) = first_of name rows ≡ text
 HasText rows (flag name is_set) = is_given (first_of name rows) ≡ is_set
@@ -87,11 +98,12 @@ WantsMemory (value name text ∷ xs) = WantsMemory xs
 WantsMemory (values name texts ∷ xs) = (texts ≢ []) ⊎ WantsMemory xs
 
 -- a command with the texts of its values: its name, its arguments in the order of the words behind it, of which those that
--- must be given have a text, and what answers it
+-- must be given have a text, what they have to be, and the task that it is
 pub record Form : Type 1 where
   pub called : Text
   pub arguments : List ArgumentText
-  pub Answers : Answer → Type 0
+  pub checks : List Check
+  pub Is : Task → Type 0
 
 -- ---- tasks
 

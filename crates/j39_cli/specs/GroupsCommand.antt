@@ -2,7 +2,6 @@
 use Rattle.std.specs.Prelude.{◌≡◌, ◌∷◌, [], ℕ, List, Option, codes}
 use Rattle.clap.specs.Words.{App, Text, new_app}
 use Rattle.j39_groups.specs.Printed.{rows_text}
-use Rattle.j39_cli.specs.Answer.{IsTask}
 use Rattle.j39_cli.specs.Form.{Form, Meaning, option, shows}
 use Rattle.j39_cli.specs.Rules.{with_table}
 use Rattle.j39_cli.specs.declared.task.Task.{Task}
@@ -19,7 +18,8 @@ abbrev pub groups_form : Option Text → Form
 groups_form table = record {
   called = codes "groups";
   arguments = option (codes "table") table ∷ [];
-  Answers = IsTask (IsGroupsTask table);
+  checks = [];
+  Is = IsGroupsTask table;
 }
 
 abbrev pub groups_meaning : Option (List ℕ) → Meaning

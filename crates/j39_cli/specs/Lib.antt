@@ -17,7 +17,7 @@ pub mod Refusal
 pub mod Refused
 -- the commands, each with its words, its task and what it writes
 pub mod LogCommand
-pub mod FilterWords
+pub mod RowOptions
 pub mod Joined
 pub mod JoinedSoFar
 pub mod RowsRun

@@ -1,9 +1,9 @@
 -- What the commands that read a log have in common.
-use Rattle.std.specs.Prelude.{◌≡◌, ◌⊎◌, ℕ, Bool, true, false, ◌++◌, ◌∷◌, List, [], Option, None, Some, Result, Ok, Err, codes, decimal}
+use Rattle.std.specs.Prelude.{◌≡◌, ◌≢◌, ◌⊎◌, ℕ, Bool, true, false, ◌++◌, ◌∷◌, List, [], Option, None, Some, Result, Ok, Err, codes, decimal}
 use Rattle.std.specs.Str.{bytes_eq}
 use Rattle.std.specs.Option.{ForSome}
 use Rattle.j39_io.specs.Turn.{Turn}
-use Rattle.clap.specs.Words.{App, with_rule}
+use Rattle.clap.specs.Words.{App, Text, with_rule}
 use Rattle.j39_log.specs.Bus.{IsBusName}
 use Rattle.j39_groups.specs.Row.{RowRecord}
 use Rattle.j39_listen.specs.Asking.{Wanting}
@@ -13,13 +13,15 @@ use Rattle.j39_listen.specs.Fault.{fault_words}
 use Rattle.j39_listen.specs.declared.counts.Counts.{Counts}
 use Rattle.j39_listen.specs.declared.running.RunFault.{RunFault}
 use Rattle.j39_listen.specs.declared.running.RunFault.TheVariants.{Memory, Read, Write, TooLong}
-use Rattle.j39_cli.specs.Form.{Meaning}
+use Rattle.j39_cli.specs.Answer.{Check, check}
+use Rattle.j39_cli.specs.Form.{ArgumentText, Meaning, flag, values}
 use Rattle.j39_cli.specs.Rules.{flag_rule, option_rule, values_rule}
 use Rattle.j39_cli.specs.Counted.{counts_text}
 use Rattle.j39_cli.specs.Refusal.{error_line}
 use Rattle.j39_cli.specs.Tells.{Tells}
 use Rattle.j39_listen.specs.declared.format.Format.{Format}
 use Rattle.j39_listen.specs.declared.format.Format.TheVariants.{Line, Object, Record}
+use Rattle.j39_cli.specs.declared.task.Argument.TheVariants as argument
 use Rattle.j39_cli.specs.declared.task.LogInput.{LogInput}
 
 -- a command that reads a log takes `--bus`, and as many FILEs as there are
@@ -36,6 +38,13 @@ written_by false false = Some Line
 written_by true false = Some Record
 written_by false true = Some Object
 written_by true true = None
+
+abbrev pub forms_check : Bool → Bool → Check
+forms_check csv json = check (written_by csv json ≢ None) argument.Forms
+
+-- the last arguments of such a command
+abbrev pub log_arguments : Bool → Bool → List Text → List ArgumentText
+log_arguments csv json file = flag (codes "csv") csv ∷ flag (codes "json") json ∷ values (codes "file") file ∷ []
 
 -- FILE may stand for standard input
 abbrev pub is_input : List ℕ → Bool

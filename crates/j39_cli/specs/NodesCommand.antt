@@ -1,15 +1,15 @@
 -- The command `nodes [--bus B] [--from A,..] [--seen] [--csv | --json] [FILE]..`.
-use Rattle.std.specs.Prelude.{◌≡◌, ◌≢◌, ◌∷◌, [], ℕ, Bool, false, true, List, None, Option, Some, codes, option_map}
+use Rattle.std.specs.Prelude.{◌≡◌, ◌∷◌, [], ℕ, Bool, false, true, List, Option, Some, codes, option_map}
 use Rattle.clap.specs.Words.{App, Text, new_app, with_rule}
 use Rattle.j39_listen.specs.Asking.{AsksNowhere}
 use Rattle.j39_listen.specs.Headed.{begins_flushed}
 use Rattle.j39_listen.specs.Nodes.{MakesNodesOf}
 use Rattle.j39_listen.specs.Output.{Making}
 use Rattle.j39_listen.specs.SeenNodes.{MakesSeenNodes}
-use Rattle.j39_cli.specs.Answer.{IsBusChecked, IsChecked, IsTask, IsValueChecked}
+use Rattle.j39_cli.specs.Answer.{bus_check, value_check}
 use Rattle.j39_cli.specs.Asked.{IsSenderList, senders_in}
-use Rattle.j39_cli.specs.Form.{Form, Meaning, flag, option, values}
-use Rattle.j39_cli.specs.LogCommand.{runs, with_forms, with_log, written_by}
+use Rattle.j39_cli.specs.Form.{Form, Meaning, flag, option}
+use Rattle.j39_cli.specs.LogCommand.{forms_check, log_arguments, runs, with_forms, with_log, written_by}
 use Rattle.j39_cli.specs.Rules.{flag_rule, option_rule}
 use Rattle.j39_listen.specs.declared.format.Format.{Format}
 use Rattle.j39_listen.specs.declared.filter.Sender.{Sender}
@@ -40,10 +40,10 @@ IsNodesTask bus from seen csv json file t = ⊥
 abbrev pub nodes_form : Option Text → Option Text → Bool → Bool → Bool → List Text → Form
 nodes_form bus from seen csv json file = record {
   called = codes "nodes";
-  arguments = option (codes "bus") bus ∷ option (codes "from") from ∷ flag (codes "seen") seen ∷ flag (codes "csv") csv ∷ flag (codes "json") json
-      ∷ values (codes "file") file ∷ [];
-  Answers = IsBusChecked bus (IsValueChecked IsSenderList argument.From from
-      (IsChecked (written_by csv json ≢ None) argument.Forms (IsTask (IsNodesTask bus from seen csv json file))));
+  arguments = option (codes "bus") bus ∷ option (codes "from") from ∷ flag (codes "seen") seen
+      ∷ log_arguments csv json file;
+  checks = bus_check bus ∷ value_check IsSenderList argument.From from ∷ forms_check csv json ∷ [];
+  Is = IsNodesTask bus from seen csv json file;
 }
 
 -- of who is asked for, with a NAME or at an address

@@ -7,7 +7,7 @@ use Rattle.j39_log.specs.Bus.{IsBusName}
 use Rattle.j39_groups.specs.Row.{RowRecord}
 use Rattle.j39_listen.specs.declared.running.RunFault.{RunFault}
 use Rattle.j39_reports.specs.SurveyRun.{Surveyed}
-use Rattle.j39_cli.specs.Answer.{IsBusChecked, IsTask}
+use Rattle.j39_cli.specs.Answer.{bus_check}
 use Rattle.j39_cli.specs.Form.{Form, Meaning, option, values}
 use Rattle.j39_cli.specs.LogCommand.{fault_text, log_limit, with_log}
 use Rattle.j39_cli.specs.Refusal.{error_line}
@@ -28,7 +28,8 @@ abbrev pub survey_form : Option Text → Option Text → List Text → Form
 survey_form bus table file = record {
   called = codes "survey";
   arguments = option (codes "bus") bus ∷ option (codes "table") table ∷ values (codes "file") file ∷ [];
-  Answers = IsBusChecked bus (IsTask (IsSurveyTask bus table file));
+  checks = bus_check bus ∷ [];
+  Is = IsSurveyTask bus table file;
 }
 
 -- the end of a survey: nothing is said of one that was written, with status 0, and a fault is told, with status 1

@@ -21,9 +21,9 @@ use Rattle.j39_cli.specs.declared.task.Task.{Task}
 use Rattle.j39_cli.specs.declared.task.Task.TheVariants.{Report, Summary, Faults, Nodes, Answer, Id, Name, Cut, Groups, Survey, Watch}
 
 abbrev pub meaning_of : Task → Meaning
-meaning_of (Report input table spns asked format) = report_meaning input table spns asked format
-meaning_of (Summary input table spns asked format) = summary_meaning input table spns asked format
-meaning_of (Faults input table conversions spns asked told format) = faults_meaning input table conversions spns asked told format
+meaning_of (Report options) = report_meaning options
+meaning_of (Summary options) = summary_meaning options
+meaning_of (Faults options) = faults_meaning options
 meaning_of (Nodes input from told) = nodes_meaning input from told
 meaning_of (Answer name address input) = answer_meaning (name_raw name) address input
 meaning_of (Id id) = id_meaning (id_raw id)

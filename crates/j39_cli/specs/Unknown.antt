@@ -20,8 +20,8 @@ unknown_words rows spns = flat_map (unknown_line rows) spns
 
 -- the parameters that a report or a summary is asked for
 abbrev pub spns_of : Task → Option (List ℕ)
-spns_of (Report input table spns asked format) = spns
-spns_of (Summary input table spns asked format) = spns
+spns_of (Report options) = options.asked.spns
+spns_of (Summary options) = options.asked.spns
 spns_of task = None
 
 -- what is said of those that a task asks for

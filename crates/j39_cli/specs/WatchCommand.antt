@@ -7,7 +7,7 @@ use Rattle.j39_log.specs.Bus.{IsBusName}
 use Rattle.j39_reports.specs.NotesSoFar.{size_of}
 use Rattle.j39_reports.specs.Watch.{AsksForWatch, MakesWatch, Size}
 use Rattle.j39_reports.specs.declared.watching.size.ScreenSize.{ScreenSize}
-use Rattle.j39_cli.specs.Answer.{IsBusChecked, IsTask, IsValueChecked}
+use Rattle.j39_cli.specs.Answer.{bus_check, value_check}
 use Rattle.j39_cli.specs.Form.{Form, Meaning, option, values}
 use Rattle.j39_cli.specs.LogCommand.{runs, with_log}
 use Rattle.j39_cli.specs.Numbers.{IsNumberIn}
@@ -53,8 +53,8 @@ watch_form bus table rows width file = record {
   called = codes "watch";
   arguments = option (codes "bus") bus ∷ option (codes "table") table ∷ option (codes "rows") rows
       ∷ option (codes "width") width ∷ values (codes "file") file ∷ [];
-  Answers = IsBusChecked bus (IsValueChecked IsRows argument.Rows rows (IsValueChecked IsWidth argument.Width width
-      (IsTask (IsWatchTask bus table rows width file))));
+  checks = bus_check bus ∷ value_check IsRows argument.Rows rows ∷ value_check IsWidth argument.Width width ∷ [];
+  Is = IsWatchTask bus table rows width file;
 }
 
 abbrev pub watch_meaning : LogInput → Option (List ℕ) → ScreenSize → Meaning

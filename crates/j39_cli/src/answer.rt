@@ -9,7 +9,8 @@ ghost use Rattle.j39_listen.specs.Asking.{AsksForBoxes};
 ghost use Rattle.j39_listen.specs.Output.{MakesAnswers};
 ghost use Rattle.j39_cli.specs.AnswerCommand.{answer_app};
 ghost use Rattle.j39_cli.specs.CommandWords as written;
-ghost use Rattle.j39_cli.specs.CommandWords.{IsAnswered, Tells, texts_found};
+ghost use Rattle.j39_cli.specs.CommandWords.{IsAnswered, Tells};
+ghost use Rattle.j39_cli.specs.Form.{texts_found};
 ghost use Rattle.j39_cli.specs.Numbers.{IsNumberBelow};
 ghost use Rattle.j39_cli.specs.LogCommand.{IsRun};
 ghost use Rattle.j39_cli.specs.Task.{IsInRange};
@@ -91,10 +92,7 @@ fn task_of<'a>(
     let Some(address) = address_of(address) else {
         return Err(ParseFault::BadValue(Argument::Address));
     };
-    let bus = match bus_value(given) {
-        Ok(bus) => bus,
-        Err(fault) => return Err(fault),
-    };
+    let bus = bus_value(given)?;
     match log_input(alloc, bus, given) {
         Ok(input) => Ok(Task::Answer {
             name,

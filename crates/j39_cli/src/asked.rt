@@ -1,31 +1,49 @@
-//! Which entries of a report are asked for.
-ghost use Rattle.std.specs.Prelude.{◌≡◌, ◌↔◌, true};
+//! What is asked for of what a log has.
+ghost use Rattle.std.specs.Prelude.{◌≡◌, ◌≢◌, ◌↔◌, Err, true};
 ghost use Rattle.std.specs.Option.{SomeIff};
-ghost use Rattle.std.specs.Str.Parse.{digits_value};
+ghost use Rattle.clap.specs.Words.{App, found_of};
 ghost use Rattle.j39_listen.specs.Chooses.{which_of};
 ghost use Rattle.j39_listen.specs.Filter.{filter_of, no_filter};
-ghost use Rattle.j39_cli.specs.Asked.{IsAddressList, IsAddressWord, IsMoment, IsPgnList, IsSender, IsSenderList, IsStamp, addresses_in, filter_in, moment_in, pgns_in, sender_in, senders_in, stamp_in};
+ghost use Rattle.j39_cli.specs.Answer.{AreChecked, IsRead};
+ghost use Rattle.j39_cli.specs.Asked.{IsAsked, IsMoment, IsStamp, asked_checks, asked_found, filter_in, moment_in, stamp_in, with_asked};
+ghost use Rattle.j39_cli.specs.Rules.{IsMade};
 
+use crate::command::with_option;
+use crate::cut_values::number_below;
+use crate::lists::{Listed, Word, slice_of};
 use crate::seconds::{behind_first, micros_of};
-use crate::spns::numbers_of;
+use crate::spns::{SpnWord, Spns};
 use crate::utc::{is_utc, utc_of};
-use arrayvec::ArrayVec;
+use crate::words::{list_value, moment_value};
+use crate::{Argument, ParseFault};
+use clap::{ArgMatches, Command};
 use j39_address::Name;
 use j39_io::number;
 use j39_listen::{Filter, Moment, Sender};
-use std::marker::Model;
+use std::alloc::{AllocError, Global};
 
 /// A number of a group is of 18 bits (J1939-21, 5.2).
 const PGN_LIMIT: u64 = 1 << 18;
 
-/// Which entries are asked for; where a part isn't given, all.
+/// At most 32 senders, in the order in which they were asked for.
+pub type Senders = Listed<Sender>;
+
+/// At most 32 addresses, in the order in which they were asked for.
+pub type Addresses = Listed<u8>;
+
+/// At most 32 groups (PGN), in the order in which they were asked for.
+pub type Pgns = Listed<u32>;
+
+/// What is asked for; where a part isn't given, all.
 #[derive(Drop)]
 pub struct Asked {
-    /// Their senders, `--from`.
+    /// The parameters, `--spn`.
+    pub spns: Option<Spns>,
+    /// The senders, `--from`.
     pub from: Option<Senders>,
-    /// Their destinations, `--to`.
+    /// The destinations, `--to`.
     pub to: Option<Addresses>,
-    /// Their groups, `--pgn`.
+    /// The groups, `--pgn`.
     pub pgns: Option<Pgns>,
     /// The first moment, `--since`.
     pub since: Option<Moment>,
@@ -34,7 +52,7 @@ pub struct Asked {
 }
 
 impl Asked {
-    /// Whether all are.
+    /// Whether all are, but for parameters.
     pub(crate) fn is_everything(&self) -> bool
         ensures { (result ≡ true) ↔ (filter_in self.now ≡ no_filter) }
     {
@@ -60,167 +78,128 @@ impl Asked {
     pub(crate) fn filter(&self) -> Filter<'_>
         ensures { filter_of result ≡ filter_in self.now }
     {
-        let from = match &self.from {
-            Some(senders) => Some(senders.as_slice()),
-            None => None,
-        };
-        let to = match &self.to {
-            Some(addresses) => Some(addresses.as_slice()),
-            None => None,
-        };
-        let pgns = match &self.pgns {
-            Some(pgns) => Some(pgns.as_slice()),
-            None => None,
-        };
         Filter {
-            from,
-            to,
-            pgns,
+            from: slice_of(&self.from),
+            to: slice_of(&self.to),
+            pgns: slice_of(&self.pgns),
             since: self.since,
             until: self.until,
         }
     }
 }
 
-/// At most 32 senders, in the order in which they were asked for.
-#[derive(Drop)]
-pub struct Senders {
-    senders: ArrayVec<Sender, 32>,
-}
+/// One or two hex digits of an address, or the 16 of a NAME.
+pub(crate) struct SenderWord;
 
-impl Model for Senders {
-    ghost use Rattle.std.specs.Prelude.{List};
-    ghost use Rattle.j39_listen.specs.declared.filter.Sender.{Sender};
+impl Word for SenderWord {
+    ghost use Rattle.j39_cli.specs.Asked.{IsSender, sender_in};
 
-    ghost Value = { List Sender };
+    type Value = Sender;
 
-    ghost view = { λ senders. senders.senders.items };
-}
+    ghost IsWord = { IsSender };
 
-impl Senders {
-    /// The senders themselves.
-    pub fn as_slice(&self) -> &[Sender]
-        ensures { result.now ≡ self.now }
-    {
-        self.senders.as_slice()
-    }
-}
+    ghost value_of = { sender_in };
 
-/// At most 32 addresses, in the order in which they were asked for.
-#[derive(Drop)]
-pub struct Addresses {
-    addresses: ArrayVec<u8, 32>,
-}
-
-impl Model for Addresses {
-    ghost use Rattle.std.specs.Prelude.{ℕ, List};
-
-    ghost Value = { List ℕ };
-
-    ghost view = { λ addresses. addresses.addresses.items };
-}
-
-impl Addresses {
-    /// The addresses themselves.
-    pub fn as_slice(&self) -> &[u8]
-        ensures { result.now ≡ self.now }
-    {
-        self.addresses.as_slice()
-    }
-}
-
-/// At most 32 groups (PGN), in the order in which they were asked for.
-#[derive(Drop)]
-pub struct Pgns {
-    numbers: ArrayVec<u32, 32>,
-}
-
-impl Model for Pgns {
-    ghost use Rattle.std.specs.Prelude.{ℕ, List};
-
-    ghost Value = { List ℕ };
-
-    ghost view = { λ pgns. pgns.numbers.items };
-}
-
-impl Pgns {
-    /// Their numbers.
-    pub fn as_slice(&self) -> &[u32]
-        ensures { result.now ≡ self.now }
-    {
-        self.numbers.as_slice()
-    }
-}
-
-/// The senders between the commas of a text; `None` where one is neither one or two hex digits nor 16, and for more than 32.
-pub(crate) fn senders_of(text: &[u8]) -> Option<Senders>
-    ensures { SomeIff result (IsSenderList text.now) (senders_in text.now) }
-{
-    let mut senders = ArrayVec::new();
-    for word in text.split(|b| *b == b',') {
-        if senders.is_full() {
+    #[tactic(auto, using(crate::proofs::DigitLemmas::two_digits, crate::proofs::DigitLemmas::sixteen_digits))]
+    fn read(word: &[u8]) -> Option<Sender> {
+        let n = word.len();
+        if n == 0 || n > 2 && n != 16 {
             return None;
         }
-        match sender_of(word) {
-            Some(sender) => senders.push(sender),
-            None => return None,
+        let value = number(word, 16)?;
+        if n <= 2 {
+            Some(Sender::Address(value as u8))
+        } else {
+            Some(Sender::Named(Name::new(value)))
         }
     }
-    Some(Senders { senders })
 }
 
-#[tactic(auto, using(crate::proofs::DigitLemmas::two_digits, crate::proofs::DigitLemmas::sixteen_digits))]
-fn sender_of(word: &[u8]) -> Option<Sender>
-    ensures { SomeIff result (IsSender word.now) (sender_in word.now) }
-{
-    let n = word.len();
-    if n == 0 || n > 2 && n != 16 {
-        return None;
-    }
-    let value = number(word, 16)?;
-    if n <= 2 {
-        Some(Sender::Address(value as u8))
-    } else {
-        Some(Sender::Named(Name::new(value)))
-    }
-}
+/// One or two hex digits of an address.
+pub(crate) struct AddressWord;
 
-/// The addresses between the commas of a text; `None` where one isn't one or two hex digits, and for more than 32.
-pub(crate) fn addresses_of(text: &[u8]) -> Option<Addresses>
-    ensures { SomeIff result (IsAddressList text.now) (addresses_in text.now) }
-{
-    let mut addresses = ArrayVec::new();
-    for word in text.split(|b| *b == b',') {
-        if addresses.is_full() {
+impl Word for AddressWord {
+    ghost use Rattle.std.specs.Str.Parse.{digits_value};
+    ghost use Rattle.j39_cli.specs.Asked.{IsAddressWord};
+
+    type Value = u8;
+
+    ghost IsWord = { IsAddressWord };
+
+    ghost value_of = { digits_value 16 };
+
+    #[tactic(auto, using(crate::proofs::DigitLemmas::two_digits))]
+    fn read(word: &[u8]) -> Option<u8> {
+        if word.is_empty() || word.len() > 2 {
             return None;
         }
-        match address_of(word) {
-            Some(address) => addresses.push(address),
-            None => return None,
-        }
+        let value = number(word, 16)?;
+        Some(value as u8)
     }
-    Some(Addresses { addresses })
 }
 
-#[tactic(auto, using(crate::proofs::DigitLemmas::two_digits))]
-fn address_of(word: &[u8]) -> Option<u8>
-    ensures { SomeIff result (IsAddressWord word.now) (digits_value 16 word.now) }
-{
-    if word.is_empty() || word.len() > 2 {
-        return None;
+/// The number of a group, in decimal.
+pub(crate) struct PgnWord;
+
+impl Word for PgnWord {
+    ghost use Rattle.std.specs.Prelude.{◌^◌};
+    ghost use Rattle.std.specs.Str.Parse.{digits_value};
+    ghost use Rattle.j39_cli.specs.Numbers.{IsNumberBelow};
+
+    type Value = u32;
+
+    ghost IsWord = { IsNumberBelow (2 ^ 18) };
+
+    ghost value_of = { digits_value 10 };
+
+    fn read(word: &[u8]) -> Option<u32> {
+        let number = number_below(word, PGN_LIMIT)?;
+        Some(number as u32)
     }
-    let value = number(word, 16)?;
-    Some(value as u8)
 }
 
-/// The groups between the commas of a text; `None` where one is no number of 18 bits in decimal, and for more than 32.
-pub(crate) fn pgns_of(text: &[u8]) -> Option<Pgns>
-    ensures { SomeIff result (IsPgnList text.now) (pgns_in text.now) }
+/// The command with the options of what is asked for, with this help for the parameters.
+pub(crate) fn with_asked<'a>(
+    alloc: Global,
+    command: Result<Command<'a>, AllocError>,
+    spns: &'a str,
+) -> Result<Command<'a>, AllocError>
+    ensures { (told : App) → IsMade command.entry told → IsMade result (with_asked told) }
 {
-    match numbers_of(text, PGN_LIMIT) {
-        Some(numbers) => Some(Pgns { numbers }),
-        None => None,
-    }
+    let command = with_option(alloc, command, "spn", "SPN,..", false, spns);
+    let help = "From these addresses (hex) or NAMEs (16 hex digits) alone";
+    let command = with_option(alloc, command, "from", "A,..", false, help);
+    let help = "To these addresses (hex) alone; FF is what goes to all";
+    let command = with_option(alloc, command, "to", "A,..", false, help);
+    let help = "Of these PGNs alone";
+    let command = with_option(alloc, command, "pgn", "PGN,..", false, help);
+    let help =
+        "From this time on: 1700000000.5, 2023-11-14T22:13:20.5Z, or +90 behind the first frame";
+    let command = with_option(alloc, command, "since", "S", false, help);
+    let help = "Up to this time, as --since";
+    with_option(alloc, command, "until", "S", false, help)
+}
+
+/// What is asked for.
+pub(crate) fn asked_value(given: &ArgMatches<'_>) -> Result<Asked, ParseFault>
+    ensures read { AreChecked (asked_checks (asked_found (found_of given.now)))
+        (IsRead (IsAsked (asked_found (found_of given.now)))) result }
+    ensures memory { result ≢ Err ParseFault.Memory }
+{
+    let spns = list_value::<SpnWord>(given, "spn", Argument::Spn)?;
+    let from = list_value::<SenderWord>(given, "from", Argument::From)?;
+    let to = list_value::<AddressWord>(given, "to", Argument::To)?;
+    let pgns = list_value::<PgnWord>(given, "pgn", Argument::Pgn)?;
+    let since = moment_value(given, "since", Argument::Since)?;
+    let until = moment_value(given, "until", Argument::Until)?;
+    Ok(Asked {
+        spns,
+        from,
+        to,
+        pgns,
+        since,
+        until,
+    })
 }
 
 /// The moment of a stamp; behind `+` so many seconds behind the first frame. `None` for any other text.

@@ -1,67 +1,38 @@
 //! By which versions of their conversion SPNs are read.
 ghost use Rattle.std.specs.Prelude.{◌≡◌, ◌≤◌, length};
 ghost use Rattle.std.specs.Option.{SomeIff};
-ghost use Rattle.j39_cli.specs.Conversions.{IsConversion, IsConversionList, IsNamed, IsVersion, conversion_in, conversions_in, named_in, version_in};
+ghost use Rattle.j39_cli.specs.Conversions.{IsNamed, IsVersion, named_in, version_in};
 
-use arrayvec::ArrayVec;
+use crate::lists::{Listed, Word};
 use j39_faults::{Conversion, Version};
 use j39_io::number;
-use std::marker::Model;
 
 /// At most 32 conversions, in the order in which they were given.
-#[derive(Drop)]
-pub struct Conversions {
-    conversions: ArrayVec<Conversion, 32>,
-}
+pub type Conversions = Listed<Conversion>;
 
-impl Model for Conversions {
-    ghost use Rattle.std.specs.Prelude.{List};
-    ghost use Rattle.j39_faults.specs.declared.conversion.Conversion.{Conversion};
+/// A version for all controllers, 1 to 3; or the NAME of one, 16 hex digits, `=` and a version.
+pub(crate) struct ConversionWord;
 
-    ghost Value = { List Conversion };
+impl Word for ConversionWord {
+    ghost use Rattle.j39_cli.specs.Conversions.{IsConversion, conversion_in};
 
-    ghost view = { λ conversions. conversions.conversions.items };
-}
+    type Value = Conversion;
 
-impl Conversions {
-    /// The conversions themselves.
-    pub fn as_slice(&self) -> &[Conversion]
-        ensures { result.now ≡ self.now }
-    {
-        self.conversions.as_slice()
-    }
-}
+    ghost IsWord = { IsConversion };
 
-/// The conversions between the commas of a text, each a version for all controllers, 1 to 3, or the NAME of one, 16 hex
-/// digits, `=` and a version; `None` where one is no such word, and for more than 32.
-pub(crate) fn conversions_of(text: &[u8]) -> Option<Conversions>
-    ensures { SomeIff result (IsConversionList text.now) (conversions_in text.now) }
-{
-    let mut conversions = ArrayVec::new();
-    for word in text.split(|b| *b == b',') {
-        if conversions.is_full() {
-            return None;
+    ghost value_of = { conversion_in };
+
+    fn read(word: &[u8]) -> Option<Conversion> {
+        if word.len() <= 16 {
+            let version = version_of(word)?;
+            return Some(Conversion {
+                name: None,
+                version,
+            });
         }
-        match conversion_of(word) {
-            Some(conversion) => conversions.push(conversion),
-            None => return None,
-        }
+        let (name, behind) = word.split_at(16);
+        named_of(name, behind)
     }
-    Some(Conversions { conversions })
-}
-
-fn conversion_of(word: &[u8]) -> Option<Conversion>
-    ensures { SomeIff result (IsConversion word.now) (conversion_in word.now) }
-{
-    if word.len() <= 16 {
-        let version = version_of(word)?;
-        return Some(Conversion {
-            name: None,
-            version,
-        });
-    }
-    let (name, behind) = word.split_at(16);
-    named_of(name, behind)
 }
 
 /// The conversion of the digits of a NAME and what stands behind them.

@@ -88,10 +88,7 @@ fn task_of<'a>(
     let Some(bus) = Bus::new(bus.as_bytes()) else {
         return Err(ParseFault::BadValue(Argument::Bus));
     };
-    let payload = match payload_of(alloc, hex) {
-        Ok(payload) => payload,
-        Err(fault) => return Err(fault),
-    };
+    let payload = payload_of(alloc, hex)?;
     match Outgoing::new(source, pgn, at, bus, payload) {
         Some(outgoing) => Ok(Task::Cut(outgoing)),
         None => Err(ParseFault::BadValue(Argument::At)),

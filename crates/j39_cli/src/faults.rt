@@ -1,31 +1,31 @@
 //! The command `faults`: its words, and how it is performed.
-ghost use Rattle.std.specs.Prelude.{◌≡◌, codes, true, false};
+ghost use Rattle.std.specs.Prelude.{◌≡◌, ◌∷◌, [], Some, codes, true, false};
 ghost use Rattle.j39_io.specs.Turn.{turn};
-ghost use Rattle.j39_listen.specs.Chooses.{which_of};
 ghost use Rattle.j39_listen.specs.Headed.{begins_flushed};
-ghost use Rattle.j39_cli.specs.Asked.{filter_in};
+ghost use Rattle.j39_cli.specs.Answer.{IsReadAs};
 ghost use Rattle.j39_listen.specs.Ran.{PassesOn};
 ghost use Rattle.j39_cli.specs.LogCommand.{log_limit};
 ghost use Rattle.clap.specs.Words.{first_value, found_of};
 ghost use Rattle.j39_cli.specs.CommandWords.{IsAnswered, command_found};
-ghost use Rattle.j39_cli.specs.FaultsCommand.{IsFaultsRun, asks_by, faults_app, makes_by, told_by, versions_in};
+ghost use Rattle.j39_cli.specs.FaultsCommand.{IsFaultsBy, asks_by, faults_app, makes_by, told_by, told_check, versions_in};
 ghost use Rattle.j39_reports.specs.Broken.{ToldFaults};
-ghost use Rattle.j39_reports.specs.FaultsSoFar.{spns_now};
 ghost use Rattle.j39_cli.specs.Rules.{IsMade, is_given};
 
+use crate::asked::{asked_value, with_asked};
 use crate::command::{new_command, with_flag, with_option, with_table};
+use crate::conversions::{ConversionWord, Conversions};
 use crate::fields::fault_counts_line;
-use crate::filter_words::{asked_value, with_filter};
+use crate::lists::slice_of;
 use crate::log::{LOG_LIMIT, copy_of, tell_fault, with_forms, with_log};
+use crate::options::{FaultOptions, RowOptions};
 use crate::refusal::show;
-use crate::words::{bus_value, conversions_value, format_given, is_set, log_input, spns_value};
-use crate::{Argument, Asked, Conversions, FaultsTold, ParseFault, Spns, Task, WordText};
+use crate::words::{bus_value, format_value, is_set, list_value, log_input};
+use crate::{Argument, FaultsTold, ParseFault, Task, WordText};
 use clap::{ArgMatches, Command};
 use j39_faults::Conversion;
 use j39_groups::Groups;
 use j39_io::{Sink, Source};
-use j39_listen::{Filter, Format, RunFault};
-use j39_log::Bus;
+use j39_listen::RunFault;
 use j39_reports::{Choice, FaultCounts, Telling, faults, faults_now};
 use std::alloc::{AllocError, Global};
 
@@ -76,8 +76,7 @@ pub(crate) fn command<'a>(alloc: Global) -> Result<Command<'a>, AllocError>
         "By which version of their conversion older SPNs are read: 1, 2 or 3, of all; or NAME=1,..";
     let command = with_option(alloc, command, "conversion", "C", false, help);
     let help = "The codes of these parameters alone: 1 to 32 SPNs, with commas between them";
-    let command = with_option(alloc, command, "spn", "SPN,..", false, help);
-    let command = with_filter(alloc, command);
+    let command = with_asked(alloc, command, help);
     let help = "Each message of faults, whether it is news or not";
     let command = with_flag(alloc, command, "all", help);
     let help = "What became of active codes: set, again (its count rose) or cleared";
@@ -92,54 +91,41 @@ pub(crate) fn task<'a>(alloc: Global, given: &ArgMatches<'a>) -> Result<Task<'a>
     ensures { IsAnswered (command_found (codes "faults") (found_of given.now)) result }
 {
     let table = given.get_str("table").map(WordText::new);
-    let told = told_value(given);
-    let format = format_given(given);
-    let bus = match bus_value(given) {
-        Ok(bus) => bus,
-        Err(fault) => return Err(fault),
-    };
-    let conversions = match conversions_value(given) {
-        Ok(conversions) => conversions,
-        Err(fault) => return Err(fault),
-    };
-    let spns = match spns_value(given) {
-        Ok(spns) => spns,
-        Err(fault) => return Err(fault),
-    };
-    let asked = match asked_value(given) {
-        Ok(asked) => asked,
-        Err(fault) => return Err(fault),
-    };
-    let Some(told) = told else {
-        return Err(ParseFault::BadValue(Argument::Together));
-    };
-    let Some(format) = format else {
-        return Err(ParseFault::BadValue(Argument::Forms));
-    };
+    let bus = bus_value(given)?;
+    let conversions = list_value::<ConversionWord>(given, "conversion", Argument::Conversion)?;
+    let asked = asked_value(given)?;
+    let told = told_value(given)?;
+    let format = format_value(given)?;
     match log_input(alloc, bus, given) {
-        Ok(input) => Ok(Task::Faults {
-            input,
-            table,
-            conversions,
-            spns,
-            asked,
-            told,
-            format,
-        }),
+        Ok(input) => {
+            let rows = RowOptions {
+                input,
+                table,
+                asked,
+                format,
+            };
+            Ok(Task::Faults(FaultOptions {
+                rows,
+                conversions,
+                told,
+            }))
+        }
         Err(fault) => Err(fault),
     }
 }
 
 /// What is told by its words.
-fn told_value(given: &ArgMatches<'_>) -> Option<FaultsTold>
-    ensures { result ≡ told_by (is_given (first_value (found_of given.now) (codes "all")))
-        (is_given (first_value (found_of given.now) (codes "changes"))) (is_given (first_value (found_of given.now) (codes "now"))) }
+fn told_value(given: &ArgMatches<'_>) -> Result<FaultsTold, ParseFault>
+    ensures { let all = is_given (first_value (found_of given.now) (codes "all")) in
+        let changes = is_given (first_value (found_of given.now) (codes "changes")) in
+        let now = is_given (first_value (found_of given.now) (codes "now")) in
+        IsReadAs (told_check all changes now ∷ []) (λ told. told_by all changes now ≡ Some told) result }
 {
-    told_by(
-        is_set(given, "all"),
-        is_set(given, "changes"),
-        is_set(given, "now"),
-    )
+    let all = is_set(given, "all");
+    match told_by(all, is_set(given, "changes"), is_set(given, "now")) {
+        Some(told) => Ok(told),
+        None => Err(ParseFault::BadValue(Argument::Together)),
+    }
 }
 
 /// What is told by `--all`, `--changes` and `--now`, of which no two go together.
@@ -158,7 +144,7 @@ fn told_by(all: bool, changes: bool, now: bool) -> Option<FaultsTold>
 }
 
 /// The versions of the conversion that are known: none where none is given.
-pub(crate) fn versions_in(conversions: &Option<Conversions>) -> &[Conversion]
+fn versions_in(conversions: &Option<Conversions>) -> &[Conversion]
     ensures { result.now ≡ versions_in conversions.now }
 {
     match conversions {
@@ -167,31 +153,16 @@ pub(crate) fn versions_in(conversions: &Option<Conversions>) -> &[Conversion]
     }
 }
 
-/// The numbers of the parameters that are asked for.
-fn numbers_in(spns: &Option<Spns>) -> Option<&[u32]>
-    ensures { spns_now result ≡ spns.now }
-{
-    match spns {
-        Some(spns) => Some(spns.as_slice()),
-        None => None,
-    }
-}
-
 /// Performs it by a table of parameters: the faults go to `sink`, the counts or what failed to `err`.
 pub(crate) fn perform<R: Source, W: Sink, E: Sink>(
     alloc: Global,
     groups: &Groups<'_>,
-    bus: &Option<Bus>,
-    conversions: &[Conversion],
-    spns: &Option<Spns>,
-    asked: &Asked,
-    told: FaultsTold,
-    format: Format,
+    options: &FaultOptions<'_>,
     source: &mut R,
     sink: &mut W,
     err: &mut E,
 ) -> u8
-    ensures run { IsFaultsRun (makes_by conversions.now spns.now (filter_in asked.now) told format groups.now) (asks_by told) bus.now result
+    ensures run { IsFaultsBy options.now groups.now result
         (turn R.remaining R.has_failed source.old source.new)
         (turn W.written W.has_failed sink.old sink.new)
         (turn E.written E.has_failed err.old err.new) }
@@ -199,21 +170,7 @@ pub(crate) fn perform<R: Source, W: Sink, E: Sink>(
     ensures passed_out { W.is_flushed sink.old ≡ true → W.has_failed sink.new ≡ false → W.is_flushed sink.new ≡ true }
     ensures passed_on { E.has_failed err.new ≡ false → E.is_flushed err.new ≡ true }
 {
-    let bus = copy_of(bus);
-    let filter = asked.filter_given();
-    let numbers = numbers_in(spns);
-    match run(
-        alloc,
-        groups,
-        conversions,
-        numbers,
-        filter,
-        told,
-        format,
-        source,
-        sink,
-        bus,
-    ) {
+    match run(alloc, groups, options, source, sink) {
         Ok(told) => {
             show(err, fault_counts_line(told).as_slice());
             0
@@ -226,20 +183,20 @@ pub(crate) fn perform<R: Source, W: Sink, E: Sink>(
 fn run<R: Source, W: Sink>(
     alloc: Global,
     groups: &Groups<'_>,
-    conversions: &[Conversion],
-    spns: Option<&[u32]>,
-    filter: Option<Filter<'_>>,
-    told: FaultsTold,
-    format: Format,
+    options: &FaultOptions<'_>,
     source: &mut R,
     sink: &mut W,
-    bus: Option<Bus>,
 ) -> Result<FaultCounts, RunFault>
-    ensures told { ToldFaults (makes_by conversions.now (spns_now spns.entry) (which_of filter.entry) told format groups.now) (asks_by told) bus log_limit result
+    ensures told { ToldFaults (makes_by options.now groups.now) (asks_by options.now.told) options.now.rows.input.bus log_limit result
         (turn R.remaining R.has_failed source.old source.new) (turn W.written W.has_failed sink.old sink.new) }
-    ensures flushed { PassesOn result (begins_flushed format (W.is_flushed sink.old)) (W.is_flushed sink.new) }
+    ensures flushed { PassesOn result (begins_flushed options.now.rows.format (W.is_flushed sink.old)) (W.is_flushed sink.new) }
 {
-    match told {
+    let rows = &options.rows;
+    let conversions = versions_in(&options.conversions);
+    let filter = rows.asked.filter_given();
+    let spns = slice_of(&rows.asked.spns);
+    let bus = copy_of(&rows.input.bus);
+    match options.told {
         FaultsTold::InMessages(telling) => {
             let choice = Choice {
                 telling,
@@ -247,12 +204,21 @@ fn run<R: Source, W: Sink>(
                 filter,
                 spns,
             };
-            faults(alloc, groups, format, choice, source, sink, bus, LOG_LIMIT)
+            faults(
+                alloc,
+                groups,
+                rows.format,
+                choice,
+                source,
+                sink,
+                bus,
+                LOG_LIMIT,
+            )
         }
         FaultsTold::Now => faults_now(
             alloc,
             groups,
-            format,
+            rows.format,
             conversions,
             filter,
             spns,

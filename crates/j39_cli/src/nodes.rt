@@ -10,9 +10,11 @@ ghost use Rattle.j39_cli.specs.LogCommand.{log_limit};
 ghost use Rattle.j39_cli.specs.NodesCommand.{makes_told, nodes_app, told_by, told_flushed};
 ghost use Rattle.j39_cli.specs.Rules.{IsMade, is_given};
 
+use crate::asked::SenderWord;
 use crate::command::{new_command, with_flag, with_option};
+use crate::lists::slice_of;
 use crate::log::{LOG_LIMIT, copy_of, with_forms, with_log};
-use crate::words::{bus_value, format_given, is_set, log_input, senders_value};
+use crate::words::{bus_value, format_value, is_set, list_value, log_input};
 use crate::{Argument, NodesTold, ParseFault, Senders, Task};
 use clap::{ArgMatches, Command};
 use j39_io::{Sink, Source};
@@ -63,18 +65,9 @@ pub(crate) fn command<'a>(alloc: Global) -> Result<Command<'a>, AllocError>
 pub(crate) fn task<'a>(alloc: Global, given: &ArgMatches<'a>) -> Result<Task<'a>, ParseFault>
     ensures { IsAnswered (command_found (codes "nodes") (found_of given.now)) result }
 {
-    let format = format_given(given);
-    let bus = match bus_value(given) {
-        Ok(bus) => bus,
-        Err(fault) => return Err(fault),
-    };
-    let from = match senders_value(given) {
-        Ok(from) => from,
-        Err(fault) => return Err(fault),
-    };
-    let Some(format) = format else {
-        return Err(ParseFault::BadValue(Argument::Forms));
-    };
+    let bus = bus_value(given)?;
+    let from = list_value::<SenderWord>(given, "from", Argument::From)?;
+    let format = format_value(given)?;
     match log_input(alloc, bus, given) {
         Ok(input) => Ok(Task::Nodes {
             input,
@@ -124,11 +117,7 @@ pub(crate) fn run<R: Source, W: Sink>(
     match told {
         NodesTold::Held => held(from, source, sink, bus),
         NodesTold::Seen(format) => {
-            let from = match from {
-                Some(senders) => Some(senders.as_slice()),
-                None => None,
-            };
-            nodes_seen(format, from, source, sink, bus, LOG_LIMIT)
+            nodes_seen(format, slice_of(from), source, sink, bus, LOG_LIMIT)
         }
     }
 }

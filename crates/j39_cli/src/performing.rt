@@ -4,7 +4,6 @@ ghost use Rattle.j39_io.specs.Turn.{turn};
 ghost use Rattle.j39_groups.specs.Table.{the_table};
 ghost use Rattle.j39_cli.specs.Task.{IsPerformed, reads_log};
 
-use crate::faults::versions_in;
 use crate::id::id_line;
 use crate::log::tell_end;
 use crate::name::name_lines;
@@ -75,42 +74,9 @@ pub fn perform_with<R: Source, W: Sink, E: Sink>(
     ensures passed_on { result ≡ 1 → E.has_failed err.new ≡ false → E.is_flushed err.new ≡ true }
 {
     match task {
-        Task::Report {
-            input,
-            spns,
-            asked,
-            format,
-            ..
-        } => {
-            report::perform(
-                alloc, groups, &input.bus, spns, asked, *format, source, sink, err,
-            )
-        }
-        Task::Summary {
-            input,
-            spns,
-            asked,
-            format,
-            ..
-        } => {
-            summary::perform(
-                alloc, groups, &input.bus, spns, asked, *format, source, sink, err,
-            )
-        }
-        Task::Faults {
-            input,
-            conversions,
-            spns,
-            asked,
-            told,
-            format,
-            ..
-        } => {
-            let versions = versions_in(conversions);
-            faults::perform(
-                alloc, groups, &input.bus, versions, spns, asked, *told, *format, source, sink, err,
-            )
-        }
+        Task::Report(options) => report::perform(alloc, groups, options, source, sink, err),
+        Task::Summary(options) => summary::perform(alloc, groups, options, source, sink, err),
+        Task::Faults(options) => faults::perform(alloc, groups, options, source, sink, err),
         Task::Nodes { input, from, told } => tell_end(
             nodes::run(*told, from, &input.bus, source, sink),
             err,

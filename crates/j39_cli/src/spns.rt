@@ -1,66 +1,29 @@
 //! Parameters that are asked for.
-ghost use Rattle.std.specs.Prelude.{◌≡◌, ◌≤◌, ◌^◌, MatchOption};
-ghost use Rattle.std.specs.Option.{SomeIff};
-ghost use Rattle.std.specs.Str.Parse.{digits_value};
-ghost use Rattle.j39_cli.specs.Lists.{IsListOf, values_in};
-ghost use Rattle.j39_cli.specs.Numbers.{IsNumberBelow};
-ghost use Rattle.j39_cli.specs.Spns.{IsSpnList, spns_in};
-
 use crate::cut_values::number_below;
-use arrayvec::ArrayVec;
-use std::marker::Model;
+use crate::lists::{Listed, Word};
 
 /// A number of a parameter is of 19 bits (J1939-73, 5.7.1.8).
 const SPN_LIMIT: u64 = 1 << 19;
 
 /// At most 32 parameters (SPN), in the order in which they were asked for.
-#[derive(Drop)]
-pub struct Spns {
-    numbers: ArrayVec<u32, 32>,
-}
+pub type Spns = Listed<u32>;
 
-impl Model for Spns {
-    ghost use Rattle.std.specs.Prelude.{ℕ, List};
+/// The number of a parameter, in decimal.
+pub(crate) struct SpnWord;
 
-    ghost Value = { List ℕ };
+impl Word for SpnWord {
+    ghost use Rattle.std.specs.Prelude.{◌^◌};
+    ghost use Rattle.std.specs.Str.Parse.{digits_value};
+    ghost use Rattle.j39_cli.specs.Numbers.{IsNumberBelow};
 
-    ghost view = { λ spns. spns.numbers.items };
-}
+    type Value = u32;
 
-impl Spns {
-    /// Their numbers.
-    pub fn as_slice(&self) -> &[u32]
-        ensures { result.now ≡ self.now }
-    {
-        self.numbers.as_slice()
+    ghost IsWord = { IsNumberBelow (2 ^ 19) };
+
+    ghost value_of = { digits_value 10 };
+
+    fn read(word: &[u8]) -> Option<u32> {
+        let number = number_below(word, SPN_LIMIT)?;
+        Some(number as u32)
     }
-}
-
-/// The parameters between the commas of a text; `None` where one is no number of 19 bits in decimal, and for more than 32.
-pub(crate) fn spns_of(text: &[u8]) -> Option<Spns>
-    ensures { SomeIff result (IsSpnList text.now) (spns_in text.now) }
-{
-    match numbers_of(text, SPN_LIMIT) {
-        Some(numbers) => Some(Spns { numbers }),
-        None => None,
-    }
-}
-
-/// The numbers between the commas of a text; `None` where one is no number below the limit in decimal, and for more than 32.
-pub(crate) fn numbers_of(text: &[u8], limit: u64) -> Option<ArrayVec<u32, 32>>
-    requires { limit ≤ 2 ^ 32 }
-    ensures { MatchOption result (¬ IsListOf (IsNumberBelow limit) text.now)
-        (λ numbers. IsListOf (IsNumberBelow limit) text.now × (numbers.items ≡ values_in (digits_value 10) text.now)) }
-{
-    let mut numbers = ArrayVec::new();
-    for word in text.split(|b| *b == b',') {
-        if numbers.is_full() {
-            return None;
-        }
-        match number_below(word, limit) {
-            Some(number) => numbers.push(number as u32),
-            None => return None,
-        }
-    }
-    Some(numbers)
 }

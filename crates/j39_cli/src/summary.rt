@@ -10,16 +10,14 @@ ghost use Rattle.j39_cli.specs.CommandWords.{IsAnswered, command_found};
 ghost use Rattle.j39_cli.specs.SummaryCommand.{IsSummaryRun, summary_app};
 ghost use Rattle.j39_cli.specs.Rules.{IsMade};
 
-use crate::command::{new_command, with_option, with_table};
-use crate::filter_words::{asked_value, with_filter};
-use crate::log::{LOG_LIMIT, copy_of, tell_end, tell_fault, with_forms, with_log};
-use crate::words::{bus_value, format_given, log_input, spns_value};
-use crate::{Argument, Asked, ParseFault, Spns, Task, WordText};
+use crate::command::new_command;
+use crate::log::{LOG_LIMIT, copy_of, tell_end, tell_fault};
+use crate::options::{RowOptions, rows_given, with_rows};
+use crate::{ParseFault, Task};
 use clap::{ArgMatches, Command};
 use j39_groups::Groups;
 use j39_io::{Sink, Source};
-use j39_listen::{Counts, Format, RunFault};
-use j39_log::Bus;
+use j39_listen::{Counts, RunFault};
 use std::alloc::{AllocError, Global};
 
 const ABOUT: &str = "\
@@ -46,42 +44,17 @@ pub(crate) fn command<'a>(alloc: Global) -> Result<Command<'a>, AllocError>
     ensures { IsMade result summary_app }
 {
     let about = "Writes what each parameter in a log did";
-    let command = with_table(alloc, new_command(alloc, "summary", about, ABOUT, HELP));
+    let command = new_command(alloc, "summary", about, ABOUT, HELP);
     let help = "The parameters to sum up alone: 1 to 32 SPNs, with commas between them";
-    let command = with_option(alloc, command, "spn", "SPN,..", false, help);
-    let command = with_filter(alloc, command);
-    with_log(alloc, with_forms(alloc, command))
+    with_rows(alloc, command, help)
 }
 
 /// The task that its words ask for.
 pub(crate) fn task<'a>(alloc: Global, given: &ArgMatches<'a>) -> Result<Task<'a>, ParseFault>
     ensures { IsAnswered (command_found (codes "summary") (found_of given.now)) result }
 {
-    let table = given.get_str("table").map(WordText::new);
-    let format = format_given(given);
-    let bus = match bus_value(given) {
-        Ok(bus) => bus,
-        Err(fault) => return Err(fault),
-    };
-    let spns = match spns_value(given) {
-        Ok(spns) => spns,
-        Err(fault) => return Err(fault),
-    };
-    let asked = match asked_value(given) {
-        Ok(asked) => asked,
-        Err(fault) => return Err(fault),
-    };
-    let Some(format) = format else {
-        return Err(ParseFault::BadValue(Argument::Forms));
-    };
-    match log_input(alloc, bus, given) {
-        Ok(input) => Ok(Task::Summary {
-            input,
-            table,
-            spns,
-            asked,
-            format,
-        }),
+    match rows_given(alloc, given) {
+        Ok(options) => Ok(Task::Summary(options)),
         Err(fault) => Err(fault),
     }
 }
@@ -91,15 +64,12 @@ pub(crate) fn task<'a>(alloc: Global, given: &ArgMatches<'a>) -> Result<Task<'a>
 pub(crate) fn perform<R: Source, W: Sink, E: Sink>(
     alloc: Global,
     groups: &Groups<'_>,
-    bus: &Option<Bus>,
-    spns: &Option<Spns>,
-    asked: &Asked,
-    format: Format,
+    options: &RowOptions<'_>,
     source: &mut R,
     sink: &mut W,
     err: &mut E,
 ) -> u8
-    ensures run { IsSummaryRun spns.now (filter_in asked.now) format groups.now bus.now result
+    ensures run { IsSummaryRun options.now groups.now result
         (turn R.remaining R.has_failed source.old source.new)
         (turn W.written W.has_failed sink.old sink.new)
         (turn E.written E.has_failed err.old err.new) }
@@ -108,11 +78,11 @@ pub(crate) fn perform<R: Source, W: Sink, E: Sink>(
     ensures passed_out { W.is_flushed sink.old ≡ true → W.has_failed sink.new ≡ false → W.is_flushed sink.new ≡ true }
     ensures passed_on { E.has_failed err.new ≡ false → E.is_flushed err.new ≡ true }
 {
-    let Some(spns) = spns else {
-        return tell_end(run(alloc, groups, asked, format, bus, source, sink), err);
+    let Some(spns) = &options.asked.spns else {
+        return tell_end(run(alloc, groups, options, source, sink), err);
     };
     match groups.restricted_to(alloc, spns.as_slice()) {
-        Ok(kept) => tell_end(run(alloc, &kept, asked, format, bus, source, sink), err),
+        Ok(kept) => tell_end(run(alloc, &kept, options, source, sink), err),
         Err(AllocError) => tell_fault(RunFault::Memory, err),
     }
 }
@@ -121,19 +91,26 @@ pub(crate) fn perform<R: Source, W: Sink, E: Sink>(
 fn run<R: Source, W: Sink>(
     alloc: Global,
     groups: &Groups<'_>,
-    asked: &Asked,
-    format: Format,
-    bus: &Option<Bus>,
+    options: &RowOptions<'_>,
     source: &mut R,
     sink: &mut W,
 ) -> Result<Counts, RunFault>
-    ensures ran { Ran (MakesSummary format (filter_in asked.now) groups.now) (AsksForRows (filter_in asked.now) groups.now)
-        bus.now log_limit result
+    ensures ran { Ran (MakesSummary options.now.format (filter_in options.now.asked) groups.now)
+        (AsksForRows (filter_in options.now.asked) groups.now) options.now.input.bus log_limit result
         (turn R.remaining R.has_failed source.old source.new) (turn W.written W.has_failed sink.old sink.new) }
     ensures flushed { OnOk result (W.is_flushed sink.new ≡ true) }
     ensures passed_out { W.is_flushed sink.old ≡ true → W.has_failed sink.new ≡ false → W.is_flushed sink.new ≡ true }
 {
-    let filter = asked.filter_given();
-    let bus = copy_of(bus);
-    j39_reports::summary(alloc, groups, filter, format, source, sink, bus, LOG_LIMIT)
+    let filter = options.asked.filter_given();
+    let bus = copy_of(&options.input.bus);
+    j39_reports::summary(
+        alloc,
+        groups,
+        filter,
+        options.format,
+        source,
+        sink,
+        bus,
+        LOG_LIMIT,
+    )
 }

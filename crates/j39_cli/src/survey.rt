@@ -51,10 +51,7 @@ pub(crate) fn task<'a>(alloc: Global, given: &ArgMatches<'a>) -> Result<Task<'a>
     ensures { IsAnswered (command_found (codes "survey") (found_of given.now)) result }
 {
     let table = given.get_str("table").map(WordText::new);
-    let bus = match bus_value(given) {
-        Ok(bus) => bus,
-        Err(fault) => return Err(fault),
-    };
+    let bus = bus_value(given)?;
     match log_input(alloc, bus, given) {
         Ok(input) => Ok(Task::Survey { input, table }),
         Err(fault) => Err(fault),

@@ -4,7 +4,7 @@ ghost use Rattle.j39_frame.specs.Address.{IsAddress};
 ghost use Rattle.j39_cli.specs.Answer.{argument_text};
 ghost use Rattle.j39_cli.specs.Task.{file_of, files_of, table_of};
 
-use crate::{Asked, Conversions, Outgoing, Senders, Spns};
+use crate::{FaultOptions, Outgoing, RowOptions, Senders};
 use j39_address::Name;
 use j39_frame::{Id, is_address};
 use j39_listen::Format;
@@ -152,48 +152,11 @@ pub enum NodesTold {
 #[derive(Drop)]
 pub enum Task<'a> {
     /// The report of a log.
-    Report {
-        /// The log to read.
-        input: LogInput<'a>,
-        /// The file of the table of parameters; `None` for the built-in one.
-        table: Option<WordText<'a>>,
-        /// The parameters that are asked for; `None` for all.
-        spns: Option<Spns>,
-        /// Which entries are asked for.
-        asked: Asked,
-        /// How it is written.
-        format: Format,
-    },
+    Report(RowOptions<'a>),
     /// The summary of a log.
-    Summary {
-        /// The log to read.
-        input: LogInput<'a>,
-        /// The file of the table, as of a report.
-        table: Option<WordText<'a>>,
-        /// The parameters that are asked for; `None` for all.
-        spns: Option<Spns>,
-        /// Which entries are asked for.
-        asked: Asked,
-        /// How it is written.
-        format: Format,
-    },
+    Summary(RowOptions<'a>),
     /// The fault codes in a log.
-    Faults {
-        /// The log to read.
-        input: LogInput<'a>,
-        /// The file of the table, as of a report.
-        table: Option<WordText<'a>>,
-        /// By which versions of their conversion SPNs are read; `None` for none.
-        conversions: Option<Conversions>,
-        /// The parameters whose codes are asked for; `None` for all.
-        spns: Option<Spns>,
-        /// Which messages are told.
-        asked: Asked,
-        /// What is told of them.
-        told: FaultsTold,
-        /// How they are written.
-        format: Format,
-    },
+    Faults(FaultOptions<'a>),
     /// Who holds which address after a log.
     Nodes {
         /// The log to read.
@@ -244,9 +207,9 @@ impl<'a> Task<'a> {
         ensures { map (λ name. name.now) result.now ≡ files_of self.now }
     {
         match self {
-            Task::Report { input, .. } => input.file.as_slice(),
-            Task::Summary { input, .. } => input.file.as_slice(),
-            Task::Faults { input, .. } => input.file.as_slice(),
+            Task::Report(options) => options.input.file.as_slice(),
+            Task::Summary(options) => options.input.file.as_slice(),
+            Task::Faults(options) => options.rows.input.file.as_slice(),
             Task::Nodes { input, .. } => input.file.as_slice(),
             Task::Answer { input, .. } => input.file.as_slice(),
             Task::Survey { input, .. } => input.file.as_slice(),
@@ -270,9 +233,9 @@ impl<'a> Task<'a> {
         ensures { option_map (λ text. text.now) result ≡ table_of self.now }
     {
         match self {
-            Task::Report { table, .. } => text_of(table),
-            Task::Summary { table, .. } => text_of(table),
-            Task::Faults { table, .. } => text_of(table),
+            Task::Report(options) => text_of(&options.table),
+            Task::Summary(options) => text_of(&options.table),
+            Task::Faults(options) => text_of(&options.rows.table),
             Task::Survey { table, .. } => text_of(table),
             Task::Watch { table, .. } => text_of(table),
             Task::Groups(table) => text_of(table),

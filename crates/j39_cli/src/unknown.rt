@@ -7,10 +7,10 @@ ghost use Rattle.j39_cli.specs.LogCommand.{is_input};
 ghost use Rattle.j39_cli.specs.Refusal.{error_line};
 ghost use Rattle.j39_cli.specs.Task.{asks_input_twice};
 ghost use Rattle.j39_cli.specs.Tells.{Tells};
-ghost use Rattle.j39_cli.specs.Unknown.{asks_for_unknown, has_row, unknown_line, unknown_text, unknown_words};
+ghost use Rattle.j39_cli.specs.Unknown.{asks_for_unknown, has_row, none_has, unknown_line, unknown_text, unknown_words, words_if};
 
-use crate::Task;
 use crate::refusal::{complain, put_line};
+use crate::{Spns, Task};
 use j39_groups::{Groups, decimal_of};
 use j39_io::{DeviceFault, Sink};
 
@@ -24,15 +24,23 @@ pub fn asks_for_unknown<E: Sink>(groups: &Groups<'_>, task: &Task<'_>, err: &mut
         → E.is_flushed err.new ≡ true }
 {
     match task {
-        Task::Report {
-            spns: Some(spns),
-            ..
-        } => tell_unknown(groups, spns.as_slice(), err),
-        Task::Summary {
-            spns: Some(spns),
-            ..
-        } => tell_unknown(groups, spns.as_slice(), err),
+        Task::Report(options) => tell_if_any(groups, &options.asked.spns, err),
+        Task::Summary(options) => tell_if_any(groups, &options.asked.spns, err),
         _ => false,
+    }
+}
+
+/// Says which of these parameters, if any are asked for, no row has, and answers whether that is all of them.
+fn tell_if_any<E: Sink>(groups: &Groups<'_>, spns: &Option<Spns>, err: &mut E) -> bool
+    ensures answer { result ≡ none_has groups.now spns.now }
+    ensures told { Tells (turn E.written E.has_failed err.old err.new) (words_if groups.now spns.now) }
+    ensures passed_on { result ≡ true → E.has_failed err.new ≡ false → E.is_flushed err.new ≡ true }
+    ensures some { 0 < length (words_if groups.now spns.now) → E.has_failed err.new ≡ false
+        → E.is_flushed err.new ≡ true }
+{
+    match spns {
+        Some(spns) => tell_unknown(groups, spns.as_slice(), err),
+        None => false,
     }
 }
 

@@ -1,12 +1,12 @@
 //! The command `watch`: its words.
-ghost use Rattle.std.specs.Prelude.{◌≡◌, ◌≤◌, ◌-◌, ◌↔◌, IfOk, IfSome, IsSome, codes, unwrap_or};
+ghost use Rattle.std.specs.Prelude.{◌≡◌, ◌≤◌, ◌-◌, ◌↔◌, ◌∷◌, [], IfOk, IfSome, IsSome, codes, option_map, unwrap_or};
 ghost use Rattle.std.specs.Str.Parse.{digits_value};
 ghost use Rattle.clap.specs.Words.{first_value, found_of};
 ghost use Rattle.j39_io.specs.Turn.{turn};
 ghost use Rattle.j39_listen.specs.Ran.{PassesOn, Ran};
 ghost use Rattle.j39_reports.specs.NotesSoFar.{size_of};
 ghost use Rattle.j39_reports.specs.Watch.{AsksForWatch, MakesWatch};
-ghost use Rattle.j39_cli.specs.Answer.{IsValueRead};
+ghost use Rattle.j39_cli.specs.Answer.{IsReadAs, value_check};
 ghost use Rattle.j39_cli.specs.CommandWords.{IsAnswered, command_found};
 ghost use Rattle.j39_cli.specs.LogCommand.{log_limit};
 ghost use Rattle.j39_cli.specs.Numbers.{IsNumberIn};
@@ -63,18 +63,9 @@ pub(crate) fn task<'a>(alloc: Global, given: &ArgMatches<'a>) -> Result<Task<'a>
     ensures { IsAnswered (command_found (codes "watch") (found_of given.now)) result }
 {
     let table = given.get_str("table").map(WordText::new);
-    let bus = match bus_value(given) {
-        Ok(bus) => bus,
-        Err(fault) => return Err(fault),
-    };
-    let rows = match rows_value(given) {
-        Ok(rows) => rows,
-        Err(fault) => return Err(fault),
-    };
-    let width = match width_value(given) {
-        Ok(width) => width,
-        Err(fault) => return Err(fault),
-    };
+    let bus = bus_value(given)?;
+    let rows = number_value(given, "rows", Argument::Rows, 2, 1000)?;
+    let width = number_value(given, "width", Argument::Width, 20, 512)?;
     let size = size_for(rows, width);
     match log_input(alloc, bus, given) {
         Ok(input) => Ok(Task::Watch { input, table, size }),
@@ -82,30 +73,23 @@ pub(crate) fn task<'a>(alloc: Global, given: &ArgMatches<'a>) -> Result<Task<'a>
     }
 }
 
-/// The value of `--rows`, where it is given.
-fn rows_value(given: &ArgMatches<'_>) -> Result<Option<u16>, ParseFault>
-    ensures read { IsValueRead IsRows (digits_value 10) Argument.Rows (first_value (found_of given.now) (codes "rows")) result }
-    ensures in_range { IfOk result (λ rows. IfSome rows (λ n. (2 ≤ n) × (n ≤ 1000))) }
+/// The number of an argument from the least to the most, where it is given.
+fn number_value(
+    given: &ArgMatches<'_>,
+    id: &str,
+    argument: Argument,
+    least: u16,
+    most: u16,
+) -> Result<Option<u16>, ParseFault>
+    ensures read { IsReadAs (value_check (IsNumberIn least most) argument (first_value (found_of given.now) id.now) ∷ [])
+        (λ n. n ≡ option_map (digits_value 10) (first_value (found_of given.now) id.now)) result }
+    ensures in_range { IfOk result (λ n. IfSome n (λ n. (least ≤ n) × (n ≤ most))) }
 {
-    match given.get_str("rows") {
+    match given.get_str(id) {
         None => Ok(None),
-        Some(text) => match number_in(text, 2, 1000) {
-            Some(rows) => Ok(Some(rows)),
-            None => Err(ParseFault::BadValue(Argument::Rows)),
-        },
-    }
-}
-
-/// The value of `--width`, where it is given.
-fn width_value(given: &ArgMatches<'_>) -> Result<Option<u16>, ParseFault>
-    ensures read { IsValueRead IsWidth (digits_value 10) Argument.Width (first_value (found_of given.now) (codes "width")) result }
-    ensures in_range { IfOk result (λ width. IfSome width (λ n. (20 ≤ n) × (n ≤ 512))) }
-{
-    match given.get_str("width") {
-        None => Ok(None),
-        Some(text) => match number_in(text, 20, 512) {
-            Some(width) => Ok(Some(width)),
-            None => Err(ParseFault::BadValue(Argument::Width)),
+        Some(text) => match number_in(text, least, most) {
+            Some(number) => Ok(Some(number)),
+            None => Err(ParseFault::BadValue(argument)),
         },
     }
 }

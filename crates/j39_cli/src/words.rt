@@ -1,27 +1,25 @@
 //! From words to a task.
-ghost use Rattle.std.specs.Prelude.{◌≡◌, ◌≢◌, ◌⊎◌, ◌∷◌, [], Err, IfErr, IfOk, IsErrAnd, List, None, OnErr, OnOk, Some, codes, map, true};
+ghost use Rattle.std.specs.Prelude.{◌≡◌, ◌≢◌, ◌⊎◌, ◌∷◌, [], Err, IfErr, IfOk, IsErrAnd, List, None, OnErr, OnOk, Some, codes, map, option_map, true};
 ghost use Rattle.clap.specs.Words.{HasMatchesOf, Row, Text, first_value, found_of, kind_of};
 ghost use Rattle.clap.specs.Words.{fault_of, subcommand_name_of, subcommand_of, subcommand_rows_of, takes};
 ghost use Rattle.j39_cli.specs.Command.{line_app};
-ghost use Rattle.j39_cli.specs.CommandWords.{CommandWords, HasTexts, HasValues, IsAnswer, Tells, texts_found, words_of};
+ghost use Rattle.j39_cli.specs.CommandWords.{CommandWords, HasTexts, HasValues, IsAnswer, Tells, words_of};
 ghost use Rattle.j39_cli.specs.Spelling.{IsEntered, IsSpelled};
-ghost use Rattle.j39_cli.specs.Answer.{IsBusRead, IsInput, IsValueRead};
-ghost use Rattle.j39_cli.specs.Asked.{IsAddressList, IsMoment, IsPgnList, IsSenderList, addresses_in, moment_in, pgns_in, senders_in};
-ghost use Rattle.j39_cli.specs.Conversions.{IsConversionList, conversions_in};
-ghost use Rattle.j39_cli.specs.Spns.{IsSpnList, spns_in};
-ghost use Rattle.j39_cli.specs.Form.{texts_of};
-ghost use Rattle.j39_cli.specs.LogCommand.{written_by};
+ghost use Rattle.j39_cli.specs.Answer.{IsInput, IsReadAs, bus_check, value_check};
+ghost use Rattle.j39_cli.specs.Asked.{IsMoment, moment_in};
+ghost use Rattle.j39_cli.specs.Form.{texts_found, texts_of};
+ghost use Rattle.j39_cli.specs.Lists.{IsListOf, values_in};
+ghost use Rattle.j39_cli.specs.LogCommand.{forms_check, written_by};
 ghost use Rattle.j39_cli.specs.Refused.{IsRefusal, IsSaid};
 ghost use Rattle.j39_cli.specs.Rules.{is_given};
 ghost use Rattle.j39_cli.specs.Task.{IsInRange};
 
-use crate::asked::{addresses_of, moment_of, pgns_of, senders_of};
+use crate::asked::moment_of;
 use crate::command::line;
-use crate::conversions::{Conversions, conversions_of};
-use crate::spns::{Spns, spns_of};
+use crate::lists::{Listed, Word, list_of};
 use crate::{
-    Addresses, Argument, Files, LogInput, ParseFault, Pgns, Senders, Task, WordText, answer, cut,
-    faults, groups, id, name, nodes, report, summary, survey, watch,
+    Argument, Files, LogInput, ParseFault, Task, answer, cut, faults, groups, id, name, nodes,
+    report, summary, survey, watch,
 };
 use clap::error::ErrorKind;
 use clap::{ArgMatches, Error};
@@ -131,7 +129,8 @@ fn task_named<'a>(alloc: Global, name: &str, given: &ArgMatches<'a>) -> Result<T
 
 /// The value of `--bus`, where it is given.
 pub(crate) fn bus_value(given: &ArgMatches<'_>) -> Result<Option<Bus>, ParseFault>
-    ensures { IsBusRead (first_value (found_of given.now) (codes "bus")) result }
+    ensures { IsReadAs (bus_check (first_value (found_of given.now) (codes "bus")) ∷ [])
+        (λ bus. bus ≡ first_value (found_of given.now) (codes "bus")) result }
 {
     match given.get_str("bus") {
         None => Ok(None),
@@ -168,11 +167,15 @@ fn files_given<'a>(alloc: Global, given: &ArgMatches<'a>) -> Result<Files<'a>, A
 }
 
 /// How what the log has is written by `--csv` and `--json`, which don't go together.
-pub(crate) fn format_given(given: &ArgMatches<'_>) -> Option<Format>
-    ensures { result ≡ written_by (is_given (first_value (found_of given.now) (codes "csv")))
-        (is_given (first_value (found_of given.now) (codes "json"))) }
+pub(crate) fn format_value(given: &ArgMatches<'_>) -> Result<Format, ParseFault>
+    ensures { let csv = is_given (first_value (found_of given.now) (codes "csv")) in
+        let json = is_given (first_value (found_of given.now) (codes "json")) in
+        IsReadAs (forms_check csv json ∷ []) (λ format. written_by csv json ≡ Some format) result }
 {
-    written_by(is_set(given, "csv"), is_set(given, "json"))
+    match written_by(is_set(given, "csv"), is_set(given, "json")) {
+        Some(format) => Ok(format),
+        None => Err(ParseFault::BadValue(Argument::Forms)),
+    }
 }
 
 fn written_by(csv: bool, json: bool) -> Option<Format>
@@ -186,54 +189,20 @@ fn written_by(csv: bool, json: bool) -> Option<Format>
     }
 }
 
-/// The values of `--spn`, where it is given.
-pub(crate) fn spns_value(given: &ArgMatches<'_>) -> Result<Option<Spns>, ParseFault>
-    ensures { IsValueRead IsSpnList spns_in Argument.Spn (first_value (found_of given.now) (codes "spn")) result }
+/// The values of an argument that takes a list, where it is given.
+pub(crate) fn list_value<W: Word>(
+    given: &ArgMatches<'_>,
+    id: &str,
+    argument: Argument,
+) -> Result<Option<Listed<W::Value>>, ParseFault>
+    ensures { IsReadAs (value_check (IsListOf W.IsWord) argument (first_value (found_of given.now) id.now) ∷ [])
+        (λ list. list ≡ option_map (values_in W.value_of) (first_value (found_of given.now) id.now)) result }
 {
-    match given.get_str("spn") {
+    match given.get_str(id) {
         None => Ok(None),
-        Some(text) => match spns_of(text.as_bytes()) {
-            Some(spns) => Ok(Some(spns)),
-            None => Err(ParseFault::BadValue(Argument::Spn)),
-        },
-    }
-}
-
-/// The values of `--from`, where it is given.
-pub(crate) fn senders_value(given: &ArgMatches<'_>) -> Result<Option<Senders>, ParseFault>
-    ensures { IsValueRead IsSenderList senders_in Argument.From (first_value (found_of given.now) (codes "from")) result }
-{
-    match given.get_str("from") {
-        None => Ok(None),
-        Some(text) => match senders_of(text.as_bytes()) {
-            Some(senders) => Ok(Some(senders)),
-            None => Err(ParseFault::BadValue(Argument::From)),
-        },
-    }
-}
-
-/// The values of `--to`, where it is given.
-pub(crate) fn addresses_value(given: &ArgMatches<'_>) -> Result<Option<Addresses>, ParseFault>
-    ensures { IsValueRead IsAddressList addresses_in Argument.To (first_value (found_of given.now) (codes "to")) result }
-{
-    match given.get_str("to") {
-        None => Ok(None),
-        Some(text) => match addresses_of(text.as_bytes()) {
-            Some(addresses) => Ok(Some(addresses)),
-            None => Err(ParseFault::BadValue(Argument::To)),
-        },
-    }
-}
-
-/// The values of `--pgn`, where it is given.
-pub(crate) fn pgns_value(given: &ArgMatches<'_>) -> Result<Option<Pgns>, ParseFault>
-    ensures { IsValueRead IsPgnList pgns_in Argument.Pgn (first_value (found_of given.now) (codes "pgn")) result }
-{
-    match given.get_str("pgn") {
-        None => Ok(None),
-        Some(text) => match pgns_of(text.as_bytes()) {
-            Some(pgns) => Ok(Some(pgns)),
-            None => Err(ParseFault::BadValue(Argument::Pgn)),
+        Some(text) => match list_of::<W>(text.as_bytes()) {
+            Some(list) => Ok(Some(list)),
+            None => Err(ParseFault::BadValue(argument)),
         },
     }
 }
@@ -244,27 +213,14 @@ pub(crate) fn moment_value(
     id: &str,
     argument: Argument,
 ) -> Result<Option<Moment>, ParseFault>
-    ensures { IsValueRead IsMoment moment_in argument (first_value (found_of given.now) id.now) result }
+    ensures { IsReadAs (value_check IsMoment argument (first_value (found_of given.now) id.now) ∷ [])
+        (λ moment. moment ≡ option_map moment_in (first_value (found_of given.now) id.now)) result }
 {
     match given.get_str(id) {
         None => Ok(None),
         Some(text) => match moment_of(text.as_bytes()) {
             Some(moment) => Ok(Some(moment)),
             None => Err(ParseFault::BadValue(argument)),
-        },
-    }
-}
-
-/// The values of `--conversion`, where it is given.
-pub(crate) fn conversions_value(given: &ArgMatches<'_>) -> Result<Option<Conversions>, ParseFault>
-    ensures { IsValueRead IsConversionList conversions_in Argument.Conversion
-        (first_value (found_of given.now) (codes "conversion")) result }
-{
-    match given.get_str("conversion") {
-        None => Ok(None),
-        Some(text) => match conversions_of(text.as_bytes()) {
-            Some(conversions) => Ok(Some(conversions)),
-            None => Err(ParseFault::BadValue(Argument::Conversion)),
         },
     }
 }

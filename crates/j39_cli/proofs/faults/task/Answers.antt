@@ -1,157 +1,112 @@
 -- The bus is checked, then the conversions, what is asked for and what is told; FILE is kept last.
-use Rattle.std.proofs.Common.{◌≡◌, ◌∙◌, Some, None, codes, inl, rules, sym}
-use Rattle.clap.specs.Words.{first_value, found_of}
-use Rattle.j39_cli.proofs.AskedLemmas.{asked_wrong}
-use Rattle.j39_cli.proofs.TakenLemmas.{bus_read, bus_wrong, value_read, value_wrong}
+use Rattle.std.proofs.Common.{◌∙◌, codes, drop, inl, rules, take}
+use Rattle.clap.specs.Words.{found_of}
+use Rattle.j39_cli.specs.Answer.{OrMemory}
+use Rattle.j39_cli.specs.CommandWords.{command_found, form_of}
+use Rattle.j39_cli.proofs.CheckLemmas.{passed, stopped}
 use Rattle.j39_cli.proofs.faults.task.Goals as goal
 
-pub returns-in-Err-conversions_value : goal.returns-in-Err-conversions_value
-returns-in-Err-conversions_value c =
-    let found = found_of c.args.given.now in
+pub returns-in_err-bus : goal.returns-in_err-bus
+returns-in_err-bus c =
+    let form = form_of (command_found (codes "faults") (found_of c.args.given.now)) in
+    let all = form.checks in
+    let next = OrMemory form.Is in
     record {
-      answer = bus_read (first_value found (codes "bus")) _ _ _ c.in-Ok.ensures (λ _.
-          value_wrong _ _ _ (first_value found (codes "conversion")) _ _ c.in-Err-conversions_value.ensures);
-      memory = search rules;
-      in_range = tt;
-    }
-
-pub returns-in-Ok-log_input : goal.returns-in-Ok-log_input
-returns-in-Ok-log_input c =
-    let found = found_of c.args.given.now in
-    let read = c.in-Ok-asked_value.ensures in
-    let told = sym c.told_value-told.ensures ∙ c.in-Some.is in
-    let written = sym c.format_given-format.ensures ∙ c.in-Some-format.is in
-    let input = c.in-Ok-log_input.ensures in
-    record {
-      answer = bus_read (first_value found (codes "bus")) _ _ _ c.in-Ok.ensures (λ is_bus.
-          value_read _ _ _ (first_value found (codes "conversion")) _ _ _ c.in-Ok-conversions_value.ensures (λ is_versions.
-          value_read _ _ _ (first_value found (codes "spn")) _ _ _ c.in-Ok-spns_value.ensures (λ is_spns.
-          value_read _ _ _ (first_value found (codes "from")) _ _ _ read.from_is (λ from_is.
-          value_read _ _ _ (first_value found (codes "to")) _ _ _ read.to_is (λ to_is.
-          value_read _ _ _ (first_value found (codes "pgn")) _ _ _ read.pgns_are (λ pgns_are.
-          value_read _ _ _ (first_value found (codes "since")) _ _ _ read.since_is (λ since_is.
-          value_read _ _ _ (first_value found (codes "until")) _ _ _ read.until_is (λ until_is. record {
-            in_range = λ _. record {
-              in_range = λ _. (
-                input.0 ∙ is_bus,
-                search rules,
-                is_versions,
-                is_spns,
-                record { from_is = from_is; to_is = to_is; pgns_are = pgns_are; since_is = since_is; until_is = until_is },
-                told,
-                written,
-                input.1,
-              );
-              wrong = λ none. absurd (none (λ is. (let no : Some c.in-Some-format.format ≡ None = sym written ∙ is in cc)));
-            };
-            wrong = λ none. absurd (none (λ is. (let no : Some c.in-Some.told ≡ None = sym told ∙ is in cc)));
-          }))))))));
+      answer = stopped next (take 1 all) (drop 1 all) _ _ _ c.in_err-bus.ensures.read c.from_residual.ensures;
       memory = search rules;
       in_range = search rules;
     }
 
-pub returns-in-Err-log_input : goal.returns-in-Err-log_input
-returns-in-Err-log_input c =
-    let found = found_of c.args.given.now in
-    let read = c.in-Ok-asked_value.ensures in
-    let told = sym c.told_value-told.ensures ∙ c.in-Some.is in
-    let written = sym c.format_given-format.ensures ∙ c.in-Some-format.is in
-    let kept = c.in-Err-log_input.ensures in
+pub returns-in_err-conversions : goal.returns-in_err-conversions
+returns-in_err-conversions c =
+    let form = form_of (command_found (codes "faults") (found_of c.args.given.now)) in
+    let all = form.checks in
+    let next = OrMemory form.Is in
     record {
-      answer = bus_read (first_value found (codes "bus")) _ _ _ c.in-Ok.ensures (λ is_bus.
-          value_read _ _ _ (first_value found (codes "conversion")) _ _ _ c.in-Ok-conversions_value.ensures (λ is_versions.
-          value_read _ _ _ (first_value found (codes "spn")) _ _ _ c.in-Ok-spns_value.ensures (λ is_spns.
-          value_read _ _ _ (first_value found (codes "from")) _ _ _ read.from_is (λ from_is.
-          value_read _ _ _ (first_value found (codes "to")) _ _ _ read.to_is (λ to_is.
-          value_read _ _ _ (first_value found (codes "pgn")) _ _ _ read.pgns_are (λ pgns_are.
-          value_read _ _ _ (first_value found (codes "since")) _ _ _ read.since_is (λ since_is.
-          value_read _ _ _ (first_value found (codes "until")) _ _ _ read.until_is (λ until_is. record {
-            in_range = λ _. record {
-              in_range = λ _. rw kept.0 tt;
-              wrong = λ none. absurd (none (λ is. (let no : Some c.in-Some-format.format ≡ None = sym written ∙ is in cc)));
-            };
-            wrong = λ none. absurd (none (λ is. (let no : Some c.in-Some.told ≡ None = sym told ∙ is in cc)));
-          }))))))));
-      memory = λ _. inl kept.1;
-      in_range = tt;
+      answer = passed next (take 1 all) (drop 1 all) _ _ _ c.in_ok-bus.ensures.read (λ _.
+          stopped next (take 1 (drop 1 all)) (drop 2 all) _ _ _ c.in_err-conversions.ensures.read c.from_residual-in_err-conversions.ensures);
+      memory = search rules;
+      in_range = search rules;
+    }
+
+pub returns-in_err-asked : goal.returns-in_err-asked
+returns-in_err-asked c =
+    let form = form_of (command_found (codes "faults") (found_of c.args.given.now)) in
+    let all = form.checks in
+    let next = OrMemory form.Is in
+    record {
+      answer = passed next (take 1 all) (drop 1 all) _ _ _ c.in_ok-bus.ensures.read (λ _.
+          passed next (take 1 (drop 1 all)) (drop 2 all) _ _ _ c.in_ok-conversions.ensures.read (λ _.
+          stopped next (take 6 (drop 2 all)) (drop 8 all) _ _ _ c.in_err-asked.ensures.read c.from_residual-in_err-asked.ensures));
+      memory = search rules;
+      in_range = search rules;
+    }
+
+pub returns-in_err-told : goal.returns-in_err-told
+returns-in_err-told c =
+    let form = form_of (command_found (codes "faults") (found_of c.args.given.now)) in
+    let all = form.checks in
+    let next = OrMemory form.Is in
+    record {
+      answer = passed next (take 1 all) (drop 1 all) _ _ _ c.in_ok-bus.ensures.read (λ _.
+          passed next (take 1 (drop 1 all)) (drop 2 all) _ _ _ c.in_ok-conversions.ensures.read (λ _.
+          passed next (take 6 (drop 2 all)) (drop 8 all) _ _ _ c.in_ok-asked.ensures.read (λ _.
+          stopped next (take 1 (drop 8 all)) (drop 9 all) _ _ _ c.in_err-told.ensures.read c.from_residual-in_err-told.ensures)));
+      memory = search rules;
+      in_range = search rules;
+    }
+
+pub returns-in_err-format : goal.returns-in_err-format
+returns-in_err-format c =
+    let form = form_of (command_found (codes "faults") (found_of c.args.given.now)) in
+    let all = form.checks in
+    let next = OrMemory form.Is in
+    record {
+      answer = passed next (take 1 all) (drop 1 all) _ _ _ c.in_ok-bus.ensures.read (λ _.
+          passed next (take 1 (drop 1 all)) (drop 2 all) _ _ _ c.in_ok-conversions.ensures.read (λ _.
+          passed next (take 6 (drop 2 all)) (drop 8 all) _ _ _ c.in_ok-asked.ensures.read (λ _.
+          passed next (take 1 (drop 8 all)) (drop 9 all) _ _ _ c.in_ok-told.ensures.read (λ _.
+          stopped next (take 1 (drop 9 all)) (drop 10 all) _ _ _ c.in_err-format.ensures.read c.from_residual-in_err-format.ensures))));
+      memory = search rules;
+      in_range = search rules;
+    }
+
+pub returns-in-Ok : goal.returns-in-Ok
+returns-in-Ok c =
+    let form = form_of (command_found (codes "faults") (found_of c.args.given.now)) in
+    let all = form.checks in
+    let next = OrMemory form.Is in
+    record {
+      answer = passed next (take 1 all) (drop 1 all) _ _ _ c.in_ok-bus.ensures.read (λ bus_is.
+          passed next (take 1 (drop 1 all)) (drop 2 all) _ _ _ c.in_ok-conversions.ensures.read (λ conversions_is.
+          passed next (take 6 (drop 2 all)) (drop 8 all) _ _ _ c.in_ok-asked.ensures.read (λ asked_is.
+          passed next (take 1 (drop 8 all)) (drop 9 all) _ _ _ c.in_ok-told.ensures.read (λ told_is.
+          passed next (take 1 (drop 9 all)) (drop 10 all) _ _ _ c.in_ok-format.ensures.read (λ format_is. (
+            record {
+              bus_is = c.in-Ok.ensures.0 ∙ bus_is;
+              table_is = search rules;
+              asked_is = asked_is;
+              format_is = format_is;
+              files_are = c.in-Ok.ensures.1;
+            },
+            conversions_is,
+            told_is,
+          ))))));
+      memory = search rules;
+      in_range = search rules;
     }
 
 pub returns-in-Err : goal.returns-in-Err
 returns-in-Err c =
-    let found = found_of c.args.given.now in
+    let form = form_of (command_found (codes "faults") (found_of c.args.given.now)) in
+    let all = form.checks in
+    let next = OrMemory form.Is in
     record {
-      answer = bus_wrong (first_value found (codes "bus")) _ _ c.in-Err.ensures;
-      memory = search rules;
-      in_range = tt;
-    }
-
-pub returns-in_default-format : goal.returns-in_default-format
-returns-in_default-format c =
-    let found = found_of c.args.given.now in
-    let read = c.in-Ok-asked_value.ensures in
-    let told = sym c.told_value-told.ensures ∙ c.in-Some.is in
-    let none = sym c.format_given-format.ensures ∙ c.in_default-format.is in
-    record {
-      answer = bus_read (first_value found (codes "bus")) _ _ _ c.in-Ok.ensures (λ is_bus.
-          value_read _ _ _ (first_value found (codes "conversion")) _ _ _ c.in-Ok-conversions_value.ensures (λ is_versions.
-          value_read _ _ _ (first_value found (codes "spn")) _ _ _ c.in-Ok-spns_value.ensures (λ is_spns.
-          value_read _ _ _ (first_value found (codes "from")) _ _ _ read.from_is (λ from_is.
-          value_read _ _ _ (first_value found (codes "to")) _ _ _ read.to_is (λ to_is.
-          value_read _ _ _ (first_value found (codes "pgn")) _ _ _ read.pgns_are (λ pgns_are.
-          value_read _ _ _ (first_value found (codes "since")) _ _ _ read.since_is (λ since_is.
-          value_read _ _ _ (first_value found (codes "until")) _ _ _ read.until_is (λ until_is. record {
-            in_range = λ _. record {
-              in_range = λ some. absurd (some none);
-              wrong = λ _. search rules;
-            };
-            wrong = λ none_told. absurd (none_told (λ is. (let no : Some c.in-Some.told ≡ None = sym told ∙ is in cc)));
-          }))))))));
-      memory = search rules;
-      in_range = tt;
-    }
-
-pub returns-in-Err-asked_value : goal.returns-in-Err-asked_value
-returns-in-Err-asked_value c =
-    let found = found_of c.args.given.now in
-    let wrong = c.in-Err-asked_value.ensures in
-    record {
-      answer = bus_read (first_value found (codes "bus")) _ _ _ c.in-Ok.ensures (λ _.
-          value_read _ _ _ (first_value found (codes "conversion")) _ _ _ c.in-Ok-conversions_value.ensures (λ _.
-          value_read _ _ _ (first_value found (codes "spn")) _ _ _ c.in-Ok-spns_value.ensures (λ _.
-          asked_wrong (first_value found (codes "from")) (first_value found (codes "to")) (first_value found (codes "pgn")) (first_value found (codes "since"))
-          (first_value found (codes "until")) wrong.0 _ _ wrong.1)));
-      memory = search rules;
-      in_range = tt;
-    }
-
-pub returns-in_default : goal.returns-in_default
-returns-in_default c =
-    let found = found_of c.args.given.now in
-    let read = c.in-Ok-asked_value.ensures in
-    let none = sym c.told_value-told.ensures ∙ c.in_default.is in
-    record {
-      answer = bus_read (first_value found (codes "bus")) _ _ _ c.in-Ok.ensures (λ is_bus.
-          value_read _ _ _ (first_value found (codes "conversion")) _ _ _ c.in-Ok-conversions_value.ensures (λ is_versions.
-          value_read _ _ _ (first_value found (codes "spn")) _ _ _ c.in-Ok-spns_value.ensures (λ is_spns.
-          value_read _ _ _ (first_value found (codes "from")) _ _ _ read.from_is (λ from_is.
-          value_read _ _ _ (first_value found (codes "to")) _ _ _ read.to_is (λ to_is.
-          value_read _ _ _ (first_value found (codes "pgn")) _ _ _ read.pgns_are (λ pgns_are.
-          value_read _ _ _ (first_value found (codes "since")) _ _ _ read.since_is (λ since_is.
-          value_read _ _ _ (first_value found (codes "until")) _ _ _ read.until_is (λ until_is. record {
-            in_range = λ some. absurd (some none);
-            wrong = λ _. search rules;
-          }))))))));
-      memory = search rules;
-      in_range = tt;
-    }
-
-pub returns-in-Err-spns_value : goal.returns-in-Err-spns_value
-returns-in-Err-spns_value c =
-    let found = found_of c.args.given.now in
-    record {
-      answer = bus_read (first_value found (codes "bus")) _ _ _ c.in-Ok.ensures (λ _.
-          value_read _ _ _ (first_value found (codes "conversion")) _ _ _ c.in-Ok-conversions_value.ensures (λ _.
-          value_wrong _ _ _ (first_value found (codes "spn")) _ _ c.in-Err-spns_value.ensures));
-      memory = search rules;
+      answer = passed next (take 1 all) (drop 1 all) _ _ _ c.in_ok-bus.ensures.read (λ _.
+          passed next (take 1 (drop 1 all)) (drop 2 all) _ _ _ c.in_ok-conversions.ensures.read (λ _.
+          passed next (take 6 (drop 2 all)) (drop 8 all) _ _ _ c.in_ok-asked.ensures.read (λ _.
+          passed next (take 1 (drop 8 all)) (drop 9 all) _ _ _ c.in_ok-told.ensures.read (λ _.
+          passed next (take 1 (drop 9 all)) (drop 10 all) _ _ _ c.in_ok-format.ensures.read (λ _. rw c.in-Err.ensures.0 tt)))));
+      memory = λ _. inl c.in-Err.ensures.1;
       in_range = tt;
     }

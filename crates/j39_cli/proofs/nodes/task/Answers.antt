@@ -1,75 +1,72 @@
--- The bus is checked, then the senders, then how it is written.
-use Rattle.std.proofs.Common.{◌≡◌, ◌∙◌, Some, None, ap, codes, inl, option_map, rules, sym}
+-- The bus is checked, then the senders, then how it is written; FILE is kept last.
+use Rattle.std.proofs.Common.{◌∙◌, ap, codes, drop, inl, rules, sym, take}
+use Rattle.std.specs.Prelude.{Some, option_map}
 use Rattle.clap.specs.Words.{first_value, found_of}
+use Rattle.j39_cli.specs.Answer.{OrMemory}
+use Rattle.j39_cli.specs.CommandWords.{command_found, form_of}
 use Rattle.j39_cli.specs.NodesCommand.{told_by}
 use Rattle.j39_cli.specs.Rules.{is_given}
-use Rattle.j39_cli.proofs.TakenLemmas.{bus_read, bus_wrong, value_read, value_wrong}
+use Rattle.j39_cli.proofs.CheckLemmas.{passed, stopped}
 use Rattle.j39_cli.proofs.nodes.task.Goals as goal
 
-pub returns-in-Ok-log_input : goal.returns-in-Ok-log_input
-returns-in-Ok-log_input c =
-    let found = found_of c.args.given.now in
-    let written = sym c.format_given-format.ensures ∙ c.in-Some.is in
-    let input = c.in-Ok-log_input.ensures in
+pub returns-in_err-bus : goal.returns-in_err-bus
+returns-in_err-bus c =
+    let form = form_of (command_found (codes "nodes") (found_of c.args.given.now)) in
+    let all = form.checks in
+    let next = OrMemory form.Is in
     record {
-      answer = bus_read (first_value found (codes "bus")) _ _ _ c.in-Ok.ensures (λ is_bus.
-          value_read _ _ _ (first_value found (codes "from")) _ _ _ c.in-Ok-senders_value.ensures (λ from_is. record {
-            in_range = λ _. (
-              input.0 ∙ is_bus,
-              from_is,
-              ap (option_map (told_by (is_given (first_value found (codes "seen"))))) written ∙ ap Some (sym c.told_given.ensures),
-              input.1,
-            );
-            wrong = λ none. absurd (none (λ is. (let no : Some c.in-Some.format ≡ None = sym written ∙ is in cc)));
-          }));
+      answer = stopped next (take 1 all) (drop 1 all) _ _ _ c.in_err-bus.ensures.read c.from_residual.ensures;
       memory = search rules;
       in_range = search rules;
     }
 
-pub returns-in-Err-log_input : goal.returns-in-Err-log_input
-returns-in-Err-log_input c =
-    let found = found_of c.args.given.now in
-    let written = sym c.format_given-format.ensures ∙ c.in-Some.is in
-    let kept = c.in-Err-log_input.ensures in
+pub returns-in_err-from : goal.returns-in_err-from
+returns-in_err-from c =
+    let form = form_of (command_found (codes "nodes") (found_of c.args.given.now)) in
+    let all = form.checks in
+    let next = OrMemory form.Is in
     record {
-      answer = bus_read (first_value found (codes "bus")) _ _ _ c.in-Ok.ensures (λ is_bus.
-          value_read _ _ _ (first_value found (codes "from")) _ _ _ c.in-Ok-senders_value.ensures (λ from_is. record {
-            in_range = λ _. rw kept.0 tt;
-            wrong = λ none. absurd (none (λ is. (let no : Some c.in-Some.format ≡ None = sym written ∙ is in cc)));
-          }));
-      memory = λ _. inl kept.1;
-      in_range = tt;
+      answer = passed next (take 1 all) (drop 1 all) _ _ _ c.in_ok-bus.ensures.read (λ _.
+          stopped next (take 1 (drop 1 all)) (drop 2 all) _ _ _ c.in_err-from.ensures.read c.from_residual-in_err-from.ensures);
+      memory = search rules;
+      in_range = search rules;
     }
 
-pub returns-in_default : goal.returns-in_default
-returns-in_default c =
-    let found = found_of c.args.given.now in
-    let none = sym c.format_given-format.ensures ∙ c.in_default.is in
+pub returns-in_err-format : goal.returns-in_err-format
+returns-in_err-format c =
+    let form = form_of (command_found (codes "nodes") (found_of c.args.given.now)) in
+    let all = form.checks in
+    let next = OrMemory form.Is in
     record {
-      answer = bus_read (first_value found (codes "bus")) _ _ _ c.in-Ok.ensures (λ is_bus.
-          value_read _ _ _ (first_value found (codes "from")) _ _ _ c.in-Ok-senders_value.ensures (λ from_is. record {
-            in_range = λ some. absurd (some none);
-            wrong = λ _. search rules;
-          }));
+      answer = passed next (take 1 all) (drop 1 all) _ _ _ c.in_ok-bus.ensures.read (λ _.
+          passed next (take 1 (drop 1 all)) (drop 2 all) _ _ _ c.in_ok-from.ensures.read (λ _.
+          stopped next (take 1 (drop 2 all)) (drop 3 all) _ _ _ c.in_err-format.ensures.read c.from_residual-in_err-format.ensures));
       memory = search rules;
-      in_range = tt;
+      in_range = search rules;
     }
 
-pub returns-in-Err-senders_value : goal.returns-in-Err-senders_value
-returns-in-Err-senders_value c =
-    let found = found_of c.args.given.now in
+pub returns-in-Ok : goal.returns-in-Ok
+returns-in-Ok c =
+    let form = form_of (command_found (codes "nodes") (found_of c.args.given.now)) in
+    let all = form.checks in
+    let next = OrMemory form.Is in
     record {
-      answer = bus_read (first_value found (codes "bus")) _ _ _ c.in-Ok.ensures (λ _.
-          value_wrong _ _ _ (first_value found (codes "from")) _ _ c.in-Err-senders_value.ensures);
+      answer = passed next (take 1 all) (drop 1 all) _ _ _ c.in_ok-bus.ensures.read (λ bus_is.
+          passed next (take 1 (drop 1 all)) (drop 2 all) _ _ _ c.in_ok-from.ensures.read (λ from_is.
+          passed next (take 1 (drop 2 all)) (drop 3 all) _ _ _ c.in_ok-format.ensures.read (λ format_is. (c.in-Ok.ensures.0 ∙ bus_is, from_is, ap (option_map (told_by (is_given (first_value (found_of c.args.given.now) (codes "seen"))))) format_is ∙ ap Some (sym c.told_given.ensures), c.in-Ok.ensures.1))));
       memory = search rules;
-      in_range = tt;
+      in_range = search rules;
     }
 
 pub returns-in-Err : goal.returns-in-Err
 returns-in-Err c =
-    let found = found_of c.args.given.now in
+    let form = form_of (command_found (codes "nodes") (found_of c.args.given.now)) in
+    let all = form.checks in
+    let next = OrMemory form.Is in
     record {
-      answer = bus_wrong (first_value found (codes "bus")) _ _ c.in-Err.ensures;
-      memory = search rules;
+      answer = passed next (take 1 all) (drop 1 all) _ _ _ c.in_ok-bus.ensures.read (λ _.
+          passed next (take 1 (drop 1 all)) (drop 2 all) _ _ _ c.in_ok-from.ensures.read (λ _.
+          passed next (take 1 (drop 2 all)) (drop 3 all) _ _ _ c.in_ok-format.ensures.read (λ _. rw c.in-Err.ensures.0 tt)));
+      memory = λ _. inl c.in-Err.ensures.1;
       in_range = tt;
     }

@@ -1,60 +1,69 @@
 -- The bus is checked, then the rows, then the width; FILE is kept last.
-use Rattle.std.proofs.Common.{◌∙◌, codes, inl, rules}
-use Rattle.clap.specs.Words.{first_value, found_of}
-use Rattle.j39_cli.proofs.TakenLemmas.{bus_read, bus_wrong, value_read, value_wrong}
+use Rattle.std.proofs.Common.{◌∙◌, codes, drop, inl, rules, take}
+use Rattle.clap.specs.Words.{found_of}
+use Rattle.j39_cli.specs.Answer.{OrMemory}
+use Rattle.j39_cli.specs.CommandWords.{command_found, form_of}
+use Rattle.j39_cli.proofs.CheckLemmas.{passed, stopped}
 use Rattle.j39_cli.proofs.watch.task.Goals as goal
 
-pub returns-in-Ok-log_input : goal.returns-in-Ok-log_input
-returns-in-Ok-log_input c =
-    let found = found_of c.args.given.now in
-    let input = c.in-Ok-log_input.ensures in
+pub returns-in_err-bus : goal.returns-in_err-bus
+returns-in_err-bus c =
+    let form = form_of (command_found (codes "watch") (found_of c.args.given.now)) in
+    let all = form.checks in
+    let next = OrMemory form.Is in
     record {
-      answer = bus_read (first_value found (codes "bus")) _ _ _ c.in-Ok.ensures (λ is_bus.
-          value_read _ _ _ (first_value found (codes "rows")) _ _ _ c.in-Ok-rows_value.ensures.read (λ rows_are.
-          value_read _ _ _ (first_value found (codes "width")) _ _ _ c.in-Ok-width_value.ensures.read (λ width_is.
-          (input.0 ∙ is_bus, search rules, cc (rows_are, width_is, c.size_for-size.ensures.rows, c.size_for-size.ensures.width), input.1))));
+      answer = stopped next (take 1 all) (drop 1 all) _ _ _ c.in_err-bus.ensures.read c.from_residual.ensures;
       memory = search rules;
       in_range = search rules;
     }
 
-pub returns-in-Err-log_input : goal.returns-in-Err-log_input
-returns-in-Err-log_input c =
-    let found = found_of c.args.given.now in
-    let kept = c.in-Err-log_input.ensures in
+pub returns-in_err-rows : goal.returns-in_err-rows
+returns-in_err-rows c =
+    let form = form_of (command_found (codes "watch") (found_of c.args.given.now)) in
+    let all = form.checks in
+    let next = OrMemory form.Is in
     record {
-      answer = bus_read (first_value found (codes "bus")) _ _ _ c.in-Ok.ensures (λ is_bus.
-          value_read _ _ _ (first_value found (codes "rows")) _ _ _ c.in-Ok-rows_value.ensures.read (λ rows_are.
-          value_read _ _ _ (first_value found (codes "width")) _ _ _ c.in-Ok-width_value.ensures.read (λ width_is. rw kept.0 tt)));
-      memory = λ _. inl kept.1;
-      in_range = tt;
+      answer = passed next (take 1 all) (drop 1 all) _ _ _ c.in_ok-bus.ensures.read (λ _.
+          stopped next (take 1 (drop 1 all)) (drop 2 all) _ _ _ c.in_err-rows.ensures.read.read c.from_residual-in_err-rows.ensures);
+      memory = search rules;
+      in_range = search rules;
     }
 
-pub returns-in-Err-width_value : goal.returns-in-Err-width_value
-returns-in-Err-width_value c =
-    let found = found_of c.args.given.now in
+pub returns-in_err-width : goal.returns-in_err-width
+returns-in_err-width c =
+    let form = form_of (command_found (codes "watch") (found_of c.args.given.now)) in
+    let all = form.checks in
+    let next = OrMemory form.Is in
     record {
-      answer = bus_read (first_value found (codes "bus")) _ _ _ c.in-Ok.ensures (λ _.
-          value_read _ _ _ (first_value found (codes "rows")) _ _ _ c.in-Ok-rows_value.ensures.read (λ _.
-          value_wrong _ _ _ (first_value found (codes "width")) _ _ c.in-Err-width_value.ensures.read));
+      answer = passed next (take 1 all) (drop 1 all) _ _ _ c.in_ok-bus.ensures.read (λ _.
+          passed next (take 1 (drop 1 all)) (drop 2 all) _ _ _ c.in_ok-rows.ensures.read.read (λ _.
+          stopped next (take 1 (drop 2 all)) (drop 3 all) _ _ _ c.in_err-width.ensures.read.read c.from_residual-in_err-width.ensures));
       memory = search rules;
-      in_range = tt;
+      in_range = search rules;
     }
 
-pub returns-in-Err-rows_value : goal.returns-in-Err-rows_value
-returns-in-Err-rows_value c =
-    let found = found_of c.args.given.now in
+pub returns-in-Ok : goal.returns-in-Ok
+returns-in-Ok c =
+    let form = form_of (command_found (codes "watch") (found_of c.args.given.now)) in
+    let all = form.checks in
+    let next = OrMemory form.Is in
     record {
-      answer = bus_read (first_value found (codes "bus")) _ _ _ c.in-Ok.ensures (λ _.
-          value_wrong _ _ _ (first_value found (codes "rows")) _ _ c.in-Err-rows_value.ensures.read);
+      answer = passed next (take 1 all) (drop 1 all) _ _ _ c.in_ok-bus.ensures.read (λ bus_is.
+          passed next (take 1 (drop 1 all)) (drop 2 all) _ _ _ c.in_ok-rows.ensures.read.read (λ rows_is.
+          passed next (take 1 (drop 2 all)) (drop 3 all) _ _ _ c.in_ok-width.ensures.read.read (λ width_is. (c.in-Ok.ensures.0 ∙ bus_is, search rules, cc (rows_is, width_is, c.size_for-size.ensures.rows, c.size_for-size.ensures.width), c.in-Ok.ensures.1))));
       memory = search rules;
-      in_range = tt;
+      in_range = search rules;
     }
 
 pub returns-in-Err : goal.returns-in-Err
 returns-in-Err c =
-    let found = found_of c.args.given.now in
+    let form = form_of (command_found (codes "watch") (found_of c.args.given.now)) in
+    let all = form.checks in
+    let next = OrMemory form.Is in
     record {
-      answer = bus_wrong (first_value found (codes "bus")) _ _ c.in-Err.ensures;
-      memory = search rules;
+      answer = passed next (take 1 all) (drop 1 all) _ _ _ c.in_ok-bus.ensures.read (λ _.
+          passed next (take 1 (drop 1 all)) (drop 2 all) _ _ _ c.in_ok-rows.ensures.read.read (λ _.
+          passed next (take 1 (drop 2 all)) (drop 3 all) _ _ _ c.in_ok-width.ensures.read.read (λ _. rw c.in-Err.ensures.0 tt)));
+      memory = λ _. inl c.in-Err.ensures.1;
       in_range = tt;
     }

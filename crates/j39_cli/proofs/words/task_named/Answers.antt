@@ -2,17 +2,18 @@
 use Rattle.std.proofs.Common.{codes, refl}
 use Rattle.clap.specs.Words.{found_of}
 use Rattle.j39_cli.specs.CommandWords.{faults, groups, id, name, nodes, report, summary, survey, watch}
+use Rattle.j39_cli.specs.RowOptions.{rows_found}
 use Rattle.j39_cli.proofs.MetLemmas.{tells, tells_none}
 use Rattle.j39_cli.proofs.words.task_named.Goals as goal
 
 pub returns-in-report-clause-tells : goal.returns-in-report-clause-tells
-returns-in-report-clause-tells c = tells _ (found_of c.args.given.now) c.task.result (report _ _ _ _ _ _ _ _ _ _ _) c.in-report.is (refl, (refl, (refl, (refl, (refl, (refl, (refl, (refl, (refl, (refl, (refl, tt))))))))))) c.task.ensures.answer
+returns-in-report-clause-tells c = tells _ (found_of c.args.given.now) c.task.result (report (rows_found (found_of c.args.given.now))) c.in-report.is (refl, (refl, (refl, (refl, (refl, (refl, (refl, (refl, (refl, (refl, (refl, tt))))))))))) c.task.ensures.answer
 
 pub returns-in-summary-clause-tells : goal.returns-in-summary-clause-tells
-returns-in-summary-clause-tells c = tells _ (found_of c.args.given.now) c.task-in-summary.result (summary _ _ _ _ _ _ _ _ _ _ _) c.in-summary.is (refl, (refl, (refl, (refl, (refl, (refl, (refl, (refl, (refl, (refl, (refl, tt))))))))))) c.task-in-summary.ensures.answer
+returns-in-summary-clause-tells c = tells _ (found_of c.args.given.now) c.task-in-summary.result (summary (rows_found (found_of c.args.given.now))) c.in-summary.is (refl, (refl, (refl, (refl, (refl, (refl, (refl, (refl, (refl, (refl, (refl, tt))))))))))) c.task-in-summary.ensures.answer
 
 pub returns-in-faults-clause-tells : goal.returns-in-faults-clause-tells
-returns-in-faults-clause-tells c = tells _ (found_of c.args.given.now) c.task-in-faults.result (faults _ _ _ _ _ _ _ _ _ _ _ _ _ _ _) c.in-faults.is (refl, (refl, (refl, (refl, (refl, (refl, (refl, (refl, (refl, (refl, (refl, (refl, (refl, (refl, (refl, tt))))))))))))))) c.task-in-faults.ensures.answer
+returns-in-faults-clause-tells c = tells _ (found_of c.args.given.now) c.task-in-faults.result (faults _ _ _ _ (rows_found (found_of c.args.given.now))) c.in-faults.is (refl, (refl, (refl, (refl, (refl, (refl, (refl, (refl, (refl, (refl, (refl, (refl, (refl, (refl, (refl, tt))))))))))))))) c.task-in-faults.ensures.answer
 
 pub returns-in-nodes-clause-tells : goal.returns-in-nodes-clause-tells
 returns-in-nodes-clause-tells c = tells _ (found_of c.args.given.now) c.task-in-nodes.result (nodes _ _ _ _ _ _) c.in-nodes.is (refl, (refl, (refl, (refl, (refl, (refl, tt)))))) c.task-in-nodes.ensures.answer
