@@ -1,5 +1,5 @@
 -- What answers a command: its task, or why there is none.
-use Rattle.std.specs.Prelude.{◌≡◌, ◌≢◌, ◌∷◌, [], ℕ, List, Option, Result, Ok, Err, codes}
+use Rattle.std.specs.Prelude.{◌≡◌, ◌≢◌, ◌∷◌, [], ℕ, List, Option, Some, None, Result, Ok, Err, codes}
 use Rattle.std.specs.Option.{ForSome}
 use Rattle.clap.specs.Words.{Text}
 use Rattle.j39_log.specs.Bus.{IsBusName}
@@ -29,6 +29,26 @@ argument_text argument.Rows = codes "--rows"
 argument_text argument.Width = codes "--width"
 argument_text argument.Together = codes "--all, --changes, --now together"
 argument_text argument.Forms = codes "--csv, --json together"
+
+-- what it takes, told where the value is wrong, but for those of which that line stands alone
+abbrev pub argument_form : Argument → Option (List ℕ)
+argument_form argument.Bus = None
+argument_form argument.Name = None
+argument_form argument.Address = None
+argument_form argument.Source = None
+argument_form argument.Pgn = None
+argument_form argument.At = None
+argument_form argument.Hex = None
+argument_form argument.Spn = Some (codes "--spn takes up to 32 numbers below 524288 with commas between, as 190,110")
+argument_form argument.From = Some (codes "--from takes up to 32 addresses (hex) or NAMEs (16 hex digits) with commas between, as 00,8000000001401234")
+argument_form argument.To = Some (codes "--to takes up to 32 addresses (hex) with commas between, as 0B,FF")
+argument_form argument.Since = Some (codes "--since takes 1700000000.5, 2023-11-14T22:13:20Z, or +90 behind the first frame")
+argument_form argument.Until = Some (codes "--until takes 1700000000.5, 2023-11-14T22:13:20Z, or +90 behind the first frame")
+argument_form argument.Conversion = Some (codes "--conversion takes versions from 1 to 3, as 2, or of NAMEs, as 8000000001401234=1,2")
+argument_form argument.Rows = Some (codes "--rows takes 2 to 1000")
+argument_form argument.Width = Some (codes "--width takes 20 to 512")
+argument_form argument.Together = Some (codes "one of --all, --changes and --now goes at a time")
+argument_form argument.Forms = Some (codes "one of --csv and --json goes at a time")
 
 -- ---- the answer to a command that is spelled
 

@@ -1,7 +1,8 @@
 -- What the program says where it has no task.
-use Rattle.std.specs.Prelude.{◌++◌, ◌∷◌, ℕ, List, [], codes, string_bytes}
+use Rattle.std.specs.Prelude.{◌++◌, ◌∷◌, ℕ, List, [], Option, Some, None, codes, string_bytes}
 use Rattle.j39_io.specs.Chars.{newline}
-use Rattle.j39_cli.specs.Answer.{argument_text}
+use Rattle.j39_cli.specs.Answer.{argument_form, argument_text}
+use Rattle.j39_cli.specs.declared.task.Argument.{Argument}
 use Rattle.j39_cli.specs.declared.task.ParseFault.{ParseFault}
 use Rattle.j39_cli.specs.declared.task.ParseFault.TheVariants.{Memory, Usage, BadValue, Help}
 
@@ -27,6 +28,15 @@ error_line words name = codes "j1939: " ++ (words ++ (name ++ newline ∷ []))
 abbrev pub folder_line : List ℕ → List ℕ
 folder_line folder = error_line folder (codes " is a folder")
 
+-- what an argument takes, in a line of its own
+abbrev pub form_line : Option (List ℕ) → List ℕ
+form_line None = []
+form_line (Some form) = error_line form []
+
+-- of a value that is wrong
+abbrev pub wrong_value : Argument → List ℕ
+wrong_value argument = error_line (codes "bad value for ") (argument_text argument) ++ form_line (argument_form argument)
+
 -- what standard output is told
 abbrev pub out_words : ParseFault → List ℕ
 out_words Memory = []
@@ -38,5 +48,5 @@ out_words (Help text) = string_bytes text
 abbrev pub error_words : ParseFault → List ℕ
 error_words Memory = error_line (codes "out of memory") []
 error_words (Usage text) = string_bytes text
-error_words (BadValue argument) = error_line (codes "bad value for ") (argument_text argument)
+error_words (BadValue argument) = wrong_value argument
 error_words (Help text) = []

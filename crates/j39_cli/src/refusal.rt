@@ -2,10 +2,11 @@
 ghost use Rattle.std.specs.Prelude.{◌≡◌, ◌↔◌, codes, false, true};
 ghost use Rattle.j39_io.specs.Puts.{Puts};
 ghost use Rattle.j39_io.specs.Turn.{turn};
-ghost use Rattle.j39_cli.specs.Refusal.{IsHelp, IsWrongLine, error_line, error_words, folder_line, out_words};
+ghost use Rattle.j39_cli.specs.Answer.{argument_form, argument_text};
+ghost use Rattle.j39_cli.specs.Refusal.{IsHelp, IsWrongLine, error_line, error_words, folder_line, form_line, out_words, wrong_value};
 ghost use Rattle.j39_cli.specs.Tells.{Tells};
 
-use crate::ParseFault;
+use crate::{Argument, ParseFault};
 use j39_io::{DeviceFault, Sink, put_all};
 
 /// Says why there is no task, and answers the exit status: 0 for help, which goes to `out`, 1 for
@@ -39,7 +40,7 @@ pub fn refuse<W: Sink, E: Sink>(fault: &ParseFault, out: &mut W, err: &mut E) ->
             1
         }
         ParseFault::BadValue(argument) => {
-            complain(err, b"bad value for ", argument.text().as_bytes());
+            tell_wrong_value(*argument, err);
             2
         }
     }
@@ -65,6 +66,44 @@ pub fn not_a_file<E: Sink>(folder: &str, err: &mut E) -> u8
 {
     complain(err, folder.as_bytes(), b" is a folder");
     1
+}
+
+/// Says that the value of an argument is wrong and what it takes, and passes it on. A fault shows in the mark alone.
+fn tell_wrong_value<E: Sink>(argument: Argument, err: &mut E)
+    ensures text { Tells (turn E.written E.has_failed err.old err.new) (wrong_value argument) }
+    ensures passed_on { E.has_failed err.new ≡ false → E.is_flushed err.new ≡ true }
+{
+    match put_wrong_value(argument, err) {
+        Ok(()) => {
+            let _ = err.flush();
+        }
+        Err(DeviceFault) => {}
+    }
+}
+
+/// Writes that the value of an argument is wrong, and what it takes.
+fn put_wrong_value<E: Sink>(argument: Argument, err: &mut E) -> Result<(), DeviceFault>
+    ensures { Puts (wrong_value argument) result (turn E.written E.has_failed err.old err.new) }
+{
+    put_wrong(argument, err)?;
+    put_form(argument, err)
+}
+
+/// Writes that the value of an argument is wrong.
+fn put_wrong<E: Sink>(argument: Argument, err: &mut E) -> Result<(), DeviceFault>
+    ensures { Puts (error_line (codes "bad value for ") (argument_text argument)) result (turn E.written E.has_failed err.old err.new) }
+{
+    put_line(err, b"bad value for ", argument.text().as_bytes())
+}
+
+/// Writes what an argument takes.
+fn put_form<E: Sink>(argument: Argument, err: &mut E) -> Result<(), DeviceFault>
+    ensures { Puts (form_line (argument_form argument)) result (turn E.written E.has_failed err.old err.new) }
+{
+    match argument.form() {
+        Some(form) => put_line(err, form.as_bytes(), b""),
+        None => Ok(()),
+    }
 }
 
 /// Writes the text, and passes it on. A fault shows in the mark alone.

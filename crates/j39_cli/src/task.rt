@@ -1,7 +1,7 @@
 //! What a command line asks for, and why it may ask for nothing.
 ghost use Rattle.std.specs.Prelude.{◌≡◌, ◌≢◌, ◌↔◌, [], IfOk, IfSome, IsSome, OnErr, Some, map, option_map};
 ghost use Rattle.j39_frame.specs.Address.{IsAddress};
-ghost use Rattle.j39_cli.specs.Answer.{argument_text};
+ghost use Rattle.j39_cli.specs.Answer.{argument_form, argument_text};
 ghost use Rattle.j39_cli.specs.Task.{file_of, files_of, table_of};
 
 use crate::{FaultOptions, Outgoing, RowOptions, Senders};
@@ -316,6 +316,37 @@ impl Argument {
             Argument::Together => "--all, --changes, --now together",
             Argument::Forms => "--csv, --json together",
         }
+    }
+
+    /// What it takes, told where the value is wrong; `None` for those of which that line stands alone.
+    pub(crate) fn form(self) -> Option<&'static str>
+        ensures { option_map (λ form. form.now) result ≡ argument_form self }
+    {
+        let form = match self {
+            Argument::Bus
+            | Argument::Name
+            | Argument::Address
+            | Argument::Source
+            | Argument::Pgn
+            | Argument::At
+            | Argument::Hex => return None,
+            Argument::Spn =>
+                "--spn takes up to 32 numbers below 524288 with commas between, as 190,110",
+            Argument::From =>
+                "--from takes up to 32 addresses (hex) or NAMEs (16 hex digits) with commas between, as 00,8000000001401234",
+            Argument::To => "--to takes up to 32 addresses (hex) with commas between, as 0B,FF",
+            Argument::Since =>
+                "--since takes 1700000000.5, 2023-11-14T22:13:20Z, or +90 behind the first frame",
+            Argument::Until =>
+                "--until takes 1700000000.5, 2023-11-14T22:13:20Z, or +90 behind the first frame",
+            Argument::Conversion =>
+                "--conversion takes versions from 1 to 3, as 2, or of NAMEs, as 8000000001401234=1,2",
+            Argument::Rows => "--rows takes 2 to 1000",
+            Argument::Width => "--width takes 20 to 512",
+            Argument::Together => "one of --all, --changes and --now goes at a time",
+            Argument::Forms => "one of --csv and --json goes at a time",
+        };
+        Some(form)
     }
 }
 
