@@ -6,17 +6,18 @@ function wireLog() {
   };
   $('sample').onclick = readSample;
   $('bus').onchange = event => read(file, event.target.value.trim());
-  const readByTable = () => {
-    $('no-table').hidden = !$('table').files.length;
+  const readBy = chosenTable => {
+    table = chosenTable;
+    $('no-table').hidden = !table;
     read(file, bus);
   };
-  $('table').onchange = readByTable;
-  $('no-table').onclick = () => {
+  $('table').onchange = () => readBy($('table').files[0]);
+  for (const [id, chosenTable] of [['no-table', undefined], ['trucks-table', new File([$('trucks').textContent], 'trucks')]]) $(id).onclick = () => {
     $('table').value = '';
     $('table').focus();
-    readByTable();
+    readBy(chosenTable);
   };
-  readByTable();
+  readBy(undefined);
   for (const kind of ['dragover', 'dragleave', 'drop']) document.addEventListener(kind, event => {
     event.preventDefault();
     $('drop').classList.toggle('over', kind === 'dragover');

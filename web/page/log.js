@@ -4,7 +4,7 @@ const BROWSERS = 'Chrome, Edge and Chromium have it from version 133 on, and Fir
 // The smallest module that has a memory with addresses of 64 bits.
 const MEMORY64 = new Uint8Array([0, 97, 115, 109, 1, 0, 0, 0, 5, 3, 1, 4, 1]);
 
-let workerPlace = '', worker = null, isFresh = false, file = null, bus = '', log = null;
+let workerPlace = '', worker = null, isFresh = false, file = null, bus = '', table, log = null;
 
 const bytesOf = id => Uint8Array.from(atob($(id).textContent), letter => letter.charCodeAt(0));
 const megabytes = size => `${(size / 1e6).toFixed(1)} MB`;
@@ -46,7 +46,7 @@ function read(chosenFile, chosenBus = '') {
   if (file.size === 0) return say(`${file.name} is empty.`, true);
   say(`Reading ${file.name} (${megabytes(file.size)})`);
   isFresh = false;
-  worker.postMessage({ file, bus, table: $('table').files[0] });
+  worker.postMessage({ file, bus, table });
 }
 
 async function readSample() {
