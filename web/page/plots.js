@@ -1,7 +1,7 @@
 // The panels: each has a title, what is said of what it shows, and a graph by dygraphs.
 const FEW_POINTS = 200; // so many readings have a point each
 const KINDS = ['', 'error', 'indicator', 'reserved value', 'text'];
-const COUNTS = ['', '-', 'count', 'counts', 'steps', 'fields', 'r']; // the units of counts
+const STEPS = ['', '-', 'count', 'counts', 'steps', 'fields', 'r', 'state', 'gear', 'turn']; // the units of counts and codes
 // They differ too for those who don't tell red from green; in one panel all but the first are dashed besides.
 const LIGHT = ['#0060a8', '#b84300', '#00735a', '#9a3a78', '#333333', '#8a6100', '#5b52c0', '#a01830'];
 const DARK = ['#62b6f0', '#f0a030', '#35cda3', '#e691c4', '#e8e8e8', '#f0e060', '#b0a8ff', '#ff8f80'];
@@ -130,8 +130,8 @@ function optionsOf(panel) {
   };
 }
 
-// A switch and a count keep their value until the next; what is measured goes over to it.
-const isStep = row => row.isSwitch || COUNTS.includes(row.unit);
+// A switch, a count and a code keep their value until the next; what is measured goes over to it.
+const isStep = row => row.isSwitch || STEPS.includes(row.unit);
 
 // Below the lines: a band where stamps ran twice, and a mark at the bottom for each word.
 function drawUnder({ series }, context, area, graph) {
