@@ -1,16 +1,6 @@
 -- The counts of what is not available, with one more.
-use Rattle.std.proofs.Common.{◌≡◌, ◌==◌, ◌<◌, ◌+◌, ◌∷◌, ◌++◌, [], ℕ, zero, suc, Bool, true, false, not, List, Some, None, arith, get_or, is_some, refl, sym, ap, ◌∙◌, true≢false, unwrap_or}
-use Rattle.std.specs.Prelude.{Err, Ok, OnOk, Result, if◌then◌else◌, count_by, slice_get, slice_set}
-use Rattle.std.specs.List.{list_any}
-use Rattle.std.specs.Map.{keys_of}
-use Rattle.std.proofs.lemmas.List.Quantifiers.{position-Some}
-use Rattle.std.proofs.lemmas.List.Sums.{fold-append, length-filter}
-use Rattle.j39_frame.specs.Origin.{is_same, place_in}
-use Rattle.j39_frame.specs.declared.origin.Origin.{Origin}
-use Rattle.j39_frame.proofs.OriginLemmas.{same_self, same_sym, same_true}
-use Rattle.j39_frame.proofs.PlaceLemmas.{absent, stands}
-use Rattle.j39_groups.proofs.ReadLemmas.{any_by_filter}
-use Rattle.j39_listen.specs.Counting.{capped}
+use Rattle.j39_reports.proofs.Common.{◌≡◌, ◌==◌, ◌<◌, ◌+◌, ◌∷◌, ◌++◌, [], ℕ, zero, suc, Bool, true, false, not, List, Some, None, arith, get_or, is_some, refl, sym, ap, ◌∙◌, true≢false, unwrap_or, Err, Ok, OnOk, Result, if◌then◌else◌, count_by, slice_get, slice_set, list_any, keys_of, position-Some, fold-append, length-filter, is_same, place_in, Origin, same_self, same_sym, same_true, stands, any_by_filter, capped}
+use Rattle.j39_frame.proofs.PlaceLemmas.{absent}
 use Rattle.j39_reports.specs.RowsSoFar.{AreCounted, counted, one_if}
 use Rattle.j39_reports.specs.Summary.{how_often}
 use Rattle.j39_reports.proofs.RowLemmas.{capped-more}

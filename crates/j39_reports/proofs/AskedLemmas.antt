@@ -1,22 +1,7 @@
 -- What is told of one message is asked for as a whole, or not at all.
-use Rattle.std.proofs.Common.{◌≡◌, ◌∙◌, ◌++◌, ◌∷◌, [], ◌&&◌, ℕ, Bool, true, false, List, Option, Some, None, ap, map, refl, sym}
-use Rattle.std.specs.List.{flat_map}
-use Rattle.std.proofs.lemmas.List.Elements.{filter-append}
-use Rattle.j39_faults.specs.Conversions.{codes_by, version_for}
-use Rattle.j39_faults.specs.Changes.{change_since, clearing_by}
-use Rattle.j39_faults.specs.FaultGroups.{cleared_in, kind_of}
-use Rattle.j39_faults.specs.LampBits.{lamps_of}
-use Rattle.j39_faults.specs.declared.change.Change.{Change}
-use Rattle.j39_faults.specs.declared.code.Code.{Code}
-use Rattle.j39_faults.specs.declared.conversion.Conversion.{Conversion}
-use Rattle.j39_faults.specs.declared.conversion.Version.{Version}
-use Rattle.j39_faults.specs.declared.kind.Kind.{Kind}
-use Rattle.j39_faults.specs.declared.lamps.Lamps.{Lamps}
-use Rattle.j39_faults.specs.declared.text.State.TheVariants.{Is}
-use Rattle.j39_listen.specs.Filter.{FilterRecord, no_filter, takes_message}
-use Rattle.j39_listen.specs.Heard.{Hearing}
+use Rattle.j39_reports.proofs.Common.{◌≡◌, ◌∙◌, ◌++◌, ◌∷◌, [], ◌&&◌, ℕ, Bool, true, false, List, Option, Some, None, ap, map, refl, sym, flat_map, filter-append, codes_by, version_for, change_since, clearing_by, cleared_in, kind_of, lamps_of, Change, Code, Conversion, Version, Kind, Lamps, Is, FilterRecord, no_filter, takes_message, Hearing}
 use Rattle.j39_reports.specs.FaultChanges.{became, bytes_before, changes_by, changes_of, is_active}
-use Rattle.j39_reports.specs.Faults.{Fault, Saying, asks_fault, codes_or_none, fault_of, faults_by, faults_in, faults_or_clearing, faults_taken, said_at}
+use Rattle.j39_reports.specs.Faults.{Fault, asks_fault, codes_or_none, fault_of, faults_by, faults_in, faults_or_clearing, faults_taken}
 use Rattle.j39_reports.specs.FaultsSoFar.{told_faults, told_next}
 use Rattle.j39_reports.specs.News.{Chosen, is_news, is_of_faults, last_from}
 use Rattle.j39_reports.specs.Told.{told_here, told_of}
@@ -45,9 +30,6 @@ module _ (which : FilterRecord) (first : ℕ) (m : Hearing) where
       by : (b : Bool) → told_faults b xs ++ told_faults b ys ≡ told_faults b (xs ++ ys)
       by true = refl
       by false = refl
-
-  whole_said : (saying : Saying) → AreWhole (said_at m saying ∷ [])
-  whole_said saying = refl
 
   whole_codes : (kind : Kind) (lamps : Lamps) (os : List (Option Code)) → AreWhole (map (fault_of m (Is kind) lamps) os)
   whole_codes kind lamps [] = whole_none

@@ -1,18 +1,7 @@
 -- What a run that tells faults counts, by the account that it leaves.
-use Rattle.std.proofs.Common.{◌≡◌, ◌==◌, ◌&&◌, ℕ, Bool, true, false, List, Option, Some, None, drop, if◌then◌else◌, length, refl, subst, sym}
-use Rattle.std.specs.Prelude.{slice_index}
-use Rattle.j39_frame.specs.Identifier.{pgn_of}
-use Rattle.j39_frame.specs.Network.{transport_control_group, transport_data_group}
-use Rattle.j39_transport.specs.Announced.{announced_in}
-use Rattle.j39_transport.specs.Frames.{destination_of, group_of, source_of}
-use Rattle.j39_transport.specs.Key.{is_key, key_between}
-use Rattle.j39_transport.specs.Signals.{Packet, packet_in, said_by}
-use Rattle.std.proofs.lemmas.Option.{IfSome_then}
-use Rattle.std.specs.Prelude.{Err, IfOk, IfSome, Ok, OnOk, Result}
-use Rattle.j39_io.specs.Turn.{Turn}
-use Rattle.j39_frame.specs.Frame.{FrameRecord}
-use Rattle.j39_listen.specs.Asking.{Wanting}
-use Rattle.j39_listen.specs.Output.{Making, Meeting, Output}
+use Rattle.j39_reports.proofs.Common.{◌≡◌, ◌==◌, ◌&&◌, ℕ, Bool, true, false, List, Option, Some, None, drop, if◌then◌else◌, length, refl, subst, sym, slice_index, pgn_of, transport_control_group, transport_data_group, announced_in, destination_of, source_of, is_key, key_between, Packet, IfSome_then, Err, IfOk, IfSome, Ok, OnOk, Result, Turn, FrameRecord, Wanting, Making, Meeting, Output}
+use Rattle.j39_transport.specs.Frames.{group_of}
+use Rattle.j39_transport.specs.Signals.{packet_in, said_by}
 use Rattle.j39_listen.specs.Ran.{Ran}
 use Rattle.j39_listen.specs.Run.{HasMetLog}
 use Rattle.j39_listen.specs.declared.counts.Counts.{Counts}

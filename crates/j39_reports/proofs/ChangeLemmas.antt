@@ -1,29 +1,9 @@
 -- What became of active codes: the lines, one behind the other, and how many.
-use Rattle.std.proofs.Common.{◌≡◌, ◌∙◌, ◌+◌, ◌≤◌, ℕ, List, [], ◌∷◌, ◌++◌, true, Option, Some, None, Result, Ok, Err, ap}
-use Rattle.std.proofs.Common.{append-nil, append_assoc, arith, length, length-append, map, refl, sym}
-use Rattle.std.specs.Prelude.{IsErr}
-use Rattle.std.proofs.lemmas.Grind.{flat_map-append}
-use Rattle.std.proofs.lemmas.List.{length-map}
-use Rattle.std.proofs.lemmas.List.Sums.{count_by-le-length}
-use Rattle.j39_io.specs.Puts.{Puts}
-use Rattle.j39_io.specs.Turn.{Device, Turn}
-use Rattle.j39_io.proofs.PutsLemmas.{puts_as, puts_done, puts_first, puts_then}
-use Rattle.j39_faults.specs.Conversions.{code_by, codes_by}
-use Rattle.j39_faults.specs.Codes.{codes_of}
-use Rattle.j39_faults.specs.declared.change.Change.{Change}
-use Rattle.j39_faults.specs.declared.conversion.Version.{Version}
-use Rattle.j39_faults.specs.declared.code.Code.{Code}
-use Rattle.j39_faults.specs.declared.kind.Kind.{Kind}
-use Rattle.j39_faults.specs.declared.kind.Kind.TheVariants.{Active}
-use Rattle.j39_faults.specs.declared.lamps.Lamps.{Lamps}
-use Rattle.j39_faults.specs.declared.text.State.TheVariants.{Became}
-use Rattle.j39_listen.specs.Heard.{Hearing}
-use Rattle.j39_listen.specs.declared.format.Format.{Format}
-use Rattle.j39_reports.specs.FaultChanges.{became, is_active}
+use Rattle.j39_reports.proofs.Common.{◌≡◌, ◌∙◌, ◌+◌, ◌≤◌, ℕ, List, [], ◌∷◌, ◌++◌, Option, Some, None, Result, Ok, Err, ap, append-nil, append_assoc, arith, length, length-append, map, sym, IsErr, flat_map-append, length-map, count_by-le-length, Puts, Device, Turn, puts_as, puts_done, puts_first, puts_then, code_by, codes_by, codes_of, Change, Version, Code, Lamps, Became, Hearing, Format, HeadRecord}
+use Rattle.j39_reports.specs.FaultChanges.{became}
 use Rattle.j39_reports.specs.FaultRows.{faults_text, message_head}
 use Rattle.j39_reports.specs.Faults.{Fault, Manner, lines_in, says_asked}
 use Rattle.j39_reports.specs.FaultsSoFar.{change_by, changed, line_of}
-use Rattle.j39_rows.specs.Row.{HeadRecord}
 use Rattle.j39_reports.specs.declared.fault_news.changes.Side.{Side}
 use Rattle.j39_reports.proofs.CountLemmas.{count_by-append}
 use Rattle.j39_reports.proofs.FaultAccountLemmas.{faults_text-append}
@@ -100,20 +80,6 @@ module _ (form : Format) (rows : Manner) (m : Hearing) (lamps : Lamps) (side : S
       ∙ ap (λ x. before ++ x) (faults_text-append form rows (here (by code)) (of (map by more))) ∙ sym (append_assoc before now rest)))
       (puts_first {T = T} (before ++ now) rest e last _ failed (puts_then before now tt (Err e) old mid new h.written put))
 
-  all_before : (left : List Code) (count : ℕ) (sink : Turn) → (h : HasChanged form rows m lamps side others version payload left count sink) → left ≡ []
-      → codes_by version payload ≡ h.before
-  all_before left count sink h none = h.all_are ∙ ap (λ x. h.before ++ map by x) none ∙ append-nil h.before
-
-  -- the codes are those before the end
-  pub changes_all : {T E : Type 0} (left : List Code) (count : ℕ) (x : T) (sink : Turn) → HasChanged form rows m lamps side others version payload left count sink → left ≡ []
-      → Puts {E = E} (faults_text form rows (of (codes_by version payload))) (Ok x) sink
-  changes_all left count x sink h none =
-      puts_done _ tt x sink (puts_as _ _ _ _ (ap (λ cs. faults_text form rows (of cs)) (sym (all_before left count sink h none))) h.written)
-
-  pub changes_count : (left : List Code) (count : ℕ) (sink : Turn) → HasChanged form rows m lamps side others version payload left count sink → left ≡ []
-      → count ≡ lines_in rows (of (codes_by version payload))
-  changes_count left count sink h none = h.count_is ∙ ap (λ cs. lines_in rows (of cs)) (sym (all_before left count sink h none))
-
   -- no more than bytes
   pub few_changed : (left : List Code) (count : ℕ) (sink : Turn) → HasChanged form rows m lamps side others version payload left count sink → count ≤ length payload
   few_changed left count sink h =
@@ -122,7 +88,3 @@ module _ (form : Format) (rows : Manner) (m : Hearing) (lamps : Lamps) (side : S
       let n : length (codes_by version payload) ≡ length (codes_of payload) = length-map (codes_of payload) by in
       let c = few_codes payload in
       omega arith
-
-pub active_is : (kind : Kind) → is_active kind ≡ true → kind ≡ Active
-active_is Active e = refl
-active_is kind e = cc

@@ -1,8 +1,5 @@
 -- Counts that stay at 2^64 - 1, one more.
-use Rattle.std.proofs.Common.{◌≡◌, ◌+◌, ◌++◌, ◌==◌, ℕ, List, [], ◌∷◌, Bool, true, false, length, refl, sym, ap, ◌∙◌, arith, length-append, subst}
-use Rattle.std.specs.Prelude.{count_by}
-use Rattle.std.proofs.lemmas.Grind.{common_steps}
-use Rattle.j39_listen.specs.Counting.{capped}
+use Rattle.j39_reports.proofs.Common.{◌≡◌, ◌+◌, ◌++◌, ℕ, List, [], ◌∷◌, Bool, true, false, length, refl, sym, ap, ◌∙◌, arith, length-append, subst, count_by, common_steps, capped}
 use Rattle.j39_log.specs.Kind.{kind_of}
 use Rattle.j39_log.specs.declared.kind.OtherKind.{OtherKind}
 use Rattle.j39_reports.specs.Interfaces.{one_if}
@@ -14,9 +11,6 @@ capped_more a n e = omega arith
 
 pub capped_sum : (a n k : ℕ) → a ≡ capped n → capped (a + k) ≡ capped (n + k)
 capped_sum a n k e = omega arith
-
-pub capped_zero : (n : ℕ) → (capped n == 0) ≡ (n == 0)
-capped_zero n = grind (arith, common_steps)
 
 pub length_more : {X : Type 0} (xs : List X) (x : X) → length (xs ++ x ∷ []) ≡ length xs + 1
 length_more xs x = length-append xs (x ∷ [])

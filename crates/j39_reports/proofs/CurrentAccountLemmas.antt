@@ -1,22 +1,5 @@
 -- The faults that are there now as an account: what is heard at one frame more, and its end.
-use Rattle.std.proofs.Common.{◌≡◌, ◌∙◌, ◌+◌, ◌++◌, ◌∷◌, [], ℕ, List, Option, None, ap, append-nil, arith, length, length-append, refl, subst, sym}
-use Rattle.std.specs.Io.KnownBytes.{Appends}
-use Rattle.std.proofs.KnownBytes.{Appends-nil}
-use Rattle.std.proofs.lemmas.List.Elements.{filter-append}
-use Rattle.j39_io.specs.Device.{AppendsFront}
-use Rattle.j39_faults.specs.declared.conversion.Conversion.{Conversion}
-use Rattle.j39_frame.specs.Frame.{FrameRecord}
-use Rattle.j39_listen.specs.AccountCalls.{Begins, Closes, MakesOne, Meets, StopsAtEnd}
-use Rattle.j39_listen.specs.Chooses.{Chooses}
-use Rattle.j39_listen.specs.Counting.{capped}
-use Rattle.j39_listen.specs.Filter.{FilterRecord, first_stamp}
-use Rattle.j39_listen.specs.Heard.{AreHeardWith, HeardAtWith, Hearing, or_none}
-use Rattle.j39_listen.specs.Listening.{Hears}
-use Rattle.j39_listen.specs.Output.{Output}
-use Rattle.j39_listen.specs.declared.format.Format.{Format}
-use Rattle.j39_listen.specs.declared.listener.Listener.{Listener}
-use Rattle.j39_listen.proofs.Causal.{heard_more}
-use Rattle.j39_listen.proofs.Unique.{heard_below_unique}
+use Rattle.j39_reports.proofs.Common.{◌≡◌, ◌∙◌, ◌+◌, ◌++◌, ◌∷◌, [], ℕ, List, Option, None, ap, append-nil, arith, length, length-append, refl, subst, sym, Appends, Appends-nil, filter-append, AppendsFront, Conversion, FrameRecord, Begins, Closes, MakesOne, Meets, StopsAtEnd, Chooses, capped, FilterRecord, first_stamp, AreHeardWith, HeardAtWith, Hearing, or_none, Hears, Output, Format, Listener, heard_more, heard_below_unique}
 use Rattle.j39_reports.specs.CurrentPlaces.{Places}
 use Rattle.j39_reports.specs.CurrentSoFar.{AreKept, HasKept, NowSubject, TakesFrame, taken_below}
 use Rattle.j39_reports.specs.FaultsNow.{active_among, faults_now, is_active_message, now_taken}

@@ -1,20 +1,6 @@
 -- What is kept of each address, with one message of active codes more, and what is written of it.
-use Rattle.std.proofs.Common.{◌≡◌, ◌∙◌, ◌+◌, ◌<◌, ◌≤◌, ◌&&◌, ◌||◌, ◌++◌, ◌∷◌, [], ℕ, zero, suc, Bool, true, false, not, List, Option, Some, None, refl, sym, ap, append-nil, append_assoc, arith, filter, inl, inr, length, length-append, map, replicate, subst}
-use Rattle.std.proofs.Math.Bool.{or-true}
-use Rattle.std.specs.List.{flat_map, list_all, list_any}
-use Rattle.std.proofs.lemmas.Bool.{and_parts, cases_Bool, cases_eq, cond-false, cond-true, eq-eqb, eqb-true, ne_eqb}
-use Rattle.std.proofs.lemmas.List.{get_or-replicate, length-replicate}
-use Rattle.std.proofs.lemmas.List.Elements.{filter-append}
-use Rattle.std.proofs.lemmas.List.Folds.{list_any-append}
-use Rattle.std.proofs.lemmas.Simd.{map-map}
-use Rattle.j39_frame.specs.Origin.{is_same_or_none}
-use Rattle.j39_faults.specs.LampBits.{lamps_of}
-use Rattle.j39_faults.specs.declared.code.Code.{Code}
-use Rattle.j39_faults.specs.declared.conversion.Conversion.{Conversion}
-use Rattle.j39_faults.specs.declared.lamps.Lamps.{Lamps}
+use Rattle.j39_reports.proofs.Common.{◌≡◌, ◌∙◌, ◌+◌, ◌<◌, ◌≤◌, ◌&&◌, ◌||◌, ◌++◌, ◌∷◌, [], ℕ, zero, suc, Bool, true, false, not, List, Option, Some, None, refl, sym, ap, append-nil, append_assoc, arith, filter, inl, inr, length, length-append, map, replicate, subst, or-true, flat_map, list_all, list_any, and_parts, cases_Bool, cases_eq, cond-false, cond-true, eq-eqb, eqb-true, ne_eqb, get_or-replicate, length-replicate, filter-append, list_any-append, map-map, is_same_or_none, lamps_of, Code, Conversion, Lamps, capped, Hearing}
 use Rattle.j39_faults.proofs.NamedLemmas.{same_self}
-use Rattle.j39_listen.specs.Counting.{capped}
-use Rattle.j39_listen.specs.Heard.{Hearing}
 use Rattle.j39_reports.specs.CurrentPlaces.{HaveTaken, LastRecord, Places, StandingRecord, at, continued, found_in, going_on, is_same_code, last_by, left_by, standings_under}
 use Rattle.j39_reports.specs.CurrentSoFar.{AreKept, IsEmptyAt, IsKeptAt, IsLastAt, now_shown, nows_shown, shown_below, standing_of}
 use Rattle.j39_reports.specs.Faults.{codes_or_none}

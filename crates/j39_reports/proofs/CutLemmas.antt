@@ -1,8 +1,6 @@
 -- Lines that are cut at a width.
-use Rattle.std.proofs.Common.{◌≡◌, ◌≤◌, ◌<◌, ◌+◌, ◌-◌, ◌++◌, [], ◌∷◌, ℕ, zero, suc, Bool, true, false, List, Some, Result, Ok, Err, codes, drop, get_or, length, length-append, append_assoc, append-nil, take, refl, sym, ap, ◌∙◌, arith, nat_le}
-use Rattle.std.proofs.lemmas.List.{take-append-le, take_all, take_at}
-use Rattle.j39_io.specs.Backwards.{WritesBefore}
-use Rattle.j39_io.specs.Puts.{Puts}
+use Rattle.j39_reports.proofs.Common.{◌≡◌, ◌≤◌, ◌<◌, ◌+◌, ◌-◌, ◌++◌, [], ◌∷◌, ℕ, zero, suc, Bool, true, false, List, codes, drop, length, length-append, append_assoc, append-nil, take, refl, sym, ap, ◌∙◌, arith, nat_le, take-append-le, WritesBefore}
+use Rattle.std.proofs.lemmas.List.{take_all}
 use Rattle.j39_reports.specs.Watch.{column, spaces}
 
 -- what is cut twice
@@ -90,22 +88,3 @@ pub sender_columns : (address name : List ℕ) → length address ≡ 2 → leng
 sender_columns address name two sixteen =
     let none : 0 - length (address ++ (codes "    " ++ name)) ≡ 0 = omega arith in
     rw (none, append-nil address, two, sixteen) (simp append_assoc refl)
-
--- ---- what a call wrote to a line
-
--- all of its text, or what there was room for
-pub puts_cut : {T E : Type 0} (w w' : ℕ) (old new text : List ℕ) (result : Result T E) (was is : Bool)
-    → Puts text result (record { old = record { bytes = Some (w ∷ old); has_failed = was }; new = record { bytes = Some (w' ∷ new); has_failed = is } })
-    → length new ≤ w' → (is ≡ true → length new ≡ w') → (w' ≡ w) × (new ≡ take w (old ++ text))
-puts_cut w w' old new text (Ok x) was is puts fits full =
-    let appended : w' ∷ new ≡ (w ∷ old) ++ text = puts.written in
-    let same : w' ≡ w = ap (λ l. get_or l 0 w) appended in
-    let all : new ≡ old ++ text = ap (drop 1) appended in
-    let short : length (old ++ text) ≤ w = let len = ap length all in omega (arith, len, fits, same) in
-    (same, all ∙ sym (take_all w (old ++ text) short))
-puts_cut w w' old new text (Err e) was is puts fits full =
-    let (front, rest, cut, appended) = puts.front in
-    let same : w' ≡ w = ap (λ l. get_or l 0 w) appended in
-    let all : new ≡ old ++ front = ap (drop 1) appended in
-    let long : length (old ++ front) ≡ w = let len = ap length all in let f = full puts.mark in omega (arith, len, f, same) in
-    (same, all ∙ sym (ap (λ t. take w (old ++ t)) cut ∙ ap (take w) (sym (append_assoc old front rest)) ∙ take_at (old ++ front) rest w long))

@@ -1,16 +1,5 @@
 -- The entries of a message in whatever form, reading by reading.
-use Rattle.std.proofs.Common.{◌+◌, Ok, arith, length-append, ◌≡◌, ◌∙◌, ◌++◌, ◌∷◌, ℕ, List, [], Result, Err, append_assoc, append-nil, map, ap, refl, sym}
-use Rattle.std.specs.List.{flat_map}
-use Rattle.std.proofs.lemmas.Grind.{flat_map-append}
-use Rattle.std.proofs.lemmas.List.{map-append}
-use Rattle.std.proofs.lemmas.List.Elements.{filter_map-append}
-use Rattle.j39_io.specs.Puts.{Puts}
-use Rattle.j39_io.specs.Turn.{Device}
-use Rattle.j39_io.proofs.PutsLemmas.{puts_as, puts_done, puts_failed, puts_first, puts_nothing, puts_then}
-use Rattle.j39_groups.specs.Sightings.{SightingRecord, told_by, told_in}
-use Rattle.j39_groups.specs.Value.{ReadingRecord}
-use Rattle.j39_listen.specs.Counting.{capped}
-use Rattle.j39_listen.specs.Report.{Form, entry_of}
+use Rattle.j39_reports.proofs.Common.{◌+◌, Ok, arith, length-append, ◌≡◌, ◌∙◌, ◌++◌, ◌∷◌, ℕ, List, [], Result, Err, append_assoc, append-nil, map, ap, refl, sym, flat_map, flat_map-append, map-append, filter_map-append, Puts, Device, puts_as, puts_done, puts_failed, puts_first, puts_nothing, puts_then, SightingRecord, told_by, told_in, ReadingRecord, capped, Form, entry_of}
 use Rattle.j39_reports.specs.MessageEntries.{Begun, HasStopped, HaveWritten, PutsReadings, readings_text}
 
 module _ (form : Form) (begun : Begun) where

@@ -1,28 +1,5 @@
 -- What is told of more messages, and of more frames.
-use Rattle.std.proofs.Common.{◌≡◌, ◌∙◌, ◌+◌, ◌<◌, ◌≤◌, ℕ, zero, suc, true, false, List, [], ◌∷◌, ◌++◌}
-use Rattle.std.proofs.Common.{Option, Some, None, ap, append-nil, append_assoc, arith}
-use Rattle.std.proofs.Common.{inl, inr, length, length-append, refl, slice_get, subst, sym, take}
-use Rattle.std.proofs.lemmas.Bool.{cases_Bool, cond-true, cond-false}
-use Rattle.std.proofs.lemmas.Grind.{flat_map-append}
-use Rattle.std.proofs.lemmas.List.{take-append-le}
-use Rattle.std.proofs.lemmas.List.Elements.{filter-append}
-use Rattle.std.specs.Io.KnownBytes.{Appends}
-use Rattle.std.proofs.KnownBytes.{Appends-nil}
-use Rattle.j39_frame.specs.Frame.{FrameRecord}
-use Rattle.j39_listen.specs.AccountCalls.{Begins, MakesOne, Meets, Stops}
-use Rattle.j39_listen.specs.Counting.{capped}
-use Rattle.j39_listen.specs.Chooses.{Chooses}
-use Rattle.j39_listen.specs.Filter.{FilterRecord, first_stamp}
-use Rattle.j39_listen.specs.declared.chooser.Chooser.{Chooser}
-use Rattle.j39_listen.specs.Heard.{AreHeardWith, Hearing, LeavesNetwork, or_none}
-use Rattle.j39_listen.specs.Listening.{Hears}
-use Rattle.j39_listen.specs.Output.{Output}
-use Rattle.j39_listen.specs.ReportSoFar.{made_of, made_sum}
-use Rattle.j39_listen.specs.declared.counts.Made.{Made}
-use Rattle.j39_listen.proofs.Causal.{heard_more}
-use Rattle.j39_listen.proofs.LineLemmas.{capped-sum}
-use Rattle.j39_listen.proofs.ReportAccount.{same_made}
-use Rattle.j39_listen.proofs.Unique.{heard_below_unique, heard_first}
+use Rattle.j39_reports.proofs.Common.{◌≡◌, ◌∙◌, ◌+◌, ◌<◌, ◌≤◌, ℕ, zero, suc, true, false, List, [], ◌∷◌, ◌++◌, Option, Some, None, ap, append-nil, append_assoc, arith, inl, inr, length, length-append, refl, slice_get, subst, sym, take, cases_Bool, cond-true, cond-false, flat_map-append, take-append-le, filter-append, Appends, Appends-nil, FrameRecord, Begins, MakesOne, Meets, Stops, capped, Chooses, FilterRecord, first_stamp, Chooser, AreHeardWith, Hearing, LeavesNetwork, or_none, Hears, Output, made_of, made_sum, Made, heard_more, capped-sum, same_made, heard_below_unique, heard_first, Bool, count_by, Format, Line}
 use Rattle.j39_reports.specs.Faults.{Fault, Manner, asks_fault, faults_taken, lines_in, says_asked}
 use Rattle.j39_reports.specs.Told.{told, told_below, told_here}
 use Rattle.j39_reports.specs.News.{Chosen, chosen_of, faults_among, is_fault_group, is_of_faults}
@@ -34,10 +11,7 @@ use Rattle.j39_reports.specs.Broken.{announces_codes, is_whole}
 use Rattle.j39_reports.specs.Interfaces.{one_if}
 use Rattle.j39_reports.specs.declared.fault_news.announced.Announced.{Announced}
 use Rattle.j39_reports.proofs.CountLemmas.{capped_sum, count_by-append, count_here}
-use Rattle.std.specs.Prelude.{Bool, count_by}
 use Rattle.j39_reports.specs.declared.fault_news.account.FaultNews.{FaultNews}
-use Rattle.j39_listen.specs.declared.format.Format.{Format}
-use Rattle.j39_listen.specs.declared.format.Format.TheVariants.{Line}
 use Rattle.j39_reports.specs.declared.fault_news.form.Writing.{Writing}
 use Rattle.j39_reports.specs.declared.fault_news.last_faults.LastFaults.{LastFaults}
 

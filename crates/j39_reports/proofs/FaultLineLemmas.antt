@@ -1,33 +1,13 @@
 -- The lines of the codes, one behind the other.
-use Rattle.std.proofs.Common.{◌≡◌, ◌∙◌, ◌+◌, ◌≢◌, ℕ, Bool, true, false, suc, List, [], ◌∷◌, ◌++◌, Option, Some, None, Result, Ok, Err, ◌≤◌, ap}
-use Rattle.std.proofs.Common.{append-nil, append_assoc, arith, flat_map, length, length-append, map, refl, sym}
-use Rattle.std.specs.Prelude.{IsErr}
-use Rattle.std.proofs.lemmas.Grind.{flat_map-append}
-use Rattle.std.proofs.lemmas.List.{length-map}
-use Rattle.std.proofs.lemmas.List.Folds.{flat_map-map}
-use Rattle.j39_io.specs.Puts.{Puts}
-use Rattle.j39_io.specs.Turn.{Device, Turn}
-use Rattle.j39_io.proofs.PutsLemmas.{puts_as, puts_done, puts_failed, puts_first, puts_then}
-use Rattle.std.specs.List.{cons_option, filter_map, range_with_len}
-use Rattle.std.proofs.lemmas.List.FromFn.{length-range_with_len}
-use Rattle.j39_faults.specs.Codes.{code_at, codes_of, places_of}
-use Rattle.j39_faults.specs.Conversions.{code_by, codes_by}
-use Rattle.j39_faults.specs.declared.conversion.Version.{Version}
-use Rattle.j39_faults.specs.declared.code.Code.{Code}
-use Rattle.j39_faults.specs.declared.kind.Kind.{Kind}
-use Rattle.j39_faults.specs.declared.lamps.Lamps.{Lamps}
+use Rattle.j39_reports.proofs.Common.{◌≡◌, ◌∙◌, ◌+◌, ◌≢◌, ℕ, Bool, true, false, suc, List, [], ◌∷◌, ◌++◌, Option, Some, None, Result, Ok, Err, ◌≤◌, ap, append-nil, append_assoc, arith, length, length-append, map, refl, sym, IsErr, flat_map-append, length-map, flat_map-map, Puts, Device, Turn, puts_as, puts_done, puts_failed, puts_first, puts_then, cons_option, filter_map, range_with_len, length-range_with_len, code_at, places_of, code_by, codes_by, Version, Code, Kind, Lamps, Hearing, count_by, cond-false, count_by-le-length, HeadRecord, row_text, Format}
+use Rattle.std.proofs.Common.{flat_map}
+use Rattle.j39_faults.specs.Codes.{codes_of}
 use Rattle.j39_faults.specs.declared.text.State.{State}
-use Rattle.j39_listen.specs.Heard.{Hearing}
-use Rattle.std.specs.Prelude.{count_by}
-use Rattle.std.proofs.lemmas.Bool.{cond-false}
-use Rattle.std.proofs.lemmas.List.Sums.{count_by-le-length}
 use Rattle.j39_reports.specs.Faults.{Fault, Manner, clearing_of, codes_or_none, fault_of, lines_in, names_asked, says_asked}
 use Rattle.j39_reports.specs.Interfaces.{one_if}
 use Rattle.j39_reports.proofs.CountLemmas.{count_by-append, count_here}
 use Rattle.j39_reports.specs.FaultRows.{clearing_columns, fault_in, faults_text, message_head}
 use Rattle.j39_reports.specs.FaultsSoFar.{line_of}
-use Rattle.j39_rows.specs.Row.{HeadRecord, row_text}
-use Rattle.j39_listen.specs.declared.format.Format.{Format}
 
 abbrev pub lines_of : Format → HeadRecord → Manner → State → Lamps → List Code → List ℕ
 lines_of form head rows how lamps cs = flat_map (λ code. line_of form head rows how lamps (Some code)) cs
@@ -77,12 +57,6 @@ module _ (form : Format) (head : HeadRecord) (rows : Manner) (version : Option V
       let rest = lines_of form head rows how lamps (map by more) in
       puts_as _ _ _ _ (sym (ap (lines_of form head rows how lamps) (h.all_are ∙ ap (λ x. h.before ++ x) (next_is left more code is)) ∙ flat_map-append line h.before (by code ∷ map by more) ∙ sym (append_assoc before (line (by code)) rest)))
       (puts_first {T = T} (before ++ line (by code)) rest e last _ failed (puts_then before (line (by code)) tt (Err e) old mid new h.written here))
-
-  -- the codes are those before the end
-  pub codes_all : {T E : Type 0} (left : List Code) (count : ℕ) (x : T) (sink : Turn) → HasPut form head rows version how lamps payload left count sink → left ≡ []
-      → Puts {E = E} (lines_of form head rows how lamps (codes_by version payload)) (Ok x) sink
-  codes_all left count x sink h none =
-      puts_done _ tt x sink (puts_as _ _ _ _ (ap (lines_of form head rows how lamps) (sym (h.all_are ∙ ap (λ x. h.before ++ map by x) none ∙ append-nil h.before))) h.written)
 
 pub few_found : {X Y : Type 0} (f : X → Option Y) (xs : List X) → length (filter_map f xs) ≤ length xs
 few_found f [] = omega arith

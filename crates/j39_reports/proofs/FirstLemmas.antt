@@ -1,11 +1,6 @@
 -- The first entries of their origins, with one entry more.
-use Rattle.std.proofs.Common.{◌≡◌, Bool, true, false, not, List, [], ◌∷◌, ◌++◌, refl, sym, ap, ◌∙◌}
-use Rattle.std.specs.Prelude.{filter, if◌then◌else◌}
-use Rattle.std.specs.List.{list_any}
-use Rattle.std.proofs.lemmas.Bool.{both_ways}
-use Rattle.std.proofs.lemmas.List.Elements.{filter-append}
+use Rattle.j39_reports.proofs.Common.{◌≡◌, Bool, true, false, not, List, [], ◌∷◌, ◌++◌, refl, sym, ap, ◌∙◌, filter, if◌then◌else◌, list_any, both_ways, filter-append, Entry}
 use Rattle.std.proofs.lemmas.Map.Views.{any-filter_same}
-use Rattle.j39_listen.specs.Report.{Entry}
 use Rattle.j39_reports.specs.Summary.{AreApart, firsts, have_one_origin}
 use Rattle.j39_reports.proofs.OriginLemmas.{same_like, same_sym}
 

@@ -1,10 +1,5 @@
 -- The elements of a list, each once, as the list grows.
-use Rattle.std.proofs.Common.{◌≡◌, ◌++◌, ◌||◌, ℕ, List, [], ◌∷◌, Bool, true, false, not, refl, sym, ap, ◌∙◌, append-nil, filter, inl, inr}
-use Rattle.std.specs.List.{list_any}
-use Rattle.std.specs.Str.{bytes_eq}
-use Rattle.std.proofs.lemmas.Bool.{or_cases, or_right}
-use Rattle.std.proofs.lemmas.List.Elements.{filter-append}
-use Rattle.std.proofs.lemmas.Slice.Eq.{bytes_eq-Decides}
+use Rattle.j39_reports.proofs.Common.{◌≡◌, ◌++◌, ◌||◌, ℕ, List, [], ◌∷◌, Bool, true, false, not, refl, sym, ap, ◌∙◌, append-nil, filter, inl, inr, list_any, bytes_eq, or_cases, or_right, filter-append, bytes_eq-Decides}
 use Rattle.j39_reports.specs.Firsts.{firsts}
 
 -- names that are equal are one

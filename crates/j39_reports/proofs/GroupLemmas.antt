@@ -1,22 +1,6 @@
 -- What came of the groups, with a frame or a message more.
-use Rattle.std.proofs.Common.{◌≡◌, ◌==◌, ◌||◌, ◌+◌, ◌-◌, ◌*◌, ◌/◌, ◌%◌, ◌++◌, ◌<◌, ◌^◌, ℕ, List, [], ◌∷◌, Bool, true, false, length, refl, sym, ap, ◌∙◌, append-nil, append_assoc, get_or, subst, inl, inr, replicate, Option, None, Some, arith}
-use Rattle.std.specs.Prelude.{count_by, fold, max, min, nat_eq, nat_lt, if◌then◌else◌}
-use Rattle.std.specs.List.{flat_map, list_any, sum_by}
-use Rattle.std.proofs.lemmas.Bool.{cases_eq, eq-eqb, ltb-false, ne_eqb}
-use Rattle.std.proofs.Math.ListN.{set}
-use Rattle.std.proofs.lemmas.Grind.{flat_map-append}
-use Rattle.std.proofs.lemmas.List.{get_or-replicate, get_or-set_same, get_or-set_other, length-replicate, length-set}
-use Rattle.std.proofs.lemmas.List.Elements.{filter-append}
-use Rattle.std.proofs.lemmas.List.Folds.{list_any-append}
-use Rattle.std.proofs.lemmas.List.Sums.{fold-append, sum_by-append}
-use Rattle.j39_memory.specs.ByGroup.{values_of}
-use Rattle.j39_frame.specs.Frame.{FrameRecord}
-use Rattle.j39_frame.specs.Groups.{IsHeardGroup, place_of_group}
-use Rattle.j39_frame.specs.Identifier.{pgn_of}
-use Rattle.j39_frame.proofs.GroupLemmas.{heard}
-use Rattle.j39_transport.specs.Announced.{announced_by}
-use Rattle.j39_listen.specs.Counting.{capped}
-use Rattle.j39_listen.specs.Heard.{Hearing, or_none}
+use Rattle.j39_reports.proofs.Common.{◌≡◌, ◌==◌, ◌||◌, ◌+◌, ◌-◌, ◌*◌, ◌/◌, ◌%◌, ◌++◌, ◌<◌, ℕ, List, [], ◌∷◌, Bool, true, false, length, refl, sym, ap, ◌∙◌, append-nil, append_assoc, get_or, subst, inl, inr, replicate, Option, None, Some, arith, count_by, fold, max, min, nat_eq, nat_lt, if◌then◌else◌, flat_map, list_any, sum_by, cases_eq, eq-eqb, ltb-false, ne_eqb, set, flat_map-append, get_or-replicate, get_or-set_same, get_or-set_other, length-replicate, filter-append, list_any-append, fold-append, sum_by-append, values_of, FrameRecord, IsHeardGroup, place_of_group, pgn_of, heard, announced_by, capped, Hearing, or_none}
+use Rattle.std.proofs.lemmas.List.{length-set}
 use Rattle.j39_reports.specs.CameSoFar.{at_group, at_named, group_heard, with_announced, with_own, with_whole}
 use Rattle.j39_reports.specs.Firsts.{firsts}
 use Rattle.j39_reports.specs.GroupCounts.{Came, Spread, announces, came_in, came_with, controllers_in, distances_behind, distances_in, group_named, is_named, is_of, nothing, one_where, senders_in, spread_of}
@@ -246,13 +230,6 @@ named_as n pgn below is =
       | true ↦ λ e it. (below, (λ directed. omega (arith, it)))
       | false ↦ λ e it. (below, (λ directed. absurd (omega (arith, ltb-false (n / 256 % 256) 240 e, it, directed))))
     ] refl is
-
-pub named_heard : (n : ℕ) → n < 2 ^ 18 → IsHeardGroup (group_named n)
-named_heard n below = named_as n (group_named n) (lower (nat_lt (n / 256 % 256) 240)) refl
-  where
-    lower : (b : Bool) → (if b then n / 256 * 256 else n) < 262144
-    lower true = omega (arith, below)
-    lower false = omega (arith, below)
 
 -- so nothing comes of any other
 pub came_none : (pgn : ℕ) (F : List FrameRecord) → pgn < 262144 → (IsHeardGroup pgn → ⊥) → flat_map (came_with pgn) F ≡ []

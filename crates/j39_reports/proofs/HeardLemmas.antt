@@ -1,15 +1,7 @@
 -- A message that is heard has 1,785 bytes at most.
-use Rattle.std.proofs.Common.{◌≡◌, ◌≤◌, ◌∙◌, ℕ, true, false, Bool, List, [], ◌∷◌, ◌++◌, ap, arith, inl}
-use Rattle.std.proofs.Common.{inr, length, length-take, refl, sym}
-use Rattle.std.proofs.lemmas.Bool.{both_ways}
-use Rattle.j39_frame.specs.Frame.{FrameRecord}
-use Rattle.j39_transport.proofs.FrameFacts.{announcement_facts}
-use Rattle.j39_transport.specs.Assembly.{Whole, joined_at}
-use Rattle.j39_transport.specs.Events.{Event, announces, at, size}
+use Rattle.j39_reports.proofs.Common.{◌≡◌, ◌≤◌, ◌∙◌, ℕ, true, false, Bool, List, [], ◌∷◌, ◌++◌, ap, arith, inl, inr, length, length-take, refl, sym, both_ways, FrameRecord, announcement_facts, Whole, joined_at, Event, at, Key, Hearing, IsHeardWith, frames_only, frame_new}
+use Rattle.j39_transport.specs.Events.{announces, size}
 use Rattle.j39_transport.specs.Events.Event.{Frame, Forget}
-use Rattle.j39_transport.specs.Key.{Key}
-use Rattle.j39_listen.specs.Heard.{Hearing, IsHeardWith, frames_only}
-use Rattle.j39_listen.proofs.Causal.{frame_new}
 
 small_announced : (k : Key) (e : Event) → announces k e ≡ true → size e ≤ 1785
 unfolding announces size

@@ -1,15 +1,6 @@
 -- The rows as the code keeps them, with one value more.
-use Rattle.std.proofs.Common.{◌≡◌, ◌==◌, ◌&&◌, ◌∷◌, ◌++◌, [], ℕ, zero, suc, Bool, true, false, List, Some, None, arith, get_or, is_some, map, refl, sym, ap, ap₂, ◌∙◌, true≢false, unwrap_or}
-use Rattle.std.specs.List.{list_any}
-use Rattle.std.specs.Map.{keys_of}
-use Rattle.std.specs.Prelude.{◌<◌, slice_get, slice_set}
-use Rattle.std.proofs.lemmas.List.Quantifiers.{position-Some}
-use Rattle.j39_frame.specs.Origin.{is_same, is_same_or_none, place_in}
-use Rattle.j39_frame.specs.declared.origin.Origin.{Origin}
-use Rattle.j39_frame.proofs.OriginLemmas.{same_self, same_true}
-use Rattle.j39_frame.proofs.PlaceLemmas.{absent, stands}
-use Rattle.j39_groups.specs.Value.{ValueRecord}
-use Rattle.j39_listen.specs.Report.{Entry}
+use Rattle.j39_reports.proofs.Common.{◌≡◌, ◌==◌, ◌&&◌, ◌∷◌, ◌++◌, [], ℕ, zero, suc, Bool, true, false, List, Some, None, arith, get_or, is_some, map, refl, sym, ap, ap₂, ◌∙◌, true≢false, unwrap_or, list_any, keys_of, ◌<◌, slice_get, slice_set, position-Some, is_same, is_same_or_none, place_in, Origin, same_self, same_true, stands, ValueRecord, Entry}
+use Rattle.j39_frame.proofs.PlaceLemmas.{absent}
 use Rattle.j39_reports.specs.RowsSoFar.{AreRowsOf, HasGrown, begun, grown}
 use Rattle.j39_reports.specs.RowModels.{entry_at, row_shown}
 use Rattle.j39_reports.specs.Summary.{firsts, have_one_origin}

@@ -1,15 +1,5 @@
 -- The interfaces of some frames, and of one more.
-use Rattle.std.proofs.Common.{◌≡◌, ◌==◌, ◌||◌, ◌+◌, ◌++◌, ◌<◌, ◌≤◌, ℕ, List, [], ◌∷◌, Bool, true, false, not, length, refl, sym, ap, ap₂, ◌∙◌, append-nil, arith, map, take, take_all, length-take, drop, take-append-drop, subst, zero, suc, get_or}
-use Rattle.std.proofs.Math.Bool.{or-false}
-use Rattle.std.specs.Prelude.{if◌then◌else◌, nat_lt}
-use Rattle.std.specs.List.{list_any, refill}
-use Rattle.std.specs.Str.{bytes_eq}
-use Rattle.std.proofs.lemmas.Bool.{le-ltb, ne_eqb, or_right}
-use Rattle.std.proofs.Math.ListN.{set}
-use Rattle.std.proofs.lemmas.List.{length-map, map-append, take_more, take-append-le}
-use Rattle.std.proofs.lemmas.List.Elements.{filter_map-append}
-use Rattle.std.proofs.lemmas.List.Folds.{list_any-append}
-use Rattle.j39_listen.specs.Counting.{capped}
+use Rattle.j39_reports.proofs.Common.{◌≡◌, ◌==◌, ◌||◌, ◌+◌, ◌++◌, ◌<◌, ◌≤◌, ℕ, List, [], ◌∷◌, Bool, true, false, not, length, refl, sym, ap, ap₂, ◌∙◌, append-nil, arith, map, take, take_all, length-take, drop, take-append-drop, subst, zero, suc, get_or, or-false, if◌then◌else◌, nat_lt, list_any, refill, bytes_eq, le-ltb, ne_eqb, or_right, set, length-map, map-append, take_more, take-append-le, filter_map-append, list_any-append, capped}
 use Rattle.j39_reports.specs.Firsts.{firsts}
 use Rattle.j39_reports.specs.Interfaces.{InterfaceRecord, elsewhere, falls_behind, falls_in, first_of, interface_of, last_behind, last_of, names_in, of_stamps, one_if, stamp_on, stamps_on, told_in, untold_in}
 use Rattle.j39_reports.specs.LogLines.{Seen}

@@ -1,17 +1,6 @@
 -- Strings of JSON.
-use Rattle.j39_listen.specs.Members.{in_marks}
-use Rattle.std.proofs.Common.{◌≡◌, ◌<◌, ◌≤◌, ◌∙◌, ◌++◌, ◌∷◌, [], ℕ, zero, suc, Bool, false, List, ap, ap₂, arith, drop, length, map, refl, sym, take, take-append-drop, ◌-◌}
-use Rattle.std.specs.Prelude.{◌==◌, ◌||◌, nat_lt, if◌then◌else◌, codes}
-use Rattle.std.specs.List.{flat_map, list_any}
-use Rattle.std.specs.Simd.Lanes.{mask_l}
-use Rattle.std.specs.Str.{IsAscii}
-use Rattle.std.proofs.lemmas.Bool.{or_parts}
-use Rattle.std.proofs.lemmas.Bool.Decides.{nat_tests}
-use Rattle.std.proofs.lemmas.List.{drop-drop}
-use Rattle.std.proofs.lemmas.List.Folds.{list_any-append}
+use Rattle.j39_reports.proofs.Common.{in_marks, ◌≡◌, ◌<◌, ◌≤◌, ◌∙◌, ◌++◌, ◌∷◌, [], ℕ, zero, suc, Bool, false, List, ap, ap₂, arith, drop, length, map, refl, sym, take, take-append-drop, ◌-◌, ◌==◌, ◌||◌, nat_lt, if◌then◌else◌, codes, flat_map, list_any, mask_l, IsAscii, or_parts, nat_tests, drop-drop, list_any-append, encode_upper, backslash, quote, space}
 use Rattle.std.proofs.lemmas.Str.{IsUtf8-from_ascii, utf8_lossy-IsUtf8}
-use Rattle.hex.specs.Hex.{encode_upper}
-use Rattle.j39_io.specs.Chars.{backslash, quote, space}
 use Rattle.j39_reports.proofs.QuoteLemmas.{unset}
 use Rattle.j39_reports.specs.Json.{is_marked}
 use Rattle.j39_rows.specs.Json.{character_text, string_text}

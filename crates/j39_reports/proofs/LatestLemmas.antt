@@ -1,9 +1,5 @@
 -- The last value of an origin, and how many came of late, with one entry more.
-use Rattle.std.proofs.Common.{◌≡◌, ◌==◌, ◌+◌, ◌++◌, ◌∷◌, [], ℕ, zero, suc, Bool, true, false, List, arith, drop, if◌then◌else◌, refl, reverse, sym, ap, ap₂, ◌∙◌}
-use Rattle.std.specs.List.{prefix_len}
-use Rattle.std.proofs.lemmas.List.{reverse-append}
-use Rattle.j39_listen.specs.Counting.{capped}
-use Rattle.j39_listen.specs.Report.{Entry}
+use Rattle.j39_reports.proofs.Common.{◌≡◌, ◌==◌, ◌+◌, ◌++◌, ◌∷◌, [], ℕ, zero, suc, Bool, true, false, List, arith, drop, if◌then◌else◌, refl, reverse, sym, ap, ap₂, ◌∙◌, prefix_len, reverse-append, capped, Entry}
 use Rattle.j39_reports.proofs.RowLemmas.{last_of-more}
 use Rattle.j39_reports.specs.LatestSoFar.{came_before, latest_begun, latest_grown, latest_over, second_of}
 use Rattle.j39_reports.specs.Summary.{last_of, origin_of}

@@ -1,8 +1,5 @@
 -- The least and the most of a row.
-use Rattle.std.proofs.Common.{◌∷◌, List, refl}
-use Rattle.std.specs.Prelude.{IfSome, fold}
-use Rattle.std.specs.Int.{int_max, int_min}
-use Rattle.std.proofs.lemmas.Int.{fold-int_max_bounds, fold-int_max_reached, fold-int_min_bounds, fold-int_min_reached}
+use Rattle.j39_reports.proofs.Common.{◌∷◌, List, refl, IfSome, fold, int_max, int_min, fold-int_max_bounds, fold-int_max_reached, fold-int_min_bounds, fold-int_min_reached}
 use Rattle.j39_reports.specs.Bounds.{IsLeast, IsMost}
 use Rattle.j39_reports.specs.Summary.{Number, comparable_with, range_of}
 

@@ -1,3 +1,5 @@
+-- names of other crates
+pub mod Common
 -- the report as records and as objects: a message's entries
 pub mod JsonLemmas
 pub mod EntryLemmas

@@ -1,25 +1,6 @@
 -- What is noted at a frame.
-use Rattle.std.proofs.Common.{◌≡◌, ◌||◌, ◌∙◌, ◌++◌, ◌∷◌, [], ℕ, Bool, true, false, not, List, Option, None, Some, Result, Ok, Err, ap, append-nil, length, map, refl, subst, sym}
-use Rattle.std.specs.Prelude.{IfOk, OnErr, OnOk, if◌then◌else◌}
-use Rattle.std.specs.List.{flat_map}
-use Rattle.std.proofs.Math.Bool.{or_comm}
-use Rattle.std.proofs.lemmas.Bool.{both_ways, or_parts}
-use Rattle.std.proofs.lemmas.List.{map-append}
-use Rattle.std.proofs.lemmas.List.Elements.{filter_map-append}
-use Rattle.j39_frame.specs.Frame.{FrameRecord}
-use Rattle.j39_frame.specs.Identifier.{pgn_of}
-use Rattle.j39_groups.specs.Readings.{is_network_group, is_reported_in}
-use Rattle.j39_groups.specs.Row.{RowRecord}
-use Rattle.j39_groups.specs.Sightings.{SightingRecord, absent, sightings_in, told, told_by, told_in}
-use Rattle.j39_groups.specs.Visits.{Stops, Takes}
-use Rattle.j39_groups.proofs.SightingLemmas.{told_are}
-use Rattle.j39_listen.specs.Heard.{HeardAt, HeardAtWith, Hearing, LeavesNetwork, or_none}
-use Rattle.j39_listen.specs.Listening.{Hears}
-use Rattle.j39_listen.specs.Report.{Entry, entries_of, entry_of}
-use Rattle.j39_listen.specs.declared.listener.Listener.{Listener}
-use Rattle.j39_listen.proofs.ListenerLemmas.{hears_single, outside_claims, silent_outside}
-use Rattle.j39_listen.proofs.Reported.{reported_leaves}
-use Rattle.j39_memory.specs.ByOrigin.{pairs_of}
+use Rattle.j39_reports.proofs.Common.{◌≡◌, ◌||◌, ◌∙◌, ◌++◌, ◌∷◌, [], ℕ, Bool, true, false, not, List, Option, None, Some, Result, Ok, Err, ap, append-nil, length, map, refl, subst, sym, IfOk, OnErr, OnOk, if◌then◌else◌, flat_map, or_comm, both_ways, or_parts, map-append, filter_map-append, FrameRecord, pgn_of, is_network_group, is_reported_in, RowRecord, SightingRecord, absent, sightings_in, told, told_by, told_in, Takes, told_are, HeardAt, HeardAtWith, Hearing, LeavesNetwork, or_none, Hears, Entry, entries_of, entry_of, Listener, hears_single, outside_claims, silent_outside, reported_leaves, pairs_of}
+use Rattle.j39_groups.specs.Visits.{Stops}
 use Rattle.j39_reports.proofs.FaultAccountLemmas.{faults_leave}
 use Rattle.j39_reports.specs.CurrentPlaces.{Places}
 use Rattle.j39_reports.specs.CurrentSoFar.{AreKept}

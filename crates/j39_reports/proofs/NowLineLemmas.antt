@@ -1,19 +1,5 @@
 -- The lines of the faults that are there now, one behind the other.
-use Rattle.std.proofs.Common.{◌≡◌, ◌∙◌, ◌+◌, ◌-◌, ◌<◌, ◌≤◌, ◌++◌, ◌∷◌, [], ℕ, zero, suc, Bool, true, false, List, Result, Ok, Err, Some, append-nil, append_assoc, ap, arith, length, map, refl, sym, take}
-use Rattle.std.specs.Prelude.{IsErr, slice_index_or}
-use Rattle.std.specs.List.{flat_map}
-use Rattle.std.proofs.lemmas.Bool.{cond-true, cond-false}
-use Rattle.std.proofs.lemmas.Grind.{flat_map-append}
-use Rattle.std.proofs.lemmas.List.Elements.{filter-append}
-use Rattle.j39_io.specs.Puts.{Puts}
-use Rattle.j39_io.specs.Turn.{Device}
-use Rattle.j39_io.proofs.PutsLemmas.{puts_as, puts_done, puts_first, puts_then, puts_until}
-use Rattle.j39_groups.proofs.VisitLemmas.{flat_map-next}
-use Rattle.j39_listen.specs.Counting.{capped}
-use Rattle.j39_listen.specs.Filter.{FilterRecord, asks_for, no_filter}
-use Rattle.j39_listen.specs.declared.format.Format.{Format}
-use Rattle.j39_faults.specs.declared.kind.Kind.TheVariants.{Active}
-use Rattle.j39_faults.specs.declared.text.State.TheVariants.{Is}
+use Rattle.j39_reports.proofs.Common.{◌≡◌, ◌∙◌, ◌+◌, ◌-◌, ◌<◌, ◌++◌, ◌∷◌, [], ℕ, zero, suc, Bool, true, false, List, Result, Ok, Err, Some, append-nil, append_assoc, ap, arith, length, map, refl, sym, take, IsErr, slice_index_or, flat_map, cond-true, cond-false, flat_map-append, filter-append, Puts, Device, puts_as, puts_done, puts_first, puts_then, puts_until, flat_map-next, capped, FilterRecord, asks_for, no_filter, Format, Active, Is, take-suc, map-append}
 use Rattle.j39_reports.specs.CurrentPlaces.{LastRecord, Places, StandingRecord, at, standing_record}
 use Rattle.j39_reports.specs.CurrentSoFar.{now_shown, nows_shown, shown_below, taken_below}
 use Rattle.j39_reports.specs.FaultsNow.{Now, asks_now, now_taken}
@@ -21,9 +7,6 @@ use Rattle.j39_reports.specs.FaultsNowRun.{now_head, now_lines, now_text}
 use Rattle.j39_reports.specs.Faults.{Manner, names_asked}
 use Rattle.j39_reports.specs.Interfaces.{one_if}
 use Rattle.j39_reports.proofs.CountLemmas.{count_by-append, count_here}
-use Rattle.std.proofs.Math.Seq.{take-suc}
-use Rattle.std.proofs.lemmas.List.{length-map, map-append}
-use Rattle.std.proofs.lemmas.List.Sums.{count_by-le-length}
 use Rattle.j39_reports.specs.FaultsSoFar.{line_of}
 use Rattle.j39_reports.specs.declared.current_faults.standing.Standing.{Standing}
 
@@ -84,13 +67,6 @@ module _ (form : Format) (rows : Manner) (a : ℕ) (last : LastRecord) where
       let sum = ap counted more ∙ counted-append (take i ss) (s ∷ []) in
       let here : n ≡ counted (s ∷ []) = one ∙ count_here (λ (m : Now). names_asked rows.spns m.code) (now_shown a last (standing_record s)) in
       omega (arith, sum, so_far, here)
-
-  pub few_counted : (ss : List Standing) → counted ss ≤ length ss
-  few_counted ss =
-      let few = count_by-le-length (λ (n : Now). names_asked rows.spns n.code) (map (now_shown a last) (map standing_record ss)) in
-      let l = length-map (map standing_record ss) (now_shown a last) in
-      let k = length-map ss standing_record in
-      omega (arith, few, l, k)
 
   pub line_stops : {T U E F G : Type 0} (ss : List Standing) (i : ℕ) (s : Standing) (e : E) (end : Result U F) (old mid new : Device)
       → i < length ss → s ≡ slice_index_or ss i s → IsErr end

@@ -1,11 +1,5 @@
 -- The places where the last messages of active codes are kept.
-use Rattle.std.proofs.Common.{◌≡◌, ◌∙◌, ◌<◌, ◌+◌, ℕ, zero, suc, List, ◌∷◌, Option, Some, None, arith, refl, ap, inl, inr, sym, length, length-set, replicate, slice_index_or, slice_set}
-use Rattle.std.proofs.lemmas.Bool.{cases_eq}
-use Rattle.std.proofs.lemmas.List.{map-set, get_or-map, get_or-set_other, get_or-set_same}
-use Rattle.j39_memory.specs.declared.stored.Stored.{Stored}
-use Rattle.j39_faults.specs.declared.conversion.Conversion.{Conversion}
-use Rattle.j39_faults.specs.declared.lamps.Lamps.{Lamps}
-use Rattle.j39_listen.specs.Heard.{Hearing}
+use Rattle.j39_reports.proofs.Common.{◌≡◌, ◌∙◌, ◌<◌, ◌+◌, ℕ, zero, suc, List, ◌∷◌, Option, Some, None, arith, refl, ap, inl, inr, sym, length, length-set, replicate, slice_index_or, slice_set, cases_eq, map-set, get_or-map, get_or-set_other, get_or-set_same, Stored, Conversion, Lamps, Hearing}
 use Rattle.j39_reports.specs.CurrentPlaces.{AreLeft, HaveTaken, LastRecord, Places, at, last_by, left_by, shown, stored_in}
 
 abbrev pub Boxes : Type 0

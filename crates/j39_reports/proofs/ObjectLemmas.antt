@@ -1,11 +1,5 @@
 -- The object of a reading of a message.
-use Rattle.std.proofs.Common.{◌≡◌, ◌++◌, ℕ, List, Option, refl}
-use Rattle.std.specs.Option.{option_map}
-use Rattle.j39_groups.specs.Names.{name_in, state_in}
-use Rattle.j39_groups.specs.Row.{RowRecord}
-use Rattle.j39_groups.specs.Value.{ValueRecord}
-use Rattle.j39_listen.specs.Heard.{Hearing}
-use Rattle.j39_listen.specs.Report.{entry_of}
+use Rattle.j39_reports.proofs.Common.{◌≡◌, ◌++◌, ℕ, List, Option, refl, option_map, name_in, state_in, RowRecord, ValueRecord, Hearing, entry_of}
 use Rattle.j39_reports.specs.EntryObject.{entry_object, parameter_members, value_members}
 use Rattle.j39_reports.specs.MessageObjects.{IsOpened, opened}
 use Rattle.j39_reports.specs.declared.report_objects.objects.Objects.{Objects}

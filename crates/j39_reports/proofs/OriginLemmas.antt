@@ -1,9 +1,6 @@
 -- Entries of one origin.
-use Rattle.std.proofs.Common.{◌≡◌, true, ap}
-use Rattle.j39_frame.specs.Origin.{is_same}
-use Rattle.j39_frame.specs.declared.origin.Origin.{Origin}
+use Rattle.j39_reports.proofs.Common.{◌≡◌, true, ap, is_same, Origin, Entry}
 use Rattle.j39_frame.proofs.OriginLemmas as origins
-use Rattle.j39_listen.specs.Report.{Entry}
 use Rattle.j39_reports.specs.Summary.{have_one_origin, origin_of}
 
 pub same_self : (e : Entry) → have_one_origin e e ≡ true

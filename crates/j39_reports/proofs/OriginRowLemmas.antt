@@ -1,18 +1,6 @@
 -- What is kept of each origin of some entries, with one entry more.
-use Rattle.std.proofs.Common.{◌≡◌, ◌<◌, ◌||◌, ℕ, zero, suc, Bool, true, false, List, [], ◌∷◌, ◌++◌, Some, None, append-nil, arith, get_or, is_some, map, refl, slice_get, slice_set, sym, ap, ap₂, ◌∙◌, true≢false, unwrap_or}
-use Rattle.std.specs.Prelude.{filter, if◌then◌else◌}
-use Rattle.std.specs.List.{list_any}
-use Rattle.std.specs.Map.{keys_of}
-use Rattle.std.proofs.lemmas.Bool.{both_ways}
-use Rattle.std.proofs.lemmas.List.{map-append}
-use Rattle.std.proofs.lemmas.List.Elements.{filter-append}
-use Rattle.std.proofs.lemmas.List.Quantifiers.{position-Some}
-use Rattle.j39_frame.specs.Origin.{is_same, place_in}
-use Rattle.j39_frame.specs.declared.origin.Origin.{Origin}
-use Rattle.j39_frame.proofs.OriginLemmas.{same_self, same_true}
-use Rattle.j39_frame.proofs.PlaceLemmas.{absent, stands}
-use Rattle.j39_groups.proofs.TableLemmas.{filter_unlisted}
-use Rattle.j39_listen.specs.Report.{Entry}
+use Rattle.j39_reports.proofs.Common.{◌≡◌, ◌<◌, ◌||◌, ℕ, zero, suc, Bool, true, false, List, [], ◌∷◌, ◌++◌, Some, None, append-nil, arith, get_or, is_some, map, refl, slice_get, slice_set, sym, ap, ap₂, ◌∙◌, true≢false, unwrap_or, filter, if◌then◌else◌, list_any, keys_of, both_ways, map-append, filter-append, position-Some, is_same, place_in, Origin, same_self, same_true, stands, filter_unlisted, Entry}
+use Rattle.j39_frame.proofs.PlaceLemmas.{absent}
 use Rattle.j39_reports.specs.Summary.{AreApart, firsts, have_one_origin, origin_of, values_like}
 use Rattle.j39_reports.proofs.FirstLemmas.{first_of_each, firsts-more, firsts_apart, if_new}
 use Rattle.j39_reports.proofs.OriginLemmas as entries

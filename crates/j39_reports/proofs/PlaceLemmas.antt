@@ -1,8 +1,5 @@
 -- The places where what was said is stored.
-use Rattle.std.proofs.Common.{◌≡◌, ◌∙◌, ◌<◌, ℕ, zero, suc, List, ◌∷◌, Option, Some, None, refl, ap, slice_set, sym}
-use Rattle.std.proofs.Common.{slice_index_or, length, replicate, set-set}
-use Rattle.std.proofs.lemmas.List.{map-set, get_or-map, set-get_or}
-use Rattle.j39_memory.specs.declared.stored.Stored.{Stored}
+use Rattle.j39_reports.proofs.Common.{◌≡◌, ◌∙◌, ◌<◌, ℕ, zero, suc, List, ◌∷◌, Option, Some, None, refl, ap, slice_set, sym, slice_index_or, length, replicate, set-set, map-set, get_or-map, set-get_or, Stored}
 use Rattle.j39_memory.specs.Stored.{value_of}
 use Rattle.j39_reports.specs.LastMessages.{LastMessages, LastRecord, at, stored_in, shown}
 

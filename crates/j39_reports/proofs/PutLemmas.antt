@@ -1,31 +1,7 @@
 -- What is told of one message.
-use Rattle.std.proofs.Common.{◌≡◌, ◌≢◌, ◌∙◌, ◌<◌, ◌≤◌, ◌^◌, ◌&&◌, ◌||◌, ℕ, Bool, true, false, List, [], ◌∷◌, ◌++◌, Option, Some}
-use Rattle.std.proofs.Math.Bool.{or-true}
-use Rattle.std.proofs.Common.{None, ap, arith, is_some, length, nat_le, refl}
-use Rattle.std.proofs.Common.{subst, sym, Result, Ok, Err}
-use Rattle.std.specs.Prelude.{IfOk, OnOk}
-use Rattle.std.proofs.lemmas.Bool.{le-leb}
-use Rattle.std.specs.Io.KnownBytes.{Appends}
-use Rattle.j39_io.specs.Device.{AppendsFront}
-use Rattle.j39_io.specs.Puts.{Puts}
-use Rattle.j39_io.specs.Turn.{Device, Turn}
-use Rattle.j39_io.proofs.PutsLemmas.{puts_as, puts_nothing}
-use Rattle.j39_faults.specs.FaultGroups.{cleared_in, kind_of}
-use Rattle.j39_faults.specs.LampBits.{lamps_of}
-use Rattle.j39_faults.specs.declared.kind.Kind.{Kind}
-use Rattle.j39_faults.specs.declared.lamps.Lamps.{Lamps}
-use Rattle.j39_listen.specs.AccountCalls.{LeavesWriter}
-use Rattle.j39_listen.specs.Counting.{capped}
-use Rattle.j39_listen.specs.declared.account.LineFault.{LineFault}
+use Rattle.j39_reports.proofs.Common.{◌≡◌, ◌≢◌, ◌∙◌, ◌<◌, ◌≤◌, ◌^◌, ◌&&◌, ◌||◌, ℕ, Bool, true, false, List, [], ◌∷◌, ◌++◌, Option, Some, or-true, None, ap, arith, is_some, length, nat_le, refl, subst, sym, Result, Ok, Err, IfOk, OnOk, le-leb, Appends, AppendsFront, Puts, Device, Turn, puts_as, puts_nothing, cleared_in, kind_of, lamps_of, Kind, Lamps, LeavesWriter, capped, LineFault, takes_message, Hearing, Made, capped-fits, same_made, version_for, Version, Format}
 use Rattle.j39_listen.specs.declared.account.LineFault.TheVariants.{Memory, Write}
-use Rattle.j39_listen.specs.Filter.{takes_message}
-use Rattle.j39_listen.specs.Heard.{Hearing}
-use Rattle.j39_listen.specs.declared.counts.Made.{Made}
-use Rattle.j39_listen.proofs.LineLemmas.{capped-fits}
-use Rattle.j39_listen.proofs.ReportAccount.{same_made}
 use Rattle.j39_reports.specs.Faults.{Fault, Manner, clearing_of, faults_by, faults_in, faults_or_clearing, faults_taken, lines_in, names_asked}
-use Rattle.j39_faults.specs.Conversions.{version_for}
-use Rattle.j39_faults.specs.declared.conversion.Version.{Version}
 use Rattle.j39_reports.specs.News.{Chosen, is_clearing, is_news, is_of_codes, is_of_faults, last_from, says_other}
 use Rattle.j39_reports.specs.FaultChanges.{bytes_before, changes_by, changes_in, changes_of, is_active}
 use Rattle.j39_reports.specs.Told.{told_of}
@@ -33,7 +9,6 @@ use Rattle.j39_reports.specs.FaultRows.{faults_text}
 use Rattle.j39_reports.specs.Remembered.{Remembers, noted, said_at, said_in}
 use Rattle.j39_reports.specs.LastMessages.{differs, said_before}
 use Rattle.j39_reports.specs.FaultsSoFar.{Tells, TellsFaults, TellsFront, tells_clearing, told_faults, told_next, told_since}
-use Rattle.j39_listen.specs.declared.format.Format.{Format}
 use Rattle.j39_reports.specs.declared.fault_news.last_faults.LastFaults.{LastFaults}
 use Rattle.j39_reports.specs.declared.fault_news.telling.Telling.{Telling}
 use Rattle.j39_reports.specs.declared.fault_news.telling.Telling.TheVariants.{News, All, Changes}

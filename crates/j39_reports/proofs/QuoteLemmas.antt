@@ -1,13 +1,7 @@
 -- Bytes that stand in quotes alone, sought by the bits of blocks.
-use Rattle.std.proofs.Common.{◌≡◌, ◌≤◌, ◌+◌, ◌*◌, ◌∙◌, ◌++◌, ◌∷◌, [], ℕ, Bool, true, false, cond, List, map, take, drop, take-append-drop, ap, ap₂, arith, refl, sym}
-use Rattle.std.specs.Prelude.{◌==◌, ◌||◌}
+use Rattle.j39_reports.proofs.Common.{◌≡◌, ◌≤◌, ◌+◌, ◌*◌, ◌∙◌, ◌++◌, ◌∷◌, [], ℕ, Bool, true, false, cond, List, map, take, drop, take-append-drop, ap, ap₂, arith, refl, sym, ◌==◌, ◌||◌, list_any, mask_l, list_any-append, carriage_return, newline, quote, comma, is_special}
 use Rattle.std.specs.Int.RustNames.{bit_or}
-use Rattle.std.specs.List.{list_any}
-use Rattle.std.specs.Simd.Lanes.{mask_l}
-use Rattle.std.proofs.lemmas.List.Folds.{list_any-append}
 use Rattle.std.proofs.lemmas.Nat.{le_or_l, le_or_r}
-use Rattle.j39_io.specs.Chars.{carriage_return, newline, quote}
-use Rattle.j39_io.specs.Records.{comma, is_special}
 
 pub no_bit : (a b c d : ℕ) → bit_or (bit_or (bit_or a b) c) d ≡ 0 → (a ≡ 0) × (b ≡ 0) × (c ≡ 0) × (d ≡ 0)
 no_bit a b c d none =

@@ -1,9 +1,5 @@
 -- The record of a reading of a message.
-use Rattle.std.proofs.Common.{◌≡◌, ◌∙◌, ◌++◌, ℕ, List, ap, sym}
-use Rattle.j39_groups.specs.Row.{RowRecord}
-use Rattle.j39_groups.specs.Value.{ValueRecord}
-use Rattle.j39_listen.specs.Heard.{Hearing}
-use Rattle.j39_listen.specs.Report.{entry_of}
+use Rattle.j39_reports.proofs.Common.{◌≡◌, ◌∙◌, ◌++◌, ℕ, List, ap, sym, RowRecord, ValueRecord, Hearing, entry_of}
 use Rattle.j39_reports.specs.EntryText.{entry_record, named_fields, parameter_called, state_called, value_fields}
 use Rattle.j39_reports.specs.MessageRecords.{IsBegun, begun_fields}
 use Rattle.j39_reports.specs.declared.report_records.records.Records.{Records}

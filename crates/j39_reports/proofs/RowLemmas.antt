@@ -1,17 +1,7 @@
 -- The rows of a summary, with one entry more.
-use Rattle.std.proofs.Common.{◌≡◌, ◌||◌, ◌+◌, ℕ, ℤ, Bool, true, false, List, [], ◌∷◌, ◌++◌, Option, None, Some, length, length-append, append-nil, map, refl, sym, ap, ap₂, ◌∙◌, arith}
-use Rattle.std.specs.Prelude.{filter, fold, count_by, if◌then◌else◌}
-use Rattle.std.specs.Int.{int_max, int_min}
-use Rattle.std.specs.List.{filter_map, list_any}
-use Rattle.std.proofs.lemmas.Bool.{both_ways}
-use Rattle.std.proofs.lemmas.List.{map-append}
-use Rattle.std.proofs.lemmas.List.Elements.{filter-append, filter_map-append}
-use Rattle.std.proofs.lemmas.List.Sums.{fold-append}
-use Rattle.j39_listen.specs.Counting.{capped}
-use Rattle.j39_listen.specs.Report.{Entry}
+use Rattle.j39_reports.proofs.Common.{◌≡◌, ◌||◌, ◌+◌, ℕ, ℤ, Bool, true, false, List, [], ◌∷◌, ◌++◌, Option, None, Some, length, length-append, append-nil, map, refl, sym, ap, ap₂, ◌∙◌, arith, filter, fold, count_by, if◌then◌else◌, int_max, int_min, filter_map, list_any, both_ways, map-append, filter-append, filter_map-append, fold-append, capped, Entry, filter_unlisted}
 use Rattle.j39_reports.specs.RowsSoFar.{begun, grown, one_if, widened}
 use Rattle.j39_reports.specs.Summary.{AreApart, Number, Range, Row, are_comparable, comparable_with, firsts, have_one_origin, is_word, last_of, number_of, range_of, row_of, summary_of, values_like}
-use Rattle.j39_groups.proofs.TableLemmas.{filter_unlisted}
 use Rattle.j39_reports.proofs.FirstLemmas.{first_of_each, firsts-more, firsts_apart, if_new}
 use Rattle.j39_reports.proofs.OriginLemmas.{same_like, same_self, same_sym}
 

@@ -1,13 +1,5 @@
 -- Lines of which there is room for so many.
-use Rattle.std.proofs.Common.{◌≡◌, ◌<◌, ◌+◌, ◌-◌, ◌++◌, ◌∷◌, ◌∙◌, [], ℕ, zero, suc, List, Option, Result, Ok, Err, append-nil, ap, arith, drop, get_or, length, length-append, refl, sym, take, take-append-drop}
-use Rattle.std.specs.Prelude.{IfOk, IsErr}
-use Rattle.std.specs.List.{flat_map}
-use Rattle.std.proofs.lemmas.Grind.{flat_map-append}
-use Rattle.j39_groups.proofs.VisitLemmas.{flat_map-next}
-use Rattle.j39_io.specs.Puts.{Puts}
-use Rattle.j39_io.specs.Turn.{Device}
-use Rattle.j39_io.proofs.PutsLemmas.{puts_as, puts_done, puts_first, puts_then}
-use Rattle.j39_groups.specs.Row.{RowRecord}
+use Rattle.j39_reports.proofs.Common.{◌≡◌, ◌<◌, ◌+◌, ◌-◌, ◌++◌, ◌∷◌, ◌∙◌, [], ℕ, zero, suc, List, Option, Result, Ok, Err, append-nil, ap, arith, drop, get_or, length, length-append, refl, sym, take, take-append-drop, IfOk, IsErr, flat_map, flat_map-append, flat_map-next, Puts, Device, puts_as, puts_done, puts_first, puts_then, RowRecord}
 use Rattle.j39_reports.proofs.NowLineLemmas.{shown_next, shown_rest}
 use Rattle.j39_reports.specs.CurrentPlaces.{Places, at}
 use Rattle.j39_reports.specs.CurrentSoFar.{nows_shown, shown_below}

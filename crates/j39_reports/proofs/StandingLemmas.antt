@@ -1,13 +1,6 @@
 -- What stands by the codes of a payload, one code after the other.
-use Rattle.std.proofs.Common.{◌≡◌, ◌∙◌, ◌≤◌, ◌<◌, ◌+◌, ◌*◌, ℕ, List, [], ◌∷◌, ◌++◌, Option, Some, None, append-nil, append_assoc, ap, arith, length, length-append, map, refl, sym}
-use Rattle.std.proofs.lemmas.List.{length-map, map-append}
-use Rattle.std.proofs.lemmas.List.FromFn.{length-range_with_len}
-use Rattle.std.proofs.lemmas.Simd.{map-map}
-use Rattle.std.specs.List.{range_with_len}
-use Rattle.j39_faults.specs.Codes.{code_at, codes_of, places_of}
-use Rattle.j39_faults.specs.Conversions.{code_by, codes_by}
-use Rattle.j39_faults.specs.declared.code.Code.{Code}
-use Rattle.j39_faults.specs.declared.conversion.Version.{Version}
+use Rattle.j39_reports.proofs.Common.{◌≡◌, ◌∙◌, ◌≤◌, ◌<◌, ◌+◌, ◌*◌, ℕ, List, [], ◌∷◌, ◌++◌, Option, Some, append_assoc, ap, arith, length, length-append, map, sym, length-map, map-append, length-range_with_len, map-map, range_with_len, code_at, places_of, code_by, codes_by, Code, Version}
+use Rattle.j39_faults.specs.Codes.{codes_of}
 use Rattle.j39_reports.specs.CurrentPlaces.{StandingRecord, continued, next_standings, standing_record}
 use Rattle.j39_reports.specs.declared.current_faults.standing.Standing.{Standing}
 use Rattle.j39_reports.proofs.FaultLineLemmas.{few_found}
@@ -32,9 +25,6 @@ few_codes n payload version short =
     omega (arith, l, r, c, p)
 
 module _ (before : List StandingRecord) (stamp : ℕ) (version : Option Version) (payload : List ℕ) where
-  pub none_stood : (left : List Code) → left ≡ codes_of payload → HaveStood before stamp version payload left []
-  none_stood left all = record { first = []; all_are = ap (map (code_by version)) (sym all); stand = refl }
-
   pub stood_more : (code : Code) (left more : List Code) (standings new : List Standing) (s : Standing) → HaveStood before stamp version payload left standings → left ≡ code ∷ more
       → standing_record s ≡ continued before stamp (Some (code_by version code)) → new ≡ standings ++ s ∷ []
       → HaveStood before stamp version payload more new
@@ -54,17 +44,7 @@ module _ (before : List StandingRecord) (stamp : ℕ) (version : Option Version)
       let stood : length standings ≡ length h.first = sym (length-map standings standing_record) ∙ ap length h.stand ∙ length-map h.first (λ (c : Code). continued before stamp (Some c)) in
       omega (arith, few, all, some, stood)
 
-  pub all_stood : (left : List Code) (standings : List Standing) → HaveStood before stamp version payload left standings → left ≡ []
-      → map standing_record standings ≡ by_codes before stamp (codes_by version payload)
-  all_stood left standings h none = h.stand ∙ ap (by_codes before stamp) (sym (h.all_are ∙ ap (λ x. h.first ++ map (code_by version) x) none ∙ append-nil h.first))
-
   pub by_some : (cs : List Code) (standings : List Standing) → (length standings ≡ 0 → ⊥) → map standing_record standings ≡ by_codes before stamp cs
       → map standing_record standings ≡ next_standings before stamp cs
   by_some [] standings some stand = absurd (some (sym (length-map standings standing_record) ∙ ap length stand))
   by_some (c ∷ cs) standings some stand = stand ∙ sym (map-map (continued before stamp) (λ (x : Code). Some x) (c ∷ cs))
-
-  pub by_none : (cs : List Code) (standings new : List Standing) (s : Standing) → length standings ≡ 0 → map standing_record standings ≡ by_codes before stamp cs
-      → standing_record s ≡ continued before stamp None → new ≡ standings ++ s ∷ [] → map standing_record new ≡ next_standings before stamp cs
-  by_none [] standings new s none stand here push =
-      ap (map standing_record) push ∙ map-append standing_record standings (s ∷ []) ∙ (λ i. stand i ++ here i ∷ [])
-  by_none (c ∷ cs) standings new s none stand here push = absurd (let l : length (map standing_record standings) ≡ length (by_codes before stamp (c ∷ cs)) = ap length stand in let m = length-map standings standing_record in omega (arith, l, m, none))

@@ -1,34 +1,6 @@
 -- The summary as an account: what is heard at one frame more, and its end.
-use Rattle.std.proofs.Common.{Bor, ◌≡◌, ◌<◌, ◌+◌, ◌^◌, ℕ, List, [], ◌∷◌, ◌++◌, Option, Some, None, true, false, length, map, sym, ap, ◌∙◌, subst, arith, append-nil, length-append, inl, inr, refl}
-use Rattle.std.specs.Prelude.{◌⊎◌}
-use Rattle.std.specs.List.{flat_map}
-use Rattle.std.specs.Io.KnownBytes.{Appends}
-use Rattle.std.proofs.KnownBytes.{Appends-nil}
-use Rattle.std.proofs.lemmas.Grind.{flat_map-append}
-use Rattle.std.proofs.lemmas.List.{length-map, map-append}
-use Rattle.std.proofs.lemmas.List.Elements.{filter-append, filter_map-append}
-use Rattle.j39_memory.specs.ByOrigin.{pairs_of}
-use Rattle.j39_io.specs.Device.{AppendsFront}
-use Rattle.j39_frame.specs.Frame.{FrameRecord}
-use Rattle.j39_groups.specs.Readings.{is_reported_in}
-use Rattle.j39_groups.specs.Sightings.{SightingRecord, absent, absent_by, absent_in, sightings_in, told, told_by, told_in}
-use Rattle.j39_groups.specs.Row.{RowRecord}
-use Rattle.j39_groups.specs.Visits.{Stops, Takes}
-use Rattle.j39_groups.proofs.SightingLemmas.{absent_are, told_are}
-use Rattle.j39_listen.specs.AccountCalls.{Begins, Closes, MakesOne, Meets, StopsAtEnd}
-use Rattle.j39_listen.specs.Counting.{capped}
-use Rattle.j39_listen.specs.Chooses.{Chooses}
-use Rattle.j39_listen.specs.Filter.{FilterRecord, first_stamp, messages_taken, takes_message}
-use Rattle.j39_listen.specs.Heard.{AreHeard, HeardAt, Hearing, or_none}
-use Rattle.j39_listen.specs.Listening.{Hears}
-use Rattle.j39_listen.specs.Output.{Output}
-use Rattle.j39_listen.specs.Report.{Entry, entries_of, entry_of}
-use Rattle.j39_listen.specs.declared.chooser.Chooser.{Chooser}
-use Rattle.j39_listen.specs.declared.listener.Listener.{Listener}
-use Rattle.j39_listen.proofs.Causal.{heard_more}
-use Rattle.j39_listen.proofs.LineLemmas.{capped-fits}
-use Rattle.j39_listen.proofs.Reported.{reported_leaves}
-use Rattle.j39_listen.proofs.Unique.{heard_below_unique}
+use Rattle.j39_reports.proofs.Common.{Bor, ◌≡◌, ◌<◌, ◌+◌, ◌^◌, ℕ, List, [], ◌∷◌, ◌++◌, Option, Some, None, true, false, length, map, sym, ap, ◌∙◌, subst, arith, append-nil, length-append, inl, inr, refl, ◌⊎◌, flat_map, Appends, Appends-nil, flat_map-append, length-map, map-append, filter-append, filter_map-append, pairs_of, AppendsFront, FrameRecord, is_reported_in, SightingRecord, absent, absent_by, absent_in, sightings_in, told, told_by, told_in, RowRecord, Takes, absent_are, told_are, Begins, Closes, MakesOne, Meets, StopsAtEnd, capped, Chooses, FilterRecord, first_stamp, messages_taken, takes_message, AreHeard, HeardAt, Hearing, or_none, Hears, Output, Entry, entries_of, entry_of, Chooser, Listener, heard_more, capped-fits, reported_leaves, heard_below_unique, Origin, Format, Record}
+use Rattle.j39_groups.specs.Visits.{Stops}
 use Rattle.j39_reports.specs.SummarySoFar.{HasSummed, NotesFrame}
 use Rattle.j39_reports.specs.RowsSoFar.{AreCounted, AreRowsOf, HasTaken, Message, WantsAt, counted}
 use Rattle.j39_reports.specs.Summary.{absence_of, absences_of, how_often}
@@ -36,9 +8,6 @@ use Rattle.j39_reports.specs.RowText.{summary_columns, summary_text}
 use Rattle.j39_reports.specs.RowModels.{row_shown}
 use Rattle.j39_reports.specs.SummaryRun.{AsksForAbsence, AsksForRow, AsksForRows, MakesSummary, MakesSummaryIn, output_of}
 use Rattle.j39_reports.specs.declared.summaries.account.SummaryAccount.{SummaryAccount}
-use Rattle.j39_frame.specs.declared.origin.Origin.{Origin}
-use Rattle.j39_listen.specs.declared.format.Format.{Format}
-use Rattle.j39_listen.specs.declared.format.Format.TheVariants.{Record}
 use Rattle.j39_reports.specs.declared.summaries.rows.Rows.{Rows}
 
 -- ---- laws

@@ -1,20 +1,9 @@
 -- The rows of a summary, one after the other.
-use Rattle.std.proofs.Common.{◌≡◌, ◌<◌, ◌+◌, ◌++◌, ℕ, List, Some, Result, Ok, Err, length, take, map, ap, sym, ◌∙◌}
-use Rattle.std.specs.Prelude.{IsErr, slice_get}
-use Rattle.std.specs.List.{flat_map}
-use Rattle.std.proofs.lemmas.List.Folds.{flat_map-map}
-use Rattle.std.proofs.lemmas.Option.{get_or_from_slice_get}
-use Rattle.j39_io.specs.Puts.{Puts}
-use Rattle.j39_io.specs.Turn.{Device}
-use Rattle.j39_io.proofs.PutsLemmas.{puts_as, puts_done, puts_then, puts_until}
-use Rattle.j39_groups.proofs.VisitLemmas.{flat_map-next}
-use Rattle.j39_groups.specs.Row.{RowRecord}
+use Rattle.j39_reports.proofs.Common.{◌≡◌, ◌<◌, ◌+◌, ◌++◌, ℕ, List, Some, Result, Ok, Err, length, take, map, ap, sym, ◌∙◌, IsErr, slice_get, flat_map, flat_map-map, get_or_from_slice_get, Puts, Device, puts_as, puts_done, puts_then, puts_until, flat_map-next, RowRecord, Origin, Format}
 use Rattle.j39_reports.specs.RowText.{row_in, summary_text}
 use Rattle.j39_reports.specs.Summary.{origin_of}
 use Rattle.j39_reports.specs.RowModels.{row_shown}
 use Rattle.j39_reports.specs.declared.summaries.statistics.Statistics.{Statistics}
-use Rattle.j39_frame.specs.declared.origin.Origin.{Origin}
-use Rattle.j39_listen.specs.declared.format.Format.{Format}
 
 abbrev line : Format → List RowRecord → (Origin → ℕ) → Origin × Statistics → List ℕ
 line form groups absent row = row_in form groups (absent row.0) (row_shown row)

@@ -1,26 +1,8 @@
 -- A survey, one line more.
-use Rattle.std.proofs.Common.{◌≡◌, ◌||◌, ◌+◌, ◌++◌, ℕ, List, [], ◌∷◌, true, false, length, refl, sym, ap, ◌∙◌, append-nil, subst, map, Option, Some, None, ap₂, inl, inr}
-use Rattle.std.proofs.Math.Bool.{or-false, or-true}
-use Rattle.std.specs.List.{AllByRecursion, filter_map}
-use Rattle.std.specs.Prelude.{Err, Ok, OnErr, OnOk, Result, unwrap_or}
-use Rattle.std.specs.Str.{bytes_eq}
-use Rattle.std.proofs.lemmas.Bool.{cases_Bool}
-use Rattle.std.proofs.lemmas.Slice.Eq.{bytes_eq-Decides}
-use Rattle.std.proofs.lemmas.List.{map-append}
-use Rattle.std.proofs.lemmas.List.Elements.{filter_map-append}
-use Rattle.std.proofs.lemmas.List.Folds.{list_any-append}
-use Rattle.j39_frame.specs.Frame.{FrameRecord}
-use Rattle.j39_listen.specs.Counting.{capped}
-use Rattle.j39_log.specs.Spelled.{Spells, frame, other, unread, blank}
-use Rattle.j39_groups.specs.Row.{RowRecord}
-use Rattle.j39_listen.specs.Heard.{Hearing, or_none}
-use Rattle.j39_listen.proofs.Unique.{heard_below_unique}
+use Rattle.j39_reports.proofs.Common.{◌≡◌, ◌||◌, ◌+◌, ◌++◌, ℕ, List, [], ◌∷◌, true, false, length, refl, sym, ap, ◌∙◌, append-nil, subst, map, Option, Some, None, ap₂, inl, inr, or-false, or-true, AllByRecursion, filter_map, Err, Ok, OnErr, OnOk, Result, unwrap_or, bytes_eq, cases_Bool, bytes_eq-Decides, map-append, filter_map-append, list_any-append, FrameRecord, capped, Spells, frame, other, unread, blank, RowRecord, Hearing, or_none, heard_below_unique, bus_of, first_bus, frame_on, frames_of, bus_of-append, bus_of-frame, bus_of-kept, frames_of-append, one_spelled}
 use Rattle.j39_reports.specs.GroupCounts.{ArePutTogether}
 use Rattle.j39_reports.specs.SurveyText.{survey_text}
-use Rattle.j39_log.specs.Log.{bus_of, first_bus, frame_on, frames_of}
-use Rattle.j39_log.proofs.BusLemmas.{bus_of-append, bus_of-frame, bus_of-kept, frames_of-append}
 use Rattle.j39_reports.specs.LogLines.{AreLogLines, IsSpelled, LogLine, Seen, UnreadRecord, has_form, has_log_line, other_of, others_in, seen_in, seen_of, spelled_in, unread_in}
-use Rattle.j39_log.proofs.LineLemmas.{one_spelled}
 use Rattle.j39_log.proofs.LogLemmas.{same_lines}
 use Rattle.j39_reports.specs.OtherLines.{others_of}
 use Rattle.j39_reports.specs.SurveyModels.{HasMet, HasSurveyed, HaveMet, HaveNoted, others_record}

@@ -1,14 +1,5 @@
 -- A log's bytes, piece by piece.
-use Rattle.std.proofs.Common.{◌≡◌, ◌≢◌, ◌+◌, ◌++◌, ℕ, List, [], ◌∷◌, length, take, map, refl, sym, ap, ◌∙◌, arith, append-nil, append_assoc, take_all, inl, inr, Option, subst}
-use Rattle.std.specs.List.{AllByRecursion}
-use Rattle.std.proofs.Math.Seq.{take-append-add}
-use Rattle.std.proofs.lemmas.List.{map-append}
-use Rattle.j39_io.specs.Chars.{newline}
-use Rattle.j39_listen.specs.Asking.{AsksAmong, AsksForBoxes}
-use Rattle.j39_log.specs.Log.{AreLines, HasNoNewline, IsLog, SpellEach, ended, frames_of}
-use Rattle.j39_log.specs.Spelled.{Spelled, Spells}
-use Rattle.j39_log.specs.Splitter.{EndsLine, HasBegun}
-use Rattle.j39_log.proofs.BusLemmas.{ended-line, frames_of-append, whole-more}
+use Rattle.j39_reports.proofs.Common.{◌≡◌, ◌≢◌, ◌+◌, ◌++◌, ℕ, List, [], ◌∷◌, length, take, map, refl, sym, ap, ◌∙◌, arith, append-nil, append_assoc, take_all, inl, inr, Option, subst, AllByRecursion, take-append-add, map-append, newline, AsksAmong, AsksForBoxes, AreLines, HasNoNewline, IsLog, SpellEach, ended, frames_of, Spelled, Spells, EndsLine, HasBegun, ended-line, frames_of-append, whole-more}
 use Rattle.j39_log.proofs.SplitterLemmas.{no_newline_append}
 use Rattle.j39_reports.specs.LogLines.{AreLogLines, IsSpelled, LogLine, spelled_in}
 use Rattle.j39_reports.specs.SurveyModels.{HasSurveyed}

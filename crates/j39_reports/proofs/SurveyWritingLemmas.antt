@@ -1,26 +1,11 @@
 -- A survey, written.
-use Rattle.std.proofs.Common.{◌≡◌, ◌+◌, ◌++◌, ◌<◌, ◌≤◌, ◌-◌, ◌*◌, ◌%◌, ℕ, zero, suc, Bool, List, [], ◌∷◌, get_or, length, map, refl, take, sym, ap, ◌∙◌, append-nil, append_assoc, arith}
-use Rattle.std.specs.Prelude.{IsErr, Option, Result, Ok, Err}
-use Rattle.std.specs.List.{flat_map}
-use Rattle.std.specs.Io.KnownBytes.{Keeps}
-use Rattle.std.proofs.lemmas.List.Folds.{flat_map-map}
-use Rattle.j39_io.specs.Device.{Marks}
-use Rattle.j39_io.specs.Puts.{Puts}
-use Rattle.j39_io.specs.Turn.{Device, Turn}
-use Rattle.j39_io.proofs.DeviceLemmas.{Appends-kept, front_of_all}
-use Rattle.j39_io.proofs.PutsLemmas.{puts_as, puts_done, puts_first, puts_nothing, puts_then, puts_until}
-use Rattle.j39_frame.specs.Frame.{FrameRecord}
-use Rattle.j39_frame.specs.Groups.{IsHeardGroup}
-use Rattle.j39_groups.specs.Row.{RowRecord}
-use Rattle.j39_listen.specs.Heard.{Hearing}
+use Rattle.j39_reports.proofs.Common.{◌≡◌, ◌+◌, ◌++◌, ◌<◌, ◌≤◌, ◌-◌, ◌*◌, ◌%◌, ℕ, zero, suc, Bool, List, [], ◌∷◌, get_or, length, map, refl, take, sym, ap, ◌∙◌, append-nil, append_assoc, arith, IsErr, Option, Result, Ok, Err, flat_map, Keeps, flat_map-map, Marks, Puts, Device, Turn, Appends-kept, front_of_all, puts_as, puts_done, puts_first, puts_nothing, puts_then, puts_until, FrameRecord, IsHeardGroup, RowRecord, Hearing, newline, capped}
 use Rattle.j39_reports.specs.GroupCounts.{Came, GroupRecord, came_in, group_of}
-use Rattle.j39_io.specs.Chars.{newline}
 use Rattle.j39_reports.specs.LogLines.{LogLine, others_in, seen_in, unread_in}
 use Rattle.j39_reports.proofs.GroupLemmas.{came_none}
 use Rattle.j39_reports.specs.SurveyModels.{HasSurveyed, interface_record, others_record, shown_record}
 use Rattle.j39_reports.specs.UnreadLines.{is_printed_log, shown_in}
 use Rattle.j39_reports.specs.SurveyText.{class_text, counts_text, group_line, group_named, group_text, groups_end, groups_from, groups_text, name_text, spread_text, survey_end, survey_head}
-use Rattle.j39_listen.specs.Counting.{capped}
 use Rattle.j39_reports.specs.Interfaces.{interfaces_of, untold_in}
 use Rattle.j39_reports.specs.OtherLines.{others_of}
 use Rattle.j39_reports.specs.declared.surveys.log_survey.Survey.{Survey}

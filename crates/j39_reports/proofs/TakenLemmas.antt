@@ -1,11 +1,5 @@
 -- What a summary has of a message, with one reading more, or one parameter that is not available.
-use Rattle.std.proofs.Common.{◌≡◌, ◌∷◌, ◌++◌, [], ℕ, List, append-nil, append_assoc, map, subst, sym, ap, ◌∙◌}
-use Rattle.std.proofs.lemmas.List.{map-append}
-use Rattle.std.proofs.lemmas.List.Elements.{filter_map-append}
-use Rattle.j39_frame.specs.declared.origin.Origin.{Origin}
-use Rattle.j39_groups.specs.Sightings.{SightingRecord, absent, absent_by, absent_in, told, told_by, told_in}
-use Rattle.j39_groups.specs.Value.{ReadingRecord}
-use Rattle.j39_listen.specs.Report.{Entry, entry_of}
+use Rattle.j39_reports.proofs.Common.{◌≡◌, ◌∷◌, ◌++◌, [], ℕ, List, append-nil, append_assoc, map, subst, sym, ap, ◌∙◌, map-append, filter_map-append, Origin, SightingRecord, absent, absent_by, absent_in, told, told_by, told_in, ReadingRecord, Entry, entry_of}
 use Rattle.j39_reports.specs.RowsSoFar.{AreCounted, AreRowsOf, Message}
 use Rattle.j39_reports.specs.Summary.{absence_of}
 use Rattle.j39_reports.specs.declared.summaries.statistics.Statistics.{Statistics}

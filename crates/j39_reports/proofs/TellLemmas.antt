@@ -1,22 +1,9 @@
 -- What was said last, and what of it is news.
-use Rattle.std.proofs.Common.{◌≡◌, ◌≢◌, ◌∙◌, ◌<◌, ◌≤◌, ◌==◌, ◌&&◌, not, ℕ, Bool, true, false, List, [], ◌∷◌, ◌++◌}
-use Rattle.std.proofs.Common.{Option, Some, None, ap, append-nil, arith, filter, length}
-use Rattle.std.proofs.Common.{option_map, refl, replicate, length-set, inl, inr, slice_set, subst, sym}
-use Rattle.std.proofs.Common.{if◌then◌else◌, take, take_all}
+use Rattle.j39_reports.proofs.Common.{◌≡◌, ◌≢◌, ◌∙◌, ◌<◌, ◌≤◌, ◌==◌, ◌&&◌, not, ℕ, Bool, true, false, List, [], ◌∷◌, ◌++◌, Option, Some, None, ap, append-nil, arith, filter, length, refl, replicate, length-set, inl, inr, slice_set, subst, sym, if◌then◌else◌, take, take_all, cases_Bool, cases_eq, cond-true, cond-false, eq-eqb, ne_eqb, get_or-replicate, length-replicate, get_or-set_other, get_or-set_same, filter-append, last_or, kind_of, Kind, Active, Previous, EmissionPending, EmissionActive, EmissionPrevious, Pending, Permanent, Hearing, is_same_or_none, version_for, Conversion, Version}
+use Rattle.std.proofs.Common.{option_map}
 use Rattle.std.specs.Bool.{⊤}
-use Rattle.std.proofs.lemmas.Bool.{cases_Bool, cases_eq, cond-true, cond-false, eq-eqb, ne_eqb}
-use Rattle.std.proofs.lemmas.List.{get_or-replicate, length-replicate, get_or-set_other, get_or-set_same}
-use Rattle.std.proofs.lemmas.List.Elements.{filter-append}
-use Rattle.std.specs.List.{last_or}
-use Rattle.j39_faults.specs.FaultGroups.{cleared_in, kind_of}
-use Rattle.j39_faults.specs.declared.kind.Kind.{Kind}
-use Rattle.j39_faults.specs.declared.kind.Kind.TheVariants.{Active, Previous, EmissionPending, EmissionActive, EmissionPrevious, Pending, Permanent}
-use Rattle.j39_listen.specs.Heard.{Hearing}
-use Rattle.j39_frame.specs.Origin.{is_same_or_none}
-use Rattle.j39_faults.specs.Conversions.{version_for}
+use Rattle.j39_faults.specs.FaultGroups.{cleared_in}
 use Rattle.j39_faults.specs.Sameness.{tells_same}
-use Rattle.j39_faults.specs.declared.conversion.Conversion.{Conversion}
-use Rattle.j39_faults.specs.declared.conversion.Version.{Version}
 use Rattle.j39_reports.specs.News.{last_from, says_other}
 use Rattle.j39_reports.specs.Remembered.{Remembers, kept, noted, said_at, said_in}
 use Rattle.j39_reports.specs.FaultChanges.{bytes_before}

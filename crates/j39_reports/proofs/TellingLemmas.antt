@@ -1,16 +1,6 @@
 -- One message of active codes more: whose last it is, and which messages tell a code one behind the other.
-use Rattle.std.proofs.Common.{◌≡◌, ◌∙◌, ◌&&◌, ◌||◌, ◌++◌, ◌∷◌, [], ℕ, Bool, true, false, not, List, Option, Some, None, refl, sym, ap, append-nil, filter, inl, inr, is_some, map}
-use Rattle.std.proofs.Math.Bool.{and-false, and-true, or-true}
-use Rattle.std.specs.List.{list_all, list_any}
-use Rattle.std.proofs.lemmas.Bool.{cases_Bool, cond-false, cond-true, eq-eqb, eqb-true}
-use Rattle.std.proofs.lemmas.List.Elements.{filter-append}
-use Rattle.std.proofs.lemmas.List.Folds.{list_all-append, list_any-append}
-use Rattle.j39_frame.specs.Origin.{is_same_or_none}
-use Rattle.j39_faults.specs.Changes.{is_same_fault, named_in}
-use Rattle.j39_faults.specs.declared.code.Code.{Code}
-use Rattle.j39_faults.specs.declared.conversion.Conversion.{Conversion}
+use Rattle.j39_reports.proofs.Common.{◌≡◌, ◌∙◌, ◌&&◌, ◌||◌, ◌++◌, ◌∷◌, [], ℕ, Bool, true, false, not, List, Option, Some, None, refl, sym, ap, append-nil, filter, inl, inr, is_some, map, and-false, and-true, or-true, list_all, list_any, cases_Bool, cond-false, cond-true, eq-eqb, eqb-true, filter-append, list_all-append, list_any-append, is_same_or_none, is_same_fault, named_in, Code, Conversion, Hearing}
 use Rattle.j39_faults.proofs.NamedLemmas.{named_same}
-use Rattle.j39_listen.specs.Heard.{Hearing}
 use Rattle.j39_reports.specs.CurrentPlaces.{is_same_code}
 use Rattle.j39_reports.specs.Faults.{codes_or_none}
 use Rattle.j39_reports.specs.FaultsNow.{codes_in, first_stamp, is_about, is_at, is_same_name, lasts, longest_end, names, telling, tells}

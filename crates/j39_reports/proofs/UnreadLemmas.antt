@@ -1,10 +1,5 @@
 -- The unread lines, and one more.
-use Rattle.std.proofs.Common.{◌≡◌, ◌&&◌, ◌+◌, ◌++◌, ◌<◌, ◌≤◌, ℕ, List, [], ◌∷◌, true, false, length, refl, sym, ap, ap₂, ◌∙◌, append-nil, append_assoc, arith, map, take, take_all, length-take, zero, suc, min, inl, inr}
-use Rattle.std.proofs.Math.Bool.{and-true}
-use Rattle.std.proofs.lemmas.Bool.{cases_lt, lt-leb, lt-ltb}
-use Rattle.std.proofs.lemmas.List.{length-map, map-append, take-append-le}
-use Rattle.std.proofs.lemmas.List.Folds.{list_all-append}
-use Rattle.j39_listen.specs.Counting.{capped}
+use Rattle.j39_reports.proofs.Common.{◌≡◌, ◌&&◌, ◌+◌, ◌++◌, ◌<◌, ◌≤◌, ℕ, List, [], ◌∷◌, true, false, length, refl, sym, ap, ap₂, ◌∙◌, append-nil, append_assoc, arith, map, take, take_all, length-take, zero, suc, min, inl, inr, and-true, cases_lt, lt-leb, lt-ltb, length-map, map-append, take-append-le, list_all-append, capped}
 use Rattle.j39_log.specs.Printed.{is_printed}
 use Rattle.j39_reports.specs.LogLines.{LogLine, UnreadRecord, unread_at, unread_from, unread_in}
 use Rattle.j39_reports.specs.SurveyModels.{HaveNoted, shown_record}

@@ -1,15 +1,5 @@
 -- The last values of all origins, with one more.
-use Rattle.std.proofs.Common.{◌≡◌, ◌∷◌, ◌++◌, [], false, ℕ, List, Some, None, append-nil, append_assoc, map, refl, slice_get, slice_set, subst, sym, ap, ◌∙◌}
-use Rattle.std.specs.List.{list_any}
-use Rattle.std.proofs.lemmas.List.{map-append}
-use Rattle.std.proofs.lemmas.List.Elements.{filter_map-append}
-use Rattle.j39_frame.specs.Origin.{place_in}
-use Rattle.j39_frame.specs.declared.origin.Origin.{Origin}
-use Rattle.j39_frame.proofs.OriginLemmas.{same_true}
-use Rattle.j39_frame.proofs.PlaceLemmas.{stands}
-use Rattle.j39_groups.specs.Sightings.{SightingRecord, absent, told, told_by, told_in}
-use Rattle.j39_groups.specs.Value.{ReadingRecord, ValueRecord}
-use Rattle.j39_listen.specs.Report.{Entry, entry_of}
+use Rattle.j39_reports.proofs.Common.{◌≡◌, ◌∷◌, ◌++◌, [], false, ℕ, List, Some, None, append-nil, append_assoc, map, refl, slice_get, slice_set, subst, sym, ap, ◌∙◌, list_any, map-append, filter_map-append, place_in, Origin, same_true, stands, SightingRecord, absent, told, told_by, told_in, ReadingRecord, ValueRecord, Entry, entry_of}
 use Rattle.j39_reports.proofs.LatestLemmas.{latest_more, latest_one}
 use Rattle.j39_reports.proofs.OriginRowLemmas as rows
 use Rattle.j39_reports.specs.LatestSoFar.{AreLatest, Behind, HasFollowed, LatestRow, latest_begun, latest_grown, latest_over, latest_row}

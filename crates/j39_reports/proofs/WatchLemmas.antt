@@ -1,32 +1,9 @@
 -- A watch as an account: its screen, one frame more, and its end.
-use Rattle.std.proofs.Common.{Bor, ◌≡◌, ◌≤◌, ◌<◌, ◌+◌, ◌/◌, ◌^◌, ◌∙◌, ◌++◌, ◌∷◌, [], ℕ, zero, suc, Bool, true, false, List, Option, Some, ap, ap₂, append-nil, append_assoc, arith, length, length-append, map, refl, reverse, subst, sym, take}
-use Rattle.std.specs.Prelude.{filter, if◌then◌else◌, option_map, unwrap_or}
-use Rattle.std.specs.List.{flat_map}
-use Rattle.std.specs.Io.KnownBytes.{Appends}
-use Rattle.std.proofs.lemmas.Grind.{flat_map-append}
-use Rattle.std.proofs.lemmas.List.{reverse-append, take-append-le, take_all}
-use Rattle.std.proofs.lemmas.List.Elements.{filter-append}
-use Rattle.std.proofs.lemmas.List.Folds.{flat_map-map}
+use Rattle.j39_reports.proofs.Common.{Bor, ◌≡◌, ◌≤◌, ◌<◌, ◌+◌, ◌/◌, ◌^◌, ◌∙◌, ◌++◌, ◌∷◌, [], ℕ, zero, suc, Bool, true, false, List, Option, Some, ap, ap₂, append-nil, append_assoc, arith, length, length-append, map, refl, reverse, subst, sym, take, filter, if◌then◌else◌, unwrap_or, flat_map, Appends, flat_map-append, reverse-append, take-append-le, filter-append, flat_map-map, FrameRecord, stamp_micros, Origin, is_reported_in, RowRecord, AppendsFront, Begins, Closes, MakesOne, Meets, Stops, StopsAtEnd, capped, Hearing, or_none, Hears, holder_of, Output, Entry, entries_of, heard_more, capped-fits, reported_leaves, heard_below_unique, stamp_text, pairs_of}
+use Rattle.std.specs.Prelude.{option_map}
+use Rattle.std.proofs.lemmas.List.{take_all}
 use Rattle.j39_address.proofs.HolderLemmas.{same_holder}
 use Rattle.j39_address.specs.Claim.{claims_of}
-use Rattle.j39_frame.specs.Frame.{FrameRecord}
-use Rattle.j39_frame.specs.Stamp.{stamp_micros}
-use Rattle.j39_frame.specs.declared.origin.Origin.{Origin}
-use Rattle.j39_groups.specs.Readings.{is_reported_in}
-use Rattle.j39_groups.specs.Row.{RowRecord}
-use Rattle.j39_io.specs.Device.{AppendsFront}
-use Rattle.j39_listen.specs.AccountCalls.{Begins, Closes, MakesOne, Meets, Stops, StopsAtEnd}
-use Rattle.j39_listen.specs.Counting.{capped}
-use Rattle.j39_listen.specs.Heard.{Hearing, or_none}
-use Rattle.j39_listen.specs.Listening.{Hears, holder_of}
-use Rattle.j39_listen.specs.Output.{Output}
-use Rattle.j39_listen.specs.Report.{Entry, entries_of}
-use Rattle.j39_listen.proofs.Causal.{heard_more}
-use Rattle.j39_listen.proofs.LineLemmas.{capped-fits}
-use Rattle.j39_listen.proofs.Reported.{reported_leaves}
-use Rattle.j39_listen.proofs.Unique.{heard_below_unique}
-use Rattle.j39_log.specs.StampText.{stamp_text}
-use Rattle.j39_memory.specs.ByOrigin.{pairs_of}
 use Rattle.j39_reports.proofs.CurrentLemmas.{shown_all}
 use Rattle.j39_reports.proofs.FaultAccountLemmas.{faults_leave}
 use Rattle.j39_reports.proofs.LatestLemmas.{came_is}

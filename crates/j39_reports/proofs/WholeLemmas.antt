@@ -1,22 +1,10 @@
 -- No more messages of codes come whole than are announced: each has an announcement of its own.
-use Rattle.std.proofs.Common.{◌≡◌, ◌≤◌, ◌<◌, ◌+◌, ◌||◌, ◌==◌, ◌∙◌, ℕ, zero, suc, true, false, List, [], ◌∷◌, ◌++◌, Option, Some, None, ap, ap₂, append-nil, arith, eqb-true, eq-eqb, inl, inr, length, ltb-true, nat_lt, refl, slice_index, subst, sym}
-use Rattle.std.specs.Prelude.{Bool, count_by, get_or, is_some}
-use Rattle.std.specs.List.{All}
-use Rattle.std.proofs.lemmas.Bool.{and_parts, cases_Bool, both_ways, false_from_ne_true, or_cases}
-use Rattle.std.proofs.lemmas.List.Elements.{All-get_or}
-use Rattle.j39_faults.specs.FaultGroups.{kind_of}
-use Rattle.j39_frame.specs.Frame.{FrameRecord, IsFrame}
-use Rattle.j39_transport.specs.Announced.{announced_by}
-use Rattle.j39_transport.specs.Assembly.{Links, Whole, last_of}
-use Rattle.j39_transport.specs.Events.{at, packets}
-use Rattle.j39_transport.specs.Frames.{goes, is_announcement, names_message, pgn_named}
-use Rattle.j39_transport.specs.Key.{Key, goes_to, is_key, opening, sender}
+use Rattle.j39_reports.proofs.Common.{◌≡◌, ◌≤◌, ◌<◌, ◌+◌, ◌||◌, ◌==◌, ◌∙◌, ℕ, zero, suc, true, false, List, [], ◌∷◌, ◌++◌, Option, Some, None, ap, ap₂, append-nil, arith, inl, inr, length, ltb-true, nat_lt, refl, slice_index, subst, sym, Bool, count_by, get_or, is_some, All, and_parts, cases_Bool, both_ways, false_from_ne_true, or_cases, All-get_or, kind_of, FrameRecord, IsFrame, announced_by, Links, Whole, last_of, at, packets, names_message, pgn_named, Key, goes_to, is_key, opening, sender, transport_control_group, announcement_facts, one_key, AreHeardWith, HeardAtWith, HeardBelowWith, Hearing, IsHeardWith, frame_at, frames_only, or_none}
+use Rattle.std.proofs.Common.{eqb-true, eq-eqb}
+use Rattle.j39_transport.specs.Frames.{goes, is_announcement}
 use Rattle.j39_transport.specs.Key.Key.{Broadcast, Directed}
 use Rattle.j39_transport.specs.Signals.{said_by, control_in, broadcast_in, request_in}
-use Rattle.j39_frame.specs.Network.{transport_control_group}
 use Rattle.j39_transport.proofs.Chains.{Links-unique}
-use Rattle.j39_transport.proofs.FrameFacts.{announcement_facts, one_key}
-use Rattle.j39_listen.specs.Heard.{AreHeardWith, HeardAtWith, HeardBelowWith, Hearing, IsHeardWith, frame_at, frames_only, or_none}
 use Rattle.j39_listen.proofs.Events.{announcement_within, ev_announces, ev_group}
 use Rattle.j39_reports.specs.Broken.{announces_codes, is_code_group, is_whole}
 use Rattle.j39_reports.specs.Interfaces.{one_if}

@@ -1,8 +1,5 @@
 -- The bits of a comparison with a splat on the left.
-use Rattle.std.proofs.Common.{◌∙◌, ◌%◌, ◌^◌, Bool, List, ap, arith, ltb, map, replicate, w8}
-use Rattle.std.specs.Simd.Lanes.{mask_l}
-use Rattle.std.proofs.lemmas.List.{length-map}
-use Rattle.std.proofs.lemmas.Simd.{mask_l-mod, tops_compared, zip2_splat_left}
+use Rattle.j39_reports.proofs.Common.{◌∙◌, ◌%◌, ◌^◌, Bool, List, ap, arith, ltb, map, replicate, w8, mask_l, length-map, mask_l-mod, tops_compared, zip2_splat_left}
 use Rattle.j39_reports.proofs.json.bits_above.Goals as goal
 
 pub returns : goal.returns

@@ -1,5 +1,4 @@
-use Rattle.std.proofs.Common.{ltb, w8, arith}
-use Rattle.std.proofs.lemmas.Simd.{bitmask_splat}
+use Rattle.j39_reports.proofs.Common.{ltb, w8, arith, bitmask_splat}
 use Rattle.j39_reports.proofs.json.bits_below.Goals as goal
 
 pub returns : goal.returns

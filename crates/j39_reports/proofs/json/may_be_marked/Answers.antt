@@ -1,8 +1,5 @@
 -- A block that has none is passed, and the last eight bytes have none.
-use Rattle.std.proofs.Common.{◌≡◌, ◌≤◌, ◌<◌, ◌-◌, ◌+◌, ◌∙◌, ℕ, ap, arith, drop, false, length, not}
-use Rattle.std.specs.Prelude.{nat_eq}
-use Rattle.std.proofs.lemmas.Bool.Decides.{nat_tests}
-use Rattle.std.proofs.lemmas.List.{drop-drop}
+use Rattle.j39_reports.proofs.Common.{◌≡◌, ◌≤◌, ◌<◌, ◌-◌, ◌+◌, ◌∙◌, ℕ, ap, arith, drop, false, length, not, nat_eq, nat_tests, drop-drop}
 use Rattle.j39_reports.proofs.JsonLemmas.{none_in_all, none_last}
 use Rattle.j39_reports.proofs.json.may_be_marked.Goals as goal
 

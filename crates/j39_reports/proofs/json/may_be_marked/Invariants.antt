@@ -1,5 +1,4 @@
-use Rattle.std.proofs.Common.{◌≡◌, ◌≤◌, ◌-◌, drop, false, length}
-use Rattle.std.specs.List.{list_any}
+use Rattle.j39_reports.proofs.Common.{◌≡◌, ◌≤◌, ◌-◌, drop, false, length, list_any}
 use Rattle.j39_reports.specs.Json.{is_marked}
 use Rattle.j39_reports.proofs.json.may_be_marked.Given as goal
 

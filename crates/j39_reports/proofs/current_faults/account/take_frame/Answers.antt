@@ -1,13 +1,5 @@
 -- A message is heard at the frame, or none.
-use Rattle.std.proofs.Common.{◌∙◌, ◌++◌, ◌∷◌, List, [], Some, ap, inr, length, sym}
-use Rattle.j39_frame.specs.Frame.{FrameRecord}
-use Rattle.j39_frame.specs.Identifier.{pgn_of}
-use Rattle.j39_listen.specs.Heard.{HeardAtWith}
-use Rattle.j39_listen.specs.HeardModel.{hearing_of}
-use Rattle.j39_listen.specs.Listening.{Hears}
-use Rattle.j39_listen.proofs.ListenerLemmas.{on_ok}
-use Rattle.j39_listen.proofs.PieceLemmas.{if_ok}
-use Rattle.j39_io.proofs.DeviceLemmas.{on_err_from}
+use Rattle.j39_reports.proofs.Common.{◌∙◌, ◌++◌, ◌∷◌, List, [], Some, ap, inr, length, sym, FrameRecord, pgn_of, HeardAtWith, hearing_of, Hears, on_ok, if_ok, on_err_from}
 use Rattle.j39_reports.specs.FaultsNow.{active_among}
 use Rattle.j39_reports.specs.FaultsSoFar.{with_heard}
 use Rattle.j39_reports.specs.News.{is_fault_group}

@@ -1,8 +1,5 @@
 -- A message of active codes is taken.
-use Rattle.std.proofs.Common.{◌≡◌, ◌++◌, List, ap, length, rules, subst, sym, true}
-use Rattle.std.proofs.lemmas.Bool.{cond-true}
-use Rattle.j39_listen.specs.Heard.{Hearing}
-use Rattle.j39_listen.specs.HeardModel.{hearing_of}
+use Rattle.j39_reports.proofs.Common.{◌≡◌, ◌++◌, List, ap, length, rules, subst, sym, true, cond-true, Hearing, hearing_of}
 use Rattle.j39_reports.specs.CurrentSoFar.{AreKept}
 use Rattle.j39_reports.specs.FaultsNow.{is_active_message}
 use Rattle.j39_reports.proofs.CurrentLemmas.{kept_more}

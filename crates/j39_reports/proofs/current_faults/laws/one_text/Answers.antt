@@ -1,8 +1,4 @@
-use Rattle.std.proofs.Common.{◌∙◌, List, ap, length, refl, sym}
-use Rattle.j39_listen.specs.Filter.{first_stamp}
-use Rattle.j39_listen.specs.Heard.{Hearing}
-use Rattle.j39_listen.proofs.Existing.{all_heard}
-use Rattle.j39_listen.proofs.Unique.{heard_below_unique}
+use Rattle.j39_reports.proofs.Common.{◌∙◌, List, ap, length, refl, sym, first_stamp, Hearing, all_heard, heard_below_unique}
 use Rattle.j39_reports.specs.FaultsNow.{active_among}
 use Rattle.j39_reports.specs.FaultsNowRun.{faults_now_of}
 use Rattle.j39_reports.specs.News.{is_fault_group}

@@ -1,9 +1,5 @@
 -- The last message of the address is asked for, or not.
-use Rattle.std.proofs.Common.{◌≡◌, ◌∙◌, Bool, ℕ, List, ap, sym}
-use Rattle.j39_frame.specs.Frame.{FrameRecord}
-use Rattle.j39_io.proofs.PutsLemmas.{puts_as, puts_nothing}
-use Rattle.j39_listen.specs.Filter.{FilterRecord, asks_for, first_stamp}
-use Rattle.j39_listen.proofs.PieceLemmas.{if_ok}
+use Rattle.j39_reports.proofs.Common.{◌≡◌, ◌∙◌, Bool, ℕ, List, ap, sym, FrameRecord, puts_as, puts_nothing, FilterRecord, asks_for, first_stamp, if_ok}
 use Rattle.j39_reports.specs.CurrentPlaces.{LastRecord}
 use Rattle.j39_reports.specs.FaultsNow.{Now}
 use Rattle.j39_reports.specs.FaultsNowRun.{now_lines, now_text}

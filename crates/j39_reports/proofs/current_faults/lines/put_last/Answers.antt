@@ -1,6 +1,5 @@
 -- A line more; after a fault a front of the lines that are left was written.
-use Rattle.std.proofs.Common.{◌∙◌, ap, map, refl}
-use Rattle.j39_io.proofs.PutsLemmas.{puts_as, puts_nothing}
+use Rattle.j39_reports.proofs.Common.{◌∙◌, ap, map, refl, puts_as, puts_nothing}
 use Rattle.j39_reports.specs.CurrentPlaces.{LastRecord, standing_record}
 use Rattle.j39_reports.specs.CurrentSoFar.{now_shown}
 use Rattle.j39_reports.specs.FaultsNowRun.{now_text}

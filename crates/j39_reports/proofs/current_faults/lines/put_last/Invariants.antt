@@ -1,6 +1,4 @@
-use Rattle.std.proofs.Common.{◌≡◌, take, Ok}
-use Rattle.j39_io.specs.Puts.{Puts}
-use Rattle.j39_io.specs.Turn.{turn}
+use Rattle.j39_reports.proofs.Common.{◌≡◌, take, Ok, Puts, turn}
 use Rattle.j39_reports.proofs.NowLineLemmas.{counted, lines}
 use Rattle.j39_reports.specs.FaultsSoFar.{manner_of}
 use Rattle.j39_reports.proofs.current_faults.lines.put_last.Given as goal

@@ -1,10 +1,5 @@
 -- Nothing stands there, or what a message says.
-use Rattle.std.proofs.Common.{◌≡◌, ◌∙◌, List, Option, None, Some, ap, subst, sym}
-use Rattle.std.specs.Prelude.{IfOk}
-use Rattle.j39_frame.specs.Frame.{FrameRecord}
-use Rattle.j39_io.proofs.PutsLemmas.{puts_as, puts_nothing}
-use Rattle.j39_listen.specs.Chooses.{Chooses}
-use Rattle.j39_listen.specs.Filter.{FilterRecord, first_stamp}
+use Rattle.j39_reports.proofs.Common.{◌≡◌, ◌∙◌, List, Option, None, Some, ap, subst, sym, IfOk, FrameRecord, puts_as, puts_nothing, Chooses, FilterRecord, first_stamp}
 use Rattle.j39_reports.specs.CurrentPlaces.{LastRecord, at}
 use Rattle.j39_reports.specs.CurrentSoFar.{nows_shown}
 use Rattle.j39_reports.specs.FaultsNow.{now_taken}

@@ -1,8 +1,5 @@
 -- An address more; after a fault a front of what is left was written.
-use Rattle.std.proofs.Common.{◌≡◌, ◌∙◌, ap, arith, refl}
-use Rattle.j39_io.proofs.PutsLemmas.{puts_as, puts_done, puts_nothing}
-use Rattle.j39_listen.specs.Counting.{capped}
-use Rattle.j39_listen.specs.Filter.{first_stamp}
+use Rattle.j39_reports.proofs.Common.{◌≡◌, ◌∙◌, ap, arith, refl, puts_as, puts_done, puts_nothing, capped, first_stamp}
 use Rattle.j39_reports.specs.CurrentSoFar.{taken_below}
 use Rattle.j39_reports.specs.FaultsNowRun.{now_lines}
 use Rattle.j39_reports.proofs.NowLineLemmas.{lines_more, no_lines, no_places, place_more, place_stops, text}

@@ -1,10 +1,4 @@
-use Rattle.std.proofs.Common.{◌≡◌, List, Ok}
-use Rattle.j39_frame.specs.Frame.{FrameRecord}
-use Rattle.j39_io.specs.Puts.{Puts}
-use Rattle.j39_io.specs.Turn.{turn}
-use Rattle.j39_listen.specs.Chooses.{Chooses}
-use Rattle.j39_listen.specs.Counting.{capped}
-use Rattle.j39_listen.specs.Filter.{FilterRecord, first_stamp}
+use Rattle.j39_reports.proofs.Common.{◌≡◌, List, Ok, FrameRecord, Puts, turn, Chooses, capped, FilterRecord, first_stamp}
 use Rattle.j39_reports.specs.CurrentSoFar.{taken_below}
 use Rattle.j39_reports.specs.FaultsNowRun.{now_lines}
 use Rattle.j39_reports.proofs.NowLineLemmas.{text}

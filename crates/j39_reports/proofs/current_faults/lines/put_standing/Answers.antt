@@ -1,15 +1,10 @@
 -- The row of what is said.
-use Rattle.std.proofs.Common.{◌∙◌, List, ap, codes}
-use Rattle.j39_faults.specs.declared.kind.Kind.TheVariants.{Active}
-use Rattle.j39_faults.specs.declared.text.State.TheVariants.{Is}
-use Rattle.j39_io.proofs.PutsLemmas.{puts_as}
+use Rattle.j39_reports.proofs.Common.{◌∙◌, List, ap, codes, Active, Is, puts_as, head_of, ColumnRecord, HeadRecord, seconds}
 use Rattle.j39_reports.specs.CurrentPlaces.{LastRecord, standing_record}
 use Rattle.j39_reports.specs.CurrentSoFar.{now_shown}
 use Rattle.j39_reports.specs.FaultsSoFar.{line_of}
 use Rattle.j39_reports.proofs.NowLineLemmas.{one_text}
 use Rattle.j39_reports.specs.FaultsSoFar.{manner_of}
-use Rattle.j39_rows.specs.Models.{head_of}
-use Rattle.j39_rows.specs.Row.{ColumnRecord, HeadRecord, seconds}
 use Rattle.j39_reports.proofs.current_faults.lines.put_standing.Goals as goal
 
 pub returns-clause-puts : goal.returns-clause-puts

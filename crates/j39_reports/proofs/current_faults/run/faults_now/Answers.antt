@@ -1,8 +1,6 @@
 -- The account has met the frames of the log, so it knows what was broken in them.
-use Rattle.std.proofs.Common.{refl}
+use Rattle.j39_reports.proofs.Common.{refl, which_of, nothing}
 use Rattle.j39_listen.proofs.PieceLemmas.{on_ok_from}
-use Rattle.j39_listen.specs.Chooses.{which_of}
-use Rattle.j39_listen.specs.Output.{nothing}
 use Rattle.j39_reports.specs.CurrentSoFar.{HasKept, NowSubject}
 use Rattle.j39_reports.proofs.BrokenLemmas.{told_faults}
 use Rattle.j39_reports.specs.FaultsSoFar.{spns_now}

@@ -1,8 +1,5 @@
 -- There are codes.
-use Rattle.std.proofs.Common.{◌≡◌, ◌∙◌, true, false, map, sym}
-use Rattle.std.proofs.lemmas.Bool.{eq-eqb}
-use Rattle.j39_faults.specs.Conversions.{codes_by}
-use Rattle.j39_frame.specs.Stamp.{stamp_micros}
+use Rattle.j39_reports.proofs.Common.{◌≡◌, ◌∙◌, true, false, map, sym, eq-eqb, codes_by, stamp_micros}
 use Rattle.j39_reports.specs.CurrentPlaces.{standing_record}
 use Rattle.j39_reports.proofs.StandingLemmas.{by_some}
 use Rattle.j39_reports.proofs.current_faults.standing.next_standings.Goals as goal

@@ -1,6 +1,5 @@
 -- One code after the other.
-use Rattle.std.proofs.Common.{arith, map}
-use Rattle.j39_frame.specs.Stamp.{stamp_micros}
+use Rattle.j39_reports.proofs.Common.{arith, map, stamp_micros}
 use Rattle.j39_reports.specs.CurrentPlaces.{standing_record}
 use Rattle.j39_reports.proofs.StandingLemmas.{room_more, stood_more}
 use Rattle.j39_reports.proofs.current_faults.standing.of_codes.Goals as goal

@@ -1,6 +1,4 @@
-use Rattle.std.proofs.Common.{map}
-use Rattle.j39_faults.specs.CodesLeft.{codes_left}
-use Rattle.j39_frame.specs.Stamp.{stamp_micros}
+use Rattle.j39_reports.proofs.Common.{map, codes_left, stamp_micros}
 use Rattle.j39_reports.specs.CurrentPlaces.{standing_record}
 use Rattle.j39_reports.proofs.StandingLemmas.{HaveStood}
 use Rattle.j39_reports.proofs.current_faults.standing.of_codes.Given as goal

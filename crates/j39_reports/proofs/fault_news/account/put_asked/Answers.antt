@@ -1,7 +1,5 @@
 -- Nothing is told, or the head and that codes are to be cleared.
-use Rattle.std.proofs.Common.{◌∙◌, arith, refl, sym}
-use Rattle.j39_io.proofs.PutsLemmas.{puts_as, puts_done, puts_failed}
-use Rattle.j39_listen.specs.HeardModel.{hearing_of}
+use Rattle.j39_reports.proofs.Common.{◌∙◌, arith, refl, sym, puts_as, puts_done, puts_failed, hearing_of}
 use Rattle.j39_reports.proofs.FaultLineLemmas.{clearing_text}
 use Rattle.j39_reports.proofs.PutLemmas.{lines_of_clearing, tells_faults, tells_none, tells_unnamed}
 use Rattle.j39_reports.specs.FaultsSoFar.{manner_of}

@@ -1,19 +1,10 @@
 -- A message is heard at the frame, or none.
-use Rattle.std.proofs.Common.{◌≤◌, ◌∙◌, ◌++◌, ◌∷◌, List, [], None, Some, ap, inr, refl, length}
-use Rattle.std.proofs.Common.{subst, sym}
-use Rattle.j39_frame.specs.Frame.{FrameRecord}
-use Rattle.j39_frame.specs.Identifier.{pgn_of}
-use Rattle.j39_listen.specs.Filter.{first_stamp}
-use Rattle.j39_listen.specs.Heard.{HeardAtWith}
-use Rattle.j39_listen.specs.HeardModel.{hearing_of}
-use Rattle.j39_listen.proofs.ListenerLemmas.{on_ok}
-use Rattle.j39_listen.proofs.PieceLemmas.{if_ok}
+use Rattle.j39_reports.proofs.Common.{◌≤◌, ◌∙◌, ◌++◌, ◌∷◌, List, [], None, Some, ap, inr, refl, length, subst, sym, FrameRecord, pgn_of, first_stamp, HeardAtWith, hearing_of, on_ok, if_ok, Hears}
 use Rattle.j39_reports.specs.News.{chosen_of, faults_among, is_fault_group}
 use Rattle.j39_reports.proofs.FaultAccountLemmas.{faults_leave, tells_nothing}
 use Rattle.j39_reports.proofs.HeardLemmas.{short_heard}
 use Rattle.j39_reports.specs.FaultsSoFar.{with_heard}
 use Rattle.j39_reports.specs.declared.fault_news.announced.Announced.{Announced}
-use Rattle.j39_listen.specs.Listening.{Hears}
 use Rattle.j39_reports.specs.FaultsSoFar.{manner_of}
 use Rattle.j39_reports.proofs.fault_news.account.put_frame.Given.{Over}
 use Rattle.j39_reports.proofs.fault_news.account.put_frame.Goals as goal

@@ -1,12 +1,5 @@
 -- A message of another kind, or one of faults that is told or not.
-use Rattle.std.proofs.Common.{◌≡◌, ◌∙◌, ◌<◌, ◌≤◌, ◌&&◌, ◌∷◌, [], ℕ, List, Result, Ok, Err, Some, length, sym}
-use Rattle.std.specs.Prelude.{IfOk, OnOk}
-use Rattle.j39_io.specs.Turn.{Turn}
-use Rattle.j39_listen.specs.Filter.{takes_message}
-use Rattle.j39_listen.specs.Heard.{Hearing}
-use Rattle.j39_listen.specs.HeardModel.{hearing_of}
-use Rattle.j39_listen.specs.declared.account.LineFault.{LineFault}
-use Rattle.j39_listen.specs.declared.counts.Made.{Made}
+use Rattle.j39_reports.proofs.Common.{◌≡◌, ◌∙◌, ◌<◌, ◌≤◌, ◌&&◌, ◌∷◌, [], ℕ, List, Result, Ok, Err, Some, length, sym, IfOk, OnOk, Turn, takes_message, Hearing, hearing_of, LineFault, Made}
 use Rattle.j39_reports.specs.Faults.{clearing_of}
 use Rattle.j39_reports.specs.News.{chosen_of}
 use Rattle.j39_reports.specs.Remembered.{Remembers, noted, said_at, said_in}

@@ -1,8 +1,5 @@
 -- A frame of another group announces nothing.
-use Rattle.std.proofs.Common.{◌∙◌, ◌==◌, ap, sym}
-use Rattle.j39_frame.specs.Frame.{FrameRecord}
-use Rattle.j39_frame.specs.Identifier.{pgn_of}
-use Rattle.j39_frame.specs.Network.{transport_control_group}
+use Rattle.j39_reports.proofs.Common.{◌∙◌, ◌==◌, ap, sym, FrameRecord, pgn_of, transport_control_group}
 use Rattle.j39_reports.proofs.BrokenLemmas.{announces_none}
 use Rattle.j39_reports.proofs.fault_news.announced.announces.Goals as goal
 

@@ -1,11 +1,7 @@
 -- Nothing, or the line of the change.
-use Rattle.std.proofs.Common.{◌∙◌, Some, sym}
-use Rattle.j39_io.proofs.PutsLemmas.{puts_as, puts_nothing}
-use Rattle.j39_faults.specs.declared.text.State.TheVariants.{Became}
-use Rattle.j39_listen.proofs.PieceLemmas.{if_ok}
+use Rattle.j39_reports.proofs.Common.{◌∙◌, Some, sym, puts_as, puts_nothing, Became, if_ok, hearing_of}
 use Rattle.j39_reports.specs.Faults.{fault_of, says_asked}
 use Rattle.j39_reports.proofs.CountLemmas.{count_here}
-use Rattle.j39_listen.specs.HeardModel.{hearing_of}
 use Rattle.j39_reports.proofs.FaultAccountLemmas.{faults_text-none}
 use Rattle.j39_reports.proofs.ChangeLemmas.{change_put}
 use Rattle.j39_reports.specs.FaultsSoFar.{manner_of}

@@ -1,11 +1,5 @@
 -- One code after the other.
-use Rattle.std.proofs.Common.{◌≡◌, ◌+◌, [], ap, arith, map, refl, rules, sym}
-use Rattle.j39_faults.specs.Codes.{codes_of}
-use Rattle.j39_faults.specs.CodesLeft.{codes_left}
-use Rattle.j39_faults.specs.Conversions.{code_by, codes_by}
-use Rattle.j39_io.specs.Turn.{turn}
-use Rattle.j39_io.proofs.PutsLemmas.{puts_as, puts_nothing}
-use Rattle.j39_listen.specs.HeardModel.{hearing_of}
+use Rattle.j39_reports.proofs.Common.{◌≡◌, ◌+◌, [], ap, arith, map, refl, rules, sym, codes_of, codes_left, code_by, codes_by, turn, puts_as, puts_nothing, hearing_of}
 use Rattle.j39_reports.proofs.ChangeLemmas.{HasChanged, change_more, change_stops, few_changed}
 use Rattle.j39_reports.proofs.FaultAccountLemmas.{faults_text-none}
 use Rattle.j39_reports.specs.FaultsSoFar.{manner_of}

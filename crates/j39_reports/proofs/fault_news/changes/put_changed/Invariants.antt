@@ -1,7 +1,4 @@
-use Rattle.j39_io.specs.Turn.{turn}
-use Rattle.j39_faults.specs.CodesLeft.{codes_left}
-use Rattle.j39_faults.specs.Conversions.{codes_by}
-use Rattle.j39_listen.specs.HeardModel.{hearing_of}
+use Rattle.j39_reports.proofs.Common.{turn, codes_left, codes_by, hearing_of}
 use Rattle.j39_reports.proofs.ChangeLemmas.{HasChanged}
 use Rattle.j39_reports.specs.FaultsSoFar.{manner_of}
 use Rattle.j39_reports.proofs.fault_news.changes.put_changed.Given as goal

@@ -1,8 +1,5 @@
 -- What became of the codes of the message, and then of those before it.
-use Rattle.std.proofs.Common.{sym}
-use Rattle.j39_faults.specs.Conversions.{codes_by}
-use Rattle.j39_io.proofs.PutsLemmas.{puts_as, puts_done, puts_failed, puts_first, puts_then}
-use Rattle.j39_listen.specs.HeardModel.{hearing_of}
+use Rattle.j39_reports.proofs.Common.{sym, codes_by, puts_as, puts_done, puts_failed, puts_first, puts_then, hearing_of}
 use Rattle.j39_reports.specs.FaultRows.{faults_text}
 use Rattle.j39_reports.specs.FaultsSoFar.{changed}
 use Rattle.j39_reports.specs.declared.fault_news.changes.Side.TheVariants.{Earlier, Later}

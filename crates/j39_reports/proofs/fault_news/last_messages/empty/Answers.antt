@@ -1,5 +1,4 @@
-use Rattle.std.proofs.Common.{None}
-use Rattle.j39_transport.proofs.TableLemmas.{all_alike}
+use Rattle.j39_reports.proofs.Common.{None, all_alike}
 use Rattle.j39_reports.proofs.fault_news.last_messages.empty.Goals as goal
 
 -- each place is what the closure gives

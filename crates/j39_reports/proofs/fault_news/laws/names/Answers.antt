@@ -1,10 +1,7 @@
 -- The names, case by case.
-use Rattle.std.proofs.Common.{◌≡◌, List, None, Some, refl}
-use Rattle.j39_faults.specs.declared.text.State.TheVariants.{Became, Is}
-use Rattle.j39_groups.specs.Row.{RowRecord}
+use Rattle.j39_reports.proofs.Common.{◌≡◌, List, None, Some, refl, Became, Is, RowRecord, names_text}
 use Rattle.j39_reports.specs.FaultRows.{columns_with, message_head, saying_columns, saying_name}
 use Rattle.j39_reports.specs.Faults.{Fault, Saying, clears, says}
-use Rattle.j39_rows.specs.Row.{names_text}
 use Rattle.j39_reports.proofs.fault_news.laws.names.Goals as goal
 
 named : (rows : List RowRecord) (f : Fault) (saying : Saying)

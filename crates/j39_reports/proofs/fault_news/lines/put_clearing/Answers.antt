@@ -1,8 +1,7 @@
 -- The row of it.
-use Rattle.std.proofs.Common.{◌∙◌, List, ℕ, ap, ap₂, codes}
-use Rattle.j39_io.proofs.PutsLemmas.{puts_as}
+use Rattle.j39_reports.proofs.Common.{◌∙◌, List, ℕ, ap, ap₂, codes, puts_as, row_text}
 use Rattle.j39_reports.specs.FaultRows.{uncoded}
-use Rattle.j39_rows.specs.Row.{nothing, row_text}
+use Rattle.j39_rows.specs.Row.{nothing}
 use Rattle.j39_reports.proofs.fault_news.lines.put_clearing.Goals as goal
 
 pub returns : goal.returns

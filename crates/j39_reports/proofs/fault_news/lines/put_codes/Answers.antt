@@ -1,13 +1,7 @@
 -- One code after the other.
-use Rattle.std.proofs.Common.{◌≡◌, [], ap, arith, map, refl, rules, sym}
-use Rattle.j39_faults.specs.Codes.{codes_of}
-use Rattle.j39_faults.specs.CodesLeft.{codes_left}
-use Rattle.j39_faults.specs.Conversions.{code_by}
-use Rattle.j39_faults.specs.declared.text.State.TheVariants.{Is}
-use Rattle.j39_io.proofs.PutsLemmas.{puts_nothing}
+use Rattle.j39_reports.proofs.Common.{◌≡◌, [], ap, arith, map, refl, rules, sym, codes_of, codes_left, code_by, Is, puts_nothing, head_of}
 use Rattle.j39_reports.proofs.FaultLineLemmas.{code_more, code_stops, few_put}
 use Rattle.j39_reports.specs.FaultsSoFar.{manner_of}
-use Rattle.j39_rows.specs.Models.{head_of}
 use Rattle.j39_reports.proofs.fault_news.lines.put_codes.Goals as goal
 
 pub loop-code-init : goal.loop-code-init

@@ -1,9 +1,6 @@
-use Rattle.j39_io.specs.Turn.{turn}
-use Rattle.j39_faults.specs.CodesLeft.{codes_left}
-use Rattle.j39_faults.specs.declared.text.State.TheVariants.{Is}
+use Rattle.j39_reports.proofs.Common.{turn, codes_left, Is, head_of}
 use Rattle.j39_reports.proofs.FaultLineLemmas.{HasPut}
 use Rattle.j39_reports.specs.FaultsSoFar.{manner_of}
-use Rattle.j39_rows.specs.Models.{head_of}
 use Rattle.j39_reports.proofs.fault_news.lines.put_codes.Given as goal
 
 -- the lines of the codes before those that are left were written, and no fault came

@@ -1,9 +1,5 @@
 -- The lines of the codes, or the line of none.
-use Rattle.std.proofs.Common.{◌∙◌, arith, sym}
-use Rattle.j39_faults.specs.Conversions.{codes_by}
-use Rattle.j39_faults.specs.declared.text.State.TheVariants.{Is}
-use Rattle.j39_listen.proofs.PieceLemmas.{if_ok}
-use Rattle.j39_listen.specs.HeardModel.{hearing_of}
+use Rattle.j39_reports.proofs.Common.{◌∙◌, arith, sym, codes_by, Is, if_ok, hearing_of}
 use Rattle.j39_reports.proofs.FaultLineLemmas.{codes_put, codes_stop, count_none, count_some, none_put}
 use Rattle.j39_reports.specs.FaultsSoFar.{manner_of}
 use Rattle.j39_reports.proofs.fault_news.lines.put_message.Goals as goal

@@ -1,12 +1,8 @@
 -- The row of a code, or that there is none.
-use Rattle.std.proofs.Common.{◌∙◌, List, ℕ, ap, codes}
-use Rattle.std.specs.Prelude.{unwrap_or}
+use Rattle.j39_reports.proofs.Common.{◌∙◌, List, ℕ, ap, codes, unwrap_or, puts_as, cell_of, head_of, CellRecord, ColumnRecord, row_text, text_or_nothing}
 use Rattle.j39_faults.specs.Text.{lamps_told, state_text}
-use Rattle.j39_io.proofs.PutsLemmas.{puts_as}
 use Rattle.j39_reports.specs.FaultRows.{coded, state_name, uncoded}
 use Rattle.j39_reports.specs.Faults.{name_in}
-use Rattle.j39_rows.specs.Models.{cell_of, head_of}
-use Rattle.j39_rows.specs.Row.{CellRecord, ColumnRecord, row_text, text_or_nothing}
 use Rattle.j39_reports.proofs.fault_news.lines.put_shown.Goals as goal
 
 pub returns-in-None : goal.returns-in-None

@@ -1,6 +1,5 @@
 -- Nothing is told, or the lines of a message.
-use Rattle.std.proofs.Common.{◌<◌, ◌^◌, refl, rules}
-use Rattle.j39_io.proofs.PutsLemmas.{puts_done, puts_failed}
+use Rattle.j39_reports.proofs.Common.{◌<◌, ◌^◌, refl, rules, puts_done, puts_failed}
 use Rattle.j39_reports.proofs.PutLemmas.{tells_faults, tells_none}
 use Rattle.j39_reports.proofs.fault_news.since.put_told.Goals as goal
 

@@ -1,12 +1,5 @@
 -- The group stands in the block, or not.
-use Rattle.std.proofs.Common.{List, ℕ, Option, Some, None, ◌≡◌, ◌≤◌, ◌++◌, ap, append_assoc, arith, codes, decimal, drop, length, refl, subst}
-use Rattle.std.specs.Prelude.{IfSome, is_some, unwrap_or, if◌then◌else◌}
-use Rattle.std.specs.Option.{option_map}
-use Rattle.j39_address.specs.Name.{name_raw}
-use Rattle.j39_frame.specs.Pgn.{pgn_raw}
-use Rattle.j39_frame.specs.Stamp.{stamp_micros}
-use Rattle.j39_io.specs.Backwards.{WritesBefore}
-use Rattle.j39_io.proofs.BackwardsLemmas.{before_end, before_then}
+use Rattle.j39_reports.proofs.Common.{List, ℕ, Option, Some, None, ◌≡◌, ◌≤◌, ◌++◌, ap, append_assoc, arith, codes, decimal, drop, length, refl, subst, IfSome, is_some, unwrap_or, if◌then◌else◌, option_map, name_raw, pgn_raw, stamp_micros, WritesBefore, before_end, before_then}
 use Rattle.j39_reports.specs.EntryObject.{group_member, moment_members, opening_text, sender_members}
 use Rattle.j39_reports.proofs.report_objects.objects.opening_of.Goals as goal
 

@@ -1,9 +1,7 @@
 -- A number stands as in a record.
-use Rattle.std.proofs.Common.{◌≡◌, refl, subst, sym}
-use Rattle.j39_groups.specs.Models.{value_of}
+use Rattle.j39_reports.proofs.Common.{◌≡◌, refl, subst, sym, value_of, puts_as}
 use Rattle.j39_groups.specs.ValueText.{bare_text, value_field}
 use Rattle.j39_groups.specs.declared.value.Value.{Value}
-use Rattle.j39_io.proofs.PutsLemmas.{puts_as}
 use Rattle.j39_reports.specs.EntryObject.{value_json}
 use Rattle.j39_reports.proofs.report_objects.objects.put_json.Goals as goal
 

@@ -1,9 +1,5 @@
 -- What stands in the block from the start on is the object.
-use Rattle.std.proofs.Common.{◌∙◌, arith}
-use Rattle.std.specs.Option.{option_map}
-use Rattle.std.proofs.lemmas.Slice.{between_to_end}
-use Rattle.j39_io.proofs.BackwardsLemmas.{before_end}
-use Rattle.j39_io.proofs.PutsLemmas.{puts_as}
+use Rattle.j39_reports.proofs.Common.{◌∙◌, arith, option_map, between_to_end, before_end, puts_as}
 use Rattle.j39_reports.proofs.report_objects.objects.put_object.Goals as goal
 
 pub returns-in-Some : goal.returns-in-Some

@@ -1,7 +1,5 @@
 -- The members one after another.
-use Rattle.std.proofs.Common.{List, ℕ, Option, ◌≡◌, ◌∙◌, ◌++◌, append_assoc, codes, decimal, refl}
-use Rattle.std.specs.Option.{option_map}
-use Rattle.j39_io.proofs.PutsLemmas.{puts_as, puts_first, puts_then}
+use Rattle.j39_reports.proofs.Common.{List, ℕ, Option, ◌≡◌, ◌∙◌, ◌++◌, append_assoc, codes, decimal, refl, option_map, puts_as, puts_first, puts_then}
 use Rattle.j39_reports.specs.EntryObject.{parameter_members}
 use Rattle.j39_reports.specs.Json.{string_or_null}
 use Rattle.j39_reports.proofs.report_objects.objects.put_parameter.Goals as goal

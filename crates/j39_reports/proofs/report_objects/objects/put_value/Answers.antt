@@ -1,6 +1,4 @@
-use Rattle.std.proofs.Common.{codes}
-use Rattle.j39_groups.specs.Models.{value_of}
-use Rattle.j39_io.proofs.PutsLemmas.{puts_first, puts_then}
+use Rattle.j39_reports.proofs.Common.{codes, value_of, puts_first, puts_then}
 use Rattle.j39_reports.specs.EntryObject.{value_json}
 use Rattle.j39_reports.proofs.report_objects.objects.put_value.Goals as goal
 

@@ -1,9 +1,5 @@
 -- The members one after another.
-use Rattle.std.proofs.Common.{List, ℕ, ◌≡◌, ◌∙◌, ◌++◌, Option, ap, append_assoc, codes, refl}
-use Rattle.std.specs.Option.{option_map}
-use Rattle.j39_groups.specs.Models.{value_of}
-use Rattle.j39_groups.specs.Value.{ValueRecord}
-use Rattle.j39_io.proofs.PutsLemmas.{puts_as, puts_first, puts_then}
+use Rattle.j39_reports.proofs.Common.{List, ℕ, ◌≡◌, ◌∙◌, ◌++◌, Option, ap, append_assoc, codes, refl, option_map, value_of, ValueRecord, puts_as, puts_first, puts_then}
 use Rattle.j39_reports.specs.EntryObject.{unit_in, value_json, value_members}
 use Rattle.j39_reports.specs.Json.{string_or_null}
 use Rattle.j39_reports.proofs.report_objects.objects.put_value_members.Goals as goal

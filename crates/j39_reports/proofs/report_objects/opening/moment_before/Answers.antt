@@ -1,11 +1,6 @@
 -- The parts, one before the other.
-use Rattle.std.proofs.Common.{List, ℕ, ◌≡◌, ◌++◌, append_assoc, codes, refl, subst}
-use Rattle.j39_frame.specs.Stamp.{stamp_micros}
-use Rattle.j39_groups.specs.ValueText.{magnitude_text}
-use Rattle.j39_io.proofs.BackwardsLemmas.{before_then}
-use Rattle.j39_io.specs.Backwards.{WritesBefore}
+use Rattle.j39_reports.proofs.Common.{List, ℕ, ◌≡◌, ◌++◌, append_assoc, codes, refl, subst, stamp_micros, magnitude_text, before_then, WritesBefore, utc_text}
 use Rattle.j39_reports.specs.EntryObject.{moment_members}
-use Rattle.j39_rows.specs.Utc.{utc_text}
 use Rattle.j39_reports.proofs.report_objects.opening.moment_before.Goals as goal
 
 regroup : (a b mark seconds utc : List ℕ) → a ++ (seconds ++ ((b ++ mark) ++ (utc ++ mark))) ≡ a ++ seconds ++ b ++ (mark ++ utc ++ mark)

@@ -1,10 +1,5 @@
 -- The parts, one before the other.
-use Rattle.j39_listen.specs.Members.{address_string, name_string, or_null}
-use Rattle.std.proofs.Common.{List, ℕ, ◌≡◌, ◌++◌, append_assoc, codes, refl, subst}
-use Rattle.std.specs.Option.{option_map}
-use Rattle.j39_address.specs.Name.{name_raw}
-use Rattle.j39_io.proofs.BackwardsLemmas.{before_then}
-use Rattle.j39_io.specs.Backwards.{WritesBefore}
+use Rattle.j39_reports.proofs.Common.{address_string, name_string, or_null, List, ℕ, ◌≡◌, ◌++◌, append_assoc, codes, refl, subst, option_map, name_raw, before_then, WritesBefore}
 use Rattle.j39_reports.specs.EntryObject.{sender_members}
 use Rattle.j39_reports.proofs.report_objects.opening.sender_before.Goals as goal
 

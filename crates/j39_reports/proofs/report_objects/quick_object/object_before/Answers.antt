@@ -1,7 +1,5 @@
 -- The parts, one before the other.
-use Rattle.std.proofs.Common.{List, ℕ, Option, Bool, true, ◌≡◌, ◌++◌, ap, drop, if◌then◌else◌, subst, sym}
-use Rattle.j39_io.proofs.BackwardsLemmas.{before_then}
-use Rattle.j39_io.specs.Backwards.{WritesBefore}
+use Rattle.j39_reports.proofs.Common.{List, ℕ, Option, Bool, true, ◌≡◌, ◌++◌, ap, drop, if◌then◌else◌, subst, sym, before_then, WritesBefore}
 use Rattle.j39_reports.specs.EntryObject.{group_member}
 use Rattle.j39_reports.specs.MessageObjects.{opened}
 use Rattle.j39_reports.specs.declared.report_objects.opening.Opening.{Opening}

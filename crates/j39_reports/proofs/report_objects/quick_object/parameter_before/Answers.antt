@@ -1,8 +1,5 @@
 -- The parts, one before the other.
-use Rattle.std.proofs.Common.{List, ℕ, ◌≡◌, ◌++◌, append_assoc, codes, decimal, refl, subst}
-use Rattle.std.specs.Option.{option_map}
-use Rattle.j39_io.proofs.BackwardsLemmas.{before_then}
-use Rattle.j39_io.specs.Backwards.{WritesBefore}
+use Rattle.j39_reports.proofs.Common.{List, ℕ, ◌≡◌, ◌++◌, append_assoc, codes, decimal, refl, subst, option_map, before_then, WritesBefore}
 use Rattle.j39_reports.specs.EntryObject.{parameter_members}
 use Rattle.j39_reports.specs.Json.{string_or_null}
 use Rattle.j39_reports.proofs.report_objects.quick_object.parameter_before.Goals as goal

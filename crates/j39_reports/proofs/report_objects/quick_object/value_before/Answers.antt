@@ -1,9 +1,5 @@
 -- The parts, one before the other.
-use Rattle.std.proofs.Common.{List, ℕ, ◌≡◌, ◌∙◌, ◌++◌, ap, append_assoc, codes, refl, subst}
-use Rattle.std.specs.Option.{option_map}
-use Rattle.j39_groups.specs.Models.{value_of}
-use Rattle.j39_io.proofs.BackwardsLemmas.{before_then}
-use Rattle.j39_io.specs.Backwards.{WritesBefore}
+use Rattle.j39_reports.proofs.Common.{List, ℕ, ◌≡◌, ◌∙◌, ◌++◌, ap, append_assoc, codes, refl, subst, option_map, value_of, before_then, WritesBefore}
 use Rattle.j39_reports.specs.EntryObject.{value_json, value_members}
 use Rattle.j39_reports.specs.Json.{string_or_null}
 use Rattle.j39_reports.proofs.report_objects.quick_object.value_before.Goals as goal

@@ -1,13 +1,6 @@
-use Rattle.std.proofs.Common.{[], refl}
-use Rattle.j39_listen.specs.Chooses.{which_of}
-use Rattle.j39_listen.specs.Filter.{filtered_of}
+use Rattle.j39_reports.proofs.Common.{[], refl, which_of, filtered_of, HasReported, Subject, if_ok, asked_of_log, whole_lines, reported_makes}
 use Rattle.j39_reports.specs.EntryObject.{entry_object}
 use Rattle.j39_reports.specs.ReportObjects.{MakesObjects}
-use Rattle.j39_listen.specs.ReportSoFar.{HasReported, Subject}
-use Rattle.j39_listen.proofs.PieceLemmas.{if_ok}
-use Rattle.j39_listen.proofs.Written.{asked_of_log}
-use Rattle.j39_listen.proofs.KeepingUp.{whole_lines}
-use Rattle.j39_listen.proofs.ReportAccount.{reported_makes}
 use Rattle.j39_reports.proofs.report_objects.run.report_json.Goals as goal
 
 pub returns-clause-ran : goal.returns-clause-ran

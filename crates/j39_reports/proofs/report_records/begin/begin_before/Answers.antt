@@ -1,12 +1,6 @@
 -- The parts, one before the other.
-use Rattle.std.proofs.Common.{ℕ, List, ◌≡◌, ◌++◌, ◌∷◌, [], refl, append_assoc, subst}
+use Rattle.j39_reports.proofs.Common.{ℕ, List, ◌≡◌, ◌++◌, ◌∷◌, [], refl, append_assoc, subst, option_map, name_raw, WritesBefore, before_then, pgn_raw, stamp_micros}
 use Rattle.std.specs.Fmt.{decimal}
-use Rattle.std.specs.Option.{option_map}
-use Rattle.j39_address.specs.Name.{name_raw}
-use Rattle.j39_io.specs.Backwards.{WritesBefore}
-use Rattle.j39_io.proofs.BackwardsLemmas.{before_then}
-use Rattle.j39_frame.specs.Pgn.{pgn_raw}
-use Rattle.j39_frame.specs.Stamp.{stamp_micros}
 use Rattle.j39_reports.specs.Columns.{heard_fields, moment_fields, sender_fields}
 use Rattle.j39_reports.proofs.report_records.begin.begin_before.Goals as goal
 

@@ -1,7 +1,5 @@
 -- The parts, one before the other.
-use Rattle.std.proofs.Common.{List, ℕ, ◌≡◌, ◌++◌, ◌∷◌, [], refl, subst, append_assoc}
-use Rattle.j39_io.proofs.BackwardsLemmas.{before_then}
-use Rattle.j39_io.specs.Backwards.{WritesBefore}
+use Rattle.j39_reports.proofs.Common.{List, ℕ, ◌≡◌, ◌++◌, ◌∷◌, [], refl, subst, append_assoc, before_then, WritesBefore}
 use Rattle.j39_reports.proofs.report_records.begin.sender_before.Goals as goal
 
 regroup : (old new : List ℕ) (end start : ℕ) (address destination name : List ℕ)

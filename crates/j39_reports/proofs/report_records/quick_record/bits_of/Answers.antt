@@ -1,5 +1,4 @@
-use Rattle.std.proofs.Common.{eqb, w8, arith}
-use Rattle.std.proofs.lemmas.Simd.{bitmask_splat}
+use Rattle.j39_reports.proofs.Common.{eqb, w8, arith, bitmask_splat}
 use Rattle.j39_reports.proofs.report_records.quick_record.bits_of.Goals as goal
 
 pub returns : goal.returns

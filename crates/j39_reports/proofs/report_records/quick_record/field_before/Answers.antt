@@ -1,9 +1,6 @@
 -- A comma before a field that stands as it is.
-use Rattle.std.proofs.Common.{◌≡◌, ◌∷◌, ◌∙◌, ℕ, List, Bool, false, ap, if◌then◌else◌, subst, sym}
-use Rattle.std.specs.List.{list_any}
-use Rattle.j39_io.specs.Backwards.{WritesBefore}
-use Rattle.j39_io.specs.Records.{behind_front, comma, escaped_front, field_text, in_quotes, is_formula, is_special}
-use Rattle.j39_io.proofs.BackwardsLemmas.{before_then}
+use Rattle.j39_reports.proofs.Common.{◌≡◌, ◌∷◌, ◌∙◌, ℕ, List, Bool, false, ap, if◌then◌else◌, subst, sym, list_any, WritesBefore, comma, in_quotes, is_formula, is_special, before_then}
+use Rattle.j39_io.specs.Records.{behind_front, escaped_front, field_text}
 use Rattle.j39_reports.proofs.report_records.quick_record.field_before.Goals as goal
 
 as_it_is : (field : List ℕ) → list_any is_special field ≡ false → is_formula field ≡ false → field_text field ≡ field

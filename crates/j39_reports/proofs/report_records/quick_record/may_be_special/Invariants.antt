@@ -1,6 +1,4 @@
-use Rattle.std.proofs.Common.{◌≡◌, false, length}
-use Rattle.std.specs.List.{list_any}
-use Rattle.j39_io.specs.Records.{is_special}
+use Rattle.j39_reports.proofs.Common.{◌≡◌, false, length, list_any, is_special}
 use Rattle.j39_reports.proofs.report_records.quick_record.may_be_special.Given as goal
 
 -- none so far

@@ -1,11 +1,5 @@
 -- The fields, one before the other.
-use Rattle.std.proofs.Common.{◌≡◌, ◌∙◌, ◌++◌, ◌∷◌, [], ℕ, List, ap, append_assoc, decimal, drop, refl, subst, true}
-use Rattle.j39_io.specs.Backwards.{WritesBefore}
-use Rattle.j39_io.specs.Records.{later_text, line_end}
-use Rattle.j39_io.proofs.BackwardsLemmas.{before_then}
-use Rattle.j39_groups.specs.Models.{value_of}
-use Rattle.j39_groups.specs.Value.{ValueRecord}
-use Rattle.j39_groups.specs.ValueText.{unit_of, value_field}
+use Rattle.j39_reports.proofs.Common.{◌≡◌, ◌∙◌, ◌++◌, ◌∷◌, [], ℕ, List, ap, append_assoc, decimal, drop, refl, subst, true, WritesBefore, later_text, line_end, before_then, value_of, ValueRecord, unit_of, value_field}
 use Rattle.j39_reports.specs.EntryText.{named_fields, value_fields}
 use Rattle.j39_reports.specs.MessageRecords.{begun_fields}
 use Rattle.j39_reports.specs.declared.report_records.begin.Begin.{Begin}

@@ -1,6 +1,5 @@
 -- A sign before the magnitude, or none.
-use Rattle.std.proofs.Common.{arith}
-use Rattle.std.proofs.lemmas.Grind.{common_steps}
+use Rattle.j39_reports.proofs.Common.{arith, common_steps}
 use Rattle.j39_reports.proofs.report_records.quick_record.scaled_before.Goals as goal
 
 pub returns-then-is_negative-clause-written : goal.returns-then-is_negative-clause-written

@@ -1,13 +1,5 @@
 -- The group's name stands in the block, or not.
-use Rattle.std.proofs.Common.{◌≡◌, ◌≤◌, ◌++◌, ℕ, List, Option, Some, None, ap, arith, drop, length, subst}
-use Rattle.std.specs.Prelude.{IfSome, is_some, unwrap_or, if◌then◌else◌}
-use Rattle.std.specs.Option.{option_map}
-use Rattle.j39_address.specs.Name.{name_raw}
-use Rattle.j39_frame.specs.Pgn.{pgn_raw}
-use Rattle.j39_frame.specs.Stamp.{stamp_micros}
-use Rattle.j39_io.specs.Backwards.{WritesBefore}
-use Rattle.j39_io.specs.Records.{later_text}
-use Rattle.j39_io.proofs.BackwardsLemmas.{before_end, before_then}
+use Rattle.j39_reports.proofs.Common.{◌≡◌, ◌≤◌, ◌++◌, ℕ, List, Option, Some, None, ap, arith, drop, length, subst, IfSome, is_some, unwrap_or, if◌then◌else◌, option_map, name_raw, pgn_raw, stamp_micros, WritesBefore, later_text, before_end, before_then}
 use Rattle.j39_reports.specs.EntryText.{begin_text}
 use Rattle.j39_reports.proofs.report_records.records.begin_of.Goals as goal
 

@@ -1,7 +1,5 @@
 -- What stands in the block from its start on, and the group's name behind it.
-use Rattle.std.proofs.Common.{arith}
-use Rattle.std.proofs.lemmas.Slice.{between_to_end}
-use Rattle.j39_io.proofs.PutsLemmas.{puts_as, puts_first, puts_then}
+use Rattle.j39_reports.proofs.Common.{arith, between_to_end, puts_as, puts_first, puts_then}
 use Rattle.j39_reports.proofs.report_records.records.put_begun.Goals as goal
 
 pub returns-then-begin : goal.returns-then-begin

@@ -1,6 +1,5 @@
 -- The field, and the end of the line.
-use Rattle.j39_io.specs.Records.{later_text, line_end}
-use Rattle.j39_io.proofs.PutsLemmas.{puts_first, puts_then}
+use Rattle.j39_reports.proofs.Common.{later_text, line_end, puts_first, puts_then}
 use Rattle.j39_reports.proofs.report_records.records.put_last_field.Goals as goal
 
 pub returns-in_err-put_behind_comma : goal.returns-in_err-put_behind_comma

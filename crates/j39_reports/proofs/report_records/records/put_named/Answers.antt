@@ -1,9 +1,6 @@
 -- The fields one after another.
-use Rattle.std.proofs.Common.{◌∙◌, ◌∷◌, decimal}
-use Rattle.j39_io.specs.Records.{comma, later_text}
-use Rattle.j39_io.proofs.PutsLemmas.{puts_as}
+use Rattle.j39_reports.proofs.Common.{◌∙◌, ◌∷◌, decimal, comma, later_text, puts_as, first_of_three, second_of_three, third_of_three}
 use Rattle.j39_reports.specs.EntryText.{named_fields}
-use Rattle.j39_rows.proofs.PartLemmas.{first_of_three, second_of_three, third_of_three}
 use Rattle.j39_reports.proofs.report_records.records.put_named.Goals as goal
 
 pub returns-in_err-put_begun : goal.returns-in_err-put_begun

@@ -1,8 +1,5 @@
 -- What stands in the block from the start on is the record.
-use Rattle.std.proofs.Common.{◌∙◌, arith}
-use Rattle.std.proofs.lemmas.Slice.{between_to_end}
-use Rattle.j39_io.proofs.BackwardsLemmas.{before_end}
-use Rattle.j39_io.proofs.PutsLemmas.{puts_as}
+use Rattle.j39_reports.proofs.Common.{◌∙◌, arith, between_to_end, before_end, puts_as}
 use Rattle.j39_reports.proofs.report_records.records.put_record.Goals as goal
 
 pub returns-in-Some : goal.returns-in-Some

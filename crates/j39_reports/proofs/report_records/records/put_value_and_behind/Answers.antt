@@ -1,9 +1,5 @@
 -- The value, the unit and the end of the line, one after the other.
-use Rattle.std.proofs.Common.{◌++◌, ◌∷◌, [], ap}
-use Rattle.j39_io.specs.Records.{comma, later_text}
-use Rattle.j39_io.proofs.PutsLemmas.{puts_as, puts_first, puts_more, puts_then}
-use Rattle.j39_groups.specs.Models.{value_of}
-use Rattle.j39_groups.specs.ValueText.{unit_of, value_field}
+use Rattle.j39_reports.proofs.Common.{◌++◌, ◌∷◌, [], ap, comma, later_text, puts_as, puts_first, puts_more, puts_then, value_of, unit_of, value_field}
 use Rattle.j39_reports.specs.Columns.{last_field}
 use Rattle.j39_reports.specs.EntryText.{value_fields}
 use Rattle.j39_reports.proofs.report_records.records.put_value_and_behind.Goals as goal

@@ -1,13 +1,6 @@
-use Rattle.std.proofs.Common.{[], refl}
-use Rattle.j39_listen.specs.Chooses.{which_of}
-use Rattle.j39_listen.specs.Filter.{filtered_of}
+use Rattle.j39_reports.proofs.Common.{[], refl, which_of, filtered_of, HasReported, Subject, if_ok, asked_behind, whole_behind, reported_makes}
 use Rattle.j39_reports.specs.EntryText.{entry_record, header_text}
 use Rattle.j39_reports.specs.ReportRecords.{MakesRecords}
-use Rattle.j39_listen.specs.ReportSoFar.{HasReported, Subject}
-use Rattle.j39_listen.proofs.PieceLemmas.{if_ok}
-use Rattle.j39_listen.proofs.Written.{asked_behind}
-use Rattle.j39_listen.proofs.KeepingUp.{whole_behind}
-use Rattle.j39_listen.proofs.ReportAccount.{reported_makes}
 use Rattle.j39_reports.proofs.report_records.run.report_csv.Goals as goal
 
 pub returns-clause-ran : goal.returns-clause-ran

@@ -1,10 +1,6 @@
 -- The parts, one before the other.
-use Rattle.std.proofs.Common.{◌≡◌, ◌++◌, ◌∷◌, [], ◌/◌, ◌%◌, ◌^◌, ℕ, List, subst, append_assoc, refl}
-use Rattle.j39_io.specs.Backwards.{WritesBefore}
-use Rattle.j39_io.specs.Printing.{last_digits}
-use Rattle.j39_io.proofs.BackwardsLemmas.{before_then}
-use Rattle.j39_frame.specs.Stamp.{stamp_micros}
-use Rattle.j39_rows.specs.Utc.{second_text, utc_text}
+use Rattle.j39_reports.proofs.Common.{◌≡◌, ◌++◌, ◌∷◌, [], ◌/◌, ◌%◌, ◌^◌, ℕ, List, subst, append_assoc, refl, WritesBefore, last_digits, before_then, stamp_micros, second_text}
+use Rattle.j39_rows.specs.Utc.{utc_text}
 use Rattle.j39_reports.proofs.second.Second.utc_before.Goals as goal
 
 regroup : (fraction utc : List ℕ) → utc ++ ((46 ∷ []) ++ (fraction ++ (90 ∷ []))) ≡ utc ++ (46 ∷ []) ++ fraction ++ (90 ∷ [])

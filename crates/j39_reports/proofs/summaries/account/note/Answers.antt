@@ -1,12 +1,5 @@
 -- A message is heard at the frame or none.
-use Rattle.std.proofs.Common.{◌∙◌, ◌++◌, ◌∷◌, [], sym}
-use Rattle.j39_listen.specs.Filter.{first_stamp, messages_taken}
-use Rattle.std.specs.List.{flat_map}
-use Rattle.j39_groups.specs.Readings.{is_reported_in}
-use Rattle.j39_listen.specs.Report.{entries_of}
-use Rattle.j39_listen.specs.HeardModel.{hearing_of}
-use Rattle.j39_listen.proofs.ListenerLemmas.{on_ok}
-use Rattle.j39_listen.proofs.Reported.{reported_free, reported_leaves}
+use Rattle.j39_reports.proofs.Common.{◌∙◌, ◌++◌, ◌∷◌, [], sym, first_stamp, messages_taken, flat_map, is_reported_in, entries_of, hearing_of, on_ok, reported_free, reported_leaves}
 use Rattle.j39_reports.specs.Summary.{absences_of}
 use Rattle.j39_reports.proofs.SummaryAccountLemmas.{asks_heard, notes_heard, notes_left, notes_silent}
 use Rattle.j39_reports.proofs.summaries.account.note.Goals as goal

@@ -1,6 +1,4 @@
-use Rattle.std.proofs.Common.{refl}
-use Rattle.j39_listen.specs.Chooses.{which_of}
-use Rattle.j39_listen.specs.Output.{nothing}
+use Rattle.j39_reports.proofs.Common.{refl, which_of, nothing}
 use Rattle.j39_reports.proofs.summaries.account.summary.Goals as goal
 
 pub returns-in-Line-clause-ran : goal.returns-in-Line-clause-ran

@@ -1,9 +1,5 @@
-use Rattle.std.proofs.Common.{ap, sym, ◌∙◌, refl}
-use Rattle.j39_listen.specs.Filter.{first_stamp, messages_taken}
-use Rattle.j39_listen.specs.Heard.{Hearing}
-use Rattle.std.proofs.Common.{List}
+use Rattle.j39_reports.proofs.Common.{ap, sym, ◌∙◌, refl, first_stamp, messages_taken, Hearing, List, Line}
 use Rattle.j39_reports.specs.SummaryRun.{output_of}
-use Rattle.j39_listen.specs.declared.format.Format.TheVariants.{Line}
 use Rattle.j39_reports.proofs.summaries.laws.one_summary.Goals as goal
 
 pub returns-clause-at_most : goal.returns-clause-at_most

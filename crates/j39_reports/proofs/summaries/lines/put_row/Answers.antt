@@ -1,11 +1,7 @@
 -- The row of the origin.
-use Rattle.std.proofs.Common.{◌∙◌, List, ap, ap₂, codes}
-use Rattle.j39_groups.specs.Names.{name_in, state_in}
-use Rattle.j39_io.proofs.PutsLemmas.{puts_as}
+use Rattle.j39_reports.proofs.Common.{◌∙◌, List, ap, ap₂, codes, name_in, state_in, puts_as, cell_of, ColumnRecord, HeadRecord, address_word, or_nothing, row_text, text}
 use Rattle.j39_reports.specs.RowModels.{row_shown}
 use Rattle.j39_reports.specs.RowText.{row_columns_with}
-use Rattle.j39_rows.specs.Models.{cell_of}
-use Rattle.j39_rows.specs.Row.{ColumnRecord, HeadRecord, address_word, or_nothing, row_text, text}
 use Rattle.j39_reports.proofs.summaries.lines.put_row.Goals as goal
 
 pub returns : goal.returns

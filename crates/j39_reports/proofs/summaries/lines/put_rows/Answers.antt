@@ -1,9 +1,7 @@
 -- A row more; after a fault a front of the rows that are left was written.
-use Rattle.std.proofs.Common.{ℕ, ap, arith}
-use Rattle.j39_io.proofs.PutsLemmas.{puts_as}
+use Rattle.j39_reports.proofs.Common.{ℕ, ap, arith, puts_as, pairs_of}
 use Rattle.j39_reports.specs.RowModels.{row_shown}
 use Rattle.j39_reports.specs.RowText.{row_in}
-use Rattle.j39_memory.specs.ByOrigin.{pairs_of}
 use Rattle.j39_reports.specs.RowsSoFar.{counted}
 use Rattle.j39_reports.proofs.SummaryLineLemmas.{row_more, row_stops}
 use Rattle.j39_reports.proofs.summaries.lines.put_rows.Goals as goal

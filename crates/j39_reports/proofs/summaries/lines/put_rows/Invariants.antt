@@ -1,7 +1,4 @@
-use Rattle.std.proofs.Common.{map, take, Ok}
-use Rattle.j39_io.specs.Puts.{Puts}
-use Rattle.j39_io.specs.Turn.{turn}
-use Rattle.j39_memory.specs.ByOrigin.{pairs_of}
+use Rattle.j39_reports.proofs.Common.{map, take, Ok, Puts, turn, pairs_of}
 use Rattle.j39_reports.specs.RowText.{summary_text}
 use Rattle.j39_reports.specs.RowModels.{row_shown}
 use Rattle.j39_reports.specs.RowsSoFar.{counted}

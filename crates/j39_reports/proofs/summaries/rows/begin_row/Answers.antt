@@ -1,7 +1,5 @@
 -- The origin that is handed on is the same.
-use Rattle.std.proofs.Common.{◌∙◌, ap}
-use Rattle.j39_memory.specs.ByOrigin.{pairs_of}
-use Rattle.j39_frame.specs.Origin.{place_in}
+use Rattle.j39_reports.proofs.Common.{◌∙◌, ap, pairs_of, place_in}
 use Rattle.j39_reports.proofs.summaries.rows.begin_row.Goals as goal
 
 pub add-requires : goal.add-requires

@@ -1,11 +1,5 @@
 -- The row of the origin grows, or a row begins.
-use Rattle.std.proofs.Common.{◌<◌, ◌∙◌, inl, inr, length, rules, sym}
-use Rattle.j39_memory.specs.ByOrigin.{pairs_of}
-use Rattle.j39_frame.proofs.PlaceLemmas.{stands_within}
-use Rattle.j39_io.proofs.DeviceLemmas.{on_err, on_err_from}
-use Rattle.j39_frame.specs.Stamp.{stamp_micros}
-use Rattle.j39_groups.proofs.ReadLemmas.{on_ok_from}
-use Rattle.j39_groups.specs.Models.{value_of}
+use Rattle.j39_reports.proofs.Common.{◌<◌, ◌∙◌, inl, inr, length, rules, sym, pairs_of, stands_within, on_err, on_err_from, stamp_micros, on_ok_from, value_of}
 use Rattle.j39_reports.proofs.HeldLemmas.{grows, is_new}
 use Rattle.j39_reports.proofs.summaries.rows.take.Goals as goal
 

@@ -1,6 +1,5 @@
 -- One interface after the other.
-use Rattle.std.proofs.Common.{◌≡◌, ◌||◌, ◌∙◌, ap, ap₂, sym, Bool, get_or, add-one}
-use Rattle.std.specs.Str.{bytes_eq}
+use Rattle.j39_reports.proofs.Common.{◌≡◌, ◌||◌, ◌∙◌, ap, ap₂, sym, Bool, get_or, add-one, bytes_eq}
 use Rattle.j39_reports.specs.Interfaces.{InterfaceRecord}
 use Rattle.j39_reports.specs.SurveyModels.{interface_record}
 use Rattle.j39_reports.specs.SurveySoFar.{met_on}

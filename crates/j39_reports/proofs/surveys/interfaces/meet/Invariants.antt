@@ -1,6 +1,4 @@
-use Rattle.std.proofs.Common.{◌≡◌, ◌++◌, take, drop, map}
-use Rattle.std.specs.List.{list_any}
-use Rattle.std.specs.Str.{bytes_eq}
+use Rattle.j39_reports.proofs.Common.{◌≡◌, ◌++◌, take, drop, map, list_any, bytes_eq}
 use Rattle.j39_reports.specs.SurveyModels.{interface_record}
 use Rattle.j39_reports.specs.SurveySoFar.{met_on}
 use Rattle.j39_reports.proofs.surveys.interfaces.meet.Given as goal

@@ -1,7 +1,5 @@
 -- The bytes that were taken, at the end and at each fault.
-use Rattle.std.proofs.Common.{ℕ, List, Option, [], ◌++◌, ◌∙◌, ◌≡◌, ◌+◌, ◌-◌, subst, ap, append-nil, take, arith, length, length-append, length-take, refl}
-use Rattle.std.specs.Io.KnownBytes.{Consumes}
-use Rattle.std.proofs.KnownBytes.{Consumes-all, Consumes-nil, Consumes-trans}
+use Rattle.j39_reports.proofs.Common.{ℕ, List, Option, [], ◌++◌, ◌∙◌, ◌≡◌, ◌+◌, ◌-◌, subst, ap, append-nil, take, arith, length, length-append, length-take, refl, Consumes, Consumes-all, Consumes-nil, Consumes-trans}
 use Rattle.j39_reports.proofs.surveys.running.read_log.Goals as goal
 
 -- the read at the end gives nothing, so all that was taken was taken before it

@@ -1,5 +1,4 @@
-use Rattle.std.proofs.Common.{◌≡◌, ◌+◌, ℕ, List, Option, [], length}
-use Rattle.std.specs.Io.KnownBytes.{Consumes}
+use Rattle.j39_reports.proofs.Common.{◌≡◌, ◌+◌, ℕ, List, Option, [], length, Consumes}
 use Rattle.j39_reports.specs.SurveySoFar.{HasTaken}
 use Rattle.j39_reports.proofs.surveys.running.read_log.Given as goal
 

@@ -1,11 +1,5 @@
 -- What was written is a front of the survey of what was read, which at a fault of the writer is the whole log.
-use Rattle.std.proofs.Common.{◌≡◌, ◌∙◌, ℕ, List, Option, ap, subst, sym}
-use Rattle.j39_io.specs.Device.{AppendsFront}
-use Rattle.std.specs.Io.KnownBytes.{Appends}
-use Rattle.std.proofs.lemmas.Option.{IfSome_then}
-use Rattle.j39_groups.specs.Row.{RowRecord}
-use Rattle.j39_log.specs.Log.{frames_of}
-use Rattle.j39_listen.specs.Heard.{Hearing}
+use Rattle.j39_reports.proofs.Common.{◌≡◌, ◌∙◌, ℕ, List, Option, ap, subst, sym, AppendsFront, Appends, IfSome_then, RowRecord, frames_of, Hearing}
 use Rattle.j39_reports.specs.GroupCounts.{ArePutTogether}
 use Rattle.j39_reports.specs.LogLines.{AreLogLines, LogLine, spelled_in}
 use Rattle.j39_reports.specs.SurveyRun.{Asked, WritesFront, WritesSurvey}

@@ -1,5 +1,4 @@
-use Rattle.std.proofs.Common.{◌≡◌, ◌≤◌, ◌+◌, ◌*◌, ◌++◌, take}
-use Rattle.std.specs.List.{flat_map}
+use Rattle.j39_reports.proofs.Common.{◌≡◌, ◌≤◌, ◌+◌, ◌*◌, ◌++◌, take, flat_map}
 use Rattle.arrayvec.specs.ArrayVec.{array_vec_len}
 use Rattle.j39_reports.specs.SurveyText.{byte_text}
 use Rattle.j39_reports.proofs.surveys.survey_text.push_shown.Given as goal

@@ -1,8 +1,5 @@
 -- What is heard at the frame: a message in packets, or nothing.
-use Rattle.std.proofs.Common.{Some, None, refl, false}
-use Rattle.std.specs.Prelude.{ℕ}
-use Rattle.j39_listen.specs.HeardModel.{hearing_of}
-use Rattle.j39_listen.proofs.ListenerLemmas.{on_ok}
+use Rattle.j39_reports.proofs.Common.{Some, None, refl, false, ℕ, hearing_of, on_ok}
 use Rattle.j39_reports.proofs.surveys.traffic.whole_at.Goals as goal
 
 pub feed_as-requires : goal.feed_as-requires

@@ -1,6 +1,5 @@
 -- One group after the other.
-use Rattle.std.proofs.Common.{◌≡◌, ◌∙◌, ◌+◌, ap, refl, arith}
-use Rattle.j39_io.proofs.PutsLemmas.{puts_as, puts_done}
+use Rattle.j39_reports.proofs.Common.{◌≡◌, ◌∙◌, ◌+◌, ap, refl, arith, puts_as, puts_done}
 use Rattle.j39_reports.specs.SurveyText.{groups_from}
 use Rattle.j39_reports.proofs.SurveyWritingLemmas.{groups_more, groups_none, groups_one, groups_stop}
 use Rattle.j39_reports.proofs.surveys.writing.put_each.Goals as goal

@@ -1,6 +1,4 @@
-use Rattle.std.proofs.Common.{◌≡◌, ℕ, Ok}
-use Rattle.j39_io.specs.Puts.{Puts}
-use Rattle.j39_io.specs.Turn.{turn}
+use Rattle.j39_reports.proofs.Common.{◌≡◌, ℕ, Ok, Puts, turn}
 use Rattle.j39_reports.specs.GroupCounts.{Came}
 use Rattle.j39_reports.specs.SurveyModels.{HaveCounted}
 use Rattle.j39_reports.specs.SurveyText.{groups_from}

@@ -1,9 +1,7 @@
 -- The numbers of lines, the first unread ones and what is said of them, one behind the other.
-use Rattle.std.proofs.Common.{◌∙◌}
-use Rattle.j39_io.proofs.PutsLemmas.{puts_as}
+use Rattle.j39_reports.proofs.Common.{◌∙◌, puts_as, first_of_three, second_of_three, third_of_three}
 use Rattle.j39_reports.specs.SurveyModels.{shown_record}
 use Rattle.j39_reports.specs.SurveyText.{shown_text, survey_end}
-use Rattle.j39_rows.proofs.PartLemmas.{first_of_three, second_of_three, third_of_three}
 use Rattle.j39_reports.proofs.SurveyWritingLemmas.{each_line}
 use Rattle.j39_reports.proofs.surveys.writing.put_end.Goals as goal
 

@@ -1,7 +1,5 @@
 -- A group that came has its line.
-use Rattle.std.proofs.Common.{sym}
-use Rattle.std.proofs.lemmas.Bool.{eq-eqb, ne_eqb}
-use Rattle.j39_io.proofs.PutsLemmas.{puts_nothing}
+use Rattle.j39_reports.proofs.Common.{sym, eq-eqb, ne_eqb, puts_nothing}
 use Rattle.j39_reports.specs.GroupCounts.{group_of}
 use Rattle.j39_reports.specs.SurveyText.{group_text}
 use Rattle.j39_reports.proofs.surveys.writing.put_group.Goals as goal

@@ -1,6 +1,5 @@
 -- The groups of one page and PF after the other.
-use Rattle.std.proofs.Common.{◌∙◌, ◌*◌, refl, arith}
-use Rattle.j39_io.proofs.PutsLemmas.{puts_done}
+use Rattle.j39_reports.proofs.Common.{◌∙◌, ◌*◌, refl, arith, puts_done}
 use Rattle.j39_reports.specs.GroupCounts.{came_in}
 use Rattle.j39_reports.proofs.SurveyWritingLemmas.{groups_all, groups_more, groups_none, groups_stop}
 use Rattle.j39_reports.proofs.surveys.writing.put_groups.Goals as goal

@@ -1,8 +1,4 @@
-use Rattle.std.proofs.Common.{◌≡◌, ◌*◌, List, Ok}
-use Rattle.j39_io.specs.Puts.{Puts}
-use Rattle.j39_io.specs.Turn.{turn}
-use Rattle.j39_frame.specs.Frame.{FrameRecord}
-use Rattle.j39_listen.specs.Heard.{Hearing}
+use Rattle.j39_reports.proofs.Common.{◌≡◌, ◌*◌, List, Ok, Puts, turn, FrameRecord, Hearing}
 use Rattle.j39_reports.specs.GroupCounts.{came_in}
 use Rattle.j39_reports.specs.SurveyModels.{HaveCounted}
 use Rattle.j39_reports.specs.SurveyText.{groups_from}

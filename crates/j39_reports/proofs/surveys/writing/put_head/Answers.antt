@@ -1,9 +1,7 @@
 -- The number of lines, the interfaces and the frames of none of them, one behind the other.
-use Rattle.std.proofs.Common.{◌∙◌}
-use Rattle.j39_io.proofs.PutsLemmas.{puts_as}
+use Rattle.j39_reports.proofs.Common.{◌∙◌, puts_as, first_of_three, second_of_three, third_of_three}
 use Rattle.j39_reports.specs.SurveyModels.{interface_record}
 use Rattle.j39_reports.specs.SurveyText.{interface_text, survey_head}
-use Rattle.j39_rows.proofs.PartLemmas.{first_of_three, second_of_three, third_of_three}
 use Rattle.j39_reports.proofs.SurveyWritingLemmas.{each_line}
 use Rattle.j39_reports.proofs.surveys.writing.put_head.Goals as goal
 

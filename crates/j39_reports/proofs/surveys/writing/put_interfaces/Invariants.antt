@@ -1,7 +1,4 @@
-use Rattle.std.proofs.Common.{take, Ok}
-use Rattle.std.specs.List.{flat_map}
-use Rattle.j39_io.specs.Puts.{Puts}
-use Rattle.j39_io.specs.Turn.{turn}
+use Rattle.j39_reports.proofs.Common.{take, Ok, flat_map, Puts, turn}
 use Rattle.j39_reports.specs.SurveyModels.{interface_record}
 use Rattle.j39_reports.specs.SurveyText.{interface_text}
 use Rattle.j39_reports.proofs.surveys.writing.put_interfaces.Given as goal

@@ -1,7 +1,5 @@
 -- The parts joined are the line of the group.
-use Rattle.std.proofs.Common.{◌∙◌, ap, sym}
-use Rattle.j39_io.proofs.PutsLemmas.{puts_as}
-use Rattle.j39_frame.specs.Pgn.{pgn_raw}
+use Rattle.j39_reports.proofs.Common.{◌∙◌, ap, sym, puts_as, pgn_raw}
 use Rattle.j39_reports.specs.GroupCounts.{group_of}
 use Rattle.j39_reports.specs.SurveyText.{counts_text, spread_text}
 use Rattle.j39_reports.proofs.SurveyWritingLemmas.{group_joined}

@@ -1,9 +1,7 @@
 -- The head, the groups and the end, one behind the other, and a fault in each.
-use Rattle.j39_io.proofs.PutsLemmas.{puts_as, puts_failed}
-use Rattle.j39_log.specs.Log.{frames_of}
+use Rattle.j39_reports.proofs.Common.{puts_as, puts_failed, frames_of, first_of_three, second_of_three, third_of_three}
 use Rattle.j39_reports.specs.LogLines.{spelled_in}
 use Rattle.j39_reports.specs.SurveyText.{survey_text}
-use Rattle.j39_rows.proofs.PartLemmas.{first_of_three, second_of_three, third_of_three}
 use Rattle.j39_reports.proofs.SurveyWritingLemmas.{end_is, head_is, puts_passed}
 use Rattle.j39_reports.proofs.surveys.writing.put_survey.Goals as goal
 

@@ -1,7 +1,4 @@
-use Rattle.std.proofs.Common.{take, Ok}
-use Rattle.std.specs.List.{flat_map}
-use Rattle.j39_io.specs.Puts.{Puts}
-use Rattle.j39_io.specs.Turn.{turn}
+use Rattle.j39_reports.proofs.Common.{take, Ok, flat_map, Puts, turn}
 use Rattle.j39_reports.specs.SurveyModels.{shown_record}
 use Rattle.j39_reports.specs.SurveyText.{shown_text}
 use Rattle.j39_reports.proofs.surveys.writing.put_unread.Given as goal

@@ -1,6 +1,5 @@
 -- The run of the account, from no frames on.
-use Rattle.std.proofs.Common.{refl}
-use Rattle.j39_listen.specs.Output.{nothing}
+use Rattle.j39_reports.proofs.Common.{refl, nothing}
 use Rattle.j39_reports.specs.NotesSoFar.{size_of}
 use Rattle.j39_reports.proofs.watching.account.watch.Goals as goal
 

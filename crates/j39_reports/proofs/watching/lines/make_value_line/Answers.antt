@@ -1,7 +1,6 @@
 -- Column by column.
-use Rattle.std.proofs.Common.{◌++◌, ◌∙◌, ap, codes, refl, unwrap_or}
+use Rattle.j39_reports.proofs.Common.{◌++◌, ◌∙◌, ap, codes, refl, unwrap_or, state_in}
 use Rattle.std.specs.Fmt.{decimal}
-use Rattle.j39_groups.specs.Names.{state_in}
 use Rattle.j39_reports.proofs.CutLemmas.{cut_none, cut_step}
 use Rattle.j39_reports.specs.Watch.{column, value_line}
 use Rattle.j39_reports.specs.Watch.{state_behind}

@@ -1,7 +1,5 @@
 -- The seconds, a point, the tenth and the unit, the last first.
-use Rattle.std.proofs.Common.{◌≡◌, ◌++◌, ◌/◌, ◌%◌, ◌∙◌, ◌-◌, ℕ, List, ap, append_assoc, codes, decimal, refl, take}
-use Rattle.j39_io.proofs.BackwardsLemmas.{before_then}
-use Rattle.j39_frame.specs.Stamp.{stamp_micros}
+use Rattle.j39_reports.proofs.Common.{◌≡◌, ◌++◌, ◌/◌, ◌%◌, ◌∙◌, ◌-◌, ℕ, List, ap, append_assoc, codes, decimal, refl, take, before_then, stamp_micros}
 use Rattle.j39_reports.specs.Watch.{age_text, column, tenths}
 use Rattle.j39_reports.proofs.watching.lines.push_age.Goals as goal
 

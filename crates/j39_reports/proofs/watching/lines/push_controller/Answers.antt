@@ -1,7 +1,5 @@
 -- The addresses, and then the NAME.
-use Rattle.std.proofs.Common.{◌++◌, ◌∷◌, ◌∙◌, [], ap, append_assoc, refl, take}
-use Rattle.hex.specs.Hex.{encode_upper}
-use Rattle.j39_listen.specs.Report.{name_text}
+use Rattle.j39_reports.proofs.Common.{◌++◌, ◌∷◌, ◌∙◌, [], ap, append_assoc, refl, take, encode_upper, name_text}
 use Rattle.j39_reports.proofs.CutLemmas.{cut_step}
 use Rattle.j39_reports.specs.Watch.{destination_text}
 use Rattle.j39_reports.specs.Watch.{column, controller_columns}

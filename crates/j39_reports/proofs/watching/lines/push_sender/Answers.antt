@@ -1,8 +1,5 @@
 -- The address, the spaces and the NAME, the last first.
-use Rattle.std.proofs.Common.{◌≡◌, ◌++◌, ◌∷◌, ◌∙◌, [], ℕ, List, ap, arith, length, take}
-use Rattle.hex.specs.Hex.{encode_upper}
-use Rattle.j39_io.proofs.BackwardsLemmas.{before_then}
-use Rattle.j39_listen.specs.Report.{name_text}
+use Rattle.j39_reports.proofs.Common.{◌≡◌, ◌++◌, ◌∷◌, ◌∙◌, [], ℕ, List, ap, arith, length, take, encode_upper, before_then, name_text}
 use Rattle.j39_reports.proofs.CutLemmas.{sender_columns}
 use Rattle.j39_reports.specs.Watch.{controller_columns}
 use Rattle.j39_reports.proofs.watching.lines.push_sender.Goals as goal

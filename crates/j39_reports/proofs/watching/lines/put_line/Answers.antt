@@ -1,6 +1,5 @@
 -- The line, and its end.
-use Rattle.std.proofs.Common.{◌++◌, ap}
-use Rattle.j39_io.proofs.PutsLemmas.{puts_as, puts_first}
+use Rattle.j39_reports.proofs.Common.{◌++◌, ap, puts_as, puts_first}
 use Rattle.j39_reports.specs.Watch.{line_end}
 use Rattle.j39_reports.proofs.watching.lines.put_line.Goals as goal
 

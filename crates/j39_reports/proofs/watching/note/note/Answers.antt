@@ -1,8 +1,5 @@
 -- A frame of a group that is heard, or of another.
-use Rattle.std.proofs.Common.{◌≡◌, ◌||◌, ◌∙◌, ap, false, sym}
-use Rattle.j39_frame.specs.Frame.{FrameRecord}
-use Rattle.j39_frame.specs.Identifier.{pgn_of}
-use Rattle.j39_groups.specs.Readings.{is_network_group, is_reported_in}
+use Rattle.j39_reports.proofs.Common.{◌≡◌, ◌||◌, ◌∙◌, ap, false, sym, FrameRecord, pgn_of, is_network_group, is_reported_in}
 use Rattle.j39_reports.proofs.NoteLemmas.{notes_other}
 use Rattle.j39_reports.specs.News.{is_fault_group}
 use Rattle.j39_reports.proofs.watching.note.note.Goals as goal

@@ -1,12 +1,5 @@
 -- A message is heard at the frame, or none; it counts as one of values, of faults, or of both.
-use Rattle.std.proofs.Common.{◌||◌, ◌∙◌, ◌++◌, ◌∷◌, [], None, Some, inl, inr, length, refl, subst, sym}
-use Rattle.std.specs.List.{flat_map}
-use Rattle.j39_frame.specs.Identifier.{pgn_of}
-use Rattle.j39_io.proofs.DeviceLemmas.{on_err_from}
-use Rattle.j39_listen.specs.Heard.{HeardAt, HeardAtWith}
-use Rattle.j39_listen.specs.HeardModel.{hearing_of}
-use Rattle.j39_listen.specs.Report.{entries_of}
-use Rattle.j39_listen.proofs.ListenerLemmas.{on_ok}
+use Rattle.j39_reports.proofs.Common.{◌||◌, ◌∙◌, ◌++◌, ◌∷◌, [], None, Some, inl, inr, length, refl, subst, sym, flat_map, pgn_of, on_err_from, HeardAt, HeardAtWith, hearing_of, entries_of, on_ok}
 use Rattle.j39_reports.proofs.CurrentLemmas.{first_here}
 use Rattle.j39_reports.proofs.NoteLemmas.{both_ok, counted, counted_none, neither_network, notes_heard, notes_silent, of_faults, of_values}
 use Rattle.j39_reports.specs.FaultsNow.{active_among}

@@ -1,8 +1,5 @@
 -- An address more; after a fault a front of what is left was written.
-use Rattle.std.proofs.Common.{◌≡◌, ◌-◌, ◌∙◌, ℕ, List, Option, None, ap, arith, length, sym}
-use Rattle.std.specs.List.{flat_map}
-use Rattle.j39_io.proofs.PutsLemmas.{puts_as, puts_nothing}
-use Rattle.j39_listen.specs.Listening.{holder_of}
+use Rattle.j39_reports.proofs.Common.{◌≡◌, ◌-◌, ◌∙◌, ℕ, List, Option, None, ap, arith, length, sym, flat_map, puts_as, puts_nothing, holder_of}
 use Rattle.j39_reports.proofs.ScreenLemmas.{limited_none, lines_of_place, none_below, place_left, stops_at_place}
 use Rattle.j39_reports.specs.CurrentPlaces.{LastRecord, at}
 use Rattle.j39_reports.specs.CurrentSoFar.{nows_shown}

@@ -1,7 +1,4 @@
-use Rattle.std.proofs.Common.{◌≡◌, ◌-◌, Ok, length}
-use Rattle.j39_io.specs.Puts.{Puts}
-use Rattle.j39_io.specs.Turn.{turn}
-use Rattle.j39_listen.specs.Listening.{holder_of}
+use Rattle.j39_reports.proofs.Common.{◌≡◌, ◌-◌, Ok, length, Puts, turn, holder_of}
 use Rattle.j39_reports.specs.WatchSoFar.{faults_of_places, limited}
 use Rattle.j39_reports.proofs.watching.screen.put_faults.Given as goal
 

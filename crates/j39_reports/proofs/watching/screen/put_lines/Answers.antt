@@ -1,10 +1,5 @@
 -- The moment, the faults, the values.
-use Rattle.std.proofs.Common.{◌∷◌, ◌++◌, []}
-use Rattle.std.specs.List.{flat_map}
-use Rattle.j39_frame.specs.Stamp.{stamp_micros}
-use Rattle.j39_listen.specs.Listening.{holder_of}
-use Rattle.j39_log.specs.StampText.{stamp_text}
-use Rattle.j39_memory.specs.ByOrigin.{pairs_of}
+use Rattle.j39_reports.proofs.Common.{◌∷◌, ◌++◌, [], flat_map, stamp_micros, holder_of, stamp_text, pairs_of}
 use Rattle.j39_reports.proofs.ScreenLemmas.{left_then, limited_first, limited_then, ok_from}
 use Rattle.j39_reports.specs.WatchSoFar.{faults_of_places, value_lines}
 use Rattle.j39_reports.proofs.watching.screen.put_lines.Goals as goal

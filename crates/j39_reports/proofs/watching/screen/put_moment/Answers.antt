@@ -1,8 +1,5 @@
 -- The line of the moment.
-use Rattle.std.proofs.Common.{◌≡◌, ◌<◌, ◌∙◌, ap, arith, take}
-use Rattle.j39_frame.specs.Stamp.{stamp_micros}
-use Rattle.j39_io.proofs.PutsLemmas.{puts_as, puts_failed}
-use Rattle.j39_log.specs.StampText.{stamp_text}
+use Rattle.j39_reports.proofs.Common.{◌≡◌, ◌<◌, ◌∙◌, ap, arith, take, stamp_micros, puts_as, puts_failed, stamp_text}
 use Rattle.j39_reports.proofs.ScreenLemmas.{limited_one}
 use Rattle.j39_reports.proofs.watching.screen.put_moment.Goals as goal
 

@@ -1,7 +1,5 @@
 -- The line of the code, whose controller is there.
-use Rattle.std.proofs.Common.{◌≡◌, ◌<◌, ◌∷◌, ◌++◌, ◌∙◌, [], List, None, Some, ℕ, true, ap, arith, refl, rules, sym, take}
-use Rattle.j39_io.proofs.PutsLemmas.{puts_as, puts_done, puts_failed}
-use Rattle.j39_listen.specs.Listening.{holder_of}
+use Rattle.j39_reports.proofs.Common.{◌≡◌, ◌<◌, ◌∷◌, ◌++◌, ◌∙◌, [], List, None, Some, ℕ, true, ap, arith, refl, rules, sym, take, puts_as, puts_done, puts_failed, holder_of}
 use Rattle.j39_reports.proofs.ScreenLemmas.{limited_one}
 use Rattle.j39_reports.specs.CurrentPlaces.{standing_record}
 use Rattle.j39_reports.specs.CurrentSoFar.{now_shown}

@@ -1,10 +1,6 @@
 -- A code more; after a fault a front of the lines that are left was written.
-use Rattle.std.proofs.Common.{◌≡◌, ◌-◌, ◌∙◌, List, ℕ, ap, arith, length, map, sym, take}
+use Rattle.j39_reports.proofs.Common.{◌≡◌, ◌-◌, ◌∙◌, List, ℕ, ap, arith, length, map, sym, take, flat_map, flat_map-map, puts_as, puts_done, puts_nothing, holder_of}
 use Rattle.std.proofs.lemmas.List.{take_all}
-use Rattle.std.specs.List.{flat_map}
-use Rattle.std.proofs.lemmas.List.Folds.{flat_map-map}
-use Rattle.j39_io.proofs.PutsLemmas.{puts_as, puts_done, puts_nothing}
-use Rattle.j39_listen.specs.Listening.{holder_of}
 use Rattle.j39_reports.proofs.ScreenLemmas.{each_left, each_more, each_stops, limited_none}
 use Rattle.j39_reports.specs.CurrentPlaces.{LastRecord, StandingRecord, standing_record}
 use Rattle.j39_reports.specs.CurrentSoFar.{now_shown}

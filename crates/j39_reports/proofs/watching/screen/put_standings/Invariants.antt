@@ -1,7 +1,4 @@
-use Rattle.std.proofs.Common.{◌≡◌, ◌-◌, Ok, length}
-use Rattle.j39_io.specs.Puts.{Puts}
-use Rattle.j39_io.specs.Turn.{turn}
-use Rattle.j39_listen.specs.Listening.{holder_of}
+use Rattle.j39_reports.proofs.Common.{◌≡◌, ◌-◌, Ok, length, Puts, turn, holder_of}
 use Rattle.j39_reports.proofs.ScreenLemmas.{lines_below}
 use Rattle.j39_reports.specs.CurrentPlaces.{standing_record}
 use Rattle.j39_reports.specs.CurrentSoFar.{now_shown}

@@ -1,8 +1,5 @@
 -- The line of the value, whose controller is there.
-use Rattle.std.proofs.Common.{◌≡◌, ◌<◌, ◌∷◌, ◌∙◌, [], List, ℕ, true, ap, arith, refl, sym, take}
-use Rattle.j39_frame.specs.Stamp.{stamp_micros}
-use Rattle.j39_io.proofs.PutsLemmas.{puts_as, puts_failed}
-use Rattle.j39_listen.specs.Listening.{holder_of}
+use Rattle.j39_reports.proofs.Common.{◌≡◌, ◌<◌, ◌∷◌, ◌∙◌, [], List, ℕ, true, ap, arith, refl, sym, take, stamp_micros, puts_as, puts_failed, holder_of}
 use Rattle.j39_reports.proofs.ScreenLemmas.{limited_one}
 use Rattle.j39_reports.specs.LatestSoFar.{latest_at, latest_row}
 use Rattle.j39_reports.specs.Watch.{is_there, value_line}

@@ -1,11 +1,5 @@
 -- A row more; after a fault a front of the rows that are left was written.
-use Rattle.std.proofs.Common.{◌≡◌, ◌<◌, ◌∙◌, arith, get_or, length, sym}
-use Rattle.std.proofs.lemmas.Option.{get_or_from_slice_get}
-use Rattle.j39_frame.specs.Stamp.{stamp_micros}
-use Rattle.j39_frame.specs.declared.origin.Origin.{Origin}
-use Rattle.j39_io.proofs.PutsLemmas.{puts_as, puts_nothing}
-use Rattle.j39_listen.specs.Listening.{holder_of}
-use Rattle.j39_memory.specs.ByOrigin.{pairs_of}
+use Rattle.j39_reports.proofs.Common.{◌≡◌, ◌<◌, ◌∙◌, arith, get_or, length, sym, get_or_from_slice_get, stamp_micros, Origin, puts_as, puts_nothing, holder_of, pairs_of}
 use Rattle.j39_reports.proofs.ScreenLemmas.{each_left, each_more, each_stops, limited_none}
 use Rattle.j39_reports.specs.WatchSoFar.{value_lines}
 use Rattle.j39_reports.specs.declared.watching.latest.Latest.{Latest}

@@ -1,9 +1,4 @@
-use Rattle.std.proofs.Common.{◌≡◌, ◌-◌, Ok, length}
-use Rattle.j39_frame.specs.Stamp.{stamp_micros}
-use Rattle.j39_io.specs.Puts.{Puts}
-use Rattle.j39_io.specs.Turn.{turn}
-use Rattle.j39_listen.specs.Listening.{holder_of}
-use Rattle.j39_memory.specs.ByOrigin.{pairs_of}
+use Rattle.j39_reports.proofs.Common.{◌≡◌, ◌-◌, Ok, length, stamp_micros, Puts, turn, holder_of, pairs_of}
 use Rattle.j39_reports.proofs.ScreenLemmas.{lines_below}
 use Rattle.j39_reports.specs.WatchSoFar.{limited, value_lines}
 use Rattle.j39_reports.proofs.watching.screen.put_values.Given as goal

@@ -1,8 +1,5 @@
 -- The row goes last.
-use Rattle.j39_frame.specs.Stamp.{stamp_micros}
-use Rattle.j39_groups.proofs.ReadLemmas.{on_ok_from}
-use Rattle.j39_groups.specs.Models.{value_of}
-use Rattle.j39_memory.specs.ByOrigin.{pairs_of}
+use Rattle.j39_reports.proofs.Common.{stamp_micros, on_ok_from, value_of, pairs_of}
 use Rattle.j39_reports.proofs.ValueLemmas.{begins}
 use Rattle.j39_reports.proofs.watching.values.add.Goals as goal
 

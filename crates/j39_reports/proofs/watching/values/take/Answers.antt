@@ -1,12 +1,5 @@
 -- The value of the origin follows, or a row begins.
-use Rattle.std.proofs.Common.{◌<◌, ◌∙◌, ap, inl, inr, length, rules, sym}
-use Rattle.j39_frame.proofs.PlaceLemmas.{stands_within}
-use Rattle.j39_frame.specs.Origin.{place_in}
-use Rattle.j39_frame.specs.Stamp.{stamp_micros}
-use Rattle.j39_groups.proofs.ReadLemmas.{on_ok_from}
-use Rattle.j39_groups.specs.Models.{value_of}
-use Rattle.j39_io.proofs.DeviceLemmas.{on_err, on_err_from}
-use Rattle.j39_memory.specs.ByOrigin.{pairs_of}
+use Rattle.j39_reports.proofs.Common.{◌<◌, ◌∙◌, ap, inl, inr, length, rules, sym, stands_within, place_in, stamp_micros, on_ok_from, value_of, on_err, on_err_from, pairs_of}
 use Rattle.j39_reports.proofs.ValueLemmas.{follows, is_new}
 use Rattle.j39_reports.proofs.watching.values.take.Goals as goal
 

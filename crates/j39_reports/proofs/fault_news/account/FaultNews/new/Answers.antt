@@ -1,5 +1,4 @@
-use Rattle.std.proofs.Common.{◌∙◌, [], refl}
-use Rattle.j39_listen.proofs.ReportAccount.{same_made}
+use Rattle.j39_reports.proofs.Common.{◌∙◌, [], refl, same_made}
 use Rattle.j39_reports.specs.News.{chosen_of}
 use Rattle.j39_reports.proofs.FaultAccountLemmas.{none_made, same_announced}
 use Rattle.j39_reports.specs.FaultsSoFar.{manner_of}

@@ -1,6 +1,4 @@
-use Rattle.std.proofs.Common.{ap, refl}
-use Rattle.std.specs.Prelude.{Err}
-use Rattle.j39_listen.proofs.PieceLemmas.{same_fault}
+use Rattle.j39_reports.proofs.Common.{ap, refl, Err, same_fault}
 use Rattle.j39_reports.specs.declared.fault_news.account.FaultNews.{FaultNews}
 use Rattle.j39_reports.proofs.FaultAccountLemmas.{news_meets, news_stops}
 use Rattle.j39_reports.proofs.fault_news.account.FaultNewsAccount.feed.Goals as goal

@@ -1,11 +1,5 @@
 -- The object of the reading behind the others.
-use Rattle.std.proofs.Common.{◌∷◌, []}
-use Rattle.std.proofs.lemmas.List.Elements.{filter_map-append}
-use Rattle.j39_io.proofs.DeviceLemmas.{on_err}
-use Rattle.j39_io.proofs.PutsLemmas.{puts_as}
-use Rattle.j39_groups.specs.Models.{value_of}
-use Rattle.j39_groups.specs.Sightings.{told_by, told_in}
-use Rattle.j39_groups.specs.Visits.{visited}
+use Rattle.j39_reports.proofs.Common.{◌∷◌, [], filter_map-append, on_err, puts_as, value_of, told_by, told_in, visited}
 use Rattle.j39_reports.specs.EntryObject.{entry_object}
 use Rattle.j39_reports.proofs.EntryLemmas.{stops_here, takes_this}
 use Rattle.j39_reports.proofs.ObjectLemmas.{object_is}

@@ -1,12 +1,5 @@
 -- All readings were taken, or some.
-use Rattle.std.proofs.Common.{◌∙◌, [], ap, length, refl, sym}
-use Rattle.std.proofs.lemmas.List.{length-map}
-use Rattle.j39_io.proofs.PutsLemmas.{puts_done, puts_failed}
-use Rattle.j39_groups.specs.Readings.{readings_in}
-use Rattle.j39_groups.proofs.SightingLemmas.{told_are}
-use Rattle.j39_listen.specs.Counting.{capped}
-use Rattle.j39_listen.specs.Report.{entry_of}
-use Rattle.j39_listen.specs.HeardModel.{hearing_of}
+use Rattle.j39_reports.proofs.Common.{◌∙◌, [], ap, length, refl, sym, length-map, puts_done, puts_failed, readings_in, told_are, capped, entry_of, hearing_of}
 use Rattle.j39_reports.specs.EntryText.{entry_record}
 use Rattle.j39_reports.specs.MessageEntries.{Begun}
 use Rattle.j39_reports.proofs.EntryLemmas.{none_yet, stops_among}

@@ -1,7 +1,5 @@
 -- The readings are the same.
-use Rattle.std.proofs.Common.{◌∷◌, [], append-nil}
-use Rattle.std.proofs.lemmas.List.Elements.{filter_map-append}
-use Rattle.j39_groups.specs.Sightings.{absent, told_by, told_in}
+use Rattle.j39_reports.proofs.Common.{◌∷◌, [], append-nil, filter_map-append, absent, told_by, told_in}
 use Rattle.j39_reports.proofs.report_records.records.RecordsReadingVisitor.visit_absent.Goals as goal
 
 pub returns-clause-taken : goal.returns-clause-taken

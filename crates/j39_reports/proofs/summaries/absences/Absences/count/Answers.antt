@@ -1,8 +1,5 @@
 -- The count of the origin grows, or begins.
-use Rattle.std.proofs.Common.{◌∙◌, sym}
-use Rattle.j39_memory.specs.ByOrigin.{pairs_of}
-use Rattle.j39_groups.proofs.ReadLemmas.{on_ok_from}
-use Rattle.j39_io.proofs.DeviceLemmas.{on_err}
+use Rattle.j39_reports.proofs.Common.{◌∙◌, sym, pairs_of, on_ok_from, on_err}
 use Rattle.j39_reports.proofs.AbsenceLemmas.{counts_begin, counts_more, is_new_absence, whatever}
 use Rattle.j39_reports.proofs.summaries.absences.Absences.count.Goals as goal
 

@@ -1,6 +1,5 @@
 -- What stands at its place, or nothing.
-use Rattle.std.proofs.Common.{◌∙◌, sym}
-use Rattle.j39_memory.specs.ByOrigin.{pairs_of}
+use Rattle.j39_reports.proofs.Common.{◌∙◌, sym, pairs_of}
 use Rattle.j39_reports.proofs.AbsenceLemmas.{counted_at, counted_nowhere}
 use Rattle.j39_reports.proofs.summaries.absences.Absences.of.Goals as goal
 

@@ -1,5 +1,4 @@
-use Rattle.std.proofs.Common.{arith}
-use Rattle.j39_io.proofs.DeviceLemmas.{on_err}
+use Rattle.j39_reports.proofs.Common.{arith, on_err}
 use Rattle.j39_reports.proofs.SummaryAccountLemmas.{summary_closes, summary_stops}
 use Rattle.j39_reports.proofs.summaries.account.SummaryAccountAccount.close.Goals as goal
 

@@ -1,10 +1,5 @@
 -- A frame of a group that is heard, or of another.
-use Rattle.std.proofs.Common.{◌≡◌, ◌∙◌, ap, false, refl, sym}
-use Rattle.j39_frame.specs.Frame.{FrameRecord}
-use Rattle.j39_frame.specs.Identifier.{pgn_of}
-use Rattle.j39_groups.specs.Readings.{is_network_group, is_reported_in}
-use Rattle.j39_listen.proofs.ListenerLemmas.{hears_single, outside_claims, silent_outside}
-use Rattle.j39_listen.proofs.Reported.{reported_leaves}
+use Rattle.j39_reports.proofs.Common.{◌≡◌, ◌∙◌, ap, false, refl, sym, FrameRecord, pgn_of, is_network_group, is_reported_in, hears_single, outside_claims, silent_outside, reported_leaves}
 use Rattle.j39_reports.specs.declared.summaries.account.SummaryAccount.{SummaryAccount}
 use Rattle.j39_reports.proofs.SummaryAccountLemmas.{notes_silent, summary_asks, summary_meets}
 use Rattle.j39_reports.proofs.summaries.account.SummaryAccountAccount.feed.Goals as goal

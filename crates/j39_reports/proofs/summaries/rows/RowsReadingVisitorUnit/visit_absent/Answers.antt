@@ -1,8 +1,5 @@
 -- It is counted, and the rows stay.
-use Rattle.std.proofs.Common.{◌≡◌, ◌++◌, ◌∙◌, map}
-use Rattle.j39_memory.specs.ByOrigin.{pairs_of}
-use Rattle.j39_groups.proofs.ReadLemmas.{on_ok_from}
-use Rattle.j39_groups.specs.Sightings.{absent_in}
+use Rattle.j39_reports.proofs.Common.{◌≡◌, ◌++◌, ◌∙◌, map, pairs_of, on_ok_from, absent_in}
 use Rattle.j39_reports.specs.Summary.{absence_of}
 use Rattle.j39_reports.proofs.TakenLemmas.{counts_take, rows_keep}
 use Rattle.j39_reports.proofs.summaries.rows.RowsReadingVisitorUnit.visit_absent.Goals as goal

@@ -1,8 +1,5 @@
 -- A number, which most values are.
-use Rattle.std.proofs.Common.{◌≡◌, ap, ◌∙◌, rules, to_z, of_z, w64}
-use Rattle.j39_frame.specs.Stamp.{stamp_micros}
-use Rattle.j39_groups.specs.Models.{scale_record}
-use Rattle.j39_groups.specs.Value.{number}
+use Rattle.j39_reports.proofs.Common.{◌≡◌, ap, ◌∙◌, rules, to_z, of_z, w64, stamp_micros, scale_record, number}
 use Rattle.j39_reports.specs.RowsSoFar.{grown}
 use Rattle.j39_reports.specs.RowModels.{entry_at, row_shown}
 use Rattle.j39_reports.proofs.summaries.statistics.Statistics.grow.Goals as goal

@@ -1,10 +1,5 @@
 -- The row with a number more, field by field.
-use Rattle.std.proofs.Common.{◌≡◌, Some, ap, ◌∙◌, to_z, of_z, w64}
-use Rattle.std.specs.Option.{option_map}
-use Rattle.std.proofs.lemmas.Int.{to_z-of_z}
-use Rattle.j39_frame.specs.Stamp.{stamp_micros}
-use Rattle.j39_groups.specs.Models.{scale_record}
-use Rattle.j39_groups.specs.Value.{number}
+use Rattle.j39_reports.proofs.Common.{◌≡◌, Some, ap, ◌∙◌, to_z, of_z, w64, option_map, to_z-of_z, stamp_micros, scale_record, number}
 use Rattle.j39_reports.specs.RowsSoFar.{widened}
 use Rattle.j39_reports.specs.RowModels.{entry_at, entry_seen, range_of_span}
 use Rattle.j39_reports.proofs.summaries.statistics.Statistics.grow_by_number.Goals as goal

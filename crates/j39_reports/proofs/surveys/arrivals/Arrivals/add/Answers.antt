@@ -1,9 +1,6 @@
 -- Its source and its stamp are one more.
-use Rattle.std.proofs.Common.{◌≡◌, ◌+◌, ◌++◌, ◌∷◌, ◌∙◌, [], ℕ, ap, sym, subst, map, length, arith}
-use Rattle.std.proofs.lemmas.List.{map-append}
-use Rattle.j39_frame.specs.Frame.{FrameRecord}
+use Rattle.j39_reports.proofs.Common.{◌≡◌, ◌+◌, ◌++◌, ◌∷◌, ◌∙◌, [], ℕ, ap, sym, subst, map, length, arith, map-append, FrameRecord, capped}
 use Rattle.j39_frame.specs.Identifier.{source_of}
-use Rattle.j39_listen.specs.Counting.{capped}
 use Rattle.j39_reports.specs.SurveyModels.{HaveMeasured, HaveSent}
 use Rattle.j39_reports.proofs.CountLemmas.{capped_more, length_more}
 use Rattle.j39_reports.proofs.surveys.arrivals.Arrivals.add.Goals as goal

@@ -1,9 +1,5 @@
 -- The group of the frame has one more.
-use Rattle.std.proofs.Common.{◌≡◌, ◌∙◌, ap, sym, subst}
-use Rattle.j39_frame.specs.Frame.{FrameRecord}
-use Rattle.j39_frame.specs.Groups.{IsHeardGroup, place_of_group}
-use Rattle.j39_frame.specs.Identifier.{pgn_of}
-use Rattle.j39_frame.proofs.GroupLemmas.{heard}
+use Rattle.j39_reports.proofs.Common.{◌≡◌, ◌∙◌, ap, sym, subst, FrameRecord, IsHeardGroup, place_of_group, pgn_of, heard}
 use Rattle.j39_reports.specs.CameSoFar.{with_own}
 use Rattle.j39_reports.proofs.GroupLemmas.{counted_change}
 use Rattle.j39_reports.proofs.surveys.group_table.GroupTable.add_frame.Goals as goal

@@ -1,8 +1,6 @@
 -- The group that it names has one more, or there is none.
-use Rattle.std.proofs.Common.{ap, subst, sym}
+use Rattle.j39_reports.proofs.Common.{ap, subst, sym, pgn_raw, Pgn}
 use Rattle.std.specs.Prelude.{option_map}
-use Rattle.j39_frame.specs.Pgn.{pgn_raw}
-use Rattle.j39_frame.specs.declared.pgn.Pgn.{Pgn}
 use Rattle.j39_reports.specs.CameSoFar.{at_named, with_whole}
 use Rattle.j39_reports.specs.SurveyModels.{HaveCounted}
 use Rattle.j39_reports.proofs.surveys.group_table.GroupTable.add_whole.Goals as goal

@@ -1,7 +1,5 @@
 -- The group that the number names has a place of its own.
-use Rattle.std.proofs.Common.{◌∙◌, ap, subst}
-use Rattle.j39_frame.specs.Groups.{IsHeardGroup, place_of_group}
-use Rattle.j39_frame.specs.Pgn.{pgn_raw}
+use Rattle.j39_reports.proofs.Common.{◌∙◌, ap, subst, IsHeardGroup, place_of_group, pgn_raw}
 use Rattle.j39_reports.specs.GroupCounts.{group_named}
 use Rattle.j39_reports.proofs.GroupLemmas.{counted_change}
 use Rattle.j39_reports.proofs.surveys.group_table.GroupTable.change.Goals as goal

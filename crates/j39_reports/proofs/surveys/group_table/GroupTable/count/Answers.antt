@@ -1,6 +1,5 @@
 -- What stands at the group's place was counted of it.
-use Rattle.std.proofs.Common.{◌∙◌, ap, get_or, subst, sym}
-use Rattle.j39_memory.specs.ByGroup.{values_of}
+use Rattle.j39_reports.proofs.Common.{◌∙◌, ap, get_or, subst, sym, values_of}
 use Rattle.j39_reports.specs.SurveyModels.{HasCounted}
 use Rattle.j39_reports.specs.declared.surveys.group_table.GroupCount.{GroupCount}
 use Rattle.j39_reports.proofs.surveys.group_table.GroupTable.count.Goals as goal

@@ -1,7 +1,5 @@
 -- Nothing came of each group.
-use Rattle.j39_memory.specs.ByGroup.{values_of}
-use Rattle.j39_frame.specs.Groups.{place_of_group}
-use Rattle.j39_frame.proofs.GroupLemmas.{place_below}
+use Rattle.j39_reports.proofs.Common.{values_of, place_of_group, place_below}
 use Rattle.j39_reports.proofs.GroupLemmas.{counted_start, length_start}
 use Rattle.j39_reports.proofs.surveys.group_table.GroupTable.new.Goals as goal
 

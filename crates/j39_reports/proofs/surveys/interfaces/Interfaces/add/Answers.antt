@@ -1,8 +1,5 @@
 -- A frame of an interface that is told, of one that is not, and of a new one.
-use Rattle.std.proofs.Common.{◌≡◌, ◌<◌, ◌+◌, ◌∙◌, ap, refl, sym, length, arith}
-use Rattle.std.specs.List.{refill}
-use Rattle.std.proofs.lemmas.Bool.{eqb-true, eqb-false}
-use Rattle.j39_listen.specs.Counting.{capped}
+use Rattle.j39_reports.proofs.Common.{◌≡◌, ◌<◌, ◌+◌, ◌∙◌, ap, refl, sym, length, arith, refill, eqb-true, eqb-false, capped}
 use Rattle.j39_reports.specs.SurveySoFar.{with_stamp}
 use Rattle.j39_reports.proofs.InterfaceLemmas.{looked, looked_full, looked_new, looked_told}
 use Rattle.j39_reports.proofs.surveys.interfaces.Interfaces.add.Goals as goal

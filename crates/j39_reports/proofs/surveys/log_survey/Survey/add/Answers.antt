@@ -1,12 +1,7 @@
 -- The line by what it spells.
-use Rattle.std.proofs.Common.{◌≡◌, ◌+◌, ◌∙◌, ap, refl, subst, sym, arith}
-use Rattle.j39_frame.specs.Frame.{FrameRecord}
-use Rattle.j39_listen.specs.Counting.{capped}
-use Rattle.j39_log.specs.Splitter.{IsRawLine}
+use Rattle.j39_reports.proofs.Common.{◌≡◌, ◌+◌, ◌∙◌, ap, refl, subst, sym, arith, FrameRecord, capped, IsRawLine, one_spelled, frame}
 use Rattle.j39_log.specs.LineRead.{spelled_of}
-use Rattle.j39_log.proofs.LineLemmas.{one_spelled}
 use Rattle.j39_log.specs.Log as log
-use Rattle.j39_log.specs.Spelled.{frame}
 use Rattle.j39_reports.specs.LogLines.{others_in, seen_in, spelled_in, unread_in}
 use Rattle.j39_reports.proofs.SurveyLemmas.{bus_known, is_on_bus, meets_on_bus, on_err_all, on_ok_all, surveys_blank, surveys_frame, surveys_other, surveys_unread}
 use Rattle.j39_reports.proofs.surveys.log_survey.Survey.add.Goals as goal

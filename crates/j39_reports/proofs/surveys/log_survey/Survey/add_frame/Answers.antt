@@ -1,11 +1,7 @@
 -- A frame of the interface whose groups are counted.
-use Rattle.std.proofs.Common.{◌≡◌, ◌+◌, ◌∙◌, ap, subst, sym, arith, refl}
-use Rattle.j39_frame.specs.Frame.{FrameRecord}
-use Rattle.j39_listen.specs.Counting.{capped}
+use Rattle.j39_reports.proofs.Common.{◌≡◌, ◌+◌, ◌∙◌, ap, subst, sym, arith, refl, FrameRecord, capped, frame, one_spelled}
 use Rattle.j39_log.specs.Bus.{IsBusName}
 use Rattle.j39_log.specs.Log as log
-use Rattle.j39_log.specs.Spelled.{frame}
-use Rattle.j39_log.proofs.LineLemmas.{one_spelled}
 use Rattle.j39_reports.specs.LogLines.{seen_in, spelled_in}
 use Rattle.j39_reports.proofs.SurveyLemmas.{meets_one, on_bus_known, on_err_all, on_ok_all, surveys_frame}
 use Rattle.j39_reports.proofs.surveys.log_survey.Survey.add_frame.Goals as goal

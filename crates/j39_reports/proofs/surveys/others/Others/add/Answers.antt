@@ -1,6 +1,5 @@
 -- A line more, of one of the kinds.
-use Rattle.std.proofs.Common.{◌≡◌, ◌+◌, ◌∙◌, sym, arith}
-use Rattle.j39_listen.specs.Counting.{capped}
+use Rattle.j39_reports.proofs.Common.{◌≡◌, ◌+◌, ◌∙◌, sym, arith, capped}
 use Rattle.j39_reports.specs.SurveyModels.{others_record}
 use Rattle.j39_reports.proofs.CountLemmas.{others_more}
 use Rattle.j39_reports.proofs.surveys.others.Others.add.Goals as goal

@@ -1,6 +1,5 @@
 -- The last line, where it is not ended.
-use Rattle.std.proofs.Common.{refl, subst, sym}
-use Rattle.j39_log.specs.Splitter.{IsRawLine}
+use Rattle.j39_reports.proofs.Common.{refl, subst, sym, IsRawLine}
 use Rattle.j39_reports.proofs.SurveyLemmas.{on_err_all, on_ok_all}
 use Rattle.j39_reports.proofs.SurveyPieceLemmas.{asks_last, ends_line, ends_whole}
 use Rattle.j39_reports.proofs.surveys.pieces.Pieces.finish.Goals as goal

@@ -1,6 +1,5 @@
 -- One line after the other.
-use Rattle.std.proofs.Common.{◌∙◌, ◌++◌, [], sym, ap, subst, refl, take, drop, append_assoc, append-nil, take-append-drop, arith}
-use Rattle.std.proofs.lemmas.Grind.{common_steps}
+use Rattle.j39_reports.proofs.Common.{◌∙◌, ◌++◌, [], sym, ap, subst, refl, take, drop, append_assoc, append-nil, take-append-drop, arith, common_steps}
 use Rattle.j39_reports.specs.SurveySoFar.{HasTaken}
 use Rattle.j39_reports.proofs.SurveyPieceLemmas.{takes_then_asks}
 use Rattle.j39_reports.proofs.surveys.pieces.Pieces.take.Goals as goal

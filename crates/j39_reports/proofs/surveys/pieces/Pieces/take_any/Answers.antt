@@ -1,6 +1,5 @@
 -- The bytes to the end of a line, or all of them.
-use Rattle.std.proofs.Common.{refl, subst, sym}
-use Rattle.j39_log.specs.Splitter.{IsRawLine}
+use Rattle.j39_reports.proofs.Common.{refl, subst, sym, IsRawLine}
 use Rattle.j39_reports.proofs.SurveyPieceLemmas.{asks_in, takes_bytes, takes_line}
 use Rattle.j39_reports.proofs.surveys.pieces.Pieces.take_any.Goals as goal
 

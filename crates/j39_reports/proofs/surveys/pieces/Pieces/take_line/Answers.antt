@@ -1,7 +1,6 @@
 -- Most lines are those of a frame of the interface whose groups are counted.
-use Rattle.std.proofs.Common.{sym, subst}
+use Rattle.j39_reports.proofs.Common.{sym, subst, frame}
 use Rattle.j39_log.specs.Line.{IsFrameLine}
-use Rattle.j39_log.specs.Spelled.{frame}
 use Rattle.j39_reports.proofs.SurveyPieceLemmas.{asks_in, takes_line}
 use Rattle.j39_reports.proofs.surveys.pieces.Pieces.take_line.Goals as goal
 

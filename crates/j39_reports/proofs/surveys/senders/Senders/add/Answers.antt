@@ -1,9 +1,5 @@
 -- A frame more, from an address that is new, from one that is not, or from none that a controller can hold.
-use Rattle.std.proofs.Common.{◌≡◌, ◌==◌, ◌||◌, ◌+◌, ◌∙◌, ap, sym, false, true, arith, rules}
-use Rattle.std.specs.Prelude.{nat_lt}
-use Rattle.std.proofs.lemmas.Bool.{not-true, not-false}
-use Rattle.std.specs.List.{list_any}
-use Rattle.j39_listen.specs.Counting.{capped}
+use Rattle.j39_reports.proofs.Common.{◌≡◌, ◌==◌, ◌||◌, ◌+◌, ◌∙◌, ap, sym, false, true, arith, rules, nat_lt, not-true, not-false, list_any, capped}
 use Rattle.j39_reports.specs.GroupCounts.{controllers_in}
 use Rattle.j39_reports.proofs.GroupLemmas.{controllers-same, heard-more, senders-new, senders-none, senders-old}
 use Rattle.j39_reports.proofs.surveys.senders.Senders.add.Goals as goal

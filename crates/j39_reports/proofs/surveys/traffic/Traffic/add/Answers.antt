@@ -1,9 +1,5 @@
 -- Its own group, the one that it announces, and that of the message which is whole with it.
-use Rattle.std.proofs.Common.{subst, false}
-use Rattle.j39_frame.specs.Identifier.{pgn_of}
-use Rattle.j39_transport.specs.Announced.{announced_by}
-use Rattle.j39_listen.proofs.Causal.{heard_more}
-use Rattle.std.specs.Prelude.{ℕ}
+use Rattle.j39_reports.proofs.Common.{subst, false, pgn_of, announced_by, heard_more, ℕ}
 use Rattle.j39_reports.specs.CameSoFar.{at_group, at_named, with_announced, with_own, with_whole}
 use Rattle.j39_reports.specs.GroupCounts.{came_in}
 use Rattle.j39_reports.specs.SurveyModels.{HaveCounted}

@@ -1,7 +1,5 @@
 -- A line more, told where five are not told yet.
-use Rattle.std.proofs.Common.{◌≡◌, ◌<◌, ◌+◌, ◌&&◌, ◌∙◌, ap, refl, sym, length, arith}
-use Rattle.std.proofs.lemmas.Bool.{eqb-true, eqb-false}
-use Rattle.j39_listen.specs.Counting.{capped}
+use Rattle.j39_reports.proofs.Common.{◌≡◌, ◌<◌, ◌+◌, ◌&&◌, ◌∙◌, ap, refl, sym, length, arith, eqb-true, eqb-false, capped}
 use Rattle.j39_reports.proofs.UnreadLemmas.{noted_full, noted_more}
 use Rattle.j39_reports.proofs.surveys.unread.UnreadLines.add.Goals as goal
 

@@ -1,6 +1,5 @@
 -- The screen of what is kept.
-use Rattle.std.proofs.Common.{◌++◌, ◌∙◌, ap₂, length, take}
-use Rattle.j39_io.proofs.PutsLemmas.{puts_as}
+use Rattle.j39_reports.proofs.Common.{◌++◌, ◌∙◌, ap₂, length, take, puts_as}
 use Rattle.j39_reports.proofs.ScreenLemmas.{ok_from}
 use Rattle.j39_reports.specs.ScreenSoFar.{lines_of_code}
 use Rattle.j39_reports.specs.Watch.{below_end, home}

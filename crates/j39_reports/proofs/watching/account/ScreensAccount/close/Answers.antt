@@ -1,6 +1,5 @@
 -- The last screen.
-use Rattle.std.proofs.Common.{◌∙◌, arith}
-use Rattle.j39_io.proofs.DeviceLemmas.{on_err}
+use Rattle.j39_reports.proofs.Common.{◌∙◌, arith, on_err}
 use Rattle.j39_reports.proofs.WatchLemmas.{watch_closes, watch_stops_at_end}
 use Rattle.j39_reports.proofs.watching.account.ScreensAccount.close.Goals as goal
 

@@ -1,8 +1,6 @@
 -- What is heard is noted, and a screen is written if it is due.
-use Rattle.std.proofs.Common.{◌∙◌, Some, ap, option_map, refl}
-use Rattle.j39_frame.specs.Stamp.{stamp_micros}
-use Rattle.j39_frame.specs.Frame.{FrameRecord}
-use Rattle.j39_groups.proofs.ReadLemmas.{on_ok_from}
+use Rattle.j39_reports.proofs.Common.{◌∙◌, Some, ap, refl, stamp_micros, FrameRecord, on_ok_from}
+use Rattle.std.proofs.Common.{option_map}
 use Rattle.j39_reports.proofs.NoteLemmas.{written_front}
 use Rattle.j39_reports.proofs.WatchLemmas.{watch_meets, watch_stops}
 use Rattle.j39_reports.specs.Watch.{is_due}

@@ -1,12 +1,5 @@
 -- The reading goes to its row.
-use Rattle.std.proofs.Common.{◌≡◌, ◌∙◌, ap}
-use Rattle.j39_frame.specs.Stamp.{stamp_micros}
-use Rattle.j39_frame.specs.declared.origin.Origin.{Origin}
-use Rattle.j39_groups.proofs.ReadLemmas.{on_ok_from}
-use Rattle.j39_groups.specs.Models.{value_of}
-use Rattle.j39_groups.specs.Value.{ReadingRecord}
-use Rattle.j39_listen.specs.Report.{entry_of}
-use Rattle.j39_memory.specs.ByOrigin.{pairs_of}
+use Rattle.j39_reports.proofs.Common.{◌≡◌, ◌∙◌, ap, stamp_micros, Origin, on_ok_from, value_of, ReadingRecord, entry_of, pairs_of}
 use Rattle.j39_reports.proofs.ValueLemmas.{values_take}
 use Rattle.j39_reports.specs.RowModels.{entry_at}
 use Rattle.j39_reports.proofs.watching.values.ValuesReadingVisitorUnit.visit.Goals as goal
