@@ -22,7 +22,7 @@ use j39_log::{Bus, LastSecond, Splitter};
 pub(crate) struct Pieces<A> {
     splitter: Splitter,
     lines: Lines<A>,
-    /// The second of the last line that was read quickly: it tells nothing of the lines.
+    /// What the lines that were read quickly share with the next ones: it tells nothing of the lines.
     second: LastSecond,
 }
 

@@ -48,7 +48,7 @@ impl Splitter {
     /// The frame of this bus in the line that the piece begins with, and how many bytes the line has with its newline, where
     /// nothing was begun before and the line has the form of most: ten digits of seconds, six decimals or nine, one space
     /// between the fields, a name of at most 13 bytes, eight bytes of data, and one CR at its end or none. `None` says
-    /// nothing of the piece, which `feed` takes whatever it is. The second of the line is kept for the next one.
+    /// nothing of the piece, which `feed` takes whatever it is. The second of the line and its identifier are kept for the next ones.
     #[inline(always)]
     pub fn frame_on(
         &self,
