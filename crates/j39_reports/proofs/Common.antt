@@ -33,7 +33,7 @@ pub use Rattle.j39_groups.proofs.SightingLemmas.{absent_are, told_are}
 pub use Rattle.j39_groups.proofs.TableLemmas.{filter_unlisted}
 pub use Rattle.j39_groups.proofs.VisitLemmas.{flat_map-next}
 pub use Rattle.j39_groups.specs.Models.{scale_record, value_of}
-pub use Rattle.j39_groups.specs.Names.{group_name_in, name_in, state_in}
+pub use Rattle.j39_groups.specs.Names.{name_in, state_in}
 pub use Rattle.j39_groups.specs.Readings.{is_network_group, is_reported_in, readings_in}
 pub use Rattle.j39_groups.specs.Row.{RowRecord}
 pub use Rattle.j39_groups.specs.Sightings.{SightingRecord, absent, absent_by, absent_in, sightings_in, told, told_by, told_in}
