@@ -200,1430 +200,432 @@ pub const STARTS: [u32; 1425] = [
 
 /// The names, one behind the other.
 pub const NAMES: &str = "\
-fuel filter (suction side) differential pressure\
-extended range fuel pressure\
-extended range oil pressure\
-extended range coolant pressure\
-engine ECU temperature\
-extended crankcase blow-by pressure\
-estimated percent fan speed\
-exhaust gas recirculation 1 valve position\
-accelerator pedal position 3\
-accelerator pedal position 2\
-fuel level 2\
-pneumatic supply pressure\
-extended range barometric pressure\
-throttle position\
-intercooler temperature\
-transmission synchronizer clutch value\
-transmission synchronizer brake value\
-shift finger gear position\
-shift finger rail position\
-two speed axle switch\
-parking brake switch\
-blower bypass valve position\
-auxiliary pump pressure\
-maximum vehicle speed limit\
-steering axle temperature\
-forward rear drive axle temperature\
-rear rear drive axle temperature\
-road surface temperature\
-washer fluid level\
-particulate trap inlet pressure\
-air start pressure\
-wheel-based vehicle speed\
-cruise control set speed\
-cruise control high set limit speed\
-cruise control low set limit speed\
-power takeoff oil temperature\
-accelerator pedal position 1\
-percent load at current speed\
-net brake torque\
-fuel delivery pressure\
-fuel filter differential pressure\
-fuel level\
-water in fuel indicator\
-oil level\
-oil filter differential pressure\
-oil pressure\
-crankcase pressure\
-boost pressure\
-turbocharger 1 speed\
-turbocharger lube oil pressure\
-intake manifold temperature\
-air inlet pressure\
-air filter differential pressure\
-barometric pressure\
-coolant pressure\
-coolant temperature\
-coolant level\
-coolant filter differential pressure\
-governor droop\
-net battery current\
-alternator current\
-brake application pressure\
-brake primary pressure\
-brake secondary pressure\
-hydraulic retarder pressure\
-hydraulic retarder oil temperature\
-engine retarder percent\
-clutch pressure\
-transmission oil level\
-transmission oil level, high or low\
-transmission filter differential pressure\
-transmission oil pressure\
-injector metering rail 2 pressure\
-exhaust back pressure\
-inlet air mass flow rate\
-average fuel rate\
-auxiliary vacuum pressure\
-auxiliary gauge pressure\
-auxiliary absolute pressure\
-trailer tire pressure target\
-drive axle tire pressure target\
-steer axle tire pressure target\
-trailer tire pressure\
-drive axle tire pressure\
-steer axle tire pressure\
-injector timing rail 1 pressure\
-injector metering rail 1 pressure\
-keyswitch battery potential\
-gas supply pressure\
-main shaft speed\
-input shaft speed\
-transmission requested range\
-transmission current range\
-injection control pressure\
-compass bearing\
-rated power\
-charging system potential\
-battery potential\
-cargo ambient temperature\
-cab interior temperature\
-ambient air temperature\
-air inlet temperature\
-exhaust gas temperature\
-fuel temperature\
-oil temperature\
-turbocharger oil temperature\
-transmission oil temperature\
-front axle weight\
-rear axle weight\
-trailer weight\
-cargo weight\
-trip fuel\
-fuel rate\
-instantaneous fuel economy\
-average fuel economy\
-power takeoff speed\
-power takeoff set speed\
-speed at idle, point 1\
-rated speed\
-engine speed\
-output shaft speed\
-trailer anti-lock control status\
-speed sensor calibration\
-unit number\
-software identification\
-total idle hours\
-total idle fuel used\
-vehicle identification number\
-change reference number\
-tire pressure\
-tire temperature\
-component identification\
-trip distance\
-total distance\
-total vehicle hours\
-total engine hours\
-total power takeoff hours\
-total engine revolutions\
-total fuel used\
-time\
-date\
-exhaust gas recirculation differential pressure\
-exhaust gas recirculation temperature\
-auxiliary temperature 1\
-auxiliary temperature 2\
-battery potential 2\
-driver's demand percent torque\
-actual percent torque\
-nominal friction percent torque\
-engine's desired operating speed\
-navigation-based vehicle speed\
-requested torque\
-engine's desired operating speed asymmetry adjustment\
-actual retarder percent torque\
-brake pedal position\
-percent clutch slip\
-current gear\
-selected gear\
-transmission requested gear\
-actual gear ratio\
-cruise control states\
-speed at point 2\
-speed at point 3\
-speed at point 4\
-speed at point 5\
-speed at high idle, point 6\
-maximum momentary override speed, point 7\
-maximum momentary override time limit\
-requested speed control range lower limit\
-requested speed control range upper limit\
-requested torque control range lower limit\
-requested torque control range upper limit\
-percent torque at idle, point 1\
-percent torque at point 2\
-percent torque at point 3\
-percent torque at point 4\
-percent torque at point 5\
-engine reference torque\
-gain of the endspeed governor\
-retarder speed at idle, point 1\
-retarder percent torque at idle, point 1\
-reference retarder torque\
-retarder control method\
-accelerator pedal 1 low idle switch\
-accelerator pedal kickdown switch\
-driveline engaged\
-ASR engine control active\
-ASR brake control active\
-anti-lock braking active\
-differential lock state, central\
-differential lock state, central rear\
-differential lock state, central front\
-differential lock state, front axle 1\
-differential lock state, front axle 2\
-differential lock state, rear axle 1\
-differential lock state, rear axle 2\
-retarder enable, brake assist switch\
-retarder enable, shift assist switch\
-torque converter lockup engaged\
-shift in process\
-ABS off-road switch\
-ASR off-road switch\
-ASR hill holder switch\
-drive axle temperature\
-drive axle lift air pressure\
-altitude\
-transmission gear ratio\
-axle weight\
-pitch\
-latitude\
-longitude\
-make\
-model\
-serial number\
-alternator speed\
-idle shutdown timer state\
-idle shutdown timer function\
-idle shutdown timer override\
-idle shutdown has shut down the engine\
-idle shutdown driver alert mode\
-cruise control active\
-cruise control enable switch\
-brake switch\
-clutch switch\
-cruise control set switch\
-cruise control coast switch\
-cruise control resume switch\
-cruise control accelerate switch\
-transmission neutral switch\
-refrigerant low pressure switch\
-engine momentary overspeed enable\
-progressive shift disable\
-J1587 network\
-controller 2\
-controller 3\
-system diagnostic code 1\
-system diagnostic code 2\
-system diagnostic code 3\
-system diagnostic code 4\
-system diagnostic code 5\
-parking brake actuator\
-5 volts supply\
-red stop lamp\
-amber warning lamp\
-proprietary network\
-engine start enable device 1\
-power supply\
-program memory\
-controller 1\
-calibration memory\
-calibration module\
-fuel shutoff 1 control\
-fuel actuator 1 control command\
-timing actuator 1\
-crankshaft position sensor\
-timing sensor\
-fuel rack actuator\
-J1939 network 1\
-external engine protection input\
-variable geometry turbocharger actuator 1\
-variable geometry turbocharger actuator 2\
-external fuel command input\
-external speed command input\
-tachometer signal output\
-turbocharger 1 wastegate drive\
-fan clutch 1 output\
-exhaust back pressure regulator control\
-injector cylinder 1\
-injector cylinder 2\
-injector cylinder 3\
-injector cylinder 4\
-injector cylinder 5\
-injector cylinder 6\
-injector cylinder 7\
-injector cylinder 8\
-injector cylinder 9\
-injector cylinder 10\
-injector cylinder 11\
-injector cylinder 12\
-injector cylinder 13\
-injector cylinder 14\
-injector cylinder 15\
-injector cylinder 16\
-injector cylinder 17\
-injector cylinder 18\
-injector cylinder 19\
-injector cylinder 20\
-injector cylinder 21\
-injector cylinder 22\
-injector cylinder 23\
-injector cylinder 24\
-glow plug lamp\
-glow plug relay\
-starter motor relay\
-8 volts supply\
-injection control pressure regulator\
-gear shift inhibit request\
-torque converter lockup request\
-disengage driveline request\
-requested percent clutch slip\
-disengage differential lock request, front axle 1\
-disengage differential lock request, front axle 2\
-disengage differential lock request, rear axle 1\
-disengage differential lock request, rear axle 2\
-disengage differential lock request, central\
-disengage differential lock request, central front\
-disengage differential lock request, central rear\
-engine override control mode\
-engine requested speed control conditions\
-auxiliary PWM driver 1\
-auxiliary PWM driver 2\
-auxiliary PWM driver 3\
-auxiliary PWM driver 4\
-auxiliary I/O 1\
-auxiliary I/O 2\
-auxiliary I/O 3\
-auxiliary I/O 4\
-auxiliary I/O 5\
-auxiliary I/O 6\
-auxiliary I/O 7\
-auxiliary I/O 8\
-auxiliary I/O 9\
-auxiliary I/O 10\
-auxiliary I/O 11\
-auxiliary I/O 12\
-auxiliary I/O 13\
-auxiliary I/O 14\
-auxiliary I/O 15\
-auxiliary I/O 16\
-engine speed sensor 2\
-intake air heater 1\
-intake air heater 2\
-knock sensor 1\
-transmission reverse direction switch\
-transmission range high actuator\
-transmission range low actuator\
-transmission splitter direct actuator\
-transmission splitter indirect actuator\
-transmission shift finger rail actuator 1\
-transmission shift finger gear actuator 1\
-wheel sensor, axle 1 left\
-wheel sensor, axle 1 right\
-wheel sensor, axle 2 left\
-wheel sensor, axle 2 right\
-wheel sensor, axle 3 left\
-wheel sensor, axle 3 right\
-pressure modulation valve, axle 1 left\
-pressure modulation valve, axle 1 right\
-pressure modulation valve, axle 2 left\
-pressure modulation valve, axle 2 right\
-pressure modulation valve, axle 3 left\
-pressure modulation valve, axle 3 right\
-retarder control relay\
-relay, diagonal 1\
-relay, diagonal 2\
-ABS mode switch\
-ASR mode switch\
-ASR valve, differential 1\
-ASR valve, differential 2\
-pneumatic engine control\
-electronic engine control\
-speed signal input\
-tractor ABS warning lamp\
-ASR lamp\
-override control mode priority\
-requested speed\
-engine torque mode\
-retarder torque mode\
-retarder type\
-retarder location\
-transmission forward direction switch\
-front axle speed\
-relative speed, front axle, left wheel\
-relative speed, front axle, right wheel\
-relative speed, rear axle 1, left wheel\
-relative speed, rear axle 1, right wheel\
-relative speed, rear axle 2, left wheel\
-relative speed, rear axle 2, right wheel\
-service distance\
-service delay by calendar time\
-service delay by operational time\
-total distance, high resolution\
-trip distance, high resolution\
-audible warning device\
-axle location\
-tire location\
-number of forward gear ratios\
-number of reverse gear ratios\
-seconds\
-minutes\
-hours\
-day\
-month\
-year\
-number of software identification fields\
-engine test mode switch\
-idle decrement switch\
-idle increment switch\
-remote accelerator enable switch\
-engine auxiliary shutdown switch\
-engine derate switch\
-accelerator interlock switch\
-engine retarder selection\
-remote accelerator pedal position\
-estimated percent fan speed\
-power takeoff state\
-fan drive state\
-remote power takeoff variable speed control switch\
-remote power takeoff preprogrammed speed control switch\
-power takeoff enable switch\
-power takeoff accelerate switch\
-power takeoff resume switch\
-power takeoff coast switch\
-power takeoff set switch\
-air conditioner high pressure fan switch\
-requested percent fan speed\
-protect lamp\
-trip group 1\
-trip group 2, proprietary\
-total compression brake distance\
-trip compression brake distance\
-trip service brake distance\
-trip service brake applications\
-trip fan on time\
-trip fan on time due to the engine system\
-trip fan on time due to the manual switch\
-trip fan on time due to the air conditioner\
-trip distance on vehicle speed limit\
-trip gear down distance\
-trip distance in top gear\
-trip drive fuel used\
-trip power takeoff moving fuel used\
-trip power takeoff non-moving fuel used\
-trip vehicle idle fuel used\
-trip cruise fuel used\
-trip drive fuel economy\
-trip drive fuel used, gaseous\
-trip power takeoff moving fuel used, gaseous\
-trip power takeoff non-moving fuel used, gaseous\
-trip vehicle idle fuel used, gaseous\
-trip cruise fuel used, gaseous\
-trip drive fuel economy, gaseous\
-trip maximum engine speed\
-trip average engine speed\
-trip drive average load factor\
-total drive average load factor\
-total engine cruise time\
-trip maximum vehicle speed\
-trip cruise distance\
-trip number of hot shutdowns\
-trip number of idle shutdowns\
-trip number of idle shutdown overrides\
-trip sudden decelerations\
-trip time in vehicle speed limit\
-trip time in top gear\
-trip time in gear down\
-trip time in derate by engine\
-total power takeoff governor fuel used\
-trip average fuel rate\
-total power takeoff governor fuel used, gaseous\
-trip average fuel rate, gaseous\
-total ECU distance\
-total ECU run time\
-trip cruise time\
-trip power takeoff governor time\
-trip engine running time\
-trip idle time\
-trip air compressor on time\
-trip fuel, gaseous\
-total fuel used, gaseous\
-start signal indicator\
-internal sensor voltage supply\
-engine compression brake output 1\
-engine compression brake output 2\
-exhaust brake output\
-electric lift pump for fuel supply\
-fuel injection pump fuel control valve\
-fuel injection pump controller\
-fuel injection pump timing\
-sensor supply voltage 1\
-sensor supply voltage 2\
-wait to start lamp\
-coolant load increase\
-auxiliary I/O channel 1\
-auxiliary I/O channel 2\
-intended retarder percent torque\
-parking and trailer air pressure\
-service brake circuit 1 air pressure\
-service brake circuit 2 air pressure\
-auxiliary equipment supply pressure\
-air suspension supply pressure\
-brake application pressure, front axle left\
-brake application pressure, front axle right\
-brake application pressure, rear axle 1 left\
-brake application pressure, rear axle 1 right\
-brake application pressure, rear axle 2 left\
-brake application pressure, rear axle 2 right\
-brake lining remaining, front axle left\
-brake lining remaining, front axle right\
-brake lining remaining, rear axle 1 left\
-brake lining remaining, rear axle 1 right\
-brake lining remaining, rear axle 2 left\
-brake lining remaining, rear axle 2 right\
-protection system timer state\
-protection system timer override\
-protection system approaching shutdown\
-protection system has shut down the engine\
-engine protection system configuration\
-gaseous fuel correction factor\
-desired rated exhaust oxygen\
-desired exhaust oxygen\
-actual exhaust oxygen\
-articulation angle\
-EBS brake switch\
-alternator bearing 1 temperature\
-alternator bearing 2 temperature\
-alternator winding 1 temperature\
-alternator winding 2 temperature\
-alternator winding 3 temperature\
-turbocharger 1 boost pressure\
-turbocharger 2 boost pressure\
-turbocharger 3 boost pressure\
-turbocharger 4 boost pressure\
-intake manifold 2 temperature\
-intake manifold 3 temperature\
-intake manifold 4 temperature\
-intercooler thermostat opening\
-oil temperature 2\
-ECU temperature\
-exhaust gas port 1 temperature\
-exhaust gas port 2 temperature\
-exhaust gas port 3 temperature\
-exhaust gas port 4 temperature\
-exhaust gas port 5 temperature\
-exhaust gas port 6 temperature\
-exhaust gas port 7 temperature\
-exhaust gas port 8 temperature\
-exhaust gas port 9 temperature\
-exhaust gas port 10 temperature\
-exhaust gas port 11 temperature\
-exhaust gas port 12 temperature\
-exhaust gas port 13 temperature\
-exhaust gas port 14 temperature\
-exhaust gas port 15 temperature\
-exhaust gas port 16 temperature\
-exhaust gas port 17 temperature\
-exhaust gas port 18 temperature\
-exhaust gas port 19 temperature\
-exhaust gas port 20 temperature\
-main bearing 1 temperature\
-main bearing 2 temperature\
-main bearing 3 temperature\
-main bearing 4 temperature\
-main bearing 5 temperature\
-main bearing 6 temperature\
-main bearing 7 temperature\
-main bearing 8 temperature\
-main bearing 9 temperature\
-main bearing 10 temperature\
-main bearing 11 temperature\
-turbocharger lube oil pressure 2\
-turbocharger 2 speed\
-turbocharger 3 speed\
-turbocharger 4 speed\
-turbocharger 1 compressor intake temperature\
-turbocharger 2 compressor intake temperature\
-turbocharger 3 compressor intake temperature\
-turbocharger 4 compressor intake temperature\
-turbocharger 1 compressor intake pressure\
-turbocharger 2 compressor intake pressure\
-turbocharger 3 compressor intake pressure\
-turbocharger 4 compressor intake pressure\
-turbocharger 1 turbine intake temperature\
-turbocharger 2 turbine intake temperature\
-turbocharger 3 turbine intake temperature\
-turbocharger 4 turbine intake temperature\
-turbocharger 1 turbine outlet temperature\
-turbocharger 2 turbine outlet temperature\
-turbocharger 3 turbine outlet temperature\
-turbocharger 4 turbine outlet temperature\
-turbocharger wastegate actuator 1 position\
-turbocharger wastegate actuator 2 position\
-turbocharger wastegate actuator 3 position\
-turbocharger wastegate actuator 4 position\
-turbocharger wastegate actuator control air pressure\
-engine operation time since rebuild\
-anti-theft encryption seed present\
-anti-theft password valid\
-anti-theft component status\
-anti-theft modify password\
-anti-theft random number\
-anti-theft encryption indicator\
-anti-theft desired exit mode\
-anti-theft command\
-anti-theft password representation\
-auxiliary coolant pressure\
-electrical load\
-pre-filter oil pressure\
-exhaust gas pressure\
-fuel rack position\
-malfunction indicator lamp\
-suspect parameter number\
-failure mode identifier\
-occurrence count\
-freeze frame length\
-active trouble codes\
-previously active diagnostic trouble codes\
-OBD compliance\
-continuously monitored systems, support and status\
-non-continuously monitored systems, support\
-non-continuously monitored systems, status\
-J1939 network 2\
-J1939 network 3\
-engine shutdown override switch\
-traction control override switch\
-fuel leakage 1\
-fuel leakage 2\
-instantaneous estimated brake power\
-ABS fully operational\
-fuel actuator 2 control command\
-timing actuator 2\
-starter motor relay lockout\
-misfire for multiple cylinders\
-misfire cylinder 1\
-misfire cylinder 2\
-misfire cylinder 3\
-misfire cylinder 4\
-misfire cylinder 5\
-misfire cylinder 6\
-misfire cylinder 7\
-misfire cylinder 8\
-misfire cylinder 9\
-misfire cylinder 10\
-misfire cylinder 11\
-misfire cylinder 12\
-misfire cylinder 13\
-misfire cylinder 14\
-misfire cylinder 15\
-misfire cylinder 16\
-misfire cylinder 17\
-misfire cylinder 18\
-misfire cylinder 19\
-misfire cylinder 20\
-misfire cylinder 21\
-misfire cylinder 22\
-misfire cylinder 23\
-misfire cylinder 24\
-fuel pump pressurizing assembly 1\
-fuel pump pressurizing assembly 2\
-injector metering rail 2 pressure\
-air compressor status\
-cylinder 1 knock level\
-cylinder 2 knock level\
-cylinder 3 knock level\
-cylinder 4 knock level\
-cylinder 5 knock level\
-cylinder 6 knock level\
-cylinder 7 knock level\
-cylinder 8 knock level\
-cylinder 9 knock level\
-cylinder 10 knock level\
-cylinder 11 knock level\
-cylinder 12 knock level\
-cylinder 13 knock level\
-cylinder 14 knock level\
-cylinder 15 knock level\
-cylinder 16 knock level\
-cylinder 17 knock level\
-cylinder 18 knock level\
-cylinder 19 knock level\
-cylinder 20 knock level\
-cylinder 21 knock level\
-cylinder 22 knock level\
-cylinder 23 knock level\
-cylinder 24 knock level\
-engine synchronization switch\
-oil change interval\
-oil level remote reservoir\
-fuel supply pump intake pressure\
-fuel filter (suction side) differential pressure\
-engine was shut down hot\
-engine commanded shutdown\
-auxiliary pressure 1\
-auxiliary pressure 2\
-fuel valve 1 intake absolute pressure\
-fuel valve 1 differential pressure\
-air to fuel differential pressure\
-cylinder 1 ignition transformer secondary output\
-cylinder 2 ignition transformer secondary output\
-cylinder 3 ignition transformer secondary output\
-cylinder 4 ignition transformer secondary output\
-cylinder 5 ignition transformer secondary output\
-cylinder 6 ignition transformer secondary output\
-cylinder 7 ignition transformer secondary output\
-cylinder 8 ignition transformer secondary output\
-cylinder 9 ignition transformer secondary output\
-cylinder 10 ignition transformer secondary output\
-cylinder 11 ignition transformer secondary output\
-cylinder 12 ignition transformer secondary output\
-cylinder 13 ignition transformer secondary output\
-cylinder 14 ignition transformer secondary output\
-cylinder 15 ignition transformer secondary output\
-cylinder 16 ignition transformer secondary output\
-cylinder 17 ignition transformer secondary output\
-cylinder 18 ignition transformer secondary output\
-cylinder 19 ignition transformer secondary output\
-cylinder 20 ignition transformer secondary output\
-cylinder 1 ignition timing\
-cylinder 2 ignition timing\
-cylinder 3 ignition timing\
-cylinder 4 ignition timing\
-cylinder 5 ignition timing\
-cylinder 6 ignition timing\
-cylinder 7 ignition timing\
-cylinder 8 ignition timing\
-cylinder 9 ignition timing\
-cylinder 10 ignition timing\
-cylinder 11 ignition timing\
-cylinder 12 ignition timing\
-cylinder 13 ignition timing\
-cylinder 14 ignition timing\
-cylinder 15 ignition timing\
-cylinder 16 ignition timing\
-cylinder 17 ignition timing\
-cylinder 18 ignition timing\
-cylinder 19 ignition timing\
-cylinder 20 ignition timing\
-desired ignition timing 1\
-desired ignition timing 2\
-desired ignition timing 3\
-actual ignition timing\
-road speed limit status\
-ABS/EBS amber warning signal\
-EBS red warning signal\
-fuel flow rate 1\
-fuel flow rate 2\
-fuel valve 1 position\
-fuel valve 2 position\
-cylinder 1 combustion time\
-cylinder 2 combustion time\
-cylinder 3 combustion time\
-cylinder 4 combustion time\
-cylinder 5 combustion time\
-cylinder 6 combustion time\
-cylinder 7 combustion time\
-cylinder 8 combustion time\
-cylinder 9 combustion time\
-cylinder 10 combustion time\
-cylinder 11 combustion time\
-cylinder 12 combustion time\
-cylinder 13 combustion time\
-cylinder 14 combustion time\
-cylinder 15 combustion time\
-cylinder 16 combustion time\
-cylinder 17 combustion time\
-cylinder 18 combustion time\
-cylinder 19 combustion time\
-cylinder 20 combustion time\
-desired combustion time\
-average combustion time\
-source address of the device controlling the retarder\
-source address of the device controlling the brakes\
-source address of the device controlling the transmission\
-source address of the device controlling the engine\
-other ECUs have reported fault codes affecting operation\
-ECU main relay\
-illumination brightness\
-powered vehicle weight\
-speed of forward vehicle\
-distance to forward vehicle\
-adaptive cruise control set speed\
-adaptive cruise control set distance mode\
-adaptive cruise control mode\
-road curvature\
-front axle, left wheel speed\
-front axle, right wheel speed\
-rear axle, left wheel speed\
-rear axle, right wheel speed\
-local minute offset\
-local hour offset\
-vehicle motion\
-driver 1 working state\
-driver 2 working state\
-vehicle overspeed\
-driver card, driver 1\
-driver card, driver 2\
-driver 1 time related states\
-driver 2 time related states\
-direction indicator\
-tachograph performance\
-handling information\
-system event\
-tachograph output shaft speed\
-tachograph vehicle speed\
-driver 1 identification\
-driver 2 identification\
-cruise control pause switch\
-calibration verification number\
-calibration identification\
-intake manifold temperature, high resolution\
-coolant temperature, high resolution\
-hydraulic temperature\
-fan speed\
-vehicle limiting speed governor enable switch\
-engine automatic start enable switch\
-turbocharger lube oil level switch\
-automatic gear shifting enable switch\
-retarder requesting brake light\
-engine starter mode\
-cab interior temperature command\
-desired absolute intake manifold pressure\
-turbocharger wastegate valve position\
-gas mass flow sensor fueling correction\
-exhaust gas oxygen sensor fueling correction\
-exhaust gas oxygen sensor closed loop operation\
-tire pressure system wheel sensor status\
-tire pressure system tire status\
-tire pressure system wheel end electrical fault\
-lane tracking status, left side\
-lane tracking status, right side\
-hydraulic oil filter restriction switch\
-operator seat direction switch\
-driver's demand retarder percent torque\
-retarder selection, non-engine\
-actual maximum available retarder percent torque\
-relative level, front axle left\
-relative level, front axle right\
-relative level, rear axle right\
-relative level, rear axle left\
-bellow pressure, front axle left\
-bellow pressure, front axle right\
-bellow pressure, rear axle left\
-bellow pressure, rear axle right\
-reagent tank level\
-hydraulic pressure\
-requested fuel valve 1 position\
-requested fuel valve 2 position\
-tractor-mounted trailer ABS warning signal\
-ATC/ASR information signal\
-alternator current, high range\
-battery 1 temperature\
-battery 2 temperature\
-intake manifold 5 temperature\
-intake manifold 6 temperature\
-engine start enable device 2\
-steering wheel angle\
-yaw rate\
-lateral acceleration\
-longitudinal acceleration\
-steering wheel turn counter\
-vehicle dynamic stability control information signal\
-vehicle dynamic stability control fully operational\
-vehicle dynamic stability control brake light request\
-roll over prevention engine control active\
-roll over prevention brake control active\
-yaw control engine control active\
-yaw control brake control active\
-position of doors\
-total average fuel rate\
-total average fuel economy\
-trailer ABS status\
-operator seat belt switch\
-source address 0 (engine 1)\
-source address 1 (engine 2)\
-source address 2 (turbocharger)\
-source address 3 (transmission 1)\
-source address 4 (transmission 2)\
-source address 5 (shift console, primary)\
-source address 6 (shift console, secondary)\
-source address 7 (power takeoff, main or rear)\
-source address 8 (axle, steering)\
-source address 9 (axle, drive 1)\
-source address 10 (axle, drive 2)\
-source address 11 (brakes, system controller)\
-source address 12 (brakes, steer axle)\
-source address 13 (brakes, drive axle 1)\
-source address 14 (brakes, drive axle 2)\
-source address 15 (retarder, engine)\
-source address 16 (retarder, driveline)\
-source address 17 (cruise control)\
-source address 18 (fuel system)\
-source address 19 (steering controller)\
-source address 20 (suspension, steer axle)\
-source address 21 (suspension, drive axle 1)\
-source address 22 (suspension, drive axle 2)\
-source address 23 (instrument cluster 1)\
-source address 24 (trip recorder)\
-source address 25 (climate control 1)\
-source address 26 (alternator or charging system)\
-source address 27 (aerodynamic control)\
-source address 28 (vehicle navigation)\
-source address 29 (vehicle security)\
-source address 30 (electrical system)\
-source address 31 (starter system)\
-source address 32 (tractor-trailer bridge 1)\
-source address 33 (body controller)\
-source address 34 (auxiliary valve control or engine air system valve control)\
-source address 35 (hitch control)\
-source address 36 (power takeoff, front or secondary)\
-source address 37 (off vehicle gateway)\
-source address 38 (virtual terminal in the cab)\
-source address 39 (management computer 1)\
-source address 40 (cab display 1)\
-source address 41 (retarder, exhaust, engine 1)\
-source address 42 (headway controller)\
-source address 43 (on-board diagnostic unit)\
-source address 44 (retarder, exhaust, engine 2)\
-source address 45 (endurance braking system)\
-source address 46 (hydraulic pump controller)\
-source address 47 (suspension, system controller 1)\
-source address 48 (pneumatic system controller)\
-source address 49 (cab controller, primary)\
-source address 50 (cab controller, secondary)\
-source address 51 (tire pressure controller)\
-source address 52 (ignition control module 1)\
-source address 53 (ignition control module 2)\
-source address 54 (seat control 1)\
-source address 55 (lighting, operator controls)\
-source address 56 (rear axle steering controller 1)\
-source address 57 (water pump controller)\
-source address 58 (climate control 2)\
-source address 59 (transmission display, primary)\
-source address 60 (transmission display, secondary)\
-source address 61 (exhaust emission controller)\
-source address 62 (vehicle dynamic stability controller)\
-source address 63 (oil sensor)\
-source address 64 (suspension, system controller 2)\
-source address 65 (information system controller 1)\
-source address 66 (ramp control)\
-source address 67 (clutch or converter unit)\
-source address 68 (auxiliary heater 1)\
-source address 69 (auxiliary heater 2)\
-source address 70 (engine valve controller)\
-source address 71 (chassis controller 1)\
-source address 72 (chassis controller 2)\
-source address 73 (propulsion battery charger)\
-source address 74 (communications unit, cellular)\
-source address 75 (communications unit, satellite)\
-source address 76 (communications unit, radio)\
-source address 77 (steering column unit)\
-source address 78 (fan drive controller)\
-source address 79 (seat control 2)\
-source address 80 (parking brake controller)\
-source address 81 (aftertreatment 1 system gas intake)\
-source address 82 (aftertreatment 1 system gas outlet)\
-source address 83 (safety restraint system 1)\
-source address 84 (cab display 2)\
-source address 85 (diesel particulate filter controller)\
-source address 86 (aftertreatment 2 system gas intake)\
-source address 87 (aftertreatment 2 system gas outlet)\
-source address 88 (safety restraint system 2)\
-source address 89 (atmospheric sensor)\
-source address 90 (powertrain control module)\
-source address 91 (power systems manager)\
-source address 92 (engine injection control module)\
-source address 93 (fire protection system)\
-source address 94 (driver impairment device)\
-source address 95\
-source address 96\
-source address 97\
-source address 98\
-source address 99\
-source address 100\
-source address 101\
-source address 102\
-source address 103\
-source address 104\
-source address 105\
-source address 106\
-source address 107\
-source address 108\
-source address 109\
-source address 110\
-source address 111\
-source address 112\
-source address 113\
-source address 114\
-source address 115\
-source address 116\
-source address 117\
-source address 118\
-source address 119\
-source address 120\
-source address 121\
-source address 122\
-source address 123\
-source address 124\
-source address 125\
-source address 126\
-source address 127\
-source address 128\
-source address 129\
-source address 130\
-source address 131\
-source address 132\
-source address 133\
-source address 134\
-source address 135\
-source address 136\
-source address 137\
-source address 138\
-source address 139\
-source address 140\
-source address 141\
-source address 142\
-source address 143\
-source address 144\
-source address 145\
-source address 146\
-source address 147\
-source address 148\
-source address 149\
-source address 150\
-source address 151\
-source address 152\
-source address 153\
-source address 154\
-source address 155\
-source address 156\
-source address 157\
-source address 158\
-source address 159\
-source address 160\
-source address 161\
-source address 162\
-source address 163\
-source address 164\
-source address 165\
-source address 166\
-source address 167\
-source address 168\
-source address 169\
-source address 170\
-source address 171\
-source address 172\
-source address 173\
-source address 174\
-source address 175\
-source address 176\
-source address 177\
-source address 178\
-source address 179\
-source address 180\
-source address 181\
-source address 182\
-source address 183\
-source address 184\
-source address 185\
-source address 186\
-source address 187\
-source address 188\
-source address 189\
-source address 190\
-source address 191\
-source address 192\
-source address 193\
-source address 194\
-source address 195\
-source address 196\
-source address 197\
-source address 198\
-source address 199\
-source address 200\
-source address 201\
-source address 202\
-source address 203\
-source address 204\
-source address 205\
-source address 206\
-source address 207\
-source address 208\
-source address 209\
-source address 210\
-source address 211\
-source address 212\
-source address 213\
-source address 214\
-source address 215\
-source address 216\
-source address 217\
-source address 218\
-source address 219\
-source address 220\
-source address 221\
-source address 222\
-source address 223\
-source address 224\
-source address 225\
-source address 226\
-source address 227\
-source address 228\
-source address 229\
-source address 230\
-source address 231\
-source address 232\
-source address 233\
-source address 234\
-source address 235\
-source address 236\
-source address 237\
-source address 238\
-source address 239\
-source address 240\
-source address 241\
-source address 242\
-source address 243\
-source address 244\
-source address 245\
-source address 246\
-source address 247\
-source address 248 (file server or printer)\
-source address 249 (off-board diagnostic service tool 1)\
-source address 250 (off-board diagnostic service tool 2)\
-source address 251 (on-board data logger)\
-source address 252 (reserved for experimental use)\
-source address 253 (reserved for the maker)\
-source address 254\
-source address 255\
-high beam head light\
-low beam head light\
-left turn signal lights\
-right turn signal lights\
-left stop light\
-right stop light\
-center stop light\
-engine demand percent torque\
-right manifold exhaust gas temperature\
-left manifold exhaust gas temperature\
-sea water pump outlet pressure\
-generator average AC frequency\
-generator phase A AC frequency\
-generator phase B AC frequency\
-generator phase C AC frequency\
-generator average line to line voltage\
-generator phase A to B voltage\
-generator phase B to C voltage\
-generator phase C to A voltage\
-generator average line to neutral voltage\
-generator phase A to neutral voltage\
-generator phase B to neutral voltage\
-generator phase C to neutral voltage\
-generator average current\
-generator phase A current\
-generator phase B current\
-generator phase C current\
-generator total real power\
-generator phase A real power\
-generator phase B real power\
-generator phase C real power\
-generator total reactive power\
-generator phase A reactive power\
-generator phase B reactive power\
-generator phase C reactive power\
-generator total apparent power\
-generator phase A apparent power\
-generator phase B apparent power\
-generator phase C apparent power\
-generator overall power factor\
-generator phase A power factor\
-generator phase B power factor\
-generator phase C power factor\
-generator total energy exported\
-generator total energy imported\
-requested group\
-selected maximum vehicle speed limit\
-hydraulic oil level\
-accelerator pedal 1 channel 2\
-turbocharger 1 compressor outlet temperature\
-charge air cooler 1 outlet temperature\
-charge air cooler 1 outlet pressure\
-power relay\
-exhaust gas recirculation mass flow rate\
-exhaust gas recirculation 2 mass flow rate\
-exhaust gas recirculation 1 valve control\
-variable geometry turbocharger 1 actuator position\
-injector group 1\
-injector group 2\
-data memory\
-front operator wiper switch\
-main light switch\
-work light switch\
-high or low beam switch\
-turn signal switch\
-alternate rating select\
-starter motor relay control\
-transmission engine crank enable\
-ECU part number\
-ECU serial number\
-ECU location\
-ECU type\
-external acceleration demand\
-accelerator pedal 2 low idle switch\
-estimated engine parasitic losses, percent torque\
-vehicle acceleration rate limit status\
-torque converter ratio\
-reagent tank temperature\
-distance travelled while the malfunction lamp is on\
-intake NOx\
-intake oxygen\
-aftertreatment 1 intake gas sensor power in range\
-aftertreatment 1 intake gas sensor at temperature\
-aftertreatment 1 intake NOx reading stable\
-aftertreatment 1 intake oxygen reading stable\
-aftertreatment 1 intake gas sensor heater preliminary FMI\
-aftertreatment 1 intake gas sensor heater control\
-aftertreatment 1 intake NOx sensor preliminary FMI\
-aftertreatment 1 intake oxygen sensor preliminary FMI\
-outlet NOx\
-outlet oxygen\
-aftertreatment 1 outlet gas sensor power in range\
-aftertreatment 1 outlet gas sensor at temperature\
-aftertreatment 1 outlet NOx reading stable\
-aftertreatment 1 outlet oxygen reading stable\
-aftertreatment 1 outlet gas sensor heater preliminary FMI\
-aftertreatment 1 outlet gas sensor heater control\
-aftertreatment 1 outlet NOx sensor preliminary FMI\
-aftertreatment 1 outlet oxygen sensor preliminary FMI\
-aftertreatment 1 exhaust gas mass flow rate\
-aftertreatment 1 intake dew point detected\
-aftertreatment 1 outlet dew point detected\
-aftertreatment 2 intake dew point detected\
-aftertreatment 2 outlet dew point detected\
-exhaust gas temperature 1\
-particulate filter intake gas temperature\
-aftertreatment 1 exhaust gas temperature 1 preliminary FMI\
-aftertreatment 1 particulate filter intake gas temperature preliminary FMI\
-exhaust gas temperature 3\
-particulate filter outlet gas temperature\
-aftertreatment 1 exhaust gas temperature 3 preliminary FMI\
-aftertreatment 1 particulate filter outlet gas temperature preliminary FMI\
-exhaust gas temperature 2\
-particulate filter intermediate gas temperature\
-particulate filter differential pressure\
-aftertreatment 1 exhaust gas temperature 2 preliminary FMI\
-aftertreatment 1 particulate filter differential pressure preliminary FMI\
-aftertreatment 1 particulate filter intermediate gas temperature preliminary FMI\
-aftertreatment 2 intake NOx\
-aftertreatment 2 intake oxygen\
-aftertreatment 2 outlet NOx\
-aftertreatment 2 outlet oxygen\
-aftertreatment 2 exhaust gas temperature 1\
-aftertreatment 2 particulate filter intake gas temperature\
-aftertreatment 2 exhaust gas temperature 3\
-aftertreatment 2 particulate filter outlet gas temperature\
-aftertreatment 2 exhaust gas temperature 2\
-aftertreatment 2 particulate filter intermediate gas temperature\
-aftertreatment 2 particulate filter differential pressure\
-distance since diagnostic trouble codes cleared\
-minutes run by engine while the malfunction lamp is on\
-time since diagnostic trouble codes cleared\
-time since engine start\
-number of warm-ups since diagnostic trouble codes cleared\
-TSC1 transmission rate\
-TSC1 control purpose\
-alternator 1 status\
-alternator 2 status\
-alternator 3 status\
-alternator 4 status\
-actual maximum available engine percent torque\
-exhaust gas recirculation 1 intake pressure\
-aftertreatment 1 diesel exhaust fluid controller\
-aftertreatment 1 diesel exhaust fluid dosing unit\
-aftertreatment 1 diesel exhaust fluid dosing unit input lines\
-aftertreatment 1 diesel exhaust fluid tank heater\
-aftertreatment 1 diesel exhaust fluid tank quality\
-throttle actuator 1 control command\
-throttle actuator 2 control command\
-aftertreatment 1 fuel pressure 1\
-aftertreatment 1 fuel rate\
-aftertreatment 1 fuel enable actuator\
-aftertreatment 1 regeneration status\
-aftertreatment 1 ignition\
-aftertreatment 1 supply air pressure\
-aftertreatment 1 purge air pressure\
-aftertreatment 1 air pressure control\
-aftertreatment 1 air pressure actuator position\
-aftertreatment 1 air enable actuator\
-aftertreatment 1 purge air actuator\
-sensor supply voltage 1\
-sensor supply voltage 2\
-sensor supply voltage 3\
-sensor supply voltage 4\
-sensor supply voltage 5\
-sensor supply voltage 6\
-aftertreatment 1 diesel exhaust fluid temperature 2\
-aftertreatment 1 diesel exhaust fluid concentration\
-aftertreatment 1 diesel exhaust fluid tank level 2\
-aftertreatment 1 diesel exhaust fluid temperature 2 preliminary FMI\
-aftertreatment 1 diesel exhaust fluid properties preliminary FMI\
-aftertreatment 1 diesel exhaust fluid property\
-aftertreatment 1 total fuel used\
-aftertreatment 1 total regeneration time\
-aftertreatment 1 total disabled time\
-aftertreatment 1 total number of active regenerations\
-aftertreatment 1 hydrocarbon doser\
-intake manifold 2 pressure\
-intake manifold 1 absolute pressure\
-ECU power output supply voltage 1\
-ECU power output supply voltage 2\
-ECU power output supply voltage 3\
-engine emergency shutdown indication\
-particulate filter 1 intake pressure\
-particulate filter 1 outlet pressure\
-engine derate request\
-engine air shutoff status\
-throttle 2 position\
-particulate filter regeneration inhibit switch\
-particulate filter regeneration force switch\
-particulate filter lamp command\
-exhaust system high temperature lamp command\
-particulate filter passive regeneration status\
-particulate filter active regeneration status\
-particulate filter status\
-regeneration inhibited status\
-regeneration inhibited by the inhibit switch\
-regeneration inhibited due to clutch disengaged\
-regeneration inhibited due to service brake active\
-regeneration inhibited due to power takeoff active\
-regeneration inhibited due to accelerator pedal off idle\
-regeneration inhibited due to out of neutral\
-regeneration inhibited due to vehicle speed above allowed speed\
-regeneration inhibited due to parking brake not set\
-regeneration inhibited due to low exhaust temperature\
-regeneration inhibited due to system fault active\
-regeneration inhibited due to system timeout\
-regeneration inhibited due to temporary system lockout\
-regeneration inhibited due to permanent system lockout\
-regeneration inhibited due to engine not warmed up\
-regeneration inhibited due to vehicle speed below allowed speed\
-particulate filter automatic active regeneration initiation configuration\
-aftertreatment 1 particulate filter soot load percent\
-aftertreatment 1 particulate filter ash load percent\
-aftertreatment 1 particulate filter time since last active regeneration\
-aftertreatment 2 particulate filter soot load percent\
-aftertreatment 2 particulate filter ash load percent\
-aftertreatment 2 particulate filter time since last active regeneration\
-particulate filter conditions not met for active regeneration\
-aftertreatment 1 diesel exhaust fluid average consumption\
-aftertreatment 1 secondary air differential pressure\
-aftertreatment particulate filter system\
-generator governing bias\
-coolant temperature 2\
-NOx limits exceeded, root cause unknown\
-NOx limits exceeded due to insufficient diesel exhaust fluid quality\
-NOx limits exceeded due to interruption of diesel exhaust fluid dosing\
-NOx limits exceeded due to empty diesel exhaust fluid tank\
-injector group 3\
-aftertreatment 1 diesel exhaust fluid actual dosing quantity\
-aftertreatment 1 SCR system state\
-aftertreatment 1 diesel exhaust fluid actual quantity of integrator\
-aftertreatment 1 diesel exhaust fluid doser absolute pressure\
-aftertreatment 1 SCR dosing air assist absolute pressure\
-aftertreatment 1 SCR dosing air assist valve\
-aftertreatment 1 diesel exhaust fluid doser temperature\
-aftertreatment 1 SCR feedback control status\
-aftertreatment 1 diesel exhaust fluid line heater 1 state\
-aftertreatment 1 diesel exhaust fluid line heater 1 preliminary FMI\
-aftertreatment 1 diesel exhaust fluid line heater 2 state\
-aftertreatment 1 diesel exhaust fluid line heater 2 preliminary FMI\
-aftertreatment 1 diesel exhaust fluid line heater 3 state\
-aftertreatment 1 diesel exhaust fluid line heater 3 preliminary FMI\
-aftertreatment 1 diesel exhaust fluid line heater 4 state\
-aftertreatment 1 diesel exhaust fluid line heater 4 preliminary FMI\
-aftertreatment 1 diesel exhaust fluid requested dosing quantity\
-aftertreatment 1 diesel exhaust fluid line heater 1\
-aftertreatment 1 diesel exhaust fluid line heater 2\
-aftertreatment 1 diesel exhaust fluid line heater 3\
-aftertreatment 1 diesel exhaust fluid line heater 4\
-aftertreatment 1 SCR differential pressure\
-aftertreatment 1 SCR intake temperature\
-aftertreatment 1 SCR outlet temperature\
-aftertreatment 1 SCR conversion efficiency\
-aftertreatment 1 diesel exhaust fluid tank 1 heater\
-aftertreatment 1 diesel exhaust fluid tank 2 level\
-aftertreatment 1 diesel exhaust fluid tank 2 temperature\
-aftertreatment 1 diesel exhaust fluid pump motor speed\
-aftertreatment 1 diesel exhaust fluid pump drive percentage\
-aftertreatment 1 diesel exhaust fluid return valve\
-aftertreatment 1 outlet ammonia\
-exhaust gas recirculation 1 cooler efficiency\
-aftertreatment 1 diesel oxidation catalyst intake gas temperature\
-aftertreatment 1 diesel oxidation catalyst outlet gas temperature\
-aftertreatment 1 particulate filter soot mass\
-aftertreatment 1 SCR system\
-aftertreatment 1 SCR system missing\
-aftertreatment 1 particulate filter missing\
-aftertreatment 1 diesel oxidation catalyst missing\
-aftertreatment 1 intake NOx sensor heater ratio\
-aftertreatment 1 outlet NOx sensor heater ratio\
-engine amber warning lamp command\
-engine red stop lamp command\
-OBD malfunction indicator lamp command\
-sensor supply voltage 7\
-sensor supply voltage 8\
-aftertreatment diesel exhaust fluid tank low level indicator\
-aftertreatment SCR operator inducement severity\
-charge air cooler 1 efficiency\
-aftertreatment 1 diesel oxidation catalyst conversion efficiency\
-commanded fuel rail pressure\
-commanded injection control pressure\
-aftertreatment 1 particulate filter incomplete regeneration\
-fuel injection quantity error for multiple cylinders\
-aftertreatment 1 diesel exhaust fluid doser\
-aftertreatment 1 particulate filter regeneration too frequent\
-aftertreatment 1 diesel exhaust fluid pump state\
-aftertreatment 1 diesel exhaust fluid line heater relay\
-high pressure fuel rail pressure relief valve\
-fuel delivery absolute pressure\
-injector metering rail 1 cranking pressure\
-aftertreatment 1 outlet soot sensor\
-aftertreatment particulate filter temperature sensor module\
-aftertreatment SCR temperature sensor module\
-aftertreatment 1 diesel exhaust fluid dosing unit heater\
-aftertreatment 1 diesel exhaust fluid dosing unit heater relay\
-desired engine fueling state\
-aftertreatment 1 diesel exhaust fluid dosing unit heater temperature\
-emission control system operator inducement severity\
-fuel type\
-exhaust gas recirculation valve malfunction\
-diesel exhaust fluid quality malfunction\
-SCR monitoring system malfunction\
-aftertreatment 1 SCR intermediate ammonia\
-aftertreatment 1 SCR intermediate temperature\
-water in fuel indicator 2";
+fuel filter (suction side) differential pressureextended range fuel pressureextended range oil press\
+ureextended range coolant pressureengine ECU temperatureextended crankcase blow-by pressureestimate\
+d percent fan speedexhaust gas recirculation 1 valve positionaccelerator pedal position 3accelerato\
+r pedal position 2fuel level 2pneumatic supply pressureextended range barometric pressurethrottle po\
+sitionintercooler temperaturetransmission synchronizer clutch valuetransmission synchronizer brake v\
+alueshift finger gear positionshift finger rail positiontwo speed axle switchparking brake switchblo\
+wer bypass valve positionauxiliary pump pressuremaximum vehicle speed limitsteering axle temperature\
+forward rear drive axle temperaturerear rear drive axle temperatureroad surface temperaturewasher fl\
+uid levelparticulate trap inlet pressureair start pressurewheel-based vehicle speedcruise control se\
+t speedcruise control high set limit speedcruise control low set limit speedpower takeoff oil temper\
+atureaccelerator pedal position 1percent load at current speednet brake torquefuel delivery pressure\
+fuel filter differential pressurefuel levelwater in fuel indicatoroil leveloil filter differential p\
+ressureoil pressurecrankcase pressureboost pressureturbocharger 1 speedturbocharger lube oil pressur\
+eintake manifold temperatureair inlet pressureair filter differential pressurebarometric pressurecoo\
+lant pressurecoolant temperaturecoolant levelcoolant filter differential pressuregovernor droopnet b\
+attery currentalternator currentbrake application pressurebrake primary pressurebrake secondary pres\
+surehydraulic retarder pressurehydraulic retarder oil temperatureengine retarder percentclutch press\
+uretransmission oil leveltransmission oil level, high or lowtransmission filter differential pressur\
+etransmission oil pressureinjector metering rail 2 pressureexhaust back pressureinlet air mass flow \
+rateaverage fuel rateauxiliary vacuum pressureauxiliary gauge pressureauxiliary absolute pressuretra\
+iler tire pressure targetdrive axle tire pressure targetsteer axle tire pressure targettrailer tire \
+pressuredrive axle tire pressuresteer axle tire pressureinjector timing rail 1 pressureinjector mete\
+ring rail 1 pressurekeyswitch battery potentialgas supply pressuremain shaft speedinput shaft speedt\
+ransmission requested rangetransmission current rangeinjection control pressurecompass bearingrated \
+powercharging system potentialbattery potentialcargo ambient temperaturecab interior temperatureambi\
+ent air temperatureair inlet temperatureexhaust gas temperaturefuel temperatureoil temperatureturboc\
+harger oil temperaturetransmission oil temperaturefront axle weightrear axle weighttrailer weightcar\
+go weighttrip fuelfuel rateinstantaneous fuel economyaverage fuel economypower takeoff speedpower ta\
+keoff set speedspeed at idle, point 1rated speedengine speedoutput shaft speedtrailer anti-lock cont\
+rol statusspeed sensor calibrationunit numbersoftware identificationtotal idle hourstotal idle fuel \
+usedvehicle identification numberchange reference numbertire pressuretire temperaturecomponent ident\
+ificationtrip distancetotal distancetotal vehicle hourstotal engine hourstotal power takeoff hoursto\
+tal engine revolutionstotal fuel usedtimedateexhaust gas recirculation differential pressureexhaust \
+gas recirculation temperatureauxiliary temperature 1auxiliary temperature 2battery potential 2driver\
+'s demand percent torqueactual percent torquenominal friction percent torqueengine's desired operati\
+ng speednavigation-based vehicle speedrequested torqueengine's desired operating speed asymmetry adj\
+ustmentactual retarder percent torquebrake pedal positionpercent clutch slipcurrent gearselected gea\
+rtransmission requested gearactual gear ratiocruise control statesspeed at point 2speed at point 3sp\
+eed at point 4speed at point 5speed at high idle, point 6maximum momentary override speed, point 7ma\
+ximum momentary override time limitrequested speed control range lower limitrequested speed control \
+range upper limitrequested torque control range lower limitrequested torque control range upper limi\
+tpercent torque at idle, point 1percent torque at point 2percent torque at point 3percent torque at \
+point 4percent torque at point 5engine reference torquegain of the endspeed governorretarder speed a\
+t idle, point 1retarder percent torque at idle, point 1reference retarder torqueretarder control met\
+hodaccelerator pedal 1 low idle switchaccelerator pedal kickdown switchdriveline engagedASR engine c\
+ontrol activeASR brake control activeanti-lock braking activedifferential lock state, centraldiffere\
+ntial lock state, central reardifferential lock state, central frontdifferential lock state, front a\
+xle 1differential lock state, front axle 2differential lock state, rear axle 1differential lock stat\
+e, rear axle 2retarder enable, brake assist switchretarder enable, shift assist switchtorque convert\
+er lockup engagedshift in processABS off-road switchASR off-road switchASR hill holder switchdrive a\
+xle temperaturedrive axle lift air pressurealtitudetransmission gear ratioaxle weightpitchlatitudelo\
+ngitudemakemodelserial numberalternator speedidle shutdown timer stateidle shutdown timer functionid\
+le shutdown timer overrideidle shutdown has shut down the engineidle shutdown driver alert modecruis\
+e control activecruise control enable switchbrake switchclutch switchcruise control set switchcruis\
+e control coast switchcruise control resume switchcruise control accelerate switchtransmission neutr\
+al switchrefrigerant low pressure switchengine momentary overspeed enableprogressive shift disableJ1\
+587 networkcontroller 2controller 3system diagnostic code 1system diagnostic code 2system diagnosti\
+c code 3system diagnostic code 4system diagnostic code 5parking brake actuator5 volts supplyred sto\
+p lampamber warning lampproprietary networkengine start enable device 1power supplyprogram memorycon\
+troller 1calibration memorycalibration modulefuel shutoff 1 controlfuel actuator 1 control commandti\
+ming actuator 1crankshaft position sensortiming sensorfuel rack actuatorJ1939 network 1external engi\
+ne protection inputvariable geometry turbocharger actuator 1variable geometry turbocharger actuator \
+2external fuel command inputexternal speed command inputtachometer signal outputturbocharger 1 waste\
+gate drivefan clutch 1 outputexhaust back pressure regulator controlinjector cylinder 1injector cyli\
+nder 2injector cylinder 3injector cylinder 4injector cylinder 5injector cylinder 6injector cylinder \
+7injector cylinder 8injector cylinder 9injector cylinder 10injector cylinder 11injector cylinder 12i\
+njector cylinder 13injector cylinder 14injector cylinder 15injector cylinder 16injector cylinder 17i\
+njector cylinder 18injector cylinder 19injector cylinder 20injector cylinder 21injector cylinder 22i\
+njector cylinder 23injector cylinder 24glow plug lampglow plug relaystarter motor relay8 volts suppl\
+yinjection control pressure regulatorgear shift inhibit requesttorque converter lockup requestdiseng\
+age driveline requestrequested percent clutch slipdisengage differential lock request, front axle 1d\
+isengage differential lock request, front axle 2disengage differential lock request, rear axle 1dise\
+ngage differential lock request, rear axle 2disengage differential lock request, centraldisengage di\
+fferential lock request, central frontdisengage differential lock request, central rearengine overri\
+de control modeengine requested speed control conditionsauxiliary PWM driver 1auxiliary PWM driver 2\
+auxiliary PWM driver 3auxiliary PWM driver 4auxiliary I/O 1auxiliary I/O 2auxiliary I/O 3auxiliary I\
+/O 4auxiliary I/O 5auxiliary I/O 6auxiliary I/O 7auxiliary I/O 8auxiliary I/O 9auxiliary I/O 10auxil\
+iary I/O 11auxiliary I/O 12auxiliary I/O 13auxiliary I/O 14auxiliary I/O 15auxiliary I/O 16engine sp\
+eed sensor 2intake air heater 1intake air heater 2knock sensor 1transmission reverse direction switc\
+htransmission range high actuatortransmission range low actuatortransmission splitter direct actuato\
+rtransmission splitter indirect actuatortransmission shift finger rail actuator 1transmission shift \
+finger gear actuator 1wheel sensor, axle 1 leftwheel sensor, axle 1 rightwheel sensor, axle 2 leftwh\
+eel sensor, axle 2 rightwheel sensor, axle 3 leftwheel sensor, axle 3 rightpressure modulation valve\
+, axle 1 leftpressure modulation valve, axle 1 rightpressure modulation valve, axle 2 leftpressure m\
+odulation valve, axle 2 rightpressure modulation valve, axle 3 leftpressure modulation valve, axle \
+3 rightretarder control relayrelay, diagonal 1relay, diagonal 2ABS mode switchASR mode switchASR val\
+ve, differential 1ASR valve, differential 2pneumatic engine controlelectronic engine controlspeed si\
+gnal inputtractor ABS warning lampASR lampoverride control mode priorityrequested speedengine torqu\
+e moderetarder torque moderetarder typeretarder locationtransmission forward direction switchfront a\
+xle speedrelative speed, front axle, left wheelrelative speed, front axle, right wheelrelative speed\
+, rear axle 1, left wheelrelative speed, rear axle 1, right wheelrelative speed, rear axle 2, left w\
+heelrelative speed, rear axle 2, right wheelservice distanceservice delay by calendar timeservice de\
+lay by operational timetotal distance, high resolutiontrip distance, high resolutionaudible warning \
+deviceaxle locationtire locationnumber of forward gear ratiosnumber of reverse gear ratiossecondsmin\
+uteshoursdaymonthyearnumber of software identification fieldsengine test mode switchidle decrement s\
+witchidle increment switchremote accelerator enable switchengine auxiliary shutdown switchengine der\
+ate switchaccelerator interlock switchengine retarder selectionremote accelerator pedal positionesti\
+mated percent fan speedpower takeoff statefan drive stateremote power takeoff variable speed contro\
+l switchremote power takeoff preprogrammed speed control switchpower takeoff enable switchpower take\
+off accelerate switchpower takeoff resume switchpower takeoff coast switchpower takeoff set switchai\
+r conditioner high pressure fan switchrequested percent fan speedprotect lamptrip group 1trip group \
+2, proprietarytotal compression brake distancetrip compression brake distancetrip service brake dist\
+ancetrip service brake applicationstrip fan on timetrip fan on time due to the engine systemtrip fa\
+n on time due to the manual switchtrip fan on time due to the air conditionertrip distance on vehicl\
+e speed limittrip gear down distancetrip distance in top geartrip drive fuel usedtrip power takeoff \
+moving fuel usedtrip power takeoff non-moving fuel usedtrip vehicle idle fuel usedtrip cruise fuel u\
+sedtrip drive fuel economytrip drive fuel used, gaseoustrip power takeoff moving fuel used, gaseoust\
+rip power takeoff non-moving fuel used, gaseoustrip vehicle idle fuel used, gaseoustrip cruise fuel \
+used, gaseoustrip drive fuel economy, gaseoustrip maximum engine speedtrip average engine speedtrip \
+drive average load factortotal drive average load factortotal engine cruise timetrip maximum vehicl\
+e speedtrip cruise distancetrip number of hot shutdownstrip number of idle shutdownstrip number of i\
+dle shutdown overridestrip sudden decelerationstrip time in vehicle speed limittrip time in top gear\
+trip time in gear downtrip time in derate by enginetotal power takeoff governor fuel usedtrip averag\
+e fuel ratetotal power takeoff governor fuel used, gaseoustrip average fuel rate, gaseoustotal ECU d\
+istancetotal ECU run timetrip cruise timetrip power takeoff governor timetrip engine running timetri\
+p idle timetrip air compressor on timetrip fuel, gaseoustotal fuel used, gaseousstart signal indicat\
+orinternal sensor voltage supplyengine compression brake output 1engine compression brake output 2ex\
+haust brake outputelectric lift pump for fuel supplyfuel injection pump fuel control valvefuel injec\
+tion pump controllerfuel injection pump timingsensor supply voltage 1sensor supply voltage 2wait to \
+start lampcoolant load increaseauxiliary I/O channel 1auxiliary I/O channel 2intended retarder perce\
+nt torqueparking and trailer air pressureservice brake circuit 1 air pressureservice brake circuit \
+2 air pressureauxiliary equipment supply pressureair suspension supply pressurebrake application pre\
+ssure, front axle leftbrake application pressure, front axle rightbrake application pressure, rear a\
+xle 1 leftbrake application pressure, rear axle 1 rightbrake application pressure, rear axle 2 leftb\
+rake application pressure, rear axle 2 rightbrake lining remaining, front axle leftbrake lining rema\
+ining, front axle rightbrake lining remaining, rear axle 1 leftbrake lining remaining, rear axle 1 r\
+ightbrake lining remaining, rear axle 2 leftbrake lining remaining, rear axle 2 rightprotection syst\
+em timer stateprotection system timer overrideprotection system approaching shutdownprotection syste\
+m has shut down the engineengine protection system configurationgaseous fuel correction factordesire\
+d rated exhaust oxygendesired exhaust oxygenactual exhaust oxygenarticulation angleEBS brake switcha\
+lternator bearing 1 temperaturealternator bearing 2 temperaturealternator winding 1 temperaturealter\
+nator winding 2 temperaturealternator winding 3 temperatureturbocharger 1 boost pressureturbocharge\
+r 2 boost pressureturbocharger 3 boost pressureturbocharger 4 boost pressureintake manifold 2 temper\
+atureintake manifold 3 temperatureintake manifold 4 temperatureintercooler thermostat openingoil tem\
+perature 2ECU temperatureexhaust gas port 1 temperatureexhaust gas port 2 temperatureexhaust gas por\
+t 3 temperatureexhaust gas port 4 temperatureexhaust gas port 5 temperatureexhaust gas port 6 temper\
+atureexhaust gas port 7 temperatureexhaust gas port 8 temperatureexhaust gas port 9 temperatureexhau\
+st gas port 10 temperatureexhaust gas port 11 temperatureexhaust gas port 12 temperatureexhaust gas \
+port 13 temperatureexhaust gas port 14 temperatureexhaust gas port 15 temperatureexhaust gas port 1\
+6 temperatureexhaust gas port 17 temperatureexhaust gas port 18 temperatureexhaust gas port 19 tempe\
+ratureexhaust gas port 20 temperaturemain bearing 1 temperaturemain bearing 2 temperaturemain bearin\
+g 3 temperaturemain bearing 4 temperaturemain bearing 5 temperaturemain bearing 6 temperaturemain be\
+aring 7 temperaturemain bearing 8 temperaturemain bearing 9 temperaturemain bearing 10 temperaturema\
+in bearing 11 temperatureturbocharger lube oil pressure 2turbocharger 2 speedturbocharger 3 speedtur\
+bocharger 4 speedturbocharger 1 compressor intake temperatureturbocharger 2 compressor intake temper\
+atureturbocharger 3 compressor intake temperatureturbocharger 4 compressor intake temperatureturboch\
+arger 1 compressor intake pressureturbocharger 2 compressor intake pressureturbocharger 3 compresso\
+r intake pressureturbocharger 4 compressor intake pressureturbocharger 1 turbine intake temperaturet\
+urbocharger 2 turbine intake temperatureturbocharger 3 turbine intake temperatureturbocharger 4 turb\
+ine intake temperatureturbocharger 1 turbine outlet temperatureturbocharger 2 turbine outlet tempera\
+tureturbocharger 3 turbine outlet temperatureturbocharger 4 turbine outlet temperatureturbocharger w\
+astegate actuator 1 positionturbocharger wastegate actuator 2 positionturbocharger wastegate actuato\
+r 3 positionturbocharger wastegate actuator 4 positionturbocharger wastegate actuator control air pr\
+essureengine operation time since rebuildanti-theft encryption seed presentanti-theft password valid\
+anti-theft component statusanti-theft modify passwordanti-theft random numberanti-theft encryption i\
+ndicatoranti-theft desired exit modeanti-theft commandanti-theft password representationauxiliary co\
+olant pressureelectrical loadpre-filter oil pressureexhaust gas pressurefuel rack positionmalfunctio\
+n indicator lampsuspect parameter numberfailure mode identifieroccurrence countfreeze frame lengthac\
+tive trouble codespreviously active diagnostic trouble codesOBD compliancecontinuously monitored sys\
+tems, support and statusnon-continuously monitored systems, supportnon-continuously monitored system\
+s, statusJ1939 network 2J1939 network 3engine shutdown override switchtraction control override swit\
+chfuel leakage 1fuel leakage 2instantaneous estimated brake powerABS fully operationalfuel actuator \
+2 control commandtiming actuator 2starter motor relay lockoutmisfire for multiple cylindersmisfire c\
+ylinder 1misfire cylinder 2misfire cylinder 3misfire cylinder 4misfire cylinder 5misfire cylinder 6m\
+isfire cylinder 7misfire cylinder 8misfire cylinder 9misfire cylinder 10misfire cylinder 11misfire c\
+ylinder 12misfire cylinder 13misfire cylinder 14misfire cylinder 15misfire cylinder 16misfire cylind\
+er 17misfire cylinder 18misfire cylinder 19misfire cylinder 20misfire cylinder 21misfire cylinder 22\
+misfire cylinder 23misfire cylinder 24fuel pump pressurizing assembly 1fuel pump pressurizing assemb\
+ly 2injector metering rail 2 pressureair compressor statuscylinder 1 knock levelcylinder 2 knock lev\
+elcylinder 3 knock levelcylinder 4 knock levelcylinder 5 knock levelcylinder 6 knock levelcylinder \
+7 knock levelcylinder 8 knock levelcylinder 9 knock levelcylinder 10 knock levelcylinder 11 knock le\
+velcylinder 12 knock levelcylinder 13 knock levelcylinder 14 knock levelcylinder 15 knock levelcylin\
+der 16 knock levelcylinder 17 knock levelcylinder 18 knock levelcylinder 19 knock levelcylinder 20 k\
+nock levelcylinder 21 knock levelcylinder 22 knock levelcylinder 23 knock levelcylinder 24 knock lev\
+elengine synchronization switchoil change intervaloil level remote reservoirfuel supply pump intake \
+pressurefuel filter (suction side) differential pressureengine was shut down hotengine commanded shu\
+tdownauxiliary pressure 1auxiliary pressure 2fuel valve 1 intake absolute pressurefuel valve 1 diffe\
+rential pressureair to fuel differential pressurecylinder 1 ignition transformer secondary outputcyl\
+inder 2 ignition transformer secondary outputcylinder 3 ignition transformer secondary outputcylinde\
+r 4 ignition transformer secondary outputcylinder 5 ignition transformer secondary outputcylinder 6 \
+ignition transformer secondary outputcylinder 7 ignition transformer secondary outputcylinder 8 igni\
+tion transformer secondary outputcylinder 9 ignition transformer secondary outputcylinder 10 ignitio\
+n transformer secondary outputcylinder 11 ignition transformer secondary outputcylinder 12 ignition \
+transformer secondary outputcylinder 13 ignition transformer secondary outputcylinder 14 ignition tr\
+ansformer secondary outputcylinder 15 ignition transformer secondary outputcylinder 16 ignition tran\
+sformer secondary outputcylinder 17 ignition transformer secondary outputcylinder 18 ignition transf\
+ormer secondary outputcylinder 19 ignition transformer secondary outputcylinder 20 ignition transfor\
+mer secondary outputcylinder 1 ignition timingcylinder 2 ignition timingcylinder 3 ignition timingcy\
+linder 4 ignition timingcylinder 5 ignition timingcylinder 6 ignition timingcylinder 7 ignition timi\
+ngcylinder 8 ignition timingcylinder 9 ignition timingcylinder 10 ignition timingcylinder 11 ignitio\
+n timingcylinder 12 ignition timingcylinder 13 ignition timingcylinder 14 ignition timingcylinder 1\
+5 ignition timingcylinder 16 ignition timingcylinder 17 ignition timingcylinder 18 ignition timingcy\
+linder 19 ignition timingcylinder 20 ignition timingdesired ignition timing 1desired ignition timin\
+g 2desired ignition timing 3actual ignition timingroad speed limit statusABS/EBS amber warning signa\
+lEBS red warning signalfuel flow rate 1fuel flow rate 2fuel valve 1 positionfuel valve 2 positioncyl\
+inder 1 combustion timecylinder 2 combustion timecylinder 3 combustion timecylinder 4 combustion tim\
+ecylinder 5 combustion timecylinder 6 combustion timecylinder 7 combustion timecylinder 8 combustio\
+n timecylinder 9 combustion timecylinder 10 combustion timecylinder 11 combustion timecylinder 12 co\
+mbustion timecylinder 13 combustion timecylinder 14 combustion timecylinder 15 combustion timecylind\
+er 16 combustion timecylinder 17 combustion timecylinder 18 combustion timecylinder 19 combustion ti\
+mecylinder 20 combustion timedesired combustion timeaverage combustion timesource address of the dev\
+ice controlling the retardersource address of the device controlling the brakessource address of th\
+e device controlling the transmissionsource address of the device controlling the engineother ECUs h\
+ave reported fault codes affecting operationECU main relayillumination brightnesspowered vehicle wei\
+ghtspeed of forward vehicledistance to forward vehicleadaptive cruise control set speedadaptive crui\
+se control set distance modeadaptive cruise control moderoad curvaturefront axle, left wheel speedfr\
+ont axle, right wheel speedrear axle, left wheel speedrear axle, right wheel speedlocal minute offse\
+tlocal hour offsetvehicle motiondriver 1 working statedriver 2 working statevehicle overspeeddriver \
+card, driver 1driver card, driver 2driver 1 time related statesdriver 2 time related statesdirectio\
+n indicatortachograph performancehandling informationsystem eventtachograph output shaft speedtachog\
+raph vehicle speeddriver 1 identificationdriver 2 identificationcruise control pause switchcalibrati\
+on verification numbercalibration identificationintake manifold temperature, high resolutioncoolant \
+temperature, high resolutionhydraulic temperaturefan speedvehicle limiting speed governor enable swi\
+tchengine automatic start enable switchturbocharger lube oil level switchautomatic gear shifting ena\
+ble switchretarder requesting brake lightengine starter modecab interior temperature commanddesired \
+absolute intake manifold pressureturbocharger wastegate valve positiongas mass flow sensor fueling c\
+orrectionexhaust gas oxygen sensor fueling correctionexhaust gas oxygen sensor closed loop operation\
+tire pressure system wheel sensor statustire pressure system tire statustire pressure system wheel e\
+nd electrical faultlane tracking status, left sidelane tracking status, right sidehydraulic oil filt\
+er restriction switchoperator seat direction switchdriver's demand retarder percent torqueretarder s\
+election, non-engineactual maximum available retarder percent torquerelative level, front axle leftr\
+elative level, front axle rightrelative level, rear axle rightrelative level, rear axle leftbellow p\
+ressure, front axle leftbellow pressure, front axle rightbellow pressure, rear axle leftbellow press\
+ure, rear axle rightreagent tank levelhydraulic pressurerequested fuel valve 1 positionrequested fue\
+l valve 2 positiontractor-mounted trailer ABS warning signalATC/ASR information signalalternator cur\
+rent, high rangebattery 1 temperaturebattery 2 temperatureintake manifold 5 temperatureintake manifo\
+ld 6 temperatureengine start enable device 2steering wheel angleyaw ratelateral accelerationlongitud\
+inal accelerationsteering wheel turn countervehicle dynamic stability control information signalvehi\
+cle dynamic stability control fully operationalvehicle dynamic stability control brake light request\
+roll over prevention engine control activeroll over prevention brake control activeyaw control engin\
+e control activeyaw control brake control activeposition of doorstotal average fuel ratetotal averag\
+e fuel economytrailer ABS statusoperator seat belt switchsource address 0 (engine 1)source address \
+1 (engine 2)source address 2 (turbocharger)source address 3 (transmission 1)source address 4 (transm\
+ission 2)source address 5 (shift console, primary)source address 6 (shift console, secondary)source \
+address 7 (power takeoff, main or rear)source address 8 (axle, steering)source address 9 (axle, driv\
+e 1)source address 10 (axle, drive 2)source address 11 (brakes, system controller)source address 12 \
+(brakes, steer axle)source address 13 (brakes, drive axle 1)source address 14 (brakes, drive axle 2)\
+source address 15 (retarder, engine)source address 16 (retarder, driveline)source address 17 (cruis\
+e control)source address 18 (fuel system)source address 19 (steering controller)source address 20 (s\
+uspension, steer axle)source address 21 (suspension, drive axle 1)source address 22 (suspension, dri\
+ve axle 2)source address 23 (instrument cluster 1)source address 24 (trip recorder)source address 2\
+5 (climate control 1)source address 26 (alternator or charging system)source address 27 (aerodynami\
+c control)source address 28 (vehicle navigation)source address 29 (vehicle security)source address 3\
+0 (electrical system)source address 31 (starter system)source address 32 (tractor-trailer bridge 1)s\
+ource address 33 (body controller)source address 34 (auxiliary valve control or engine air system va\
+lve control)source address 35 (hitch control)source address 36 (power takeoff, front or secondary)so\
+urce address 37 (off vehicle gateway)source address 38 (virtual terminal in the cab)source address 3\
+9 (management computer 1)source address 40 (cab display 1)source address 41 (retarder, exhaust, engi\
+ne 1)source address 42 (headway controller)source address 43 (on-board diagnostic unit)source addres\
+s 44 (retarder, exhaust, engine 2)source address 45 (endurance braking system)source address 46 (hyd\
+raulic pump controller)source address 47 (suspension, system controller 1)source address 48 (pneumat\
+ic system controller)source address 49 (cab controller, primary)source address 50 (cab controller, s\
+econdary)source address 51 (tire pressure controller)source address 52 (ignition control module 1)so\
+urce address 53 (ignition control module 2)source address 54 (seat control 1)source address 55 (ligh\
+ting, operator controls)source address 56 (rear axle steering controller 1)source address 57 (water \
+pump controller)source address 58 (climate control 2)source address 59 (transmission display, primar\
+y)source address 60 (transmission display, secondary)source address 61 (exhaust emission controller)\
+source address 62 (vehicle dynamic stability controller)source address 63 (oil sensor)source addres\
+s 64 (suspension, system controller 2)source address 65 (information system controller 1)source addr\
+ess 66 (ramp control)source address 67 (clutch or converter unit)source address 68 (auxiliary heate\
+r 1)source address 69 (auxiliary heater 2)source address 70 (engine valve controller)source address \
+71 (chassis controller 1)source address 72 (chassis controller 2)source address 73 (propulsion batte\
+ry charger)source address 74 (communications unit, cellular)source address 75 (communications unit, \
+satellite)source address 76 (communications unit, radio)source address 77 (steering column unit)sour\
+ce address 78 (fan drive controller)source address 79 (seat control 2)source address 80 (parking bra\
+ke controller)source address 81 (aftertreatment 1 system gas intake)source address 82 (aftertreatmen\
+t 1 system gas outlet)source address 83 (safety restraint system 1)source address 84 (cab display 2)\
+source address 85 (diesel particulate filter controller)source address 86 (aftertreatment 2 system g\
+as intake)source address 87 (aftertreatment 2 system gas outlet)source address 88 (safety restraint \
+system 2)source address 89 (atmospheric sensor)source address 90 (powertrain control module)source a\
+ddress 91 (power systems manager)source address 92 (engine injection control module)source address 9\
+3 (fire protection system)source address 94 (driver impairment device)source address 95source addres\
+s 96source address 97source address 98source address 99source address 100source address 101source ad\
+dress 102source address 103source address 104source address 105source address 106source address 107s\
+ource address 108source address 109source address 110source address 111source address 112source addr\
+ess 113source address 114source address 115source address 116source address 117source address 118sou\
+rce address 119source address 120source address 121source address 122source address 123source addres\
+s 124source address 125source address 126source address 127source address 128source address 129sourc\
+e address 130source address 131source address 132source address 133source address 134source address \
+135source address 136source address 137source address 138source address 139source address 140source \
+address 141source address 142source address 143source address 144source address 145source address 14\
+6source address 147source address 148source address 149source address 150source address 151source ad\
+dress 152source address 153source address 154source address 155source address 156source address 157s\
+ource address 158source address 159source address 160source address 161source address 162source addr\
+ess 163source address 164source address 165source address 166source address 167source address 168sou\
+rce address 169source address 170source address 171source address 172source address 173source addres\
+s 174source address 175source address 176source address 177source address 178source address 179sourc\
+e address 180source address 181source address 182source address 183source address 184source address \
+185source address 186source address 187source address 188source address 189source address 190source \
+address 191source address 192source address 193source address 194source address 195source address 19\
+6source address 197source address 198source address 199source address 200source address 201source ad\
+dress 202source address 203source address 204source address 205source address 206source address 207s\
+ource address 208source address 209source address 210source address 211source address 212source addr\
+ess 213source address 214source address 215source address 216source address 217source address 218sou\
+rce address 219source address 220source address 221source address 222source address 223source addres\
+s 224source address 225source address 226source address 227source address 228source address 229sourc\
+e address 230source address 231source address 232source address 233source address 234source address \
+235source address 236source address 237source address 238source address 239source address 240source \
+address 241source address 242source address 243source address 244source address 245source address 24\
+6source address 247source address 248 (file server or printer)source address 249 (off-board diagnost\
+ic service tool 1)source address 250 (off-board diagnostic service tool 2)source address 251 (on-boa\
+rd data logger)source address 252 (reserved for experimental use)source address 253 (reserved for th\
+e maker)source address 254source address 255high beam head lightlow beam head lightleft turn signal \
+lightsright turn signal lightsleft stop lightright stop lightcenter stop lightengine demand percent \
+torqueright manifold exhaust gas temperatureleft manifold exhaust gas temperaturesea water pump outl\
+et pressuregenerator average AC frequencygenerator phase A AC frequencygenerator phase B AC frequenc\
+ygenerator phase C AC frequencygenerator average line to line voltagegenerator phase A to B voltageg\
+enerator phase B to C voltagegenerator phase C to A voltagegenerator average line to neutral voltage\
+generator phase A to neutral voltagegenerator phase B to neutral voltagegenerator phase C to neutra\
+l voltagegenerator average currentgenerator phase A currentgenerator phase B currentgenerator phase \
+C currentgenerator total real powergenerator phase A real powergenerator phase B real powergenerato\
+r phase C real powergenerator total reactive powergenerator phase A reactive powergenerator phase B \
+reactive powergenerator phase C reactive powergenerator total apparent powergenerator phase A appare\
+nt powergenerator phase B apparent powergenerator phase C apparent powergenerator overall power fact\
+orgenerator phase A power factorgenerator phase B power factorgenerator phase C power factorgenerato\
+r total energy exportedgenerator total energy importedrequested groupselected maximum vehicle speed \
+limithydraulic oil levelaccelerator pedal 1 channel 2turbocharger 1 compressor outlet temperaturecha\
+rge air cooler 1 outlet temperaturecharge air cooler 1 outlet pressurepower relayexhaust gas recircu\
+lation mass flow rateexhaust gas recirculation 2 mass flow rateexhaust gas recirculation 1 valve con\
+trolvariable geometry turbocharger 1 actuator positioninjector group 1injector group 2data memoryfro\
+nt operator wiper switchmain light switchwork light switchhigh or low beam switchturn signal switcha\
+lternate rating selectstarter motor relay controltransmission engine crank enableECU part numberECU \
+serial numberECU locationECU typeexternal acceleration demandaccelerator pedal 2 low idle switchesti\
+mated engine parasitic losses, percent torquevehicle acceleration rate limit statustorque converter \
+ratioreagent tank temperaturedistance travelled while the malfunction lamp is onintake NOxintake oxy\
+genaftertreatment 1 intake gas sensor power in rangeaftertreatment 1 intake gas sensor at temperatur\
+eaftertreatment 1 intake NOx reading stableaftertreatment 1 intake oxygen reading stableaftertreatme\
+nt 1 intake gas sensor heater preliminary FMIaftertreatment 1 intake gas sensor heater controlaftert\
+reatment 1 intake NOx sensor preliminary FMIaftertreatment 1 intake oxygen sensor preliminary FMIout\
+let NOxoutlet oxygenaftertreatment 1 outlet gas sensor power in rangeaftertreatment 1 outlet gas sen\
+sor at temperatureaftertreatment 1 outlet NOx reading stableaftertreatment 1 outlet oxygen reading s\
+tableaftertreatment 1 outlet gas sensor heater preliminary FMIaftertreatment 1 outlet gas sensor hea\
+ter controlaftertreatment 1 outlet NOx sensor preliminary FMIaftertreatment 1 outlet oxygen sensor p\
+reliminary FMIaftertreatment 1 exhaust gas mass flow rateaftertreatment 1 intake dew point detecteda\
+ftertreatment 1 outlet dew point detectedaftertreatment 2 intake dew point detectedaftertreatment 2 \
+outlet dew point detectedexhaust gas temperature 1particulate filter intake gas temperatureaftertrea\
+tment 1 exhaust gas temperature 1 preliminary FMIaftertreatment 1 particulate filter intake gas temp\
+erature preliminary FMIexhaust gas temperature 3particulate filter outlet gas temperatureaftertreatm\
+ent 1 exhaust gas temperature 3 preliminary FMIaftertreatment 1 particulate filter outlet gas temper\
+ature preliminary FMIexhaust gas temperature 2particulate filter intermediate gas temperatureparticu\
+late filter differential pressureaftertreatment 1 exhaust gas temperature 2 preliminary FMIaftertrea\
+tment 1 particulate filter differential pressure preliminary FMIaftertreatment 1 particulate filter \
+intermediate gas temperature preliminary FMIaftertreatment 2 intake NOxaftertreatment 2 intake oxyge\
+naftertreatment 2 outlet NOxaftertreatment 2 outlet oxygenaftertreatment 2 exhaust gas temperature 1\
+aftertreatment 2 particulate filter intake gas temperatureaftertreatment 2 exhaust gas temperature 3\
+aftertreatment 2 particulate filter outlet gas temperatureaftertreatment 2 exhaust gas temperature 2\
+aftertreatment 2 particulate filter intermediate gas temperatureaftertreatment 2 particulate filter \
+differential pressuredistance since diagnostic trouble codes clearedminutes run by engine while the \
+malfunction lamp is ontime since diagnostic trouble codes clearedtime since engine startnumber of wa\
+rm-ups since diagnostic trouble codes clearedTSC1 transmission rateTSC1 control purposealternator 1 \
+statusalternator 2 statusalternator 3 statusalternator 4 statusactual maximum available engine perce\
+nt torqueexhaust gas recirculation 1 intake pressureaftertreatment 1 diesel exhaust fluid controller\
+aftertreatment 1 diesel exhaust fluid dosing unitaftertreatment 1 diesel exhaust fluid dosing unit i\
+nput linesaftertreatment 1 diesel exhaust fluid tank heateraftertreatment 1 diesel exhaust fluid tan\
+k qualitythrottle actuator 1 control commandthrottle actuator 2 control commandaftertreatment 1 fue\
+l pressure 1aftertreatment 1 fuel rateaftertreatment 1 fuel enable actuatoraftertreatment 1 regenera\
+tion statusaftertreatment 1 ignitionaftertreatment 1 supply air pressureaftertreatment 1 purge air p\
+ressureaftertreatment 1 air pressure controlaftertreatment 1 air pressure actuator positionaftertrea\
+tment 1 air enable actuatoraftertreatment 1 purge air actuatorsensor supply voltage 1sensor supply v\
+oltage 2sensor supply voltage 3sensor supply voltage 4sensor supply voltage 5sensor supply voltage 6\
+aftertreatment 1 diesel exhaust fluid temperature 2aftertreatment 1 diesel exhaust fluid concentrati\
+onaftertreatment 1 diesel exhaust fluid tank level 2aftertreatment 1 diesel exhaust fluid temperatur\
+e 2 preliminary FMIaftertreatment 1 diesel exhaust fluid properties preliminary FMIaftertreatment 1 \
+diesel exhaust fluid propertyaftertreatment 1 total fuel usedaftertreatment 1 total regeneration tim\
+eaftertreatment 1 total disabled timeaftertreatment 1 total number of active regenerationsaftertreat\
+ment 1 hydrocarbon doserintake manifold 2 pressureintake manifold 1 absolute pressureECU power outpu\
+t supply voltage 1ECU power output supply voltage 2ECU power output supply voltage 3engine emergenc\
+y shutdown indicationparticulate filter 1 intake pressureparticulate filter 1 outlet pressureengine \
+derate requestengine air shutoff statusthrottle 2 positionparticulate filter regeneration inhibit sw\
+itchparticulate filter regeneration force switchparticulate filter lamp commandexhaust system high t\
+emperature lamp commandparticulate filter passive regeneration statusparticulate filter active regen\
+eration statusparticulate filter statusregeneration inhibited statusregeneration inhibited by the in\
+hibit switchregeneration inhibited due to clutch disengagedregeneration inhibited due to service bra\
+ke activeregeneration inhibited due to power takeoff activeregeneration inhibited due to accelerato\
+r pedal off idleregeneration inhibited due to out of neutralregeneration inhibited due to vehicle sp\
+eed above allowed speedregeneration inhibited due to parking brake not setregeneration inhibited du\
+e to low exhaust temperatureregeneration inhibited due to system fault activeregeneration inhibited \
+due to system timeoutregeneration inhibited due to temporary system lockoutregeneration inhibited du\
+e to permanent system lockoutregeneration inhibited due to engine not warmed upregeneration inhibite\
+d due to vehicle speed below allowed speedparticulate filter automatic active regeneration initiatio\
+n configurationaftertreatment 1 particulate filter soot load percentaftertreatment 1 particulate fil\
+ter ash load percentaftertreatment 1 particulate filter time since last active regenerationaftertrea\
+tment 2 particulate filter soot load percentaftertreatment 2 particulate filter ash load percentafte\
+rtreatment 2 particulate filter time since last active regenerationparticulate filter conditions no\
+t met for active regenerationaftertreatment 1 diesel exhaust fluid average consumptionaftertreatmen\
+t 1 secondary air differential pressureaftertreatment particulate filter systemgenerator governing b\
+iascoolant temperature 2NOx limits exceeded, root cause unknownNOx limits exceeded due to insufficie\
+nt diesel exhaust fluid qualityNOx limits exceeded due to interruption of diesel exhaust fluid dosin\
+gNOx limits exceeded due to empty diesel exhaust fluid tankinjector group 3aftertreatment 1 diesel e\
+xhaust fluid actual dosing quantityaftertreatment 1 SCR system stateaftertreatment 1 diesel exhaust \
+fluid actual quantity of integratoraftertreatment 1 diesel exhaust fluid doser absolute pressureafte\
+rtreatment 1 SCR dosing air assist absolute pressureaftertreatment 1 SCR dosing air assist valveafte\
+rtreatment 1 diesel exhaust fluid doser temperatureaftertreatment 1 SCR feedback control statusafter\
+treatment 1 diesel exhaust fluid line heater 1 stateaftertreatment 1 diesel exhaust fluid line heate\
+r 1 preliminary FMIaftertreatment 1 diesel exhaust fluid line heater 2 stateaftertreatment 1 diesel \
+exhaust fluid line heater 2 preliminary FMIaftertreatment 1 diesel exhaust fluid line heater 3 state\
+aftertreatment 1 diesel exhaust fluid line heater 3 preliminary FMIaftertreatment 1 diesel exhaust f\
+luid line heater 4 stateaftertreatment 1 diesel exhaust fluid line heater 4 preliminary FMIaftertrea\
+tment 1 diesel exhaust fluid requested dosing quantityaftertreatment 1 diesel exhaust fluid line hea\
+ter 1aftertreatment 1 diesel exhaust fluid line heater 2aftertreatment 1 diesel exhaust fluid line h\
+eater 3aftertreatment 1 diesel exhaust fluid line heater 4aftertreatment 1 SCR differential pressure\
+aftertreatment 1 SCR intake temperatureaftertreatment 1 SCR outlet temperatureaftertreatment 1 SCR c\
+onversion efficiencyaftertreatment 1 diesel exhaust fluid tank 1 heateraftertreatment 1 diesel exhau\
+st fluid tank 2 levelaftertreatment 1 diesel exhaust fluid tank 2 temperatureaftertreatment 1 diese\
+l exhaust fluid pump motor speedaftertreatment 1 diesel exhaust fluid pump drive percentageaftertrea\
+tment 1 diesel exhaust fluid return valveaftertreatment 1 outlet ammoniaexhaust gas recirculation 1 \
+cooler efficiencyaftertreatment 1 diesel oxidation catalyst intake gas temperatureaftertreatment 1 d\
+iesel oxidation catalyst outlet gas temperatureaftertreatment 1 particulate filter soot massaftertre\
+atment 1 SCR systemaftertreatment 1 SCR system missingaftertreatment 1 particulate filter missingaft\
+ertreatment 1 diesel oxidation catalyst missingaftertreatment 1 intake NOx sensor heater ratioaftert\
+reatment 1 outlet NOx sensor heater ratioengine amber warning lamp commandengine red stop lamp comma\
+ndOBD malfunction indicator lamp commandsensor supply voltage 7sensor supply voltage 8aftertreatmen\
+t diesel exhaust fluid tank low level indicatoraftertreatment SCR operator inducement severitycharg\
+e air cooler 1 efficiencyaftertreatment 1 diesel oxidation catalyst conversion efficiencycommanded f\
+uel rail pressurecommanded injection control pressureaftertreatment 1 particulate filter incomplete \
+regenerationfuel injection quantity error for multiple cylindersaftertreatment 1 diesel exhaust flui\
+d doseraftertreatment 1 particulate filter regeneration too frequentaftertreatment 1 diesel exhaust \
+fluid pump stateaftertreatment 1 diesel exhaust fluid line heater relayhigh pressure fuel rail press\
+ure relief valvefuel delivery absolute pressureinjector metering rail 1 cranking pressureaftertreatm\
+ent 1 outlet soot sensoraftertreatment particulate filter temperature sensor moduleaftertreatment SC\
+R temperature sensor moduleaftertreatment 1 diesel exhaust fluid dosing unit heateraftertreatment 1 \
+diesel exhaust fluid dosing unit heater relaydesired engine fueling stateaftertreatment 1 diesel exh\
+aust fluid dosing unit heater temperatureemission control system operator inducement severityfuel ty\
+peexhaust gas recirculation valve malfunctiondiesel exhaust fluid quality malfunctionSCR monitoring \
+system malfunctionaftertreatment 1 SCR intermediate ammoniaaftertreatment 1 SCR intermediate tempera\
+turewater in fuel indicator 2";
 
 /// The SPNs.
 pub(crate) fn numbers() -> &'static [u32]
