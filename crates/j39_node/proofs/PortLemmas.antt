@@ -14,7 +14,7 @@ use Rattle.j39_node.specs.Reception.{holder, is_move}
 use Rattle.j39_node.proofs.ReceptionLemmas.{table_is}
 use Rattle.j39_node.specs.History.Call.{At, TakeTransferEnded}
 use Rattle.j39_node.specs.History.Act.{Hear, TakeFrame, Transfer}
-use Rattle.j39_node.specs.Is.{AreAnswered, PortRecord, port_after}
+use Rattle.j39_node.specs.Is.{AreAnswered, PortRecord, after}
 use Rattle.j39_node.specs.Transfers.{is_resting, resting, Running, answer_to_transfer, can_transfer, clock_at, gives_up, hears, hears_if, is_engaged, is_replaced, is_spent, listens, open_transfer, says, sends, sends_if, signal_by, transfer_by, transfers}
 use Rattle.j39_node.specs.History.{Resting}
 use Rattle.j39_address.specs.Claims.{Knows, holder_in}
@@ -185,16 +185,6 @@ pub is_port : (p q : PortRecord) → p.current ≡ q.current → p.next_token �
 is_port p q e f g =
     ap (λ (x : Option Running). record p { current = x }) e
     ∙ (ap (λ (n : ℕ). record p { current = q.current; next_token = n }) f ∙ ap (λ (x : Resting). record q { resting = x }) g)
-
--- a frame that is none of a transfer leaves it
-pub port_same : (w : Who) (H : List Call) (now : ℕ) (f : FrameRecord) → is_move w H f ≡ false → port_after w H ≡ port_after w (At now (TakeFrame (Some f)) ∷ H)
-port_same w H now f e =
-    sym (ap (λ (b : Bool). (let p : PortRecord = record { current = sends_if b (clock_at H now) (open_transfer w H); next_token = length (transfers w H); resting = resting w H } in p)) e)
-
--- one of a transfer is its sender's step
-pub port_more : (w : Who) (H : List Call) (now : ℕ) (f : FrameRecord) → is_move w H f ≡ true
-    → sends_if true (clock_at H now) (open_transfer w H) ≡ open_transfer w (At now (TakeFrame (Some f)) ∷ H)
-port_more w H now f e = sym (ap (λ (b : Bool). sends_if b (clock_at H now) (open_transfer w H)) e)
 
 pub clock_is : (n : ℕ) → min (min n 18446744073709551615) 9999999999999999 ≡ min n 9999999999999999
 clock_is n = omega arith

@@ -1,5 +1,5 @@
 -- Lists from which the first is taken, and to which one is added at the end.
-use Rattle.std.proofs.Common.{◌||◌, get_or, take, ◌≡◌, ◌⊎◌, ℕ, zero, suc, ◌+◌, ◌-◌, ◌<◌, ◌≤◌, List, [], ◌∷◌, ◌++◌, length, map, drop, remove, slice_index_or, Some, None, Bool, true, false, ◌==◌, refl, sym, ap, ◌∙◌, arith, length-append, inl, inr, eqb-true}
+use Rattle.std.proofs.Common.{◌||◌, get_or, take, ◌≡◌, ◌⊎◌, ℕ, zero, suc, ◌+◌, ◌-◌, ◌<◌, ◌≤◌, List, [], ◌∷◌, ◌++◌, length, map, drop, remove, slice_index_or, Some, None, Bool, true, false, ◌==◌, refl, sym, ap, ◌∙◌, arith, length-append, inl, inr}
 use Rattle.std.proofs.lemmas.List.{length-drop}
 use Rattle.std.specs.List.{list_any, slice_get}
 use Rattle.std.proofs.lemmas.List.Folds.{list_any_at, list_any_more}
@@ -101,9 +101,6 @@ get_append (z ∷ L) y (suc i) x e = elim (get_append L y i x e) [
   | inl old ↦ inl old
   | inr new ↦ inr (ap suc new.0, new.1)
 ]
-
-pub none_left : {T : Type 0} (xs : List T) (b : Bool) → b ≡ (length xs == 0) → b ≡ true → length xs ≡ 0
-none_left xs b e f = eqb-true (length xs) 0 (sym e ∙ f)
 
 -- ---- whether one of them is so
 

@@ -9,7 +9,7 @@ use Rattle.j39_node.specs.Is.{posted}
 use Rattle.j39_node.proofs.QueueLemmas.{length_map, map_append}
 use Rattle.std.specs.Option.{option_map}
 use Rattle.j39_frame.specs.Network.{request_group}
-use Rattle.j39_node.specs.History.{IsFront, Message, content, is_alike, latest}
+use Rattle.j39_node.specs.History.{Message, is_alike, latest}
 
 -- the last that is alike, one more
 pub latest_more : (m : Message) (n i : ℕ) (xs : List (ℕ × Message)) (x : ℕ × Message) (o : Option ℕ)
@@ -167,17 +167,6 @@ set_other (z ∷ xs) zero zero x n = absurd (n refl)
 set_other (z ∷ xs) zero (suc i) x n = refl
 set_other (z ∷ xs) (suc k) zero x n = refl
 set_other (z ∷ xs) (suc k) (suc i) x n = set_other xs k i x (λ e. n (ap suc e))
-
--- what came before it stays in front
-pub set_front : (front : List Message) (xs : List (ℕ × Message)) (k : ℕ) (x : ℕ × Message) → length front ≤ k → IsFront front (map content xs)
-    → IsFront front (map content (slice_set xs k x))
-set_front [] xs k x l h = (map content (slice_set xs k x), refl)
-set_front (m ∷ front) [] k x l h = h
-set_front (m ∷ front) (y ∷ xs) zero x l h = absurd (omega (arith, l))
-set_front (m ∷ front) (y ∷ xs) (suc k) x l h =
-    let e : y.1 ≡ m = (let z = h.1 in cc) in
-    let r = set_front front xs k x (omega (arith, l)) (h.0, (let z = h.1 in cc)) in
-    (r.0, (let z = r.1 in cc))
 
 -- a request isn't renewed
 pub no_request : (m n : Message) → is_alike m n ≡ true → nat_eq n.group request_group ≡ true → ⊥

@@ -49,9 +49,3 @@ said_made r now id bytes s (Some a) h e known is l =
     made r now id bytes (says s a) known is l
     (written_is id s.message.source s.destination a bytes h.message.message.source h.destination (ap (λ (f : ToSend). f.id) z)
     ∙ ap (carries (group_with a) s.message.source s.destination) (ap (λ (f : ToSend). f.bytes) z))
-
--- nothing is said
-pub none_said : (now : ℕ) (s : SenderRecord) (o : Option Signal) → (let none : Option ToSend = None in none) ≡ sent_by s o
-    → (let none : Option (ℕ × Message) = None in none) ≡ option_map (at_now now) (option_map (says s) o)
-none_said now s None e = refl
-none_said now s (Some a) e = absurd (cc)

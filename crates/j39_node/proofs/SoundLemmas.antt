@@ -72,14 +72,6 @@ pub both : (x y : Bool) → (x && y) ≡ true → (x ≡ true) × (y ≡ true)
 both true y e = (refl, e)
 both false y e = absurd (cc)
 
-some_is : {T : Type 0} (x y : T) → Some x ≡ Some y → x ≡ y
-some_is x y e = cc
-
--- neither an acknowledgment nor another
-pub none_steers : (a b : Option Message) → control_of a b ≡ None → (a ≡ None) × (b ≡ None)
-none_steers None b e = (refl, e)
-none_steers (Some m) b e = absurd (cc)
-
 -- ---- which frame was taken
 
 -- an acknowledgment that goes is due

@@ -624,22 +624,65 @@ ready_in c hold = record {
   transfer = is_apart (transfer_by (port_of c.transfers).current (clock hold.age)) (slice_get (incoming_of c.incoming).reception.replies 0);
 }
 
+-- what shows of a controller that was made for w
+pub record View : Type 0 where
+  pub who : Who
+  pub hold : Hold
+  pub outgoing : List (ℕ × Message)
+  pub taken : ℕ
+  pub token : ℕ
+  pub asking : Option AskRecord
+  pub unread : List (ℕ × Message)
+  pub requests : List Asked
+  pub acknowledgments : List Message
+  pub news : Untold
+  pub missed : ℕ
+  pub lane : LaneRecord
+  pub incoming : IncomingRecord
+  pub port : PortRecord
+  pub hearing : HearingRecord
+
+abbrev pub view : Who → Controller → View
+view w c = record {
+  who = who_of w.brought c.own;
+  hold = c.hold;
+  outgoing = map posted c.outgoing.items;
+  taken = c.taken;
+  token = c.next_token;
+  asking = asking_of c.asking;
+  unread = map received_by c.inbox.unread.items;
+  requests = map request_by c.desk.waiting.items;
+  acknowledgments = map (refusal_by w) c.desk.due.items;
+  news = c.news;
+  missed = c.inbox.missed;
+  lane = lane_of w c.lane;
+  incoming = incoming_of c.incoming;
+  port = port_of c.transfers;
+  hearing = hearing_of c.hearing;
+}
+
+-- the same, as a history says it
+abbrev pub after : Who → List Call → View
+after w H = record {
+  who = w;
+  hold = hold_after w H;
+  outgoing = drop (length (told H)) (accepted w H);
+  taken = reached H - length (told H);
+  token = length (accepted w H);
+  asking = asking_after w H;
+  unread = drop (length (got H)) (kept w H);
+  requests = drop (length (handed H)) (requests w H);
+  acknowledgments = drop (length (acknowledged H)) (due w H);
+  news = news_after w H;
+  missed = min (missed w H) 18446744073709551615;
+  lane = lane_after w H;
+  incoming = incoming_after w H;
+  port = port_after w H;
+  hearing = hearing_after w H;
+}
+
 -- c was made for w and called as H says
 pub record Is (w : Who) (H : List Call) (c : Controller) : Type 0 where
-  pub who : who_of w.brought c.own ≡ w
+  pub shown : view w c ≡ after w H
   pub answered : AreAnswered w H
-  pub hold : c.hold ≡ hold_after w H
-  pub outgoing : map posted c.outgoing.items ≡ drop (length (told H)) (accepted w H)
-  pub taken : c.taken ≡ reached H - length (told H)
-  pub token : c.next_token ≡ length (accepted w H)
-  pub asking : asking_of c.asking ≡ asking_after w H
-  pub unread : map received_by c.inbox.unread.items ≡ drop (length (got H)) (kept w H)
-  pub requests : map request_by c.desk.waiting.items ≡ drop (length (handed H)) (requests w H)
-  pub acknowledgments : map (refusal_by w) c.desk.due.items ≡ drop (length (acknowledged H)) (due w H)
-  pub news : c.news ≡ news_after w H
   pub holders : Knows c.holders (told_claims w H)
-  pub missed : c.inbox.missed ≡ min (missed w H) 18446744073709551615
-  pub lane : lane_of w c.lane ≡ lane_after w H
-  pub incoming : incoming_of c.incoming ≡ incoming_after w H
-  pub port : port_of c.transfers ≡ port_after w H
-  pub hearing : hearing_of c.hearing ≡ hearing_after w H

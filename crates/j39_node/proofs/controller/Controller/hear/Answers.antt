@@ -1,8 +1,8 @@
 use Rattle.std.proofs.Common.{◌&&◌, length, map, nat_lt, ◌∙◌, ap, refl, not, ◌||◌, Bool, ℕ, Option, subst, ◌++◌, [], ◌∷◌, if◌then◌else◌}
 use Rattle.j39_frame.specs.Stamp.{stamp_micros}
 use Rattle.j39_node.specs.Asking.{in_broadcast, is_coming}
-use Rattle.j39_node.specs.Is.{AskRecord, asking_of, hears_with, port_of, request_by, who_of, hearing_of, incoming_of, made_by, session_by, refusal_by}
-use Rattle.j39_node.specs.History.{fresh, with_refusal}
+use Rattle.j39_node.specs.Is.{AskRecord, asking_of, hears_with, port_of, request_by, who_of, hearing_of, incoming_of, made_by, session_by, refusal_by, View}
+use Rattle.j39_node.specs.History.{fresh, with_refusal, is_lost}
 use Rattle.j39_node.specs.Hearing.{whole_of}
 use Rattle.j39_node.specs.declared.news.Untold.{Untold}
 use Rattle.j39_node.specs.Transfers.{hears_if}
@@ -20,7 +20,7 @@ pub returns : goal.returns
 returns c = λ w H h.
     let f = c.args.frame.now in
     let t = stamp_micros c.args.now in
-    let p = passed_is w H t c.args.self.now.hold c.passed-self.result h.hold c.passed-self.ensures in
+    let p = passed_is w H t c.args.self.now.hold c.passed-self.result (ap (λ (v : View). v.hold) h.shown) c.passed-self.ensures in
     heard_more w H c.args.self.now _ t f c.passed-self.result c.is_held-is_held.result c.is_for_program-wanted.result c.is_lost-is_lost.result
     c.is_driven_away.result c.calls_for_claim-calls.result c.is_another-another.result c.is_replaced-is_replaced.result c.leave-breaks.result c.hear-unheard.result (option_map request_by c.fresh-request.result) h p c.is_held-is_held.ensures c.is_for_program-wanted.ensures
     c.offer.ensures.unread c.offer.ensures.missed (c.is_driven_away.ensures ∙ smaller_known w.brought c.args.self.now.own (claim_of f)) c.is_lost-is_lost.ensures (c.calls_for_claim-calls.ensures ∙ calls_known w.brought c.args.self.now.own c.is_lost-is_lost.result f) c.is_another-another.ensures
@@ -36,7 +36,7 @@ returns c = λ w H h.
     (c.with_missed-self.ensures ∙ ap (λ (u : Untold). (let v : Untold = record { lost = u.lost; another = u.another; doubled = u.doubled; missed = c.leave-breaks.result || u.missed } in v))
     (c.with_double.ensures ∙ λ i. let u = news_heard c.args.self.now.news _ _ _ _ _ _ _ c.heard-self.ensures c.is_another-another.ensures c.misses-misses.ensures in
     record { lost = (u i).lost; another = (u i).another; doubled = option_or ((c.double-doubled.ensures ∙ double_known w.brought c.args.self.now.own (claim_of f)) i) (u i).doubled; missed = (u i).missed }))
-    (c.heard-self-2.ensures ∙ ap (λ (n : ℕ). heard c.is_driven_away.result c.calls_for_claim-calls.result c.is_another-another.result n c.passed-self.result) c.delay.ensures) refl refl refl refl refl c.hear-gone.ensures.heard
+    (c.heard-self-2.ensures ∙ ap (λ (n : ℕ). heard c.is_driven_away.result c.calls_for_claim-calls.result c.is_another-another.result n c.passed-self.result) c.delay.ensures) refl c.hear-gone.ensures.heard
     (peers_are (port_of c.args.self.now.transfers).current c.is_replaced-is_replaced.result (option_map name_raw c.peer-before.result) (option_map name_raw c.peer.result)
     c.args.self.now.holders _ c.peer-before.ensures c.peer.ensures c.is_replaced-is_replaced.ensures)
     (λ r e. c.hear-2.ensures.current r e

@@ -1,9 +1,9 @@
-use Rattle.std.proofs.Common.{map, suc, ◌≡◌, ◌∙◌, ◌+◌, ◌-◌, ap, sym, refl, ℕ, Some, Option, List, ◌∷◌, true, not, subst, length, false}
+use Rattle.std.proofs.Common.{map, suc, ◌≡◌, ◌∙◌, ◌+◌, ◌-◌, ap, sym, refl, ℕ, Some, Option, ◌∷◌, true, not, subst, length, false}
 use Rattle.j39_frame.specs.Frame.{FrameRecord}
 use Rattle.j39_node.specs.History.Call.{At}
 use Rattle.j39_node.specs.History.Act.{TakeFrame}
-use Rattle.j39_node.specs.History.{is_blank, past, Who, acknowledged, due}
-use Rattle.j39_node.specs.Is.{posted, IncomingRecord, with_called, refusal_by, said_by, Is, port_of}
+use Rattle.j39_node.specs.History.{is_blank, past, acknowledged, due}
+use Rattle.j39_node.specs.Is.{posted, IncomingRecord, with_called, refusal_by, said_by, Is, port_of, View}
 use Rattle.j39_node.specs.Reception.{reception}
 use Rattle.j39_node.proofs.QueueLemmas.{read, read_none, first}
 use Rattle.std.specs.Option.{option_map}
@@ -16,18 +16,18 @@ use Rattle.j39_node.proofs.controller.Controller.take_frame.Goals as goal
 
 pub returns-then-is_acknowledgment_due : goal.returns-then-is_acknowledgment_due
 returns-then-is_acknowledgment_due c = λ w H h.
-    let p = passed_is w H (stamp_micros c.args.now) c.args.self.now.hold c.passed-self.result h.hold c.passed-self.ensures in
+    let p = passed_is w H (stamp_micros c.args.now) c.args.self.now.hold c.passed-self.result (ap (λ (v : View). v.hold) h.shown) c.passed-self.ensures in
     let g = gives_is w H c.args.self.now (stamp_micros c.args.now) c.passed-self.result c.gives_way-gives_way.result h p c.gives_way-gives_way.ensures in
     let b = sym (holds_is w H (stamp_micros c.args.now) c.passed-self.result c.is_held.result p c.is_held.ensures) ∙ c.if-not-is_held.false in
-    let f = first (refusal_by w) _ _ c.remove.result (length (acknowledged H)) (due w H) h.acknowledgments
+    let f = first (refusal_by w) _ _ c.remove.result (length (acknowledged H)) (due w H) (ap (λ (v : View). v.acknowledgments) h.shown)
     (due_there _ _ (sym c.is_acknowledgment_due.ensures ∙ c.if-is_acknowledgment_due.true)) c.remove.ensures.value c.remove.ensures.items in
     taken_due w H c.args.self.now _ (stamp_micros c.args.now) _ c.remove.result c.passed-self.result h p (goes_is w H (stamp_micros c.args.now) c.passed-self.result c.gives_way-gives_way.result false p g (sym c.claims.ensures ∙ c.if-claims.false)) b
     (one_acknowledged w H (stamp_micros c.args.now) c.gives_way-gives_way.result _ _ g (sym c.is_acknowledgment_due.ensures ∙ c.if-is_acknowledgment_due.true) f.is) f
-    (c.acknowledgment.ensures ∙ ap (λ (v : Who). Some (stamp_micros c.args.now, refusal_by v c.remove.result)) h.who) refl c.acknowledged-self.ensures
+    (c.acknowledgment.ensures ∙ ap (λ (u : View). Some (stamp_micros c.args.now, refusal_by u.who c.remove.result)) h.shown) refl c.acknowledged-self.ensures
 
 pub returns-then-claims : goal.returns-then-claims
 returns-then-claims c = λ w H h.
-    let p = passed_is w H (stamp_micros c.args.now) c.args.self.now.hold c.passed-self.result h.hold c.passed-self.ensures in
+    let p = passed_is w H (stamp_micros c.args.now) c.args.self.now.hold c.passed-self.result (ap (λ (v : View). v.hold) h.shown) c.passed-self.ensures in
     let g = gives_is w H c.args.self.now (stamp_micros c.args.now) c.passed-self.result c.gives_way-gives_way.result h p c.gives_way-gives_way.ensures in
     claims_more w H c.args.self.now _ (stamp_micros c.args.now) c.in_ok-claim.claim c.passed-self.result c.claim_address-address.result h p
     (goes_is w H (stamp_micros c.args.now) c.passed-self.result c.gives_way-gives_way.result true p g (sym c.claims.ensures ∙ c.if-claims.true)) c.claimed-self.ensures c.in_ok-claim.ensures c.claim_address-address.ensures
@@ -36,7 +36,7 @@ returns-then-claims c = λ w H h.
 
 pub returns-in_err-turn : goal.returns-in_err-turn
 returns-in_err-turn c = λ w H h.
-    let p = passed_is w H (stamp_micros c.args.now) c.args.self.now.hold c.passed-self.result h.hold c.passed-self.ensures in
+    let p = passed_is w H (stamp_micros c.args.now) c.args.self.now.hold c.passed-self.result (ap (λ (v : View). v.hold) h.shown) c.passed-self.ensures in
     let g = gives_is w H c.args.self.now (stamp_micros c.args.now) c.passed-self.result c.gives_way-gives_way.result h p c.gives_way-gives_way.ensures in
     let b = sym (holds_is w H (stamp_micros c.args.now) c.passed-self.result c.is_held.result p c.is_held.ensures) ∙ c.if-not-is_held.false in
     let o = goes_is w H (stamp_micros c.args.now) c.passed-self.result c.gives_way-gives_way.result false p g (sym c.claims.ensures ∙ c.if-claims.false) in
@@ -47,7 +47,7 @@ returns-in_err-turn c = λ w H h.
 
 pub returns-in-Reply : goal.returns-in-Reply
 returns-in-Reply c = λ w H h.
-    let p = passed_is w H (stamp_micros c.args.now) c.args.self.now.hold c.passed-self.result h.hold c.passed-self.ensures in
+    let p = passed_is w H (stamp_micros c.args.now) c.args.self.now.hold c.passed-self.result (ap (λ (v : View). v.hold) h.shown) c.passed-self.ensures in
     let g = gives_is w H c.args.self.now (stamp_micros c.args.now) c.passed-self.result c.gives_way-gives_way.result h p c.gives_way-gives_way.ensures in
     let b = sym (holds_is w H (stamp_micros c.args.now) c.passed-self.result c.is_held.result p c.is_held.ensures) ∙ c.if-not-is_held.false in
     let o = goes_is w H (stamp_micros c.args.now) c.passed-self.result c.gives_way-gives_way.result false p g (sym c.claims.ensures ∙ c.if-claims.false) in
@@ -56,11 +56,11 @@ returns-in-Reply c = λ w H h.
     let f = first (said_by c.args.self.now.incoming.receiver.state.own) _ _ c.remove-in-Reply.result 0 (reception w H).replies (replies_is w H c.args.self.now h)
     (reply_there c.args.self.now c.passed-self.result t) c.remove-in-Reply.ensures.value c.remove-in-Reply.ensures.items in
     taken_reply w H c.args.self.now _ (stamp_micros c.args.now) _ c.remove-in-Reply.result c.passed-self.result h p o b n t f
-    (c.frame.ensures ∙ ap (λ (v : Who). Some (stamp_micros c.args.now, said_by v.address c.remove-in-Reply.result)) h.who) refl refl c.spoken-self.ensures
+    (c.frame.ensures ∙ ap (λ (u : View). Some (stamp_micros c.args.now, said_by u.who.address c.remove-in-Reply.result)) h.shown) refl refl c.spoken-self.ensures
 
 pub returns-in_ok-next-in-Single : goal.returns-in_ok-next-in-Single
 returns-in_ok-next-in-Single c = λ w H h.
-    let p = passed_is w H (stamp_micros c.args.now) c.args.self.now.hold c.passed-self.result h.hold c.passed-self.ensures in
+    let p = passed_is w H (stamp_micros c.args.now) c.args.self.now.hold c.passed-self.result (ap (λ (v : View). v.hold) h.shown) c.passed-self.ensures in
     let g = gives_is w H c.args.self.now (stamp_micros c.args.now) c.passed-self.result c.gives_way-gives_way.result h p c.gives_way-gives_way.ensures in
     let b = sym (holds_is w H (stamp_micros c.args.now) c.passed-self.result c.is_held.result p c.is_held.ensures) ∙ c.if-not-is_held.false in
     let o = goes_is w H (stamp_micros c.args.now) c.passed-self.result c.gives_way-gives_way.result false p g (sym c.claims.ensures ∙ c.if-claims.false) in
@@ -78,7 +78,7 @@ returns-in_err-next-in-Single c = λ w H h.
 
 pub returns-in_ok-packet-in-Packet : goal.returns-in_ok-packet-in-Packet
 returns-in_ok-packet-in-Packet c = λ w H h.
-    let p = passed_is w H (stamp_micros c.args.now) c.args.self.now.hold c.passed-self.result h.hold c.passed-self.ensures in
+    let p = passed_is w H (stamp_micros c.args.now) c.args.self.now.hold c.passed-self.result (ap (λ (v : View). v.hold) h.shown) c.passed-self.ensures in
     let g = gives_is w H c.args.self.now (stamp_micros c.args.now) c.passed-self.result c.gives_way-gives_way.result h p c.gives_way-gives_way.ensures in
     let b = sym (holds_is w H (stamp_micros c.args.now) c.passed-self.result c.is_held.result p c.is_held.ensures) ∙ c.if-not-is_held.false in
     let o = goes_is w H (stamp_micros c.args.now) c.passed-self.result c.gives_way-gives_way.result false p g (sym c.claims.ensures ∙ c.if-claims.false) in
@@ -94,7 +94,7 @@ returns-in_err-packet-in-Packet c = λ w H h.
 
 pub returns-in_ok-frame-in-Move : goal.returns-in_ok-frame-in-Move
 returns-in_ok-frame-in-Move c = λ w H h.
-    let p = passed_is w H (stamp_micros c.args.now) c.args.self.now.hold c.passed-self.result h.hold c.passed-self.ensures in
+    let p = passed_is w H (stamp_micros c.args.now) c.args.self.now.hold c.passed-self.result (ap (λ (v : View). v.hold) h.shown) c.passed-self.ensures in
     let g = gives_is w H c.args.self.now (stamp_micros c.args.now) c.passed-self.result c.gives_way-gives_way.result h p c.gives_way-gives_way.ensures in
     let b = sym (holds_is w H (stamp_micros c.args.now) c.passed-self.result c.is_held.result p c.is_held.ensures) ∙ c.if-not-is_held.false in
     let o = goes_is w H (stamp_micros c.args.now) c.passed-self.result c.gives_way-gives_way.result false p g (sym c.claims.ensures ∙ c.if-claims.false) in

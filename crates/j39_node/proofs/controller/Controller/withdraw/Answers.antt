@@ -1,5 +1,5 @@
 use Rattle.std.proofs.Common.{◌∙◌, ap, sym, refl, map, List}
-use Rattle.j39_node.specs.History.{is_blank, past}
+use Rattle.j39_node.specs.History.{is_blank, past, is_lost}
 use Rattle.j39_node.specs.Is.{place_of, posted}
 use Rattle.j39_node.specs.declared.outgoing.Outgoing.{Outgoing}
 use Rattle.j39_node.proofs.CallLemmas.{lost_keeps, none_at_place, withdraws}
