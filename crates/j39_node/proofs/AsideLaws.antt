@@ -1,28 +1,7 @@
 -- Which frame others exchange makes no difference to any answer, whatever comes later.
-use Rattle.std.proofs.Common.{drop, max, ◌≡◌, ◌≢◌, ◌↔◌, ℕ, ◌+◌, ◌-◌, List, [], ◌∷◌, ◌++◌, length, Option, Some, None, Ok, Err, Bool, true, false, not, ◌&&◌, ◌||◌, if◌then◌else◌, nat_eq, nat_lt, nat_le, suc, refl, sym, ap, ◌∙◌, subst, inl, arith, ◌*◌, slice_set}
-use Rattle.std.specs.List.{slice_get}
-use Rattle.std.specs.Option.{option_map, option_or}
-use Rattle.j39_frame.specs.Frame.{FrameRecord}
-use Rattle.j39_frame.specs.Identifier.{destination_of, pgn_of, ps_of, source_of}
-use Rattle.j39_address.specs.Claim.{claim_of}
-use Rattle.j39_transport.specs.Message.{MessageRecord}
-use Rattle.j39_node.specs.declared.kinds.AskEnding.{AskEnding}
-use Rattle.j39_node.specs.declared.kinds.Ending.{Ending}
-use Rattle.j39_node.specs.declared.kinds.News.TheVariants.{AddressLost, AnotherAtAddress, MessagesMissed, NameDoubled}
-use Rattle.j39_node.specs.declared.kinds.Refused.TheVariants.{NoAddress, BadValue, Full}
-use Rattle.j39_node.specs.Aside.{IsAside}
-use Rattle.j39_node.specs.History.{reached, fresh, is_refusal_due, is_left, patience, turns, Who, Message, Call, Address, Asked, accepted, acknowledged, acknowledgment, address_after, another_news, asked, asked_group, asked_with, broadcast_from, broadcasts, calls_for_claim, can_broadcast, can_send, claim_address, claim_from, claimed, due, got, handed, holds, is_acknowledgment, is_another, is_claim, is_for_program, is_held, is_lost, is_open, is_packet, is_session, is_smaller, is_transfer, kept, lost_news, message_from, message_of, missed_news, moment, older, open_broadcast, owes_claim, packets, pause, request_for, requests, sent, step, told, with_refusal, with_request, delayed, of_other, doubled_news, double, latest, marks, past, blank}
-use Rattle.j39_node.specs.History.Address.{Lost}
-use Rattle.j39_node.specs.History.Call.{At, TakeAskEnded, TakeEnded, TakeReceived, TakeRequest, TakeNews, TakeBroadcastEnded, ReleaseTransfer, TakeTransferEnded, ReleaseBroadcast, Renew, Withdraw}
-use Rattle.j39_node.specs.History.Act.{Ask, Hear, Tick, TakeFrame, Send, Acknowledge, Broadcast, Transfer, Again}
-use Rattle.j39_node.specs.Reception.{yields, Reception, has_place, heard_at, heard_by, held_then, holder, later, leaves, left, reception, released_by, taken_by, ticked, time_heard, whole_by, is_message, asks_claims, called, calls_claims, claimed_again, known, still, is_reply, is_that}
-use Rattle.j39_node.specs.Hearing.{OpenBroadcast, announces, breaks, changes, ends_by, found, hearing, hears as hears_it, in_time, is_out, is_over, is_unheard, left as leaves_it, newly, packs, unheard_news, whole_of}
-use Rattle.j39_node.specs.Transfers.{Running, age, begun, can_transfer, clock, hears_if, holds_back, is_engaged, is_replaced, joined, open_transfer, rest, resting, rests_after, sends_if, transfer_by, transfer_end, transfers}
-use Rattle.j39_node.specs.History.{Resting}
-use Rattle.j39_node.specs.Asking.{Question, ask_end, can_ask, comes, end_at, ended, first, has_token, in_broadcast, in_session, made, is_asking, is_coming, made_of, open_ask, question, silent_end, wait}
+use Rattle.j39_node.proofs.Common.{[], if◌then◌else◌, ◌&&◌, ◌*◌, ◌++◌, ◌+◌, ◌-◌, ◌||◌, ◌↔◌, ◌∙◌, ◌∷◌, ◌≡◌, ◌≢◌, accepted, Acknowledge, acknowledged, acknowledgment, Address, address_after, AddressLost, Again, age, announces, another_news, AnotherAtAddress, ap, AreAnswered, arith, Ask, ask_end, Asked, asked, asked_group, asked_with, AskEnding, asks_claims, At, BadValue, begun, blank, Bool, breaks, Broadcast, broadcast_end, broadcast_from, broadcasts, by, Call, called, calls_claims, calls_for_claim, can_ask, can_broadcast, can_send, can_transfer, changes, claim_address, claim_from, claim_of, claimed, claimed_again, clock, comes, control_of, delayed, destination_of, double, doubled_news, drop, due, end_at, end_of, ended, Ending, ends_by, Err, false, first, found, FrameRecord, fresh, Full, got, handed, has_place, has_token, Hear, heard_at, heard_by, hearing, hears_if, hears_it, held_then, holder, holds, holds_back, in_broadcast, in_session, in_time, inl, is_acknowledgment, is_another, is_apart, is_asking, is_claim, is_coming, is_engaged, is_for_program, is_held, is_left, is_lost, is_message, is_open, is_out, is_packet, is_refusal_due, is_replaced, is_reply, is_session, is_smaller, is_that, is_there, is_transfer, is_unheard, IsAnswered, IsAside, joined, kept, known, later, latest, leaves, leaves_it, left, length, List, Lost, lost_news, made, made_of, marks, max, may_go, Message, message_from, message_of, MessageRecord, MessagesMissed, missed_news, moment, NameDoubled, nat_eq, nat_le, nat_lt, newly, news_of, NoAddress, None, not, of_other, Ok, older, open_ask, open_broadcast, open_transfer, OpenBroadcast, Option, option_map, option_or, owes_claim, packet_by, packets, packs, past, patience, pause, pgn_of, ps_of, Question, question, reached, Ready, Reception, reception, refl, ReleaseBroadcast, released_by, ReleaseTransfer, Renew, request_for, requests, rest, Resting, resting, rests_after, Running, Send, sends_if, sent, silent_end, slice_get, slice_set, Some, source_of, stamped, step, still, subst, suc, sym, TakeAskEnded, TakeBroadcastEnded, TakeEnded, TakeFrame, taken_by, TakeNews, TakeReceived, TakeRequest, TakeTransferEnded, Tick, ticked, time_heard, told, Transfer, transfer_by, transfer_end, transfers, transport_control_group, true, turn_frame, turn_of, turns, unheard_news, wait, Who, whole_by, whole_of, with_refusal, with_request, Withdraw, yields, ℕ}
+use Rattle.j39_node.specs.Hearing.{is_over}
 use Rattle.j39_transport.specs.Frames as frames
-use Rattle.j39_transport.specs.Key.{Broadcast as by}
-use Rattle.j39_frame.specs.Network.{transport_control_group}
 use Rattle.j39_transport.proofs.FrameFacts.{announcement_facts}
 use Rattle.j39_node.proofs.HearingLaws as hearing_laws
 use Rattle.j39_node.proofs.HearingLaws.{unequal}
@@ -32,8 +11,6 @@ use Rattle.j39_node.proofs.ReceptionLaws.{goes_there, to_others}
 use Rattle.j39_node.proofs.RequestStrangers.{and_false, to_another}
 use Rattle.j39_node.proofs.StrangerLaws.{no_more, open_stays}
 use Rattle.j39_node.proofs.ReceptionLemmas.{unclaimed_known}
-use Rattle.j39_node.specs.Is.{is_there, AreAnswered, IsAnswered, broadcast_end, control_of, end_of, news_of, packet_by, stamped, is_apart, turn_frame, turn_of, may_go}
-use Rattle.j39_node.specs.declared.turn.Ready.{Ready}
 use Rattle.j39_node.proofs.LawLemmas.{is_false as not_so}
 use Rattle.j39_node.proofs.PromptLaws.{answered_from as before}
 

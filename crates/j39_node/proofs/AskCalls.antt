@@ -1,15 +1,6 @@
 -- A call of `ask` more.
-use Rattle.std.proofs.Common.{◌≡◌, ℕ, suc, ◌≤◌, List, [], ◌∷◌, ◌++◌, length, Option, Some, None, Ok, Err, Bool, false, ◌||◌, nat_eq, nat_lt, refl, sym, ap, ◌∙◌, arith}
-use Rattle.j39_node.specs.declared.controller.Controller.{Controller}
+use Rattle.j39_node.proofs.Common.{[], ◌++◌, ◌||◌, ◌∙◌, ◌∷◌, ◌≡◌, ◌≤◌, accepted, answer_to_ask, ap, arith, Ask, ask_record, asking_of, AskRecord, At, Bool, Call, Controller, ended, Err, false, Is, is_asking, is_full, length, List, message_from, nat_eq, nat_lt, None, Ok, open_ask, Option, option_map, Outgoing, posted, question, reached, refl, Refused, request_for, Some, suc, sym, View, view, Who, ℕ}
 use Rattle.j39_node.specs.declared.asking.Open as asking
-use Rattle.j39_node.specs.declared.outgoing.Outgoing.{Outgoing}
-use Rattle.j39_node.specs.declared.kinds.Refused.{Refused}
-use Rattle.std.specs.Option.{option_map}
-use Rattle.j39_node.specs.History.{reached, Who, Call, accepted, is_full, message_from, request_for}
-use Rattle.j39_node.specs.History.Call.{At}
-use Rattle.j39_node.specs.History.Act.{Ask}
-use Rattle.j39_node.specs.Asking.{answer_to_ask, ended, is_asking, open_ask, question}
-use Rattle.j39_node.specs.Is.{AskRecord, Is, View, ask_record, asking_of, posted, view}
 use Rattle.j39_node.proofs.QueueLemmas.{length_one_more}
 use Rattle.j39_node.proofs.SoundLemmas.{sound}
 use Rattle.j39_node.proofs.AskLemmas.{asking_is}

@@ -1,9 +1,5 @@
 -- What `ask` answers.
-use Rattle.std.proofs.Common.{◌≡◌, ℕ, List, length, Result, Ok, Err, Bool, true, false, not, ◌&&◌, ◌||◌, if◌then◌else◌, nat_eq, nat_lt, refl, ap, ◌∙◌}
-use Rattle.j39_node.specs.declared.kinds.Refused.{Refused}
-use Rattle.j39_node.specs.declared.kinds.Refused.TheVariants.{NoAddress, BadValue, Full}
-use Rattle.j39_node.specs.History.{Who, Call, accepted, can_send, holds, is_full, is_sendable, request_for}
-use Rattle.j39_node.specs.Asking.{answer_to_ask, can_ask, is_asking, open_ask}
+use Rattle.j39_node.proofs.Common.{if◌then◌else◌, ◌&&◌, ◌||◌, ◌∙◌, ◌≡◌, accepted, answer_to_ask, ap, BadValue, Bool, Call, can_ask, can_send, Err, false, Full, holds, is_asking, is_full, is_sendable, length, List, nat_eq, nat_lt, NoAddress, not, Ok, open_ask, refl, Refused, request_for, Result, true, Who, ℕ}
 
 pub data AskCase (w : Who) (H : List Call) (now group to : ℕ) (answer : Result ℕ Refused) : Type 0 where
   homeless : holds w H now ≡ false → answer ≡ Err NoAddress → AskCase w H now group to answer

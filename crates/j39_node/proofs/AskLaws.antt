@@ -1,24 +1,8 @@
 -- The laws of requests.
-use Rattle.std.proofs.Common.{◌≡◌, ◌⊎◌, ◌↔◌, ℕ, suc, ◌+◌, ◌-◌, ◌<◌, ◌≤◌, List, [], ◌∷◌, ◌++◌, length, Option, Some, None, Result, Ok, Err, Bool, true, false, not, ◌&&◌, ◌||◌, if◌then◌else◌, nat_eq, nat_lt, refl, sym, ap, ◌∙◌, subst, inl, inr, arith, eqb-true, IsTrue, slice_set}
-use Rattle.std.specs.List.{slice_get}
-use Rattle.std.specs.Option.{option_map}
-use Rattle.j39_frame.specs.Frame.{FrameRecord}
+use Rattle.j39_node.proofs.Common.{[], if◌then◌else◌, ◌&&◌, ◌++◌, ◌+◌, ◌-◌, ◌<◌, ◌||◌, ◌↔◌, ◌∙◌, ◌∷◌, ◌≡◌, ◌≤◌, ◌⊎◌, accepted, Ack, Acknowledged, address_after, Again, Answer, Answered, ap, AreAnswered, arith, Ask, ask_end, AskedSince, AskEnding, asks, At, BadValue, Bool, Busy, Call, can_ask, claim_of, comes, Controller, Denied, end_at, ended, ends, eqb-true, Err, false, first, FrameRecord, Full, has_token, Hear, HeardFirst, holds, inl, inr, Is, is_acknowledgment, is_answer, is_asking, is_claim, is_full, is_lost, is_message, is_request, is_session, is_smaller, IsAnswered, IsTrue, length, List, made, marks, message_from, moment, Nack, nat_eq, nat_lt, NoAddress, None, NoneEnds, not, Ok, open_ask, Option, option_map, passed_in, past, Question, question, RanOut, reached, reaches, refl, Refused, request_for, Result, says_to, seeks, silent_end, slice_get, slice_set, Some, step, subst, suc, sym, TakeAskEnded, TakeFrame, time_heard, TimedOut, told, told_asks, true, wait, Who, Withdraw, ℕ}
+use Rattle.j39_node.specs.declared.kinds.AskEnding.TheVariants.{Withdrawn}
+use Rattle.j39_node.specs.Asking.{is_reply, is_taken, said_by}
 use Rattle.j39_node.proofs.WithdrawLemmas.{get_front, unpassed}
-use Rattle.j39_node.specs.declared.controller.Controller.{Controller}
-use Rattle.j39_node.specs.declared.kinds.Answer.{Answer}
-use Rattle.j39_node.specs.declared.kinds.Answer.TheVariants.{Ack, Nack, Denied, Busy}
-use Rattle.j39_node.specs.declared.kinds.AskEnding.{AskEnding}
-use Rattle.j39_node.specs.declared.kinds.AskEnding.TheVariants.{Answered, Acknowledged, TimedOut, Withdrawn}
-use Rattle.j39_node.specs.declared.kinds.Refused.{Refused}
-use Rattle.j39_node.specs.declared.kinds.Refused.TheVariants.{NoAddress, BadValue, Full}
-use Rattle.j39_node.specs.History.{reached, Who, Call, accepted, address_after, holds, is_acknowledgment, is_claim, is_full, is_lost, is_session, is_smaller, message_from, moment, request_for, step, told, marks, past}
-use Rattle.j39_node.specs.History.Call.{At, TakeAskEnded, Withdraw}
-use Rattle.j39_node.specs.History.Act.{Ask, Hear, TakeFrame, Again}
-use Rattle.j39_address.specs.Claim.{claim_of}
-use Rattle.j39_node.specs.Since.{passed_in}
-use Rattle.j39_node.specs.Reception.{time_heard, is_message}
-use Rattle.j39_node.specs.Asking.{seeks, made, AskedSince, HeardFirst, NoneEnds, Question, RanOut, ask_end, asks, can_ask, comes, end_at, ended, ends, first, has_token, is_answer, is_asking, is_reply, is_request, is_taken, open_ask, question, reaches, said_by, says_to, silent_end, told_asks, wait}
-use Rattle.j39_node.specs.Is.{AreAnswered, Is, IsAnswered}
 use Rattle.j39_node.proofs.AskCases.{AskCase, ask_case, homeless, unfit, busy, asks as accepts}
 use Rattle.j39_node.proofs.QueueLemmas.{get_append, length_one_more}
 use Rattle.j39_node.proofs.SoundLemmas.{both, lost_older, sound, lost_unclaimed, grows_on, passes_request, request_stays}

@@ -1,13 +1,6 @@
 -- The open request, a call more.
-use Rattle.std.proofs.Common.{◌≡◌, ℕ, suc, List, ◌∷◌, Option, Some, None, Bool, true, ◌||◌, nat_eq, nat_lt, refl, sym, ap, ◌∙◌, arith, slice_set}
-use Rattle.std.specs.Option.{option_map}
-use Rattle.j39_frame.specs.Frame.{FrameRecord}
+use Rattle.j39_node.proofs.Common.{◌||◌, ◌∙◌, ◌∷◌, ◌≡◌, ap, AreAnswered, arith, asked_by, AskEnding, asking_after, AskRecord, Bool, Call, end_at, ended, first, FrameRecord, hears_with, is_asking, List, marks, nat_eq, nat_lt, None, open_ask, Option, option_map, past, Question, reached, refl, silence, slice_set, Some, suc, sym, true, Who, Withdraw, ℕ}
 use Rattle.j39_node.proofs.WithdrawLemmas.{unpassed}
-use Rattle.j39_node.specs.declared.kinds.AskEnding.{AskEnding}
-use Rattle.j39_node.specs.History.{reached, Who, Call, marks, past}
-use Rattle.j39_node.specs.History.Call.{Withdraw}
-use Rattle.j39_node.specs.Asking.{Question, end_at, ended, first, is_asking, open_ask}
-use Rattle.j39_node.specs.Is.{AskRecord, asked_by, asking_after, hears_with, silence, AreAnswered}
 use Rattle.j39_node.proofs.SoundLemmas.{passes_request, request_stays}
 
 -- a message is taken

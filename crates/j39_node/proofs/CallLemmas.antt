@@ -1,54 +1,15 @@
 -- A call more.
-use Rattle.std.proofs.Common.{ltb-true, ◌≡◌, ℕ, suc, ◌+◌, ◌-◌, ◌<◌, ◌≤◌, List, [], ◌∷◌, ◌++◌, length, map, drop, max, min, Option, Some, None, IfSome, Result, Ok, Err, Bool, true, false, not, ◌&&◌, ◌||◌, if◌then◌else◌, nat_eq, nat_lt, nat_le, refl, sym, ap, ◌∙◌, subst, arith, lt-ltb, eqb-true, inl, inr, ◌*◌, slice_set, ltb-false}
-use Rattle.std.specs.List.{slice_get}
-use Rattle.std.specs.Option.{option_map, option_or}
-use Rattle.j39_frame.specs.Frame.{FrameRecord}
-use Rattle.j39_address.specs.Claim.{claim_of}
-use Rattle.j39_address.specs.Claims.{Knows, holder_in}
-use Rattle.j39_transport.specs.Message.{MessageRecord}
-use Rattle.std.proofs.lemmas.List.{drop-map, length-drop, length-set}
-use Rattle.j39_node.specs.declared.kinds.Ending.{Ending}
+use Rattle.j39_node.proofs.Common.{[], if◌then◌else◌, ◌&&◌, ◌*◌, ◌++◌, ◌+◌, ◌-◌, ◌<◌, ◌||◌, ◌∙◌, ◌∷◌, ◌≡◌, ◌≤◌, accepted, Acknowledge, acknowledged, acknowledgment, Address, address_after, after, Again, age, all_transfers, anew, Answer, answer_to_acknowledge, answer_to_broadcast, answer_to_send, answer_to_transfer, ap, AreAnswered, arith, Asked, asked, asked_by, AskEnding, asking_of, AskRecord, asks_claims, asks_with, At, at_in, BadValue, begun, blank, Bool, breaks_it, Broadcast, broadcast_from, broadcasts, Busy, Call, called, calls_for_claim, can_broadcast, can_claim, can_send, can_transfer, claim_address, claim_due, claim_from, claim_goes, claim_of, Claimed, claimed, claimed_again, Claims, claims, clock, clock_at, closed, comes, content, control_of, Controller, counted, delayed, Done, double, Draft, drop, drop-map, Due, due, end_of, ended, Ending, ending_of, ends_by, eqb-true, Err, false, FrameRecord, fresh, Full, gives_way, got, handed, has_packets, has_place, has_token, Hear, heard, heard_at, heard_by, hearing, hearing_after, hearing_of, HearingRecord, hears_if, hears_it, hears_with, held_at, Hold, hold_acknowledged, hold_after, hold_asked, hold_claimed, hold_opens, hold_spoken, hold_went, holder, holder_in, holds, holds_back, IfSome, in_broadcast, in_session, Incoming, incoming_after, incoming_of, IncomingRecord, inl, inr, Is, is_acknowledgment, is_another, is_apart, is_blank, is_busy, is_claim, is_coming, is_double, is_engaged, is_for_program, is_full, is_held, is_left, is_lost, is_move, is_open, is_out, is_packet, is_refusal_due, is_replaced, is_reply, is_resting, is_same, is_served, is_session, is_smaller, is_there, is_turn, is_unheard, IsAnswered, IsApart, IsFit, IsNamed, kept, known, Knows, lane_after, lane_of, later, latest, leaves, leaves_it, left, left_at, length, length-drop, length-set, less, List, Lost, lost, lt-ltb, ltb-false, ltb-true, made, made_by, made_of, made_whole, map, marks, max, may_claim, may_go, Message, message_from, message_of, MessageRecord, min, missed, missed_news, moment, Move, Nack, named_in, nat_eq, nat_le, nat_lt, newly, news_after, next_acknowledgment, next_due, next_frame, next_packet, next_renewed, next_transfer, next_transfer_ended, next_turn, next_withdrawn, NoAddress, None, not, NotClaimed, nothing, offered, Ok, older, Open, open_ask, open_broadcast, open_transfer, OpenBroadcast, opened, Option, option_map, option_or, other, Outgoing, owes_claim, packet_by, packets, packets_in, passed, past, patience, pause, paused, place_of, port_after, port_of, posted, reached, Ready, ready, ready_in, received_by, reception, ReceptionRecord, refl, refusal_by, Refused, Renew, Renews, Reply, Request, request_by, requests, rest, restarts, rested, resting, resting_by, rests_after, Result, Running, running, Said, said_by, Send, sends_if, session_by, silence, Single, slice_get, slice_get_past, slice_get_within, slice_set, Some, sooner, stamp_at, stamp_micros, stamped, Standing, standing_of, stands, step, still, subst, suc, sym, TakeEnded, TakeFrame, taken_by, TakeRequest, TakeTransferEnded, Tick, ticks, time_heard, told, told_claims, Transfer, transfer_by, transfer_end, transfer_in, TransferEnding, true, Turn, turn_frame, turn_of, turns, unclaimed, unclaims, unheard_by, unheard_news, Untold, View, view, wait, waiting, Who, who_of, whole, whole_of, with_called, with_reception, with_refusal, with_replies, with_request, Withdraw, Withdrawn, yields, ℕ}
+use Rattle.j39_node.specs.Reception.{is_waiting}
+use Rattle.j39_node.specs.Transfers.{packet_in}
+use Rattle.j39_node.specs.Is.{hears}
+use Rattle.j39_node.specs.declared.turn.Turn.TheVariants.{Packet}
 use Rattle.j39_node.proofs.WithdrawLemmas.{past_rest}
-use Rattle.j39_node.specs.declared.controller.Controller.{Controller}
-use Rattle.j39_node.specs.declared.hold.Hold.{Hold}
-use Rattle.j39_node.specs.declared.hold.Standing.{Standing}
 use Rattle.j39_node.specs.declared.hold.Standing.TheVariants as standing
-use Rattle.j39_node.specs.declared.lane.Open.{Open}
 use Rattle.j39_node.specs.declared.transfers.Open as transfers
-use Rattle.j39_node.specs.declared.kinds.TransferEnding.{TransferEnding}
-use Rattle.j39_node.specs.declared.outgoing.Outgoing.{Outgoing}
-use Rattle.std.proofs.lemmas.Option.{slice_get_past, slice_get_within}
-use Rattle.j39_node.specs.declared.news.Untold.{Untold}
-use Rattle.j39_node.specs.declared.requests.Due.{Due}
-use Rattle.j39_node.specs.declared.requests.Request.{Request}
-use Rattle.j39_node.specs.declared.kinds.Answer.{Answer}
-use Rattle.j39_node.specs.declared.kinds.Answer.TheVariants.{Nack, Busy}
-use Rattle.j39_node.specs.declared.kinds.Ending.TheVariants.{Done, Withdrawn}
-use Rattle.j39_node.specs.declared.kinds.Refused.{Refused}
-use Rattle.j39_node.specs.declared.kinds.Refused.TheVariants.{NoAddress, BadValue, Full}
-use Rattle.j39_node.specs.declared.kinds.AskEnding.{AskEnding}
-use Rattle.j39_transport.specs.Reception.{ReceptionRecord}
-use Rattle.j39_node.specs.Asking.{comes, in_broadcast, in_session, is_coming, made, made_of, ended, has_token, open_ask, wait}
 use Rattle.j39_node.proofs.AskLemmas.{ask_heard, ask_more, takes, token_of, ask_withdrawn}
-use Rattle.j39_node.specs.Is.{AskRecord, made_by, asking_of, hears_with, silence, claim_due, next_renewed, Renews, may_go, next_withdrawn, place_of, ending_of, AreAnswered, View, view, after, asked_by, IsAnswered, hearing_after}
-use Rattle.j39_node.specs.Hold.{acknowledged as hold_acknowledged, claimed as hold_claimed, rested, spoken as hold_spoken, went as hold_went, asked as hold_asked, standing_of, less, passed, heard, claims, paused, stands, lost, left_at, opens as hold_opens, can_claim, unclaims, anew}
-use Rattle.j39_node.specs.History.{reached, nothing, patience, turns, Who, Message, Draft, Call, Address, message_of, older, claimed, address_after, holds, is_lost, is_held, is_smaller, claim_address, claim_from, owes_claim, calls_for_claim, can_send, message_from, accepted, told, is_full, step, moment, is_for_program, kept, got, missed, Asked, asked, acknowledgment, acknowledged, due, handed, requests, is_served, with_request, with_refusal, stamp_at, held_at, told_claims, is_another, is_acknowledgment, is_claim, missed_news, broadcasts, broadcast_from, can_broadcast, has_packets, is_busy, is_left, is_open, is_packet, open_broadcast, packets, pause, asks_with, is_session, content, fresh, is_refusal_due, delayed, is_double, may_claim, double, unclaimed, latest, marks, past, blank, is_blank}
-use Rattle.j39_node.specs.History.Call.{At, TakeEnded, TakeRequest, TakeTransferEnded, Renew, Withdraw}
-use Rattle.j39_node.specs.History.Act.{Hear, Tick, TakeFrame, Send, Acknowledge, Broadcast, Transfer, Again}
 use Rattle.j39_node.proofs.ReceptionLaws.{made_is}
-use Rattle.j39_node.specs.Reception.{yields, has_place, IsApart, heard_at, heard_by, holder, is_same, is_waiting, later, leaves, left, reception, time_heard, whole, known, asks_claims, called, claimed_again, restarts, still, is_reply, taken_by, is_move}
-use Rattle.j39_node.specs.declared.incoming.Incoming.{Incoming}
-use Rattle.j39_node.specs.declared.incoming.Said.{Said}
-use Rattle.j39_address.specs.declared.claims.Claims.{Claims}
 use Rattle.j39_node.proofs.ReceptionLemmas.{leaves_is, replied_get, tidy, again_is, calls_is, leaves_still, no_reply}
-use Rattle.j39_node.specs.Transfers.{holds_back, is_resting, rest, resting, rests_after, Running, age, answer_to_transfer, at_in, begun, can_transfer, clock, clock_at, is_engaged, next_due, next_transfer, next_transfer_ended, hears_if, is_replaced, open_transfer, packet_in, packets_in, sends_if, sooner, transfer_by, transfer_end, transfer_in, transfers as all_transfers}
-use Rattle.j39_node.specs.History.Address.{NotClaimed, Claimed, Lost}
-use Rattle.j39_node.specs.Is.{Is, claim_goes, gives_way, is_there, next_acknowledgment, stamped, next_frame, end_of, answer_to_send, answer_to_acknowledge, hold_after, who_of, posted, received_by, request_by, refusal_by, offered, counted, opened, lane_of, lane_after, packet_by, control_of, next_packet, IncomingRecord, IsNamed, incoming_of, incoming_after, named_in, session_by, with_called, said_by, with_reception, with_replies, hears, answer_to_broadcast, closed, port_after, port_of, resting_by, running, HearingRecord, hearing_of, news_after, ticks, is_turn, next_turn, other, ready_in, turn_frame, turn_of, is_apart, ready}
-use Rattle.j39_node.specs.declared.turn.Ready.{Ready}
-use Rattle.j39_node.specs.declared.turn.Turn.{Turn}
-use Rattle.j39_node.specs.declared.turn.Turn.TheVariants.{Reply, Single, Packet, Move}
-use Rattle.j39_frame.specs.Stamp.{stamp_micros}
-use Rattle.j39_node.specs.Hearing.{IsFit, breaks as breaks_it, hearing, hears as hears_it, is_out, is_unheard, left as leaves_it, made_whole, newly, unheard_news, waiting, whole_of, OpenBroadcast, ends_by, unheard_by}
 use Rattle.j39_node.proofs.HearingLemmas.{always, broken_news, claimed_on, either_news, hearing_same, heard_on, is_hearing, leaves_on, news_same, missed_one}
 use Rattle.j39_node.proofs.QueueLemmas.{length_one_more, length_map, map_append, length_rest, in_rest, not_in_rest, First, drop_append, get_at, get_map, get_of_drop}
 use Rattle.j39_node.proofs.SoundLemmas.{apart_is, reply_is, IsTurn, frame_there, is_directed, overdue_due, packet_there, some_at, turn_is, turned, sound, own_of, due_get, due_taken, claim_taken, message_taken, plain_taken, frame_by, front_length, held_not_lost, holding_not_lost, lost_older, read, single_taken, claim_single, no_packet, packet_session, reply_taken, packet_taken, no_transfer, transfer_taken, no_move, reply_no_move, is_moved, Sound, withdraw_case}

@@ -1,15 +1,8 @@
 -- When a frame of packets is due.
-use Rattle.std.proofs.Common.{◌≡◌, ◌⊎◌, ℕ, ◌+◌, ◌-◌, ◌<◌, ◌≤◌, List, length, Option, Some, None, Bool, true, false, ◌&&◌, if◌then◌else◌, nat_lt, nat_le, min, refl, sym, ap, ◌∙◌, inl, inr, arith, lt-ltb, ltb-true, ltb-false}
-use Rattle.std.specs.Option.{option_map}
-use Rattle.j39_transport.specs.Message.{MessageRecord, packets_of}
-use Rattle.j39_transport.specs.Protocol.{timeout}
-use Rattle.j39_transport.specs.Sending.{SendState, Idle, Waiting, Sending, Done, Failed, Tick, SendResult, send_step, sends_packet, silent, ticks_in}
-use Rattle.j39_transport.specs.SenderNext.{sends_in}
-use Rattle.j39_transport.specs.Signals.{Abort, Signal}
-use Rattle.j39_node.specs.History.{Who, Message, Call, frame_of, has_packets, is_left, moment, open_broadcast, packets, pause, step}
-use Rattle.j39_node.specs.Is.{long_by, next_long, next_packet, packet_by}
+use Rattle.j39_node.proofs.Common.{if◌then◌else◌, ◌&&◌, ◌+◌, ◌-◌, ◌<◌, ◌∙◌, ◌≡◌, ◌≤◌, ◌⊎◌, Abort, age, ap, arith, at_in, Bool, Call, clock, Failed, false, frame_of, gives_up, has_packets, Idle, inl, inr, is_left, length, List, long_by, lt-ltb, ltb-false, ltb-true, Message, MessageRecord, min, moment, nat_le, nat_lt, next_long, next_packet, next_transfer, None, open_broadcast, open_transfer, Option, option_map, packet_by, packets, packets_in, packets_of, pause, refl, Running, running_in, says, send_step, Sending, SendResult, sends_in, sends_packet, SendState, Signal, signal_by, silent, Some, sooner, step, sym, ticks_in, timeout, transfer_by, transfer_in, true, Waiting, Who, ℕ}
+use Rattle.j39_transport.specs.Sending.{Done, Tick}
+use Rattle.j39_node.specs.Transfers.{packet_in}
 use Rattle.j39_node.proofs.FrameLemmas.{le_true}
-use Rattle.j39_node.specs.Transfers.{Running, age, at_in, clock, gives_up, next_transfer, open_transfer, packet_in, packets_in, running_in, says, signal_by, sooner, transfer_by, transfer_in}
 
 -- ---- a frame isn't due yet
 

@@ -1,26 +1,9 @@
 -- That every transfer ends.
-use Rattle.std.proofs.Common.{◌≡◌, ◌⊎◌, ℕ, ◌+◌, ◌*◌, ◌/◌, ◌<◌, ◌≤◌, List, [], ◌∷◌, ◌++◌, length, Option, Some, None, Ok, Bool, true, false, not, ◌&&◌, ◌||◌, if◌then◌else◌, nat_eq, nat_le, nat_lt, refl, sym, ap, ◌∙◌, subst, arith, inl, inr}
-use Rattle.std.specs.Option.{option_map}
-use Rattle.std.proofs.lemmas.Bool.{and_parts, cond_both}
-use Rattle.j39_frame.specs.Frame.{FrameRecord}
-use Rattle.j39_transport.specs.Message.{MessageRecord, packets_of}
-use Rattle.j39_transport.specs.Protocol.{timer_t3}
+use Rattle.j39_node.proofs.Common.{[], if◌then◌else◌, ◌&&◌, ◌*◌, ◌++◌, ◌+◌, ◌/◌, ◌<◌, ◌||◌, ◌∙◌, ◌∷◌, ◌≡◌, ◌≤◌, ◌⊎◌, Abort, aborted, address_after, Again, age, all_transfers, and_parts, ap, AreAnswered, arith, At, begun, Bool, broadcast_from, broken_off, Call, can_broadcast, can_transfer, claims_anew, clears, clock_at, cond_both, Controller, ending_by, false, FrameRecord, gives_up, Gone, granted_after, granted_by, Hear, hears, hears_if, holder, inl, inr, Is, is_engaged, is_held, is_idle, is_lost, is_move, is_replaced, is_resting, is_running, is_sendable, is_spent, IsAnswered, IsPrompt, length, List, listens, long_by, Message, MessageRecord, moment, nat_eq, nat_le, nat_lt, new_sender, next_frame, next_packet, next_transfer, next_transfer_ended, None, NoneTold, not, Ok, open_transfer, Option, option_map, packets_of, passed_in, refl, Running, says, send_step, SenderRecord, sends, sends_if, SendState, Signal, signal_by, Some, spent_after, step, subst, sym, TakeFrame, TakeTransferEnded, tells_transfer, ticks_in, timer_t3, Transfer, transfer_by, transfer_end, TransferEnding, true, waited_in, Who, ℕ}
+use Rattle.j39_transport.specs.Sending.{Heard, Tick}
+use Rattle.j39_node.specs.declared.kinds.TransferEnding.TheVariants.{Done, Withdrawn, Failed}
+use Rattle.j39_node.specs.Transfers.{said_to}
 use Rattle.j39_transport.specs.Sending as sending
-use Rattle.j39_transport.specs.Sending.{SenderRecord, SendState, Heard, Tick, aborted, is_idle, is_running, new_sender, send_step, ticks_in}
-use Rattle.j39_transport.specs.SenderNext.{granted_by}
-use Rattle.j39_transport.specs.Signals.{Signal, Abort}
-use Rattle.j39_node.specs.declared.controller.Controller.{Controller}
-use Rattle.j39_node.specs.declared.kinds.TransferEnding.{TransferEnding}
-use Rattle.j39_node.specs.declared.kinds.TransferEnding.TheVariants.{Done, Withdrawn, Failed, Gone}
-use Rattle.j39_node.specs.History.{Who, Message, Call, address_after, broadcast_from, can_broadcast, is_held, is_lost, is_sendable, moment, step}
-use Rattle.j39_node.specs.History.Call.{At, TakeTransferEnded}
-use Rattle.j39_node.specs.History.Act.{Hear, TakeFrame, Transfer, Again}
-use Rattle.j39_node.specs.Is.{AreAnswered, Is, IsAnswered, long_by, next_frame, next_packet}
-use Rattle.j39_node.specs.Prompt.{IsPrompt, NoneTold, tells_transfer, waited_in, claims_anew}
-use Rattle.j39_node.specs.Reception.{holder, is_move}
-use Rattle.j39_node.specs.Since.{passed_in}
-use Rattle.j39_node.specs.Transfers.{Running, age, begun, broken_off, can_transfer, clock_at, ending_by, gives_up, granted_after, hears, hears_if, is_engaged, is_replaced, is_resting, is_spent, listens, next_transfer, next_transfer_ended, open_transfer, said_to, says, sends, sends_if, signal_by, spent_after, transfer_by, transfer_end, transfers as all_transfers}
-use Rattle.j39_node.specs.Moves.{clears}
 use Rattle.j39_node.proofs.EndSteps.{HeardCase, IsEnded, Timely, accepted_now, heard_case, heard_timely, most, none_timely, passes, ticked_timely, times_more}
 use Rattle.j39_node.proofs.EndSteps.HeardCase.{same, ends, holds as holds_on, clears as is_cleared}
 use Rattle.j39_node.proofs.LaneLaws.{none_long}

@@ -1,13 +1,6 @@
 -- How long a transfer waits, step by step of its sender.
-use Rattle.std.proofs.Math.Nat.{add-mul, suc-mul}
-use Rattle.std.proofs.Common.{◌≡◌, ◌⊎◌, ℕ, suc, ◌+◌, ◌-◌, ◌*◌, ◌<◌, ◌≤◌, Option, Some, None, Bool, true, false, ◌&&◌, ◌||◌, ◌==◌, if◌then◌else◌, length, nat_lt, max, min, refl, sym, ap, ◌∙◌, subst, arith, inl, inr}
-use Rattle.std.proofs.lemmas.Bool.{cond_both}
-use Rattle.j39_transport.specs.Message.{packets_of}
-use Rattle.j39_transport.specs.Protocol.{timeout, timer_t3, timer_t4}
-use Rattle.j39_transport.specs.Sending.{SenderRecord, SendState, Idle, Waiting, Sending, Done, Failed, aborted, acknowledged, cleared, hears, is_idle, is_running, is_waiting, may_name, sends_packet, ticks_in, waits}
-use Rattle.j39_transport.specs.SenderNext.{granted_by}
-use Rattle.j39_transport.specs.Signals.{Signal, ClearToSend, Acknowledgment, Abort}
-use Rattle.j39_node.specs.Transfers.{granted_after, spent_after}
+use Rattle.j39_node.proofs.Common.{if◌then◌else◌, ◌&&◌, ◌*◌, ◌+◌, ◌-◌, ◌<◌, ◌==◌, ◌||◌, ◌∙◌, ◌≡◌, ◌≤◌, ◌⊎◌, Abort, aborted, Acknowledgment, add-mul, ap, arith, Bool, cleared, ClearToSend, cond_both, Failed, false, granted_after, granted_by, Idle, inl, inr, is_idle, is_running, is_waiting, length, max, may_name, min, nat_lt, None, Option, packets_of, refl, SenderRecord, Sending, sends_packet, SendState, Signal, Some, spent_after, subst, suc, suc-mul, sym, ticks_in, timeout, timer_t3, timer_t4, true, Waiting, waits, ℕ}
+use Rattle.j39_transport.specs.Sending.{Done, acknowledged, hears}
 
 -- ---- how long after its acceptance it is where it is, at most
 

@@ -1,14 +1,5 @@
 -- Frames that are made, and the lane of broadcasts.
-use Rattle.std.proofs.Common.{◌≡◌, ◌↔◌, ℕ, ◌<◌, ◌≤◌, List, length, Option, Some, None, IsSome, IfSome, Bool, true, false, ◌&&◌, if◌then◌else◌, nat_le, nat_lt, ◌==◌, refl, sym, ap, ◌∙◌, arith, lt-ltb, subst}
-use Rattle.std.specs.Option.{option_map}
-use Rattle.j39_frame.specs.Frame.{FrameRecord}
-use Rattle.j39_frame.specs.Network.{transport_control_group, transport_data_group}
-use Rattle.j39_transport.specs.Cutting.{ToSend, cut_frame}
-use Rattle.j39_transport.specs.Message.{MessageRecord, packets_of, as_broadcast}
-use Rattle.j39_node.specs.declared.kinds.Ending.{Ending}
-use Rattle.j39_node.specs.declared.kinds.Ending.TheVariants.{Done, Withdrawn}
-use Rattle.j39_node.specs.History.{Message, carried, frame_of, is_left}
-use Rattle.j39_node.specs.Is.{stamped, packet_by, broadcast_end}
+use Rattle.j39_node.proofs.Common.{if◌then◌else◌, ◌&&◌, ◌<◌, ◌==◌, ◌↔◌, ◌∙◌, ◌≡◌, ◌≤◌, ap, arith, as_broadcast, Bool, broadcast_end, carried, cut_frame, Done, Ending, false, frame_of, FrameRecord, IfSome, is_left, IsSome, length, List, lt-ltb, Message, MessageRecord, nat_le, nat_lt, None, Option, option_map, packet_by, packets_of, refl, Some, stamped, subst, sym, ToSend, transport_control_group, transport_data_group, true, Withdrawn, ℕ}
 
 -- the frame that is made is one of this message
 pub made : (r : Option FrameRecord) (now id : ℕ) (bytes : List ℕ) (m : Message) → (IsSome r ↔ (length bytes ≤ 8))

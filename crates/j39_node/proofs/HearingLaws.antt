@@ -1,32 +1,15 @@
 -- The laws of broadcasts in packets that are heard.
-use Rattle.std.proofs.Common.{◌≡◌, ◌≢◌, ◌⊎◌, ◌↔◌, ℕ, suc, ◌+◌, ◌-◌, ◌*◌, ◌<◌, ◌≤◌, List, [], ◌∷◌, ◌++◌, length, take, drop, slice_index, Option, Some, None, IfSome, Bool, true, false, not, ◌&&◌, ◌||◌, if◌then◌else◌, nat_eq, nat_le, IsTrue, refl, sym, ap, ◌∙◌, subst, inl, inr, arith, append-nil, eq-eqb, lt-ltb, ltb-false}
-use Rattle.std.proofs.lemmas.Bool.{leb-false, leb-true, lt-leb}
-use Rattle.std.proofs.lemmas.Grind.{flat_map-append}
-use Rattle.std.proofs.lemmas.List.{length-append, length-take-le, take-append-drop, length-drop}
-use Rattle.j39_frame.specs.Frame.{FrameRecord}
-use Rattle.j39_frame.specs.Identifier.{source_of}
-use Rattle.j39_address.specs.Claim.{claim_of}
-use Rattle.j39_transport.specs.Carries.{AreNumbered, joined}
-use Rattle.j39_transport.specs.Frames.{is_announcement, is_packet, packets_for, pgn_named, size_named}
-use Rattle.j39_transport.specs.Key.{Key, Broadcast as by}
-use Rattle.j39_transport.specs.Message.{MessageRecord}
+use Rattle.j39_node.proofs.Common.{[], if◌then◌else◌, ◌&&◌, ◌*◌, ◌++◌, ◌+◌, ◌-◌, ◌<◌, ◌||◌, ◌↔◌, ◌∙◌, ◌∷◌, ◌≡◌, ◌≢◌, ◌≤◌, ◌⊎◌, account, announced, announces, ap, append-nil, AreAnswered, AreNumbered, arith, At, Bool, breaks, broadcast_limit, by, Call, changes, chosen, claim_of, Controller, drop, ends_by, eq-eqb, expires, false, flat_map-append, found, FrameRecord, frames_heard, got_broadcasts, grown, has_place, has_room, Hear, heard_at, hearing, hearing_tick, HearingRecord, holder, IfSome, in_time, inl, inr, Is, is_announcement, is_beside, is_claim, is_ignored, is_late, is_out, is_own_group, is_partial, is_same, is_subscribed, is_unheard, is_wanted, is_whole, IsFit, IsHeardOf, IsPartOf, IsTrue, KeepsHolder, Key, known, known_by, late_at, leb-false, leb-true, length, length-drop, length-take-le, List, listed, lt-leb, lt-ltb, ltb-false, made_whole, message_by, MessageRecord, MessagesMissed, more, nat_eq, nat_le, NeverBack, newly, None, not, OpenBroadcast, opens, Option, packed, packets_for, packs, passed_in, pgn_named, refl, ReleaseBroadcast, since_in, size_named, skips, slice_index, Some, source_of, stamp_at, StaysHeard, subst, suc, sym, take, take-append-drop, TakeFrame, TakeNews, Tick, TicksWithin, time_heard, true, unheard, unheard_by, unheard_news, waiting, WasBroadcast, Who, whole_broadcasts, whole_of, ℕ}
+use Rattle.std.proofs.lemmas.List.{length-append}
+use Rattle.j39_transport.specs.Carries.{joined}
+use Rattle.j39_transport.specs.Frames.{is_packet}
+use Rattle.j39_node.specs.Hearing.{begun, ended, hears, is_over, left, opened, passed}
 use Rattle.j39_transport.proofs.FrameFacts.{announcement_facts}
-use Rattle.j39_node.specs.declared.controller.Controller.{Controller}
-use Rattle.j39_node.specs.declared.kinds.News.TheVariants.{MessagesMissed}
-use Rattle.j39_node.specs.History.{Who, Call, is_claim, is_own_group, is_subscribed, stamp_at}
-use Rattle.j39_node.specs.History.Call.{At, TakeNews, ReleaseBroadcast}
-use Rattle.j39_node.specs.History.Act.{Hear, Tick, TakeFrame}
-use Rattle.j39_node.specs.Hearing.{account, announced, announces, begun, breaks, changes, chosen, ended, ends_by, found, got_broadcasts, grown, has_room, hearing, hearing_tick, hears, in_time, is_beside, is_ignored, is_late, is_out, is_over, is_partial, is_unheard, is_wanted, is_whole, IsFit, IsPartOf, late_at, left, expires, made_whole, message_by, more, newly, OpenBroadcast, opened, opens, packed, packs, passed, since_in, skips, unheard, unheard_by, unheard_news, waiting, WasBroadcast, whole_broadcasts, whole_of}
-use Rattle.j39_node.specs.Is.{AreAnswered, HearingRecord, Is}
-use Rattle.j39_node.specs.Reception.{KeepsHolder, frames_heard, has_place, heard_at, holder, is_same, listed, time_heard, known, known_by}
 use Rattle.j39_node.proofs.ReceptionLemmas.{unclaimed_known}
 use Rattle.j39_node.proofs.ReceptionLaws.{after_moment, before_moment, same_is}
 use Rattle.j39_node.proofs.HearingLemmas.{Effect, begins, ends, grows, stays, effect, fit, hearing_same, left_keeps, left_none, same_same, unchanged, packs_eight, drop_one}
 use Rattle.j39_node.proofs.FrameLemmas.{le_true, lt_false}
 use Rattle.j39_node.proofs.SessionLaws.{ages}
-use Rattle.j39_node.specs.Since.{NeverBack, passed_in}
-use Rattle.j39_node.specs.Ticks.{IsHeardOf, StaysHeard, TicksWithin}
-use Rattle.j39_transport.specs.Protocol.{broadcast_limit}
 
 -- ---- each once, in order
 

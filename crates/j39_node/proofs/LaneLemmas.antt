@@ -1,17 +1,5 @@
 -- What every answered history says of broadcasts.
-use Rattle.std.proofs.Common.{◌≡◌, ℕ, suc, ◌-◌, ◌<◌, ◌≤◌, List, [], ◌∷◌, ◌++◌, length, Option, Some, None, Result, Ok, Err, Bool, true, false, ◌||◌, if◌then◌else◌, nat_lt, refl, sym, ap, ◌∙◌, subst, arith, ltb-true}
-use Rattle.std.specs.List.{slice_get}
-use Rattle.j39_frame.specs.Frame.{FrameRecord}
-use Rattle.j39_transport.specs.Message.{MessageRecord, packets_of}
-use Rattle.j39_node.specs.declared.kinds.Ending.{Ending}
-use Rattle.j39_node.specs.declared.kinds.Ending.TheVariants.{Done, Withdrawn}
-use Rattle.j39_node.specs.declared.kinds.Refused.{Refused}
-use Rattle.j39_node.specs.declared.kinds.Refused.TheVariants.{NoAddress, BadValue, Full}
-use Rattle.j39_node.specs.History.{Who, Message, Call, acknowledged, due, address_after, broadcast_from, broadcasts, can_broadcast, first_frames, frame_of, holds, is_busy, is_lost, is_open, is_packet, open_broadcast, packets, pause, step, told_broadcasts}
-use Rattle.j39_node.specs.History.Call.{At, TakeBroadcastEnded}
-use Rattle.j39_node.specs.History.Act.{TakeFrame, Broadcast}
-use Rattle.j39_node.specs.Reception.{reception}
-use Rattle.j39_node.specs.Is.{AreAnswered, answer_to_broadcast, broadcast_end, stamped}
+use Rattle.j39_node.proofs.Common.{[], if◌then◌else◌, ◌++◌, ◌-◌, ◌<◌, ◌||◌, ◌∙◌, ◌∷◌, ◌≡◌, ◌≤◌, acknowledged, address_after, answer_to_broadcast, ap, AreAnswered, arith, At, BadValue, Bool, Broadcast, broadcast_end, broadcast_from, broadcasts, Call, can_broadcast, Done, due, Ending, Err, false, first_frames, frame_of, FrameRecord, Full, holds, is_busy, is_lost, is_open, is_packet, length, List, ltb-true, Message, MessageRecord, nat_lt, NoAddress, None, Ok, open_broadcast, Option, packets, packets_of, pause, reception, refl, Refused, Result, slice_get, Some, stamped, step, subst, suc, sym, TakeBroadcastEnded, TakeFrame, told_broadcasts, true, Who, Withdrawn, ℕ}
 use Rattle.j39_node.proofs.QueueLemmas.{length_one_more}
 use Rattle.j39_node.proofs.SoundLemmas.{FrameCase, PacketCase, frame_case, packet_case, packet_taken, packets_is, sound, claim_taken, claim_single, due_get, due_taken, no_packet, own_of, reply_taken, single_taken, no_packet, transfer_taken}
 use Rattle.j39_node.proofs.ReceptionLemmas.{replied_get, tidy}

@@ -1,36 +1,10 @@
 -- The laws.
-use Rattle.std.proofs.Common.{drop, ◌≡◌, ◌≢◌, ◌⊎◌, ◌↔◌, ℕ, zero, suc, ◌+◌, ◌-◌, ◌<◌, ◌≤◌, List, [], ◌∷◌, ◌++◌, length, map, Option, Some, None, Result, Ok, Err, Bool, true, false, not, ◌&&◌, ◌||◌, if◌then◌else◌, nat_eq, nat_lt, nat_le, IsTrue, refl, sym, ap, ◌∙◌, inl, inr, arith, length-append, append-nil, eqb-true, eq-eqb, ltb-true, lt-ltb, ◌*◌, max, take}
-use Rattle.std.proofs.lemmas.Bool.{and_from, and_parts}
-use Rattle.std.specs.List.{slice_get}
-use Rattle.j39_frame.specs.Frame.{FrameRecord}
-use Rattle.j39_frame.specs.Address.{global_address, null_address}
-use Rattle.j39_frame.specs.Identifier.{destination_of, source_of, pgn_of}
-use Rattle.j39_frame.specs.Network.{address_claimed_group, request_group}
-use Rattle.j39_address.specs.Claim.{claim_of, Claim}
+use Rattle.j39_node.proofs.Common.{[], if◌then◌else◌, ◌&&◌, ◌*◌, ◌++◌, ◌+◌, ◌-◌, ◌<◌, ◌||◌, ◌↔◌, ◌∙◌, ◌∷◌, ◌≡◌, ◌≢◌, ◌≤◌, ◌⊎◌, accepted, Acknowledge, acknowledged, acknowledgment, acknowledgment_group, Address, address_after, address_claimed_group, AddressLost, Again, age, and_from, and_parts, another_news, AnotherAtAddress, Answer, answers_another, ap, append-nil, AreAnswered, arith, Asked, asked, At, at_in, BadValue, Bool, Busy, Call, calls, calls_for_claim, can_send, Claim, claim_address, claim_due, claim_from, claim_goes, claim_of, Claimed, claimed, content, Controller, delayed, destination_of, Done, double, doubled_news, Draft, drop, due, end_of, Ending, eq-eqb, eqb-true, Err, false, FrameRecord, frames, fresh, Full, gives_way, global_address, got, handed, HasDouble, Hear, held_at, holds, inl, inr, Is, is_acknowledgment, is_alike, is_another, is_apart, is_blank, is_claim, is_double, is_for_program, is_held, is_larger, is_lost, is_move, is_none, is_own_group, is_refusal_due, is_reply, is_served, is_session, is_smaller, is_some, is_subscribed, is_there, is_transfer, IsFront, IsTrue, kept, latest, length, length-append, List, long_by, Lost, lost_news, lt-ltb, ltb-true, map, marks, max, may_claim, may_go, Message, message_from, message_of, MessagesMissed, missed, missed_news, moment, Move, Nack, NameDoubled, nat_eq, nat_le, nat_lt, News, news_of, next_acknowledgment, next_due, next_frame, next_long, next_other, next_packet, next_transfer, next_withdrawn, NoAddress, None, NoneTold, not, NotClaimed, null_address, Ok, older, open_broadcast, Option, option_map, option_or, other, owes_claim, packets, passed_in, patience, pause, pgn_of, reached, ready, reception, refl, refusal_waits, Refused, Renew, Reply, request_group, requests, Result, Send, sent, slice_get, slice_get-map, slice_get_within, Some, source_of, stamp_at, stamped, status_after, status_of, step, suc, sym, take, TakeEnded, TakeFrame, TakeNews, TakeReceived, TakeRequest, takes_other, Tick, told, told_claims, true, turns, unblanked, unclaimed, unheard_news, waits_already, Who, with_refusal, with_request, Withdraw, Withdrawn, yields, zero, ℕ}
+use Rattle.j39_node.specs.History.{heard, Again}
+use Rattle.j39_node.specs.Reception.{is_waiting}
 use Rattle.j39_address.specs.declared.status.Status.TheVariants as status
-use Rattle.std.proofs.lemmas.Option.{slice_get-map, slice_get_within}
 use Rattle.j39_node.proofs.FrameLemmas.{le_true}
-use Rattle.j39_node.specs.declared.controller.Controller.{Controller}
-use Rattle.j39_node.specs.declared.kinds.Ending.{Ending}
-use Rattle.j39_node.specs.declared.kinds.Ending.TheVariants.{Done, Withdrawn}
-use Rattle.j39_node.specs.declared.kinds.Answer.{Answer}
-use Rattle.j39_node.specs.declared.kinds.Answer.TheVariants.{Nack, Busy}
-use Rattle.j39_node.specs.declared.kinds.News.{News}
-use Rattle.j39_node.specs.declared.kinds.News.TheVariants.{AddressLost, AnotherAtAddress, MessagesMissed, NameDoubled}
-use Rattle.j39_node.specs.declared.kinds.Refused.{Refused}
-use Rattle.j39_node.specs.declared.kinds.Refused.TheVariants.{NoAddress, BadValue, Full}
-use Rattle.j39_node.specs.History.{reached, fresh, is_refusal_due, refusal_waits, waits_already, is_session, is_transfer, answers_another, calls, is_another, is_acknowledgment, patience, turns, Who, Message, Draft, Call, Address, IsFront, accepted, address_after, can_send, claim_address, claim_from, content, frames, got, heard, holds, is_claim, is_smaller, claimed, is_for_program, is_held, is_lost, is_none, is_own_group, is_some, is_subscribed, kept, message_of, missed, moment, older, owes_claim, sent, step, told, Asked, asked, acknowledgment, acknowledgment_group, acknowledged, due, handed, requests, is_served, with_request, with_refusal, stamp_at, held_at, lost_news, another_news, missed_news, open_broadcast, packets, pause, delayed, unclaimed, Again, may_claim, doubled_news, double, told_claims, is_double, is_larger, calls_for_claim, is_alike, latest, message_from, marks, unblanked, is_blank}
-use Rattle.j39_node.specs.History.Call.{At, TakeEnded, TakeReceived, TakeRequest, TakeNews, Renew, Withdraw}
-use Rattle.j39_node.specs.History.Act.{Hear, Tick, TakeFrame, Send, Acknowledge, Again}
-use Rattle.j39_node.specs.Reception.{yields, is_move, is_waiting, reception, is_reply}
 use Rattle.j39_node.proofs.ReceptionLemmas.{replied_get, tidy}
-use Rattle.j39_node.specs.History.Address.{NotClaimed, Claimed, Lost}
-use Rattle.j39_node.specs.Hearing.{unheard_news}
-use Rattle.j39_node.specs.Since.{passed_in, HasDouble}
-use Rattle.j39_node.specs.Prompt.{NoneTold, takes_other}
-use Rattle.j39_node.specs.declared.turn.Turn.TheVariants.{Reply, Move}
-use Rattle.j39_node.specs.Is.{is_apart, ready, AreAnswered, Is, claim_goes, other, next_packet, long_by, gives_way, is_there, next_acknowledgment, next_other, stamped, next_frame, end_of, status_of, status_after, news_of, next_long, claim_due, may_go, next_withdrawn}
-use Rattle.j39_node.specs.Transfers.{next_transfer, age, at_in, next_due}
 use Rattle.j39_node.proofs.DueLemmas.{both_none, from_long, quiet_long, then_long}
 use Rattle.j39_node.proofs.QueueLemmas.{length_one_more}
 use Rattle.j39_node.proofs.SoundLemmas.{apart_is, is_moved, IsTurn, acknowledgment_single, claim_single, no_transfer, none_there, packet_session, packet_there, single_taken, turned, Rest, none_at, none_next, none_other, other_none, claim_is, given_way, none_acknowledged, none_due_goes, none_gives, plain_taken, EndCase, FrameCase, SendCase, Sound, claim_taken, due_get, due_taken, end_case, frame_by, frame_case, front_length, held_older, lost_claimed, lost_older, message_taken, own_of, packet_case, packet_taken, reply_taken, send_case, sound, transfer_taken, lost_unclaimed, holding_not_lost, no_claim_goes, renew_case, WithdrawCase, withdraw_case}
@@ -40,7 +14,6 @@ use Rattle.j39_node.proofs.CallLemmas.{acknowledge_is, acknowledges_by, due_by}
 use Rattle.j39_node.proofs.SoundLemmas.FrameCase.{claims, acknowledges, replies, sends, packs, transfers}
 use Rattle.j39_node.proofs.SoundLemmas.SendCase.{no_address, bad_value, full, accepts}
 use Rattle.j39_node.proofs.SoundLemmas.EndCase.{done, withdrawn}
-use Rattle.std.specs.Option.{option_or, option_map}
 use Rattle.j39_node.proofs.RenewLemmas.{none_past, set_here, set_other}
 
 -- ---- sources

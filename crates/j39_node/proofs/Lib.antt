@@ -1,3 +1,5 @@
+-- the names that proofs here cite
+pub mod Common
 -- lists from which the first is taken
 pub mod QueueLemmas
 -- frames that are made, and the lane of broadcasts

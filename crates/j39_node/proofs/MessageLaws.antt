@@ -1,16 +1,5 @@
 -- That every message of one frame ends.
-use Rattle.std.proofs.Common.{slice_set, ◌≡◌, ◌⊎◌, ℕ, zero, suc, ◌+◌, ◌<◌, ◌≤◌, List, [], ◌∷◌, ◌++◌, length, Option, Some, None, Ok, Bool, true, false, ◌||◌, if◌then◌else◌, nat_lt, refl, ap, ◌∙◌, arith, inl, inr, IsTrue, not}
-use Rattle.std.specs.List.{slice_get}
-use Rattle.std.proofs.lemmas.List.{length-set}
-use Rattle.j39_node.specs.declared.controller.Controller.{Controller}
-use Rattle.j39_node.specs.declared.kinds.Ending.{Ending}
-use Rattle.j39_node.specs.declared.kinds.Ending.TheVariants.{Done, Withdrawn}
-use Rattle.j39_node.specs.History.{reached, Who, Message, Draft, Call, accepted, address_after, holds, is_acknowledgment, is_claim, is_held, is_lost, is_session, message_from, moment, request_for, step, told, marks, past, blank, is_blank}
-use Rattle.j39_node.specs.History.Call.{At, Renew, Withdraw}
-use Rattle.j39_node.specs.History.Act.{Ask, Hear, Send, TakeFrame, Again}
-use Rattle.j39_node.specs.Is.{AreAnswered, Is, IsAnswered, end_of, next_ended, next_frame, ending_of}
-use Rattle.j39_node.specs.Prompt.{IsPrompt, waited_in, claims_anew}
-use Rattle.j39_node.specs.Since.{passed_in}
+use Rattle.j39_node.proofs.Common.{[], if◌then◌else◌, ◌++◌, ◌+◌, ◌<◌, ◌||◌, ◌∙◌, ◌∷◌, ◌≡◌, ◌≤◌, ◌⊎◌, accepted, address_after, Again, ap, AreAnswered, arith, Ask, At, blank, Bool, Call, claims_anew, Controller, Done, Draft, end_of, Ending, ending_of, false, Hear, holds, inl, inr, Is, is_acknowledgment, is_blank, is_claim, is_held, is_lost, is_session, IsAnswered, IsPrompt, IsTrue, length, length-set, List, marks, Message, message_from, moment, nat_lt, next_ended, next_frame, None, not, Ok, Option, passed_in, past, reached, refl, Renew, request_for, Send, slice_get, slice_set, Some, step, suc, TakeFrame, told, true, waited_in, Who, Withdraw, Withdrawn, zero, ℕ}
 use Rattle.j39_node.proofs.AskCases.{AskCase, ask_case}
 use Rattle.j39_node.proofs.AskCases.AskCase.{homeless, unfit, busy, asks}
 use Rattle.j39_node.proofs.LawLemmas.{past_end}

@@ -1,21 +1,7 @@
 -- What every answered history says of transfers.
-use Rattle.std.proofs.Common.{◌≡◌, ◌⊎◌, ℕ, suc, ◌-◌, List, [], ◌∷◌, ◌++◌, length, Option, Some, None, Ok, Bool, true, false, ◌||◌, ◌&&◌, if◌then◌else◌, refl, sym, ap, ◌∙◌, inl, inr, arith, subst}
-use Rattle.std.specs.List.{slice_get}
-use Rattle.std.specs.Option.{option_map}
-use Rattle.std.proofs.lemmas.Bool.{or_parts, cond_both}
-use Rattle.j39_frame.specs.Frame.{FrameRecord}
-use Rattle.j39_transport.specs.Message.{MessageRecord}
-use Rattle.j39_transport.specs.Sending.{Tick, aborted, is_running, new_sender, send_step}
-use Rattle.j39_transport.specs.Signals.{Signal, Abort}
-use Rattle.j39_node.specs.declared.kinds.TransferEnding.{TransferEnding}
-use Rattle.j39_node.specs.declared.turn.Turn.TheVariants.{Move}
-use Rattle.j39_node.specs.History.{reached, Who, Message, Call, accepted, acknowledged, address_after, broadcast_from, due, holds, is_lost, message_of, open_broadcast, packets, pause, step}
-use Rattle.j39_node.specs.History.Call.{At, TakeTransferEnded}
-use Rattle.j39_node.specs.History.Act.{Hear, TakeFrame, Transfer}
-use Rattle.j39_node.specs.Is.{AreAnswered, next_packet, next_acknowledgment}
-use Rattle.j39_node.specs.Transfers.{is_resting, Running, begun, clock_at, gives_up, hears, hears_if, is_engaged, is_replaced, is_spent, listens, open_transfer, says, sends, sends_if, signal_by, told_transfers, transfer_by, transfer_end, transfers as all_transfers}
-use Rattle.j39_node.specs.Reception.{holder, is_move}
-use Rattle.j39_node.specs.Moves.{Happened, begins, moves}
+use Rattle.j39_node.proofs.Common.{[], if◌then◌else◌, ◌&&◌, ◌++◌, ◌-◌, ◌||◌, ◌∙◌, ◌∷◌, ◌≡◌, ◌⊎◌, Abort, aborted, accepted, acknowledged, address_after, all_transfers, ap, AreAnswered, arith, At, begun, Bool, broadcast_from, Call, clock_at, cond_both, due, false, FrameRecord, gives_up, Happened, Hear, hears, hears_if, holder, holds, inl, inr, is_engaged, is_lost, is_move, is_replaced, is_resting, is_running, is_spent, length, List, listens, Message, message_of, MessageRecord, Move, moves, new_sender, next_acknowledgment, next_packet, None, Ok, open_broadcast, open_transfer, Option, option_map, or_parts, packets, pause, reached, refl, Running, says, send_step, sends, sends_if, Signal, signal_by, slice_get, Some, step, subst, suc, sym, TakeFrame, TakeTransferEnded, told_transfers, Transfer, transfer_by, transfer_end, TransferEnding, true, Who, ℕ}
+use Rattle.j39_transport.specs.Sending.{Tick}
+use Rattle.j39_node.specs.Moves.{begins}
 use Rattle.j39_node.proofs.QueueLemmas.{length_one_more}
 use Rattle.j39_node.proofs.SoundLemmas.{nothing_else, turned, FrameCase, frame_case, claim_taken, claim_single, due_get, due_taken, no_move, no_transfer, own_of, packet_session, packet_taken, reply_no_move, single_taken, sound}
 use Rattle.j39_node.proofs.SoundLemmas.FrameCase.{claims, acknowledges, replies, sends as sends_one, packs, transfers}

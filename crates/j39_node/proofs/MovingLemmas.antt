@@ -1,27 +1,8 @@
 -- When a controller may move, by what it has; and what it is then.
-use Rattle.std.proofs.Common.{◌≡◌, ℕ, ◌+◌, ◌-◌, ◌≤◌, ◌<◌, ◌≢◌, List, [], ◌∷◌, length, map, Option, Some, None, Bool, true, false, not, ◌&&◌, ◌||◌, nat_eq, refl, sym, ap, ◌∙◌, subst, arith, eq-eqb, eqb-true}
-use Rattle.std.proofs.lemmas.Bool.{and_parts, and_from}
-use Rattle.std.specs.Option.{is_some, option_map}
-use Rattle.j39_node.specs.declared.controller.Controller.{Controller}
-use Rattle.j39_node.specs.declared.news.Untold.{Untold}
-use Rattle.j39_address.specs.Claim.{Claim}
-use Rattle.j39_address.specs.Claims.{Knows, holder_in}
-use Rattle.j39_address.specs.Holder.{IsHolderAfter}
-use Rattle.j39_address.specs.Node.{IsLeastFree, NoneFree}
-use Rattle.j39_address.specs.declared.claims.Claims.{Claims}
+use Rattle.j39_node.proofs.Common.{[], ◌&&◌, ◌+◌, ◌-◌, ◌<◌, ◌||◌, ◌∙◌, ◌∷◌, ◌≡◌, ◌≢◌, ◌≤◌, accepted, and_from, and_parts, ap, arith, asked_by, AskEnding, asking_of, Bool, Call, Claim, Claims, Controller, eq-eqb, eqb-true, false, got, handed, has_given, has_place, has_told, HasMoved, hearing_of, hold_after, hold_moved, holder_in, incoming_of, IncomingRecord, Is, IsHolderAfter, IsLeastFree, IsSettled, kept, Knows, lane_of, later, length, List, map, moment, moved, name_raw, named_in, nat_eq, news_of, next_news, no_reception, None, NoneFree, not, open_broadcast, open_transfer, Option, option_map, port_of, PortRecord, posted, Question, received_by, reception, recv_step, refl, refusal_by, request_by, requests, rest, Some, subst, sym, takes_tick, ticked, time_heard, told, told_claims, true, Untold, View, waiting, Who, whole_of, ℕ}
+use Rattle.std.specs.Option.{is_some}
+use Rattle.j39_node.specs.Moving.{begun}
 use Rattle.j39_address.proofs.HolderLemmas.{same_holder}
-use Rattle.j39_address.specs.Name.{name_raw}
-use Rattle.j39_node.specs.History.{Who, Call, moment, accepted, got, handed, kept, open_broadcast, requests, told, told_claims}
-use Rattle.j39_node.specs.Reception.{has_place, later, no_reception, ticked, time_heard, reception}
-use Rattle.j39_node.specs.Hearing.{waiting, whole_of}
-use Rattle.j39_node.specs.Transfers.{open_transfer, rest}
-use Rattle.j39_node.specs.Hold.{moved as hold_moved}
-use Rattle.j39_transport.specs.Receiving.{recv_step}
-use Rattle.j39_transport.specs.Reception.{takes_tick}
-use Rattle.j39_node.specs.Asking.{Question}
-use Rattle.j39_node.specs.declared.kinds.AskEnding.{AskEnding}
-use Rattle.j39_node.specs.Is.{hold_after, IncomingRecord, Is, PortRecord, View, asked_by, asking_of, hearing_of, incoming_of, named_in, lane_of, news_of, next_news, port_of, posted, received_by, refusal_by, request_by}
-use Rattle.j39_node.specs.Moving.{HasMoved, IsSettled, begun, has_given, has_told, moved}
 use Rattle.j39_node.proofs.QueueLemmas.{length_rest}
 use Rattle.j39_node.proofs.SoundLemmas.{front_length, read, sound}
 

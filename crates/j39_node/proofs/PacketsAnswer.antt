@@ -1,23 +1,7 @@
 -- A message in packets answers a request by the frame that makes it whole, be it to this address or to all.
-use Rattle.std.proofs.Common.{◌≡◌, ◌⊎◌, ◌↔◌, IsTrue, ℕ, ◌<◌, ◌==◌, List, ◌∷◌, length, Option, Some, None, Bool, true, false, ◌&&◌, ◌||◌, if◌then◌else◌, nat_eq, refl, sym, ap, ◌∙◌, inl, inr, arith, eq-eqb, eqb-true}
-use Rattle.std.proofs.lemmas.Bool.{and_from, and_parts}
-use Rattle.std.specs.Option.{option_map, option_or}
-use Rattle.j39_frame.specs.Frame.{FrameRecord}
-use Rattle.j39_frame.specs.Identifier.{destination_of, pgn_of, ps_of, source_of}
-use Rattle.j39_frame.specs.Network.{transport_data_group}
-use Rattle.j39_address.specs.Claim.{claim_of}
+use Rattle.j39_node.proofs.Common.{if◌then◌else◌, ◌&&◌, ◌<◌, ◌==◌, ◌||◌, ◌↔◌, ◌∙◌, ◌∷◌, ◌≡◌, ◌⊎◌, and_from, and_parts, Answered, ap, arith, At, Bool, by, Call, claim_of, comes, destination_of, eq-eqb, eqb-true, false, found, FrameRecord, grown, has_place, Hear, hearing, holder, holds, in_broadcast, in_session, inl, inr, is_coming, is_from, is_key, is_late, is_smaller, IsTrue, known, leaves, left, length, List, made, made_of, made_whole, message_by, MessageRecord, nat_eq, newly, None, open_ask, OpenBroadcast, Option, option_map, option_or, packs, pgn_of, ps_of, Question, receiver_at, Reception, reception, ReceptionRecord, RecvResult, refl, said_to, says_to, seeks, shown, since_in, Some, source_of, sym, time_heard, transport_data_group, true, waiting, Who, whole, whole_by, whole_of, ℕ}
+use Rattle.j39_node.specs.Hearing.{begun, is_over, is_whole as is_full}
 use Rattle.j39_transport.specs.Frames as frames
-use Rattle.j39_transport.specs.Key.{Broadcast as by, is_key}
-use Rattle.j39_transport.specs.Message.{MessageRecord}
-use Rattle.j39_transport.specs.Reception.{ReceptionRecord}
-use Rattle.j39_transport.specs.Receiving.{RecvResult, said_to}
-use Rattle.j39_node.specs.declared.kinds.AskEnding.TheVariants.{Answered}
-use Rattle.j39_node.specs.History.{Who, Call, holds, is_smaller}
-use Rattle.j39_node.specs.History.Call.{At}
-use Rattle.j39_node.specs.History.Act.{Hear}
-use Rattle.j39_node.specs.Reception.{Reception, has_place, holder, leaves, left, receiver_at, reception, time_heard, whole, whole_by, shown, known}
-use Rattle.j39_node.specs.Hearing.{OpenBroadcast, begun, found, grown, hearing, is_late, is_over, is_whole as is_full, made_whole, message_by, newly, packs, since_in, waiting, whole_of}
-use Rattle.j39_node.specs.Asking.{Question, comes, in_broadcast, in_session, is_coming, is_from, made, made_of, open_ask, says_to, seeks}
 use Rattle.j39_node.proofs.HearingLaws.{begun_open, whole_is, whole_of_left, none_is as not_both}
 use Rattle.j39_node.proofs.HearingLemmas.{Effect, begins, ends, grows, stays, effect}
 use Rattle.j39_node.proofs.PacketLemmas.{quiet_step, shown_none}

@@ -1,25 +1,9 @@
 -- The open transfer of an answered history goes from the address to another's.
-use Rattle.std.proofs.Common.{◌≡◌, ◌⊎◌, ◌<◌, ◌||◌, ℕ, List, [], ◌∷◌, length, Option, Some, None, Result, Ok, Err, Bool, true, false, if◌then◌else◌, nat_lt, nat_eq, min, IfSome, subst, ltb-true, refl, sym, ap, ◌∙◌, inl, inr, arith}
-use Rattle.std.specs.Option.{option_map}
-use Rattle.j39_frame.specs.Frame.{FrameRecord}
-use Rattle.j39_frame.specs.Network.{transport_control_group, transport_data_group}
+use Rattle.j39_node.proofs.Common.{[], if◌then◌else◌, ◌<◌, ◌||◌, ◌∙◌, ◌∷◌, ◌≡◌, ◌⊎◌, aborted, address_after, after, answer_to_transfer, ap, AreAnswered, arith, At, BadValue, Bool, both, Call, can_broadcast, can_transfer, Claims, clock_at, Err, Failed, false, FrameRecord, Full, gives_up, group_with, Hear, hears, hears_if, holder, holder_in, holds, IfSome, inl, inr, is_engaged, is_lost, is_move, is_replaced, is_resting, is_running, is_some, is_spent, Knows, length, List, listens, ltb-true, Message, min, nat_eq, nat_lt, new_sender, NoAddress, None, Ok, open_transfer, Option, option_map, Packet, PortRecord, refl, Refused, Resting, resting, Result, Running, said_between, says, send_step, SenderRecord, SendEvent, sends, sends_if, Signal, signal_by, Some, subst, sym, TakeFrame, TakeTransferEnded, told_claims, Transfer, transfer_by, transfers, transport_control_group, transport_data_group, true, Who, ℕ}
+use Rattle.j39_transport.specs.Sending.{Heard, Tick}
 use Rattle.j39_transport.specs.Sending as sending
-use Rattle.j39_transport.specs.Sending.{SendEvent, SenderRecord, Failed, Heard, Tick, aborted, is_running, new_sender, send_step}
-use Rattle.j39_transport.specs.Signals.{Signal, Packet, group_with, said_between}
 use Rattle.j39_transport.proofs.SenderLemmas.{ticked, hears_signal}
-use Rattle.j39_node.specs.declared.kinds.Refused.{Refused}
-use Rattle.j39_node.specs.declared.kinds.Refused.TheVariants.{NoAddress, BadValue, Full}
-use Rattle.j39_node.specs.History.{Who, Message, Call, address_after, can_broadcast, holds, is_lost, is_some, told_claims}
-use Rattle.j39_node.specs.Reception.{holder, is_move}
 use Rattle.j39_node.proofs.ReceptionLemmas.{table_is}
-use Rattle.j39_node.specs.History.Call.{At, TakeTransferEnded}
-use Rattle.j39_node.specs.History.Act.{Hear, TakeFrame, Transfer}
-use Rattle.j39_node.specs.Is.{AreAnswered, PortRecord, after}
-use Rattle.j39_node.specs.Transfers.{is_resting, resting, Running, answer_to_transfer, can_transfer, clock_at, gives_up, hears, hears_if, is_engaged, is_replaced, is_spent, listens, open_transfer, says, sends, sends_if, signal_by, transfer_by, transfers}
-use Rattle.j39_node.specs.History.{Resting}
-use Rattle.j39_address.specs.Claims.{Knows, holder_in}
-use Rattle.j39_address.specs.declared.claims.Claims.{Claims}
-use Rattle.std.proofs.lemmas.Bool.{and_parts as both}
 
 -- ---- a step keeps message and destination
 

@@ -1,20 +1,5 @@
 -- That every broadcast ends, and every message of one frame.
-use Rattle.std.proofs.Math.Nat.{add-mul, suc-mul}
-use Rattle.std.proofs.Common.{◌&&◌, ◌≡◌, ◌⊎◌, ℕ, suc, ◌+◌, ◌-◌, ◌*◌, ◌<◌, ◌≤◌, List, [], ◌∷◌, ◌++◌, length, Option, Some, None, Ok, Bool, true, false, ◌||◌, if◌then◌else◌, nat_eq, nat_le, nat_lt, refl, sym, ap, ◌∙◌, subst, arith, inl, inr}
-use Rattle.j39_frame.specs.Frame.{FrameRecord}
-use Rattle.j39_transport.specs.Message.{MessageRecord, packets_of}
-use Rattle.j39_transport.specs.Protocol.{gap}
-use Rattle.j39_node.specs.declared.controller.Controller.{Controller}
-use Rattle.j39_node.specs.declared.kinds.Ending.{Ending}
-use Rattle.j39_node.specs.declared.kinds.Ending.TheVariants.{Done, Withdrawn}
-use Rattle.j39_node.specs.History.{Who, Message, Call, Address, address_after, broadcast_from, broadcasts, claimed, frame_of, is_claim, is_held, is_lost, is_open, is_packet, is_smaller, message_of, moment, older, open_broadcast, packets, pause, step}
-use Rattle.j39_node.specs.History.Address.{NotClaimed, Claimed, Lost}
-use Rattle.j39_node.specs.History.Call.{At, TakeBroadcastEnded}
-use Rattle.j39_node.specs.History.Act.{Broadcast, Hear, TakeFrame, Again}
-use Rattle.j39_node.specs.Is.{AreAnswered, Is, IsAnswered, broadcast_end, ending_of, next_broadcast_ended, next_frame, packet_by}
-use Rattle.j39_node.specs.Prompt.{IsPrompt, NoneTold, tells_broadcast, waited_in, claims_anew}
-use Rattle.j39_node.specs.Since.{passed_in}
-use Rattle.j39_address.specs.Claim.{claim_of}
+use Rattle.j39_node.proofs.Common.{[], if◌then◌else◌, ◌&&◌, ◌*◌, ◌++◌, ◌+◌, ◌-◌, ◌<◌, ◌||◌, ◌∙◌, ◌∷◌, ◌≡◌, ◌≤◌, ◌⊎◌, add-mul, Address, address_after, Again, ap, AreAnswered, arith, At, Bool, Broadcast, broadcast_end, broadcast_from, broadcasts, Call, claim_of, Claimed, claimed, claims_anew, Controller, Done, Ending, ending_of, false, frame_of, FrameRecord, gap, Hear, inl, inr, Is, is_claim, is_held, is_lost, is_open, is_packet, is_smaller, IsAnswered, IsPrompt, length, List, Lost, Message, message_of, MessageRecord, moment, nat_eq, nat_le, nat_lt, next_broadcast_ended, next_frame, None, NoneTold, NotClaimed, Ok, older, open_broadcast, Option, packet_by, packets, packets_of, passed_in, pause, refl, Some, step, subst, suc, suc-mul, sym, TakeBroadcastEnded, TakeFrame, tells_broadcast, true, waited_in, Who, Withdrawn, ℕ}
 use Rattle.j39_node.proofs.LaneLemmas.{BroadcastCase, broadcast_case}
 use Rattle.j39_node.proofs.LaneLemmas.BroadcastCase.{homeless, unfit, busy, opens}
 use Rattle.j39_node.proofs.QueueLemmas.{length_one_more}

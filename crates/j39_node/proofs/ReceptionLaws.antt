@@ -1,32 +1,12 @@
 -- The laws of messages that come in packets.
-use Rattle.std.proofs.Common.{◌≡◌, ◌≢◌, ◌⊎◌, ◌↔◌, ℕ, suc, ◌+◌, ◌-◌, ◌/◌, ◌%◌, ◌<◌, ◌≤◌, List, [], ◌∷◌, ◌++◌, length, drop, Option, Some, None, Bool, true, false, not, ◌&&◌, ◌||◌, if◌then◌else◌, nat_eq, nat_lt, ◌==◌, IsTrue, refl, sym, ap, ◌∙◌, subst, inl, inr, arith, append-nil, append_assoc, eqb-true, eq-eqb, ltb-true, ltb-false, lt-ltb}
-use Rattle.std.proofs.lemmas.Bool.{cond_both, and_parts}
-use Rattle.std.specs.List.{slice_get}
-use Rattle.std.specs.Option.{is_some as has_some, option_map}
-use Rattle.byteorder.specs.Endian.{little_bytes}
-use Rattle.j39_frame.specs.Frame.{FrameRecord}
-use Rattle.j39_frame.specs.Identifier.{destination_of, pf_of, pgn_of, ps_of, source_of}
-use Rattle.j39_frame.specs.Network.{address_claimed_group, transport_control_group, transport_data_group}
-use Rattle.j39_address.specs.Claim.{Claim, claim_of}
-use Rattle.j39_transport.specs.Cutting.{ToSend}
+use Rattle.j39_node.proofs.Common.{[], if◌then◌else◌, ◌%◌, ◌&&◌, ◌++◌, ◌+◌, ◌-◌, ◌/◌, ◌<◌, ◌==◌, ◌||◌, ◌↔◌, ◌∙◌, ◌∷◌, ◌≡◌, ◌≢◌, ◌≤◌, ◌⊎◌, Abort, Acknowledge, acknowledged, Acknowledgment, Address, address_after, address_claimed_group, Again, and_parts, answer_in, answers, ap, append-nil, append_assoc, AreReceived, arith, Ask, asks_again, At, Bool, BoxedReceiver, Broadcast, BroadcastAnnounce, bytes_with, Call, CameFromOne, Claim, claim_of, Claimed, ClearToSend, cond_both, Controller, delivered, destination_of, Directed, drop, due, eq-eqb, eqb-true, false, FrameRecord, frames_heard, got_transfers, granted_at, grants, group_of, has_place, has_some, Hear, Heard, heard_at, heard_by, held_then, holder, holds, inl, inr, Is, is_acknowledgment, is_claim, is_held, is_lost, is_move, is_over, is_overdue, is_packet, is_reply, is_same, is_session, is_smaller, is_some, is_taken, is_that, is_transfer, IsApart, IsReceived, IsTrue, keeps, KeepsHolder, known, known_by, later, leaves, left, length, limit_in, limit_of, List, listed, little_bytes, longest, Lost, lt-ltb, ltb-false, ltb-true, made_by, made_of, Message, message_of, MessageRecord, moment, Move, nat_eq, nat_lt, next_acknowledgment, None, not, NotClaimed, of_other, older, open_broadcast, Option, option_map, Packet, packets, partner_of, pause, pf_of, pgn_of, ps_of, quiet, Reaction, ready, receiver_at, ReceiverRecord, ReceiverStandsFor, Reception, reception, ReceptionRecord, recv_step, RecvResult, refl, released_by, ReleaseTransfer, replied, reply_from, RequestToSend, result_of, said_between, said_to, says_by, Send, session_tick, shown, Signal, since_by, Single, slice_get, Some, source_of, stamp_at, step, step_at, subst, suc, sym, TakeFrame, taken_by, takes, takes_abort, takes_data, takes_request, takes_signal, takes_tick, Tick, tick_at, ticked, ticked_at, Ticks, time_heard, ToSend, Transfer, transport_control_group, transport_data_group, true, WereHanded, Who, whole, whole_by, without, written, yields, ℕ}
+use Rattle.j39_transport.specs.Reception.{begun as opens}
+use Rattle.j39_transport.specs.ReceiverStands.{passed}
+use Rattle.j39_transport.specs.Signals.{said_by}
+use Rattle.j39_node.specs.declared.turn.Turn.TheVariants.{Packet}
+use Rattle.j39_node.specs.Reception.{says}
 use Rattle.j39_transport.specs.Frames as frames
-use Rattle.j39_transport.specs.Key.{Directed}
-use Rattle.j39_transport.specs.Message.{MessageRecord}
-use Rattle.j39_transport.specs.Reception.{ReceptionRecord, Reaction, answers, asks_again, begun as opens, is_taken, limit_of, granted_at, grants, quiet, takes_abort, takes_data, takes_request, takes_signal, takes_tick}
-use Rattle.j39_transport.specs.Receiving.{BoxedReceiver, ReceiverRecord, RecvResult, Heard, Tick as Ticks, answer_in, partner_of, recv_step, result_of, said_to}
-use Rattle.j39_transport.specs.ReceiverStands.{AreReceived, IsReceived, ReceiverStandsFor, WereHanded, passed}
-use Rattle.j39_transport.specs.Signals.{Signal, BroadcastAnnounce, RequestToSend, ClearToSend, Acknowledgment, Abort, Packet, bytes_with, said_between, said_by, written}
 use Rattle.j39_transport.proofs.Handed.{has_heard, stands_still, were_handed}
-use Rattle.j39_node.specs.declared.controller.Controller.{Controller}
-use Rattle.j39_node.specs.declared.turn.Turn.TheVariants.{Single, Packet, Move}
-use Rattle.j39_node.specs.History.{Who, Message, Call, Address, acknowledged, address_after, due, holds, is_acknowledgment, is_claim, is_held, is_lost, is_packet, is_session, is_smaller, is_some, is_transfer, message_of, moment, older, open_broadcast, packets, pause, stamp_at, step, of_other}
-use Rattle.j39_node.specs.History.Address.{NotClaimed, Claimed, Lost}
-use Rattle.j39_node.specs.History.Call.{At, ReleaseTransfer}
-use Rattle.j39_node.specs.History.Act.{Ask, Hear, Tick, TakeFrame, Send, Acknowledge, Broadcast, Transfer, Again}
-use Rattle.j39_node.specs.Is.{is_overdue, ready, Is, next_acknowledgment}
-use Rattle.j39_node.specs.Asking.{made_of}
-use Rattle.j39_node.specs.Is.{made_by}
-use Rattle.j39_node.specs.Reception.{yields, is_reply, is_that, CameFromOne, IsApart, KeepsHolder, Reception, time_heard, delivered, frames_heard, got_transfers, has_place, heard_at, heard_by, is_move, held_then, holder, is_same, keeps, later, leaves, left, listed, receiver_at, reception, released_by, replied, reply_from, says, says_by, session_tick, step_at, taken_by, takes, tick_at, ticked, whole, whole_by, without, group_of, is_over, limit_in, longest, shown, since_by, ticked_at, known, known_by}
 use Rattle.j39_node.proofs.SoundLemmas.{apart_is, IsTurn, none_at, none_next, turned, FrameCase, frame_case, sound, own_of, due_get, due_taken, single_taken, packet_taken, claim_taken, is_moved, lost_older, lost_claimed, lost_unclaimed}
 use Rattle.j39_node.proofs.PacketLemmas.{hushed, quiet_step, shown_both, shown_none, since_same}
 use Rattle.j39_node.proofs.SoundLemmas.FrameCase.{claims, acknowledges, replies, sends, packs, transfers}

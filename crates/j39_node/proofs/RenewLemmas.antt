@@ -1,15 +1,6 @@
 -- A message that waits is renewed.
-use Rattle.std.proofs.Common.{◌≡◌, ◌≢◌, ◌⊎◌, ℕ, zero, suc, ◌+◌, ◌-◌, ◌<◌, ◌≤◌, List, [], ◌∷◌, ◌++◌, length, map, drop, take, slice_set, Option, Some, None, Bool, true, false, not, ◌&&◌, if◌then◌else◌, nat_eq, nat_le, refl, sym, ap, ◌∙◌, arith, inl, inr, slice_index_or}
-use Rattle.std.proofs.lemmas.Bool.{and_parts}
-use Rattle.std.specs.List.{refill, slice_get}
-use Rattle.std.proofs.Math.Seq.{take-append_seam, take-suc}
-use Rattle.std.proofs.lemmas.List.{length-take-le, length-set}
-use Rattle.j39_node.specs.declared.outgoing.Outgoing.{Outgoing}
-use Rattle.j39_node.specs.Is.{posted}
+use Rattle.j39_node.proofs.Common.{[], if◌then◌else◌, ◌&&◌, ◌++◌, ◌+◌, ◌-◌, ◌<◌, ◌∙◌, ◌∷◌, ◌≡◌, ◌≢◌, ◌≤◌, ◌⊎◌, and_parts, ap, arith, Bool, drop, false, inl, inr, is_alike, latest, length, length-set, length-take-le, List, map, Message, nat_eq, nat_le, None, not, Option, option_map, Outgoing, posted, refill, refl, request_group, slice_get, slice_index_or, slice_set, Some, suc, sym, take, take-append_seam, take-suc, true, zero, ℕ}
 use Rattle.j39_node.proofs.QueueLemmas.{length_map, map_append}
-use Rattle.std.specs.Option.{option_map}
-use Rattle.j39_frame.specs.Network.{request_group}
-use Rattle.j39_node.specs.History.{Message, is_alike, latest}
 
 -- the last that is alike, one more
 pub latest_more : (m : Message) (n i : ℕ) (xs : List (ℕ × Message)) (x : ℕ × Message) (o : Option ℕ)

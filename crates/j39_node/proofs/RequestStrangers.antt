@@ -1,22 +1,6 @@
 -- A frame of who wasn't asked, or to another address, says nothing to a request, and ends none.
-use Rattle.std.proofs.Common.{arith, ◌≡◌, ◌≢◌, ℕ, ◌-◌, List, ◌∷◌, Option, Some, None, Bool, true, false, ◌&&◌, ◌||◌, if◌then◌else◌, nat_eq, nat_lt, refl, sym, ap, ◌∙◌, eqb-true}
-use Rattle.std.specs.List.{slice_get}
-use Rattle.std.specs.Option.{option_map, option_or}
-use Rattle.j39_frame.specs.Frame.{FrameRecord}
-use Rattle.j39_frame.specs.Identifier.{destination_of, pgn_of, source_of}
-use Rattle.j39_address.specs.Claim.{claim_of}
-use Rattle.j39_transport.specs.Message.{MessageRecord}
-use Rattle.j39_transport.specs.Reception.{ReceptionRecord}
-use Rattle.j39_transport.specs.Receiving.{Heard, recv_step}
-use Rattle.j39_node.specs.declared.kinds.AskEnding.{AskEnding}
-use Rattle.j39_node.specs.declared.kinds.AskEnding.TheVariants.{Answered}
-use Rattle.j39_node.specs.History.{reached, Who, Call, address_after, holds, is_acknowledgment, is_lost, is_none, is_some, is_smaller, older, step}
-use Rattle.j39_node.specs.History.Address.{Lost}
-use Rattle.j39_node.specs.History.Call.{At}
-use Rattle.j39_node.specs.History.Act.{Hear, Tick}
-use Rattle.j39_node.specs.Reception.{Reception, has_place, holder, leaves, left, reception, time_heard, whole, whole_by, shown, known}
-use Rattle.j39_node.specs.Hearing.{made_whole}
-use Rattle.j39_node.specs.Asking.{Question, ask_end, end_at, ended, first, comes, is_answer, is_of, is_reply, made, made_of, next_ask_ended, open_ask, reaches, said_by, says_to, seeks, silent_end, wait}
+use Rattle.j39_node.proofs.Common.{if◌then◌else◌, ◌&&◌, ◌-◌, ◌||◌, ◌∙◌, ◌∷◌, ◌≡◌, ◌≢◌, address_after, Answered, ap, arith, ask_end, AskEnding, At, Bool, Call, claim_of, comes, destination_of, end_at, ended, eqb-true, false, first, FrameRecord, has_place, Hear, Heard, holder, holds, is_acknowledgment, is_answer, is_lost, is_none, is_of, is_smaller, is_some, known, leaves, left, List, Lost, made, made_of, made_whole, MessageRecord, nat_eq, nat_lt, next_ask_ended, None, older, open_ask, Option, option_map, option_or, pgn_of, Question, reached, reaches, Reception, reception, ReceptionRecord, recv_step, refl, says_to, seeks, shown, silent_end, slice_get, Some, source_of, step, sym, Tick, time_heard, true, wait, Who, whole, whole_by, ℕ}
+use Rattle.j39_node.specs.Asking.{is_reply, said_by}
 use Rattle.j39_node.proofs.HearingLaws.{unequal}
 use Rattle.j39_node.proofs.PacketsAnswer.{made_by_packet, none_whole, packs_to_all}
 use Rattle.j39_node.proofs.ReceptionLaws.{heard_kept, none_delivered, not_said}

@@ -1,13 +1,6 @@
 -- When a transfer rests.
-use Rattle.std.proofs.Common.{◌≡◌, ℕ, ◌+◌, ◌-◌, ◌<◌, ◌≤◌, List, [], ◌∷◌, ◌++◌, Option, Some, None, Ok, Bool, true, false, ◌&&◌, if◌then◌else◌, nat_eq, nat_lt, refl, sym, ap, ◌∙◌, arith, IsTrue, eq-eqb, ◌⊎◌, inl, inr, append-nil}
-use Rattle.std.proofs.lemmas.Bool.{and_from, and_parts}
-use Rattle.j39_node.specs.declared.kinds.TransferEnding.{TransferEnding}
-use Rattle.j39_node.specs.History.{Who, Call, moment, step}
-use Rattle.j39_node.specs.History.Call.{TakeTransferEnded}
-use Rattle.j39_node.specs.Moving.{begun, moved}
-use Rattle.j39_node.specs.Since.{ToldSince, passed_in}
-use Rattle.j39_node.specs.Transfers.{Running, holds_back, is_resting, joined, open_transfer, rest, resting, rests_after, with_pair}
-use Rattle.j39_node.specs.History.{Resting, NoneRests, PairRests, AllRest}
+use Rattle.j39_node.proofs.Common.{[], if◌then◌else◌, ◌&&◌, ◌++◌, ◌+◌, ◌-◌, ◌<◌, ◌∙◌, ◌∷◌, ◌≡◌, ◌≤◌, ◌⊎◌, AllRest, and_from, and_parts, ap, append-nil, arith, Bool, Call, eq-eqb, false, holds_back, inl, inr, is_resting, IsTrue, joined, List, moment, moved, nat_eq, nat_lt, None, NoneRests, Ok, open_transfer, Option, PairRests, passed_in, refl, rest, Resting, resting, rests_after, Running, Some, step, sym, TakeTransferEnded, ToldSince, TransferEnding, true, Who, with_pair, ℕ}
+use Rattle.j39_node.specs.Moving.{begun}
 
 -- ---- it rests only after such an end, or where it did before its history
 

@@ -1,15 +1,5 @@
 -- A restart is met.
-use Rattle.std.proofs.Common.{◌≡◌, ◌≢◌, ◌↔◌, ℕ, ◌+◌, ◌-◌, ◌<◌, ◌≤◌, List, [], ◌∷◌, ◌++◌, Option, Some, None, Bool, true, false, not, ◌||◌, ◌&&◌, if◌then◌else◌, IsTrue, nat_eq, min, refl, sym, ap, ◌∙◌, subst, arith, eqb-true, eq-eqb}
-use Rattle.j39_frame.specs.Frame.{FrameRecord}
-use Rattle.j39_address.specs.Claim.{Claim, claim_of}
-use Rattle.j39_transport.specs.Reception.{ReceptionRecord}
-use Rattle.j39_transport.specs.Receiving.{RecvResult, said_to}
-use Rattle.j39_transport.specs.Signals.{Signal}
-use Rattle.j39_node.specs.History.{Who, Call, holds, is_claim, is_smaller, is_some, moment, step, of_other}
-use Rattle.j39_node.specs.History.Call.{At}
-use Rattle.j39_node.specs.History.Act.{Hear, Tick, TakeFrame}
-use Rattle.j39_node.specs.Reception.{KeepsHolder, Reception, asks_claims, called, calls_claims, claimed_again, has_place, heard_at, heard_by, held_then, holder, is_message, is_same, known, leaves, left, reception, restarts, still, time_heard}
-use Rattle.j39_node.specs.Since.{passed_in}
+use Rattle.j39_node.proofs.Common.{[], if◌then◌else◌, ◌&&◌, ◌++◌, ◌+◌, ◌-◌, ◌<◌, ◌||◌, ◌↔◌, ◌∙◌, ◌∷◌, ◌≡◌, ◌≢◌, ◌≤◌, ap, arith, asks_claims, At, Bool, Call, called, calls_claims, Claim, claim_of, claimed_again, eq-eqb, eqb-true, false, FrameRecord, has_place, Hear, heard_at, heard_by, held_then, holder, holds, is_claim, is_message, is_same, is_smaller, is_some, IsTrue, KeepsHolder, known, leaves, left, List, min, moment, nat_eq, None, not, of_other, Option, passed_in, Reception, reception, ReceptionRecord, RecvResult, refl, restarts, said_to, Signal, Some, step, still, subst, sym, TakeFrame, Tick, time_heard, true, Who, ℕ}
 use Rattle.j39_node.proofs.PacketLemmas.{quiet_step}
 use Rattle.j39_node.proofs.ReceptionLaws.{said_no_claim}
 

@@ -1,15 +1,5 @@
 -- The frames of transfers that are made.
-use Rattle.std.proofs.Common.{◌≡◌, ◌↔◌, ℕ, ◌+◌, ◌*◌, ◌<◌, ◌≤◌, List, length, Option, Some, None, IsSome, IfSome, Bool, true, nat_lt, if◌then◌else◌, refl, ap, ◌∙◌, arith}
-use Rattle.std.specs.Option.{option_map}
-use Rattle.j39_frame.specs.Frame.{FrameRecord}
-use Rattle.j39_frame.specs.Identifier.{destination_of, page_of, pf_of, pgn_of, priority_of, ps_of, source_of}
-use Rattle.j39_transport.specs.Cutting.{ToSend, transport_id}
-use Rattle.j39_transport.specs.Sending.{SenderRecord, sent_by}
-use Rattle.j39_transport.specs.SenderModel.{IsSender}
-use Rattle.j39_transport.specs.Signals.{Signal, Packet, group_with, written}
-use Rattle.j39_node.specs.History.{Message, carried}
-use Rattle.j39_node.specs.Is.{stamped}
-use Rattle.j39_node.specs.Transfers.{says}
+use Rattle.j39_node.proofs.Common.{if◌then◌else◌, ◌*◌, ◌+◌, ◌<◌, ◌↔◌, ◌∙◌, ◌≡◌, ◌≤◌, ap, arith, Bool, carried, destination_of, FrameRecord, group_with, IfSome, IsSender, IsSome, length, List, Message, nat_lt, None, Option, option_map, Packet, page_of, pf_of, pgn_of, priority_of, ps_of, refl, says, SenderRecord, sent_by, Signal, Some, source_of, stamped, ToSend, transport_id, true, written, ℕ}
 use Rattle.j39_node.proofs.FrameLemmas.{at_now, made}
 
 abbrev carries : ℕ → ℕ → ℕ → List ℕ → Message

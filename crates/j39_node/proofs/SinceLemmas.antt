@@ -1,16 +1,6 @@
 -- A claimed address was claimed by a frame that was taken.
-use Rattle.std.proofs.Common.{◌≡◌, ◌≤◌, ℕ, ◌+◌, ◌-◌, List, [], ◌∷◌, ◌++◌, length, nat_eq, Some, Bool, true, false, if◌then◌else◌, nat_le, IsTrue, refl, sym, ap, ◌∙◌, subst, arith}
-use Rattle.j39_frame.specs.Frame.{FrameRecord}
-use Rattle.j39_frame.specs.Network.{address_claimed_group}
-use Rattle.j39_address.specs.Claim.{claim_of}
-use Rattle.j39_node.specs.declared.controller.Controller.{Controller}
-use Rattle.j39_node.specs.History.{Act, Who, Call, Message, Address, address_after, claim_address, claim_from, claimed, content, holds, is_claim, is_held, is_lost, is_smaller, moment, older, unclaimed, open_broadcast, packets, pause, step}
-use Rattle.j39_node.specs.History.Call.{At}
-use Rattle.j39_node.specs.History.Act.{Again, Hear, TakeFrame}
-use Rattle.j39_node.specs.History.Address.{NotClaimed, Claimed, Lost}
-use Rattle.j39_node.specs.Is.{Is, AreAnswered}
-use Rattle.j39_node.specs.Since.{ClaimedSince, NeverBack, NoneUnclaims, unclaims, passed_in}
-use Rattle.j39_node.specs.Reception.{reception}
+use Rattle.j39_node.proofs.Common.{[], if◌then◌else◌, ◌++◌, ◌+◌, ◌-◌, ◌∙◌, ◌∷◌, ◌≡◌, ◌≤◌, Act, Address, address_after, address_claimed_group, Again, ap, AreAnswered, arith, At, Bool, Call, claim_address, claim_from, claim_of, Claimed, claimed, ClaimedSince, content, Controller, false, FrameRecord, Hear, holds, Is, is_claim, is_held, is_lost, is_smaller, IsTrue, length, List, Lost, Message, moment, nat_eq, nat_le, NeverBack, NoneUnclaims, NotClaimed, older, open_broadcast, packets, passed_in, pause, reception, refl, Some, step, subst, sym, TakeFrame, true, unclaimed, Who, ℕ}
+use Rattle.j39_node.specs.Since.{unclaims}
 use Rattle.j39_node.proofs.ReceptionLemmas.{replied_get, tidy}
 use Rattle.j39_node.proofs.SoundLemmas.{FrameCase, frame_case, own_of, due_get, due_taken, message_taken, packet_taken, reply_taken, sound, transfer_taken}
 use Rattle.j39_node.proofs.SoundLemmas.FrameCase.{claims, acknowledges, replies, sends, packs, transfers}

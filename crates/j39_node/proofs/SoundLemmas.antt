@@ -1,35 +1,8 @@
 -- What every answered history says of what was accepted, sent and told.
-use Rattle.std.proofs.Common.{drop, ◌≡◌, ℕ, zero, suc, ◌+◌, ◌-◌, ◌<◌, ◌≤◌, List, [], ◌∷◌, ◌++◌, length, map, Option, Some, None, Result, Ok, Err, Bool, true, false, not, ◌&&◌, ◌||◌, if◌then◌else◌, nat_eq, nat_lt, nat_le, ◌==◌, refl, sym, ap, ◌∙◌, subst, inl, inr, arith, append_assoc, length-append, eq-eqb, eqb-true, ltb-true, ◌⊎◌, IsTrue, slice_set, max, take}
-use Rattle.std.proofs.lemmas.Bool.{and_from, and_parts, or_parts, leb-true}
-use Rattle.std.proofs.lemmas.Option.{slice_get_past, slice_get-map, slice_get_within}
-use Rattle.std.specs.List.{slice_get}
-use Rattle.std.specs.Option.{option_map}
-use Rattle.j39_frame.specs.Frame.{FrameRecord}
-use Rattle.j39_frame.specs.Identifier.{destination_of, pgn_of, source_of}
-use Rattle.j39_frame.specs.Network.{address_claimed_group, transport_control_group, transport_data_group, request_group}
-use Rattle.j39_address.specs.Claim.{claim_of}
-use Rattle.j39_transport.specs.Message.{MessageRecord, packets_of}
-use Rattle.std.proofs.lemmas.List.{map-set, length-set, take-set-le, take-append-le}
+use Rattle.j39_node.proofs.Common.{[], if◌then◌else◌, ◌&&◌, ◌++◌, ◌+◌, ◌-◌, ◌<◌, ◌==◌, ◌||◌, ◌∙◌, ◌∷◌, ◌≡◌, ◌≤◌, ◌⊎◌, accepted, Acknowledge, acknowledged, acknowledgment, acknowledgment_group, Address, address_after, address_claimed_group, Again, and_from, and_parts, Answer, answer_to_send, ap, append_assoc, AreAnswered, arith, Ask, Asked, asked, At, BadValue, blank, Bool, Busy, bytes_eq-Decides, Call, can_ask, can_send, claim_address, claim_due, claim_from, claim_goes, claim_of, Claimed, claimed, clock_at, content, control_of, destination_of, Done, Draft, drop, due, end_of, Ending, eq-eqb, eqb-true, Err, false, frame_of, FrameRecord, fresh, Full, gives_way, got, handed, has_packets, Hear, holds, inl, inr, is_acknowledgment, is_apart, is_blank, is_claim, is_full, is_held, is_left, is_lost, is_move, is_own_group, is_packet, is_refusal_due, is_same, is_sendable, is_served, is_session, is_smaller, is_some, is_that, is_there, is_transfer, is_turn, IsAnswered, IsFront, IsTrue, kept, latest, leb-true, length, length-append, length-set, List, Lost, ltb-true, map, map-set, marks, max, may_go, Message, message_from, message_of, MessageRecord, moment, Move, Nack, nat_eq, nat_le, nat_lt, next_acknowledgment, next_ended, next_frame, next_other, next_packet, next_renewed, next_transfer, next_turn, next_withdrawn, NoAddress, None, not, NotClaimed, Ok, older, open_ask, open_broadcast, open_transfer, Option, option_map, or_parts, other, packet_by, packets, packets_of, past, pause, pgn_of, Question, question, reached, Ready, ready, reception, refl, Refused, Renew, Reply, request_for, request_group, requests, Result, Send, sent, Single, slice_get, slice_get-map, slice_get_past, slice_get_within, slice_set, Some, source_of, stamped, step, subst, suc, sym, take, take-append-le, take-set-le, TakeAskEnded, TakeEnded, TakeFrame, TakeReceived, TakeRequest, told, transport_control_group, transport_data_group, true, Turn, turn_frame, turn_of, turns, unblanked, unclaimed, Who, with_refusal, with_request, Withdraw, Withdrawn, yields, zero, ℕ}
+use Rattle.j39_node.specs.declared.turn.Turn.TheVariants.{Packet}
 use Rattle.j39_node.proofs.WithdrawLemmas.{get_front, stops_append, past_more, next_false, past_stops, past_within, set_same, unblanked_more, unblanked_past, unpassed}
-use Rattle.j39_node.specs.declared.kinds.Ending.{Ending}
-use Rattle.j39_node.specs.declared.kinds.Ending.TheVariants.{Done, Withdrawn}
-use Rattle.j39_node.specs.declared.kinds.Answer.{Answer}
-use Rattle.j39_node.specs.declared.kinds.Answer.TheVariants.{Nack, Busy}
-use Rattle.j39_node.specs.declared.kinds.Refused.{Refused}
-use Rattle.j39_node.specs.declared.kinds.Refused.TheVariants.{NoAddress, BadValue, Full}
-use Rattle.j39_node.specs.History.{reached, fresh, is_refusal_due, turns, has_packets, is_left, Who, Message, Draft, Call, Address, IsFront, Asked, accepted, acknowledged, acknowledgment, acknowledgment_group, address_after, asked, can_send, claim_address, claim_from, claimed, content, due, frame_of, got, handed, holds, is_acknowledgment, is_claim, is_full, is_held, is_lost, is_own_group, is_packet, is_sendable, is_served, is_session, is_smaller, is_some, is_transfer, kept, message_from, message_of, moment, older, open_broadcast, packets, pause, request_for, requests, sent, step, told, with_refusal, with_request, unclaimed, latest, marks, past, unblanked, is_blank, blank}
-use Rattle.j39_node.specs.History.Call.{At, TakeEnded, TakeReceived, TakeRequest, Renew, Withdraw, TakeAskEnded}
-use Rattle.j39_node.specs.History.Act.{Ask, Hear, TakeFrame, Send, Acknowledge, Again}
-use Rattle.std.proofs.lemmas.Slice.Eq.{bytes_eq-Decides}
-use Rattle.j39_node.specs.Reception.{yields, is_move, is_same, is_that, reception}
 use Rattle.j39_node.proofs.ReceptionLemmas.{IsReply, replied_get, tidy}
-use Rattle.j39_node.specs.History.Address.{NotClaimed, Claimed, Lost}
-use Rattle.j39_node.specs.Is.{is_apart, claim_goes, gives_way, is_there, is_turn, next_acknowledgment, next_other, next_turn, other, ready, turn_frame, turn_of, AreAnswered, IsAnswered, control_of, stamped, packet_by, next_packet, next_frame, next_ended, end_of, answer_to_send, claim_due, next_renewed, next_withdrawn, may_go}
-use Rattle.j39_node.specs.declared.turn.Ready.{Ready}
-use Rattle.j39_node.specs.declared.turn.Turn.{Turn}
-use Rattle.j39_node.specs.declared.turn.Turn.TheVariants.{Reply, Single, Packet, Move}
-use Rattle.j39_node.specs.Transfers.{next_transfer, open_transfer, clock_at}
-use Rattle.j39_node.specs.Asking.{can_ask, open_ask, Question, question}
 use Rattle.j39_node.proofs.AskCases.{AskCase, ask_case, homeless, unfit, busy, asks, sendable}
 use Rattle.j39_node.proofs.PortLemmas.{ported, SaidCase, said_case}
 use Rattle.j39_node.proofs.QueueLemmas.{get_append, length_one_more, map_append, length_map}

@@ -1,27 +1,7 @@
 -- That every transfer ends, to a driver that takes one frame at least in each g.
-use Rattle.std.proofs.Common.{◌-◌, ◌≡◌, ◌⊎◌, ℕ, suc, ◌+◌, ◌*◌, ◌<◌, ◌≤◌, List, [], ◌∷◌, ◌++◌, length, Option, Some, None, Ok, Bool, true, false, not, ◌&&◌, ◌||◌, if◌then◌else◌, nat_eq, nat_lt, refl, sym, ap, ◌∙◌, subst, arith, inl, inr, eq-eqb, eqb-true}
-use Rattle.std.specs.List.{slice_get}
-use Rattle.std.specs.Option.{option_map}
-use Rattle.std.proofs.lemmas.Bool.{and_parts, cond_both}
-use Rattle.j39_frame.specs.Frame.{FrameRecord}
-use Rattle.j39_frame.specs.Identifier.{destination_of}
-use Rattle.j39_transport.specs.Message.{MessageRecord, packets_of}
-use Rattle.j39_transport.specs.Protocol.{timer_t3}
-use Rattle.j39_transport.specs.Sending.{SenderRecord, Tick, aborted, is_idle, is_running, new_sender, send_step, ticks_in}
-use Rattle.j39_transport.specs.SenderNext.{granted_by}
-use Rattle.j39_transport.specs.Signals.{Signal, Abort}
-use Rattle.j39_node.specs.declared.controller.Controller.{Controller}
-use Rattle.j39_node.specs.declared.kinds.TransferEnding.{TransferEnding}
-use Rattle.j39_node.specs.declared.turn.Turn.TheVariants.{Reply, Move}
-use Rattle.j39_node.specs.History.{reached, is_session, Who, Message, Call, accepted, acknowledged, address_after, broadcast_from, due, holds, is_acknowledgment, is_claim, is_held, is_lost, is_some, is_transfer, message_of, moment, open_broadcast, packets, pause, sent, step, turns}
-use Rattle.j39_node.specs.History.Call.{At, TakeTransferEnded}
-use Rattle.j39_node.specs.History.Act.{Hear, TakeFrame, Transfer, Again}
-use Rattle.j39_node.specs.Is.{AreAnswered, Is, IsAnswered, is_apart, is_there, next_frame, next_other, other, ready}
-use Rattle.j39_node.specs.Prompt.{IsSteady, NoneTold, counts_for, since_take, taken_for, tells_transfer, claims_anew}
-use Rattle.j39_node.specs.Reception.{yields, holder, is_move, is_same, is_that, reception, is_reply}
-use Rattle.j39_node.specs.Since.{passed_in}
-use Rattle.j39_node.specs.Transfers.{Running, age, begun, clock_at, gives_up, hears, hears_if, is_engaged, is_replaced, is_resting, is_spent, listens, next_transfer, next_transfer_ended, open_transfer, said_to, says, sends, sends_if, signal_by, transfer_by, transfer_end, transfers as all_transfers}
-use Rattle.j39_node.specs.Moves.{clears}
+use Rattle.j39_node.proofs.Common.{[], if◌then◌else◌, ◌&&◌, ◌*◌, ◌++◌, ◌+◌, ◌-◌, ◌<◌, ◌||◌, ◌∙◌, ◌∷◌, ◌≡◌, ◌≤◌, ◌⊎◌, Abort, aborted, accepted, acknowledged, address_after, Again, age, all_transfers, and_parts, ap, AreAnswered, arith, At, begun, Bool, broadcast_from, Call, claims_anew, clears, clock_at, cond_both, Controller, counts_for, destination_of, due, eq-eqb, eqb-true, false, FrameRecord, gives_up, granted_by, Hear, hears, hears_if, holder, holds, inl, inr, Is, is_acknowledgment, is_apart, is_claim, is_engaged, is_held, is_idle, is_lost, is_move, is_replaced, is_reply, is_resting, is_running, is_same, is_session, is_some, is_spent, is_that, is_there, is_transfer, IsAnswered, IsSteady, length, List, listens, Message, message_of, MessageRecord, moment, Move, nat_eq, nat_lt, new_sender, next_frame, next_other, next_transfer, next_transfer_ended, None, NoneTold, not, Ok, open_broadcast, open_transfer, Option, option_map, other, packets, packets_of, passed_in, pause, reached, ready, reception, refl, Reply, Running, says, send_step, SenderRecord, sends, sends_if, sent, Signal, signal_by, since_take, slice_get, Some, step, subst, suc, sym, TakeFrame, taken_for, TakeTransferEnded, tells_transfer, ticks_in, timer_t3, Transfer, transfer_by, transfer_end, TransferEnding, true, turns, Who, yields, ℕ}
+use Rattle.j39_transport.specs.Sending.{Tick}
+use Rattle.j39_node.specs.Transfers.{said_to}
 use Rattle.j39_node.proofs.EndLaws.{Over, ended_aborted, over_hears, over_sends, running_of, tells}
 use Rattle.j39_node.proofs.EndSteps.{heard_case, times_more}
 use Rattle.j39_node.proofs.MoveLemmas.{Sent, hears_token, sent_case}

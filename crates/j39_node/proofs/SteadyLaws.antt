@@ -1,23 +1,8 @@
 -- A driver that takes one frame at least in each g: how long a frame of a broadcast and a message wait, whoever asks.
-use Rattle.std.proofs.Math.Nat.{add-mul, suc-mul}
-use Rattle.std.proofs.Common.{◌≡◌, ◌⊎◌, ℕ, zero, suc, ◌+◌, ◌-◌, ◌*◌, ◌<◌, ◌≤◌, List, [], ◌∷◌, ◌++◌, length, Option, Some, None, Ok, Bool, true, false, ◌&&◌, ◌||◌, not, if◌then◌else◌, nat_eq, nat_le, nat_lt, IsTrue, refl, sym, ap, ◌∙◌, subst, arith, inl, inr, eqb-true, eq-eqb, lt-ltb}
-use Rattle.std.proofs.lemmas.Bool.{and_from, and_parts}
-use Rattle.j39_frame.specs.Frame.{FrameRecord}
-use Rattle.j39_transport.specs.Message.{MessageRecord, packets_of}
-use Rattle.std.specs.List.{slice_get}
+use Rattle.j39_node.proofs.Common.{[], if◌then◌else◌, ◌&&◌, ◌*◌, ◌++◌, ◌+◌, ◌-◌, ◌<◌, ◌||◌, ◌∙◌, ◌∷◌, ◌≡◌, ◌≤◌, ◌⊎◌, accepted, add-mul, address_after, Again, and_from, and_parts, ap, AreAnswered, arith, At, Bool, Broadcast, broadcast_from, broadcasts, Call, claim_goes, claims_anew, Controller, due, Ending, eq-eqb, eqb-true, false, FrameRecord, gives_way, has_packets, Hear, holds, inl, inr, Is, is_acknowledgment, is_claim, is_held, is_left, is_lost, is_open, is_overdue, is_packet, is_reply, is_session, is_there, is_transfer, is_turn, IsAnswered, IsPrompt, IsSteady, IsTrue, length, List, lt-ltb, marks, Message, message_of, MessageRecord, moment, Move, nat_eq, nat_le, nat_lt, next_broadcast_ended, next_ended, next_frame, next_other, next_turn, None, NoneTold, not, Ok, older, open_broadcast, Option, other, packets, packets_of, packets_taken, passed_in, pause, reached, Ready, ready, reception, refl, Reply, sent, since_take, Single, slice_get, Some, StaysFirst, step, subst, suc, suc-mul, sym, TakeBroadcastEnded, TakeFrame, takes_reply, tells_broadcast, told, true, turn_of, turns, waited_in, Who, yields, zero, ℕ}
+use Rattle.j39_node.specs.declared.turn.Turn.TheVariants.{Packet}
 use Rattle.j39_node.proofs.EndSteps.{times_more}
 use Rattle.j39_node.proofs.WithdrawLemmas.{past_more}
-use Rattle.j39_node.specs.declared.controller.Controller.{Controller}
-use Rattle.j39_node.specs.declared.kinds.Ending.{Ending}
-use Rattle.j39_node.specs.declared.turn.Ready.{Ready}
-use Rattle.j39_node.specs.declared.turn.Turn.TheVariants.{Reply, Single, Packet, Move}
-use Rattle.j39_node.specs.History.{reached, Who, Message, Call, accepted, address_after, broadcast_from, broadcasts, due, has_packets, holds, is_acknowledgment, is_claim, is_held, is_left, is_lost, is_open, is_packet, is_session, is_transfer, message_of, moment, older, open_broadcast, packets, pause, sent, step, told, turns, marks}
-use Rattle.j39_node.specs.History.Call.{At, TakeBroadcastEnded}
-use Rattle.j39_node.specs.History.Act.{Broadcast, Hear, TakeFrame, Again}
-use Rattle.j39_node.specs.Is.{AreAnswered, Is, IsAnswered, claim_goes, gives_way, is_overdue, is_there, is_turn, next_broadcast_ended, next_ended, next_frame, next_other, next_turn, other, ready, turn_of}
-use Rattle.j39_node.specs.Prompt.{IsPrompt, waited_in, IsSteady, NoneTold, packets_taken, since_take, tells_broadcast, claims_anew, StaysFirst, takes_reply}
-use Rattle.j39_node.specs.Reception.{yields, reception, is_reply}
-use Rattle.j39_node.specs.Since.{passed_in}
 use Rattle.j39_node.proofs.LaneLaws.{overdue_goes_by, taken_packet_of}
 use Rattle.j39_node.proofs.LaneLemmas.{BroadcastCase, broadcast_case}
 use Rattle.j39_node.proofs.LaneLemmas.BroadcastCase.{homeless, unfit, busy, opens}

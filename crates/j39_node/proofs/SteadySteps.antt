@@ -1,11 +1,6 @@
 -- How long a transfer waits for a driver that takes one frame at least, step by step of its sender.
-use Rattle.std.proofs.Math.Nat.{suc-mul}
-use Rattle.std.proofs.Common.{◌≡◌, ◌⊎◌, ℕ, zero, suc, ◌+◌, ◌-◌, ◌*◌, ◌<◌, ◌≤◌, Option, Some, None, Bool, true, false, ◌&&◌, ◌||◌, ◌==◌, if◌then◌else◌, length, nat_lt, max, min, refl, sym, ap, ◌∙◌, subst, arith, inl, inr}
-use Rattle.std.proofs.lemmas.Bool.{cond_both}
-use Rattle.j39_transport.specs.Protocol.{timeout, timer_t3}
-use Rattle.j39_transport.specs.Sending.{SendResult, SenderRecord, SendState, Idle, Waiting, Sending, Done, Failed, is_idle, is_running, sends_packet, ticks_in}
-use Rattle.j39_transport.specs.Signals.{Abort}
-use Rattle.j39_node.specs.Transfers.{granted_after, spent_after}
+use Rattle.j39_node.proofs.Common.{if◌then◌else◌, ◌&&◌, ◌*◌, ◌+◌, ◌-◌, ◌<◌, ◌==◌, ◌||◌, ◌∙◌, ◌≡◌, ◌≤◌, ◌⊎◌, Abort, ap, arith, Bool, cond_both, Failed, false, granted_after, Idle, inl, inr, is_idle, is_running, length, max, min, nat_lt, None, Option, refl, SenderRecord, Sending, SendResult, sends_packet, SendState, Some, spent_after, subst, suc, suc-mul, sym, ticks_in, timeout, timer_t3, true, Waiting, zero, ℕ}
+use Rattle.j39_transport.specs.Sending.{Done}
 use Rattle.j39_node.proofs.EndSteps.{HeardCase, IsEnded, counts, times_more}
 use Rattle.j39_node.proofs.EndSteps.HeardCase.{same, ends, holds, clears}
 use Rattle.j39_node.proofs.SteadyLaws.{most_others, one, turn_most, turn_more, turn_time}

@@ -1,21 +1,8 @@
 -- When a tick does something.
-use Rattle.std.proofs.Common.{◌≡◌, ◌⊎◌, ℕ, ◌+◌, ◌-◌, ◌<◌, ◌≤◌, ◌==◌, List, [], ◌∷◌, min, Option, Some, None, Bool, true, false, not, ◌&&◌, ◌||◌, if◌then◌else◌, nat_eq, nat_lt, refl, sym, ap, ◌∙◌, inl, inr, arith, ltb-false, ltb-true, lt-ltb}
-use Rattle.std.specs.Option.{option_map}
-use Rattle.std.proofs.lemmas.Bool.{cond_both}
-use Rattle.j39_transport.specs.Reception.{ReceptionRecord, Reaction, asks_again, granted_at, grants, limit_of, takes_tick}
-use Rattle.j39_transport.specs.Receiving.{ReceiverRecord, RecvResult, Tick as Ticks, recv_step}
-use Rattle.j39_node.specs.declared.controller.Controller.{Controller}
-use Rattle.j39_node.specs.declared.kinds.AskEnding.{AskEnding}
-use Rattle.j39_node.specs.declared.kinds.AskEnding.TheVariants.{TimedOut, Withdrawn}
-use Rattle.j39_node.specs.History.{reached, Who, Call, address_after, is_lost, moment}
-use Rattle.j39_node.specs.History.Call.{At, TakeAskEnded}
-use Rattle.j39_node.specs.History.Act.{Hear, Tick}
-use Rattle.j39_node.specs.Reception.{Reception, heard_at, is_over, reception, receiver_at, session_tick, ticked_at, time_heard}
-use Rattle.j39_node.specs.Hearing.{OpenBroadcast, hearing, hearing_tick, is_late, is_out, is_whole, left, expires}
-use Rattle.j39_node.specs.Asking.{Question, ask_end, comes, ended, in_broadcast, in_session, is_coming, is_from, is_taken, is_waiting, next_ask_ended, open_ask, out_at, request_tick, seeks, wait}
-use Rattle.j39_node.specs.Is.{Is}
-use Rattle.j39_node.specs.Ticks.{next_tick}
-use Rattle.j39_node.specs.Transfers.{sooner}
+use Rattle.j39_node.proofs.Common.{[], if◌then◌else◌, ◌&&◌, ◌+◌, ◌-◌, ◌<◌, ◌==◌, ◌||◌, ◌∙◌, ◌∷◌, ◌≡◌, ◌≤◌, ◌⊎◌, address_after, ap, arith, ask_end, AskEnding, asks_again, At, Bool, Call, comes, cond_both, Controller, ended, expires, false, granted_at, grants, Hear, heard_at, hearing, hearing_tick, in_broadcast, in_session, inl, inr, Is, is_coming, is_from, is_late, is_lost, is_out, is_over, is_whole, limit_of, List, lt-ltb, ltb-false, ltb-true, min, moment, nat_eq, nat_lt, next_ask_ended, next_tick, None, not, open_ask, OpenBroadcast, Option, option_map, out_at, Question, reached, Reaction, receiver_at, ReceiverRecord, Reception, reception, ReceptionRecord, recv_step, RecvResult, refl, request_tick, seeks, session_tick, Some, sooner, sym, TakeAskEnded, takes_tick, Tick, ticked_at, Ticks, time_heard, TimedOut, true, wait, Who, ℕ}
+use Rattle.j39_node.specs.declared.kinds.AskEnding.TheVariants.{Withdrawn}
+use Rattle.j39_node.specs.Hearing.{left}
+use Rattle.j39_node.specs.Asking.{is_taken, is_waiting}
 use Rattle.j39_node.proofs.AskLaws.{over_told}
 use Rattle.j39_node.proofs.HearingLaws.{tick_keeps}
 use Rattle.j39_node.proofs.ReceptionLaws.{tick_waits}

@@ -1,29 +1,10 @@
 -- The laws of transfers.
-use Rattle.std.proofs.Common.{◌≡◌, ◌⊎◌, ◌↔◌, ℕ, ◌+◌, ◌-◌, ◌<◌, ◌≤◌, List, [], ◌∷◌, ◌++◌, length, Option, Some, None, Result, Ok, Err, Bool, true, false, not, ◌&&◌, ◌||◌, ◌==◌, if◌then◌else◌, nat_eq, nat_lt, max, min, refl, sym, ap, ◌∙◌, arith, inl, inr, eq-eqb, eqb-true, subst, IsTrue}
-use Rattle.std.specs.List.{slice_get}
-use Rattle.std.specs.Option.{option_map}
-use Rattle.std.proofs.lemmas.Bool.{cond_both, or_parts, and_parts as both}
-use Rattle.j39_frame.specs.Frame.{FrameRecord}
-use Rattle.j39_frame.specs.Network.{transport_control_group, transport_data_group}
-use Rattle.j39_transport.specs.Cutting.{packet_data}
-use Rattle.j39_transport.specs.Message.{MessageRecord, packets_of}
+use Rattle.j39_node.proofs.Common.{[], if◌then◌else◌, ◌&&◌, ◌++◌, ◌+◌, ◌-◌, ◌<◌, ◌==◌, ◌||◌, ◌↔◌, ◌∙◌, ◌∷◌, ◌≡◌, ◌≤◌, ◌⊎◌, Abort, abort_move, aborted, Aborts, accepted, acked, acknowledged, Acknowledges, Acknowledgment, address_after, all_transfers, ap, AreAnswered, arith, At, BadValue, Bool, both, BroadcastAnnounce, broken_off, Call, can_transfer, cleared, clears, clears_by, ClearToSend, clock_at, cond_both, Controller, due, ending_by, eq-eqb, eqb-true, Err, false, FrameRecord, Full, gives_up, gives_way, Gone, granted_after, granted_by, Happened, has_packets, Hear, hears, hears_if, holder, holds, inl, inr, Is, is_clear, is_engaged, is_idle, is_lost, is_move, is_replaced, is_resting, is_running, is_spent, is_waiting, IsMove, IsTrue, length, List, listens, long_by, max, may_name, Message, message_of, MessageRecord, min, moves, nat_eq, nat_lt, new_sender, next_packet, next_transfer, NoAddress, None, not, Ok, open_transfer, Option, option_map, or_parts, Packet, packet_data, packets, packets_of, PacketSince, reached, refl, Refused, Replaces, request_of, RequestToSend, Result, Running, said_between, says, send_step, SenderRecord, sends, sends_if, sends_packet, SendState, Signal, signal_by, slice_get, Some, spent_after, step, subst, sym, TakeFrame, takes_clear, TakeTransferEnded, ticks_in, told_transfers, Transfer, transfer_end, TransferEnding, transport_control_group, transport_data_group, true, Who, ℕ}
+use Rattle.j39_transport.specs.Sending.{Heard, Tick}
+use Rattle.j39_node.specs.declared.kinds.TransferEnding.TheVariants.{Done, Withdrawn, Failed}
+use Rattle.j39_node.specs.Transfers.{is_over, said_to}
+use Rattle.j39_node.specs.Moves.{NoneEnds}
 use Rattle.j39_transport.specs.Sending as sending
-use Rattle.j39_transport.specs.Sending.{SenderRecord, SendState, Heard, Tick, aborted, acknowledged as acked, cleared, is_idle, is_running, is_waiting, may_name, new_sender, request_of, send_step, sends_packet, ticks_in}
-use Rattle.j39_transport.specs.SenderNext.{granted_by}
-use Rattle.j39_transport.specs.Signals.{Signal, BroadcastAnnounce, RequestToSend, ClearToSend, Acknowledgment, Abort, Packet, said_between}
-use Rattle.j39_node.specs.declared.controller.Controller.{Controller}
-use Rattle.j39_node.specs.declared.kinds.TransferEnding.{TransferEnding}
-use Rattle.j39_node.specs.declared.kinds.TransferEnding.TheVariants.{Done, Withdrawn, Failed, Gone}
-use Rattle.j39_node.specs.declared.kinds.Refused.{Refused}
-use Rattle.j39_node.specs.declared.kinds.Refused.TheVariants.{NoAddress, BadValue, Full}
-use Rattle.j39_node.specs.History.{reached, Who, Message, Call, accepted, acknowledged, address_after, due, has_packets, holds, is_lost, message_of, packets, step}
-use Rattle.j39_node.specs.History.Call.{At, TakeTransferEnded}
-use Rattle.j39_node.specs.History.Act.{Hear, TakeFrame, Transfer}
-use Rattle.j39_node.specs.Is.{AreAnswered, Is, long_by, next_packet, gives_way}
-use Rattle.j39_node.specs.Since.{PacketSince}
-use Rattle.j39_node.specs.Transfers.{Running, broken_off, can_transfer, clock_at, ending_by, gives_up, granted_after, hears, hears_if, is_engaged, is_over, is_replaced, is_resting, is_spent, listens, next_transfer, open_transfer, said_to, says, sends, sends_if, signal_by, spent_after, told_transfers, transfer_end, transfers as all_transfers}
-use Rattle.j39_node.specs.Reception.{holder, is_move}
-use Rattle.j39_node.specs.Moves.{Aborts, Acknowledges, Happened, IsMove, NoneEnds, Replaces, abort_move, clears, clears_by, is_clear, moves, takes_clear}
 use Rattle.j39_node.proofs.SoundLemmas.{frame_case, sound}
 use Rattle.j39_node.proofs.LawLemmas.{not_both, past_end, sent_within, all_acknowledged}
 use Rattle.j39_node.proofs.LaneLaws.{none_long, packet_waits}

@@ -1,7 +1,4 @@
-use Rattle.std.proofs.Common.{◌∙◌, ap, sym, refl, ℕ, length, true, false, nat_eq, eq-eqb}
-use Rattle.j39_frame.specs.Stamp.{stamp_micros}
-use Rattle.j39_node.specs.History.{due, acknowledged}
-use Rattle.j39_node.specs.Is.{request_by, refusal_by, View}
+use Rattle.j39_node.proofs.Common.{◌∙◌, acknowledged, ap, due, eq-eqb, false, length, nat_eq, refl, refusal_by, request_by, stamp_micros, sym, true, View, ℕ}
 use Rattle.j39_node.proofs.QueueLemmas.{length_rest}
 use Rattle.j39_node.proofs.CallLemmas.{passed_is, holds_is, acknowledge_is, due_more}
 use Rattle.j39_node.proofs.controller.Controller.acknowledge.Goals as goal

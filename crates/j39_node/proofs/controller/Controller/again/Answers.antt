@@ -1,9 +1,6 @@
-use Rattle.std.proofs.Common.{◌∙◌, ap, refl, ℕ}
-use Rattle.j39_frame.specs.Stamp.{stamp_micros}
-use Rattle.j39_node.specs.Hold.{anew}
+use Rattle.j39_node.proofs.Common.{◌∙◌, anew, ap, refl, stamp_micros, View, ℕ}
 use Rattle.j39_node.proofs.CallLemmas.{again_more, passed_is}
 use Rattle.j39_node.proofs.controller.Controller.again.Goals as goal
-use Rattle.j39_node.specs.Is.{View}
 
 pub returns : goal.returns
 returns c = λ w H h.

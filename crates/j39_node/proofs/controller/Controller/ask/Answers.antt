@@ -1,13 +1,8 @@
-use Rattle.std.proofs.Common.{◌≡◌, ◌∙◌, ap, sym, refl, arith, true, false, Bool, Ok}
-use Rattle.j39_frame.specs.Stamp.{stamp_micros}
-use Rattle.j39_frame.specs.Pgn.{pgn_raw}
-use Rattle.j39_node.specs.History.{Who, message_from, request_for}
-use Rattle.j39_node.specs.Asking.{can_ask}
+use Rattle.j39_node.proofs.Common.{◌∙◌, ◌≡◌, ap, arith, Bool, can_ask, false, message_from, Ok, pgn_raw, refl, request_for, stamp_micros, sym, true, View, Who}
 use Rattle.j39_node.proofs.CallLemmas.{passed_is, holds_is}
 use Rattle.j39_node.proofs.AskCases.{ask_is}
 use Rattle.j39_node.proofs.AskCalls.{asks_one, busy_is, refuses_ask}
 use Rattle.j39_node.proofs.controller.Controller.ask.Goals as goal
-use Rattle.j39_node.specs.Is.{View}
 
 not_true : (b : Bool) → (b ≡ true → false ≡ true) → b ≡ false
 not_true true f = absurd (let z : false ≡ true = f refl in cc)

@@ -1,6 +1,4 @@
-use Rattle.std.proofs.Common.{[], map, rules}
-use Rattle.j39_node.specs.History.{Who, nothing}
-use Rattle.j39_node.specs.Is.{after, asking_of, hearing_of, lane_of, posted, received_by, refusal_by, request_by, who_of}
+use Rattle.j39_node.proofs.Common.{[], after, asking_of, hearing_of, lane_of, map, nothing, posted, received_by, refusal_by, request_by, rules, Who, who_of}
 use Rattle.j39_node.proofs.controller.Controller.begun.Goals as goal
 
 pub returns : goal.returns

@@ -1,9 +1,6 @@
-use Rattle.std.proofs.Common.{◌≡◌, ◌∙◌, ap, sym, refl, arith, true, false, Bool, Ok}
-use Rattle.j39_frame.specs.Stamp.{stamp_micros}
-use Rattle.j39_frame.specs.Pgn.{pgn_raw}
+use Rattle.j39_node.proofs.Common.{◌∙◌, ◌≡◌, ap, arith, Bool, false, Ok, pgn_raw, refl, stamp_micros, sym, true, View}
 use Rattle.j39_node.proofs.CallLemmas.{passed_is, holds_is, begins, broadcast_is, busy_is, refuses_broadcast}
 use Rattle.j39_node.proofs.controller.Controller.broadcast.Goals as goal
-use Rattle.j39_node.specs.Is.{View}
 
 not_true : (b : Bool) → (b ≡ true → false ≡ true) → b ≡ false
 not_true true f = absurd (let z : false ≡ true = f refl in cc)

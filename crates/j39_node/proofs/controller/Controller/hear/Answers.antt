@@ -1,16 +1,5 @@
-use Rattle.std.proofs.Common.{◌&&◌, length, map, nat_lt, ◌∙◌, ap, refl, not, ◌||◌, Bool, ℕ, Option, subst, ◌++◌, [], ◌∷◌, if◌then◌else◌}
-use Rattle.j39_frame.specs.Stamp.{stamp_micros}
-use Rattle.j39_node.specs.Asking.{in_broadcast, is_coming}
-use Rattle.j39_node.specs.Is.{AskRecord, asking_of, hears_with, port_of, request_by, who_of, hearing_of, incoming_of, made_by, session_by, refusal_by, View}
-use Rattle.j39_node.specs.History.{fresh, with_refusal, is_lost}
-use Rattle.j39_node.specs.Hearing.{whole_of}
-use Rattle.j39_node.specs.declared.news.Untold.{Untold}
-use Rattle.j39_node.specs.Transfers.{hears_if}
-use Rattle.std.specs.Option.{is_some, option_map, option_or}
-use Rattle.j39_node.specs.Hold.{lost, heard}
-use Rattle.j39_address.specs.Name.{name_raw}
-use Rattle.j39_address.specs.Claim.{claim_of}
-use Rattle.j39_address.specs.Claims.{Knows}
+use Rattle.j39_node.proofs.Common.{[], if◌then◌else◌, ◌&&◌, ◌++◌, ◌||◌, ◌∙◌, ◌∷◌, ap, asking_of, AskRecord, Bool, claim_of, fresh, heard, hearing_of, hears_if, hears_with, in_broadcast, incoming_of, is_coming, is_lost, Knows, length, lost, made_by, map, name_raw, nat_lt, not, Option, option_map, option_or, port_of, refl, refusal_by, request_by, session_by, stamp_micros, subst, Untold, View, who_of, whole_of, with_refusal, ℕ}
+use Rattle.std.specs.Option.{is_some}
 use Rattle.j39_node.proofs.PortLemmas.{peers_are}
 use Rattle.j39_node.proofs.KnownLemmas.{fresh_known, refused_known, asked_known, calls_known, refusal_known, request_known, smaller_known, double_known}
 use Rattle.j39_node.proofs.CallLemmas.{passed_is, heard_more, news_heard}

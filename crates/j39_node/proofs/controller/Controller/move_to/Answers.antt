@@ -1,5 +1,4 @@
-use Rattle.std.proofs.Common.{◌∙◌, ap, sym, refl}
-use Rattle.j39_node.specs.Is.{hearing_of, View}
+use Rattle.j39_node.proofs.Common.{◌∙◌, ap, hearing_of, refl, sym, View}
 use Rattle.j39_node.proofs.MovingLemmas.{begins_anew, settles}
 use Rattle.j39_node.proofs.controller.Controller.move_to.Goals as goal
 

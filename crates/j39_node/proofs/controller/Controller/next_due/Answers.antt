@@ -1,12 +1,6 @@
-use Rattle.std.proofs.Common.{◌∙◌, ◌+◌, ap, sym, true, false, ℕ, Option, if◌then◌else◌}
-use Rattle.std.specs.Option.{option_map}
-use Rattle.j39_frame.specs.Stamp.{stamp_micros}
-use Rattle.j39_node.specs.Hold.{left_at}
-use Rattle.j39_node.specs.History.{moment, address_after, delayed, owes_claim, stamp_at}
-use Rattle.j39_node.specs.Transfers.{at_in}
+use Rattle.j39_node.proofs.Common.{if◌then◌else◌, ◌+◌, ◌∙◌, address_after, ap, at_in, delayed, false, left_at, moment, Option, option_map, owes_claim, stamp_at, stamp_micros, sym, true, View, ℕ}
 use Rattle.j39_node.proofs.CallLemmas.{frame_due, held_due, packets_due, held_at_is, due_is}
 use Rattle.j39_node.proofs.controller.Controller.next_due.Goals as goal
-use Rattle.j39_node.specs.Is.{View}
 
 pub returns-then-has_frame : goal.returns-then-has_frame
 returns-then-has_frame c = λ w H h.

@@ -1,7 +1,4 @@
-use Rattle.std.proofs.Common.{◌∙◌, ap, sym, Some, true, false}
-use Rattle.std.specs.Option.{option_map}
-use Rattle.j39_frame.specs.Stamp.{stamp_micros}
-use Rattle.j39_node.specs.Is.{refusal_by, View}
+use Rattle.j39_node.proofs.Common.{◌∙◌, ap, false, option_map, refusal_by, Some, stamp_micros, sym, true, View}
 use Rattle.j39_node.proofs.CallLemmas.{first_acknowledged, gives_is, passed_is, holds_is, peeks_claim, peeks_none, peeks_due, peeks_other, goes_is}
 use Rattle.j39_node.proofs.controller.Controller.peek_frame.Goals as goal
 

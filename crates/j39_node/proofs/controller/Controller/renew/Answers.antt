@@ -1,9 +1,4 @@
-use Rattle.std.proofs.Common.{◌∙◌, ap, sym, refl, map, subst, None, Option, List, ℕ, ◌∷◌}
-use Rattle.j39_frame.specs.Pgn.{pgn_raw}
-use Rattle.j39_node.specs.History.{Who, Draft, can_send, latest}
-use Rattle.j39_node.specs.History.Call.{Renew}
-use Rattle.j39_node.specs.Is.{Is, posted, View}
-use Rattle.j39_node.specs.declared.outgoing.Outgoing.{Outgoing}
+use Rattle.j39_node.proofs.Common.{◌∙◌, ◌∷◌, ap, can_send, Draft, Is, latest, List, map, None, Option, Outgoing, pgn_raw, posted, refl, Renew, subst, sym, View, Who, ℕ}
 use Rattle.j39_node.proofs.CallLemmas.{none_renewed, renewal, renews}
 use Rattle.j39_node.proofs.controller.Controller.renew.Goals as goal
 

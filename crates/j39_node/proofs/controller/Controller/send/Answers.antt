@@ -1,10 +1,6 @@
-use Rattle.std.proofs.Common.{◌≡◌, ◌∙◌, ap, sym, refl, arith, true, false, Bool}
-use Rattle.j39_frame.specs.Stamp.{stamp_micros}
-use Rattle.j39_frame.specs.Pgn.{pgn_raw}
-use Rattle.j39_node.specs.History.{Who, Draft, can_send, message_from}
+use Rattle.j39_node.proofs.Common.{◌∙◌, ◌≡◌, ap, arith, Bool, can_send, Draft, false, message_from, pgn_raw, refl, stamp_micros, sym, true, View, Who}
 use Rattle.j39_node.proofs.CallLemmas.{passed_is, holds_is, posts, refuses_send, send_is, full_is}
 use Rattle.j39_node.proofs.controller.Controller.send.Goals as goal
-use Rattle.j39_node.specs.Is.{View}
 
 not_true : (b : Bool) → (b ≡ true → false ≡ true) → b ≡ false
 not_true true f = absurd (let z : false ≡ true = f refl in cc)

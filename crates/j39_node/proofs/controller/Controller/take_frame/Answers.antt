@@ -1,16 +1,6 @@
-use Rattle.std.proofs.Common.{map, suc, ◌≡◌, ◌∙◌, ◌+◌, ◌-◌, ap, sym, refl, ℕ, Some, Option, ◌∷◌, true, not, subst, length, false}
-use Rattle.j39_frame.specs.Frame.{FrameRecord}
-use Rattle.j39_node.specs.History.Call.{At}
-use Rattle.j39_node.specs.History.Act.{TakeFrame}
-use Rattle.j39_node.specs.History.{is_blank, past, acknowledged, due}
-use Rattle.j39_node.specs.Is.{posted, IncomingRecord, with_called, refusal_by, said_by, Is, port_of, View}
-use Rattle.j39_node.specs.Reception.{reception}
+use Rattle.j39_node.proofs.Common.{◌+◌, ◌-◌, ◌∙◌, ◌∷◌, ◌≡◌, acknowledged, ap, At, due, false, FrameRecord, IncomingRecord, Is, is_blank, length, map, name_raw, not, Option, option_map, past, port_of, posted, reception, refl, refusal_by, said_by, sends_if, Some, stamp_micros, subst, suc, sym, TakeFrame, transfer_by, true, View, with_called, ℕ}
 use Rattle.j39_node.proofs.QueueLemmas.{read, read_none, first}
-use Rattle.std.specs.Option.{option_map}
-use Rattle.j39_address.specs.Name.{name_raw}
-use Rattle.j39_frame.specs.Stamp.{stamp_micros}
 use Rattle.j39_node.proofs.CallLemmas.{move_goes, packet_goes, reply_there, single_there, due_there, gives_is, goes_is, none_acknowledged, one_acknowledged, passed_is, holds_is, taken, taken_none, taken_packet, taken_due, taken_reply, replies_is, claims_more, taken_transfer}
-use Rattle.j39_node.specs.Transfers.{sends_if, transfer_by}
 use Rattle.j39_node.proofs.FrameLemmas.{at_now}
 use Rattle.j39_node.proofs.controller.Controller.take_frame.Goals as goal
 

@@ -1,6 +1,4 @@
-use Rattle.std.proofs.Common.{◌∙◌, ap, sym, refl, ℕ, drop}
-use Rattle.j39_node.specs.History.{kept, got}
-use Rattle.j39_node.specs.Is.{received_by, View}
+use Rattle.j39_node.proofs.Common.{◌∙◌, ap, drop, got, kept, received_by, refl, sym, View, ℕ}
 use Rattle.j39_node.proofs.QueueLemmas.{first, not_empty, length_one_more}
 use Rattle.j39_node.proofs.controller.Controller.take_received.Goals as goal
 use Rattle.j39_node.proofs.CallLemmas.{follows}

@@ -1,6 +1,4 @@
-use Rattle.std.proofs.Common.{length, refl, ap}
-use Rattle.j39_node.specs.History.{handed, requests}
-use Rattle.j39_node.specs.Is.{request_by, View}
+use Rattle.j39_node.proofs.Common.{ap, handed, length, refl, request_by, requests, View}
 use Rattle.j39_node.proofs.QueueLemmas.{first, not_empty}
 use Rattle.j39_node.proofs.CallLemmas.{handed_more}
 use Rattle.j39_node.proofs.controller.Controller.take_request.Goals as goal

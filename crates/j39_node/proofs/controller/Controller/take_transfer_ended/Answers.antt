@@ -1,4 +1,4 @@
-use Rattle.std.proofs.Common.{◌∙◌, refl, sym}
+use Rattle.j39_node.proofs.Common.{◌∙◌, refl, sym}
 use Rattle.j39_node.proofs.CallLemmas.{transfer_ends, transfer_end_is}
 use Rattle.j39_node.proofs.controller.Controller.take_transfer_ended.Goals as goal
 

@@ -1,7 +1,5 @@
-use Rattle.std.proofs.Common.{◌∙◌, ap, refl, Bool}
-use Rattle.j39_frame.specs.Stamp.{stamp_micros}
-use Rattle.j39_node.specs.Hearing.{breaks, left}
-use Rattle.j39_node.specs.Is.{hearing_of, View}
+use Rattle.j39_node.proofs.Common.{◌∙◌, ap, Bool, breaks, hearing_of, refl, stamp_micros, View}
+use Rattle.j39_node.specs.Hearing.{left}
 use Rattle.j39_node.proofs.CallLemmas.{passed_is, ticked_more}
 use Rattle.j39_node.proofs.controller.Controller.tick.Goals as goal
 

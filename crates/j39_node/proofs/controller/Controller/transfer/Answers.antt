@@ -1,11 +1,6 @@
-use Rattle.std.proofs.Common.{◌≡◌, ◌∙◌, ap, sym, refl, arith, true, false, Bool, Ok}
-use Rattle.j39_frame.specs.Stamp.{stamp_micros}
-use Rattle.j39_frame.specs.Pgn.{pgn_raw}
-use Rattle.j39_node.specs.History.{Who, broadcast_from}
-use Rattle.j39_node.specs.Transfers.{begun, can_transfer}
+use Rattle.j39_node.proofs.Common.{◌∙◌, ◌≡◌, ap, arith, begun, Bool, broadcast_from, can_transfer, false, Ok, pgn_raw, refl, stamp_micros, sym, true, View, Who}
 use Rattle.j39_node.proofs.CallLemmas.{passed_is, holds_is, transfer_begins, transfer_is, engaged_is, refuses_transfer}
 use Rattle.j39_node.proofs.controller.Controller.transfer.Goals as goal
-use Rattle.j39_node.specs.Is.{View}
 
 not_true : (b : Bool) → (b ≡ true → false ≡ true) → b ≡ false
 not_true true f = absurd (let z : false ≡ true = f refl in cc)

@@ -1,7 +1,4 @@
-use Rattle.std.proofs.Common.{◌∙◌, sym}
-use Rattle.j39_frame.specs.Stamp.{stamp_micros}
-use Rattle.j39_node.specs.History.{nothing}
-use Rattle.j39_node.specs.Is.{hearing_of, who_of}
+use Rattle.j39_node.proofs.Common.{◌∙◌, hearing_of, nothing, stamp_micros, sym, who_of}
 use Rattle.j39_node.proofs.HearingLemmas.{hears_is, no_announcement, packs_is, unheard_is}
 use Rattle.j39_node.proofs.hearing.Hearing.hear.Goals as goal
 
