@@ -1,5 +1,5 @@
 -- Which frame others exchange makes no difference to any answer, whatever comes later.
-use Rattle.j39_node.proofs.Common.{[], if◌then◌else◌, ◌&&◌, ◌*◌, ◌++◌, ◌+◌, ◌-◌, ◌||◌, ◌↔◌, ◌∙◌, ◌∷◌, ◌≡◌, ◌≢◌, accepted, Acknowledge, acknowledged, acknowledgment, Address, address_after, AddressLost, Again, age, announces, another_news, AnotherAtAddress, ap, AreAnswered, arith, Ask, ask_end, Asked, asked, asked_group, asked_with, AskEnding, asks_claims, At, BadValue, begun, blank, Bool, breaks, Broadcast, broadcast_end, broadcast_from, broadcasts, by, Call, called, calls_claims, calls_for_claim, can_ask, can_broadcast, can_send, can_transfer, changes, claim_address, claim_from, claim_of, claimed, claimed_again, clock, comes, control_of, delayed, destination_of, double, doubled_news, drop, due, end_at, end_of, ended, Ending, ends_by, Err, false, first, found, FrameRecord, fresh, Full, got, handed, has_place, has_token, Hear, heard_at, heard_by, hearing, hears_if, hears_it, held_then, holder, holds, holds_back, in_broadcast, in_session, in_time, inl, is_acknowledgment, is_another, is_apart, is_asking, is_claim, is_coming, is_engaged, is_for_program, is_held, is_left, is_lost, is_message, is_open, is_out, is_packet, is_refusal_due, is_replaced, is_reply, is_session, is_smaller, is_that, is_there, is_transfer, is_unheard, IsAnswered, IsAside, joined, kept, known, later, latest, leaves, leaves_it, left, length, List, Lost, lost_news, made, made_of, marks, max, may_go, Message, message_from, message_of, MessageRecord, MessagesMissed, missed_news, moment, NameDoubled, nat_eq, nat_le, nat_lt, newly, news_of, NoAddress, None, not, of_other, Ok, older, open_ask, open_broadcast, open_transfer, OpenBroadcast, Option, option_map, option_or, owes_claim, packet_by, packets, packs, past, patience, pause, pgn_of, ps_of, Question, question, reached, Ready, Reception, reception, refl, ReleaseBroadcast, released_by, ReleaseTransfer, Renew, request_for, requests, rest, Resting, resting, rests_after, Running, Send, sends_if, sent, silent_end, slice_get, slice_set, Some, source_of, stamped, step, still, subst, suc, sym, TakeAskEnded, TakeBroadcastEnded, TakeEnded, TakeFrame, taken_by, TakeNews, TakeReceived, TakeRequest, TakeTransferEnded, Tick, ticked, time_heard, told, Transfer, transfer_by, transfer_end, transfers, transport_control_group, true, turn_frame, turn_of, turns, unheard_news, wait, Who, whole_by, whole_of, with_refusal, with_request, Withdraw, yields, ℕ}
+use Rattle.j39_node.proofs.Common.{[], if◌then◌else◌, ◌&&◌, ◌*◌, ◌++◌, ◌+◌, ◌-◌, ◌||◌, ◌↔◌, ◌∙◌, ◌∷◌, ◌≡◌, ◌≢◌, accepted, Acknowledge, acknowledged, acknowledgment, Address, address_after, AddressLost, Again, age, announces, another_news, AnotherAtAddress, ap, AreAnswered, arith, Ask, ask_end, Asked, asked, asked_group, asked_with, AskEnding, asks_claims, At, BadValue, begun, blank, Bool, breaks, Broadcast, broadcast_end, broadcast_from, broadcasts, by, Call, called, calls_claims, calls_for_claim, can_ask, can_broadcast, can_send, can_transfer, changes, claim_address, claim_from, claim_of, claimed, claimed_again, clock, comes, control_of, delayed, destination_of, double, doubled_news, drop, due, end_at, end_of, ended, Ending, ends_by, Err, false, first, found, FrameRecord, fresh, Full, got, handed, has_place, has_token, Hear, heard_at, heard_by, hearing, hears_if, hears_it, held_then, holder, holds, holds_back, in_broadcast, in_session, in_time, inl, is_acknowledgment, is_another, is_apart, is_asking, is_claim, is_coming, is_engaged, is_for_program, is_held, is_left, is_lost, is_message, is_open, is_out, is_packet, is_refusal_due, is_replaced, is_reply, is_session, is_smaller, is_that, is_there, is_transfer, is_unheard, IsAnswered, IsAside, joined, kept, known, later, latest, leaves, leaves_it, left, length, List, Lost, lost_news, made, made_of, marks, max, may_go, Message, message_from, message_of, MessageRecord, MessagesMissed, missed_news, moment, NameDoubled, nat_eq, nat_le, nat_lt, newly, news_of, NoAddress, None, not, of_other, Ok, older, open_ask, open_broadcast, open_transfer, OpenBroadcast, Option, option_map, option_or, owes_claim, packet_by, packets, packs, past, patience, pause, pgn_of, ps_of, Question, question, reached, Ready, Reception, reception, refl, ReleaseBroadcast, released_by, ReleaseTransfer, Renew, request_for, requests, rest, Resting, resting, rests_after, Running, Send, sends_if, silent_end, slice_get, slice_set, Some, source_of, stamped, step, still, subst, suc, sym, TakeAskEnded, TakeBroadcastEnded, TakeEnded, TakeFrame, taken_by, TakeNews, TakeReceived, TakeRequest, TakeTransferEnded, Tick, ticked, time_heard, told, Transfer, transfer_by, transfer_end, transfers, transport_control_group, true, turn_frame, turn_of, turns, unheard_news, wait, Who, whole_by, whole_of, with_refusal, with_request, Withdraw, yields, ℕ, and-false, or-false, false_from_ne_true}
 use Rattle.j39_node.specs.Hearing.{is_over}
 use Rattle.j39_transport.specs.Frames as frames
 use Rattle.j39_transport.proofs.FrameFacts.{announcement_facts}
@@ -8,10 +8,9 @@ use Rattle.j39_node.proofs.HearingLaws.{unequal}
 use Rattle.j39_node.proofs.HearingLemmas.{unchanged, unheard_is}
 use Rattle.j39_node.proofs.PacketsAnswer.{packs_to_all}
 use Rattle.j39_node.proofs.ReceptionLaws.{goes_there, to_others}
-use Rattle.j39_node.proofs.RequestStrangers.{and_false, to_another}
-use Rattle.j39_node.proofs.StrangerLaws.{no_more, open_stays}
+use Rattle.j39_node.proofs.RequestStrangers.{to_another}
+use Rattle.j39_node.proofs.StrangerLaws.{open_stays}
 use Rattle.j39_node.proofs.ReceptionLemmas.{unclaimed_known}
-use Rattle.j39_node.proofs.LawLemmas.{is_false as not_so}
 use Rattle.j39_node.proofs.PromptLaws.{answered_from as before}
 
 -- ---- all that an answer hangs on
@@ -403,10 +402,10 @@ module _ (w : Who) (f : FrameRecord) (a : IsAside w f) where
   all = unequal a.to 255 a.not_all
 
   unannounced : announces f ≡ false
-  unannounced = not_so (announces f) (λ e. elsewhere 255 a.not_all (announced_to_all f e))
+  unannounced = false_from_ne_true (announces f) (λ e. elsewhere 255 a.not_all (announced_to_all f e))
 
   unpacked : packs f ≡ false
-  unpacked = not_so (packs f) (λ e. elsewhere 255 a.not_all (packs_to_all f e))
+  unpacked = false_from_ne_true (packs f) (λ e. elsewhere 255 a.not_all (packs_to_all f e))
 
   uncalled : (lost : Bool) → calls_for_claim w lost f ≡ false
   uncalled lost = let g = a.goes in let c = a.claims in grind (arith, g, c, all, here)
@@ -422,7 +421,7 @@ module _ (w : Who) (f : FrameRecord) (a : IsAside w f) where
       go (Some group) = grind (arith, all, here)
 
   not_mine : (held : Bool) → is_another w held f ≡ false
-  not_mine held = ap (λ (b : Bool). held && (b && not (is_claim f))) (unequal (source_of f.id) w.address a.source) ∙ and_false held
+  not_mine held = ap (λ (b : Bool). held && (b && not (is_claim f))) (unequal (source_of f.id) w.address a.source) ∙ and-false held
 
   mine : is_smaller w (claim_of f) ≡ false
   mine = ap (is_smaller w) a.claims
@@ -460,7 +459,7 @@ module _ (w : Who) (f : FrameRecord) (a : IsAside w f) where
       lives = ap (λ (b : Bool). if b then Lost else older (step H when) (address_after w H)) mine
 
       owes : owes_claim w (At when (Hear f) ∷ H) ≡ owes_claim w H
-      owes = (λ i. owes_claim w H || (uncalled (is_lost (address_after w H)) i || (not_mine held i && nat_eq (patience w H - step H when) 0))) ∙ no_more (owes_claim w H)
+      owes = (λ i. owes_claim w H || (uncalled (is_lost (address_after w H)) i || (not_mine held i && nat_eq (patience w H - step H when) 0))) ∙ or-false (owes_claim w H)
 
       waits : patience w (At when (Hear f) ∷ H) ≡ patience w H - step H when
       waits = ap (λ (b : Bool). if b && nat_eq (patience w H - step H when) 0 then 5000000 else patience w H - step H when) (not_mine held)
@@ -473,13 +472,13 @@ module _ (w : Who) (f : FrameRecord) (a : IsAside w f) where
       keeps = ap (λ (b : Bool). if b && nat_lt (length (kept w H) - length (got H)) 16 then kept w H ++ (f.stamp, message_of f) ∷ [] else kept w H) (unwanted held)
 
       loses : lost_news w (At when (Hear f) ∷ H) ≡ lost_news w H
-      loses = ap (λ (b : Bool). lost_news w H || (b && not (is_lost (address_after w H)))) mine ∙ no_more (lost_news w H)
+      loses = ap (λ (b : Bool). lost_news w H || (b && not (is_lost (address_after w H)))) mine ∙ or-false (lost_news w H)
 
       others : another_news w (At when (Hear f) ∷ H) ≡ another_news w H
-      others = ap (λ (b : Bool). another_news w H || b) (not_mine held) ∙ no_more (another_news w H)
+      others = ap (λ (b : Bool). another_news w H || b) (not_mine held) ∙ or-false (another_news w H)
 
       misses : missed_news w (At when (Hear f) ∷ H) ≡ missed_news w H
-      misses = ap (λ (b : Bool). missed_news w H || (b && not (nat_lt (length (kept w H) - length (got H)) 16))) (unwanted held) ∙ no_more (missed_news w H)
+      misses = ap (λ (b : Bool). missed_news w H || (b && not (nat_lt (length (kept w H) - length (got H)) 16))) (unwanted held) ∙ or-false (missed_news w H)
 
       quiets : called w (At when (Hear f) ∷ H) ≡ called w H - (when - heard_at H)
       quiets = (λ i. if calls_claims (holder w H) f (a.claims i) then 1250000 else called w H - (when - heard_at H))

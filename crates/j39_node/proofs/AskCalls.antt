@@ -1,5 +1,5 @@
 -- A call of `ask` more.
-use Rattle.j39_node.proofs.Common.{[], ◌++◌, ◌||◌, ◌∙◌, ◌∷◌, ◌≡◌, ◌≤◌, accepted, answer_to_ask, ap, arith, Ask, ask_record, asking_of, AskRecord, At, Bool, Call, Controller, ended, Err, false, Is, is_asking, is_full, length, List, message_from, nat_eq, nat_lt, None, Ok, open_ask, Option, option_map, Outgoing, posted, question, reached, refl, Refused, request_for, Some, suc, sym, View, view, Who, ℕ}
+use Rattle.j39_node.proofs.Common.{[], ◌++◌, ◌||◌, ◌∙◌, ◌∷◌, ◌≡◌, accepted, answer_to_ask, ap, arith, Ask, ask_record, asking_of, AskRecord, At, Bool, Call, Controller, ended, Err, false, Is, is_asking, is_full, length, List, message_from, nat_eq, None, Ok, open_ask, Option, option_map, Outgoing, posted, question, reached, refl, Refused, request_for, Some, suc, sym, View, view, Who, ℕ, le-ltb}
 use Rattle.j39_node.specs.declared.asking.Open as asking
 use Rattle.j39_node.proofs.QueueLemmas.{length_one_more}
 use Rattle.j39_node.proofs.SoundLemmas.{sound}
@@ -20,9 +20,6 @@ pub refuses_ask : (w : Who) (H : List Call) (old new : Controller) (now group to
     → Err r ≡ answer_to_ask w H now group to → new ≡ record old { hold = new.hold } → Is w (At now (Ask group to (Err r)) ∷ H) new
 refuses_ask w H old new now group to r h p answer e = follows h (ap (λ c. c.holders) e) answer refl (ap (view w) e ∙ λ i. record (h.shown i) { hold = p i })
 
-not_taken : (k n : ℕ) → n ≤ k → nat_lt k n ≡ false
-not_taken k n l = grind arith
-
 pub asks_one : (w : Who) (H : List Call) (old new : Controller) (now group to : ℕ) (x : Outgoing) (q : asking.Open) → Is w H old → Passed w H now new.hold
     → Ok old.next_token ≡ answer_to_ask w H now group to → posted x ≡ (old.next_token, message_from w (request_for group to))
     → new ≡ record old { hold = new.hold; outgoing = new.outgoing; next_token = new.next_token; asking = new.asking } → new.outgoing.items ≡ old.outgoing.items ++ x ∷ []
@@ -38,5 +35,5 @@ asks_one w H old new now group to x q h p answer is e e0 e1 e2 e3 =
           (let z : new.next_token ≡ length (accepted w H ++ (old.next_token, m) ∷ []) = omega (arith, a, b, e1) in z)) i;
       asking = (e2 ∙ (ap (λ (y : AskRecord). Some y) e3
           ∙ ap (λ (b : Bool). (let r : Option AskRecord = Some (record { question = question old.next_token group to; taken = b; ending = None }) in r))
-          (sym (not_taken old.next_token (reached H) (let a = (ap (λ (v : View). v.token) h.shown) in let b = sent_within w H (sound w H h.answered) in omega (arith, a, b)))))) i;
+          (sym (le-ltb old.next_token (reached H) (let a = (ap (λ (v : View). v.token) h.shown) in let b = sent_within w H (sound w H h.answered) in omega (arith, a, b)))))) i;
     })

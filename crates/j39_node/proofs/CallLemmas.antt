@@ -1,5 +1,5 @@
 -- A call more.
-use Rattle.j39_node.proofs.Common.{[], if◌then◌else◌, ◌&&◌, ◌*◌, ◌++◌, ◌+◌, ◌-◌, ◌<◌, ◌||◌, ◌∙◌, ◌∷◌, ◌≡◌, ◌≤◌, accepted, Acknowledge, acknowledged, acknowledgment, Address, address_after, after, Again, age, all_transfers, anew, Answer, answer_to_acknowledge, answer_to_broadcast, answer_to_send, answer_to_transfer, ap, AreAnswered, arith, Asked, asked, asked_by, AskEnding, asking_of, AskRecord, asks_claims, asks_with, At, at_in, BadValue, begun, blank, Bool, breaks_it, Broadcast, broadcast_from, broadcasts, Busy, Call, called, calls_for_claim, can_broadcast, can_claim, can_send, can_transfer, claim_address, claim_due, claim_from, claim_goes, claim_of, Claimed, claimed, claimed_again, Claims, claims, clock, clock_at, closed, comes, content, control_of, Controller, counted, delayed, Done, double, Draft, drop, drop-map, Due, due, end_of, ended, Ending, ending_of, ends_by, eqb-true, Err, false, FrameRecord, fresh, Full, gives_way, got, handed, has_packets, has_place, has_token, Hear, heard, heard_at, heard_by, hearing, hearing_after, hearing_of, HearingRecord, hears_if, hears_it, hears_with, held_at, Hold, hold_acknowledged, hold_after, hold_asked, hold_claimed, hold_opens, hold_spoken, hold_went, holder, holder_in, holds, holds_back, IfSome, in_broadcast, in_session, Incoming, incoming_after, incoming_of, IncomingRecord, inl, inr, Is, is_acknowledgment, is_another, is_apart, is_blank, is_busy, is_claim, is_coming, is_double, is_engaged, is_for_program, is_full, is_held, is_left, is_lost, is_move, is_open, is_out, is_packet, is_refusal_due, is_replaced, is_reply, is_resting, is_same, is_served, is_session, is_smaller, is_there, is_turn, is_unheard, IsAnswered, IsApart, IsFit, IsNamed, kept, known, Knows, lane_after, lane_of, later, latest, leaves, leaves_it, left, left_at, length, length-drop, length-set, less, List, Lost, lost, lt-ltb, ltb-false, ltb-true, made, made_by, made_of, made_whole, map, marks, max, may_claim, may_go, Message, message_from, message_of, MessageRecord, min, missed, missed_news, moment, Move, Nack, named_in, nat_eq, nat_le, nat_lt, newly, news_after, next_acknowledgment, next_due, next_frame, next_packet, next_renewed, next_transfer, next_transfer_ended, next_turn, next_withdrawn, NoAddress, None, not, NotClaimed, nothing, offered, Ok, older, Open, open_ask, open_broadcast, open_transfer, OpenBroadcast, opened, Option, option_map, option_or, other, Outgoing, owes_claim, packet_by, packets, packets_in, passed, past, patience, pause, paused, place_of, port_after, port_of, posted, reached, Ready, ready, ready_in, received_by, reception, ReceptionRecord, refl, refusal_by, Refused, Renew, Renews, Reply, Request, request_by, requests, rest, restarts, rested, resting, resting_by, rests_after, Result, Running, running, Said, said_by, Send, sends_if, session_by, silence, Single, slice_get, slice_get_past, slice_get_within, slice_set, Some, sooner, stamp_at, stamp_micros, stamped, Standing, standing_of, stands, step, still, subst, suc, sym, TakeEnded, TakeFrame, taken_by, TakeRequest, TakeTransferEnded, Tick, ticks, time_heard, told, told_claims, Transfer, transfer_by, transfer_end, transfer_in, TransferEnding, true, Turn, turn_frame, turn_of, turns, unclaimed, unclaims, unheard_by, unheard_news, Untold, View, view, wait, waiting, Who, who_of, whole, whole_of, with_called, with_reception, with_refusal, with_replies, with_request, Withdraw, Withdrawn, yields, ℕ}
+use Rattle.j39_node.proofs.Common.{le-ltb, [], if◌then◌else◌, ◌&&◌, ◌*◌, ◌++◌, ◌+◌, ◌-◌, ◌<◌, ◌||◌, ◌∙◌, ◌∷◌, ◌≡◌, ◌≤◌, accepted, Acknowledge, acknowledged, acknowledgment, Address, address_after, after, Again, age, all_transfers, anew, Answer, answer_to_acknowledge, answer_to_broadcast, answer_to_send, answer_to_transfer, ap, AreAnswered, arith, Asked, asked, asked_by, AskEnding, asking_of, AskRecord, asks_claims, asks_with, At, at_in, begun, blank, Bool, breaks_it, Broadcast, broadcast_from, broadcasts, Busy, Call, called, calls_for_claim, can_claim, can_send, claim_address, claim_due, claim_from, claim_goes, claim_of, Claimed, claimed, claimed_again, Claims, claims, clock, clock_at, closed, comes, content, control_of, Controller, counted, delayed, Done, double, Draft, drop, drop-map, Due, due, end_of, ended, Ending, ending_of, ends_by, eqb-true, Err, false, FrameRecord, fresh, gives_way, got, handed, has_packets, has_place, has_token, Hear, heard, heard_at, heard_by, hearing, hearing_after, hearing_of, HearingRecord, hears_if, hears_it, hears_with, held_at, Hold, hold_acknowledged, hold_after, hold_asked, hold_claimed, hold_opens, hold_spoken, hold_went, holder, holder_in, holds, holds_back, IfSome, in_broadcast, in_session, Incoming, incoming_after, incoming_of, IncomingRecord, inl, inr, Is, is_acknowledgment, is_another, is_apart, is_blank, is_busy, is_claim, is_coming, is_double, is_engaged, is_for_program, is_full, is_held, is_left, is_lost, is_move, is_open, is_out, is_packet, is_refusal_due, is_replaced, is_reply, is_resting, is_same, is_served, is_session, is_smaller, is_there, is_turn, is_unheard, IsAnswered, IsApart, IsFit, IsNamed, kept, known, Knows, lane_after, lane_of, later, latest, leaves, leaves_it, left, left_at, length, length-drop, length-set, less, List, Lost, lost, lt-ltb, ltb-false, ltb-true, made, made_by, made_of, made_whole, map, marks, max, may_claim, may_go, Message, message_from, message_of, MessageRecord, min, missed, missed_news, moment, Move, Nack, named_in, nat_eq, nat_le, nat_lt, newly, news_after, next_acknowledgment, next_due, next_frame, next_packet, next_renewed, next_transfer, next_transfer_ended, next_turn, next_withdrawn, None, not, NotClaimed, nothing, offered, Ok, older, Open, open_ask, open_broadcast, open_transfer, OpenBroadcast, opened, Option, option_map, option_or, other, Outgoing, owes_claim, packet_by, packets, packets_in, passed, past, patience, pause, paused, place_of, port_after, port_of, posted, reached, Ready, ready, ready_in, received_by, reception, ReceptionRecord, refl, refusal_by, Refused, Renew, Renews, Reply, Request, request_by, requests, rest, restarts, rested, resting, resting_by, rests_after, Running, running, Said, said_by, Send, sends_if, session_by, silence, Single, slice_get, slice_get_past, slice_get_within, slice_set, Some, sooner, stamp_at, stamp_micros, stamped, Standing, standing_of, stands, step, still, subst, suc, sym, TakeEnded, TakeFrame, taken_by, TakeRequest, TakeTransferEnded, Tick, ticks, time_heard, told, told_claims, Transfer, transfer_by, transfer_end, transfer_in, TransferEnding, true, Turn, turn_frame, turn_of, turns, unclaimed, unclaims, unheard_by, unheard_news, Untold, View, view, wait, waiting, Who, who_of, whole, whole_of, with_called, with_reception, with_refusal, with_replies, with_request, Withdraw, Withdrawn, yields, ℕ, leb-true}
 use Rattle.j39_node.specs.Reception.{is_waiting}
 use Rattle.j39_node.specs.Transfers.{packet_in}
 use Rattle.j39_node.specs.Is.{hears}
@@ -7,6 +7,7 @@ use Rattle.j39_node.specs.declared.turn.Turn.TheVariants.{Packet}
 use Rattle.j39_node.proofs.WithdrawLemmas.{past_rest}
 use Rattle.j39_node.specs.declared.hold.Standing.TheVariants as standing
 use Rattle.j39_node.specs.declared.transfers.Open as transfers
+use Rattle.j39_node.proofs.AnswerCases.{answer_is}
 use Rattle.j39_node.proofs.AskLemmas.{ask_heard, ask_more, takes, token_of, ask_withdrawn}
 use Rattle.j39_node.proofs.ReceptionLaws.{made_is}
 use Rattle.j39_node.proofs.ReceptionLemmas.{leaves_is, replied_get, tidy, again_is, calls_is, leaves_still, no_reply}
@@ -468,9 +469,6 @@ told_done w H old new x e is h f some less u =
     ending true = refl
     ending false = refl
 
-not_before : (t s : ℕ) → s ≤ t → nat_lt t s ≡ false
-not_before t s l = grind arith
-
 pub told_withdrawn : (w : Who) (H : List Call) (old new : Controller) (x : Outgoing) → Is w H old
     → First posted new.outgoing.items x (length (told H)) (accepted w H) → old.taken ≡ 0 → lost old.hold.standing ≡ true → new.taken ≡ old.taken
     → new ≡ record old { outgoing = new.outgoing; taken = new.taken } → Is w (TakeEnded (Some (x.token, Withdrawn)) ∷ H) new
@@ -484,7 +482,7 @@ told_withdrawn w H old new x h f none is_away same u =
     })
   where
     before : nat_lt (length (told H)) (reached H) ≡ false
-    before = not_before _ _ (let a = (ap (λ (v : View). v.taken) h.shown) in omega (arith, a, none))
+    before = le-ltb _ _ (let a = (ap (λ (v : View). v.taken) h.shown) in omega (arith, a, none))
 
     away : is_lost (address_after w H) ≡ true
     away = sym (lost_is (address_after w H)) ∙ (sym (ap (λ (v : View). lost v.hold.standing) h.shown) ∙ is_away)
@@ -509,7 +507,7 @@ pub posts : (w : Who) (H : List Call) (old new : Controller) (now : ℕ) (d : Dr
     → new ≡ record old { hold = new.hold; outgoing = new.outgoing; next_token = new.next_token; asking = new.asking } → asking_of new.asking ≡ asking_of old.asking → Is w (At now (Send d (Ok old.next_token)) ∷ H) new
 posts w H old new now d x h p held can room is e0 e1 e e2 =
     follows h (ap (λ c. c.holders) e)
-    (ap Ok (ap (λ (v : View). v.token) h.shown) ∙ sym (answer (holds w H now) (can_send w d) (is_full w H) held can (sym (full_is w H old h) ∙ room))) refl
+    (ap Ok (ap (λ (v : View). v.token) h.shown) ∙ sym (answer_is (length (accepted w H)) held can (sym (full_is w H old h) ∙ room))) refl
     (ap (view w) e ∙ λ i. record (h.shown i) {
       hold = p i;
       outgoing = posted_more w H old h x (message_from w d) is e0 i;
@@ -517,13 +515,6 @@ posts w H old new now d x h p held can room is e0 e1 e e2 =
           (let z : new.next_token ≡ length (accepted w H ++ (old.next_token, message_from w d) ∷ []) = omega (arith, a, b, e1) in z)) i;
       asking = (e2 ∙ ap (λ (v : View). v.asking) h.shown) i;
     })
-  where
-    answer : (a b f : Bool) → a ≡ true → b ≡ true → f ≡ false
-        → (if a then (if b then (if f then Err Full else Ok (length (accepted w H))) else Err BadValue) else Err NoAddress) ≡ Ok (length (accepted w H))
-    answer true true false e f g = refl
-    answer true true true e f g = absurd (cc)
-    answer true false f e g i = absurd (cc)
-    answer false b f e g i = absurd (cc)
 
 -- ---- a frame is heard
 
@@ -862,15 +853,12 @@ place_is w H c k h away =
     none_there false o z = refl
     none_there true o z = ap may_go (z refl)
 
-    le_is : (a b : ℕ) → nat_le a b ≡ true → a ≤ b
-    le_is a b z = grind arith
-
     less : (a b d : ℕ) → d ≤ a → d ≤ b → nat_le (a - d) (b - d) ≡ nat_le a b
     less a b d x y = grind (arith, x, y)
 
     go : (D : List (ℕ × Message)) → drop T L ≡ D → place_of c.taken k D ≡ (if nat_le (reached H) k && may_go (slice_get L k) then Some (k - T) else None)
     go [] e = sym (ap (λ (b : Bool). if b then Some (k - T) else None) (none_there (nat_le (reached H) k) (slice_get L k)
-        (λ z. slice_get_past L k (let a = le_is _ _ z in let b = ap length e in let d = length-drop T L in omega (arith, a, b, d, t)))))
+        (λ z. slice_get_past L k (let a = leb-true _ _ z in let b = ap length e in let d = length-drop T L in omega (arith, a, b, d, t)))))
     go (x ∷ xs) e = by (nat_lt k T) refl
       where
         first : x.0 ≡ T
@@ -881,7 +869,7 @@ place_is w H c k h away =
             (λ i. if not (nat_lt k (first i)) && (nat_le c.taken (k - x.0) && may_go (slice_get (x ∷ xs) (k - x.0))) then Some (k - x.0) else None)
             ∙ (ap (λ (b : Bool). if not b && (nat_le c.taken (k - x.0) && may_go (slice_get (x ∷ xs) (k - x.0))) then Some (k - x.0) else None) l
             ∙ sym (ap (λ (b : Bool). if b then Some (k - T) else None) (none_there (nat_le (reached H) k) (slice_get L k)
-            (λ z. (let a = le_is _ _ z in let b = ltb-true _ _ l in absurd (omega (arith, a, b, t)))))))
+            (λ z. (let a = leb-true _ _ z in let b = ltb-true _ _ l in absurd (omega (arith, a, b, t)))))))
         by false l =
             let d = ltb-false k T l in
             (λ i. if not (nat_lt k (first i)) && (nat_le ((h.shown i).taken) (k - first i) && may_go (slice_get (sym e i) (k - first i))) then Some (k - first i) else None)
@@ -972,15 +960,6 @@ handed_more w H old new x h first e =
     follows h (ap (λ c. c.holders) e) (sym first.is) refl
     (ap (view w) e ∙ λ i. record (h.shown i) { requests = (first.rest ∙ ap (λ (n : ℕ). drop n (requests w H)) (sym (length_one_more (handed H) (request_by x)))) i })
 
-abbrev pub acknowledges_by : Bool → Bool → Bool → Result (Unit {0}) Refused
-acknowledges_by a b f = if a then (if b then (if f then Err Full else Ok tt) else Err BadValue) else Err NoAddress
-
-pub acknowledge_is : (w : Who) (H : List Call) (now : ℕ) (r : Asked) (a b f : Bool) → holds w H now ≡ a → nat_eq r.destination w.address ≡ b
-    → nat_eq (length (due w H) - length (acknowledged H)) 16 ≡ f → answer_to_acknowledge w H now r ≡ acknowledges_by a b f
-acknowledge_is w H now r a b f e g k =
-    ap (λ (x : Bool). acknowledges_by x (nat_eq r.destination w.address) (nat_eq (length (due w H) - length (acknowledged H)) 16)) e
-    ∙ (ap (λ (x : Bool). acknowledges_by a x (nat_eq (length (due w H) - length (acknowledged H)) 16)) g ∙ ap (λ (x : Bool). acknowledges_by a b x) k)
-
 pub due_more : (w : Who) (H : List Call) (old new : Controller) (now : ℕ) (answer : Answer) (r : Request) (x : Due) → Is w H old → Passed w H now new.hold
     → Ok tt ≡ answer_to_acknowledge w H now (request_by r) → refusal_by w x ≡ acknowledgment w answer (request_by r) → new.desk.due.items ≡ old.desk.due.items ++ x ∷ []
     → new ≡ record old { hold = new.hold; desk = record { waiting = old.desk.waiting; due = new.desk.due } }
@@ -1000,15 +979,6 @@ due_more w H old new now answer r x h p right a g e =
 pub refuses_send : (w : Who) (H : List Call) (old new : Controller) (now : ℕ) (d : Draft) (r : Refused) → Is w H old → Passed w H now new.hold
     → Err r ≡ answer_to_send w H now d → new ≡ record old { hold = new.hold } → Is w (At now (Send d (Err r)) ∷ H) new
 refuses_send w H old new now d r h p answer e = follows h (ap (λ c. c.holders) e) answer refl (ap (view w) e ∙ λ i. record (h.shown i) { hold = p i })
-
-abbrev pub sends_by : Who → List Call → Bool → Bool → Bool → Result ℕ Refused
-sends_by w H a b f = if a then (if b then (if f then Err Full else Ok (length (accepted w H))) else Err BadValue) else Err NoAddress
-
-pub send_is : (w : Who) (H : List Call) (now : ℕ) (d : Draft) (a b f : Bool) → holds w H now ≡ a → can_send w d ≡ b → is_full w H ≡ f
-    → answer_to_send w H now d ≡ sends_by w H a b f
-send_is w H now d a b f e g k =
-    ap (λ (x : Bool). sends_by w H x (can_send w d) (is_full w H)) e
-    ∙ (ap (λ (x : Bool). sends_by w H a x (is_full w H)) g ∙ ap (λ (x : Bool). sends_by w H a b x) k)
 
 -- ---- when something is due
 
@@ -1211,15 +1181,6 @@ pub busy_is : (w : Who) (H : List Call) (c : Controller) → Is w H c
     → (is_open (lane_of w c.lane).current || nat_eq c.lane.next_token 18446744073709551615) ≡ is_busy w H
 busy_is w H c h = ap (λ (v : View). is_open v.lane.current || nat_eq v.lane.next_token 18446744073709551615) h.shown
 
-abbrev pub broadcasts_by : Who → List Call → Bool → Bool → Bool → Result ℕ Refused
-broadcasts_by w H a b f = if a then (if b then (if f then Err Full else Ok (length (broadcasts w H))) else Err BadValue) else Err NoAddress
-
-pub broadcast_is : (w : Who) (H : List Call) (now group : ℕ) (bytes : List ℕ) (a b f : Bool) → holds w H now ≡ a → can_broadcast group bytes ≡ b
-    → is_busy w H ≡ f → answer_to_broadcast w H now group bytes ≡ broadcasts_by w H a b f
-broadcast_is w H now group bytes a b f e g k =
-    ap (λ (x : Bool). broadcasts_by w H x (can_broadcast group bytes) (is_busy w H)) e
-    ∙ (ap (λ (x : Bool). broadcasts_by w H a x (is_busy w H)) g ∙ ap (λ (x : Bool). broadcasts_by w H a b x) k)
-
 pub refuses_broadcast : (w : Who) (H : List Call) (old new : Controller) (now group : ℕ) (bytes : List ℕ) (r : Refused) → Is w H old
     → Passed w H now new.hold → Err r ≡ answer_to_broadcast w H now group bytes → new ≡ record old { hold = new.hold }
     → Is w (At now (Broadcast group bytes (Err r)) ∷ H) new
@@ -1248,15 +1209,6 @@ pub engaged_is : (w : Who) (H : List Call) (c : Controller) (now group to : ℕ)
 engaged_is w H c now group to mid h p =
     ap (λ (v : View). is_engaged v.port.current v.port.next_token || (nat_lt 0 mid.rest && holds_back v.port.resting group to)) h.shown
     ∙ ap (λ (n : ℕ). is_engaged (open_transfer w H) (length (all_transfers w H)) || (nat_lt 0 n && holds_back (resting w H) group to)) (ap (λ (k : Hold). k.rest) p)
-
-abbrev pub transfers_by : Who → List Call → Bool → Bool → Bool → Result ℕ Refused
-transfers_by w H a b f = if a then (if b then (if f then Err Full else Ok (length (all_transfers w H))) else Err BadValue) else Err NoAddress
-
-pub transfer_is : (w : Who) (H : List Call) (now group to : ℕ) (bytes : List ℕ) (a b f : Bool) → holds w H now ≡ a → can_transfer w group to bytes ≡ b
-    → (is_engaged (open_transfer w H) (length (all_transfers w H)) || is_resting w H now group to) ≡ f → answer_to_transfer w H now group to bytes ≡ transfers_by w H a b f
-transfer_is w H now group to bytes a b f e g k =
-    ap (λ (x : Bool). transfers_by w H x (can_transfer w group to bytes) (is_engaged (open_transfer w H) (length (all_transfers w H)) || is_resting w H now group to)) e
-    ∙ (ap (λ (x : Bool). transfers_by w H a x (is_engaged (open_transfer w H) (length (all_transfers w H)) || is_resting w H now group to)) g ∙ ap (λ (x : Bool). transfers_by w H a b x) k)
 
 pub refuses_transfer : (w : Who) (H : List Call) (old new : Controller) (now group to : ℕ) (bytes : List ℕ) (r : Refused) → Is w H old
     → Passed w H now new.hold → Err r ≡ answer_to_transfer w H now group to bytes → new ≡ record old { hold = new.hold }

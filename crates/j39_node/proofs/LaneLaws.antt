@@ -1,41 +1,17 @@
 -- The laws of broadcasts.
-use Rattle.j39_node.proofs.Common.{[], if◌then◌else◌, ◌&&◌, ◌++◌, ◌+◌, ◌-◌, ◌<◌, ◌||◌, ◌↔◌, ◌∙◌, ◌∷◌, ◌≡◌, ◌≤◌, ◌⊎◌, accepted, acknowledged, address_after, all_frames, and_from, ap, AreAnswered, arith, At, BadValue, Bool, Broadcast, broadcast_end, broadcasts, Call, can_broadcast, Controller, Done, due, Ending, eq-eqb, eqb-true, Err, false, first_frames, frame_of, FrameRecord, Full, gives_way, has_packets, holds, inl, inr, Is, is_acknowledgment, is_busy, is_claim, is_held, is_left, is_lost, is_open, is_overdue, is_packet, is_there, IsTrue, length, List, long_by, Message, message_of, MessageRecord, moment, Move, nat_eq, nat_le, nat_lt, next_acknowledgment, next_frame, next_long, next_packet, next_transfer, NoAddress, None, Ok, open_broadcast, Option, packet_by, packets, packets_of, PacketSince, passed_in, pause, reached, ready, reception, refl, Refused, Reply, Result, Single, slice_get, Some, step, suc, sym, TakeBroadcastEnded, TakeFrame, told_broadcasts, true, Who, Withdrawn, yields, zero, ℕ}
+use Rattle.j39_node.proofs.Common.{[], if◌then◌else◌, ◌&&◌, ◌++◌, ◌+◌, ◌-◌, ◌<◌, ◌↔◌, ◌∙◌, ◌∷◌, ◌≡◌, ◌≤◌, ◌⊎◌, accepted, acknowledged, address_after, all_frames, and_from, ap, AreAnswered, arith, At, Bool, Broadcast, broadcast_end, broadcasts, Call, can_broadcast, Controller, Done, due, Ending, eq-eqb, eqb-true, Err, false, first_frames, frame_of, FrameRecord, Full, gives_way, has_packets, holds, inl, inr, Is, is_acknowledgment, is_busy, is_claim, is_held, is_left, is_lost, is_open, is_overdue, is_packet, is_there, IsTrue, length, List, long_by, Message, message_of, MessageRecord, moment, Move, nat_le, nat_lt, next_acknowledgment, next_frame, next_long, next_packet, next_transfer, None, Ok, open_broadcast, Option, packet_by, packets, packets_of, PacketSince, passed_in, pause, reached, ready, reception, refl, Refused, Reply, Result, Single, slice_get, Some, step, suc, sym, TakeBroadcastEnded, TakeFrame, told_broadcasts, true, Who, Withdrawn, yields, zero, ℕ, not_both, or_parts}
 use Rattle.j39_node.specs.declared.turn.Turn.TheVariants.{Packet}
 use Rattle.j39_node.proofs.QueueLemmas.{length_one_more}
 use Rattle.j39_node.proofs.SoundLemmas.{address_is, packet_taken, IsTurn, none_at, none_next, packet_there, turned, FrameCase, frame_case, packet_case, sound, claim_taken, claim_single, due_get, due_taken, no_packet, own_of, pause_is, reply_taken, single_taken, no_packet, transfer_taken}
 use Rattle.j39_node.proofs.ReceptionLemmas.{replied_get, tidy}
 use Rattle.j39_node.proofs.SoundLemmas.FrameCase.{claims, acknowledges, replies, sends, packs, transfers}
-use Rattle.j39_node.proofs.LaneLemmas.{BroadcastCase, broadcast_case, LaneEnd, lane_end, Opened, Laned, laned, closed, stands_open, opened_by}
-use Rattle.j39_node.proofs.LaneLemmas.BroadcastCase.{homeless, unfit, busy, opens}
+use Rattle.j39_node.proofs.LaneLemmas.{LaneEnd, lane_end, Opened, Laned, laned, closed, stands_open, opened_by}
+use Rattle.j39_node.proofs.AnswerCases.{broadcast_accepts}
+use Rattle.j39_node.proofs.AnswerCases as cases
 use Rattle.j39_node.proofs.LaneLemmas.LaneEnd.{complete, broken}
-use Rattle.j39_node.proofs.LawLemmas.{all_acknowledged, not_both, past_end, sent_within, either, or_false as neither}
+use Rattle.j39_node.proofs.LawLemmas.{all_acknowledged, past_end, sent_within, either}
 
 -- ---- what broadcast answers
-
-answers : (w : Who) (H : List Call) (c : Controller) (now group : ℕ) (bytes : List ℕ) (answer : Result ℕ Refused) → Is w (At now (Broadcast group bytes answer) ∷ H) c
-    → BroadcastCase w H now group bytes answer
-answers w H c now group bytes answer is = broadcast_case w H now group bytes answer is.answered.1
-
-pub refused_address : (w : Who) (H : List Call) (c : Controller) (now group : ℕ) (bytes : List ℕ) (answer : Result ℕ Refused)
-    → Is w (At now (Broadcast group bytes answer) ∷ H) c → (answer ≡ Err NoAddress ↔ (IsTrue (holds w H now) → ⊥))
-refused_address w H c now group bytes answer is = go (answers w H c now group bytes answer is)
-  where
-    go : BroadcastCase w H now group bytes answer → (answer ≡ Err NoAddress ↔ (IsTrue (holds w H now) → ⊥))
-    go (homeless a e) = (λ z. not_both _ a, λ z. e)
-    go (unfit a b e) = (λ z. absurd (cc), λ z. absurd (z a))
-    go (busy a b f e) = (λ z. absurd (cc), λ z. absurd (z a))
-    go (opens a b f e) = (λ z. absurd (cc), λ z. absurd (z a))
-
-pub refused_value : (w : Who) (H : List Call) (c : Controller) (now group : ℕ) (bytes : List ℕ) (answer : Result ℕ Refused)
-    → Is w (At now (Broadcast group bytes answer) ∷ H) c
-    → (answer ≡ Err BadValue ↔ (IsTrue (holds w H now) × (IsTrue (can_broadcast group bytes) → ⊥)))
-refused_value w H c now group bytes answer is = go (answers w H c now group bytes answer is)
-  where
-    go : BroadcastCase w H now group bytes answer → (answer ≡ Err BadValue ↔ (IsTrue (holds w H now) × (IsTrue (can_broadcast group bytes) → ⊥)))
-    go (homeless a e) = (λ z. absurd (cc), λ z. absurd (not_both _ a z.0))
-    go (unfit a b e) = (λ z. (a, not_both _ b), λ z. e)
-    go (busy a b f e) = (λ z. absurd (cc), λ z. absurd (z.1 b))
-    go (opens a b f e) = (λ z. absurd (cc), λ z. absurd (z.1 b))
 
 -- one is accepted and not told, or there is no token left
 AtLimit : Who → List Call → Type 0
@@ -51,7 +27,7 @@ limit w H right e = elim (either (is_open (open_broadcast w H)) _ e) [
 no_limit : (w : Who) (H : List Call) → AreAnswered w H → is_busy w H ≡ false → AtLimit w H → ⊥
 unfolding AtLimit
 no_limit w H right e l =
-    let n = neither (is_open (open_broadcast w H)) _ e in
+    let n = or_parts (is_open (open_broadcast w H)) _ e in
     elim l [
       | inl a ↦ (let z = closed w (length (told_broadcasts H)) (broadcasts w H) (packets H) (open_broadcast w H) (laned w H right) n.0 in absurd (omega (arith, z, a)))
       | inr b ↦ not_both _ n.1 (eq-eqb _ _ b)
@@ -62,36 +38,21 @@ pub refused_full : (w : Who) (H : List Call) (c : Controller) (now group : ℕ) 
     → (answer ≡ Err Full ↔ (IsTrue (holds w H now) × IsTrue (can_broadcast group bytes)
     × ((length (broadcasts w H) ≡ length (told_broadcasts H) + 1) ⊎ (length (broadcasts w H) ≡ 18446744073709551615))))
 unfolding AtLimit
-refused_full w H c now group bytes answer is = go (answers w H c now group bytes answer is)
-  where
-    go : BroadcastCase w H now group bytes answer → (answer ≡ Err Full ↔ (IsTrue (holds w H now) × IsTrue (can_broadcast group bytes) × AtLimit w H))
-    go (homeless a e) = (λ z. absurd (cc), λ z. absurd (not_both _ a z.0))
-    go (unfit a b e) = (λ z. absurd (cc), λ z. absurd (not_both _ b z.1))
-    go (busy a b f e) = (λ z. (a, b, limit w H is.answered.0 f), λ z. e)
-    go (opens a b f e) = (λ z. absurd (cc), λ z. absurd (no_limit w H is.answered.0 f z.2))
+refused_full w H c now group bytes answer is =
+    cases.refused_full (holds w H now) (can_broadcast group bytes) (is_busy w H) (length (broadcasts w H)) answer is.answered.1 (limit w H is.answered.0) (no_limit w H is.answered.0)
 
 pub is_accepted : (w : Who) (H : List Call) (c : Controller) (now group : ℕ) (bytes : List ℕ) (answer : Result ℕ Refused)
     → Is w (At now (Broadcast group bytes answer) ∷ H) c → IsTrue (holds w H now) → IsTrue (can_broadcast group bytes)
     → length (broadcasts w H) ≡ length (told_broadcasts H) → length (broadcasts w H) < 18446744073709551615
     → answer ≡ Ok (length (broadcasts w H))
 unfolding AtLimit
-is_accepted w H c now group bytes answer is held can room some = go (answers w H c now group bytes answer is)
-  where
-    go : BroadcastCase w H now group bytes answer → answer ≡ Ok (length (broadcasts w H))
-    go (homeless a e) = absurd (not_both _ a held)
-    go (unfit a b e) = absurd (not_both _ b can)
-    go (busy a b f e) = elim (limit w H is.answered.0 f) [ inl z ↦ absurd (omega (arith, z, room)) | inr z ↦ absurd (omega (arith, z, some)) ]
-    go (opens a b f e) = e
+is_accepted w H c now group bytes answer is held can room some =
+    cases.is_accepted (holds w H now) (can_broadcast group bytes) (is_busy w H) (length (broadcasts w H)) answer is.answered.1 held can
+    (λ f. elim (limit w H is.answered.0 f) [ inl z ↦ absurd (omega (arith, z, room)) | inr z ↦ absurd (omega (arith, z, some)) ])
 
 pub token_is : (w : Who) (H : List Call) (c : Controller) (now group k : ℕ) (bytes : List ℕ) → Is w (At now (Broadcast group bytes (Ok k)) ∷ H) c
     → k ≡ length (broadcasts w H)
-token_is w H c now group k bytes is = go (answers w H c now group bytes (Ok k) is)
-  where
-    go : BroadcastCase w H now group bytes (Ok k) → k ≡ length (broadcasts w H)
-    go (homeless a e) = absurd (cc)
-    go (unfit a b e) = absurd (cc)
-    go (busy a b f e) = absurd (cc)
-    go (opens a b f e) = cc
+token_is w H c now group k bytes is = (broadcast_accepts w H now group k bytes is.answered.1).3
 
 -- ---- which frames are taken
 

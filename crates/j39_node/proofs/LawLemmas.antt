@@ -1,18 +1,18 @@
 -- The laws.
-use Rattle.j39_node.proofs.Common.{[], if◌then◌else◌, ◌&&◌, ◌*◌, ◌++◌, ◌+◌, ◌-◌, ◌<◌, ◌||◌, ◌↔◌, ◌∙◌, ◌∷◌, ◌≡◌, ◌≢◌, ◌≤◌, ◌⊎◌, accepted, Acknowledge, acknowledged, acknowledgment, acknowledgment_group, Address, address_after, address_claimed_group, AddressLost, Again, age, and_from, and_parts, another_news, AnotherAtAddress, Answer, answers_another, ap, append-nil, AreAnswered, arith, Asked, asked, At, at_in, BadValue, Bool, Busy, Call, calls, calls_for_claim, can_send, Claim, claim_address, claim_due, claim_from, claim_goes, claim_of, Claimed, claimed, content, Controller, delayed, destination_of, Done, double, doubled_news, Draft, drop, due, end_of, Ending, eq-eqb, eqb-true, Err, false, FrameRecord, frames, fresh, Full, gives_way, global_address, got, handed, HasDouble, Hear, held_at, holds, inl, inr, Is, is_acknowledgment, is_alike, is_another, is_apart, is_blank, is_claim, is_double, is_for_program, is_held, is_larger, is_lost, is_move, is_none, is_own_group, is_refusal_due, is_reply, is_served, is_session, is_smaller, is_some, is_subscribed, is_there, is_transfer, IsFront, IsTrue, kept, latest, length, length-append, List, long_by, Lost, lost_news, lt-ltb, ltb-true, map, marks, max, may_claim, may_go, Message, message_from, message_of, MessagesMissed, missed, missed_news, moment, Move, Nack, NameDoubled, nat_eq, nat_le, nat_lt, News, news_of, next_acknowledgment, next_due, next_frame, next_long, next_other, next_packet, next_transfer, next_withdrawn, NoAddress, None, NoneTold, not, NotClaimed, null_address, Ok, older, open_broadcast, Option, option_map, option_or, other, owes_claim, packets, passed_in, patience, pause, pgn_of, reached, ready, reception, refl, refusal_waits, Refused, Renew, Reply, request_group, requests, Result, Send, sent, slice_get, slice_get-map, slice_get_within, Some, source_of, stamp_at, stamped, status_after, status_of, step, suc, sym, take, TakeEnded, TakeFrame, TakeNews, TakeReceived, TakeRequest, takes_other, Tick, told, told_claims, true, turns, unblanked, unclaimed, unheard_news, waits_already, Who, with_refusal, with_request, Withdraw, Withdrawn, yields, zero, ℕ}
+use Rattle.j39_node.proofs.Common.{[], if◌then◌else◌, ◌&&◌, ◌*◌, ◌++◌, ◌+◌, ◌-◌, ◌<◌, ◌||◌, ◌↔◌, ◌∙◌, ◌∷◌, ◌≡◌, ◌≢◌, ◌≤◌, ◌⊎◌, accepted, Acknowledge, acknowledged, acknowledgment, acknowledgment_group, Address, address_after, address_claimed_group, AddressLost, Again, age, and_from, and_parts, another_news, AnotherAtAddress, Answer, answers_another, ap, append-nil, AreAnswered, arith, Asked, asked, At, at_in, Bool, Busy, Call, calls, calls_for_claim, can_send, Claim, claim_address, claim_due, claim_from, claim_goes, claim_of, Claimed, claimed, content, Controller, delayed, destination_of, Done, double, doubled_news, Draft, drop, due, end_of, Ending, eq-eqb, eqb-true, Err, false, FrameRecord, frames, fresh, Full, gives_way, global_address, got, handed, HasDouble, Hear, held_at, holds, inl, inr, Is, is_acknowledgment, is_alike, is_another, is_apart, is_blank, is_claim, is_double, is_for_program, is_held, is_larger, is_lost, is_move, is_none, is_own_group, is_refusal_due, is_reply, is_served, is_session, is_smaller, is_some, is_subscribed, is_there, is_transfer, IsFront, IsTrue, kept, latest, length, length-append, List, long_by, Lost, lost_news, lt-ltb, ltb-true, map, marks, max, may_claim, may_go, Message, message_from, message_of, MessagesMissed, missed, missed_news, moment, Move, Nack, NameDoubled, nat_eq, nat_le, nat_lt, News, news_of, next_acknowledgment, next_due, next_frame, next_long, next_other, next_packet, next_transfer, next_withdrawn, None, NoneTold, not, NotClaimed, null_address, Ok, older, open_broadcast, Option, option_map, option_or, other, owes_claim, packets, passed_in, patience, pause, pgn_of, reached, ready, reception, refl, refusal_waits, Refused, Renew, Reply, request_group, requests, Result, Send, sent, slice_get, slice_get-map, slice_get_within, Some, source_of, stamp_at, stamped, status_after, status_of, step, suc, sym, take, TakeEnded, TakeFrame, TakeNews, TakeReceived, TakeRequest, takes_other, Tick, told, told_claims, true, turns, unblanked, unclaimed, unheard_news, waits_already, Who, with_refusal, with_request, Withdraw, Withdrawn, yields, zero, ℕ, is_full, not_both, and-false, ltb-false, le-ltb, le-leb, or_parts, false_from_ne_true}
 use Rattle.j39_node.specs.History.{heard, Again}
 use Rattle.j39_node.specs.Reception.{is_waiting}
 use Rattle.j39_address.specs.declared.status.Status.TheVariants as status
-use Rattle.j39_node.proofs.FrameLemmas.{le_true}
 use Rattle.j39_node.proofs.ReceptionLemmas.{replied_get, tidy}
 use Rattle.j39_node.proofs.DueLemmas.{both_none, from_long, quiet_long, then_long}
 use Rattle.j39_node.proofs.QueueLemmas.{length_one_more}
-use Rattle.j39_node.proofs.SoundLemmas.{apart_is, is_moved, IsTurn, acknowledgment_single, claim_single, no_transfer, none_there, packet_session, packet_there, single_taken, turned, Rest, none_at, none_next, none_other, other_none, claim_is, given_way, none_acknowledged, none_due_goes, none_gives, plain_taken, EndCase, FrameCase, SendCase, Sound, claim_taken, due_get, due_taken, end_case, frame_by, frame_case, front_length, held_older, lost_claimed, lost_older, message_taken, own_of, packet_case, packet_taken, reply_taken, send_case, sound, transfer_taken, lost_unclaimed, holding_not_lost, no_claim_goes, renew_case, WithdrawCase, withdraw_case}
+use Rattle.j39_node.proofs.SoundLemmas.{apart_is, is_moved, IsTurn, acknowledgment_single, claim_single, no_transfer, none_there, packet_session, packet_there, single_taken, turned, Rest, none_at, none_next, none_other, other_none, claim_is, given_way, none_acknowledged, none_due_goes, none_gives, plain_taken, EndCase, FrameCase, Sound, claim_taken, due_get, due_taken, end_case, frame_by, frame_case, front_length, held_older, lost_claimed, lost_older, message_taken, own_of, packet_case, packet_taken, reply_taken, sound, transfer_taken, lost_unclaimed, holding_not_lost, renew_case, WithdrawCase, withdraw_case}
 use Rattle.j39_node.proofs.KnownLemmas.{fresh_one, not_refused, served_not}
 use Rattle.j39_node.proofs.LaneLemmas.{laned, opened_by}
-use Rattle.j39_node.proofs.CallLemmas.{acknowledge_is, acknowledges_by, due_by}
+use Rattle.j39_node.proofs.CallLemmas.{due_by}
 use Rattle.j39_node.proofs.SoundLemmas.FrameCase.{claims, acknowledges, replies, sends, packs, transfers}
-use Rattle.j39_node.proofs.SoundLemmas.SendCase.{no_address, bad_value, full, accepts}
+use Rattle.j39_node.proofs.AnswerCases.{accepts, send_accepts, answer_is}
+use Rattle.j39_node.proofs.AnswerCases as cases
 use Rattle.j39_node.proofs.SoundLemmas.EndCase.{done, withdrawn}
 use Rattle.j39_node.proofs.RenewLemmas.{none_past, set_here, set_other}
 
@@ -77,13 +77,7 @@ sources w H c now f is = go (frame w H c now f is)
 -- ---- accounted once
 
 pub token_is : (w : Who) (H : List Call) (c : Controller) (now k : ℕ) (d : Draft) → Is w (At now (Send d (Ok k)) ∷ H) c → k ≡ length (accepted w H)
-token_is w H c now k d is = go (send_case w H now d (Ok k) is.answered.1)
-  where
-    go : SendCase w H now d (Ok k) → k ≡ length (accepted w H)
-    go (no_address a e) = absurd (cc)
-    go (bad_value a b e) = absurd (cc)
-    go (full a b f e) = absurd (cc)
-    go (accepts a b f e) = cc
+token_is w H c now k d is = (send_accepts w H now k d is.answered.1).3
 
 record Told (w : Who) (H : List Call) (k : ℕ) (e : Ending) : Type 0 where
   pub message : Message
@@ -149,10 +143,7 @@ all_told w H c is = go (none_ended _ _ _ is.answered.1)
         let a = past_end (accepted w H) (length (told H)) e in
         let b = sent_within w H s in
         (omega (arith, a, b), λ l. (let d = s.within in omega (arith, a, d)))
-    go (inr e) = (not_lt _ _ e.0, λ l. absurd (let z : true ≡ false = sym l ∙ e.1 in cc))
-      where
-        not_lt : (m n : ℕ) → nat_lt m n ≡ false → n ≤ m
-        not_lt m n f = grind arith
+    go (inr e) = (ltb-false _ _ e.0, λ l. absurd (let z : true ≡ false = sym l ∙ e.1 in cc))
 
 -- ---- done means
 
@@ -214,7 +205,7 @@ withdrawn_is w H c k answer is = (λ z. to (withdraw_case w H k (sym z ∙ is.an
     from l a z =
         let b : Some (is_blank (k, z.0)) ≡ Some false = sym (marked (k, z.0) z.1) ∙ z.3 in
         let d : is_blank (k, z.0) ≡ false = cc in
-        (λ i. not (l i) && (nat_le (reached H) k && may_go (z.1 i))) ∙ λ i. le_true (reached H) k a i && not (d i || z.2 i)
+        (λ i. not (l i) && (nat_le (reached H) k && may_go (z.1 i))) ∙ λ i. le-leb (reached H) k a i && not (d i || z.2 i)
 
 pub others_unmarked : (H : List Call) (k j : ℕ) → j ≢ k → slice_get (marks (Withdraw k true ∷ H)) j ≡ slice_get (marks H) j
 others_unmarked H k j n = set_other (marks H) k j true n
@@ -235,35 +226,6 @@ none_waits w H c now is held =
 
 -- ---- what send answers
 
-answers : (w : Who) (H : List Call) (c : Controller) (now : ℕ) (d : Draft) (answer : Result ℕ Refused) → Is w (At now (Send d answer) ∷ H) c → SendCase w H now d answer
-answers w H c now d answer is = send_case w H now d answer is.answered.1
-
-pub not_both : (b : Bool) → b ≡ false → b ≡ true → ⊥
-not_both b e f = let z : false ≡ true = sym e ∙ f in absurd (cc)
-
-pub refused_address : (w : Who) (H : List Call) (c : Controller) (now : ℕ) (d : Draft) (answer : Result ℕ Refused)
-    → Is w (At now (Send d answer) ∷ H) c → (answer ≡ Err NoAddress ↔ (IsTrue (holds w H now) → ⊥))
-refused_address w H c now d answer is = go (answers w H c now d answer is)
-  where
-    go : SendCase w H now d answer → (answer ≡ Err NoAddress ↔ (IsTrue (holds w H now) → ⊥))
-    go (no_address a e) = (λ z. not_both _ a, λ z. e)
-    go (bad_value a b e) = (λ z. absurd (cc), λ z. absurd (z a))
-    go (full a b f e) = (λ z. absurd (cc), λ z. absurd (z a))
-    go (accepts a b f e) = (λ z. absurd (cc), λ z. absurd (z a))
-
-pub refused_value : (w : Who) (H : List Call) (c : Controller) (now : ℕ) (d : Draft) (answer : Result ℕ Refused)
-    → Is w (At now (Send d answer) ∷ H) c → (answer ≡ Err BadValue ↔ (IsTrue (holds w H now) × (IsTrue (can_send w d) → ⊥)))
-refused_value w H c now d answer is = go (answers w H c now d answer is)
-  where
-    go : SendCase w H now d answer → (answer ≡ Err BadValue ↔ (IsTrue (holds w H now) × (IsTrue (can_send w d) → ⊥)))
-    go (no_address a e) = (λ z. absurd (cc), λ z. absurd (not_both _ a z.0))
-    go (bad_value a b e) = (λ z. (a, not_both _ b), λ z. e)
-    go (full a b f e) = (λ z. absurd (cc), λ z. absurd (z.1 b))
-    go (accepts a b f e) = (λ z. absurd (cc), λ z. absurd (z.1 b))
-
-AtLimit : Who → List Call → Type 0
-AtLimit w H = (length (accepted w H) ≡ length (told H) + 16) ⊎ (length (accepted w H) ≡ 18446744073709551615)
-
 pub full_parts : (a t : ℕ) → (nat_eq (a - t) 16 || nat_eq a 18446744073709551615) ≡ true → (a ≡ t + 16) ⊎ (a ≡ 18446744073709551615)
 full_parts a t e = go (nat_eq (a - t) 16) refl e
   where
@@ -283,26 +245,16 @@ pub refused_full : (w : Who) (H : List Call) (c : Controller) (now : ℕ) (d : D
     → Is w (At now (Send d answer) ∷ H) c
     → (answer ≡ Err Full ↔ (IsTrue (holds w H now) × IsTrue (can_send w d)
     × ((length (accepted w H) ≡ length (told H) + 16) ⊎ (length (accepted w H) ≡ 18446744073709551615))))
-refused_full w H c now d answer is = go (answers w H c now d answer is)
-  where
-    go : SendCase w H now d answer → (answer ≡ Err Full ↔ (IsTrue (holds w H now) × IsTrue (can_send w d)
-        × ((length (accepted w H) ≡ length (told H) + 16) ⊎ (length (accepted w H) ≡ 18446744073709551615))))
-    go (no_address a e) = (λ z. absurd (cc), λ z. absurd (not_both _ a z.0))
-    go (bad_value a b e) = (λ z. absurd (cc), λ z. absurd (not_both _ b z.1))
-    go (full a b f e) = (λ z. (a, b, full_parts _ _ f), λ z. e)
-    go (accepts a b f e) = (λ z. absurd (cc), λ z. absurd (not_both _ f (full_from _ _ z.2)))
+refused_full w H c now d answer is =
+    cases.refused_full (holds w H now) (can_send w d) (is_full w H) (length (accepted w H)) answer is.answered.1 (full_parts _ _) (λ z y. not_both _ z (full_from _ _ y))
 
 pub is_accepted : (w : Who) (H : List Call) (c : Controller) (now : ℕ) (d : Draft) (answer : Result ℕ Refused)
     → Is w (At now (Send d answer) ∷ H) c → IsTrue (holds w H now) → IsTrue (can_send w d)
     → length (accepted w H) < length (told H) + 16 → length (accepted w H) < 18446744073709551615
     → answer ≡ Ok (length (accepted w H))
-is_accepted w H c now d answer is held can room some = go (answers w H c now d answer is)
-  where
-    go : SendCase w H now d answer → answer ≡ Ok (length (accepted w H))
-    go (no_address a e) = absurd (not_both _ a held)
-    go (bad_value a b e) = absurd (not_both _ b can)
-    go (full a b f e) = elim (full_parts (length (accepted w H)) (length (told H)) f) [ inl z ↦ absurd (omega (arith, z, room)) | inr z ↦ absurd (omega (arith, z, some)) ]
-    go (accepts a b f e) = e
+is_accepted w H c now d answer is held can room some =
+    cases.is_accepted (holds w H now) (can_send w d) (is_full w H) (length (accepted w H)) answer is.answered.1 held can
+    (λ z. elim (full_parts (length (accepted w H)) (length (told H)) z) [ inl z ↦ absurd (omega (arith, z, room)) | inr z ↦ absurd (omega (arith, z, some)) ])
 
 -- ---- received
 
@@ -337,14 +289,11 @@ not_subscribed w H when f e = (
   ap (λ (b : Bool). if b && not (nat_lt (length (kept w H) - length (got H)) 16) then suc (missed w H) else missed w H) none,
 )
   where
-    nothing : (a : Bool) → (a && false) ≡ false
-    nothing a = grind arith
-
     none : is_for_program w (holds w H when) f ≡ false
     none =
         ap (λ (s : Bool). nat_lt (source_of f.id) null_address && ((s && not (is_own_group (pgn_of f.id) || nat_eq (pgn_of f.id) request_group))
         && (is_none (destination_of f.id) || (is_some (destination_of f.id) global_address || (is_some (destination_of f.id) w.address && holds w H when))))) e
-        ∙ nothing (nat_lt (source_of f.id) null_address)
+        ∙ and-false (nat_lt (source_of f.id) null_address)
 
 pub missed_full : (w : Who) (H : List Call) (when : ℕ) (f : FrameRecord) → missed w (At when (Hear f) ∷ H) ≢ missed w H → length (got H) + 16 ≤ length (kept w H)
 missed_full w H when f n = go (is_for_program w (holds w H when) f) (nat_lt (length (kept w H) - length (got H)) 16) refl n
@@ -512,10 +461,6 @@ takes_turns w H later between c last second first f g i m is none none_between p
         (ap (λ (b : Bool). if b then suc (turns (later ++ At first (TakeFrame (Some f)) ∷ H)) else 0) q
         ∙ ap suc (same_turns later (At first (TakeFrame (Some f)) ∷ H) none ∙ ap (λ (b : Bool). if b then suc (turns H) else 0) p))
 
-pub or_false : (a b : Bool) → (a || b) ≡ false → (a ≡ false) × (b ≡ false)
-or_false true b e = absurd (cc)
-or_false false b e = (refl, e)
-
 -- behind a reply the next yields, as long as no other frame but claims and acknowledgments is taken
 still_yields : (w : Who) (later H : List Call) → NoneTold takes_other later → yields w H ≡ true → yields w (later ++ H) ≡ true
 still_yields w [] H n e = e
@@ -561,8 +506,8 @@ behind_a_reply w H later c last first f i is t none due_one = go (frame_case w G
     yield : IsTurn (yields w G) (ready w G last) (Some Reply) → ⊥
     yield x =
         let r = ready w G last in
-        let z = or_false _ _ (sym (ap (λ (y : Bool). y && (r.message || (r.packet || r.transfer))) (still_yields w later _ none (yields_then w H first f t))) ∙ x.2) in
-        let y = or_false _ _ z.1 in waits z.0 y.0 y.1
+        let z = or_parts _ _ (sym (ap (λ (y : Bool). y && (r.message || (r.packet || r.transfer))) (still_yields w later _ none (yields_then w H first f t))) ∙ x.2) in
+        let y = or_parts _ _ z.1 in waits z.0 y.0 y.1
 
     go : FrameCase w G last i → (is_transfer i ≡ false) ⊎ IsTrue (is_move w G i)
     go (claims o e) = inl (no_transfer i (claim_single i (claim_taken i last w _ e)))
@@ -641,10 +586,7 @@ still_delayed w (At when (Hear f) ∷ later) H e l o d =
     let z = still_delayed w later H e l o d in
     let y : delayed w (At when (Hear f) ∷ later ++ H) ≡ delayed w (later ++ H) - step (later ++ H) when =
     (λ i. if calls w (later ++ H) when f && not (still_lost w later H l i && still_owed w later H e o i) then w.delay * 600 else delayed w (later ++ H) - step (later ++ H) when)
-    ∙ ap (λ (b : Bool). if b then w.delay * 600 else delayed w (later ++ H) - step (later ++ H) when) (no_more_calls (calls w (later ++ H) when f)) in omega (arith, z, y)
-  where
-    no_more_calls : (b : Bool) → (b && false) ≡ false
-    no_more_calls b = grind arith
+    ∙ ap (λ (b : Bool). if b then w.delay * 600 else delayed w (later ++ H) - step (later ++ H) when) (and-false (calls w (later ++ H) when f)) in omega (arith, z, y)
 still_delayed w (At now (TakeFrame (Some f)) ∷ later) H e l o d = absurd (let a = ap length e in let b = length_one_more (frames later) f in omega (arith, a, b))
 still_delayed w (At now Again ∷ later) H e l o d = omega arith
 still_delayed w (call ∷ later) H e l o d = let z = still_delayed w later H e l o d in omega (arith, z)
@@ -679,7 +621,7 @@ cannot_claim_waits w H later c when now f (Some g) is none away stood l = absurd
 
     undue : claim_due w K now ≡ false
     undue = (λ i. owes_claim w K && (not (still_lost w later G lost_then i) || not_yet (delayed w K) (step K now) (let a = left in omega (arith, a, l)) i))
-        ∙ no_claim_goes (owes_claim w K)
+        ∙ and-false (owes_claim w K)
 
     away_from : holds w K now ≡ true → ⊥
     away_from h = not_both _ (holding_not_lost w K now h) (still_lost w later G lost_then)
@@ -821,10 +763,6 @@ has_room a b l = lt-ltb _ _ (omega (arith, l))
 has_none : (a b : ℕ) → b + 16 ≤ a → nat_lt (a - b) 16 ≡ false
 has_none a b l = grind arith
 
-pub is_false : (b : Bool) → (b ≡ true → ⊥) → b ≡ false
-is_false true n = absurd (n refl)
-is_false false n = refl
-
 with_it : (w : Who) (r : Asked) (L : List Asked) (s room : Bool) → is_served w r.group ≡ s → with_request w room (Some r) L ≡ (if s && room then L ++ r ∷ [] else L)
 with_it w r L s room e = ap (λ (x : Bool). if x && room then L ++ r ∷ [] else L) e
 
@@ -863,7 +801,7 @@ pub is_refused : (w : Who) (H : List Call) (when : ℕ) (f : FrameRecord) (r : A
     → (IsTrue (is_served w r.group) → ⊥) → refusal_waits w H r ≡ false → length (due w H) < length (acknowledged H) + 16
     → (requests w (At when (Hear f) ∷ H) ≡ requests w H) × (due w (At when (Hear f) ∷ H) ≡ due w H ++ acknowledgment w Nack r ∷ [])
 is_refused w H when f r e at n once l =
-    let s = is_false _ n in
+    let s = false_from_ne_true _ n in
     let k = counts_one w H when f r e (inl s) in
     let room = nat_lt (length (requests w H) - length (handed H)) 16 in (
       request_case w H when f (Some r) k ∙ with_it w r (requests w H) false room s,
@@ -946,17 +884,12 @@ pub is_acknowledged : (w : Who) (H : List Call) (c : Controller) (now : ℕ) (r 
     → Is w (At now (Acknowledge r a result) ∷ H) c → IsTrue (holds w H now) → r.destination ≡ w.address → length (due w H) < length (acknowledged H) + 16
     → result ≡ Ok tt
 is_acknowledged w H c now r a result is held at l =
-    is.answered.1 ∙ acknowledge_is w H now r true true false held (eq-eqb _ _ at) (is_false _ (λ z. (let y = eqb-true _ _ z in omega (arith, y, l))))
+    is.answered.1 ∙ answer_is tt held (eq-eqb _ _ at) (false_from_ne_true _ (λ z. (let y = eqb-true _ _ z in omega (arith, y, l))))
 
 pub only_to_address : (w : Who) (H : List Call) (c : Controller) (now : ℕ) (r : Asked) (a : Answer) → Is w (At now (Acknowledge r a (Ok tt)) ∷ H) c
     → IsTrue (holds w H now) × (r.destination ≡ w.address)
-only_to_address w H c now r a is = go (holds w H now) (nat_eq r.destination w.address) (nat_eq (length (due w H) - length (acknowledged H)) 16) refl refl
-    (is.answered.1 ∙ acknowledge_is w H now r _ _ _ refl refl refl)
-  where
-    go : (x y z : Bool) → holds w H now ≡ x → nat_eq r.destination w.address ≡ y → Ok tt ≡ acknowledges_by x y z → (holds w H now ≡ true) × (r.destination ≡ w.address)
-    go true true z e g k = (e, eqb-true _ _ g)
-    go true false z e g k = absurd (cc)
-    go false y z e g k = absurd (cc)
+only_to_address w H c now r a is =
+    let x = accepts (holds w H now) (nat_eq r.destination w.address) (nat_eq (length (due w H) - length (acknowledged H)) 16) tt tt is.answered.1 in (x.0, eqb-true _ _ x.1)
 
 -- ---- the newest value
 
@@ -1079,7 +1012,7 @@ nothing_taken w H now l m q =
     n = not_due w H now _ l m q refl
 
     o : (may_claim w H (delayed w H) ≡ false) × ((is_held (address_after w H) && is_waiting w H) ≡ false)
-    o = or_false (may_claim w H (delayed w H)) _ n
+    o = or_parts (may_claim w H (delayed w H)) _ n
 
     may_now : owes_claim w H ≡ true → is_lost (address_after w H) ≡ false → ⊥
     may_now a b = not_both _ o.0 (λ i. a i && (not (b i) || nat_eq (delayed w H) 0))
@@ -1107,8 +1040,8 @@ nothing_taken w H now l m q =
     held : (b : Bool) → is_held (address_after w H) ≡ b → (holds w H now ≡ false) ⊎ ((next_acknowledgment w H now ≡ None) × (other w H now ≡ None))
     held false z = inl (not_yet _ _ refl refl z)
     held true z =
-        let v = or_false _ _ (sym (ap (λ (b : Bool). b && is_waiting w H) z) ∙ o.1) in
-        let u = or_false _ _ v.1 in
+        let v = or_parts _ _ (sym (ap (λ (b : Bool). b && is_waiting w H) z) ∙ o.1) in
+        let u = or_parts _ _ v.1 in
         inr (
           none_due_goes w H now (none_at (due w H) (length (acknowledged H)) u.0),
           other_none w H now (record {
@@ -1133,10 +1066,7 @@ ticks w H now later l m = go (address_after w H)
     go Lost = refl
 
 there : {T : Type 0} (L : List T) (n : ℕ) → slice_get L n ≡ None → nat_lt n (length L) ≡ false
-there L n e = not_lt n (length L) (past_end L n e)
-  where
-    not_lt : (i k : ℕ) → k ≤ i → nat_lt i k ≡ false
-    not_lt i k f = grind arith
+there L n e = le-ltb n (length L) (past_end L n e)
 
 held_at_later : (a : Address) (m : ℕ) → held_at a m ≡ Some m → ⊥
 held_at_later NotClaimed m e = absurd (cc)

@@ -1,4 +1,5 @@
--- the names that proofs here cite
+-- facts of tests, and the names that proofs here cite
+pub mod Tests
 pub mod Common
 -- lists from which the first is taken
 pub mod QueueLemmas
@@ -14,7 +15,7 @@ pub mod HearingLemmas
 pub mod PortLemmas
 pub mod SaidLemmas
 -- what `ask` answers
-pub mod AskCases
+pub mod AnswerCases
 -- messages that were withdrawn
 pub mod WithdrawLemmas
 -- what every answered history says

@@ -1,13 +1,11 @@
 -- That every message of one frame ends.
-use Rattle.j39_node.proofs.Common.{[], if◌then◌else◌, ◌++◌, ◌+◌, ◌<◌, ◌||◌, ◌∙◌, ◌∷◌, ◌≡◌, ◌≤◌, ◌⊎◌, accepted, address_after, Again, ap, AreAnswered, arith, Ask, At, blank, Bool, Call, claims_anew, Controller, Done, Draft, end_of, Ending, ending_of, false, Hear, holds, inl, inr, Is, is_acknowledgment, is_blank, is_claim, is_held, is_lost, is_session, IsAnswered, IsPrompt, IsTrue, length, length-set, List, marks, Message, message_from, moment, nat_lt, next_ended, next_frame, None, not, Ok, Option, passed_in, past, reached, refl, Renew, request_for, Send, slice_get, slice_set, Some, step, suc, TakeFrame, told, true, waited_in, Who, Withdraw, Withdrawn, zero, ℕ}
-use Rattle.j39_node.proofs.AskCases.{AskCase, ask_case}
-use Rattle.j39_node.proofs.AskCases.AskCase.{homeless, unfit, busy, asks}
+use Rattle.j39_node.proofs.Common.{[], if◌then◌else◌, ◌++◌, ◌+◌, ◌<◌, ◌||◌, ◌∙◌, ◌∷◌, ◌≡◌, ◌≤◌, ◌⊎◌, accepted, address_after, Again, ap, AreAnswered, arith, Ask, At, blank, Bool, Call, claims_anew, Controller, Done, Draft, end_of, Ending, ending_of, false, Hear, holds, inl, inr, Is, is_acknowledgment, is_blank, is_claim, is_held, is_lost, is_session, IsAnswered, IsPrompt, IsTrue, length, length-set, List, marks, Message, message_from, moment, nat_lt, next_ended, next_frame, None, not, Ok, Option, passed_in, past, reached, refl, Renew, request_for, Send, slice_get, slice_set, Some, step, suc, TakeFrame, told, true, waited_in, Who, Withdraw, Withdrawn, zero, ℕ, lt-ltb}
 use Rattle.j39_node.proofs.LawLemmas.{past_end}
 use Rattle.j39_node.proofs.PromptLaws.{answered_from, keeps_heard, keeps_taken, lost_heard, lost_taken, waited_last}
 use Rattle.j39_node.proofs.QueueLemmas.{length_one_more}
-use Rattle.j39_node.proofs.SoundLemmas.{SendCase, held_older, none_next, lost_older, send_case, sound}
-use Rattle.j39_node.proofs.SoundLemmas.SendCase.{no_address, bad_value, full, accepts}
+use Rattle.j39_node.proofs.SoundLemmas.{held_older, none_next, lost_older, sound}
 use Rattle.j39_node.proofs.WithdrawLemmas.{past_more}
+use Rattle.j39_node.proofs.AnswerCases.{send_accepts, ask_accepts}
 
 -- where no frame is taken from an address that is held, no message waits
 none_waits : (w : Who) (H : List Call) (now : ℕ) → holds w H now ≡ true → (let none : Option (ℕ × Message) = None in none) ≡ next_frame w H now
@@ -114,33 +112,12 @@ told_next w H k a l t h =
           ∙ (y.1 ∙ ap (λ (n : ℕ). (let z : Option (ℕ × Ending) = Some (n, y.0) in z)) ((sound w H a).numbered (length (told H)) x.0 x.1)),
     )
   where
-    less : (m n : ℕ) → m < n → nat_lt m n ≡ true
-    less m n z = grind arith
-
     go : (k < reached H) ⊎ (is_lost (address_after w H) ≡ true)
         → (nat_lt (length (told H)) (reached H) ≡ true) ⊎ (is_lost (address_after w H) ≡ true)
-    go (inl z) = inl (less _ _ (omega (arith, z, t)))
+    go (inl z) = inl (lt-ltb _ _ (omega (arith, z, t)))
     go (inr z) = inr z
 
 -- ---- what was accepted
-
-sent_so : (w : Who) (H : List Call) (now k : ℕ) (d : Draft) → SendCase w H now d (Ok k)
-    → (is_held (address_after w (At now (Send d (Ok k)) ∷ H)) ≡ true) × (k < length (accepted w (At now (Send d (Ok k)) ∷ H)))
-sent_so w H now k d (no_address a e) = absurd (cc)
-sent_so w H now k d (bad_value a b e) = absurd (cc)
-sent_so w H now k d (full a b f e) = absurd (cc)
-sent_so w H now k d (accepts a b f e) =
-    let z : k ≡ length (accepted w H) = cc in
-    let y = length_one_more (accepted w H) (k, message_from w d) in (a, omega (arith, z, y))
-
-asked_so : (w : Who) (H : List Call) (now group to k : ℕ) → AskCase w H now group to (Ok k)
-    → (is_held (address_after w (At now (Ask group to (Ok k)) ∷ H)) ≡ true) × (k < length (accepted w (At now (Ask group to (Ok k)) ∷ H)))
-asked_so w H now group to k (homeless a e) = absurd (cc)
-asked_so w H now group to k (unfit a b e) = absurd (cc)
-asked_so w H now group to k (busy a b f e) = absurd (cc)
-asked_so w H now group to k (asks a b f e) =
-    let z : k ≡ length (accepted w H) = cc in
-    let y = length_one_more (accepted w H) (k, message_from w (request_for group to)) in (a, omega (arith, z, y))
 
 module _ (w : Who) (later B : List Call) (c : Controller) (g k : ℕ) (is : Is w (later ++ B) c)
     (fits : (is_held (address_after w B) ≡ true) × (k < length (accepted w B))) (prompt : IsPrompt g later B) (l : g < passed_in later B) where
@@ -156,13 +133,14 @@ module _ (w : Who) (later B : List Call) (c : Controller) (g k : ℕ) (is : Is w
 sent_fits : (w : Who) (later earlier : List Call) (c : Controller) (now k : ℕ) (d : Draft) → Is w (later ++ At now (Send d (Ok k)) ∷ earlier) c
     → (is_held (address_after w (At now (Send d (Ok k)) ∷ earlier)) ≡ true) × (k < length (accepted w (At now (Send d (Ok k)) ∷ earlier)))
 sent_fits w later earlier c now k d is =
-    sent_so w earlier now k d (send_case w earlier now d (Ok k) ((answered_from w later (At now (Send d (Ok k)) ∷ earlier) is.answered).1))
+    let x = send_accepts w earlier now k d (answered_from w later (At now (Send d (Ok k)) ∷ earlier) is.answered).1 in
+    let z = x.3 in let y = length_one_more (accepted w earlier) (k, message_from w d) in (x.0, omega (arith, z, y))
 
 asked_fits : (w : Who) (later earlier : List Call) (c : Controller) (now group to k : ℕ) → Is w (later ++ At now (Ask group to (Ok k)) ∷ earlier) c
     → (is_held (address_after w (At now (Ask group to (Ok k)) ∷ earlier)) ≡ true) × (k < length (accepted w (At now (Ask group to (Ok k)) ∷ earlier)))
 asked_fits w later earlier c now group to k is =
-    asked_so w earlier now group to k
-    (ask_case w earlier now group to (Ok k) ((answered_from w later (At now (Ask group to (Ok k)) ∷ earlier) is.answered).1))
+    let x = ask_accepts w earlier now group to k (answered_from w later (At now (Ask group to (Ok k)) ∷ earlier) is.answered).1 in
+    let z = x.3 in let y = length_one_more (accepted w earlier) (k, message_from w (request_for group to)) in (x.0, omega (arith, z, y))
 
 pub sent_ends : (w : Who) (later earlier : List Call) (c : Controller) (g now k : ℕ) (d : Draft) → Is w (later ++ At now (Send d (Ok k)) ∷ earlier) c
     → IsPrompt g later (At now (Send d (Ok k)) ∷ earlier) → g < passed_in later (At now (Send d (Ok k)) ∷ earlier)

@@ -1,15 +1,14 @@
 -- What every answered history says of transfers.
-use Rattle.j39_node.proofs.Common.{[], if◌then◌else◌, ◌&&◌, ◌++◌, ◌-◌, ◌||◌, ◌∙◌, ◌∷◌, ◌≡◌, ◌⊎◌, Abort, aborted, accepted, acknowledged, address_after, all_transfers, ap, AreAnswered, arith, At, begun, Bool, broadcast_from, Call, clock_at, cond_both, due, false, FrameRecord, gives_up, Happened, Hear, hears, hears_if, holder, holds, inl, inr, is_engaged, is_lost, is_move, is_replaced, is_resting, is_running, is_spent, length, List, listens, Message, message_of, MessageRecord, Move, moves, new_sender, next_acknowledgment, next_packet, None, Ok, open_broadcast, open_transfer, Option, option_map, or_parts, packets, pause, reached, refl, Running, says, send_step, sends, sends_if, Signal, signal_by, slice_get, Some, step, subst, suc, sym, TakeFrame, TakeTransferEnded, told_transfers, Transfer, transfer_by, transfer_end, TransferEnding, true, Who, ℕ}
+use Rattle.j39_node.proofs.Common.{[], if◌then◌else◌, ◌&&◌, ◌++◌, ◌-◌, ◌||◌, ◌∙◌, ◌∷◌, ◌≡◌, ◌⊎◌, Abort, aborted, accepted, acknowledged, address_after, all_transfers, ap, AreAnswered, arith, At, begun, Bool, broadcast_from, Call, clock_at, cond_both, due, false, FrameRecord, gives_up, Happened, Hear, hears, hears_if, holder, holds, inl, inr, is_engaged, is_lost, is_move, is_replaced, is_resting, is_running, is_spent, length, List, listens, Message, message_of, MessageRecord, Move, moves, new_sender, next_acknowledgment, next_packet, None, Ok, open_broadcast, open_transfer, Option, option_map, or_parts, packets, pause, reached, refl, Running, says, send_step, sends, sends_if, Signal, signal_by, slice_get, Some, step, subst, suc, sym, TakeFrame, TakeTransferEnded, told_transfers, Transfer, transfer_by, transfer_end, TransferEnding, true, Who, ℕ, answer_to_transfer, not_both}
 use Rattle.j39_transport.specs.Sending.{Tick}
 use Rattle.j39_node.specs.Moves.{begins}
 use Rattle.j39_node.proofs.QueueLemmas.{length_one_more}
 use Rattle.j39_node.proofs.SoundLemmas.{nothing_else, turned, FrameCase, frame_case, claim_taken, claim_single, due_get, due_taken, no_move, no_transfer, own_of, packet_session, packet_taken, reply_no_move, single_taken, sound}
 use Rattle.j39_node.proofs.SoundLemmas.FrameCase.{claims, acknowledges, replies, sends as sends_one, packs, transfers}
-use Rattle.j39_node.proofs.PortLemmas.{TransferCase, transfer_case, hears_same, sends_same}
-use Rattle.j39_node.proofs.PortLemmas.TransferCase.{homeless, unfit, busy, opens}
+use Rattle.j39_node.proofs.PortLemmas.{hears_same, sends_same}
 use Rattle.j39_node.proofs.MoveSteps.{Moved, moved_given_up, moved_heard, moved_ticked}
 use Rattle.j39_node.proofs.LaneLemmas.{get_last}
-use Rattle.j39_node.proofs.LawLemmas.{not_both}
+use Rattle.j39_node.proofs.AnswerCases.{transfer_accepts}
 
 -- ---- a frame of the open transfer is taken
 
@@ -153,16 +152,14 @@ not_engaged : (o : Option Running) (n told : ℕ) (all : List (ℕ × MessageRec
 not_engaged None n told all h e = h
 not_engaged (Some t) n told all h e = absurd (cc)
 
-last_opens : (w : Who) (H : List Call) (now group to k : ℕ) (bytes : List ℕ) → TransferCase w H now group to bytes (Ok k)
+last_opens : (w : Who) (H : List Call) (now group to k : ℕ) (bytes : List ℕ) → Ok k ≡ answer_to_transfer w H now group to bytes
     → LastIf (length (told_transfers H)) (all_transfers w H) (open_transfer w H)
     → Last (length (told_transfers H)) (all_transfers w H ++ (to, broadcast_from w group bytes) ∷ []) (begun k (broadcast_from w group bytes) to)
 unfolding new_sender
-last_opens w H now group to k bytes (homeless a e) h = absurd (cc)
-last_opens w H now group to k bytes (unfit a b e) h = absurd (cc)
-last_opens w H now group to k bytes (busy a b f e) h = absurd (cc)
-last_opens w H now group to k bytes (opens a b f e) h =
-    let n : k ≡ length (all_transfers w H) = cc in
-    let t = not_engaged (open_transfer w H) (length (all_transfers w H)) (length (told_transfers H)) (all_transfers w H) h (or_parts (is_engaged (open_transfer w H) (length (all_transfers w H))) (is_resting w H now group to) f).0 in
+last_opens w H now group to k bytes e h =
+    let x = transfer_accepts w H now group to k bytes e in
+    let n = x.3 in
+    let t = not_engaged (open_transfer w H) (length (all_transfers w H)) (length (told_transfers H)) (all_transfers w H) h (or_parts (is_engaged (open_transfer w H) (length (all_transfers w H))) (is_resting w H now group to) x.2).0 in
     record {
       token = n ∙ sym t;
       last = ap (slice_get (all_transfers w H ++ (to, broadcast_from w group bytes) ∷ [])) n ∙ get_last (all_transfers w H) (to, broadcast_from w group bytes);
@@ -180,7 +177,7 @@ last_one w (At when (Hear f) ∷ H) e =
     last_hears _ _ (is_lost (address_after w (At when (Hear f) ∷ H))) (λ a. is_replaced (holder w H a) (holder w (At when (Hear f) ∷ H) a)) f (clock_at H when) (open_transfer w H)
     (last_one w H e.0)
 last_one w (At now (TakeFrame (Some f)) ∷ H) e = last_sends _ _ (is_move w H f) (clock_at H now) (open_transfer w H) (last_one w H e.0)
-last_one w (At now (Transfer group to bytes (Ok k)) ∷ H) e = last_opens w H now group to k bytes (transfer_case w H now group to bytes (Ok k) e.1) (last_one w H e.0)
+last_one w (At now (Transfer group to bytes (Ok k)) ∷ H) e = last_opens w H now group to k bytes e.1 (last_one w H e.0)
 last_one w (TakeTransferEnded (Some x) ∷ H) e =
     length_one_more (told_transfers H) x ∙ last_closes (length (told_transfers H)) (all_transfers w H) (open_transfer w H) (is_lost (address_after w H)) x (last_one w H e.0) e.1
 last_one w (call ∷ H) e = last_one w H e.0

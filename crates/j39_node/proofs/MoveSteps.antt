@@ -1,5 +1,5 @@
 -- What a step makes of a sender of transfers.
-use Rattle.j39_node.proofs.Common.{[], ◌&&◌, ◌++◌, ◌+◌, ◌<◌, ◌==◌, ◌∙◌, ◌∷◌, ◌≡◌, ◌≢◌, ◌≤◌, ◌⊎◌, Abort, aborted, Acknowledgment, ap, arith, Bool, BroadcastAnnounce, cases_eq, cases_lt, cleared, ClearToSend, cond_both, eqb-false, eqb-true, Failed, false, FrameRecord, Idle, inl, inr, is_running, is_waiting, IsAmong, length, List, max, may_name, Message, move, nat_le, nat_lt, None, Option, Packet, packet_data, packet_move, packets_of, refl, request_of, RequestToSend, said_between, says, send_step, SenderRecord, Sending, SendResult, sends_packet, SendState, Signal, slice_get, Some, suc, sym, ticks_in, timeout, true, Waiting, zero, ℕ}
+use Rattle.j39_node.proofs.Common.{[], ◌&&◌, ◌++◌, ◌+◌, ◌<◌, ◌==◌, ◌∙◌, ◌∷◌, ◌≡◌, ◌≢◌, ◌≤◌, ◌⊎◌, Abort, aborted, Acknowledgment, ap, arith, Bool, BroadcastAnnounce, cases_eq, cases_lt, cleared, ClearToSend, cond_both, eqb-false, eqb-true, Failed, false, FrameRecord, Idle, inl, inr, is_running, is_waiting, IsAmong, length, List, max, may_name, Message, move, nat_le, nat_lt, None, Option, Packet, packet_data, packet_move, packets_of, refl, request_of, RequestToSend, said_between, says, send_step, SenderRecord, Sending, SendResult, sends_packet, SendState, Signal, slice_get, Some, suc, sym, ticks_in, timeout, true, Waiting, zero, ℕ, leb-true}
 use Rattle.j39_transport.specs.Sending.{Done, Heard, Tick, acknowledged, hears}
 
 -- ---- when it is done
@@ -152,9 +152,6 @@ three true true false e = absurd (cc)
 three true false c e = absurd (cc)
 three false b c e = absurd (cc)
 
-le_is : (k n : ℕ) → nat_le k n ≡ true → k ≤ n
-le_is k n e = grind arith
-
 not_zero : (n : ℕ) → (n == 0) ≡ false → 1 ≤ n
 not_zero zero e = absurd (cc)
 not_zero (suc n) e = omega arith
@@ -171,7 +168,7 @@ moved_hears s (Some (ClearToSend count p pgn)) now xs h =
     (λ u. cond_both (count == 0) _ _ (λ r. Moved r xs) (λ v. record { state = waiting_some _ _ xs s.state h.state u; taken = h.taken })
     (λ v. cond_both (may_name s p) _ _ (λ r. Moved r xs)
     (λ x. (let z = three (nat_le 1 p) (nat_le p (packets_of s.message)) (nat_le p (s.highest + 1)) x in
-    let a = le_is _ _ z.0 in let b = le_is _ _ z.1 in let c = le_is _ _ z.2 in let d = not_zero count v in
+    let a = leb-true _ _ z.0 in let b = leb-true _ _ z.1 in let c = leb-true _ _ z.2 in let d = not_zero count v in
     record {
       state = (waiting_some _ _ xs s.state h.state u, a, omega (arith, b, d), omega arith, c);
       taken = h.taken;

@@ -1,5 +1,5 @@
 -- A message in packets answers a request by the frame that makes it whole, be it to this address or to all.
-use Rattle.j39_node.proofs.Common.{if◌then◌else◌, ◌&&◌, ◌<◌, ◌==◌, ◌||◌, ◌↔◌, ◌∙◌, ◌∷◌, ◌≡◌, ◌⊎◌, and_from, and_parts, Answered, ap, arith, At, Bool, by, Call, claim_of, comes, destination_of, eq-eqb, eqb-true, false, found, FrameRecord, grown, has_place, Hear, hearing, holder, holds, in_broadcast, in_session, inl, inr, is_coming, is_from, is_key, is_late, is_smaller, IsTrue, known, leaves, left, length, List, made, made_of, made_whole, message_by, MessageRecord, nat_eq, newly, None, open_ask, OpenBroadcast, Option, option_map, option_or, packs, pgn_of, ps_of, Question, receiver_at, Reception, reception, ReceptionRecord, RecvResult, refl, said_to, says_to, seeks, shown, since_in, Some, source_of, sym, time_heard, transport_data_group, true, waiting, Who, whole, whole_by, whole_of, ℕ}
+use Rattle.j39_node.proofs.Common.{if◌then◌else◌, ◌&&◌, ◌<◌, ◌==◌, ◌||◌, ◌↔◌, ◌∙◌, ◌∷◌, ◌≡◌, ◌⊎◌, and_from, and_parts, Answered, ap, arith, At, Bool, by, Call, claim_of, comes, destination_of, eq-eqb, eqb-true, false, found, FrameRecord, grown, has_place, Hear, hearing, holder, holds, in_broadcast, in_session, inl, inr, is_coming, is_from, is_key, is_late, is_smaller, IsTrue, known, leaves, left, length, List, made, made_of, made_whole, message_by, MessageRecord, nat_eq, newly, None, open_ask, OpenBroadcast, Option, option_map, option_or, packs, pgn_of, ps_of, Question, receiver_at, Reception, reception, ReceptionRecord, RecvResult, refl, said_to, says_to, seeks, shown, since_in, Some, source_of, sym, time_heard, transport_data_group, true, waiting, Who, whole, whole_by, whole_of, ℕ, or-true}
 use Rattle.j39_node.specs.Hearing.{begun, is_over, is_whole as is_full}
 use Rattle.j39_transport.specs.Frames as frames
 use Rattle.j39_node.proofs.HearingLaws.{begun_open, whole_is, whole_of_left, none_is as not_both}
@@ -9,13 +9,9 @@ use Rattle.j39_node.proofs.ReceptionLaws.{goes_there, not_said}
 
 -- ---- a message of the group, from whom was asked, answers
 
-or_true : (b : Bool) → (b || true) ≡ true
-or_true true = refl
-or_true false = refl
-
 seeks_by : (q : Question) (source group : ℕ) → group ≡ q.group → (q.to ≡ 255) ⊎ (source ≡ q.to) → seeks q (Some (source, group)) ≡ true
 seeks_by q source group g (inl a) = λ i. eq-eqb _ _ g i && (eq-eqb _ _ a i || nat_eq source q.to)
-seeks_by q source group g (inr a) = (λ i. eq-eqb _ _ g i && (nat_eq q.to 255 || eq-eqb _ _ a i)) ∙ or_true (nat_eq q.to 255)
+seeks_by q source group g (inr a) = (λ i. eq-eqb _ _ g i && (nat_eq q.to 255 || eq-eqb _ _ a i)) ∙ or-true (nat_eq q.to 255)
 
 answers_by : (w : Who) (q : Question) (f : FrameRecord) (m : MessageRecord) (o : Option (ℕ × ℕ)) → o ≡ Some (m.source, m.pgn) → m.pgn ≡ q.group
     → (q.to ≡ 255) ⊎ (m.source ≡ q.to) → says_to w q f o ≡ Some Answered
@@ -138,4 +134,4 @@ comes_means w H time q o = (
         (λ z. is_coming (o z) (in_session (reception w H).session) (in_broadcast time (i z)))
         ∙ ((λ z. is_from q (in_session (reception w H).session) || seeks q (if n z || l z then None else Some (x.source, x.group)))
         ∙ (ap (λ (b : Bool). is_from q (in_session (reception w H).session) || b) (seeks_by q x.source x.group g a)
-        ∙ or_true (is_from q (in_session (reception w H).session))))
+        ∙ or-true (is_from q (in_session (reception w H).session))))

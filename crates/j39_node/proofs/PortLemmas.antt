@@ -1,9 +1,10 @@
 -- The open transfer of an answered history goes from the address to another's.
-use Rattle.j39_node.proofs.Common.{[], if◌then◌else◌, ◌<◌, ◌||◌, ◌∙◌, ◌∷◌, ◌≡◌, ◌⊎◌, aborted, address_after, after, answer_to_transfer, ap, AreAnswered, arith, At, BadValue, Bool, both, Call, can_broadcast, can_transfer, Claims, clock_at, Err, Failed, false, FrameRecord, Full, gives_up, group_with, Hear, hears, hears_if, holder, holder_in, holds, IfSome, inl, inr, is_engaged, is_lost, is_move, is_replaced, is_resting, is_running, is_some, is_spent, Knows, length, List, listens, ltb-true, Message, min, nat_eq, nat_lt, new_sender, NoAddress, None, Ok, open_transfer, Option, option_map, Packet, PortRecord, refl, Refused, Resting, resting, Result, Running, said_between, says, send_step, SenderRecord, SendEvent, sends, sends_if, Signal, signal_by, Some, subst, sym, TakeFrame, TakeTransferEnded, told_claims, Transfer, transfer_by, transfers, transport_control_group, transport_data_group, true, Who, ℕ}
+use Rattle.j39_node.proofs.Common.{[], if◌then◌else◌, ◌<◌, ◌||◌, ◌∙◌, ◌∷◌, ◌≡◌, ◌⊎◌, aborted, address_after, after, answer_to_transfer, ap, AreAnswered, arith, At, Bool, both, Call, can_broadcast, Claims, clock_at, Failed, false, FrameRecord, gives_up, group_with, Hear, hears, hears_if, holder, holder_in, IfSome, inl, inr, is_lost, is_move, is_replaced, is_running, is_some, is_spent, Knows, List, listens, ltb-true, Message, min, nat_eq, nat_lt, new_sender, None, Ok, open_transfer, Option, option_map, Packet, PortRecord, refl, Resting, resting, Running, said_between, says, send_step, SenderRecord, SendEvent, sends, sends_if, Signal, signal_by, Some, subst, sym, TakeFrame, TakeTransferEnded, told_claims, Transfer, transfer_by, transport_control_group, transport_data_group, true, Who, ℕ}
 use Rattle.j39_transport.specs.Sending.{Heard, Tick}
 use Rattle.j39_transport.specs.Sending as sending
 use Rattle.j39_transport.proofs.SenderLemmas.{ticked, hears_signal}
 use Rattle.j39_node.proofs.ReceptionLemmas.{table_is}
+use Rattle.j39_node.proofs.AnswerCases.{transfer_accepts}
 
 -- ---- a step keeps message and destination
 
@@ -16,29 +17,6 @@ pub keeps : (s : SenderRecord) (e : SendEvent) (now : ℕ) → ((send_step s e n
 unfolding send_step
 keeps s Tick now = let h = ticked s s.state now refl in (h.message_is, h.destination_is)
 keeps s (Heard f) now = keeps_heard s (said_between s.destination s.message.source f) now
-
--- ---- what transfer answers
-
-pub data TransferCase (w : Who) (H : List Call) (now group to : ℕ) (bytes : List ℕ) (answer : Result ℕ Refused) : Type 0 where
-  homeless : holds w H now ≡ false → answer ≡ Err NoAddress → TransferCase w H now group to bytes answer
-  unfit : holds w H now ≡ true → can_transfer w group to bytes ≡ false → answer ≡ Err BadValue → TransferCase w H now group to bytes answer
-  busy : holds w H now ≡ true → can_transfer w group to bytes ≡ true → (is_engaged (open_transfer w H) (length (transfers w H)) || is_resting w H now group to) ≡ true → answer ≡ Err Full
-      → TransferCase w H now group to bytes answer
-  opens : holds w H now ≡ true → can_transfer w group to bytes ≡ true → (is_engaged (open_transfer w H) (length (transfers w H)) || is_resting w H now group to) ≡ false
-      → answer ≡ Ok (length (transfers w H)) → TransferCase w H now group to bytes answer
-
-pub transfer_case : (w : Who) (H : List Call) (now group to : ℕ) (bytes : List ℕ) (answer : Result ℕ Refused) → answer ≡ answer_to_transfer w H now group to bytes
-    → TransferCase w H now group to bytes answer
-transfer_case w H now group to bytes answer e =
-    go (holds w H now) (can_transfer w group to bytes) (is_engaged (open_transfer w H) (length (transfers w H)) || is_resting w H now group to) refl refl refl e
-  where
-    go : (x y z : Bool) → holds w H now ≡ x → can_transfer w group to bytes ≡ y → (is_engaged (open_transfer w H) (length (transfers w H)) || is_resting w H now group to) ≡ z
-        → answer ≡ (if x then (if y then (if z then Err Full else Ok (length (transfers w H))) else Err BadValue) else Err NoAddress)
-        → TransferCase w H now group to bytes answer
-    go false y z p q r i = homeless p i
-    go true false z p q r i = unfit p q i
-    go true true true p q r i = busy p q r i
-    go true true false p q r i = opens p q r i
 
 -- ---- between which addresses the open transfer goes
 
@@ -97,13 +75,11 @@ ported_sends w true now (Some t) h = between_same w _ t (sends_same now t) h
 not_all : (n : ℕ) → n < 254 → nat_eq n 255 ≡ false
 not_all n e = grind arith
 
-ported_opens : (w : Who) (H : List Call) (now group to k : ℕ) (bytes : List ℕ) → TransferCase w H now group to bytes (Ok k)
+ported_opens : (w : Who) (H : List Call) (now group to k : ℕ) (bytes : List ℕ) → Ok k ≡ answer_to_transfer w H now group to bytes
     → Ported w (open_transfer w (At now (Transfer group to bytes (Ok k)) ∷ H))
 unfolding new_sender
-ported_opens w H now group to k bytes (homeless a e) = absurd (cc)
-ported_opens w H now group to k bytes (unfit a b e) = absurd (cc)
-ported_opens w H now group to k bytes (busy a b f e) = absurd (cc)
-ported_opens w H now group to k bytes (opens a b f e) =
+ported_opens w H now group to k bytes e =
+    let b = (transfer_accepts w H now group to k bytes e).1 in
     record { source = refl; directed = ltb-true _ _ (both (nat_lt to 254) _ (both (can_broadcast group bytes) _ b).1).0 }
 
 pub ported : (w : Who) (H : List Call) → AreAnswered w H → Ported w (open_transfer w H)
@@ -112,7 +88,7 @@ ported w (At when (Hear f) ∷ H) e =
     ported_hears w (is_lost (address_after w (At when (Hear f) ∷ H))) (λ a. is_replaced (holder w H a) (holder w (At when (Hear f) ∷ H) a)) f (clock_at H when) (open_transfer w H)
     (ported w H e.0)
 ported w (At now (TakeFrame (Some f)) ∷ H) e = ported_sends w (is_move w H f) (clock_at H now) (open_transfer w H) (ported w H e.0)
-ported w (At now (Transfer group to bytes (Ok k)) ∷ H) e = ported_opens w H now group to k bytes (transfer_case w H now group to bytes (Ok k) e.1)
+ported w (At now (Transfer group to bytes (Ok k)) ∷ H) e = ported_opens w H now group to k bytes e.1
 ported w (TakeTransferEnded (Some x) ∷ H) e = tt
 ported w (call ∷ H) e = ported w H e.0
 

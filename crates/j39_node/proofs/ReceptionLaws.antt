@@ -1,5 +1,5 @@
 -- The laws of messages that come in packets.
-use Rattle.j39_node.proofs.Common.{[], if◌then◌else◌, ◌%◌, ◌&&◌, ◌++◌, ◌+◌, ◌-◌, ◌/◌, ◌<◌, ◌==◌, ◌||◌, ◌↔◌, ◌∙◌, ◌∷◌, ◌≡◌, ◌≢◌, ◌≤◌, ◌⊎◌, Abort, Acknowledge, acknowledged, Acknowledgment, Address, address_after, address_claimed_group, Again, and_parts, answer_in, answers, ap, append-nil, append_assoc, AreReceived, arith, Ask, asks_again, At, Bool, BoxedReceiver, Broadcast, BroadcastAnnounce, bytes_with, Call, CameFromOne, Claim, claim_of, Claimed, ClearToSend, cond_both, Controller, delivered, destination_of, Directed, drop, due, eq-eqb, eqb-true, false, FrameRecord, frames_heard, got_transfers, granted_at, grants, group_of, has_place, has_some, Hear, Heard, heard_at, heard_by, held_then, holder, holds, inl, inr, Is, is_acknowledgment, is_claim, is_held, is_lost, is_move, is_over, is_overdue, is_packet, is_reply, is_same, is_session, is_smaller, is_some, is_taken, is_that, is_transfer, IsApart, IsReceived, IsTrue, keeps, KeepsHolder, known, known_by, later, leaves, left, length, limit_in, limit_of, List, listed, little_bytes, longest, Lost, lt-ltb, ltb-false, ltb-true, made_by, made_of, Message, message_of, MessageRecord, moment, Move, nat_eq, nat_lt, next_acknowledgment, None, not, NotClaimed, of_other, older, open_broadcast, Option, option_map, Packet, packets, partner_of, pause, pf_of, pgn_of, ps_of, quiet, Reaction, ready, receiver_at, ReceiverRecord, ReceiverStandsFor, Reception, reception, ReceptionRecord, recv_step, RecvResult, refl, released_by, ReleaseTransfer, replied, reply_from, RequestToSend, result_of, said_between, said_to, says_by, Send, session_tick, shown, Signal, since_by, Single, slice_get, Some, source_of, stamp_at, step, step_at, subst, suc, sym, TakeFrame, taken_by, takes, takes_abort, takes_data, takes_request, takes_signal, takes_tick, Tick, tick_at, ticked, ticked_at, Ticks, time_heard, ToSend, Transfer, transport_control_group, transport_data_group, true, WereHanded, Who, whole, whole_by, without, written, yields, ℕ}
+use Rattle.j39_node.proofs.Common.{[], if◌then◌else◌, ◌%◌, ◌&&◌, ◌++◌, ◌+◌, ◌-◌, ◌/◌, ◌<◌, ◌==◌, ◌||◌, ◌↔◌, ◌∙◌, ◌∷◌, ◌≡◌, ◌≢◌, ◌≤◌, ◌⊎◌, Abort, acknowledged, Acknowledgment, Address, address_after, address_claimed_group, Again, and_parts, answer_in, answers, ap, append-nil, append_assoc, AreReceived, arith, asks_again, At, Bool, BoxedReceiver, BroadcastAnnounce, bytes_with, Call, CameFromOne, Claim, claim_of, Claimed, ClearToSend, cond_both, Controller, delivered, destination_of, Directed, drop, due, eq-eqb, eqb-true, false, FrameRecord, frames_heard, got_transfers, granted_at, grants, group_of, has_place, has_some, Hear, Heard, heard_at, heard_by, held_then, holder, holds, inl, inr, Is, is_acknowledgment, is_claim, is_held, is_lost, is_move, is_over, is_overdue, is_reply, is_same, is_session, is_smaller, is_some, is_taken, is_that, is_transfer, IsApart, IsReceived, IsTrue, keeps, KeepsHolder, known, known_by, later, leaves, left, length, limit_in, limit_of, List, listed, little_bytes, longest, Lost, lt-ltb, ltb-false, ltb-true, made_by, made_of, Message, message_of, MessageRecord, moment, Move, nat_eq, nat_lt, next_acknowledgment, None, not, NotClaimed, older, open_broadcast, Option, option_map, Packet, packets, partner_of, pause, pf_of, pgn_of, ps_of, quiet, Reaction, ready, receiver_at, ReceiverRecord, ReceiverStandsFor, Reception, reception, ReceptionRecord, recv_step, RecvResult, refl, released_by, ReleaseTransfer, replied, reply_from, RequestToSend, result_of, said_between, said_to, says_by, session_tick, shown, Signal, since_by, Single, slice_get, Some, source_of, stamp_at, step, step_at, subst, suc, sym, TakeFrame, taken_by, takes, takes_abort, takes_data, takes_request, takes_signal, takes_tick, Tick, tick_at, ticked, ticked_at, Ticks, time_heard, ToSend, transport_control_group, transport_data_group, true, WereHanded, Who, whole, whole_by, without, written, yields, ℕ, not-false}
 use Rattle.j39_transport.specs.Reception.{begun as opens}
 use Rattle.j39_transport.specs.ReceiverStands.{passed}
 use Rattle.j39_transport.specs.Signals.{said_by}
@@ -161,10 +161,7 @@ not_left before after None b r e f g = absurd (cc)
 not_left before after (Some x) b r e f g =
     let z : x ≡ r = cc in
     subst (λ (y : ReceptionRecord). after y.message.source ≡ before y.message.source) z
-    (same_is (before x.message.source) (after x.message.source) (flip (is_same (before x.message.source) (after x.message.source)) (e ∙ f)))
-  where
-    flip : (c : Bool) → not c ≡ false → c ≡ true
-    flip c e = grind (arith, e)
+    (same_is (before x.message.source) (after x.message.source) (not-false (is_same (before x.message.source) (after x.message.source)) (e ∙ f)))
 
 -- ---- a step of the receiver
 
@@ -184,10 +181,7 @@ stands_heard E r f now found h =
     new = record { state = (recv_step r (Heard f) now found).after; has_box = has_some (recv_step r (Heard f) now found).after.session || false }
 
 pub is_of : (x : ReceptionRecord) (source : ℕ) → is_taken source (Some x) ≡ false → source ≡ x.message.source
-is_of x source e = eqb-true _ _ (flip (source == x.message.source) e)
-  where
-    flip : (c : Bool) → not c ≡ false → c ≡ true
-    flip c e = grind (arith, e)
+is_of x source e = eqb-true _ _ (not-false (source == x.message.source) e)
 
 -- it keeps the source of a session that stays, and what it delivers is of that source
 pub record Kept (x : ReceptionRecord) (y : RecvResult) : Type 0 where
@@ -425,12 +419,8 @@ pub taken_rest : (w : Who) (H : List Call) (now : ℕ) (f : FrameRecord) → is_
     → (reception w (At now (TakeFrame (Some f)) ∷ H)).replies ≡ drop 1 (reception w H).replies
 taken_rest w H now f k t m = ap (λ (r : Reception). r.replies) (taken_is w H now f false true k (λ i. t i && is_it i))
   where
-    flip : (b : Bool) → not b ≡ false → b ≡ true
-    flip true i = refl
-    flip false i = absurd (cc)
-
     is_it : is_that (message_of f) (slice_get (reception w H).replies 0) ≡ true
-    is_it = flip _ (sym (ap (λ (b : Bool). b && not (is_that (message_of f) (slice_get (reception w H).replies 0))) t) ∙ m)
+    is_it = not-false _ (sym (ap (λ (b : Bool). b && not (is_that (message_of f) (slice_get (reception w H).replies 0))) t) ∙ m)
 
 pub others_taken : (w : Who) (H : List Call) (now : ℕ) (f : FrameRecord) → is_claim f ≡ false → (is_transfer f ≡ false) ⊎ IsTrue (is_move w H f)
     → (reception w (At now (TakeFrame (Some f)) ∷ H)).replies ≡ (reception w H).replies

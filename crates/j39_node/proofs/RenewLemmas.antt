@@ -1,5 +1,5 @@
 -- A message that waits is renewed.
-use Rattle.j39_node.proofs.Common.{[], if◌then◌else◌, ◌&&◌, ◌++◌, ◌+◌, ◌-◌, ◌<◌, ◌∙◌, ◌∷◌, ◌≡◌, ◌≢◌, ◌≤◌, ◌⊎◌, and_parts, ap, arith, Bool, drop, false, inl, inr, is_alike, latest, length, length-set, length-take-le, List, map, Message, nat_eq, nat_le, None, not, Option, option_map, Outgoing, posted, refill, refl, request_group, slice_get, slice_index_or, slice_set, Some, suc, sym, take, take-append_seam, take-suc, true, zero, ℕ}
+use Rattle.j39_node.proofs.Common.{[], if◌then◌else◌, ◌&&◌, ◌++◌, ◌+◌, ◌-◌, ◌<◌, ◌∙◌, ◌∷◌, ◌≡◌, ◌≢◌, ◌≤◌, ◌⊎◌, and_parts, ap, arith, Bool, drop, false, inl, inr, is_alike, latest, length, length-set, length-take-le, List, map, Message, nat_eq, nat_le, None, not, Option, option_map, Outgoing, posted, refill, refl, request_group, slice_get, slice_index_or, slice_set, Some, suc, sym, take, take-append_seam, take-suc, true, zero, ℕ, leb-true, le-leb}
 use Rattle.j39_node.proofs.QueueLemmas.{length_map, map_append}
 
 -- the last that is alike, one more
@@ -35,16 +35,13 @@ pub latest_is : (m : Message) (n i k : ℕ) (xs : List (ℕ × Message)) (o : Op
 latest_is m n i k [] o e = inl e
 latest_is m n i k (x ∷ xs) o e = go (nat_le n i && is_alike m x.1) refl (latest_is m n (suc i) k xs _ e)
   where
-    le_is : (a b : ℕ) → nat_le a b ≡ true → a ≤ b
-    le_is a b f = grind arith
-
     at_head : (b : Bool) → (nat_le n i && is_alike m x.1) ≡ b → (if b then Some i else o) ≡ Some k → (o ≡ Some k) ⊎ IsLatest m n i k (x ∷ xs)
     at_head false f g = inl g
     at_head true f g =
         let z : i ≡ k = cc in let p = and_parts _ _ f in
         inr (record {
           entry = x;
-          from = (let l = le_is n i p.0 in omega (arith, l, z));
+          from = (let l = leb-true n i p.0 in omega (arith, l, z));
           past = omega (arith, z);
           is = ap (slice_get (x ∷ xs)) (let y : k - i ≡ 0 = omega (arith, z) in y);
           alike = p.1;
@@ -77,10 +74,7 @@ latest_past m n i j [] o y e l a = absurd (cc)
 latest_past m n i zero (x ∷ xs) o y e l a =
     let r = latest_keeps m n (suc i) i xs (omega arith) in
     let z : x ≡ y = cc in
-    (r.0, (λ t. latest m n (suc i) xs (if le_true n i (omega (arith, l)) t && (ap (λ (u : ℕ × Message). is_alike m u.1) z ∙ a) t then Some i else o)) ∙ r.1, (let b = r.2 in omega (arith, b)))
-  where
-    le_true : (a b : ℕ) → a ≤ b → nat_le a b ≡ true
-    le_true a b f = grind (arith, f)
+    (r.0, (λ t. latest m n (suc i) xs (if le-leb n i (omega (arith, l)) t && (ap (λ (u : ℕ × Message). is_alike m u.1) z ∙ a) t then Some i else o)) ∙ r.1, (let b = r.2 in omega (arith, b)))
 latest_past m n i (suc j) (x ∷ xs) o y e l a =
     let r = latest_past m n (suc i) j xs (if nat_le n i && is_alike m x.1 then Some i else o) y e (omega (arith, l)) a in (r.0, r.1, (let b = r.2 in omega (arith, b)))
 

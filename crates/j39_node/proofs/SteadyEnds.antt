@@ -1,21 +1,20 @@
 -- That every transfer ends, to a driver that takes one frame at least in each g.
-use Rattle.j39_node.proofs.Common.{[], if◌then◌else◌, ◌&&◌, ◌*◌, ◌++◌, ◌+◌, ◌-◌, ◌<◌, ◌||◌, ◌∙◌, ◌∷◌, ◌≡◌, ◌≤◌, ◌⊎◌, Abort, aborted, accepted, acknowledged, address_after, Again, age, all_transfers, and_parts, ap, AreAnswered, arith, At, begun, Bool, broadcast_from, Call, claims_anew, clears, clock_at, cond_both, Controller, counts_for, destination_of, due, eq-eqb, eqb-true, false, FrameRecord, gives_up, granted_by, Hear, hears, hears_if, holder, holds, inl, inr, Is, is_acknowledgment, is_apart, is_claim, is_engaged, is_held, is_idle, is_lost, is_move, is_replaced, is_reply, is_resting, is_running, is_same, is_session, is_some, is_spent, is_that, is_there, is_transfer, IsAnswered, IsSteady, length, List, listens, Message, message_of, MessageRecord, moment, Move, nat_eq, nat_lt, new_sender, next_frame, next_other, next_transfer, next_transfer_ended, None, NoneTold, not, Ok, open_broadcast, open_transfer, Option, option_map, other, packets, packets_of, passed_in, pause, reached, ready, reception, refl, Reply, Running, says, send_step, SenderRecord, sends, sends_if, sent, Signal, signal_by, since_take, slice_get, Some, step, subst, suc, sym, TakeFrame, taken_for, TakeTransferEnded, tells_transfer, ticks_in, timer_t3, Transfer, transfer_by, transfer_end, TransferEnding, true, turns, Who, yields, ℕ}
+use Rattle.j39_node.proofs.Common.{[], if◌then◌else◌, ◌&&◌, ◌*◌, ◌++◌, ◌+◌, ◌-◌, ◌<◌, ◌||◌, ◌∙◌, ◌∷◌, ◌≡◌, ◌≤◌, ◌⊎◌, Abort, aborted, acknowledged, address_after, Again, age, all_transfers, and_parts, ap, AreAnswered, arith, At, begun, Bool, broadcast_from, Call, claims_anew, clears, clock_at, cond_both, Controller, counts_for, destination_of, due, eq-eqb, eqb-true, false, FrameRecord, gives_up, granted_by, Hear, hears, hears_if, holder, holds, inl, inr, Is, is_acknowledgment, is_apart, is_claim, is_engaged, is_held, is_idle, is_lost, is_move, is_replaced, is_reply, is_resting, is_running, is_same, is_session, is_some, is_spent, is_that, is_there, is_transfer, IsAnswered, IsSteady, length, List, listens, Message, MessageRecord, moment, Move, nat_eq, nat_lt, new_sender, next_frame, next_other, next_transfer, next_transfer_ended, None, NoneTold, not, Ok, open_broadcast, open_transfer, Option, option_map, other, packets, packets_of, passed_in, pause, ready, reception, refl, Reply, Running, says, send_step, SenderRecord, sends, sends_if, Signal, signal_by, since_take, slice_get, Some, step, subst, suc, sym, TakeFrame, taken_for, TakeTransferEnded, tells_transfer, ticks_in, timer_t3, Transfer, transfer_by, transfer_end, TransferEnding, true, turns, Who, yields, ℕ, answer_to_transfer, not_both, not-false}
 use Rattle.j39_transport.specs.Sending.{Tick}
 use Rattle.j39_node.specs.Transfers.{said_to}
 use Rattle.j39_node.proofs.EndLaws.{Over, ended_aborted, over_hears, over_sends, running_of, tells}
 use Rattle.j39_node.proofs.EndSteps.{heard_case, times_more}
 use Rattle.j39_node.proofs.MoveLemmas.{Sent, hears_token, sent_case}
-use Rattle.j39_node.proofs.PortLemmas.{TransferCase, hears_same, sends_same, transfer_case}
-use Rattle.j39_node.proofs.PortLemmas.TransferCase.{homeless, unfit, busy, opens}
+use Rattle.j39_node.proofs.PortLemmas.{hears_same, sends_same}
 use Rattle.j39_node.proofs.PromptLaws.{answered_from, keeps_heard, keeps_taken, lost_heard, lost_taken}
-use Rattle.j39_node.proofs.LawLemmas.{not_both}
 use Rattle.j39_node.proofs.ReceptionLemmas.{replied_get, tidy, no_reply}
-use Rattle.j39_node.proofs.SoundLemmas.{acknowledgment_single, FrameCase, IsTurn, claim_single, claim_taken, due_get, due_taken, frame_case, held_older, is_directed, lost_older, message_taken, no_transfer, none_next, none_other, own_of, packet_session, packet_taken, plain_taken, reply_taken, single_taken, sound, transfer_taken, turned, reply_is}
+use Rattle.j39_node.proofs.SoundLemmas.{acknowledgment_single, FrameCase, claim_single, claim_taken, due_get, due_taken, frame_case, held_older, is_directed, lost_older, message_taken, no_transfer, none_next, none_other, own_of, packet_session, packet_taken, plain_taken, reply_taken, single_taken, sound, transfer_taken, turned, reply_is}
 use Rattle.j39_node.proofs.SoundLemmas.FrameCase.{claims, acknowledges, replies, sends as sends_one, packs, transfers}
 use Rattle.j39_node.proofs.SteadyLaws.{few_turns, held_holds, one, since_most, steers, turns_then}
 use Rattle.j39_node.proofs.SteadySteps.{Account, Late, Listened, account_goes, account_holds, account_passes, account_rests, account_steers, due_late, heard_late, most, no_older, none_late, passes, ticked_late}
 use Rattle.j39_node.proofs.SteadySteps.Listened.{over as ends_so, kept, held as holds_on}
 use Rattle.j39_node.proofs.TransferLaws.{Budgeted, BudgetedIf, budgeted}
+use Rattle.j39_node.proofs.AnswerCases.{transfer_accepts}
 
 -- ---- what a frame that isn't one of the open transfer costs
 
@@ -86,12 +85,8 @@ kind_of w to H now f right (replies m o h n g e) away = go (is_some (destination
         apart z = not_both _ x (ap (λ (y : Option ℕ). is_some y to) there
             ∙ same_to d.1.0.destination m.destination (and_parts (is_same d.1.0.destination m.destination) _ (and_parts (nat_eq d.1.0.group m.group) _ that).1).0 d.1.2)
           where
-            flip : (b : Bool) → not b ≡ false → b ≡ true
-            flip true i = refl
-            flip false i = absurd (cc)
-
             that : is_that d.1.0 (Some m) ≡ true
-            that = flip _ (sym (λ i. is_apart (d.1.1 i) (g i)) ∙ z)
+            that = not-false _ (sym (λ i. is_apart (d.1.1 i) (g i)) ∙ z)
 
         by : (y : Bool) → (y && ((ready w H now).message || ((ready w H now).packet || (ready w H now).transfer))) ≡ false → y ≡ false
         by false z = refl
@@ -524,12 +519,9 @@ module _ (w : Who) (B : List Call) (g k to : ℕ) (m : MessageRecord) where
   }
 
   -- no other is accepted
-  none_begins : (later : List Call) (now group to j : ℕ) (bytes : List ℕ) → Stands later → TransferCase w (later ++ B) now group to bytes (Ok j) → ⊥
-  none_begins later now group to j bytes h (homeless a e) = absurd (cc)
-  none_begins later now group to j bytes h (unfit a b e) = absurd (cc)
-  none_begins later now group to j bytes h (busy a b f e) = absurd (cc)
-  none_begins later now group to j bytes h (opens a b f e) =
-      let z : true ≡ false = sym (ap (λ (x : Option Running). is_engaged x (length (all_transfers w (later ++ B))) || is_resting w (later ++ B) now group to) h.is) ∙ f in absurd (cc)
+  none_begins : (later : List Call) (now group to j : ℕ) (bytes : List ℕ) → Stands later → Ok j ≡ answer_to_transfer w (later ++ B) now group to bytes → ⊥
+  none_begins later now group to j bytes h a = not_both _ (transfer_accepts w (later ++ B) now group to j bytes a).2
+      (ap (λ (x : Option Running). is_engaged x (length (all_transfers w (later ++ B))) || is_resting w (later ++ B) now group to) h.is)
 
   one_more : (call : Call) (later : List Call) → AreAnswered w (later ++ B) → IsAnswered w (later ++ B) call → tells_transfer call ≡ false
       → (since_take later B + step (later ++ B) (moment (call ∷ later ++ B)) ≤ g) × (claims_anew call ≡ false) → limit g (packets_of m) (taken_for to later) < 9000000000000000 → Stands later → Stands (call ∷ later)
@@ -538,7 +530,7 @@ module _ (w : Who) (B : List Call) (g k to : ℕ) (m : MessageRecord) where
   one_more (At now (TakeFrame None)) later right a n p short h = takes_no_frame now later a p.0 short h
   one_more (At now Again) later right a n p short h = absurd (let z : true ≡ false = p.1 in cc)
   one_more (At now (Transfer group at bytes (Ok j))) later right a n p short h =
-      absurd (none_begins later now group at j bytes h (transfer_case w (later ++ B) now group at bytes (Ok j) a))
+      absurd (none_begins later now group at j bytes h a)
   one_more (TakeTransferEnded (Some x)) later right a n p short h = absurd (let z : true ≡ false = n in cc)
   one_more call later right a n p short h =
       rests_with call later refl (omega arith) refl refl refl refl
@@ -596,7 +588,7 @@ unfolding new_sender
 transfer_goes w later earlier c g now group to k bytes is none steady short l =
     let B = At now (Transfer group to bytes (Ok k)) ∷ earlier in
     let m = broadcast_from w group bytes in
-    let fit = accepted_so (transfer_case w earlier now group to bytes (Ok k) ((answered_from w later B is.answered).1)) in
+    let fit = (transfer_accepts w earlier now group to k bytes (answered_from w later B is.answered).1).0 in
     ends_then w B g k to m later
     (stands w B g k to m later is.answered none steady short (record {
       running = begun k m to;
@@ -609,9 +601,3 @@ transfer_goes w later earlier c g now group to k bytes is none steady short l =
           (record { base_most = omega arith; all_most = omega arith; paid_most = omega arith; streak_most = omega arith; few = omega arith });
     }))
     l (since_most g later B steady)
-  where
-    accepted_so : TransferCase w earlier now group to bytes (Ok k) → is_held (address_after w (At now (Transfer group to bytes (Ok k)) ∷ earlier)) ≡ true
-    accepted_so (homeless a e) = absurd (cc)
-    accepted_so (unfit a b e) = absurd (cc)
-    accepted_so (busy a b f e) = absurd (cc)
-    accepted_so (opens a b f e) = a

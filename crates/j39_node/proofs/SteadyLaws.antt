@@ -1,18 +1,17 @@
 -- A driver that takes one frame at least in each g: how long a frame of a broadcast and a message wait, whoever asks.
-use Rattle.j39_node.proofs.Common.{[], if◌then◌else◌, ◌&&◌, ◌*◌, ◌++◌, ◌+◌, ◌-◌, ◌<◌, ◌||◌, ◌∙◌, ◌∷◌, ◌≡◌, ◌≤◌, ◌⊎◌, accepted, add-mul, address_after, Again, and_from, and_parts, ap, AreAnswered, arith, At, Bool, Broadcast, broadcast_from, broadcasts, Call, claim_goes, claims_anew, Controller, due, Ending, eq-eqb, eqb-true, false, FrameRecord, gives_way, has_packets, Hear, holds, inl, inr, Is, is_acknowledgment, is_claim, is_held, is_left, is_lost, is_open, is_overdue, is_packet, is_reply, is_session, is_there, is_transfer, is_turn, IsAnswered, IsPrompt, IsSteady, IsTrue, length, List, lt-ltb, marks, Message, message_of, MessageRecord, moment, Move, nat_eq, nat_le, nat_lt, next_broadcast_ended, next_ended, next_frame, next_other, next_turn, None, NoneTold, not, Ok, older, open_broadcast, Option, other, packets, packets_of, packets_taken, passed_in, pause, reached, Ready, ready, reception, refl, Reply, sent, since_take, Single, slice_get, Some, StaysFirst, step, subst, suc, suc-mul, sym, TakeBroadcastEnded, TakeFrame, takes_reply, tells_broadcast, told, true, turn_of, turns, waited_in, Who, yields, zero, ℕ}
+use Rattle.j39_node.proofs.Common.{[], if◌then◌else◌, ◌&&◌, ◌*◌, ◌++◌, ◌+◌, ◌-◌, ◌<◌, ◌||◌, ◌∙◌, ◌∷◌, ◌≡◌, ◌≤◌, ◌⊎◌, accepted, add-mul, address_after, Again, and_from, and_parts, ap, AreAnswered, arith, At, Bool, Broadcast, broadcast_from, broadcasts, Call, claims_anew, Controller, due, Ending, eq-eqb, false, FrameRecord, gives_way, has_packets, Hear, holds, inl, inr, Is, is_acknowledgment, is_claim, is_held, is_left, is_lost, is_open, is_overdue, is_packet, is_reply, is_session, is_there, is_turn, IsAnswered, IsPrompt, IsSteady, IsTrue, length, List, lt-ltb, marks, Message, message_of, MessageRecord, moment, Move, nat_eq, nat_le, nat_lt, next_broadcast_ended, next_ended, next_frame, next_other, None, NoneTold, not, Ok, open_broadcast, Option, other, packets, packets_of, packets_taken, passed_in, pause, reached, Ready, ready, reception, refl, Reply, since_take, Single, slice_get, Some, StaysFirst, step, subst, suc, suc-mul, sym, TakeBroadcastEnded, TakeFrame, takes_reply, tells_broadcast, told, true, turn_of, turns, waited_in, Who, yields, zero, ℕ, answer_to_broadcast, not_both, ltb-false, leb-true, leb-false, or_parts, not-true}
 use Rattle.j39_node.specs.declared.turn.Turn.TheVariants.{Packet}
 use Rattle.j39_node.proofs.EndSteps.{times_more}
 use Rattle.j39_node.proofs.WithdrawLemmas.{past_more}
 use Rattle.j39_node.proofs.LaneLaws.{overdue_goes_by, taken_packet_of}
-use Rattle.j39_node.proofs.LaneLemmas.{BroadcastCase, broadcast_case}
-use Rattle.j39_node.proofs.LaneLemmas.BroadcastCase.{homeless, unfit, busy, opens}
-use Rattle.j39_node.proofs.LawLemmas.{not_both, past_end}
+use Rattle.j39_node.proofs.LawLemmas.{past_end}
 use Rattle.j39_node.proofs.MessageLaws.{accepts_more, told_next, more_sent}
 use Rattle.j39_node.proofs.PromptLaws.{answered_from, ends_by, keeps_heard, keeps_taken, lost_heard, lost_taken, pause_most}
 use Rattle.j39_node.proofs.QueueLemmas.{length_one_more}
 use Rattle.j39_node.proofs.ReceptionLemmas.{replied_get, tidy, no_reply}
-use Rattle.j39_node.proofs.SoundLemmas.{FrameCase, IsTurn, acknowledgment_single, address_is, claim_single, claim_taken, due_get, due_taken, frame_case, frame_there, held_older, is_directed, lost_older, message_taken, no_packet, no_transfer, none_next, none_other, own_of, packet_session, packet_taken, packets_is, pause_is, plain_taken, reply_taken, sent_is, single_taken, some_at, sound, turned, reached_is, reply_is, none_at}
+use Rattle.j39_node.proofs.SoundLemmas.{FrameCase, IsTurn, acknowledgment_single, claim_single, claim_taken, due_get, due_taken, frame_case, frame_there, held_older, is_directed, lost_older, message_taken, no_packet, no_transfer, none_next, none_other, own_of, packet_session, packet_taken, packets_is, pause_is, plain_taken, reply_taken, single_taken, some_at, sound, turned, reached_is, reply_is, none_at}
 use Rattle.j39_node.proofs.SoundLemmas.FrameCase.{claims, acknowledges, replies, sends, packs, transfers}
+use Rattle.j39_node.proofs.AnswerCases.{broadcast_accepts}
 
 -- ---- of three frames one is neither a claim nor an acknowledgment
 
@@ -28,11 +27,7 @@ few_turns w H now f case there (inr g) e = absurd (not_both _ g e)
 -- a claim or an acknowledgment is taken where it doesn't give way
 pub steers : (w : Who) (H : List Call) (now : ℕ) (f : FrameRecord) → AreAnswered w H → FrameCase w H now f
     → (gives_way w H now ≡ false) ⊎ ((is_claim f || is_acknowledgment f) ≡ false)
-steers w H now f right (claims o e) = inl (off (gives_way w H now) (and_parts _ (not (gives_way w H now)) o).1)
-  where
-    off : (b : Bool) → not b ≡ true → b ≡ false
-    off true z = absurd (cc)
-    off false z = refl
+steers w H now f right (claims o e) = inl (not-true (gives_way w H now) (and_parts _ (not (gives_way w H now)) o).1)
 steers w H now f right (acknowledges m o h g e way) = inl way
 steers w H now f right (replies m o h n g e) =
     let r = reply_taken w.address f now m e (replied_get w.address (reception w H).replies 0 m (tidy w H).replies g) in inr (λ i. r.0 i || r.1 i)
@@ -198,9 +193,6 @@ module _ (w : Who) (B : List Call) (g k c0 : ℕ) (m : MessageRecord) where
       late_is : is_left (open_broadcast w (later ++ B)) (length (packets (later ++ B))) ≡ nat_le (length (packets (later ++ B))) (packets_of m)
       late_is = ap (λ (o : Option (ℕ × MessageRecord)). is_left o (length (packets (later ++ B)))) h.broadcast
 
-      past : (a b : ℕ) → nat_le a b ≡ false → b < a
-      past a b z = grind arith
-
       zero_or : (n : ℕ) → (n ≡ 0) ⊎ (0 < n)
       zero_or zero = inl refl
       zero_or (suc n) = inr (omega arith)
@@ -223,14 +215,10 @@ module _ (w : Who) (B : List Call) (g k c0 : ℕ) (m : MessageRecord) where
 
           steer : is_overdue w (later ++ B) now ≡ true → (b : Bool) → (is_claim f || is_acknowledgment f) ≡ b → b ≡ true
           steer o true q = refl
-          steer o false q = absurd (not_both _ i (overdue_goes_by w (later ++ B) now f right case o (neither (is_claim f) (is_acknowledgment f) q).0 (neither (is_claim f) (is_acknowledgment f) q).1))
-            where
-              neither : (a b : Bool) → (a || b) ≡ false → (a ≡ false) × (b ≡ false)
-              neither true b z = absurd (cc)
-              neither false b z = (refl, z)
+          steer o false q = absurd (not_both _ i (overdue_goes_by w (later ++ B) now f right case o (or_parts (is_claim f) (is_acknowledgment f) q).0 (or_parts (is_claim f) (is_acknowledgment f) q).1))
 
           by : (b : Bool) → nat_le (length (packets (later ++ B))) (packets_of m) ≡ b → left ≡ 0 → Course (At now (TakeFrame (Some f)) ∷ later)
-          by false y z = over (let l = past _ _ y in omega (arith, l, none_left))
+          by false y z = over (let l = leb-false _ _ y in omega (arith, l, none_left))
           by true y z =
               let o : is_overdue w (later ++ B) now ≡ true = and_from _ (nat_eq left 0) (late_is ∙ y) (eq-eqb left 0 z) in
               let s : (is_claim f || is_acknowledgment f) ≡ true = ap (λ (b : Bool). b) (steer_is o) in
@@ -268,14 +256,9 @@ module _ (w : Who) (B : List Call) (g k c0 : ℕ) (m : MessageRecord) where
             | inr z ↦ runs (held_holds w (later ++ B) now e) (not_over g _ _ _ _ _ (step (later ++ B) now) _ _ refl (omega (arith, z)) t)
           ]
 
-  none_begins : (later : List Call) (now group j : ℕ) (bytes : List ℕ) → open_broadcast w (later ++ B) ≡ Some (k, m)
-      → BroadcastCase w (later ++ B) now group bytes (Ok j) → ⊥
-  none_begins later now group j bytes o (homeless a e) = absurd (cc)
-  none_begins later now group j bytes o (unfit a b e) = absurd (cc)
-  none_begins later now group j bytes o (busy a b f e) = absurd (cc)
-  none_begins later now group j bytes o (opens a b f e) =
-      let z : true ≡ false = sym (ap (λ (x : Option (ℕ × MessageRecord)). is_open x || nat_eq (length (broadcasts w (later ++ B))) 18446744073709551615) o) ∙ f in
-      absurd (cc)
+  none_begins : (later : List Call) (now group j : ℕ) (bytes : List ℕ) → open_broadcast w (later ++ B) ≡ Some (k, m) → Ok j ≡ answer_to_broadcast w (later ++ B) now group bytes → ⊥
+  none_begins later now group j bytes o a = not_both _ (broadcast_accepts w (later ++ B) now group j bytes a).2
+      (ap (λ (x : Option (ℕ × MessageRecord)). is_open x || nat_eq (length (broadcasts w (later ++ B))) 18446744073709551615) o)
 
   one_more : (call : Call) (later : List Call) → AreAnswered w (later ++ B) → IsAnswered w (later ++ B) call → tells_broadcast call ≡ false
       → (since_take later B + step (later ++ B) (moment (call ∷ later ++ B)) ≤ g) × (claims_anew call ≡ false) → Stands later → Stands (call ∷ later)
@@ -284,7 +267,7 @@ module _ (w : Who) (B : List Call) (g k c0 : ℕ) (m : MessageRecord) where
   one_more (At now Again) later right a n p h = absurd (let z : true ≡ false = p.1 in cc)
   one_more (At now (TakeFrame None)) later right a n p h = none_taken now later a h
   one_more (At now (Broadcast group bytes (Ok j))) later right a n p h =
-      absurd (none_begins later now group j bytes h.broadcast (broadcast_case w (later ++ B) now group bytes (Ok j) a))
+      absurd (none_begins later now group j bytes h.broadcast a)
   one_more (TakeBroadcastEnded (Some x)) later right a n p h = absurd (let z : true ≡ false = n in cc)
   one_more call later right a n p h = record { broadcast = h.broadcast; count = h.count; course = go h.course }
     where
@@ -304,11 +287,8 @@ module _ (w : Who) (B : List Call) (g k c0 : ℕ) (m : MessageRecord) where
   unfolding overdue_by
   soon_enough call later h none some kept p = go h.course
     where
-      le_is : (a b : ℕ) → nat_le a b ≡ true → a ≤ b
-      le_is a b z = grind arith
-
       go : Course later → passed_in (call ∷ later) B ≤ 150000 + 3 * g
-      go (over l) = absurd (let a = h.count in let b = le_is c0 (packets_of m) some in omega (arith, a, b, l, none))
+      go (over l) = absurd (let a = h.count in let b = leb-true c0 (packets_of m) some in omega (arith, a, b, l, none))
       go (gone e) = absurd (not_both _ kept e)
       go (runs e t) =
           let a = t.late in let b = turn_most g (turns (later ++ B)) in
@@ -321,12 +301,6 @@ module _ (w : Who) (B : List Call) (g k c0 : ℕ) (m : MessageRecord) where
       let x = ends_by w B g k m (length (packets (later ++ B))) (nat_lt (packets_of m) (length (packets (later ++ B)))) (is_lost (address_after w (later ++ B))) refl (go h.course) in
       (x.0, ap (λ (o : Option (ℕ × MessageRecord)). Rattle.j39_node.specs.Is.broadcast_end o (length (packets (later ++ B))) (is_lost (address_after w (later ++ B)))) h.broadcast ∙ x.1)
     where
-      past : (a b : ℕ) → nat_le a b ≡ false → b < a
-      past a b z = grind arith
-
-      le_is : (a b : ℕ) → nat_le a b ≡ true → a ≤ b
-      le_is a b z = grind arith
-
       go : Course later → (packets_of m < length (packets (later ++ B))) ⊎ (is_lost (address_after w (later ++ B)) ≡ true)
       go (over z) = inl z
       go (gone e) = inr e
@@ -335,10 +309,10 @@ module _ (w : Who) (B : List Call) (g k c0 : ℕ) (m : MessageRecord) where
           most : (b : Bool) → nat_le (packets_taken later) (packets_of m) ≡ b
               → (packets_of m < length (packets (later ++ B))) ⊎ (is_lost (address_after w (later ++ B)) ≡ true)
           most true y =
-              let d = overdue_last g (packets_taken later) (packets_of m) (le_is _ _ y) in
+              let d = overdue_last g (packets_taken later) (packets_of m) (leb-true _ _ y) in
               let b = turn_most g (turns (later ++ B)) in
               let a = t.late in absurd (omega (arith, a, b, d, l, p))
-          most false y = inl (let b = past _ _ y in let a = h.count in omega (arith, a, b, z))
+          most false y = inl (let b = leb-false _ _ y in let a = h.count in omega (arith, a, b, z))
 
 -- the driver came in time
 pub since_most : (g : ℕ) (later B : List Call) → IsSteady g later B → since_take later B ≤ g
@@ -376,16 +350,10 @@ ends w later earlier c g now group k bytes is none steady l =
     (stands w B g k 0 (broadcast_from w group bytes) later is.answered none steady (record {
       broadcast = refl;
       count = refl;
-      course = runs (held (broadcast_case w earlier now group bytes (Ok k) ((answered_from w later B is.answered).1)))
+      course = runs (broadcast_accepts w earlier now group k bytes (answered_from w later B is.answered).1).0
           (record { soon = λ z. (let y = pause_most B in omega (arith, y)); late = omega arith });
     }))
     l (since_most g later B steady)
-  where
-    held : BroadcastCase w earlier now group bytes (Ok k) → is_held (address_after w (At now (Broadcast group bytes (Ok k)) ∷ earlier)) ≡ true
-    held (homeless a e) = absurd (cc)
-    held (unfit a b e) = absurd (cc)
-    held (busy a b f e) = absurd (cc)
-    held (opens a b f e) = a
 
 -- ---- how many frames of broadcasts are taken in a time
 
@@ -562,10 +530,7 @@ module _ (w : Who) (B : List Call) (g k : ℕ) where
         where
           by : (b : Bool) → nat_lt k (reached (later ++ B)) ≡ b → Waiting (At now (TakeFrame (Some f)) ∷ later)
           by true z = taken (let l = Rattle.std.proofs.Common.ltb-true _ _ z in let y = more_sent (later ++ B) (At now (TakeFrame (Some f))) in omega (arith, l, y))
-          by false z = takes_next now f later n others right (frame_case w (later ++ B) now f a) p.0 (let l = not_less _ _ z in let y = h.among in omega (arith, l, y)) c e x
-            where
-              not_less : (a b : ℕ) → nat_lt a b ≡ false → b ≤ a
-              not_less a b z = grind arith
+          by false z = takes_next now f later n others right (frame_case w (later ++ B) now f a) p.0 (let l = ltb-false _ _ z in let y = h.among in omega (arith, l, y)) c e x
   one_later (At now Again) later right a p h = absurd (let z : true ≡ false = p.1 in cc)
   one_later (At now (TakeFrame None)) later right a p h = record { among = h.among; course = go h.course }
     where
@@ -599,13 +564,10 @@ module _ (w : Who) (B : List Call) (g k : ℕ) where
       go (away e) = inr e
       go (waits n others c e x) = by (nat_lt k (reached (later ++ B))) refl
         where
-          not_less : (a b : ℕ) → nat_lt a b ≡ false → b ≤ a
-          not_less a b z = grind arith
-
           by : (b : Bool) → nat_lt k (reached (later ++ B)) ≡ b → (k < reached (later ++ B)) ⊎ (is_lost (address_after w (later ++ B)) ≡ true)
           by true z = inl (Rattle.std.proofs.Common.ltb-true _ _ z)
           by false z =
-              let y = not_less _ _ z in
+              let y = ltb-false _ _ z in
               let f = x.few in let o = one_most (yields w (later ++ B)) in
               let a = x.late in let b = turn_most g (turns (later ++ B)) in
               let d = most_others g (k - reached B + packets_taken later) others (omega (arith, f, o, y, c)) in

@@ -1,5 +1,5 @@
 -- A frame of a stranger changes nothing of what is sent to others, received from others, or told to have ended.
-use Rattle.j39_node.proofs.Common.{[], if◌then◌else◌, ◌&&◌, ◌*◌, ◌++◌, ◌-◌, ◌==◌, ◌||◌, ◌∙◌, ◌∷◌, ◌≡◌, ◌≢◌, ◌⊎◌, Abort, accepted, acknowledged, Acknowledgment, Address, address_after, and_parts, ap, AreAnswered, arith, Asked, asked_group, asked_with, At, Bool, BroadcastAnnounce, Call, calls_for_claim, Claim, claim_address, claim_from, claim_of, ClearToSend, clock_at, cond_both, control_of, Controller, delayed, destination_of, Directed, drop, due, eq-eqb, eqb-true, false, FrameRecord, fresh, goes_to, granted_after, granted_by, grants, handed, has_packets, has_place, Hear, heard_by, hears_if, held_then, holder, holds, inl, inr, Is, is_another, is_apart, is_claim, is_held, is_larger, is_lost, is_refusal_due, is_replaced, is_smaller, is_some, is_spent, is_there, keeps, known, leaves, left, length, List, listens, listens_to, long_by, Lost, Message, MessageRecord, nat_eq, nat_le, nat_lt, next_frame, next_long, next_packet, next_transfer_ended, None, not, of_other, older, open_transfer, Option, option_map, owes_claim, Packet, patience, pause, pgn_of, ps_of, reached, Reaction, Ready, Received, Reception, reception, ReceptionRecord, recv_step, refl, replied, reply_from, requests, RequestToSend, Running, said_between, said_to, send_step, shown, Signal, slice_get, Some, source_of, spent_after, step, subst, sym, TakeFrame, takes_abort, takes_data, takes_request, takes_signal, Tick, time_heard, ToSend, transfer_by, transfer_end, transport_control_group, transport_data_group, true, turn_frame, turn_of, turns, Who, whole_by, with_refusal, without, yields, ℕ}
+use Rattle.j39_node.proofs.Common.{[], if◌then◌else◌, ◌&&◌, ◌*◌, ◌++◌, ◌-◌, ◌==◌, ◌||◌, ◌∙◌, ◌∷◌, ◌≡◌, ◌≢◌, ◌⊎◌, Abort, accepted, acknowledged, Acknowledgment, Address, address_after, and_parts, ap, AreAnswered, arith, Asked, asked_group, asked_with, At, Bool, BroadcastAnnounce, Call, calls_for_claim, Claim, claim_address, claim_from, claim_of, ClearToSend, clock_at, cond_both, control_of, Controller, delayed, destination_of, Directed, drop, due, eq-eqb, eqb-true, false, FrameRecord, fresh, goes_to, granted_after, granted_by, grants, handed, has_packets, has_place, Hear, heard_by, hears_if, held_then, holder, holds, inl, inr, Is, is_another, is_apart, is_claim, is_held, is_larger, is_lost, is_refusal_due, is_replaced, is_smaller, is_some, is_spent, is_there, keeps, known, leaves, left, length, List, listens, listens_to, long_by, Lost, Message, MessageRecord, nat_eq, nat_le, nat_lt, next_frame, next_long, next_packet, next_transfer_ended, None, not, of_other, older, open_transfer, Option, option_map, owes_claim, Packet, patience, pause, pgn_of, ps_of, reached, Reaction, Ready, Received, Reception, reception, ReceptionRecord, recv_step, refl, replied, reply_from, requests, RequestToSend, Running, said_between, said_to, send_step, shown, Signal, slice_get, Some, source_of, spent_after, step, subst, sym, TakeFrame, takes_abort, takes_data, takes_request, takes_signal, Tick, time_heard, ToSend, transfer_by, transfer_end, transport_control_group, transport_data_group, true, turn_frame, turn_of, turns, Who, whole_by, with_refusal, without, yields, ℕ, and-false, or-false}
 use Rattle.j39_transport.specs.Signals.{said_by}
 use Rattle.j39_node.specs.Reception.{says}
 use Rattle.j39_transport.specs.Frames as frames
@@ -103,9 +103,6 @@ open_stays w H when f right e n = go (open_transfer w H) refl
         transfer_left w H when f t right i (inr n)
         (ap (is_replaced (holder w H t.sender.destination)) (unclaimed w H when f t.sender.destination e) ∙ same_held (holder w H t.sender.destination))
 
-pub no_more : (b : Bool) → (b || false) ≡ b
-no_more b = grind arith
-
 none_asked : (w : Who) (held : Bool) (f : FrameRecord) (d : Option ℕ) → asked_with w held f d None ≡ None
 none_asked w held f None = refl
 none_asked w held f (Some to) = refl
@@ -134,22 +131,19 @@ frame_stays w H c when f now is e g n m =
         else if held
         then option_map (λ m. (now, m)) (control_of (if gives then None else slice_get acks (length (acknowledged H))) others) else None
 
-    never : (b : Bool) → (b && false) ≡ false
-    never b = grind arith
-
     differs : (b : Bool) → nat_eq (source_of f.id) w.address ≡ b → nat_eq (source_of f.id) w.address ≡ false
     differs true i = absurd (m (eqb-true _ _ i))
     differs false i = i
 
     not_here : (held : Bool) → is_another w held f ≡ false
-    not_here held = ap (λ (b : Bool). held && (b && not (is_claim f))) (differs (nat_eq (source_of f.id) w.address) refl) ∙ never held
+    not_here held = ap (λ (b : Bool). held && (b && not (is_claim f))) (differs (nat_eq (source_of f.id) w.address) refl) ∙ and-false held
 
     calls : calls_for_claim w (is_lost (address_after w H)) f ≡ false
     calls = λ i. ((is_smaller w (e i) || is_larger w (e i)) && not (is_lost (address_after w H)))
         || (is_some (g i) 60928 && (is_some (destination_of f.id) 255 || (is_some (destination_of f.id) w.address && not (is_lost (address_after w H)))))
 
     owes : owes_claim w (At when (Hear f) ∷ H) ≡ owes_claim w H
-    owes = (λ i. owes_claim w H || (calls i || (not_here (holds w H when) i && nat_eq (patience w H - step H when) 0))) ∙ no_more (owes_claim w H)
+    owes = (λ i. owes_claim w H || (calls i || (not_here (holds w H when) i && nat_eq (patience w H - step H when) 0))) ∙ or-false (owes_claim w H)
 
     delays : delayed w (At when (Hear f) ∷ H) ≡ delayed w H - step H when
     delays = λ i. if (calls i || (not_here (holds w H when) i && nat_eq (patience w H - step H when) 0)) && not (is_lost (address_after w H) && owes_claim w H) then w.delay * 600

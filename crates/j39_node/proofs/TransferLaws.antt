@@ -1,46 +1,22 @@
 -- The laws of transfers.
-use Rattle.j39_node.proofs.Common.{[], if◌then◌else◌, ◌&&◌, ◌++◌, ◌+◌, ◌-◌, ◌<◌, ◌==◌, ◌||◌, ◌↔◌, ◌∙◌, ◌∷◌, ◌≡◌, ◌≤◌, ◌⊎◌, Abort, abort_move, aborted, Aborts, accepted, acked, acknowledged, Acknowledges, Acknowledgment, address_after, all_transfers, ap, AreAnswered, arith, At, BadValue, Bool, both, BroadcastAnnounce, broken_off, Call, can_transfer, cleared, clears, clears_by, ClearToSend, clock_at, cond_both, Controller, due, ending_by, eq-eqb, eqb-true, Err, false, FrameRecord, Full, gives_up, gives_way, Gone, granted_after, granted_by, Happened, has_packets, Hear, hears, hears_if, holder, holds, inl, inr, Is, is_clear, is_engaged, is_idle, is_lost, is_move, is_replaced, is_resting, is_running, is_spent, is_waiting, IsMove, IsTrue, length, List, listens, long_by, max, may_name, Message, message_of, MessageRecord, min, moves, nat_eq, nat_lt, new_sender, next_packet, next_transfer, NoAddress, None, not, Ok, open_transfer, Option, option_map, or_parts, Packet, packet_data, packets, packets_of, PacketSince, reached, refl, Refused, Replaces, request_of, RequestToSend, Result, Running, said_between, says, send_step, SenderRecord, sends, sends_if, sends_packet, SendState, Signal, signal_by, slice_get, Some, spent_after, step, subst, sym, TakeFrame, takes_clear, TakeTransferEnded, ticks_in, told_transfers, Transfer, transfer_end, TransferEnding, transport_control_group, transport_data_group, true, Who, ℕ}
+use Rattle.j39_node.proofs.Common.{[], if◌then◌else◌, ◌&&◌, ◌++◌, ◌+◌, ◌-◌, ◌<◌, ◌==◌, ◌||◌, ◌↔◌, ◌∙◌, ◌∷◌, ◌≡◌, ◌≤◌, ◌⊎◌, Abort, abort_move, aborted, Aborts, accepted, acked, acknowledged, Acknowledges, Acknowledgment, address_after, all_transfers, ap, AreAnswered, arith, At, Bool, both, BroadcastAnnounce, broken_off, Call, can_transfer, cleared, clears, clears_by, ClearToSend, clock_at, cond_both, Controller, due, ending_by, eq-eqb, eqb-true, Err, false, FrameRecord, Full, gives_up, gives_way, Gone, granted_after, granted_by, Happened, has_packets, Hear, hears, hears_if, holder, holds, inl, inr, Is, is_clear, is_engaged, is_idle, is_lost, is_move, is_replaced, is_resting, is_running, is_spent, is_waiting, IsMove, IsTrue, length, List, listens, long_by, max, may_name, Message, message_of, MessageRecord, min, moves, nat_eq, nat_lt, new_sender, next_packet, next_transfer, None, not, Ok, open_transfer, Option, option_map, or_parts, Packet, packet_data, packets, packets_of, PacketSince, reached, refl, Refused, Replaces, request_of, RequestToSend, Result, Running, said_between, says, send_step, SenderRecord, sends, sends_if, SendState, Signal, signal_by, slice_get, Some, spent_after, step, subst, sym, TakeFrame, takes_clear, TakeTransferEnded, ticks_in, told_transfers, Transfer, transfer_end, TransferEnding, transport_control_group, transport_data_group, true, Who, ℕ, not_both, ltb-true}
 use Rattle.j39_transport.specs.Sending.{Heard, Tick}
 use Rattle.j39_node.specs.declared.kinds.TransferEnding.TheVariants.{Done, Withdrawn, Failed}
 use Rattle.j39_node.specs.Transfers.{is_over, said_to}
 use Rattle.j39_node.specs.Moves.{NoneEnds}
 use Rattle.j39_transport.specs.Sending as sending
 use Rattle.j39_node.proofs.SoundLemmas.{frame_case, sound}
-use Rattle.j39_node.proofs.LawLemmas.{not_both, past_end, sent_within, all_acknowledged}
+use Rattle.j39_node.proofs.LawLemmas.{past_end, sent_within, all_acknowledged}
 use Rattle.j39_node.proofs.LaneLaws.{none_long, packet_waits}
-use Rattle.j39_node.proofs.PortLemmas.{TransferCase, transfer_case, hears_same, sends_same}
-use Rattle.j39_node.proofs.PortLemmas.TransferCase.{homeless, unfit, busy, opens}
+use Rattle.j39_node.proofs.PortLemmas.{hears_same, sends_same}
+use Rattle.j39_node.proofs.AnswerCases.{transfer_accepts, waits_for}
+use Rattle.j39_node.proofs.AnswerCases as cases
 use Rattle.j39_node.proofs.MoveSteps.{Moved, SignalCase, signal_case, running_some, done_heard, done_ticked, done_given_up, failed_heard, failed_ticked, failed_given_up}
 use Rattle.j39_node.proofs.MoveSteps.SignalCase.{requests, packs, times_out}
 use Rattle.j39_node.proofs.MoveLemmas.{Arises, LastIf, Sent, last_one, last_open, moved_open, sent_case, traced}
 use Rattle.j39_node.proofs.StrangerLaws.{own_source as from_own}
 
 -- ---- what transfer answers
-
-answers : (w : Who) (H : List Call) (c : Controller) (now group to : ℕ) (bytes : List ℕ) (answer : Result ℕ Refused)
-    → Is w (At now (Transfer group to bytes answer) ∷ H) c → TransferCase w H now group to bytes answer
-answers w H c now group to bytes answer is = transfer_case w H now group to bytes answer is.answered.1
-
-pub refused_address : (w : Who) (H : List Call) (c : Controller) (now group to : ℕ) (bytes : List ℕ) (answer : Result ℕ Refused)
-    → Is w (At now (Transfer group to bytes answer) ∷ H) c → (answer ≡ Err NoAddress ↔ (IsTrue (holds w H now) → ⊥))
-refused_address w H c now group to bytes answer is = go (answers w H c now group to bytes answer is)
-  where
-    go : TransferCase w H now group to bytes answer → (answer ≡ Err NoAddress ↔ (IsTrue (holds w H now) → ⊥))
-    go (homeless a e) = (λ z. not_both _ a, λ z. e)
-    go (unfit a b e) = (λ z. absurd (cc), λ z. absurd (z a))
-    go (busy a b f e) = (λ z. absurd (cc), λ z. absurd (z a))
-    go (opens a b f e) = (λ z. absurd (cc), λ z. absurd (z a))
-
-pub refused_value : (w : Who) (H : List Call) (c : Controller) (now group to : ℕ) (bytes : List ℕ) (answer : Result ℕ Refused)
-    → Is w (At now (Transfer group to bytes answer) ∷ H) c
-    → (answer ≡ Err BadValue ↔ (IsTrue (holds w H now) × (IsTrue (can_transfer w group to bytes) → ⊥)))
-refused_value w H c now group to bytes answer is = go (answers w H c now group to bytes answer is)
-  where
-    go : TransferCase w H now group to bytes answer → (answer ≡ Err BadValue ↔ (IsTrue (holds w H now) × (IsTrue (can_transfer w group to bytes) → ⊥)))
-    go (homeless a e) = (λ z. absurd (cc), λ z. absurd (not_both _ a z.0))
-    go (unfit a b e) = (λ z. (a, not_both _ b), λ z. e)
-    go (busy a b f e) = (λ z. absurd (cc), λ z. absurd (z.1 b))
-    go (opens a b f e) = (λ z. absurd (cc), λ z. absurd (z.1 b))
 
 -- one is accepted and not told, there is no token left, or it rests
 AtLimit : Who → List Call → ℕ → ℕ → ℕ → Type 0
@@ -70,21 +46,18 @@ pub refused_full : (w : Who) (H : List Call) (c : Controller) (now group to : �
     × ((length (all_transfers w H) ≡ length (told_transfers H) + 1)
     ⊎ ((length (all_transfers w H) ≡ 18446744073709551615) ⊎ IsTrue (is_resting w H now group to)))))
 unfolding AtLimit
-refused_full w H c now group to bytes answer is = go (answers w H c now group to bytes answer is)
-  where
-    go : TransferCase w H now group to bytes answer
-        → (answer ≡ Err Full ↔ (IsTrue (holds w H now) × IsTrue (can_transfer w group to bytes) × AtLimit w H now group to))
-    go (homeless a e) = (λ z. absurd (cc), λ z. absurd (not_both _ a z.0))
-    go (unfit a b e) = (λ z. absurd (cc), λ z. absurd (not_both _ b z.1))
-    go (busy a b f e) = (λ z. (a, b, engaged_limit (open_transfer w H) _ _ (is_resting w H now group to) (last_one w H is.answered.0) f), λ z. e)
-    go (opens a b f e) =
-        (λ z. absurd (cc), λ z. absurd (free_limit (open_transfer w H) _ _ (is_resting w H now group to) (last_one w H is.answered.0) f z.2))
+refused_full w H c now group to bytes answer is =
+    cases.refused_full (holds w H now) (can_transfer w group to bytes) (waits_for w H now group to) (length (all_transfers w H)) answer is.answered.1
+    (engaged_limit (open_transfer w H) _ _ (is_resting w H now group to) (last_one w H is.answered.0))
+    (free_limit (open_transfer w H) _ _ (is_resting w H now group to) (last_one w H is.answered.0))
 
 pub is_accepted : (w : Who) (H : List Call) (c : Controller) (now group to : ℕ) (bytes : List ℕ) (answer : Result ℕ Refused)
     → Is w (At now (Transfer group to bytes answer) ∷ H) c → IsTrue (holds w H now) → IsTrue (can_transfer w group to bytes)
     → length (all_transfers w H) ≡ length (told_transfers H) → length (all_transfers w H) < 18446744073709551615
     → is_resting w H now group to ≡ false → answer ≡ Ok (length (all_transfers w H))
-is_accepted w H c now group to bytes answer is held can room some rested = go (answers w H c now group to bytes answer is)
+is_accepted w H c now group to bytes answer is held can room some rested =
+    cases.is_accepted (holds w H now) (can_transfer w group to bytes) (waits_for w H now group to) (length (all_transfers w H)) answer is.answered.1 held can
+    (λ f. free (engaged_limit (open_transfer w H) _ _ (is_resting w H now group to) (last_one w H is.answered.0) f))
   where
     free : (length (all_transfers w H) ≡ length (told_transfers H) + 1)
         ⊎ ((length (all_transfers w H) ≡ 18446744073709551615) ⊎ IsTrue (is_resting w H now group to)) → ⊥
@@ -92,21 +65,9 @@ is_accepted w H c now group to bytes answer is held can room some rested = go (a
     free (inr (inl z)) = absurd (omega (arith, z, some))
     free (inr (inr z)) = not_both _ rested z
 
-    go : TransferCase w H now group to bytes answer → answer ≡ Ok (length (all_transfers w H))
-    go (homeless a e) = absurd (not_both _ a held)
-    go (unfit a b e) = absurd (not_both _ b can)
-    go (busy a b f e) = absurd (free (engaged_limit (open_transfer w H) _ _ (is_resting w H now group to) (last_one w H is.answered.0) f))
-    go (opens a b f e) = e
-
 pub token_is : (w : Who) (H : List Call) (c : Controller) (now group to k : ℕ) (bytes : List ℕ) → Is w (At now (Transfer group to bytes (Ok k)) ∷ H) c
     → k ≡ length (all_transfers w H)
-token_is w H c now group to k bytes is = go (answers w H c now group to bytes (Ok k) is)
-  where
-    go : TransferCase w H now group to bytes (Ok k) → k ≡ length (all_transfers w H)
-    go (homeless a e) = absurd (cc)
-    go (unfit a b e) = absurd (cc)
-    go (busy a b f e) = absurd (cc)
-    go (opens a b f e) = cc
+token_is w H c now group to k bytes is = (transfer_accepts w H now group to k bytes is.answered.1).3
 
 -- ---- which frames are taken
 
@@ -215,11 +176,8 @@ budget_listens : (t : Running) (n k : ℕ) (o : Option ℕ) → Within k o → n
 budget_listens t n k None l a b d h = (a, b, omega (arith, d), h)
 budget_listens t n k (Some last) l a b d h = go (nat_lt t.granted last) refl
   where
-    less : (x y : ℕ) → nat_lt x y ≡ true → x < y
-    less x y e = grind arith
-
     go : (b : Bool) → nat_lt t.granted last ≡ b → (n + 1 ≤ max t.granted last + (if b then t.spent else t.spent + 1)) × (max t.granted last ≤ k) × ((if b then t.spent else t.spent + 1) ≤ 65) × ((if b then t.spent else t.spent + 1) ≤ n + 1)
-    go true e = let y = less _ _ e in (omega (arith, y, a), omega (arith, b, l), omega (arith, d), omega (arith, h))
+    go true e = let y = ltb-true _ _ e in (omega (arith, y, a), omega (arith, b, l), omega (arith, d), omega (arith, h))
     go false e = (omega (arith, a), omega (arith, b, l), omega (arith, d), omega (arith, h))
 
 budget_hears : (lost replaced : Bool) (f : FrameRecord) (now : ℕ) (t : Running) (n : ℕ) → Budgeted t n

@@ -1,11 +1,13 @@
+use Rattle.j39_node.proofs.Common.{broadcasts, can_broadcast, holds, is_busy, length}
+use Rattle.j39_node.proofs.AnswerCases.{refused_address, refused_value}
 use Rattle.j39_node.proofs.LaneLaws as law
 use Rattle.j39_node.proofs.laws.broadcast_means.Goals as goal
 
 pub returns-clause-no_address : goal.returns-clause-no_address
-returns-clause-no_address c = law.refused_address
+returns-clause-no_address c = λ w H k now group bytes answer is. refused_address (holds w H now) (can_broadcast group bytes) (is_busy w H) (length (broadcasts w H)) answer is.answered.1
 
 pub returns-clause-bad_value : goal.returns-clause-bad_value
-returns-clause-bad_value c = law.refused_value
+returns-clause-bad_value c = λ w H k now group bytes answer is. refused_value (holds w H now) (can_broadcast group bytes) (is_busy w H) (length (broadcasts w H)) answer is.answered.1
 
 pub returns-clause-full : goal.returns-clause-full
 returns-clause-full c = law.refused_full

@@ -1,11 +1,13 @@
+use Rattle.j39_node.proofs.Common.{all_transfers, can_transfer, holds, length}
+use Rattle.j39_node.proofs.AnswerCases.{refused_address, refused_value, waits_for}
 use Rattle.j39_node.proofs.TransferLaws as law
 use Rattle.j39_node.proofs.transfer_laws.transfer_means.Goals as goal
 
 pub returns-clause-no_address : goal.returns-clause-no_address
-returns-clause-no_address c = law.refused_address
+returns-clause-no_address c = λ w H k now group to bytes answer is. refused_address (holds w H now) (can_transfer w group to bytes) (waits_for w H now group to) (length (all_transfers w H)) answer is.answered.1
 
 pub returns-clause-bad_value : goal.returns-clause-bad_value
-returns-clause-bad_value c = law.refused_value
+returns-clause-bad_value c = λ w H k now group to bytes answer is. refused_value (holds w H now) (can_transfer w group to bytes) (waits_for w H now group to) (length (all_transfers w H)) answer is.answered.1
 
 pub returns-clause-full : goal.returns-clause-full
 returns-clause-full c = law.refused_full

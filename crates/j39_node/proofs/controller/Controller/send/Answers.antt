@@ -1,10 +1,7 @@
-use Rattle.j39_node.proofs.Common.{◌∙◌, ◌≡◌, ap, arith, Bool, can_send, Draft, false, message_from, pgn_raw, refl, stamp_micros, sym, true, View, Who}
-use Rattle.j39_node.proofs.CallLemmas.{passed_is, holds_is, posts, refuses_send, send_is, full_is}
+use Rattle.j39_node.proofs.Common.{◌∙◌, ap, arith, can_send, Draft, false, message_from, pgn_raw, refl, stamp_micros, sym, true, View, Who, length, accepted, not_true}
+use Rattle.j39_node.proofs.CallLemmas.{passed_is, holds_is, posts, refuses_send, full_is}
 use Rattle.j39_node.proofs.controller.Controller.send.Goals as goal
-
-not_true : (b : Bool) → (b ≡ true → false ≡ true) → b ≡ false
-not_true true f = absurd (let z : false ≡ true = f refl in cc)
-not_true false f = refl
+use Rattle.j39_node.proofs.AnswerCases.{answer_is}
 
 pub push-requires : goal.push-requires
 push-requires c = (omega arith, c.is_full.ensures.room c.if-is_full.false)
@@ -26,7 +23,7 @@ returns-then-is_full c = λ w H h.
     let b = sym (holds_is w H (stamp_micros c.args.now) c.passed-self.result c.is_held.result p c.is_held.ensures) ∙ c.if-not-is_held.false in
     let d : Draft = record { priority = c.args.priority; group = pgn_raw c.args.group; to = c.args.to; bytes = c.args.bytes.now } in
     refuses_send w H c.args.self.now _ (stamp_micros c.args.now) d _ h p
-    (sym (send_is w H (stamp_micros c.args.now) d true true true b
+    (sym (answer_is (length (accepted w H)) b
     (ap (λ (v : Who). can_send v d) (sym (ap (λ (v : View). v.who) h.shown)) ∙ c.in-Some.ensures.known.0 refl)
     (sym (full_is w H c.args.self.now h) ∙ (sym c.is_full.ensures.value ∙ c.if-is_full.true)))) refl
 
@@ -36,5 +33,5 @@ returns-in-None c = λ w H h.
     let b = sym (holds_is w H (stamp_micros c.args.now) c.passed-self.result c.is_held.result p c.is_held.ensures) ∙ c.if-not-is_held.false in
     let d : Draft = record { priority = c.args.priority; group = pgn_raw c.args.group; to = c.args.to; bytes = c.args.bytes.now } in
     refuses_send w H c.args.self.now _ (stamp_micros c.args.now) d _ h p
-    (sym (send_is w H (stamp_micros c.args.now) d true false _ b
+    (sym (answer_is (length (accepted w H)) b
     (ap (λ (v : Who). can_send v d) (sym (ap (λ (v : View). v.who) h.shown)) ∙ not_true _ c.in-None.ensures.known.1) refl)) refl

@@ -1,17 +1,14 @@
-use Rattle.j39_node.proofs.Common.{◌∙◌, ◌≡◌, ap, arith, begun, Bool, broadcast_from, can_transfer, false, Ok, pgn_raw, refl, stamp_micros, sym, true, View, Who}
-use Rattle.j39_node.proofs.CallLemmas.{passed_is, holds_is, transfer_begins, transfer_is, engaged_is, refuses_transfer}
+use Rattle.j39_node.proofs.Common.{◌∙◌, ap, arith, begun, broadcast_from, can_transfer, false, Ok, pgn_raw, refl, stamp_micros, sym, true, View, Who, length, all_transfers, not_true}
+use Rattle.j39_node.proofs.CallLemmas.{passed_is, holds_is, transfer_begins, engaged_is, refuses_transfer}
 use Rattle.j39_node.proofs.controller.Controller.transfer.Goals as goal
-
-not_true : (b : Bool) → (b ≡ true → false ≡ true) → b ≡ false
-not_true true f = absurd (let z : false ≡ true = f refl in cc)
-not_true false f = refl
+use Rattle.j39_node.proofs.AnswerCases.{answer_is}
 
 pub returns-else-refuses : goal.returns-else-refuses
 returns-else-refuses c = λ w H h.
     let p = passed_is w H (stamp_micros c.args.now) c.args.self.now.hold c.passed-self.result (ap (λ (v : View). v.hold) h.shown) c.passed-self.ensures in
     let b = sym (holds_is w H (stamp_micros c.args.now) c.passed-self.result c.is_held.result p c.is_held.ensures) ∙ c.if-not-is_held.false in
     transfer_begins w H c.args.self.now _ (stamp_micros c.args.now) (pgn_raw c.args.group) c.args.to c.args.bytes.now c.in-Some.transfer c.passed-self.result h p
-    (sym (transfer_is w H (stamp_micros c.args.now) (pgn_raw c.args.group) c.args.to c.args.bytes.now true true false b
+    (sym (answer_is (length (all_transfers w H)) b
     (ap (λ (v : Who). can_transfer v (pgn_raw c.args.group) c.args.to c.args.bytes.now) (sym (ap (λ (v : View). v.who) h.shown)) ∙ c.in-Some.ensures.known.0 refl)
     (sym (engaged_is w H c.args.self.now (stamp_micros c.args.now) (pgn_raw c.args.group) c.args.to c.passed-self.result h p) ∙ (sym c.refuses.ensures.value ∙ c.if-refuses.false))
     ∙ ap Ok (sym (ap (λ (v : View). v.port.next_token) h.shown))))
@@ -23,7 +20,7 @@ returns-then-refuses c = λ w H h.
     let p = passed_is w H (stamp_micros c.args.now) c.args.self.now.hold c.passed-self.result (ap (λ (v : View). v.hold) h.shown) c.passed-self.ensures in
     let b = sym (holds_is w H (stamp_micros c.args.now) c.passed-self.result c.is_held.result p c.is_held.ensures) ∙ c.if-not-is_held.false in
     refuses_transfer w H c.args.self.now _ (stamp_micros c.args.now) (pgn_raw c.args.group) c.args.to c.args.bytes.now _ h p
-    (sym (transfer_is w H (stamp_micros c.args.now) (pgn_raw c.args.group) c.args.to c.args.bytes.now true true true b
+    (sym (answer_is (length (all_transfers w H)) b
     (ap (λ (v : Who). can_transfer v (pgn_raw c.args.group) c.args.to c.args.bytes.now) (sym (ap (λ (v : View). v.who) h.shown)) ∙ c.in-Some.ensures.known.0 refl)
     (sym (engaged_is w H c.args.self.now (stamp_micros c.args.now) (pgn_raw c.args.group) c.args.to c.passed-self.result h p) ∙ (sym c.refuses.ensures.value ∙ c.if-refuses.true)))) refl
 
@@ -32,5 +29,5 @@ returns-in-None c = λ w H h.
     let p = passed_is w H (stamp_micros c.args.now) c.args.self.now.hold c.passed-self.result (ap (λ (v : View). v.hold) h.shown) c.passed-self.ensures in
     let b = sym (holds_is w H (stamp_micros c.args.now) c.passed-self.result c.is_held.result p c.is_held.ensures) ∙ c.if-not-is_held.false in
     refuses_transfer w H c.args.self.now _ (stamp_micros c.args.now) (pgn_raw c.args.group) c.args.to c.args.bytes.now _ h p
-    (sym (transfer_is w H (stamp_micros c.args.now) (pgn_raw c.args.group) c.args.to c.args.bytes.now true false _ b
+    (sym (answer_is (length (all_transfers w H)) b
     (ap (λ (v : Who). can_transfer v (pgn_raw c.args.group) c.args.to c.args.bytes.now) (sym (ap (λ (v : View). v.who) h.shown)) ∙ not_true _ c.in-None.ensures.known.1) refl)) refl
