@@ -19,6 +19,7 @@ use Rattle.j39_node.specs.Reception.{is_message, reception, time_heard, whole}
 use Rattle.j39_node.specs.Hearing.{OpenBroadcast, hearing, is_late, is_whole, made_whole}
 use Rattle.j39_transport.specs.Message.{MessageRecord}
 use Rattle.j39_transport.specs.Reception.{ReceptionRecord}
+use Rattle.j39_node.specs.Times.{answer_time}
 
 -- a group that may be sent, or that of claims (J1939-81, 4.2.1), of all or of the address of another
 abbrev pub can_ask : Who → ℕ → ℕ → Bool
@@ -67,7 +68,7 @@ is_request H f = is_message f && has_token (open_ask H) (reached H)
 -- what is left of the 1,250 ms that it waits after that (own); time that goes back is no time
 abbrev pub wait : List Call → ℕ
 wait [] = 0
-wait (At now (TakeFrame (Some f)) ∷ H) = if is_request H f then 1250000 else wait H - step H now
+wait (At now (TakeFrame (Some f)) ∷ H) = if is_request H f then answer_time else wait H - step H now
 wait (At now act ∷ H) = wait H - step H now
 wait (call ∷ H) = wait H
 
@@ -236,7 +237,7 @@ pub record HeardFirst (w : Who) (H : List Call) (q : Question) (ending : AskEndi
   pub none : ended w earlier ≡ None
   pub since : ℕ
   pub asked : AskedSince earlier q since
-  pub in_time : (since + step earlier at < 1250000) ⊎ IsTrue (comes w earlier (time_heard (At at (Hear frame) ∷ earlier)))
+  pub in_time : (since + step earlier at < answer_time) ⊎ IsTrue (comes w earlier (time_heard (At at (Hear frame) ∷ earlier)))
   pub says : says_to w q frame (made w earlier at frame) ≡ Some ending
 
 -- what was coming before the frame that the last call heard
@@ -251,7 +252,7 @@ pub record RanOut (w : Who) (H : List Call) (q : Question) : Type 0 where
   pub is : H ≡ later ++ earlier
   pub since : ℕ
   pub asked : AskedSince earlier q since
-  pub out : 1250000 ≤ since
+  pub out : answer_time ≤ since
   pub none : (comes w earlier (time_heard earlier) ≡ false) ⊎ (found_coming w earlier ≡ false)
 
 -- none is accepted or told

@@ -20,6 +20,7 @@ use Rattle.j39_node.specs.declared.kinds.Answer.TheVariants.{Ack, Nack, Denied, 
 use Rattle.std.specs.List.{list_any}
 use Rattle.std.specs.Str.{bytes_eq}
 use Rattle.std.specs.Option.{is_some as is_there, option_or}
+use Rattle.j39_node.specs.Times.{claim_time, last_count, packet_time, patience_time, places, slack, stamp_end}
 
 -- which transfers rest: none, those of a group to a destination, or all
 pub data Resting : Type 0 where
@@ -194,7 +195,7 @@ is_lost a = false
 
 -- 250 ms after its claim was taken it is held
 abbrev pub is_held : Address → Bool
-is_held (Claimed e) = nat_le 250000 e
+is_held (Claimed e) = nat_le claim_time e
 is_held a = false
 
 -- at this moment after H the address is held
@@ -260,7 +261,7 @@ is_another w held f = held && (nat_eq (source_of f.id) w.address && not (is_clai
 abbrev pub patience : Who → List Call → ℕ
 patience w [] = 0
 patience w (At now (Hear f) ∷ H) =
-    if is_another w (holds w H now) f && nat_eq (patience w H - step H now) 0 then 5000000 else patience w H - step H now
+    if is_another w (holds w H now) f && nat_eq (patience w H - step H now) 0 then patience_time else patience w H - step H now
 patience w (At now act ∷ H) = patience w H - step H now
 patience w (call ∷ H) = patience w H
 
@@ -432,7 +433,7 @@ told (call ∷ H) = told H
 
 -- sixteen are accepted and not told yet, or as many as there are tokens were accepted
 abbrev pub is_full : Who → List Call → Bool
-is_full w H = nat_eq (length (accepted w H) - length (told H)) 16 || nat_eq (length (accepted w H)) 18446744073709551615
+is_full w H = nat_eq (length (accepted w H) - length (told H)) places || nat_eq (length (accepted w H)) last_count
 
 -- ---- messages broadcast in packets (J1939-21, 5.10.3.5 and 5.12.3)
 
@@ -492,8 +493,8 @@ packets (call ∷ H) = packets H
 -- overdue where nothing is (own). At least these 100 ms are left when one is accepted
 abbrev pub pause : List Call → ℕ
 pause [] = 0
-pause (At now (TakeFrame (Some f)) ∷ H) = if is_packet f then 150000 else pause H - step H now
-pause (At now (Broadcast group bytes (Ok token)) ∷ H) = max 100000 (pause H - step H now)
+pause (At now (TakeFrame (Some f)) ∷ H) = if is_packet f then packet_time else pause H - step H now
+pause (At now (Broadcast group bytes (Ok token)) ∷ H) = max slack (pause H - step H now)
 pause (At now act ∷ H) = pause H - step H now
 pause (call ∷ H) = pause H
 
@@ -503,7 +504,7 @@ is_open (Some x) = true
 
 -- one is open, or as many as there are tokens were accepted
 abbrev pub is_busy : Who → List Call → Bool
-is_busy w H = is_open (open_broadcast w H) || nat_eq (length (broadcasts w H)) 18446744073709551615
+is_busy w H = is_open (open_broadcast w H) || nat_eq (length (broadcasts w H)) last_count
 
 -- frame i is one of the broadcast
 abbrev pub is_left : Option (ℕ × MessageRecord) → ℕ → Bool
@@ -555,7 +556,7 @@ got (call ∷ H) = got H
 abbrev pub kept : Who → List Call → List (ℕ × Message)
 kept w [] = []
 kept w (At now (Hear f) ∷ H) =
-    if is_for_program w (holds w H now) f && nat_lt (length (kept w H) - length (got H)) 16
+    if is_for_program w (holds w H now) f && nat_lt (length (kept w H) - length (got H)) places
     then kept w H ++ (f.stamp, message_of f) ∷ []
     else kept w H
 kept w (call ∷ H) = kept w H
@@ -564,7 +565,7 @@ kept w (call ∷ H) = kept w H
 abbrev pub missed : Who → List Call → ℕ
 missed w [] = 0
 missed w (At now (Hear f) ∷ H) =
-    if is_for_program w (holds w H now) f && not (nat_lt (length (kept w H) - length (got H)) 16)
+    if is_for_program w (holds w H now) f && not (nat_lt (length (kept w H) - length (got H)) places)
     then suc (missed w H)
     else missed w H
 missed w (call ∷ H) = missed w H
@@ -633,7 +634,7 @@ with_request w room (Some r) waiting = if is_served w r.group && room then waiti
 abbrev pub requests : Who → List Call → List Asked
 requests w [] = []
 requests w (At now (Hear f) ∷ H) =
-    with_request w (nat_lt (length (requests w H) - length (handed H)) 16)
+    with_request w (nat_lt (length (requests w H) - length (handed H)) places)
     (fresh w (drop (length (handed H)) (requests w H)) (asked w (holds w H now) f)) (requests w H)
 requests w (call ∷ H) = requests w H
 
@@ -663,8 +664,8 @@ abbrev pub due : Who → List Call → List Message
 due w [] = []
 due w (At now (Hear f) ∷ H) =
     let request = fresh w (drop (length (handed H)) (requests w H)) (asked w (holds w H now) f) in
-    with_refusal w (nat_lt (length (requests w H) - length (handed H)) 16)
-    (nat_lt (length (due w H) - length (acknowledged H)) 16 && not (is_refusal_due w (drop (length (acknowledged H)) (due w H)) request))
+    with_refusal w (nat_lt (length (requests w H) - length (handed H)) places)
+    (nat_lt (length (due w H) - length (acknowledged H)) places && not (is_refusal_due w (drop (length (acknowledged H)) (due w H)) request))
     request (due w H)
 due w (At now (Acknowledge r answer (Ok x)) ∷ H) = due w H ++ acknowledgment w answer r ∷ []
 due w (call ∷ H) = due w H
@@ -711,7 +712,7 @@ doubled_news w (call ∷ H) = doubled_news w H
 abbrev pub missed_news : Who → List Call → Bool
 missed_news w [] = false
 missed_news w (At now (Hear f) ∷ H) =
-    missed_news w H || (is_for_program w (holds w H now) f && not (nat_lt (length (kept w H) - length (got H)) 16))
+    missed_news w H || (is_for_program w (holds w H now) f && not (nat_lt (length (kept w H) - length (got H)) places))
 missed_news w (TakeNews (Some MessagesMissed) ∷ H) = false
 missed_news w (call ∷ H) = missed_news w H
 
@@ -719,10 +720,10 @@ missed_news w (call ∷ H) = missed_news w H
 
 -- a moment that a stamp can tell
 abbrev pub stamp_at : ℕ → Option ℕ
-stamp_at n = if nat_lt n 10000000000000000 then Some n else None
+stamp_at n = if nat_lt n stamp_end then Some n else None
 
 -- when a claimed address will be held
 abbrev pub held_at : Address → ℕ → Option ℕ
-held_at (Claimed e) m = if nat_lt e 250000 then stamp_at (m + (250000 - e)) else None
+held_at (Claimed e) m = if nat_lt e claim_time then stamp_at (m + (claim_time - e)) else None
 held_at NotClaimed m = None
 held_at Lost m = None

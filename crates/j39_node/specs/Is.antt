@@ -60,6 +60,7 @@ use Rattle.j39_transport.specs.Reception.{ReceptionRecord, limit_of}
 use Rattle.j39_transport.specs.Receiving.{BoxedReceiver, Heard, recv_step}
 use Rattle.j39_node.specs.Transfers.{clock, transfer_by, Running, joined, rest, resting, age, answer_to_transfer, next_transfer, next_transfer_ended, open_transfer, transfers as all_transfers}
 use Rattle.j39_node.specs.History.{Resting, NoneRests, PairRests, AllRest}
+use Rattle.j39_node.specs.Times.{called_time, claim_time, clear_to_send, last_count, places, slack}
 
 -- ---- the answers that a history asks for
 
@@ -69,7 +70,7 @@ stamped f = (f.stamp, message_of f)
 -- frame i of the open broadcast, once it is due
 abbrev pub packet_by : Option (ℕ × MessageRecord) → ℕ → ℕ → Option Message
 packet_by None i left = None
-packet_by (Some x) i left = if nat_le left 100000 && nat_le i (packets_of x.1) then Some (frame_of x.1 i) else None
+packet_by (Some x) i left = if nat_le left slack && nat_le i (packets_of x.1) then Some (frame_of x.1 i) else None
 
 abbrev pub next_packet : Who → List Call → ℕ → Option Message
 next_packet w H now = packet_by (open_broadcast w H) (length (packets H)) (pause H - step H now)
@@ -106,7 +107,7 @@ ready w H now = record {
   overdue = is_overdue w H now;
   reply = nat_lt 0 (length (reception w H).replies);
   message = nat_lt (reached H) (length (accepted w H));
-  packet = has_packets w H && nat_le (pause H - step H now) 100000;
+  packet = has_packets w H && nat_le (pause H - step H now) slack;
   transfer = is_apart (next_transfer w H now) (slice_get (reception w H).replies 0);
 }
 
@@ -246,7 +247,7 @@ abbrev pub answer_to_acknowledge : Who → List Call → ℕ → Asked → Resul
 answer_to_acknowledge w H now r =
     if holds w H now
     then (if nat_eq r.destination w.address
-    then (if nat_eq (length (due w H) - length (acknowledged H)) 16 then Err Full else Ok tt)
+    then (if nat_eq (length (due w H) - length (acknowledged H)) places then Err Full else Ok tt)
     else Err BadValue)
     else Err NoAddress
 
@@ -278,7 +279,7 @@ AreAnswered w (call ∷ H) = AreAnswered w H × IsAnswered w H call
 -- how far the address is, as `status` answers it
 abbrev pub status_of : Who → Address → Status
 status_of w NotClaimed = Idle
-status_of w (Claimed e) = if nat_le 250000 e then Holding w.address else Claiming w.address
+status_of w (Claimed e) = if nat_le claim_time e then Holding w.address else Claiming w.address
 status_of w Lost = Cannot
 
 abbrev pub status_after : Who → List Call → Status
@@ -307,7 +308,7 @@ hold_after w H = record {
   patience = patience w H;
   delay = delayed w H;
   pause = pause H;
-  age = min (age H) 18446744073709551615;
+  age = min (age H) last_count;
   wait = wait H;
   rest = rest w H;
 }
@@ -407,7 +408,7 @@ tick_by since (Some r) (Some n) last clock =
 -- how many packets a CTS that is said grants, and from which on
 abbrev pub clear_in : Option ToSend → Option (ℕ × ℕ)
 clear_in None = None
-clear_in (Some s) = if nat_eq (slice_index s.bytes 0) 17 then Some (slice_index s.bytes 1, slice_index s.bytes 2) else None
+clear_in (Some s) = if nat_eq (slice_index s.bytes 0) clear_to_send then Some (slice_index s.bytes 1, slice_index s.bytes 2) else None
 
 -- what is known by it; by what was announced; and by a packet of the session
 abbrev pub cleared : Option (ℕ × ℕ) → Course → Course
@@ -445,7 +446,7 @@ still_by before now f x = still (claimed_again before (x.called - (now - x.momen
 
 abbrev pub hears : Bool → Bool → ℕ → FrameRecord → (ℕ → Option ℕ) → (ℕ → Option ℕ) → IncomingRecord → IncomingRecord
 hears lost held now f before after x =
-    with_called (if calls_claims before f (claim_of f) then 1250000 else x.called - (now - x.moment))
+    with_called (if calls_claims before f (claim_of f) then called_time else x.called - (now - x.moment))
     (with_reception (heard_by x.own lost held f (later x.clock (now - x.moment))
     (left (leaves (still_by before now f x) after x.reception.session) x.reception)) (passed_to now x))
 
@@ -586,10 +587,10 @@ refusal_by w x =
 
 -- the inbox when a frame was heard
 abbrev pub offered : Bool → ℕ × Message → List (ℕ × Message) → List (ℕ × Message)
-offered wanted x unread = if wanted && nat_lt (length unread) 16 then unread ++ x ∷ [] else unread
+offered wanted x unread = if wanted && nat_lt (length unread) places then unread ++ x ∷ [] else unread
 
 abbrev pub counted : Bool → List (ℕ × Message) → ℕ → ℕ
-counted wanted unread n = if wanted && not (nat_lt (length unread) 16) then min (n + 1) 18446744073709551615 else n
+counted wanted unread n = if wanted && not (nat_lt (length unread) places) then min (n + 1) last_count else n
 
 -- the broadcast that is heard, and how many weren't
 pub record HearingRecord : Type 0 where
@@ -612,7 +613,7 @@ abbrev pub hearing_of : Hearing → HearingRecord
 hearing_of x = record { current = option_map broadcast_by x.current; missed = x.missed }
 
 abbrev pub hearing_after : Who → List Call → HearingRecord
-hearing_after w H = record { current = hearing w H; missed = min (unheard w H) 18446744073709551615 }
+hearing_after w H = record { current = hearing w H; missed = min (unheard w H) last_count }
 
 -- what is due, by the controller at a moment that its hold was led to
 abbrev pub ready_in : Controller → Hold → Ready
@@ -620,7 +621,7 @@ ready_in c hold = record {
   overdue = is_left (lane_of (who_of nothing c.own) c.lane).current c.lane.count && nat_eq hold.pause 0;
   reply = nat_lt 0 (length c.incoming.replies.items);
   message = nat_lt c.taken (length c.outgoing.items);
-  packet = is_left (lane_of (who_of nothing c.own) c.lane).current c.lane.count && nat_le hold.pause 100000;
+  packet = is_left (lane_of (who_of nothing c.own) c.lane).current c.lane.count && nat_le hold.pause slack;
   transfer = is_apart (transfer_by (port_of c.transfers).current (clock hold.age)) (slice_get (incoming_of c.incoming).reception.replies 0);
 }
 
@@ -674,7 +675,7 @@ after w H = record {
   requests = drop (length (handed H)) (requests w H);
   acknowledgments = drop (length (acknowledged H)) (due w H);
   news = news_after w H;
-  missed = min (missed w H) 18446744073709551615;
+  missed = min (missed w H) last_count;
   lane = lane_after w H;
   incoming = incoming_after w H;
   port = port_after w H;

@@ -1,3 +1,5 @@
+-- the numbers
+pub mod Times
 -- calls, their answers, and what a history of them says
 pub mod History
 -- since when an address is claimed

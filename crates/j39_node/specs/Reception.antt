@@ -18,6 +18,7 @@ use Rattle.j39_transport.specs.Signals.{Signal, Abort, Packet}
 use Rattle.j39_node.specs.History.{reached, Who, Message, Call, accepted, acknowledged, due, holds, asks_with, is_claim, is_session, is_smaller, is_some, is_transfer, message_of, stamp_at, of_other, is_acknowledgment}
 use Rattle.j39_node.specs.History.Call.{At, ReleaseTransfer}
 use Rattle.j39_node.specs.History.Act.{Hear, Tick, TakeFrame}
+use Rattle.j39_node.specs.Times.{called_time, last_stamp, places}
 
 -- ---- who holds an address (J1939-81, 4.2.2)
 
@@ -55,7 +56,7 @@ heard_at (At now Tick ∷ H) = now
 heard_at (call ∷ H) = heard_at H
 
 abbrev pub later : ℕ → ℕ → ℕ
-later clock step = min (clock + step) 9999999999999999
+later clock step = min (clock + step) last_stamp
 
 abbrev pub time_heard : List Call → ℕ
 time_heard [] = 0
@@ -82,10 +83,10 @@ calls_claims holder f (Some c) = not (is_some (holder c.address) c.name)
 -- claim or request that was taken
 abbrev pub called : Who → List Call → ℕ
 called w [] = 0
-called w (At now (Hear f) ∷ H) = if calls_claims (holder w H) f (claim_of f) then 1250000 else called w H - (now - heard_at H)
+called w (At now (Hear f) ∷ H) = if calls_claims (holder w H) f (claim_of f) then called_time else called w H - (now - heard_at H)
 called w (At now Tick ∷ H) = called w H - (now - heard_at H)
 called w (At now (TakeFrame (Some f)) ∷ H) =
-    if is_claim f || (is_message f && asks_claims f) then 1250000 + (now - heard_at H) else called w H
+    if is_claim f || (is_message f && asks_claims f) then called_time + (now - heard_at H) else called w H
 called w (call ∷ H) = called w H
 
 -- the address that its holder claims again, where nothing called for that
@@ -146,7 +147,7 @@ reply_from own a bytes = record { source = own; destination = Some a; priority =
 abbrev pub replied : ℕ → ℕ → Option ToSend → List Message → List Message
 replied own a None replies = replies
 replied own a (Some f) replies =
-    if nat_lt (length (without a replies)) 16 then without a replies ++ reply_from own a f.bytes ∷ [] else without a replies
+    if nat_lt (length (without a replies)) places then without a replies ++ reply_from own a f.bytes ∷ [] else without a replies
 
 abbrev pub takes : ℕ → ℕ → ℕ → RecvResult → Reception → Reception
 takes stamp since a x r = record {

@@ -16,6 +16,7 @@ use Rattle.j39_node.specs.History.{Who, Message, Call, Resting, NoneRests, PairR
 use Rattle.j39_node.specs.Reception.{holder, is_move, is_waiting}
 use Rattle.j39_node.specs.History.Call.{At, TakeTransferEnded}
 use Rattle.j39_node.specs.History.Act.{Hear, TakeFrame, Transfer}
+use Rattle.j39_node.specs.Times.{last_count, last_stamp, rest_time, slack}
 
 -- what may be transferred: what may be broadcast, to the address of another
 abbrev pub can_transfer : Who → ℕ → ℕ → List ℕ → Bool
@@ -42,7 +43,7 @@ age (call ∷ H) = age H
 
 -- this time, as a stamp can tell it
 abbrev pub clock : ℕ → ℕ
-clock time = min time 9999999999999999
+clock time = min time last_stamp
 
 abbrev pub clock_at : List Call → ℕ → ℕ
 clock_at H now = clock (age H + step H now)
@@ -152,7 +153,7 @@ next_transfer w H now = transfer_by (open_transfer w H) (clock_at H now)
 
 -- one is open, or as many as there are tokens were accepted
 abbrev pub is_engaged : Option Running → ℕ → Bool
-is_engaged None count = nat_eq count 18446744073709551615
+is_engaged None count = nat_eq count last_count
 is_engaged (Some t) count = true
 
 -- how it ended: acknowledged, aborted, or before that its destination was gone, or the address lost
@@ -192,7 +193,7 @@ rests_after Gone = true
 abbrev pub rest : Who → List Call → ℕ
 rest w [] = w.brought.rests_until
 rest w (At now act ∷ H) = rest w H - step H now
-rest w (TakeTransferEnded (Some x) ∷ H) = if rests_after x.1 then 4000000 else rest w H
+rest w (TakeTransferEnded (Some x) ∷ H) = if rests_after x.1 then rest_time else rest w H
 rest w (call ∷ H) = rest w H
 
 -- where others still rest when one begins to, all do
@@ -243,7 +244,7 @@ transfer_in (Some t) now = running_in t now
 
 -- in how long a frame of the open broadcast is, by what is left of its pause
 abbrev pub packet_in : Bool → ℕ → Option ℕ
-packet_in left pause = if left then Some (pause - 100000) else None
+packet_in left pause = if left then Some (pause - slack) else None
 
 abbrev pub sooner : Option ℕ → Option ℕ → Option ℕ
 sooner None other = other
