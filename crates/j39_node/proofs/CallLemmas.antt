@@ -1,5 +1,7 @@
 -- A call more.
-use Rattle.j39_node.proofs.Common.{le-ltb, [], if◌then◌else◌, ◌&&◌, ◌*◌, ◌++◌, ◌+◌, ◌-◌, ◌<◌, ◌||◌, ◌∙◌, ◌∷◌, ◌≡◌, ◌≤◌, accepted, Acknowledge, acknowledged, acknowledgment, Address, address_after, after, Again, age, all_transfers, anew, Answer, answer_to_acknowledge, answer_to_broadcast, answer_to_send, answer_to_transfer, ap, AreAnswered, arith, Asked, asked, asked_by, AskEnding, asking_of, AskRecord, asks_claims, asks_with, At, at_in, begun, blank, Bool, breaks_it, Broadcast, broadcast_from, broadcasts, Busy, Call, called, calls_for_claim, can_claim, can_send, claim_address, claim_due, claim_from, claim_goes, claim_of, Claimed, claimed, claimed_again, Claims, claims, clock, clock_at, closed, comes, content, control_of, Controller, counted, delayed, Done, double, Draft, drop, drop-map, Due, due, end_of, ended, Ending, ending_of, ends_by, eqb-true, Err, false, FrameRecord, fresh, gives_way, got, handed, has_packets, has_place, has_token, Hear, heard, heard_at, heard_by, hearing, hearing_after, hearing_of, HearingRecord, hears_if, hears_it, hears_with, held_at, Hold, hold_acknowledged, hold_after, hold_asked, hold_claimed, hold_opens, hold_spoken, hold_went, holder, holder_in, holds, holds_back, IfSome, in_broadcast, in_session, Incoming, incoming_after, incoming_of, IncomingRecord, inl, inr, Is, is_acknowledgment, is_another, is_apart, is_blank, is_busy, is_claim, is_coming, is_double, is_engaged, is_for_program, is_full, is_held, is_left, is_lost, is_move, is_open, is_out, is_packet, is_refusal_due, is_replaced, is_reply, is_resting, is_same, is_served, is_session, is_smaller, is_there, is_turn, is_unheard, IsAnswered, IsApart, IsFit, IsNamed, kept, known, Knows, lane_after, lane_of, later, latest, leaves, leaves_it, left, left_at, length, length-drop, length-set, less, List, Lost, lost, lt-ltb, ltb-false, ltb-true, made, made_by, made_of, made_whole, map, marks, max, may_claim, may_go, Message, message_from, message_of, MessageRecord, min, missed, missed_news, moment, Move, Nack, named_in, nat_eq, nat_le, nat_lt, newly, news_after, next_acknowledgment, next_due, next_frame, next_packet, next_renewed, next_transfer, next_transfer_ended, next_turn, next_withdrawn, None, not, NotClaimed, nothing, offered, Ok, older, Open, open_ask, open_broadcast, open_transfer, OpenBroadcast, opened, Option, option_map, option_or, other, Outgoing, owes_claim, packet_by, packets, packets_in, passed, past, patience, pause, paused, place_of, port_after, port_of, posted, reached, Ready, ready, ready_in, received_by, reception, ReceptionRecord, refl, refusal_by, Refused, Renew, Renews, Reply, Request, request_by, requests, rest, restarts, rested, resting, resting_by, rests_after, Running, running, Said, said_by, Send, sends_if, session_by, silence, Single, slice_get, slice_get_past, slice_get_within, slice_set, Some, sooner, stamp_at, stamp_micros, stamped, Standing, standing_of, stands, step, still, subst, suc, sym, TakeEnded, TakeFrame, taken_by, TakeRequest, TakeTransferEnded, Tick, ticks, time_heard, told, told_claims, Transfer, transfer_by, transfer_end, transfer_in, TransferEnding, true, Turn, turn_frame, turn_of, turns, unclaimed, unclaims, unheard_by, unheard_news, Untold, View, view, wait, waiting, Who, who_of, whole, whole_of, with_called, with_reception, with_refusal, with_replies, with_request, Withdraw, Withdrawn, yields, ℕ, leb-true}
+use Rattle.j39_node.proofs.KindLemmas.{Kind, kind, kind_is, single, of_session}
+use Rattle.j39_node.proofs.SoundLemmas.FrameCase.{claims as claims_first, acknowledges, replies, sends, packs, transfers}
+use Rattle.j39_node.proofs.Common.{le-ltb, [], if◌then◌else◌, ◌&&◌, ◌*◌, ◌++◌, ◌+◌, ◌-◌, ◌<◌, ◌||◌, ◌∙◌, ◌∷◌, ◌≡◌, ◌≤◌, accepted, Acknowledge, acknowledged, acknowledgment, Address, address_after, after, Again, age, all_transfers, anew, Answer, answer_to_acknowledge, answer_to_broadcast, answer_to_send, answer_to_transfer, ap, AreAnswered, arith, Asked, asked, asked_by, AskEnding, asking_of, AskRecord, asks_claims, asks_with, At, at_in, begun, blank, Bool, breaks_it, Broadcast, broadcast_from, broadcasts, Busy, Call, called, calls_for_claim, can_claim, can_send, claim_address, claim_due, claim_from, claim_goes, claim_of, Claimed, claimed, claimed_again, Claims, claims, clock, clock_at, closed, comes, content, control_of, Controller, counted, delayed, Done, double, Draft, drop, drop-map, Due, due, end_of, ended, Ending, ending_of, ends_by, eqb-true, Err, false, FrameRecord, fresh, gives_way, got, handed, has_packets, has_place, has_token, Hear, heard, heard_at, heard_by, hearing, hearing_after, hearing_of, HearingRecord, hears_if, hears_it, hears_with, held_at, Hold, hold_acknowledged, hold_after, hold_asked, hold_claimed, hold_opens, hold_spoken, hold_went, holder, holder_in, holds, holds_back, IfSome, in_broadcast, in_session, Incoming, incoming_after, incoming_of, IncomingRecord, inl, inr, Is, is_another, is_apart, is_blank, is_busy, is_claim, is_coming, is_double, is_engaged, is_for_program, is_full, is_held, is_left, is_lost, is_open, is_out, is_refusal_due, is_replaced, is_resting, is_same, is_served, is_smaller, is_there, is_turn, is_unheard, IsAnswered, IsApart, IsFit, IsNamed, kept, known, Knows, lane_after, lane_of, later, latest, leaves, leaves_it, left, left_at, length, length-drop, length-set, less, List, Lost, lost, lt-ltb, ltb-false, ltb-true, made, made_by, made_of, made_whole, map, marks, max, may_claim, may_go, Message, message_from, message_of, MessageRecord, min, missed, missed_news, moment, Move, Nack, named_in, nat_eq, nat_le, nat_lt, newly, news_after, next_acknowledgment, next_due, next_frame, next_packet, next_renewed, next_transfer, next_transfer_ended, next_turn, next_withdrawn, None, not, NotClaimed, nothing, offered, Ok, older, Open, open_ask, open_broadcast, open_transfer, OpenBroadcast, opened, Option, option_map, option_or, other, Outgoing, owes_claim, packet_by, packets, packets_in, passed, past, patience, pause, paused, place_of, port_after, port_of, posted, reached, Ready, ready_in, received_by, reception, ReceptionRecord, refl, refusal_by, Refused, Renew, Renews, Reply, Request, request_by, requests, rest, restarts, rested, resting, resting_by, rests_after, Running, running, Said, said_by, Send, sends_if, session_by, silence, Single, slice_get, slice_get_past, slice_get_within, slice_set, Some, sooner, stamp_at, stamp_micros, stamped, Standing, standing_of, stands, step, still, subst, suc, sym, TakeEnded, TakeFrame, taken_by, TakeRequest, TakeTransferEnded, Tick, ticks, time_heard, told, told_claims, Transfer, transfer_by, transfer_end, transfer_in, TransferEnding, true, Turn, turn_frame, turn_of, turns, unclaimed, unclaims, unheard_by, unheard_news, Untold, View, view, wait, waiting, Who, who_of, whole, whole_of, with_called, with_reception, with_refusal, with_replies, with_request, Withdraw, Withdrawn, yields, ℕ, leb-true}
 use Rattle.j39_node.specs.Reception.{is_waiting}
 use Rattle.j39_node.specs.Transfers.{packet_in}
 use Rattle.j39_node.specs.Is.{hears}
@@ -10,10 +12,10 @@ use Rattle.j39_node.specs.declared.transfers.Open as transfers
 use Rattle.j39_node.proofs.AnswerCases.{answer_is}
 use Rattle.j39_node.proofs.AskLemmas.{ask_heard, ask_more, takes, token_of, ask_withdrawn}
 use Rattle.j39_node.proofs.ReceptionLaws.{made_is}
-use Rattle.j39_node.proofs.ReceptionLemmas.{leaves_is, replied_get, tidy, again_is, calls_is, leaves_still, no_reply}
+use Rattle.j39_node.proofs.ReceptionLemmas.{leaves_is, tidy, again_is, calls_is, leaves_still}
 use Rattle.j39_node.proofs.HearingLemmas.{always, broken_news, claimed_on, either_news, hearing_same, heard_on, is_hearing, leaves_on, news_same, missed_one}
 use Rattle.j39_node.proofs.QueueLemmas.{length_one_more, length_map, map_append, length_rest, in_rest, not_in_rest, First, drop_append, get_at, get_map, get_of_drop}
-use Rattle.j39_node.proofs.SoundLemmas.{apart_is, reply_is, IsTurn, frame_there, is_directed, overdue_due, packet_there, some_at, turn_is, turned, sound, own_of, due_get, due_taken, claim_taken, message_taken, plain_taken, frame_by, front_length, held_not_lost, holding_not_lost, lost_older, read, single_taken, claim_single, no_packet, packet_session, reply_taken, packet_taken, no_transfer, transfer_taken, no_move, reply_no_move, is_moved, Sound, withdraw_case}
+use Rattle.j39_node.proofs.SoundLemmas.{IsTurn, frame_there, overdue_due, packet_there, some_at, turn_is, sound, frame_by, front_length, held_not_lost, holding_not_lost, lost_older, read, Sound, withdraw_case, acknowledged_is_due}
 use Rattle.j39_node.proofs.FrameLemmas.{at_now}
 use Rattle.j39_node.proofs.PortLemmas.{clock_is, is_port, ported, replaced_is}
 use Rattle.j39_node.proofs.RenewLemmas.{latest_rest, latest_is, set_rest}
@@ -81,36 +83,6 @@ packet_next w H c now left h e =
 
 -- ---- a frame is taken
 
--- what it is: a claim, an acknowledgment, one of a session, of a broadcast, the first reply, one of the open transfer
-pub record Kind : Type 0 where
-  pub claim : Bool
-  pub acknowledgment : Bool
-  pub session : Bool
-  pub packet : Bool
-  pub reply : Bool
-  pub move : Bool
-
-abbrev pub kind : Who → List Call → FrameRecord → Kind
-kind w H f = record {
-  claim = is_claim f;
-  acknowledgment = is_acknowledgment f;
-  session = is_session f;
-  packet = is_packet f;
-  reply = is_reply (reception w H).replies f;
-  move = is_move w H f;
-}
-
-abbrev single : Bool → Bool → Kind
-single c a = record { claim = c; acknowledgment = a; session = false; packet = false; reply = false; move = false }
-
-abbrev of_session : Bool → Bool → Bool → Kind
-of_session p r m = record { claim = false; acknowledgment = false; session = true; packet = p; reply = r; move = m }
-
-kind_single : (w : Who) (H : List Call) (f : FrameRecord) (c a : Bool) → is_claim f ≡ c → is_acknowledgment f ≡ a → is_session f ≡ false → kind w H f ≡ single c a
-kind_single w H f c a e g k =
-    let t = no_transfer f k in
-    λ i. record { claim = e i; acknowledgment = g i; session = k i; packet = no_packet f k i; reply = no_reply (reception w H).replies f t i; move = no_move w H f t i }
-
 -- what a history says behind a frame of this kind
 abbrev framed : Who → List Call → ℕ → FrameRecord → Kind → View
 framed w H now f k =
@@ -165,16 +137,16 @@ told_is : (w : Who) (H : List Call) (now : ℕ) (f : FrameRecord) → is_claim f
 told_is w H now f e = ap (λ (b : Bool). if b then told_claims w H ++ f ∷ [] else told_claims w H) e
 
 -- its own claim is taken
-incoming_claimed : (w : Who) (H : List Call) (old : Controller) (now : ℕ) (f : FrameRecord) (table : Claims) → Is w H old → is_claim f ≡ true
+incoming_claimed : (w : Who) (H : List Call) (old : Controller) (now : ℕ) (f : FrameRecord) (table : Claims) → Is w H old → kind w H f ≡ single true false
     → Knows table (told_claims w (At now (TakeFrame (Some f)) ∷ H))
     → with_called (1250000 + (now - (incoming_of old.incoming).moment))
     (with_reception (left (leaves (holder_in old.holders) (holder_in table) (incoming_of old.incoming).reception.session) (incoming_of old.incoming).reception) (incoming_of old.incoming))
     ≡ incoming_after w (At now (TakeFrame (Some f)) ∷ H)
-incoming_claimed w H old now f table h e knows =
+incoming_claimed w H old now f table h is knows =
     (λ i. let x = (h.shown i).incoming in with_called (1250000 + (now - x.moment)) (with_reception (left (leaves (holder_in old.holders) (holder_in table) x.reception.session) x.reception) x))
     ∙ (ap (λ (b : Bool). with_called (1250000 + (now - heard_at H)) (with_reception (left b (reception w H)) (incoming_after w H)))
     (leaves_is w old.holders table H (At now (TakeFrame (Some f)) ∷ H) (reception w H).session h.holders knows)
-    ∙ sym (ap (λ (k : Kind). (framed w H now f k).incoming) (kind_single w H f true _ e refl (claim_single f e))))
+    ∙ sym (ap (λ (k : Kind). (framed w H now f k).incoming) is))
 
 -- a frame is heard
 incoming_heard : (w : Who) (H : List Call) (old : Controller) (when : ℕ) (f : FrameRecord) (table : Claims) (new : Incoming) (gone held : Bool) → Is w H old
@@ -330,9 +302,6 @@ taken w H old new now (Some f) x mid h p owes held none turn g m e d request cal
     let t = s.in_turn (holding_not_lost w H now held) in
     let i = in_rest posted old.outgoing.items x (accepted w H) (length (told H)) (reached H) old.taken (ap (λ (v : View). v.outgoing) h.shown) (ap (λ (v : View). v.taken) h.shown) t g in
     let k : stamped f ≡ (now, (posted x).1) = cc in
-    let own = own_of w H (posted x) h.answered i in
-    let n = message_taken w f now (posted x) k own in
-    let l = plain_taken w f now (posted x) k own in
     let number = s.numbered (reached H) (posted x) i in
     let asks : calls ≡ asks_claims f = c2 ∙ ap (λ (y : ℕ × Message). asks_with y.1 60928) (sym k) in
     let is : request ≡ has_token (open_ask H) (reached H) =
@@ -340,7 +309,7 @@ taken w H old new now (Some f) x mid h p owes held none turn g m e d request cal
     frames (single false false) h (ap (λ c. c.holders) e)
     (ap Some k ∙ sym (next_is w H now None (Some (posted x).1) owes held none
     (other_is w H now (Some Single) (sym (turn_next w H old now mid h p held) ∙ turn) ∙ ap (option_map content) i)))
-    (kind_single w H f false false n l (single_taken w f now (posted x) k own)) refl
+    (kind_is w H now f h.answered (sends (posted x) owes held (none, sym (turn_next w H old now mid h p held) ∙ turn) i k)) refl
     (ap (view w) e ∙ λ i. record (h.shown i) {
       hold = (a3 ∙ λ i. hold_asked (is i) (p i)) i;
       taken = (let a = (ap (λ (v : View). v.taken) h.shown) in let b = past_queued w H old.outgoing.items (length (told H)) (suc old.taken) s (ap (λ (v : View). v.outgoing) h.shown) in
@@ -370,11 +339,10 @@ taken_packet w H old new now f mid h p owes held none turn m e e0 e1 more =
     go None q i = absurd (cc)
     go (Some y) q i =
         let k : stamped f ≡ (now, y) = cc in
-        let is = packet_taken f now y (open_broadcast w H) (length (packets H)) (pause H - step H now) k q in
-        let t = packet_session f is.2 in
+        let next = sym (turn_next w H old now mid h p held) ∙ turn in
         frames (of_session true false false) h (ap (λ c. c.holders) e)
-        (i ∙ sym (next_is w H now None (Some y) owes held none (other_is w H now (Some Packet) (sym (turn_next w H old now mid h p held) ∙ turn) ∙ q)))
-        (λ i. record { claim = is.0 i; acknowledgment = is.1 i; session = t.0 i; packet = is.2 i; reply = no_reply (reception w H).replies f t.1 i; move = no_move w H f t.1 i }) refl
+        (i ∙ sym (next_is w H now None (Some y) owes held none (other_is w H now (Some Packet) next ∙ q)))
+        (kind_is w H now f h.answered (packs y owes held (none, next) q k)) refl
         (ap (view w) e ∙ λ i. record (h.shown i) {
           hold = (e0 ∙ ap paused p) i;
           lane = (ap (lane_of w) e1 ∙ λ i. record (h.shown i).lane {
@@ -391,18 +359,14 @@ pub taken_transfer : (w : Who) (H : List Call) (old new : Controller) (now : ℕ
 taken_transfer w H old new now f mid h p owes held none turn u e e0 e1 e2 e3 =
     go (next_transfer w H now) refl (u ∙ ap (option_map (at_now now)) (transfer_next w H old now mid.age h (ap (λ (k : Hold). k.age) p)))
   where
-    due_now : (ready w H now).transfer ≡ true
-    due_now = (turned w H now (Some Move) (sym (turn_next w H old now mid h p held) ∙ turn)).1
-
     go : (o : Option Message) → next_transfer w H now ≡ o → Some (stamped f) ≡ option_map (at_now now) o → Is w (At now (TakeFrame (Some f)) ∷ H) new
     go None q i = absurd (cc)
     go (Some y) q i =
         let k : stamped f ≡ (now, y) = cc in
-        let is = transfer_taken w H now f y h.answered k q in
-        let apart = apart_is w H now f y q (ap (λ (z : ℕ × Message). z.1) k) due_now in
+        let next = sym (turn_next w H old now mid h p held) ∙ turn in
         frames (of_session false false true) h (ap (λ c. c.holders) e)
-        (i ∙ sym (next_is w H now None (Some y) owes held none (other_is w H now (Some Move) (sym (turn_next w H old now mid h p held) ∙ turn) ∙ q)))
-        (λ i. record { claim = is.claim i; acknowledgment = is.plain i; session = is.session i; packet = is.packet i; reply = is.transfer i && apart i; move = is_moved w H f is.transfer apart i }) refl
+        (i ∙ sym (next_is w H now None (Some y) owes held none (other_is w H now (Some Move) next ∙ q)))
+        (kind_is w H now f h.answered (transfers y owes held (none, next) q k)) refl
         (ap (view w) e ∙ λ i. record (h.shown i) {
           hold = (e3 ∙ ap hold_went p) i;
           port = is_port _ _
@@ -418,9 +382,9 @@ taken_due w H old new now None x mid h p owes held next first m e e0 = absurd (c
 taken_due w H old new now (Some f) x mid h p owes held next first m e e0 =
     let s = sound w H h.answered in
     let k : stamped f ≡ (now, refusal_by w x) = cc in
-    let is = due_taken w f now (refusal_by w x) k (due_get w (due w H) (length (acknowledged H)) (refusal_by w x) s.desk.0 first.is) in
+    let due_now = acknowledged_is_due w H now (refusal_by w x) next in
     frames (single false true) h (ap (λ c. c.holders) e) (ap Some k ∙ sym (next_is w H now (Some (refusal_by w x)) _ owes held next refl))
-    (kind_single w H f false true is.0 is.1 is.2) refl
+    (kind_is w H now f h.answered (acknowledges (refusal_by w x) owes held due_now.0 k due_now.1)) refl
     (ap (view w) e ∙ λ i. record (h.shown i) {
       hold = (e0 ∙ (ap hold_acknowledged p ∙ λ i. record (led w H now) { turns = turns_more (turns H) i })) i;
       acknowledgments = (first.rest ∙ ap (λ (n : ℕ). drop n (due w H)) (sym (length_one_more (acknowledged H) (message_of f)))) i;
@@ -437,12 +401,11 @@ taken_reply w H old new now (Some f) x mid h p owes held none turn first m e e0 
     let own : old.incoming.receiver.state.own ≡ w.address = ap (λ (v : View). v.incoming.own) h.shown in
     let k : stamped f ≡ (now, said_by w.address x) = cc in
     let at : slice_get (reception w H).replies 0 ≡ Some (said_by w.address x) = first.is ∙ ap (λ (a : ℕ). Some (said_by a x)) own in
-    let is = reply_taken w.address f now (said_by w.address x) k (replied_get w.address (reception w H).replies 0 _ (tidy w H).replies at) in
-    let that = ap (λ (y : ℕ × Message). y.1) k in
+    let next = sym (turn_next w H old now mid h p held) ∙ turn in
     frames (of_session false true false) h (ap (λ c. c.holders) e)
     (ap Some k ∙ sym (next_is w H now None (Some (said_by w.address x)) owes held none
-    (other_is w H now (Some Reply) (sym (turn_next w H old now mid h p held) ∙ turn) ∙ at)))
-    (λ i. record { claim = is.0 i; acknowledgment = is.1 i; session = is.2 i; packet = is.3 i; reply = is_directed f is.2 is.3 i && reply_is w H f _ at that i; move = reply_no_move w H f _ at that i }) refl
+    (other_is w H now (Some Reply) next ∙ at)))
+    (kind_is w H now f h.answered (replies (said_by w.address x) owes held (none, next) at k)) refl
     (ap (view w) e ∙ λ i. record (h.shown i) {
       hold = (e1 ∙ ap hold_spoken p) i;
       incoming = (ap incoming_of e0 ∙ λ i. with_replies (first.rest i) (h.shown i).incoming) i;
@@ -1069,7 +1032,8 @@ claims_more w H old new now f mid a h p owes e0 m at knows drops left_by broken 
     ∙ told_address (step H now) (address_after w H)))) in
     let k : stamped f ≡ (now, claim_from (who_of w.brought old.own) a) = cc in
     let j : stamped f ≡ (now, claim_from w (claim_address w (address_after w H))) = k ∙ ap (λ (x : Message). (now, x)) from in
-    let n = claim_taken f now w (claim_address w (address_after w H)) j in
+    let kind_now = kind_is w H now f h.answered (claims_first owes j) in
+    let n = ap (λ (k : Kind). k.claim) kind_now in
     let knows_now : Knows new.holders (told_claims w (At now (TakeFrame (Some f)) ∷ H)) = subst (Knows new.holders) (sym (told_is w H now f n)) (knows (told_claims w H) h.holders) in
     let on = claimed_on w H now f old.holders new.holders left_by broken p1 p2 (hearing_of old.hearing) (hearing_of new.hearing) (ap (λ (v : View). v.hearing) h.shown) h.holders knows_now t1 t2 t3 t4 t5 t6 in
     record {
@@ -1077,8 +1041,8 @@ claims_more w H old new now f mid a h p owes e0 m at knows drops left_by broken 
         hold = (e0 ∙ (ap hold_claimed p ∙ λ i. record (led w H now) { standing = claims_after (older (step H now) (address_after w H)) i; owes_claim = false; turns = turns_more (turns H) i })) i;
         news = (u ∙ is_broken w H broken _ old.news (ap (λ (v : View). v.news) h.shown) on.says) i;
         hearing = is_hearing _ _ on.current on.missed i;
-        incoming = (drops (kept_named w H old h) ∙ incoming_claimed w H old now f new.holders h n knows_now) i;
-      }) ∙ ap (λ (k : Kind). record (framed w H now f k) { incoming = incoming_after w (At now (TakeFrame (Some f)) ∷ H) }) (sym (kind_single w H f true _ n refl (claim_single f n))));
+        incoming = (drops (kept_named w H old h) ∙ incoming_claimed w H old now f new.holders h kind_now knows_now) i;
+      }) ∙ ap (λ (k : Kind). record (framed w H now f k) { incoming = incoming_after w (At now (TakeFrame (Some f)) ∷ H) }) (sym kind_now));
       answered = (
         h.answered,
         ap Some j ∙ sym (ap (λ (b : Bool). frame_by b (holds w H now) (next_acknowledgment w H now) (other w H now) (claim_from w (claim_address w (address_after w H))) now) owes),

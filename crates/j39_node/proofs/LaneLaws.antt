@@ -1,15 +1,15 @@
 -- The laws of broadcasts.
-use Rattle.j39_node.proofs.Common.{[], if◌then◌else◌, ◌&&◌, ◌++◌, ◌+◌, ◌-◌, ◌<◌, ◌↔◌, ◌∙◌, ◌∷◌, ◌≡◌, ◌≤◌, ◌⊎◌, accepted, acknowledged, address_after, all_frames, and_from, ap, AreAnswered, arith, At, Bool, Broadcast, broadcast_end, broadcasts, Call, can_broadcast, Controller, Done, due, Ending, eq-eqb, eqb-true, Err, false, first_frames, frame_of, FrameRecord, Full, gives_way, has_packets, holds, inl, inr, Is, is_acknowledgment, is_busy, is_claim, is_held, is_left, is_lost, is_open, is_overdue, is_packet, is_there, IsTrue, length, List, long_by, Message, message_of, MessageRecord, moment, Move, nat_le, nat_lt, next_acknowledgment, next_frame, next_long, next_packet, next_transfer, None, Ok, open_broadcast, Option, packet_by, packets, packets_of, PacketSince, passed_in, pause, reached, ready, reception, refl, Refused, Reply, Result, Single, slice_get, Some, step, suc, sym, TakeBroadcastEnded, TakeFrame, told_broadcasts, true, Who, Withdrawn, yields, zero, ℕ, not_both, or_parts}
+use Rattle.j39_node.proofs.Common.{[], if◌then◌else◌, ◌&&◌, ◌++◌, ◌+◌, ◌-◌, ◌<◌, ◌↔◌, ◌∙◌, ◌∷◌, ◌≡◌, ◌≤◌, ◌⊎◌, accepted, acknowledged, address_after, all_frames, and_from, ap, AreAnswered, arith, At, Bool, Broadcast, broadcast_end, broadcasts, Call, can_broadcast, Controller, Done, due, Ending, eq-eqb, eqb-true, Err, false, first_frames, frame_of, FrameRecord, Full, gives_way, has_packets, holds, inl, inr, Is, is_acknowledgment, is_busy, is_claim, is_held, is_left, is_lost, is_open, is_overdue, is_packet, is_there, IsTrue, length, List, long_by, Message, message_of, MessageRecord, moment, Move, nat_le, nat_lt, next_acknowledgment, next_frame, next_long, next_packet, next_transfer, None, Ok, open_broadcast, Option, packet_by, packets, packets_of, PacketSince, passed_in, pause, reached, ready, refl, Refused, Reply, Result, Single, slice_get, Some, step, suc, sym, TakeBroadcastEnded, TakeFrame, told_broadcasts, true, Who, Withdrawn, yields, zero, ℕ, not_both, or_parts}
 use Rattle.j39_node.specs.declared.turn.Turn.TheVariants.{Packet}
 use Rattle.j39_node.proofs.QueueLemmas.{length_one_more}
-use Rattle.j39_node.proofs.SoundLemmas.{address_is, packet_taken, IsTurn, none_at, none_next, packet_there, turned, FrameCase, frame_case, packet_case, sound, claim_taken, claim_single, due_get, due_taken, no_packet, own_of, pause_is, reply_taken, single_taken, no_packet, transfer_taken}
-use Rattle.j39_node.proofs.ReceptionLemmas.{replied_get, tidy}
+use Rattle.j39_node.proofs.SoundLemmas.{address_is, packet_taken, IsTurn, none_at, none_next, packet_there, turned, FrameCase, frame_case, packet_case, sound, claim_taken, claim_single, due_get, due_taken, no_packet, pause_is, no_packet}
 use Rattle.j39_node.proofs.SoundLemmas.FrameCase.{claims, acknowledges, replies, sends, packs, transfers}
 use Rattle.j39_node.proofs.LaneLemmas.{LaneEnd, lane_end, Opened, Laned, laned, closed, stands_open, opened_by}
 use Rattle.j39_node.proofs.AnswerCases.{broadcast_accepts}
 use Rattle.j39_node.proofs.AnswerCases as cases
 use Rattle.j39_node.proofs.LaneLemmas.LaneEnd.{complete, broken}
 use Rattle.j39_node.proofs.LawLemmas.{all_acknowledged, past_end, sent_within, either}
+use Rattle.j39_node.proofs.KindLemmas.{packs_it}
 
 -- ---- what broadcast answers
 
@@ -76,11 +76,6 @@ packed_by : (w : Who) (H : List Call) (now : ℕ) (f : FrameRecord) → AreAnswe
 packed_by w H now f right p = go
   where
     go : FrameCase w H now f → Packed w H now f
-    go (claims o e) = absurd (not_both _ (no_packet f (claim_single f (claim_taken f now w _ e))) p)
-    go (acknowledges m o k g e way) = absurd (not_both _ (no_packet f (due_taken w f now m e (due_get w (due w H) (length (acknowledged H)) m (sound w H right).desk.0 g)).2) p)
-    go (replies m o k n g e) = absurd (not_both _ (reply_taken w.address f now m e (replied_get w.address (reception w H).replies 0 m (tidy w H).replies g)).3 p)
-    go (sends x o k n g e) = absurd (not_both _ (no_packet f (single_taken w f now x e (own_of w H x right g))) p)
-    go (transfers m o k n g e) = absurd (not_both _ (transfer_taken w H now f m right e g).packet p)
     go (packs m o k n g e) =
         let x = packet_case (open_broadcast w H) (length (packets H)) (pause H - step H now) m g in
         record {
@@ -98,6 +93,7 @@ packed_by w H now f right p = go
         waits : IsTurn (yields w H) (ready w H now) (Some Packet) → IsTrue (is_overdue w H now) ⊎ (nat_lt (reached H) (length (accepted w H)) ≡ false)
         waits (inl o) = inl o
         waits (inr t) = inr t.1
+    go case = absurd (not_both _ (packs_it w H now f right case) p)
 
 packed : (w : Who) (H : List Call) (c : Controller) (now : ℕ) (f : FrameRecord) → Is w (At now (TakeFrame (Some f)) ∷ H) c → is_packet f ≡ true → Packed w H now f
 packed w H c now f is p = packed_by w H now f is.answered.0 p (frame_case w H now f is.answered.1)

@@ -1,10 +1,10 @@
 -- What every answered history says of broadcasts.
-use Rattle.j39_node.proofs.Common.{[], ◌++◌, ◌-◌, ◌<◌, ◌||◌, ◌∙◌, ◌∷◌, ◌≡◌, ◌≤◌, acknowledged, address_after, answer_to_broadcast, ap, AreAnswered, arith, At, Bool, Broadcast, broadcast_end, broadcast_from, broadcasts, Call, Done, due, Ending, false, first_frames, frame_of, FrameRecord, is_lost, is_open, is_packet, length, List, ltb-true, Message, MessageRecord, nat_lt, None, Ok, open_broadcast, Option, packets, packets_of, pause, reception, refl, slice_get, Some, step, subst, suc, sym, TakeBroadcastEnded, TakeFrame, told_broadcasts, true, Who, Withdrawn, ℕ, ltb-false}
+use Rattle.j39_node.proofs.Common.{[], ◌++◌, ◌-◌, ◌<◌, ◌||◌, ◌∙◌, ◌∷◌, ◌≡◌, ◌≤◌, address_after, answer_to_broadcast, ap, AreAnswered, arith, At, Bool, Broadcast, broadcast_end, broadcast_from, broadcasts, Call, Done, Ending, false, first_frames, frame_of, FrameRecord, is_lost, is_open, is_packet, length, List, ltb-true, Message, MessageRecord, nat_lt, None, Ok, open_broadcast, Option, packets, packets_of, pause, refl, slice_get, Some, step, subst, suc, sym, TakeBroadcastEnded, TakeFrame, told_broadcasts, true, Who, Withdrawn, ℕ, ltb-false}
 use Rattle.j39_node.proofs.QueueLemmas.{length_one_more}
-use Rattle.j39_node.proofs.SoundLemmas.{FrameCase, PacketCase, frame_case, packet_case, packet_taken, packets_is, sound, claim_taken, claim_single, due_get, due_taken, no_packet, own_of, reply_taken, single_taken, no_packet, transfer_taken}
-use Rattle.j39_node.proofs.ReceptionLemmas.{replied_get, tidy}
-use Rattle.j39_node.proofs.SoundLemmas.FrameCase.{claims, acknowledges, replies, sends, packs, transfers}
+use Rattle.j39_node.proofs.SoundLemmas.{FrameCase, PacketCase, frame_case, packet_case, packet_taken, packets_is}
+use Rattle.j39_node.proofs.SoundLemmas.FrameCase.{packs}
 use Rattle.j39_node.proofs.AnswerCases.{broadcast_accepts}
+use Rattle.j39_node.proofs.KindLemmas.{packs_it}
 
 -- ---- what broadcast answers
 
@@ -87,17 +87,13 @@ lane_frame w H now f right case h = go case
     same e = subst (λ xs. Laned w (length (told_broadcasts H)) (broadcasts w H) xs (open_broadcast w H)) (sym (packets_is H now f false e)) h
 
     go : FrameCase w H now f → Laned w (length (told_broadcasts H)) (broadcasts w H) (packets (At now (TakeFrame (Some f)) ∷ H)) (open_broadcast w H)
-    go (claims o e) = same (no_packet f (claim_single f (claim_taken f now w _ e)))
-    go (acknowledges m o k g e way) = same (no_packet f (due_taken w f now m e (due_get w (due w H) (length (acknowledged H)) m (sound w H right).desk.0 g)).2)
-    go (replies m o k n g e) = same (reply_taken w.address f now m e (replied_get w.address (reception w H).replies 0 m (tidy w H).replies g)).3
-    go (sends x o k n g e) = same (no_packet f (single_taken w f now x e (own_of w H x right g)))
-    go (transfers m o k n g e) = same (transfer_taken w H now f m right e g).packet
     go (packs m o k n g e) =
         let is = packet_taken f now m (open_broadcast w H) (length (packets H)) (pause H - step H now) e g in
         subst (λ xs. Laned w (length (told_broadcasts H)) (broadcasts w H) xs (open_broadcast w H))
         (sym (packets_is H now f true is.2 ∙ ap (λ (y : ℕ × Message). packets H ++ y.1 ∷ []) e))
         (grows w (length (told_broadcasts H)) (broadcasts w H) (packets H) m (open_broadcast w H) (pause H - step H now)
         (packet_case (open_broadcast w H) (length (packets H)) (pause H - step H now) m g) h)
+    go case = same (packs_it w H now f right case)
 
 not_either : (a b : Bool) → (a || b) ≡ false → a ≡ false
 not_either a b e = grind (arith, e)

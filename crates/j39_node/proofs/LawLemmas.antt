@@ -6,7 +6,7 @@ use Rattle.j39_address.specs.declared.status.Status.TheVariants as status
 use Rattle.j39_node.proofs.ReceptionLemmas.{replied_get, tidy}
 use Rattle.j39_node.proofs.DueLemmas.{both_none, from_long, quiet_long, then_long}
 use Rattle.j39_node.proofs.QueueLemmas.{length_one_more}
-use Rattle.j39_node.proofs.SoundLemmas.{apart_is, is_moved, IsTurn, acknowledgment_single, claim_single, no_transfer, none_there, packet_session, packet_there, single_taken, turned, Rest, none_at, none_next, none_other, other_none, claim_is, given_way, none_acknowledged, none_due_goes, none_gives, plain_taken, EndCase, FrameCase, Sound, claim_taken, due_get, due_taken, end_case, frame_by, frame_case, front_length, held_older, lost_claimed, lost_older, message_taken, own_of, packet_case, packet_taken, reply_taken, sound, transfer_taken, lost_unclaimed, holding_not_lost, renew_case, WithdrawCase, withdraw_case}
+use Rattle.j39_node.proofs.SoundLemmas.{apart_is, is_moved, IsTurn, acknowledgment_single, claim_single, no_transfer, none_there, packet_session, packet_there, single_taken, turned, Rest, none_at, none_next, none_other, other_none, claim_is, given_way, none_acknowledged, none_due_goes, none_gives, EndCase, FrameCase, Sound, claim_taken, due_get, due_taken, end_case, frame_by, frame_case, front_length, held_older, lost_claimed, lost_older, own_of, packet_case, packet_taken, sound, transfer_taken, lost_unclaimed, holding_not_lost, renew_case, WithdrawCase, withdraw_case}
 use Rattle.j39_node.proofs.KnownLemmas.{fresh_one, not_refused, served_not}
 use Rattle.j39_node.proofs.LaneLemmas.{laned, opened_by}
 use Rattle.j39_node.proofs.CallLemmas.{due_by}
@@ -15,6 +15,9 @@ use Rattle.j39_node.proofs.AnswerCases.{accepts, send_accepts, answer_is}
 use Rattle.j39_node.proofs.AnswerCases as cases
 use Rattle.j39_node.proofs.SoundLemmas.EndCase.{done, withdrawn}
 use Rattle.j39_node.proofs.RenewLemmas.{none_past, set_here, set_other}
+use Rattle.j39_node.proofs.KindLemmas.{kind_by}
+use Rattle.j39_node.proofs.KindLemmas.{claims_it}
+use Rattle.j39_node.proofs.KindLemmas.{acknowledges_it}
 
 -- ---- sources
 
@@ -37,42 +40,22 @@ pub sources : (w : Who) (H : List Call) (c : Controller) (now : ℕ) (f : FrameR
     ⊎ (IsTrue (holds w H now) × (source_of f.id ≡ w.address) × (pgn_of f.id ≢ address_claimed_group))
 sources w H c now f is = go (frame w H c now f is)
   where
+    no_claim : (c : FrameCase w H now f) → (kind_by c).claim ≡ false → pgn_of f.id ≢ address_claimed_group
+    no_claim c k z = not_both (is_claim f) (claims_it w H now f is.answered.0 c ∙ k) (eq-eqb (pgn_of f.id) address_claimed_group z)
+
     go : FrameCase w H now f → (message_of f ≡ claim_from w (claim_address w (address_after w H)))
         ⊎ (IsTrue (holds w H now) × (source_of f.id ≡ w.address) × (pgn_of f.id ≢ address_claimed_group))
     go (claims o e) = inl (ap content e)
     go (acknowledges m o h g e way) =
-        let is_due = due_get w (due w H) (length (acknowledged H)) m (sound w H is.answered.0).desk.0 g in
-        inr (
-          h,
-          ap (λ (y : ℕ × Message). y.1.source) e ∙ is_due.source,
-          λ z. (let a = (due_taken w f now m e is_due).0 in let b = eq-eqb (pgn_of f.id) address_claimed_group z in let d : true ≡ false = sym b ∙ a in absurd (cc)),
-        )
+        inr (h, ap (λ (y : ℕ × Message). y.1.source) e ∙ (due_get w (due w H) (length (acknowledged H)) m (sound w H is.answered.0).desk.0 g).source, no_claim (acknowledges m o h g e way) refl)
     go (replies m o h k g e) =
-        let is_reply = replied_get w.address (reception w H).replies 0 m (tidy w H).replies g in
-        inr (
-          h,
-          ap (λ (y : ℕ × Message). y.1.source) e ∙ is_reply.source,
-          λ z. (let a = (reply_taken w.address f now m e is_reply).0 in let b = eq-eqb (pgn_of f.id) address_claimed_group z in let d : true ≡ false = sym b ∙ a in absurd (cc)),
-        )
-    go (sends x o h k g e) =
-        let own = own_of w H x is.answered.0 g in
-        inr (
-          h,
-          ap (λ (y : ℕ × Message). y.1.source) e ∙ own.source,
-          λ z. (let a = message_taken w f now x e own in let b = eq-eqb (pgn_of f.id) address_claimed_group z in let d : true ≡ false = sym b ∙ a in absurd (cc)),
-        )
+        inr (h, ap (λ (y : ℕ × Message). y.1.source) e ∙ (replied_get w.address (reception w H).replies 0 m (tidy w H).replies g).source, no_claim (replies m o h k g e) refl)
+    go (sends x o h k g e) = inr (h, ap (λ (y : ℕ × Message). y.1.source) e ∙ (own_of w H x is.answered.0 g).source, no_claim (sends x o h k g e) refl)
     go (packs m o h k g e) =
         let p = packet_case (open_broadcast w H) (length (packets H)) (pause H - step H now) m g in
         let is_own = (opened_by w _ _ _ (open_broadcast w H) (p.token, p.message) (laned w H is.answered.0) p.is).source in
-        let is = packet_taken f now m (open_broadcast w H) (length (packets H)) (pause H - step H now) e g in
-        inr (
-          h,
-          ap (λ (y : ℕ × Message). y.1.source) e ∙ (ap (λ (y : Message). y.source) p.frame ∙ is_own),
-          λ z. (let b = eq-eqb (pgn_of f.id) address_claimed_group z in let d : true ≡ false = sym b ∙ is.0 in absurd (cc)),
-        )
-    go (transfers m o h k g e) =
-        let is = transfer_taken w H now f m is.answered.0 e g in
-        inr (h, is.source, λ z. (let b = eq-eqb (pgn_of f.id) address_claimed_group z in let d : true ≡ false = sym b ∙ is.claim in absurd (cc)))
+        inr (h, ap (λ (y : ℕ × Message). y.1.source) e ∙ (ap (λ (y : Message). y.source) p.frame ∙ is_own), no_claim (packs m o h k g e) refl)
+    go (transfers m o h k g e) = inr (h, (transfer_taken w H now f m is.answered.0 e g).source, no_claim (transfers m o h k g e) refl)
 
 -- ---- accounted once
 
@@ -379,12 +362,7 @@ other_plain : (w : Who) (H : List Call) (now : ℕ) (f : FrameRecord) → AreAns
     → (is_claim f ≡ false) × (is_acknowledgment f ≡ false)
 other_plain w H now f right (claims o e) g = absurd (not_both _ (ap not g) (and_parts (claim_due w H now) (not (gives_way w H now)) o).1)
 other_plain w H now f right (acknowledges m o h k e way) g = absurd (not_both _ way g)
-other_plain w H now f right (replies m o h k i e) g = let r = reply_taken w.address f now m e (replied_get w.address (reception w H).replies 0 m (tidy w H).replies i) in (r.0, r.1)
-other_plain w H now f right (sends x o h k i e) g =
-    let own = own_of w H x right i in (message_taken w f now x e own, plain_taken w f now x e own)
-other_plain w H now f right (packs m o h k i e) g =
-    let p = packet_taken f now m (open_broadcast w H) (length (packets H)) (pause H - step H now) e i in (p.0, p.1)
-other_plain w H now f right (transfers m o h k i e) g = let t = transfer_taken w H now f m right e i in (t.claim, t.plain)
+other_plain w H now f right case g = (claims_it w H now f right case, acknowledges_it w H now f right case)
 
 -- and the one after it does, where it gave way
 pub second_claim : (w : Who) (H later between : List Call) (c : Controller) (last now when : ℕ) (f g i : FrameRecord)
@@ -693,15 +671,7 @@ claims_only w H c now f is z = go (frame w H c now f is)
   where
     go : FrameCase w H now f → owes_claim w H ≡ true
     go (claims o e) = (and_parts (owes_claim w H) _ (and_parts (claim_due w H now) (not (gives_way w H now)) o).0).0
-    go (acknowledges m o h g e way) =
-        absurd (not_both _ (due_taken w f now m e (due_get w (due w H) (length (acknowledged H)) m (sound w H is.answered.0).desk.0 g)).0 (eq-eqb (pgn_of f.id) address_claimed_group z))
-    go (replies m o h k g e) =
-        absurd (not_both _ (reply_taken w.address f now m e (replied_get w.address (reception w H).replies 0 m (tidy w H).replies g)).0 (eq-eqb (pgn_of f.id) address_claimed_group z))
-    go (sends x o h k g e) =
-        absurd (not_both _ (message_taken w f now x e (own_of w H x is.answered.0 g)) (eq-eqb (pgn_of f.id) address_claimed_group z))
-    go (packs m o h k g e) =
-        absurd (not_both _ (packet_taken f now m (open_broadcast w H) (length (packets H)) (pause H - step H now) e g).0 (eq-eqb (pgn_of f.id) address_claimed_group z))
-    go (transfers m o h k g e) = absurd (not_both _ (transfer_taken w H now f m is.answered.0 e g).claim (eq-eqb (pgn_of f.id) address_claimed_group z))
+    go c = absurd (not_both _ (claims_it w H now f is.answered.0 c) (eq-eqb (pgn_of f.id) address_claimed_group z))
 
 -- ---- who
 

@@ -20,6 +20,8 @@ pub mod AnswerCases
 pub mod WithdrawLemmas
 -- what every answered history says
 pub mod SoundLemmas
+-- what kind a frame is that is taken
+pub mod KindLemmas
 -- what every answered history says of broadcasts
 pub mod LaneLemmas
 -- the open request

@@ -1,14 +1,15 @@
 -- What every answered history says of transfers.
-use Rattle.j39_node.proofs.Common.{[], if◌then◌else◌, ◌&&◌, ◌++◌, ◌-◌, ◌||◌, ◌∙◌, ◌∷◌, ◌≡◌, ◌⊎◌, Abort, aborted, accepted, acknowledged, address_after, all_transfers, ap, AreAnswered, arith, At, begun, Bool, broadcast_from, Call, clock_at, cond_both, due, false, FrameRecord, gives_up, Happened, Hear, hears, hears_if, holder, holds, inl, inr, is_engaged, is_lost, is_move, is_replaced, is_resting, is_running, is_spent, length, List, listens, Message, message_of, MessageRecord, Move, moves, new_sender, next_acknowledgment, next_packet, None, Ok, open_broadcast, open_transfer, Option, option_map, or_parts, packets, pause, reached, refl, Running, says, send_step, sends, sends_if, Signal, signal_by, slice_get, Some, step, subst, suc, sym, TakeFrame, TakeTransferEnded, told_transfers, Transfer, transfer_by, transfer_end, TransferEnding, true, Who, ℕ, answer_to_transfer, not_both}
+use Rattle.j39_node.proofs.Common.{[], if◌then◌else◌, ◌&&◌, ◌++◌, ◌||◌, ◌∙◌, ◌∷◌, ◌≡◌, ◌⊎◌, Abort, aborted, accepted, address_after, all_transfers, ap, AreAnswered, arith, At, begun, Bool, broadcast_from, Call, clock_at, cond_both, false, FrameRecord, gives_up, Happened, Hear, hears, hears_if, holder, holds, inl, inr, is_engaged, is_lost, is_move, is_replaced, is_resting, is_running, is_spent, length, List, listens, Message, message_of, MessageRecord, Move, moves, new_sender, next_acknowledgment, next_packet, None, Ok, open_transfer, Option, option_map, or_parts, reached, refl, Running, says, send_step, sends, sends_if, Signal, signal_by, slice_get, Some, subst, suc, sym, TakeFrame, TakeTransferEnded, told_transfers, Transfer, transfer_by, transfer_end, TransferEnding, true, Who, ℕ, answer_to_transfer, not_both}
 use Rattle.j39_transport.specs.Sending.{Tick}
 use Rattle.j39_node.specs.Moves.{begins}
 use Rattle.j39_node.proofs.QueueLemmas.{length_one_more}
-use Rattle.j39_node.proofs.SoundLemmas.{nothing_else, turned, FrameCase, frame_case, claim_taken, claim_single, due_get, due_taken, no_move, no_transfer, own_of, packet_session, packet_taken, reply_no_move, single_taken, sound}
-use Rattle.j39_node.proofs.SoundLemmas.FrameCase.{claims, acknowledges, replies, sends as sends_one, packs, transfers}
+use Rattle.j39_node.proofs.SoundLemmas.{nothing_else, turned, FrameCase, frame_case}
+use Rattle.j39_node.proofs.SoundLemmas.FrameCase.{transfers}
 use Rattle.j39_node.proofs.PortLemmas.{hears_same, sends_same}
 use Rattle.j39_node.proofs.MoveSteps.{Moved, moved_given_up, moved_heard, moved_ticked}
 use Rattle.j39_node.proofs.LaneLemmas.{get_last}
 use Rattle.j39_node.proofs.AnswerCases.{transfer_accepts}
+use Rattle.j39_node.proofs.KindLemmas.{moves_it}
 
 -- ---- a frame of the open transfer is taken
 
@@ -44,17 +45,10 @@ said_by w H now f m (Some t) e g k a b c d = go (signal_by t (clock_at H now)) r
     }
 
 pub sent_case : (w : Who) (H : List Call) (now : ℕ) (f : FrameRecord) → AreAnswered w H → FrameCase w H now f → is_move w H f ≡ true → Sent w H now f
-sent_case w H now f right (claims o e) p = absurd (not_both _ (no_move w H f (no_transfer f (claim_single f (claim_taken f now w _ e)))) p)
-sent_case w H now f right (acknowledges m o k g e way) p =
-    absurd (not_both _ (no_move w H f (no_transfer f (due_taken w f now m e (due_get w (due w H) (length (acknowledged H)) m (sound w H right).desk.0 g)).2)) p)
-sent_case w H now f right (replies m o k n g e) p = absurd (not_both _ (reply_no_move w H f m g (ap (λ (y : ℕ × Message). y.1) e)) p)
-sent_case w H now f right (sends_one x o k n g e) p =
-    absurd (not_both _ (no_move w H f (no_transfer f (single_taken w f now x e (own_of w H x right g)))) p)
-sent_case w H now f right (packs m o k n g e) p =
-    absurd (not_both _ (no_move w H f (packet_session f (packet_taken f now m (open_broadcast w H) (length (packets H)) (pause H - step H now) e g).2).1) p)
 sent_case w H now f right (transfers m o k n g e) p =
     let r = nothing_else w H now (turned w H now (Some Move) n.1).0 in
     said_by w H now f m (open_transfer w H) refl g (ap (λ (y : ℕ × Message). y.1) e) k n.0 r.0 r.1
+sent_case w H now f right case p = absurd (not_both _ (moves_it w H now f right case) p)
 
 -- ---- what was taken of the open transfer
 

@@ -1,5 +1,5 @@
 -- The laws of messages that come in packets.
-use Rattle.j39_node.proofs.Common.{[], if◌then◌else◌, ◌%◌, ◌&&◌, ◌++◌, ◌+◌, ◌-◌, ◌/◌, ◌<◌, ◌==◌, ◌||◌, ◌↔◌, ◌∙◌, ◌∷◌, ◌≡◌, ◌≢◌, ◌≤◌, ◌⊎◌, Abort, acknowledged, Acknowledgment, Address, address_after, address_claimed_group, Again, and_parts, answer_in, answers, ap, append-nil, append_assoc, AreReceived, arith, asks_again, At, Bool, BoxedReceiver, BroadcastAnnounce, bytes_with, Call, CameFromOne, Claim, claim_of, Claimed, ClearToSend, cond_both, Controller, delivered, destination_of, Directed, drop, due, eq-eqb, eqb-true, false, FrameRecord, frames_heard, got_transfers, granted_at, grants, group_of, has_place, has_some, Hear, Heard, heard_at, heard_by, held_then, holder, holds, inl, inr, Is, is_acknowledgment, is_claim, is_held, is_lost, is_move, is_over, is_overdue, is_reply, is_same, is_session, is_smaller, is_some, is_taken, is_that, is_transfer, IsApart, IsReceived, IsTrue, keeps, KeepsHolder, known, known_by, later, leaves, left, length, limit_in, limit_of, List, listed, little_bytes, longest, Lost, lt-ltb, ltb-false, ltb-true, made_by, made_of, Message, message_of, MessageRecord, moment, Move, nat_eq, nat_lt, next_acknowledgment, None, not, NotClaimed, older, open_broadcast, Option, option_map, Packet, packets, partner_of, pause, pf_of, pgn_of, ps_of, quiet, Reaction, ready, receiver_at, ReceiverRecord, ReceiverStandsFor, Reception, reception, ReceptionRecord, recv_step, RecvResult, refl, released_by, ReleaseTransfer, replied, reply_from, RequestToSend, result_of, said_between, said_to, says_by, session_tick, shown, Signal, since_by, Single, slice_get, Some, source_of, stamp_at, step, step_at, subst, suc, sym, TakeFrame, taken_by, takes, takes_abort, takes_data, takes_request, takes_signal, takes_tick, Tick, tick_at, ticked, ticked_at, Ticks, time_heard, ToSend, transport_control_group, transport_data_group, true, WereHanded, Who, whole, whole_by, without, written, yields, ℕ, not-false}
+use Rattle.j39_node.proofs.Common.{[], if◌then◌else◌, ◌%◌, ◌&&◌, ◌++◌, ◌+◌, ◌-◌, ◌/◌, ◌<◌, ◌==◌, ◌||◌, ◌↔◌, ◌∙◌, ◌∷◌, ◌≡◌, ◌≢◌, ◌≤◌, ◌⊎◌, Abort, Acknowledgment, Address, address_after, address_claimed_group, Again, and_parts, answer_in, answers, ap, append-nil, append_assoc, AreReceived, arith, asks_again, At, Bool, BoxedReceiver, BroadcastAnnounce, bytes_with, Call, CameFromOne, Claim, claim_of, Claimed, ClearToSend, cond_both, Controller, delivered, destination_of, Directed, drop, eq-eqb, eqb-true, false, FrameRecord, frames_heard, got_transfers, granted_at, grants, group_of, has_place, has_some, Hear, Heard, heard_at, heard_by, held_then, holder, holds, inl, inr, Is, is_acknowledgment, is_claim, is_held, is_lost, is_move, is_over, is_overdue, is_reply, is_same, is_smaller, is_taken, is_that, is_transfer, IsApart, IsReceived, IsTrue, keeps, KeepsHolder, known, known_by, later, leaves, left, length, limit_in, limit_of, List, listed, little_bytes, longest, Lost, lt-ltb, ltb-false, ltb-true, made_by, made_of, Message, message_of, MessageRecord, moment, Move, nat_eq, nat_lt, next_acknowledgment, None, not, NotClaimed, older, Option, option_map, Packet, packets, partner_of, pf_of, pgn_of, ps_of, quiet, Reaction, ready, receiver_at, ReceiverRecord, ReceiverStandsFor, Reception, reception, ReceptionRecord, recv_step, RecvResult, refl, released_by, ReleaseTransfer, replied, reply_from, RequestToSend, result_of, said_between, said_to, says_by, session_tick, shown, Signal, since_by, Single, slice_get, Some, source_of, stamp_at, step, step_at, subst, suc, sym, TakeFrame, taken_by, takes, takes_abort, takes_data, takes_request, takes_signal, takes_tick, Tick, tick_at, ticked, ticked_at, Ticks, time_heard, ToSend, transport_control_group, transport_data_group, true, WereHanded, Who, whole, whole_by, without, written, yields, ℕ, not-false, not_both}
 use Rattle.j39_transport.specs.Reception.{begun as opens}
 use Rattle.j39_transport.specs.ReceiverStands.{passed}
 use Rattle.j39_transport.specs.Signals.{said_by}
@@ -7,11 +7,14 @@ use Rattle.j39_node.specs.declared.turn.Turn.TheVariants.{Packet}
 use Rattle.j39_node.specs.Reception.{says}
 use Rattle.j39_transport.specs.Frames as frames
 use Rattle.j39_transport.proofs.Handed.{has_heard, stands_still, were_handed}
-use Rattle.j39_node.proofs.SoundLemmas.{apart_is, IsTurn, none_at, none_next, turned, FrameCase, frame_case, sound, own_of, due_get, due_taken, single_taken, packet_taken, claim_taken, is_moved, lost_older, lost_claimed, lost_unclaimed}
+use Rattle.j39_node.proofs.SoundLemmas.{IsTurn, none_at, none_next, turned, FrameCase, frame_case, lost_older, lost_claimed, lost_unclaimed}
 use Rattle.j39_node.proofs.PacketLemmas.{hushed, quiet_step, shown_both, shown_none, since_same}
 use Rattle.j39_node.proofs.SoundLemmas.FrameCase.{claims, acknowledges, replies, sends, packs, transfers}
 use Rattle.j39_node.proofs.ReceptionLemmas.{Acknowledges, Fits, Gives, Tidy, own_after, refused_step, replied_get, taken_is, tame_signal, tame_tick, quiet_at, unclaimed_known, tidy, tidy_left, own_ticked as own_kept, no_reply}
 use Rattle.j39_node.proofs.HearingLemmas.{same_same as same_self}
+use Rattle.j39_node.proofs.KindLemmas.{claims_it}
+use Rattle.j39_node.proofs.KindLemmas.{acknowledges_it}
+use Rattle.j39_node.proofs.KindLemmas.{replies_it}
 
 -- ---- each once, in order
 
@@ -366,29 +369,18 @@ pub replies_first : (w : Who) (H : List Call) (c : Controller) (now : ℕ) (f : 
     → IsTrue (holds w H now) × (source_of f.id ≡ w.address) × (slice_get (reception w H).replies 0 ≡ Some (message_of f)) × (next_acknowledgment w H now ≡ None)
 replies_first w H c now f is t away = go (frame_case w H now f is.answered.1)
   where
-    k : (is_session f ≡ true) × (not (is_some (destination_of f.id) 255) ≡ true)
-    k = and_parts (is_session f) _ t
-
-    not_session : is_session f ≡ false → ⊥
-    not_session e = (let z : true ≡ false = sym k.0 ∙ e in absurd (cc))
+    replied : is_reply (reception w H).replies f ≡ true
+    replied = λ i. t i && not-false _ (sym (ap (λ (b : Bool). b && not (is_that (message_of f) (slice_get (reception w H).replies 0))) t) ∙ away) i
 
     go : FrameCase w H now f
         → IsTrue (holds w H now) × (source_of f.id ≡ w.address) × (slice_get (reception w H).replies 0 ≡ Some (message_of f)) × (next_acknowledgment w H now ≡ None)
-    go (claims o e) =
-        absurd (not_session (ap (λ (g : ℕ). nat_eq g transport_control_group || nat_eq g transport_data_group) (eqb-true (pgn_of f.id) address_claimed_group (claim_taken f now w _ e))))
-    go (acknowledges m o h g e way) = absurd (not_session (due_taken w f now m e (due_get w (due w H) (length (acknowledged H)) m (sound w H is.answered.0).desk.0 g)).2)
     go (replies m o h n g e) = (
       h,
       ap (λ (y : ℕ × Message). y.1.source) e ∙ (replied_get w.address (reception w H).replies 0 m (tidy w H).replies g).source,
       g ∙ ap (λ (y : ℕ × Message). Some y.1) (sym e),
       n.0,
     )
-    go (sends x o h n g e) = absurd (not_session (single_taken w f now x e (own_of w H x is.answered.0 g)))
-    go (packs m o h n g e) =
-        let p = and_parts (is_session f) _ (packet_taken f now m (open_broadcast w H) (length (packets H)) (pause H - step H now) e g).2 in
-        absurd (let z : not true ≡ true = ap not (sym p.1) ∙ k.1 in cc)
-    go (transfers m o h n g e) =
-        absurd (let y : true ≡ false = sym (is_moved w H f t (apart_is w H now f m g (ap (λ (y : ℕ × Message). y.1) e) (turned w H now (Some Move) n.1).1)) ∙ away in cc)
+    go case = absurd (not_both _ (replies_it w H now f is.answered.0 case) replied)
 
 -- one that waits goes before all but claims, acknowledgments and an overdue frame of a broadcast, unless it yields
 pub replies_before : (w : Who) (H : List Call) (c : Controller) (now : ℕ) (f : FrameRecord) (m : Message) → Is w (At now (TakeFrame (Some f)) ∷ H) c
@@ -407,9 +399,8 @@ replies_before w H c now f m is at k a late first = go (frame_case w H now f is.
     packet (inr t) = goes t.2
 
     go : FrameCase w H now f → message_of f ≡ m
-    go (claims o e) = absurd (let z : true ≡ false = sym (claim_taken f now w _ e) ∙ k in cc)
-    go (acknowledges x o h g e way) =
-        absurd (let z : true ≡ false = sym (due_taken w f now x e (due_get w (due w H) (length (acknowledged H)) x (sound w H is.answered.0).desk.0 g)).1 ∙ a in cc)
+    go (claims o e) = absurd (not_both _ k (claims_it w H now f is.answered.0 (claims o e)))
+    go (acknowledges x o h g e way) = absurd (not_both _ a (acknowledges_it w H now f is.answered.0 (acknowledges x o h g e way)))
     go (replies x o h n g e) = let z : Some x ≡ Some m = sym g ∙ at in ap (λ (y : ℕ × Message). y.1) e ∙ (let y : x ≡ m = cc in y)
     go (sends x o h n g e) = absurd (goes (turned w H now (Some Single) n.1).2)
     go (packs x o h n g e) = absurd (packet (turned w H now (Some Packet) n.1))

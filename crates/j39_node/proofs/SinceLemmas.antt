@@ -1,9 +1,9 @@
 -- A claimed address was claimed by a frame that was taken.
-use Rattle.j39_node.proofs.Common.{[], if◌then◌else◌, ◌++◌, ◌+◌, ◌-◌, ◌∙◌, ◌∷◌, ◌≡◌, ◌≤◌, Act, Address, address_after, address_claimed_group, Again, ap, AreAnswered, arith, At, Bool, Call, claim_address, claim_from, claim_of, Claimed, claimed, ClaimedSince, content, Controller, false, FrameRecord, Hear, holds, Is, is_claim, is_held, is_lost, is_smaller, IsTrue, length, List, Lost, Message, moment, nat_eq, nat_le, NeverBack, NoneUnclaims, NotClaimed, older, open_broadcast, packets, passed_in, pause, reception, refl, Some, step, subst, sym, TakeFrame, true, unclaimed, Who, ℕ}
+use Rattle.j39_node.proofs.Common.{[], if◌then◌else◌, ◌++◌, ◌+◌, ◌-◌, ◌∙◌, ◌∷◌, ◌≡◌, ◌≤◌, Act, Address, address_after, address_claimed_group, Again, ap, AreAnswered, arith, At, Bool, Call, claim_address, claim_from, claim_of, Claimed, claimed, ClaimedSince, content, Controller, false, FrameRecord, Hear, holds, Is, is_claim, is_held, is_lost, is_smaller, IsTrue, List, Lost, Message, moment, nat_eq, nat_le, NeverBack, NoneUnclaims, NotClaimed, older, passed_in, refl, Some, step, subst, sym, TakeFrame, true, unclaimed, Who, ℕ, not_both}
 use Rattle.j39_node.specs.Since.{unclaims}
-use Rattle.j39_node.proofs.ReceptionLemmas.{replied_get, tidy}
-use Rattle.j39_node.proofs.SoundLemmas.{FrameCase, frame_case, own_of, due_get, due_taken, message_taken, packet_taken, reply_taken, sound, transfer_taken}
-use Rattle.j39_node.proofs.SoundLemmas.FrameCase.{claims, acknowledges, replies, sends, packs, transfers}
+use Rattle.j39_node.proofs.SoundLemmas.{FrameCase, frame_case}
+use Rattle.j39_node.proofs.SoundLemmas.FrameCase.{claims}
+use Rattle.j39_node.proofs.KindLemmas.{claims_it}
 
 -- one call later
 one_later : (w : Who) (H : List Call) (call : Call) (e d : ℕ) → ClaimedSince w H e → unclaims w call ≡ false → d ≡ e + step H (moment (call ∷ H))
@@ -66,16 +66,7 @@ begins w H now f right (claims o e) k a = record {
   stays = tt;
   passed = refl;
 }
-begins w H now f right (acknowledges m o h g e way) k a =
-    absurd (let z = (due_taken w f now m e (due_get w _ _ m (sound w H right).desk.0 g)).0 in let y : true ≡ false = sym k ∙ z in cc)
-begins w H now f right (replies m o h n g e) k a =
-    absurd (let z = (reply_taken w.address f now m e (replied_get w.address (reception w H).replies 0 m (tidy w H).replies g)).0 in let y : true ≡ false = sym k ∙ z in cc)
-begins w H now f right (sends x o h n g e) k a =
-    absurd (let z = message_taken w f now x e (own_of w H x right g) in let y : true ≡ false = sym k ∙ z in cc)
-begins w H now f right (packs m o h n g e) k a =
-    absurd (let z = (packet_taken f now m (open_broadcast w H) (length (packets H)) (pause H - step H now) e g).0 in let y : true ≡ false = sym k ∙ z in cc)
-begins w H now f right (transfers m o h n g e) k a =
-    absurd (let z = (transfer_taken w H now f m right e g).claim in let y : true ≡ false = sym k ∙ z in cc)
+begins w H now f right case k a = absurd (not_both _ (claims_it w H now f right case) k)
 
 taken : (w : Who) (H : List Call) (now d : ℕ) (f : FrameRecord) → AreAnswered w H → FrameCase w H now f
     → ((n : ℕ) → address_after w H ≡ Claimed n → ClaimedSince w H n)

@@ -44,7 +44,7 @@ holding_not_lost w H now e = sym (lost_older (step H now) (address_after w H)) �
 -- ---- which frame was taken
 
 -- an acknowledgment that goes is due
-acknowledged_is_due : (w : Who) (H : List Call) (now : ℕ) (m : Message) → next_acknowledgment w H now ≡ Some m
+pub acknowledged_is_due : (w : Who) (H : List Call) (now : ℕ) (m : Message) → next_acknowledgment w H now ≡ Some m
     → (slice_get (due w H) (length (acknowledged H)) ≡ Some m) × (gives_way w H now ≡ false)
 acknowledged_is_due w H now m e = go (gives_way w H now) refl e
   where

@@ -12,6 +12,10 @@ use Rattle.j39_node.proofs.ReceptionLemmas.{replied_get, tidy, no_reply}
 use Rattle.j39_node.proofs.SoundLemmas.{FrameCase, IsTurn, acknowledgment_single, claim_single, claim_taken, due_get, due_taken, frame_case, frame_there, held_older, is_directed, lost_older, message_taken, no_packet, no_transfer, none_next, none_other, own_of, packet_session, packet_taken, packets_is, pause_is, plain_taken, reply_taken, single_taken, some_at, sound, turned, reached_is, reply_is, none_at}
 use Rattle.j39_node.proofs.SoundLemmas.FrameCase.{claims, acknowledges, replies, sends, packs, transfers}
 use Rattle.j39_node.proofs.AnswerCases.{broadcast_accepts}
+use Rattle.j39_node.proofs.KindLemmas.{claims_it}
+use Rattle.j39_node.proofs.KindLemmas.{acknowledges_it}
+use Rattle.j39_node.proofs.KindLemmas.{steers_it}
+use Rattle.j39_node.proofs.KindLemmas.{of_session_it}
 
 -- ---- of three frames one is neither a claim nor an acknowledgment
 
@@ -29,14 +33,7 @@ pub steers : (w : Who) (H : List Call) (now : ℕ) (f : FrameRecord) → AreAnsw
     → (gives_way w H now ≡ false) ⊎ ((is_claim f || is_acknowledgment f) ≡ false)
 steers w H now f right (claims o e) = inl (not-true (gives_way w H now) (and_parts _ (not (gives_way w H now)) o).1)
 steers w H now f right (acknowledges m o h g e way) = inl way
-steers w H now f right (replies m o h n g e) =
-    let r = reply_taken w.address f now m e (replied_get w.address (reception w H).replies 0 m (tidy w H).replies g) in inr (λ i. r.0 i || r.1 i)
-steers w H now f right (sends x o h n g e) =
-    let own = own_of w H x right g in
-    inr (λ i. message_taken w f now x e own i || plain_taken w f now x e own i)
-steers w H now f right (packs m o h n g e) =
-    let p = packet_taken f now m (open_broadcast w H) (length (packets H)) (pause H - step H now) e g in inr (λ i. p.0 i || p.1 i)
-steers w H now f right (transfers m o h n g e) = let t = Rattle.j39_node.proofs.SoundLemmas.transfer_taken w H now f m right e g in inr (λ i. t.claim i || t.plain i)
+steers w H now f right case = inr (steers_it w H now f right case)
 
 -- what such frames cost in time
 abbrev pub turn_time : ℕ → ℕ → ℕ
@@ -478,7 +475,8 @@ module _ (w : Who) (B : List Call) (g k : ℕ) where
       go : (b : Bool) → (is_claim f || is_acknowledgment f) ≡ b → FrameCase w (later ++ B) now f → Waiting (At now (TakeFrame (Some f)) ∷ later)
       go b z (claims o e) = let i = claim_taken f now w _ e in steer true (is_acknowledgment f) i refl refl (claim_single f i)
       go b z (acknowledges m o q i e way) =
-          let r = due_taken w f now m e (due_get w (due w (later ++ B)) (length (Rattle.j39_node.specs.History.acknowledged (later ++ B))) m (sound w (later ++ B) right).desk.0 i) in steer false true r.0 r.1 refl r.2
+          let c : FrameCase w (later ++ B) now f = acknowledges m o q i e way in
+          steer false true (claims_it w (later ++ B) now f right c) (acknowledges_it w (later ++ B) now f right c) refl (of_session_it w (later ++ B) now f right c)
       go b z (replies m o q i x e) =
           let r = reply_taken w.address f now m e (replied_get w.address (reception w (later ++ B)).replies 0 m (tidy w (later ++ B)).replies x) in
           let y = silent (turned w (later ++ B) now (Some Reply) i.1) in
