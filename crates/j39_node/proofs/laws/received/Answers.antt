@@ -1,17 +1,5 @@
 use Rattle.j39_node.proofs.LawLemmas as law
 use Rattle.j39_node.proofs.laws.received.Goals as goal
 
-pub returns-clause-in_order : goal.returns-clause-in_order
-returns-clause-in_order c = law.got_in_order
-
-pub returns-clause-all : goal.returns-clause-all
-returns-clause-all c = law.all_got
-
-pub returns-clause-counted : goal.returns-clause-counted
-returns-clause-counted c = law.counted
-
-pub returns-clause-subscribed : goal.returns-clause-subscribed
-returns-clause-subscribed c = law.not_subscribed
-
-pub returns-clause-room : goal.returns-clause-room
-returns-clause-room c = law.missed_full
+pub returns : goal.returns
+returns c = record { in_order = law.got_in_order; all = law.all_got; counted = law.counted; room = law.missed_full; subscribed = law.not_subscribed }
