@@ -1,11 +1,5 @@
 -- Asking others for groups (J1939-21, 5.4.2 and 5.4.4): what a history says of it.
-use Rattle.std.specs.Prelude.{◌≡◌, ◌⊎◌, ◌<◌, ◌≤◌, ℕ, ◌+◌, ◌-◌, ◌%◌, ◌/◌, ◌++◌, ◌&&◌, ◌||◌, nat_lt, nat_eq, not, Bool, true, false, IsTrue, List, [], ◌∷◌, length, Option, Some, None, Result, Ok, Err, if◌then◌else◌}
-use Rattle.std.specs.List.{slice_get}
-use Rattle.std.specs.Option.{option_map, option_or}
-use Rattle.j39_frame.specs.Address.{null_address, global_address}
-use Rattle.j39_frame.specs.Frame.{FrameRecord}
-use Rattle.j39_frame.specs.Identifier.{source_of, destination_of, pgn_of}
-use Rattle.j39_frame.specs.Network.{address_claimed_group}
+use Rattle.j39_node.specs.Common.{[], if◌then◌else◌, ◌%◌, ◌&&◌, ◌++◌, ◌+◌, ◌-◌, ◌/◌, ◌<◌, ◌||◌, ◌∷◌, ◌≡◌, ◌≤◌, ◌⊎◌, address_claimed_group, answer_time, Bool, destination_of, Err, false, FrameRecord, global_address, IsTrue, length, List, MessageRecord, nat_eq, nat_lt, None, not, null_address, Ok, Option, option_map, option_or, pgn_of, ReceptionRecord, Result, slice_get, Some, source_of, true, ℕ}
 use Rattle.j39_node.specs.declared.kinds.Answer.TheVariants.{Ack, Nack, Denied, Busy}
 use Rattle.j39_node.specs.declared.kinds.AskEnding.{AskEnding}
 use Rattle.j39_node.specs.declared.kinds.AskEnding.TheVariants.{Answered, Acknowledged, TimedOut, Withdrawn}
@@ -17,9 +11,6 @@ use Rattle.j39_node.specs.History.Act.{Ask, Hear, TakeFrame}
 use Rattle.j39_node.specs.Since.{passed_in}
 use Rattle.j39_node.specs.Reception.{is_message, reception, time_heard, whole}
 use Rattle.j39_node.specs.Hearing.{OpenBroadcast, hearing, is_late, is_whole, made_whole}
-use Rattle.j39_transport.specs.Message.{MessageRecord}
-use Rattle.j39_transport.specs.Reception.{ReceptionRecord}
-use Rattle.j39_node.specs.Times.{answer_time}
 
 -- a group that may be sent, or that of claims (J1939-81, 4.2.1), of all or of the address of another
 abbrev pub can_ask : Who → ℕ → ℕ → Bool

@@ -1,14 +1,6 @@
 -- Histories of a controller's calls, each with its arguments, its moment and its answer, the newest first; and what a
 -- history says. All lists of messages have the oldest first.
-use Rattle.std.specs.Prelude.{drop, ◌≡◌, ◌≤◌, ℕ, zero, suc, ◌+◌, ◌-◌, ◌%◌, ◌/◌, ◌++◌, ◌&&◌, ◌||◌, ◌==◌, max, nat_lt, nat_le, nat_eq, not, Bool, true, false, List, [], ◌∷◌, length, Option, Some, None, Result, Ok, if◌then◌else◌, ◌*◌, slice_set}
-use Rattle.byteorder.specs.Endian.{little_bytes, little_number}
-use Rattle.j39_frame.specs.Address.{null_address, global_address}
-use Rattle.j39_frame.specs.Frame.{FrameRecord}
-use Rattle.j39_frame.specs.Identifier.{source_of, destination_of, priority_of, pgn_of}
-use Rattle.j39_frame.specs.Network.{address_claimed_group, request_group, transport_control_group, transport_data_group}
-use Rattle.j39_address.specs.Claim.{Claim, claim_of}
-use Rattle.j39_transport.specs.Cutting.{cut_frame}
-use Rattle.j39_transport.specs.Message.{MessageRecord, packets_of, as_broadcast}
+use Rattle.j39_node.specs.Common.{[], if◌then◌else◌, ◌%◌, ◌&&◌, ◌*◌, ◌++◌, ◌+◌, ◌-◌, ◌/◌, ◌==◌, ◌||◌, ◌∷◌, ◌≡◌, ◌≤◌, address_claimed_group, as_broadcast, Bool, bytes_eq, Claim, claim_of, claim_time, cut_frame, destination_of, drop, false, FrameRecord, global_address, is_there, last_count, length, List, list_any, little_bytes, little_number, max, MessageRecord, nat_eq, nat_le, nat_lt, None, not, null_address, Ok, Option, option_or, packet_time, packets_of, patience_time, pgn_of, places, priority_of, request_group, Result, slack, slice_set, Some, source_of, stamp_end, suc, transport_control_group, transport_data_group, true, zero, ℕ}
 use Rattle.j39_node.specs.declared.kinds.Ending.{Ending}
 use Rattle.j39_node.specs.declared.kinds.TransferEnding.{TransferEnding}
 use Rattle.j39_node.specs.declared.kinds.AskEnding.{AskEnding}
@@ -17,10 +9,6 @@ use Rattle.j39_node.specs.declared.kinds.News.TheVariants.{AddressLost, AnotherA
 use Rattle.j39_node.specs.declared.kinds.Refused.{Refused}
 use Rattle.j39_node.specs.declared.kinds.Answer.{Answer}
 use Rattle.j39_node.specs.declared.kinds.Answer.TheVariants.{Ack, Nack, Denied, Busy}
-use Rattle.std.specs.List.{list_any}
-use Rattle.std.specs.Str.{bytes_eq}
-use Rattle.std.specs.Option.{is_some as is_there, option_or}
-use Rattle.j39_node.specs.Times.{claim_time, last_count, packet_time, patience_time, places, slack, stamp_end}
 
 -- which transfers rest: none, those of a group to a destination, or all
 pub data Resting : Type 0 where

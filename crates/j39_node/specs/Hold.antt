@@ -1,11 +1,10 @@
 -- How far a controller is with its address, in its own counts.
-use Rattle.std.specs.Prelude.{ℕ, suc, max, min, ◌+◌, ◌-◌, nat_lt, Option, None, ◌||◌, nat_eq, ◌&&◌, Bool, true, false, if◌then◌else◌, not}
+use Rattle.j39_node.specs.Common.{if◌then◌else◌, ◌&&◌, ◌+◌, ◌-◌, ◌||◌, answer_time, Bool, claim_time, false, last_count, max, min, nat_eq, nat_lt, None, not, Option, packet_time, patience_time, rest_time, slack, suc, true, ℕ}
 use Rattle.j39_node.specs.declared.hold.Hold.{Hold}
 use Rattle.j39_node.specs.declared.hold.Standing.{Standing}
 use Rattle.j39_node.specs.declared.hold.Standing.TheVariants as standing
 use Rattle.j39_node.specs.History.{Address, stamp_at}
 use Rattle.j39_node.specs.History.Address.{NotClaimed, Claimed, Lost}
-use Rattle.j39_node.specs.Times.{answer_time, claim_time, last_count, packet_time, patience_time, rest_time, slack}
 
 -- it counts what is left of the 250 ms
 abbrev pub standing_of : Address → Standing

@@ -1,19 +1,5 @@
 -- The histories that a controller can have had.
-use Rattle.std.specs.Prelude.{◌≡◌, ℕ, ◌-◌, nat_eq, nat_lt, nat_le, not, ◌&&◌, ◌||◌, ◌++◌, ◌+◌, Bool, true, false, List, [], ◌∷◌, length, drop, map, min, slice_index, suc, Option, Some, None, Result, Ok, Err, if◌then◌else◌, max, slice_set}
-use Rattle.std.specs.List.{slice_get}
-use Rattle.std.specs.Option.{option_map}
-use Rattle.j39_frame.specs.Address.{global_address, null_address}
-use Rattle.j39_frame.specs.Frame.{FrameRecord}
-use Rattle.j39_frame.specs.Identifier.{id_raw}
-use Rattle.j39_frame.specs.Network.{request_group}
-use Rattle.j39_frame.specs.Pgn.{pgn_raw}
-use Rattle.j39_frame.specs.Stamp.{stamp_micros}
-use Rattle.j39_address.specs.Claim.{claim_of}
-use Rattle.j39_address.specs.Name.{name_raw}
-use Rattle.j39_address.specs.Claims.{Knows}
-use Rattle.j39_transport.specs.Message.{MessageRecord, packets_of}
-use Rattle.j39_address.specs.declared.status.Status.{Status}
-use Rattle.j39_address.specs.declared.status.Status.TheVariants.{Idle, Claiming, Holding, Cannot}
+use Rattle.j39_node.specs.Common.{[], if◌then◌else◌, ◌&&◌, ◌++◌, ◌+◌, ◌-◌, ◌||◌, ◌∷◌, ◌≡◌, announced_by, Bool, BoxedReceiver, called_time, Cannot, claim_of, claim_time, Claiming, clear_to_send, drop, Err, false, FrameRecord, global_address, Heard, Holding, id_raw, Idle, Knows, last_count, length, limit_of, List, map, max, MessageRecord, min, name_raw, nat_eq, nat_le, nat_lt, None, not, null_address, Ok, Option, option_map, packets_of, pgn_raw, places, ReceptionRecord, recv_step, request_group, Result, slack, slice_get, slice_index, slice_set, Some, stamp_micros, Status, suc, ToSend, true, ℕ}
 use Rattle.j39_node.specs.declared.controller.Controller.{Controller}
 use Rattle.j39_node.specs.declared.hold.Hold.{Hold}
 use Rattle.j39_node.specs.declared.lane.Lane.{Lane}
@@ -54,13 +40,8 @@ use Rattle.j39_node.specs.declared.incoming.Said.{Said}
 use Rattle.j39_node.specs.Hearing.{OpenBroadcast, hearing, unheard, unheard_news, waiting}
 use Rattle.j39_node.specs.declared.hearing.Heard.{Heard as Bytes}
 use Rattle.j39_node.specs.declared.hearing.Hearing.{Hearing}
-use Rattle.j39_transport.specs.Cutting.{ToSend}
-use Rattle.j39_transport.specs.Announced.{announced_by}
-use Rattle.j39_transport.specs.Reception.{ReceptionRecord, limit_of}
-use Rattle.j39_transport.specs.Receiving.{BoxedReceiver, Heard, recv_step}
 use Rattle.j39_node.specs.Transfers.{clock, transfer_by, Running, joined, rest, resting, age, answer_to_transfer, next_transfer, next_transfer_ended, open_transfer, transfers as all_transfers}
 use Rattle.j39_node.specs.History.{Resting, NoneRests, PairRests, AllRest}
-use Rattle.j39_node.specs.Times.{called_time, claim_time, clear_to_send, last_count, places, slack}
 
 -- ---- the answers that a history asks for
 

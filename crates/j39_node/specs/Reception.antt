@@ -1,24 +1,8 @@
 -- Messages that come in packets to the address that is held (J1939-21, 5.10.3): what a history says of them.
-use Rattle.std.specs.Prelude.{◌≡◌, ◌⊎◌, ℕ, suc, ◌+◌, ◌*◌, ◌-◌, ◌++◌, ◌&&◌, ◌||◌, min, nat_lt, nat_eq, ◌==◌, not, Bool, true, false, List, [], ◌∷◌, length, drop, Option, Some, None, if◌then◌else◌}
-use Rattle.std.specs.List.{slice_get}
-use Rattle.std.specs.Option.{option_map}
-use Rattle.std.specs.Str.{bytes_eq}
-use Rattle.j39_frame.specs.Address.{null_address}
-use Rattle.j39_frame.specs.Frame.{FrameRecord}
-use Rattle.j39_frame.specs.Identifier.{source_of}
-use Rattle.j39_frame.specs.Network.{address_claimed_group, transport_control_group}
-use Rattle.j39_address.specs.Claim.{Claim, claim_of}
-use Rattle.j39_transport.specs.Cutting.{ToSend}
-use Rattle.j39_transport.specs.Message.{MessageRecord}
-use Rattle.j39_transport.specs.Protocol.{timeout, timer_t2}
-use Rattle.j39_transport.specs.Reception.{ReceptionRecord, answers, limit_of}
-use Rattle.j39_transport.specs.Receiving.{ReceiverRecord, RecvResult, Heard, Tick as Ticks, partner_of, recv_step, result_of, said_to}
-use Rattle.j39_transport.specs.ReceiverStands.{WasHanded}
-use Rattle.j39_transport.specs.Signals.{Signal, Abort, Packet}
+use Rattle.j39_node.specs.Common.{[], if◌then◌else◌, ◌&&◌, ◌*◌, ◌++◌, ◌+◌, ◌-◌, ◌==◌, ◌||◌, ◌∷◌, ◌≡◌, ◌⊎◌, Abort, address_claimed_group, answers, Bool, bytes_eq, called_time, Claim, claim_of, drop, false, FrameRecord, Heard, last_stamp, length, limit_of, List, MessageRecord, min, nat_eq, nat_lt, None, not, null_address, Option, option_map, Packet, partner_of, places, ReceiverRecord, ReceptionRecord, recv_step, RecvResult, result_of, said_to, Signal, slice_get, Some, source_of, suc, Ticks, timeout, timer_t2, ToSend, transport_control_group, true, WasHanded, ℕ}
 use Rattle.j39_node.specs.History.{reached, Who, Message, Call, accepted, acknowledged, due, holds, asks_with, is_claim, is_session, is_smaller, is_some, is_transfer, message_of, stamp_at, of_other, is_acknowledgment}
 use Rattle.j39_node.specs.History.Call.{At, ReleaseTransfer}
 use Rattle.j39_node.specs.History.Act.{Hear, Tick, TakeFrame}
-use Rattle.j39_node.specs.Times.{called_time, last_stamp, places}
 
 -- ---- who holds an address (J1939-81, 4.2.2)
 

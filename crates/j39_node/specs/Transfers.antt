@@ -1,13 +1,7 @@
 -- Messages sent to one address in packets (J1939-21, 5.10.2.4 and 5.10.3): what a history says of them.
-use Rattle.std.specs.Prelude.{ℕ, ◌+◌, ◌-◌, ◌++◌, ◌&&◌, ◌||◌, nat_lt, nat_eq, not, max, min, Bool, true, false, List, [], ◌∷◌, length, Option, Some, None, Result, Ok, Err, if◌then◌else◌}
-use Rattle.std.specs.Option.{option_map}
-use Rattle.j39_frame.specs.Address.{null_address}
-use Rattle.j39_frame.specs.Frame.{FrameRecord}
-use Rattle.j39_transport.specs.Message.{MessageRecord}
-use Rattle.j39_transport.specs.Sending.{SendState, SenderRecord, Heard, Tick, aborted, is_idle, is_running, new_sender, send_step}
+use Rattle.j39_node.specs.Common.{[], if◌then◌else◌, ◌&&◌, ◌++◌, ◌+◌, ◌-◌, ◌||◌, ◌∷◌, Abort, aborted, Bool, bytes_with, Err, false, FrameRecord, granted_by, group_with, is_idle, is_running, last_count, last_stamp, length, List, max, MessageRecord, min, nat_eq, nat_lt, new_sender, None, not, null_address, Ok, Option, option_map, rest_time, Result, said_between, send_step, SenderRecord, sends_in, SendState, Signal, slack, Some, Tick, true, ℕ}
+use Rattle.j39_transport.specs.Sending.{Heard}
 use Rattle.j39_transport.specs.Sending as sending
-use Rattle.j39_transport.specs.SenderNext.{granted_by, sends_in}
-use Rattle.j39_transport.specs.Signals.{Signal, Abort, bytes_with, group_with, said_between}
 use Rattle.j39_node.specs.declared.kinds.TransferEnding.{TransferEnding}
 use Rattle.j39_node.specs.declared.kinds.TransferEnding.TheVariants.{Done, Withdrawn, Failed, Gone}
 use Rattle.j39_node.specs.declared.kinds.Refused.{Refused}
@@ -16,7 +10,6 @@ use Rattle.j39_node.specs.History.{Who, Message, Call, Resting, NoneRests, PairR
 use Rattle.j39_node.specs.Reception.{holder, is_move, is_waiting}
 use Rattle.j39_node.specs.History.Call.{At, TakeTransferEnded}
 use Rattle.j39_node.specs.History.Act.{Hear, TakeFrame, Transfer}
-use Rattle.j39_node.specs.Times.{last_count, last_stamp, rest_time, slack}
 
 -- what may be transferred: what may be broadcast, to the address of another
 abbrev pub can_transfer : Who → ℕ → ℕ → List ℕ → Bool
