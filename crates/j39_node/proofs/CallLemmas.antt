@@ -1,7 +1,7 @@
 -- A call more.
 use Rattle.j39_node.proofs.KindLemmas.{Kind, kind, kind_is, single, of_session}
 use Rattle.j39_node.proofs.SoundLemmas.FrameCase.{claims as claims_first, acknowledges, replies, sends, packs, transfers}
-use Rattle.j39_node.proofs.Common.{le-ltb, [], if◌then◌else◌, ◌&&◌, ◌*◌, ◌++◌, ◌+◌, ◌-◌, ◌<◌, ◌||◌, ◌∙◌, ◌∷◌, ◌≡◌, ◌≤◌, accepted, Acknowledge, acknowledged, acknowledgment, Address, address_after, after, Again, age, all_transfers, anew, Answer, answer_to_acknowledge, answer_to_broadcast, answer_to_send, answer_to_transfer, ap, AreAnswered, arith, Asked, asked, asked_by, AskEnding, asking_of, AskRecord, asks_claims, asks_with, At, at_in, begun, blank, Bool, breaks_it, Broadcast, broadcast_from, broadcasts, Busy, Call, called, calls_for_claim, can_claim, can_send, claim_address, claim_due, claim_from, claim_goes, claim_of, Claimed, claimed, claimed_again, Claims, claims, clock, clock_at, closed, comes, content, control_of, Controller, counted, delayed, Done, double, Draft, drop, drop-map, Due, due, end_of, ended, Ending, ending_of, ends_by, eqb-true, Err, false, FrameRecord, fresh, gives_way, got, handed, has_packets, has_place, has_token, Hear, heard, heard_at, heard_by, hearing, hearing_after, hearing_of, HearingRecord, hears_if, hears_it, hears_with, held_at, Hold, hold_acknowledged, hold_after, hold_asked, hold_claimed, hold_opens, hold_spoken, hold_went, holder, holder_in, holds, holds_back, IfSome, in_broadcast, in_session, Incoming, incoming_after, incoming_of, IncomingRecord, inl, inr, Is, is_another, is_apart, is_blank, is_busy, is_claim, is_coming, is_double, is_engaged, is_for_program, is_full, is_held, is_left, is_lost, is_open, is_out, is_refusal_due, is_replaced, is_resting, is_same, is_served, is_smaller, is_there, is_turn, is_unheard, IsAnswered, IsApart, IsFit, IsNamed, kept, known, Knows, lane_after, lane_of, later, latest, leaves, leaves_it, left, left_at, length, length-drop, length-set, less, List, Lost, lost, lt-ltb, ltb-false, ltb-true, made, made_by, made_of, made_whole, map, marks, max, may_claim, may_go, Message, message_from, message_of, MessageRecord, min, missed, missed_news, moment, Move, Nack, named_in, nat_eq, nat_le, nat_lt, newly, news_after, next_acknowledgment, next_due, next_frame, next_packet, next_renewed, next_transfer, next_transfer_ended, next_turn, next_withdrawn, None, not, NotClaimed, nothing, offered, Ok, older, Open, open_ask, open_broadcast, open_transfer, OpenBroadcast, opened, Option, option_map, option_or, other, Outgoing, owes_claim, packet_by, packets, packets_in, passed, past, patience, pause, paused, place_of, port_after, port_of, posted, reached, Ready, ready_in, received_by, reception, ReceptionRecord, refl, refusal_by, Refused, Renew, Renews, Reply, Request, request_by, requests, rest, restarts, rested, resting, resting_by, rests_after, Running, running, Said, said_by, Send, sends_if, session_by, silence, Single, slice_get, slice_get_past, slice_get_within, slice_set, Some, sooner, stamp_at, stamp_micros, stamped, Standing, standing_of, stands, step, still, subst, suc, sym, TakeEnded, TakeFrame, taken_by, TakeRequest, TakeTransferEnded, Tick, ticks, time_heard, told, told_claims, Transfer, transfer_by, transfer_end, transfer_in, TransferEnding, true, Turn, turn_frame, turn_of, turns, unclaimed, unclaims, unheard_by, unheard_news, Untold, View, view, wait, waiting, Who, who_of, whole, whole_of, with_called, with_reception, with_refusal, with_replies, with_request, Withdraw, Withdrawn, yields, ℕ, leb-true}
+use Rattle.j39_node.proofs.Common.{led, le-ltb, [], if◌then◌else◌, ◌&&◌, ◌*◌, ◌++◌, ◌+◌, ◌-◌, ◌<◌, ◌||◌, ◌∙◌, ◌∷◌, ◌≡◌, ◌≤◌, accepted, Acknowledge, acknowledged, acknowledgment, Address, address_after, after, Again, age, all_transfers, anew, Answer, answer_to_acknowledge, answer_to_broadcast, answer_to_send, answer_to_transfer, ap, AreAnswered, arith, Asked, asked, asked_by, AskEnding, asking_of, AskRecord, asks_claims, asks_with, At, at_in, begun, blank, Bool, breaks_it, Broadcast, broadcast_from, broadcasts, Busy, Call, called, calls_for_claim, can_claim, can_send, claim_address, claim_due, claim_from, claim_goes, claim_of, Claimed, claimed, claimed_again, Claims, claims, clock, clock_at, closed, comes, content, control_of, Controller, counted, delayed, Done, double, Draft, drop, drop-map, Due, due, end_of, ended, Ending, ending_of, ends_by, eqb-true, Err, false, FrameRecord, fresh, gives_way, got, handed, has_packets, has_place, has_token, Hear, heard, heard_at, heard_by, hearing, hearing_after, hearing_of, HearingRecord, hears_if, hears_it, hears_with, held_at, Hold, hold_acknowledged, hold_after, hold_asked, hold_claimed, hold_opens, hold_spoken, hold_went, holder, holder_in, holds, holds_back, IfSome, in_broadcast, in_session, Incoming, incoming_after, incoming_of, IncomingRecord, inl, inr, Is, is_another, is_apart, is_blank, is_busy, is_claim, is_coming, is_double, is_engaged, is_for_program, is_full, is_held, is_left, is_lost, is_open, is_out, is_refusal_due, is_replaced, is_resting, is_same, is_served, is_smaller, is_there, is_turn, is_unheard, IsAnswered, IsApart, IsFit, IsNamed, kept, known, Knows, lane_after, lane_of, later, latest, leaves, leaves_it, left, left_at, length, length-drop, length-set, less, List, Lost, lost, lt-ltb, ltb-false, ltb-true, made, made_by, made_of, made_whole, map, marks, max, may_claim, may_go, Message, message_from, message_of, MessageRecord, min, missed, missed_news, moment, Move, Nack, named_in, nat_eq, nat_le, nat_lt, newly, news_after, next_acknowledgment, next_due, next_frame, next_packet, next_renewed, next_transfer, next_transfer_ended, next_turn, next_withdrawn, None, not, NotClaimed, nothing, offered, Ok, older, Open, open_ask, open_broadcast, open_transfer, OpenBroadcast, opened, Option, option_map, option_or, other, Outgoing, owes_claim, packet_by, packets, packets_in, passed, past, patience, pause, paused, place_of, port_after, port_of, posted, reached, Ready, ready_in, received_by, reception, ReceptionRecord, refl, refusal_by, Refused, Renew, Renews, Reply, Request, request_by, requests, rest, restarts, rested, resting, resting_by, rests_after, Running, running, Said, said_by, Send, sends_if, session_by, silence, Single, slice_get, slice_get_past, slice_get_within, slice_set, Some, sooner, stamp_at, stamp_micros, stamped, standing_of, stands, step, still, subst, suc, sym, TakeEnded, TakeFrame, taken_by, TakeRequest, TakeTransferEnded, Tick, ticks, time_heard, told, told_claims, Transfer, transfer_by, transfer_end, transfer_in, TransferEnding, true, Turn, turn_frame, turn_of, turns, unclaimed, unclaims, unheard_by, unheard_news, Untold, View, view, wait, waiting, Who, who_of, whole, whole_of, with_called, with_reception, with_refusal, with_replies, with_request, Withdraw, Withdrawn, yields, ℕ, leb-true, IsOthers}
 use Rattle.j39_node.specs.Reception.{is_waiting}
 use Rattle.j39_node.specs.Transfers.{packet_in}
 use Rattle.j39_node.specs.Is.{hears}
@@ -39,19 +39,6 @@ pub lost_is : (a : Address) → lost (standing_of a) ≡ is_lost a
 lost_is NotClaimed = refl
 lost_is (Claimed e) = refl
 lost_is Lost = refl
-
--- the hold, led to a moment
-abbrev pub led : Who → List Call → ℕ → Hold
-led w H now = record (hold_after w H) {
-  moment = now;
-  standing = standing_of (older (step H now) (address_after w H));
-  patience = patience w H - step H now;
-  delay = delayed w H - step H now;
-  pause = pause H - step H now;
-  age = min (age H + step H now) 18446744073709551615;
-  wait = wait H - step H now;
-  rest = rest w H - step H now;
-}
 
 abbrev pub Passed : Who → List Call → ℕ → Hold → Type 0
 Passed w H now k = k ≡ led w H now
@@ -288,7 +275,7 @@ past_queued w G items t n s e =
     ∙ (ap (λ bs. past bs n + t) (sym (drop-map is_blank t (accepted w G)) ∙ ap (drop t) (sym s.marked)) ∙ past_rest (marks G) t n)
 
 pub taken : (w : Who) (H : List Call) (old new : Controller) (now : ℕ) (r : Option FrameRecord) (x : Outgoing) (mid : Hold) → Is w H old
-    → Passed w H now mid → claim_goes w H now ≡ false → holds w H now ≡ true → next_acknowledgment w H now ≡ None
+    → IsOthers w H now mid
     → turn_of mid.yields (ready_in old mid) ≡ Some Single → slice_get old.outgoing.items old.taken ≡ Some x → option_map stamped r ≡ Some (now, (posted x).1)
     → new ≡ record old { hold = new.hold; taken = new.taken; asking = new.asking; incoming = new.incoming } → new.taken ≡ past (map is_blank (map posted old.outgoing.items)) (suc old.taken) → (request calls : Bool)
     → incoming_of new.incoming ≡ with_called (if calls then 1250000 + (now - (incoming_of old.incoming).moment) else (incoming_of old.incoming).called) (incoming_of old.incoming)
@@ -296,10 +283,10 @@ pub taken : (w : Who) (H : List Call) (old new : Controller) (now : ℕ) (r : Op
     → asking_of new.asking ≡ option_map (takes x.token) (asking_of old.asking)
     → request ≡ has_token (option_map (λ (y : AskRecord). y.question) (asking_of old.asking)) x.token → new.hold ≡ hold_asked request mid
     → Is w (At now (TakeFrame r) ∷ H) new
-taken w H old new now None x mid h p owes held none turn g m e d request calls c1 c2 a1 a2 a3 = absurd (cc)
-taken w H old new now (Some f) x mid h p owes held none turn g m e d request calls c1 c2 a1 a2 a3 =
+taken w H old new now None x mid h o turn g m e d request calls c1 c2 a1 a2 a3 = absurd (cc)
+taken w H old new now (Some f) x mid h o turn g m e d request calls c1 c2 a1 a2 a3 =
     let s = sound w H h.answered in
-    let t = s.in_turn (holding_not_lost w H now held) in
+    let t = s.in_turn (holding_not_lost w H now o.held) in
     let i = in_rest posted old.outgoing.items x (accepted w H) (length (told H)) (reached H) old.taken (ap (λ (v : View). v.outgoing) h.shown) (ap (λ (v : View). v.taken) h.shown) t g in
     let k : stamped f ≡ (now, (posted x).1) = cc in
     let number = s.numbered (reached H) (posted x) i in
@@ -307,11 +294,11 @@ taken w H old new now (Some f) x mid h p owes held none turn g m e d request cal
     let is : request ≡ has_token (open_ask H) (reached H) =
     a2 ∙ ((λ i. has_token (option_map (λ (y : AskRecord). y.question) (h.shown i).asking) (number i)) ∙ ap (λ o. has_token o (reached H)) (token_of (open_ask H) (reached H) (ended w H))) in
     frames (single false false) h (ap (λ c. c.holders) e)
-    (ap Some k ∙ sym (next_is w H now None (Some (posted x).1) owes held none
-    (other_is w H now (Some Single) (sym (turn_next w H old now mid h p held) ∙ turn) ∙ ap (option_map content) i)))
-    (kind_is w H now f h.answered (sends (posted x) owes held (none, sym (turn_next w H old now mid h p held) ∙ turn) i k)) refl
+    (ap Some k ∙ sym (next_is w H now None (Some (posted x).1) o.owes o.held o.none
+    (other_is w H now (Some Single) (sym (turn_next w H old now mid h o.passed o.held) ∙ turn) ∙ ap (option_map content) i)))
+    (kind_is w H now f h.answered (sends (posted x) o.owes o.held (o.none, sym (turn_next w H old now mid h o.passed o.held) ∙ turn) i k)) refl
     (ap (view w) e ∙ λ i. record (h.shown i) {
-      hold = (a3 ∙ λ i. hold_asked (is i) (p i)) i;
+      hold = (a3 ∙ λ i. hold_asked (is i) (o.passed i)) i;
       taken = (let a = (ap (λ (v : View). v.taken) h.shown) in let b = past_queued w H old.outgoing.items (length (told H)) (suc old.taken) s (ap (λ (v : View). v.outgoing) h.shown) in
           let c = ap (past (marks H)) (let z : suc old.taken + length (told H) ≡ suc (reached H) = omega (arith, a, t) in z) in
           (let z : new.taken ≡ past (marks H) (suc (reached H)) - length (told H) = omega (arith, b, c, d) in z)) i;
@@ -320,57 +307,57 @@ taken w H old new now (Some f) x mid h p owes held none turn g m e d request cal
     })
 
 pub taken_none : (w : Who) (H : List Call) (old new : Controller) (now : ℕ) → Is w H old
-    → Passed w H now new.hold → claim_goes w H now ≡ false → holds w H now ≡ true → next_acknowledgment w H now ≡ None
+    → IsOthers w H now new.hold
     → turn_of new.hold.yields (ready_in old new.hold) ≡ None → new ≡ record old { hold = new.hold } → Is w (At now (TakeFrame None) ∷ H) new
-taken_none w H old new now h p owes held none turn e =
-    follows h (ap (λ c. c.holders) e) (sym (next_is w H now None None owes held none (other_is w H now None (sym (turn_next w H old now new.hold h p held) ∙ turn)))) refl
-    (ap (view w) e ∙ λ i. record (h.shown i) { hold = p i })
+taken_none w H old new now h o turn e =
+    follows h (ap (λ c. c.holders) e) (sym (next_is w H now None None o.owes o.held o.none (other_is w H now None (sym (turn_next w H old now new.hold h o.passed o.held) ∙ turn)))) refl
+    (ap (view w) e ∙ λ i. record (h.shown i) { hold = o.passed i })
 
 pub taken_packet : (w : Who) (H : List Call) (old new : Controller) (now : ℕ) (f : FrameRecord) (mid : Hold) → Is w H old
-    → Passed w H now mid → claim_goes w H now ≡ false → holds w H now ≡ true → next_acknowledgment w H now ≡ None
+    → IsOthers w H now mid
     → turn_of mid.yields (ready_in old mid) ≡ Some Packet
     → Some (stamped f) ≡ option_map (at_now now) (packet_by (lane_of (who_of w.brought old.own) old.lane).current old.lane.count mid.pause)
     → new ≡ record old { hold = new.hold; lane = new.lane } → new.hold ≡ paused mid → new.lane ≡ record old.lane { count = new.lane.count }
     → new.lane.count ≡ suc old.lane.count → Is w (At now (TakeFrame (Some f)) ∷ H) new
-taken_packet w H old new now f mid h p owes held none turn m e e0 e1 more =
-    go (next_packet w H now) refl (m ∙ ap (option_map (at_now now)) (packet_next w H old now mid.pause h (ap (λ (k : Hold). k.pause) p)))
+taken_packet w H old new now f mid h o turn m e e0 e1 more =
+    go (next_packet w H now) refl (m ∙ ap (option_map (at_now now)) (packet_next w H old now mid.pause h (ap (λ (k : Hold). k.pause) o.passed)))
   where
     go : (o : Option Message) → next_packet w H now ≡ o → Some (stamped f) ≡ option_map (at_now now) o → Is w (At now (TakeFrame (Some f)) ∷ H) new
     go None q i = absurd (cc)
     go (Some y) q i =
         let k : stamped f ≡ (now, y) = cc in
-        let next = sym (turn_next w H old now mid h p held) ∙ turn in
+        let next = sym (turn_next w H old now mid h o.passed o.held) ∙ turn in
         frames (of_session true false false) h (ap (λ c. c.holders) e)
-        (i ∙ sym (next_is w H now None (Some y) owes held none (other_is w H now (Some Packet) next ∙ q)))
-        (kind_is w H now f h.answered (packs y owes held (none, next) q k)) refl
+        (i ∙ sym (next_is w H now None (Some y) o.owes o.held o.none (other_is w H now (Some Packet) next ∙ q)))
+        (kind_is w H now f h.answered (packs y o.owes o.held (o.none, next) q k)) refl
         (ap (view w) e ∙ λ i. record (h.shown i) {
-          hold = (e0 ∙ ap paused p) i;
+          hold = (e0 ∙ ap paused o.passed) i;
           lane = (ap (lane_of w) e1 ∙ λ i. record (h.shown i).lane {
             count = (more ∙ (ap (λ (v : View). suc v.lane.count) h.shown ∙ sym (length_one_more (packets H) (message_of f)))) i;
           }) i;
         })
 
 pub taken_transfer : (w : Who) (H : List Call) (old new : Controller) (now : ℕ) (f : FrameRecord) (mid : Hold) → Is w H old
-    → Passed w H now mid → claim_goes w H now ≡ false → holds w H now ≡ true → next_acknowledgment w H now ≡ None → turn_of mid.yields (ready_in old mid) ≡ Some Move
+    → IsOthers w H now mid → turn_of mid.yields (ready_in old mid) ≡ Some Move
     → Some (stamped f) ≡ option_map (at_now now) (transfer_by (port_of old.transfers).current (clock mid.age))
     → new ≡ record old { hold = new.hold; transfers = new.transfers }
     → (port_of new.transfers).current ≡ sends_if true (clock mid.age) (port_of old.transfers).current → new.transfers.next_token ≡ old.transfers.next_token
     → new.transfers.resting ≡ old.transfers.resting → new.hold ≡ hold_went mid → Is w (At now (TakeFrame (Some f)) ∷ H) new
-taken_transfer w H old new now f mid h p owes held none turn u e e0 e1 e2 e3 =
-    go (next_transfer w H now) refl (u ∙ ap (option_map (at_now now)) (transfer_next w H old now mid.age h (ap (λ (k : Hold). k.age) p)))
+taken_transfer w H old new now f mid h o turn u e e0 e1 e2 e3 =
+    go (next_transfer w H now) refl (u ∙ ap (option_map (at_now now)) (transfer_next w H old now mid.age h (ap (λ (k : Hold). k.age) o.passed)))
   where
     go : (o : Option Message) → next_transfer w H now ≡ o → Some (stamped f) ≡ option_map (at_now now) o → Is w (At now (TakeFrame (Some f)) ∷ H) new
     go None q i = absurd (cc)
     go (Some y) q i =
         let k : stamped f ≡ (now, y) = cc in
-        let next = sym (turn_next w H old now mid h p held) ∙ turn in
+        let next = sym (turn_next w H old now mid h o.passed o.held) ∙ turn in
         frames (of_session false false true) h (ap (λ c. c.holders) e)
-        (i ∙ sym (next_is w H now None (Some y) owes held none (other_is w H now (Some Move) next ∙ q)))
-        (kind_is w H now f h.answered (transfers y owes held (none, next) q k)) refl
+        (i ∙ sym (next_is w H now None (Some y) o.owes o.held o.none (other_is w H now (Some Move) next ∙ q)))
+        (kind_is w H now f h.answered (transfers y o.owes o.held (o.none, next) q k)) refl
         (ap (view w) e ∙ λ i. record (h.shown i) {
-          hold = (e3 ∙ ap hold_went p) i;
+          hold = (e3 ∙ ap hold_went o.passed) i;
           port = is_port _ _
-              (e0 ∙ ((λ i. sends_if true (clock (p i).age) (h.shown i).port.current) ∙ ap (λ (n : ℕ). sends_if true n (open_transfer w H)) (clock_is (age H + step H now))))
+              (e0 ∙ ((λ i. sends_if true (clock (o.passed i).age) (h.shown i).port.current) ∙ ap (λ (n : ℕ). sends_if true n (open_transfer w H)) (clock_is (age H + step H now))))
               (e1 ∙ ap (λ (v : View). v.port.next_token) h.shown) (ap resting_by e2 ∙ ap (λ (v : View). v.port.resting) h.shown) i;
         })
 
@@ -390,24 +377,23 @@ taken_due w H old new now (Some f) x mid h p owes held next first m e e0 =
       acknowledgments = (first.rest ∙ ap (λ (n : ℕ). drop n (due w H)) (sym (length_one_more (acknowledged H) (message_of f)))) i;
     })
 
-pub taken_reply : (w : Who) (H : List Call) (old new : Controller) (now : ℕ) (r : Option FrameRecord) (x : Said) (mid : Hold) → Is w H old → Passed w H now mid
-    → claim_goes w H now ≡ false → holds w H now ≡ true → next_acknowledgment w H now ≡ None
+pub taken_reply : (w : Who) (H : List Call) (old new : Controller) (now : ℕ) (r : Option FrameRecord) (x : Said) (mid : Hold) → Is w H old → IsOthers w H now mid
     → turn_of mid.yields (ready_in old mid) ≡ Some Reply → First (said_by old.incoming.receiver.state.own) new.incoming.replies.items x 0 (reception w H).replies
     → option_map stamped r ≡ Some (now, said_by w.address x)
     → new ≡ record old { hold = new.hold; incoming = new.incoming } → new.incoming ≡ record old.incoming { replies = new.incoming.replies } → new.hold ≡ hold_spoken mid
     → Is w (At now (TakeFrame r) ∷ H) new
-taken_reply w H old new now None x mid h p owes held none turn first m e e0 e1 = absurd (cc)
-taken_reply w H old new now (Some f) x mid h p owes held none turn first m e e0 e1 =
+taken_reply w H old new now None x mid h o turn first m e e0 e1 = absurd (cc)
+taken_reply w H old new now (Some f) x mid h o turn first m e e0 e1 =
     let own : old.incoming.receiver.state.own ≡ w.address = ap (λ (v : View). v.incoming.own) h.shown in
     let k : stamped f ≡ (now, said_by w.address x) = cc in
     let at : slice_get (reception w H).replies 0 ≡ Some (said_by w.address x) = first.is ∙ ap (λ (a : ℕ). Some (said_by a x)) own in
-    let next = sym (turn_next w H old now mid h p held) ∙ turn in
+    let next = sym (turn_next w H old now mid h o.passed o.held) ∙ turn in
     frames (of_session false true false) h (ap (λ c. c.holders) e)
-    (ap Some k ∙ sym (next_is w H now None (Some (said_by w.address x)) owes held none
+    (ap Some k ∙ sym (next_is w H now None (Some (said_by w.address x)) o.owes o.held o.none
     (other_is w H now (Some Reply) next ∙ at)))
-    (kind_is w H now f h.answered (replies (said_by w.address x) owes held (none, next) at k)) refl
+    (kind_is w H now f h.answered (replies (said_by w.address x) o.owes o.held (o.none, next) at k)) refl
     (ap (view w) e ∙ λ i. record (h.shown i) {
-      hold = (e1 ∙ ap hold_spoken p) i;
+      hold = (e1 ∙ ap hold_spoken o.passed) i;
       incoming = (ap incoming_of e0 ∙ λ i. with_replies (first.rest i) (h.shown i).incoming) i;
     })
 
@@ -1009,9 +995,21 @@ claims_after NotClaimed = refl
 claims_after (Claimed e) = refl
 claims_after Lost = refl
 
+claim_told : (w : Who) (H : List Call) (c : Controller) (a : ℕ) → Is w H c → a ≡ (if lost c.hold.standing then 254 else c.own.address)
+    → claim_from (who_of w.brought c.own) a ≡ claim_from w (claim_address w (address_after w H))
+claim_told w H c a h e =
+    ap (λ (u : View). claim_from u.who a) h.shown
+    ∙ ap (claim_from w) (e ∙ (ap (λ (v : View). if lost v.hold.standing then 254 else c.own.address) h.shown
+    ∙ (ap (λ (n : ℕ). if lost (standing_of (address_after w H)) then 254 else n) (ap (λ (u : View). u.who.address) h.shown) ∙ told_address (address_after w H))))
+  where
+    told_address : (x : Address) → (if lost (standing_of x) then 254 else w.address) ≡ claim_address w x
+    told_address NotClaimed = refl
+    told_address (Claimed n) = refl
+    told_address Lost = refl
+
 pub claims_more : (w : Who) (H : List Call) (old new : Controller) (now : ℕ) (f : FrameRecord) (mid : Hold) (a : ℕ) → Is w H old → Passed w H now mid
     → claim_goes w H now ≡ true → new.hold ≡ hold_claimed mid
-    → Some (stamped f) ≡ Some (now, claim_from (who_of w.brought old.own) a) → a ≡ (if lost mid.standing then 254 else old.own.address)
+    → Some (stamped f) ≡ Some (now, claim_from (who_of w.brought old.own) a) → a ≡ (if lost old.hold.standing then 254 else old.own.address)
     → ((F : List FrameRecord) → Knows old.holders F → Knows new.holders (F ++ f ∷ []))
     → (IsNamed (incoming_of old.incoming) → incoming_of new.incoming ≡ with_called (1250000 + (now - (incoming_of old.incoming).moment))
     (with_reception (left (leaves (holder_in old.holders) (holder_in new.holders) (incoming_of old.incoming).reception.session)
@@ -1025,13 +1023,8 @@ pub claims_more : (w : Who) (H : List Call) (old new : Controller) (now : ℕ) (
     → new ≡ record old { hold = new.hold; holders = new.holders; incoming = new.incoming; hearing = new.hearing; news = new.news }
     → Is w (At now (TakeFrame (Some f)) ∷ H) new
 claims_more w H old new now f mid a h p owes e0 m at knows drops left_by broken p1 p2 t1 t2 t3 t4 t5 t6 u e =
-    let from : claim_from (who_of w.brought old.own) a ≡ claim_from w (claim_address w (address_after w H)) =
-    ap (λ (u : View). claim_from u.who a) h.shown
-    ∙ ap (claim_from w) (at ∙ (ap (λ (x : Standing). if lost x then 254 else old.own.address) (ap (λ (k : Hold). k.standing) p)
-    ∙ (ap (λ (n : ℕ). if lost (standing_of (older (step H now) (address_after w H))) then 254 else n) (ap (λ (u : View). u.who.address) h.shown)
-    ∙ told_address (step H now) (address_after w H)))) in
     let k : stamped f ≡ (now, claim_from (who_of w.brought old.own) a) = cc in
-    let j : stamped f ≡ (now, claim_from w (claim_address w (address_after w H))) = k ∙ ap (λ (x : Message). (now, x)) from in
+    let j : stamped f ≡ (now, claim_from w (claim_address w (address_after w H))) = k ∙ ap (λ (x : Message). (now, x)) (claim_told w H old a h at) in
     let kind_now = kind_is w H now f h.answered (claims_first owes j) in
     let n = ap (λ (k : Kind). k.claim) kind_now in
     let knows_now : Knows new.holders (told_claims w (At now (TakeFrame (Some f)) ∷ H)) = subst (Knows new.holders) (sym (told_is w H now f n)) (knows (told_claims w H) h.holders) in
@@ -1049,25 +1042,8 @@ claims_more w H old new now f mid a h p owes e0 m at knows drops left_by broken 
       );
       holders = knows_now;
     }
-  where
-    told_address : (s : ℕ) (x : Address) → (if lost (standing_of (older s x)) then 254 else w.address) ≡ claim_address w x
-    told_address s NotClaimed = refl
-    told_address s (Claimed e) = refl
-    told_address s Lost = refl
 
 -- ---- which frame would be taken
-
-claim_told : (w : Who) (H : List Call) (c : Controller) (a : ℕ) → Is w H c → a ≡ (if lost c.hold.standing then 254 else c.own.address)
-    → claim_from (who_of w.brought c.own) a ≡ claim_from w (claim_address w (address_after w H))
-claim_told w H c a h e =
-    ap (λ (u : View). claim_from u.who a) h.shown
-    ∙ ap (claim_from w) (e ∙ (ap (λ (v : View). if lost v.hold.standing then 254 else c.own.address) h.shown
-    ∙ (ap (λ (n : ℕ). if lost (standing_of (address_after w H)) then 254 else n) (ap (λ (u : View). u.who.address) h.shown) ∙ told_address (address_after w H))))
-  where
-    told_address : (x : Address) → (if lost (standing_of x) then 254 else w.address) ≡ claim_address w x
-    told_address NotClaimed = refl
-    told_address (Claimed n) = refl
-    told_address Lost = refl
 
 pub peeks_claim : (w : Who) (H : List Call) (c : Controller) (now a : ℕ) (r : Option FrameRecord) → Is w H c → claim_goes w H now ≡ true
     → option_map stamped r ≡ Some (now, claim_from (who_of w.brought c.own) a) → a ≡ (if lost c.hold.standing then 254 else c.own.address)
@@ -1099,16 +1075,15 @@ first_acknowledged w H c now false o h g e =
     due_next None e = sym (not_in_rest (refusal_by w) c.desk.due.items (due w H) (length (acknowledged H)) (length (acknowledged H)) 0 (ap (λ (v : View). v.acknowledgments) h.shown) (omega arith) (omega arith) e)
     due_next (Some x) e = sym (in_rest (refusal_by w) c.desk.due.items x (due w H) (length (acknowledged H)) (length (acknowledged H)) 0 (ap (λ (v : View). v.acknowledgments) h.shown) (omega arith) (omega arith) e)
 
-pub peeks_other : (w : Who) (H : List Call) (c : Controller) (now : ℕ) (k : Hold) (r : Option FrameRecord) → Is w H c → Passed w H now k
-    → claim_goes w H now ≡ false → holds w H now ≡ true → next_acknowledgment w H now ≡ None
+pub peeks_other : (w : Who) (H : List Call) (c : Controller) (now : ℕ) (k : Hold) (r : Option FrameRecord) → Is w H c → IsOthers w H now k
     → option_map stamped r ≡ option_map (at_now now) (turn_frame (turn_of k.yields (ready_in c k)) (slice_get (incoming_of c.incoming).reception.replies 0)
     (option_map posted (slice_get c.outgoing.items c.taken)) (packet_by (lane_of (who_of w.brought c.own) c.lane).current c.lane.count k.pause)
     (transfer_by (port_of c.transfers).current (clock k.age)))
     → option_map stamped r ≡ next_frame w H now
-peeks_other w H c now k r h p owes held none m =
-    m ∙ ((λ i. option_map (at_now now) (turn_frame (turn_next w H c now k h p held i) (slice_get (replies_is w H c h i) 0) (message_next w H c h (holding_not_lost w H now held) i)
-    (packet_next w H c now k.pause h (ap (λ (k : Hold). k.pause) p) i) (transfer_next w H c now k.age h (ap (λ (k : Hold). k.age) p) i)))
-    ∙ sym (next_is w H now None (other w H now) owes held none refl))
+peeks_other w H c now k r h o m =
+    m ∙ ((λ i. option_map (at_now now) (turn_frame (turn_next w H c now k h o.passed o.held i) (slice_get (replies_is w H c h i) 0) (message_next w H c h (holding_not_lost w H now o.held) i)
+    (packet_next w H c now k.pause h (ap (λ (k : Hold). k.pause) o.passed) i) (transfer_next w H c now k.age h (ap (λ (k : Hold). k.age) o.passed) i)))
+    ∙ sym (next_is w H now None (other w H now) o.owes o.held o.none refl))
 
 -- whose turn it is has a frame
 pub single_there : (c : Controller) (k : Hold) → turn_of k.yields (ready_in c k) ≡ Some Single → slice_get c.outgoing.items c.taken ≡ None → ⊥

@@ -24,7 +24,7 @@ use Rattle.j39_node.specs.declared.kinds.News.TheVariants.{AddressLost, AnotherA
 use Rattle.j39_node.specs.declared.kinds.Refused.{Refused}
 use Rattle.j39_node.specs.declared.kinds.Refused.TheVariants.{NoAddress, BadValue, Full}
 use Rattle.j39_node.specs.Hold.{standing_of}
-use Rattle.j39_node.specs.History.{reached, Brought, Who, Message, Draft, Call, Address, carried, message_of, moment, address_after, holds, is_lost, claim_address, claim_from, owes_claim, patience, turns, can_send, accepted, told, is_full, got, kept, missed, Asked, requests, handed, due, acknowledged, acknowledgment, told_claims, lost_news, another_news, missed_news, broadcast_from, broadcasts, can_broadcast, frame_of, is_busy, open_broadcast, packets, pause, stamp_at, step, nothing, content, is_blank, has_packets, is_left, delayed, doubled_news, may_claim, latest, message_from}
+use Rattle.j39_node.specs.History.{older, reached, Brought, Who, Message, Draft, Call, Address, carried, message_of, moment, address_after, holds, is_lost, claim_address, claim_from, owes_claim, patience, turns, can_send, accepted, told, is_full, got, kept, missed, Asked, requests, handed, due, acknowledged, acknowledgment, told_claims, lost_news, another_news, missed_news, broadcast_from, broadcasts, can_broadcast, frame_of, is_busy, open_broadcast, packets, pause, stamp_at, step, nothing, content, is_blank, has_packets, is_left, delayed, doubled_news, may_claim, latest, message_from}
 use Rattle.j39_node.specs.History.Call.{At, Withdraw, TakeAskEnded, TakeEnded, TakeReceived, TakeRequest, TakeNews, TakeBroadcastEnded, ReleaseTransfer, TakeTransferEnded, ReleaseBroadcast, Renew}
 use Rattle.j39_node.specs.History.Act.{Ask, TakeFrame, Send, Acknowledge, Broadcast, Transfer}
 use Rattle.j39_node.specs.History.Address.{NotClaimed, Claimed, Lost}
@@ -293,6 +293,26 @@ hold_after w H = record {
   wait = wait H;
   rest = rest w H;
 }
+
+-- the same, led to a moment
+abbrev pub led : Who → List Call → ℕ → Hold
+led w H now = record (hold_after w H) {
+  moment = now;
+  standing = standing_of (older (step H now) (address_after w H));
+  patience = patience w H - step H now;
+  delay = delayed w H - step H now;
+  pause = pause H - step H now;
+  age = min (age H + step H now) last_count;
+  wait = wait H - step H now;
+  rest = rest w H - step H now;
+}
+
+-- from an address that is held goes what is due beside claims and acknowledgments, by a hold that was led to this moment
+pub record IsOthers (w : Who) (H : List Call) (now : ℕ) (k : Hold) : Type 0 where
+  pub passed : k ≡ led w H now
+  pub owes : claim_goes w H now ≡ false
+  pub held : holds w H now ≡ true
+  pub none : next_acknowledgment w H now ≡ None
 
 -- the open broadcast, how many of its frames were taken, and the next token
 pub record LaneRecord : Type 0 where

@@ -29,6 +29,9 @@ returns-in-None c = λ w H h.
     let p = passed_is w H (stamp_micros c.args.now) c.args.self.now.hold c.passed-hold.result (ap (λ (v : View). v.hold) h.shown) c.passed-hold.ensures in
     let g = gives_is w H c.args.self.now (stamp_micros c.args.now) c.passed-hold.result c.gives_way-gives_way.result h p c.gives_way-gives_way.ensures in
     let b = sym (holds_is w H (stamp_micros c.args.now) c.passed-hold.result c.is_held.result p c.is_held.ensures) ∙ c.if-not-is_held.false in
-    peeks_other w H c.args.self.now (stamp_micros c.args.now) c.passed-hold.result _ h p (goes_is w H (stamp_micros c.args.now) c.passed-hold.result c.gives_way-gives_way.result false p g (sym c.claims.ensures ∙ c.if-claims.false)) b
-    ((first_acknowledged w H c.args.self.now (stamp_micros c.args.now) c.gives_way-gives_way.result _ h g c.first_due.ensures) ∙ ap (λ o. option_map (refusal_by w) (option_map (λ d. d.now) o)) c.in-None.is)
-    c.peek_other.ensures
+    peeks_other w H c.args.self.now (stamp_micros c.args.now) c.passed-hold.result _ h (record {
+      passed = p;
+      owes = goes_is w H (stamp_micros c.args.now) c.passed-hold.result c.gives_way-gives_way.result false p g (sym c.claims.ensures ∙ c.if-claims.false);
+      held = b;
+      none = first_acknowledged w H c.args.self.now (stamp_micros c.args.now) c.gives_way-gives_way.result _ h g c.first_due.ensures ∙ ap (λ o. option_map (refusal_by w) (option_map (λ d. d.now) o)) c.in-None.is;
+    }) c.peek_other.ensures
