@@ -357,7 +357,7 @@ same_on : (w : Who) (later A B : List Call) → state w A ≡ state w B → stat
 same_on w [] A B e = e
 same_on w (call ∷ later) A B e = state_is w call (later ++ A) ∙ (ap (next w call) (same_on w later A B e) ∙ sym (state_is w call (later ++ B)))
 
-same_answers : (w : Who) (later A B : List Call) → state w A ≡ state w B → (AreAnswered w A → AreAnswered w B) → AreAnswered w (later ++ A)
+pub same_answers : (w : Who) (later A B : List Call) → state w A ≡ state w B → (AreAnswered w A → AreAnswered w B) → AreAnswered w (later ++ A)
     → AreAnswered w (later ++ B)
 same_answers w [] A B e first h = first h
 same_answers w (call ∷ later) A B e first h = (
@@ -511,13 +511,6 @@ module _ (w : Who) (f : FrameRecord) (a : IsAside w f) where
           ∙ ap (first (ended w H)) (silent (open_ask H) (reached H) (wait H - step H when) coming (is_lost (older (step H when) (address_after w H))))
 
 -- ---- so no answer tells which it was
-
-pub alike : (w : Who) (later H : List Call) (when : ℕ) (f g : FrameRecord) → IsAside w f → IsAside w g → AreAnswered w (later ++ At when (Hear f) ∷ H)
-    → AreAnswered w (later ++ At when (Hear g) ∷ H)
-alike w later H when f g a b h =
-    let right = (before w later (At when (Hear f) ∷ H) h).0 in
-    same_answers w later (At when (Hear f) ∷ H) (At when (Hear g) ∷ H)
-    (aside_is w f a H when right ∙ sym (aside_is w g b H when right)) (λ r. r) h
 
 pub timely : (w : Who) (later H : List Call) (when : ℕ) (f : FrameRecord) → IsAside w f → reception w (At when Tick ∷ H) ≡ reception w H → ended w (At when (Hear f) ∷ H) ≡ ended w H
     → (AreAnswered w (later ++ At when (Hear f) ∷ H) ↔ AreAnswered w (later ++ At when Tick ∷ H))

@@ -24,7 +24,7 @@ none_open true o e = absurd (cc)
 none_open false None e = refl
 none_open false (Some q) e = absurd (cc)
 
-opens : (w : Who) (H : List Call) (now group to k : ℕ) → Ok k ≡ answer_to_ask w H now group to → (can_ask w group to ≡ true) × (open_ask H ≡ None) × (k ≡ length (accepted w H))
+pub opens : (w : Who) (H : List Call) (now group to k : ℕ) → Ok k ≡ answer_to_ask w H now group to → (can_ask w group to ≡ true) × (open_ask H ≡ None) × (k ≡ length (accepted w H))
 opens w H now group to k e = let x = ask_accepts w H now group to k e in (x.1, none_open (is_full w H) (open_ask H) x.2, x.3)
 
 listed : (w : Who) (H : List Call) → AreAnswered w H → Listed (length (told_asks H)) (asks H) (open_ask H)
@@ -177,7 +177,7 @@ says_word w q f m e g = go (seeks q m) (reaches w f) (is_answer q f) (is_reply w
     go false true false false z = absurd (cc)
 
 -- how it ended, and what was before
-data Outcome (w : Who) (H : List Call) (q : Question) (e : AskEnding) : Type 0 where
+pub data Outcome (w : Who) (H : List Call) (q : Question) (e : AskEnding) : Type 0 where
   by_word : is_word e ≡ true → HeardFirst w H q e → Outcome w H q e
   by_time : e ≡ TimedOut → RanOut w H q → Outcome w H q e
   by_loss : e ≡ Withdrawn → is_lost (address_after w H) ≡ true → Outcome w H q e
@@ -387,14 +387,7 @@ is_accepted w H c now group to answer is held can none room some =
     no (inr (inl z)) = omega (arith, z, room)
     no (inr (inr z)) = omega (arith, z, some)
 
-pub token_is : (w : Who) (H : List Call) (c : Controller) (now group to k : ℕ) → Is w (At now (Ask group to (Ok k)) ∷ H) c → k ≡ length (accepted w H)
-token_is w H c now group to k is = (opens w H now group to k is.answered.1).2
-
 -- ---- its frame
-
-pub frame_is : (w : Who) (H : List Call) (c : Controller) (i : ℕ) (q : Question) → Is w H c → slice_get (asks H) i ≡ Some q
-    → slice_get (accepted w H) q.token ≡ Some (q.token, message_from w (request_for q.group q.to))
-frame_is w H c i q is g = request_sent w H is.answered i q g
 
 pub taken_once : (w : Who) (H : List Call) (c : Controller) (now : ℕ) (f : FrameRecord) (q : Question) → Is w H c → open_ask H ≡ Some q → IsTrue (is_request H f)
     → (is_taken q H ≡ false) × IsTrue (is_taken q (At now (TakeFrame (Some f)) ∷ H)) × (reached H ≡ q.token)
@@ -411,10 +404,6 @@ taken_once w H c now f q is o r =
 
     less : (k n : ℕ) → k ≡ n → nat_lt k (suc n) ≡ true
     less k n e = grind arith
-
-pub since_taken : (w : Who) (H : List Call) (c : Controller) (q : Question) → Is w H c → open_ask H ≡ Some q → IsTrue (is_taken q H)
-    → (e : ℕ) × AskedSince H q e × (wait H ≡ 1250000 - e)
-since_taken w H c q is o t = waits w H is.answered q o t
 
 -- ---- what is told
 
@@ -433,22 +422,14 @@ in_turn w H c k e is =
 same_open : (H : List Call) (p q : Question) → open_ask H ≡ Some p → open_ask H ≡ Some q → p ≡ q
 same_open H p q e f = let z : Some p ≡ Some q = sym e ∙ f in cc
 
-out_of : (w : Who) (H : List Call) (c : Controller) (k : ℕ) (e : AskEnding) (q : Question) → Is w (TakeAskEnded (Some (k, e)) ∷ H) c → open_ask H ≡ Some q → Outcome w H q e
+pub out_of : (w : Who) (H : List Call) (c : Controller) (k : ℕ) (e : AskEnding) (q : Question) → Is w (TakeAskEnded (Some (k, e)) ∷ H) c → open_ask H ≡ Some q → Outcome w H q e
 out_of w H c k e q is o =
     let t = told_is w H c k e is in subst (λ (p : Question). Outcome w H p e) (same_open H t.question q t.current o) t.out
 
-word_of : (w : Who) (H : List Call) (q : Question) (e : AskEnding) → is_word e ≡ true → Outcome w H q e → HeardFirst w H q e
+pub word_of : (w : Who) (H : List Call) (q : Question) (e : AskEnding) → is_word e ≡ true → Outcome w H q e → HeardFirst w H q e
 word_of w H q e k (by_word l h) = h
 word_of w H q e k (by_time z h) = absurd (let y : false ≡ true = sym (ap is_word z) ∙ k in cc)
 word_of w H q e k (by_loss z h) = absurd (let y : false ≡ true = sym (ap is_word z) ∙ k in cc)
-
-pub answered_means : (w : Who) (H : List Call) (c : Controller) (k : ℕ) (q : Question) → Is w (TakeAskEnded (Some (k, Answered)) ∷ H) c → open_ask H ≡ Some q
-    → HeardFirst w H q Answered
-answered_means w H c k q is o = word_of w H q Answered refl (out_of w H c k Answered q is o)
-
-pub acknowledged_means : (w : Who) (H : List Call) (c : Controller) (k : ℕ) (a : Answer) (q : Question) → Is w (TakeAskEnded (Some (k, Acknowledged a)) ∷ H) c
-    → open_ask H ≡ Some q → HeardFirst w H q (Acknowledged a)
-acknowledged_means w H c k a q is o = word_of w H q (Acknowledged a) refl (out_of w H c k (Acknowledged a) q is o)
 
 pub timed_out_means : (w : Who) (H : List Call) (c : Controller) (k : ℕ) (q : Question) → Is w (TakeAskEnded (Some (k, TimedOut)) ∷ H) c → open_ask H ≡ Some q
     → RanOut w H q

@@ -56,11 +56,6 @@ token_is w H c now group k bytes is = (broadcast_accepts w H now group k bytes i
 
 -- ---- which frames are taken
 
-pub in_order : (w : Who) (H : List Call) (c : Controller) (k : ℕ) (m : MessageRecord) → Is w H c → open_broadcast w H ≡ Some (k, m)
-    → (slice_get (broadcasts w H) k ≡ Some m) × (packets H ≡ first_frames m (length (packets H)))
-in_order w H c k m is e =
-    let o = opened_by w _ _ _ (open_broadcast w H) (k, m) (laned w H is.answered) e in (o.last, o.frames)
-
 record Packed (w : Who) (H : List Call) (now : ℕ) (f : FrameRecord) : Type 0 where
   pub token : ℕ
   pub message : MessageRecord
@@ -148,10 +143,6 @@ overdue_goes_by w H now f right (replies m o h n g e) late k a = absurd (not_bot
 overdue_goes_by w H now f right (sends x o h n g e) late k a = absurd (not_both _ (turned w H now (Some Single) n.1).1 late)
 overdue_goes_by w H now f right (packs m o h n g e) late k a = (packet_taken f now m (open_broadcast w H) (length (packets H)) (pause H - step H now) e g).2
 overdue_goes_by w H now f right (transfers m o h n g e) late k a = absurd (not_both _ (turned w H now (Some Move) n.1).0.overdue late)
-
-pub overdue_goes : (w : Who) (H : List Call) (c : Controller) (now : ℕ) (f : FrameRecord) → Is w (At now (TakeFrame (Some f)) ∷ H) c → IsTrue (is_overdue w H now)
-    → is_claim f ≡ false → is_acknowledgment f ≡ false → IsTrue (is_packet f)
-overdue_goes w H c now f is late k a = overdue_goes_by w H now f is.answered.0 (frame_case w H now f is.answered.1) late k a
 
 -- ---- their spacing
 

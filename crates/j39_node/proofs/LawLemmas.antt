@@ -1,5 +1,5 @@
 -- The laws.
-use Rattle.j39_node.proofs.Common.{[], if◌then◌else◌, ◌&&◌, ◌*◌, ◌++◌, ◌+◌, ◌-◌, ◌<◌, ◌||◌, ◌↔◌, ◌∙◌, ◌∷◌, ◌≡◌, ◌≢◌, ◌≤◌, ◌⊎◌, accepted, Acknowledge, acknowledged, acknowledgment, acknowledgment_group, Address, address_after, address_claimed_group, AddressLost, Again, age, and_from, and_parts, another_news, AnotherAtAddress, Answer, answers_another, ap, append-nil, AreAnswered, arith, Asked, asked, At, at_in, Bool, Busy, Call, calls, calls_for_claim, can_send, Claim, claim_address, claim_due, claim_from, claim_goes, claim_of, Claimed, claimed, content, Controller, delayed, destination_of, Done, double, doubled_news, Draft, drop, due, end_of, Ending, eq-eqb, eqb-true, Err, false, FrameRecord, frames, fresh, Full, gives_way, global_address, got, handed, HasDouble, Hear, held_at, holds, inl, inr, Is, is_acknowledgment, is_alike, is_another, is_apart, is_blank, is_claim, is_double, is_for_program, is_held, is_larger, is_lost, is_move, is_none, is_own_group, is_refusal_due, is_reply, is_served, is_session, is_smaller, is_some, is_subscribed, is_there, is_transfer, IsFront, IsTrue, kept, latest, length, length-append, List, long_by, Lost, lost_news, lt-ltb, ltb-true, map, marks, max, may_claim, may_go, Message, message_from, message_of, MessagesMissed, missed, missed_news, moment, Move, Nack, NameDoubled, nat_eq, nat_le, nat_lt, News, news_of, next_acknowledgment, next_due, next_frame, next_long, next_other, next_packet, next_transfer, next_withdrawn, None, NoneTold, not, NotClaimed, null_address, Ok, older, open_broadcast, Option, option_map, option_or, other, owes_claim, packets, passed_in, patience, pause, pgn_of, reached, ready, reception, refl, refusal_waits, Refused, Renew, Reply, request_group, requests, Result, Send, sent, slice_get, slice_get-map, slice_get_within, Some, source_of, stamp_at, stamped, status_after, status_of, step, suc, sym, take, TakeEnded, TakeFrame, TakeNews, TakeReceived, TakeRequest, takes_other, Tick, told, told_claims, true, turns, unblanked, unclaimed, unheard_news, waits_already, Who, with_refusal, with_request, Withdraw, Withdrawn, yields, zero, ℕ, is_full, not_both, and-false, ltb-false, le-ltb, le-leb, or_parts, false_from_ne_true}
+use Rattle.j39_node.proofs.Common.{[], if◌then◌else◌, ◌&&◌, ◌*◌, ◌++◌, ◌+◌, ◌-◌, ◌<◌, ◌||◌, ◌↔◌, ◌∙◌, ◌∷◌, ◌≡◌, ◌≢◌, ◌≤◌, ◌⊎◌, accepted, acknowledged, acknowledgment, acknowledgment_group, Address, address_after, address_claimed_group, AddressLost, Again, age, and_from, and_parts, AnotherAtAddress, answers_another, ap, append-nil, AreAnswered, arith, Asked, asked, At, at_in, Bool, Busy, Call, calls, calls_for_claim, can_send, Claim, claim_address, claim_due, claim_from, claim_goes, claim_of, Claimed, claimed, content, Controller, delayed, destination_of, Done, double, doubled_news, Draft, drop, due, end_of, Ending, eq-eqb, eqb-true, Err, false, FrameRecord, frames, fresh, Full, gives_way, global_address, got, handed, HasDouble, Hear, held_at, holds, inl, inr, Is, is_acknowledgment, is_alike, is_another, is_apart, is_blank, is_claim, is_double, is_for_program, is_held, is_larger, is_lost, is_move, is_none, is_own_group, is_refusal_due, is_reply, is_served, is_session, is_smaller, is_some, is_subscribed, is_there, is_transfer, IsFront, IsTrue, kept, length, length-append, List, long_by, Lost, lost_news, lt-ltb, ltb-true, map, marks, may_claim, may_go, Message, message_from, message_of, MessagesMissed, missed, missed_news, moment, Move, Nack, NameDoubled, nat_eq, nat_le, nat_lt, News, news_of, next_acknowledgment, next_due, next_frame, next_long, next_other, next_packet, next_transfer, next_withdrawn, None, NoneTold, not, NotClaimed, null_address, Ok, older, open_broadcast, Option, option_map, option_or, other, owes_claim, packets, passed_in, patience, pause, pgn_of, reached, ready, reception, refl, refusal_waits, Refused, Renew, Reply, request_group, requests, Result, Send, sent, slice_get, slice_get-map, slice_get_within, Some, source_of, stamp_at, stamped, status_after, status_of, step, suc, sym, take, TakeEnded, TakeFrame, TakeNews, takes_other, Tick, told, true, turns, unblanked, unclaimed, waits_already, Who, with_refusal, with_request, Withdraw, Withdrawn, yields, zero, ℕ, is_full, not_both, and-false, ltb-false, le-ltb, le-leb, or_parts}
 use Rattle.j39_node.specs.History.{heard, Again}
 use Rattle.j39_node.specs.Reception.{is_waiting}
 use Rattle.j39_address.specs.declared.status.Status.TheVariants as status
@@ -7,17 +7,15 @@ use Rattle.j39_node.proofs.ReceptionLemmas.{replied_get, tidy}
 use Rattle.j39_node.proofs.DueLemmas.{both_none, from_long, quiet_long, then_long}
 use Rattle.j39_node.proofs.QueueLemmas.{length_one_more}
 use Rattle.j39_node.proofs.SoundLemmas.{apart_is, is_moved, IsTurn, acknowledgment_single, claim_single, no_transfer, none_there, packet_session, packet_there, single_taken, turned, Rest, none_at, none_next, none_other, other_none, claim_is, given_way, none_acknowledged, none_due_goes, none_gives, EndCase, FrameCase, Sound, claim_taken, due_get, due_taken, end_case, frame_by, frame_case, front_length, held_older, lost_claimed, lost_older, own_of, packet_case, packet_taken, sound, transfer_taken, lost_unclaimed, holding_not_lost, renew_case, WithdrawCase, withdraw_case}
-use Rattle.j39_node.proofs.KnownLemmas.{fresh_one, not_refused, served_not}
+use Rattle.j39_node.proofs.KnownLemmas.{fresh_one, not_refused}
 use Rattle.j39_node.proofs.LaneLemmas.{laned, opened_by}
 use Rattle.j39_node.proofs.CallLemmas.{due_by}
 use Rattle.j39_node.proofs.SoundLemmas.FrameCase.{claims, acknowledges, replies, sends, packs, transfers}
-use Rattle.j39_node.proofs.AnswerCases.{accepts, send_accepts, answer_is}
+use Rattle.j39_node.proofs.AnswerCases.{send_accepts}
 use Rattle.j39_node.proofs.AnswerCases as cases
 use Rattle.j39_node.proofs.SoundLemmas.EndCase.{done, withdrawn}
-use Rattle.j39_node.proofs.RenewLemmas.{none_past, set_here, set_other}
-use Rattle.j39_node.proofs.KindLemmas.{kind_by}
-use Rattle.j39_node.proofs.KindLemmas.{claims_it}
-use Rattle.j39_node.proofs.KindLemmas.{acknowledges_it}
+use Rattle.j39_node.proofs.RenewLemmas.{none_past}
+use Rattle.j39_node.proofs.KindLemmas.{kind_by, claims_it, acknowledges_it}
 
 -- ---- sources
 
@@ -190,12 +188,6 @@ withdrawn_is w H c k answer is = (λ z. to (withdraw_case w H k (sym z ∙ is.an
         let d : is_blank (k, z.0) ≡ false = cc in
         (λ i. not (l i) && (nat_le (reached H) k && may_go (z.1 i))) ∙ λ i. le-leb (reached H) k a i && not (d i || z.2 i)
 
-pub others_unmarked : (H : List Call) (k j : ℕ) → j ≢ k → slice_get (marks (Withdraw k true ∷ H)) j ≡ slice_get (marks H) j
-others_unmarked H k j n = set_other (marks H) k j true n
-
-pub marked_now : (w : Who) (H : List Call) (c : Controller) (k : ℕ) → Is w (Withdraw k true ∷ H) c → slice_get (marks (Withdraw k true ∷ H)) k ≡ Some true
-marked_now w H c k is = set_here (marks H) k false true ((withdrawn_is w H c k true is).0 refl).2.3
-
 pub none_waits : (w : Who) (H : List Call) (c : Controller) (now : ℕ) → Is w (At now (TakeFrame None) ∷ H) c → IsTrue (holds w H now)
     → (reached H ≡ length (accepted w H)) × (length (acknowledged H) ≡ length (due w H))
 none_waits w H c now is held =
@@ -241,18 +233,12 @@ is_accepted w H c now d answer is held can room some =
 
 -- ---- received
 
-pub got_in_order : (w : Who) (H : List Call) (c : Controller) → Is w H c → IsFront (got H) (kept w H)
-got_in_order w H c is = (sound w H is.answered).reads
-
 whole_rest : {T : Type 0} (xs ys r : List T) → ys ≡ xs ++ r → length ys ≤ length xs → xs ≡ ys
 whole_rest xs ys [] f l = sym (f ∙ append-nil xs)
 whole_rest xs ys (r ∷ rs) f l = absurd (let b = ap length f in let d = length-append xs (r ∷ rs) in omega (arith, b, d, l))
 
 pub whole : {T : Type 0} (xs ys : List T) → IsFront xs ys → length ys ≤ length xs → xs ≡ ys
 whole xs ys (zs, e) l = whole_rest xs ys zs e l
-
-pub all_got : (w : Who) (H : List Call) (c : Controller) → Is w (TakeReceived None ∷ H) c → got H ≡ kept w H
-all_got w H c is = whole (got H) (kept w H) (sound w H is.answered.0).reads (past_end (kept w H) (length (got H)) (sym is.answered.1))
 
 count_one : (b r : Bool) (xs ys : List (ℕ × Message)) (x : ℕ × Message) (m : ℕ) → length ys + m ≡ length xs
     → length (if b && r then ys ++ x ∷ [] else ys) + (if b && not r then suc m else m) ≡ length (if b then xs ++ x ∷ [] else xs)
@@ -304,11 +290,11 @@ owed w H now f (transfers m o h k g e) p = absurd (not_both _ o p)
 or_true : (a b : Bool) → a ≡ true → (a || b) ≡ true
 or_true a b e = ap (λ (c : Bool). c || b) e
 
-or_right : (a b : Bool) → b ≡ true → (a || b) ≡ true
+pub or_right : (a b : Bool) → b ≡ true → (a || b) ≡ true
 or_right a b e = grind (arith, e)
 
 -- what is owed stays owed until a frame is taken
-still_owed : (w : Who) (later H : List Call) → frames later ≡ [] → owes_claim w H ≡ true → owes_claim w (later ++ H) ≡ true
+pub still_owed : (w : Who) (later H : List Call) → frames later ≡ [] → owes_claim w H ≡ true → owes_claim w (later ++ H) ≡ true
 still_owed w [] H e o = o
 still_owed w (At when (Hear f) ∷ later) H e o = or_true _ _ (still_owed w later H e o)
 still_owed w (At now (TakeFrame (Some f)) ∷ later) H e o = absurd (let a = ap length e in let b = length_one_more (frames later) f in omega (arith, a, b))
@@ -328,7 +314,7 @@ taken_due w H now f (packs m g h k i e) o = owed_due w H now o (holding_not_lost
 taken_due w H now f (transfers m g h k i e) o = owed_due w H now o (holding_not_lost w H now h)
 
 -- it goes now, or gives way
-claimed_or_not : (w : Who) (H : List Call) (c : Controller) (now : ℕ) (g : FrameRecord) → Is w (At now (TakeFrame (Some g)) ∷ H) c → owes_claim w H ≡ true
+pub claimed_or_not : (w : Who) (H : List Call) (c : Controller) (now : ℕ) (g : FrameRecord) → Is w (At now (TakeFrame (Some g)) ∷ H) c → owes_claim w H ≡ true
     → IsTrue (gives_way w H now) ⊎ (message_of g ≡ claim_from w (claim_address w (address_after w H)))
 claimed_or_not w H c now g is o = go (gives_way w H now) refl
   where
@@ -338,14 +324,6 @@ claimed_or_not w H c now g is o = go (gives_way w H now) refl
     go : (b : Bool) → gives_way w H now ≡ b → IsTrue (gives_way w H now) ⊎ (message_of g ≡ claim_from w (claim_address w (address_after w H)))
     go true e = inl e
     go false e = inr (owed w H now g (frame w H c now g is) (claim_is w H now e ∙ due_now))
-
-pub next_claim : (w : Who) (H later : List Call) (c : Controller) (now : ℕ) (when : ℕ) (f g : FrameRecord)
-    → Is w (At now (TakeFrame (Some g)) ∷ later ++ At when (Hear f) ∷ H) c → frames later ≡ []
-    → IsTrue (calls w H when f)
-    → IsTrue (gives_way w (later ++ At when (Hear f) ∷ H) now)
-    ⊎ (message_of g ≡ claim_from w (claim_address w (address_after w (later ++ At when (Hear f) ∷ H))))
-next_claim w H later c now when f g is none called = claimed_or_not w (later ++ At when (Hear f) ∷ H) c now g is
-    (still_owed w later (At when (Hear f) ∷ H) none (or_right (owes_claim w H) _ called))
 
 answered_before : (w : Who) (later H : List Call) → AreAnswered w (later ++ H) → AreAnswered w H
 answered_before w [] H h = h
@@ -675,12 +653,12 @@ claims_only w H c now f is z = go (frame w H c now f is)
 
 -- ---- who
 
-held_now : (a : Address) (e : ℕ) → is_held (older (e - e) a) ≡ is_held a
+pub held_now : (a : Address) (e : ℕ) → is_held (older (e - e) a) ≡ is_held a
 held_now NotClaimed e = refl
 held_now (Claimed n) e = ap (nat_le 250000) (omega arith)
 held_now Lost e = refl
 
-holding_is : (w : Who) (x : Address) (a : ℕ) → (status_of w x ≡ status.Holding a ↔ ((a ≡ w.address) × (is_held x ≡ true)))
+pub holding_is : (w : Who) (x : Address) (a : ℕ) → (status_of w x ≡ status.Holding a ↔ ((a ≡ w.address) × (is_held x ≡ true)))
 holding_is w NotClaimed a = (λ e. absurd (cc), λ z. absurd (let y = z.1 in cc))
 holding_is w Lost a = (λ e. absurd (cc), λ z. absurd (let y = z.1 in cc))
 holding_is w (Claimed n) a = go (nat_le 250000 n)
@@ -688,12 +666,6 @@ holding_is w (Claimed n) a = go (nat_le 250000 n)
     go : (b : Bool) → ((if b then status.Holding w.address else status.Claiming w.address) ≡ status.Holding a ↔ ((a ≡ w.address) × (b ≡ true)))
     go true = (λ e. ((let z : a ≡ w.address = cc in z), refl), λ z. ap status.Holding (sym z.0))
     go false = (λ e. absurd (cc), λ z. absurd (let y = z.1 in cc))
-
-pub holding : (w : Who) (H : List Call) (a : ℕ) → (status_after w H ≡ status.Holding a ↔ ((a ≡ w.address) × IsTrue (holds w H (moment H))))
-holding w H a =
-    let h = holding_is w (address_after w H) a in
-    let k = held_now (address_after w H) (moment H) in
-    (λ e. ((h.0 e).0, k ∙ (h.0 e).1), λ z. h.1 (z.0, sym k ∙ z.1))
 
 cannot_is : (w : Who) (x : Address) → (status_of w x ≡ status.Cannot ↔ (is_lost x ≡ true))
 cannot_is w NotClaimed = (λ e. absurd (cc), λ z. absurd (cc))
@@ -710,75 +682,40 @@ cannot w H = cannot_is w (address_after w H)
 -- ---- requests
 
 -- what it asks for, where none like it waits
-abbrev counts : Who → List Call → ℕ → FrameRecord → Option Asked
+abbrev pub counts : Who → List Call → ℕ → FrameRecord → Option Asked
 counts w H when f = fresh w (drop (length (handed H)) (requests w H)) (asked w (holds w H when) f)
 
-request_case : (w : Who) (H : List Call) (when : ℕ) (f : FrameRecord) (o : Option Asked) → counts w H when f ≡ o
+pub request_case : (w : Who) (H : List Call) (when : ℕ) (f : FrameRecord) (o : Option Asked) → counts w H when f ≡ o
     → requests w (At when (Hear f) ∷ H) ≡ with_request w (nat_lt (length (requests w H) - length (handed H)) 16) o (requests w H)
 request_case w H when f o e = ap (λ x. with_request w (nat_lt (length (requests w H) - length (handed H)) 16) x (requests w H)) e
 
-refusal_case : (w : Who) (H : List Call) (when : ℕ) (f : FrameRecord) (o : Option Asked) → counts w H when f ≡ o
+pub refusal_case : (w : Who) (H : List Call) (when : ℕ) (f : FrameRecord) (o : Option Asked) → counts w H when f ≡ o
     → due w (At when (Hear f) ∷ H) ≡ with_refusal w (nat_lt (length (requests w H) - length (handed H)) 16)
     (nat_lt (length (due w H) - length (acknowledged H)) 16 && not (is_refusal_due w (drop (length (acknowledged H)) (due w H)) o)) o (due w H)
 refusal_case w H when f o e = ap (λ x. with_refusal w (nat_lt (length (requests w H) - length (handed H)) 16)
     (nat_lt (length (due w H) - length (acknowledged H)) 16 && not (is_refusal_due w (drop (length (acknowledged H)) (due w H)) x)) x (due w H)) e
 
-counts_one : (w : Who) (H : List Call) (when : ℕ) (f : FrameRecord) (r : Asked) → asked w (holds w H when) f ≡ Some r
+pub counts_one : (w : Who) (H : List Call) (when : ℕ) (f : FrameRecord) (r : Asked) → asked w (holds w H when) f ≡ Some r
     → (is_served w r.group ≡ false) ⊎ (waits_already w H r ≡ false) → counts w H when f ≡ Some r
 counts_one w H when f r e new = ap (fresh w (drop (length (handed H)) (requests w H))) e ∙ fresh_one w (drop (length (handed H)) (requests w H)) r new
 
-has_room : (a b : ℕ) → a < b + 16 → nat_lt (a - b) 16 ≡ true
+pub has_room : (a b : ℕ) → a < b + 16 → nat_lt (a - b) 16 ≡ true
 has_room a b l = lt-ltb _ _ (omega (arith, l))
 
 has_none : (a b : ℕ) → b + 16 ≤ a → nat_lt (a - b) 16 ≡ false
 has_none a b l = grind arith
 
-with_it : (w : Who) (r : Asked) (L : List Asked) (s room : Bool) → is_served w r.group ≡ s → with_request w room (Some r) L ≡ (if s && room then L ++ r ∷ [] else L)
+pub with_it : (w : Who) (r : Asked) (L : List Asked) (s room : Bool) → is_served w r.group ≡ s → with_request w room (Some r) L ≡ (if s && room then L ++ r ∷ [] else L)
 with_it w r L s room e = ap (λ (x : Bool). if x && room then L ++ r ∷ [] else L) e
 
-refused_it : (w : Who) (r : Asked) (A : List Message) (s room place at : Bool) → is_served w r.group ≡ s → nat_eq r.destination w.address ≡ at
+pub refused_it : (w : Who) (r : Asked) (A : List Message) (s room place at : Bool) → is_served w r.group ≡ s → nat_eq r.destination w.address ≡ at
     → with_refusal w room place (Some r) A ≡ (if (at && place) && not (s && room) then A ++ acknowledgment w (if s then Busy else Nack) r ∷ [] else A)
 refused_it w r A s room place at e g =
     ap (λ (x : Bool). if (x && place) && not (is_served w r.group && room) then A ++ acknowledgment w (if is_served w r.group then Busy else Nack) r ∷ [] else A) g
     ∙ ap (λ (x : Bool). if (at && place) && not (x && room) then A ++ acknowledgment w (if x then Busy else Nack) r ∷ [] else A) e
 
-off : (b c : Bool) → (b && not (true && true)) ≡ false
+pub off : (b c : Bool) → (b && not (true && true)) ≡ false
 off b c = grind arith
-
-pub is_handed : (w : Who) (H : List Call) (when : ℕ) (f : FrameRecord) (r : Asked) → asked w (holds w H when) f ≡ Some r → IsTrue (is_served w r.group)
-    → waits_already w H r ≡ false → length (requests w H) < length (handed H) + 16
-    → (requests w (At when (Hear f) ∷ H) ≡ requests w H ++ r ∷ []) × (due w (At when (Hear f) ∷ H) ≡ due w H)
-is_handed w H when f r e served new l =
-    let room = has_room _ _ l in
-    let k = counts_one w H when f r e (inr new) in
-    let place = nat_lt (length (due w H) - length (acknowledged H)) 16 && not (refusal_waits w H r) in (
-      request_case w H when f (Some r) k ∙ (ap (λ (b : Bool). with_request w b (Some r) (requests w H)) room ∙ with_it w r (requests w H) true true served),
-      refusal_case w H when f (Some r) k
-          ∙ (ap (λ (b : Bool). with_refusal w b place (Some r) (due w H)) room
-          ∙ (refused_it w r (due w H) true true place (nat_eq r.destination w.address) served refl
-          ∙ ap (λ (b : Bool). if b then due w H ++ acknowledgment w Busy r ∷ [] else due w H) (off (nat_eq r.destination w.address && place) true))),
-    )
-
--- one that waits already changes nothing
-pub is_again : (w : Who) (H : List Call) (when : ℕ) (f : FrameRecord) (r : Asked) → asked w (holds w H when) f ≡ Some r → IsTrue (is_served w r.group)
-    → IsTrue (waits_already w H r) → (requests w (At when (Hear f) ∷ H) ≡ requests w H) × (due w (At when (Hear f) ∷ H) ≡ due w H)
-is_again w H when f r e served waits =
-    let k : counts w H when f ≡ None = ap (fresh w (drop (length (handed H)) (requests w H))) e
-    ∙ ap (λ (b : Bool). (let o : Option Asked = if b then None else Some r in o)) (and_from (is_served w r.group) (waits_already w H r) served waits) in
-    (request_case w H when f None k, refusal_case w H when f None k)
-
-pub is_refused : (w : Who) (H : List Call) (when : ℕ) (f : FrameRecord) (r : Asked) → asked w (holds w H when) f ≡ Some r → r.destination ≡ w.address
-    → (IsTrue (is_served w r.group) → ⊥) → refusal_waits w H r ≡ false → length (due w H) < length (acknowledged H) + 16
-    → (requests w (At when (Hear f) ∷ H) ≡ requests w H) × (due w (At when (Hear f) ∷ H) ≡ due w H ++ acknowledgment w Nack r ∷ [])
-is_refused w H when f r e at n once l =
-    let s = false_from_ne_true _ n in
-    let k = counts_one w H when f r e (inl s) in
-    let room = nat_lt (length (requests w H) - length (handed H)) 16 in (
-      request_case w H when f (Some r) k ∙ with_it w r (requests w H) false room s,
-      refusal_case w H when f (Some r) k
-          ∙ ((λ i. with_refusal w room (has_room _ _ l i && not (once i)) (Some r) (due w H))
-          ∙ refused_it w r (due w H) false room true true s (eq-eqb _ _ at)),
-    )
 
 pub is_busy : (w : Who) (H : List Call) (when : ℕ) (f : FrameRecord) (r : Asked) → asked w (holds w H when) f ≡ Some r → r.destination ≡ w.address
     → IsTrue (is_served w r.group) → waits_already w H r ≡ false → refusal_waits w H r ≡ false → length (handed H) + 16 ≤ length (requests w H)
@@ -794,7 +731,7 @@ is_busy w H when f r e at served new once u l =
     )
 
 -- where it isn't refused
-unrefused : (w : Who) (H : List Call) (when : ℕ) (f : FrameRecord) (r : Asked) → asked w (holds w H when) f ≡ Some r
+pub unrefused : (w : Who) (H : List Call) (when : ℕ) (f : FrameRecord) (r : Asked) → asked w (holds w H when) f ≡ Some r
     → (r.destination ≢ w.address) ⊎ ((nat_lt (length (due w H) - length (acknowledged H)) 16 && not (refusal_waits w H r)) ≡ false)
     → due w (At when (Hear f) ∷ H) ≡ due w H
 unrefused w H when f r e n = go (is_served w r.group && waits_already w H r) refl
@@ -805,30 +742,7 @@ unrefused w H when f r e n = go (is_served w r.group && waits_already w H r) ref
         refusal_case w H when f (Some r) (ap (fresh w (drop (length (handed H)) (requests w H))) e ∙ ap (λ (b : Bool). (let o : Option Asked = if b then None else Some r in o)) g)
         ∙ not_refused w (nat_lt (length (requests w H) - length (handed H)) 16) _ r (due w H) n
 
-pub never_to_all : (w : Who) (H : List Call) (when : ℕ) (f : FrameRecord) (r : Asked) → asked w (holds w H when) f ≡ Some r → r.destination ≢ w.address
-    → due w (At when (Hear f) ∷ H) ≡ due w H
-never_to_all w H when f r e n = unrefused w H when f r e (inl n)
-
--- a refusal that is due already isn't due twice
-pub refused_once : (w : Who) (H : List Call) (when : ℕ) (f : FrameRecord) (r : Asked) → asked w (holds w H when) f ≡ Some r → IsTrue (refusal_waits w H r)
-    → due w (At when (Hear f) ∷ H) ≡ due w H
-refused_once w H when f r e once = unrefused w H when f r e (inr (served_not _ _ (inr (ap not once))))
-
-pub no_request : (w : Who) (H : List Call) (when : ℕ) (f : FrameRecord) → asked w (holds w H when) f ≡ None
-    → (requests w (At when (Hear f) ∷ H) ≡ requests w H) × (due w (At when (Hear f) ∷ H) ≡ due w H)
-no_request w H when f e =
-    let k = ap (fresh w (drop (length (handed H)) (requests w H))) e in (request_case w H when f None k, refusal_case w H when f None k)
-
-pub handed_in_order : (w : Who) (H : List Call) (c : Controller) → Is w H c → IsFront (handed H) (requests w H)
-handed_in_order w H c is = (sound w H is.answered).desk.2
-
-pub all_handed : (w : Who) (H : List Call) (c : Controller) → Is w (TakeRequest None ∷ H) c → handed H ≡ requests w H
-all_handed w H c is = whole (handed H) (requests w H) (sound w H is.answered.0).desk.2 (past_end (requests w H) (length (handed H)) (sym is.answered.1))
-
 -- ---- acknowledgments
-
-pub acknowledged_in_order : (w : Who) (H : List Call) (c : Controller) → Is w H c → IsFront (acknowledged H) (due w H)
-acknowledged_in_order w H c is = (sound w H is.answered).desk.1
 
 pub all_acknowledged : (w : Who) (H : List Call) (now : ℕ) → AreAnswered w H → next_acknowledgment w H now ≡ None
     → IsTrue (gives_way w H now) ⊎ (acknowledged H ≡ due w H)
@@ -850,34 +764,7 @@ acknowledged_first w H c now f is n m = go (frame w H c now f is)
     go (packs x o h k g e) = all_acknowledged w H now is.answered.0 k.0
     go (transfers x o h k g e) = all_acknowledged w H now is.answered.0 k.0
 
-pub is_acknowledged : (w : Who) (H : List Call) (c : Controller) (now : ℕ) (r : Asked) (a : Answer) (result : Result (Unit {0}) Refused)
-    → Is w (At now (Acknowledge r a result) ∷ H) c → IsTrue (holds w H now) → r.destination ≡ w.address → length (due w H) < length (acknowledged H) + 16
-    → result ≡ Ok tt
-is_acknowledged w H c now r a result is held at l =
-    is.answered.1 ∙ answer_is tt held (eq-eqb _ _ at) (false_from_ne_true _ (λ z. (let y = eqb-true _ _ z in omega (arith, y, l))))
-
-pub only_to_address : (w : Who) (H : List Call) (c : Controller) (now : ℕ) (r : Asked) (a : Answer) → Is w (At now (Acknowledge r a (Ok tt)) ∷ H) c
-    → IsTrue (holds w H now) × (r.destination ≡ w.address)
-only_to_address w H c now r a is =
-    let x = accepts (holds w H now) (nat_eq r.destination w.address) (nat_eq (length (due w H) - length (acknowledged H)) 16) tt tt is.answered.1 in (x.0, eqb-true _ _ x.1)
-
 -- ---- the newest value
-
-pub renewed : (w : Who) (H : List Call) (c : Controller) (d : Draft) (k : ℕ) → Is w (Renew d (Some k) ∷ H) c
-    → (m : Message) × (slice_get (accepted w H) k ≡ Some (k, m)) × IsTrue (is_alike (message_from w d) m) × (reached H ≤ k) × (length (told H) ≤ k)
-    × (slice_get (accepted w (Renew d (Some k) ∷ H)) k ≡ Some (k, message_from w d))
-renewed w H c d k is =
-    let at = (renew_case w H d k is.answered.1).at in
-    let e : slice_get (accepted w H) k ≡ Some at.entry = ap (slice_get (accepted w H)) (let y : k ≡ k - 0 = omega arith in y) ∙ at.is in
-    let n : at.entry.0 ≡ k = (sound w H is.answered.0).numbered k at.entry e in
-    let l = at.from in (
-      at.entry.1,
-      e ∙ ap (λ (i : ℕ). (let z : Option (ℕ × Message) = Some (i, at.entry.1) in z)) n,
-      at.alike,
-      omega (arith, l),
-      omega (arith, l),
-      set_here (accepted w H) k at.entry (k, message_from w d) e,
-    )
 
 pub newest : (w : Who) (H : List Call) (c : Controller) (d : Draft) (k j : ℕ) (m : Message) → Is w (Renew d (Some k) ∷ H) c → k < j
     → slice_get (accepted w H) j ≡ Some (j, m) → is_alike (message_from w d) m ≡ false
@@ -885,16 +772,6 @@ newest w H c d k j m is l e =
     let r = renew_case w H d k is.answered.1 in
     let f = r.at.from in
     none_past (message_from w d) _ j (accepted w H) (Some k) (j, m) r.is e (omega (arith, f, l)) (λ i z. let y : k ≡ i = cc in omega (arith, y, l))
-
-pub others_stay : (w : Who) (H : List Call) (d : Draft) (k j : ℕ) → j ≢ k → slice_get (accepted w (Renew d (Some k) ∷ H)) j ≡ slice_get (accepted w H) j
-others_stay w H d k j n = set_other (accepted w H) k j (k, message_from w d) n
-
-pub none_waits_alike : (w : Who) (H : List Call) (c : Controller) (d : Draft) (j : ℕ) (m : Message) → Is w (Renew d None ∷ H) c → IsTrue (can_send w d)
-    → reached H ≤ j → length (told H) ≤ j → slice_get (accepted w H) j ≡ Some (j, m) → is_alike (message_from w d) m ≡ false
-none_waits_alike w H c d j m is can s t e =
-    none_past (message_from w d) _ j (accepted w H) None (j, m)
-    (sym (is.answered.1 ∙ ap (λ (b : Bool). if b then latest (message_from w d) (max (reached H) (length (told H))) 0 (accepted w H) None else None) can))
-    e (omega (arith, s, t)) (λ i z. absurd (cc))
 
 -- ---- quiet till due
 
@@ -1111,7 +988,7 @@ due_then w H c now t None is e l held m z =
 
 -- ---- news
 
-news_case : (a b : Bool) (d : Option ℕ) (c : Bool) (n : News) → Some n ≡ news_of a b d c
+pub news_case : (a b : Bool) (d : Option ℕ) (c : Bool) (n : News) → Some n ≡ news_of a b d c
     → ((n ≡ AddressLost) × (a ≡ true)) ⊎ ((n ≡ AnotherAtAddress) × (b ≡ true)) ⊎ ((address : ℕ) × (n ≡ NameDoubled address) × (d ≡ Some address)) ⊎ ((n ≡ MessagesMissed) × (c ≡ true))
 news_case true b d c n e = inl ((let z : n ≡ AddressLost = cc in z), refl)
 news_case false true d c n e = inr (inl ((let z : n ≡ AnotherAtAddress = cc in z), refl))
@@ -1119,34 +996,17 @@ news_case false false (Some a) c n e = inr (inr (inl (a, (let z : n ≡ NameDoub
 news_case false false None true n e = inr (inr (inr ((let z : n ≡ MessagesMissed = cc in z), refl)))
 news_case false false None false n e = absurd (cc)
 
-pub news_told : (w : Who) (H : List Call) (c : Controller) (n : News) → Is w (TakeNews (Some n) ∷ H) c
-    → ((n ≡ AddressLost) × IsTrue (lost_news w H)) ⊎ ((n ≡ AnotherAtAddress) × IsTrue (another_news w H))
-    ⊎ ((address : ℕ) × (n ≡ NameDoubled address) × (doubled_news w H ≡ Some address)) ⊎ ((n ≡ MessagesMissed) × IsTrue (missed_news w H || unheard_news w H))
-news_told w H c n is = news_case _ _ _ _ n is.answered.1
-
-no_news : (a b : Bool) (d : Option ℕ) (c : Bool) → None ≡ news_of a b d c → (a ≡ false) × (b ≡ false) × (d ≡ None) × (c ≡ false)
+pub no_news : (a b : Bool) (d : Option ℕ) (c : Bool) → None ≡ news_of a b d c → (a ≡ false) × (b ≡ false) × (d ≡ None) × (c ≡ false)
 no_news true b d c e = absurd (cc)
 no_news false true d c e = absurd (cc)
 no_news false false (Some a) c e = absurd (cc)
 no_news false false None true e = absurd (cc)
 no_news false false None false e = (refl, refl, refl, refl)
 
-pub none_told : (w : Who) (H : List Call) (c : Controller) → Is w (TakeNews None ∷ H) c → (lost_news w H ≡ false) × (another_news w H ≡ false) × (doubled_news w H ≡ None) × ((missed_news w H || unheard_news w H) ≡ false)
-none_told w H c is = no_news _ _ _ _ is.answered.1
-
 -- another of its NAME
 
-double_is : (w : Who) (c : Claim) → nat_eq c.name w.name ≡ true → (double w (Some c) ≡ Some c.address) × (is_double w (Some c) ≡ true)
+pub double_is : (w : Who) (c : Claim) → nat_eq c.name w.name ≡ true → (double w (Some c) ≡ Some c.address) × (is_double w (Some c) ≡ true)
 double_is w c e = (ap (λ (b : Bool). if b then Some c.address else None) e, ap (λ (b : Bool). Rattle.std.specs.Option.is_some (if b then Some c.address else None)) e)
-
-pub double_heard : (w : Who) (H : List Call) (now : ℕ) (f : FrameRecord) (a : ℕ) → claim_of f ≡ Some (record { name = w.name; address = a })
-    → (doubled_news w (At now (Hear f) ∷ H) ≡ Some a) × (told_claims w (At now (Hear f) ∷ H) ≡ told_claims w H)
-double_heard w H now f a e =
-    let c : Claim = record { name = w.name; address = a } in
-    let d = double_is w c (eq-eqb w.name w.name refl) in (
-      (λ i. option_or (double w (e i)) (doubled_news w H)) ∙ ap (λ (o : Option ℕ). option_or o (doubled_news w H)) d.0,
-      (λ i. if is_double w (e i) then told_claims w H else told_claims w H ++ f ∷ []) ∙ ap (λ (b : Bool). if b then told_claims w H else told_claims w H ++ f ∷ []) d.1,
-    )
 
 double_later : (w : Who) (a : ℕ) (H : List Call) (call : Call) → HasDouble w a H → HasDouble w a (call ∷ H)
 double_later w a H call h = record { later = call ∷ h.later; at = h.at; claim = h.claim; earlier = h.earlier; is = ap (λ (G : List Call). call ∷ G) h.is; of_it = h.of_it }

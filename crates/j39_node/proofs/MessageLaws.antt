@@ -1,5 +1,5 @@
 -- That every message of one frame ends.
-use Rattle.j39_node.proofs.Common.{[], if◌then◌else◌, ◌++◌, ◌+◌, ◌<◌, ◌||◌, ◌∙◌, ◌∷◌, ◌≡◌, ◌≤◌, ◌⊎◌, accepted, address_after, Again, ap, AreAnswered, arith, Ask, At, blank, Bool, Call, claims_anew, Controller, Done, Draft, end_of, Ending, ending_of, false, Hear, holds, inl, inr, Is, is_acknowledgment, is_blank, is_claim, is_held, is_lost, is_session, IsAnswered, IsPrompt, IsTrue, length, length-set, List, marks, Message, message_from, moment, nat_lt, next_ended, next_frame, None, not, Ok, Option, passed_in, past, reached, refl, Renew, request_for, Send, slice_get, slice_set, Some, step, suc, TakeFrame, told, true, waited_in, Who, Withdraw, Withdrawn, zero, ℕ, lt-ltb}
+use Rattle.j39_node.proofs.Common.{[], if◌then◌else◌, ◌++◌, ◌+◌, ◌<◌, ◌||◌, ◌∙◌, ◌∷◌, ◌≡◌, ◌≤◌, ◌⊎◌, accepted, address_after, Again, ap, AreAnswered, arith, Ask, At, blank, Bool, Call, claims_anew, Controller, Done, Draft, end_of, Ending, ending_of, false, Hear, holds, inl, inr, Is, is_acknowledgment, is_blank, is_claim, is_held, is_lost, is_session, IsAnswered, IsPrompt, length, length-set, List, marks, Message, message_from, moment, nat_lt, next_ended, next_frame, None, not, Ok, Option, passed_in, past, reached, refl, Renew, request_for, Send, slice_get, slice_set, Some, step, suc, TakeFrame, told, true, waited_in, Who, Withdraw, Withdrawn, zero, ℕ, lt-ltb}
 use Rattle.j39_node.proofs.LawLemmas.{past_end}
 use Rattle.j39_node.proofs.PromptLaws.{answered_from, keeps_heard, keeps_taken, lost_heard, lost_taken, waited_last}
 use Rattle.j39_node.proofs.QueueLemmas.{length_one_more}
@@ -124,48 +124,20 @@ module _ (w : Who) (later B : List Call) (c : Controller) (g k : ℕ) (is : Is w
   here : Stands w B g k later
   here = stands w B g k later is.answered prompt (record { among = fits.1; course = waits fits.0 refl })
 
-  ends_taken : (k < reached (later ++ B)) ⊎ (is_lost (address_after w (later ++ B)) ≡ true)
+  pub ends_taken : (k < reached (later ++ B)) ⊎ (is_lost (address_after w (later ++ B)) ≡ true)
   ends_taken = ends_so w B g k later here l (waited_last g later B prompt)
 
-  ends_told : length (told (later ++ B)) ≤ k → (e : Ending) × (next_ended w (later ++ B) ≡ Some (length (told (later ++ B)), e))
+  pub ends_told : length (told (later ++ B)) ≤ k → (e : Ending) × (next_ended w (later ++ B) ≡ Some (length (told (later ++ B)), e))
   ends_told t = told_next w (later ++ B) k is.answered here.among t ends_taken
 
-sent_fits : (w : Who) (later earlier : List Call) (c : Controller) (now k : ℕ) (d : Draft) → Is w (later ++ At now (Send d (Ok k)) ∷ earlier) c
+pub sent_fits : (w : Who) (later earlier : List Call) (c : Controller) (now k : ℕ) (d : Draft) → Is w (later ++ At now (Send d (Ok k)) ∷ earlier) c
     → (is_held (address_after w (At now (Send d (Ok k)) ∷ earlier)) ≡ true) × (k < length (accepted w (At now (Send d (Ok k)) ∷ earlier)))
 sent_fits w later earlier c now k d is =
     let x = send_accepts w earlier now k d (answered_from w later (At now (Send d (Ok k)) ∷ earlier) is.answered).1 in
     let z = x.3 in let y = length_one_more (accepted w earlier) (k, message_from w d) in (x.0, omega (arith, z, y))
 
-asked_fits : (w : Who) (later earlier : List Call) (c : Controller) (now group to k : ℕ) → Is w (later ++ At now (Ask group to (Ok k)) ∷ earlier) c
+pub asked_fits : (w : Who) (later earlier : List Call) (c : Controller) (now group to k : ℕ) → Is w (later ++ At now (Ask group to (Ok k)) ∷ earlier) c
     → (is_held (address_after w (At now (Ask group to (Ok k)) ∷ earlier)) ≡ true) × (k < length (accepted w (At now (Ask group to (Ok k)) ∷ earlier)))
 asked_fits w later earlier c now group to k is =
     let x = ask_accepts w earlier now group to k (answered_from w later (At now (Ask group to (Ok k)) ∷ earlier) is.answered).1 in
     let z = x.3 in let y = length_one_more (accepted w earlier) (k, message_from w (request_for group to)) in (x.0, omega (arith, z, y))
-
-pub sent_ends : (w : Who) (later earlier : List Call) (c : Controller) (g now k : ℕ) (d : Draft) → Is w (later ++ At now (Send d (Ok k)) ∷ earlier) c
-    → IsPrompt g later (At now (Send d (Ok k)) ∷ earlier) → g < passed_in later (At now (Send d (Ok k)) ∷ earlier)
-    → (k < reached (later ++ At now (Send d (Ok k)) ∷ earlier)) ⊎ IsTrue (is_lost (address_after w (later ++ At now (Send d (Ok k)) ∷ earlier)))
-sent_ends w later earlier c g now k d is prompt l =
-    ends_taken w later (At now (Send d (Ok k)) ∷ earlier) c g k is (sent_fits w later earlier c now k d is) prompt l
-
-pub asked_ends : (w : Who) (later earlier : List Call) (c : Controller) (g now group to k : ℕ)
-    → Is w (later ++ At now (Ask group to (Ok k)) ∷ earlier) c → IsPrompt g later (At now (Ask group to (Ok k)) ∷ earlier)
-    → g < passed_in later (At now (Ask group to (Ok k)) ∷ earlier)
-    → (k < reached (later ++ At now (Ask group to (Ok k)) ∷ earlier))
-    ⊎ IsTrue (is_lost (address_after w (later ++ At now (Ask group to (Ok k)) ∷ earlier)))
-asked_ends w later earlier c g now group to k is prompt l =
-    ends_taken w later (At now (Ask group to (Ok k)) ∷ earlier) c g k is (asked_fits w later earlier c now group to k is) prompt l
-
-pub sent_told : (w : Who) (later earlier : List Call) (c : Controller) (g now k : ℕ) (d : Draft) → Is w (later ++ At now (Send d (Ok k)) ∷ earlier) c
-    → IsPrompt g later (At now (Send d (Ok k)) ∷ earlier) → g < passed_in later (At now (Send d (Ok k)) ∷ earlier)
-    → length (told (later ++ At now (Send d (Ok k)) ∷ earlier)) ≤ k
-    → (e : Ending) × (next_ended w (later ++ At now (Send d (Ok k)) ∷ earlier) ≡ Some (length (told (later ++ At now (Send d (Ok k)) ∷ earlier)), e))
-sent_told w later earlier c g now k d is prompt l =
-    ends_told w later (At now (Send d (Ok k)) ∷ earlier) c g k is (sent_fits w later earlier c now k d is) prompt l
-
-pub asked_told : (w : Who) (later earlier : List Call) (c : Controller) (g now group to k : ℕ)
-    → Is w (later ++ At now (Ask group to (Ok k)) ∷ earlier) c → IsPrompt g later (At now (Ask group to (Ok k)) ∷ earlier)
-    → g < passed_in later (At now (Ask group to (Ok k)) ∷ earlier) → length (told (later ++ At now (Ask group to (Ok k)) ∷ earlier)) ≤ k
-    → (e : Ending) × (next_ended w (later ++ At now (Ask group to (Ok k)) ∷ earlier) ≡ Some (length (told (later ++ At now (Ask group to (Ok k)) ∷ earlier)), e))
-asked_told w later earlier c g now group to k is prompt l =
-    ends_told w later (At now (Ask group to (Ok k)) ∷ earlier) c g k is (asked_fits w later earlier c now group to k is) prompt l

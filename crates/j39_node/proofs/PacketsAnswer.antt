@@ -1,11 +1,11 @@
 -- A message in packets answers a request by the frame that makes it whole, be it to this address or to all.
-use Rattle.j39_node.proofs.Common.{if◌then◌else◌, ◌&&◌, ◌<◌, ◌==◌, ◌||◌, ◌↔◌, ◌∙◌, ◌∷◌, ◌≡◌, ◌⊎◌, and_from, and_parts, Answered, ap, arith, At, Bool, by, Call, claim_of, comes, destination_of, eq-eqb, eqb-true, false, found, FrameRecord, grown, has_place, Hear, hearing, holder, holds, in_broadcast, in_session, inl, inr, is_coming, is_from, is_key, is_late, is_smaller, IsTrue, known, leaves, left, length, List, made, made_of, made_whole, message_by, MessageRecord, nat_eq, newly, None, open_ask, OpenBroadcast, Option, option_map, option_or, packs, pgn_of, ps_of, Question, receiver_at, Reception, reception, ReceptionRecord, RecvResult, refl, said_to, says_to, seeks, shown, since_in, Some, source_of, sym, time_heard, transport_data_group, true, waiting, Who, whole, whole_by, whole_of, ℕ, or-true}
+use Rattle.j39_node.proofs.Common.{if◌then◌else◌, ◌&&◌, ◌<◌, ◌==◌, ◌||◌, ◌↔◌, ◌∙◌, ◌∷◌, ◌≡◌, ◌⊎◌, and_from, and_parts, Answered, ap, arith, At, Bool, by, Call, comes, destination_of, eq-eqb, eqb-true, false, found, FrameRecord, grown, has_place, Hear, hearing, holder, in_broadcast, in_session, inl, inr, is_coming, is_from, is_key, is_late, IsTrue, known, length, List, made_whole, message_by, MessageRecord, nat_eq, newly, None, open_ask, OpenBroadcast, Option, packs, pgn_of, ps_of, Question, receiver_at, Reception, reception, ReceptionRecord, RecvResult, refl, said_to, says_to, seeks, shown, since_in, Some, source_of, sym, time_heard, transport_data_group, true, waiting, Who, whole_by, whole_of, ℕ, or-true}
 use Rattle.j39_node.specs.Hearing.{begun, is_over, is_whole as is_full}
 use Rattle.j39_transport.specs.Frames as frames
 use Rattle.j39_node.proofs.HearingLaws.{begun_open, whole_is, whole_of_left, none_is as not_both}
 use Rattle.j39_node.proofs.HearingLemmas.{Effect, begins, ends, grows, stays, effect}
 use Rattle.j39_node.proofs.PacketLemmas.{quiet_step, shown_none}
-use Rattle.j39_node.proofs.ReceptionLaws.{goes_there, not_said}
+use Rattle.j39_node.proofs.ReceptionLaws.{goes_there}
 
 -- ---- a message of the group, from whom was asked, answers
 
@@ -13,16 +13,10 @@ seeks_by : (q : Question) (source group : ℕ) → group ≡ q.group → (q.to �
 seeks_by q source group g (inl a) = λ i. eq-eqb _ _ g i && (eq-eqb _ _ a i || nat_eq source q.to)
 seeks_by q source group g (inr a) = (λ i. eq-eqb _ _ g i && (nat_eq q.to 255 || eq-eqb _ _ a i)) ∙ or-true (nat_eq q.to 255)
 
-answers_by : (w : Who) (q : Question) (f : FrameRecord) (m : MessageRecord) (o : Option (ℕ × ℕ)) → o ≡ Some (m.source, m.pgn) → m.pgn ≡ q.group
+pub answers_by : (w : Who) (q : Question) (f : FrameRecord) (m : MessageRecord) (o : Option (ℕ × ℕ)) → o ≡ Some (m.source, m.pgn) → m.pgn ≡ q.group
     → (q.to ≡ 255) ⊎ (m.source ≡ q.to) → says_to w q f o ≡ Some Answered
 answers_by w q f m o e g a =
     ap (says_to w q f) e ∙ ap (λ (b : Bool). if b then Some Answered else says_to w q f None) (seeks_by q m.source m.pgn g a)
-
-pub transfer_answers : (w : Who) (H : List Call) (when : ℕ) (f : FrameRecord) (m : MessageRecord) (q : Question) → whole w H when f ≡ Some m → m.pgn ≡ q.group
-    → (q.to ≡ 255) ⊎ (m.source ≡ q.to) → says_to w q f (made w H when f) ≡ Some Answered
-transfer_answers w H when f m q e g a =
-    answers_by w q f m (made w H when f)
-    (ap (λ (o : Option MessageRecord). option_or (made_of o) (made_of (option_map (λ (x : ℕ × MessageRecord). x.1) (made_whole w H when f)))) e) g a
 
 -- ---- a broadcast is made whole by _ a _ packet to all
 
@@ -67,18 +61,8 @@ none_whole own true held f now r e = refl
 none_whole own false false f now r e = refl
 none_whole own false true f now r e = ap (λ (x : RecvResult). x.delivers) (quiet_step (receiver_at own r) (shown own r.session f) now (has_place r.waits) (shown_none own r.session f e))
 
-to_another : (own : ℕ) (d : Option ℕ) → own < 254 → d ≡ Some 255 → d ≡ Some own → ⊥
+pub to_another : (own : ℕ) (d : Option ℕ) → own < 254 → d ≡ Some 255 → d ≡ Some own → ⊥
 to_another own d l e g = absurd (let z : Some 255 ≡ Some own = sym e ∙ g in let y : 255 ≡ own = cc in omega (arith, y, l))
-
-pub broadcast_answers : (w : Who) (H : List Call) (when : ℕ) (f : FrameRecord) (x : ℕ × MessageRecord) (q : Question) → w.address < 254 → made_whole w H when f ≡ Some x
-    → x.1.pgn ≡ q.group → (q.to ≡ 255) ⊎ (x.1.source ≡ q.to) → says_to w q f (made w H when f) ≡ Some Answered
-broadcast_answers w H when f x q l e g a =
-    let to_all = packs_to_all f (made_by_packet w H when f x e).0 in
-    let none : whole w H when f ≡ None =
-    none_whole w.address (is_smaller w (claim_of f)) (holds w H when) f (time_heard (At when (Hear f) ∷ H))
-    (left (leaves (known w H when f) (holder w (At when (Hear f) ∷ H)) (reception w H).session) (reception w H))
-    (not_said w.address f (to_another w.address (destination_of f.id) l to_all)) in
-    answers_by w q f x.1 (made w H when f) (λ i. option_or (made_of (none i)) (made_of (option_map (λ (y : ℕ × MessageRecord). y.1) (e i)))) g a
 
 -- ---- one that is on its way
 

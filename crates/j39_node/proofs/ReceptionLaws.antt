@@ -12,9 +12,7 @@ use Rattle.j39_node.proofs.PacketLemmas.{hushed, quiet_step, shown_both, shown_n
 use Rattle.j39_node.proofs.SoundLemmas.FrameCase.{claims, acknowledges, replies, sends, packs, transfers}
 use Rattle.j39_node.proofs.ReceptionLemmas.{Acknowledges, Fits, Gives, Tidy, own_after, refused_step, replied_get, taken_is, tame_signal, tame_tick, quiet_at, unclaimed_known, tidy, tidy_left, own_ticked as own_kept, no_reply}
 use Rattle.j39_node.proofs.HearingLemmas.{same_same as same_self}
-use Rattle.j39_node.proofs.KindLemmas.{claims_it}
-use Rattle.j39_node.proofs.KindLemmas.{acknowledges_it}
-use Rattle.j39_node.proofs.KindLemmas.{replies_it}
+use Rattle.j39_node.proofs.KindLemmas.{claims_it, acknowledges_it, replies_it}
 
 -- ---- each once, in order
 
@@ -433,7 +431,7 @@ none_replied w H c now is held = none (reception w H).replies (none_next w H now
 
 -- ---- from an address that is lost
 
-record Silent (r : Reception) : Type 0 where
+pub record Silent (r : Reception) : Type 0 where
   pub session : r.session ≡ None
   pub replies : r.replies ≡ []
 
@@ -475,7 +473,7 @@ claim_lost : (b : Bool) (s : ℕ) (a : Address) → is_lost (if b then Rattle.j3
 claim_lost true s a e = sym (lost_older s a) ∙ (sym (lost_claimed (older s a)) ∙ e)
 claim_lost false s a e = sym (lost_older s a) ∙ e
 
-silent : (w : Who) (H : List Call) → is_lost (address_after w H) ≡ true → Silent (reception w H)
+pub silent : (w : Who) (H : List Call) → is_lost (address_after w H) ≡ true → Silent (reception w H)
 silent w [] e = record { session = refl; replies = refl }
 silent w (At when (Hear f) ∷ H) e =
     silent_heard w.address (is_smaller w (claim_of f)) (holds w H when) f (time_heard (At when (Hear f) ∷ H)) _
@@ -488,9 +486,6 @@ silent w (At now (TakeFrame (Some f)) ∷ H) e =
 silent w (ReleaseTransfer answer ∷ H) e = silent_released answer (reception w H) (silent w H e)
 silent w (At now Again ∷ H) e = silent w H (sym (lost_older (step H now) (address_after w H)) ∙ (sym (lost_unclaimed _) ∙ e))
 silent w (call ∷ H) e = silent w H (let z = lost_older (step H (moment (call ∷ H))) (address_after w H) in cc)
-
-pub lost_is_silent : (w : Who) (H : List Call) → IsTrue (is_lost (address_after w H)) → ((reception w H).session ≡ None) × ((reception w H).replies ≡ [])
-lost_is_silent w H e = let s = silent w H e in (s.session, s.replies)
 
 -- ---- frames that are not for a session
 
@@ -637,7 +632,7 @@ refuse_bytes : (own a pgn : ℕ) → (written own a (Abort 2 pgn)).bytes ≡ ref
 unfolding written
 refuse_bytes own a pgn = refl
 
-refuses_by : (own : ℕ) (lost held b : Bool) (f : FrameRecord) (now : ℕ) (r : Reception) (x : ℕ × MessageRecord) (size count most pgn : ℕ) → lost ≡ false → held ≡ true
+pub refuses_by : (own : ℕ) (lost held b : Bool) (f : FrameRecord) (now : ℕ) (r : Reception) (x : ℕ × MessageRecord) (size count most pgn : ℕ) → lost ≡ false → held ≡ true
     → b ≡ false → r.session ≡ None → r.waits ≡ Some x → said_to own f ≡ Some (RequestToSend size count most pgn) → length (without (source_of f.id) r.replies) < 16
     → heard_by own lost held f now (left b r)
     ≡ record { session = None; since = r.since; waits = Some x; replies = without (source_of f.id) r.replies ++ reply_from own (source_of f.id) (refusal pgn) ∷ [] }
@@ -654,23 +649,9 @@ refuses_by own false true false f now r x size count most pgn e g i n k s l =
     else without (source_of f.id) r.replies) (lt-ltb (length (without (source_of f.id) r.replies)) 16 l)
     ∙ ap (λ bytes. without (source_of f.id) r.replies ++ reply_from own (source_of f.id) bytes ∷ []) (refuse_bytes own (frames.source_of f.id) pgn)))
 
-no_session : (r : Reception) (x : ℕ × MessageRecord) → IsApart r → r.waits ≡ Some x → r.session ≡ None
+pub no_session : (r : Reception) (x : ℕ × MessageRecord) → IsApart r → r.waits ≡ Some x → r.session ≡ None
 no_session r x (inl a) e = absurd (let z : None ≡ Some x = sym a ∙ e in cc)
 no_session r x (inr a) e = a
-
-pub full_refuses : (w : Who) (H : List Call) (when : ℕ) (f : FrameRecord) (x : ℕ × MessageRecord) (size count most pgn : ℕ) → (reception w H).waits ≡ Some x
-    → IsTrue (holds w H when) → said_to w.address f ≡ Some (RequestToSend size count most pgn)
-    → length (without (source_of f.id) (reception w H).replies) < 16
-    → reception w (At when (Hear f) ∷ H) ≡ record {
-      session = None;
-      since = (reception w H).since;
-      waits = Some x;
-      replies = without (source_of f.id) (reception w H).replies ++ reply_from w.address (source_of f.id) (255 ∷ 2 ∷ 255 ∷ 255 ∷ 255 ∷ little_bytes 3 pgn) ∷ [];
-    }
-full_refuses w H when f x size count most pgn e held said l =
-    let none = said_no_claim w.address f (RequestToSend size count most pgn) said in
-    refuses_by w.address (is_smaller w (claim_of f)) (holds w H when) (leaves (known w H when f) (holder w (At when (Hear f) ∷ H)) (reception w H).session) f (time_heard (At when (Hear f) ∷ H))
-    (reception w H) x size count most pgn (not_driven w f none) held (not_left_by w H when f none) (no_session (reception w H) x (tidy w H).apart e) e said l
 
 -- ---- a session begins
 
@@ -778,7 +759,7 @@ unfolding asks_again grants
 asks_something now x =
     cond_both (x.asks == 2) _ _ (λ (y : Reaction). (a : Signal) × (y.says ≡ Some a) × Asks a) (λ t. (_, refl, inr refl)) (λ t. (_, refl, inl refl))
 
-some_tick : (own stamp now : ℕ) (r : Reception) (x : ReceptionRecord) → r.session ≡ Some x → limit_in r.since x < now
+pub some_tick : (own stamp now : ℕ) (r : Reception) (x : ReceptionRecord) → r.session ≡ Some x → limit_in r.since x < now
     → (y : ToSend) × ((slice_get y.bytes 0 ≡ Some 17) ⊎ (slice_get y.bytes 0 ≡ Some 255))
     × ((ticked own stamp now r).replies ≡ replied own x.message.source (Some y) r.replies)
 unfolding recv_step takes_tick written
@@ -817,15 +798,6 @@ after_moment limit last time t now e l m = go (nat_lt (last + (suc limit - time)
     go : (b : Bool) → (if b then Some (last + (suc limit - time)) else None) ≡ Some t → limit < later time (now - last)
     go true g = let z : last + (suc limit - time) ≡ t = cc in omega (arith, z, l, m)
     go false g = absurd (cc)
-
-pub tick_says : (w : Who) (H : List Call) (now t : ℕ) (r : ReceptionRecord) → session_tick w H ≡ Some t → (reception w H).session ≡ Some r → t ≤ now
-    → time_heard H + (t - heard_at H) < 10000000000000000
-    → (x : ToSend) × ((slice_get x.bytes 0 ≡ Some 17) ⊎ (slice_get x.bytes 0 ≡ Some 255))
-    × ((reception w (At now Tick ∷ H)).replies ≡ replied w.address r.message.source (Some x) (reception w H).replies)
-tick_says w H now t r e i l m =
-    some_tick w.address now (time_heard (At now Tick ∷ H)) (reception w H) r i
-    (after_moment (limit_in (reception w H).since r) (heard_at H) (time_heard H) t now
-    (sym (ap (λ (o : Option ReceptionRecord). tick_at (reception w H).since o (heard_at H) (time_heard H)) i) ∙ e) l m)
 
 -- ---- acknowledged on the wire
 

@@ -1,10 +1,10 @@
 -- When a transfer rests.
-use Rattle.j39_node.proofs.Common.{[], if◌then◌else◌, ◌&&◌, ◌++◌, ◌+◌, ◌-◌, ◌<◌, ◌∙◌, ◌∷◌, ◌≡◌, ◌≤◌, ◌⊎◌, AllRest, and_from, and_parts, ap, append-nil, arith, Bool, Call, eq-eqb, false, holds_back, inl, inr, is_resting, IsTrue, joined, List, moment, moved, nat_eq, nat_lt, None, NoneRests, open_transfer, Option, PairRests, passed_in, refl, rest, Resting, resting, rests_after, Running, Some, step, TakeTransferEnded, ToldSince, TransferEnding, true, Who, with_pair, ℕ, lt-ltb, ltb-true}
+use Rattle.j39_node.proofs.Common.{[], if◌then◌else◌, ◌&&◌, ◌++◌, ◌+◌, ◌-◌, ◌<◌, ◌∙◌, ◌∷◌, ◌≡◌, ◌≤◌, ◌⊎◌, AllRest, and_from, ap, append-nil, arith, Bool, Call, eq-eqb, false, holds_back, inl, inr, is_resting, IsTrue, joined, List, moment, moved, nat_eq, nat_lt, None, NoneRests, open_transfer, Option, PairRests, passed_in, refl, rest, Resting, resting, rests_after, Running, Some, step, TakeTransferEnded, ToldSince, TransferEnding, true, Who, with_pair, ℕ, lt-ltb}
 use Rattle.j39_node.specs.Moving.{begun}
 
 -- ---- it rests only after such an end, or where it did before its history
 
-record Rested (w : Who) (H : List Call) : Type 0 where
+pub record Rested (w : Who) (H : List Call) : Type 0 where
   pub ended : ℕ × TransferEnding
   pub age : ℕ
   pub told : ToldSince H ended age
@@ -50,19 +50,9 @@ since_call w (TakeTransferEnded (Some x)) H h = go (rests_after x.1) refl
         one_later w H (TakeTransferEnded (Some x)) (let z = ap (λ (c : Bool). if c then 4000000 else rest w H) e in omega (arith, z)) h l
 since_call w call H h = one_later w H call (omega arith) h
 
-rested : (w : Who) (H : List Call) → Rests w H
+pub rested : (w : Who) (H : List Call) → Rests w H
 rested w [] l = inr (omega arith)
 rested w (call ∷ H) l = since_call w call H (rested w H) l
-
-pub rests_only : (w : Who) (H : List Call) (now group to : ℕ) → IsTrue (is_resting w H now group to)
-    → ((x : ℕ × TransferEnding) × (e : ℕ) × ToldSince H x e × IsTrue (rests_after x.1) × (e + step H now < 4000000))
-    ⊎ (passed_in H [] + step H now < w.brought.rests_until)
-rests_only w H now group to h =
-    let l = ltb-true 0 (rest w H - step H now) (and_parts (nat_lt 0 (rest w H - step H now)) (holds_back (resting w H) group to) h).0 in
-    elim (rested w H (omega (arith, l))) [
-      | inl r ↦ inl (r.ended, r.age, r.told, r.rests, (let p = r.left in omega (arith, p, l)))
-      | inr b ↦ inr (omega (arith, b, l))
-    ]
 
 -- ---- after such an end it rests
 

@@ -12,10 +12,7 @@ use Rattle.j39_node.proofs.ReceptionLemmas.{replied_get, tidy, no_reply}
 use Rattle.j39_node.proofs.SoundLemmas.{FrameCase, IsTurn, acknowledgment_single, claim_single, claim_taken, due_get, due_taken, frame_case, frame_there, held_older, is_directed, lost_older, message_taken, no_packet, no_transfer, none_next, none_other, own_of, packet_session, packet_taken, packets_is, pause_is, plain_taken, reply_taken, single_taken, some_at, sound, turned, reached_is, reply_is, none_at}
 use Rattle.j39_node.proofs.SoundLemmas.FrameCase.{claims, acknowledges, replies, sends, packs, transfers}
 use Rattle.j39_node.proofs.AnswerCases.{broadcast_accepts}
-use Rattle.j39_node.proofs.KindLemmas.{claims_it}
-use Rattle.j39_node.proofs.KindLemmas.{acknowledges_it}
-use Rattle.j39_node.proofs.KindLemmas.{steers_it}
-use Rattle.j39_node.proofs.KindLemmas.{of_session_it}
+use Rattle.j39_node.proofs.KindLemmas.{claims_it, acknowledges_it, steers_it, of_session_it}
 
 -- ---- of three frames one is neither a claim nor an acknowledgment
 

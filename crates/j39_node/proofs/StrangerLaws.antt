@@ -1,11 +1,11 @@
 -- A frame of a stranger changes nothing of what is sent to others, received from others, or told to have ended.
-use Rattle.j39_node.proofs.Common.{[], if◌then◌else◌, ◌&&◌, ◌*◌, ◌++◌, ◌-◌, ◌==◌, ◌||◌, ◌∙◌, ◌∷◌, ◌≡◌, ◌≢◌, ◌⊎◌, Abort, accepted, acknowledged, Acknowledgment, Address, address_after, and_parts, ap, AreAnswered, arith, Asked, asked_group, asked_with, At, Bool, BroadcastAnnounce, Call, calls_for_claim, Claim, claim_address, claim_from, claim_of, ClearToSend, clock_at, cond_both, control_of, Controller, delayed, destination_of, Directed, drop, due, eq-eqb, eqb-true, false, FrameRecord, fresh, goes_to, granted_after, granted_by, grants, handed, has_packets, has_place, Hear, heard_by, hears_if, held_then, holder, holds, inl, inr, Is, is_another, is_apart, is_claim, is_held, is_larger, is_lost, is_refusal_due, is_replaced, is_smaller, is_some, is_spent, is_there, keeps, known, leaves, left, length, List, listens, listens_to, long_by, Lost, Message, MessageRecord, nat_eq, nat_le, nat_lt, next_frame, next_long, next_packet, next_transfer_ended, None, not, of_other, older, open_transfer, Option, option_map, owes_claim, Packet, patience, pause, pgn_of, ps_of, reached, Reaction, Ready, Received, Reception, reception, ReceptionRecord, recv_step, refl, replied, reply_from, requests, RequestToSend, Running, said_between, said_to, send_step, shown, Signal, slice_get, Some, source_of, spent_after, step, subst, sym, TakeFrame, takes_abort, takes_data, takes_request, takes_signal, Tick, time_heard, ToSend, transfer_by, transfer_end, transport_control_group, transport_data_group, true, turn_frame, turn_of, turns, Who, whole_by, with_refusal, without, yields, ℕ, and-false, or-false}
+use Rattle.j39_node.proofs.Common.{[], if◌then◌else◌, ◌&&◌, ◌*◌, ◌++◌, ◌-◌, ◌==◌, ◌||◌, ◌∙◌, ◌∷◌, ◌≡◌, ◌≢◌, ◌⊎◌, Abort, accepted, acknowledged, Acknowledgment, Address, address_after, and_parts, ap, AreAnswered, arith, Asked, asked_group, asked_with, At, Bool, BroadcastAnnounce, Call, calls_for_claim, Claim, claim_address, claim_from, claim_of, ClearToSend, clock_at, cond_both, control_of, Controller, delayed, destination_of, Directed, drop, due, eq-eqb, eqb-true, false, FrameRecord, fresh, goes_to, granted_after, granted_by, grants, handed, has_packets, has_place, Hear, heard_by, hears_if, held_then, holder, holds, inl, inr, Is, is_another, is_apart, is_claim, is_held, is_larger, is_lost, is_refusal_due, is_replaced, is_smaller, is_some, is_spent, is_there, known, leaves, left, length, List, listens, listens_to, Lost, Message, nat_eq, nat_le, nat_lt, next_frame, next_packet, None, not, of_other, older, open_transfer, Option, option_map, owes_claim, Packet, patience, pause, pgn_of, ps_of, reached, Reaction, Ready, Received, Reception, reception, ReceptionRecord, recv_step, refl, replied, reply_from, requests, RequestToSend, Running, said_between, said_to, send_step, shown, Signal, slice_get, Some, source_of, spent_after, step, subst, sym, TakeFrame, takes_abort, takes_data, takes_request, takes_signal, time_heard, ToSend, transfer_by, transport_control_group, transport_data_group, true, turn_frame, turn_of, turns, Who, whole_by, with_refusal, without, yields, ℕ, and-false, or-false}
 use Rattle.j39_transport.specs.Signals.{said_by}
 use Rattle.j39_node.specs.Reception.{says}
 use Rattle.j39_transport.specs.Frames as frames
 use Rattle.j39_node.proofs.ReceptionLemmas.{unclaimed_known}
 use Rattle.j39_node.proofs.PortLemmas.{Ported, ported}
-use Rattle.j39_node.proofs.ReceptionLaws.{goes_there, left_waits, none_delivered, not_left_by, says_it, to_others, waits_after}
+use Rattle.j39_node.proofs.ReceptionLaws.{goes_there, none_delivered, not_left_by, says_it, to_others}
 
 -- ---- a transfer
 
@@ -65,22 +65,6 @@ pub transfer_stays : (w : Who) (H : List Call) (c : Controller) (when : ℕ) (f 
     → (source_of f.id ≢ t.sender.destination) ⊎ (destination_of f.id ≢ Some w.address)
     → is_replaced (holder w H t.sender.destination) (holder w (At when (Hear f) ∷ H) t.sender.destination) ≡ false → open_transfer w (At when (Hear f) ∷ H) ≡ Some t
 transfer_stays w H c when f t is e other kept = transfer_left w H when f t is.answered e other kept
-
-pub next_stays : (w : Who) (H : List Call) (c : Controller) (when : ℕ) (f : FrameRecord) (t : Running) (now : ℕ) → Is w H c → open_transfer w H ≡ Some t
-    → (source_of f.id ≢ t.sender.destination) ⊎ (destination_of f.id ≢ Some w.address)
-    → is_replaced (holder w H t.sender.destination) (holder w (At when (Hear f) ∷ H) t.sender.destination) ≡ false
-    → next_long w (At when (Hear f) ∷ H) now ≡ next_long w (At when Tick ∷ H) now
-next_stays w H c when f t now is e other kept =
-    ap (λ (o : Option Running). long_by (next_packet w (At when (Hear f) ∷ H) now) (transfer_by o (clock_at (At when (Hear f) ∷ H) now)))
-    (transfer_stays w H c when f t is e other kept ∙ sym e)
-
-pub end_stays : (w : Who) (H : List Call) (c : Controller) (when : ℕ) (f : FrameRecord) (t : Running) → Is w H c → open_transfer w H ≡ Some t
-    → (source_of f.id ≢ t.sender.destination) ⊎ (destination_of f.id ≢ Some w.address)
-    → is_replaced (holder w H t.sender.destination) (holder w (At when (Hear f) ∷ H) t.sender.destination) ≡ false → is_smaller w (claim_of f) ≡ false
-    → next_transfer_ended w (At when (Hear f) ∷ H) ≡ next_transfer_ended w (At when Tick ∷ H)
-end_stays w H c when f t is e other kept mine =
-    ap (λ (o : Option Running). transfer_end o (is_lost (address_after w (At when (Hear f) ∷ H)))) (transfer_stays w H c when f t is e other kept ∙ sym e)
-    ∙ ap (λ (b : Bool). transfer_end (open_transfer w H) (is_lost (if b then Lost else older (step H when) (address_after w H)))) mine
 
 -- ---- the next frame
 
@@ -205,16 +189,6 @@ whole_by_none own true held b f now r n = refl
 whole_by_none own false false b f now r n = refl
 whole_by_none own false true true f now r n = none_whole own (shown own None f) now (has_place r.waits) None (λ x z. absurd (cc))
 whole_by_none own false true false f now r n = none_whole own (shown own r.session f) now (has_place r.waits) r.session n
-
-pub waits_stay : (w : Who) (H : List Call) (when : ℕ) (f : FrameRecord)
-    → ((r : ReceptionRecord) → (reception w H).session ≡ Some r → source_of f.id ≢ r.message.source)
-    → (reception w (At when (Hear f) ∷ H)).waits ≡ (reception w H).waits
-waits_stay w H when f n =
-    let b = leaves (known w H when f) (holder w (At when (Hear f) ∷ H)) (reception w H).session in
-    waits_after w.address (is_smaller w (claim_of f)) (holds w H when) f (time_heard (At when (Hear f) ∷ H)) (left b (reception w H))
-    ∙ (ap (λ (o : Option MessageRecord). keeps f.stamp o (left b (reception w H)).waits)
-    (whole_by_none w.address (is_smaller w (claim_of f)) (holds w H when) b f (time_heard (At when (Hear f) ∷ H)) (reception w H) n)
-    ∙ left_waits b (reception w H))
 
 -- ---- what is said
 

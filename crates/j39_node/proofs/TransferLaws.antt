@@ -1,13 +1,12 @@
 -- The laws of transfers.
-use Rattle.j39_node.proofs.Common.{[], if◌then◌else◌, ◌&&◌, ◌++◌, ◌+◌, ◌-◌, ◌<◌, ◌==◌, ◌||◌, ◌↔◌, ◌∙◌, ◌∷◌, ◌≡◌, ◌≤◌, ◌⊎◌, Abort, abort_move, aborted, Aborts, accepted, acked, acknowledged, Acknowledges, Acknowledgment, address_after, all_transfers, ap, AreAnswered, arith, At, Bool, both, BroadcastAnnounce, broken_off, Call, can_transfer, cleared, clears, clears_by, ClearToSend, clock_at, cond_both, Controller, due, ending_by, eq-eqb, eqb-true, Err, false, FrameRecord, Full, gives_up, gives_way, Gone, granted_after, granted_by, Happened, has_packets, Hear, hears, hears_if, holder, holds, inl, inr, Is, is_clear, is_engaged, is_idle, is_lost, is_move, is_replaced, is_resting, is_running, is_spent, is_waiting, IsMove, IsTrue, length, List, listens, long_by, max, may_name, Message, message_of, MessageRecord, min, moves, nat_eq, nat_lt, new_sender, next_packet, next_transfer, None, not, Ok, open_transfer, Option, option_map, or_parts, Packet, packet_data, packets, packets_of, PacketSince, reached, refl, Refused, Replaces, request_of, RequestToSend, Result, Running, said_between, says, send_step, SenderRecord, sends, sends_if, SendState, Signal, signal_by, slice_get, Some, spent_after, step, subst, sym, TakeFrame, takes_clear, TakeTransferEnded, ticks_in, told_transfers, Transfer, transfer_end, TransferEnding, transport_control_group, transport_data_group, true, Who, ℕ, not_both, ltb-true}
+use Rattle.j39_node.proofs.Common.{[], if◌then◌else◌, ◌&&◌, ◌++◌, ◌+◌, ◌-◌, ◌<◌, ◌==◌, ◌||◌, ◌↔◌, ◌∙◌, ◌∷◌, ◌≡◌, ◌≤◌, ◌⊎◌, Abort, abort_move, aborted, Aborts, acked, Acknowledges, Acknowledgment, address_after, all_transfers, ap, AreAnswered, arith, At, Bool, both, BroadcastAnnounce, broken_off, Call, can_transfer, cleared, clears, clears_by, ClearToSend, clock_at, cond_both, Controller, ending_by, eq-eqb, eqb-true, Err, false, FrameRecord, Full, gives_up, Gone, granted_after, granted_by, Happened, Hear, hears, hears_if, holder, holds, inl, inr, Is, is_clear, is_engaged, is_idle, is_lost, is_move, is_replaced, is_resting, is_running, is_spent, is_waiting, IsMove, IsTrue, length, List, listens, long_by, max, may_name, Message, message_of, MessageRecord, min, moves, nat_eq, nat_lt, new_sender, next_packet, next_transfer, None, not, Ok, open_transfer, Option, option_map, or_parts, Packet, packet_data, packets, packets_of, refl, Refused, Replaces, request_of, RequestToSend, Result, Running, said_between, says, send_step, SenderRecord, sends, sends_if, SendState, Signal, signal_by, slice_get, Some, spent_after, subst, sym, TakeFrame, takes_clear, TakeTransferEnded, ticks_in, told_transfers, Transfer, transfer_end, TransferEnding, transport_control_group, transport_data_group, true, Who, ℕ, not_both, ltb-true}
 use Rattle.j39_transport.specs.Sending.{Heard, Tick}
 use Rattle.j39_node.specs.declared.kinds.TransferEnding.TheVariants.{Done, Withdrawn, Failed}
 use Rattle.j39_node.specs.Transfers.{is_over, said_to}
 use Rattle.j39_node.specs.Moves.{NoneEnds}
 use Rattle.j39_transport.specs.Sending as sending
-use Rattle.j39_node.proofs.SoundLemmas.{frame_case, sound}
-use Rattle.j39_node.proofs.LawLemmas.{past_end, sent_within, all_acknowledged}
-use Rattle.j39_node.proofs.LaneLaws.{none_long, packet_waits}
+use Rattle.j39_node.proofs.SoundLemmas.{frame_case}
+use Rattle.j39_node.proofs.LaneLaws.{none_long}
 use Rattle.j39_node.proofs.PortLemmas.{hears_same, sends_same}
 use Rattle.j39_node.proofs.AnswerCases.{transfer_accepts, waits_for}
 use Rattle.j39_node.proofs.AnswerCases as cases
@@ -71,10 +70,10 @@ token_is w H c now group to k bytes is = (transfer_accepts w H now group to k by
 
 -- ---- which frames are taken
 
-sent_one : (w : Who) (H : List Call) (c : Controller) (now : ℕ) (f : FrameRecord) → Is w (At now (TakeFrame (Some f)) ∷ H) c → is_move w H f ≡ true → Sent w H now f
+pub sent_one : (w : Who) (H : List Call) (c : Controller) (now : ℕ) (f : FrameRecord) → Is w (At now (TakeFrame (Some f)) ∷ H) c → is_move w H f ≡ true → Sent w H now f
 sent_one w H c now f is p = sent_case w H now f is.answered.0 (frame_case w H now f is.answered.1) p
 
-given_up : (t : Running) (now : ℕ) (a : Signal) → gives_up t ≡ true → signal_by t now ≡ Some a → a ≡ Abort 5 t.sender.message.pgn
+pub given_up : (t : Running) (now : ℕ) (a : Signal) → gives_up t ≡ true → signal_by t now ≡ Some a → a ≡ Abort 5 t.sender.message.pgn
 given_up t now a g = cond_both t.gone None _ (λ (o : Option Signal). o ≡ Some a → a ≡ Abort 5 t.sender.message.pgn) (λ z e. absurd (cc))
     (λ z. cond_both (gives_up t) _ _ (λ (o : Option Signal). o ≡ Some a → a ≡ Abort 5 t.sender.message.pgn)
     (λ y e. (let x : Abort 5 t.sender.message.pgn ≡ a = cc in sym x)) (λ y e. absurd (not_both _ y g)))
@@ -110,34 +109,12 @@ only w H c now f is p =
           (moves_so s.running (clock_at H now) (moves w H) s.signal (moved_open w H s.running is.answered.0 s.is) s.said),
     )
 
-pub behind : (w : Who) (H : List Call) (c : Controller) (now : ℕ) (f : FrameRecord) → Is w (At now (TakeFrame (Some f)) ∷ H) c → IsTrue (is_move w H f)
-    → IsTrue (holds w H now) × (reached H ≡ length (accepted w H)) × (IsTrue (gives_way w H now) ⊎ (acknowledged H ≡ due w H))
-behind w H c now f is p =
-    let x = sent_one w H c now f is p in
-    let s = sound w H is.answered.0 in
-    let a = past_end (accepted w H) (reached H) x.none_waits in
-    let b = sent_within w H s in
-    (x.held, omega (arith, a, b), all_acknowledged w H now is.answered.0 x.none_due)
-
-pub after_broadcasts : (w : Who) (H : List Call) (c : Controller) (now : ℕ) (f : FrameRecord) → Is w (At now (TakeFrame (Some f)) ∷ H) c → IsTrue (is_move w H f)
-    → IsTrue (has_packets w H) → (e : ℕ) × PacketSince H e × (e + step H now < 50000)
-after_broadcasts w H c now f is p some = packet_waits w H now some (sent_one w H c now f is p).no_packet
-
 pub waits : (w : Who) (H : List Call) (c : Controller) (now : ℕ) → Is w (At now (TakeFrame None) ∷ H) c → IsTrue (holds w H now) → next_transfer w H now ≡ None
 waits w H c now is held = no_long (next_packet w H now) (next_transfer w H now) (none_long w H now held is.answered.1)
   where
     no_long : (a b : Option Message) → long_by a b ≡ None → b ≡ None
     no_long None b e = e
     no_long (Some m) b e = absurd (cc)
-
-pub gives_up_so : (w : Who) (H : List Call) (c : Controller) (now : ℕ) (f : FrameRecord) (t : Running) → Is w (At now (TakeFrame (Some f)) ∷ H) c → IsTrue (is_move w H f)
-    → open_transfer w H ≡ Some t → IsTrue (gives_up t) → message_of f ≡ abort_move t.sender.destination t.sender.message 5
-gives_up_so w H c now f t is p e g =
-    let s = sent_one w H c now f is p in
-    let z : Some s.running ≡ Some t = sym s.is ∙ e in
-    let y : s.running ≡ t = cc in
-    s.frame ∙ (ap (says s.running.sender) (given_up s.running (clock_at H now) s.signal (ap gives_up y ∙ g) s.said)
-    ∙ ap (λ (u : Running). abort_move u.sender.destination u.sender.message 5) y)
 
 -- ---- how many clears to send it takes
 
@@ -225,11 +202,6 @@ budgeted w (At now (Transfer group to bytes (Ok k)) ∷ H) = record { count = om
 budgeted w (TakeTransferEnded (Some x) ∷ H) = tt
 budgeted w (call ∷ H) = budgeted w H
 
-pub bounded : (w : Who) (H : List Call) (c : Controller) (t : Running) → Is w H c → open_transfer w H ≡ Some t → clears w H ≤ packets_of t.sender.message + 65
-bounded w H c t is e =
-    let h : Budgeted t (clears w H) = subst (λ (o : Option Running). BudgetedIf o (clears w H)) e (budgeted w H) in
-    let a = h.count in let b = h.granted in let d = h.spent in omega (arith, a, b, d)
-
 one_number : (m n : ℕ) → Some m ≡ Some n → m ≡ n
 one_number m n e = cc
 
@@ -291,17 +263,9 @@ heeds w H when f t e own held here room =
     heard false true g p q r = absurd (cc)
     heard false false true p q r = absurd (cc)
 
-pub goes_on : (w : Who) (H : List Call) (now : ℕ) (f : FrameRecord) (t : Running) → open_transfer w H ≡ Some t → IsTrue (is_move w H f) → gives_up t ≡ false
-    → (x : Running) × (open_transfer w (At now (TakeFrame (Some f)) ∷ H) ≡ Some x) × (x.sender ≡ (send_step t.sender Tick (clock_at H now)).after)
-goes_on w H now f t e p g = (
-  sends (clock_at H now) t,
-  ap (λ (b : Bool). sends_if b (clock_at H now) (open_transfer w H)) p ∙ ap (λ (o : Option Running). sends_if true (clock_at H now) o) e,
-  ap (λ (b : Bool). if b then aborted 5 t.sender else (send_step t.sender Tick (clock_at H now)).after) g,
-)
-
 -- ---- how it ended
 
-record Ended (w : Who) (H : List Call) (k : ℕ) (e : TransferEnding) : Type 0 where
+pub record Ended (w : Who) (H : List Call) (k : ℕ) (e : TransferEnding) : Type 0 where
   pub running : Running
   pub is : open_transfer w H ≡ Some running
   pub token : running.token ≡ k
@@ -322,15 +286,8 @@ ended_by w H k e (Some t) p q = go (ending_by t.sender.state t.gone (is_lost (ad
         let z = same_pair (k, e) (t.token, y) b in
         record { running = t; is = p; token = sym z.0; ending = ap (λ (u : TransferEnding). Some u) z.1 ∙ sym a }
 
-ended : (w : Who) (H : List Call) (c : Controller) (k : ℕ) (e : TransferEnding) → Is w (TakeTransferEnded (Some (k, e)) ∷ H) c → Ended w H k e
+pub ended : (w : Who) (H : List Call) (c : Controller) (k : ℕ) (e : TransferEnding) → Is w (TakeTransferEnded (Some (k, e)) ∷ H) c → Ended w H k e
 ended w H c k e is = ended_by w H k e (open_transfer w H) refl is.answered.1
-
-pub in_turn : (w : Who) (H : List Call) (c : Controller) (k : ℕ) (e : TransferEnding) → Is w (TakeTransferEnded (Some (k, e)) ∷ H) c
-    → (k ≡ length (told_transfers H)) × (k < length (all_transfers w H))
-in_turn w H c k e is =
-    let x = ended w H c k e is in
-    let l = last_open w H x.running is.answered.0 x.is in
-    let a = x.token in let b = l.token in let d = l.count in (omega (arith, a, b), omega (arith, a, d))
 
 broken_done : (gone lost : Bool) → Some Done ≡ broken_off gone lost → ⊥
 broken_done true lost e = absurd (cc)
@@ -361,7 +318,7 @@ broken_gone true lost e = refl
 broken_gone false true e = absurd (cc)
 broken_gone false false e = absurd (cc)
 
-state_gone : (u : SendState) (gone lost : Bool) → Some Gone ≡ ending_by u gone lost → gone ≡ true
+pub state_gone : (u : SendState) (gone lost : Bool) → Some Gone ≡ ending_by u gone lost → gone ≡ true
 state_gone sending.Done gone lost e = absurd (cc)
 state_gone (sending.Failed r) gone lost e = absurd (cc)
 state_gone sending.Idle gone lost e = broken_gone gone lost e
@@ -373,15 +330,12 @@ broken_lost true lost e = absurd (cc)
 broken_lost false true e = refl
 broken_lost false false e = absurd (cc)
 
-state_lost : (u : SendState) (gone lost : Bool) → Some Withdrawn ≡ ending_by u gone lost → lost ≡ true
+pub state_lost : (u : SendState) (gone lost : Bool) → Some Withdrawn ≡ ending_by u gone lost → lost ≡ true
 state_lost sending.Done gone lost e = absurd (cc)
 state_lost (sending.Failed r) gone lost e = absurd (cc)
 state_lost sending.Idle gone lost e = broken_lost gone lost e
 state_lost (sending.Waiting limit) gone lost e = broken_lost gone lost e
 state_lost (sending.Sending next last) gone lost e = broken_lost gone lost e
-
-pub withdrawn_means : (w : Who) (H : List Call) (c : Controller) (k : ℕ) → Is w (TakeTransferEnded (Some (k, Withdrawn)) ∷ H) c → IsTrue (is_lost (address_after w H))
-withdrawn_means w H c k is = let x = ended w H c k Withdrawn is in state_lost x.running.sender.state x.running.gone _ x.ending
 
 -- ---- since when
 
@@ -464,7 +418,7 @@ failed_arises w r = record {
           | inr x ↦ inr (aborts t f a k (let y = sym (ticking t (clock_at H now) a z g) ∙ x in let v : a ≡ Abort r t.sender.message.pgn = cc in v))
         ])
 
-gone_arises : (w : Who) → Arises w (λ t. t.gone ≡ true) (λ to m. Replaces w to)
+pub gone_arises : (w : Who) → Arises w (λ t. t.gone ≡ true) (λ to m. Replaces w to)
 gone_arises w = record {
   begins_not = λ token m to q. absurd (cc);
   by_hearing = λ H when f t right e q.
@@ -480,7 +434,7 @@ gone_arises w = record {
     heard H when f t false false now e = cond_both (t.gone || is_spent t) t (listens f now t)
         (λ (u : Running). u.gone ≡ true → (t.gone ≡ true) ⊎ Replaces w t.sender.destination H (At when (Hear f))) (λ z q. inl q) (λ z q. inl q)
 
-of_token : (w : Who) (H : List Call) (c : Controller) (k : ℕ) (e : TransferEnding) (is : Is w (TakeTransferEnded (Some (k, e)) ∷ H) c) (x : Ended w H k e)
+pub of_token : (w : Who) (H : List Call) (c : Controller) (k : ℕ) (e : TransferEnding) (is : Is w (TakeTransferEnded (Some (k, e)) ∷ H) c) (x : Ended w H k e)
     → slice_get (all_transfers w H) k ≡ Some (x.running.sender.destination, x.running.sender.message)
 of_token w H c k e is x = ap (slice_get (all_transfers w H)) (sym x.token) ∙ (last_open w H x.running is.answered.0 x.is).last
 
@@ -502,16 +456,6 @@ failed_means w H c k r is =
       x.running.sender.message,
       of_token w H c k (Failed r) is x,
       traced w (λ t. t.sender.state ≡ sending.Failed r) (Aborts w r) (failed_arises w r) H x.running is.answered.0 x.is (state_failed x.running.sender.state x.running.gone _ r x.ending),
-    )
-
-pub gone_means : (w : Who) (H : List Call) (c : Controller) (k : ℕ) → Is w (TakeTransferEnded (Some (k, Gone)) ∷ H) c
-    → (to : ℕ) × (m : MessageRecord) × (slice_get (all_transfers w H) k ≡ Some (to, m)) × Happened (Replaces w to) H
-gone_means w H c k is =
-    let x = ended w H c k Gone is in (
-      x.running.sender.destination,
-      x.running.sender.message,
-      of_token w H c k Gone is x,
-      traced w (λ t. t.gone ≡ true) (λ to m. Replaces w to) (gone_arises w) H x.running is.answered.0 x.is (state_gone x.running.sender.state x.running.gone _ x.ending),
     )
 
 -- ---- an acknowledgment makes it done

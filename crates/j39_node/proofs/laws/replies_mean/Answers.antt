@@ -1,3 +1,5 @@
+use Rattle.j39_node.proofs.Common.{◌∷◌}
+use Rattle.j39_node.proofs.ReceptionLaws.{silent}
 use Rattle.j39_node.proofs.ReceptionLaws as law
 use Rattle.j39_node.proofs.laws.replies_mean.Goals as goal
 
@@ -8,5 +10,5 @@ returns c = record {
   once = law.taken_rest;
   others = law.others_taken;
   none_waits = law.none_replied;
-  lost = law.lost_is_silent;
+  lost = λ w H e. let s = silent w H e in (s.session, s.replies);
 }
