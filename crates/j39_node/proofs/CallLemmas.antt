@@ -1,7 +1,7 @@
 -- A call more.
 use Rattle.j39_node.proofs.KindLemmas.{Kind, kind, kind_is, single, of_session}
 use Rattle.j39_node.proofs.SoundLemmas.FrameCase.{claims as claims_first, acknowledges, replies, sends, packs, transfers}
-use Rattle.j39_node.proofs.Common.{led, le-ltb, [], if◌then◌else◌, ◌&&◌, ◌*◌, ◌++◌, ◌+◌, ◌-◌, ◌<◌, ◌||◌, ◌∙◌, ◌∷◌, ◌≡◌, ◌≤◌, accepted, Acknowledge, acknowledged, acknowledgment, Address, address_after, after, Again, age, all_transfers, anew, Answer, answer_to_acknowledge, answer_to_broadcast, answer_to_send, answer_to_transfer, ap, AreAnswered, arith, Asked, asked, asked_by, AskEnding, asking_of, AskRecord, asks_claims, asks_with, At, at_in, begun, blank, Bool, breaks_it, Broadcast, broadcast_from, broadcasts, Busy, Call, called, calls_for_claim, can_claim, can_send, claim_address, claim_due, claim_from, claim_goes, claim_of, Claimed, claimed, claimed_again, Claims, claims, clock, clock_at, closed, comes, content, control_of, Controller, counted, delayed, Done, double, Draft, drop, drop-map, Due, due, end_of, ended, Ending, ending_of, ends_by, eqb-true, Err, false, FrameRecord, fresh, gives_way, got, handed, has_packets, has_place, has_token, Hear, heard, heard_at, heard_by, hearing, hearing_after, hearing_of, HearingRecord, hears_if, hears_it, hears_with, held_at, Hold, hold_acknowledged, hold_after, hold_asked, hold_claimed, hold_opens, hold_spoken, hold_went, holder, holder_in, holds, holds_back, IfSome, in_broadcast, in_session, Incoming, incoming_after, incoming_of, IncomingRecord, inl, inr, Is, is_another, is_apart, is_blank, is_busy, is_claim, is_coming, is_double, is_engaged, is_for_program, is_full, is_held, is_left, is_lost, is_open, is_out, is_refusal_due, is_replaced, is_resting, is_same, is_served, is_smaller, is_there, is_turn, is_unheard, IsAnswered, IsApart, IsFit, IsNamed, kept, known, Knows, lane_after, lane_of, later, latest, leaves, leaves_it, left, left_at, length, length-drop, length-set, less, List, Lost, lost, lt-ltb, ltb-false, ltb-true, made, made_by, made_of, made_whole, map, marks, max, may_claim, may_go, Message, message_from, message_of, MessageRecord, min, missed, missed_news, moment, Move, Nack, named_in, nat_eq, nat_le, nat_lt, newly, news_after, next_acknowledgment, next_due, next_frame, next_packet, next_renewed, next_transfer, next_transfer_ended, next_turn, next_withdrawn, None, not, NotClaimed, nothing, offered, Ok, older, Open, open_ask, open_broadcast, open_transfer, OpenBroadcast, opened, Option, option_map, option_or, other, Outgoing, owes_claim, packet_by, packets, packets_in, passed, past, patience, pause, paused, place_of, port_after, port_of, posted, reached, Ready, ready_in, received_by, reception, ReceptionRecord, refl, refusal_by, Refused, Renew, Renews, Reply, Request, request_by, requests, rest, restarts, rested, resting, resting_by, rests_after, Running, running, Said, said_by, Send, sends_if, session_by, silence, Single, slice_get, slice_get_past, slice_get_within, slice_set, Some, sooner, stamp_at, stamp_micros, stamped, standing_of, stands, step, still, subst, suc, sym, TakeEnded, TakeFrame, taken_by, TakeRequest, TakeTransferEnded, Tick, ticks, time_heard, told, told_claims, Transfer, transfer_by, transfer_end, transfer_in, TransferEnding, true, Turn, turn_frame, turn_of, turns, unclaimed, unclaims, unheard_by, unheard_news, Untold, View, view, wait, waiting, Who, who_of, whole, whole_of, with_called, with_reception, with_refusal, with_replies, with_request, Withdraw, Withdrawn, yields, ℕ, leb-true, IsOthers}
+use Rattle.j39_node.proofs.Common.{led, le-ltb, [], if◌then◌else◌, ◌&&◌, ◌*◌, ◌++◌, ◌+◌, ◌-◌, ◌<◌, ◌||◌, ◌∙◌, ◌∷◌, ◌≡◌, ◌≤◌, accepted, acknowledged, acknowledgment, Address, address_after, after, age, all_transfers, ap, AreAnswered, arith, Asked, asked, asked_by, AskEnding, asking_of, AskRecord, asks_claims, asks_with, At, at_in, blank, Bool, breaks_it, Busy, Call, called, calls_for_claim, can_claim, can_send, claim_address, claim_due, claim_from, claim_goes, claim_of, Claimed, claimed, claimed_again, Claims, claims, clock, clock_at, comes, content, control_of, Controller, counted, delayed, Done, double, Draft, drop, drop-map, Due, due, end_of, ended, Ending, ending_of, ends_by, eqb-true, false, FrameRecord, fresh, gives_way, got, handed, has_packets, has_place, has_token, Hear, heard, heard_at, heard_by, hearing, hearing_after, hearing_of, HearingRecord, hears_if, hears_it, hears_with, held_at, Hold, hold_acknowledged, hold_after, hold_asked, hold_claimed, hold_spoken, hold_went, holder, holder_in, holds, holds_back, IfSome, in_broadcast, in_session, Incoming, incoming_after, incoming_of, IncomingRecord, inl, inr, Is, is_another, is_apart, is_blank, is_busy, is_claim, is_coming, is_double, is_engaged, is_for_program, is_full, is_held, is_left, is_lost, is_open, is_out, is_refusal_due, is_replaced, is_resting, is_same, is_served, is_smaller, is_there, is_turn, is_unheard, IsAnswered, IsApart, IsFit, IsNamed, kept, known, Knows, lane_after, lane_of, later, latest, leaves, leaves_it, left, left_at, length, length-drop, length-set, less, List, Lost, lost, lt-ltb, ltb-false, ltb-true, made, made_by, made_of, made_whole, map, marks, max, may_claim, may_go, Message, message_from, message_of, MessageRecord, min, missed, missed_news, moment, Move, Nack, named_in, nat_eq, nat_le, nat_lt, newly, news_after, next_acknowledgment, next_due, next_frame, next_packet, next_renewed, next_transfer, next_transfer_ended, next_turn, next_withdrawn, None, not, NotClaimed, nothing, offered, older, open_ask, open_broadcast, open_transfer, OpenBroadcast, Option, option_map, option_or, other, Outgoing, owes_claim, packet_by, packets, packets_in, passed, past, patience, pause, paused, place_of, port_after, port_of, posted, reached, Ready, ready_in, received_by, reception, ReceptionRecord, refl, refusal_by, Renew, Renews, Reply, request_by, requests, rest, restarts, resting, resting_by, Running, Said, said_by, sends_if, session_by, silence, Single, slice_get, slice_get_past, slice_get_within, slice_set, Some, sooner, stamp_at, stamp_micros, stamped, standing_of, stands, step, still, subst, suc, sym, TakeEnded, TakeFrame, taken_by, Tick, ticks, time_heard, told, told_claims, transfer_by, transfer_end, transfer_in, true, Turn, turn_frame, turn_of, turns, unclaimed, unclaims, unheard_by, unheard_news, Untold, View, view, wait, waiting, Who, who_of, whole, whole_of, with_called, with_reception, with_refusal, with_replies, with_request, Withdraw, Withdrawn, yields, ℕ, leb-true, IsOthers}
 use Rattle.j39_node.specs.Reception.{is_waiting}
 use Rattle.j39_node.specs.Transfers.{packet_in}
 use Rattle.j39_node.specs.Is.{hears}
@@ -9,7 +9,6 @@ use Rattle.j39_node.specs.declared.turn.Turn.TheVariants.{Packet}
 use Rattle.j39_node.proofs.WithdrawLemmas.{past_rest}
 use Rattle.j39_node.specs.declared.hold.Standing.TheVariants as standing
 use Rattle.j39_node.specs.declared.transfers.Open as transfers
-use Rattle.j39_node.proofs.AnswerCases.{answer_is}
 use Rattle.j39_node.proofs.AskLemmas.{ask_heard, ask_more, takes, token_of, ask_withdrawn}
 use Rattle.j39_node.proofs.ReceptionLaws.{made_is}
 use Rattle.j39_node.proofs.ReceptionLemmas.{leaves_is, tidy, again_is, calls_is, leaves_still}
@@ -450,21 +449,6 @@ pub posted_more : (w : Who) (H : List Call) (c : Controller) → Is w H c → (x
 posted_more w H c h x m is e =
     ap (map posted) e ∙ (map_append posted c.outgoing.items x ∙ ((λ i. (h.shown i).outgoing ++ is i ∷ []) ∙ sym (drop_append (length (told H)) (accepted w H) (c.next_token, m) (sound w H h.answered).within)))
 
-pub posts : (w : Who) (H : List Call) (old new : Controller) (now : ℕ) (d : Draft) (x : Outgoing) → Is w H old → Passed w H now new.hold
-    → holds w H now ≡ true → can_send w d ≡ true → (nat_eq (length old.outgoing.items) 16 || nat_eq old.next_token 18446744073709551615) ≡ false
-    → posted x ≡ (old.next_token, message_from w d) → new.outgoing.items ≡ old.outgoing.items ++ x ∷ [] → new.next_token ≡ suc old.next_token
-    → new ≡ record old { hold = new.hold; outgoing = new.outgoing; next_token = new.next_token; asking = new.asking } → asking_of new.asking ≡ asking_of old.asking → Is w (At now (Send d (Ok old.next_token)) ∷ H) new
-posts w H old new now d x h p held can room is e0 e1 e e2 =
-    follows h (ap (λ c. c.holders) e)
-    (ap Ok (ap (λ (v : View). v.token) h.shown) ∙ sym (answer_is (length (accepted w H)) held can (sym (full_is w H old h) ∙ room))) refl
-    (ap (view w) e ∙ λ i. record (h.shown i) {
-      hold = p i;
-      outgoing = posted_more w H old h x (message_from w d) is e0 i;
-      token = (let a = (ap (λ (v : View). v.token) h.shown) in let b = length_one_more (accepted w H) (old.next_token, message_from w d) in
-          (let z : new.next_token ≡ length (accepted w H ++ (old.next_token, message_from w d) ∷ []) = omega (arith, a, b, e1) in z)) i;
-      asking = (e2 ∙ ap (λ (v : View). v.asking) h.shown) i;
-    })
-
 -- ---- a frame is heard
 
 heard_standing : (b : Bool) (s : ℕ) (a : Address) → (if b then standing.Lost else standing_of (older s a)) ≡ standing_of (if b then Lost else older s a)
@@ -887,47 +871,14 @@ withdraws w H old new k place x r h l blanked e f g p u = go r f g (by (next_wit
         })
 
 -- the address is to be claimed anew
-unclaims_after : (a : Address) → unclaims (standing_of a) ≡ standing_of (unclaimed a)
+pub unclaims_after : (a : Address) → unclaims (standing_of a) ≡ standing_of (unclaimed a)
 unclaims_after NotClaimed = refl
 unclaims_after (Claimed e) = refl
 unclaims_after Lost = refl
 
-pub again_more : (w : Who) (H : List Call) (old new : Controller) (now : ℕ) (mid : Hold) → Is w H old → Passed w H now mid
-    → new.hold ≡ anew (old.own.delay * 600) mid → new ≡ record old { hold = new.hold } → Is w (At now Again ∷ H) new
-again_more w H old new now mid h p a e =
-    follows h (ap (λ c. c.holders) e) tt refl
-    (ap (view w) e ∙ λ i. record (h.shown i) {
-      hold = (a ∙ ((λ i. anew ((h.shown i).who.delay * 600) (p i)) ∙ λ i. record (led w H now) { standing = unclaims_after (older (step H now) (address_after w H)) i; owes_claim = true; delay = w.delay * 600 })) i;
-    })
-
 -- ---- requests
 
-pub handed_more : (w : Who) (H : List Call) (old new : Controller) (x : Request) → Is w H old
-    → First request_by new.desk.waiting.items x (length (handed H)) (requests w H)
-    → new ≡ record old { desk = record { waiting = new.desk.waiting; due = old.desk.due } } → Is w (TakeRequest (Some (request_by x)) ∷ H) new
-handed_more w H old new x h first e =
-    follows h (ap (λ c. c.holders) e) (sym first.is) refl
-    (ap (view w) e ∙ λ i. record (h.shown i) { requests = (first.rest ∙ ap (λ (n : ℕ). drop n (requests w H)) (sym (length_one_more (handed H) (request_by x)))) i })
-
-pub due_more : (w : Who) (H : List Call) (old new : Controller) (now : ℕ) (answer : Answer) (r : Request) (x : Due) → Is w H old → Passed w H now new.hold
-    → Ok tt ≡ answer_to_acknowledge w H now (request_by r) → refusal_by w x ≡ acknowledgment w answer (request_by r) → new.desk.due.items ≡ old.desk.due.items ++ x ∷ []
-    → new ≡ record old { hold = new.hold; desk = record { waiting = old.desk.waiting; due = new.desk.due } }
-    → Is w (At now (Acknowledge (request_by r) answer (Ok tt)) ∷ H) new
-due_more w H old new now answer r x h p right a g e =
-    let s = sound w H h.answered in
-    follows h (ap (λ c. c.holders) e) right refl
-    (ap (view w) e ∙ λ i. record (h.shown i) {
-      hold = p i;
-      acknowledgments = (ap (map (refusal_by w)) g ∙ (map_append (refusal_by w) old.desk.due.items x
-          ∙ ((λ i. (h.shown i).acknowledgments ++ a i ∷ [])
-          ∙ sym (drop_append (length (acknowledged H)) (due w H) (acknowledgment w answer (request_by r)) (front_length (acknowledged H) (due w H) s.desk.1))))) i;
-    })
-
 -- ---- a call that only lets time pass
-
-pub refuses_send : (w : Who) (H : List Call) (old new : Controller) (now : ℕ) (d : Draft) (r : Refused) → Is w H old → Passed w H now new.hold
-    → Err r ≡ answer_to_send w H now d → new ≡ record old { hold = new.hold } → Is w (At now (Send d (Err r)) ∷ H) new
-refuses_send w H old new now d r h p answer e = follows h (ap (λ c. c.holders) e) answer refl (ap (view w) e ∙ λ i. record (h.shown i) { hold = p i })
 
 -- ---- when something is due
 
@@ -1120,26 +1071,6 @@ pub busy_is : (w : Who) (H : List Call) (c : Controller) → Is w H c
     → (is_open (lane_of w c.lane).current || nat_eq c.lane.next_token 18446744073709551615) ≡ is_busy w H
 busy_is w H c h = ap (λ (v : View). is_open v.lane.current || nat_eq v.lane.next_token 18446744073709551615) h.shown
 
-pub refuses_broadcast : (w : Who) (H : List Call) (old new : Controller) (now group : ℕ) (bytes : List ℕ) (r : Refused) → Is w H old
-    → Passed w H now new.hold → Err r ≡ answer_to_broadcast w H now group bytes → new ≡ record old { hold = new.hold }
-    → Is w (At now (Broadcast group bytes (Err r)) ∷ H) new
-refuses_broadcast w H old new now group bytes r h p answer e = follows h (ap (λ c. c.holders) e) answer refl (ap (view w) e ∙ λ i. record (h.shown i) { hold = p i })
-
-pub begins : (w : Who) (H : List Call) (old new : Controller) (now group : ℕ) (bytes : List ℕ) (x : Open) (mid : Hold) → Is w H old → Passed w H now mid → new.hold ≡ hold_opens mid
-    → Ok old.lane.next_token ≡ answer_to_broadcast w H now group bytes → opened w x ≡ (old.lane.next_token, broadcast_from w group bytes)
-    → new ≡ record old { hold = new.hold; lane = new.lane } → new.lane.current ≡ Some x → new.lane.count ≡ 0
-    → new.lane.next_token ≡ suc old.lane.next_token → Is w (At now (Broadcast group bytes (Ok old.lane.next_token)) ∷ H) new
-begins w H old new now group bytes x mid h p opens answer is e e0 e1 e2 =
-    follows h (ap (λ c. c.holders) e) answer refl
-    (ap (view w) e ∙ λ i. record (h.shown i) {
-      hold = (opens ∙ ap hold_opens p) i;
-      lane = record {
-        current = (ap (option_map (opened w)) e0 ∙ ap Some is) i;
-        count = e1 i;
-        next_token = (e2 ∙ (ap (λ (v : View). suc v.lane.next_token) h.shown ∙ sym (length_one_more (broadcasts w H) (broadcast_from w group bytes)))) i;
-      };
-    })
-
 -- ---- transfers
 
 pub engaged_is : (w : Who) (H : List Call) (c : Controller) (now group to : ℕ) (mid : Hold) → Is w H c → Passed w H now mid
@@ -1149,40 +1080,8 @@ engaged_is w H c now group to mid h p =
     ap (λ (v : View). is_engaged v.port.current v.port.next_token || (nat_lt 0 mid.rest && holds_back v.port.resting group to)) h.shown
     ∙ ap (λ (n : ℕ). is_engaged (open_transfer w H) (length (all_transfers w H)) || (nat_lt 0 n && holds_back (resting w H) group to)) (ap (λ (k : Hold). k.rest) p)
 
-pub refuses_transfer : (w : Who) (H : List Call) (old new : Controller) (now group to : ℕ) (bytes : List ℕ) (r : Refused) → Is w H old
-    → Passed w H now new.hold → Err r ≡ answer_to_transfer w H now group to bytes → new ≡ record old { hold = new.hold }
-    → Is w (At now (Transfer group to bytes (Err r)) ∷ H) new
-refuses_transfer w H old new now group to bytes r h p answer e = follows h (ap (λ c. c.holders) e) answer refl (ap (view w) e ∙ λ i. record (h.shown i) { hold = p i })
-
-pub transfer_begins : (w : Who) (H : List Call) (old new : Controller) (now group to : ℕ) (bytes : List ℕ) (x : transfers.Open) (mid : Hold) → Is w H old → Passed w H now mid
-    → Ok old.transfers.next_token ≡ answer_to_transfer w H now group to bytes
-    → running x ≡ begun old.transfers.next_token (broadcast_from w group bytes) to
-    → new ≡ record old { hold = new.hold; transfers = new.transfers } → new.hold ≡ record mid { age = 0 } → new.transfers.current ≡ Some x
-    → new.transfers.next_token ≡ suc old.transfers.next_token → new.transfers.resting ≡ old.transfers.resting
-    → Is w (At now (Transfer group to bytes (Ok old.transfers.next_token)) ∷ H) new
-transfer_begins w H old new now group to bytes x mid h p answer is e e0 e1 e2 e3 =
-    follows h (ap (λ c. c.holders) e) answer refl
-    (ap (view w) e ∙ λ i. record (h.shown i) {
-      hold = (e0 ∙ ap (λ (k : Hold). record k { age = 0 }) p) i;
-      port = record {
-        current = (ap (option_map running) e1 ∙ ap Some is) i;
-        next_token = (e2 ∙ (ap (λ (v : View). suc v.port.next_token) h.shown ∙ sym (length_one_more (all_transfers w H) (to, broadcast_from w group bytes)))) i;
-        resting = (ap resting_by e3 ∙ ap (λ (v : View). v.port.resting) h.shown) i;
-      };
-    })
-
 pub transfer_end_is : (w : Who) (H : List Call) (c : Controller) (b : Bool) → Is w H c → b ≡ lost c.hold.standing
     → transfer_end (port_of c.transfers).current b ≡ next_transfer_ended w H
 transfer_end_is w H c b h e =
     ap (λ (v : View). transfer_end v.port.current b) h.shown
     ∙ ap (transfer_end (open_transfer w H)) (e ∙ (ap (λ (v : View). lost v.hold.standing) h.shown ∙ lost_is (address_after w H)))
-
-pub transfer_ends : (w : Who) (H : List Call) (old new : Controller) (x : ℕ × TransferEnding) (b : Bool) → Is w H old → Some x ≡ next_transfer_ended w H
-    → b ≡ rests_after x.1 → new ≡ record old { hold = new.hold; transfers = new.transfers } → new.hold ≡ rested b old.hold
-    → port_of new.transfers ≡ closed b old.hold.rest (port_of old.transfers) → Is w (TakeTransferEnded (Some x) ∷ H) new
-transfer_ends w H old new x b h answer rests e e0 e1 =
-    follows h (ap (λ c. c.holders) e) answer refl
-    (ap (view w) e ∙ λ i. record (h.shown i) {
-      hold = (e0 ∙ λ i. rested (rests i) (h.shown i).hold) i;
-      port = (e1 ∙ λ i. closed (rests i) (h.shown i).hold.rest (h.shown i).port) i;
-    })
