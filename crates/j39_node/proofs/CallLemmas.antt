@@ -1,7 +1,7 @@
 -- A call more.
 use Rattle.j39_node.proofs.KindLemmas.{Kind, kind, kind_is, single, of_session}
 use Rattle.j39_node.proofs.SoundLemmas.FrameCase.{claims as claims_first, acknowledges, replies, sends, packs, transfers}
-use Rattle.j39_node.proofs.Common.{led, le-ltb, [], if◌then◌else◌, ◌&&◌, ◌*◌, ◌++◌, ◌+◌, ◌-◌, ◌<◌, ◌||◌, ◌∙◌, ◌∷◌, ◌≡◌, ◌≤◌, accepted, acknowledged, acknowledgment, Address, address_after, after, age, all_transfers, ap, AreAnswered, arith, Asked, asked, asked_by, AskEnding, asking_of, AskRecord, asks_claims, asks_with, At, at_in, blank, Bool, breaks_it, Busy, Call, called, calls_for_claim, can_claim, can_send, claim_address, claim_due, claim_from, claim_goes, claim_of, Claimed, claimed, claimed_again, Claims, claims, clock, clock_at, comes, content, control_of, Controller, counted, delayed, Done, double, Draft, drop, drop-map, Due, due, end_of, ended, Ending, ending_of, ends_by, eqb-true, false, FrameRecord, fresh, gives_way, got, handed, has_packets, has_place, has_token, Hear, heard, heard_at, heard_by, hearing, hearing_after, hearing_of, HearingRecord, hears_if, hears_it, hears_with, held_at, Hold, hold_acknowledged, hold_after, hold_asked, hold_claimed, hold_spoken, hold_went, holder, holder_in, holds, holds_back, IfSome, in_broadcast, in_session, Incoming, incoming_after, incoming_of, IncomingRecord, inl, inr, Is, is_another, is_apart, is_blank, is_busy, is_claim, is_coming, is_double, is_engaged, is_for_program, is_full, is_held, is_left, is_lost, is_open, is_out, is_refusal_due, is_replaced, is_resting, is_same, is_served, is_smaller, is_there, is_turn, is_unheard, IsAnswered, IsApart, IsFit, IsNamed, kept, known, Knows, lane_after, lane_of, later, latest, leaves, leaves_it, left, left_at, length, length-drop, length-set, less, List, Lost, lost, lt-ltb, ltb-false, ltb-true, made, made_by, made_of, made_whole, map, marks, max, may_claim, may_go, Message, message_from, message_of, MessageRecord, min, missed, missed_news, moment, Move, Nack, named_in, nat_eq, nat_le, nat_lt, newly, news_after, next_acknowledgment, next_due, next_frame, next_packet, next_renewed, next_transfer, next_transfer_ended, next_turn, next_withdrawn, None, not, NotClaimed, nothing, offered, older, open_ask, open_broadcast, open_transfer, OpenBroadcast, Option, option_map, option_or, other, Outgoing, owes_claim, packet_by, packets, packets_in, passed, past, patience, pause, paused, place_of, port_after, port_of, posted, reached, Ready, ready_in, received_by, reception, ReceptionRecord, refl, refusal_by, Renew, Renews, Reply, request_by, requests, rest, restarts, resting, resting_by, Running, Said, said_by, sends_if, session_by, silence, Single, slice_get, slice_get_past, slice_get_within, slice_set, Some, sooner, stamp_at, stamp_micros, stamped, standing_of, stands, step, still, subst, suc, sym, TakeEnded, TakeFrame, taken_by, Tick, ticks, time_heard, told, told_claims, transfer_by, transfer_end, transfer_in, true, Turn, turn_frame, turn_of, turns, unclaimed, unclaims, unheard_by, unheard_news, Untold, View, view, wait, waiting, Who, who_of, whole, whole_of, with_called, with_reception, with_refusal, with_replies, with_request, Withdraw, Withdrawn, yields, ℕ, leb-true, IsOthers}
+use Rattle.j39_node.proofs.Common.{led, le-ltb, [], if◌then◌else◌, ◌&&◌, ◌*◌, ◌++◌, ◌+◌, ◌-◌, ◌<◌, ◌||◌, ◌∙◌, ◌∷◌, ◌≡◌, ◌≤◌, accepted, acknowledged, acknowledgment, Address, address_after, after, age, all_transfers, ap, AreAnswered, arith, Asked, asked, asked_by, AskEnding, asking_of, AskRecord, asks_claims, asks_with, At, at_in, blank, Bool, breaks_it, Busy, Call, called, calls_for_claim, can_claim, can_send, claim_address, claim_due, claim_from, claim_goes, claim_of, Claimed, claimed, claimed_again, Claims, claims, clock, clock_at, comes, content, control_of, Controller, counted, delayed, Done, double, Draft, drop, drop-map, Due, due, end_of, ended, Ending, ending_of, ends_by, eqb-true, false, FrameRecord, fresh, gives_way, got, handed, has_packets, has_place, has_token, Hear, heard, heard_at, heard_by, hearing, hearing_after, hearing_of, HearingRecord, hears_if, hears_it, hears_with, held_at, Hold, hold_acknowledged, hold_after, hold_asked, hold_claimed, hold_spoken, hold_went, holder, holder_in, holds, holds_back, IfSome, in_broadcast, in_session, Incoming, incoming_after, incoming_of, IncomingRecord, inl, inr, Is, is_another, is_apart, is_blank, is_busy, is_claim, is_coming, is_double, is_engaged, is_for_program, is_full, is_held, is_left, is_lost, is_open, is_out, is_refusal_due, is_replaced, is_resting, is_same, is_served, is_smaller, is_there, is_turn, is_unheard, IsAnswered, IsApart, IsFit, IsNamed, kept, known, Knows, lane_after, lane_of, later, latest, leaves, leaves_it, left, left_at, length, length-drop, length-set, less, List, Lost, lost, lt-ltb, ltb-false, ltb-true, made, made_by, made_of, made_whole, map, marks, max, may_claim, may_go, Message, message_from, message_of, MessageRecord, min, missed, missed_news, moment, Move, Nack, named_in, nat_eq, nat_le, nat_lt, newly, news_after, next_acknowledgment, next_due, next_frame, next_packet, next_renewed, next_transfer, next_transfer_ended, next_turn, next_withdrawn, None, not, NotClaimed, nothing, offered, older, open_ask, open_broadcast, open_transfer, OpenBroadcast, Option, option_map, option_or, other, Outgoing, owes_claim, packet_by, packets, packets_in, passed, past, patience, pause, paused, place_of, port_after, port_of, posted, reached, Ready, ready_in, received_by, reception, ReceptionRecord, refl, refusal_by, Renew, Renews, Reply, request_by, requests, rest, restarts, resting, resting_by, Running, Said, said_by, sends_if, session_by, silence, Single, slice_get, slice_get_past, slice_get_within, slice_set, Some, sooner, stamp_at, stamp_micros, stamped, standing_of, stands, step, still, subst, suc, sym, TakeEnded, TakeFrame, taken_by, Tick, ticks, time_heard, told, told_claims, transfer_by, transfer_end, transfer_in, true, Turn, turn_frame, turn_of, turns, unclaimed, unclaims, unheard_by, unheard_news, Untold, View, view, wait, waiting, Who, who_of, whole, whole_of, with_called, with_reception, with_refusal, with_replies, with_request, Withdraw, Withdrawn, yields, ℕ, leb-true, IsOthers, is_asking}
 use Rattle.j39_node.specs.Reception.{is_waiting}
 use Rattle.j39_node.specs.Transfers.{packet_in}
 use Rattle.j39_node.specs.Is.{hears}
@@ -9,7 +9,7 @@ use Rattle.j39_node.specs.declared.turn.Turn.TheVariants.{Packet}
 use Rattle.j39_node.proofs.WithdrawLemmas.{past_rest}
 use Rattle.j39_node.specs.declared.hold.Standing.TheVariants as standing
 use Rattle.j39_node.specs.declared.transfers.Open as transfers
-use Rattle.j39_node.proofs.AskLemmas.{ask_heard, ask_more, takes, token_of, ask_withdrawn}
+use Rattle.j39_node.proofs.AskLemmas.{asking_is, ask_heard, ask_more, takes, token_of, ask_withdrawn}
 use Rattle.j39_node.proofs.ReceptionLaws.{made_is}
 use Rattle.j39_node.proofs.ReceptionLemmas.{leaves_is, tidy, again_is, calls_is, leaves_still}
 use Rattle.j39_node.proofs.HearingLemmas.{always, broken_news, claimed_on, either_news, hearing_same, heard_on, is_hearing, leaves_on, news_same, missed_one}
@@ -1070,6 +1070,17 @@ move_goes c k now e f = go (transfer_by (port_of c.transfers).current (clock k.a
 pub busy_is : (w : Who) (H : List Call) (c : Controller) → Is w H c
     → (is_open (lane_of w c.lane).current || nat_eq c.lane.next_token 18446744073709551615) ≡ is_busy w H
 busy_is w H c h = ap (λ (v : View). is_open v.lane.current || nat_eq v.lane.next_token 18446744073709551615) h.shown
+
+-- ---- requests to others
+
+-- no request can be accepted
+pub asks_no_more_is : (w : Who) (H : List Call) (c : Controller) → Is w H c
+    → ((nat_eq (length c.outgoing.items) 16 || nat_eq c.next_token 18446744073709551615) || is_asking (option_map (λ (x : AskRecord). x.question) (asking_of c.asking)))
+    ≡ (is_full w H || is_asking (open_ask H))
+asks_no_more_is w H c h =
+    ap (λ (b : Bool). b || is_asking (option_map (λ (x : AskRecord). x.question) (asking_of c.asking))) (full_is w H c h)
+    ∙ ap (λ (b : Bool). is_full w H || b)
+    (ap (λ (v : View). is_asking (option_map (λ (x : AskRecord). x.question) v.asking)) h.shown ∙ asking_is (open_ask H) (reached H) (ended w H))
 
 -- ---- transfers
 

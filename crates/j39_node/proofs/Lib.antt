@@ -14,7 +14,7 @@ pub mod HearingLemmas
 -- transfers: between which addresses the open one goes, and the frames that it makes
 pub mod PortLemmas
 pub mod SaidLemmas
--- what `ask` answers
+-- what the calls answer that accept something
 pub mod AnswerCases
 -- messages that were withdrawn
 pub mod WithdrawLemmas
@@ -28,13 +28,10 @@ pub mod LaneLemmas
 pub mod AskLemmas
 -- a call more
 pub mod CallLemmas
--- what a call does to the open request
 -- the laws of requests
 pub mod AskLaws
 -- when a tick does something
 pub mod TickLemmas
--- a call of `ask` more
-pub mod AskCalls
 -- when frames of packets are due
 pub mod DueLemmas
 -- the laws

@@ -1,7 +1,6 @@
 use Rattle.j39_node.proofs.LawLemmas.{sent_within}
 use Rattle.j39_node.proofs.Common.{◌∙◌, ap, arith, can_ask, false, message_from, Ok, pgn_raw, refl, request_for, stamp_micros, sym, true, View, Who, length, accepted, not_true, Bool, None, Option, Some, le-ltb, question, reached, AskRecord, ◌∷◌, [], ◌++◌, ◌+◌, ◌≡◌}
-use Rattle.j39_node.proofs.CallLemmas.{passed_is, holds_is, follows, posted_more}
-use Rattle.j39_node.proofs.AskCalls.{busy_is}
+use Rattle.j39_node.proofs.CallLemmas.{asks_no_more_is, passed_is, holds_is, follows, posted_more}
 use Rattle.j39_node.proofs.controller.Controller.ask.Goals as goal
 use Rattle.j39_node.proofs.AnswerCases.{answer_is}
 use Rattle.j39_node.proofs.QueueLemmas.{length_one_more}
@@ -13,7 +12,7 @@ returns-then-asks_no_more c = λ w H h.
     let b = sym (holds_is w H (stamp_micros c.args.now) c.passed-self.result c.is_held.result p c.is_held.ensures) ∙ c.if-not-is_held.false in
     follows h refl (sym (answer_is (length (accepted w H)) b
     (ap (λ (v : Who). can_ask v (pgn_raw c.args.group) c.args.to) (sym (ap (λ (v : View). v.who) h.shown)) ∙ c.in-Some.ensures.known.0 refl)
-    (sym (busy_is w H c.args.self.now h) ∙ (sym c.asks_no_more.ensures.value ∙ c.if-asks_no_more.true)))) refl (λ i. record (h.shown i) { hold = p i })
+    (sym (asks_no_more_is w H c.args.self.now h) ∙ (sym c.asks_no_more.ensures.value ∙ c.if-asks_no_more.true)))) refl (λ i. record (h.shown i) { hold = p i })
 
 pub returns-else-asks_no_more : goal.returns-else-asks_no_more
 returns-else-asks_no_more c = λ w H h.
@@ -25,7 +24,7 @@ returns-else-asks_no_more c = λ w H h.
     follows h refl
     (ap Ok t ∙ sym (answer_is (length (accepted w H)) b
     (ap (λ (v : Who). can_ask v (pgn_raw c.args.group) c.args.to) (sym (ap (λ (v : View). v.who) h.shown)) ∙ c.in-Some.ensures.known.0 refl)
-    (sym (busy_is w H c.args.self.now h) ∙ (sym c.asks_no_more.ensures.value ∙ c.if-asks_no_more.false)))) refl
+    (sym (asks_no_more_is w H c.args.self.now h) ∙ (sym c.asks_no_more.ensures.value ∙ c.if-asks_no_more.false)))) refl
     (λ i. record (h.shown i) {
       hold = p i;
       outgoing = posted_more w H c.args.self.now h c.in-Some.message m
