@@ -1,7 +1,7 @@
 -- A call more.
 use Rattle.j39_node.proofs.KindLemmas.{Kind, kind, kind_is, single, of_session}
 use Rattle.j39_node.proofs.SoundLemmas.FrameCase.{claims as claims_first, acknowledges, replies, sends, packs, transfers}
-use Rattle.j39_node.proofs.Common.{led, le-ltb, [], if◌then◌else◌, ◌&&◌, ◌*◌, ◌++◌, ◌+◌, ◌-◌, ◌<◌, ◌||◌, ◌∙◌, ◌∷◌, ◌≡◌, ◌≤◌, accepted, acknowledged, acknowledgment, Address, address_after, after, age, all_transfers, ap, AreAnswered, arith, Asked, asked, asked_by, AskEnding, asking_of, AskRecord, asks_claims, asks_with, At, at_in, blank, Bool, breaks_it, Busy, Call, called, calls_for_claim, can_claim, can_send, claim_address, claim_due, claim_from, claim_goes, claim_of, Claimed, claimed, claimed_again, Claims, claims, clock, clock_at, comes, content, control_of, Controller, counted, delayed, Done, double, Draft, drop, drop-map, Due, due, end_of, ended, Ending, ending_of, ends_by, eqb-true, false, FrameRecord, fresh, gives_way, got, handed, has_packets, has_place, has_token, Hear, heard, heard_at, heard_by, hearing, hearing_after, hearing_of, HearingRecord, hears_if, hears_it, hears_with, held_at, Hold, hold_acknowledged, hold_after, hold_asked, hold_claimed, hold_spoken, hold_went, holder, holder_in, holds, holds_back, IfSome, in_broadcast, in_session, Incoming, incoming_after, incoming_of, IncomingRecord, inl, inr, Is, is_another, is_apart, is_blank, is_busy, is_claim, is_coming, is_double, is_engaged, is_for_program, is_full, is_held, is_left, is_lost, is_open, is_out, is_refusal_due, is_replaced, is_resting, is_same, is_served, is_smaller, is_there, is_turn, is_unheard, IsAnswered, IsApart, IsFit, IsNamed, kept, known, Knows, lane_after, lane_of, later, latest, leaves, leaves_it, left, left_at, length, length-drop, length-set, less, List, Lost, lost, lt-ltb, ltb-false, ltb-true, made, made_by, made_of, made_whole, map, marks, max, may_claim, may_go, Message, message_from, message_of, MessageRecord, min, missed, missed_news, moment, Move, Nack, named_in, nat_eq, nat_le, nat_lt, newly, news_after, next_acknowledgment, next_due, next_frame, next_packet, next_renewed, next_transfer, next_transfer_ended, next_turn, next_withdrawn, None, not, NotClaimed, nothing, offered, older, open_ask, open_broadcast, open_transfer, OpenBroadcast, Option, option_map, option_or, other, Outgoing, owes_claim, packet_by, packets, packets_in, passed, past, patience, pause, paused, place_of, port_after, port_of, posted, reached, Ready, ready_in, received_by, reception, ReceptionRecord, refl, refusal_by, Renew, Renews, Reply, request_by, requests, rest, restarts, resting, resting_by, Running, Said, said_by, sends_if, session_by, silence, Single, slice_get, slice_get_past, slice_get_within, slice_set, Some, sooner, stamp_at, stamp_micros, stamped, standing_of, stands, step, still, subst, suc, sym, TakeEnded, TakeFrame, taken_by, Tick, ticks, time_heard, told, told_claims, transfer_by, transfer_end, transfer_in, true, Turn, turn_frame, turn_of, turns, unclaimed, unclaims, unheard_by, unheard_news, Untold, View, view, wait, waiting, Who, who_of, whole, whole_of, with_called, with_reception, with_refusal, with_replies, with_request, Withdraw, Withdrawn, yields, ℕ, leb-true, IsOthers, is_asking}
+use Rattle.j39_node.proofs.Common.{led, le-ltb, [], if◌then◌else◌, ◌&&◌, ◌++◌, ◌+◌, ◌-◌, ◌<◌, ◌||◌, ◌∙◌, ◌∷◌, ◌≡◌, ◌≤◌, accepted, acknowledged, acknowledgment, Address, address_after, after, age, all_transfers, ap, AreAnswered, arith, Asked, asked_by, asking_of, AskRecord, asks_claims, asks_with, At, at_in, blank, Bool, breaks_it, Busy, Call, called, can_claim, can_send, claim_address, claim_due, claim_from, claim_goes, claim_of, Claimed, claimed, Claims, claims, clock, clock_at, comes, content, control_of, Controller, counted, delayed, Done, Draft, drop, drop-map, Due, due, end_of, ended, Ending, ending_of, eqb-true, false, FrameRecord, gives_way, has_packets, has_place, has_token, Hear, heard_at, heard_by, hearing, hearing_after, hearing_of, held_at, Hold, hold_acknowledged, hold_after, hold_asked, hold_claimed, hold_spoken, hold_went, holder, holder_in, holds, holds_back, IfSome, in_broadcast, in_session, Incoming, incoming_after, incoming_of, IncomingRecord, inl, inr, Is, is_apart, is_blank, is_busy, is_claim, is_coming, is_engaged, is_full, is_held, is_left, is_lost, is_open, is_out, is_resting, is_same, is_served, is_smaller, is_there, is_turn, IsAnswered, IsApart, IsNamed, known, Knows, lane_after, lane_of, latest, leaves, leaves_it, left, left_at, length, length-drop, length-set, less, List, Lost, lost, lt-ltb, ltb-false, ltb-true, made_by, made_of, map, marks, max, may_claim, may_go, Message, message_from, message_of, MessageRecord, min, missed, missed_news, moment, Move, Nack, named_in, nat_eq, nat_le, nat_lt, newly, news_after, next_acknowledgment, next_due, next_frame, next_packet, next_renewed, next_transfer, next_transfer_ended, next_turn, next_withdrawn, None, not, NotClaimed, nothing, offered, older, open_ask, open_broadcast, open_transfer, Option, option_map, other, Outgoing, owes_claim, packet_by, packets, packets_in, passed, past, pause, paused, place_of, port_after, port_of, posted, reached, Ready, ready_in, reception, ReceptionRecord, refl, refusal_by, Renew, Renews, Reply, rest, resting, resting_by, Said, said_by, sends_if, session_by, Single, slice_get, slice_get_past, slice_get_within, slice_set, Some, sooner, stamp_at, stamp_micros, stamped, standing_of, stands, step, subst, suc, sym, TakeEnded, TakeFrame, taken_by, Tick, ticks, time_heard, told, told_claims, transfer_by, transfer_end, transfer_in, true, Turn, turn_frame, turn_of, turns, unclaimed, unclaims, unheard_news, Untold, View, view, wait, waiting, Who, who_of, with_called, with_reception, with_refusal, with_replies, with_request, Withdraw, Withdrawn, yields, ℕ, leb-true, IsOthers, is_asking}
 use Rattle.j39_node.specs.Reception.{is_waiting}
 use Rattle.j39_node.specs.Transfers.{packet_in}
 use Rattle.j39_node.specs.Is.{hears}
@@ -9,14 +9,13 @@ use Rattle.j39_node.specs.declared.turn.Turn.TheVariants.{Packet}
 use Rattle.j39_node.proofs.WithdrawLemmas.{past_rest}
 use Rattle.j39_node.specs.declared.hold.Standing.TheVariants as standing
 use Rattle.j39_node.specs.declared.transfers.Open as transfers
-use Rattle.j39_node.proofs.AskLemmas.{asking_is, ask_heard, ask_more, takes, token_of, ask_withdrawn}
-use Rattle.j39_node.proofs.ReceptionLaws.{made_is}
-use Rattle.j39_node.proofs.ReceptionLemmas.{leaves_is, tidy, again_is, calls_is, leaves_still}
-use Rattle.j39_node.proofs.HearingLemmas.{always, broken_news, claimed_on, either_news, hearing_same, heard_on, is_hearing, leaves_on, news_same, missed_one}
+use Rattle.j39_node.proofs.AskLemmas.{asking_is, ask_more, takes, token_of, ask_withdrawn}
+use Rattle.j39_node.proofs.ReceptionLemmas.{leaves_is, tidy, calls_is, leaves_still}
+use Rattle.j39_node.proofs.HearingLemmas.{always, broken_news, claimed_on, hearing_same, is_hearing, leaves_on, news_same, missed_one}
 use Rattle.j39_node.proofs.QueueLemmas.{length_one_more, length_map, map_append, length_rest, in_rest, not_in_rest, First, drop_append, get_at, get_map, get_of_drop}
-use Rattle.j39_node.proofs.SoundLemmas.{IsTurn, frame_there, overdue_due, packet_there, some_at, turn_is, sound, frame_by, front_length, held_not_lost, holding_not_lost, lost_older, read, Sound, withdraw_case, acknowledged_is_due}
+use Rattle.j39_node.proofs.SoundLemmas.{IsTurn, frame_there, overdue_due, packet_there, some_at, turn_is, sound, frame_by, held_not_lost, holding_not_lost, lost_older, Sound, withdraw_case, acknowledged_is_due}
 use Rattle.j39_node.proofs.FrameLemmas.{at_now}
-use Rattle.j39_node.proofs.PortLemmas.{clock_is, is_port, ported, replaced_is}
+use Rattle.j39_node.proofs.PortLemmas.{clock_is, is_port}
 use Rattle.j39_node.proofs.RenewLemmas.{latest_rest, latest_is, set_rest}
 
 -- ---- the hold
@@ -135,7 +134,7 @@ incoming_claimed w H old now f table h is knows =
     ∙ sym (ap (λ (k : Kind). (framed w H now f k).incoming) is))
 
 -- a frame is heard
-incoming_heard : (w : Who) (H : List Call) (old : Controller) (when : ℕ) (f : FrameRecord) (table : Claims) (new : Incoming) (gone held : Bool) → Is w H old
+pub incoming_heard : (w : Who) (H : List Call) (old : Controller) (when : ℕ) (f : FrameRecord) (table : Claims) (new : Incoming) (gone held : Bool) → Is w H old
     → Knows table (told_claims w (At when (Hear f) ∷ H)) → gone ≡ is_smaller w (claim_of f) → held ≡ holds w H when
     → (old.incoming.receiver.has_box ≡ true → IsApart (incoming_of old.incoming).reception → IsNamed (incoming_of old.incoming)
     → incoming_of new ≡ hears gone held when f (holder_in old.holders) (holder_in table) (incoming_of old.incoming))
@@ -451,11 +450,11 @@ posted_more w H c h x m is e =
 
 -- ---- a frame is heard
 
-heard_standing : (b : Bool) (s : ℕ) (a : Address) → (if b then standing.Lost else standing_of (older s a)) ≡ standing_of (if b then Lost else older s a)
+pub heard_standing : (b : Bool) (s : ℕ) (a : Address) → (if b then standing.Lost else standing_of (older s a)) ≡ standing_of (if b then Lost else older s a)
 heard_standing true s a = refl
 heard_standing false s a = refl
 
-kept_rest : (wanted : Bool) (K unread : List (ℕ × Message)) (n : ℕ) (x : ℕ × Message) → n ≤ length K → unread ≡ drop n K
+pub kept_rest : (wanted : Bool) (K unread : List (ℕ × Message)) (n : ℕ) (x : ℕ × Message) → n ≤ length K → unread ≡ drop n K
     → offered wanted x unread ≡ drop n (if wanted && nat_lt (length K - n) 16 then K ++ x ∷ [] else K)
 kept_rest wanted K unread n x l e =
     ap (offered wanted x) e
@@ -465,7 +464,7 @@ kept_rest wanted K unread n x l e =
     go true = sym (drop_append n K x l)
     go false = refl
 
-missed_rest : (wanted : Bool) (K unread : List (ℕ × Message)) (n m c : ℕ) → unread ≡ drop n K → c ≡ min m 18446744073709551615
+pub missed_rest : (wanted : Bool) (K unread : List (ℕ × Message)) (n m c : ℕ) → unread ≡ drop n K → c ≡ min m 18446744073709551615
     → counted wanted unread c ≡ min (if wanted && not (nat_lt (length K - n) 16) then suc m else m) 18446744073709551615
 missed_rest wanted K unread n m c e f =
     ap (λ (k : ℕ). if wanted && not (nat_lt k 16) then min (c + 1) 18446744073709551615 else c) (ap length e ∙ length-drop n K)
@@ -475,7 +474,7 @@ missed_rest wanted K unread n m c e f =
     go true = ap (λ (k : ℕ). min (k + 1) 18446744073709551615) f ∙ missed_one m
     go false = f
 
-request_rest : (w : Who) (room : Bool) (o : Option Asked) (L xs : List Asked) (n : ℕ) → n ≤ length L → xs ≡ drop n L
+pub request_rest : (w : Who) (room : Bool) (o : Option Asked) (L xs : List Asked) (n : ℕ) → n ≤ length L → xs ≡ drop n L
     → with_request w room o xs ≡ drop n (with_request w room o L)
 request_rest w room None L xs n l e = e
 request_rest w room (Some r) L xs n l e = go (is_served w r.group && room)
@@ -484,7 +483,7 @@ request_rest w room (Some r) L xs n l e = go (is_served w r.group && room)
     go true = ap (λ ys. ys ++ r ∷ []) e ∙ sym (drop_append n L r l)
     go false = e
 
-refusal_rest : (w : Who) (room place : Bool) (o : Option Asked) (L xs : List Message) (n : ℕ) → n ≤ length L → xs ≡ drop n L
+pub refusal_rest : (w : Who) (room place : Bool) (o : Option Asked) (L xs : List Message) (n : ℕ) → n ≤ length L → xs ≡ drop n L
     → with_refusal w room place o xs ≡ drop n (with_refusal w room place o L)
 refusal_rest w room place None L xs n l e = e
 refusal_rest w room place (Some r) L xs n l e = go ((nat_eq r.destination w.address && place) && not (is_served w r.group && room)) (acknowledgment w (if is_served w r.group then Busy else Nack) r)
@@ -498,7 +497,7 @@ pub news_heard : (u v : Untold) (l a b m n o : Bool) → v ≡ record { lost = l
 news_heard u v l a b m n o x f g = x ∙ λ i. record { lost = l; another = u.another || f i; doubled = u.doubled; missed = u.missed || (g i || o) }
 
 -- a broadcast that waits now, where none did, was made whole
-cast_by : (before after : Option (ℕ × MessageRecord))
+pub cast_by : (before after : Option (ℕ × MessageRecord))
     → made_by (not (not (has_place before))) after ≡ made_of (option_map (λ (x : ℕ × MessageRecord). x.1) (newly before after))
 cast_by None None = refl
 cast_by None (Some x) = refl
@@ -544,162 +543,6 @@ ticked_more w H old new now broken h p r t1 t2 t3 u e =
       incoming = later_on i;
       hearing = is_hearing _ _ on.current on.missed i;
     })
-
-pub heard_more : (w : Who) (H : List Call) (old new : Controller) (when : ℕ) (f : FrameRecord) (mid : Hold) (held wanted away gone calls another replaced broken unheard : Bool) (o : Option Asked) → Is w H old
-    → Passed w H when mid → held ≡ stands mid.standing → wanted ≡ is_for_program (who_of w.brought old.own) held f
-    → map received_by new.inbox.unread.items ≡ offered wanted (stamped f) (map received_by old.inbox.unread.items)
-    → new.inbox.missed ≡ counted wanted (map received_by old.inbox.unread.items) old.inbox.missed
-    → gone ≡ is_smaller (who_of w.brought old.own) (claim_of f) → away ≡ lost mid.standing → calls ≡ calls_for_claim (who_of w.brought old.own) away f
-    → another ≡ is_another (who_of w.brought old.own) held f
-    → map request_by new.desk.waiting.items
-    ≡ with_request (who_of w.brought old.own) (nat_lt (length old.desk.waiting.items) 16) o (map request_by old.desk.waiting.items)
-    → map (refusal_by (who_of w.brought old.own)) new.desk.due.items
-    ≡ with_refusal (who_of w.brought old.own) (nat_lt (length old.desk.waiting.items) 16)
-    (nat_lt (length old.desk.due.items) 16 && not (is_refusal_due (who_of w.brought old.own) (map (refusal_by (who_of w.brought old.own)) old.desk.due.items) o)) o
-    (map (refusal_by (who_of w.brought old.own)) old.desk.due.items)
-    → o ≡ fresh (who_of w.brought old.own) (map request_by old.desk.waiting.items) (asked (who_of w.brought old.own) held f)
-    → ((F : List FrameRecord) → Knows old.holders F → Knows new.holders (if is_double (who_of w.brought old.own) (claim_of f) then F else F ++ f ∷ []))
-    → new.news ≡ record {
-      lost = old.news.lost || (gone && not away);
-      another = old.news.another || is_another (who_of w.brought old.own) held f;
-      doubled = option_or (double (who_of w.brought old.own) (claim_of f)) old.news.doubled;
-      missed = broken || (old.news.missed || ((wanted && not (nat_lt (length old.inbox.unread.items) 16)) || unheard));
-    }
-    → new.hold ≡ heard gone calls another (old.own.delay * 600) mid → new ≡ record old { hold = new.hold; inbox = new.inbox; desk = new.desk; news = new.news; holders = new.holders; incoming = new.incoming; hearing = new.hearing; transfers = new.transfers; asking = new.asking }
-    → (old.incoming.receiver.has_box ≡ true → IsApart (incoming_of old.incoming).reception → IsNamed (incoming_of old.incoming)
-    → incoming_of new.incoming ≡ hears gone held when f (holder_in old.holders) (holder_in new.holders) (incoming_of old.incoming))
-    → IfSome (port_of old.transfers).current (λ x. replaced ≡ is_replaced (holder_in old.holders x.sender.destination) (holder_in new.holders x.sender.destination))
-    → ((r : ℕ → Bool) → IfSome (port_of old.transfers).current (λ x. replaced ≡ r x.sender.destination)
-    → (port_of new.transfers).current ≡ hears_if (lost new.hold.standing) r f (min new.hold.age 9999999999999999) (port_of old.transfers).current)
-    → new.transfers.next_token ≡ old.transfers.next_token → new.transfers.resting ≡ old.transfers.resting
-    → (whole_now : Option (ℕ × ℕ)) → whole_now ≡ made_by (has_place (incoming_of old.incoming).reception.waits) (incoming_of new.incoming).reception.waits
-    → (cast_now : Option (ℕ × ℕ))
-    → cast_now ≡ made_by (not (not (has_place (whole_of (hearing_of old.hearing).current)))) (whole_of (hearing_of new.hearing).current)
-    → (coming : Bool) (silent : Option AskEnding) → coming ≡ is_coming (option_map (λ (x : AskRecord). x.question) (asking_of old.asking)) (session_by (incoming_of old.incoming).reception.session (incoming_of old.incoming).named)
-    (in_broadcast (later (incoming_of old.incoming).clock (when - (incoming_of old.incoming).moment)) (hearing_of old.hearing).current)
-    → silent ≡ silence new.hold.wait coming (lost new.hold.standing) (asking_of old.asking)
-    → asking_of new.asking ≡ option_map (hears_with (who_of w.brought old.own) silent f (option_or whole_now cast_now)) (asking_of old.asking)
-    → (left_by over_by : Bool) (p1 p2 : Option ℕ) (m : HearingRecord) (restarted : Option ℕ)
-    → restarted ≡ claimed_again (holder_in old.holders) ((incoming_of old.incoming).called - (when - (incoming_of old.incoming).moment)) (claim_of f) → IfSome (hearing_of old.hearing).current (λ z. p1 ≡ still restarted (holder_in old.holders) z.source)
-    → IfSome (hearing_of old.hearing).current (λ z. p2 ≡ holder_in new.holders z.source) → left_by ≡ not (is_same p1 p2)
-    → over_by ≡ (left_by || is_out (stamp_micros new.incoming.clock) (hearing_of old.hearing).current)
-    → broken ≡ breaks_it over_by (hearing_of old.hearing).current
-    → m.missed ≡ (if broken then min (old.hearing.missed + 1) 18446744073709551615 else old.hearing.missed)
-    → m.current ≡ leaves_it over_by (hearing_of old.hearing).current
-    → unheard ≡ is_unheard (who_of w.brought old.own) f m.current
-    → new.hearing.missed ≡ (if unheard then min (m.missed + 1) 18446744073709551615 else m.missed)
-    → (IsFit m.current → (hearing_of new.hearing).current ≡ hears_it (who_of w.brought old.own) (stamp_micros new.incoming.clock) f m.current) → Is w (At when (Hear f) ∷ H) new
-heard_more w H old new when f mid held wanted away gone calls another replaced broken unheard o h p e1 e2 e3 e4 e5 e6 e7 e9 q1 q2 q3 q4 q5 e8 e s9 s6 s7 s8 s10 whole_now m1 cast_now m2 coming silent a2 a3 a1 left_by over_by p1 p2 m restarted t0 t1 t2 t3 t4 t5 t9 t10 t6 t7 t8 =
-    let s = sound w H h.answered in
-    let wants : wanted ≡ is_for_program w (holds w H when) f =
-    e2 ∙ (ap (λ (u : View). is_for_program u.who held f) h.shown ∙ ap (λ (b : Bool). is_for_program w b f) (holds_is w H when mid held p e1)) in
-    let lost_before : away ≡ is_lost (address_after w H) =
-    e6 ∙ (ap lost (ap (λ (k : Hold). k.standing) p) ∙ (lost_is (older (step H when) (address_after w H)) ∙ lost_older (step H when) (address_after w H))) in
-    let asks_for : o ≡ fresh w (drop (length (handed H)) (requests w H)) (asked w (holds w H when) f) =
-    q3 ∙ (ap (λ (u : View). fresh u.who (map request_by old.desk.waiting.items) (asked u.who held f)) h.shown
-    ∙ λ i. fresh w ((h.shown i).requests) (asked w (holds_is w H when mid held p e1 i) f)) in
-    let room : nat_lt (length old.desk.waiting.items) 16 ≡ nat_lt (length (requests w H) - length (handed H)) 16 =
-    ap (λ (n : ℕ). nat_lt n 16) (length_rest request_by old.desk.waiting.items (length (handed H)) (requests w H) (ap (λ (v : View). v.requests) h.shown)) in
-    let place : nat_lt (length old.desk.due.items) 16 ≡ nat_lt (length (due w H) - length (acknowledged H)) 16 =
-    ap (λ (n : ℕ). nat_lt n 16) (length_rest (refusal_by w) old.desk.due.items (length (acknowledged H)) (due w H) (ap (λ (v : View). v.acknowledgments) h.shown)) in
-    let goes : gone ≡ is_smaller w (claim_of f) = e5 ∙ ap (λ (u : View). is_smaller u.who (claim_of f)) h.shown in
-    let asks : calls ≡ calls_for_claim w (is_lost (address_after w H)) f =
-    e7 ∙ (ap (λ (u : View). calls_for_claim u.who away f) h.shown ∙ ap (λ (b : Bool). calls_for_claim w b f) lost_before) in
-    let others : another ≡ is_another w (holds w H when) f =
-    e9 ∙ (ap (λ (u : View). is_another u.who held f) h.shown ∙ ap (λ (b : Bool). is_another w b f) (holds_is w H when mid held p e1)) in
-    let knows : Knows new.holders (told_claims w (At when (Hear f) ∷ H)) =
-    subst (λ (u : View). Knows new.holders (if is_double u.who (claim_of f) then told_claims w H else told_claims w H ++ f ∷ [])) h.shown (q4 (told_claims w H) h.holders) in
-    let r : ℕ → Bool = λ a. is_replaced (holder w H a) (holder w (At when (Hear f) ∷ H) a) in
-    let current : (port_of old.transfers).current ≡ open_transfer w H = ap (λ (v : View). v.port.current) h.shown in
-    let hold_now : new.hold ≡ hold_after w (At when (Hear f) ∷ H) =
-    e8 ∙ ((λ i. heard (goes i) (asks i) (others i) ((h.shown i).who.delay * 600) (p i)) ∙ λ i. record (hold_after w (At when (Hear f) ∷ H)) {
-      standing = heard_standing (is_smaller w (claim_of f)) (step H when) (address_after w H) i;
-      delay =
-          if (calls_for_claim w (is_lost (address_after w H)) f || (is_another w (holds w H when) f && nat_eq (patience w H - step H when) 0))
-          && not ((lost_is _ ∙ lost_older (step H when) (address_after w H)) i && owes_claim w H)
-          then w.delay * 600
-          else delayed w H - step H when;
-    }) in
-    let stands_now : new.hold.standing ≡ standing_of (address_after w (At when (Hear f) ∷ H)) = ap (λ (k : Hold). k.standing) hold_now in
-    let hears_in : incoming_of new.incoming ≡ incoming_after w (At when (Hear f) ∷ H) =
-    incoming_heard w H old when f new.holders new.incoming gone held h knows goes (holds_is w H when mid held p e1) s9 in
-    let gone_is : restarted ≡ restarts w H when f =
-    t0 ∙ (ap (λ (v : View). claimed_again (holder_in old.holders) (v.incoming.called - (when - v.incoming.moment)) (claim_of f)) h.shown
-    ∙ again_is w old.holders H (called w H - (when - heard_at H)) (claim_of f) h.holders) in
-    let still_on : (o : Option OpenBroadcast) → IfSome o (λ z. p1 ≡ still restarted (holder_in old.holders) z.source) → IfSome o (λ z. p1 ≡ still (restarts w H when f) (holder_in old.holders) z.source) =
-    λ o. subst (λ (g : Option ℕ). IfSome o (λ z. p1 ≡ still g (holder_in old.holders) z.source)) gone_is in
-    let on = heard_on w H when f old.holders new.holders left_by over_by broken unheard (stamp_micros new.incoming.clock) p1 p2 (hearing_of old.hearing) m (hearing_of new.hearing) (ap (λ (v : View). v.hearing) h.shown)
-    h.holders knows (ap (λ (x : IncomingRecord). x.clock) hears_in) (still_on (hearing_of old.hearing).current t1) t2 t3 t4 t5 t9 t10
-    (t6 ∙ ap (λ (u : View). is_unheard u.who f m.current) h.shown) t7
-    (λ fits. t8 fits ∙ ap (λ (u : View). hears_it u.who (stamp_micros new.incoming.clock) f m.current) h.shown) in
-    let whole_is : whole_now ≡ made_of (whole w H when f) =
-    m1 ∙ (ap (λ (v : View). made_by (has_place v.incoming.reception.waits) (incoming_of new.incoming).reception.waits) h.shown
-    ∙ (ap (λ (x : IncomingRecord). made_by (has_place (reception w H).waits) x.reception.waits) hears_in ∙ made_is w H when f)) in
-    let cast_is : cast_now ≡ made_of (option_map (λ (x : ℕ × MessageRecord). x.1) (made_whole w H when f)) =
-    m2 ∙ (ap (λ (v : View). made_by (not (not (has_place (whole_of v.hearing.current)))) (whole_of (hearing_of new.hearing).current)) h.shown
-    ∙ (ap (λ (x : HearingRecord). made_by (not (not (has_place (waiting w H)))) (whole_of x.current)) on.hearing
-    ∙ cast_by (waiting w H) (waiting w (At when (Hear f) ∷ H)))) in
-    let lost_now = is_lost (address_after w (At when (Hear f) ∷ H)) in
-    let comes_now = comes w H (time_heard (At when (Hear f) ∷ H)) in
-    let silent_is : silent ≡ silence (wait H - step H when) comes_now lost_now (asking_of old.asking) =
-    a3 ∙ λ i. silence (hold_now i).wait
-    ((a2 ∙ coming_is w H old (later (incoming_of old.incoming).clock (when - (incoming_of old.incoming).moment)) (time_heard (At when (Hear f) ∷ H)) h
-    (ap (λ (v : View). later v.incoming.clock (when - v.incoming.moment)) h.shown)) i)
-    ((ap lost stands_now ∙ lost_is (address_after w (At when (Hear f) ∷ H))) i) (asking_of old.asking) in
-    let made_now : option_or whole_now cast_now ≡ made w H when f =
-    ap (λ (o : Option (ℕ × ℕ)). option_or o cast_now) whole_is ∙ ap (option_or (made_of (whole w H when f))) cast_is in
-    let asked_now = fresh w (drop (length (handed H)) (requests w H)) (asked w (holds w H when) f) in
-    let unread_now : length old.inbox.unread.items ≡ length (kept w H) - length (got H) = length_rest received_by old.inbox.unread.items (length (got H)) (kept w H) (ap (λ (v : View). v.unread) h.shown) in
-    let port_now : port_of new.transfers ≡ port_after w (At when (Hear f) ∷ H) =
-    is_port _ _
-    (s7 (λ a. is_replaced (holder w H a) (holder w (At when (Hear f) ∷ H) a))
-    (subst (λ (o : Option Running). IfSome o (λ x. replaced ≡ is_replaced (holder w H x.sender.destination) (holder w (At when (Hear f) ∷ H) x.sender.destination)))
-    (sym current)
-    (replaced_is w H when f old.holders new.holders replaced (open_transfer w H) (ported w H h.answered) h.holders knows
-    (subst (λ (o : Option Running). IfSome o (λ x. replaced ≡ is_replaced (holder_in old.holders x.sender.destination) (holder_in new.holders x.sender.destination))) current s6)))
-    ∙ (ap (λ (b : Bool). hears_if b r f (min new.hold.age 9999999999999999) (port_of old.transfers).current)
-    (ap lost stands_now ∙ lost_is (address_after w (At when (Hear f) ∷ H)))
-    ∙ (ap (λ (n : ℕ). hears_if (is_lost (address_after w (At when (Hear f) ∷ H))) r f n (port_of old.transfers).current)
-    (ap (λ (n : ℕ). min n 9999999999999999) (ap (λ (k : Hold). k.age) e8 ∙ (ap (λ (k : Hold). k.age) p)) ∙ clock_is (age H + step H when))
-    ∙ ap (hears_if (is_lost (address_after w (At when (Hear f) ∷ H))) r f (clock_at H when)) current)))
-    (s8 ∙ ap (λ (v : View). v.port.next_token) h.shown) (ap resting_by s10 ∙ ap (λ (v : View). v.port.resting) h.shown) in
-    record {
-      shown = ap (view w) e ∙ λ i. record (h.shown i) {
-        hold = hold_now i;
-        asking = (a1 ∙ ((λ i. option_map (hears_with (h.shown i).who (silent_is i) f (made_now i)) (asking_of old.asking))
-            ∙ ((λ i. option_map (hears_with w (silence (wait H - step H when) comes_now lost_now ((h.shown i).asking)) f (made w H when f)) (h.shown i).asking)
-            ∙ ask_heard w (open_ask H) (reached H) (wait H - step H when) (ended w H) comes_now lost_now f (made w H when f)))) i;
-        unread = (e3 ∙ (ap (λ (b : Bool). offered b (stamped f) (map received_by old.inbox.unread.items)) wants
-            ∙ kept_rest (is_for_program w (holds w H when) f) (kept w H) _ (length (got H)) (stamped f) (read w H s) (ap (λ (v : View). v.unread) h.shown))) i;
-        requests = (q1 ∙ ((λ i. with_request (h.shown i).who (room i) (asks_for i) (map request_by old.desk.waiting.items))
-            ∙ request_rest w (nat_lt (length (requests w H) - length (handed H)) 16) (fresh w (drop (length (handed H)) (requests w H)) (asked w (holds w H when) f)) (requests w H)
-            (map request_by old.desk.waiting.items) (length (handed H)) (front_length (handed H) (requests w H) s.desk.2) (ap (λ (v : View). v.requests) h.shown))) i;
-        acknowledgments = (ap (λ (v : Who). map (refusal_by v) new.desk.due.items) (sym (ap (λ (v : View). v.who) h.shown))
-            ∙ (q2 ∙ ((λ i. let v = (h.shown i).who in
-            with_refusal v (room i) (place i && not (is_refusal_due v (map (refusal_by v) old.desk.due.items) (asks_for i))) (asks_for i) (map (refusal_by v) old.desk.due.items))
-            ∙ ((λ i. with_refusal w (nat_lt (length (requests w H) - length (handed H)) 16) (nat_lt (length (due w H) - length (acknowledged H)) 16
-            && not (is_refusal_due w ((h.shown i).acknowledgments) asked_now)) asked_now (map (refusal_by w) old.desk.due.items))
-            ∙ refusal_rest w (nat_lt (length (requests w H) - length (handed H)) 16)
-            (nat_lt (length (due w H) - length (acknowledged H)) 16 && not (is_refusal_due w (drop (length (acknowledged H)) (due w H)) asked_now)) asked_now
-            (due w H) (map (refusal_by w) old.desk.due.items) (length (acknowledged H)) (front_length (acknowledged H) (due w H) s.desk.1) (ap (λ (v : View). v.acknowledgments) h.shown))))) i;
-        news = (q5 ∙ ((λ i. record {
-          lost = (h.shown i).news.lost || (goes i && not (lost_before i));
-          another = (h.shown i).news.another || (sym e9 ∙ others) i;
-          doubled = option_or (double (h.shown i).who (claim_of f)) (h.shown i).news.doubled;
-          missed = on.breaks i || ((h.shown i).news.missed || ((wants i && not (nat_lt (unread_now i) 16)) || on.unheard i));
-        }) ∙ λ i. record (news_after w (At when (Hear f) ∷ H)) {
-          missed = either_news (ends_by w H (At when (Hear f))) (missed_news w H) (unheard_news w H)
-              (is_for_program w (holds w H when) f && not (nat_lt (length (kept w H) - length (got H)) 16)) (unheard_by w H (At when (Hear f))) i;
-        })) i;
-        missed = (e4 ∙ (ap (λ (b : Bool). counted b (map received_by old.inbox.unread.items) old.inbox.missed) wants
-            ∙ missed_rest (is_for_program w (holds w H when) f) (kept w H) _ (length (got H)) (missed w H) _ (ap (λ (v : View). v.unread) h.shown) (ap (λ (v : View). v.missed) h.shown))) i;
-        incoming = hears_in i;
-        hearing = on.hearing i;
-        port = port_now i;
-      };
-      answered = (h.answered, tt);
-      holders = knows;
-    }
 
 -- a message that waits is renewed
 renewed_more : (w : Who) (H : List Call) (old new : Controller) (d : Draft) (r : Option ℕ) → Is w H old → r ≡ next_renewed w H d
