@@ -1,5 +1,5 @@
 -- The laws of requests.
-use Rattle.j39_node.proofs.Common.{[], if◌then◌else◌, ◌&&◌, ◌++◌, ◌+◌, ◌-◌, ◌<◌, ◌||◌, ◌↔◌, ◌∙◌, ◌∷◌, ◌≡◌, ◌≤◌, ◌⊎◌, accepted, Ack, Acknowledged, address_after, Again, Answer, Answered, ap, AreAnswered, arith, Ask, ask_end, AskedSince, AskEnding, asks, At, Bool, Busy, Call, can_ask, claim_of, comes, Controller, Denied, end_at, ended, ends, eqb-true, Err, false, first, FrameRecord, Full, has_token, Hear, HeardFirst, holds, inl, inr, Is, is_acknowledgment, is_answer, is_asking, is_claim, is_full, is_lost, is_message, is_request, is_session, is_smaller, IsAnswered, IsTrue, length, List, made, marks, message_from, moment, Nack, nat_eq, nat_lt, None, NoneEnds, not, Ok, open_ask, Option, option_map, passed_in, past, Question, question, RanOut, reached, reaches, refl, Refused, request_for, Result, says_to, seeks, silent_end, slice_get, slice_set, Some, step, subst, suc, sym, TakeAskEnded, TakeFrame, time_heard, TimedOut, told, told_asks, true, wait, Who, Withdraw, ℕ, answer_to_ask, asked, passed, not_both, and_parts, not-true}
+use Rattle.j39_node.proofs.Common.{[], if◌then◌else◌, ◌&&◌, ◌++◌, ◌+◌, ◌-◌, ◌<◌, ◌||◌, ◌∙◌, ◌∷◌, ◌≡◌, ◌≤◌, ◌⊎◌, accepted, Ack, Acknowledged, address_after, Again, Answer, Answered, ap, AreAnswered, arith, Ask, ask_end, AskedSince, AskEnding, asks, At, Bool, Busy, Call, can_ask, claim_of, comes, Controller, Denied, end_at, ended, ends, eqb-true, false, first, FrameRecord, has_token, Hear, HeardFirst, holds, inl, inr, Is, is_acknowledgment, is_answer, is_asking, is_claim, is_full, is_lost, is_message, is_request, is_session, is_smaller, IsAnswered, IsTrue, length, List, made, marks, message_from, moment, Nack, nat_eq, nat_lt, None, NoneEnds, not, Ok, open_ask, Option, option_map, passed_in, past, Question, question, RanOut, reached, reaches, refl, Refused, request_for, Result, says_to, seeks, silent_end, slice_get, slice_set, Some, step, subst, suc, sym, TakeAskEnded, TakeFrame, time_heard, TimedOut, told, told_asks, true, wait, Who, Withdraw, ℕ, answer_to_ask, asked, passed, not_both, and_parts, not-true}
 use Rattle.j39_node.specs.declared.kinds.AskEnding.TheVariants.{Withdrawn}
 use Rattle.j39_node.specs.Asking.{is_reply, is_taken, said_by}
 use Rattle.j39_node.proofs.WithdrawLemmas.{get_front, unpassed}
@@ -351,7 +351,7 @@ AtLimit w H =
     (length (asks H) ≡ length (told_asks H) + 1)
     ⊎ ((length (accepted w H) ≡ length (told H) + 16) ⊎ (length (accepted w H) ≡ 18446744073709551615))
 
-limit : (w : Who) (H : List Call) → AreAnswered w H → (is_full w H || is_asking (open_ask H)) ≡ true → AtLimit w H
+pub limit : (w : Who) (H : List Call) → AreAnswered w H → (is_full w H || is_asking (open_ask H)) ≡ true → AtLimit w H
 limit w H right e = go (is_full w H) (open_ask H) refl (listed w H right) e
   where
     go : (b : Bool) (o : Option Question) → is_full w H ≡ b → Listed (length (told_asks H)) (asks H) o → (b || is_asking o) ≡ true → AtLimit w H
@@ -359,7 +359,7 @@ limit w H right e = go (is_full w H) (open_ask H) refl (listed w H right) e
     go false None p h z = absurd (cc)
     go false (Some q) p h z = inl (let a = h.1 in omega (arith, a))
 
-from_limit : (w : Who) (H : List Call) → AreAnswered w H → (is_full w H || is_asking (open_ask H)) ≡ false → AtLimit w H → ⊥
+pub from_limit : (w : Who) (H : List Call) → AreAnswered w H → (is_full w H || is_asking (open_ask H)) ≡ false → AtLimit w H → ⊥
 from_limit w H right e (inl z) = go (open_ask H) (none_open (is_full w H) (open_ask H) e) (listed w H right)
   where
     go : (o : Option Question) → o ≡ None → Listed (length (told_asks H)) (asks H) o → ⊥
@@ -370,11 +370,6 @@ from_limit w H right e (inr z) = go (is_full w H) e (full_from (length (accepted
     go : (b : Bool) → (b || is_asking (open_ask H)) ≡ false → b ≡ true → ⊥
     go true f g = absurd (cc)
     go false f g = absurd (cc)
-
-pub refused_full : (w : Who) (H : List Call) (c : Controller) (now group to : ℕ) (answer : Result ℕ Refused) → Is w (At now (Ask group to answer) ∷ H) c
-    → (answer ≡ Err Full ↔ (IsTrue (holds w H now) × IsTrue (can_ask w group to) × AtLimit w H))
-refused_full w H c now group to answer is =
-    cases.refused_full (holds w H now) (can_ask w group to) (is_full w H || is_asking (open_ask H)) (length (accepted w H)) answer is.answered.1 (limit w H is.answered.0) (from_limit w H is.answered.0)
 
 pub is_accepted : (w : Who) (H : List Call) (c : Controller) (now group to : ℕ) (answer : Result ℕ Refused) → Is w (At now (Ask group to answer) ∷ H) c
     → IsTrue (holds w H now) → IsTrue (can_ask w group to) → length (asks H) ≡ length (told_asks H) → length (accepted w H) < length (told H) + 16

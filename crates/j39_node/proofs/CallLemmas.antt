@@ -1,7 +1,7 @@
 -- A call more.
 use Rattle.j39_node.proofs.KindLemmas.{Kind, kind, kind_is, single, of_session}
 use Rattle.j39_node.proofs.SoundLemmas.FrameCase.{claims as claims_first, acknowledges, replies, sends, packs, transfers}
-use Rattle.j39_node.proofs.Common.{led, le-ltb, [], if◌then◌else◌, ◌&&◌, ◌++◌, ◌+◌, ◌-◌, ◌<◌, ◌||◌, ◌∙◌, ◌∷◌, ◌≡◌, ◌≤◌, accepted, acknowledged, acknowledgment, Address, address_after, after, age, all_transfers, ap, AreAnswered, arith, Asked, asked_by, asking_of, AskRecord, asks_claims, asks_with, At, at_in, blank, Bool, breaks_it, Busy, Call, called, can_claim, can_send, claim_address, claim_due, claim_from, claim_goes, claim_of, Claimed, claimed, Claims, claims, clock, clock_at, comes, content, control_of, Controller, counted, delayed, Done, Draft, drop, drop-map, Due, due, end_of, ended, Ending, ending_of, eqb-true, false, FrameRecord, gives_way, has_packets, has_place, has_token, Hear, heard_at, heard_by, hearing, hearing_after, hearing_of, held_at, Hold, hold_acknowledged, hold_after, hold_asked, hold_claimed, hold_spoken, hold_went, holder, holder_in, holds, holds_back, IfSome, in_broadcast, in_session, Incoming, incoming_after, incoming_of, IncomingRecord, inl, inr, Is, is_apart, is_blank, is_busy, is_claim, is_coming, is_engaged, is_full, is_held, is_left, is_lost, is_open, is_out, is_resting, is_same, is_served, is_smaller, is_there, is_turn, IsAnswered, IsApart, IsNamed, known, Knows, lane_after, lane_of, latest, leaves, leaves_it, left, left_at, length, length-drop, length-set, less, List, Lost, lost, lt-ltb, ltb-false, ltb-true, made_by, made_of, map, marks, max, may_claim, may_go, Message, message_from, message_of, MessageRecord, min, missed, missed_news, moment, Move, Nack, named_in, nat_eq, nat_le, nat_lt, newly, news_after, next_acknowledgment, next_due, next_frame, next_packet, next_renewed, next_transfer, next_transfer_ended, next_turn, next_withdrawn, None, not, NotClaimed, nothing, offered, older, open_ask, open_broadcast, open_transfer, Option, option_map, other, Outgoing, owes_claim, packet_by, packets, packets_in, passed, past, pause, paused, place_of, port_after, port_of, posted, reached, Ready, ready_in, reception, ReceptionRecord, refl, refusal_by, Renew, Renews, Reply, rest, resting, resting_by, Said, said_by, sends_if, session_by, Single, slice_get, slice_get_past, slice_get_within, slice_set, Some, sooner, stamp_at, stamp_micros, stamped, standing_of, stands, step, subst, suc, sym, TakeEnded, TakeFrame, taken_by, Tick, ticks, time_heard, told, told_claims, transfer_by, transfer_end, transfer_in, true, Turn, turn_frame, turn_of, turns, unclaimed, unclaims, unheard_news, Untold, View, view, wait, waiting, Who, who_of, with_called, with_reception, with_refusal, with_replies, with_request, Withdraw, Withdrawn, yields, ℕ, leb-true, IsOthers, is_asking}
+use Rattle.j39_node.proofs.Common.{led, le-ltb, [], if◌then◌else◌, ◌&&◌, ◌++◌, ◌+◌, ◌-◌, ◌<◌, ◌||◌, ◌∙◌, ◌∷◌, ◌≡◌, ◌≤◌, accepted, acknowledged, acknowledgment, Address, address_after, after, age, all_transfers, ap, AreAnswered, arith, Asked, asked_by, asking_of, AskRecord, asks_claims, asks_with, At, at_in, blank, Bool, breaks_it, Busy, Call, called, can_claim, can_send, claim_address, claim_due, claim_from, claim_goes, claim_of, Claimed, claimed, Claims, claims, clock, clock_at, comes, content, control_of, Controller, counted, delayed, Done, Draft, drop, drop-map, Due, due, end_of, ended, Ending, ending_of, eqb-true, false, FrameRecord, gives_way, has_packets, has_place, has_token, Hear, heard_at, heard_by, hearing, hearing_after, hearing_of, held_at, Hold, hold_acknowledged, hold_after, hold_asked, hold_claimed, hold_spoken, hold_went, holder, holder_in, holds, holds_back, IfSome, in_broadcast, in_session, Incoming, incoming_after, incoming_of, IncomingRecord, inl, inr, Is, is_apart, is_blank, is_busy, is_claim, is_coming, is_engaged, is_full, is_held, is_left, is_lost, is_open, is_resting, is_same, is_served, is_smaller, is_there, is_turn, IsAnswered, IsApart, IsNamed, known, Knows, lane_after, lane_of, latest, leaves, leaves_it, left, left_at, length, length-drop, length-set, less, List, Lost, lost, lt-ltb, ltb-false, ltb-true, made_by, made_of, map, marks, max, may_claim, may_go, Message, message_from, message_of, MessageRecord, min, missed, missed_news, moment, Move, Nack, named_in, nat_eq, nat_le, nat_lt, newly, news_after, next_acknowledgment, next_due, next_frame, next_packet, next_renewed, next_transfer, next_transfer_ended, next_turn, next_withdrawn, None, not, NotClaimed, nothing, offered, older, open_ask, open_broadcast, open_transfer, Option, option_map, other, Outgoing, owes_claim, packet_by, packets, packets_in, passed, past, pause, paused, place_of, port_after, port_of, posted, reached, Ready, ready_in, reception, ReceptionRecord, refl, refusal_by, Renew, Renews, Reply, rest, resting, resting_by, Said, said_by, sends_if, session_by, Single, slice_get, slice_get_past, slice_get_within, slice_set, Some, sooner, stamp_at, stamped, standing_of, stands, step, subst, suc, sym, TakeEnded, TakeFrame, taken_by, time_heard, told, told_claims, transfer_by, transfer_end, transfer_in, true, Turn, turn_frame, turn_of, turns, unclaimed, unclaims, unheard_news, Untold, View, view, wait, waiting, Who, who_of, with_called, with_reception, with_refusal, with_replies, with_request, Withdraw, Withdrawn, yields, ℕ, leb-true, IsOthers, is_asking}
 use Rattle.j39_node.specs.Reception.{is_waiting}
 use Rattle.j39_node.specs.Transfers.{packet_in}
 use Rattle.j39_node.specs.Is.{hears}
@@ -11,7 +11,7 @@ use Rattle.j39_node.specs.declared.hold.Standing.TheVariants as standing
 use Rattle.j39_node.specs.declared.transfers.Open as transfers
 use Rattle.j39_node.proofs.AskLemmas.{asking_is, ask_more, takes, token_of, ask_withdrawn}
 use Rattle.j39_node.proofs.ReceptionLemmas.{leaves_is, tidy, calls_is, leaves_still}
-use Rattle.j39_node.proofs.HearingLemmas.{always, broken_news, claimed_on, hearing_same, is_hearing, leaves_on, news_same, missed_one}
+use Rattle.j39_node.proofs.HearingLemmas.{broken_news, claimed_on, hearing_same, is_hearing, news_same, missed_one}
 use Rattle.j39_node.proofs.QueueLemmas.{length_one_more, length_map, map_append, length_rest, in_rest, not_in_rest, First, drop_append, get_at, get_map, get_of_drop}
 use Rattle.j39_node.proofs.SoundLemmas.{IsTurn, frame_there, overdue_due, packet_there, some_at, turn_is, sound, frame_by, held_not_lost, holding_not_lost, lost_older, Sound, withdraw_case, acknowledged_is_due}
 use Rattle.j39_node.proofs.FrameLemmas.{at_now}
@@ -115,7 +115,7 @@ replies_length : (w : Who) (H : List Call) (c : Controller) → Is w H c → len
 replies_length w H c h = sym (length_map (said_by c.incoming.receiver.state.own) c.incoming.replies.items) ∙ ap length (replies_is w H c h)
 
 -- what was kept of the open session's RTS
-kept_named : (w : Who) (H : List Call) (c : Controller) → Is w H c → IsNamed (incoming_of c.incoming)
+pub kept_named : (w : Who) (H : List Call) (c : Controller) → Is w H c → IsNamed (incoming_of c.incoming)
 kept_named w H c h = subst IsNamed (sym (ap (λ (v : View). v.incoming) h.shown)) refl
 
 told_is : (w : Who) (H : List Call) (now : ℕ) (f : FrameRecord) → is_claim f ≡ true → told_claims w (At now (TakeFrame (Some f)) ∷ H) ≡ told_claims w H ++ f ∷ []
@@ -517,32 +517,11 @@ coming_is w H c t time h e =
     session_is (Some r) = refl
 
 -- a broadcast broke off, by a tick or its own claim
-is_broken : (w : Who) (H : List Call) (b c : Bool) (u : Untold) → u ≡ news_after w H → b ≡ c
+pub is_broken : (w : Who) (H : List Call) (b c : Bool) (u : Untold) → u ≡ news_after w H → b ≡ c
     → record u { missed = b || u.missed } ≡ record (news_after w H) { missed = missed_news w H || ((c || false) || unheard_news w H) }
 is_broken w H b c u e g =
     (λ i. record (e i) { missed = g i || (e i).missed })
     ∙ ap (λ (m : Bool). (let v : Untold = record (news_after w H) { missed = m } in v)) (broken_news c (missed_news w H) (unheard_news w H))
-
-pub ticked_more : (w : Who) (H : List Call) (old new : Controller) (now : ℕ) (broken : Bool) → Is w H old → Passed w H now new.hold
-    → (IsNamed (incoming_of old.incoming) → incoming_of new.incoming ≡ ticks now (incoming_of old.incoming))
-    → broken ≡ breaks_it (is_out (stamp_micros new.incoming.clock) (hearing_of old.hearing).current) (hearing_of old.hearing).current
-    → new.hearing.missed ≡ (if broken then min (old.hearing.missed + 1) 18446744073709551615 else old.hearing.missed)
-    → (hearing_of new.hearing).current ≡ leaves_it (is_out (stamp_micros new.incoming.clock) (hearing_of old.hearing).current) (hearing_of old.hearing).current
-    → new.news ≡ record { lost = old.news.lost; another = old.news.another; doubled = old.news.doubled; missed = broken || old.news.missed }
-    → new ≡ record old { hold = new.hold; incoming = new.incoming; hearing = new.hearing; news = new.news }
-    → Is w (At now Tick ∷ H) new
-ticked_more w H old new now broken h p r t1 t2 t3 u e =
-    let later_on : incoming_of new.incoming ≡ incoming_after w (At now Tick ∷ H) = r (kept_named w H old h) ∙ ap (ticks now) (ap (λ (v : View). v.incoming) h.shown) in
-    let on = leaves_on w H (is_out (stamp_micros new.incoming.clock) (hearing_of old.hearing).current) broken (is_out (time_heard (At now Tick ∷ H)))
-    (hearing_of old.hearing) (hearing_of new.hearing) (ap (λ (v : View). v.hearing) h.shown)
-    (always (hearing_of old.hearing).current (ap (λ (x : IncomingRecord). is_out x.clock (hearing_of old.hearing).current) later_on)) t1 t2 t3 in
-    follows h (ap (λ c. c.holders) e) tt refl
-    (ap (view w) e ∙ λ i. record (h.shown i) {
-      hold = p i;
-      news = (u ∙ is_broken w H broken _ old.news (ap (λ (v : View). v.news) h.shown) on.says) i;
-      incoming = later_on i;
-      hearing = is_hearing _ _ on.current on.missed i;
-    })
 
 -- a message that waits is renewed
 renewed_more : (w : Who) (H : List Call) (old new : Controller) (d : Draft) (r : Option ℕ) → Is w H old → r ≡ next_renewed w H d

@@ -1,31 +1,28 @@
 -- The laws of broadcasts.
-use Rattle.j39_node.proofs.Common.{[], if◌then◌else◌, ◌&&◌, ◌++◌, ◌+◌, ◌-◌, ◌<◌, ◌↔◌, ◌∙◌, ◌∷◌, ◌≡◌, ◌≤◌, ◌⊎◌, accepted, acknowledged, address_after, all_frames, and_from, ap, AreAnswered, arith, At, Bool, Broadcast, broadcast_end, broadcasts, Call, can_broadcast, Controller, Done, due, Ending, eq-eqb, eqb-true, Err, false, first_frames, frame_of, FrameRecord, Full, gives_way, has_packets, holds, inl, inr, Is, is_acknowledgment, is_busy, is_claim, is_held, is_left, is_lost, is_open, is_overdue, is_packet, is_there, IsTrue, length, List, long_by, Message, message_of, MessageRecord, moment, Move, nat_le, nat_lt, next_acknowledgment, next_frame, next_long, next_packet, next_transfer, None, Ok, open_broadcast, Option, packet_by, packets, packets_of, PacketSince, passed_in, pause, reached, ready, refl, Refused, Reply, Result, Single, slice_get, Some, step, suc, sym, TakeBroadcastEnded, TakeFrame, told_broadcasts, true, Who, Withdrawn, yields, zero, ℕ, not_both, or_parts}
+use Rattle.j39_node.proofs.Common.{[], if◌then◌else◌, ◌&&◌, ◌++◌, ◌+◌, ◌-◌, ◌<◌, ◌↔◌, ◌∙◌, ◌∷◌, ◌≡◌, ◌≤◌, ◌⊎◌, accepted, acknowledged, address_after, all_frames, and_from, ap, AreAnswered, arith, At, Bool, Broadcast, broadcast_end, broadcasts, Call, Controller, Done, due, Ending, eq-eqb, eqb-true, false, first_frames, frame_of, FrameRecord, has_packets, holds, inl, inr, Is, is_acknowledgment, is_busy, is_claim, is_held, is_left, is_lost, is_open, is_overdue, is_packet, is_there, IsTrue, length, List, long_by, Message, message_of, MessageRecord, moment, Move, nat_le, nat_lt, next_acknowledgment, next_frame, next_long, next_packet, next_transfer, None, Ok, open_broadcast, Option, packet_by, packets, packets_of, PacketSince, passed_in, pause, reached, ready, refl, Reply, Single, slice_get, Some, step, suc, sym, TakeBroadcastEnded, TakeFrame, told_broadcasts, true, Who, Withdrawn, yields, zero, ℕ, not_both, or_parts}
 use Rattle.j39_node.specs.declared.turn.Turn.TheVariants.{Packet}
 use Rattle.j39_node.proofs.QueueLemmas.{length_one_more}
-use Rattle.j39_node.proofs.SoundLemmas.{address_is, packet_taken, IsTurn, none_at, none_next, packet_there, turned, FrameCase, frame_case, packet_case, sound, claim_taken, claim_single, due_get, due_taken, no_packet, pause_is, no_packet}
+use Rattle.j39_node.proofs.SoundLemmas.{address_is, packet_taken, IsTurn, none_next, packet_there, turned, FrameCase, frame_case, packet_case, sound, claim_taken, claim_single, due_get, due_taken, no_packet, pause_is, no_packet}
 use Rattle.j39_node.proofs.SoundLemmas.FrameCase.{claims, acknowledges, replies, sends, packs, transfers}
 use Rattle.j39_node.proofs.LaneLemmas.{LaneEnd, lane_end, Opened, Laned, laned, closed, stands_open, opened_by}
-use Rattle.j39_node.proofs.AnswerCases.{broadcast_accepts}
 use Rattle.j39_node.proofs.AnswerCases as cases
 use Rattle.j39_node.proofs.LaneLemmas.LaneEnd.{complete, broken}
-use Rattle.j39_node.proofs.LawLemmas.{all_acknowledged, past_end, sent_within, either}
+use Rattle.j39_node.proofs.LawLemmas.{either}
 use Rattle.j39_node.proofs.KindLemmas.{packs_it}
 
 -- ---- what broadcast answers
 
 -- one is accepted and not told, or there is no token left
-AtLimit : Who → List Call → Type 0
+abbrev AtLimit : Who → List Call → Type 0
 AtLimit w H = (length (broadcasts w H) ≡ length (told_broadcasts H) + 1) ⊎ (length (broadcasts w H) ≡ 18446744073709551615)
 
-limit : (w : Who) (H : List Call) → AreAnswered w H → is_busy w H ≡ true → AtLimit w H
-unfolding AtLimit
+pub limit : (w : Who) (H : List Call) → AreAnswered w H → is_busy w H ≡ true → AtLimit w H
 limit w H right e = elim (either (is_open (open_broadcast w H)) _ e) [
   | inl a ↦ inl (let z = stands_open w (length (told_broadcasts H)) (broadcasts w H) (packets H) (open_broadcast w H) (laned w H right) a in omega (arith, z))
   | inr b ↦ inr (eqb-true _ _ b)
 ]
 
-no_limit : (w : Who) (H : List Call) → AreAnswered w H → is_busy w H ≡ false → AtLimit w H → ⊥
-unfolding AtLimit
+pub no_limit : (w : Who) (H : List Call) → AreAnswered w H → is_busy w H ≡ false → AtLimit w H → ⊥
 no_limit w H right e l =
     let n = or_parts (is_open (open_broadcast w H)) _ e in
     elim l [
@@ -33,30 +30,9 @@ no_limit w H right e l =
       | inr b ↦ not_both _ n.1 (eq-eqb _ _ b)
     ]
 
-pub refused_full : (w : Who) (H : List Call) (c : Controller) (now group : ℕ) (bytes : List ℕ) (answer : Result ℕ Refused)
-    → Is w (At now (Broadcast group bytes answer) ∷ H) c
-    → (answer ≡ Err Full ↔ (IsTrue (holds w H now) × IsTrue (can_broadcast group bytes)
-    × ((length (broadcasts w H) ≡ length (told_broadcasts H) + 1) ⊎ (length (broadcasts w H) ≡ 18446744073709551615))))
-unfolding AtLimit
-refused_full w H c now group bytes answer is =
-    cases.refused_full (holds w H now) (can_broadcast group bytes) (is_busy w H) (length (broadcasts w H)) answer is.answered.1 (limit w H is.answered.0) (no_limit w H is.answered.0)
-
-pub is_accepted : (w : Who) (H : List Call) (c : Controller) (now group : ℕ) (bytes : List ℕ) (answer : Result ℕ Refused)
-    → Is w (At now (Broadcast group bytes answer) ∷ H) c → IsTrue (holds w H now) → IsTrue (can_broadcast group bytes)
-    → length (broadcasts w H) ≡ length (told_broadcasts H) → length (broadcasts w H) < 18446744073709551615
-    → answer ≡ Ok (length (broadcasts w H))
-unfolding AtLimit
-is_accepted w H c now group bytes answer is held can room some =
-    cases.is_accepted (holds w H now) (can_broadcast group bytes) (is_busy w H) (length (broadcasts w H)) answer is.answered.1 held can
-    (λ f. elim (limit w H is.answered.0 f) [ inl z ↦ absurd (omega (arith, z, room)) | inr z ↦ absurd (omega (arith, z, some)) ])
-
-pub token_is : (w : Who) (H : List Call) (c : Controller) (now group k : ℕ) (bytes : List ℕ) → Is w (At now (Broadcast group bytes (Ok k)) ∷ H) c
-    → k ≡ length (broadcasts w H)
-token_is w H c now group k bytes is = (broadcast_accepts w H now group k bytes is.answered.1).3
-
 -- ---- which frames are taken
 
-record Packed (w : Who) (H : List Call) (now : ℕ) (f : FrameRecord) : Type 0 where
+pub record Packed (w : Who) (H : List Call) (now : ℕ) (f : FrameRecord) : Type 0 where
   pub token : ℕ
   pub message : MessageRecord
   pub current : open_broadcast w H ≡ Some (token, message)
@@ -90,7 +66,7 @@ packed_by w H now f right p = go
         waits (inr t) = inr t.1
     go case = absurd (not_both _ (packs_it w H now f right case) p)
 
-packed : (w : Who) (H : List Call) (c : Controller) (now : ℕ) (f : FrameRecord) → Is w (At now (TakeFrame (Some f)) ∷ H) c → is_packet f ≡ true → Packed w H now f
+pub packed : (w : Who) (H : List Call) (c : Controller) (now : ℕ) (f : FrameRecord) → Is w (At now (TakeFrame (Some f)) ∷ H) c → is_packet f ≡ true → Packed w H now f
 packed w H c now f is p = packed_by w H now f is.answered.0 p (frame_case w H now f is.answered.1)
 
 -- a frame of a broadcast that is taken, and that the address is held then
@@ -114,24 +90,6 @@ taken_packet_of w H now f right case p =
     off : (b : Bool) → is_claim f ≡ b → b ≡ false
     off true e = absurd (not_both _ (no_packet f (claim_single f e)) p)
     off false e = refl
-
-pub only : (w : Who) (H : List Call) (c : Controller) (now : ℕ) (f : FrameRecord) → Is w (At now (TakeFrame (Some f)) ∷ H) c → IsTrue (is_packet f)
-    → (k : ℕ) × (m : MessageRecord) × (open_broadcast w H ≡ Some (k, m)) × (message_of f ≡ frame_of m (length (packets H))) × (length (packets H) ≤ packets_of m)
-only w H c now f is p = let x = packed w H c now f is p in (x.token, x.message, x.current, x.is, x.within)
-
-pub behind : (w : Who) (H : List Call) (c : Controller) (now : ℕ) (f : FrameRecord) → Is w (At now (TakeFrame (Some f)) ∷ H) c → IsTrue (is_packet f)
-    → IsTrue (holds w H now) × (IsTrue (is_overdue w H now) ⊎ (reached H ≡ length (accepted w H))) × (IsTrue (gives_way w H now) ⊎ (acknowledged H ≡ due w H))
-behind w H c now f is p =
-    let x = packed w H c now f is p in
-    let s = sound w H is.answered.0 in
-    let b = sent_within w H s in (
-      x.held,
-      elim x.none_waits [
-        | inl o ↦ inl o
-        | inr n ↦ inr (let a = past_end (accepted w H) (reached H) (none_at (accepted w H) (reached H) n) in omega (arith, a, b))
-      ],
-      all_acknowledged w H now is.answered.0 x.none_due,
-    )
 
 -- one that is overdue goes before all but claims and acknowledgments
 pub overdue_goes_by : (w : Who) (H : List Call) (now : ℕ) (f : FrameRecord) → AreAnswered w H → FrameCase w H now f → is_overdue w H now ≡ true

@@ -1,17 +1,16 @@
 -- The laws.
-use Rattle.j39_node.proofs.Common.{[], if◌then◌else◌, ◌&&◌, ◌*◌, ◌++◌, ◌+◌, ◌-◌, ◌<◌, ◌||◌, ◌↔◌, ◌∙◌, ◌∷◌, ◌≡◌, ◌≢◌, ◌≤◌, ◌⊎◌, accepted, acknowledged, acknowledgment, acknowledgment_group, Address, address_after, address_claimed_group, AddressLost, Again, age, and_from, and_parts, AnotherAtAddress, answers_another, ap, append-nil, AreAnswered, arith, Asked, asked, At, at_in, Bool, Busy, Call, calls, calls_for_claim, can_send, Claim, claim_address, claim_due, claim_from, claim_goes, claim_of, Claimed, claimed, content, Controller, delayed, destination_of, Done, double, doubled_news, Draft, drop, due, end_of, Ending, eq-eqb, eqb-true, Err, false, FrameRecord, frames, fresh, Full, gives_way, global_address, got, handed, HasDouble, Hear, held_at, holds, inl, inr, Is, is_acknowledgment, is_alike, is_another, is_apart, is_blank, is_claim, is_double, is_for_program, is_held, is_larger, is_lost, is_move, is_none, is_own_group, is_refusal_due, is_reply, is_served, is_session, is_smaller, is_some, is_subscribed, is_there, is_transfer, IsFront, IsTrue, kept, length, length-append, List, long_by, Lost, lost_news, lt-ltb, ltb-true, map, marks, may_claim, may_go, Message, message_from, message_of, MessagesMissed, missed, missed_news, moment, Move, Nack, NameDoubled, nat_eq, nat_le, nat_lt, News, news_of, next_acknowledgment, next_due, next_frame, next_long, next_other, next_packet, next_transfer, next_withdrawn, None, NoneTold, not, NotClaimed, null_address, Ok, older, open_broadcast, Option, option_map, option_or, other, owes_claim, packets, passed_in, patience, pause, pgn_of, reached, ready, reception, refl, refusal_waits, Refused, Renew, Reply, request_group, requests, Result, Send, sent, slice_get, slice_get-map, slice_get_within, Some, source_of, stamp_at, stamped, status_after, status_of, step, suc, sym, take, TakeEnded, TakeFrame, TakeNews, takes_other, Tick, told, true, turns, unblanked, unclaimed, waits_already, Who, with_refusal, with_request, Withdraw, Withdrawn, yields, zero, ℕ, is_full, not_both, and-false, ltb-false, le-ltb, le-leb, or_parts}
+use Rattle.j39_node.proofs.Common.{[], if◌then◌else◌, ◌&&◌, ◌*◌, ◌++◌, ◌+◌, ◌-◌, ◌<◌, ◌||◌, ◌↔◌, ◌∙◌, ◌∷◌, ◌≡◌, ◌≢◌, ◌≤◌, ◌⊎◌, accepted, acknowledged, acknowledgment, acknowledgment_group, Address, address_after, address_claimed_group, AddressLost, Again, age, and_from, and_parts, AnotherAtAddress, answers_another, ap, append-nil, AreAnswered, arith, Asked, asked, At, at_in, Bool, Busy, Call, calls, calls_for_claim, Claim, claim_address, claim_due, claim_from, claim_goes, claim_of, Claimed, claimed, content, Controller, delayed, destination_of, Done, double, doubled_news, Draft, drop, due, end_of, Ending, eq-eqb, eqb-true, false, FrameRecord, frames, fresh, gives_way, global_address, got, handed, HasDouble, Hear, held_at, holds, inl, inr, Is, is_acknowledgment, is_alike, is_another, is_apart, is_blank, is_claim, is_double, is_for_program, is_held, is_larger, is_lost, is_move, is_none, is_own_group, is_refusal_due, is_reply, is_served, is_session, is_smaller, is_some, is_subscribed, is_there, is_transfer, IsFront, IsTrue, kept, length, length-append, List, long_by, Lost, lost_news, lt-ltb, ltb-true, marks, may_claim, may_go, Message, message_from, message_of, MessagesMissed, missed, missed_news, moment, Move, Nack, NameDoubled, nat_eq, nat_le, nat_lt, News, news_of, next_acknowledgment, next_due, next_frame, next_long, next_other, next_packet, next_transfer, next_withdrawn, None, NoneTold, not, NotClaimed, null_address, older, open_broadcast, Option, option_map, option_or, other, owes_claim, packets, passed_in, patience, pause, pgn_of, reached, ready, reception, refl, refusal_waits, Renew, Reply, request_group, requests, slice_get, slice_get-map, slice_get_within, Some, source_of, stamp_at, stamped, status_after, status_of, step, suc, sym, TakeEnded, TakeFrame, TakeNews, takes_other, Tick, told, true, turns, unclaimed, waits_already, Who, with_refusal, with_request, Withdraw, Withdrawn, yields, zero, ℕ, not_both, and-false, ltb-false, le-ltb, le-leb, or_parts}
 use Rattle.j39_node.specs.History.{heard, Again}
 use Rattle.j39_node.specs.Reception.{is_waiting}
 use Rattle.j39_address.specs.declared.status.Status.TheVariants as status
 use Rattle.j39_node.proofs.ReceptionLemmas.{replied_get, tidy}
 use Rattle.j39_node.proofs.DueLemmas.{both_none, from_long, quiet_long, then_long}
 use Rattle.j39_node.proofs.QueueLemmas.{length_one_more}
-use Rattle.j39_node.proofs.SoundLemmas.{apart_is, is_moved, IsTurn, acknowledgment_single, claim_single, no_transfer, none_there, packet_session, packet_there, single_taken, turned, Rest, none_at, none_next, none_other, other_none, claim_is, given_way, none_acknowledged, none_due_goes, none_gives, EndCase, FrameCase, Sound, claim_taken, due_get, due_taken, end_case, frame_by, frame_case, front_length, held_older, lost_claimed, lost_older, own_of, packet_case, packet_taken, sound, transfer_taken, lost_unclaimed, holding_not_lost, renew_case, WithdrawCase, withdraw_case}
+use Rattle.j39_node.proofs.SoundLemmas.{apart_is, is_moved, IsTurn, acknowledgment_single, claim_single, no_transfer, none_there, packet_session, packet_there, single_taken, turned, Rest, none_at, none_next, none_other, other_none, claim_is, given_way, none_acknowledged, none_due_goes, none_gives, EndCase, FrameCase, Sound, claim_taken, due_get, due_taken, end_case, frame_by, frame_case, held_older, lost_claimed, lost_older, own_of, packet_case, packet_taken, sound, transfer_taken, lost_unclaimed, holding_not_lost, renew_case, WithdrawCase, withdraw_case}
 use Rattle.j39_node.proofs.KnownLemmas.{fresh_one, not_refused}
 use Rattle.j39_node.proofs.LaneLemmas.{laned, opened_by}
 use Rattle.j39_node.proofs.CallLemmas.{due_by}
 use Rattle.j39_node.proofs.SoundLemmas.FrameCase.{claims, acknowledges, replies, sends, packs, transfers}
-use Rattle.j39_node.proofs.AnswerCases.{send_accepts}
 use Rattle.j39_node.proofs.AnswerCases as cases
 use Rattle.j39_node.proofs.SoundLemmas.EndCase.{done, withdrawn}
 use Rattle.j39_node.proofs.RenewLemmas.{none_past}
@@ -57,16 +56,13 @@ sources w H c now f is = go (frame w H c now f is)
 
 -- ---- accounted once
 
-pub token_is : (w : Who) (H : List Call) (c : Controller) (now k : ℕ) (d : Draft) → Is w (At now (Send d (Ok k)) ∷ H) c → k ≡ length (accepted w H)
-token_is w H c now k d is = (send_accepts w H now k d is.answered.1).3
-
-record Told (w : Who) (H : List Call) (k : ℕ) (e : Ending) : Type 0 where
+pub record Told (w : Who) (H : List Call) (k : ℕ) (e : Ending) : Type 0 where
   pub message : Message
   pub at : slice_get (accepted w H) (length (told H)) ≡ Some (k, message)
   pub done : e ≡ Done ↔ ((length (told H) < reached H) × (is_blank (k, message) ≡ false))
   pub withdrawn : e ≡ Withdrawn → (is_lost (address_after w H) ≡ true) ⊎ ((length (told H) < reached H) × (is_blank (k, message) ≡ true))
 
-told_is : (w : Who) (H : List Call) (c : Controller) (k : ℕ) (e : Ending) → Is w (TakeEnded (Some (k, e)) ∷ H) c → Told w H k e
+pub told_is : (w : Who) (H : List Call) (c : Controller) (k : ℕ) (e : Ending) → Is w (TakeEnded (Some (k, e)) ∷ H) c → Told w H k e
 told_is w H c k e is = go (end_case w H (k, e) is.answered.1)
   where
     go : EndCase w H (k, e) → Told w H k e
@@ -128,32 +124,11 @@ all_told w H c is = go (none_ended _ _ _ is.answered.1)
 
 -- ---- done means
 
-pub in_order : (w : Who) (H : List Call) (c : Controller) → Is w H c
-    → (sent H ≡ map content (unblanked (take (reached H) (accepted w H)))) × (reached H ≤ length (accepted w H)) × (marks H ≡ map is_blank (accepted w H))
-in_order w H c is = let s = sound w H is.answered in (s.in_order, s.passed, s.marked)
-
 -- a token's mark
-mark_at : (w : Who) (H : List Call) (k : ℕ) (m : Message) → Sound w H → slice_get (accepted w H) (length (told H)) ≡ Some (k, m) → k ≡ length (told H)
+pub mark_at : (w : Who) (H : List Call) (k : ℕ) (m : Message) → Sound w H → slice_get (accepted w H) (length (told H)) ≡ Some (k, m) → k ≡ length (told H)
     → slice_get (marks H) k ≡ Some (is_blank (k, m))
 mark_at w H k m s e z =
     (λ i. slice_get (s.marked i) (z i)) ∙ (slice_get-map is_blank (accepted w H) (length (told H)) ∙ ap (option_map is_blank) e)
-
-pub done_means : (w : Who) (H : List Call) (c : Controller) (k : ℕ) (e : Ending) → Is w (TakeEnded (Some (k, e)) ∷ H) c
-    → (e ≡ Done ↔ ((k < reached H) × (slice_get (marks H) k ≡ Some false)))
-done_means w H c k e is =
-    let t = told_is w H c k e is in
-    let a = (in_turn w H c k e is).0 in
-    let m = mark_at w H k t.message (sound w H is.answered.0) t.at a in (
-      λ z. (let b = t.done.0 z in let l = b.0 in (omega (arith, a, l), m ∙ ap (λ (y : Bool). (let o : Option Bool = Some y in o)) b.1)),
-      λ z. t.done.1 ((let l = z.0 in omega (arith, a, l)), (let y : Some (is_blank (k, t.message)) ≡ Some false = sym m ∙ z.1 in cc)),
-    )
-
-pub withdrawn_means : (w : Who) (H : List Call) (c : Controller) (k : ℕ) (e : Ending) → Is w (TakeEnded (Some (k, e)) ∷ H) c → e ≡ Withdrawn
-    → IsTrue (is_lost (address_after w H)) ⊎ (slice_get (marks H) k ≡ Some true)
-withdrawn_means w H c k e is z =
-    let t = told_is w H c k e is in
-    let m = mark_at w H k t.message (sound w H is.answered.0) t.at (in_turn w H c k e is).0 in
-    elim (t.withdrawn z) [ inl x ↦ inl x | inr x ↦ inr (m ∙ ap (λ (y : Bool). (let o : Option Bool = Some y in o)) x.1) ]
 
 -- ---- what is withdrawn
 
@@ -188,17 +163,6 @@ withdrawn_is w H c k answer is = (λ z. to (withdraw_case w H k (sym z ∙ is.an
         let d : is_blank (k, z.0) ≡ false = cc in
         (λ i. not (l i) && (nat_le (reached H) k && may_go (z.1 i))) ∙ λ i. le-leb (reached H) k a i && not (d i || z.2 i)
 
-pub none_waits : (w : Who) (H : List Call) (c : Controller) (now : ℕ) → Is w (At now (TakeFrame None) ∷ H) c → IsTrue (holds w H now)
-    → (reached H ≡ length (accepted w H)) × (length (acknowledged H) ≡ length (due w H))
-none_waits w H c now is held =
-    let n = none_next w H now held is.answered.1 in
-    let s = sound w H is.answered.0 in
-    let x = past_end (accepted w H) (reached H) n.rest.message in
-    let y = sent_within w H s in
-    let u = past_end (due w H) (length (acknowledged H)) n.acknowledgment in
-    let v = front_length (acknowledged H) (due w H) s.desk.1 in
-    (omega (arith, x, y), omega (arith, u, v))
-
 -- ---- what send answers
 
 pub full_parts : (a t : ℕ) → (nat_eq (a - t) 16 || nat_eq a 18446744073709551615) ≡ true → (a ≡ t + 16) ⊎ (a ≡ 18446744073709551615)
@@ -215,21 +179,6 @@ full_from a t (inr e) = go (nat_eq (a - t) 16) (eq-eqb a 18446744073709551615 e)
     go : (b : Bool) → nat_eq a 18446744073709551615 ≡ true → (b || nat_eq a 18446744073709551615) ≡ true
     go true f = refl
     go false f = f
-
-pub refused_full : (w : Who) (H : List Call) (c : Controller) (now : ℕ) (d : Draft) (answer : Result ℕ Refused)
-    → Is w (At now (Send d answer) ∷ H) c
-    → (answer ≡ Err Full ↔ (IsTrue (holds w H now) × IsTrue (can_send w d)
-    × ((length (accepted w H) ≡ length (told H) + 16) ⊎ (length (accepted w H) ≡ 18446744073709551615))))
-refused_full w H c now d answer is =
-    cases.refused_full (holds w H now) (can_send w d) (is_full w H) (length (accepted w H)) answer is.answered.1 (full_parts _ _) (λ z y. not_both _ z (full_from _ _ y))
-
-pub is_accepted : (w : Who) (H : List Call) (c : Controller) (now : ℕ) (d : Draft) (answer : Result ℕ Refused)
-    → Is w (At now (Send d answer) ∷ H) c → IsTrue (holds w H now) → IsTrue (can_send w d)
-    → length (accepted w H) < length (told H) + 16 → length (accepted w H) < 18446744073709551615
-    → answer ≡ Ok (length (accepted w H))
-is_accepted w H c now d answer is held can room some =
-    cases.is_accepted (holds w H now) (can_send w d) (is_full w H) (length (accepted w H)) answer is.answered.1 held can
-    (λ z. elim (full_parts (length (accepted w H)) (length (told H)) z) [ inl z ↦ absurd (omega (arith, z, room)) | inr z ↦ absurd (omega (arith, z, some)) ])
 
 -- ---- received
 
@@ -702,7 +651,7 @@ counts_one w H when f r e new = ap (fresh w (drop (length (handed H)) (requests 
 pub has_room : (a b : ℕ) → a < b + 16 → nat_lt (a - b) 16 ≡ true
 has_room a b l = lt-ltb _ _ (omega (arith, l))
 
-has_none : (a b : ℕ) → b + 16 ≤ a → nat_lt (a - b) 16 ≡ false
+pub has_none : (a b : ℕ) → b + 16 ≤ a → nat_lt (a - b) 16 ≡ false
 has_none a b l = grind arith
 
 pub with_it : (w : Who) (r : Asked) (L : List Asked) (s room : Bool) → is_served w r.group ≡ s → with_request w room (Some r) L ≡ (if s && room then L ++ r ∷ [] else L)
@@ -716,19 +665,6 @@ refused_it w r A s room place at e g =
 
 pub off : (b c : Bool) → (b && not (true && true)) ≡ false
 off b c = grind arith
-
-pub is_busy : (w : Who) (H : List Call) (when : ℕ) (f : FrameRecord) (r : Asked) → asked w (holds w H when) f ≡ Some r → r.destination ≡ w.address
-    → IsTrue (is_served w r.group) → waits_already w H r ≡ false → refusal_waits w H r ≡ false → length (handed H) + 16 ≤ length (requests w H)
-    → length (due w H) < length (acknowledged H) + 16
-    → (requests w (At when (Hear f) ∷ H) ≡ requests w H) × (due w (At when (Hear f) ∷ H) ≡ due w H ++ acknowledgment w Busy r ∷ [])
-is_busy w H when f r e at served new once u l =
-    let none = has_none _ _ u in
-    let k = counts_one w H when f r e (inr new) in (
-      request_case w H when f (Some r) k ∙ (ap (λ (b : Bool). with_request w b (Some r) (requests w H)) none ∙ with_it w r (requests w H) true false served),
-      refusal_case w H when f (Some r) k
-          ∙ ((λ i. with_refusal w (none i) (has_room _ _ l i && not (once i)) (Some r) (due w H))
-          ∙ refused_it w r (due w H) true false true true served (eq-eqb _ _ at)),
-    )
 
 -- where it isn't refused
 pub unrefused : (w : Who) (H : List Call) (when : ℕ) (f : FrameRecord) (r : Asked) → asked w (holds w H when) f ≡ Some r

@@ -114,7 +114,7 @@ released w H c answer is = go (reception w H).waits answer refl is.answered.1
 -- ---- of one sender
 
 -- a session, and the calls since its RTS
-record Begun (w : Who) (H : List Call) (r : ReceptionRecord) : Type 0 where
+pub record Begun (w : Who) (H : List Call) (r : ReceptionRecord) : Type 0 where
   pub later : List Call
   pub at : ℕ
   pub first : FrameRecord
@@ -303,7 +303,7 @@ same_released : (b : Bool) (r : Reception) → (released_by b r).session ≡ r.s
 same_released true r = refl
 same_released false r = refl
 
-begun : (w : Who) (H : List Call) → AreBegun w H (reception w H).session
+pub begun : (w : Who) (H : List Call) → AreBegun w H (reception w H).session
 begun w [] = tt
 begun w (At when (Hear f) ∷ H) = begun_heard w H (is_smaller w (claim_of f)) (holds w H when) _ when f (time_heard (At when (Hear f) ∷ H)) (reception w H) refl (begun w H)
 begun w (At now Tick ∷ H) =
@@ -348,7 +348,7 @@ whole_shown w H when f now found o m h keeps =
     (λ e. absurd (let z : None ≡ Some m = sym (ap (λ (x : RecvResult). x.delivers) (quiet_step (record { own = w.address; session = o }) _ now found (hushed w.address f.stamp f.id))) ∙ e in cc))
     (whole_came w H when f now found o m h keeps)
 
-came_by : (w : Who) (H : List Call) (lost held b : Bool) (when : ℕ) (f : FrameRecord) (now : ℕ) (r : Reception) (m : MessageRecord)
+pub came_by : (w : Who) (H : List Call) (lost held b : Bool) (when : ℕ) (f : FrameRecord) (now : ℕ) (r : Reception) (m : MessageRecord)
     → leaves (known w H when f) (holder w (At when (Hear f) ∷ H)) r.session ≡ b → AreBegun w H r.session → whole_by w.address lost held f now (left b r) ≡ Some m
     → CameFromOne w (At when (Hear f) ∷ H) m
 came_by w H true held b when f now r m e h g = absurd (cc)
@@ -356,9 +356,6 @@ came_by w H false false b when f now r m e h g = absurd (cc)
 came_by w H false true true when f now r m e h g = whole_shown w H when f now (has_place r.waits) None m tt (λ x i. absurd (cc)) g
 came_by w H false true false when f now r m e h g =
     whole_shown w H when f now (has_place r.waits) r.session m h (λ x i. not_left (known w H when f) (holder w (At when (Hear f) ∷ H)) r.session false x e refl i) g
-
-pub came : (w : Who) (H : List Call) (when : ℕ) (f : FrameRecord) (m : MessageRecord) → whole w H when f ≡ Some m → CameFromOne w (At when (Hear f) ∷ H) m
-came w H when f m e = came_by w H (is_smaller w (claim_of f)) (holds w H when) _ when f (time_heard (At when (Hear f) ∷ H)) (reception w H) m refl (begun w H) e
 
 -- ---- what is said
 

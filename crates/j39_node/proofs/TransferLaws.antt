@@ -1,5 +1,5 @@
 -- The laws of transfers.
-use Rattle.j39_node.proofs.Common.{[], if◌then◌else◌, ◌&&◌, ◌++◌, ◌+◌, ◌-◌, ◌<◌, ◌==◌, ◌||◌, ◌↔◌, ◌∙◌, ◌∷◌, ◌≡◌, ◌≤◌, ◌⊎◌, Abort, abort_move, aborted, Aborts, acked, Acknowledges, Acknowledgment, address_after, all_transfers, ap, AreAnswered, arith, At, Bool, both, BroadcastAnnounce, broken_off, Call, can_transfer, cleared, clears, clears_by, ClearToSend, clock_at, cond_both, Controller, ending_by, eq-eqb, eqb-true, Err, false, FrameRecord, Full, gives_up, Gone, granted_after, granted_by, Happened, Hear, hears, hears_if, holder, holds, inl, inr, Is, is_clear, is_engaged, is_idle, is_lost, is_move, is_replaced, is_resting, is_running, is_spent, is_waiting, IsMove, IsTrue, length, List, listens, long_by, max, may_name, Message, message_of, MessageRecord, min, moves, nat_eq, nat_lt, new_sender, next_packet, next_transfer, None, not, Ok, open_transfer, Option, option_map, or_parts, Packet, packet_data, packets, packets_of, refl, Refused, Replaces, request_of, RequestToSend, Result, Running, said_between, says, send_step, SenderRecord, sends, sends_if, SendState, Signal, signal_by, slice_get, Some, spent_after, subst, sym, TakeFrame, takes_clear, TakeTransferEnded, ticks_in, told_transfers, Transfer, transfer_end, TransferEnding, transport_control_group, transport_data_group, true, Who, ℕ, not_both, ltb-true}
+use Rattle.j39_node.proofs.Common.{[], if◌then◌else◌, ◌&&◌, ◌++◌, ◌+◌, ◌-◌, ◌<◌, ◌==◌, ◌||◌, ◌∙◌, ◌∷◌, ◌≡◌, ◌≤◌, ◌⊎◌, Abort, abort_move, aborted, Aborts, acked, Acknowledges, Acknowledgment, address_after, all_transfers, ap, AreAnswered, arith, At, Bool, both, BroadcastAnnounce, broken_off, Call, can_transfer, cleared, clears, clears_by, ClearToSend, clock_at, cond_both, Controller, ending_by, eq-eqb, eqb-true, false, FrameRecord, gives_up, Gone, granted_after, granted_by, Happened, Hear, hears, hears_if, holder, holds, inl, inr, Is, is_clear, is_engaged, is_idle, is_lost, is_move, is_replaced, is_resting, is_running, is_spent, is_waiting, IsMove, IsTrue, length, List, listens, long_by, max, may_name, Message, message_of, MessageRecord, min, moves, nat_eq, nat_lt, new_sender, next_packet, next_transfer, None, not, Ok, open_transfer, Option, option_map, or_parts, Packet, packet_data, packets, packets_of, refl, Refused, Replaces, request_of, RequestToSend, Result, Running, said_between, says, send_step, SenderRecord, sends, sends_if, SendState, Signal, signal_by, slice_get, Some, spent_after, subst, sym, TakeFrame, takes_clear, TakeTransferEnded, ticks_in, told_transfers, Transfer, transfer_end, TransferEnding, transport_control_group, transport_data_group, true, Who, ℕ, not_both, ltb-true}
 use Rattle.j39_transport.specs.Sending.{Heard, Tick}
 use Rattle.j39_node.specs.declared.kinds.TransferEnding.TheVariants.{Done, Withdrawn, Failed}
 use Rattle.j39_node.specs.Transfers.{is_over, said_to}
@@ -17,13 +17,7 @@ use Rattle.j39_node.proofs.StrangerLaws.{own_source as from_own}
 
 -- ---- what transfer answers
 
--- one is accepted and not told, there is no token left, or it rests
-AtLimit : Who → List Call → ℕ → ℕ → ℕ → Type 0
-AtLimit w H now group to =
-    (length (all_transfers w H) ≡ length (told_transfers H) + 1)
-    ⊎ ((length (all_transfers w H) ≡ 18446744073709551615) ⊎ IsTrue (is_resting w H now group to))
-
-engaged_limit : (o : Option Running) (told : ℕ) (all : List (ℕ × MessageRecord)) (r : Bool) → LastIf told all o → (is_engaged o (length all) || r) ≡ true
+pub engaged_limit : (o : Option Running) (told : ℕ) (all : List (ℕ × MessageRecord)) (r : Bool) → LastIf told all o → (is_engaged o (length all) || r) ≡ true
     → (length all ≡ told + 1) ⊎ ((length all ≡ 18446744073709551615) ⊎ IsTrue r)
 engaged_limit (Some t) told all r h e = inl (let a = h.token in let b = h.count in omega (arith, a, b))
 engaged_limit None told all r h e = inr (go (nat_eq (length all) 18446744073709551615) refl e)
@@ -32,23 +26,12 @@ engaged_limit None told all r h e = inr (go (nat_eq (length all) 184467440737095
     go true i z = inl (eqb-true _ _ i)
     go false i z = inr z
 
-free_limit : (o : Option Running) (told : ℕ) (all : List (ℕ × MessageRecord)) (r : Bool) → LastIf told all o → (is_engaged o (length all) || r) ≡ false
+pub free_limit : (o : Option Running) (told : ℕ) (all : List (ℕ × MessageRecord)) (r : Bool) → LastIf told all o → (is_engaged o (length all) || r) ≡ false
     → ((length all ≡ told + 1) ⊎ ((length all ≡ 18446744073709551615) ⊎ IsTrue r)) → ⊥
 free_limit None told all r h e (inl a) = absurd (omega (arith, h, a))
 free_limit None told all r h e (inr (inl a)) = not_both _ (or_parts (nat_eq (length all) 18446744073709551615) r e).0 (eq-eqb _ _ a)
 free_limit None told all r h e (inr (inr a)) = not_both _ (or_parts (nat_eq (length all) 18446744073709551615) r e).1 a
 free_limit (Some t) told all r h e l = absurd (let z : true ≡ false = e in cc)
-
-pub refused_full : (w : Who) (H : List Call) (c : Controller) (now group to : ℕ) (bytes : List ℕ) (answer : Result ℕ Refused)
-    → Is w (At now (Transfer group to bytes answer) ∷ H) c
-    → (answer ≡ Err Full ↔ (IsTrue (holds w H now) × IsTrue (can_transfer w group to bytes)
-    × ((length (all_transfers w H) ≡ length (told_transfers H) + 1)
-    ⊎ ((length (all_transfers w H) ≡ 18446744073709551615) ⊎ IsTrue (is_resting w H now group to)))))
-unfolding AtLimit
-refused_full w H c now group to bytes answer is =
-    cases.refused_full (holds w H now) (can_transfer w group to bytes) (waits_for w H now group to) (length (all_transfers w H)) answer is.answered.1
-    (engaged_limit (open_transfer w H) _ _ (is_resting w H now group to) (last_one w H is.answered.0))
-    (free_limit (open_transfer w H) _ _ (is_resting w H now group to) (last_one w H is.answered.0))
 
 pub is_accepted : (w : Who) (H : List Call) (c : Controller) (now group to : ℕ) (bytes : List ℕ) (answer : Result ℕ Refused)
     → Is w (At now (Transfer group to bytes answer) ∷ H) c → IsTrue (holds w H now) → IsTrue (can_transfer w group to bytes)

@@ -1,8 +1,7 @@
 use Rattle.j39_node.proofs.SoundLemmas.{sound}
 use Rattle.j39_node.proofs.KnownLemmas.{served_not}
-use Rattle.j39_node.proofs.LawLemmas.{counts, counts_one, has_room, off, past_end, refusal_case, refused_it, request_case, unrefused, whole, with_it}
+use Rattle.j39_node.proofs.LawLemmas.{counts, counts_one, has_room, off, past_end, refusal_case, refused_it, request_case, unrefused, whole, with_it, has_none}
 use Rattle.j39_node.proofs.Common.{Asked, Bool, Busy, None, Option, Some, [], acknowledged, acknowledgment, and_from, ap, drop, due, eq-eqb, false, false_from_ne_true, fresh, handed, if◌then◌else◌, inl, inr, is_served, length, nat_eq, nat_lt, not, refl, refusal_waits, requests, sym, true, waits_already, with_refusal, with_request, ◌&&◌, ◌++◌, ◌+◌, ◌-◌, ◌∙◌, ◌∷◌, ◌≡◌}
-use Rattle.j39_node.proofs.LawLemmas as law
 use Rattle.j39_node.proofs.laws.requests.Goals as goal
 
 pub returns : goal.returns
@@ -30,7 +29,14 @@ returns c = record {
             ∙ ((λ i. with_refusal w room (has_room _ _ l i && not (once i)) (Some r) (due w H))
             ∙ refused_it w r (due w H) false room true true s (eq-eqb _ _ at)),
       );
-  no_room = law.is_busy;
+  no_room = λ w H when f r e at served new once u l.
+      let none = has_none _ _ u in
+      let k = counts_one w H when f r e (inr new) in (
+        request_case w H when f (Some r) k ∙ (ap (λ (b : Bool). with_request w b (Some r) (requests w H)) none ∙ with_it w r (requests w H) true false served),
+        refusal_case w H when f (Some r) k
+            ∙ ((λ i. with_refusal w (none i) (has_room _ _ l i && not (once i)) (Some r) (due w H))
+            ∙ refused_it w r (due w H) true false true true served (eq-eqb _ _ at)),
+      );
   refused_once = λ w H when f r e once. unrefused w H when f r e (inr (served_not _ _ (inr (ap not once))));
   to_all = λ w H when f r e n. unrefused w H when f r e (inl n);
   no_request = λ w H when f e. let k = ap (fresh w (drop (length (handed H)) (requests w H))) e in (request_case w H when f None k, refusal_case w H when f None k);

@@ -3,8 +3,7 @@ use Rattle.j39_node.proofs.QueueLemmas.{length_rest, map_append, drop_append}
 use Rattle.j39_node.proofs.CallLemmas.{passed_is, holds_is, follows}
 use Rattle.j39_node.proofs.controller.Controller.acknowledge.Goals as goal
 use Rattle.j39_node.proofs.AnswerCases.{answer_is}
-use Rattle.j39_node.proofs.SoundLemmas.{sound}
-use Rattle.j39_node.proofs.SoundLemmas.{front_length}
+use Rattle.j39_node.proofs.SoundLemmas.{sound, front_length}
 
 pub returns : goal.returns
 returns c = λ w H h.
