@@ -8,11 +8,11 @@ use Rattle.j39_node.proofs.LawLemmas.{past_end}
 use Rattle.j39_node.proofs.MessageLaws.{accepts_more, told_next, more_sent}
 use Rattle.j39_node.proofs.PromptLaws.{answered_from, ends_by, keeps_heard, keeps_taken, lost_heard, lost_taken, pause_most}
 use Rattle.j39_node.proofs.QueueLemmas.{length_one_more}
-use Rattle.j39_node.proofs.ReceptionLemmas.{replied_get, tidy, no_reply}
-use Rattle.j39_node.proofs.SoundLemmas.{FrameCase, IsTurn, acknowledgment_single, claim_single, claim_taken, due_get, due_taken, frame_case, frame_there, held_older, is_directed, lost_older, message_taken, no_packet, no_transfer, none_next, none_other, own_of, packet_session, packet_taken, packets_is, pause_is, plain_taken, reply_taken, single_taken, some_at, sound, turned, reached_is, reply_is, none_at}
+use Rattle.j39_node.proofs.ReceptionLemmas.{replied_get, tidy}
+use Rattle.j39_node.proofs.SoundLemmas.{FrameCase, IsTurn, acknowledgment_single, claim_single, claim_taken, due_get, due_taken, frame_case, frame_there, held_older, is_directed, lost_older, message_taken, no_packet, none_next, none_other, own_of, packet_session, packet_taken, packets_is, pause_is, plain_taken, reply_taken, single_taken, some_at, sound, turned, reached_is, reply_is, none_at}
 use Rattle.j39_node.proofs.SoundLemmas.FrameCase.{claims, acknowledges, replies, sends, packs, transfers}
 use Rattle.j39_node.proofs.AnswerCases.{broadcast_accepts}
-use Rattle.j39_node.proofs.KindLemmas.{claims_it, acknowledges_it, steers_it, of_session_it}
+use Rattle.j39_node.proofs.KindLemmas.{Kind, kind_by, kind_is, claims_it, acknowledges_it, steers_it, of_session_it}
 
 -- ---- of three frames one is neither a claim nor an acknowledgment
 
@@ -428,7 +428,7 @@ module _ (w : Who) (B : List Call) (g k : ℕ) where
       → reached B + n ≤ reached (later ++ B) → is_held (address_after w (later ++ B)) ≡ true
       → Counted g n (packets_taken later) others (passed_in later B) (turns (later ++ B)) (since_take later B) (yields w (later ++ B))
       → Waiting (At now (TakeFrame (Some f)) ∷ later)
-  takes_next now f later n others right case p l count held h = go (is_claim f || is_acknowledgment f) refl case
+  takes_next now f later n others right case p l count held h = go case
     where
       H : List Call
       H = later ++ B
@@ -442,68 +442,48 @@ module _ (w : Who) (B : List Call) (g k : ℕ) where
       there : is_there (next_other w H now) ≡ true
       there = message_there w (later ++ B) now (held_holds w (later ++ B) now held) l
 
-      -- what is counted then
-      counted : (n2 o2 p2 t2 : ℕ) (y2 : Bool) → reached B + n2 ≤ reached G → packets_taken (At now (TakeFrame (Some f)) ∷ later) ≡ p2 → turns G ≡ t2 → yields w G ≡ y2
-          → Counted g n2 p2 o2 (passed_in later B + step (later ++ B) now) t2 0 y2 → Waiting (At now (TakeFrame (Some f)) ∷ later)
-      counted n2 o2 p2 t2 y2 a b d e x = waits n2 o2 a still
-          (subst (λ (p3 : ℕ). Counted g n2 p3 o2 (passed_in later B + step (later ++ B) now) (turns G) 0 (yields w G)) (sym b)
-          (subst (λ (t3 : ℕ). Counted g n2 p2 o2 (passed_in later B + step (later ++ B) now) t3 0 (yields w G)) (sym d)
-          (subst (λ (y3 : Bool). Counted g n2 p2 o2 (passed_in later B + step (later ++ B) now) t2 0 y3) (sym e) x)))
-
-      packs_then : (b : Bool) → is_packet f ≡ b → packets_taken (At now (TakeFrame (Some f)) ∷ later) ≡ (if b then suc (packets_taken later) else packets_taken later)
-      packs_then b e = ap (λ (b : Bool). if b then suc (packets_taken later) else packets_taken later) e
-
-      yields_then : (b d : Bool) → (is_claim f || is_acknowledgment f) ≡ b → is_reply (reception w (later ++ B)).replies f ≡ d → yields w G ≡ (if b then yields w (later ++ B) else d)
-      yields_then b d e i = λ j. if e j then yields w (later ++ B) else i j
+      -- what is counted then, by what kind it is
+      counted : (c : FrameCase w H now f) (n2 o2 : ℕ) → reached B + n2 ≤ reached G
+          → Counted g n2 (if (kind_by c).packet then suc (packets_taken later) else packets_taken later) o2 (passed_in later B + step H now)
+          (if (kind_by c).claim || (kind_by c).acknowledgment then suc (turns H) else 0) 0 (if (kind_by c).claim || (kind_by c).acknowledgment then yields w H else (kind_by c).reply)
+          → Waiting (At now (TakeFrame (Some f)) ∷ later)
+      counted c n2 o2 a x = waits n2 o2 a still
+          (subst (λ (k : Kind). Counted g n2 (if k.packet then suc (packets_taken later) else packets_taken later) o2 (passed_in later B + step H now)
+          (if k.claim || k.acknowledgment then suc (turns H) else 0) 0 (if k.claim || k.acknowledgment then yields w H else k.reply)) (sym (kind_is w H now f right c)) x)
 
       -- no fewer messages are passed
       no_fewer : reached B + n ≤ reached G
-      no_fewer = let m = more_sent (later ++ B) (At now (TakeFrame (Some f))) in omega (arith, m, count)
+      no_fewer = let m = more_sent H (At now (TakeFrame (Some f))) in omega (arith, m, count)
 
       -- a claim or an acknowledgment
-      steer : (a b : Bool) → is_claim f ≡ a → is_acknowledgment f ≡ b → (a || b) ≡ true → is_session f ≡ false → Waiting (At now (TakeFrame (Some f)) ∷ later)
-      steer a b x y z s =
-          let e : (is_claim f || is_acknowledgment f) ≡ true = (λ i. x i || y i) ∙ z in
-          let t = few_turns w (later ++ B) now f case there (steers w (later ++ B) now f right case) e in
-          counted n others (packets_taken later) (suc (turns (later ++ B))) (yields w (later ++ B)) no_fewer (packs_then false (no_packet f s))
-          (turns_then (later ++ B) now f true e) (yields_then true _ e refl)
-          (record { few = h.few; late = (let u = h.late in let v = turn_more g (turns (later ++ B)) t in omega (arith, u, v, p)) })
+      steered : (c : FrameCase w H now f) → ((kind_by c).claim || (kind_by c).acknowledgment) ≡ true → Counted g n (packets_taken later) others (passed_in later B + step H now) (suc (turns H)) 0 (yields w H)
+      steered c e =
+          let t = few_turns w H now f case there (steers w H now f right case) (steers_it w H now f right c ∙ e) in
+          record { few = h.few; late = (let u = h.late in let v = turn_more g (turns H) t in omega (arith, u, v, p)) }
 
-      go : (b : Bool) → (is_claim f || is_acknowledgment f) ≡ b → FrameCase w (later ++ B) now f → Waiting (At now (TakeFrame (Some f)) ∷ later)
-      go b z (claims o e) = let i = claim_taken f now w _ e in steer true (is_acknowledgment f) i refl refl (claim_single f i)
-      go b z (acknowledges m o q i e way) =
-          let c : FrameCase w (later ++ B) now f = acknowledges m o q i e way in
-          steer false true (claims_it w (later ++ B) now f right c) (acknowledges_it w (later ++ B) now f right c) refl (of_session_it w (later ++ B) now f right c)
-      go b z (replies m o q i x e) =
-          let r = reply_taken w.address f now m e (replied_get w.address (reception w (later ++ B)).replies 0 m (tidy w (later ++ B)).replies x) in
-          let y = silent (turned w (later ++ B) now (Some Reply) i.1) in
-          counted n (suc others) (packets_taken later) 0 true no_fewer (packs_then false r.3)
-          (turns_then (later ++ B) now f false (λ j. r.0 j || r.1 j)) (yields_then false true (λ j. r.0 j || r.1 j) (λ j. is_directed f r.2 r.3 j && reply_is w (later ++ B) f m x (ap (λ (y : ℕ × Message). y.1) e) j))
-          (goes g n (packets_taken later) others _ _ _ (step (later ++ B) now) (yields w (later ++ B)) n (packets_taken later) true p
-          (let u = h.few in let v = ap one y in omega (arith, u, v)) h)
+      go : FrameCase w H now f → Waiting (At now (TakeFrame (Some f)) ∷ later)
+      go (claims o e) = counted (claims o e) n others no_fewer (steered (claims o e) refl)
+      go (acknowledges m o q i e way) = counted (acknowledges m o q i e way) n others no_fewer (steered (acknowledges m o q i e way) refl)
+      go (replies m o q i x e) = counted (replies m o q i x e) n (suc others) no_fewer
+          (goes g n (packets_taken later) others _ _ _ (step H now) (yields w H) n (packets_taken later) true p
+          (let u = h.few in let v = ap one (silent (turned w H now (Some Reply) i.1)) in omega (arith, u, v)) h)
         where
-          silent : IsTurn (yields w (later ++ B)) (ready w (later ++ B) now) (Some Reply) → yields w (later ++ B) ≡ false
-          silent t = by (yields w (later ++ B)) (lt-ltb _ _ l) t.2
+          silent : IsTurn (yields w H) (ready w H now) (Some Reply) → yields w H ≡ false
+          silent t = by (yields w H) (lt-ltb _ _ l) t.2
             where
-              by : (y : Bool) → (ready w (later ++ B) now).message ≡ true → (y && ((ready w (later ++ B) now).message || ((ready w (later ++ B) now).packet || (ready w (later ++ B) now).transfer))) ≡ false → y ≡ false
+              by : (y : Bool) → (ready w H now).message ≡ true → (y && ((ready w H now).message || ((ready w H now).packet || (ready w H now).transfer))) ≡ false → y ≡ false
               by false u v = refl
-              by true u v = absurd (let z : true ≡ false = (λ j. sym u j || ((ready w (later ++ B) now).packet || (ready w (later ++ B) now).transfer)) ∙ v in cc)
-      go b z (sends x o q i y e) =
-          let own = own_of w (later ++ B) x right y in
-          let r0 = message_taken w f now x e own in let r1 = plain_taken w f now x e own in let r2 = single_taken w f now x e own in
-          counted (suc n) (suc others) (packets_taken later) 0 false
-          (let u = reached_is (later ++ B) now f false false false r0 r1 r2 in let v = past_more (marks (later ++ B)) (suc (reached (later ++ B))) in omega (arith, u, v, count)) (packs_then false (no_packet f r2))
-          (turns_then (later ++ B) now f false (λ j. r0 j || r1 j)) (yields_then false false (λ j. r0 j || r1 j) (no_reply (reception w (later ++ B)).replies f (no_transfer f r2)))
-          (goes g n (packets_taken later) others _ _ _ (step (later ++ B) now) (yields w (later ++ B)) (suc n) (packets_taken later) false p
-          (let u = h.few in let v = one_most (yields w (later ++ B)) in omega (arith, u, v)) h)
-      go b z (packs m o q i x e) =
-          let r = packet_taken f now m (open_broadcast w (later ++ B)) (length (packets (later ++ B))) (pause (later ++ B) - step (later ++ B) now) e x in
-          let s = packet_session f r.2 in
-          counted n (suc others) (suc (packets_taken later)) 0 false no_fewer (packs_then true r.2)
-          (turns_then (later ++ B) now f false (λ j. r.0 j || r.1 j)) (yields_then false false (λ j. r.0 j || r.1 j) (no_reply (reception w (later ++ B)).replies f s.1))
-          (goes g n (packets_taken later) others _ _ _ (step (later ++ B) now) (yields w (later ++ B)) n (suc (packets_taken later)) false p
-          (let u = h.few in let v = one_most (yields w (later ++ B)) in omega (arith, u, v)) h)
-      go b z (transfers m o q i x e) = absurd (not_both _ (turned w (later ++ B) now (Some Move) i.1).0.message (lt-ltb _ _ l))
+              by true u v = absurd (let z : true ≡ false = (λ j. sym u j || ((ready w H now).packet || (ready w H now).transfer)) ∙ v in cc)
+      go (sends x o q i y e) =
+          let c : FrameCase w H now f = sends x o q i y e in
+          let u = reached_is H now f false false false (claims_it w H now f right c) (acknowledges_it w H now f right c) (of_session_it w H now f right c) in
+          counted (sends x o q i y e) (suc n) (suc others) (let v = past_more (marks H) (suc (reached H)) in omega (arith, u, v, count))
+          (goes g n (packets_taken later) others _ _ _ (step H now) (yields w H) (suc n) (packets_taken later) false p
+          (let u = h.few in let v = one_most (yields w H) in omega (arith, u, v)) h)
+      go (packs m o q i x e) = counted (packs m o q i x e) n (suc others) no_fewer
+          (goes g n (packets_taken later) others _ _ _ (step H now) (yields w H) n (suc (packets_taken later)) false p
+          (let u = h.few in let v = one_most (yields w H) in omega (arith, u, v)) h)
+      go (transfers m o q i x e) = absurd (not_both _ (turned w H now (Some Move) i.1).0.message (lt-ltb _ _ l))
 
   one_later : (call : Call) (later : List Call) → AreAnswered w (later ++ B) → IsAnswered w (later ++ B) call
       → (since_take later B + step (later ++ B) (moment (call ∷ later ++ B)) ≤ g) × (claims_anew call ≡ false) → Among later → Among (call ∷ later)
