@@ -1,5 +1,5 @@
 -- A driver that takes one frame at least in each g: how long a frame of a broadcast and a message wait, whoever asks.
-use Rattle.j39_node.proofs.Common.{[], if◌then◌else◌, ◌&&◌, ◌*◌, ◌++◌, ◌+◌, ◌-◌, ◌<◌, ◌||◌, ◌∙◌, ◌∷◌, ◌≡◌, ◌≤◌, ◌⊎◌, accepted, add-mul, address_after, Again, and_from, and_parts, ap, AreAnswered, arith, At, Bool, Broadcast, broadcast_from, broadcasts, Call, claims_anew, Controller, due, Ending, eq-eqb, false, FrameRecord, gives_way, has_packets, Hear, holds, inl, inr, Is, is_acknowledgment, is_claim, is_held, is_left, is_lost, is_open, is_overdue, is_packet, is_reply, is_session, is_there, is_turn, IsAnswered, IsPrompt, IsSteady, IsTrue, length, List, lt-ltb, marks, Message, message_of, MessageRecord, moment, Move, nat_eq, nat_le, nat_lt, next_broadcast_ended, next_ended, next_frame, next_other, None, NoneTold, not, Ok, open_broadcast, Option, other, packets, packets_of, packets_taken, passed_in, pause, reached, Ready, ready, reception, refl, Reply, since_take, Single, slice_get, Some, StaysFirst, step, subst, suc, suc-mul, sym, TakeBroadcastEnded, TakeFrame, takes_reply, tells_broadcast, told, true, turn_of, turns, waited_in, Who, yields, zero, ℕ, answer_to_broadcast, not_both, ltb-false, leb-true, leb-false, or_parts, not-true}
+use Rattle.j39_node.proofs.Common.{[], if◌then◌else◌, ◌&&◌, ◌*◌, ◌++◌, ◌+◌, ◌-◌, ◌<◌, ◌||◌, ◌∙◌, ◌∷◌, ◌≡◌, ◌≤◌, ◌⊎◌, accepted, add-mul, address_after, Again, and_from, and_parts, ap, AreAnswered, arith, At, Bool, Broadcast, broadcast_from, broadcasts, Call, claims_anew, Controller, Ending, eq-eqb, false, FrameRecord, gives_way, has_packets, Hear, holds, inl, inr, Is, is_acknowledgment, is_claim, is_held, is_left, is_lost, is_open, is_overdue, is_packet, is_reply, is_session, is_there, is_turn, IsAnswered, IsPrompt, IsSteady, IsTrue, length, List, lt-ltb, marks, Message, message_of, MessageRecord, moment, Move, nat_eq, nat_le, nat_lt, next_broadcast_ended, next_ended, next_frame, next_other, None, NoneTold, not, Ok, open_broadcast, Option, other, packets, packets_of, packets_taken, passed_in, pause, reached, Ready, ready, reception, refl, Reply, since_take, Single, slice_get, Some, StaysFirst, step, subst, suc, suc-mul, sym, TakeBroadcastEnded, TakeFrame, takes_reply, tells_broadcast, told, true, turn_of, turns, waited_in, Who, yields, zero, ℕ, answer_to_broadcast, not_both, ltb-false, leb-true, leb-false, or_parts, not-true}
 use Rattle.j39_node.specs.declared.turn.Turn.TheVariants.{Packet}
 use Rattle.j39_node.proofs.EndSteps.{times_more}
 use Rattle.j39_node.proofs.WithdrawLemmas.{past_more}
@@ -8,11 +8,10 @@ use Rattle.j39_node.proofs.LawLemmas.{past_end}
 use Rattle.j39_node.proofs.MessageLaws.{accepts_more, told_next, more_sent}
 use Rattle.j39_node.proofs.PromptLaws.{answered_from, ends_by, keeps_heard, keeps_taken, lost_heard, lost_taken, pause_most}
 use Rattle.j39_node.proofs.QueueLemmas.{length_one_more}
-use Rattle.j39_node.proofs.ReceptionLemmas.{replied_get, tidy}
-use Rattle.j39_node.proofs.SoundLemmas.{FrameCase, IsTurn, acknowledgment_single, claim_single, claim_taken, due_get, due_taken, frame_case, frame_there, held_older, is_directed, lost_older, message_taken, no_packet, none_next, none_other, own_of, packet_session, packet_taken, packets_is, pause_is, plain_taken, reply_taken, single_taken, some_at, sound, turned, reached_is, reply_is, none_at}
+use Rattle.j39_node.proofs.SoundLemmas.{FrameCase, IsTurn, acknowledgment_single, claim_single, frame_case, frame_there, held_older, lost_older, no_packet, none_next, none_other, packet_session, packets_is, pause_is, some_at, turned, reached_is, none_at}
 use Rattle.j39_node.proofs.SoundLemmas.FrameCase.{claims, acknowledges, replies, sends, packs, transfers}
 use Rattle.j39_node.proofs.AnswerCases.{broadcast_accepts}
-use Rattle.j39_node.proofs.KindLemmas.{Kind, kind_by, kind_is, claims_it, acknowledges_it, steers_it, of_session_it}
+use Rattle.j39_node.proofs.KindLemmas.{replies_it, packs_it, Kind, kind_by, kind_is, claims_it, acknowledges_it, steers_it, of_session_it}
 
 -- ---- of three frames one is neither a claim nor an acknowledgment
 
@@ -607,42 +606,35 @@ module _ (w : Who) (B : List Call) (g : ℕ) (m : Message) where
       yields_then c e = λ j. if e j then yields w (later ++ B) else untaken j
 
       -- a claim or an acknowledgment
-      steer : (is_claim f || is_acknowledgment f) ≡ true → is_session f ≡ false → Replying (At now (TakeFrame (Some f)) ∷ later)
-      steer e s =
-          let t = few_turns w H now f case (reply_there w H now m (held_holds w H now held) first) (steers w H now f right case) e in
+      steer : (c : FrameCase w H now f) → ((kind_by c).claim || (kind_by c).acknowledgment) ≡ true → (kind_by c).packet ≡ false → Replying (At now (TakeFrame (Some f)) ∷ later)
+      steer c e k =
+          let z = steers_it w H now f right c ∙ e in
+          let t = few_turns w H now f case (reply_there w H now m (held_holds w H now held) first) (steers w H now f right case) z in
           stays others (keeps_taken w H now f held) (record {
-            few = (let a = b.few in let c = ap one (yields_then true e) in let d = packs_then false (no_packet f s) in omega (arith, a, c, d));
-            late = (let a = b.late in let c = ap (turn_time g) (turns_then H now f true e) in let d = turn_more g (turns H) t in omega (arith, a, c, d, p));
+            few = (let a = b.few in let y = ap one (yields_then true z) in let d = packs_then false (packs_it w H now f right c ∙ k) in omega (arith, a, y, d));
+            late = (let a = b.late in let y = ap (turn_time g) (turns_then H now f true z) in let d = turn_more g (turns H) t in omega (arith, a, y, d, p));
           })
 
-      -- another: so many frames of broadcasts were taken then
-      goes_by : (n : ℕ) → (is_claim f || is_acknowledgment f) ≡ false → packets_taken (At now (TakeFrame (Some f)) ∷ later) ≡ n → others ≤ n → Replying (At now (TakeFrame (Some f)) ∷ later)
-      goes_by n e i l =
+      -- another, by how many frames of broadcasts were taken then
+      goes_by : (c : FrameCase w H now f) → ((kind_by c).claim || (kind_by c).acknowledgment) ≡ false
+          → others ≤ (if (kind_by c).packet then suc (packets_taken later) else packets_taken later) → Replying (At now (TakeFrame (Some f)) ∷ later)
+      goes_by c e l =
+          let z = steers_it w H now f right c ∙ e in
           stays (suc others) (keeps_taken w H now f held) (record {
-            few = (let c = ap one (yields_then false e) in omega (arith, c, i, l));
-            late = (let a = b.late in let c = ap (turn_time g) (turns_then H now f false e) in let d = turn_most g (turns H) in let k = suc-mul others (3 * g) in omega (arith, a, c, d, k, p));
+            few = (let y = ap one (yields_then false z) in let i = packs_then _ (packs_it w H now f right c) in omega (arith, y, i, l));
+            late = (let a = b.late in let y = ap (turn_time g) (turns_then H now f false z) in let d = turn_most g (turns H) in let k = suc-mul others (3 * g) in omega (arith, a, y, d, k, p));
           })
 
       few_then : yields w H ≡ true → others ≤ packets_taken later
       few_then y = let a = b.few in let c = ap one y in omega (arith, a, c)
 
       go : FrameCase w H now f → Replying (At now (TakeFrame (Some f)) ∷ later)
-      go (claims o e) = let i = claim_taken f now w _ e in steer (ap (λ (c : Bool). c || is_acknowledgment f) i) (claim_single f i)
-      go (acknowledges x o q i e way) =
-          let r = due_taken w f now x e (due_get w (due w H) (length (Rattle.j39_node.specs.History.acknowledged H)) x (sound w H right).desk.0 i) in steer (λ j. r.0 j || r.1 j) r.2
-      go (replies x o q i y e) =
-          let r = reply_taken w.address f now x e (replied_get w.address (reception w H).replies 0 x (tidy w H).replies y) in
-          absurd (let z : true ≡ false = sym (λ j. is_directed f r.2 r.3 j && reply_is w H f x y (ap (λ (u : ℕ × Message). u.1) e) j) ∙ untaken in cc)
-      go (sends x o q i y e) =
-          let own = own_of w H x right y in
-          goes_by (packets_taken later) (λ j. message_taken w f now x e own j || plain_taken w f now x e own j) (packs_then false (no_packet f (single_taken w f now x e own)))
-          (few_then (behind w H now m first (turned w H now (Some Single) i.1).2))
-      go (packs x o q i y e) =
-          let r = packet_taken f now x (open_broadcast w H) (length (packets H)) (pause H - step H now) e y in
-          goes_by (suc (packets_taken later)) (λ j. r.0 j || r.1 j) (packs_then true r.2) (let a = b.few in omega (arith, a))
-      go (transfers x o q i y e) =
-          let t = Rattle.j39_node.proofs.SoundLemmas.transfer_taken w H now f x right e y in
-          goes_by (packets_taken later) (λ j. t.claim j || t.plain j) (packs_then false t.packet) (few_then (behind w H now m first (turned w H now (Some Move) i.1).2))
+      go (claims o e) = steer (claims o e) refl refl
+      go (acknowledges x o q i e way) = steer (acknowledges x o q i e way) refl refl
+      go (replies x o q i y e) = absurd (not_both _ untaken (replies_it w H now f right (replies x o q i y e)))
+      go (sends x o q i y e) = goes_by (sends x o q i y e) refl (few_then (behind w H now m first (turned w H now (Some Single) i.1).2))
+      go (packs x o q i y e) = goes_by (packs x o q i y e) refl (let a = b.few in omega (arith, a))
+      go (transfers x o q i y e) = goes_by (transfers x o q i y e) refl (few_then (behind w H now m first (turned w H now (Some Move) i.1).2))
 
   reply_later : (call : Call) (later : List Call) → AreAnswered w (later ++ B) → IsAnswered w (later ++ B) call
       → (since_take later B + step (later ++ B) (moment (call ∷ later ++ B)) ≤ g) × (claims_anew call ≡ false) → slice_get (reception w (later ++ B)).replies 0 ≡ Some m
