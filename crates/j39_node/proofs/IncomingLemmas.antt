@@ -1,5 +1,5 @@
 -- What is received in packets, step by step.
-use Rattle.j39_node.proofs.Common.{[], if◌then◌else◌, ◌&&◌, ◌+◌, ◌==◌, ◌||◌, ◌↔◌, ◌∙◌, ◌∷◌, ◌≡◌, Abort, Acknowledgment, announced_by, announced_in, answer_in, answers, ap, appended, arith, asks_again, Bool, BoxedReceiver, BroadcastAnnounce, clear_in, ClearToSend, cond_both, Course, delivers_message, Directed, eqb-true, false, filter, FrameRecord, goes_on, granted_at, grants, group_of, has_place, Heard, heard_by, Incoming, incoming_of, IncomingRecord, is_over, is_taken, IsNamed, IsSome, keeps, Kept, kept_by, limit_of, List, map, Message, Named, named_by, named_in, named_then, nat_eq, nat_lt, new_receiver, None, not, number_in, Option, option_map, Packet, packet_in, partner_of, passed_to, quiet, Reaction, ReceiverAnswer, ReceiverRecord, Receives, Reception, ReceptionRecord, recv_step, RecvEvent, RecvResult, RecvStep, refl, replied, RequestToSend, result_of, Said, said_between, said_by, said_to, SessionRecord, Signal, since_by, slice_index, Some, source_of, Stamp, stamp_micros, step_at, strays, strays_by, subst, sym, takes, takes_abort, takes_data, takes_packet, takes_request, takes_signal, takes_tick, ticked, ticked_at, ticks, ToSend, touched, true, window, with_reception, with_replies, without, written, ℕ}
+use Rattle.j39_node.proofs.Common.{[], if◌then◌else◌, ◌&&◌, ◌+◌, ◌==◌, ◌||◌, ◌↔◌, ◌∙◌, ◌∷◌, ◌≡◌, Abort, announced_by, announced_in, answer_in, answers, ap, appended, arith, asks_again, Bool, BoxedReceiver, clear_in, cond_both, Course, delivers_message, Directed, eqb-true, false, filter, FrameRecord, goes_on, granted_at, grants, group_of, has_place, Heard, heard_by, Incoming, incoming_of, IncomingRecord, is_over, is_taken, IsNamed, IsSome, keeps, Kept, kept_by, limit_of, List, map, Message, Named, named_by, named_in, named_then, nat_eq, nat_lt, new_receiver, None, not, number_in, Option, option_map, Packet, packet_in, partner_of, passed_to, quiet, Reaction, ReceiverAnswer, ReceiverRecord, Receives, Reception, ReceptionRecord, recv_step, RecvEvent, RecvResult, RecvStep, refl, replied, RequestToSend, result_of, Said, said_between, said_by, said_to, SessionRecord, Signal, since_by, slice_index, Some, source_of, Stamp, stamp_micros, step_at, strays, strays_by, subst, sym, takes, takes_abort, takes_data, takes_packet, takes_request, takes_signal, takes_tick, ticked, ticked_at, ticks, ToSend, touched, true, window, with_reception, with_replies, without, written, ℕ}
 use Rattle.std.specs.Option.{is_some}
 use Rattle.j39_transport.specs.Reception.{begun}
 use Rattle.j39_transport.specs.Receiving.{Tick}
