@@ -1,40 +1,17 @@
 -- Which frame others exchange makes no difference to any answer, whatever comes later.
-use Rattle.std.proofs.Common.{drop, max, ◌≡◌, ◌≢◌, ◌↔◌, ℕ, ◌+◌, ◌-◌, List, [], ◌∷◌, ◌++◌, length, Option, Some, None, Ok, Err, Bool, true, false, not, ◌&&◌, ◌||◌, if◌then◌else◌, nat_eq, nat_lt, nat_le, suc, refl, sym, ap, ◌∙◌, subst, inl, arith, ◌*◌, slice_set}
-use Rattle.std.specs.List.{slice_get}
-use Rattle.std.specs.Option.{option_map, option_or}
-use Rattle.j39_frame.specs.Frame.{FrameRecord}
-use Rattle.j39_frame.specs.Identifier.{destination_of, pgn_of, ps_of, source_of}
-use Rattle.j39_address.specs.Claim.{claim_of}
-use Rattle.j39_transport.specs.Message.{MessageRecord}
-use Rattle.j39_node.specs.declared.kinds.AskEnding.{AskEnding}
-use Rattle.j39_node.specs.declared.kinds.Ending.{Ending}
-use Rattle.j39_node.specs.declared.kinds.News.TheVariants.{AddressLost, AnotherAtAddress, MessagesMissed, NameDoubled}
-use Rattle.j39_node.specs.declared.kinds.Refused.TheVariants.{NoAddress, BadValue, Full}
-use Rattle.j39_node.specs.Aside.{IsAside}
-use Rattle.j39_node.specs.History.{reached, fresh, is_refusal_due, is_left, patience, turns, Who, Message, Call, Address, Asked, accepted, acknowledged, acknowledgment, address_after, another_news, asked, asked_group, asked_with, broadcast_from, broadcasts, calls_for_claim, can_broadcast, can_send, claim_address, claim_from, claimed, due, got, handed, holds, is_acknowledgment, is_another, is_claim, is_for_program, is_held, is_lost, is_open, is_packet, is_session, is_smaller, is_transfer, kept, lost_news, message_from, message_of, missed_news, moment, older, open_broadcast, owes_claim, packets, pause, request_for, requests, sent, step, told, with_refusal, with_request, delayed, of_other, doubled_news, double, latest, marks, past, blank}
-use Rattle.j39_node.specs.History.Address.{Lost}
-use Rattle.j39_node.specs.History.Call.{At, TakeAskEnded, TakeEnded, TakeReceived, TakeRequest, TakeNews, TakeBroadcastEnded, ReleaseTransfer, TakeTransferEnded, ReleaseBroadcast, Renew, Withdraw}
-use Rattle.j39_node.specs.History.Act.{Ask, Hear, Tick, TakeFrame, Send, Acknowledge, Broadcast, Transfer, Again}
-use Rattle.j39_node.specs.Reception.{yields, Reception, has_place, heard_at, heard_by, held_then, holder, later, leaves, left, reception, released_by, taken_by, ticked, time_heard, whole_by, is_message, asks_claims, called, calls_claims, claimed_again, known, still, is_reply, is_that}
-use Rattle.j39_node.specs.Hearing.{OpenBroadcast, announces, breaks, changes, ends_by, found, hearing, hears as hears_it, in_time, is_out, is_over, is_unheard, left as leaves_it, newly, packs, unheard_news, whole_of}
-use Rattle.j39_node.specs.Transfers.{Running, age, begun, can_transfer, clock, hears_if, holds_back, is_engaged, is_replaced, joined, open_transfer, rest, resting, rests_after, sends_if, transfer_by, transfer_end, transfers}
-use Rattle.j39_node.specs.History.{Resting}
-use Rattle.j39_node.specs.Asking.{Question, ask_end, can_ask, comes, end_at, ended, first, has_token, in_broadcast, in_session, made, is_asking, is_coming, made_of, open_ask, question, silent_end, wait}
+use Rattle.j39_node.proofs.Common.{[], if◌then◌else◌, ◌&&◌, ◌*◌, ◌++◌, ◌+◌, ◌-◌, ◌||◌, ◌↔◌, ◌∙◌, ◌∷◌, ◌≡◌, ◌≢◌, accepted, Acknowledge, acknowledged, acknowledgment, Address, address_after, AddressLost, Again, age, announces, another_news, AnotherAtAddress, ap, AreAnswered, arith, Ask, ask_end, Asked, asked, asked_group, asked_with, AskEnding, asks_claims, At, begun, blank, Bool, breaks, Broadcast, broadcast_end, broadcast_from, broadcasts, by, Call, called, calls_claims, calls_for_claim, can_ask, can_broadcast, can_send, can_transfer, changes, claim_address, claim_from, claim_of, claimed, claimed_again, clock, comes, control_of, delayed, destination_of, double, doubled_news, drop, due, end_at, end_of, ended, Ending, ends_by, Err, false, first, found, FrameRecord, fresh, got, handed, has_place, has_token, Hear, heard_at, heard_by, hearing, hears_if, hears_it, held_then, holder, holds, holds_back, in_broadcast, in_session, in_time, inl, is_acknowledgment, is_another, is_apart, is_asking, is_claim, is_coming, is_engaged, is_for_program, is_held, is_left, is_lost, is_message, is_open, is_out, is_packet, is_refusal_due, is_replaced, is_reply, is_session, is_smaller, is_that, is_there, is_transfer, is_unheard, IsAnswered, IsAside, joined, kept, known, later, latest, leaves, leaves_it, left, length, List, Lost, lost_news, made, made_of, marks, max, may_go, Message, message_from, message_of, MessageRecord, MessagesMissed, missed_news, moment, NameDoubled, nat_eq, nat_le, nat_lt, newly, news_of, None, not, of_other, Ok, older, open_ask, open_broadcast, open_transfer, OpenBroadcast, Option, option_map, option_or, owes_claim, packet_by, packets, packs, past, patience, pause, pgn_of, ps_of, Question, question, reached, Ready, Reception, reception, refl, ReleaseBroadcast, released_by, ReleaseTransfer, Renew, request_for, requests, rest, Resting, resting, rests_after, Running, Send, sends_if, silent_end, slice_get, slice_set, Some, source_of, stamped, step, still, subst, suc, sym, TakeAskEnded, TakeBroadcastEnded, TakeEnded, TakeFrame, taken_by, TakeNews, TakeReceived, TakeRequest, TakeTransferEnded, Tick, ticked, time_heard, told, Transfer, transfer_by, transfer_end, transfers, transport_control_group, true, turn_frame, turn_of, turns, unheard_news, wait, Who, whole_by, whole_of, with_refusal, with_request, Withdraw, yields, ℕ, and-false, or-false, false_from_ne_true}
+use Rattle.j39_node.specs.Hearing.{is_over}
 use Rattle.j39_transport.specs.Frames as frames
-use Rattle.j39_transport.specs.Key.{Broadcast as by}
-use Rattle.j39_frame.specs.Network.{transport_control_group}
 use Rattle.j39_transport.proofs.FrameFacts.{announcement_facts}
+use Rattle.j39_node.proofs.AnswerCases.{answer_by}
 use Rattle.j39_node.proofs.HearingLaws as hearing_laws
 use Rattle.j39_node.proofs.HearingLaws.{unequal}
 use Rattle.j39_node.proofs.HearingLemmas.{unchanged, unheard_is}
 use Rattle.j39_node.proofs.PacketsAnswer.{packs_to_all}
 use Rattle.j39_node.proofs.ReceptionLaws.{goes_there, to_others}
-use Rattle.j39_node.proofs.RequestStrangers.{and_false, to_another}
-use Rattle.j39_node.proofs.StrangerLaws.{no_more, open_stays}
+use Rattle.j39_node.proofs.RequestStrangers.{to_another}
+use Rattle.j39_node.proofs.StrangerLaws.{open_stays}
 use Rattle.j39_node.proofs.ReceptionLemmas.{unclaimed_known}
-use Rattle.j39_node.specs.Is.{is_there, AreAnswered, IsAnswered, broadcast_end, control_of, end_of, news_of, packet_by, stamped, is_apart, turn_frame, turn_of, may_go}
-use Rattle.j39_node.specs.declared.turn.Ready.{Ready}
-use Rattle.j39_node.proofs.LawLemmas.{is_false as not_so}
 use Rattle.j39_node.proofs.PromptLaws.{answered_from as before}
 
 -- ---- all that an answer hangs on
@@ -325,8 +302,7 @@ full_by s = nat_eq (length s.accepted - length s.told) 16 || nat_eq (length s.ac
 
 abbrev Answers : Who → State → Call → Type 0
 Answers w s (At now (TakeFrame answer)) = option_map stamped answer ≡ frame_by w s now
-Answers w s (At now (Send d answer)) =
-    answer ≡ (if holds_at s now then (if can_send w d then (if full_by s then Err Full else Ok (length s.accepted)) else Err BadValue) else Err NoAddress)
+Answers w s (At now (Send d answer)) = answer ≡ answer_by (holds_at s now) (can_send w d) (full_by s) (length s.accepted)
 Answers w s (Renew d answer) = answer ≡ (if can_send w d then latest (message_from w d) (max (s.reached) (length s.told)) 0 s.accepted None else None)
 Answers w s (Withdraw k answer) = answer ≡ (not (is_lost s.address) && (nat_le s.reached k && may_go (slice_get s.accepted k)))
 Answers w s (TakeEnded answer) = answer ≡ end_of (nat_lt (length s.told) (s.reached)) (is_lost s.address) (slice_get s.accepted (length s.told))
@@ -334,38 +310,19 @@ Answers w s (TakeReceived answer) = answer ≡ slice_get s.kept (length s.got)
 Answers w s (TakeRequest answer) = answer ≡ slice_get s.requests (length s.handed)
 Answers w s (TakeNews answer) = answer ≡ news_of s.lost s.another s.doubled (s.missed || s.unheard)
 Answers w s (At now (Acknowledge r answer result)) =
-    result
-    ≡ (if holds_at s now
-    then (if nat_eq r.destination w.address then (if nat_eq (length s.due - length s.acknowledged) 16 then Err Full else Ok tt) else Err BadValue)
-    else Err NoAddress)
+    result ≡ answer_by (holds_at s now) (nat_eq r.destination w.address) (nat_eq (length s.due - length s.acknowledged) 16) tt
 Answers w s (At now (Broadcast group bytes answer)) =
-    answer
-    ≡ (if holds_at s now
-    then (if can_broadcast group bytes
-    then (if is_open s.broadcast || nat_eq (length s.broadcasts) 18446744073709551615 then Err Full else Ok (length s.broadcasts))
-    else Err BadValue)
-    else Err NoAddress)
+    answer ≡ answer_by (holds_at s now) (can_broadcast group bytes) (is_open s.broadcast || nat_eq (length s.broadcasts) 18446744073709551615) (length s.broadcasts)
 Answers w s (TakeBroadcastEnded answer) = answer ≡ broadcast_end s.broadcast (length s.packets) (is_lost s.address)
 Answers w s (ReleaseTransfer answer) = answer ≡ not (has_place s.reception.waits)
 Answers w s (At now (Transfer group to bytes answer)) =
-    answer
-    ≡ (if holds_at s now
-    then (if can_transfer w group to bytes
-    then (if is_engaged s.transfer (length s.transfers) || (nat_lt 0 (s.rest - (now - s.moment)) && holds_back s.resting group to) then Err Full
-    else Ok (length s.transfers))
-    else Err BadValue)
-    else Err NoAddress)
+    answer ≡ answer_by (holds_at s now) (can_transfer w group to bytes)
+    (is_engaged s.transfer (length s.transfers) || (nat_lt 0 (s.rest - (now - s.moment)) && holds_back s.resting group to)) (length s.transfers)
 Answers w s (TakeTransferEnded answer) = answer ≡ transfer_end s.transfer (is_lost s.address)
-Answers w s (At now (Ask group to answer)) =
-    answer
-    ≡ (if holds_at s now
-    then (if can_ask w group to then (if full_by s || is_asking s.ask then Err Full else Ok (length s.accepted)) else Err BadValue)
-    else Err NoAddress)
+Answers w s (At now (Ask group to answer)) = answer ≡ answer_by (holds_at s now) (can_ask w group to) (full_by s || is_asking s.ask) (length s.accepted)
 Answers w s (TakeAskEnded answer) = answer ≡ ask_end s.ask (s.reached) s.ended s.wait (comes_at s.time s) (is_lost s.address)
 Answers w s (ReleaseBroadcast answer) = answer ≡ not (has_place (whole_of s.hearing))
-Answers w s (At when (Hear f)) = Unit {0}
-Answers w s (At now Tick) = Unit {0}
-Answers w s (At now Again) = Unit {0}
+Answers w s call = Unit {0}
 
 answered : (w : Who) (H : List Call) (call : Call) → IsAnswered w H call → Answers w (state w H) call
 answered w H (At now (TakeFrame a)) h = h
@@ -381,7 +338,7 @@ same_on : (w : Who) (later A B : List Call) → state w A ≡ state w B → stat
 same_on w [] A B e = e
 same_on w (call ∷ later) A B e = state_is w call (later ++ A) ∙ (ap (next w call) (same_on w later A B e) ∙ sym (state_is w call (later ++ B)))
 
-same_answers : (w : Who) (later A B : List Call) → state w A ≡ state w B → (AreAnswered w A → AreAnswered w B) → AreAnswered w (later ++ A)
+pub same_answers : (w : Who) (later A B : List Call) → state w A ≡ state w B → (AreAnswered w A → AreAnswered w B) → AreAnswered w (later ++ A)
     → AreAnswered w (later ++ B)
 same_answers w [] A B e first h = first h
 same_answers w (call ∷ later) A B e first h = (
@@ -426,10 +383,10 @@ module _ (w : Who) (f : FrameRecord) (a : IsAside w f) where
   all = unequal a.to 255 a.not_all
 
   unannounced : announces f ≡ false
-  unannounced = not_so (announces f) (λ e. elsewhere 255 a.not_all (announced_to_all f e))
+  unannounced = false_from_ne_true (announces f) (λ e. elsewhere 255 a.not_all (announced_to_all f e))
 
   unpacked : packs f ≡ false
-  unpacked = not_so (packs f) (λ e. elsewhere 255 a.not_all (packs_to_all f e))
+  unpacked = false_from_ne_true (packs f) (λ e. elsewhere 255 a.not_all (packs_to_all f e))
 
   uncalled : (lost : Bool) → calls_for_claim w lost f ≡ false
   uncalled lost = let g = a.goes in let c = a.claims in grind (arith, g, c, all, here)
@@ -445,7 +402,7 @@ module _ (w : Who) (f : FrameRecord) (a : IsAside w f) where
       go (Some group) = grind (arith, all, here)
 
   not_mine : (held : Bool) → is_another w held f ≡ false
-  not_mine held = ap (λ (b : Bool). held && (b && not (is_claim f))) (unequal (source_of f.id) w.address a.source) ∙ and_false held
+  not_mine held = ap (λ (b : Bool). held && (b && not (is_claim f))) (unequal (source_of f.id) w.address a.source) ∙ and-false held
 
   mine : is_smaller w (claim_of f) ≡ false
   mine = ap (is_smaller w) a.claims
@@ -455,22 +412,23 @@ module _ (w : Who) (f : FrameRecord) (a : IsAside w f) where
       λ i. record (state w (At when (Hear f) ∷ H)) {
         address = lives i;
         owes = owes i;
-        patience = waits i;
-        delay = delays i;
-        kept = keeps i;
+        patience = (ap (λ (b : Bool). if b && nat_eq (patience w H - step H when) 0 then 5000000 else patience w H - step H when) (not_mine held)) i;
+        delay = if (uncalled (is_lost (address_after w H)) i || (not_mine held i && nat_eq (patience w H - step H when) 0)) && not (is_lost (address_after w H) && owes_claim w H)
+            then w.delay * 600 else delayed w H - step H when;
+        kept = (ap (λ (b : Bool). if b && nat_lt (length (kept w H) - length (got H)) 16 then kept w H ++ (f.stamp, message_of f) ∷ [] else kept w H) (unwanted held)) i;
         requests = with_request w (nat_lt (length (requests w H) - length (handed H)) 16) (fresh w (drop (length (handed H)) (requests w H)) (unasked held i)) (requests w H);
         due = with_refusal w (nat_lt (length (requests w H) - length (handed H)) 16)
             (nat_lt (length (due w H) - length (acknowledged H)) 16
             && not (is_refusal_due w (drop (length (acknowledged H)) (due w H)) (fresh w (drop (length (handed H)) (requests w H)) (unasked held i))))
             (fresh w (drop (length (handed H)) (requests w H)) (unasked held i)) (due w H);
-        lost = loses i;
-        another = others i;
+        lost = (ap (λ (b : Bool). lost_news w H || (b && not (is_lost (address_after w H)))) mine ∙ or-false (lost_news w H)) i;
+        another = (ap (λ (b : Bool). another_news w H || b) (not_mine held) ∙ or-false (another_news w H)) i;
         doubled = option_or (double w (a.claims i)) (doubled_news w H);
-        missed = misses i;
+        missed = (ap (λ (b : Bool). missed_news w H || (b && not (nat_lt (length (kept w H) - length (got H)) 16))) (unwanted held) ∙ or-false (missed_news w H)) i;
         unheard = unheard i;
         called = quiets i;
         holder = λ b. held_then b (of_other w (a.claims i)) (holder w H b);
-        reception = receives i;
+        reception = (to_others w H when f mine (λ r z. unclaimed_known w H when f r.message.source a.claims) (elsewhere w.address a.not_here)) i;
         hearing = hearing_laws.strangers w H when f a.claims unannounced (inl unpacked) i;
         ended = ends i;
         transfer = open_stays w H when f right a.claims (elsewhere w.address a.not_here) i;
@@ -479,41 +437,21 @@ module _ (w : Who) (f : FrameRecord) (a : IsAside w f) where
       held : Bool
       held = holds w H when
 
-      lives : address_after w (At when (Hear f) ∷ H) ≡ older (step H when) (address_after w H)
-      lives = ap (λ (b : Bool). if b then Lost else older (step H when) (address_after w H)) mine
-
       owes : owes_claim w (At when (Hear f) ∷ H) ≡ owes_claim w H
-      owes = (λ i. owes_claim w H || (uncalled (is_lost (address_after w H)) i || (not_mine held i && nat_eq (patience w H - step H when) 0))) ∙ no_more (owes_claim w H)
-
-      waits : patience w (At when (Hear f) ∷ H) ≡ patience w H - step H when
-      waits = ap (λ (b : Bool). if b && nat_eq (patience w H - step H when) 0 then 5000000 else patience w H - step H when) (not_mine held)
-
-      delays : delayed w (At when (Hear f) ∷ H) ≡ delayed w H - step H when
-      delays = λ i. if (uncalled (is_lost (address_after w H)) i || (not_mine held i && nat_eq (patience w H - step H when) 0)) && not (is_lost (address_after w H) && owes_claim w H)
-          then w.delay * 600 else delayed w H - step H when
-
-      keeps : kept w (At when (Hear f) ∷ H) ≡ kept w H
-      keeps = ap (λ (b : Bool). if b && nat_lt (length (kept w H) - length (got H)) 16 then kept w H ++ (f.stamp, message_of f) ∷ [] else kept w H) (unwanted held)
-
-      loses : lost_news w (At when (Hear f) ∷ H) ≡ lost_news w H
-      loses = ap (λ (b : Bool). lost_news w H || (b && not (is_lost (address_after w H)))) mine ∙ no_more (lost_news w H)
-
-      others : another_news w (At when (Hear f) ∷ H) ≡ another_news w H
-      others = ap (λ (b : Bool). another_news w H || b) (not_mine held) ∙ no_more (another_news w H)
-
-      misses : missed_news w (At when (Hear f) ∷ H) ≡ missed_news w H
-      misses = ap (λ (b : Bool). missed_news w H || (b && not (nat_lt (length (kept w H) - length (got H)) 16))) (unwanted held) ∙ no_more (missed_news w H)
+      owes =
+          (λ i. owes_claim w H || (uncalled (is_lost (address_after w H)) i || (not_mine held i && nat_eq (patience w H - step H when) 0))) ∙ or-false (owes_claim w H)
 
       quiets : called w (At when (Hear f) ∷ H) ≡ called w H - (when - heard_at H)
-      quiets = (λ i. if calls_claims (holder w H) f (a.claims i) then 1250000 else called w H - (when - heard_at H))
+      quiets =
+          (λ i. if calls_claims (holder w H) f (a.claims i) then 1250000 else called w H - (when - heard_at H))
           ∙ ap (λ (b : Bool). if b then 1250000 else called w H - (when - heard_at H)) a.asks
+
+      lives : address_after w (At when (Hear f) ∷ H) ≡ older (step H when) (address_after w H)
+      lives = ap (λ (b : Bool). if b then Lost else older (step H when) (address_after w H)) mine
 
       unheard : unheard_news w (At when (Hear f) ∷ H) ≡ (ends_by w H (At when Tick) || false) || unheard_news w H
       unheard = λ i. (breaks (unchanged (known w H when f) (holder w (At when (Hear f) ∷ H)) (hearing w H) (λ b. unclaimed_known w H when f b a.claims) i || is_out (time_heard (At when Tick ∷ H)) (hearing w H)) (hearing w H)
           || unheard_is w f (found w H when f) false false unannounced unpacked i) || unheard_news w H
-
-      receives : reception w (At when (Hear f) ∷ H) ≡ reception w H
-      receives = to_others w H when f mine (λ r z. unclaimed_known w H when f r.message.source a.claims) (elsewhere w.address a.not_here)
 
       silent : (o : Option Question) (n left : ℕ) (coming lost : Bool) → end_at w o n left coming lost f (made w H when f) ≡ silence_of o n left coming lost
       silent None n left coming lost = refl
@@ -535,13 +473,6 @@ module _ (w : Who) (f : FrameRecord) (a : IsAside w f) where
           ∙ ap (first (ended w H)) (silent (open_ask H) (reached H) (wait H - step H when) coming (is_lost (older (step H when) (address_after w H))))
 
 -- ---- so no answer tells which it was
-
-pub alike : (w : Who) (later H : List Call) (when : ℕ) (f g : FrameRecord) → IsAside w f → IsAside w g → AreAnswered w (later ++ At when (Hear f) ∷ H)
-    → AreAnswered w (later ++ At when (Hear g) ∷ H)
-alike w later H when f g a b h =
-    let right = (before w later (At when (Hear f) ∷ H) h).0 in
-    same_answers w later (At when (Hear f) ∷ H) (At when (Hear g) ∷ H)
-    (aside_is w f a H when right ∙ sym (aside_is w g b H when right)) (λ r. r) h
 
 pub timely : (w : Who) (later H : List Call) (when : ℕ) (f : FrameRecord) → IsAside w f → reception w (At when Tick ∷ H) ≡ reception w H → ended w (At when (Hear f) ∷ H) ≡ ended w H
     → (AreAnswered w (later ++ At when (Hear f) ∷ H) ↔ AreAnswered w (later ++ At when Tick ∷ H))

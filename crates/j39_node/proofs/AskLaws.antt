@@ -1,28 +1,13 @@
 -- The laws of requests.
-use Rattle.std.proofs.Common.{◌≡◌, ◌⊎◌, ◌↔◌, ℕ, suc, ◌+◌, ◌-◌, ◌<◌, ◌≤◌, List, [], ◌∷◌, ◌++◌, length, Option, Some, None, Result, Ok, Err, Bool, true, false, not, ◌&&◌, ◌||◌, if◌then◌else◌, nat_eq, nat_lt, refl, sym, ap, ◌∙◌, subst, inl, inr, arith, eqb-true, IsTrue, slice_set}
-use Rattle.std.specs.List.{slice_get}
-use Rattle.std.specs.Option.{option_map}
-use Rattle.j39_frame.specs.Frame.{FrameRecord}
+use Rattle.j39_node.proofs.Common.{[], if◌then◌else◌, ◌&&◌, ◌++◌, ◌+◌, ◌-◌, ◌<◌, ◌||◌, ◌∙◌, ◌∷◌, ◌≡◌, ◌≤◌, ◌⊎◌, accepted, Ack, Acknowledged, address_after, Again, Answer, Answered, ap, AreAnswered, arith, Ask, ask_end, AskedSince, AskEnding, asks, At, Bool, Busy, Call, can_ask, claim_of, comes, Controller, Denied, end_at, ended, ends, eqb-true, false, first, FrameRecord, has_token, Hear, HeardFirst, holds, inl, inr, Is, is_acknowledgment, is_answer, is_asking, is_claim, is_full, is_lost, is_message, is_request, is_session, is_smaller, IsAnswered, IsTrue, length, List, made, marks, message_from, moment, Nack, nat_eq, nat_lt, None, NoneEnds, not, Ok, open_ask, Option, option_map, passed_in, past, Question, question, RanOut, reached, reaches, refl, Refused, request_for, Result, says_to, seeks, silent_end, slice_get, slice_set, Some, step, subst, suc, sym, TakeAskEnded, TakeFrame, time_heard, TimedOut, told, told_asks, true, wait, Who, Withdraw, ℕ, answer_to_ask, asked, passed, not_both, and_parts, not-true}
+use Rattle.j39_node.specs.declared.kinds.AskEnding.TheVariants.{Withdrawn}
+use Rattle.j39_node.specs.Asking.{is_reply, is_taken, said_by}
 use Rattle.j39_node.proofs.WithdrawLemmas.{get_front, unpassed}
-use Rattle.j39_node.specs.declared.controller.Controller.{Controller}
-use Rattle.j39_node.specs.declared.kinds.Answer.{Answer}
-use Rattle.j39_node.specs.declared.kinds.Answer.TheVariants.{Ack, Nack, Denied, Busy}
-use Rattle.j39_node.specs.declared.kinds.AskEnding.{AskEnding}
-use Rattle.j39_node.specs.declared.kinds.AskEnding.TheVariants.{Answered, Acknowledged, TimedOut, Withdrawn}
-use Rattle.j39_node.specs.declared.kinds.Refused.{Refused}
-use Rattle.j39_node.specs.declared.kinds.Refused.TheVariants.{NoAddress, BadValue, Full}
-use Rattle.j39_node.specs.History.{reached, Who, Call, accepted, address_after, holds, is_acknowledgment, is_claim, is_full, is_lost, is_session, is_smaller, message_from, moment, request_for, step, told, marks, past}
-use Rattle.j39_node.specs.History.Call.{At, TakeAskEnded, Withdraw}
-use Rattle.j39_node.specs.History.Act.{Ask, Hear, TakeFrame, Again}
-use Rattle.j39_address.specs.Claim.{claim_of}
-use Rattle.j39_node.specs.Since.{passed_in}
-use Rattle.j39_node.specs.Reception.{time_heard, is_message}
-use Rattle.j39_node.specs.Asking.{seeks, made, AskedSince, HeardFirst, NoneEnds, Question, RanOut, ask_end, asks, can_ask, comes, end_at, ended, ends, first, has_token, is_answer, is_asking, is_reply, is_request, is_taken, open_ask, question, reaches, said_by, says_to, silent_end, told_asks, wait}
-use Rattle.j39_node.specs.Is.{AreAnswered, Is, IsAnswered}
-use Rattle.j39_node.proofs.AskCases.{AskCase, ask_case, homeless, unfit, busy, asks as accepts}
+use Rattle.j39_node.proofs.AnswerCases.{ask_accepts}
+use Rattle.j39_node.proofs.AnswerCases as cases
 use Rattle.j39_node.proofs.QueueLemmas.{get_append, length_one_more}
-use Rattle.j39_node.proofs.SoundLemmas.{both, lost_older, sound, lost_unclaimed, grows_on, passes_request, request_stays}
-use Rattle.j39_node.proofs.LawLemmas.{full_from, full_parts, not_both, sent_within, stays_lost, stays_lost_claimed}
+use Rattle.j39_node.proofs.SoundLemmas.{lost_older, sound, lost_unclaimed, grows_on, passes_request, request_stays}
+use Rattle.j39_node.proofs.LawLemmas.{full_from, full_parts, sent_within, stays_lost, stays_lost_claimed}
 
 -- ---- which is open
 
@@ -39,11 +24,8 @@ none_open true o e = absurd (cc)
 none_open false None e = refl
 none_open false (Some q) e = absurd (cc)
 
-opens : (w : Who) (H : List Call) (now group to k : ℕ) → AskCase w H now group to (Ok k) → (can_ask w group to ≡ true) × (open_ask H ≡ None) × (k ≡ length (accepted w H))
-opens w H now group to k (homeless a e) = absurd (cc)
-opens w H now group to k (unfit a b e) = absurd (cc)
-opens w H now group to k (busy a b f e) = absurd (cc)
-opens w H now group to k (accepts a b f e) = (b, none_open (is_full w H) (open_ask H) f, (let z : k ≡ length (accepted w H) = cc in z))
+pub opens : (w : Who) (H : List Call) (now group to k : ℕ) → Ok k ≡ answer_to_ask w H now group to → (can_ask w group to ≡ true) × (open_ask H ≡ None) × (k ≡ length (accepted w H))
+opens w H now group to k e = let x = ask_accepts w H now group to k e in (x.1, none_open (is_full w H) (open_ask H) x.2, x.3)
 
 listed : (w : Who) (H : List Call) → AreAnswered w H → Listed (length (told_asks H)) (asks H) (open_ask H)
 listed w [] e = refl
@@ -61,7 +43,7 @@ listed w (call ∷ H) e = go call e.1 (listed w H e.0)
 
     go : (call : Call) → IsAnswered w H call → Listed (length (told_asks H)) (asks H) (open_ask H)
         → Listed (length (told_asks (call ∷ H))) (asks (call ∷ H)) (open_ask (call ∷ H))
-    go (At now (Ask group to (Ok k))) right h = new (open_ask H) (question k group to) (opens w H now group to k (ask_case w H now group to (Ok k) right)).1 h
+    go (At now (Ask group to (Ok k))) right h = new (open_ask H) (question k group to) (opens w H now group to k right).1 h
     go (TakeAskEnded (Some x)) right h = over (open_ask H) (reached H) (wait H) (ended w H) (comes w H (time_heard H)) (is_lost (address_after w H)) x right h
     go call right h = h
 
@@ -85,7 +67,7 @@ request_sent w (call ∷ H) e i q g = go call e.1 (request_sent w H e.0) i q g
     ]
 
     go : (call : Call) → IsAnswered w H call → Sent H → Sent (call ∷ H)
-    go (At now (Ask group to (Ok k))) right h = new now group to k (opens w H now group to k (ask_case w H now group to (Ok k) right)).2 h
+    go (At now (Ask group to (Ok k))) right h = new now group to k (opens w H now group to k right).2 h
     go call right h = λ i q g. grows_on w H call q.token _ right refl (h i q g)
 
 -- ---- since when it waits
@@ -149,7 +131,7 @@ waits w (call ∷ H) e q o t = go call e.1 (λ i k. waits w H e.0 q i k) o t
 
     go : (call : Call) → IsAnswered w H call → (open_ask H ≡ Some q → is_taken q H ≡ true → Waits H q) → open_ask (call ∷ H) ≡ Some q → is_taken q (call ∷ H) ≡ true → Waits (call ∷ H) q
     go (At now (Ask group to (Ok k))) right prior o t =
-        fresh now group to k (opens w H now group to k (ask_case w H now group to (Ok k) right)).2 (let z : question k group to ≡ q = cc in z) t
+        fresh now group to k (opens w H now group to k right).2 (let z : question k group to ≡ q = cc in z) t
     go (TakeAskEnded (Some x)) right prior o t = absurd (cc)
     go (At now (TakeFrame (Some f))) right prior o t = takes now f (is_request H f) prior refl o t
     go (Withdraw k true) right prior o t =
@@ -195,7 +177,7 @@ says_word w q f m e g = go (seeks q m) (reaches w f) (is_answer q f) (is_reply w
     go false true false false z = absurd (cc)
 
 -- how it ended, and what was before
-data Outcome (w : Who) (H : List Call) (q : Question) (e : AskEnding) : Type 0 where
+pub data Outcome (w : Who) (H : List Call) (q : Question) (e : AskEnding) : Type 0 where
   by_word : is_word e ≡ true → HeardFirst w H q e → Outcome w H q e
   by_time : e ≡ TimedOut → RanOut w H q → Outcome w H q e
   by_loss : e ≡ Withdrawn → is_lost (address_after w H) ≡ true → Outcome w H q e
@@ -364,35 +346,12 @@ told_is w H c k e is = go (open_ask H) (ended w H) refl refl is.answered.1
 
 -- ---- what ask answers
 
-answers : (w : Who) (H : List Call) (c : Controller) (now group to : ℕ) (answer : Result ℕ Refused) → Is w (At now (Ask group to answer) ∷ H) c → AskCase w H now group to answer
-answers w H c now group to answer is = ask_case w H now group to answer is.answered.1
-
-pub refused_address : (w : Who) (H : List Call) (c : Controller) (now group to : ℕ) (answer : Result ℕ Refused)
-    → Is w (At now (Ask group to answer) ∷ H) c → (answer ≡ Err NoAddress ↔ (IsTrue (holds w H now) → ⊥))
-refused_address w H c now group to answer is = go (answers w H c now group to answer is)
-  where
-    go : AskCase w H now group to answer → (answer ≡ Err NoAddress ↔ (IsTrue (holds w H now) → ⊥))
-    go (homeless a e) = (λ z. not_both _ a, λ z. e)
-    go (unfit a b e) = (λ z. absurd (cc), λ z. absurd (z a))
-    go (busy a b f e) = (λ z. absurd (cc), λ z. absurd (z a))
-    go (accepts a b f e) = (λ z. absurd (cc), λ z. absurd (z a))
-
-pub refused_value : (w : Who) (H : List Call) (c : Controller) (now group to : ℕ) (answer : Result ℕ Refused)
-    → Is w (At now (Ask group to answer) ∷ H) c → (answer ≡ Err BadValue ↔ (IsTrue (holds w H now) × (IsTrue (can_ask w group to) → ⊥)))
-refused_value w H c now group to answer is = go (answers w H c now group to answer is)
-  where
-    go : AskCase w H now group to answer → (answer ≡ Err BadValue ↔ (IsTrue (holds w H now) × (IsTrue (can_ask w group to) → ⊥)))
-    go (homeless a e) = (λ z. absurd (cc), λ z. absurd (not_both _ a z.0))
-    go (unfit a b e) = (λ z. (a, not_both _ b), λ z. e)
-    go (busy a b f e) = (λ z. absurd (cc), λ z. absurd (z.1 b))
-    go (accepts a b f e) = (λ z. absurd (cc), λ z. absurd (z.1 b))
-
 abbrev pub AtLimit : Who → List Call → Type 0
 AtLimit w H =
     (length (asks H) ≡ length (told_asks H) + 1)
     ⊎ ((length (accepted w H) ≡ length (told H) + 16) ⊎ (length (accepted w H) ≡ 18446744073709551615))
 
-limit : (w : Who) (H : List Call) → AreAnswered w H → (is_full w H || is_asking (open_ask H)) ≡ true → AtLimit w H
+pub limit : (w : Who) (H : List Call) → AreAnswered w H → (is_full w H || is_asking (open_ask H)) ≡ true → AtLimit w H
 limit w H right e = go (is_full w H) (open_ask H) refl (listed w H right) e
   where
     go : (b : Bool) (o : Option Question) → is_full w H ≡ b → Listed (length (told_asks H)) (asks H) o → (b || is_asking o) ≡ true → AtLimit w H
@@ -400,7 +359,7 @@ limit w H right e = go (is_full w H) (open_ask H) refl (listed w H right) e
     go false None p h z = absurd (cc)
     go false (Some q) p h z = inl (let a = h.1 in omega (arith, a))
 
-from_limit : (w : Who) (H : List Call) → AreAnswered w H → (is_full w H || is_asking (open_ask H)) ≡ false → AtLimit w H → ⊥
+pub from_limit : (w : Who) (H : List Call) → AreAnswered w H → (is_full w H || is_asking (open_ask H)) ≡ false → AtLimit w H → ⊥
 from_limit w H right e (inl z) = go (open_ask H) (none_open (is_full w H) (open_ask H) e) (listed w H right)
   where
     go : (o : Option Question) → o ≡ None → Listed (length (told_asks H)) (asks H) o → ⊥
@@ -412,48 +371,26 @@ from_limit w H right e (inr z) = go (is_full w H) e (full_from (length (accepted
     go true f g = absurd (cc)
     go false f g = absurd (cc)
 
-pub refused_full : (w : Who) (H : List Call) (c : Controller) (now group to : ℕ) (answer : Result ℕ Refused) → Is w (At now (Ask group to answer) ∷ H) c
-    → (answer ≡ Err Full ↔ (IsTrue (holds w H now) × IsTrue (can_ask w group to) × AtLimit w H))
-refused_full w H c now group to answer is = go (answers w H c now group to answer is)
-  where
-    go : AskCase w H now group to answer → (answer ≡ Err Full ↔ (IsTrue (holds w H now) × IsTrue (can_ask w group to) × AtLimit w H))
-    go (homeless a e) = (λ z. absurd (cc), λ z. absurd (not_both _ a z.0))
-    go (unfit a b e) = (λ z. absurd (cc), λ z. absurd (not_both _ b z.1))
-    go (busy a b f e) = (λ z. (a, b, limit w H is.answered.0 f), λ z. e)
-    go (accepts a b f e) = (λ z. absurd (cc), λ z. absurd (from_limit w H is.answered.0 f z.2))
-
 pub is_accepted : (w : Who) (H : List Call) (c : Controller) (now group to : ℕ) (answer : Result ℕ Refused) → Is w (At now (Ask group to answer) ∷ H) c
     → IsTrue (holds w H now) → IsTrue (can_ask w group to) → length (asks H) ≡ length (told_asks H) → length (accepted w H) < length (told H) + 16
     → length (accepted w H) < 18446744073709551615 → answer ≡ Ok (length (accepted w H))
-is_accepted w H c now group to answer is held can none room some = go (answers w H c now group to answer is)
+is_accepted w H c now group to answer is held can none room some =
+    cases.is_accepted (holds w H now) (can_ask w group to) (is_full w H || is_asking (open_ask H)) (length (accepted w H)) answer is.answered.1 held can (λ f. no (limit w H is.answered.0 f))
   where
     no : AtLimit w H → ⊥
     no (inl z) = omega (arith, z, none)
     no (inr (inl z)) = omega (arith, z, room)
     no (inr (inr z)) = omega (arith, z, some)
 
-    go : AskCase w H now group to answer → answer ≡ Ok (length (accepted w H))
-    go (homeless a e) = absurd (not_both _ a held)
-    go (unfit a b e) = absurd (not_both _ b can)
-    go (busy a b f e) = absurd (no (limit w H is.answered.0 f))
-    go (accepts a b f e) = e
-
-pub token_is : (w : Who) (H : List Call) (c : Controller) (now group to k : ℕ) → Is w (At now (Ask group to (Ok k)) ∷ H) c → k ≡ length (accepted w H)
-token_is w H c now group to k is = (opens w H now group to k (answers w H c now group to (Ok k) is)).2
-
 -- ---- its frame
-
-pub frame_is : (w : Who) (H : List Call) (c : Controller) (i : ℕ) (q : Question) → Is w H c → slice_get (asks H) i ≡ Some q
-    → slice_get (accepted w H) q.token ≡ Some (q.token, message_from w (request_for q.group q.to))
-frame_is w H c i q is g = request_sent w H is.answered i q g
 
 pub taken_once : (w : Who) (H : List Call) (c : Controller) (now : ℕ) (f : FrameRecord) (q : Question) → Is w H c → open_ask H ≡ Some q → IsTrue (is_request H f)
     → (is_taken q H ≡ false) × IsTrue (is_taken q (At now (TakeFrame (Some f)) ∷ H)) × (reached H ≡ q.token)
 taken_once w H c now f q is o r =
-    let b = both (is_message f) (has_token (open_ask H) (reached H)) r in
+    let b = and_parts (is_message f) (has_token (open_ask H) (reached H)) r in
     let z = eqb-true q.token (reached H) (sym (ap (λ (x : Option Question). has_token x (reached H)) o) ∙ b.1) in (
       not_less q.token (reached H) z,
-      taken_then w H now f q false is.answered o (single (is_claim f || (is_acknowledgment f || is_session f)) b.0) ∙ less q.token (reached H) z,
+      taken_then w H now f q false is.answered o (not-true (is_claim f || (is_acknowledgment f || is_session f)) b.0) ∙ less q.token (reached H) z,
       sym z,
     )
   where
@@ -462,14 +399,6 @@ taken_once w H c now f q is o r =
 
     less : (k n : ℕ) → k ≡ n → nat_lt k (suc n) ≡ true
     less k n e = grind arith
-
-    single : (b : Bool) → not b ≡ true → b ≡ false
-    single true e = absurd (cc)
-    single false e = refl
-
-pub since_taken : (w : Who) (H : List Call) (c : Controller) (q : Question) → Is w H c → open_ask H ≡ Some q → IsTrue (is_taken q H)
-    → (e : ℕ) × AskedSince H q e × (wait H ≡ 1250000 - e)
-since_taken w H c q is o t = waits w H is.answered q o t
 
 -- ---- what is told
 
@@ -488,22 +417,14 @@ in_turn w H c k e is =
 same_open : (H : List Call) (p q : Question) → open_ask H ≡ Some p → open_ask H ≡ Some q → p ≡ q
 same_open H p q e f = let z : Some p ≡ Some q = sym e ∙ f in cc
 
-out_of : (w : Who) (H : List Call) (c : Controller) (k : ℕ) (e : AskEnding) (q : Question) → Is w (TakeAskEnded (Some (k, e)) ∷ H) c → open_ask H ≡ Some q → Outcome w H q e
+pub out_of : (w : Who) (H : List Call) (c : Controller) (k : ℕ) (e : AskEnding) (q : Question) → Is w (TakeAskEnded (Some (k, e)) ∷ H) c → open_ask H ≡ Some q → Outcome w H q e
 out_of w H c k e q is o =
     let t = told_is w H c k e is in subst (λ (p : Question). Outcome w H p e) (same_open H t.question q t.current o) t.out
 
-word_of : (w : Who) (H : List Call) (q : Question) (e : AskEnding) → is_word e ≡ true → Outcome w H q e → HeardFirst w H q e
+pub word_of : (w : Who) (H : List Call) (q : Question) (e : AskEnding) → is_word e ≡ true → Outcome w H q e → HeardFirst w H q e
 word_of w H q e k (by_word l h) = h
 word_of w H q e k (by_time z h) = absurd (let y : false ≡ true = sym (ap is_word z) ∙ k in cc)
 word_of w H q e k (by_loss z h) = absurd (let y : false ≡ true = sym (ap is_word z) ∙ k in cc)
-
-pub answered_means : (w : Who) (H : List Call) (c : Controller) (k : ℕ) (q : Question) → Is w (TakeAskEnded (Some (k, Answered)) ∷ H) c → open_ask H ≡ Some q
-    → HeardFirst w H q Answered
-answered_means w H c k q is o = word_of w H q Answered refl (out_of w H c k Answered q is o)
-
-pub acknowledged_means : (w : Who) (H : List Call) (c : Controller) (k : ℕ) (a : Answer) (q : Question) → Is w (TakeAskEnded (Some (k, Acknowledged a)) ∷ H) c
-    → open_ask H ≡ Some q → HeardFirst w H q (Acknowledged a)
-acknowledged_means w H c k a q is o = word_of w H q (Acknowledged a) refl (out_of w H c k (Acknowledged a) q is o)
 
 pub timed_out_means : (w : Who) (H : List Call) (c : Controller) (k : ℕ) (q : Question) → Is w (TakeAskEnded (Some (k, TimedOut)) ∷ H) c → open_ask H ≡ Some q
     → RanOut w H q

@@ -1,24 +1,8 @@
 -- What is sent to it whole is received.
-use Rattle.std.proofs.Common.{◌≡◌, ◌≢◌, ◌⊎◌, ℕ, suc, ◌+◌, ◌*◌, ◌<◌, ◌≤◌, ◌==◌, List, [], ◌∷◌, ◌++◌, take, Option, Some, None, Bool, true, false, not, ◌||◌, if◌then◌else◌, IsTrue, nat_eq, refl, sym, ap, ◌∙◌, subst, inl, inr, arith, eqb-true, eq-eqb}
-use Rattle.std.proofs.lemmas.Bool.{cond_both}
-use Rattle.j39_frame.specs.Frame.{FrameRecord}
-use Rattle.j39_frame.specs.Identifier.{source_of}
-use Rattle.j39_address.specs.Claim.{claim_of}
+use Rattle.j39_node.proofs.Common.{[], if◌then◌else◌, ◌*◌, ◌++◌, ◌+◌, ◌<◌, ◌==◌, ◌||◌, ◌∙◌, ◌∷◌, ◌≡◌, ◌≢◌, ◌≤◌, ◌⊎◌, Abort, address_after, ap, arith, asks_again, At, begins, Bool, Bring, brings, Call, claim_of, cond_both, delivers_message, Directed, eq-eqb, eqb-true, false, FrameRecord, goes_on, granted_at, grants, has_place, Hear, Heard, heard_by, holder, holds, inl, inr, is_claim, is_lost, is_of_sender, is_reply, is_smaller, IsPacket, IsTrue, keeps, known, leaves, left, limit_in, limit_of, List, Lost, MessageRecord, nat_eq, None, not, number_in, older, Option, Packet, packet_in, quiet, Reaction, Reception, reception, ReceptionRecord, recv_step, RecvResult, refl, released_by, ReleaseTransfer, RequestToSend, result_of, said_to, SessionRecord, shown, Signal, since_by, Some, source_of, Spares, spares, step, step_at, strays, subst, suc, sym, take, TakeFrame, taken_by, takes, takes_data, takes_packet, takes_request, takes_signal, Tick, time_heard, timer_t1, touched, true, Who, whole, whole_by, ℕ}
+use Rattle.j39_transport.specs.Reception.{begun, message_of}
+use Rattle.j39_transport.specs.Session.{grown}
 use Rattle.j39_transport.specs.Frames as frames
-use Rattle.j39_transport.specs.Key.{Directed}
-use Rattle.j39_transport.specs.Message.{MessageRecord}
-use Rattle.j39_transport.specs.Protocol.{timer_t1}
-use Rattle.j39_transport.specs.Reception.{ReceptionRecord, Reaction, asks_again, begun, delivers_message, goes_on, granted_at, grants, limit_of, message_of, quiet, takes_data, takes_packet, takes_request, takes_signal}
-use Rattle.j39_transport.specs.Receiving.{RecvResult, Heard, recv_step, result_of, said_to}
-use Rattle.j39_transport.specs.Session.{SessionRecord, grown, touched}
-use Rattle.j39_transport.specs.Signals.{Signal, RequestToSend, Abort, Packet}
-use Rattle.j39_node.specs.History.{Who, Call, address_after, holds, is_claim, is_lost, is_smaller, older, step}
-use Rattle.j39_node.specs.History.Address.{Lost}
-use Rattle.j39_node.specs.History.Call.{At, ReleaseTransfer}
-use Rattle.j39_node.specs.History.Act.{Hear, Tick, TakeFrame}
-use Rattle.j39_node.specs.Packets.{Bring, IsPacket, Spares, is_of_sender}
-use Rattle.j39_node.specs.Packets.Bring.{begins, brings, spares}
-use Rattle.j39_node.specs.Reception.{Reception, has_place, heard_by, holder, keeps, leaves, left, limit_in, number_in, packet_in, reception, released_by, shown, since_by, step_at, strays, taken_by, takes, time_heard, whole, whole_by, known, is_reply}
 use Rattle.j39_node.proofs.PacketLemmas.{hushed, quiet_step, shown_both, since_same}
 use Rattle.j39_node.proofs.ReceptionLaws.{from_others, not_driven, not_left_by, quiet_tick, said_no_claim, stays_with}
 use Rattle.j39_node.proofs.SessionLaws as session

@@ -1,59 +1,21 @@
 -- A call more.
-use Rattle.std.proofs.Common.{ltb-true, ◌≡◌, ℕ, suc, ◌+◌, ◌-◌, ◌<◌, ◌≤◌, List, [], ◌∷◌, ◌++◌, length, map, drop, max, min, Option, Some, None, IfSome, Result, Ok, Err, Bool, true, false, not, ◌&&◌, ◌||◌, if◌then◌else◌, nat_eq, nat_lt, nat_le, refl, sym, ap, ◌∙◌, subst, arith, lt-ltb, eqb-true, inl, inr, ◌*◌, slice_set, ltb-false}
-use Rattle.std.specs.List.{slice_get}
-use Rattle.std.specs.Option.{option_map, option_or}
-use Rattle.j39_frame.specs.Frame.{FrameRecord}
-use Rattle.j39_address.specs.Claim.{claim_of}
-use Rattle.j39_address.specs.Claims.{Knows, holder_in}
-use Rattle.j39_transport.specs.Message.{MessageRecord}
-use Rattle.std.proofs.lemmas.List.{drop-map, length-drop, length-set}
-use Rattle.j39_node.specs.declared.kinds.Ending.{Ending}
+use Rattle.j39_node.proofs.KindLemmas.{Kind, kind, kind_is, single, of_session}
+use Rattle.j39_node.proofs.SoundLemmas.FrameCase.{claims as claims_first, acknowledges, replies, sends, packs, transfers}
+use Rattle.j39_node.proofs.Common.{led, le-ltb, [], if◌then◌else◌, ◌&&◌, ◌++◌, ◌+◌, ◌-◌, ◌<◌, ◌||◌, ◌∙◌, ◌∷◌, ◌≡◌, ◌≤◌, accepted, acknowledged, acknowledgment, Address, address_after, after, age, all_transfers, ap, AreAnswered, arith, Asked, asked_by, asking_of, AskRecord, asks_claims, asks_with, At, at_in, blank, Bool, breaks_it, Busy, Call, called, can_claim, can_send, claim_address, claim_due, claim_from, claim_goes, claim_of, Claimed, claimed, Claims, claims, clock, clock_at, comes, content, control_of, Controller, counted, delayed, Done, Draft, drop, drop-map, Due, due, end_of, ended, Ending, ending_of, eqb-true, false, FrameRecord, gives_way, has_packets, has_place, has_token, Hear, heard_at, heard_by, hearing, hearing_after, hearing_of, held_at, Hold, hold_acknowledged, hold_after, hold_asked, hold_claimed, hold_spoken, hold_went, holder, holder_in, holds, holds_back, IfSome, in_broadcast, in_session, Incoming, incoming_after, incoming_of, IncomingRecord, inl, inr, Is, is_apart, is_blank, is_busy, is_claim, is_coming, is_engaged, is_full, is_held, is_left, is_lost, is_open, is_resting, is_same, is_served, is_smaller, is_there, is_turn, IsAnswered, IsApart, IsNamed, known, Knows, lane_after, lane_of, latest, leaves, leaves_it, left, left_at, length, length-drop, length-set, less, List, Lost, lost, lt-ltb, ltb-false, ltb-true, made_by, made_of, map, marks, max, may_claim, may_go, Message, message_from, message_of, MessageRecord, min, missed, missed_news, moment, Move, Nack, named_in, nat_eq, nat_le, nat_lt, newly, news_after, next_acknowledgment, next_due, next_frame, next_packet, next_renewed, next_transfer, next_transfer_ended, next_turn, next_withdrawn, None, not, NotClaimed, nothing, offered, older, open_ask, open_broadcast, open_transfer, Option, option_map, other, Outgoing, owes_claim, packet_by, packets, packets_in, passed, past, pause, paused, place_of, port_after, port_of, posted, reached, Ready, ready_in, reception, ReceptionRecord, refl, refusal_by, Renew, Renews, Reply, rest, resting, resting_by, Said, said_by, sends_if, session_by, Single, slice_get, slice_get_past, slice_get_within, slice_set, Some, sooner, stamp_at, stamped, standing_of, stands, step, subst, suc, sym, TakeEnded, TakeFrame, taken_by, time_heard, told, told_claims, transfer_by, transfer_end, transfer_in, true, Turn, turn_frame, turn_of, turns, unclaimed, unclaims, unheard_news, Untold, View, view, wait, waiting, Who, who_of, with_called, with_reception, with_refusal, with_replies, with_request, Withdraw, Withdrawn, yields, ℕ, leb-true, IsOthers, is_asking}
+use Rattle.j39_node.specs.Reception.{is_waiting}
+use Rattle.j39_node.specs.Transfers.{packet_in}
+use Rattle.j39_node.specs.Is.{hears}
+use Rattle.j39_node.specs.declared.turn.Turn.TheVariants.{Packet}
 use Rattle.j39_node.proofs.WithdrawLemmas.{past_rest}
-use Rattle.j39_node.specs.declared.controller.Controller.{Controller}
-use Rattle.j39_node.specs.declared.hold.Hold.{Hold}
-use Rattle.j39_node.specs.declared.hold.Standing.{Standing}
 use Rattle.j39_node.specs.declared.hold.Standing.TheVariants as standing
-use Rattle.j39_node.specs.declared.lane.Open.{Open}
 use Rattle.j39_node.specs.declared.transfers.Open as transfers
-use Rattle.j39_node.specs.declared.kinds.TransferEnding.{TransferEnding}
-use Rattle.j39_node.specs.declared.outgoing.Outgoing.{Outgoing}
-use Rattle.std.proofs.lemmas.Option.{slice_get_past, slice_get_within}
-use Rattle.j39_node.specs.declared.news.Untold.{Untold}
-use Rattle.j39_node.specs.declared.requests.Due.{Due}
-use Rattle.j39_node.specs.declared.requests.Request.{Request}
-use Rattle.j39_node.specs.declared.kinds.Answer.{Answer}
-use Rattle.j39_node.specs.declared.kinds.Answer.TheVariants.{Nack, Busy}
-use Rattle.j39_node.specs.declared.kinds.Ending.TheVariants.{Done, Withdrawn}
-use Rattle.j39_node.specs.declared.kinds.Refused.{Refused}
-use Rattle.j39_node.specs.declared.kinds.Refused.TheVariants.{NoAddress, BadValue, Full}
-use Rattle.j39_node.specs.declared.kinds.AskEnding.{AskEnding}
-use Rattle.j39_transport.specs.Reception.{ReceptionRecord}
-use Rattle.j39_node.specs.Asking.{comes, in_broadcast, in_session, is_coming, made, made_of, ended, has_token, open_ask, wait}
-use Rattle.j39_node.proofs.AskLemmas.{ask_heard, ask_more, ask_same, takes, token_of, wait_more, wait_same, ask_withdrawn}
-use Rattle.j39_node.specs.Is.{AskRecord, made_by, asking_of, hears_with, silence, claim_due, next_renewed, Renews, may_go, next_withdrawn, place_of, ending_of, AreAnswered}
-use Rattle.j39_node.specs.Hold.{acknowledged as hold_acknowledged, claimed as hold_claimed, rested, spoken as hold_spoken, went as hold_went, asked as hold_asked, standing_of, less, passed, heard, claims, paused, stands, lost, left_at, opens as hold_opens, can_claim, unclaims, anew}
-use Rattle.j39_node.specs.History.{reached, nothing, patience, turns, Who, Message, Draft, Call, Address, message_of, older, claimed, address_after, holds, is_lost, is_held, is_smaller, claim_address, claim_from, owes_claim, calls_for_claim, can_send, message_from, accepted, told, is_full, step, moment, is_for_program, kept, got, missed, Asked, asked, acknowledgment, acknowledged, due, handed, requests, is_served, with_request, with_refusal, stamp_at, held_at, told_claims, is_another, is_acknowledgment, is_claim, lost_news, another_news, missed_news, broadcasts, broadcast_from, can_broadcast, has_packets, is_busy, is_left, is_open, is_packet, open_broadcast, packets, pause, asks_with, is_session, content, fresh, is_refusal_due, delayed, is_double, may_claim, double, unclaimed, latest, marks, past, blank, is_blank}
-use Rattle.j39_node.specs.History.Call.{At, TakeEnded, TakeRequest, TakeTransferEnded, Renew, Withdraw}
-use Rattle.j39_node.specs.History.Act.{Hear, Tick, TakeFrame, Send, Acknowledge, Broadcast, Transfer, Again}
-use Rattle.j39_node.proofs.ReceptionLaws.{made_is}
-use Rattle.j39_node.specs.Reception.{yields, has_place, IsApart, heard_at, heard_by, holder, is_same, is_waiting, later, leaves, left, reception, time_heard, whole, known, asks_claims, called, claimed_again, is_message, restarts, still, is_reply}
-use Rattle.j39_node.specs.declared.incoming.Incoming.{Incoming}
-use Rattle.j39_node.specs.declared.incoming.Said.{Said}
-use Rattle.j39_address.specs.declared.claims.Claims.{Claims}
-use Rattle.j39_node.proofs.ReceptionLemmas.{leaves_is, replied_get, taken_is, tidy, again_is, calls_is, leaves_still, no_reply}
-use Rattle.j39_node.specs.Transfers.{holds_back, is_resting, rest, resting, rests_after, Running, age, answer_to_transfer, at_in, begun, can_transfer, clock, clock_at, is_engaged, next_due, next_transfer, next_transfer_ended, hears_if, is_replaced, open_transfer, packet_in, packets_in, sends_if, sooner, transfer_by, transfer_end, transfer_in, transfers as all_transfers}
-use Rattle.j39_node.specs.History.Address.{NotClaimed, Claimed, Lost}
-use Rattle.j39_node.specs.Is.{Is, claim_goes, gives_way, is_there, next_acknowledgment, stamped, next_frame, end_of, answer_to_send, answer_to_acknowledge, hold_after, who_of, posted, received_by, request_by, refusal_by, offered, counted, LaneRecord, opened, lane_of, lane_after, packet_by, control_of, next_packet, IncomingRecord, IsNamed, incoming_of, incoming_after, named_in, session_by, with_called, said_by, with_reception, with_replies, hears, answer_to_broadcast, PortRecord, closed, port_after, port_of, resting_by, running, HearingRecord, hearing_of, news_after, ticks, is_turn, next_turn, other, ready_in, turn_frame, turn_of, is_apart, ready}
-use Rattle.j39_node.specs.declared.turn.Ready.{Ready}
-use Rattle.j39_node.specs.declared.turn.Turn.{Turn}
-use Rattle.j39_node.specs.declared.turn.Turn.TheVariants.{Reply, Single, Packet, Move}
-use Rattle.j39_frame.specs.Stamp.{stamp_micros}
-use Rattle.j39_node.specs.Hearing.{IsFit, breaks as breaks_it, hearing, hears as hears_it, is_out, is_unheard, left as leaves_it, made_whole, newly, unheard_news, waiting, whole_of, OpenBroadcast}
-use Rattle.j39_node.proofs.HearingLemmas.{always, broken_news, claimed_on, either_news, hearing_same, heard_on, is_hearing, leaves_on, news_same, missed_one}
+use Rattle.j39_node.proofs.AskLemmas.{asking_is, ask_more, takes, token_of, ask_withdrawn}
+use Rattle.j39_node.proofs.ReceptionLemmas.{leaves_is, tidy, calls_is, leaves_still}
+use Rattle.j39_node.proofs.HearingLemmas.{broken_news, claimed_on, hearing_same, is_hearing, news_same, missed_one}
 use Rattle.j39_node.proofs.QueueLemmas.{length_one_more, length_map, map_append, length_rest, in_rest, not_in_rest, First, drop_append, get_at, get_map, get_of_drop}
-use Rattle.j39_node.proofs.SoundLemmas.{apart_is, reply_is, IsTurn, frame_there, is_directed, overdue_due, packet_there, some_at, turn_is, turned, sound, own_of, due_get, due_taken, claim_taken, message_taken, plain_taken, acknowledged_is, address_is, frame_by, front_length, held_not_lost, holding_not_lost, lost_older, read, single_taken, claim_single, no_packet, packet_session, reply_taken, packet_taken, packets_is, pause_is, no_transfer, transfer_taken, no_move, reply_no_move, is_moved, reached_is, Sound, withdraw_case}
+use Rattle.j39_node.proofs.SoundLemmas.{IsTurn, frame_there, overdue_due, packet_there, some_at, turn_is, sound, frame_by, held_not_lost, holding_not_lost, lost_older, Sound, withdraw_case, acknowledged_is_due}
 use Rattle.j39_node.proofs.FrameLemmas.{at_now}
-use Rattle.j39_node.proofs.PortLemmas.{clock_is, is_port, port_more, port_same, ported, replaced_is}
+use Rattle.j39_node.proofs.PortLemmas.{clock_is, is_port}
 use Rattle.j39_node.proofs.RenewLemmas.{latest_rest, latest_is, set_rest}
 
 -- ---- the hold
@@ -76,150 +38,110 @@ lost_is NotClaimed = refl
 lost_is (Claimed e) = refl
 lost_is Lost = refl
 
--- what passed makes of the hold
-pub record Passed (w : Who) (H : List Call) (now : ℕ) (h : Hold) : Type 0 where
-  pub moment : h.moment ≡ now
-  pub standing : h.standing ≡ standing_of (older (step H now) (address_after w H))
-  pub owes : h.owes_claim ≡ owes_claim w H
-  pub turns : h.turns ≡ min (turns H) 2
-  pub yields : h.yields ≡ yields w H
-  pub patience : h.patience ≡ patience w H - step H now
-  pub delay : h.delay ≡ delayed w H - step H now
-  pub pause : h.pause ≡ pause H - step H now
-  pub age : h.age ≡ min (age H + step H now) 18446744073709551615
-  pub wait : h.wait ≡ wait H - step H now
-  pub rest : h.rest ≡ rest w H - step H now
+abbrev pub Passed : Who → List Call → ℕ → Hold → Type 0
+Passed w H now k = k ≡ led w H now
 
 saturates : (a s : ℕ) → min (min a 18446744073709551615 + s) 18446744073709551615 ≡ min (a + s) 18446744073709551615
 saturates a s = omega arith
 
 pub passed_is : (w : Who) (H : List Call) (now : ℕ) (old new : Hold) → old ≡ hold_after w H → new ≡ passed now old → Passed w H now new
 passed_is w H now old new e f =
-    let g = f ∙ ap (passed now) e in
-    record {
-      moment = ap (λ (h : Hold). h.moment) g;
-      standing = ap (λ (h : Hold). h.standing) g ∙ less_is (step H now) (address_after w H);
-      owes = ap (λ (h : Hold). h.owes_claim) g;
-      turns = ap (λ (h : Hold). h.turns) g;
-      yields = ap (λ (h : Hold). h.yields) g;
-      patience = ap (λ (h : Hold). h.patience) g;
-      delay = ap (λ (h : Hold). h.delay) g;
-      pause = ap (λ (h : Hold). h.pause) g;
-      age = ap (λ (h : Hold). h.age) g ∙ saturates (age H) (step H now);
-      wait = ap (λ (h : Hold). h.wait) g;
-      rest = ap (λ (h : Hold). h.rest) g;
-    }
+    f ∙ (ap (passed now) e ∙ λ i. record (led w H now) { standing = less_is (step H now) (address_after w H) i; age = saturates (age H) (step H now) i })
 
 pub holds_is : (w : Who) (H : List Call) (now : ℕ) (h : Hold) (b : Bool) → Passed w H now h → b ≡ stands h.standing → b ≡ holds w H now
-holds_is w H now h b p e = e ∙ (ap stands p.standing ∙ stands_is (older (step H now) (address_after w H)))
+holds_is w H now h b p e = e ∙ (ap stands (ap (λ (k : Hold). k.standing) p) ∙ stands_is (older (step H now) (address_after w H)))
 
-pub is_hold : (h k : Hold) → h.turns ≡ k.turns → h.yields ≡ k.yields → h.patience ≡ k.patience → h.delay ≡ k.delay → h.rest ≡ k.rest → h.moment ≡ k.moment → h.standing ≡ k.standing → h.owes_claim ≡ k.owes_claim → h.pause ≡ k.pause
-    → h.age ≡ k.age → h.wait ≡ k.wait → h ≡ k
-is_hold h k d y q v r e f g i j l = λ t. (let x : Hold = record
-    { turns = d t; yields = y t; patience = q t; delay = v t; rest = r t; moment = e t; standing = f t; owes_claim = g t; pause = i t; age = j t; wait = l t } in x)
+-- ---- a call by which nobody else holds an address
+
+pub follows : {w : Who} {H : List Call} {old new : Controller} {call : Call} → Is w H old → new.holders ≡ old.holders → IsAnswered w H call
+    → told_claims w (call ∷ H) ≡ told_claims w H → view w new ≡ after w (call ∷ H) → Is w (call ∷ H) new
+follows {w} {H} {old} {new} h k answer t v =
+    record { shown = v; answered = (h.answered, answer); holders = subst (Knows new.holders) (sym t) (subst (λ table. Knows table (told_claims w H)) (sym k) h.holders) }
 
 -- ---- the lane
-
-is_lane : (l k : LaneRecord) → l.current ≡ k.current → l.count ≡ k.count → l.next_token ≡ k.next_token → l ≡ k
-is_lane l k e f g =
-    ap (λ (x : Option (ℕ × MessageRecord)). record l { current = x }) e
-    ∙ (ap (λ (x : ℕ). record l { current = k.current; count = x }) f
-    ∙ ap (λ (x : ℕ). record l { current = k.current; count = k.count; next_token = x }) g)
-
--- a frame that is none of packets leaves it
-lane_same : (w : Who) (H : List Call) (now : ℕ) (f : FrameRecord) → is_packet f ≡ false → lane_after w H ≡ lane_after w (At now (TakeFrame (Some f)) ∷ H)
-lane_same w H now f e = ap (λ (xs : List Message). record (lane_after w H) { count = length xs }) (sym (packets_is H now f false e))
 
 pub packet_next : (w : Who) (H : List Call) (c : Controller) (now left : ℕ) → Is w H c → left ≡ pause H - step H now
     → packet_by (lane_of (who_of w.brought c.own) c.lane).current c.lane.count left ≡ next_packet w H now
 packet_next w H c now left h e =
-    ap (λ (v : Who). packet_by (lane_of v c.lane).current c.lane.count left) h.who
-    ∙ (ap (λ (l : LaneRecord). packet_by l.current l.count left) h.lane ∙ ap (packet_by (open_broadcast w H) (length (packets H))) e)
+    ap (λ (u : View). packet_by (lane_of u.who c.lane).current c.lane.count left) h.shown
+    ∙ (ap (λ (v : View). packet_by v.lane.current v.lane.count left) h.shown ∙ ap (packet_by (open_broadcast w H) (length (packets H))) e)
+
+-- ---- a frame is taken
+
+-- what a history says behind a frame of this kind
+abbrev framed : Who → List Call → ℕ → FrameRecord → Kind → View
+framed w H now f k =
+    let G = At now (TakeFrame (Some f)) ∷ H in
+    let n = if k.claim || (k.acknowledgment || k.session) then reached H else past (marks H) (suc (reached H)) in
+    record (after w G) {
+      hold = record (led w H now) {
+        standing = standing_of (if k.claim then claimed (older (step H now) (address_after w H)) else older (step H now) (address_after w H));
+        owes_claim = if k.claim then false else owes_claim w H;
+        turns = min (if k.claim || k.acknowledgment then suc (turns H) else 0) 2;
+        yields = if k.claim || k.acknowledgment then yields w H else k.reply;
+        pause = if k.packet then 150000 else pause H - step H now;
+        wait = if not (k.claim || (k.acknowledgment || k.session)) && has_token (open_ask H) (reached H) then 1250000 else wait H - step H now;
+      };
+      taken = n - length (told H);
+      asking = asked_by (open_ask H) n (ended w H);
+      acknowledgments = drop (length (if k.claim || not k.acknowledgment then acknowledged H else acknowledged H ++ message_of f ∷ [])) (due w H);
+      lane = record (lane_after w H) { count = length (if k.packet then packets H ++ message_of f ∷ [] else packets H) };
+      incoming =
+          let r = taken_by k.claim k.reply (leaves (holder w H) (holder w G) (reception w H).session) (reception w H) in
+          record (incoming_after w H) {
+            named = named_in r.session;
+            called = if k.claim || (not (k.claim || (k.acknowledgment || k.session)) && asks_claims f) then 1250000 + (now - heard_at H) else called w H;
+            reception = r;
+          };
+      port = record (port_after w H) { current = sends_if k.move (clock_at H now) (open_transfer w H) };
+    }
+
+-- one that is no claim leaves what is heard
+frames : {w : Who} {H : List Call} {old new : Controller} {now : ℕ} {f : FrameRecord} (k : Kind) → Is w H old → new.holders ≡ old.holders
+    → Some (stamped f) ≡ next_frame w H now → kind w H f ≡ k → k.claim ≡ false
+    → view w new ≡ record (framed w H now f k) { news = news_after w H; hearing = hearing_after w H } → Is w (At now (TakeFrame (Some f)) ∷ H) new
+frames {w} {H} {old} {new} {now} {f} k h e answer is n v =
+    let unclaimed : is_claim f ≡ false = ap (λ (k : Kind). k.claim) is ∙ n in
+    follows h e answer (ap (λ (b : Bool). if b then told_claims w H ++ f ∷ [] else told_claims w H) unclaimed)
+    (v ∙ ((λ i. record (framed w H now f k) { news = news_same w H now f unclaimed i; hearing = hearing_same w H now f unclaimed i })
+    ∙ sym (ap (framed w H now f) is)))
 
 -- ---- what is received in packets
 
 pub replies_is : (w : Who) (H : List Call) (c : Controller) → Is w H c → map (said_by c.incoming.receiver.state.own) c.incoming.replies.items ≡ (reception w H).replies
-replies_is w H c h = ap (λ (x : IncomingRecord). x.reception.replies) h.incoming
+replies_is w H c h = ap (λ (v : View). v.incoming.reception.replies) h.shown
 
 replies_length : (w : Who) (H : List Call) (c : Controller) → Is w H c → length c.incoming.replies.items ≡ length (reception w H).replies
 replies_length w H c h = sym (length_map (said_by c.incoming.receiver.state.own) c.incoming.replies.items) ∙ ap length (replies_is w H c h)
 
-is_empty : {T : Type 0} (xs : List T) → length xs ≡ 0 → xs ≡ []
-is_empty [] e = refl
-is_empty (x ∷ xs) e = absurd (cc)
-
-none_replied : (w : Who) (H : List Call) (c : Controller) → Is w H c → length c.incoming.replies.items ≡ 0 → (reception w H).replies ≡ []
-none_replied w H c h e = is_empty (reception w H).replies (sym (replies_length w H c h) ∙ e)
-
 -- what was kept of the open session's RTS
-kept_named : (w : Who) (H : List Call) (c : Controller) → Is w H c → IsNamed (incoming_of c.incoming)
-kept_named w H c h = subst IsNamed (sym h.incoming) refl
-
--- a frame that is taken and calls for no claims
-uncalled : (w : Who) (H : List Call) (now : ℕ) (f : FrameRecord) (b s : Bool) → is_claim f ≡ false → is_acknowledgment f ≡ b → is_session f ≡ s → (b || s) ≡ true
-    → called w (At now (TakeFrame (Some f)) ∷ H) ≡ called w H
-uncalled w H now f b s e g k t =
-    (λ i. if e i || (not (e i || (g i || k i)) && asks_claims f) then 1250000 + (now - heard_at H) else called w H)
-    ∙ ap (λ (c : Bool). if not c && asks_claims f then 1250000 + (now - heard_at H) else called w H) t
-
-incoming_same : (w : Who) (H : List Call) (now : ℕ) (f : FrameRecord) → reception w (At now (TakeFrame (Some f)) ∷ H) ≡ reception w H
-    → called w (At now (TakeFrame (Some f)) ∷ H) ≡ called w H
-    → incoming_after w H ≡ incoming_after w (At now (TakeFrame (Some f)) ∷ H)
-incoming_same w H now f e c = λ i. record { moment = heard_at H; clock = time_heard H; own = w.address; has_box = true; named = named_in (sym e i).session; called = sym c i; reception = sym e i }
+pub kept_named : (w : Who) (H : List Call) (c : Controller) → Is w H c → IsNamed (incoming_of c.incoming)
+kept_named w H c h = subst IsNamed (sym (ap (λ (v : View). v.incoming) h.shown)) refl
 
 told_is : (w : Who) (H : List Call) (now : ℕ) (f : FrameRecord) → is_claim f ≡ true → told_claims w (At now (TakeFrame (Some f)) ∷ H) ≡ told_claims w H ++ f ∷ []
 told_is w H now f e = ap (λ (b : Bool). if b then told_claims w H ++ f ∷ [] else told_claims w H) e
 
--- a message is taken, that may ask for claims
-message_called : (w : Who) (H : List Call) (now : ℕ) (f : FrameRecord) (calls : Bool) → calls ≡ asks_claims f → is_claim f ≡ false → is_acknowledgment f ≡ false → is_session f ≡ false
-    → reception w (At now (TakeFrame (Some f)) ∷ H) ≡ reception w H
-    → with_called (if calls then 1250000 + (now - heard_at H) else called w H) (incoming_after w H) ≡ incoming_after w (At now (TakeFrame (Some f)) ∷ H)
-message_called w H now f calls e n l s r = λ i. record {
-  moment = heard_at H;
-  clock = time_heard H;
-  own = w.address;
-  has_box = true;
-  named = named_in (sym r i).session;
-  called = (ap (λ (b : Bool). if b then 1250000 + (now - heard_at H) else called w H) e
-      ∙ λ j. if sym n j || (not (sym n j || (sym l j || sym s j)) && asks_claims f) then 1250000 + (now - heard_at H) else called w H) i;
-  reception = sym r i;
-}
-
 -- its own claim is taken
-incoming_claimed : (w : Who) (H : List Call) (old : Controller) (now : ℕ) (f : FrameRecord) (table : Claims) → Is w H old → is_claim f ≡ true
+incoming_claimed : (w : Who) (H : List Call) (old : Controller) (now : ℕ) (f : FrameRecord) (table : Claims) → Is w H old → kind w H f ≡ single true false
     → Knows table (told_claims w (At now (TakeFrame (Some f)) ∷ H))
     → with_called (1250000 + (now - (incoming_of old.incoming).moment))
     (with_reception (left (leaves (holder_in old.holders) (holder_in table) (incoming_of old.incoming).reception.session) (incoming_of old.incoming).reception) (incoming_of old.incoming))
     ≡ incoming_after w (At now (TakeFrame (Some f)) ∷ H)
-incoming_claimed w H old now f table h e knows =
-    let G = At now (TakeFrame (Some f)) ∷ H in
-    ap (λ (x : IncomingRecord). with_called (1250000 + (now - x.moment)) (with_reception (left (leaves (holder_in old.holders) (holder_in table) x.reception.session) x.reception) x)) h.incoming
-    ∙ (ap (λ (b : Bool). with_called (1250000 + (now - heard_at H)) (with_reception (left b (reception w H)) (incoming_after w H))) (leaves_is w old.holders table H G (reception w H).session h.holders knows)
-    ∙ λ i. record {
-      moment = heard_at H;
-      clock = time_heard H;
-      own = w.address;
-      has_box = true;
-      named = named_in (sym (taken_is w H now f true _ e refl) i).session;
-      called = (if sym e i || (is_message f && asks_claims f) then 1250000 + (now - heard_at H) else called w H);
-      reception = sym (taken_is w H now f true _ e refl) i;
-    })
-
--- a reply is taken
-incoming_replied : (w : Who) (H : List Call) (now : ℕ) (f : FrameRecord) → is_claim f ≡ false → is_reply (reception w H).replies f ≡ true → is_acknowledgment f ≡ false → is_session f ≡ true
-    → with_replies (drop 1 (reception w H).replies) (incoming_after w H) ≡ incoming_after w (At now (TakeFrame (Some f)) ∷ H)
-incoming_replied w H now f e r g k =
-    λ i. record { moment = heard_at H; clock = time_heard H; own = w.address; has_box = true; named = named_in (sym (taken_is w H now f false true e r) i).session; called = sym (uncalled w H now f false true e g k refl) i; reception = sym (taken_is w H now f false true e r) i }
+incoming_claimed w H old now f table h is knows =
+    (λ i. let x = (h.shown i).incoming in with_called (1250000 + (now - x.moment)) (with_reception (left (leaves (holder_in old.holders) (holder_in table) x.reception.session) x.reception) x))
+    ∙ (ap (λ (b : Bool). with_called (1250000 + (now - heard_at H)) (with_reception (left b (reception w H)) (incoming_after w H)))
+    (leaves_is w old.holders table H (At now (TakeFrame (Some f)) ∷ H) (reception w H).session h.holders knows)
+    ∙ sym (ap (λ (k : Kind). (framed w H now f k).incoming) is))
 
 -- a frame is heard
-incoming_heard : (w : Who) (H : List Call) (old : Controller) (when : ℕ) (f : FrameRecord) (table : Claims) (new : Incoming) (gone held : Bool) → Is w H old
+pub incoming_heard : (w : Who) (H : List Call) (old : Controller) (when : ℕ) (f : FrameRecord) (table : Claims) (new : Incoming) (gone held : Bool) → Is w H old
     → Knows table (told_claims w (At when (Hear f) ∷ H)) → gone ≡ is_smaller w (claim_of f) → held ≡ holds w H when
     → (old.incoming.receiver.has_box ≡ true → IsApart (incoming_of old.incoming).reception → IsNamed (incoming_of old.incoming)
     → incoming_of new ≡ hears gone held when f (holder_in old.holders) (holder_in table) (incoming_of old.incoming))
     → incoming_of new ≡ incoming_after w (At when (Hear f) ∷ H)
 incoming_heard w H old when f table new gone held h knows away stays does =
-    does (ap (λ (x : IncomingRecord). x.has_box) h.incoming) (subst (λ (x : IncomingRecord). IsApart x.reception) (sym h.incoming) (tidy w H).apart) (kept_named w H old h)
-    ∙ (ap (hears gone held when f (holder_in old.holders) (holder_in table)) h.incoming
+    does (ap (λ (v : View). v.incoming.has_box) h.shown) (subst (λ (x : IncomingRecord). IsApart x.reception) (sym (ap (λ (v : View). v.incoming) h.shown)) (tidy w H).apart) (kept_named w H old h)
+    ∙ (ap (hears gone held when f (holder_in old.holders) (holder_in table)) (ap (λ (v : View). v.incoming) h.shown)
     ∙ ((λ i. with_called (if calls_is w old.holders H f (claim_of f) h.holders i then 1250000 else called w H - (when - heard_at H))
     (with_reception (heard_by w.address gone held f (time_heard (At when (Hear f) ∷ H)) (left (leaves_still w old.holders table H when f (reception w H).session h.holders knows i) (reception w H))) (incoming_now w H when f)))
     ∙ λ i. with_called (called w (At when (Hear f) ∷ H)) (with_reception (heard_by w.address (away i) (stays i) f (time_heard (At when (Hear f) ∷ H))
@@ -232,37 +154,19 @@ pub transfer_next : (w : Who) (H : List Call) (c : Controller) (now time : ℕ) 
     → transfer_by (port_of c.transfers).current (clock time) ≡ next_transfer w H now
 transfer_next w H c now time h e =
     ap (λ (n : ℕ). transfer_by (port_of c.transfers).current n) (ap clock e ∙ clock_is (age H + step H now))
-    ∙ ap (λ (p : PortRecord). transfer_by p.current (clock_at H now)) h.port
+    ∙ ap (λ (v : View). transfer_by v.port.current (clock_at H now)) h.shown
 
 -- ---- a frame is taken
 
 pub none_due : (w : Who) (H : List Call) (c : Controller) → Is w H c → length c.desk.due.items ≡ 0 → slice_get (due w H) (length (acknowledged H)) ≡ None
 none_due w H c h e =
-    let a = length_rest (refusal_by w) c.desk.due.items (length (acknowledged H)) (due w H) h.acknowledgments in
+    let a = length_rest (refusal_by w) c.desk.due.items (length (acknowledged H)) (due w H) (ap (λ (v : View). v.acknowledgments) h.shown) in
     slice_get_past (due w H) (length (acknowledged H)) (omega (arith, a, e))
 
 -- ---- who gives way
 
-pub turns_same : (H : List Call) (now : ℕ) (f : FrameRecord) → is_claim f ≡ false → is_acknowledgment f ≡ false → 0 ≡ min (turns (At now (TakeFrame (Some f)) ∷ H)) 2
-turns_same H now f n l = ap (λ (b : Bool). min (if b then suc (turns H) else 0) 2) (sym (ap (λ (b : Bool). b || is_acknowledgment f) n ∙ l))
-
-pub turns_more : (H : List Call) (now : ℕ) (f : FrameRecord) (t : ℕ) → (is_claim f || is_acknowledgment f) ≡ true → t ≡ min (turns H) 2
-    → min (suc t) 2 ≡ min (turns (At now (TakeFrame (Some f)) ∷ H)) 2
-turns_more H now f t e g = more (turns H) t g ∙ ap (λ (b : Bool). min (if b then suc (turns H) else 0) 2) (sym e)
-  where
-    more : (n t : ℕ) → t ≡ min n 2 → min (suc t) 2 ≡ min (suc n) 2
-    more n t g = omega (arith, g)
-
--- whether replies yield then
-yields_same : (w : Who) (H : List Call) (now : ℕ) (f : FrameRecord) (y : Bool) → (is_claim f || is_acknowledgment f) ≡ true → y ≡ yields w H → y ≡ yields w (At now (TakeFrame (Some f)) ∷ H)
-yields_same w H now f y e g = g ∙ ap (λ (b : Bool). if b then yields w H else is_reply (reception w H).replies f) (sym e)
-
-yields_now : (w : Who) (H : List Call) (now : ℕ) (f : FrameRecord) (y : Bool) → is_claim f ≡ false → is_acknowledgment f ≡ false → is_reply (reception w H).replies f ≡ y
-    → y ≡ yields w (At now (TakeFrame (Some f)) ∷ H)
-yields_now w H now f y n l e = sym e ∙ ap (λ (b : Bool). if b then yields w H else is_reply (reception w H).replies f) (sym (ap (λ (b : Bool). b || is_acknowledgment f) n ∙ l))
-
-owes_same : (w : Who) (H : List Call) (now : ℕ) (f : FrameRecord) → is_claim f ≡ false → owes_claim w H ≡ owes_claim w (At now (TakeFrame (Some f)) ∷ H)
-owes_same w H now f n = ap (λ (b : Bool). if b then false else owes_claim w H) (sym n)
+turns_more : (n : ℕ) → min (suc (min n 2)) 2 ≡ min (suc n) 2
+turns_more n = omega arith
 
 -- the next reply or message
 pub message_next : (w : Who) (H : List Call) (c : Controller) → Is w H c → is_lost (address_after w H) ≡ false
@@ -271,8 +175,8 @@ message_next w H c h l = next (slice_get c.outgoing.items c.taken) refl ((sound 
   where
     next : (o : Option Outgoing) → slice_get c.outgoing.items c.taken ≡ o → length (told H) ≤ reached H
         → option_map posted o ≡ slice_get (accepted w H) (reached H)
-    next None e t = sym (not_in_rest posted c.outgoing.items (accepted w H) (length (told H)) (reached H) c.taken h.outgoing h.taken t e)
-    next (Some y) e t = sym (in_rest posted c.outgoing.items y (accepted w H) (length (told H)) (reached H) c.taken h.outgoing h.taken t e)
+    next None e t = sym (not_in_rest posted c.outgoing.items (accepted w H) (length (told H)) (reached H) c.taken (ap (λ (v : View). v.outgoing) h.shown) (ap (λ (v : View). v.taken) h.shown) t e)
+    next (Some y) e t = sym (in_rest posted c.outgoing.items y (accepted w H) (length (told H)) (reached H) c.taken (ap (λ (v : View). v.outgoing) h.shown) (ap (λ (v : View). v.taken) h.shown) t e)
 
 two_turns : (t n : ℕ) → t ≡ min n 2 → nat_le 2 t ≡ nat_le 2 n
 two_turns t n e = go (nat_le 2 n) refl
@@ -294,27 +198,27 @@ lt_less a t s l = grind arith
 sent_due : (w : Who) (H : List Call) (c : Controller) → Is w H c → is_lost (address_after w H) ≡ false
     → nat_lt c.taken (length c.outgoing.items) ≡ nat_lt (reached H) (length (accepted w H))
 sent_due w H c h e =
-    ap (λ (n : ℕ). nat_lt n (length c.outgoing.items)) h.taken
-    ∙ (ap (λ (n : ℕ). nat_lt (reached H - length (told H)) n) (length_rest posted c.outgoing.items (length (told H)) (accepted w H) h.outgoing)
+    ap (λ (v : View). nat_lt v.taken (length c.outgoing.items)) h.shown
+    ∙ (ap (λ (n : ℕ). nat_lt (reached H - length (told H)) n) (length_rest posted c.outgoing.items (length (told H)) (accepted w H) (ap (λ (v : View). v.outgoing) h.shown))
     ∙ lt_less _ _ _ ((sound w H h.answered).in_turn e))
 
 left_next : (w : Who) (H : List Call) (c : Controller) → Is w H c → is_left (lane_of (who_of w.brought c.own) c.lane).current c.lane.count ≡ has_packets w H
-left_next w H c h = ap (λ (v : Who). is_left (lane_of v c.lane).current c.lane.count) h.who ∙ ap (λ (l : LaneRecord). is_left l.current l.count) h.lane
+left_next w H c h = ap (λ (u : View). is_left (lane_of u.who c.lane).current c.lane.count) h.shown ∙ ap (λ (v : View). is_left v.lane.current v.lane.count) h.shown
 
 pub turn_next : (w : Who) (H : List Call) (c : Controller) (now : ℕ) (k : Hold) → Is w H c → Passed w H now k → holds w H now ≡ true
     → turn_of k.yields (ready_in c k) ≡ next_turn w H now
-turn_next w H c now k h p held = λ i. turn_of (p.yields i) (let r : Ready = record {
-  overdue = left_next w H c h i && nat_eq (p.pause i) 0;
+turn_next w H c now k h p held = λ i. turn_of (p i).yields (let r : Ready = record {
+  overdue = left_next w H c h i && nat_eq (p i).pause 0;
   reply = nat_lt 0 (replies_length w H c h i);
   message = sent_due w H c h (holding_not_lost w H now held) i;
-  packet = left_next w H c h i && nat_le (p.pause i) 100000;
-  transfer = is_apart (transfer_next w H c now k.age h p.age i) (slice_get (replies_is w H c h i) 0);
+  packet = left_next w H c h i && nat_le (p i).pause 100000;
+  transfer = is_apart (transfer_next w H c now k.age h (ap (λ (k : Hold). k.age) p) i) (slice_get (replies_is w H c h i) 0);
 } in r)
 
 pub gives_is : (w : Who) (H : List Call) (c : Controller) (now : ℕ) (k : Hold) (b : Bool) → Is w H c → Passed w H now k
     → b ≡ (nat_le 2 k.turns && (stands k.standing && is_turn (turn_of k.yields (ready_in c k)))) → b ≡ gives_way w H now
 gives_is w H c now k b h p e =
-    e ∙ ((λ i. two_turns k.turns (turns H) p.turns i && (holds_is w H now k (stands k.standing) p refl i && is_turn (turn_of k.yields (ready_in c k))))
+    e ∙ ((λ i. two_turns k.turns (turns H) (ap (λ (k : Hold). k.turns) p) i && (holds_is w H now k (stands k.standing) p refl i && is_turn (turn_of k.yields (ready_in c k))))
     ∙ ap (λ (b : Bool). nat_le 2 (turns H) && b) (go (holds w H now) refl))
   where
     go : (b : Bool) → holds w H now ≡ b → (b && is_turn (turn_of k.yields (ready_in c k))) ≡ is_there (if b then other w H now else None)
@@ -322,7 +226,7 @@ gives_is w H c now k b h p e =
     go false i = refl
 
 claims_is : (w : Who) (H : List Call) (now : ℕ) (k : Hold) → Passed w H now k → can_claim k ≡ claim_due w H now
-claims_is w H now k p = λ i. p.owes i && (not ((ap lost p.standing ∙ (lost_is _ ∙ lost_older (step H now) (address_after w H))) i) || nat_eq (p.delay i) 0)
+claims_is w H now k p = λ i. (p i).owes_claim && (not ((ap lost (ap (λ (k : Hold). k.standing) p) ∙ (lost_is _ ∙ lost_older (step H now) (address_after w H))) i) || nat_eq (p i).delay 0)
 
 pub goes_is : (w : Who) (H : List Call) (now : ℕ) (k : Hold) (gives b : Bool) → Passed w H now k → gives ≡ gives_way w H now → (can_claim k && not gives) ≡ b
     → claim_goes w H now ≡ b
@@ -369,7 +273,7 @@ past_queued w G items t n s e =
     ∙ (ap (λ bs. past bs n + t) (sym (drop-map is_blank t (accepted w G)) ∙ ap (drop t) (sym s.marked)) ∙ past_rest (marks G) t n)
 
 pub taken : (w : Who) (H : List Call) (old new : Controller) (now : ℕ) (r : Option FrameRecord) (x : Outgoing) (mid : Hold) → Is w H old
-    → Passed w H now mid → claim_goes w H now ≡ false → holds w H now ≡ true → next_acknowledgment w H now ≡ None
+    → IsOthers w H now mid
     → turn_of mid.yields (ready_in old mid) ≡ Some Single → slice_get old.outgoing.items old.taken ≡ Some x → option_map stamped r ≡ Some (now, (posted x).1)
     → new ≡ record old { hold = new.hold; taken = new.taken; asking = new.asking; incoming = new.incoming } → new.taken ≡ past (map is_blank (map posted old.outgoing.items)) (suc old.taken) → (request calls : Bool)
     → incoming_of new.incoming ≡ with_called (if calls then 1250000 + (now - (incoming_of old.incoming).moment) else (incoming_of old.incoming).called) (incoming_of old.incoming)
@@ -377,159 +281,83 @@ pub taken : (w : Who) (H : List Call) (old new : Controller) (now : ℕ) (r : Op
     → asking_of new.asking ≡ option_map (takes x.token) (asking_of old.asking)
     → request ≡ has_token (option_map (λ (y : AskRecord). y.question) (asking_of old.asking)) x.token → new.hold ≡ hold_asked request mid
     → Is w (At now (TakeFrame r) ∷ H) new
-taken w H old new now None x mid h p owes held none turn g m e d request calls c1 c2 a1 a2 a3 = absurd (cc)
-taken w H old new now (Some f) x mid h p owes held none turn g m e d request calls c1 c2 a1 a2 a3 =
+taken w H old new now None x mid h o turn g m e d request calls c1 c2 a1 a2 a3 = absurd (cc)
+taken w H old new now (Some f) x mid h o turn g m e d request calls c1 c2 a1 a2 a3 =
     let s = sound w H h.answered in
-    let t = s.in_turn (holding_not_lost w H now held) in
-    let i = in_rest posted old.outgoing.items x (accepted w H) (length (told H)) (reached H) old.taken h.outgoing h.taken t g in
+    let t = s.in_turn (holding_not_lost w H now o.held) in
+    let i = in_rest posted old.outgoing.items x (accepted w H) (length (told H)) (reached H) old.taken (ap (λ (v : View). v.outgoing) h.shown) (ap (λ (v : View). v.taken) h.shown) t g in
     let k : stamped f ≡ (now, (posted x).1) = cc in
-    let own = own_of w H (posted x) h.answered i in
-    let n = message_taken w f now (posted x) k own in
-    let l = plain_taken w f now (posted x) k own in
-    let one = single_taken w f now (posted x) k own in
-    let more = reached_is H now f false false false n l one in
     let number = s.numbered (reached H) (posted x) i in
-    record {
-      who = ap (λ c. who_of w.brought c.own) e ∙ h.who;
-      answered = (
-        h.answered,
-        ap Some k ∙ sym (next_is w H now None (Some (posted x).1) owes held none
-            (other_is w H now (Some Single) (sym (turn_next w H old now mid h p held) ∙ turn) ∙ ap (option_map content) i)),
-      );
-      hold = a3 ∙ is_hold _ _ (turns_same H now f n l) (yields_now w H now f false n l (no_reply (reception w H).replies f (no_transfer f one))) p.patience p.delay p.rest p.moment (p.standing ∙ ap standing_of (sym (address_is w H now f false n))) (p.owes ∙ owes_same w H now f n) (p.pause ∙ sym (pause_is H now f false (no_packet f one))) p.age
-          (ap (λ (k : ℕ). if request then 1250000 else k) p.wait
-          ∙ wait_more w H now x.token f request n l one number (a2 ∙ ap (λ (o : Option AskRecord). has_token (option_map (λ (y : AskRecord). y.question) o) x.token) h.asking));
-      asking = a1 ∙ (ap (option_map (takes x.token)) h.asking ∙ ask_more w H now x.token f h.answered number more);
-      outgoing = ap (λ c. map posted c.outgoing.items) e ∙ h.outgoing;
-      taken = (let a = h.taken in let b = past_queued w H old.outgoing.items (length (told H)) (suc old.taken) s h.outgoing in
-          let c = ap (past (marks H)) (let z : suc old.taken + length (told H) ≡ suc (reached H) = omega (arith, a, t) in z) in omega (arith, b, c, d, more));
-      token = ap (λ c. c.next_token) e ∙ h.token;
-      unread = ap (λ c. map received_by c.inbox.unread.items) e ∙ h.unread;
-      requests = ap (λ c. map request_by c.desk.waiting.items) e ∙ h.requests;
-      acknowledgments = ap (λ c. map (refusal_by w) c.desk.due.items) e ∙ (h.acknowledgments
-          ∙ ap (λ (xs : List Message). drop (length xs) (due w H)) (sym (acknowledged_is H now f false false n l)));
-      holders = subst (λ t. Knows t (told_claims w (At now (TakeFrame (Some f)) ∷ H))) (sym (ap (λ c. c.holders) e))
-          (subst (Knows old.holders) (sym (ap (λ (b : Bool). if b then told_claims w H ++ f ∷ [] else told_claims w H) n)) h.holders);
-      news = ap (λ c. c.news) e ∙ (h.news ∙ news_same w H now f n);
-      missed = ap (λ c. c.inbox.missed) e ∙ h.missed;
-      lane = ap (λ c. lane_of w c.lane) e ∙ (h.lane ∙ lane_same w H now f (no_packet f one));
-      incoming = c1 ∙ (ap (λ (y : IncomingRecord). with_called (if calls then 1250000 + (now - y.moment) else y.called) y) h.incoming
-          ∙ message_called w H now f calls (c2 ∙ ap (λ (m : Message). asks_with m 60928) (sym (ap (λ (y : ℕ × Message). y.1) k))) n l one (taken_is w H now f false false n (no_reply (reception w H).replies f (no_transfer f one))));
-      hearing = ap (λ c. hearing_of c.hearing) e ∙ (h.hearing ∙ hearing_same w H now f n);
-      port = ap (λ c. port_of c.transfers) e ∙ (h.port ∙ port_same w H now f (no_move w H f (no_transfer f one)));
-    }
+    let asks : calls ≡ asks_claims f = c2 ∙ ap (λ (y : ℕ × Message). asks_with y.1 60928) (sym k) in
+    let is : request ≡ has_token (open_ask H) (reached H) =
+    a2 ∙ ((λ i. has_token (option_map (λ (y : AskRecord). y.question) (h.shown i).asking) (number i)) ∙ ap (λ o. has_token o (reached H)) (token_of (open_ask H) (reached H) (ended w H))) in
+    frames (single false false) h (ap (λ c. c.holders) e)
+    (ap Some k ∙ sym (next_is w H now None (Some (posted x).1) o.owes o.held o.none
+    (other_is w H now (Some Single) (sym (turn_next w H old now mid h o.passed o.held) ∙ turn) ∙ ap (option_map content) i)))
+    (kind_is w H now f h.answered (sends (posted x) o.owes o.held (o.none, sym (turn_next w H old now mid h o.passed o.held) ∙ turn) i k)) refl
+    (ap (view w) e ∙ λ i. record (h.shown i) {
+      hold = (a3 ∙ λ i. hold_asked (is i) (o.passed i)) i;
+      taken = (let a = (ap (λ (v : View). v.taken) h.shown) in let b = past_queued w H old.outgoing.items (length (told H)) (suc old.taken) s (ap (λ (v : View). v.outgoing) h.shown) in
+          let c = ap (past (marks H)) (let z : suc old.taken + length (told H) ≡ suc (reached H) = omega (arith, a, t) in z) in
+          (let z : new.taken ≡ past (marks H) (suc (reached H)) - length (told H) = omega (arith, b, c, d) in z)) i;
+      asking = (a1 ∙ (ap (λ (v : View). option_map (takes x.token) v.asking) h.shown ∙ ask_more w H x.token h.answered number)) i;
+      incoming = (c1 ∙ λ i. let y = (h.shown i).incoming in with_called (if asks i then 1250000 + (now - y.moment) else y.called) y) i;
+    })
 
 pub taken_none : (w : Who) (H : List Call) (old new : Controller) (now : ℕ) → Is w H old
-    → Passed w H now new.hold → claim_goes w H now ≡ false → holds w H now ≡ true → next_acknowledgment w H now ≡ None
+    → IsOthers w H now new.hold
     → turn_of new.hold.yields (ready_in old new.hold) ≡ None → new ≡ record old { hold = new.hold } → Is w (At now (TakeFrame None) ∷ H) new
-taken_none w H old new now h p owes held none turn e = record {
-  who = ap (λ c. who_of w.brought c.own) e ∙ h.who;
-  answered = (h.answered, sym (next_is w H now None None owes held none (other_is w H now None (sym (turn_next w H old now new.hold h p held) ∙ turn))));
-  hold = is_hold _ _ p.turns p.yields p.patience p.delay p.rest p.moment p.standing p.owes p.pause p.age p.wait;
-  outgoing = ap (λ c. map posted c.outgoing.items) e ∙ h.outgoing;
-  taken = ap (λ c. c.taken) e ∙ h.taken;
-  token = ap (λ c. c.next_token) e ∙ h.token;
-  asking = ap (λ c. asking_of c.asking) e ∙ h.asking;
-  unread = ap (λ c. map received_by c.inbox.unread.items) e ∙ h.unread;
-  requests = ap (λ c. map request_by c.desk.waiting.items) e ∙ h.requests;
-  acknowledgments = ap (λ c. map (refusal_by w) c.desk.due.items) e ∙ h.acknowledgments;
-  holders = subst (λ t. Knows t (told_claims w H)) (sym (ap (λ c. c.holders) e)) h.holders;
-  news = ap (λ c. c.news) e ∙ h.news;
-  missed = ap (λ c. c.inbox.missed) e ∙ h.missed;
-  lane = ap (λ c. lane_of w c.lane) e ∙ h.lane;
-  incoming = ap (λ c. incoming_of c.incoming) e ∙ h.incoming;
-  hearing = ap (λ c. hearing_of c.hearing) e ∙ h.hearing;
-  port = ap (λ c. port_of c.transfers) e ∙ h.port;
-}
+taken_none w H old new now h o turn e =
+    follows h (ap (λ c. c.holders) e) (sym (next_is w H now None None o.owes o.held o.none (other_is w H now None (sym (turn_next w H old now new.hold h o.passed o.held) ∙ turn)))) refl
+    (ap (view w) e ∙ λ i. record (h.shown i) { hold = o.passed i })
 
 pub taken_packet : (w : Who) (H : List Call) (old new : Controller) (now : ℕ) (f : FrameRecord) (mid : Hold) → Is w H old
-    → Passed w H now mid → claim_goes w H now ≡ false → holds w H now ≡ true → next_acknowledgment w H now ≡ None
+    → IsOthers w H now mid
     → turn_of mid.yields (ready_in old mid) ≡ Some Packet
     → Some (stamped f) ≡ option_map (at_now now) (packet_by (lane_of (who_of w.brought old.own) old.lane).current old.lane.count mid.pause)
     → new ≡ record old { hold = new.hold; lane = new.lane } → new.hold ≡ paused mid → new.lane ≡ record old.lane { count = new.lane.count }
     → new.lane.count ≡ suc old.lane.count → Is w (At now (TakeFrame (Some f)) ∷ H) new
-taken_packet w H old new now f mid h p owes held none turn m e e0 e1 more =
-    go (next_packet w H now) refl (m ∙ ap (option_map (at_now now)) (packet_next w H old now mid.pause h p.pause))
+taken_packet w H old new now f mid h o turn m e e0 e1 more =
+    go (next_packet w H now) refl (m ∙ ap (option_map (at_now now)) (packet_next w H old now mid.pause h (ap (λ (k : Hold). k.pause) o.passed)))
   where
     go : (o : Option Message) → next_packet w H now ≡ o → Some (stamped f) ≡ option_map (at_now now) o → Is w (At now (TakeFrame (Some f)) ∷ H) new
     go None q i = absurd (cc)
     go (Some y) q i =
         let k : stamped f ≡ (now, y) = cc in
-        let is = packet_taken f now y (open_broadcast w H) (length (packets H)) (pause H - step H now) k q in
-        record {
-          who = ap (λ c. who_of w.brought c.own) e ∙ h.who;
-          answered = (
-            h.answered,
-            i ∙ sym (next_is w H now None (Some y) owes held none
-                (other_is w H now (Some Packet) (sym (turn_next w H old now mid h p held) ∙ turn) ∙ q)),
-          );
-          hold = e0 ∙ is_hold _ _ (turns_same H now f is.0 is.1) (yields_now w H now f false is.0 is.1 (no_reply (reception w H).replies f (packet_session f is.2).1)) p.patience p.delay p.rest p.moment (p.standing ∙ ap standing_of (sym (address_is w H now f false is.0))) (p.owes ∙ owes_same w H now f is.0) (sym (pause_is H now f true is.2)) p.age (p.wait ∙ wait_same H now f false false true is.0 is.1 (packet_session f is.2).0 refl);
-          outgoing = ap (λ c. map posted c.outgoing.items) e ∙ h.outgoing;
-          taken = ap (λ c. c.taken) e ∙ (h.taken ∙ ap (λ (n : ℕ). n - length (told H)) (sym (reached_is H now f false false true is.0 is.1 (packet_session f is.2).0)));
-          token = ap (λ c. c.next_token) e ∙ h.token;
-          asking = ap (λ c. asking_of c.asking) e ∙ (h.asking ∙ ask_same w H now f false false true is.0 is.1 (packet_session f is.2).0 refl);
-          unread = ap (λ c. map received_by c.inbox.unread.items) e ∙ h.unread;
-          requests = ap (λ c. map request_by c.desk.waiting.items) e ∙ h.requests;
-          acknowledgments = ap (λ c. map (refusal_by w) c.desk.due.items) e ∙ (h.acknowledgments
-              ∙ ap (λ (xs : List Message). drop (length xs) (due w H)) (sym (acknowledged_is H now f false false is.0 is.1)));
-          holders = subst (λ t. Knows t (told_claims w (At now (TakeFrame (Some f)) ∷ H))) (sym (ap (λ c. c.holders) e))
-              (subst (Knows old.holders) (sym (ap (λ (b : Bool). if b then told_claims w H ++ f ∷ [] else told_claims w H) is.0)) h.holders);
-          news = ap (λ c. c.news) e ∙ (h.news ∙ news_same w H now f is.0);
-          missed = ap (λ c. c.inbox.missed) e ∙ h.missed;
-          lane = ap (lane_of w) e1 ∙ (ap (λ (l : LaneRecord). record l { count = new.lane.count }) h.lane
-              ∙ ap (λ (n : ℕ). record (lane_after w H) { count = n })
-              (more ∙ (ap (λ (l : LaneRecord). suc l.count) h.lane ∙ sym (ap length (packets_is H now f true is.2) ∙ length_one_more (packets H) (message_of f)))));
-          incoming = ap (λ c. incoming_of c.incoming) e ∙ (h.incoming ∙ incoming_same w H now f (taken_is w H now f false false is.0 (no_reply (reception w H).replies f (packet_session f is.2).1)) (uncalled w H now f false true is.0 is.1 (packet_session f is.2).0 refl));
-          hearing = ap (λ c. hearing_of c.hearing) e ∙ (h.hearing ∙ hearing_same w H now f is.0);
-          port = ap (λ c. port_of c.transfers) e ∙ (h.port ∙ port_same w H now f (no_move w H f (packet_session f is.2).1));
-        }
+        let next = sym (turn_next w H old now mid h o.passed o.held) ∙ turn in
+        frames (of_session true false false) h (ap (λ c. c.holders) e)
+        (i ∙ sym (next_is w H now None (Some y) o.owes o.held o.none (other_is w H now (Some Packet) next ∙ q)))
+        (kind_is w H now f h.answered (packs y o.owes o.held (o.none, next) q k)) refl
+        (ap (view w) e ∙ λ i. record (h.shown i) {
+          hold = (e0 ∙ ap paused o.passed) i;
+          lane = (ap (lane_of w) e1 ∙ λ i. record (h.shown i).lane {
+            count = (more ∙ (ap (λ (v : View). suc v.lane.count) h.shown ∙ sym (length_one_more (packets H) (message_of f)))) i;
+          }) i;
+        })
 
 pub taken_transfer : (w : Who) (H : List Call) (old new : Controller) (now : ℕ) (f : FrameRecord) (mid : Hold) → Is w H old
-    → Passed w H now mid → claim_goes w H now ≡ false → holds w H now ≡ true → next_acknowledgment w H now ≡ None → turn_of mid.yields (ready_in old mid) ≡ Some Move
+    → IsOthers w H now mid → turn_of mid.yields (ready_in old mid) ≡ Some Move
     → Some (stamped f) ≡ option_map (at_now now) (transfer_by (port_of old.transfers).current (clock mid.age))
     → new ≡ record old { hold = new.hold; transfers = new.transfers }
     → (port_of new.transfers).current ≡ sends_if true (clock mid.age) (port_of old.transfers).current → new.transfers.next_token ≡ old.transfers.next_token
     → new.transfers.resting ≡ old.transfers.resting → new.hold ≡ hold_went mid → Is w (At now (TakeFrame (Some f)) ∷ H) new
-taken_transfer w H old new now f mid h p owes held none turn u e e0 e1 e2 e3 =
-    go (next_transfer w H now) refl (u ∙ ap (option_map (at_now now)) (transfer_next w H old now mid.age h p.age))
+taken_transfer w H old new now f mid h o turn u e e0 e1 e2 e3 =
+    go (next_transfer w H now) refl (u ∙ ap (option_map (at_now now)) (transfer_next w H old now mid.age h (ap (λ (k : Hold). k.age) o.passed)))
   where
-    due_now : (ready w H now).transfer ≡ true
-    due_now = (turned w H now (Some Move) (sym (turn_next w H old now mid h p held) ∙ turn)).1
-
     go : (o : Option Message) → next_transfer w H now ≡ o → Some (stamped f) ≡ option_map (at_now now) o → Is w (At now (TakeFrame (Some f)) ∷ H) new
     go None q i = absurd (cc)
     go (Some y) q i =
         let k : stamped f ≡ (now, y) = cc in
-        let is = transfer_taken w H now f y h.answered k q in
-        record {
-          who = ap (λ c. who_of w.brought c.own) e ∙ h.who;
-          answered = (
-            h.answered,
-            i ∙ sym (next_is w H now None (Some y) owes held none
-                (other_is w H now (Some Move) (sym (turn_next w H old now mid h p held) ∙ turn) ∙ q)),
-          );
-          hold = e3 ∙ is_hold _ _ (turns_same H now f is.claim is.plain) (yields_now w H now f false is.claim is.plain (λ i. is.transfer i && apart_is w H now f y q (ap (λ (z : ℕ × Message). z.1) k) due_now i)) p.patience p.delay p.rest p.moment (p.standing ∙ ap standing_of (sym (address_is w H now f false is.claim))) (p.owes ∙ owes_same w H now f is.claim)
-              (p.pause ∙ sym (pause_is H now f false is.packet)) p.age (p.wait ∙ wait_same H now f false false true is.claim is.plain is.session refl);
-          outgoing = ap (λ c. map posted c.outgoing.items) e ∙ h.outgoing;
-          taken = ap (λ c. c.taken) e ∙ (h.taken ∙ ap (λ (n : ℕ). n - length (told H)) (sym (reached_is H now f false false true is.claim is.plain is.session)));
-          token = ap (λ c. c.next_token) e ∙ h.token;
-          asking = ap (λ c. asking_of c.asking) e ∙ (h.asking ∙ ask_same w H now f false false true is.claim is.plain is.session refl);
-          unread = ap (λ c. map received_by c.inbox.unread.items) e ∙ h.unread;
-          requests = ap (λ c. map request_by c.desk.waiting.items) e ∙ h.requests;
-          acknowledgments = ap (λ c. map (refusal_by w) c.desk.due.items) e ∙ (h.acknowledgments
-              ∙ ap (λ (xs : List Message). drop (length xs) (due w H)) (sym (acknowledged_is H now f false false is.claim is.plain)));
-          holders = subst (λ t. Knows t (told_claims w (At now (TakeFrame (Some f)) ∷ H))) (sym (ap (λ c. c.holders) e))
-              (subst (Knows old.holders) (sym (ap (λ (b : Bool). if b then told_claims w H ++ f ∷ [] else told_claims w H) is.claim)) h.holders);
-          news = ap (λ c. c.news) e ∙ (h.news ∙ news_same w H now f is.claim);
-          missed = ap (λ c. c.inbox.missed) e ∙ h.missed;
-          lane = ap (λ c. lane_of w c.lane) e ∙ (h.lane ∙ lane_same w H now f is.packet);
-          hearing = ap (λ c. hearing_of c.hearing) e ∙ (h.hearing ∙ hearing_same w H now f is.claim);
+        let next = sym (turn_next w H old now mid h o.passed o.held) ∙ turn in
+        frames (of_session false false true) h (ap (λ c. c.holders) e)
+        (i ∙ sym (next_is w H now None (Some y) o.owes o.held o.none (other_is w H now (Some Move) next ∙ q)))
+        (kind_is w H now f h.answered (transfers y o.owes o.held (o.none, next) q k)) refl
+        (ap (view w) e ∙ λ i. record (h.shown i) {
+          hold = (e3 ∙ ap hold_went o.passed) i;
           port = is_port _ _
-              (e0 ∙ (ap (λ (n : ℕ). sends_if true n (port_of old.transfers).current) (ap clock p.age ∙ clock_is (age H + step H now))
-              ∙ (ap (λ (t : PortRecord). sends_if true (clock_at H now) t.current) h.port ∙ port_more w H now f (is_moved w H f is.transfer (apart_is w H now f y q (ap (λ (z : ℕ × Message). z.1) k) due_now)))))
-              (e1 ∙ ap (λ (t : PortRecord). t.next_token) h.port) (ap resting_by e2 ∙ ap (λ (t : PortRecord). t.resting) h.port);
-          incoming = ap (λ c. incoming_of c.incoming) e ∙ (h.incoming ∙ incoming_same w H now f (taken_is w H now f false false is.claim (λ i. is.transfer i && apart_is w H now f y q (ap (λ (z : ℕ × Message). z.1) k) due_now i)) (uncalled w H now f false true is.claim is.plain is.session refl));
-        }
+              (e0 ∙ ((λ i. sends_if true (clock (o.passed i).age) (h.shown i).port.current) ∙ ap (λ (n : ℕ). sends_if true n (open_transfer w H)) (clock_is (age H + step H now))))
+              (e1 ∙ ap (λ (v : View). v.port.next_token) h.shown) (ap resting_by e2 ∙ ap (λ (v : View). v.port.resting) h.shown) i;
+        })
 
 pub taken_due : (w : Who) (H : List Call) (old new : Controller) (now : ℕ) (r : Option FrameRecord) (x : Due) (mid : Hold) → Is w H old
     → Passed w H now mid → claim_goes w H now ≡ false → holds w H now ≡ true
@@ -539,191 +367,94 @@ taken_due w H old new now None x mid h p owes held next first m e e0 = absurd (c
 taken_due w H old new now (Some f) x mid h p owes held next first m e e0 =
     let s = sound w H h.answered in
     let k : stamped f ≡ (now, refusal_by w x) = cc in
-    let is = due_taken w f now (refusal_by w x) k (due_get w (due w H) (length (acknowledged H)) (refusal_by w x) s.desk.0 first.is) in
-    let more = acknowledged_is H now f false true is.0 is.1 in
-    record {
-      who = ap (λ c. who_of w.brought c.own) e ∙ h.who;
-      answered = (h.answered, ap Some k ∙ sym (next_is w H now (Some (refusal_by w x)) _ owes held next refl));
-      hold = e0 ∙ is_hold _ _ (turns_more H now f mid.turns (ap (λ (b : Bool). b || is_acknowledgment f) is.0 ∙ is.1) p.turns)
-          (yields_same w H now f mid.yields (ap (λ (b : Bool). b || is_acknowledgment f) is.0 ∙ is.1) p.yields) p.patience p.delay p.rest p.moment (p.standing ∙ ap standing_of (sym (address_is w H now f false is.0))) (p.owes ∙ owes_same w H now f is.0) (p.pause ∙ sym (pause_is H now f false (no_packet f is.2))) p.age (p.wait ∙ wait_same H now f false true false is.0 is.1 is.2 refl);
-      outgoing = ap (λ c. map posted c.outgoing.items) e ∙ h.outgoing;
-      taken = ap (λ c. c.taken) e ∙ (h.taken ∙ ap (λ (n : ℕ). n - length (told H)) (sym (reached_is H now f false true false is.0 is.1 is.2)));
-      token = ap (λ c. c.next_token) e ∙ h.token;
-      asking = ap (λ c. asking_of c.asking) e ∙ (h.asking ∙ ask_same w H now f false true false is.0 is.1 is.2 refl);
-      unread = ap (λ c. map received_by c.inbox.unread.items) e ∙ h.unread;
-      requests = ap (λ c. map request_by c.desk.waiting.items) e ∙ h.requests;
-      acknowledgments = first.rest ∙ ap (λ (n : ℕ). drop n (due w H)) (sym (ap length more ∙ length_one_more (acknowledged H) (message_of f)));
-      holders = subst (λ t. Knows t (told_claims w (At now (TakeFrame (Some f)) ∷ H))) (sym (ap (λ c. c.holders) e))
-          (subst (Knows old.holders) (sym (ap (λ (b : Bool). if b then told_claims w H ++ f ∷ [] else told_claims w H) is.0)) h.holders);
-      news = ap (λ c. c.news) e ∙ (h.news ∙ news_same w H now f is.0);
-      missed = ap (λ c. c.inbox.missed) e ∙ h.missed;
-      lane = ap (λ c. lane_of w c.lane) e ∙ (h.lane ∙ lane_same w H now f (no_packet f is.2));
-      incoming = ap (λ c. incoming_of c.incoming) e ∙ (h.incoming ∙ incoming_same w H now f (taken_is w H now f false false is.0 (no_reply (reception w H).replies f (no_transfer f is.2))) (uncalled w H now f true _ is.0 is.1 refl refl));
-      hearing = ap (λ c. hearing_of c.hearing) e ∙ (h.hearing ∙ hearing_same w H now f is.0);
-      port = ap (λ c. port_of c.transfers) e ∙ (h.port ∙ port_same w H now f (no_move w H f (no_transfer f is.2)));
-    }
+    let due_now = acknowledged_is_due w H now (refusal_by w x) next in
+    frames (single false true) h (ap (λ c. c.holders) e) (ap Some k ∙ sym (next_is w H now (Some (refusal_by w x)) _ owes held next refl))
+    (kind_is w H now f h.answered (acknowledges (refusal_by w x) owes held due_now.0 k due_now.1)) refl
+    (ap (view w) e ∙ λ i. record (h.shown i) {
+      hold = (e0 ∙ (ap hold_acknowledged p ∙ λ i. record (led w H now) { turns = turns_more (turns H) i })) i;
+      acknowledgments = (first.rest ∙ ap (λ (n : ℕ). drop n (due w H)) (sym (length_one_more (acknowledged H) (message_of f)))) i;
+    })
 
-pub taken_reply : (w : Who) (H : List Call) (old new : Controller) (now : ℕ) (r : Option FrameRecord) (x : Said) (mid : Hold) → Is w H old → Passed w H now mid
-    → claim_goes w H now ≡ false → holds w H now ≡ true → next_acknowledgment w H now ≡ None
+pub taken_reply : (w : Who) (H : List Call) (old new : Controller) (now : ℕ) (r : Option FrameRecord) (x : Said) (mid : Hold) → Is w H old → IsOthers w H now mid
     → turn_of mid.yields (ready_in old mid) ≡ Some Reply → First (said_by old.incoming.receiver.state.own) new.incoming.replies.items x 0 (reception w H).replies
     → option_map stamped r ≡ Some (now, said_by w.address x)
     → new ≡ record old { hold = new.hold; incoming = new.incoming } → new.incoming ≡ record old.incoming { replies = new.incoming.replies } → new.hold ≡ hold_spoken mid
     → Is w (At now (TakeFrame r) ∷ H) new
-taken_reply w H old new now None x mid h p owes held none turn first m e e0 e1 = absurd (cc)
-taken_reply w H old new now (Some f) x mid h p owes held none turn first m e e0 e1 =
-    let own : old.incoming.receiver.state.own ≡ w.address = ap (λ (y : IncomingRecord). y.own) h.incoming in
+taken_reply w H old new now None x mid h o turn first m e e0 e1 = absurd (cc)
+taken_reply w H old new now (Some f) x mid h o turn first m e e0 e1 =
+    let own : old.incoming.receiver.state.own ≡ w.address = ap (λ (v : View). v.incoming.own) h.shown in
     let k : stamped f ≡ (now, said_by w.address x) = cc in
     let at : slice_get (reception w H).replies 0 ≡ Some (said_by w.address x) = first.is ∙ ap (λ (a : ℕ). Some (said_by a x)) own in
-    let is = reply_taken w.address f now (said_by w.address x) k (replied_get w.address (reception w H).replies 0 _ (tidy w H).replies at) in
-    record {
-      who = ap (λ c. who_of w.brought c.own) e ∙ h.who;
-      answered = (
-        h.answered,
-        ap Some k ∙ sym (next_is w H now None (Some (said_by w.address x)) owes held none
-            (other_is w H now (Some Reply) (sym (turn_next w H old now mid h p held) ∙ turn) ∙ at)),
-      );
-      hold = e1 ∙ is_hold _ _ (turns_same H now f is.0 is.1) (yields_now w H now f true is.0 is.1 (λ i. is_directed f is.2 is.3 i && reply_is w H f _ at (ap (λ (y : ℕ × Message). y.1) k) i)) p.patience p.delay p.rest p.moment (p.standing ∙ ap standing_of (sym (address_is w H now f false is.0))) (p.owes ∙ owes_same w H now f is.0) (p.pause ∙ sym (pause_is H now f false is.3)) p.age (p.wait ∙ wait_same H now f false false true is.0 is.1 is.2 refl);
-      outgoing = ap (λ c. map posted c.outgoing.items) e ∙ h.outgoing;
-      taken = ap (λ c. c.taken) e ∙ (h.taken ∙ ap (λ (n : ℕ). n - length (told H)) (sym (reached_is H now f false false true is.0 is.1 is.2)));
-      token = ap (λ c. c.next_token) e ∙ h.token;
-      asking = ap (λ c. asking_of c.asking) e ∙ (h.asking ∙ ask_same w H now f false false true is.0 is.1 is.2 refl);
-      unread = ap (λ c. map received_by c.inbox.unread.items) e ∙ h.unread;
-      requests = ap (λ c. map request_by c.desk.waiting.items) e ∙ h.requests;
-      acknowledgments = ap (λ c. map (refusal_by w) c.desk.due.items) e ∙ (h.acknowledgments
-          ∙ ap (λ (xs : List Message). drop (length xs) (due w H)) (sym (acknowledged_is H now f false false is.0 is.1)));
-      holders = subst (λ t. Knows t (told_claims w (At now (TakeFrame (Some f)) ∷ H))) (sym (ap (λ c. c.holders) e))
-          (subst (Knows old.holders) (sym (ap (λ (b : Bool). if b then told_claims w H ++ f ∷ [] else told_claims w H) is.0)) h.holders);
-      news = ap (λ c. c.news) e ∙ (h.news ∙ news_same w H now f is.0);
-      missed = ap (λ c. c.inbox.missed) e ∙ h.missed;
-      lane = ap (λ c. lane_of w c.lane) e ∙ (h.lane ∙ lane_same w H now f is.3);
-      incoming = ap incoming_of e0 ∙ (ap (λ (xs : List Message). with_replies xs (incoming_of old.incoming)) first.rest
-          ∙ (ap (with_replies (drop 1 (reception w H).replies)) h.incoming ∙ incoming_replied w H now f is.0 (λ i. is_directed f is.2 is.3 i && reply_is w H f _ at (ap (λ (y : ℕ × Message). y.1) k) i) is.1 is.2));
-      hearing = ap (λ c. hearing_of c.hearing) e ∙ (h.hearing ∙ hearing_same w H now f is.0);
-      port = ap (λ c. port_of c.transfers) e ∙ (h.port ∙ port_same w H now f (reply_no_move w H f _ at (ap (λ (y : ℕ × Message). y.1) k)));
-    }
+    let next = sym (turn_next w H old now mid h o.passed o.held) ∙ turn in
+    frames (of_session false true false) h (ap (λ c. c.holders) e)
+    (ap Some k ∙ sym (next_is w H now None (Some (said_by w.address x)) o.owes o.held o.none
+    (other_is w H now (Some Reply) next ∙ at)))
+    (kind_is w H now f h.answered (replies (said_by w.address x) o.owes o.held (o.none, next) at k)) refl
+    (ap (view w) e ∙ λ i. record (h.shown i) {
+      hold = (e1 ∙ ap hold_spoken o.passed) i;
+      incoming = (ap incoming_of e0 ∙ λ i. with_replies (first.rest i) (h.shown i).incoming) i;
+    })
 
 -- ---- an end is told
 
 pub told_done : (w : Who) (H : List Call) (old new : Controller) (x : Outgoing) (e : Ending) → e ≡ (if is_blank (posted x) then Withdrawn else Done) → Is w H old
     → First posted new.outgoing.items x (length (told H)) (accepted w H) → 0 < old.taken → new.taken + 1 ≡ old.taken
-    → new.own ≡ old.own → new.hold ≡ old.hold → new.next_token ≡ old.next_token → new.inbox ≡ old.inbox → new.desk ≡ old.desk → new.holders ≡ old.holders → new.news ≡ old.news → new.lane ≡ old.lane → new.incoming ≡ old.incoming → new.transfers ≡ old.transfers → new.asking ≡ old.asking → new.hearing ≡ old.hearing → Is w (TakeEnded (Some (x.token, e)) ∷ H) new
-told_done w H old new x e is h f some less e1 e2 e3 e4 e5 e6 e7 e8 e9 e10 e11 e12 = record {
-  who = ap (who_of w.brought) e1 ∙ h.who;
-  answered = (
-    h.answered,
-    sym (ap (λ (b : Bool). end_of b (is_lost (address_after w H)) (slice_get (accepted w H) (length (told H)))) before
-        ∙ (ap (end_of true (is_lost (address_after w H))) f.is ∙ (ending (is_blank (posted x)) ∙ ap (λ (d : Ending). Some (x.token, d)) (sym is)))),
-  );
-  hold = e2 ∙ h.hold;
-  outgoing = f.rest ∙ ap (λ (n : ℕ). drop n (accepted w H)) (sym (length_one_more (told H) (x.token, e)));
-  taken = (let a = h.taken in let b = length_one_more (told H) (x.token, e) in omega (arith, a, b, less));
-  token = e3 ∙ h.token;
-  asking = ap asking_of e11 ∙ h.asking;
-  unread = ap (λ o. map received_by o.unread.items) e4 ∙ h.unread;
-  requests = ap (λ d. map request_by d.waiting.items) e5 ∙ h.requests;
-  acknowledgments = ap (λ d. map (refusal_by w) d.due.items) e5 ∙ h.acknowledgments;
-  holders = subst (λ t. Knows t (told_claims w H)) (sym e6) h.holders;
-  news = e7 ∙ h.news;
-  missed = ap (λ o. o.missed) e4 ∙ h.missed;
-  lane = ap (lane_of w) e8 ∙ h.lane;
-  incoming = ap incoming_of e9 ∙ h.incoming;
-  hearing = ap hearing_of e12 ∙ h.hearing;
-  port = ap port_of e10 ∙ h.port;
-}
+    → new ≡ record old { outgoing = new.outgoing; taken = new.taken } → Is w (TakeEnded (Some (x.token, e)) ∷ H) new
+told_done w H old new x e is h f some less u =
+    follows h (ap (λ c. c.holders) u)
+    (sym (ap (λ (b : Bool). end_of b (is_lost (address_after w H)) (slice_get (accepted w H) (length (told H)))) before
+    ∙ (ap (end_of true (is_lost (address_after w H))) f.is ∙ (ending (is_blank (posted x)) ∙ ap (λ (d : Ending). Some (x.token, d)) (sym is))))) refl
+    (ap (view w) u ∙ λ i. record (h.shown i) {
+      outgoing = (f.rest ∙ ap (λ (n : ℕ). drop n (accepted w H)) (sym (length_one_more (told H) (x.token, e)))) i;
+      taken = (let a = (ap (λ (v : View). v.taken) h.shown) in let b = length_one_more (told H) (x.token, e) in (let z : new.taken ≡ reached H - length (told H ++ (x.token, e) ∷ []) = omega (arith, a, b, less) in z)) i;
+    })
   where
     before : nat_lt (length (told H)) (reached H) ≡ true
-    before = lt-ltb _ _ (let a = h.taken in omega (arith, a, some))
+    before = lt-ltb _ _ (let a = (ap (λ (v : View). v.taken) h.shown) in omega (arith, a, some))
 
     ending : (b : Bool) → ending_of (not b) true x.token ≡ Some (x.token, if b then Withdrawn else Done)
     ending true = refl
     ending false = refl
 
-not_before : (t s : ℕ) → s ≤ t → nat_lt t s ≡ false
-not_before t s l = grind arith
-
 pub told_withdrawn : (w : Who) (H : List Call) (old new : Controller) (x : Outgoing) → Is w H old
     → First posted new.outgoing.items x (length (told H)) (accepted w H) → old.taken ≡ 0 → lost old.hold.standing ≡ true → new.taken ≡ old.taken
-    → new.own ≡ old.own → new.hold ≡ old.hold → new.next_token ≡ old.next_token → new.inbox ≡ old.inbox → new.desk ≡ old.desk → new.holders ≡ old.holders → new.news ≡ old.news → new.lane ≡ old.lane → new.incoming ≡ old.incoming → new.transfers ≡ old.transfers → new.asking ≡ old.asking → new.hearing ≡ old.hearing → Is w (TakeEnded (Some (x.token, Withdrawn)) ∷ H) new
-told_withdrawn w H old new x h f none is_away same e1 e2 e3 e4 e5 e6 e7 e8 e9 e10 e11 e12 = record {
-  who = ap (who_of w.brought) e1 ∙ h.who;
-  answered = (
-    h.answered,
-    sym (ap (λ (b : Bool). end_of b (is_lost (address_after w H)) (slice_get (accepted w H) (length (told H)))) after
-        ∙ (ap (λ (b : Bool). end_of false b (slice_get (accepted w H) (length (told H)))) away ∙ ap (end_of false true) f.is)),
-  );
-  hold = e2 ∙ h.hold;
-  outgoing = f.rest ∙ ap (λ (n : ℕ). drop n (accepted w H)) (sym (length_one_more (told H) (x.token, Withdrawn)));
-  taken = (let a = h.taken in let b = length_one_more (told H) (x.token, Withdrawn) in omega (arith, a, b, none, same));
-  token = e3 ∙ h.token;
-  asking = ap asking_of e11 ∙ h.asking;
-  unread = ap (λ o. map received_by o.unread.items) e4 ∙ h.unread;
-  requests = ap (λ d. map request_by d.waiting.items) e5 ∙ h.requests;
-  acknowledgments = ap (λ d. map (refusal_by w) d.due.items) e5 ∙ h.acknowledgments;
-  holders = subst (λ t. Knows t (told_claims w H)) (sym e6) h.holders;
-  news = e7 ∙ h.news;
-  missed = ap (λ o. o.missed) e4 ∙ h.missed;
-  lane = ap (lane_of w) e8 ∙ h.lane;
-  incoming = ap incoming_of e9 ∙ h.incoming;
-  hearing = ap hearing_of e12 ∙ h.hearing;
-  port = ap port_of e10 ∙ h.port;
-}
+    → new ≡ record old { outgoing = new.outgoing; taken = new.taken } → Is w (TakeEnded (Some (x.token, Withdrawn)) ∷ H) new
+told_withdrawn w H old new x h f none is_away same u =
+    follows h (ap (λ c. c.holders) u)
+    (sym (ap (λ (b : Bool). end_of b (is_lost (address_after w H)) (slice_get (accepted w H) (length (told H)))) before
+    ∙ (ap (λ (b : Bool). end_of false b (slice_get (accepted w H) (length (told H)))) away ∙ ap (end_of false true) f.is))) refl
+    (ap (view w) u ∙ λ i. record (h.shown i) {
+      outgoing = (f.rest ∙ ap (λ (n : ℕ). drop n (accepted w H)) (sym (length_one_more (told H) (x.token, Withdrawn)))) i;
+      taken = (let a = (ap (λ (v : View). v.taken) h.shown) in let b = length_one_more (told H) (x.token, Withdrawn) in (let z : new.taken ≡ reached H - length (told H ++ (x.token, Withdrawn) ∷ []) = omega (arith, a, b, none, same) in z)) i;
+    })
   where
-    after : nat_lt (length (told H)) (reached H) ≡ false
-    after = not_before _ _ (let a = h.taken in omega (arith, a, none))
+    before : nat_lt (length (told H)) (reached H) ≡ false
+    before = le-ltb _ _ (let a = (ap (λ (v : View). v.taken) h.shown) in omega (arith, a, none))
 
     away : is_lost (address_after w H) ≡ true
-    away = sym (lost_is (address_after w H)) ∙ (sym (ap (λ (k : Hold). lost k.standing) h.hold) ∙ is_away)
+    away = sym (lost_is (address_after w H)) ∙ (sym (ap (λ (v : View). lost v.hold.standing) h.shown) ∙ is_away)
 
 -- ---- a message is accepted, or a request
 
 pub full_is : (w : Who) (H : List Call) (old : Controller) → Is w H old
     → (nat_eq (length old.outgoing.items) 16 || nat_eq old.next_token 18446744073709551615) ≡ is_full w H
 full_is w H old h =
-    ap (λ (n : ℕ). nat_eq n 16 || nat_eq old.next_token 18446744073709551615) (length_rest posted old.outgoing.items (length (told H)) (accepted w H) h.outgoing)
-    ∙ ap (λ (n : ℕ). nat_eq (length (accepted w H) - length (told H)) 16 || nat_eq n 18446744073709551615) h.token
+    ap (λ (n : ℕ). nat_eq n 16 || nat_eq old.next_token 18446744073709551615) (length_rest posted old.outgoing.items (length (told H)) (accepted w H) (ap (λ (v : View). v.outgoing) h.shown))
+    ∙ ap (λ (v : View). nat_eq (length (accepted w H) - length (told H)) 16 || nat_eq v.token 18446744073709551615) h.shown
 
-pub posts : (w : Who) (H : List Call) (old new : Controller) (now : ℕ) (d : Draft) (x : Outgoing) → Is w H old → Passed w H now new.hold
-    → holds w H now ≡ true → can_send w d ≡ true → (nat_eq (length old.outgoing.items) 16 || nat_eq old.next_token 18446744073709551615) ≡ false
-    → posted x ≡ (old.next_token, message_from w d) → new.outgoing.items ≡ old.outgoing.items ++ x ∷ [] → new.next_token ≡ suc old.next_token
-    → new.own ≡ old.own → new.taken ≡ old.taken → new.inbox ≡ old.inbox → new.desk ≡ old.desk → new.holders ≡ old.holders → new.news ≡ old.news → new.lane ≡ old.lane → new.incoming ≡ old.incoming → new.transfers ≡ old.transfers → asking_of new.asking ≡ asking_of old.asking → new.hearing ≡ old.hearing → Is w (At now (Send d (Ok old.next_token)) ∷ H) new
-posts w H old new now d x h p held can room is e0 e1 e2 e3 e4 e5 e6 e7 e8 e9 e10 e11 e12 =
-    let s = sound w H h.answered in
-    record {
-      who = ap (who_of w.brought) e2 ∙ h.who;
-      answered = (h.answered, ap Ok h.token ∙ sym (answer (holds w H now) (can_send w d) (is_full w H) held can (sym (full_is w H old h) ∙ room)));
-      hold = is_hold _ _ p.turns p.yields p.patience p.delay p.rest p.moment p.standing p.owes p.pause p.age p.wait;
-      outgoing = ap (map posted) e0 ∙ (map_append posted old.outgoing.items x
-          ∙ (ap (λ l. l ++ posted x ∷ []) h.outgoing ∙ (ap (λ (y : ℕ × Message). drop (length (told H)) (accepted w H) ++ y ∷ []) is
-          ∙ sym (drop_append (length (told H)) (accepted w H) (old.next_token, message_from w d) s.within))));
-      taken = e3 ∙ h.taken;
-      token = (let a = h.token in let b = length_one_more (accepted w H) (old.next_token, message_from w d) in omega (arith, a, b, e1));
-      asking = e11 ∙ h.asking;
-      unread = ap (λ o. map received_by o.unread.items) e4 ∙ h.unread;
-      requests = ap (λ d. map request_by d.waiting.items) e5 ∙ h.requests;
-      acknowledgments = ap (λ d. map (refusal_by w) d.due.items) e5 ∙ h.acknowledgments;
-      holders = subst (λ t. Knows t (told_claims w H)) (sym e6) h.holders;
-      news = e7 ∙ h.news;
-      missed = ap (λ o. o.missed) e4 ∙ h.missed;
-      lane = ap (lane_of w) e8 ∙ h.lane;
-      incoming = ap incoming_of e9 ∙ h.incoming;
-      hearing = ap hearing_of e12 ∙ h.hearing;
-      port = ap port_of e10 ∙ h.port;
-    }
-  where
-    answer : (a b f : Bool) → a ≡ true → b ≡ true → f ≡ false
-        → (if a then (if b then (if f then Err Full else Ok (length (accepted w H))) else Err BadValue) else Err NoAddress) ≡ Ok (length (accepted w H))
-    answer true true false e f g = refl
-    answer true true true e f g = absurd (cc)
-    answer true false f e g i = absurd (cc)
-    answer false b f e g i = absurd (cc)
+-- one more waits
+pub posted_more : (w : Who) (H : List Call) (c : Controller) → Is w H c → (x : Outgoing) (m : Message) → posted x ≡ (c.next_token, m) → {items : List Outgoing} → items ≡ c.outgoing.items ++ x ∷ []
+    → map posted items ≡ drop (length (told H)) (accepted w H ++ (c.next_token, m) ∷ [])
+posted_more w H c h x m is e =
+    ap (map posted) e ∙ (map_append posted c.outgoing.items x ∙ ((λ i. (h.shown i).outgoing ++ is i ∷ []) ∙ sym (drop_append (length (told H)) (accepted w H) (c.next_token, m) (sound w H h.answered).within)))
 
 -- ---- a frame is heard
 
-heard_standing : (b : Bool) (s : ℕ) (a : Address) → (if b then standing.Lost else standing_of (older s a)) ≡ standing_of (if b then Lost else older s a)
+pub heard_standing : (b : Bool) (s : ℕ) (a : Address) → (if b then standing.Lost else standing_of (older s a)) ≡ standing_of (if b then Lost else older s a)
 heard_standing true s a = refl
 heard_standing false s a = refl
 
-kept_rest : (wanted : Bool) (K unread : List (ℕ × Message)) (n : ℕ) (x : ℕ × Message) → n ≤ length K → unread ≡ drop n K
+pub kept_rest : (wanted : Bool) (K unread : List (ℕ × Message)) (n : ℕ) (x : ℕ × Message) → n ≤ length K → unread ≡ drop n K
     → offered wanted x unread ≡ drop n (if wanted && nat_lt (length K - n) 16 then K ++ x ∷ [] else K)
 kept_rest wanted K unread n x l e =
     ap (offered wanted x) e
@@ -733,7 +464,7 @@ kept_rest wanted K unread n x l e =
     go true = sym (drop_append n K x l)
     go false = refl
 
-missed_rest : (wanted : Bool) (K unread : List (ℕ × Message)) (n m c : ℕ) → unread ≡ drop n K → c ≡ min m 18446744073709551615
+pub missed_rest : (wanted : Bool) (K unread : List (ℕ × Message)) (n m c : ℕ) → unread ≡ drop n K → c ≡ min m 18446744073709551615
     → counted wanted unread c ≡ min (if wanted && not (nat_lt (length K - n) 16) then suc m else m) 18446744073709551615
 missed_rest wanted K unread n m c e f =
     ap (λ (k : ℕ). if wanted && not (nat_lt k 16) then min (c + 1) 18446744073709551615 else c) (ap length e ∙ length-drop n K)
@@ -743,7 +474,7 @@ missed_rest wanted K unread n m c e f =
     go true = ap (λ (k : ℕ). min (k + 1) 18446744073709551615) f ∙ missed_one m
     go false = f
 
-request_rest : (w : Who) (room : Bool) (o : Option Asked) (L xs : List Asked) (n : ℕ) → n ≤ length L → xs ≡ drop n L
+pub request_rest : (w : Who) (room : Bool) (o : Option Asked) (L xs : List Asked) (n : ℕ) → n ≤ length L → xs ≡ drop n L
     → with_request w room o xs ≡ drop n (with_request w room o L)
 request_rest w room None L xs n l e = e
 request_rest w room (Some r) L xs n l e = go (is_served w r.group && room)
@@ -752,7 +483,7 @@ request_rest w room (Some r) L xs n l e = go (is_served w r.group && room)
     go true = ap (λ ys. ys ++ r ∷ []) e ∙ sym (drop_append n L r l)
     go false = e
 
-refusal_rest : (w : Who) (room place : Bool) (o : Option Asked) (L xs : List Message) (n : ℕ) → n ≤ length L → xs ≡ drop n L
+pub refusal_rest : (w : Who) (room place : Bool) (o : Option Asked) (L xs : List Message) (n : ℕ) → n ≤ length L → xs ≡ drop n L
     → with_refusal w room place o xs ≡ drop n (with_refusal w room place o L)
 refusal_rest w room place None L xs n l e = e
 refusal_rest w room place (Some r) L xs n l e = go ((nat_eq r.destination w.address && place) && not (is_served w r.group && room)) (acknowledgment w (if is_served w r.group then Busy else Nack) r)
@@ -761,15 +492,12 @@ refusal_rest w room place (Some r) L xs n l e = go ((nat_eq r.destination w.addr
     go true m = ap (λ ys. ys ++ m ∷ []) e ∙ sym (drop_append n L m l)
     go false m = e
 
-is_news : (u v : Untold) → u.lost ≡ v.lost → u.another ≡ v.another → u.doubled ≡ v.doubled → u.missed ≡ v.missed → u ≡ v
-is_news u v e f d g = λ t. (let x : Untold = record { lost = e t; another = f t; doubled = d t; missed = g t } in x)
-
 pub news_heard : (u v : Untold) (l a b m n o : Bool) → v ≡ record { lost = l; another = u.another || a; doubled = u.doubled; missed = u.missed || (m || o) } → a ≡ b → m ≡ n
     → v ≡ record { lost = l; another = u.another || b; doubled = u.doubled; missed = u.missed || (n || o) }
 news_heard u v l a b m n o x f g = x ∙ λ i. record { lost = l; another = u.another || f i; doubled = u.doubled; missed = u.missed || (g i || o) }
 
 -- a broadcast that waits now, where none did, was made whole
-cast_by : (before after : Option (ℕ × MessageRecord))
+pub cast_by : (before after : Option (ℕ × MessageRecord))
     → made_by (not (not (has_place before))) after ≡ made_of (option_map (λ (x : ℕ × MessageRecord). x.1) (newly before after))
 cast_by None None = refl
 cast_by None (Some x) = refl
@@ -781,7 +509,7 @@ pub coming_is : (w : Who) (H : List Call) (c : Controller) (t time : ℕ) → Is
     → is_coming (option_map (λ (x : AskRecord). x.question) (asking_of c.asking)) (session_by (incoming_of c.incoming).reception.session (incoming_of c.incoming).named) (in_broadcast t (hearing_of c.hearing).current)
     ≡ comes w H time
 coming_is w H c t time h e =
-    (λ i. is_coming (option_map (λ (x : AskRecord). x.question) (h.asking i)) (session_by (h.incoming i).reception.session (h.incoming i).named) (in_broadcast (e i) (h.hearing i).current))
+    (λ i. is_coming (option_map (λ (x : AskRecord). x.question) ((h.shown i).asking)) (session_by (h.shown i).incoming.reception.session (h.shown i).incoming.named) (in_broadcast (e i) (h.shown i).hearing.current))
     ∙ λ i. is_coming (token_of (open_ask H) (reached H) (ended w H) i) (session_is (reception w H).session i) (in_broadcast time (hearing w H))
   where
     session_is : (o : Option ReceptionRecord) → session_by o (named_in o) ≡ in_session o
@@ -789,233 +517,22 @@ coming_is w H c t time h e =
     session_is (Some r) = refl
 
 -- a broadcast broke off, by a tick or its own claim
-is_broken : (w : Who) (H : List Call) (b c : Bool) (u : Untold) → u ≡ news_after w H → b ≡ c
+pub is_broken : (w : Who) (H : List Call) (b c : Bool) (u : Untold) → u ≡ news_after w H → b ≡ c
     → record u { missed = b || u.missed } ≡ record (news_after w H) { missed = missed_news w H || ((c || false) || unheard_news w H) }
 is_broken w H b c u e g =
     (λ i. record (e i) { missed = g i || (e i).missed })
     ∙ ap (λ (m : Bool). (let v : Untold = record (news_after w H) { missed = m } in v)) (broken_news c (missed_news w H) (unheard_news w H))
 
-pub ticked_more : (w : Who) (H : List Call) (old new : Controller) (now : ℕ) (broken : Bool) → Is w H old → Passed w H now new.hold
-    → (IsNamed (incoming_of old.incoming) → incoming_of new.incoming ≡ ticks now (incoming_of old.incoming))
-    → broken ≡ breaks_it (is_out (stamp_micros new.incoming.clock) (hearing_of old.hearing).current) (hearing_of old.hearing).current
-    → new.hearing.missed ≡ (if broken then min (old.hearing.missed + 1) 18446744073709551615 else old.hearing.missed)
-    → (hearing_of new.hearing).current ≡ leaves_it (is_out (stamp_micros new.incoming.clock) (hearing_of old.hearing).current) (hearing_of old.hearing).current
-    → new.news ≡ record { lost = old.news.lost; another = old.news.another; doubled = old.news.doubled; missed = broken || old.news.missed }
-    → new ≡ record old { hold = new.hold; incoming = new.incoming; hearing = new.hearing; news = new.news }
-    → Is w (At now Tick ∷ H) new
-ticked_more w H old new now broken h p r t1 t2 t3 u e =
-    let later_on : incoming_of new.incoming ≡ incoming_after w (At now Tick ∷ H) = r (kept_named w H old h) ∙ ap (ticks now) h.incoming in
-    let on = leaves_on w H (is_out (stamp_micros new.incoming.clock) (hearing_of old.hearing).current) broken (is_out (time_heard (At now Tick ∷ H)))
-    (hearing_of old.hearing) (hearing_of new.hearing) h.hearing
-    (always (hearing_of old.hearing).current (ap (λ (x : IncomingRecord). is_out x.clock (hearing_of old.hearing).current) later_on)) t1 t2 t3 in
-    record {
-      who = ap (λ c. who_of w.brought c.own) e ∙ h.who;
-      answered = (h.answered, tt);
-      hold = is_hold _ _ p.turns p.yields p.patience p.delay p.rest p.moment p.standing p.owes p.pause p.age p.wait;
-      outgoing = ap (λ c. map posted c.outgoing.items) e ∙ h.outgoing;
-      taken = ap (λ c. c.taken) e ∙ h.taken;
-      token = ap (λ c. c.next_token) e ∙ h.token;
-      asking = ap (λ c. asking_of c.asking) e ∙ h.asking;
-      unread = ap (λ c. map received_by c.inbox.unread.items) e ∙ h.unread;
-      requests = ap (λ c. map request_by c.desk.waiting.items) e ∙ h.requests;
-      acknowledgments = ap (λ c. map (refusal_by w) c.desk.due.items) e ∙ h.acknowledgments;
-      holders = subst (λ t. Knows t (told_claims w H)) (sym (ap (λ c. c.holders) e)) h.holders;
-      news = u ∙ is_broken w H broken _ old.news h.news on.says;
-      missed = ap (λ c. c.inbox.missed) e ∙ h.missed;
-      lane = ap (λ c. lane_of w c.lane) e ∙ h.lane;
-      incoming = later_on;
-      hearing = is_hearing _ _ on.current on.missed;
-      port = ap (λ c. port_of c.transfers) e ∙ h.port;
-    }
-
-pub heard_more : (w : Who) (H : List Call) (old new : Controller) (when : ℕ) (f : FrameRecord) (mid : Hold) (held wanted away gone calls another replaced broken unheard : Bool) (o : Option Asked) → Is w H old
-    → Passed w H when mid → held ≡ stands mid.standing → wanted ≡ is_for_program (who_of w.brought old.own) held f
-    → map received_by new.inbox.unread.items ≡ offered wanted (stamped f) (map received_by old.inbox.unread.items)
-    → new.inbox.missed ≡ counted wanted (map received_by old.inbox.unread.items) old.inbox.missed
-    → gone ≡ is_smaller (who_of w.brought old.own) (claim_of f) → away ≡ lost mid.standing → calls ≡ calls_for_claim (who_of w.brought old.own) away f
-    → another ≡ is_another (who_of w.brought old.own) held f
-    → map request_by new.desk.waiting.items
-    ≡ with_request (who_of w.brought old.own) (nat_lt (length old.desk.waiting.items) 16) o (map request_by old.desk.waiting.items)
-    → map (refusal_by (who_of w.brought old.own)) new.desk.due.items
-    ≡ with_refusal (who_of w.brought old.own) (nat_lt (length old.desk.waiting.items) 16)
-    (nat_lt (length old.desk.due.items) 16 && not (is_refusal_due (who_of w.brought old.own) (map (refusal_by (who_of w.brought old.own)) old.desk.due.items) o)) o
-    (map (refusal_by (who_of w.brought old.own)) old.desk.due.items)
-    → o ≡ fresh (who_of w.brought old.own) (map request_by old.desk.waiting.items) (asked (who_of w.brought old.own) held f)
-    → ((F : List FrameRecord) → Knows old.holders F → Knows new.holders (if is_double (who_of w.brought old.own) (claim_of f) then F else F ++ f ∷ []))
-    → new.news ≡ record {
-      lost = old.news.lost || (gone && not away);
-      another = old.news.another || is_another (who_of w.brought old.own) held f;
-      doubled = option_or (double (who_of w.brought old.own) (claim_of f)) old.news.doubled;
-      missed = broken || (old.news.missed || ((wanted && not (nat_lt (length old.inbox.unread.items) 16)) || unheard));
-    }
-    → new.hold ≡ heard gone calls another (old.own.delay * 600) mid → new.own ≡ old.own → new.outgoing ≡ old.outgoing → new.taken ≡ old.taken → new.next_token ≡ old.next_token → new.lane ≡ old.lane
-    → (old.incoming.receiver.has_box ≡ true → IsApart (incoming_of old.incoming).reception → IsNamed (incoming_of old.incoming)
-    → incoming_of new.incoming ≡ hears gone held when f (holder_in old.holders) (holder_in new.holders) (incoming_of old.incoming))
-    → IfSome (port_of old.transfers).current (λ x. replaced ≡ is_replaced (holder_in old.holders x.sender.destination) (holder_in new.holders x.sender.destination))
-    → ((r : ℕ → Bool) → IfSome (port_of old.transfers).current (λ x. replaced ≡ r x.sender.destination)
-    → (port_of new.transfers).current ≡ hears_if (lost new.hold.standing) r f (min new.hold.age 9999999999999999) (port_of old.transfers).current)
-    → new.transfers.next_token ≡ old.transfers.next_token → new.transfers.resting ≡ old.transfers.resting
-    → (whole_now : Option (ℕ × ℕ)) → whole_now ≡ made_by (has_place (incoming_of old.incoming).reception.waits) (incoming_of new.incoming).reception.waits
-    → (cast_now : Option (ℕ × ℕ))
-    → cast_now ≡ made_by (not (not (has_place (whole_of (hearing_of old.hearing).current)))) (whole_of (hearing_of new.hearing).current)
-    → (coming : Bool) (silent : Option AskEnding) → coming ≡ is_coming (option_map (λ (x : AskRecord). x.question) (asking_of old.asking)) (session_by (incoming_of old.incoming).reception.session (incoming_of old.incoming).named)
-    (in_broadcast (later (incoming_of old.incoming).clock (when - (incoming_of old.incoming).moment)) (hearing_of old.hearing).current)
-    → silent ≡ silence new.hold.wait coming (lost new.hold.standing) (asking_of old.asking)
-    → asking_of new.asking ≡ option_map (hears_with (who_of w.brought old.own) silent f (option_or whole_now cast_now)) (asking_of old.asking)
-    → (left_by over_by : Bool) (p1 p2 : Option ℕ) (m : HearingRecord) (restarted : Option ℕ)
-    → restarted ≡ claimed_again (holder_in old.holders) ((incoming_of old.incoming).called - (when - (incoming_of old.incoming).moment)) (claim_of f) → IfSome (hearing_of old.hearing).current (λ z. p1 ≡ still restarted (holder_in old.holders) z.source)
-    → IfSome (hearing_of old.hearing).current (λ z. p2 ≡ holder_in new.holders z.source) → left_by ≡ not (is_same p1 p2)
-    → over_by ≡ (left_by || is_out (stamp_micros new.incoming.clock) (hearing_of old.hearing).current)
-    → broken ≡ breaks_it over_by (hearing_of old.hearing).current
-    → m.missed ≡ (if broken then min (old.hearing.missed + 1) 18446744073709551615 else old.hearing.missed)
-    → m.current ≡ leaves_it over_by (hearing_of old.hearing).current
-    → unheard ≡ is_unheard (who_of w.brought old.own) f m.current
-    → new.hearing.missed ≡ (if unheard then min (m.missed + 1) 18446744073709551615 else m.missed)
-    → (IsFit m.current → (hearing_of new.hearing).current ≡ hears_it (who_of w.brought old.own) (stamp_micros new.incoming.clock) f m.current) → Is w (At when (Hear f) ∷ H) new
-heard_more w H old new when f mid held wanted away gone calls another replaced broken unheard o h p e1 e2 e3 e4 e5 e6 e7 e9 q1 q2 q3 q4 q5 e8 s1 s2 s3 s4 s5 s9 s6 s7 s8 s10 whole_now m1 cast_now m2 coming silent a2 a3 a1 left_by over_by p1 p2 m restarted t0 t1 t2 t3 t4 t5 t9 t10 t6 t7 t8 =
-    let s = sound w H h.answered in
-    let wants : wanted ≡ is_for_program w (holds w H when) f =
-    e2 ∙ (ap (λ (v : Who). is_for_program v held f) h.who ∙ ap (λ (b : Bool). is_for_program w b f) (holds_is w H when mid held p e1)) in
-    let lost_before : away ≡ is_lost (address_after w H) =
-    e6 ∙ (ap lost p.standing ∙ (lost_is (older (step H when) (address_after w H)) ∙ lost_older (step H when) (address_after w H))) in
-    let asks_for : o ≡ fresh w (drop (length (handed H)) (requests w H)) (asked w (holds w H when) f) =
-    q3 ∙ (ap (λ (v : Who). fresh v (map request_by old.desk.waiting.items) (asked v held f)) h.who
-    ∙ λ i. fresh w (h.requests i) (asked w (holds_is w H when mid held p e1 i) f)) in
-    let room : nat_lt (length old.desk.waiting.items) 16 ≡ nat_lt (length (requests w H) - length (handed H)) 16 =
-    ap (λ (n : ℕ). nat_lt n 16) (length_rest request_by old.desk.waiting.items (length (handed H)) (requests w H) h.requests) in
-    let place : nat_lt (length old.desk.due.items) 16 ≡ nat_lt (length (due w H) - length (acknowledged H)) 16 =
-    ap (λ (n : ℕ). nat_lt n 16) (length_rest (refusal_by w) old.desk.due.items (length (acknowledged H)) (due w H) h.acknowledgments) in
-    let goes : gone ≡ is_smaller w (claim_of f) = e5 ∙ ap (λ (v : Who). is_smaller v (claim_of f)) h.who in
-    let asks : calls ≡ calls_for_claim w (is_lost (address_after w H)) f =
-    e7 ∙ (ap (λ (v : Who). calls_for_claim v away f) h.who ∙ ap (λ (b : Bool). calls_for_claim w b f) lost_before) in
-    let others : another ≡ is_another w (holds w H when) f =
-    e9 ∙ (ap (λ (v : Who). is_another v held f) h.who ∙ ap (λ (b : Bool). is_another w b f) (holds_is w H when mid held p e1)) in
-    let knows : Knows new.holders (told_claims w (At when (Hear f) ∷ H)) =
-    subst (λ (v : Who). Knows new.holders (if is_double v (claim_of f) then told_claims w H else told_claims w H ++ f ∷ [])) h.who (q4 (told_claims w H) h.holders) in
-    let r : ℕ → Bool = λ a. is_replaced (holder w H a) (holder w (At when (Hear f) ∷ H) a) in
-    let current : (port_of old.transfers).current ≡ open_transfer w H = ap (λ (t : PortRecord). t.current) h.port in
-    let stands_now : new.hold.standing ≡ standing_of (address_after w (At when (Hear f) ∷ H)) =
-    ap (λ (k : Hold). k.standing) e8 ∙ (ap (λ (b : Bool). if b then standing.Lost else mid.standing) goes
-    ∙ (ap (λ (x : Standing). if is_smaller w (claim_of f) then standing.Lost else x) p.standing
-    ∙ heard_standing (is_smaller w (claim_of f)) (step H when) (address_after w H))) in
-    let hears_in : incoming_of new.incoming ≡ incoming_after w (At when (Hear f) ∷ H) =
-    incoming_heard w H old when f new.holders new.incoming gone held h knows goes (holds_is w H when mid held p e1) s9 in
-    let gone_is : restarted ≡ restarts w H when f =
-    t0 ∙ (ap (λ (y : IncomingRecord). claimed_again (holder_in old.holders) (y.called - (when - y.moment)) (claim_of f)) h.incoming
-    ∙ again_is w old.holders H (called w H - (when - heard_at H)) (claim_of f) h.holders) in
-    let still_on : (o : Option OpenBroadcast) → IfSome o (λ z. p1 ≡ still restarted (holder_in old.holders) z.source) → IfSome o (λ z. p1 ≡ still (restarts w H when f) (holder_in old.holders) z.source) =
-    λ o. subst (λ (g : Option ℕ). IfSome o (λ z. p1 ≡ still g (holder_in old.holders) z.source)) gone_is in
-    let on = heard_on w H when f old.holders new.holders left_by over_by broken unheard (stamp_micros new.incoming.clock) p1 p2 (hearing_of old.hearing) m (hearing_of new.hearing) h.hearing
-    h.holders knows (ap (λ (x : IncomingRecord). x.clock) hears_in) (still_on (hearing_of old.hearing).current t1) t2 t3 t4 t5 t9 t10
-    (t6 ∙ ap (λ (v : Who). is_unheard v f m.current) h.who) t7
-    (λ fits. t8 fits ∙ ap (λ (v : Who). hears_it v (stamp_micros new.incoming.clock) f m.current) h.who) in
-    let whole_is : whole_now ≡ made_of (whole w H when f) =
-    m1 ∙ (ap (λ (x : IncomingRecord). made_by (has_place x.reception.waits) (incoming_of new.incoming).reception.waits) h.incoming
-    ∙ (ap (λ (x : IncomingRecord). made_by (has_place (reception w H).waits) x.reception.waits) hears_in ∙ made_is w H when f)) in
-    let cast_is : cast_now ≡ made_of (option_map (λ (x : ℕ × MessageRecord). x.1) (made_whole w H when f)) =
-    m2 ∙ (ap (λ (x : HearingRecord). made_by (not (not (has_place (whole_of x.current)))) (whole_of (hearing_of new.hearing).current)) h.hearing
-    ∙ (ap (λ (x : HearingRecord). made_by (not (not (has_place (waiting w H)))) (whole_of x.current)) on.hearing
-    ∙ cast_by (waiting w H) (waiting w (At when (Hear f) ∷ H)))) in
-    let lost_now = is_lost (address_after w (At when (Hear f) ∷ H)) in
-    let comes_now = comes w H (time_heard (At when (Hear f) ∷ H)) in
-    let silent_is : silent ≡ silence (wait H - step H when) comes_now lost_now (asking_of old.asking) =
-    a3 ∙ λ i. silence ((ap (λ (k : Hold). k.wait) e8 ∙ p.wait) i)
-    ((a2 ∙ coming_is w H old (later (incoming_of old.incoming).clock (when - (incoming_of old.incoming).moment)) (time_heard (At when (Hear f) ∷ H)) h
-    (ap (λ (x : IncomingRecord). later x.clock (when - x.moment)) h.incoming)) i)
-    ((ap lost stands_now ∙ lost_is (address_after w (At when (Hear f) ∷ H))) i) (asking_of old.asking) in
-    let made_now : option_or whole_now cast_now ≡ made w H when f =
-    ap (λ (o : Option (ℕ × ℕ)). option_or o cast_now) whole_is ∙ ap (option_or (made_of (whole w H when f))) cast_is in
-    record {
-      who = ap (who_of w.brought) s1 ∙ h.who;
-      answered = (h.answered, tt);
-      hold = is_hold _ _ (ap (λ (k : Hold). k.turns) e8 ∙ p.turns) (ap (λ (k : Hold). k.yields) e8 ∙ p.yields)
-          (ap (λ (k : Hold). k.patience) e8 ∙ λ i. if others i && nat_eq (p.patience i) 0 then 5000000 else p.patience i)
-          (ap (λ (k : Hold). k.delay) e8 ∙ λ i. if (asks i || (others i && nat_eq (p.patience i) 0)) && not ((ap lost p.standing ∙ (lost_is _ ∙ lost_older (step H when) (address_after w H))) i && p.owes i) then (h.who i).delay * 600 else p.delay i)
-          (ap (λ (k : Hold). k.rest) e8 ∙ p.rest) (ap (λ (k : Hold). k.moment) e8 ∙ p.moment) stands_now
-          (ap (λ (k : Hold). k.owes_claim) e8 ∙ (λ i. p.owes i || (asks i || (others i && nat_eq (p.patience i) 0))))
-          (ap (λ (k : Hold). k.pause) e8 ∙ p.pause) (ap (λ (k : Hold). k.age) e8 ∙ p.age) (ap (λ (k : Hold). k.wait) e8 ∙ p.wait);
-      outgoing = ap (λ o. map posted o.items) s2 ∙ h.outgoing;
-      taken = s3 ∙ h.taken;
-      token = s4 ∙ h.token;
-      asking = a1 ∙ (ap (λ (v : Who). option_map (hears_with v silent f (option_or whole_now cast_now)) (asking_of old.asking)) h.who
-          ∙ (ap (λ (o : Option (ℕ × ℕ)). option_map (hears_with w silent f o) (asking_of old.asking)) made_now
-          ∙ (ap (λ (e : Option AskEnding). option_map (hears_with w e f (made w H when f)) (asking_of old.asking)) silent_is
-          ∙ (ap (λ (o : Option AskRecord). option_map (hears_with w (silence (wait H - step H when) comes_now lost_now o) f (made w H when f)) o) h.asking
-          ∙ ask_heard w (open_ask H) (reached H) (wait H - step H when) (ended w H) comes_now lost_now f (made w H when f)))));
-      unread = e3 ∙ (ap (λ (b : Bool). offered b (stamped f) (map received_by old.inbox.unread.items)) wants
-          ∙ kept_rest (is_for_program w (holds w H when) f) (kept w H) _ (length (got H)) (stamped f) (read w H s) h.unread);
-      requests = q1 ∙ (ap (λ (v : Who). with_request v (nat_lt (length old.desk.waiting.items) 16) o (map request_by old.desk.waiting.items)) h.who
-          ∙ ((λ i. with_request w (room i) (asks_for i) (map request_by old.desk.waiting.items))
-          ∙ request_rest w (nat_lt (length (requests w H) - length (handed H)) 16) (fresh w (drop (length (handed H)) (requests w H)) (asked w (holds w H when) f)) (requests w H)
-          (map request_by old.desk.waiting.items) (length (handed H)) (front_length (handed H) (requests w H) s.desk.2) h.requests));
-      acknowledgments = ap (λ (v : Who). map (refusal_by v) new.desk.due.items) (sym h.who)
-          ∙ (q2 ∙ (ap (λ (v : Who). with_refusal v (nat_lt (length old.desk.waiting.items) 16)
-          (nat_lt (length old.desk.due.items) 16 && not (is_refusal_due v (map (refusal_by v) old.desk.due.items) o)) o (map (refusal_by v) old.desk.due.items)) h.who
-          ∙ ((λ i. with_refusal w (room i) (place i && not (is_refusal_due w (h.acknowledgments i) (asks_for i))) (asks_for i) (map (refusal_by w) old.desk.due.items))
-          ∙ refusal_rest w (nat_lt (length (requests w H) - length (handed H)) 16)
-          (nat_lt (length (due w H) - length (acknowledged H)) 16
-          && not (is_refusal_due w (drop (length (acknowledged H)) (due w H)) (fresh w (drop (length (handed H)) (requests w H)) (asked w (holds w H when) f))))
-          (fresh w (drop (length (handed H)) (requests w H)) (asked w (holds w H when) f)) (due w H) (map (refusal_by w) old.desk.due.items) (length (acknowledged H))
-          (front_length (acknowledged H) (due w H) s.desk.1) h.acknowledgments)));
-      holders = knows;
-      news = q5 ∙ is_news _ _
-          (ap (λ (u : Untold). u.lost || (gone && not away)) h.news
-          ∙ (ap (λ (b : Bool). lost_news w H || (b && not away)) goes ∙ ap (λ (b : Bool). lost_news w H || (is_smaller w (claim_of f) && not b)) lost_before))
-          (ap (λ (u : Untold). u.another || is_another (who_of w.brought old.own) held f) h.news
-          ∙ (ap (λ (v : Who). another_news w H || is_another v held f) h.who
-          ∙ ap (λ (b : Bool). another_news w H || is_another w b f) (holds_is w H when mid held p e1)))
-          (λ i. option_or (double (h.who i) (claim_of f)) (h.news i).doubled)
-          (ap (λ (u : Untold). broken || (u.missed || ((wanted && not (nat_lt (length old.inbox.unread.items) 16)) || unheard))) h.news
-          ∙ (ap (λ (b : Bool). broken || ((missed_news w H || unheard_news w H) || ((b && not (nat_lt (length old.inbox.unread.items) 16)) || unheard))) wants
-          ∙ (ap (λ (n : ℕ). broken || ((missed_news w H || unheard_news w H) || ((is_for_program w (holds w H when) f && not (nat_lt n 16)) || unheard)))
-          (length_rest received_by old.inbox.unread.items (length (got H)) (kept w H) h.unread)
-          ∙ ((λ i. on.breaks i || ((missed_news w H || unheard_news w H) || ((is_for_program w (holds w H when) f && not (nat_lt (length (kept w H) - length (got H)) 16)) || on.unheard i)))
-          ∙ either_news _ (missed_news w H) (unheard_news w H) _ _))));
-      missed = e4 ∙ (ap (λ (b : Bool). counted b (map received_by old.inbox.unread.items) old.inbox.missed) wants
-          ∙ missed_rest (is_for_program w (holds w H when) f) (kept w H) _ (length (got H)) (missed w H) _ h.unread h.missed);
-      lane = ap (lane_of w) s5 ∙ h.lane;
-      incoming = hears_in;
-      hearing = on.hearing;
-      port = is_port _ _
-          (s7 (λ a. is_replaced (holder w H a) (holder w (At when (Hear f) ∷ H) a))
-          (subst (λ (o : Option Running). IfSome o (λ x. replaced ≡ is_replaced (holder w H x.sender.destination) (holder w (At when (Hear f) ∷ H) x.sender.destination)))
-          (sym current)
-          (replaced_is w H when f old.holders new.holders replaced (open_transfer w H) (ported w H h.answered) h.holders knows
-          (subst (λ (o : Option Running). IfSome o (λ x. replaced ≡ is_replaced (holder_in old.holders x.sender.destination) (holder_in new.holders x.sender.destination))) current s6)))
-          ∙ (ap (λ (b : Bool). hears_if b r f (min new.hold.age 9999999999999999) (port_of old.transfers).current)
-          (ap lost stands_now ∙ lost_is (address_after w (At when (Hear f) ∷ H)))
-          ∙ (ap (λ (n : ℕ). hears_if (is_lost (address_after w (At when (Hear f) ∷ H))) r f n (port_of old.transfers).current)
-          (ap (λ (n : ℕ). min n 9999999999999999) (ap (λ (k : Hold). k.age) e8 ∙ p.age) ∙ clock_is (age H + step H when))
-          ∙ ap (hears_if (is_lost (address_after w (At when (Hear f) ∷ H))) r f (clock_at H when)) current)))
-          (s8 ∙ ap (λ (t : PortRecord). t.next_token) h.port) (ap resting_by s10 ∙ ap (λ (t : PortRecord). t.resting) h.port);
-    }
-
 -- a message that waits is renewed
 renewed_more : (w : Who) (H : List Call) (old new : Controller) (d : Draft) (r : Option ℕ) → Is w H old → r ≡ next_renewed w H d
     → map posted new.outgoing.items ≡ drop (length (told H)) (accepted w (Renew d r ∷ H)) → length (accepted w (Renew d r ∷ H)) ≡ length (accepted w H)
     → new ≡ record old { outgoing = new.outgoing } → Is w (Renew d r ∷ H) new
-renewed_more w H old new d r h right is long e = record {
-  who = ap (λ c. who_of w.brought c.own) e ∙ h.who;
-  answered = (h.answered, right);
-  hold = ap (λ c. c.hold) e ∙ h.hold;
-  outgoing = is;
-  taken = ap (λ c. c.taken) e ∙ h.taken;
-  token = ap (λ c. c.next_token) e ∙ (h.token ∙ sym long);
-  asking = ap (λ c. asking_of c.asking) e ∙ h.asking;
-  unread = ap (λ c. map received_by c.inbox.unread.items) e ∙ h.unread;
-  requests = ap (λ c. map request_by c.desk.waiting.items) e ∙ h.requests;
-  acknowledgments = ap (λ c. map (refusal_by w) c.desk.due.items) e ∙ h.acknowledgments;
-  holders = subst (λ t. Knows t (told_claims w H)) (sym (ap (λ c. c.holders) e)) h.holders;
-  news = ap (λ c. c.news) e ∙ h.news;
-  missed = ap (λ c. c.inbox.missed) e ∙ h.missed;
-  lane = ap (λ c. lane_of w c.lane) e ∙ h.lane;
-  incoming = ap (λ c. incoming_of c.incoming) e ∙ h.incoming;
-  hearing = ap (λ c. hearing_of c.hearing) e ∙ h.hearing;
-  port = ap (λ c. port_of c.transfers) e ∙ h.port;
-}
+renewed_more w H old new d r h right is long e =
+    follows h (ap (λ c. c.holders) e) right refl
+    (ap (view w) e ∙ λ i. record (h.shown i) { outgoing = is i; token = (ap (λ (v : View). v.token) h.shown ∙ sym long) i })
 
 pub none_renewed : (w : Who) (H : List Call) (c : Controller) (d : Draft) → Is w H c → None ≡ next_renewed w H d → Is w (Renew d None ∷ H) c
-none_renewed w H c d h e = renewed_more w H c c d None h e h.outgoing refl refl
+none_renewed w H c d h e = renewed_more w H c c d None h e (ap (λ (v : View). v.outgoing) h.shown) refl refl
 
 -- the last that is alike, of those that wait or aren't told
 pub found_is : (w : Who) (H : List Call) (c : Controller) (d : Draft) → Is w H c
@@ -1023,8 +540,8 @@ pub found_is : (w : Who) (H : List Call) (c : Controller) (d : Draft) → Is w H
     ≡ option_map (λ k. k + length (told H)) (latest (message_from w d) c.taken 0 (map posted c.outgoing.items) None)
 found_is w H c d h =
     latest_rest (message_from w d) (length (told H)) (max (reached H) (length (told H))) (accepted w H) (omega arith)
-    ∙ λ i. option_map (λ k. k + length (told H)) (latest (message_from w d) ((let e = h.taken in let z : max (reached H) (length (told H)) - length (told H) ≡ c.taken = omega (arith, e) in z) i) 0
-    (sym h.outgoing i) None)
+    ∙ λ i. option_map (λ k. k + length (told H)) (latest (message_from w d) ((let e = (ap (λ (v : View). v.taken) h.shown) in let z : max (reached H) (length (told H)) - length (told H) ≡ c.taken = omega (arith, e) in z) i) 0
+    (sym (ap (λ (v : View). v.outgoing) h.shown) i) None)
 
 pub renewal : (w : Who) (H : List Call) (c : Controller) (d : Draft) (x : Outgoing) (t : ℕ) (o : Option ℕ) → Is w H c → can_send w d ≡ true
     → posted x ≡ (t, message_from (who_of w.brought c.own) d) → o ≡ latest (posted x).1 c.taken 0 (map posted c.outgoing.items) None
@@ -1033,7 +550,7 @@ renewal w H c d x t o h can e f =
     ap (λ (b : Bool). if b then latest (message_from w d) (max (reached H) (length (told H))) 0 (accepted w H) None else None) can
     ∙ (found_is w H c d h ∙ ap (option_map (λ k. k + length (told H)))
     (sym (f ∙ ap (λ (m : Message). latest m c.taken 0 (map posted c.outgoing.items) None)
-    (ap (λ (y : ℕ × Message). y.1) e ∙ ap (λ (v : Who). message_from v d) h.who))))
+    (ap (λ (y : ℕ × Message). y.1) e ∙ ap (λ (u : View). message_from u.who d) h.shown))))
 
 pub renews : (w : Who) (H : List Call) (old new : Controller) (d : Draft) (x : Outgoing) (t place : ℕ) (r : Option ℕ) → Is w H old → can_send w d ≡ true
     → posted x ≡ (t, message_from (who_of w.brought old.own) d) → Some place ≡ latest (posted x).1 old.taken 0 (map posted old.outgoing.items) None
@@ -1049,39 +566,21 @@ renews w H old new d x t place (Some k) h can e f g n u =
     let L = accepted w H in
     let T = length (told H) in
     let at : slice_get L (place + T) ≡ Some (posted g.before) =
-    sym (get_at L T place (place + T) (omega arith)) ∙ (ap (λ zs. slice_get zs place) (sym h.outgoing) ∙ get_map posted old.outgoing.items place g.before g.was) in
+    sym (get_at L T place (place + T) (omega arith)) ∙ (ap (λ zs. slice_get zs place) (sym (ap (λ (v : View). v.outgoing) h.shown)) ∙ get_map posted old.outgoing.items place g.before g.was) in
     let token : k ≡ place + T = g.same ∙ (sound w H h.answered).numbered (place + T) (posted g.before) at in
-    let message : (posted x).1 ≡ message_from w d = ap (λ (y : ℕ × Message). y.1) e ∙ ap (λ (v : Who). message_from v d) h.who in
+    let message : (posted x).1 ≡ message_from w d = ap (λ (y : ℕ × Message). y.1) e ∙ ap (λ (u : View). message_from u.who d) h.shown in
     renewed_more w H old new d (Some k) h
     (ap Some token ∙ sym (renewal w H old d x t (Some place) h can e f))
-    (g.renewed ∙ ((λ i. slice_set (h.outgoing i) place (k, message i))
+    (g.renewed ∙ ((λ i. slice_set ((h.shown i).outgoing) place (k, message i))
     ∙ (sym (set_rest T place L (k, message_from w d)) ∙ ap (λ (n : ℕ). drop T (slice_set L n (k, message_from w d))) (sym token))))
     (length-set L k (k, message_from w d)) u
 
 -- a message is withdrawn, or none is
 pub none_withdrawn : (w : Who) (H : List Call) (c : Controller) (k : ℕ) → Is w H c → false ≡ next_withdrawn w H k → Is w (Withdraw k false ∷ H) c
-none_withdrawn w H c k h e = record {
-  who = h.who;
-  answered = (h.answered, e);
-  hold = h.hold;
-  outgoing = h.outgoing;
-  taken = h.taken;
-  token = h.token;
-  asking = h.asking;
-  unread = h.unread;
-  requests = h.requests;
-  acknowledgments = h.acknowledgments;
-  holders = h.holders;
-  news = h.news;
-  missed = h.missed;
-  lane = h.lane;
-  incoming = h.incoming;
-  hearing = h.hearing;
-  port = h.port;
-}
+none_withdrawn w H c k h e = record { shown = h.shown; answered = (h.answered, e); holders = h.holders }
 
 is_away : (w : Who) (H : List Call) (c : Controller) → Is w H c → lost c.hold.standing ≡ is_lost (address_after w H)
-is_away w H c h = ap (λ (k : Hold). lost k.standing) h.hold ∙ lost_is (address_after w H)
+is_away w H c h = ap (λ (v : View). lost v.hold.standing) h.shown ∙ lost_is (address_after w H)
 
 pub lost_keeps : (w : Who) (H : List Call) (c : Controller) (k : ℕ) → Is w H c → lost c.hold.standing ≡ true → Is w (Withdraw k false ∷ H) c
 lost_keeps w H c k h e =
@@ -1091,7 +590,7 @@ lost_keeps w H c k h e =
 place_is : (w : Who) (H : List Call) (c : Controller) (k : ℕ) → Is w H c → is_lost (address_after w H) ≡ false
     → place_of c.taken k (map posted c.outgoing.items) ≡ (if next_withdrawn w H k then Some (k - length (told H)) else None)
 place_is w H c k h away =
-    ap (place_of c.taken k) h.outgoing ∙ (go (drop T L) refl ∙ ap (λ (b : Bool). if not b && (nat_le (reached H) k && may_go (slice_get L k)) then Some (k - T) else None) (sym away))
+    ap (place_of c.taken k) (ap (λ (v : View). v.outgoing) h.shown) ∙ (go (drop T L) refl ∙ ap (λ (b : Bool). if not b && (nat_le (reached H) k && may_go (slice_get L k)) then Some (k - T) else None) (sym away))
   where
     L : List (ℕ × Message)
     L = accepted w H
@@ -1109,15 +608,12 @@ place_is w H c k h away =
     none_there false o z = refl
     none_there true o z = ap may_go (z refl)
 
-    le_is : (a b : ℕ) → nat_le a b ≡ true → a ≤ b
-    le_is a b z = grind arith
-
     less : (a b d : ℕ) → d ≤ a → d ≤ b → nat_le (a - d) (b - d) ≡ nat_le a b
     less a b d x y = grind (arith, x, y)
 
     go : (D : List (ℕ × Message)) → drop T L ≡ D → place_of c.taken k D ≡ (if nat_le (reached H) k && may_go (slice_get L k) then Some (k - T) else None)
     go [] e = sym (ap (λ (b : Bool). if b then Some (k - T) else None) (none_there (nat_le (reached H) k) (slice_get L k)
-        (λ z. slice_get_past L k (let a = le_is _ _ z in let b = ap length e in let d = length-drop T L in omega (arith, a, b, d, t)))))
+        (λ z. slice_get_past L k (let a = leb-true _ _ z in let b = ap length e in let d = length-drop T L in omega (arith, a, b, d, t)))))
     go (x ∷ xs) e = by (nat_lt k T) refl
       where
         first : x.0 ≡ T
@@ -1128,10 +624,10 @@ place_is w H c k h away =
             (λ i. if not (nat_lt k (first i)) && (nat_le c.taken (k - x.0) && may_go (slice_get (x ∷ xs) (k - x.0))) then Some (k - x.0) else None)
             ∙ (ap (λ (b : Bool). if not b && (nat_le c.taken (k - x.0) && may_go (slice_get (x ∷ xs) (k - x.0))) then Some (k - x.0) else None) l
             ∙ sym (ap (λ (b : Bool). if b then Some (k - T) else None) (none_there (nat_le (reached H) k) (slice_get L k)
-            (λ z. (let a = le_is _ _ z in let b = ltb-true _ _ l in absurd (omega (arith, a, b, t)))))))
+            (λ z. (let a = leb-true _ _ z in let b = ltb-true _ _ l in absurd (omega (arith, a, b, t)))))))
         by false l =
             let d = ltb-false k T l in
-            (λ i. if not (nat_lt k (first i)) && (nat_le (h.taken i) (k - first i) && may_go (slice_get (sym e i) (k - first i))) then Some (k - first i) else None)
+            (λ i. if not (nat_lt k (first i)) && (nat_le ((h.shown i).taken) (k - first i) && may_go (slice_get (sym e i) (k - first i))) then Some (k - first i) else None)
             ∙ (λ i. if not (l i) && (less (reached H) k T t d i && may_go (get_at L T (k - T) k (let z : k ≡ T + (k - T) = omega (arith, d) in z) i)) then Some (k - T) else None)
 
 pub none_at_place : (w : Who) (H : List Call) (c : Controller) (k : ℕ) → Is w H c → lost c.hold.standing ≡ false → None ≡ place_of c.taken k (map posted c.outgoing.items)
@@ -1170,7 +666,7 @@ withdraws w H old new k place x r h l blanked e f g p u = go r f g (by (next_wit
     go None f g q =
         let c = withdraw_case w H k (sym q.0) in
         let a = slice_get_within L k c.entry c.is in
-        let b = length_map posted old.outgoing.items in let d = ap length h.outgoing in let i = length-drop T L in
+        let b = length_map posted old.outgoing.items in let d = ap length (ap (λ (v : View). v.outgoing) h.shown) in let i = length-drop T L in
         let m = g refl in let n = q.1 in let t = s.in_turn away in let v = c.from in absurd (omega (arith, a, b, d, i, m, n, t, v))
     go (Some token) f g q =
         let G = Withdraw k true ∷ H in
@@ -1180,156 +676,31 @@ withdraws w H old new k place x r h l blanked e f g p u = go r f g (by (next_wit
         let v = c.from in
         let sum : place + T ≡ k = omega (arith, n, t, v) in
         let at : slice_get L (place + T) ≡ Some (posted f.before) =
-        sym (get_at L T place (place + T) (omega arith)) ∙ (ap (λ zs. slice_get zs place) (sym h.outgoing) ∙ get_map posted old.outgoing.items place f.before f.was) in
+        sym (get_at L T place (place + T) (omega arith)) ∙ (ap (λ zs. slice_get zs place) (sym (ap (λ (v : View). v.outgoing) h.shown)) ∙ get_map posted old.outgoing.items place f.before f.was) in
         let same : token ≡ k = f.same ∙ (s.numbered (place + T) (posted f.before) at ∙ sum) in
         let out : map posted new.outgoing.items ≡ drop T (accepted w G) =
-        f.renewed ∙ ((λ i. slice_set (h.outgoing i) place (same i, (ap (λ (y : ℕ × Message). y.1) blanked) i))
+        f.renewed ∙ ((λ i. slice_set ((h.shown i).outgoing) place (same i, (ap (λ (y : ℕ × Message). y.1) blanked) i))
         ∙ (sym (set_rest T place L (k, blank)) ∙ ap (λ (m : ℕ). drop T (slice_set L m (k, blank))) sum)) in
         let right : AreAnswered w G = (h.answered, sym q.0) in
-        record {
-          who = ap (λ c. who_of w.brought c.own) u ∙ h.who;
-          answered = right;
-          hold = ap (λ c. c.hold) u ∙ h.hold;
-          outgoing = out;
-          taken = (let a = h.taken in let b = past_queued w G new.outgoing.items T old.taken (sound w G right) out in
-              let d = ap (past (marks G)) (let z : old.taken + T ≡ reached H = omega (arith, a, t) in z) in omega (arith, b, d, p));
-          token = ap (λ c. c.next_token) u ∙ (h.token ∙ sym (length-set L k (k, blank)));
-          asking = ap (λ c. asking_of c.asking) u ∙ (h.asking ∙ ask_withdrawn w H k right);
-          unread = ap (λ c. map received_by c.inbox.unread.items) u ∙ h.unread;
-          requests = ap (λ c. map request_by c.desk.waiting.items) u ∙ h.requests;
-          acknowledgments = ap (λ c. map (refusal_by w) c.desk.due.items) u ∙ h.acknowledgments;
-          holders = subst (λ t. Knows t (told_claims w H)) (sym (ap (λ c. c.holders) u)) h.holders;
-          news = ap (λ c. c.news) u ∙ h.news;
-          missed = ap (λ c. c.inbox.missed) u ∙ h.missed;
-          lane = ap (λ c. lane_of w c.lane) u ∙ h.lane;
-          incoming = ap (λ c. incoming_of c.incoming) u ∙ h.incoming;
-          hearing = ap (λ c. hearing_of c.hearing) u ∙ h.hearing;
-          port = ap (λ c. port_of c.transfers) u ∙ h.port;
-        }
+        follows h (ap (λ c. c.holders) u) (sym q.0) refl
+        (ap (view w) u ∙ λ i. record (h.shown i) {
+          outgoing = out i;
+          taken = (let a = (ap (λ (v : View). v.taken) h.shown) in let b = past_queued w G new.outgoing.items T old.taken (sound w G right) out in
+              let d = ap (past (marks G)) (let z : old.taken + T ≡ reached H = omega (arith, a, t) in z) in
+              (let z : new.taken ≡ past (marks G) (reached H) - T = omega (arith, b, d, p) in z)) i;
+          token = (ap (λ (v : View). v.token) h.shown ∙ sym (length-set L k (k, blank))) i;
+          asking = (ap (λ (v : View). v.asking) h.shown ∙ ask_withdrawn w H k right) i;
+        })
 
 -- the address is to be claimed anew
-unclaims_after : (a : Address) → unclaims (standing_of a) ≡ standing_of (unclaimed a)
+pub unclaims_after : (a : Address) → unclaims (standing_of a) ≡ standing_of (unclaimed a)
 unclaims_after NotClaimed = refl
 unclaims_after (Claimed e) = refl
 unclaims_after Lost = refl
 
-pub again_more : (w : Who) (H : List Call) (old new : Controller) (now : ℕ) (mid : Hold) → Is w H old → Passed w H now mid
-    → new.hold ≡ anew (old.own.delay * 600) mid → new ≡ record old { hold = new.hold } → Is w (At now Again ∷ H) new
-again_more w H old new now mid h p a e = record {
-  who = ap (λ c. who_of w.brought c.own) e ∙ h.who;
-  answered = (h.answered, tt);
-  hold = a ∙ is_hold _ _ p.turns p.yields p.patience (λ i. (h.who i).delay * 600) p.rest p.moment (ap unclaims p.standing ∙ unclaims_after _) refl p.pause p.age p.wait;
-  outgoing = ap (λ c. map posted c.outgoing.items) e ∙ h.outgoing;
-  taken = ap (λ c. c.taken) e ∙ h.taken;
-  token = ap (λ c. c.next_token) e ∙ h.token;
-  asking = ap (λ c. asking_of c.asking) e ∙ h.asking;
-  unread = ap (λ c. map received_by c.inbox.unread.items) e ∙ h.unread;
-  requests = ap (λ c. map request_by c.desk.waiting.items) e ∙ h.requests;
-  acknowledgments = ap (λ c. map (refusal_by w) c.desk.due.items) e ∙ h.acknowledgments;
-  holders = subst (λ t. Knows t (told_claims w H)) (sym (ap (λ c. c.holders) e)) h.holders;
-  news = ap (λ c. c.news) e ∙ h.news;
-  missed = ap (λ c. c.inbox.missed) e ∙ h.missed;
-  lane = ap (λ c. lane_of w c.lane) e ∙ h.lane;
-  incoming = ap (λ c. incoming_of c.incoming) e ∙ h.incoming;
-  hearing = ap (λ c. hearing_of c.hearing) e ∙ h.hearing;
-  port = ap (λ c. port_of c.transfers) e ∙ h.port;
-}
-
 -- ---- requests
 
-pub handed_more : (w : Who) (H : List Call) (old new : Controller) (x : Request) → Is w H old
-    → First request_by new.desk.waiting.items x (length (handed H)) (requests w H)
-    → new ≡ record old { desk = record { waiting = new.desk.waiting; due = old.desk.due } } → Is w (TakeRequest (Some (request_by x)) ∷ H) new
-handed_more w H old new x h first e = record {
-  who = ap (λ c. who_of w.brought c.own) e ∙ h.who;
-  answered = (h.answered, sym first.is);
-  hold = ap (λ c. c.hold) e ∙ h.hold;
-  outgoing = ap (λ c. map posted c.outgoing.items) e ∙ h.outgoing;
-  taken = ap (λ c. c.taken) e ∙ h.taken;
-  token = ap (λ c. c.next_token) e ∙ h.token;
-  asking = ap (λ c. asking_of c.asking) e ∙ h.asking;
-  unread = ap (λ c. map received_by c.inbox.unread.items) e ∙ h.unread;
-  requests = first.rest ∙ ap (λ (n : ℕ). drop n (requests w H)) (sym (length_one_more (handed H) (request_by x)));
-  acknowledgments = ap (λ c. map (refusal_by w) c.desk.due.items) e ∙ h.acknowledgments;
-  holders = subst (λ t. Knows t (told_claims w H)) (sym (ap (λ c. c.holders) e)) h.holders;
-  news = ap (λ c. c.news) e ∙ h.news;
-  missed = ap (λ c. c.inbox.missed) e ∙ h.missed;
-  lane = ap (λ c. lane_of w c.lane) e ∙ h.lane;
-  incoming = ap (λ c. incoming_of c.incoming) e ∙ h.incoming;
-  hearing = ap (λ c. hearing_of c.hearing) e ∙ h.hearing;
-  port = ap (λ c. port_of c.transfers) e ∙ h.port;
-}
-
-abbrev pub acknowledges_by : Bool → Bool → Bool → Result (Unit {0}) Refused
-acknowledges_by a b f = if a then (if b then (if f then Err Full else Ok tt) else Err BadValue) else Err NoAddress
-
-pub acknowledge_is : (w : Who) (H : List Call) (now : ℕ) (r : Asked) (a b f : Bool) → holds w H now ≡ a → nat_eq r.destination w.address ≡ b
-    → nat_eq (length (due w H) - length (acknowledged H)) 16 ≡ f → answer_to_acknowledge w H now r ≡ acknowledges_by a b f
-acknowledge_is w H now r a b f e g k =
-    ap (λ (x : Bool). acknowledges_by x (nat_eq r.destination w.address) (nat_eq (length (due w H) - length (acknowledged H)) 16)) e
-    ∙ (ap (λ (x : Bool). acknowledges_by a x (nat_eq (length (due w H) - length (acknowledged H)) 16)) g ∙ ap (λ (x : Bool). acknowledges_by a b x) k)
-
-pub due_more : (w : Who) (H : List Call) (old new : Controller) (now : ℕ) (answer : Answer) (r : Request) (x : Due) → Is w H old → Passed w H now new.hold
-    → Ok tt ≡ answer_to_acknowledge w H now (request_by r) → refusal_by w x ≡ acknowledgment w answer (request_by r) → new.desk.due.items ≡ old.desk.due.items ++ x ∷ []
-    → new ≡ record old { hold = new.hold; desk = record { waiting = old.desk.waiting; due = new.desk.due } }
-    → Is w (At now (Acknowledge (request_by r) answer (Ok tt)) ∷ H) new
-due_more w H old new now answer r x h p right a g e =
-    let s = sound w H h.answered in
-    record {
-      who = ap (λ c. who_of w.brought c.own) e ∙ h.who;
-      answered = (h.answered, right);
-      hold = is_hold _ _ p.turns p.yields p.patience p.delay p.rest p.moment p.standing p.owes p.pause p.age p.wait;
-      outgoing = ap (λ c. map posted c.outgoing.items) e ∙ h.outgoing;
-      taken = ap (λ c. c.taken) e ∙ h.taken;
-      token = ap (λ c. c.next_token) e ∙ h.token;
-      asking = ap (λ c. asking_of c.asking) e ∙ h.asking;
-      unread = ap (λ c. map received_by c.inbox.unread.items) e ∙ h.unread;
-      requests = ap (λ c. map request_by c.desk.waiting.items) e ∙ h.requests;
-      acknowledgments = ap (map (refusal_by w)) g ∙ (map_append (refusal_by w) old.desk.due.items x
-          ∙ (ap (λ l. l ++ refusal_by w x ∷ []) h.acknowledgments
-          ∙ (ap (λ (y : Message). drop (length (acknowledged H)) (due w H) ++ y ∷ []) a
-          ∙ sym (drop_append (length (acknowledged H)) (due w H) (acknowledgment w answer (request_by r)) (front_length (acknowledged H) (due w H) s.desk.1)))));
-      holders = subst (λ t. Knows t (told_claims w H)) (sym (ap (λ c. c.holders) e)) h.holders;
-      news = ap (λ c. c.news) e ∙ h.news;
-      missed = ap (λ c. c.inbox.missed) e ∙ h.missed;
-      lane = ap (λ c. lane_of w c.lane) e ∙ h.lane;
-      incoming = ap (λ c. incoming_of c.incoming) e ∙ h.incoming;
-      hearing = ap (λ c. hearing_of c.hearing) e ∙ h.hearing;
-      port = ap (λ c. port_of c.transfers) e ∙ h.port;
-    }
-
 -- ---- a call that only lets time pass
-
-pub refuses_send : (w : Who) (H : List Call) (old new : Controller) (now : ℕ) (d : Draft) (r : Refused) → Is w H old → Passed w H now new.hold
-    → Err r ≡ answer_to_send w H now d → new ≡ record old { hold = new.hold } → Is w (At now (Send d (Err r)) ∷ H) new
-refuses_send w H old new now d r h p answer e = record {
-  who = ap (λ c. who_of w.brought c.own) e ∙ h.who;
-  answered = (h.answered, answer);
-  hold = is_hold _ _ p.turns p.yields p.patience p.delay p.rest p.moment p.standing p.owes p.pause p.age p.wait;
-  outgoing = ap (λ c. map posted c.outgoing.items) e ∙ h.outgoing;
-  taken = ap (λ c. c.taken) e ∙ h.taken;
-  token = ap (λ c. c.next_token) e ∙ h.token;
-  asking = ap (λ c. asking_of c.asking) e ∙ h.asking;
-  unread = ap (λ c. map received_by c.inbox.unread.items) e ∙ h.unread;
-  requests = ap (λ c. map request_by c.desk.waiting.items) e ∙ h.requests;
-  acknowledgments = ap (λ c. map (refusal_by w) c.desk.due.items) e ∙ h.acknowledgments;
-  holders = subst (λ t. Knows t (told_claims w H)) (sym (ap (λ c. c.holders) e)) h.holders;
-  news = ap (λ c. c.news) e ∙ h.news;
-  missed = ap (λ c. c.inbox.missed) e ∙ h.missed;
-  lane = ap (λ c. lane_of w c.lane) e ∙ h.lane;
-  incoming = ap (λ c. incoming_of c.incoming) e ∙ h.incoming;
-  hearing = ap (λ c. hearing_of c.hearing) e ∙ h.hearing;
-  port = ap (λ c. port_of c.transfers) e ∙ h.port;
-}
-
-abbrev pub sends_by : Who → List Call → Bool → Bool → Bool → Result ℕ Refused
-sends_by w H a b f = if a then (if b then (if f then Err Full else Ok (length (accepted w H))) else Err BadValue) else Err NoAddress
-
-pub send_is : (w : Who) (H : List Call) (now : ℕ) (d : Draft) (a b f : Bool) → holds w H now ≡ a → can_send w d ≡ b → is_full w H ≡ f
-    → answer_to_send w H now d ≡ sends_by w H a b f
-send_is w H now d a b f e g k =
-    ap (λ (x : Bool). sends_by w H x (can_send w d) (is_full w H)) e
-    ∙ (ap (λ (x : Bool). sends_by w H a x (is_full w H)) g ∙ ap (λ (x : Bool). sends_by w H a b x) k)
 
 -- ---- when something is due
 
@@ -1343,7 +714,7 @@ waits_is w H c h e =
     (sent_due w H c h (held_not_lost (address_after w H) e))
     ∙ ap (λ (b : Bool). nat_lt (reached H) (length (accepted w H)) || b)
     (ap (λ (b : Bool). b || nat_lt 0 (length c.incoming.replies.items))
-    (ap (nat_lt 0) (length_rest (refusal_by w) c.desk.due.items (length (acknowledged H)) (due w H) h.acknowledgments) ∙ lt_some _ _)
+    (ap (nat_lt 0) (length_rest (refusal_by w) c.desk.due.items (length (acknowledged H)) (due w H) (ap (λ (v : View). v.acknowledgments) h.shown)) ∙ lt_some _ _)
     ∙ ap (λ (n : ℕ). nat_lt (length (acknowledged H)) (length (due w H)) || nat_lt 0 n) (replies_length w H c h))
 
 held_and : (a : Bool) (x y : Bool) → (a ≡ true → x ≡ y) → (a && x) ≡ (a && y)
@@ -1355,7 +726,7 @@ pub frame_due : (w : Who) (H : List Call) (c : Controller) → Is w H c
     || nat_lt 0 (length c.incoming.replies.items)))))
     ≡ (may_claim w H (delayed w H) || (is_held (address_after w H) && is_waiting w H))
 frame_due w H c h =
-    ap (λ (k : Hold). can_claim k || (stands k.standing && (nat_lt c.taken (length c.outgoing.items) || (nat_lt 0 (length c.desk.due.items) || nat_lt 0 (length c.incoming.replies.items))))) h.hold
+    ap (λ (v : View). can_claim v.hold || (stands v.hold.standing && (nat_lt c.taken (length c.outgoing.items) || (nat_lt 0 (length c.desk.due.items) || nat_lt 0 (length c.incoming.replies.items))))) h.shown
     ∙ (ap (λ (b : Bool). (owes_claim w H && (not (lost (standing_of (address_after w H))) || nat_eq (delayed w H) 0)) || (b && (nat_lt c.taken (length c.outgoing.items) || (nat_lt 0 (length c.desk.due.items) || nat_lt 0 (length c.incoming.replies.items))))) (stands_is (address_after w H))
     ∙ (ap (λ (b : Bool). (owes_claim w H && (not b || nat_eq (delayed w H) 0)) || (is_held (address_after w H) && (nat_lt c.taken (length c.outgoing.items) || (nat_lt 0 (length c.desk.due.items) || nat_lt 0 (length c.incoming.replies.items))))) (lost_is (address_after w H))
     ∙ ap (λ (b : Bool). may_claim w H (delayed w H) || b) (held_and (is_held (address_after w H)) _ _ (waits_is w H c h))))
@@ -1373,13 +744,13 @@ pub packets_due : (w : Who) (H : List Call) (c : Controller) → Is w H c
     → sooner (packet_in (is_left (lane_of w c.lane).current c.lane.count) c.hold.pause) (transfer_in (port_of c.transfers).current (clock c.hold.age))
     ≡ packets_in w H
 packets_due w H c h =
-    ap (λ (l : LaneRecord). sooner (packet_in (is_left l.current l.count) c.hold.pause) (transfer_in (port_of c.transfers).current (clock c.hold.age))) h.lane
-    ∙ (ap (λ (k : Hold). sooner (packet_in (has_packets w H) k.pause) (transfer_in (port_of c.transfers).current (clock k.age))) h.hold
+    ap (λ (v : View). sooner (packet_in (is_left v.lane.current v.lane.count) c.hold.pause) (transfer_in (port_of c.transfers).current (clock c.hold.age))) h.shown
+    ∙ (ap (λ (v : View). sooner (packet_in (has_packets w H) v.hold.pause) (transfer_in (port_of c.transfers).current (clock v.hold.age))) h.shown
     ∙ (ap (λ (n : ℕ). sooner (packet_in (has_packets w H) (pause H)) (transfer_in (port_of c.transfers).current n)) (clock_is (age H))
-    ∙ ap (λ (p : PortRecord). sooner (packet_in (has_packets w H) (pause H)) (transfer_in p.current (clock (age H)))) h.port))
+    ∙ ap (λ (v : View). sooner (packet_in (has_packets w H) (pause H)) (transfer_in v.port.current (clock (age H)))) h.shown))
 
 pub held_due : (w : Who) (H : List Call) (c : Controller) (b : Bool) → Is w H c → b ≡ stands c.hold.standing → b ≡ is_held (address_after w H)
-held_due w H c b h e = e ∙ (ap (λ (k : Hold). stands k.standing) h.hold ∙ stands_is (address_after w H))
+held_due w H c b h e = e ∙ (ap (λ (v : View). stands v.hold.standing) h.shown ∙ stands_is (address_after w H))
 
 -- when something is due, by whether a frame can be taken, and whether the address is held
 abbrev pub due_by : Who → List Call → Bool → Bool → Option ℕ
@@ -1397,9 +768,21 @@ claims_after NotClaimed = refl
 claims_after (Claimed e) = refl
 claims_after Lost = refl
 
+claim_told : (w : Who) (H : List Call) (c : Controller) (a : ℕ) → Is w H c → a ≡ (if lost c.hold.standing then 254 else c.own.address)
+    → claim_from (who_of w.brought c.own) a ≡ claim_from w (claim_address w (address_after w H))
+claim_told w H c a h e =
+    ap (λ (u : View). claim_from u.who a) h.shown
+    ∙ ap (claim_from w) (e ∙ (ap (λ (v : View). if lost v.hold.standing then 254 else c.own.address) h.shown
+    ∙ (ap (λ (n : ℕ). if lost (standing_of (address_after w H)) then 254 else n) (ap (λ (u : View). u.who.address) h.shown) ∙ told_address (address_after w H))))
+  where
+    told_address : (x : Address) → (if lost (standing_of x) then 254 else w.address) ≡ claim_address w x
+    told_address NotClaimed = refl
+    told_address (Claimed n) = refl
+    told_address Lost = refl
+
 pub claims_more : (w : Who) (H : List Call) (old new : Controller) (now : ℕ) (f : FrameRecord) (mid : Hold) (a : ℕ) → Is w H old → Passed w H now mid
     → claim_goes w H now ≡ true → new.hold ≡ hold_claimed mid
-    → Some (stamped f) ≡ Some (now, claim_from (who_of w.brought old.own) a) → a ≡ (if lost mid.standing then 254 else old.own.address)
+    → Some (stamped f) ≡ Some (now, claim_from (who_of w.brought old.own) a) → a ≡ (if lost old.hold.standing then 254 else old.own.address)
     → ((F : List FrameRecord) → Knows old.holders F → Knows new.holders (F ++ f ∷ []))
     → (IsNamed (incoming_of old.incoming) → incoming_of new.incoming ≡ with_called (1250000 + (now - (incoming_of old.incoming).moment))
     (with_reception (left (leaves (holder_in old.holders) (holder_in new.holders) (incoming_of old.incoming).reception.session)
@@ -1413,60 +796,27 @@ pub claims_more : (w : Who) (H : List Call) (old new : Controller) (now : ℕ) (
     → new ≡ record old { hold = new.hold; holders = new.holders; incoming = new.incoming; hearing = new.hearing; news = new.news }
     → Is w (At now (TakeFrame (Some f)) ∷ H) new
 claims_more w H old new now f mid a h p owes e0 m at knows drops left_by broken p1 p2 t1 t2 t3 t4 t5 t6 u e =
-    let from : claim_from (who_of w.brought old.own) a ≡ claim_from w (claim_address w (address_after w H)) =
-    ap (λ (v : Who). claim_from v a) h.who
-    ∙ ap (claim_from w) (at ∙ (ap (λ (x : Standing). if lost x then 254 else old.own.address) p.standing
-    ∙ (ap (λ (n : ℕ). if lost (standing_of (older (step H now) (address_after w H))) then 254 else n) (ap (λ (v : Who). v.address) h.who)
-    ∙ told_address (step H now) (address_after w H)))) in
     let k : stamped f ≡ (now, claim_from (who_of w.brought old.own) a) = cc in
-    let j : stamped f ≡ (now, claim_from w (claim_address w (address_after w H))) = k ∙ ap (λ (x : Message). (now, x)) from in
-    let n = claim_taken f now w (claim_address w (address_after w H)) j in
-    let on = claimed_on w H now f old.holders new.holders left_by broken p1 p2 (hearing_of old.hearing) (hearing_of new.hearing) h.hearing h.holders (subst (Knows new.holders) (sym (told_is w H now f n)) (knows (told_claims w H) h.holders)) t1 t2 t3 t4 t5 t6 in
+    let j : stamped f ≡ (now, claim_from w (claim_address w (address_after w H))) = k ∙ ap (λ (x : Message). (now, x)) (claim_told w H old a h at) in
+    let kind_now = kind_is w H now f h.answered (claims_first owes j) in
+    let n = ap (λ (k : Kind). k.claim) kind_now in
+    let knows_now : Knows new.holders (told_claims w (At now (TakeFrame (Some f)) ∷ H)) = subst (Knows new.holders) (sym (told_is w H now f n)) (knows (told_claims w H) h.holders) in
+    let on = claimed_on w H now f old.holders new.holders left_by broken p1 p2 (hearing_of old.hearing) (hearing_of new.hearing) (ap (λ (v : View). v.hearing) h.shown) h.holders knows_now t1 t2 t3 t4 t5 t6 in
     record {
-      who = ap (λ c. who_of w.brought c.own) e ∙ h.who;
+      shown = ap (view w) e ∙ ((λ i. record (h.shown i) {
+        hold = (e0 ∙ (ap hold_claimed p ∙ λ i. record (led w H now) { standing = claims_after (older (step H now) (address_after w H)) i; owes_claim = false; turns = turns_more (turns H) i })) i;
+        news = (u ∙ is_broken w H broken _ old.news (ap (λ (v : View). v.news) h.shown) on.says) i;
+        hearing = is_hearing _ _ on.current on.missed i;
+        incoming = (drops (kept_named w H old h) ∙ incoming_claimed w H old now f new.holders h kind_now knows_now) i;
+      }) ∙ ap (λ (k : Kind). record (framed w H now f k) { incoming = incoming_after w (At now (TakeFrame (Some f)) ∷ H) }) (sym kind_now));
       answered = (
         h.answered,
         ap Some j ∙ sym (ap (λ (b : Bool). frame_by b (holds w H now) (next_acknowledgment w H now) (other w H now) (claim_from w (claim_address w (address_after w H))) now) owes),
       );
-      hold = e0 ∙ is_hold _ _ (turns_more H now f mid.turns (ap (λ (b : Bool). b || is_acknowledgment f) n) p.turns)
-          (yields_same w H now f mid.yields (ap (λ (b : Bool). b || is_acknowledgment f) n) p.yields) p.patience p.delay p.rest p.moment
-          (ap claims p.standing ∙ (claims_after (older (step H now) (address_after w H)) ∙ ap standing_of (sym (address_is w H now f true n)))) (sym (ap (λ (b : Bool). if b then false else owes_claim w H) n))
-          (p.pause ∙ sym (pause_is H now f false (no_packet f (claim_single f n)))) p.age (p.wait ∙ wait_same H now f true _ _ n refl refl refl);
-      outgoing = ap (λ c. map posted c.outgoing.items) e ∙ h.outgoing;
-      taken = ap (λ c. c.taken) e ∙ (h.taken ∙ ap (λ (n : ℕ). n - length (told H)) (sym (reached_is H now f true _ _ n refl refl)));
-      token = ap (λ c. c.next_token) e ∙ h.token;
-      asking = ap (λ c. asking_of c.asking) e ∙ (h.asking ∙ ask_same w H now f true _ _ n refl refl refl);
-      unread = ap (λ c. map received_by c.inbox.unread.items) e ∙ h.unread;
-      requests = ap (λ c. map request_by c.desk.waiting.items) e ∙ h.requests;
-      acknowledgments = ap (λ c. map (refusal_by w) c.desk.due.items) e ∙ (h.acknowledgments
-          ∙ ap (λ (xs : List Message). drop (length xs) (due w H)) (sym (acknowledged_is H now f true _ n refl)));
-      holders = subst (Knows new.holders) (sym (ap (λ (b : Bool). if b then told_claims w H ++ f ∷ [] else told_claims w H) n)) (knows (told_claims w H) h.holders);
-      news = u ∙ is_broken w H broken _ old.news h.news on.says;
-      missed = ap (λ c. c.inbox.missed) e ∙ h.missed;
-      lane = ap (λ c. lane_of w c.lane) e ∙ (h.lane ∙ lane_same w H now f (no_packet f (claim_single f n)));
-      hearing = is_hearing _ _ on.current on.missed;
-      port = ap (λ c. port_of c.transfers) e ∙ (h.port ∙ port_same w H now f (no_move w H f (no_transfer f (claim_single f n))));
-      incoming = drops (kept_named w H old h) ∙ incoming_claimed w H old now f new.holders h n (subst (Knows new.holders) (sym (told_is w H now f n)) (knows (told_claims w H) h.holders));
+      holders = knows_now;
     }
-  where
-    told_address : (s : ℕ) (x : Address) → (if lost (standing_of (older s x)) then 254 else w.address) ≡ claim_address w x
-    told_address s NotClaimed = refl
-    told_address s (Claimed e) = refl
-    told_address s Lost = refl
 
 -- ---- which frame would be taken
-
-claim_told : (w : Who) (H : List Call) (c : Controller) (a : ℕ) → Is w H c → a ≡ (if lost c.hold.standing then 254 else c.own.address)
-    → claim_from (who_of w.brought c.own) a ≡ claim_from w (claim_address w (address_after w H))
-claim_told w H c a h e =
-    ap (λ (v : Who). claim_from v a) h.who
-    ∙ ap (claim_from w) (e ∙ (ap (λ (k : Hold). if lost k.standing then 254 else c.own.address) h.hold
-    ∙ (ap (λ (n : ℕ). if lost (standing_of (address_after w H)) then 254 else n) (ap (λ (v : Who). v.address) h.who) ∙ told_address (address_after w H))))
-  where
-    told_address : (x : Address) → (if lost (standing_of x) then 254 else w.address) ≡ claim_address w x
-    told_address NotClaimed = refl
-    told_address (Claimed n) = refl
-    told_address Lost = refl
 
 pub peeks_claim : (w : Who) (H : List Call) (c : Controller) (now a : ℕ) (r : Option FrameRecord) → Is w H c → claim_goes w H now ≡ true
     → option_map stamped r ≡ Some (now, claim_from (who_of w.brought c.own) a) → a ≡ (if lost c.hold.standing then 254 else c.own.address)
@@ -1495,19 +845,18 @@ first_acknowledged w H c now false o h g e =
     ∙ (sym (due_next (slice_get c.desk.due.items 0) refl) ∙ sym (ap (option_map (refusal_by w)) e))
   where
     due_next : (o : Option Due) → slice_get c.desk.due.items 0 ≡ o → option_map (refusal_by w) o ≡ slice_get (due w H) (length (acknowledged H))
-    due_next None e = sym (not_in_rest (refusal_by w) c.desk.due.items (due w H) (length (acknowledged H)) (length (acknowledged H)) 0 h.acknowledgments (omega arith) (omega arith) e)
-    due_next (Some x) e = sym (in_rest (refusal_by w) c.desk.due.items x (due w H) (length (acknowledged H)) (length (acknowledged H)) 0 h.acknowledgments (omega arith) (omega arith) e)
+    due_next None e = sym (not_in_rest (refusal_by w) c.desk.due.items (due w H) (length (acknowledged H)) (length (acknowledged H)) 0 (ap (λ (v : View). v.acknowledgments) h.shown) (omega arith) (omega arith) e)
+    due_next (Some x) e = sym (in_rest (refusal_by w) c.desk.due.items x (due w H) (length (acknowledged H)) (length (acknowledged H)) 0 (ap (λ (v : View). v.acknowledgments) h.shown) (omega arith) (omega arith) e)
 
-pub peeks_other : (w : Who) (H : List Call) (c : Controller) (now : ℕ) (k : Hold) (r : Option FrameRecord) → Is w H c → Passed w H now k
-    → claim_goes w H now ≡ false → holds w H now ≡ true → next_acknowledgment w H now ≡ None
+pub peeks_other : (w : Who) (H : List Call) (c : Controller) (now : ℕ) (k : Hold) (r : Option FrameRecord) → Is w H c → IsOthers w H now k
     → option_map stamped r ≡ option_map (at_now now) (turn_frame (turn_of k.yields (ready_in c k)) (slice_get (incoming_of c.incoming).reception.replies 0)
     (option_map posted (slice_get c.outgoing.items c.taken)) (packet_by (lane_of (who_of w.brought c.own) c.lane).current c.lane.count k.pause)
     (transfer_by (port_of c.transfers).current (clock k.age)))
     → option_map stamped r ≡ next_frame w H now
-peeks_other w H c now k r h p owes held none m =
-    m ∙ ((λ i. option_map (at_now now) (turn_frame (turn_next w H c now k h p held i) (slice_get (replies_is w H c h i) 0) (message_next w H c h (holding_not_lost w H now held) i)
-    (packet_next w H c now k.pause h p.pause i) (transfer_next w H c now k.age h p.age i)))
-    ∙ sym (next_is w H now None (other w H now) owes held none refl))
+peeks_other w H c now k r h o m =
+    m ∙ ((λ i. option_map (at_now now) (turn_frame (turn_next w H c now k h o.passed o.held i) (slice_get (replies_is w H c h i) 0) (message_next w H c h (holding_not_lost w H now o.held) i)
+    (packet_next w H c now k.pause h (ap (λ (k : Hold). k.pause) o.passed) i) (transfer_next w H c now k.age h (ap (λ (k : Hold). k.age) o.passed) i)))
+    ∙ sym (next_is w H now None (other w H now) o.owes o.held o.none refl))
 
 -- whose turn it is has a frame
 pub single_there : (c : Controller) (k : Hold) → turn_of k.yields (ready_in c k) ≡ Some Single → slice_get c.outgoing.items c.taken ≡ None → ⊥
@@ -1542,64 +891,18 @@ move_goes c k now e f = go (transfer_by (port_of c.transfers).current (clock k.a
 
 pub busy_is : (w : Who) (H : List Call) (c : Controller) → Is w H c
     → (is_open (lane_of w c.lane).current || nat_eq c.lane.next_token 18446744073709551615) ≡ is_busy w H
-busy_is w H c h = ap (λ (l : LaneRecord). is_open l.current || nat_eq l.next_token 18446744073709551615) h.lane
+busy_is w H c h = ap (λ (v : View). is_open v.lane.current || nat_eq v.lane.next_token 18446744073709551615) h.shown
 
-abbrev pub broadcasts_by : Who → List Call → Bool → Bool → Bool → Result ℕ Refused
-broadcasts_by w H a b f = if a then (if b then (if f then Err Full else Ok (length (broadcasts w H))) else Err BadValue) else Err NoAddress
+-- ---- requests to others
 
-pub broadcast_is : (w : Who) (H : List Call) (now group : ℕ) (bytes : List ℕ) (a b f : Bool) → holds w H now ≡ a → can_broadcast group bytes ≡ b
-    → is_busy w H ≡ f → answer_to_broadcast w H now group bytes ≡ broadcasts_by w H a b f
-broadcast_is w H now group bytes a b f e g k =
-    ap (λ (x : Bool). broadcasts_by w H x (can_broadcast group bytes) (is_busy w H)) e
-    ∙ (ap (λ (x : Bool). broadcasts_by w H a x (is_busy w H)) g ∙ ap (λ (x : Bool). broadcasts_by w H a b x) k)
-
-pub refuses_broadcast : (w : Who) (H : List Call) (old new : Controller) (now group : ℕ) (bytes : List ℕ) (r : Refused) → Is w H old
-    → Passed w H now new.hold → Err r ≡ answer_to_broadcast w H now group bytes → new ≡ record old { hold = new.hold }
-    → Is w (At now (Broadcast group bytes (Err r)) ∷ H) new
-refuses_broadcast w H old new now group bytes r h p answer e = record {
-  who = ap (λ c. who_of w.brought c.own) e ∙ h.who;
-  answered = (h.answered, answer);
-  hold = is_hold _ _ p.turns p.yields p.patience p.delay p.rest p.moment p.standing p.owes p.pause p.age p.wait;
-  outgoing = ap (λ c. map posted c.outgoing.items) e ∙ h.outgoing;
-  taken = ap (λ c. c.taken) e ∙ h.taken;
-  token = ap (λ c. c.next_token) e ∙ h.token;
-  asking = ap (λ c. asking_of c.asking) e ∙ h.asking;
-  unread = ap (λ c. map received_by c.inbox.unread.items) e ∙ h.unread;
-  requests = ap (λ c. map request_by c.desk.waiting.items) e ∙ h.requests;
-  acknowledgments = ap (λ c. map (refusal_by w) c.desk.due.items) e ∙ h.acknowledgments;
-  holders = subst (λ t. Knows t (told_claims w H)) (sym (ap (λ c. c.holders) e)) h.holders;
-  news = ap (λ c. c.news) e ∙ h.news;
-  missed = ap (λ c. c.inbox.missed) e ∙ h.missed;
-  lane = ap (λ c. lane_of w c.lane) e ∙ h.lane;
-  incoming = ap (λ c. incoming_of c.incoming) e ∙ h.incoming;
-  hearing = ap (λ c. hearing_of c.hearing) e ∙ h.hearing;
-  port = ap (λ c. port_of c.transfers) e ∙ h.port;
-}
-
-pub begins : (w : Who) (H : List Call) (old new : Controller) (now group : ℕ) (bytes : List ℕ) (x : Open) (mid : Hold) → Is w H old → Passed w H now mid → new.hold ≡ hold_opens mid
-    → Ok old.lane.next_token ≡ answer_to_broadcast w H now group bytes → opened w x ≡ (old.lane.next_token, broadcast_from w group bytes)
-    → new ≡ record old { hold = new.hold; lane = new.lane } → new.lane.current ≡ Some x → new.lane.count ≡ 0
-    → new.lane.next_token ≡ suc old.lane.next_token → Is w (At now (Broadcast group bytes (Ok old.lane.next_token)) ∷ H) new
-begins w H old new now group bytes x mid h p opens answer is e e0 e1 e2 = record {
-  who = ap (λ c. who_of w.brought c.own) e ∙ h.who;
-  answered = (h.answered, answer);
-  hold = opens ∙ is_hold _ _ p.turns p.yields p.patience p.delay p.rest p.moment p.standing p.owes (ap (max 100000) p.pause) p.age p.wait;
-  outgoing = ap (λ c. map posted c.outgoing.items) e ∙ h.outgoing;
-  taken = ap (λ c. c.taken) e ∙ h.taken;
-  token = ap (λ c. c.next_token) e ∙ h.token;
-  asking = ap (λ c. asking_of c.asking) e ∙ h.asking;
-  unread = ap (λ c. map received_by c.inbox.unread.items) e ∙ h.unread;
-  requests = ap (λ c. map request_by c.desk.waiting.items) e ∙ h.requests;
-  acknowledgments = ap (λ c. map (refusal_by w) c.desk.due.items) e ∙ h.acknowledgments;
-  holders = subst (λ t. Knows t (told_claims w H)) (sym (ap (λ c. c.holders) e)) h.holders;
-  news = ap (λ c. c.news) e ∙ h.news;
-  missed = ap (λ c. c.inbox.missed) e ∙ h.missed;
-  lane = is_lane _ _ (ap (option_map (opened w)) e0 ∙ ap Some is) e1
-      (e2 ∙ (ap (λ (l : LaneRecord). suc l.next_token) h.lane ∙ sym (length_one_more (broadcasts w H) (broadcast_from w group bytes))));
-  incoming = ap (λ c. incoming_of c.incoming) e ∙ h.incoming;
-  hearing = ap (λ c. hearing_of c.hearing) e ∙ h.hearing;
-  port = ap (λ c. port_of c.transfers) e ∙ h.port;
-}
+-- no request can be accepted
+pub asks_no_more_is : (w : Who) (H : List Call) (c : Controller) → Is w H c
+    → ((nat_eq (length c.outgoing.items) 16 || nat_eq c.next_token 18446744073709551615) || is_asking (option_map (λ (x : AskRecord). x.question) (asking_of c.asking)))
+    ≡ (is_full w H || is_asking (open_ask H))
+asks_no_more_is w H c h =
+    ap (λ (b : Bool). b || is_asking (option_map (λ (x : AskRecord). x.question) (asking_of c.asking))) (full_is w H c h)
+    ∙ ap (λ (b : Bool). is_full w H || b)
+    (ap (λ (v : View). is_asking (option_map (λ (x : AskRecord). x.question) v.asking)) h.shown ∙ asking_is (open_ask H) (reached H) (ended w H))
 
 -- ---- transfers
 
@@ -1607,95 +910,11 @@ pub engaged_is : (w : Who) (H : List Call) (c : Controller) (now group to : ℕ)
     → (is_engaged (port_of c.transfers).current c.transfers.next_token || (nat_lt 0 mid.rest && holds_back (port_of c.transfers).resting group to))
     ≡ (is_engaged (open_transfer w H) (length (all_transfers w H)) || is_resting w H now group to)
 engaged_is w H c now group to mid h p =
-    ap (λ (q : PortRecord). is_engaged q.current q.next_token || (nat_lt 0 mid.rest && holds_back q.resting group to)) h.port
-    ∙ ap (λ (n : ℕ). is_engaged (open_transfer w H) (length (all_transfers w H)) || (nat_lt 0 n && holds_back (resting w H) group to)) p.rest
-
-abbrev pub transfers_by : Who → List Call → Bool → Bool → Bool → Result ℕ Refused
-transfers_by w H a b f = if a then (if b then (if f then Err Full else Ok (length (all_transfers w H))) else Err BadValue) else Err NoAddress
-
-pub transfer_is : (w : Who) (H : List Call) (now group to : ℕ) (bytes : List ℕ) (a b f : Bool) → holds w H now ≡ a → can_transfer w group to bytes ≡ b
-    → (is_engaged (open_transfer w H) (length (all_transfers w H)) || is_resting w H now group to) ≡ f → answer_to_transfer w H now group to bytes ≡ transfers_by w H a b f
-transfer_is w H now group to bytes a b f e g k =
-    ap (λ (x : Bool). transfers_by w H x (can_transfer w group to bytes) (is_engaged (open_transfer w H) (length (all_transfers w H)) || is_resting w H now group to)) e
-    ∙ (ap (λ (x : Bool). transfers_by w H a x (is_engaged (open_transfer w H) (length (all_transfers w H)) || is_resting w H now group to)) g ∙ ap (λ (x : Bool). transfers_by w H a b x) k)
-
-pub refuses_transfer : (w : Who) (H : List Call) (old new : Controller) (now group to : ℕ) (bytes : List ℕ) (r : Refused) → Is w H old
-    → Passed w H now new.hold → Err r ≡ answer_to_transfer w H now group to bytes → new ≡ record old { hold = new.hold }
-    → Is w (At now (Transfer group to bytes (Err r)) ∷ H) new
-refuses_transfer w H old new now group to bytes r h p answer e = record {
-  who = ap (λ c. who_of w.brought c.own) e ∙ h.who;
-  answered = (h.answered, answer);
-  hold = is_hold _ _ p.turns p.yields p.patience p.delay p.rest p.moment p.standing p.owes p.pause p.age p.wait;
-  outgoing = ap (λ c. map posted c.outgoing.items) e ∙ h.outgoing;
-  taken = ap (λ c. c.taken) e ∙ h.taken;
-  token = ap (λ c. c.next_token) e ∙ h.token;
-  asking = ap (λ c. asking_of c.asking) e ∙ h.asking;
-  unread = ap (λ c. map received_by c.inbox.unread.items) e ∙ h.unread;
-  requests = ap (λ c. map request_by c.desk.waiting.items) e ∙ h.requests;
-  acknowledgments = ap (λ c. map (refusal_by w) c.desk.due.items) e ∙ h.acknowledgments;
-  holders = subst (λ t. Knows t (told_claims w H)) (sym (ap (λ c. c.holders) e)) h.holders;
-  news = ap (λ c. c.news) e ∙ h.news;
-  missed = ap (λ c. c.inbox.missed) e ∙ h.missed;
-  lane = ap (λ c. lane_of w c.lane) e ∙ h.lane;
-  hearing = ap (λ c. hearing_of c.hearing) e ∙ h.hearing;
-  port = ap (λ c. port_of c.transfers) e ∙ h.port;
-  incoming = ap (λ c. incoming_of c.incoming) e ∙ h.incoming;
-}
-
-pub transfer_begins : (w : Who) (H : List Call) (old new : Controller) (now group to : ℕ) (bytes : List ℕ) (x : transfers.Open) (mid : Hold) → Is w H old → Passed w H now mid
-    → Ok old.transfers.next_token ≡ answer_to_transfer w H now group to bytes
-    → running x ≡ begun old.transfers.next_token (broadcast_from w group bytes) to
-    → new ≡ record old { hold = new.hold; transfers = new.transfers } → new.hold ≡ record mid { age = 0 } → new.transfers.current ≡ Some x
-    → new.transfers.next_token ≡ suc old.transfers.next_token → new.transfers.resting ≡ old.transfers.resting
-    → Is w (At now (Transfer group to bytes (Ok old.transfers.next_token)) ∷ H) new
-transfer_begins w H old new now group to bytes x mid h p answer is e e0 e1 e2 e3 = record {
-  who = ap (λ c. who_of w.brought c.own) e ∙ h.who;
-  answered = (h.answered, answer);
-  hold = e0 ∙ is_hold _ _ p.turns p.yields p.patience p.delay p.rest p.moment p.standing p.owes p.pause refl p.wait;
-  outgoing = ap (λ c. map posted c.outgoing.items) e ∙ h.outgoing;
-  taken = ap (λ c. c.taken) e ∙ h.taken;
-  token = ap (λ c. c.next_token) e ∙ h.token;
-  asking = ap (λ c. asking_of c.asking) e ∙ h.asking;
-  unread = ap (λ c. map received_by c.inbox.unread.items) e ∙ h.unread;
-  requests = ap (λ c. map request_by c.desk.waiting.items) e ∙ h.requests;
-  acknowledgments = ap (λ c. map (refusal_by w) c.desk.due.items) e ∙ h.acknowledgments;
-  holders = subst (λ t. Knows t (told_claims w H)) (sym (ap (λ c. c.holders) e)) h.holders;
-  news = ap (λ c. c.news) e ∙ h.news;
-  missed = ap (λ c. c.inbox.missed) e ∙ h.missed;
-  lane = ap (λ c. lane_of w c.lane) e ∙ h.lane;
-  hearing = ap (λ c. hearing_of c.hearing) e ∙ h.hearing;
-  port = is_port _ _ (ap (option_map running) e1 ∙ ap Some is)
-      (e2 ∙ (ap (λ (t : PortRecord). suc t.next_token) h.port ∙ sym (length_one_more (all_transfers w H) (to, broadcast_from w group bytes))))
-      (ap resting_by e3 ∙ ap (λ (t : PortRecord). t.resting) h.port);
-  incoming = ap (λ c. incoming_of c.incoming) e ∙ h.incoming;
-}
+    ap (λ (v : View). is_engaged v.port.current v.port.next_token || (nat_lt 0 mid.rest && holds_back v.port.resting group to)) h.shown
+    ∙ ap (λ (n : ℕ). is_engaged (open_transfer w H) (length (all_transfers w H)) || (nat_lt 0 n && holds_back (resting w H) group to)) (ap (λ (k : Hold). k.rest) p)
 
 pub transfer_end_is : (w : Who) (H : List Call) (c : Controller) (b : Bool) → Is w H c → b ≡ lost c.hold.standing
     → transfer_end (port_of c.transfers).current b ≡ next_transfer_ended w H
 transfer_end_is w H c b h e =
-    ap (λ (p : PortRecord). transfer_end p.current b) h.port
-    ∙ ap (transfer_end (open_transfer w H)) (e ∙ (ap (λ (k : Hold). lost k.standing) h.hold ∙ lost_is (address_after w H)))
-
-pub transfer_ends : (w : Who) (H : List Call) (old new : Controller) (x : ℕ × TransferEnding) (b : Bool) → Is w H old → Some x ≡ next_transfer_ended w H
-    → b ≡ rests_after x.1 → new ≡ record old { hold = new.hold; transfers = new.transfers } → new.hold ≡ rested b old.hold
-    → port_of new.transfers ≡ closed b old.hold.rest (port_of old.transfers) → Is w (TakeTransferEnded (Some x) ∷ H) new
-transfer_ends w H old new x b h answer rests e e0 e1 = record {
-  who = ap (λ c. who_of w.brought c.own) e ∙ h.who;
-  answered = (h.answered, answer);
-  hold = e0 ∙ (ap (rested b) h.hold ∙ ap (λ (y : Bool). rested y (hold_after w H)) rests);
-  outgoing = ap (λ c. map posted c.outgoing.items) e ∙ h.outgoing;
-  taken = ap (λ c. c.taken) e ∙ h.taken;
-  token = ap (λ c. c.next_token) e ∙ h.token;
-  asking = ap (λ c. asking_of c.asking) e ∙ h.asking;
-  unread = ap (λ c. map received_by c.inbox.unread.items) e ∙ h.unread;
-  requests = ap (λ c. map request_by c.desk.waiting.items) e ∙ h.requests;
-  acknowledgments = ap (λ c. map (refusal_by w) c.desk.due.items) e ∙ h.acknowledgments;
-  holders = subst (λ t. Knows t (told_claims w H)) (sym (ap (λ c. c.holders) e)) h.holders;
-  news = ap (λ c. c.news) e ∙ h.news;
-  missed = ap (λ c. c.inbox.missed) e ∙ h.missed;
-  lane = ap (λ c. lane_of w c.lane) e ∙ h.lane;
-  hearing = ap (λ c. hearing_of c.hearing) e ∙ h.hearing;
-  port = e1 ∙ (ap (closed b old.hold.rest) h.port
-      ∙ (ap (λ (n : ℕ). closed b n (port_after w H)) (ap (λ (k : Hold). k.rest) h.hold) ∙ ap (λ (y : Bool). closed y (rest w H) (port_after w H)) rests));
-  incoming = ap (λ c. incoming_of c.incoming) e ∙ h.incoming;
-}
+    ap (λ (v : View). transfer_end v.port.current b) h.shown
+    ∙ ap (transfer_end (open_transfer w H)) (e ∙ (ap (λ (v : View). lost v.hold.standing) h.shown ∙ lost_is (address_after w H)))

@@ -1,15 +1,7 @@
 -- When a frame of packets is due.
-use Rattle.std.proofs.Common.{◌≡◌, ◌⊎◌, ℕ, ◌+◌, ◌-◌, ◌<◌, ◌≤◌, List, length, Option, Some, None, Bool, true, false, ◌&&◌, if◌then◌else◌, nat_lt, nat_le, min, refl, sym, ap, ◌∙◌, inl, inr, arith, lt-ltb, ltb-true, ltb-false}
-use Rattle.std.specs.Option.{option_map}
-use Rattle.j39_transport.specs.Message.{MessageRecord, packets_of}
-use Rattle.j39_transport.specs.Protocol.{timeout}
-use Rattle.j39_transport.specs.Sending.{SendState, Idle, Waiting, Sending, Done, Failed, Tick, SendResult, send_step, sends_packet, silent, ticks_in}
-use Rattle.j39_transport.specs.SenderNext.{sends_in}
-use Rattle.j39_transport.specs.Signals.{Abort, Signal}
-use Rattle.j39_node.specs.History.{Who, Message, Call, frame_of, has_packets, is_left, moment, open_broadcast, packets, pause, step}
-use Rattle.j39_node.specs.Is.{long_by, next_long, next_packet, packet_by}
-use Rattle.j39_node.proofs.FrameLemmas.{le_true}
-use Rattle.j39_node.specs.Transfers.{Running, age, at_in, clock, gives_up, next_transfer, open_transfer, packet_in, packets_in, running_in, says, signal_by, sooner, transfer_by, transfer_in}
+use Rattle.j39_node.proofs.Common.{if◌then◌else◌, ◌&&◌, ◌+◌, ◌-◌, ◌<◌, ◌∙◌, ◌≡◌, ◌≤◌, ◌⊎◌, Abort, age, ap, arith, at_in, Bool, Call, clock, Failed, false, frame_of, gives_up, has_packets, Idle, inl, inr, is_left, length, List, long_by, lt-ltb, ltb-false, ltb-true, Message, MessageRecord, min, moment, nat_le, nat_lt, next_long, next_packet, next_transfer, None, open_broadcast, open_transfer, Option, option_map, packet_by, packets, packets_in, packets_of, pause, refl, Running, running_in, says, send_step, Sending, SendResult, sends_in, sends_packet, SendState, Signal, signal_by, silent, Some, sooner, step, sym, ticks_in, timeout, transfer_by, transfer_in, true, Waiting, Who, ℕ, le-ltb, le-leb}
+use Rattle.j39_transport.specs.Sending.{Done, Tick}
+use Rattle.j39_node.specs.Transfers.{packet_in}
 
 -- ---- a frame isn't due yet
 
@@ -18,9 +10,6 @@ not_yet p s l = more (p - s) (omega (arith, l))
   where
     more : (k : ℕ) → 100000 < k → nat_le k 100000 ≡ false
     more k l = grind (arith, l)
-
-lt_false : (i n : ℕ) → n ≤ i → nat_lt i n ≡ false
-lt_false i n l = grind arith
 
 sooner_first : (p : ℕ) (o : Option ℕ) → (n : ℕ) × (sooner (Some p) o ≡ Some n) × (n ≤ p)
 sooner_first p None = (p, refl, omega arith)
@@ -58,7 +47,7 @@ no_signal t a s h = go t.gone (gives_up t) refl refl
     by (Waiting limit) e k =
         let l = k (t.sender.since + limit + 1 - clock a) (ap (λ (x : SendState). sends_in x t.sender.since (clock a)) e) in
         ap (λ (b : Bool). (if b then (let r : SendResult = record { after = record t.sender { state = Failed timeout }; says = Some (Abort timeout t.sender.message.pgn) } in r) else silent t.sender).says)
-        (lt_false (t.sender.since + limit) (clock (a + s)) (late a s (t.sender.since + limit) l))
+        (le-ltb (t.sender.since + limit) (clock (a + s)) (late a s (t.sender.since + limit) l))
     by (Sending next last) e k = let l = k 0 (ap (λ (x : SendState). sends_in x t.sender.since (clock a)) e) in absurd (omega (arith, l))
     by Done e k = refl
     by (Failed reason) e k = refl
@@ -122,7 +111,7 @@ some_packet (Some x) i p n s l e f = go (nat_le i (packets_of x.1)) refl e
     go false g k = absurd (cc)
     go true g k =
         let z : p - 100000 ≡ n = cc in
-        let a : nat_le (p - s) 100000 ≡ true = le_true (p - s) 100000 (omega (arith, z, l)) in
+        let a : nat_le (p - s) 100000 ≡ true = le-leb (p - s) 100000 (omega (arith, z, l)) in
         let y : Some (frame_of x.1 i) ≡ None = sym (ap (λ (c : Bool). if c && nat_le i (packets_of x.1) then Some (frame_of x.1 i) else None) a
         ∙ ap (λ (c : Bool). if c then Some (frame_of x.1 i) else None) g) ∙ f in absurd (cc)
 

@@ -1,35 +1,18 @@
 -- That every transfer ends.
-use Rattle.std.proofs.Common.{◌≡◌, ◌⊎◌, ℕ, ◌+◌, ◌*◌, ◌/◌, ◌<◌, ◌≤◌, List, [], ◌∷◌, ◌++◌, length, Option, Some, None, Ok, Bool, true, false, not, ◌&&◌, ◌||◌, if◌then◌else◌, nat_eq, nat_le, nat_lt, refl, sym, ap, ◌∙◌, subst, arith, inl, inr}
-use Rattle.std.specs.Option.{option_map}
-use Rattle.std.proofs.lemmas.Bool.{and_parts, cond_both}
-use Rattle.j39_frame.specs.Frame.{FrameRecord}
-use Rattle.j39_transport.specs.Message.{MessageRecord, packets_of}
-use Rattle.j39_transport.specs.Protocol.{timer_t3}
+use Rattle.j39_node.proofs.Common.{[], if◌then◌else◌, ◌&&◌, ◌*◌, ◌++◌, ◌+◌, ◌/◌, ◌<◌, ◌||◌, ◌∙◌, ◌∷◌, ◌≡◌, ◌≤◌, ◌⊎◌, Abort, aborted, address_after, Again, age, all_transfers, and_parts, ap, AreAnswered, arith, At, begun, Bool, broadcast_from, broken_off, Call, can_broadcast, claims_anew, clears, clock_at, cond_both, Controller, ending_by, false, FrameRecord, gives_up, Gone, granted_after, granted_by, Hear, hears, hears_if, holder, inl, inr, Is, is_engaged, is_held, is_idle, is_lost, is_move, is_replaced, is_resting, is_running, is_sendable, is_spent, IsAnswered, IsPrompt, length, List, listens, long_by, Message, MessageRecord, moment, nat_eq, nat_le, nat_lt, new_sender, next_frame, next_packet, next_transfer, next_transfer_ended, None, NoneTold, not, Ok, open_transfer, Option, option_map, packets_of, passed_in, refl, Running, says, send_step, SenderRecord, sends, sends_if, SendState, Signal, signal_by, Some, spent_after, step, subst, sym, TakeFrame, TakeTransferEnded, tells_transfer, ticks_in, timer_t3, Transfer, transfer_by, transfer_end, TransferEnding, true, waited_in, Who, ℕ, answer_to_transfer, not_both, leb-true}
+use Rattle.j39_transport.specs.Sending.{Tick}
+use Rattle.j39_node.specs.declared.kinds.TransferEnding.TheVariants.{Done, Withdrawn, Failed}
+use Rattle.j39_node.specs.Transfers.{said_to}
 use Rattle.j39_transport.specs.Sending as sending
-use Rattle.j39_transport.specs.Sending.{SenderRecord, SendState, Heard, Tick, aborted, is_idle, is_running, new_sender, send_step, ticks_in}
-use Rattle.j39_transport.specs.SenderNext.{granted_by}
-use Rattle.j39_transport.specs.Signals.{Signal, Abort}
-use Rattle.j39_node.specs.declared.controller.Controller.{Controller}
-use Rattle.j39_node.specs.declared.kinds.TransferEnding.{TransferEnding}
-use Rattle.j39_node.specs.declared.kinds.TransferEnding.TheVariants.{Done, Withdrawn, Failed, Gone}
-use Rattle.j39_node.specs.History.{Who, Message, Call, address_after, broadcast_from, can_broadcast, is_held, is_lost, is_sendable, moment, step}
-use Rattle.j39_node.specs.History.Call.{At, TakeTransferEnded}
-use Rattle.j39_node.specs.History.Act.{Hear, TakeFrame, Transfer, Again}
-use Rattle.j39_node.specs.Is.{AreAnswered, Is, IsAnswered, long_by, next_frame, next_packet}
-use Rattle.j39_node.specs.Prompt.{IsPrompt, NoneTold, tells_transfer, waited_in, claims_anew}
-use Rattle.j39_node.specs.Reception.{holder, is_move}
-use Rattle.j39_node.specs.Since.{passed_in}
-use Rattle.j39_node.specs.Transfers.{Running, age, begun, broken_off, can_transfer, clock_at, ending_by, gives_up, granted_after, hears, hears_if, is_engaged, is_replaced, is_resting, is_spent, listens, next_transfer, next_transfer_ended, open_transfer, said_to, says, sends, sends_if, signal_by, spent_after, transfer_by, transfer_end, transfers as all_transfers}
-use Rattle.j39_node.specs.Moves.{clears}
 use Rattle.j39_node.proofs.EndSteps.{HeardCase, IsEnded, Timely, accepted_now, heard_case, heard_timely, most, none_timely, passes, ticked_timely, times_more}
 use Rattle.j39_node.proofs.EndSteps.HeardCase.{same, ends, holds as holds_on, clears as is_cleared}
 use Rattle.j39_node.proofs.LaneLaws.{none_long}
 use Rattle.j39_node.proofs.MoveLemmas.{hears_token}
-use Rattle.j39_node.proofs.PortLemmas.{TransferCase, hears_same, sends_same, transfer_case}
-use Rattle.j39_node.proofs.PortLemmas.TransferCase.{homeless, unfit, busy, opens}
+use Rattle.j39_node.proofs.PortLemmas.{hears_same, sends_same}
 use Rattle.j39_node.proofs.PromptLaws.{answered_from, keeps_heard, keeps_taken, lost_heard, lost_taken, waited_last}
 use Rattle.j39_node.proofs.SoundLemmas.{held_older, lost_older}
 use Rattle.j39_node.proofs.TransferLaws.{Budgeted, BudgetedIf, budgeted}
+use Rattle.j39_node.proofs.AnswerCases.{transfer_accepts}
 
 -- ---- what is over stays over
 
@@ -315,12 +298,9 @@ module _ (w : Who) (B : List Call) (g k : ℕ) (m : MessageRecord) (few : packet
           p (is_idle h.running.sender.state || is_running h.running.sender.state) refl e n t
 
   -- no other is accepted
-  none_begins : (later : List Call) (now group to j : ℕ) (bytes : List ℕ) → Stands later → TransferCase w (later ++ B) now group to bytes (Ok j) → ⊥
-  none_begins later now group to j bytes h (homeless a e) = absurd (cc)
-  none_begins later now group to j bytes h (unfit a b e) = absurd (cc)
-  none_begins later now group to j bytes h (busy a b f e) = absurd (cc)
-  none_begins later now group to j bytes h (opens a b f e) =
-      let z : true ≡ false = sym (ap (λ (x : Option Running). is_engaged x (length (all_transfers w (later ++ B))) || is_resting w (later ++ B) now group to) h.is) ∙ f in absurd (cc)
+  none_begins : (later : List Call) (now group to j : ℕ) (bytes : List ℕ) → Stands later → Ok j ≡ answer_to_transfer w (later ++ B) now group to bytes → ⊥
+  none_begins later now group to j bytes h a = not_both _ (transfer_accepts w (later ++ B) now group to j bytes a).2
+      (ap (λ (x : Option Running). is_engaged x (length (all_transfers w (later ++ B))) || is_resting w (later ++ B) now group to) h.is)
 
   one_more : (call : Call) (later : List Call) → IsAnswered w (later ++ B) call → tells_transfer call ≡ false
       → (waited_in later B + step (later ++ B) (moment (call ∷ later ++ B)) ≤ g) × (claims_anew call ≡ false) → Stands later → Stands (call ∷ later)
@@ -328,7 +308,7 @@ module _ (w : Who) (B : List Call) (g k : ℕ) (m : MessageRecord) (few : packet
   one_more (At now (TakeFrame (Some f))) later a n p h = takes_one now f later p.0 h
   one_more (At now (TakeFrame None)) later a n p h = takes_no_frame now later a p.0 h
   one_more (At now (Transfer group to bytes (Ok j))) later a n p h =
-      absurd (none_begins later now group to j bytes h (transfer_case w (later ++ B) now group to bytes (Ok j) a))
+      absurd (none_begins later now group to j bytes h a)
   one_more (At now Again) later a n p h = absurd (let z : true ≡ false = p.1 in cc)
   one_more (TakeTransferEnded (Some x)) later a n p h = absurd (let z : true ≡ false = n in cc)
   one_more call later a n p h =
@@ -360,11 +340,8 @@ module _ (w : Who) (B : List Call) (g k : ℕ) (m : MessageRecord) (few : packet
 
 few_packets : (group : ℕ) (bytes : List ℕ) → can_broadcast group bytes ≡ true → (length bytes + 6) / 7 ≤ 255
 few_packets group bytes e =
-    let l : length bytes ≤ 1785 = le_is (length bytes) 1785 (and_parts (nat_le 9 (length bytes)) (nat_le (length bytes) 1785) (and_parts (is_sendable group) (nat_le 9 (length bytes) && nat_le (length bytes) 1785) e).1).1 in
+    let l : length bytes ≤ 1785 = leb-true (length bytes) 1785 (and_parts (nat_le 9 (length bytes)) (nat_le (length bytes) 1785) (and_parts (is_sendable group) (nat_le 9 (length bytes) && nat_le (length bytes) 1785) e).1).1 in
     omega (arith, l)
-  where
-    le_is : (a b : ℕ) → nat_le a b ≡ true → a ≤ b
-    le_is a b z = grind arith
 
 pub transfer_ends : (w : Who) (later earlier : List Call) (c : Controller) (g now group to k : ℕ) (bytes : List ℕ)
     → Is w (later ++ At now (Transfer group to bytes (Ok k)) ∷ earlier) c → NoneTold tells_transfer later
@@ -375,7 +352,7 @@ unfolding new_sender
 transfer_ends w later earlier c g now group to k bytes is none prompt short l =
     let B = At now (Transfer group to bytes (Ok k)) ∷ earlier in
     let m = broadcast_from w group bytes in
-    let fit = accepted_so (transfer_case w earlier now group to bytes (Ok k) ((answered_from w later B is.answered).1)) in
+    let fit = transfer_accepts w earlier now group to k bytes (answered_from w later B is.answered).1 in
     let few = few_packets group bytes (and_parts (can_broadcast group bytes) (nat_lt to 254 && not (nat_eq to w.address)) fit.1).0 in
     ends_so w B g k m few short later
     (stands w B g k m few short later is.answered none prompt (record {
@@ -387,10 +364,3 @@ transfer_ends w later earlier c g now group to k bytes is none prompt short l =
       course = runs fit.0 refl (accepted_now g (new_sender m to) refl);
     }))
     l (waited_last g later B prompt)
-  where
-    accepted_so : TransferCase w earlier now group to bytes (Ok k)
-        → (is_held (address_after w (At now (Transfer group to bytes (Ok k)) ∷ earlier)) ≡ true) × (can_transfer w group to bytes ≡ true)
-    accepted_so (homeless a e) = absurd (cc)
-    accepted_so (unfit a b e) = absurd (cc)
-    accepted_so (busy a b f e) = absurd (cc)
-    accepted_so (opens a b f e) = (a, b)

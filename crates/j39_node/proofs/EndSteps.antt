@@ -1,13 +1,6 @@
 -- How long a transfer waits, step by step of its sender.
-use Rattle.std.proofs.Math.Nat.{add-mul, suc-mul}
-use Rattle.std.proofs.Common.{◌≡◌, ◌⊎◌, ℕ, suc, ◌+◌, ◌-◌, ◌*◌, ◌<◌, ◌≤◌, Option, Some, None, Bool, true, false, ◌&&◌, ◌||◌, ◌==◌, if◌then◌else◌, length, nat_lt, max, min, refl, sym, ap, ◌∙◌, subst, arith, inl, inr}
-use Rattle.std.proofs.lemmas.Bool.{cond_both}
-use Rattle.j39_transport.specs.Message.{packets_of}
-use Rattle.j39_transport.specs.Protocol.{timeout, timer_t3, timer_t4}
-use Rattle.j39_transport.specs.Sending.{SenderRecord, SendState, Idle, Waiting, Sending, Done, Failed, aborted, acknowledged, cleared, hears, is_idle, is_running, is_waiting, may_name, sends_packet, ticks_in, waits}
-use Rattle.j39_transport.specs.SenderNext.{granted_by}
-use Rattle.j39_transport.specs.Signals.{Signal, ClearToSend, Acknowledgment, Abort}
-use Rattle.j39_node.specs.Transfers.{granted_after, spent_after}
+use Rattle.j39_node.proofs.Common.{if◌then◌else◌, ◌&&◌, ◌*◌, ◌+◌, ◌-◌, ◌==◌, ◌||◌, ◌∙◌, ◌≡◌, ◌≤◌, ◌⊎◌, Abort, aborted, Acknowledgment, add-mul, ap, arith, Bool, cleared, ClearToSend, cond_both, Failed, false, granted_after, granted_by, Idle, inl, inr, is_idle, is_running, is_waiting, length, max, may_name, min, nat_lt, None, Option, packets_of, refl, SenderRecord, Sending, sends_packet, SendState, Signal, Some, spent_after, subst, suc, suc-mul, sym, ticks_in, timeout, timer_t3, timer_t4, true, Waiting, waits, ℕ, ltb-false, ltb-true}
+use Rattle.j39_transport.specs.Sending.{Done, acknowledged, hears}
 
 -- ---- how long after its acceptance it is where it is, at most
 
@@ -104,11 +97,8 @@ heard_case s other now = same refl refl
 pub counts : (granted spent last : ℕ) → suc (granted + spent) ≤ granted_after (Some last) granted + spent_after (Some last) granted spent
 counts granted spent last = go (nat_lt granted last) refl
   where
-    less : (x y : ℕ) → nat_lt x y ≡ true → x < y
-    less x y e = grind arith
-
     go : (b : Bool) → nat_lt granted last ≡ b → suc (granted + spent) ≤ max granted last + (if b then spent else spent + 1)
-    go true e = let y = less _ _ e in omega (arith, y)
+    go true e = let y = ltb-true _ _ e in omega (arith, y)
     go false e = omega arith
 
 -- from waiting it is cleared
@@ -189,10 +179,7 @@ none_timely g granted spent age waited t s h says up = go s.state refl says
         → (if b then (let r : Rattle.j39_transport.specs.Sending.SendResult = record { after = record s { state = Failed timeout }; says = Some (Abort timeout s.message.pgn) } in r)
         else (let r : Rattle.j39_transport.specs.Sending.SendResult = record { after = s; says = None } in r)).says ≡ None → age + t ≤ s.since + limit
     by_time limit true e z = absurd (cc)
-    by_time limit false e z = at_most _ _ e
-      where
-        at_most : (a b : ℕ) → nat_lt a b ≡ false → b ≤ a
-        at_most a b i = grind arith
+    by_time limit false e z = ltb-false _ _ e
 
     go : (u : SendState) → s.state ≡ u → (ticks_in u (age + t) s).says ≡ None → IsEnded s ⊎ Timely g granted spent (age + t) 0 s
     go Idle e z = absurd (cc)

@@ -1,14 +1,5 @@
 -- Frames that are made, and the lane of broadcasts.
-use Rattle.std.proofs.Common.{◌≡◌, ◌↔◌, ℕ, ◌<◌, ◌≤◌, List, length, Option, Some, None, IsSome, IfSome, Bool, true, false, ◌&&◌, if◌then◌else◌, nat_le, nat_lt, ◌==◌, refl, sym, ap, ◌∙◌, arith, lt-ltb, subst}
-use Rattle.std.specs.Option.{option_map}
-use Rattle.j39_frame.specs.Frame.{FrameRecord}
-use Rattle.j39_frame.specs.Network.{transport_control_group, transport_data_group}
-use Rattle.j39_transport.specs.Cutting.{ToSend, cut_frame}
-use Rattle.j39_transport.specs.Message.{MessageRecord, packets_of, as_broadcast}
-use Rattle.j39_node.specs.declared.kinds.Ending.{Ending}
-use Rattle.j39_node.specs.declared.kinds.Ending.TheVariants.{Done, Withdrawn}
-use Rattle.j39_node.specs.History.{Message, carried, frame_of, is_left}
-use Rattle.j39_node.specs.Is.{stamped, packet_by, broadcast_end}
+use Rattle.j39_node.proofs.Common.{if◌then◌else◌, ◌&&◌, ◌<◌, ◌==◌, ◌↔◌, ◌∙◌, ◌≡◌, ◌≤◌, ap, arith, as_broadcast, Bool, broadcast_end, carried, cut_frame, Done, Ending, false, frame_of, FrameRecord, IfSome, is_left, IsSome, length, List, lt-ltb, Message, MessageRecord, nat_le, nat_lt, None, Option, option_map, packet_by, packets_of, refl, Some, stamped, subst, sym, ToSend, transport_control_group, transport_data_group, true, Withdrawn, ℕ, le-leb}
 
 -- the frame that is made is one of this message
 pub made : (r : Option FrameRecord) (now id : ℕ) (bytes : List ℕ) (m : Message) → (IsSome r ↔ (length bytes ≤ 8))
@@ -16,9 +7,6 @@ pub made : (r : Option FrameRecord) (now id : ℕ) (bytes : List ℕ) (m : Messa
     → option_map stamped r ≡ Some (now, m)
 made None now id bytes m known is l e = absurd (let z : false ≡ true = known.1 l in cc)
 made (Some f) now id bytes m known is l e = ap (λ g. Some (stamped g)) is ∙ ap (λ (x : Message). Some (now, x)) e
-
-pub le_true : (i n : ℕ) → i ≤ n → nat_le i n ≡ true
-le_true i n l = grind arith
 
 le_false : (i n : ℕ) → n < i → nat_le i n ≡ false
 le_false i n l = grind arith
@@ -67,7 +55,7 @@ pub packet_past : (o : Option (ℕ × MessageRecord)) (x : ℕ × MessageRecord)
     → (let none : Option (ℕ × Message) = None in none) ≡ option_map (at_now now) (packet_by o i left)
 packet_past o x i n left now e f l g =
     sym (ap (λ y. option_map (at_now now) (packet_by y i left)) e
-    ∙ ap (option_map (at_now now)) (packet_if x i left false (le_true _ _ g) (le_false _ _ (omega (arith, f, l)))))
+    ∙ ap (option_map (at_now now)) (packet_if x i left false (le-leb _ _ g) (le_false _ _ (omega (arith, f, l)))))
 
 abbrev pub framed : ℕ → ℕ → List ℕ → Message
 framed source i bytes = record {
@@ -85,4 +73,4 @@ pub packet_made : (r : Option FrameRecord) (now id i : ℕ) (bytes : List ℕ) (
 packet_made r now id i bytes s x m known is l e f g k n =
     made r now id bytes (frame_of x.1 i) known is l
     (e ∙ ap (framed x.1.source i) (sym g ∙ (ap (λ (z : ToSend). z.bytes) f ∙ ap (λ (y : MessageRecord). (cut_frame (as_broadcast y) y i).bytes) k)))
-    ∙ sym (ap (option_map (at_now now)) (packet_if x i 0 true refl (le_true _ _ (subst (λ (y : MessageRecord). i ≤ packets_of y) k n))))
+    ∙ sym (ap (option_map (at_now now)) (packet_if x i 0 true refl (le-leb _ _ (subst (λ (y : MessageRecord). i ≤ packets_of y) k n))))

@@ -1,32 +1,15 @@
 -- The laws of broadcasts in packets that are heard.
-use Rattle.std.proofs.Common.{◌≡◌, ◌≢◌, ◌⊎◌, ◌↔◌, ℕ, suc, ◌+◌, ◌-◌, ◌*◌, ◌<◌, ◌≤◌, List, [], ◌∷◌, ◌++◌, length, take, drop, slice_index, Option, Some, None, IfSome, Bool, true, false, not, ◌&&◌, ◌||◌, if◌then◌else◌, nat_eq, nat_le, IsTrue, refl, sym, ap, ◌∙◌, subst, inl, inr, arith, append-nil, eq-eqb, lt-ltb, ltb-false}
-use Rattle.std.proofs.lemmas.Bool.{leb-false, leb-true, lt-leb}
-use Rattle.std.proofs.lemmas.Grind.{flat_map-append}
-use Rattle.std.proofs.lemmas.List.{length-append, length-take-le, take-append-drop, length-drop}
-use Rattle.j39_frame.specs.Frame.{FrameRecord}
-use Rattle.j39_frame.specs.Identifier.{source_of}
-use Rattle.j39_address.specs.Claim.{claim_of}
-use Rattle.j39_transport.specs.Carries.{AreNumbered, joined}
-use Rattle.j39_transport.specs.Frames.{is_announcement, is_packet, packets_for, pgn_named, size_named}
-use Rattle.j39_transport.specs.Key.{Key, Broadcast as by}
-use Rattle.j39_transport.specs.Message.{MessageRecord}
+use Rattle.j39_node.proofs.Common.{[], if◌then◌else◌, ◌&&◌, ◌*◌, ◌++◌, ◌+◌, ◌-◌, ◌<◌, ◌||◌, ◌↔◌, ◌∙◌, ◌∷◌, ◌≡◌, ◌≢◌, ◌≤◌, ◌⊎◌, account, announced, announces, ap, append-nil, AreAnswered, AreNumbered, arith, At, Bool, breaks, broadcast_limit, by, Call, changes, chosen, claim_of, Controller, drop, ends_by, eq-eqb, expires, false, flat_map-append, found, FrameRecord, frames_heard, got_broadcasts, grown, has_place, has_room, Hear, heard_at, hearing, hearing_tick, holder, IfSome, in_time, inl, inr, Is, is_announcement, is_beside, is_ignored, is_late, is_out, is_own_group, is_partial, is_same, is_subscribed, is_unheard, is_wanted, is_whole, IsFit, IsHeardOf, IsPartOf, IsTrue, KeepsHolder, Key, known, known_by, late_at, leb-false, leb-true, length, length-drop, length-take-le, List, listed, lt-leb, lt-ltb, ltb-false, made_whole, message_by, MessageRecord, MessagesMissed, more, nat_eq, nat_le, NeverBack, newly, None, not, OpenBroadcast, opens, Option, packed, packets_for, packs, passed_in, pgn_named, refl, ReleaseBroadcast, since_in, size_named, skips, slice_index, Some, source_of, stamp_at, StaysHeard, subst, suc, sym, take, take-append-drop, TakeFrame, TakeNews, Tick, TicksWithin, time_heard, true, unheard, unheard_by, unheard_news, waiting, WasBroadcast, Who, whole_broadcasts, whole_of, ℕ, or-true, le-leb}
+use Rattle.std.proofs.lemmas.List.{length-append}
+use Rattle.j39_transport.specs.Carries.{joined}
+use Rattle.j39_transport.specs.Frames.{is_packet}
+use Rattle.j39_node.specs.Hearing.{begun, ended, hears, is_over, left, opened, passed}
 use Rattle.j39_transport.proofs.FrameFacts.{announcement_facts}
-use Rattle.j39_node.specs.declared.controller.Controller.{Controller}
-use Rattle.j39_node.specs.declared.kinds.News.TheVariants.{MessagesMissed}
-use Rattle.j39_node.specs.History.{Who, Call, is_claim, is_own_group, is_subscribed, stamp_at}
-use Rattle.j39_node.specs.History.Call.{At, TakeNews, ReleaseBroadcast}
-use Rattle.j39_node.specs.History.Act.{Hear, Tick, TakeFrame}
-use Rattle.j39_node.specs.Hearing.{account, announced, announces, begun, breaks, changes, chosen, ended, ends_by, found, got_broadcasts, grown, has_room, hearing, hearing_tick, hears, in_time, is_beside, is_ignored, is_late, is_out, is_over, is_partial, is_unheard, is_wanted, is_whole, IsFit, IsPartOf, late_at, left, expires, made_whole, message_by, more, newly, OpenBroadcast, opened, opens, packed, packs, passed, since_in, skips, unheard, unheard_by, unheard_news, waiting, WasBroadcast, whole_broadcasts, whole_of}
-use Rattle.j39_node.specs.Is.{AreAnswered, HearingRecord, Is}
-use Rattle.j39_node.specs.Reception.{KeepsHolder, frames_heard, has_place, heard_at, holder, is_same, listed, time_heard, known, known_by}
 use Rattle.j39_node.proofs.ReceptionLemmas.{unclaimed_known}
 use Rattle.j39_node.proofs.ReceptionLaws.{after_moment, before_moment, same_is}
-use Rattle.j39_node.proofs.HearingLemmas.{Effect, begins, ends, grows, stays, effect, fit, hearing_same, left_keeps, left_none, same_same, unchanged, packs_eight, drop_one}
-use Rattle.j39_node.proofs.FrameLemmas.{le_true, lt_false}
+use Rattle.j39_node.proofs.HearingLemmas.{Effect, begins, ends, grows, stays, effect, fit, left_keeps, left_none, same_same, unchanged, packs_eight, drop_one}
+use Rattle.j39_node.proofs.FrameLemmas.{lt_false}
 use Rattle.j39_node.proofs.SessionLaws.{ages}
-use Rattle.j39_node.specs.Since.{NeverBack, passed_in}
-use Rattle.j39_node.specs.Ticks.{IsHeardOf, StaysHeard, TicksWithin}
-use Rattle.j39_transport.specs.Protocol.{broadcast_limit}
 
 -- ---- each once, in order
 
@@ -90,7 +73,7 @@ released who H c answer is = go (waiting who H) answer refl is.answered.1
 -- ---- what isn't heard
 
 -- what stays open is in time
-stays_timely : (now : ℕ) (c : Bool) (o : Option OpenBroadcast) (x : OpenBroadcast) → left (c || is_out now o) o ≡ Some x → is_whole x ≡ false → is_late now x ≡ false
+pub stays_timely : (now : ℕ) (c : Bool) (o : Option OpenBroadcast) (x : OpenBroadcast) → left (c || is_out now o) o ≡ Some x → is_whole x ≡ false → is_late now x ≡ false
 stays_timely now c None x k w = absurd (cc)
 stays_timely now c (Some y) x k w = grind (arith, k, w)
 
@@ -331,9 +314,6 @@ module _ (who : Who) (H : List Call) (when : ℕ) (f : FrameRecord) where
       λ i. if e i then (if has_room (source_of f.id) (Some x) then opens who now f (Some x) else Some x) else if p i
       then (if w i || not (eq-eqb _ _ s i) then Some x else if k i then None else if l i then Some (grown now f x) else Some x) else Some x
 
-  always : (b : Bool) → (b || true) ≡ true
-  always b = grind arith
-
   over_ends : (x : OpenBroadcast) → hearing who H ≡ Some x → is_whole x ≡ false → is_over (known who H when f) (holder who K) now (Some x) ≡ true → found who H when f ≡ None
   over_ends x e w l =
       ap (λ (o : Option OpenBroadcast). left (is_over (known who H when f) (holder who K) now o) o) e ∙ λ i. if l i && not (w i) then None else Some x
@@ -350,11 +330,11 @@ module _ (who : Who) (H : List Call) (when : ℕ) (f : FrameRecord) where
       → source_of f.id ≡ x.source → is_late now x ≡ false → slice_index f.bytes 0 ≤ x.count → hearing who K ≡ Some x
   repeat_ignored x e g k l m n o p =
       hears_found x e l o
-      ∙ beside x _ _ _ ((λ i. not (nat_eq (source_of f.id) x.source) || (not (g i) && (not (k i) || le_true _ _ p i))) ∙ always (not (nat_eq (source_of f.id) x.source)))
+      ∙ beside x _ _ _ ((λ i. not (nat_eq (source_of f.id) x.source) || (not (g i) && (not (k i) || le-leb _ _ p i))) ∙ or-true (not (nat_eq (source_of f.id) x.source)))
       (effect who now f (Some x))
 
   pub late_ends : (x : OpenBroadcast) → hearing who H ≡ Some x → is_whole x ≡ false → IsTrue (is_late now x) → found who H when f ≡ None
-  late_ends x e w l = over_ends x e w (ap (λ (b : Bool). changes (known who H when f) (holder who K) (Some x) || b) l ∙ always _)
+  late_ends x e w l = over_ends x e w (ap (λ (b : Bool). changes (known who H when f) (holder who K) (Some x) || b) l ∙ or-true _)
 
   pub left_ends : (x : OpenBroadcast) → hearing who H ≡ Some x → is_whole x ≡ false → holder who K x.source ≢ known who H when f x.source → found who H when f ≡ None
   left_ends x e w h = over_ends x e w (ap (λ (b : Bool). not b || is_late now x) (other (is_same (known who H when f x.source) (holder who K x.source)) refl))
@@ -375,7 +355,7 @@ module _ (who : Who) (H : List Call) (when : ℕ) (f : FrameRecord) where
 
       apart : (x : OpenBroadcast) → hearing who H ≡ Some x → (packs f ≡ false) ⊎ ((x : OpenBroadcast) → hearing who H ≡ Some x → source_of f.id ≢ x.source)
           → is_beside x.source x.count f ≡ true
-      apart x i (inl p) = (λ j. not (nat_eq (source_of f.id) x.source) || (not (g j) && (not (p j) || nat_le (slice_index f.bytes 0) x.count))) ∙ always (not (nat_eq (source_of f.id) x.source))
+      apart x i (inl p) = (λ j. not (nat_eq (source_of f.id) x.source) || (not (g j) && (not (p j) || nat_le (slice_index f.bytes 0) x.count))) ∙ or-true (not (nat_eq (source_of f.id) x.source))
       apart x i (inr n) = ap (λ (b : Bool). not b || (not (announces f) && (not (packs f) || nat_le (slice_index f.bytes 0) x.count))) (unequal _ _ (n x i))
 
       go : (o : Option OpenBroadcast) → hearing who H ≡ o → hears who now f (in_time now o) ≡ in_time now o
@@ -393,9 +373,6 @@ module _ (who : Who) (H : List Call) (when : ℕ) (f : FrameRecord) where
       ap (λ (o : Option OpenBroadcast). hears who now f (left (is_over (known who H when f) (holder who K) now o) o)) e
       ∙ ((λ i. hears who now f (left (not ((ap (is_same (known who H when f x.source)) held ∙ same_same (known who H when f x.source)) i) || late i) (Some x)))
       ∙ beside x _ _ _ (ap (λ (b : Bool). not b || (not (announces f) && (not (packs f) || nat_le (slice_index f.bytes 0) x.count))) (unequal _ _ n)) (effect who now f (Some x)))
-
-pub own_frames : (who : Who) (H : List Call) (now : ℕ) (f : FrameRecord) → is_claim f ≡ false → hearing who (At now (TakeFrame (Some f)) ∷ H) ≡ hearing who H
-own_frames who H now f e = sym (ap (λ (r : HearingRecord). r.current) (hearing_same who H now f e))
 
 -- ---- of one sender
 
@@ -625,19 +602,6 @@ came who H when f p e = go (waiting who H) refl e
 
 -- ---- what a packet and a claim do
 
-pub last_makes_whole : (who : Who) (H : List Call) (when : ℕ) (f : FrameRecord) (x : OpenBroadcast) → claim_of f ≡ None → announces f ≡ false → IsTrue (packs f)
-    → hearing who H ≡ Some x → is_whole x ≡ false → source_of f.id ≡ x.source → is_late (time_heard (At when (Hear f) ∷ H)) x ≡ false
-    → slice_index f.bytes 0 ≡ suc x.count → x.size ≤ length x.bytes + 7
-    → made_whole who H when f ≡ Some (message_by (grown (time_heard (At when (Hear f) ∷ H)) f x))
-last_makes_whole who H when f x e g k l m n o p q =
-    let y = grown (time_heard (At when (Hear f) ∷ H)) f x in
-    let whole : is_whole y ≡ true =
-    le_true x.size (length (x.bytes ++ drop 1 f.bytes)) (let a = length-append x.bytes (drop 1 f.bytes) in let b = drop_one f.bytes (packs_eight f k) in omega (arith, a, b, q)) in
-    let before : waiting who H ≡ None = ap whole_of l ∙ ap (λ (v : Bool). if v then Some (message_by x) else None) m in
-    let after : waiting who (At when (Hear f) ∷ H) ≡ Some (message_by y) =
-    ap whole_of (next_appended who H when f x e g k l m n o p) ∙ ap (λ (v : Bool). if v then Some (message_by y) else None) whole in
-    λ i. newly (before i) (after i)
-
 -- ---- a tick
 
 -- before the moment that is told nothing is over
@@ -716,13 +680,8 @@ account_runs who H (ReleaseBroadcast true) x y e w g n = absurd (cc)
 account_runs who H call x y e w g n = let z : y ≡ x = cc in ap (λ (q : OpenBroadcast). q.since) z
 
 -- in time, by both
-in_account : (now : ℕ) (x : OpenBroadcast) → is_late now x ≡ false → (now ≤ x.time + broadcast_limit) × (now ≤ x.since + account (packets_for x.size))
+pub in_account : (now : ℕ) (x : OpenBroadcast) → is_late now x ≡ false → (now ≤ x.time + broadcast_limit) × (now ≤ x.since + account (packets_for x.size))
 in_account now x e = let l = ltb-false (expires x) now e in (omega (arith, l), omega (arith, l))
-
-pub found_timely : (who : Who) (H : List Call) (when : ℕ) (f : FrameRecord) (x : OpenBroadcast) → found who H when f ≡ Some x → is_whole x ≡ false
-    → (time_heard (At when (Hear f) ∷ H) ≤ x.time + broadcast_limit) × (time_heard (At when (Hear f) ∷ H) ≤ x.since + account (packets_for x.size))
-found_timely who H when f x e w =
-    in_account _ x (stays_timely _ (changes (known who H when f) (holder who (At when (Hear f) ∷ H)) (hearing who H)) (hearing who H) x e w)
 
 pub ticked_timely : (who : Who) (H : List Call) (now : ℕ) (x : OpenBroadcast) → hearing who (At now Tick ∷ H) ≡ Some x → is_whole x ≡ false
     → (time_heard (At now Tick ∷ H) ≤ x.time + broadcast_limit) × (time_heard (At now Tick ∷ H) ≤ x.since + account (packets_for x.size))

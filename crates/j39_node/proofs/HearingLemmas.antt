@@ -1,22 +1,9 @@
 -- Broadcasts in packets that are heard, call by call.
-use Rattle.std.proofs.Common.{◌≡◌, ◌⊎◌, ℕ, suc, ◌+◌, List, [], ◌∷◌, length, drop, slice_index, min, Option, Some, None, IfSome, Bool, true, false, not, ◌&&◌, ◌||◌, if◌then◌else◌, nat_eq, nat_lt, nat_le, refl, sym, ap, ◌∙◌, subst, inl, inr, arith, eq-eqb, eqb-true}
-use Rattle.std.proofs.lemmas.Bool.{and_parts, cond_both}
+use Rattle.j39_node.proofs.Common.{[], if◌then◌else◌, ◌&&◌, ◌+◌, ◌||◌, ◌∙◌, ◌∷◌, ◌≡◌, ◌⊎◌, and_parts, announces, ap, arith, At, Bool, breaks, by, Call, changes, Claims, cond_both, drop, ends_by, eq-eqb, eqb-true, false, found, FrameRecord, goes, grown, has_room, Hear, hearing, hearing_after, HearingRecord, holder, holder_in, IfSome, inl, inr, is_beside, is_claim, is_ignored, is_key, is_out, is_partial, is_same, is_some, is_unheard, is_wanted, is_whole, IsFit, known, Knows, length, List, message_by, min, more, nat_eq, nat_le, nat_lt, news_after, None, not, OpenBroadcast, opens, Option, packed, packs, pgn_named, refl, ReleaseBroadcast, restarts, since_in, skips, slice_index, Some, source_of, still, subst, suc, sym, TakeFrame, Tick, time_heard, told_claims, transport_data_group, true, unheard, unheard_by, unheard_news, Untold, Who, whole_of, ℕ}
 use Rattle.std.proofs.lemmas.List.{length-append}
-use Rattle.j39_frame.specs.Frame.{FrameRecord}
-use Rattle.j39_frame.specs.Identifier.{source_of}
-use Rattle.j39_address.specs.Claims.{Knows, holder_in}
-use Rattle.j39_address.specs.declared.claims.Claims.{Claims}
-use Rattle.j39_transport.specs.Frames.{goes, is_packet, pgn_named}
-use Rattle.j39_transport.specs.Key.{Broadcast as by, is_key}
-use Rattle.j39_frame.specs.Network.{transport_data_group}
+use Rattle.j39_transport.specs.Frames.{is_packet}
+use Rattle.j39_node.specs.Hearing.{begun, hears, is_over, left}
 use Rattle.j39_transport.proofs.FrameFacts.{announcement_facts}
-use Rattle.j39_node.specs.History.{Who, Call, is_claim, told_claims, is_some}
-use Rattle.j39_node.specs.History.Call.{At, ReleaseBroadcast}
-use Rattle.j39_node.specs.History.Act.{Hear, Tick, TakeFrame}
-use Rattle.j39_node.specs.Hearing.{IsFit, OpenBroadcast, announces, begun, breaks, changes, ends_by, found, grown, has_room, hearing, hears, is_beside, is_ignored, is_late, is_out, is_over, is_partial, is_unheard, is_wanted, is_whole, left, since_in, message_by, more, opens, packed, packs, skips, unheard, unheard_by, unheard_news, whole_of}
-use Rattle.j39_node.specs.Reception.{holder, is_same, time_heard, known, restarts, still}
-use Rattle.j39_node.specs.Is.{HearingRecord, hearing_after, news_after}
-use Rattle.j39_node.specs.declared.news.Untold.{Untold}
 use Rattle.j39_node.proofs.ReceptionLemmas.{table_is}
 
 -- ---- what a frame does to the broadcast that it finds
@@ -229,9 +216,6 @@ pub unheard_is : (w : Who) (f : FrameRecord) (o : Option OpenBroadcast) (a b : B
     → is_unheard w f o ≡ (if a then (if has_room (source_of f.id) o then is_partial o else not (is_ignored w (pgn_named f))) else b && Rattle.j39_node.specs.Hearing.is_gap f o)
 unheard_is w f o a b e g =
     λ i. if e i then (if has_room (source_of f.id) o then is_partial o else not (is_ignored w (pgn_named f))) else g i && Rattle.j39_node.specs.Hearing.is_gap f o
-
-pub no_announcement : (b : Bool) → (b ≡ true → false ≡ true) → b ≡ false
-no_announcement b f = grind (arith, f)
 
 pub packs_is : (f : FrameRecord) (b : Bool) → b ≡ (is_key (by (source_of f.id)) && goes transport_data_group (source_of f.id) 255 f) → packs f ≡ b
 unfolding is_packet

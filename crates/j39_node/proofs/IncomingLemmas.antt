@@ -1,29 +1,14 @@
 -- What is received in packets, step by step.
-use Rattle.std.proofs.Common.{◌≡◌, ◌↔◌, ℕ, ◌+◌, ◌==◌, nat_lt, ◌&&◌, List, [], ◌∷◌, map, filter, Bool, true, false, not, nat_eq, if◌then◌else◌, Option, Some, None, IsSome, refl, sym, ap, subst, ◌∙◌, ◌||◌, arith, eqb-true, slice_index}
-use Rattle.std.proofs.lemmas.Bool.{cond_both}
-use Rattle.std.specs.Option.{is_some, option_map}
-use Rattle.j39_frame.specs.Frame.{FrameRecord}
-use Rattle.j39_frame.specs.Identifier.{source_of}
-use Rattle.j39_frame.specs.Stamp.{stamp_micros}
-use Rattle.j39_frame.specs.declared.stamp.Stamp.{Stamp}
-use Rattle.j39_transport.specs.Announced.{announced_by, announced_in}
-use Rattle.j39_transport.specs.Cutting.{ToSend}
+use Rattle.j39_node.proofs.Common.{[], if◌then◌else◌, ◌&&◌, ◌+◌, ◌==◌, ◌||◌, ◌↔◌, ◌∙◌, ◌∷◌, ◌≡◌, Abort, announced_by, announced_in, answer_in, answers, ap, appended, arith, asks_again, Bool, BoxedReceiver, clear_in, cond_both, Course, delivers_message, Directed, eqb-true, false, filter, FrameRecord, goes_on, granted_at, grants, group_of, has_place, Heard, heard_by, Incoming, incoming_of, IncomingRecord, is_over, is_taken, IsNamed, IsSome, keeps, Kept, kept_by, limit_of, List, map, Message, Named, named_by, named_in, named_then, nat_eq, nat_lt, new_receiver, None, not, number_in, Option, option_map, Packet, packet_in, partner_of, passed_to, quiet, Reaction, ReceiverAnswer, ReceiverRecord, Receives, Reception, ReceptionRecord, recv_step, RecvEvent, RecvResult, RecvStep, refl, replied, RequestToSend, result_of, Said, said_between, said_by, said_to, SessionRecord, Signal, since_by, slice_index, Some, source_of, Stamp, stamp_micros, step_at, strays, strays_by, subst, sym, takes, takes_abort, takes_data, takes_packet, takes_request, takes_signal, takes_tick, ticked, ticked_at, ticks, ToSend, touched, true, window, with_reception, with_replies, without, written, ℕ}
+use Rattle.std.specs.Option.{is_some}
+use Rattle.j39_transport.specs.Reception.{begun}
+use Rattle.j39_transport.specs.Receiving.{Tick}
+use Rattle.j39_transport.specs.Session.{grown}
+use Rattle.j39_node.specs.Is.{announced, cleared}
 use Rattle.j39_transport.specs.Frames as frames
-use Rattle.j39_transport.specs.Key.{Directed}
-use Rattle.j39_transport.specs.Reception.{ReceptionRecord, Reaction, answers, asks_again, begun, delivers_message, goes_on, granted_at, grants, is_taken, limit_of, quiet, takes_abort, takes_data, takes_packet, takes_request, takes_signal, takes_tick, window}
-use Rattle.j39_transport.specs.Receiving.{BoxedReceiver, ReceiverRecord, ReceiverAnswer, RecvEvent, RecvResult, RecvStep, Heard, Tick, answer_in, new_receiver, partner_of, recv_step, result_of, said_to}
-use Rattle.j39_transport.specs.Signals.{Signal, BroadcastAnnounce, RequestToSend, ClearToSend, Acknowledgment, Abort, Packet, said_between, written}
-use Rattle.j39_transport.specs.Session.{SessionRecord, grown, touched}
 use Rattle.j39_transport.specs.Signals as signals
 use Rattle.j39_transport.proofs.ReadLemmas.{Facts, read_is}
 use Rattle.j39_node.proofs.PacketLemmas.{hushed, quiet_step, since_same}
-use Rattle.j39_node.specs.declared.incoming.Incoming.{Incoming}
-use Rattle.j39_node.specs.declared.incoming.Kept.{Kept}
-use Rattle.j39_node.specs.declared.incoming.Named.{Named}
-use Rattle.j39_node.specs.declared.incoming.Said.{Said}
-use Rattle.j39_node.specs.History.{Message}
-use Rattle.j39_node.specs.Reception.{Reception, group_of, has_place, heard_by, is_over, keeps, number_in, packet_in, replied, since_by, step_at, strays, takes, ticked_at, ticked, without}
-use Rattle.j39_node.specs.Is.{Course, IncomingRecord, IsNamed, Receives, announced, appended, clear_in, cleared, incoming_of, kept_by, named_by, named_in, named_then, passed_to, said_by, strays_by, ticks, with_reception, with_replies}
 
 -- what is filtered out of the code's list isn't in what it says
 pub without_is : (own a : ℕ) (xs : List Said) → map (said_by own) (filter (λ x. not (nat_eq x.to a)) xs) ≡ without a (map (said_by own) xs)

@@ -1,15 +1,5 @@
 -- What a frame is to a controller doesn't depend on what it brought along; and what is refused.
-use Rattle.std.proofs.Common.{◌≢◌, ◌⊎◌, ◌≤◌, ◌∙◌, ◌∷◌, ◌++◌, ◌==◌, ℕ, true, false, nat_eq, nat_lt, if◌then◌else◌, sym, inl, inr, eqb-true, arith, ◌≡◌, List, [], Option, Some, None, Bool, not, ◌&&◌, ◌||◌, refl, ap}
-use Rattle.std.specs.List.{list_any}
-use Rattle.std.specs.Str.{bytes_eq}
-use Rattle.j39_frame.specs.Frame.{FrameRecord}
-use Rattle.j39_frame.specs.Identifier.{destination_of}
-use Rattle.j39_address.specs.Claim.{Claim, claim_of}
-use Rattle.j39_node.specs.declared.kinds.Answer.{Answer}
-use Rattle.j39_node.specs.declared.kinds.Answer.TheVariants.{Nack, Busy}
-use Rattle.j39_node.specs.declared.own.Own.{Own}
-use Rattle.j39_node.specs.History.{repeats, Who, acknowledgment, fresh, is_refusal_due, is_served, refusal, Asked, Brought, Message, asked, asked_group, asked_with, calls_for_claim, is_asked, is_larger, is_smaller, with_refusal, with_request, nothing, double}
-use Rattle.j39_node.specs.Is.{who_of}
+use Rattle.j39_node.proofs.Common.{[], if◌then◌else◌, ◌&&◌, ◌++◌, ◌==◌, ◌||◌, ◌∙◌, ◌∷◌, ◌≡◌, ◌≢◌, ◌≤◌, ◌⊎◌, acknowledgment, Answer, ap, arith, Asked, asked, asked_group, asked_with, Bool, Brought, Busy, bytes_eq, calls_for_claim, Claim, claim_of, destination_of, double, eqb-true, false, FrameRecord, fresh, inl, inr, is_asked, is_larger, is_refusal_due, is_served, is_smaller, List, list_any, Message, Nack, nat_eq, nat_lt, None, not, nothing, Option, Own, refl, refusal, repeats, Some, sym, true, Who, who_of, with_refusal, with_request, ℕ}
 
 pub smaller_known : (k : Brought) (own : Own) (o : Option Claim) → is_smaller (who_of nothing own) o ≡ is_smaller (who_of k own) o
 smaller_known k own None = refl

@@ -1,122 +1,38 @@
 -- The laws of broadcasts.
-use Rattle.std.proofs.Common.{nat_lt, ◌≡◌, ◌⊎◌, ◌↔◌, ℕ, zero, suc, ◌+◌, ◌-◌, ◌<◌, ◌≤◌, List, [], ◌∷◌, ◌++◌, length, Option, Some, None, Result, Ok, Err, Bool, true, false, ◌&&◌, ◌||◌, if◌then◌else◌, nat_eq, nat_le, refl, sym, ap, ◌∙◌, arith, inl, inr, eq-eqb, eqb-true, IsTrue}
-use Rattle.std.proofs.lemmas.Bool.{and_from}
-use Rattle.std.specs.List.{slice_get}
-use Rattle.j39_frame.specs.Frame.{FrameRecord}
-use Rattle.j39_transport.specs.Message.{MessageRecord, packets_of}
-use Rattle.j39_node.specs.declared.controller.Controller.{Controller}
-use Rattle.j39_node.specs.declared.kinds.Ending.{Ending}
-use Rattle.j39_node.specs.declared.kinds.Ending.TheVariants.{Done, Withdrawn}
-use Rattle.j39_node.specs.declared.kinds.Refused.{Refused}
-use Rattle.j39_node.specs.declared.kinds.Refused.TheVariants.{NoAddress, BadValue, Full}
-use Rattle.j39_node.specs.declared.turn.Turn.TheVariants.{Reply, Single, Packet, Move}
-use Rattle.j39_node.specs.History.{reached, is_held, is_claim, is_acknowledgment, Who, Message, Call, accepted, acknowledged, address_after, all_frames, broadcasts, can_broadcast, due, first_frames, frame_of, has_packets, holds, is_busy, is_left, is_lost, is_open, is_packet, message_of, moment, open_broadcast, packets, pause, step, told_broadcasts}
-use Rattle.j39_node.specs.History.Call.{At, TakeBroadcastEnded}
-use Rattle.j39_node.specs.History.Act.{TakeFrame, Broadcast}
-use Rattle.j39_node.specs.Reception.{yields, reception}
-use Rattle.j39_node.specs.Is.{is_overdue, is_there, ready, gives_way, next_acknowledgment, AreAnswered, Is, broadcast_end, next_packet, packet_by, long_by, next_frame, next_long}
-use Rattle.j39_node.specs.Transfers.{next_transfer}
-use Rattle.j39_node.specs.Since.{PacketSince, passed_in}
+use Rattle.j39_node.proofs.Common.{[], if◌then◌else◌, ◌&&◌, ◌++◌, ◌+◌, ◌-◌, ◌<◌, ◌↔◌, ◌∙◌, ◌∷◌, ◌≡◌, ◌≤◌, ◌⊎◌, accepted, acknowledged, address_after, all_frames, and_from, ap, AreAnswered, arith, At, Bool, Broadcast, broadcast_end, broadcasts, Call, Controller, Done, due, Ending, eq-eqb, eqb-true, false, first_frames, frame_of, FrameRecord, has_packets, holds, inl, inr, Is, is_acknowledgment, is_busy, is_claim, is_held, is_left, is_lost, is_open, is_overdue, is_packet, is_there, IsTrue, length, List, long_by, Message, message_of, MessageRecord, moment, Move, nat_le, nat_lt, next_acknowledgment, next_frame, next_long, next_packet, next_transfer, None, Ok, open_broadcast, Option, packet_by, packets, packets_of, PacketSince, passed_in, pause, reached, ready, refl, Reply, Single, slice_get, Some, step, suc, sym, TakeBroadcastEnded, TakeFrame, told_broadcasts, true, Who, Withdrawn, yields, zero, ℕ, not_both, or_parts}
+use Rattle.j39_node.specs.declared.turn.Turn.TheVariants.{Packet}
 use Rattle.j39_node.proofs.QueueLemmas.{length_one_more}
-use Rattle.j39_node.proofs.SoundLemmas.{address_is, packet_taken, IsTurn, none_at, none_next, packet_there, turned, FrameCase, frame_case, packet_case, sound, claim_taken, claim_single, due_get, due_taken, no_packet, own_of, pause_is, reply_taken, single_taken, no_packet, transfer_taken}
-use Rattle.j39_node.proofs.ReceptionLemmas.{replied_get, tidy}
+use Rattle.j39_node.proofs.SoundLemmas.{address_is, packet_taken, IsTurn, none_next, packet_there, turned, FrameCase, frame_case, packet_case, sound, claim_taken, claim_single, due_get, due_taken, no_packet, pause_is, no_packet}
 use Rattle.j39_node.proofs.SoundLemmas.FrameCase.{claims, acknowledges, replies, sends, packs, transfers}
-use Rattle.j39_node.proofs.LaneLemmas.{BroadcastCase, broadcast_case, LaneEnd, lane_end, Opened, Laned, laned, closed, stands_open, opened_by}
-use Rattle.j39_node.proofs.LaneLemmas.BroadcastCase.{homeless, unfit, busy, opens}
+use Rattle.j39_node.proofs.LaneLemmas.{LaneEnd, lane_end, Opened, Laned, laned, closed, stands_open, opened_by}
+use Rattle.j39_node.proofs.AnswerCases as cases
 use Rattle.j39_node.proofs.LaneLemmas.LaneEnd.{complete, broken}
-use Rattle.j39_node.proofs.LawLemmas.{all_acknowledged, not_both, past_end, sent_within, either, or_false as neither}
+use Rattle.j39_node.proofs.LawLemmas.{either}
+use Rattle.j39_node.proofs.KindLemmas.{packs_it}
 
 -- ---- what broadcast answers
 
-answers : (w : Who) (H : List Call) (c : Controller) (now group : ℕ) (bytes : List ℕ) (answer : Result ℕ Refused) → Is w (At now (Broadcast group bytes answer) ∷ H) c
-    → BroadcastCase w H now group bytes answer
-answers w H c now group bytes answer is = broadcast_case w H now group bytes answer is.answered.1
-
-pub refused_address : (w : Who) (H : List Call) (c : Controller) (now group : ℕ) (bytes : List ℕ) (answer : Result ℕ Refused)
-    → Is w (At now (Broadcast group bytes answer) ∷ H) c → (answer ≡ Err NoAddress ↔ (IsTrue (holds w H now) → ⊥))
-refused_address w H c now group bytes answer is = go (answers w H c now group bytes answer is)
-  where
-    go : BroadcastCase w H now group bytes answer → (answer ≡ Err NoAddress ↔ (IsTrue (holds w H now) → ⊥))
-    go (homeless a e) = (λ z. not_both _ a, λ z. e)
-    go (unfit a b e) = (λ z. absurd (cc), λ z. absurd (z a))
-    go (busy a b f e) = (λ z. absurd (cc), λ z. absurd (z a))
-    go (opens a b f e) = (λ z. absurd (cc), λ z. absurd (z a))
-
-pub refused_value : (w : Who) (H : List Call) (c : Controller) (now group : ℕ) (bytes : List ℕ) (answer : Result ℕ Refused)
-    → Is w (At now (Broadcast group bytes answer) ∷ H) c
-    → (answer ≡ Err BadValue ↔ (IsTrue (holds w H now) × (IsTrue (can_broadcast group bytes) → ⊥)))
-refused_value w H c now group bytes answer is = go (answers w H c now group bytes answer is)
-  where
-    go : BroadcastCase w H now group bytes answer → (answer ≡ Err BadValue ↔ (IsTrue (holds w H now) × (IsTrue (can_broadcast group bytes) → ⊥)))
-    go (homeless a e) = (λ z. absurd (cc), λ z. absurd (not_both _ a z.0))
-    go (unfit a b e) = (λ z. (a, not_both _ b), λ z. e)
-    go (busy a b f e) = (λ z. absurd (cc), λ z. absurd (z.1 b))
-    go (opens a b f e) = (λ z. absurd (cc), λ z. absurd (z.1 b))
-
 -- one is accepted and not told, or there is no token left
-AtLimit : Who → List Call → Type 0
+abbrev AtLimit : Who → List Call → Type 0
 AtLimit w H = (length (broadcasts w H) ≡ length (told_broadcasts H) + 1) ⊎ (length (broadcasts w H) ≡ 18446744073709551615)
 
-limit : (w : Who) (H : List Call) → AreAnswered w H → is_busy w H ≡ true → AtLimit w H
-unfolding AtLimit
+pub limit : (w : Who) (H : List Call) → AreAnswered w H → is_busy w H ≡ true → AtLimit w H
 limit w H right e = elim (either (is_open (open_broadcast w H)) _ e) [
   | inl a ↦ inl (let z = stands_open w (length (told_broadcasts H)) (broadcasts w H) (packets H) (open_broadcast w H) (laned w H right) a in omega (arith, z))
   | inr b ↦ inr (eqb-true _ _ b)
 ]
 
-no_limit : (w : Who) (H : List Call) → AreAnswered w H → is_busy w H ≡ false → AtLimit w H → ⊥
-unfolding AtLimit
+pub no_limit : (w : Who) (H : List Call) → AreAnswered w H → is_busy w H ≡ false → AtLimit w H → ⊥
 no_limit w H right e l =
-    let n = neither (is_open (open_broadcast w H)) _ e in
+    let n = or_parts (is_open (open_broadcast w H)) _ e in
     elim l [
       | inl a ↦ (let z = closed w (length (told_broadcasts H)) (broadcasts w H) (packets H) (open_broadcast w H) (laned w H right) n.0 in absurd (omega (arith, z, a)))
       | inr b ↦ not_both _ n.1 (eq-eqb _ _ b)
     ]
 
-pub refused_full : (w : Who) (H : List Call) (c : Controller) (now group : ℕ) (bytes : List ℕ) (answer : Result ℕ Refused)
-    → Is w (At now (Broadcast group bytes answer) ∷ H) c
-    → (answer ≡ Err Full ↔ (IsTrue (holds w H now) × IsTrue (can_broadcast group bytes)
-    × ((length (broadcasts w H) ≡ length (told_broadcasts H) + 1) ⊎ (length (broadcasts w H) ≡ 18446744073709551615))))
-unfolding AtLimit
-refused_full w H c now group bytes answer is = go (answers w H c now group bytes answer is)
-  where
-    go : BroadcastCase w H now group bytes answer → (answer ≡ Err Full ↔ (IsTrue (holds w H now) × IsTrue (can_broadcast group bytes) × AtLimit w H))
-    go (homeless a e) = (λ z. absurd (cc), λ z. absurd (not_both _ a z.0))
-    go (unfit a b e) = (λ z. absurd (cc), λ z. absurd (not_both _ b z.1))
-    go (busy a b f e) = (λ z. (a, b, limit w H is.answered.0 f), λ z. e)
-    go (opens a b f e) = (λ z. absurd (cc), λ z. absurd (no_limit w H is.answered.0 f z.2))
-
-pub is_accepted : (w : Who) (H : List Call) (c : Controller) (now group : ℕ) (bytes : List ℕ) (answer : Result ℕ Refused)
-    → Is w (At now (Broadcast group bytes answer) ∷ H) c → IsTrue (holds w H now) → IsTrue (can_broadcast group bytes)
-    → length (broadcasts w H) ≡ length (told_broadcasts H) → length (broadcasts w H) < 18446744073709551615
-    → answer ≡ Ok (length (broadcasts w H))
-unfolding AtLimit
-is_accepted w H c now group bytes answer is held can room some = go (answers w H c now group bytes answer is)
-  where
-    go : BroadcastCase w H now group bytes answer → answer ≡ Ok (length (broadcasts w H))
-    go (homeless a e) = absurd (not_both _ a held)
-    go (unfit a b e) = absurd (not_both _ b can)
-    go (busy a b f e) = elim (limit w H is.answered.0 f) [ inl z ↦ absurd (omega (arith, z, room)) | inr z ↦ absurd (omega (arith, z, some)) ]
-    go (opens a b f e) = e
-
-pub token_is : (w : Who) (H : List Call) (c : Controller) (now group k : ℕ) (bytes : List ℕ) → Is w (At now (Broadcast group bytes (Ok k)) ∷ H) c
-    → k ≡ length (broadcasts w H)
-token_is w H c now group k bytes is = go (answers w H c now group bytes (Ok k) is)
-  where
-    go : BroadcastCase w H now group bytes (Ok k) → k ≡ length (broadcasts w H)
-    go (homeless a e) = absurd (cc)
-    go (unfit a b e) = absurd (cc)
-    go (busy a b f e) = absurd (cc)
-    go (opens a b f e) = cc
-
 -- ---- which frames are taken
 
-pub in_order : (w : Who) (H : List Call) (c : Controller) (k : ℕ) (m : MessageRecord) → Is w H c → open_broadcast w H ≡ Some (k, m)
-    → (slice_get (broadcasts w H) k ≡ Some m) × (packets H ≡ first_frames m (length (packets H)))
-in_order w H c k m is e =
-    let o = opened_by w _ _ _ (open_broadcast w H) (k, m) (laned w H is.answered) e in (o.last, o.frames)
-
-record Packed (w : Who) (H : List Call) (now : ℕ) (f : FrameRecord) : Type 0 where
+pub record Packed (w : Who) (H : List Call) (now : ℕ) (f : FrameRecord) : Type 0 where
   pub token : ℕ
   pub message : MessageRecord
   pub current : open_broadcast w H ≡ Some (token, message)
@@ -131,11 +47,6 @@ packed_by : (w : Who) (H : List Call) (now : ℕ) (f : FrameRecord) → AreAnswe
 packed_by w H now f right p = go
   where
     go : FrameCase w H now f → Packed w H now f
-    go (claims o e) = absurd (not_both _ (no_packet f (claim_single f (claim_taken f now w _ e))) p)
-    go (acknowledges m o k g e way) = absurd (not_both _ (no_packet f (due_taken w f now m e (due_get w (due w H) (length (acknowledged H)) m (sound w H right).desk.0 g)).2) p)
-    go (replies m o k n g e) = absurd (not_both _ (reply_taken w.address f now m e (replied_get w.address (reception w H).replies 0 m (tidy w H).replies g)).3 p)
-    go (sends x o k n g e) = absurd (not_both _ (no_packet f (single_taken w f now x e (own_of w H x right g))) p)
-    go (transfers m o k n g e) = absurd (not_both _ (transfer_taken w H now f m right e g).packet p)
     go (packs m o k n g e) =
         let x = packet_case (open_broadcast w H) (length (packets H)) (pause H - step H now) m g in
         record {
@@ -153,8 +64,9 @@ packed_by w H now f right p = go
         waits : IsTurn (yields w H) (ready w H now) (Some Packet) → IsTrue (is_overdue w H now) ⊎ (nat_lt (reached H) (length (accepted w H)) ≡ false)
         waits (inl o) = inl o
         waits (inr t) = inr t.1
+    go case = absurd (not_both _ (packs_it w H now f right case) p)
 
-packed : (w : Who) (H : List Call) (c : Controller) (now : ℕ) (f : FrameRecord) → Is w (At now (TakeFrame (Some f)) ∷ H) c → is_packet f ≡ true → Packed w H now f
+pub packed : (w : Who) (H : List Call) (c : Controller) (now : ℕ) (f : FrameRecord) → Is w (At now (TakeFrame (Some f)) ∷ H) c → is_packet f ≡ true → Packed w H now f
 packed w H c now f is p = packed_by w H now f is.answered.0 p (frame_case w H now f is.answered.1)
 
 -- a frame of a broadcast that is taken, and that the address is held then
@@ -179,24 +91,6 @@ taken_packet_of w H now f right case p =
     off true e = absurd (not_both _ (no_packet f (claim_single f e)) p)
     off false e = refl
 
-pub only : (w : Who) (H : List Call) (c : Controller) (now : ℕ) (f : FrameRecord) → Is w (At now (TakeFrame (Some f)) ∷ H) c → IsTrue (is_packet f)
-    → (k : ℕ) × (m : MessageRecord) × (open_broadcast w H ≡ Some (k, m)) × (message_of f ≡ frame_of m (length (packets H))) × (length (packets H) ≤ packets_of m)
-only w H c now f is p = let x = packed w H c now f is p in (x.token, x.message, x.current, x.is, x.within)
-
-pub behind : (w : Who) (H : List Call) (c : Controller) (now : ℕ) (f : FrameRecord) → Is w (At now (TakeFrame (Some f)) ∷ H) c → IsTrue (is_packet f)
-    → IsTrue (holds w H now) × (IsTrue (is_overdue w H now) ⊎ (reached H ≡ length (accepted w H))) × (IsTrue (gives_way w H now) ⊎ (acknowledged H ≡ due w H))
-behind w H c now f is p =
-    let x = packed w H c now f is p in
-    let s = sound w H is.answered.0 in
-    let b = sent_within w H s in (
-      x.held,
-      elim x.none_waits [
-        | inl o ↦ inl o
-        | inr n ↦ inr (let a = past_end (accepted w H) (reached H) (none_at (accepted w H) (reached H) n) in omega (arith, a, b))
-      ],
-      all_acknowledged w H now is.answered.0 x.none_due,
-    )
-
 -- one that is overdue goes before all but claims and acknowledgments
 pub overdue_goes_by : (w : Who) (H : List Call) (now : ℕ) (f : FrameRecord) → AreAnswered w H → FrameCase w H now f → is_overdue w H now ≡ true
     → is_claim f ≡ false → is_acknowledgment f ≡ false → is_packet f ≡ true
@@ -207,10 +101,6 @@ overdue_goes_by w H now f right (replies m o h n g e) late k a = absurd (not_bot
 overdue_goes_by w H now f right (sends x o h n g e) late k a = absurd (not_both _ (turned w H now (Some Single) n.1).1 late)
 overdue_goes_by w H now f right (packs m o h n g e) late k a = (packet_taken f now m (open_broadcast w H) (length (packets H)) (pause H - step H now) e g).2
 overdue_goes_by w H now f right (transfers m o h n g e) late k a = absurd (not_both _ (turned w H now (Some Move) n.1).0.overdue late)
-
-pub overdue_goes : (w : Who) (H : List Call) (c : Controller) (now : ℕ) (f : FrameRecord) → Is w (At now (TakeFrame (Some f)) ∷ H) c → IsTrue (is_overdue w H now)
-    → is_claim f ≡ false → is_acknowledgment f ≡ false → IsTrue (is_packet f)
-overdue_goes w H c now f is late k a = overdue_goes_by w H now f is.answered.0 (frame_case w H now f is.answered.1) late k a
 
 -- ---- their spacing
 

@@ -1,51 +1,18 @@
 -- What every answered history says of broadcasts.
-use Rattle.std.proofs.Common.{◌≡◌, ℕ, suc, ◌-◌, ◌<◌, ◌≤◌, List, [], ◌∷◌, ◌++◌, length, Option, Some, None, Result, Ok, Err, Bool, true, false, ◌||◌, if◌then◌else◌, nat_lt, refl, sym, ap, ◌∙◌, subst, arith, ltb-true}
-use Rattle.std.specs.List.{slice_get}
-use Rattle.j39_frame.specs.Frame.{FrameRecord}
-use Rattle.j39_transport.specs.Message.{MessageRecord, packets_of}
-use Rattle.j39_node.specs.declared.kinds.Ending.{Ending}
-use Rattle.j39_node.specs.declared.kinds.Ending.TheVariants.{Done, Withdrawn}
-use Rattle.j39_node.specs.declared.kinds.Refused.{Refused}
-use Rattle.j39_node.specs.declared.kinds.Refused.TheVariants.{NoAddress, BadValue, Full}
-use Rattle.j39_node.specs.History.{Who, Message, Call, acknowledged, due, address_after, broadcast_from, broadcasts, can_broadcast, first_frames, frame_of, holds, is_busy, is_lost, is_open, is_packet, open_broadcast, packets, pause, step, told_broadcasts}
-use Rattle.j39_node.specs.History.Call.{At, TakeBroadcastEnded}
-use Rattle.j39_node.specs.History.Act.{TakeFrame, Broadcast}
-use Rattle.j39_node.specs.Reception.{reception}
-use Rattle.j39_node.specs.Is.{AreAnswered, answer_to_broadcast, broadcast_end, stamped}
+use Rattle.j39_node.proofs.Common.{[], ◌++◌, ◌-◌, ◌<◌, ◌||◌, ◌∙◌, ◌∷◌, ◌≡◌, ◌≤◌, address_after, answer_to_broadcast, ap, AreAnswered, arith, At, Bool, Broadcast, broadcast_end, broadcast_from, broadcasts, Call, Done, Ending, false, first_frames, frame_of, FrameRecord, is_lost, is_open, is_packet, length, List, ltb-true, Message, MessageRecord, nat_lt, None, Ok, open_broadcast, Option, packets, packets_of, pause, refl, slice_get, Some, step, subst, suc, sym, TakeBroadcastEnded, TakeFrame, told_broadcasts, true, Who, Withdrawn, ℕ, ltb-false}
 use Rattle.j39_node.proofs.QueueLemmas.{length_one_more}
-use Rattle.j39_node.proofs.SoundLemmas.{FrameCase, PacketCase, frame_case, packet_case, packet_taken, packets_is, sound, claim_taken, claim_single, due_get, due_taken, no_packet, own_of, reply_taken, single_taken, no_packet, transfer_taken}
-use Rattle.j39_node.proofs.ReceptionLemmas.{replied_get, tidy}
-use Rattle.j39_node.proofs.SoundLemmas.FrameCase.{claims, acknowledges, replies, sends, packs, transfers}
+use Rattle.j39_node.proofs.SoundLemmas.{FrameCase, PacketCase, frame_case, packet_case, packet_taken, packets_is}
+use Rattle.j39_node.proofs.SoundLemmas.FrameCase.{packs}
+use Rattle.j39_node.proofs.AnswerCases.{broadcast_accepts}
+use Rattle.j39_node.proofs.KindLemmas.{packs_it}
 
 -- ---- what broadcast answers
-
-pub data BroadcastCase (w : Who) (H : List Call) (now group : ℕ) (bytes : List ℕ) (answer : Result ℕ Refused) : Type 0 where
-  homeless : holds w H now ≡ false → answer ≡ Err NoAddress → BroadcastCase w H now group bytes answer
-  unfit : holds w H now ≡ true → can_broadcast group bytes ≡ false → answer ≡ Err BadValue → BroadcastCase w H now group bytes answer
-  busy : holds w H now ≡ true → can_broadcast group bytes ≡ true → is_busy w H ≡ true → answer ≡ Err Full → BroadcastCase w H now group bytes answer
-  opens : holds w H now ≡ true → can_broadcast group bytes ≡ true → is_busy w H ≡ false → answer ≡ Ok (length (broadcasts w H))
-      → BroadcastCase w H now group bytes answer
-
-pub broadcast_case : (w : Who) (H : List Call) (now group : ℕ) (bytes : List ℕ) (answer : Result ℕ Refused) → answer ≡ answer_to_broadcast w H now group bytes
-    → BroadcastCase w H now group bytes answer
-broadcast_case w H now group bytes answer e = go (holds w H now) (can_broadcast group bytes) (is_busy w H) refl refl refl e
-  where
-    go : (x y z : Bool) → holds w H now ≡ x → can_broadcast group bytes ≡ y → is_busy w H ≡ z
-        → answer ≡ (if x then (if y then (if z then Err Full else Ok (length (broadcasts w H))) else Err BadValue) else Err NoAddress)
-        → BroadcastCase w H now group bytes answer
-    go false y z p q r i = homeless p i
-    go true false z p q r i = unfit p q i
-    go true true true p q r i = busy p q r i
-    go true true false p q r i = opens p q r i
 
 -- ---- how a broadcast ended
 
 pub data LaneEnd (o : Option (ℕ × MessageRecord)) (i : ℕ) (lost : Bool) (x : ℕ × Ending) : Type 0 where
   complete : (m : MessageRecord) → o ≡ Some (x.0, m) → packets_of m < i → x.1 ≡ Done → LaneEnd o i lost x
   broken : (m : MessageRecord) → o ≡ Some (x.0, m) → i ≤ packets_of m → lost ≡ true → x.1 ≡ Withdrawn → LaneEnd o i lost x
-
-not_lt : (m n : ℕ) → nat_lt m n ≡ false → n ≤ m
-not_lt m n f = grind arith
 
 pub lane_end : (o : Option (ℕ × MessageRecord)) (i : ℕ) (lost : Bool) (x : ℕ × Ending) → Some x ≡ broadcast_end o i lost → LaneEnd o i lost x
 lane_end None i lost x e = absurd (cc)
@@ -57,7 +24,7 @@ lane_end (Some y) i lost x e = go (nat_lt (packets_of y.1) i) lost refl refl e
     go : (b l : Bool) → nat_lt (packets_of y.1) i ≡ b → lost ≡ l → Some x ≡ Rattle.j39_node.specs.Is.ending_of b l y.0 → LaneEnd (Some y) i lost x
     go true l p q r = let z : x ≡ (y.0, Done) = cc in complete y.1 (same (ap (λ (u : ℕ × Ending). u.0) z)) (ltb-true _ _ p) (ap (λ (u : ℕ × Ending). u.1) z)
     go false true p q r =
-        let z : x ≡ (y.0, Withdrawn) = cc in broken y.1 (same (ap (λ (u : ℕ × Ending). u.0) z)) (not_lt _ _ p) q (ap (λ (u : ℕ × Ending). u.1) z)
+        let z : x ≡ (y.0, Withdrawn) = cc in broken y.1 (same (ap (λ (u : ℕ × Ending). u.0) z)) (ltb-false _ _ p) q (ap (λ (u : ℕ × Ending). u.1) z)
     go false false p q r = absurd (cc)
 
 -- ---- the open broadcast
@@ -120,31 +87,25 @@ lane_frame w H now f right case h = go case
     same e = subst (λ xs. Laned w (length (told_broadcasts H)) (broadcasts w H) xs (open_broadcast w H)) (sym (packets_is H now f false e)) h
 
     go : FrameCase w H now f → Laned w (length (told_broadcasts H)) (broadcasts w H) (packets (At now (TakeFrame (Some f)) ∷ H)) (open_broadcast w H)
-    go (claims o e) = same (no_packet f (claim_single f (claim_taken f now w _ e)))
-    go (acknowledges m o k g e way) = same (no_packet f (due_taken w f now m e (due_get w (due w H) (length (acknowledged H)) m (sound w H right).desk.0 g)).2)
-    go (replies m o k n g e) = same (reply_taken w.address f now m e (replied_get w.address (reception w H).replies 0 m (tidy w H).replies g)).3
-    go (sends x o k n g e) = same (no_packet f (single_taken w f now x e (own_of w H x right g)))
-    go (transfers m o k n g e) = same (transfer_taken w H now f m right e g).packet
     go (packs m o k n g e) =
         let is = packet_taken f now m (open_broadcast w H) (length (packets H)) (pause H - step H now) e g in
         subst (λ xs. Laned w (length (told_broadcasts H)) (broadcasts w H) xs (open_broadcast w H))
         (sym (packets_is H now f true is.2 ∙ ap (λ (y : ℕ × Message). packets H ++ y.1 ∷ []) e))
         (grows w (length (told_broadcasts H)) (broadcasts w H) (packets H) m (open_broadcast w H) (pause H - step H now)
         (packet_case (open_broadcast w H) (length (packets H)) (pause H - step H now) m g) h)
+    go case = same (packs_it w H now f right case)
 
 not_either : (a b : Bool) → (a || b) ≡ false → a ≡ false
 not_either a b e = grind (arith, e)
 
 -- a broadcast is accepted
-lane_opens : (w : Who) (H : List Call) (now group k : ℕ) (bytes : List ℕ) → BroadcastCase w H now group bytes (Ok k)
+lane_opens : (w : Who) (H : List Call) (now group k : ℕ) (bytes : List ℕ) → Ok k ≡ answer_to_broadcast w H now group bytes
     → Laned w (length (told_broadcasts H)) (broadcasts w H) (packets H) (open_broadcast w H)
     → Opened w (length (told_broadcasts H)) (broadcasts w H ++ broadcast_from w group bytes ∷ []) [] (k, broadcast_from w group bytes)
-lane_opens w H now group k bytes (homeless a e) h = absurd (cc)
-lane_opens w H now group k bytes (unfit a b e) h = absurd (cc)
-lane_opens w H now group k bytes (busy a b d e) h = absurd (cc)
-lane_opens w H now group k bytes (opens a b d e) h =
-    let n : k ≡ length (broadcasts w H) = cc in
-    let t = closed w (length (told_broadcasts H)) (broadcasts w H) (packets H) (open_broadcast w H) h (not_either _ _ d) in
+lane_opens w H now group k bytes e h =
+    let x = broadcast_accepts w H now group k bytes e in
+    let n = x.3 in
+    let t = closed w (length (told_broadcasts H)) (broadcasts w H) (packets H) (open_broadcast w H) h (not_either _ _ x.2) in
     record {
       token = n ∙ sym t;
       last = ap (slice_get (broadcasts w H ++ broadcast_from w group bytes ∷ [])) n ∙ get_last (broadcasts w H) (broadcast_from w group bytes);
@@ -168,7 +129,7 @@ lane_closes w H x (broken m e l a d) h =
 pub laned : (w : Who) (H : List Call) → AreAnswered w H → Laned w (length (told_broadcasts H)) (broadcasts w H) (packets H) (open_broadcast w H)
 laned w [] e = refl
 laned w (At now (TakeFrame (Some f)) ∷ H) e = lane_frame w H now f e.0 (frame_case w H now f e.1) (laned w H e.0)
-laned w (At now (Broadcast group bytes (Ok k)) ∷ H) e = lane_opens w H now group k bytes (broadcast_case w H now group bytes (Ok k) e.1) (laned w H e.0)
+laned w (At now (Broadcast group bytes (Ok k)) ∷ H) e = lane_opens w H now group k bytes e.1 (laned w H e.0)
 laned w (TakeBroadcastEnded (Some x) ∷ H) e =
     lane_closes w H x (lane_end (open_broadcast w H) (length (packets H)) (is_lost (address_after w H)) x e.1) (laned w H e.0)
 laned w (call ∷ H) e = laned w H e.0

@@ -1,47 +1,20 @@
 -- The laws.
-use Rattle.std.proofs.Common.{drop, ◌≡◌, ◌≢◌, ◌⊎◌, ◌↔◌, ℕ, zero, suc, ◌+◌, ◌-◌, ◌<◌, ◌≤◌, List, [], ◌∷◌, ◌++◌, length, map, Option, Some, None, Result, Ok, Err, Bool, true, false, not, ◌&&◌, ◌||◌, if◌then◌else◌, nat_eq, nat_lt, nat_le, IsTrue, refl, sym, ap, ◌∙◌, inl, inr, arith, length-append, append-nil, eqb-true, eq-eqb, ltb-true, lt-ltb, ◌*◌, max, take}
-use Rattle.std.proofs.lemmas.Bool.{and_from, and_parts}
-use Rattle.std.specs.List.{slice_get}
-use Rattle.j39_frame.specs.Frame.{FrameRecord}
-use Rattle.j39_frame.specs.Address.{global_address, null_address}
-use Rattle.j39_frame.specs.Identifier.{destination_of, source_of, pgn_of}
-use Rattle.j39_frame.specs.Network.{address_claimed_group, request_group}
-use Rattle.j39_address.specs.Claim.{claim_of, Claim}
+use Rattle.j39_node.proofs.Common.{[], if◌then◌else◌, ◌&&◌, ◌*◌, ◌++◌, ◌+◌, ◌-◌, ◌<◌, ◌||◌, ◌↔◌, ◌∙◌, ◌∷◌, ◌≡◌, ◌≢◌, ◌≤◌, ◌⊎◌, accepted, acknowledged, acknowledgment, acknowledgment_group, Address, address_after, address_claimed_group, AddressLost, Again, age, and_from, and_parts, AnotherAtAddress, answers_another, ap, append-nil, AreAnswered, arith, Asked, asked, At, at_in, Bool, Busy, Call, calls, calls_for_claim, Claim, claim_address, claim_due, claim_from, claim_goes, claim_of, Claimed, claimed, content, Controller, delayed, destination_of, Done, double, doubled_news, Draft, drop, due, end_of, Ending, eq-eqb, eqb-true, false, FrameRecord, frames, fresh, gives_way, global_address, got, handed, HasDouble, Hear, held_at, holds, inl, inr, Is, is_acknowledgment, is_alike, is_another, is_apart, is_blank, is_claim, is_double, is_for_program, is_held, is_larger, is_lost, is_move, is_none, is_own_group, is_refusal_due, is_reply, is_served, is_session, is_smaller, is_some, is_subscribed, is_there, is_transfer, IsFront, IsTrue, kept, length, length-append, List, long_by, Lost, lost_news, lt-ltb, ltb-true, marks, may_claim, may_go, Message, message_from, message_of, MessagesMissed, missed, missed_news, moment, Move, Nack, NameDoubled, nat_eq, nat_le, nat_lt, News, news_of, next_acknowledgment, next_due, next_frame, next_long, next_other, next_packet, next_transfer, next_withdrawn, None, NoneTold, not, NotClaimed, null_address, older, open_broadcast, Option, option_map, option_or, other, owes_claim, packets, passed_in, patience, pause, pgn_of, reached, ready, reception, refl, refusal_waits, Renew, Reply, request_group, requests, slice_get, slice_get-map, slice_get_within, Some, source_of, stamp_at, stamped, status_after, status_of, step, suc, sym, TakeEnded, TakeFrame, TakeNews, takes_other, Tick, told, true, turns, unclaimed, waits_already, Who, with_refusal, with_request, Withdraw, Withdrawn, yields, zero, ℕ, not_both, and-false, ltb-false, le-ltb, le-leb, or_parts}
+use Rattle.j39_node.specs.History.{heard, Again}
+use Rattle.j39_node.specs.Reception.{is_waiting}
 use Rattle.j39_address.specs.declared.status.Status.TheVariants as status
-use Rattle.std.proofs.lemmas.Option.{slice_get-map, slice_get_within}
-use Rattle.j39_node.proofs.FrameLemmas.{le_true}
-use Rattle.j39_node.specs.declared.controller.Controller.{Controller}
-use Rattle.j39_node.specs.declared.kinds.Ending.{Ending}
-use Rattle.j39_node.specs.declared.kinds.Ending.TheVariants.{Done, Withdrawn}
-use Rattle.j39_node.specs.declared.kinds.Answer.{Answer}
-use Rattle.j39_node.specs.declared.kinds.Answer.TheVariants.{Nack, Busy}
-use Rattle.j39_node.specs.declared.kinds.News.{News}
-use Rattle.j39_node.specs.declared.kinds.News.TheVariants.{AddressLost, AnotherAtAddress, MessagesMissed, NameDoubled}
-use Rattle.j39_node.specs.declared.kinds.Refused.{Refused}
-use Rattle.j39_node.specs.declared.kinds.Refused.TheVariants.{NoAddress, BadValue, Full}
-use Rattle.j39_node.specs.History.{reached, fresh, is_refusal_due, refusal_waits, waits_already, is_session, is_transfer, answers_another, calls, is_another, is_acknowledgment, patience, turns, Who, Message, Draft, Call, Address, IsFront, accepted, address_after, can_send, claim_address, claim_from, content, frames, got, heard, holds, is_claim, is_smaller, claimed, is_for_program, is_held, is_lost, is_none, is_own_group, is_some, is_subscribed, kept, message_of, missed, moment, older, owes_claim, sent, step, told, Asked, asked, acknowledgment, acknowledgment_group, acknowledged, due, handed, requests, is_served, with_request, with_refusal, stamp_at, held_at, lost_news, another_news, missed_news, open_broadcast, packets, pause, delayed, unclaimed, Again, may_claim, doubled_news, double, told_claims, is_double, is_larger, calls_for_claim, is_alike, latest, message_from, marks, unblanked, is_blank}
-use Rattle.j39_node.specs.History.Call.{At, TakeEnded, TakeReceived, TakeRequest, TakeNews, Renew, Withdraw}
-use Rattle.j39_node.specs.History.Act.{Hear, Tick, TakeFrame, Send, Acknowledge, Again}
-use Rattle.j39_node.specs.Reception.{yields, is_move, is_waiting, reception, is_reply}
 use Rattle.j39_node.proofs.ReceptionLemmas.{replied_get, tidy}
-use Rattle.j39_node.specs.History.Address.{NotClaimed, Claimed, Lost}
-use Rattle.j39_node.specs.Hearing.{unheard_news}
-use Rattle.j39_node.specs.Since.{passed_in, HasDouble}
-use Rattle.j39_node.specs.Prompt.{NoneTold, takes_other}
-use Rattle.j39_node.specs.declared.turn.Turn.TheVariants.{Reply, Move}
-use Rattle.j39_node.specs.Is.{is_apart, ready, AreAnswered, Is, claim_goes, other, next_packet, long_by, gives_way, is_there, next_acknowledgment, next_other, stamped, next_frame, end_of, status_of, status_after, news_of, next_long, claim_due, may_go, next_withdrawn}
-use Rattle.j39_node.specs.Transfers.{next_transfer, age, at_in, next_due}
 use Rattle.j39_node.proofs.DueLemmas.{both_none, from_long, quiet_long, then_long}
 use Rattle.j39_node.proofs.QueueLemmas.{length_one_more}
-use Rattle.j39_node.proofs.SoundLemmas.{apart_is, is_moved, IsTurn, acknowledgment_single, claim_single, no_transfer, none_there, packet_session, packet_there, single_taken, turned, Rest, none_at, none_next, none_other, other_none, claim_is, given_way, none_acknowledged, none_due_goes, none_gives, plain_taken, EndCase, FrameCase, SendCase, Sound, claim_taken, due_get, due_taken, end_case, frame_by, frame_case, front_length, held_older, lost_claimed, lost_older, message_taken, own_of, packet_case, packet_taken, reply_taken, send_case, sound, transfer_taken, lost_unclaimed, holding_not_lost, no_claim_goes, renew_case, WithdrawCase, withdraw_case}
-use Rattle.j39_node.proofs.KnownLemmas.{fresh_one, not_refused, served_not}
+use Rattle.j39_node.proofs.SoundLemmas.{apart_is, is_moved, IsTurn, acknowledgment_single, claim_single, no_transfer, none_there, packet_session, packet_there, single_taken, turned, Rest, none_at, none_next, none_other, other_none, claim_is, given_way, none_acknowledged, none_due_goes, none_gives, EndCase, FrameCase, Sound, claim_taken, due_get, due_taken, end_case, frame_by, frame_case, held_older, lost_claimed, lost_older, own_of, packet_case, packet_taken, sound, transfer_taken, lost_unclaimed, holding_not_lost, renew_case, WithdrawCase, withdraw_case}
+use Rattle.j39_node.proofs.KnownLemmas.{fresh_one, not_refused}
 use Rattle.j39_node.proofs.LaneLemmas.{laned, opened_by}
-use Rattle.j39_node.proofs.CallLemmas.{acknowledge_is, acknowledges_by, due_by}
+use Rattle.j39_node.proofs.CallLemmas.{due_by}
 use Rattle.j39_node.proofs.SoundLemmas.FrameCase.{claims, acknowledges, replies, sends, packs, transfers}
-use Rattle.j39_node.proofs.SoundLemmas.SendCase.{no_address, bad_value, full, accepts}
+use Rattle.j39_node.proofs.AnswerCases as cases
 use Rattle.j39_node.proofs.SoundLemmas.EndCase.{done, withdrawn}
-use Rattle.std.specs.Option.{option_or, option_map}
-use Rattle.j39_node.proofs.RenewLemmas.{none_past, set_here, set_other}
+use Rattle.j39_node.proofs.RenewLemmas.{none_past}
+use Rattle.j39_node.proofs.KindLemmas.{kind_by, claims_it, acknowledges_it}
 
 -- ---- sources
 
@@ -64,61 +37,32 @@ pub sources : (w : Who) (H : List Call) (c : Controller) (now : ℕ) (f : FrameR
     ⊎ (IsTrue (holds w H now) × (source_of f.id ≡ w.address) × (pgn_of f.id ≢ address_claimed_group))
 sources w H c now f is = go (frame w H c now f is)
   where
+    no_claim : (c : FrameCase w H now f) → (kind_by c).claim ≡ false → pgn_of f.id ≢ address_claimed_group
+    no_claim c k z = not_both (is_claim f) (claims_it w H now f is.answered.0 c ∙ k) (eq-eqb (pgn_of f.id) address_claimed_group z)
+
     go : FrameCase w H now f → (message_of f ≡ claim_from w (claim_address w (address_after w H)))
         ⊎ (IsTrue (holds w H now) × (source_of f.id ≡ w.address) × (pgn_of f.id ≢ address_claimed_group))
     go (claims o e) = inl (ap content e)
     go (acknowledges m o h g e way) =
-        let is_due = due_get w (due w H) (length (acknowledged H)) m (sound w H is.answered.0).desk.0 g in
-        inr (
-          h,
-          ap (λ (y : ℕ × Message). y.1.source) e ∙ is_due.source,
-          λ z. (let a = (due_taken w f now m e is_due).0 in let b = eq-eqb (pgn_of f.id) address_claimed_group z in let d : true ≡ false = sym b ∙ a in absurd (cc)),
-        )
+        inr (h, ap (λ (y : ℕ × Message). y.1.source) e ∙ (due_get w (due w H) (length (acknowledged H)) m (sound w H is.answered.0).desk.0 g).source, no_claim (acknowledges m o h g e way) refl)
     go (replies m o h k g e) =
-        let is_reply = replied_get w.address (reception w H).replies 0 m (tidy w H).replies g in
-        inr (
-          h,
-          ap (λ (y : ℕ × Message). y.1.source) e ∙ is_reply.source,
-          λ z. (let a = (reply_taken w.address f now m e is_reply).0 in let b = eq-eqb (pgn_of f.id) address_claimed_group z in let d : true ≡ false = sym b ∙ a in absurd (cc)),
-        )
-    go (sends x o h k g e) =
-        let own = own_of w H x is.answered.0 g in
-        inr (
-          h,
-          ap (λ (y : ℕ × Message). y.1.source) e ∙ own.source,
-          λ z. (let a = message_taken w f now x e own in let b = eq-eqb (pgn_of f.id) address_claimed_group z in let d : true ≡ false = sym b ∙ a in absurd (cc)),
-        )
+        inr (h, ap (λ (y : ℕ × Message). y.1.source) e ∙ (replied_get w.address (reception w H).replies 0 m (tidy w H).replies g).source, no_claim (replies m o h k g e) refl)
+    go (sends x o h k g e) = inr (h, ap (λ (y : ℕ × Message). y.1.source) e ∙ (own_of w H x is.answered.0 g).source, no_claim (sends x o h k g e) refl)
     go (packs m o h k g e) =
         let p = packet_case (open_broadcast w H) (length (packets H)) (pause H - step H now) m g in
         let is_own = (opened_by w _ _ _ (open_broadcast w H) (p.token, p.message) (laned w H is.answered.0) p.is).source in
-        let is = packet_taken f now m (open_broadcast w H) (length (packets H)) (pause H - step H now) e g in
-        inr (
-          h,
-          ap (λ (y : ℕ × Message). y.1.source) e ∙ (ap (λ (y : Message). y.source) p.frame ∙ is_own),
-          λ z. (let b = eq-eqb (pgn_of f.id) address_claimed_group z in let d : true ≡ false = sym b ∙ is.0 in absurd (cc)),
-        )
-    go (transfers m o h k g e) =
-        let is = transfer_taken w H now f m is.answered.0 e g in
-        inr (h, is.source, λ z. (let b = eq-eqb (pgn_of f.id) address_claimed_group z in let d : true ≡ false = sym b ∙ is.claim in absurd (cc)))
+        inr (h, ap (λ (y : ℕ × Message). y.1.source) e ∙ (ap (λ (y : Message). y.source) p.frame ∙ is_own), no_claim (packs m o h k g e) refl)
+    go (transfers m o h k g e) = inr (h, (transfer_taken w H now f m is.answered.0 e g).source, no_claim (transfers m o h k g e) refl)
 
 -- ---- accounted once
 
-pub token_is : (w : Who) (H : List Call) (c : Controller) (now k : ℕ) (d : Draft) → Is w (At now (Send d (Ok k)) ∷ H) c → k ≡ length (accepted w H)
-token_is w H c now k d is = go (send_case w H now d (Ok k) is.answered.1)
-  where
-    go : SendCase w H now d (Ok k) → k ≡ length (accepted w H)
-    go (no_address a e) = absurd (cc)
-    go (bad_value a b e) = absurd (cc)
-    go (full a b f e) = absurd (cc)
-    go (accepts a b f e) = cc
-
-record Told (w : Who) (H : List Call) (k : ℕ) (e : Ending) : Type 0 where
+pub record Told (w : Who) (H : List Call) (k : ℕ) (e : Ending) : Type 0 where
   pub message : Message
   pub at : slice_get (accepted w H) (length (told H)) ≡ Some (k, message)
   pub done : e ≡ Done ↔ ((length (told H) < reached H) × (is_blank (k, message) ≡ false))
   pub withdrawn : e ≡ Withdrawn → (is_lost (address_after w H) ≡ true) ⊎ ((length (told H) < reached H) × (is_blank (k, message) ≡ true))
 
-told_is : (w : Who) (H : List Call) (c : Controller) (k : ℕ) (e : Ending) → Is w (TakeEnded (Some (k, e)) ∷ H) c → Told w H k e
+pub told_is : (w : Who) (H : List Call) (c : Controller) (k : ℕ) (e : Ending) → Is w (TakeEnded (Some (k, e)) ∷ H) c → Told w H k e
 told_is w H c k e is = go (end_case w H (k, e) is.answered.1)
   where
     go : EndCase w H (k, e) → Told w H k e
@@ -176,39 +120,15 @@ all_told w H c is = go (none_ended _ _ _ is.answered.1)
         let a = past_end (accepted w H) (length (told H)) e in
         let b = sent_within w H s in
         (omega (arith, a, b), λ l. (let d = s.within in omega (arith, a, d)))
-    go (inr e) = (not_lt _ _ e.0, λ l. absurd (let z : true ≡ false = sym l ∙ e.1 in cc))
-      where
-        not_lt : (m n : ℕ) → nat_lt m n ≡ false → n ≤ m
-        not_lt m n f = grind arith
+    go (inr e) = (ltb-false _ _ e.0, λ l. absurd (let z : true ≡ false = sym l ∙ e.1 in cc))
 
 -- ---- done means
 
-pub in_order : (w : Who) (H : List Call) (c : Controller) → Is w H c
-    → (sent H ≡ map content (unblanked (take (reached H) (accepted w H)))) × (reached H ≤ length (accepted w H)) × (marks H ≡ map is_blank (accepted w H))
-in_order w H c is = let s = sound w H is.answered in (s.in_order, s.passed, s.marked)
-
 -- a token's mark
-mark_at : (w : Who) (H : List Call) (k : ℕ) (m : Message) → Sound w H → slice_get (accepted w H) (length (told H)) ≡ Some (k, m) → k ≡ length (told H)
+pub mark_at : (w : Who) (H : List Call) (k : ℕ) (m : Message) → Sound w H → slice_get (accepted w H) (length (told H)) ≡ Some (k, m) → k ≡ length (told H)
     → slice_get (marks H) k ≡ Some (is_blank (k, m))
 mark_at w H k m s e z =
     (λ i. slice_get (s.marked i) (z i)) ∙ (slice_get-map is_blank (accepted w H) (length (told H)) ∙ ap (option_map is_blank) e)
-
-pub done_means : (w : Who) (H : List Call) (c : Controller) (k : ℕ) (e : Ending) → Is w (TakeEnded (Some (k, e)) ∷ H) c
-    → (e ≡ Done ↔ ((k < reached H) × (slice_get (marks H) k ≡ Some false)))
-done_means w H c k e is =
-    let t = told_is w H c k e is in
-    let a = (in_turn w H c k e is).0 in
-    let m = mark_at w H k t.message (sound w H is.answered.0) t.at a in (
-      λ z. (let b = t.done.0 z in let l = b.0 in (omega (arith, a, l), m ∙ ap (λ (y : Bool). (let o : Option Bool = Some y in o)) b.1)),
-      λ z. t.done.1 ((let l = z.0 in omega (arith, a, l)), (let y : Some (is_blank (k, t.message)) ≡ Some false = sym m ∙ z.1 in cc)),
-    )
-
-pub withdrawn_means : (w : Who) (H : List Call) (c : Controller) (k : ℕ) (e : Ending) → Is w (TakeEnded (Some (k, e)) ∷ H) c → e ≡ Withdrawn
-    → IsTrue (is_lost (address_after w H)) ⊎ (slice_get (marks H) k ≡ Some true)
-withdrawn_means w H c k e is z =
-    let t = told_is w H c k e is in
-    let m = mark_at w H k t.message (sound w H is.answered.0) t.at (in_turn w H c k e is).0 in
-    elim (t.withdrawn z) [ inl x ↦ inl x | inr x ↦ inr (m ∙ ap (λ (y : Bool). (let o : Option Bool = Some y in o)) x.1) ]
 
 -- ---- what is withdrawn
 
@@ -241,55 +161,9 @@ withdrawn_is w H c k answer is = (λ z. to (withdraw_case w H k (sym z ∙ is.an
     from l a z =
         let b : Some (is_blank (k, z.0)) ≡ Some false = sym (marked (k, z.0) z.1) ∙ z.3 in
         let d : is_blank (k, z.0) ≡ false = cc in
-        (λ i. not (l i) && (nat_le (reached H) k && may_go (z.1 i))) ∙ λ i. le_true (reached H) k a i && not (d i || z.2 i)
-
-pub others_unmarked : (H : List Call) (k j : ℕ) → j ≢ k → slice_get (marks (Withdraw k true ∷ H)) j ≡ slice_get (marks H) j
-others_unmarked H k j n = set_other (marks H) k j true n
-
-pub marked_now : (w : Who) (H : List Call) (c : Controller) (k : ℕ) → Is w (Withdraw k true ∷ H) c → slice_get (marks (Withdraw k true ∷ H)) k ≡ Some true
-marked_now w H c k is = set_here (marks H) k false true ((withdrawn_is w H c k true is).0 refl).2.3
-
-pub none_waits : (w : Who) (H : List Call) (c : Controller) (now : ℕ) → Is w (At now (TakeFrame None) ∷ H) c → IsTrue (holds w H now)
-    → (reached H ≡ length (accepted w H)) × (length (acknowledged H) ≡ length (due w H))
-none_waits w H c now is held =
-    let n = none_next w H now held is.answered.1 in
-    let s = sound w H is.answered.0 in
-    let x = past_end (accepted w H) (reached H) n.rest.message in
-    let y = sent_within w H s in
-    let u = past_end (due w H) (length (acknowledged H)) n.acknowledgment in
-    let v = front_length (acknowledged H) (due w H) s.desk.1 in
-    (omega (arith, x, y), omega (arith, u, v))
+        (λ i. not (l i) && (nat_le (reached H) k && may_go (z.1 i))) ∙ λ i. le-leb (reached H) k a i && not (d i || z.2 i)
 
 -- ---- what send answers
-
-answers : (w : Who) (H : List Call) (c : Controller) (now : ℕ) (d : Draft) (answer : Result ℕ Refused) → Is w (At now (Send d answer) ∷ H) c → SendCase w H now d answer
-answers w H c now d answer is = send_case w H now d answer is.answered.1
-
-pub not_both : (b : Bool) → b ≡ false → b ≡ true → ⊥
-not_both b e f = let z : false ≡ true = sym e ∙ f in absurd (cc)
-
-pub refused_address : (w : Who) (H : List Call) (c : Controller) (now : ℕ) (d : Draft) (answer : Result ℕ Refused)
-    → Is w (At now (Send d answer) ∷ H) c → (answer ≡ Err NoAddress ↔ (IsTrue (holds w H now) → ⊥))
-refused_address w H c now d answer is = go (answers w H c now d answer is)
-  where
-    go : SendCase w H now d answer → (answer ≡ Err NoAddress ↔ (IsTrue (holds w H now) → ⊥))
-    go (no_address a e) = (λ z. not_both _ a, λ z. e)
-    go (bad_value a b e) = (λ z. absurd (cc), λ z. absurd (z a))
-    go (full a b f e) = (λ z. absurd (cc), λ z. absurd (z a))
-    go (accepts a b f e) = (λ z. absurd (cc), λ z. absurd (z a))
-
-pub refused_value : (w : Who) (H : List Call) (c : Controller) (now : ℕ) (d : Draft) (answer : Result ℕ Refused)
-    → Is w (At now (Send d answer) ∷ H) c → (answer ≡ Err BadValue ↔ (IsTrue (holds w H now) × (IsTrue (can_send w d) → ⊥)))
-refused_value w H c now d answer is = go (answers w H c now d answer is)
-  where
-    go : SendCase w H now d answer → (answer ≡ Err BadValue ↔ (IsTrue (holds w H now) × (IsTrue (can_send w d) → ⊥)))
-    go (no_address a e) = (λ z. absurd (cc), λ z. absurd (not_both _ a z.0))
-    go (bad_value a b e) = (λ z. (a, not_both _ b), λ z. e)
-    go (full a b f e) = (λ z. absurd (cc), λ z. absurd (z.1 b))
-    go (accepts a b f e) = (λ z. absurd (cc), λ z. absurd (z.1 b))
-
-AtLimit : Who → List Call → Type 0
-AtLimit w H = (length (accepted w H) ≡ length (told H) + 16) ⊎ (length (accepted w H) ≡ 18446744073709551615)
 
 pub full_parts : (a t : ℕ) → (nat_eq (a - t) 16 || nat_eq a 18446744073709551615) ≡ true → (a ≡ t + 16) ⊎ (a ≡ 18446744073709551615)
 full_parts a t e = go (nat_eq (a - t) 16) refl e
@@ -306,35 +180,7 @@ full_from a t (inr e) = go (nat_eq (a - t) 16) (eq-eqb a 18446744073709551615 e)
     go true f = refl
     go false f = f
 
-pub refused_full : (w : Who) (H : List Call) (c : Controller) (now : ℕ) (d : Draft) (answer : Result ℕ Refused)
-    → Is w (At now (Send d answer) ∷ H) c
-    → (answer ≡ Err Full ↔ (IsTrue (holds w H now) × IsTrue (can_send w d)
-    × ((length (accepted w H) ≡ length (told H) + 16) ⊎ (length (accepted w H) ≡ 18446744073709551615))))
-refused_full w H c now d answer is = go (answers w H c now d answer is)
-  where
-    go : SendCase w H now d answer → (answer ≡ Err Full ↔ (IsTrue (holds w H now) × IsTrue (can_send w d)
-        × ((length (accepted w H) ≡ length (told H) + 16) ⊎ (length (accepted w H) ≡ 18446744073709551615))))
-    go (no_address a e) = (λ z. absurd (cc), λ z. absurd (not_both _ a z.0))
-    go (bad_value a b e) = (λ z. absurd (cc), λ z. absurd (not_both _ b z.1))
-    go (full a b f e) = (λ z. (a, b, full_parts _ _ f), λ z. e)
-    go (accepts a b f e) = (λ z. absurd (cc), λ z. absurd (not_both _ f (full_from _ _ z.2)))
-
-pub is_accepted : (w : Who) (H : List Call) (c : Controller) (now : ℕ) (d : Draft) (answer : Result ℕ Refused)
-    → Is w (At now (Send d answer) ∷ H) c → IsTrue (holds w H now) → IsTrue (can_send w d)
-    → length (accepted w H) < length (told H) + 16 → length (accepted w H) < 18446744073709551615
-    → answer ≡ Ok (length (accepted w H))
-is_accepted w H c now d answer is held can room some = go (answers w H c now d answer is)
-  where
-    go : SendCase w H now d answer → answer ≡ Ok (length (accepted w H))
-    go (no_address a e) = absurd (not_both _ a held)
-    go (bad_value a b e) = absurd (not_both _ b can)
-    go (full a b f e) = elim (full_parts (length (accepted w H)) (length (told H)) f) [ inl z ↦ absurd (omega (arith, z, room)) | inr z ↦ absurd (omega (arith, z, some)) ]
-    go (accepts a b f e) = e
-
 -- ---- received
-
-pub got_in_order : (w : Who) (H : List Call) (c : Controller) → Is w H c → IsFront (got H) (kept w H)
-got_in_order w H c is = (sound w H is.answered).reads
 
 whole_rest : {T : Type 0} (xs ys r : List T) → ys ≡ xs ++ r → length ys ≤ length xs → xs ≡ ys
 whole_rest xs ys [] f l = sym (f ∙ append-nil xs)
@@ -342,9 +188,6 @@ whole_rest xs ys (r ∷ rs) f l = absurd (let b = ap length f in let d = length-
 
 pub whole : {T : Type 0} (xs ys : List T) → IsFront xs ys → length ys ≤ length xs → xs ≡ ys
 whole xs ys (zs, e) l = whole_rest xs ys zs e l
-
-pub all_got : (w : Who) (H : List Call) (c : Controller) → Is w (TakeReceived None ∷ H) c → got H ≡ kept w H
-all_got w H c is = whole (got H) (kept w H) (sound w H is.answered.0).reads (past_end (kept w H) (length (got H)) (sym is.answered.1))
 
 count_one : (b r : Bool) (xs ys : List (ℕ × Message)) (x : ℕ × Message) (m : ℕ) → length ys + m ≡ length xs
     → length (if b && r then ys ++ x ∷ [] else ys) + (if b && not r then suc m else m) ≡ length (if b then xs ++ x ∷ [] else xs)
@@ -364,14 +207,11 @@ not_subscribed w H when f e = (
   ap (λ (b : Bool). if b && not (nat_lt (length (kept w H) - length (got H)) 16) then suc (missed w H) else missed w H) none,
 )
   where
-    nothing : (a : Bool) → (a && false) ≡ false
-    nothing a = grind arith
-
     none : is_for_program w (holds w H when) f ≡ false
     none =
         ap (λ (s : Bool). nat_lt (source_of f.id) null_address && ((s && not (is_own_group (pgn_of f.id) || nat_eq (pgn_of f.id) request_group))
         && (is_none (destination_of f.id) || (is_some (destination_of f.id) global_address || (is_some (destination_of f.id) w.address && holds w H when))))) e
-        ∙ nothing (nat_lt (source_of f.id) null_address)
+        ∙ and-false (nat_lt (source_of f.id) null_address)
 
 pub missed_full : (w : Who) (H : List Call) (when : ℕ) (f : FrameRecord) → missed w (At when (Hear f) ∷ H) ≢ missed w H → length (got H) + 16 ≤ length (kept w H)
 missed_full w H when f n = go (is_for_program w (holds w H when) f) (nat_lt (length (kept w H) - length (got H)) 16) refl n
@@ -399,11 +239,11 @@ owed w H now f (transfers m o h k g e) p = absurd (not_both _ o p)
 or_true : (a b : Bool) → a ≡ true → (a || b) ≡ true
 or_true a b e = ap (λ (c : Bool). c || b) e
 
-or_right : (a b : Bool) → b ≡ true → (a || b) ≡ true
+pub or_right : (a b : Bool) → b ≡ true → (a || b) ≡ true
 or_right a b e = grind (arith, e)
 
 -- what is owed stays owed until a frame is taken
-still_owed : (w : Who) (later H : List Call) → frames later ≡ [] → owes_claim w H ≡ true → owes_claim w (later ++ H) ≡ true
+pub still_owed : (w : Who) (later H : List Call) → frames later ≡ [] → owes_claim w H ≡ true → owes_claim w (later ++ H) ≡ true
 still_owed w [] H e o = o
 still_owed w (At when (Hear f) ∷ later) H e o = or_true _ _ (still_owed w later H e o)
 still_owed w (At now (TakeFrame (Some f)) ∷ later) H e o = absurd (let a = ap length e in let b = length_one_more (frames later) f in omega (arith, a, b))
@@ -423,7 +263,7 @@ taken_due w H now f (packs m g h k i e) o = owed_due w H now o (holding_not_lost
 taken_due w H now f (transfers m g h k i e) o = owed_due w H now o (holding_not_lost w H now h)
 
 -- it goes now, or gives way
-claimed_or_not : (w : Who) (H : List Call) (c : Controller) (now : ℕ) (g : FrameRecord) → Is w (At now (TakeFrame (Some g)) ∷ H) c → owes_claim w H ≡ true
+pub claimed_or_not : (w : Who) (H : List Call) (c : Controller) (now : ℕ) (g : FrameRecord) → Is w (At now (TakeFrame (Some g)) ∷ H) c → owes_claim w H ≡ true
     → IsTrue (gives_way w H now) ⊎ (message_of g ≡ claim_from w (claim_address w (address_after w H)))
 claimed_or_not w H c now g is o = go (gives_way w H now) refl
   where
@@ -433,14 +273,6 @@ claimed_or_not w H c now g is o = go (gives_way w H now) refl
     go : (b : Bool) → gives_way w H now ≡ b → IsTrue (gives_way w H now) ⊎ (message_of g ≡ claim_from w (claim_address w (address_after w H)))
     go true e = inl e
     go false e = inr (owed w H now g (frame w H c now g is) (claim_is w H now e ∙ due_now))
-
-pub next_claim : (w : Who) (H later : List Call) (c : Controller) (now : ℕ) (when : ℕ) (f g : FrameRecord)
-    → Is w (At now (TakeFrame (Some g)) ∷ later ++ At when (Hear f) ∷ H) c → frames later ≡ []
-    → IsTrue (calls w H when f)
-    → IsTrue (gives_way w (later ++ At when (Hear f) ∷ H) now)
-    ⊎ (message_of g ≡ claim_from w (claim_address w (address_after w (later ++ At when (Hear f) ∷ H))))
-next_claim w H later c now when f g is none called = claimed_or_not w (later ++ At when (Hear f) ∷ H) c now g is
-    (still_owed w later (At when (Hear f) ∷ H) none (or_right (owes_claim w H) _ called))
 
 answered_before : (w : Who) (later H : List Call) → AreAnswered w (later ++ H) → AreAnswered w H
 answered_before w [] H h = h
@@ -457,12 +289,7 @@ other_plain : (w : Who) (H : List Call) (now : ℕ) (f : FrameRecord) → AreAns
     → (is_claim f ≡ false) × (is_acknowledgment f ≡ false)
 other_plain w H now f right (claims o e) g = absurd (not_both _ (ap not g) (and_parts (claim_due w H now) (not (gives_way w H now)) o).1)
 other_plain w H now f right (acknowledges m o h k e way) g = absurd (not_both _ way g)
-other_plain w H now f right (replies m o h k i e) g = let r = reply_taken w.address f now m e (replied_get w.address (reception w H).replies 0 m (tidy w H).replies i) in (r.0, r.1)
-other_plain w H now f right (sends x o h k i e) g =
-    let own = own_of w H x right i in (message_taken w f now x e own, plain_taken w f now x e own)
-other_plain w H now f right (packs m o h k i e) g =
-    let p = packet_taken f now m (open_broadcast w H) (length (packets H)) (pause H - step H now) e i in (p.0, p.1)
-other_plain w H now f right (transfers m o h k i e) g = let t = transfer_taken w H now f m right e i in (t.claim, t.plain)
+other_plain w H now f right case g = (claims_it w H now f right case, acknowledges_it w H now f right case)
 
 -- and the one after it does, where it gave way
 pub second_claim : (w : Who) (H later between : List Call) (c : Controller) (last now when : ℕ) (f g i : FrameRecord)
@@ -539,10 +366,6 @@ takes_turns w H later between c last second first f g i m is none none_between p
         (ap (λ (b : Bool). if b then suc (turns (later ++ At first (TakeFrame (Some f)) ∷ H)) else 0) q
         ∙ ap suc (same_turns later (At first (TakeFrame (Some f)) ∷ H) none ∙ ap (λ (b : Bool). if b then suc (turns H) else 0) p))
 
-pub or_false : (a b : Bool) → (a || b) ≡ false → (a ≡ false) × (b ≡ false)
-or_false true b e = absurd (cc)
-or_false false b e = (refl, e)
-
 -- behind a reply the next yields, as long as no other frame but claims and acknowledgments is taken
 still_yields : (w : Who) (later H : List Call) → NoneTold takes_other later → yields w H ≡ true → yields w (later ++ H) ≡ true
 still_yields w [] H n e = e
@@ -588,8 +411,8 @@ behind_a_reply w H later c last first f i is t none due_one = go (frame_case w G
     yield : IsTurn (yields w G) (ready w G last) (Some Reply) → ⊥
     yield x =
         let r = ready w G last in
-        let z = or_false _ _ (sym (ap (λ (y : Bool). y && (r.message || (r.packet || r.transfer))) (still_yields w later _ none (yields_then w H first f t))) ∙ x.2) in
-        let y = or_false _ _ z.1 in waits z.0 y.0 y.1
+        let z = or_parts _ _ (sym (ap (λ (y : Bool). y && (r.message || (r.packet || r.transfer))) (still_yields w later _ none (yields_then w H first f t))) ∙ x.2) in
+        let y = or_parts _ _ z.1 in waits z.0 y.0 y.1
 
     go : FrameCase w G last i → (is_transfer i ≡ false) ⊎ IsTrue (is_move w G i)
     go (claims o e) = inl (no_transfer i (claim_single i (claim_taken i last w _ e)))
@@ -668,10 +491,7 @@ still_delayed w (At when (Hear f) ∷ later) H e l o d =
     let z = still_delayed w later H e l o d in
     let y : delayed w (At when (Hear f) ∷ later ++ H) ≡ delayed w (later ++ H) - step (later ++ H) when =
     (λ i. if calls w (later ++ H) when f && not (still_lost w later H l i && still_owed w later H e o i) then w.delay * 600 else delayed w (later ++ H) - step (later ++ H) when)
-    ∙ ap (λ (b : Bool). if b then w.delay * 600 else delayed w (later ++ H) - step (later ++ H) when) (no_more_calls (calls w (later ++ H) when f)) in omega (arith, z, y)
-  where
-    no_more_calls : (b : Bool) → (b && false) ≡ false
-    no_more_calls b = grind arith
+    ∙ ap (λ (b : Bool). if b then w.delay * 600 else delayed w (later ++ H) - step (later ++ H) when) (and-false (calls w (later ++ H) when f)) in omega (arith, z, y)
 still_delayed w (At now (TakeFrame (Some f)) ∷ later) H e l o d = absurd (let a = ap length e in let b = length_one_more (frames later) f in omega (arith, a, b))
 still_delayed w (At now Again ∷ later) H e l o d = omega arith
 still_delayed w (call ∷ later) H e l o d = let z = still_delayed w later H e l o d in omega (arith, z)
@@ -706,7 +526,7 @@ cannot_claim_waits w H later c when now f (Some g) is none away stood l = absurd
 
     undue : claim_due w K now ≡ false
     undue = (λ i. owes_claim w K && (not (still_lost w later G lost_then i) || not_yet (delayed w K) (step K now) (let a = left in omega (arith, a, l)) i))
-        ∙ no_claim_goes (owes_claim w K)
+        ∙ and-false (owes_claim w K)
 
     away_from : holds w K now ≡ true → ⊥
     away_from h = not_both _ (holding_not_lost w K now h) (still_lost w later G lost_then)
@@ -778,24 +598,16 @@ claims_only w H c now f is z = go (frame w H c now f is)
   where
     go : FrameCase w H now f → owes_claim w H ≡ true
     go (claims o e) = (and_parts (owes_claim w H) _ (and_parts (claim_due w H now) (not (gives_way w H now)) o).0).0
-    go (acknowledges m o h g e way) =
-        absurd (not_both _ (due_taken w f now m e (due_get w (due w H) (length (acknowledged H)) m (sound w H is.answered.0).desk.0 g)).0 (eq-eqb (pgn_of f.id) address_claimed_group z))
-    go (replies m o h k g e) =
-        absurd (not_both _ (reply_taken w.address f now m e (replied_get w.address (reception w H).replies 0 m (tidy w H).replies g)).0 (eq-eqb (pgn_of f.id) address_claimed_group z))
-    go (sends x o h k g e) =
-        absurd (not_both _ (message_taken w f now x e (own_of w H x is.answered.0 g)) (eq-eqb (pgn_of f.id) address_claimed_group z))
-    go (packs m o h k g e) =
-        absurd (not_both _ (packet_taken f now m (open_broadcast w H) (length (packets H)) (pause H - step H now) e g).0 (eq-eqb (pgn_of f.id) address_claimed_group z))
-    go (transfers m o h k g e) = absurd (not_both _ (transfer_taken w H now f m is.answered.0 e g).claim (eq-eqb (pgn_of f.id) address_claimed_group z))
+    go c = absurd (not_both _ (claims_it w H now f is.answered.0 c) (eq-eqb (pgn_of f.id) address_claimed_group z))
 
 -- ---- who
 
-held_now : (a : Address) (e : ℕ) → is_held (older (e - e) a) ≡ is_held a
+pub held_now : (a : Address) (e : ℕ) → is_held (older (e - e) a) ≡ is_held a
 held_now NotClaimed e = refl
 held_now (Claimed n) e = ap (nat_le 250000) (omega arith)
 held_now Lost e = refl
 
-holding_is : (w : Who) (x : Address) (a : ℕ) → (status_of w x ≡ status.Holding a ↔ ((a ≡ w.address) × (is_held x ≡ true)))
+pub holding_is : (w : Who) (x : Address) (a : ℕ) → (status_of w x ≡ status.Holding a ↔ ((a ≡ w.address) × (is_held x ≡ true)))
 holding_is w NotClaimed a = (λ e. absurd (cc), λ z. absurd (let y = z.1 in cc))
 holding_is w Lost a = (λ e. absurd (cc), λ z. absurd (let y = z.1 in cc))
 holding_is w (Claimed n) a = go (nat_le 250000 n)
@@ -803,12 +615,6 @@ holding_is w (Claimed n) a = go (nat_le 250000 n)
     go : (b : Bool) → ((if b then status.Holding w.address else status.Claiming w.address) ≡ status.Holding a ↔ ((a ≡ w.address) × (b ≡ true)))
     go true = (λ e. ((let z : a ≡ w.address = cc in z), refl), λ z. ap status.Holding (sym z.0))
     go false = (λ e. absurd (cc), λ z. absurd (let y = z.1 in cc))
-
-pub holding : (w : Who) (H : List Call) (a : ℕ) → (status_after w H ≡ status.Holding a ↔ ((a ≡ w.address) × IsTrue (holds w H (moment H))))
-holding w H a =
-    let h = holding_is w (address_after w H) a in
-    let k = held_now (address_after w H) (moment H) in
-    (λ e. ((h.0 e).0, k ∙ (h.0 e).1), λ z. h.1 (z.0, sym k ∙ z.1))
 
 cannot_is : (w : Who) (x : Address) → (status_of w x ≡ status.Cannot ↔ (is_lost x ≡ true))
 cannot_is w NotClaimed = (λ e. absurd (cc), λ z. absurd (cc))
@@ -825,95 +631,43 @@ cannot w H = cannot_is w (address_after w H)
 -- ---- requests
 
 -- what it asks for, where none like it waits
-abbrev counts : Who → List Call → ℕ → FrameRecord → Option Asked
+abbrev pub counts : Who → List Call → ℕ → FrameRecord → Option Asked
 counts w H when f = fresh w (drop (length (handed H)) (requests w H)) (asked w (holds w H when) f)
 
-request_case : (w : Who) (H : List Call) (when : ℕ) (f : FrameRecord) (o : Option Asked) → counts w H when f ≡ o
+pub request_case : (w : Who) (H : List Call) (when : ℕ) (f : FrameRecord) (o : Option Asked) → counts w H when f ≡ o
     → requests w (At when (Hear f) ∷ H) ≡ with_request w (nat_lt (length (requests w H) - length (handed H)) 16) o (requests w H)
 request_case w H when f o e = ap (λ x. with_request w (nat_lt (length (requests w H) - length (handed H)) 16) x (requests w H)) e
 
-refusal_case : (w : Who) (H : List Call) (when : ℕ) (f : FrameRecord) (o : Option Asked) → counts w H when f ≡ o
+pub refusal_case : (w : Who) (H : List Call) (when : ℕ) (f : FrameRecord) (o : Option Asked) → counts w H when f ≡ o
     → due w (At when (Hear f) ∷ H) ≡ with_refusal w (nat_lt (length (requests w H) - length (handed H)) 16)
     (nat_lt (length (due w H) - length (acknowledged H)) 16 && not (is_refusal_due w (drop (length (acknowledged H)) (due w H)) o)) o (due w H)
 refusal_case w H when f o e = ap (λ x. with_refusal w (nat_lt (length (requests w H) - length (handed H)) 16)
     (nat_lt (length (due w H) - length (acknowledged H)) 16 && not (is_refusal_due w (drop (length (acknowledged H)) (due w H)) x)) x (due w H)) e
 
-counts_one : (w : Who) (H : List Call) (when : ℕ) (f : FrameRecord) (r : Asked) → asked w (holds w H when) f ≡ Some r
+pub counts_one : (w : Who) (H : List Call) (when : ℕ) (f : FrameRecord) (r : Asked) → asked w (holds w H when) f ≡ Some r
     → (is_served w r.group ≡ false) ⊎ (waits_already w H r ≡ false) → counts w H when f ≡ Some r
 counts_one w H when f r e new = ap (fresh w (drop (length (handed H)) (requests w H))) e ∙ fresh_one w (drop (length (handed H)) (requests w H)) r new
 
-has_room : (a b : ℕ) → a < b + 16 → nat_lt (a - b) 16 ≡ true
+pub has_room : (a b : ℕ) → a < b + 16 → nat_lt (a - b) 16 ≡ true
 has_room a b l = lt-ltb _ _ (omega (arith, l))
 
-has_none : (a b : ℕ) → b + 16 ≤ a → nat_lt (a - b) 16 ≡ false
+pub has_none : (a b : ℕ) → b + 16 ≤ a → nat_lt (a - b) 16 ≡ false
 has_none a b l = grind arith
 
-pub is_false : (b : Bool) → (b ≡ true → ⊥) → b ≡ false
-is_false true n = absurd (n refl)
-is_false false n = refl
-
-with_it : (w : Who) (r : Asked) (L : List Asked) (s room : Bool) → is_served w r.group ≡ s → with_request w room (Some r) L ≡ (if s && room then L ++ r ∷ [] else L)
+pub with_it : (w : Who) (r : Asked) (L : List Asked) (s room : Bool) → is_served w r.group ≡ s → with_request w room (Some r) L ≡ (if s && room then L ++ r ∷ [] else L)
 with_it w r L s room e = ap (λ (x : Bool). if x && room then L ++ r ∷ [] else L) e
 
-refused_it : (w : Who) (r : Asked) (A : List Message) (s room place at : Bool) → is_served w r.group ≡ s → nat_eq r.destination w.address ≡ at
+pub refused_it : (w : Who) (r : Asked) (A : List Message) (s room place at : Bool) → is_served w r.group ≡ s → nat_eq r.destination w.address ≡ at
     → with_refusal w room place (Some r) A ≡ (if (at && place) && not (s && room) then A ++ acknowledgment w (if s then Busy else Nack) r ∷ [] else A)
 refused_it w r A s room place at e g =
     ap (λ (x : Bool). if (x && place) && not (is_served w r.group && room) then A ++ acknowledgment w (if is_served w r.group then Busy else Nack) r ∷ [] else A) g
     ∙ ap (λ (x : Bool). if (at && place) && not (x && room) then A ++ acknowledgment w (if x then Busy else Nack) r ∷ [] else A) e
 
-off : (b c : Bool) → (b && not (true && true)) ≡ false
+pub off : (b c : Bool) → (b && not (true && true)) ≡ false
 off b c = grind arith
 
-pub is_handed : (w : Who) (H : List Call) (when : ℕ) (f : FrameRecord) (r : Asked) → asked w (holds w H when) f ≡ Some r → IsTrue (is_served w r.group)
-    → waits_already w H r ≡ false → length (requests w H) < length (handed H) + 16
-    → (requests w (At when (Hear f) ∷ H) ≡ requests w H ++ r ∷ []) × (due w (At when (Hear f) ∷ H) ≡ due w H)
-is_handed w H when f r e served new l =
-    let room = has_room _ _ l in
-    let k = counts_one w H when f r e (inr new) in
-    let place = nat_lt (length (due w H) - length (acknowledged H)) 16 && not (refusal_waits w H r) in (
-      request_case w H when f (Some r) k ∙ (ap (λ (b : Bool). with_request w b (Some r) (requests w H)) room ∙ with_it w r (requests w H) true true served),
-      refusal_case w H when f (Some r) k
-          ∙ (ap (λ (b : Bool). with_refusal w b place (Some r) (due w H)) room
-          ∙ (refused_it w r (due w H) true true place (nat_eq r.destination w.address) served refl
-          ∙ ap (λ (b : Bool). if b then due w H ++ acknowledgment w Busy r ∷ [] else due w H) (off (nat_eq r.destination w.address && place) true))),
-    )
-
--- one that waits already changes nothing
-pub is_again : (w : Who) (H : List Call) (when : ℕ) (f : FrameRecord) (r : Asked) → asked w (holds w H when) f ≡ Some r → IsTrue (is_served w r.group)
-    → IsTrue (waits_already w H r) → (requests w (At when (Hear f) ∷ H) ≡ requests w H) × (due w (At when (Hear f) ∷ H) ≡ due w H)
-is_again w H when f r e served waits =
-    let k : counts w H when f ≡ None = ap (fresh w (drop (length (handed H)) (requests w H))) e
-    ∙ ap (λ (b : Bool). (let o : Option Asked = if b then None else Some r in o)) (and_from (is_served w r.group) (waits_already w H r) served waits) in
-    (request_case w H when f None k, refusal_case w H when f None k)
-
-pub is_refused : (w : Who) (H : List Call) (when : ℕ) (f : FrameRecord) (r : Asked) → asked w (holds w H when) f ≡ Some r → r.destination ≡ w.address
-    → (IsTrue (is_served w r.group) → ⊥) → refusal_waits w H r ≡ false → length (due w H) < length (acknowledged H) + 16
-    → (requests w (At when (Hear f) ∷ H) ≡ requests w H) × (due w (At when (Hear f) ∷ H) ≡ due w H ++ acknowledgment w Nack r ∷ [])
-is_refused w H when f r e at n once l =
-    let s = is_false _ n in
-    let k = counts_one w H when f r e (inl s) in
-    let room = nat_lt (length (requests w H) - length (handed H)) 16 in (
-      request_case w H when f (Some r) k ∙ with_it w r (requests w H) false room s,
-      refusal_case w H when f (Some r) k
-          ∙ ((λ i. with_refusal w room (has_room _ _ l i && not (once i)) (Some r) (due w H))
-          ∙ refused_it w r (due w H) false room true true s (eq-eqb _ _ at)),
-    )
-
-pub is_busy : (w : Who) (H : List Call) (when : ℕ) (f : FrameRecord) (r : Asked) → asked w (holds w H when) f ≡ Some r → r.destination ≡ w.address
-    → IsTrue (is_served w r.group) → waits_already w H r ≡ false → refusal_waits w H r ≡ false → length (handed H) + 16 ≤ length (requests w H)
-    → length (due w H) < length (acknowledged H) + 16
-    → (requests w (At when (Hear f) ∷ H) ≡ requests w H) × (due w (At when (Hear f) ∷ H) ≡ due w H ++ acknowledgment w Busy r ∷ [])
-is_busy w H when f r e at served new once u l =
-    let none = has_none _ _ u in
-    let k = counts_one w H when f r e (inr new) in (
-      request_case w H when f (Some r) k ∙ (ap (λ (b : Bool). with_request w b (Some r) (requests w H)) none ∙ with_it w r (requests w H) true false served),
-      refusal_case w H when f (Some r) k
-          ∙ ((λ i. with_refusal w (none i) (has_room _ _ l i && not (once i)) (Some r) (due w H))
-          ∙ refused_it w r (due w H) true false true true served (eq-eqb _ _ at)),
-    )
-
 -- where it isn't refused
-unrefused : (w : Who) (H : List Call) (when : ℕ) (f : FrameRecord) (r : Asked) → asked w (holds w H when) f ≡ Some r
+pub unrefused : (w : Who) (H : List Call) (when : ℕ) (f : FrameRecord) (r : Asked) → asked w (holds w H when) f ≡ Some r
     → (r.destination ≢ w.address) ⊎ ((nat_lt (length (due w H) - length (acknowledged H)) 16 && not (refusal_waits w H r)) ≡ false)
     → due w (At when (Hear f) ∷ H) ≡ due w H
 unrefused w H when f r e n = go (is_served w r.group && waits_already w H r) refl
@@ -924,30 +678,7 @@ unrefused w H when f r e n = go (is_served w r.group && waits_already w H r) ref
         refusal_case w H when f (Some r) (ap (fresh w (drop (length (handed H)) (requests w H))) e ∙ ap (λ (b : Bool). (let o : Option Asked = if b then None else Some r in o)) g)
         ∙ not_refused w (nat_lt (length (requests w H) - length (handed H)) 16) _ r (due w H) n
 
-pub never_to_all : (w : Who) (H : List Call) (when : ℕ) (f : FrameRecord) (r : Asked) → asked w (holds w H when) f ≡ Some r → r.destination ≢ w.address
-    → due w (At when (Hear f) ∷ H) ≡ due w H
-never_to_all w H when f r e n = unrefused w H when f r e (inl n)
-
--- a refusal that is due already isn't due twice
-pub refused_once : (w : Who) (H : List Call) (when : ℕ) (f : FrameRecord) (r : Asked) → asked w (holds w H when) f ≡ Some r → IsTrue (refusal_waits w H r)
-    → due w (At when (Hear f) ∷ H) ≡ due w H
-refused_once w H when f r e once = unrefused w H when f r e (inr (served_not _ _ (inr (ap not once))))
-
-pub no_request : (w : Who) (H : List Call) (when : ℕ) (f : FrameRecord) → asked w (holds w H when) f ≡ None
-    → (requests w (At when (Hear f) ∷ H) ≡ requests w H) × (due w (At when (Hear f) ∷ H) ≡ due w H)
-no_request w H when f e =
-    let k = ap (fresh w (drop (length (handed H)) (requests w H))) e in (request_case w H when f None k, refusal_case w H when f None k)
-
-pub handed_in_order : (w : Who) (H : List Call) (c : Controller) → Is w H c → IsFront (handed H) (requests w H)
-handed_in_order w H c is = (sound w H is.answered).desk.2
-
-pub all_handed : (w : Who) (H : List Call) (c : Controller) → Is w (TakeRequest None ∷ H) c → handed H ≡ requests w H
-all_handed w H c is = whole (handed H) (requests w H) (sound w H is.answered.0).desk.2 (past_end (requests w H) (length (handed H)) (sym is.answered.1))
-
 -- ---- acknowledgments
-
-pub acknowledged_in_order : (w : Who) (H : List Call) (c : Controller) → Is w H c → IsFront (acknowledged H) (due w H)
-acknowledged_in_order w H c is = (sound w H is.answered).desk.1
 
 pub all_acknowledged : (w : Who) (H : List Call) (now : ℕ) → AreAnswered w H → next_acknowledgment w H now ≡ None
     → IsTrue (gives_way w H now) ⊎ (acknowledged H ≡ due w H)
@@ -969,39 +700,7 @@ acknowledged_first w H c now f is n m = go (frame w H c now f is)
     go (packs x o h k g e) = all_acknowledged w H now is.answered.0 k.0
     go (transfers x o h k g e) = all_acknowledged w H now is.answered.0 k.0
 
-pub is_acknowledged : (w : Who) (H : List Call) (c : Controller) (now : ℕ) (r : Asked) (a : Answer) (result : Result (Unit {0}) Refused)
-    → Is w (At now (Acknowledge r a result) ∷ H) c → IsTrue (holds w H now) → r.destination ≡ w.address → length (due w H) < length (acknowledged H) + 16
-    → result ≡ Ok tt
-is_acknowledged w H c now r a result is held at l =
-    is.answered.1 ∙ acknowledge_is w H now r true true false held (eq-eqb _ _ at) (is_false _ (λ z. (let y = eqb-true _ _ z in omega (arith, y, l))))
-
-pub only_to_address : (w : Who) (H : List Call) (c : Controller) (now : ℕ) (r : Asked) (a : Answer) → Is w (At now (Acknowledge r a (Ok tt)) ∷ H) c
-    → IsTrue (holds w H now) × (r.destination ≡ w.address)
-only_to_address w H c now r a is = go (holds w H now) (nat_eq r.destination w.address) (nat_eq (length (due w H) - length (acknowledged H)) 16) refl refl
-    (is.answered.1 ∙ acknowledge_is w H now r _ _ _ refl refl refl)
-  where
-    go : (x y z : Bool) → holds w H now ≡ x → nat_eq r.destination w.address ≡ y → Ok tt ≡ acknowledges_by x y z → (holds w H now ≡ true) × (r.destination ≡ w.address)
-    go true true z e g k = (e, eqb-true _ _ g)
-    go true false z e g k = absurd (cc)
-    go false y z e g k = absurd (cc)
-
 -- ---- the newest value
-
-pub renewed : (w : Who) (H : List Call) (c : Controller) (d : Draft) (k : ℕ) → Is w (Renew d (Some k) ∷ H) c
-    → (m : Message) × (slice_get (accepted w H) k ≡ Some (k, m)) × IsTrue (is_alike (message_from w d) m) × (reached H ≤ k) × (length (told H) ≤ k)
-    × (slice_get (accepted w (Renew d (Some k) ∷ H)) k ≡ Some (k, message_from w d))
-renewed w H c d k is =
-    let at = (renew_case w H d k is.answered.1).at in
-    let e : slice_get (accepted w H) k ≡ Some at.entry = ap (slice_get (accepted w H)) (let y : k ≡ k - 0 = omega arith in y) ∙ at.is in
-    let n : at.entry.0 ≡ k = (sound w H is.answered.0).numbered k at.entry e in
-    let l = at.from in (
-      at.entry.1,
-      e ∙ ap (λ (i : ℕ). (let z : Option (ℕ × Message) = Some (i, at.entry.1) in z)) n,
-      at.alike,
-      omega (arith, l),
-      omega (arith, l),
-      set_here (accepted w H) k at.entry (k, message_from w d) e,
-    )
 
 pub newest : (w : Who) (H : List Call) (c : Controller) (d : Draft) (k j : ℕ) (m : Message) → Is w (Renew d (Some k) ∷ H) c → k < j
     → slice_get (accepted w H) j ≡ Some (j, m) → is_alike (message_from w d) m ≡ false
@@ -1009,16 +708,6 @@ newest w H c d k j m is l e =
     let r = renew_case w H d k is.answered.1 in
     let f = r.at.from in
     none_past (message_from w d) _ j (accepted w H) (Some k) (j, m) r.is e (omega (arith, f, l)) (λ i z. let y : k ≡ i = cc in omega (arith, y, l))
-
-pub others_stay : (w : Who) (H : List Call) (d : Draft) (k j : ℕ) → j ≢ k → slice_get (accepted w (Renew d (Some k) ∷ H)) j ≡ slice_get (accepted w H) j
-others_stay w H d k j n = set_other (accepted w H) k j (k, message_from w d) n
-
-pub none_waits_alike : (w : Who) (H : List Call) (c : Controller) (d : Draft) (j : ℕ) (m : Message) → Is w (Renew d None ∷ H) c → IsTrue (can_send w d)
-    → reached H ≤ j → length (told H) ≤ j → slice_get (accepted w H) j ≡ Some (j, m) → is_alike (message_from w d) m ≡ false
-none_waits_alike w H c d j m is can s t e =
-    none_past (message_from w d) _ j (accepted w H) None (j, m)
-    (sym (is.answered.1 ∙ ap (λ (b : Bool). if b then latest (message_from w d) (max (reached H) (length (told H))) 0 (accepted w H) None else None) can))
-    e (omega (arith, s, t)) (λ i z. absurd (cc))
 
 -- ---- quiet till due
 
@@ -1106,7 +795,7 @@ nothing_taken w H now l m q =
     n = not_due w H now _ l m q refl
 
     o : (may_claim w H (delayed w H) ≡ false) × ((is_held (address_after w H) && is_waiting w H) ≡ false)
-    o = or_false (may_claim w H (delayed w H)) _ n
+    o = or_parts (may_claim w H (delayed w H)) _ n
 
     may_now : owes_claim w H ≡ true → is_lost (address_after w H) ≡ false → ⊥
     may_now a b = not_both _ o.0 (λ i. a i && (not (b i) || nat_eq (delayed w H) 0))
@@ -1134,8 +823,8 @@ nothing_taken w H now l m q =
     held : (b : Bool) → is_held (address_after w H) ≡ b → (holds w H now ≡ false) ⊎ ((next_acknowledgment w H now ≡ None) × (other w H now ≡ None))
     held false z = inl (not_yet _ _ refl refl z)
     held true z =
-        let v = or_false _ _ (sym (ap (λ (b : Bool). b && is_waiting w H) z) ∙ o.1) in
-        let u = or_false _ _ v.1 in
+        let v = or_parts _ _ (sym (ap (λ (b : Bool). b && is_waiting w H) z) ∙ o.1) in
+        let u = or_parts _ _ v.1 in
         inr (
           none_due_goes w H now (none_at (due w H) (length (acknowledged H)) u.0),
           other_none w H now (record {
@@ -1160,10 +849,7 @@ ticks w H now later l m = go (address_after w H)
     go Lost = refl
 
 there : {T : Type 0} (L : List T) (n : ℕ) → slice_get L n ≡ None → nat_lt n (length L) ≡ false
-there L n e = not_lt n (length L) (past_end L n e)
-  where
-    not_lt : (i k : ℕ) → k ≤ i → nat_lt i k ≡ false
-    not_lt i k f = grind arith
+there L n e = le-ltb n (length L) (past_end L n e)
 
 held_at_later : (a : Address) (m : ℕ) → held_at a m ≡ Some m → ⊥
 held_at_later NotClaimed m e = absurd (cc)
@@ -1238,7 +924,7 @@ due_then w H c now t None is e l held m z =
 
 -- ---- news
 
-news_case : (a b : Bool) (d : Option ℕ) (c : Bool) (n : News) → Some n ≡ news_of a b d c
+pub news_case : (a b : Bool) (d : Option ℕ) (c : Bool) (n : News) → Some n ≡ news_of a b d c
     → ((n ≡ AddressLost) × (a ≡ true)) ⊎ ((n ≡ AnotherAtAddress) × (b ≡ true)) ⊎ ((address : ℕ) × (n ≡ NameDoubled address) × (d ≡ Some address)) ⊎ ((n ≡ MessagesMissed) × (c ≡ true))
 news_case true b d c n e = inl ((let z : n ≡ AddressLost = cc in z), refl)
 news_case false true d c n e = inr (inl ((let z : n ≡ AnotherAtAddress = cc in z), refl))
@@ -1246,34 +932,17 @@ news_case false false (Some a) c n e = inr (inr (inl (a, (let z : n ≡ NameDoub
 news_case false false None true n e = inr (inr (inr ((let z : n ≡ MessagesMissed = cc in z), refl)))
 news_case false false None false n e = absurd (cc)
 
-pub news_told : (w : Who) (H : List Call) (c : Controller) (n : News) → Is w (TakeNews (Some n) ∷ H) c
-    → ((n ≡ AddressLost) × IsTrue (lost_news w H)) ⊎ ((n ≡ AnotherAtAddress) × IsTrue (another_news w H))
-    ⊎ ((address : ℕ) × (n ≡ NameDoubled address) × (doubled_news w H ≡ Some address)) ⊎ ((n ≡ MessagesMissed) × IsTrue (missed_news w H || unheard_news w H))
-news_told w H c n is = news_case _ _ _ _ n is.answered.1
-
-no_news : (a b : Bool) (d : Option ℕ) (c : Bool) → None ≡ news_of a b d c → (a ≡ false) × (b ≡ false) × (d ≡ None) × (c ≡ false)
+pub no_news : (a b : Bool) (d : Option ℕ) (c : Bool) → None ≡ news_of a b d c → (a ≡ false) × (b ≡ false) × (d ≡ None) × (c ≡ false)
 no_news true b d c e = absurd (cc)
 no_news false true d c e = absurd (cc)
 no_news false false (Some a) c e = absurd (cc)
 no_news false false None true e = absurd (cc)
 no_news false false None false e = (refl, refl, refl, refl)
 
-pub none_told : (w : Who) (H : List Call) (c : Controller) → Is w (TakeNews None ∷ H) c → (lost_news w H ≡ false) × (another_news w H ≡ false) × (doubled_news w H ≡ None) × ((missed_news w H || unheard_news w H) ≡ false)
-none_told w H c is = no_news _ _ _ _ is.answered.1
-
 -- another of its NAME
 
-double_is : (w : Who) (c : Claim) → nat_eq c.name w.name ≡ true → (double w (Some c) ≡ Some c.address) × (is_double w (Some c) ≡ true)
+pub double_is : (w : Who) (c : Claim) → nat_eq c.name w.name ≡ true → (double w (Some c) ≡ Some c.address) × (is_double w (Some c) ≡ true)
 double_is w c e = (ap (λ (b : Bool). if b then Some c.address else None) e, ap (λ (b : Bool). Rattle.std.specs.Option.is_some (if b then Some c.address else None)) e)
-
-pub double_heard : (w : Who) (H : List Call) (now : ℕ) (f : FrameRecord) (a : ℕ) → claim_of f ≡ Some (record { name = w.name; address = a })
-    → (doubled_news w (At now (Hear f) ∷ H) ≡ Some a) × (told_claims w (At now (Hear f) ∷ H) ≡ told_claims w H)
-double_heard w H now f a e =
-    let c : Claim = record { name = w.name; address = a } in
-    let d = double_is w c (eq-eqb w.name w.name refl) in (
-      (λ i. option_or (double w (e i)) (doubled_news w H)) ∙ ap (λ (o : Option ℕ). option_or o (doubled_news w H)) d.0,
-      (λ i. if is_double w (e i) then told_claims w H else told_claims w H ++ f ∷ []) ∙ ap (λ (b : Bool). if b then told_claims w H else told_claims w H ++ f ∷ []) d.1,
-    )
 
 double_later : (w : Who) (a : ℕ) (H : List Call) (call : Call) → HasDouble w a H → HasDouble w a (call ∷ H)
 double_later w a H call h = record { later = call ∷ h.later; at = h.at; claim = h.claim; earlier = h.earlier; is = ap (λ (G : List Call). call ∷ G) h.is; of_it = h.of_it }

@@ -1,3 +1,6 @@
+-- facts of tests, and the names that proofs here cite
+pub mod Tests
+pub mod Common
 -- lists from which the first is taken
 pub mod QueueLemmas
 -- frames that are made, and the lane of broadcasts
@@ -11,25 +14,24 @@ pub mod HearingLemmas
 -- transfers: between which addresses the open one goes, and the frames that it makes
 pub mod PortLemmas
 pub mod SaidLemmas
--- what `ask` answers
-pub mod AskCases
+-- what the calls answer that accept something
+pub mod AnswerCases
 -- messages that were withdrawn
 pub mod WithdrawLemmas
 -- what every answered history says
 pub mod SoundLemmas
+-- what kind a frame is that is taken
+pub mod KindLemmas
 -- what every answered history says of broadcasts
 pub mod LaneLemmas
 -- the open request
 pub mod AskLemmas
 -- a call more
 pub mod CallLemmas
--- what a call does to the open request
 -- the laws of requests
 pub mod AskLaws
 -- when a tick does something
 pub mod TickLemmas
--- a call of `ask` more
-pub mod AskCalls
 -- when frames of packets are due
 pub mod DueLemmas
 -- the laws

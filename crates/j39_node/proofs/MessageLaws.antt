@@ -1,24 +1,11 @@
 -- That every message of one frame ends.
-use Rattle.std.proofs.Common.{slice_set, ◌≡◌, ◌⊎◌, ℕ, zero, suc, ◌+◌, ◌<◌, ◌≤◌, List, [], ◌∷◌, ◌++◌, length, Option, Some, None, Ok, Bool, true, false, ◌||◌, if◌then◌else◌, nat_lt, refl, ap, ◌∙◌, arith, inl, inr, IsTrue, not}
-use Rattle.std.specs.List.{slice_get}
-use Rattle.std.proofs.lemmas.List.{length-set}
-use Rattle.j39_node.specs.declared.controller.Controller.{Controller}
-use Rattle.j39_node.specs.declared.kinds.Ending.{Ending}
-use Rattle.j39_node.specs.declared.kinds.Ending.TheVariants.{Done, Withdrawn}
-use Rattle.j39_node.specs.History.{reached, Who, Message, Draft, Call, accepted, address_after, holds, is_acknowledgment, is_claim, is_held, is_lost, is_session, message_from, moment, request_for, step, told, marks, past, blank, is_blank}
-use Rattle.j39_node.specs.History.Call.{At, Renew, Withdraw}
-use Rattle.j39_node.specs.History.Act.{Ask, Hear, Send, TakeFrame, Again}
-use Rattle.j39_node.specs.Is.{AreAnswered, Is, IsAnswered, end_of, next_ended, next_frame, ending_of}
-use Rattle.j39_node.specs.Prompt.{IsPrompt, waited_in, claims_anew}
-use Rattle.j39_node.specs.Since.{passed_in}
-use Rattle.j39_node.proofs.AskCases.{AskCase, ask_case}
-use Rattle.j39_node.proofs.AskCases.AskCase.{homeless, unfit, busy, asks}
+use Rattle.j39_node.proofs.Common.{[], if◌then◌else◌, ◌++◌, ◌+◌, ◌<◌, ◌||◌, ◌∙◌, ◌∷◌, ◌≡◌, ◌≤◌, ◌⊎◌, accepted, address_after, Again, ap, AreAnswered, arith, Ask, At, blank, Bool, Call, claims_anew, Controller, Done, Draft, end_of, Ending, ending_of, false, Hear, holds, inl, inr, Is, is_acknowledgment, is_blank, is_claim, is_held, is_lost, is_session, IsAnswered, IsPrompt, length, length-set, List, marks, Message, message_from, moment, nat_lt, next_ended, next_frame, None, not, Ok, Option, passed_in, past, reached, refl, Renew, request_for, Send, slice_get, slice_set, Some, step, suc, TakeFrame, told, true, waited_in, Who, Withdraw, Withdrawn, zero, ℕ, lt-ltb}
 use Rattle.j39_node.proofs.LawLemmas.{past_end}
 use Rattle.j39_node.proofs.PromptLaws.{answered_from, keeps_heard, keeps_taken, lost_heard, lost_taken, waited_last}
 use Rattle.j39_node.proofs.QueueLemmas.{length_one_more}
-use Rattle.j39_node.proofs.SoundLemmas.{SendCase, held_older, none_next, lost_older, send_case, sound}
-use Rattle.j39_node.proofs.SoundLemmas.SendCase.{no_address, bad_value, full, accepts}
+use Rattle.j39_node.proofs.SoundLemmas.{held_older, none_next, lost_older, sound}
 use Rattle.j39_node.proofs.WithdrawLemmas.{past_more}
+use Rattle.j39_node.proofs.AnswerCases.{send_accepts, ask_accepts}
 
 -- where no frame is taken from an address that is held, no message waits
 none_waits : (w : Who) (H : List Call) (now : ℕ) → holds w H now ≡ true → (let none : Option (ℕ × Message) = None in none) ≡ next_frame w H now
@@ -125,80 +112,32 @@ told_next w H k a l t h =
           ∙ (y.1 ∙ ap (λ (n : ℕ). (let z : Option (ℕ × Ending) = Some (n, y.0) in z)) ((sound w H a).numbered (length (told H)) x.0 x.1)),
     )
   where
-    less : (m n : ℕ) → m < n → nat_lt m n ≡ true
-    less m n z = grind arith
-
     go : (k < reached H) ⊎ (is_lost (address_after w H) ≡ true)
         → (nat_lt (length (told H)) (reached H) ≡ true) ⊎ (is_lost (address_after w H) ≡ true)
-    go (inl z) = inl (less _ _ (omega (arith, z, t)))
+    go (inl z) = inl (lt-ltb _ _ (omega (arith, z, t)))
     go (inr z) = inr z
 
 -- ---- what was accepted
-
-sent_so : (w : Who) (H : List Call) (now k : ℕ) (d : Draft) → SendCase w H now d (Ok k)
-    → (is_held (address_after w (At now (Send d (Ok k)) ∷ H)) ≡ true) × (k < length (accepted w (At now (Send d (Ok k)) ∷ H)))
-sent_so w H now k d (no_address a e) = absurd (cc)
-sent_so w H now k d (bad_value a b e) = absurd (cc)
-sent_so w H now k d (full a b f e) = absurd (cc)
-sent_so w H now k d (accepts a b f e) =
-    let z : k ≡ length (accepted w H) = cc in
-    let y = length_one_more (accepted w H) (k, message_from w d) in (a, omega (arith, z, y))
-
-asked_so : (w : Who) (H : List Call) (now group to k : ℕ) → AskCase w H now group to (Ok k)
-    → (is_held (address_after w (At now (Ask group to (Ok k)) ∷ H)) ≡ true) × (k < length (accepted w (At now (Ask group to (Ok k)) ∷ H)))
-asked_so w H now group to k (homeless a e) = absurd (cc)
-asked_so w H now group to k (unfit a b e) = absurd (cc)
-asked_so w H now group to k (busy a b f e) = absurd (cc)
-asked_so w H now group to k (asks a b f e) =
-    let z : k ≡ length (accepted w H) = cc in
-    let y = length_one_more (accepted w H) (k, message_from w (request_for group to)) in (a, omega (arith, z, y))
 
 module _ (w : Who) (later B : List Call) (c : Controller) (g k : ℕ) (is : Is w (later ++ B) c)
     (fits : (is_held (address_after w B) ≡ true) × (k < length (accepted w B))) (prompt : IsPrompt g later B) (l : g < passed_in later B) where
   here : Stands w B g k later
   here = stands w B g k later is.answered prompt (record { among = fits.1; course = waits fits.0 refl })
 
-  ends_taken : (k < reached (later ++ B)) ⊎ (is_lost (address_after w (later ++ B)) ≡ true)
+  pub ends_taken : (k < reached (later ++ B)) ⊎ (is_lost (address_after w (later ++ B)) ≡ true)
   ends_taken = ends_so w B g k later here l (waited_last g later B prompt)
 
-  ends_told : length (told (later ++ B)) ≤ k → (e : Ending) × (next_ended w (later ++ B) ≡ Some (length (told (later ++ B)), e))
+  pub ends_told : length (told (later ++ B)) ≤ k → (e : Ending) × (next_ended w (later ++ B) ≡ Some (length (told (later ++ B)), e))
   ends_told t = told_next w (later ++ B) k is.answered here.among t ends_taken
 
-sent_fits : (w : Who) (later earlier : List Call) (c : Controller) (now k : ℕ) (d : Draft) → Is w (later ++ At now (Send d (Ok k)) ∷ earlier) c
+pub sent_fits : (w : Who) (later earlier : List Call) (c : Controller) (now k : ℕ) (d : Draft) → Is w (later ++ At now (Send d (Ok k)) ∷ earlier) c
     → (is_held (address_after w (At now (Send d (Ok k)) ∷ earlier)) ≡ true) × (k < length (accepted w (At now (Send d (Ok k)) ∷ earlier)))
 sent_fits w later earlier c now k d is =
-    sent_so w earlier now k d (send_case w earlier now d (Ok k) ((answered_from w later (At now (Send d (Ok k)) ∷ earlier) is.answered).1))
+    let x = send_accepts w earlier now k d (answered_from w later (At now (Send d (Ok k)) ∷ earlier) is.answered).1 in
+    let z = x.3 in let y = length_one_more (accepted w earlier) (k, message_from w d) in (x.0, omega (arith, z, y))
 
-asked_fits : (w : Who) (later earlier : List Call) (c : Controller) (now group to k : ℕ) → Is w (later ++ At now (Ask group to (Ok k)) ∷ earlier) c
+pub asked_fits : (w : Who) (later earlier : List Call) (c : Controller) (now group to k : ℕ) → Is w (later ++ At now (Ask group to (Ok k)) ∷ earlier) c
     → (is_held (address_after w (At now (Ask group to (Ok k)) ∷ earlier)) ≡ true) × (k < length (accepted w (At now (Ask group to (Ok k)) ∷ earlier)))
 asked_fits w later earlier c now group to k is =
-    asked_so w earlier now group to k
-    (ask_case w earlier now group to (Ok k) ((answered_from w later (At now (Ask group to (Ok k)) ∷ earlier) is.answered).1))
-
-pub sent_ends : (w : Who) (later earlier : List Call) (c : Controller) (g now k : ℕ) (d : Draft) → Is w (later ++ At now (Send d (Ok k)) ∷ earlier) c
-    → IsPrompt g later (At now (Send d (Ok k)) ∷ earlier) → g < passed_in later (At now (Send d (Ok k)) ∷ earlier)
-    → (k < reached (later ++ At now (Send d (Ok k)) ∷ earlier)) ⊎ IsTrue (is_lost (address_after w (later ++ At now (Send d (Ok k)) ∷ earlier)))
-sent_ends w later earlier c g now k d is prompt l =
-    ends_taken w later (At now (Send d (Ok k)) ∷ earlier) c g k is (sent_fits w later earlier c now k d is) prompt l
-
-pub asked_ends : (w : Who) (later earlier : List Call) (c : Controller) (g now group to k : ℕ)
-    → Is w (later ++ At now (Ask group to (Ok k)) ∷ earlier) c → IsPrompt g later (At now (Ask group to (Ok k)) ∷ earlier)
-    → g < passed_in later (At now (Ask group to (Ok k)) ∷ earlier)
-    → (k < reached (later ++ At now (Ask group to (Ok k)) ∷ earlier))
-    ⊎ IsTrue (is_lost (address_after w (later ++ At now (Ask group to (Ok k)) ∷ earlier)))
-asked_ends w later earlier c g now group to k is prompt l =
-    ends_taken w later (At now (Ask group to (Ok k)) ∷ earlier) c g k is (asked_fits w later earlier c now group to k is) prompt l
-
-pub sent_told : (w : Who) (later earlier : List Call) (c : Controller) (g now k : ℕ) (d : Draft) → Is w (later ++ At now (Send d (Ok k)) ∷ earlier) c
-    → IsPrompt g later (At now (Send d (Ok k)) ∷ earlier) → g < passed_in later (At now (Send d (Ok k)) ∷ earlier)
-    → length (told (later ++ At now (Send d (Ok k)) ∷ earlier)) ≤ k
-    → (e : Ending) × (next_ended w (later ++ At now (Send d (Ok k)) ∷ earlier) ≡ Some (length (told (later ++ At now (Send d (Ok k)) ∷ earlier)), e))
-sent_told w later earlier c g now k d is prompt l =
-    ends_told w later (At now (Send d (Ok k)) ∷ earlier) c g k is (sent_fits w later earlier c now k d is) prompt l
-
-pub asked_told : (w : Who) (later earlier : List Call) (c : Controller) (g now group to k : ℕ)
-    → Is w (later ++ At now (Ask group to (Ok k)) ∷ earlier) c → IsPrompt g later (At now (Ask group to (Ok k)) ∷ earlier)
-    → g < passed_in later (At now (Ask group to (Ok k)) ∷ earlier) → length (told (later ++ At now (Ask group to (Ok k)) ∷ earlier)) ≤ k
-    → (e : Ending) × (next_ended w (later ++ At now (Ask group to (Ok k)) ∷ earlier) ≡ Some (length (told (later ++ At now (Ask group to (Ok k)) ∷ earlier)), e))
-asked_told w later earlier c g now group to k is prompt l =
-    ends_told w later (At now (Ask group to (Ok k)) ∷ earlier) c g k is (asked_fits w later earlier c now group to k is) prompt l
+    let x = ask_accepts w earlier now group to k (answered_from w later (At now (Ask group to (Ok k)) ∷ earlier) is.answered).1 in
+    let z = x.3 in let y = length_one_more (accepted w earlier) (k, message_from w (request_for group to)) in (x.0, omega (arith, z, y))

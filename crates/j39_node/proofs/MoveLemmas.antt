@@ -1,29 +1,15 @@
 -- What every answered history says of transfers.
-use Rattle.std.proofs.Common.{◌≡◌, ◌⊎◌, ℕ, suc, ◌-◌, List, [], ◌∷◌, ◌++◌, length, Option, Some, None, Ok, Bool, true, false, ◌||◌, ◌&&◌, if◌then◌else◌, refl, sym, ap, ◌∙◌, inl, inr, arith, subst}
-use Rattle.std.specs.List.{slice_get}
-use Rattle.std.specs.Option.{option_map}
-use Rattle.std.proofs.lemmas.Bool.{or_parts, cond_both}
-use Rattle.j39_frame.specs.Frame.{FrameRecord}
-use Rattle.j39_transport.specs.Message.{MessageRecord}
-use Rattle.j39_transport.specs.Sending.{Tick, aborted, is_running, new_sender, send_step}
-use Rattle.j39_transport.specs.Signals.{Signal, Abort}
-use Rattle.j39_node.specs.declared.kinds.TransferEnding.{TransferEnding}
-use Rattle.j39_node.specs.declared.turn.Turn.TheVariants.{Move}
-use Rattle.j39_node.specs.History.{reached, Who, Message, Call, accepted, acknowledged, address_after, broadcast_from, due, holds, is_lost, message_of, open_broadcast, packets, pause, step}
-use Rattle.j39_node.specs.History.Call.{At, TakeTransferEnded}
-use Rattle.j39_node.specs.History.Act.{Hear, TakeFrame, Transfer}
-use Rattle.j39_node.specs.Is.{AreAnswered, next_packet, next_acknowledgment}
-use Rattle.j39_node.specs.Transfers.{is_resting, Running, begun, clock_at, gives_up, hears, hears_if, is_engaged, is_replaced, is_spent, listens, open_transfer, says, sends, sends_if, signal_by, told_transfers, transfer_by, transfer_end, transfers as all_transfers}
-use Rattle.j39_node.specs.Reception.{holder, is_move}
-use Rattle.j39_node.specs.Moves.{Happened, begins, moves}
+use Rattle.j39_node.proofs.Common.{[], if◌then◌else◌, ◌&&◌, ◌++◌, ◌||◌, ◌∙◌, ◌∷◌, ◌≡◌, ◌⊎◌, Abort, aborted, accepted, address_after, all_transfers, ap, AreAnswered, arith, At, begun, Bool, broadcast_from, Call, clock_at, cond_both, false, FrameRecord, gives_up, Happened, Hear, hears, hears_if, holder, holds, inl, inr, is_engaged, is_lost, is_move, is_replaced, is_resting, is_running, is_spent, length, List, listens, Message, message_of, MessageRecord, Move, moves, new_sender, next_acknowledgment, next_packet, None, Ok, open_transfer, Option, option_map, or_parts, reached, refl, Running, says, send_step, sends, sends_if, Signal, signal_by, slice_get, Some, subst, suc, sym, TakeFrame, TakeTransferEnded, told_transfers, Transfer, transfer_by, transfer_end, TransferEnding, true, Who, ℕ, answer_to_transfer, not_both}
+use Rattle.j39_transport.specs.Sending.{Tick}
+use Rattle.j39_node.specs.Moves.{begins}
 use Rattle.j39_node.proofs.QueueLemmas.{length_one_more}
-use Rattle.j39_node.proofs.SoundLemmas.{nothing_else, turned, FrameCase, frame_case, claim_taken, claim_single, due_get, due_taken, no_move, no_transfer, own_of, packet_session, packet_taken, reply_no_move, single_taken, sound}
-use Rattle.j39_node.proofs.SoundLemmas.FrameCase.{claims, acknowledges, replies, sends as sends_one, packs, transfers}
-use Rattle.j39_node.proofs.PortLemmas.{TransferCase, transfer_case, hears_same, sends_same}
-use Rattle.j39_node.proofs.PortLemmas.TransferCase.{homeless, unfit, busy, opens}
+use Rattle.j39_node.proofs.SoundLemmas.{nothing_else, turned, FrameCase, frame_case}
+use Rattle.j39_node.proofs.SoundLemmas.FrameCase.{transfers}
+use Rattle.j39_node.proofs.PortLemmas.{hears_same, sends_same}
 use Rattle.j39_node.proofs.MoveSteps.{Moved, moved_given_up, moved_heard, moved_ticked}
 use Rattle.j39_node.proofs.LaneLemmas.{get_last}
-use Rattle.j39_node.proofs.LawLemmas.{not_both}
+use Rattle.j39_node.proofs.AnswerCases.{transfer_accepts}
+use Rattle.j39_node.proofs.KindLemmas.{moves_it}
 
 -- ---- a frame of the open transfer is taken
 
@@ -59,17 +45,10 @@ said_by w H now f m (Some t) e g k a b c d = go (signal_by t (clock_at H now)) r
     }
 
 pub sent_case : (w : Who) (H : List Call) (now : ℕ) (f : FrameRecord) → AreAnswered w H → FrameCase w H now f → is_move w H f ≡ true → Sent w H now f
-sent_case w H now f right (claims o e) p = absurd (not_both _ (no_move w H f (no_transfer f (claim_single f (claim_taken f now w _ e)))) p)
-sent_case w H now f right (acknowledges m o k g e way) p =
-    absurd (not_both _ (no_move w H f (no_transfer f (due_taken w f now m e (due_get w (due w H) (length (acknowledged H)) m (sound w H right).desk.0 g)).2)) p)
-sent_case w H now f right (replies m o k n g e) p = absurd (not_both _ (reply_no_move w H f m g (ap (λ (y : ℕ × Message). y.1) e)) p)
-sent_case w H now f right (sends_one x o k n g e) p =
-    absurd (not_both _ (no_move w H f (no_transfer f (single_taken w f now x e (own_of w H x right g)))) p)
-sent_case w H now f right (packs m o k n g e) p =
-    absurd (not_both _ (no_move w H f (packet_session f (packet_taken f now m (open_broadcast w H) (length (packets H)) (pause H - step H now) e g).2).1) p)
 sent_case w H now f right (transfers m o k n g e) p =
     let r = nothing_else w H now (turned w H now (Some Move) n.1).0 in
     said_by w H now f m (open_transfer w H) refl g (ap (λ (y : ℕ × Message). y.1) e) k n.0 r.0 r.1
+sent_case w H now f right case p = absurd (not_both _ (moves_it w H now f right case) p)
 
 -- ---- what was taken of the open transfer
 
@@ -167,16 +146,14 @@ not_engaged : (o : Option Running) (n told : ℕ) (all : List (ℕ × MessageRec
 not_engaged None n told all h e = h
 not_engaged (Some t) n told all h e = absurd (cc)
 
-last_opens : (w : Who) (H : List Call) (now group to k : ℕ) (bytes : List ℕ) → TransferCase w H now group to bytes (Ok k)
+last_opens : (w : Who) (H : List Call) (now group to k : ℕ) (bytes : List ℕ) → Ok k ≡ answer_to_transfer w H now group to bytes
     → LastIf (length (told_transfers H)) (all_transfers w H) (open_transfer w H)
     → Last (length (told_transfers H)) (all_transfers w H ++ (to, broadcast_from w group bytes) ∷ []) (begun k (broadcast_from w group bytes) to)
 unfolding new_sender
-last_opens w H now group to k bytes (homeless a e) h = absurd (cc)
-last_opens w H now group to k bytes (unfit a b e) h = absurd (cc)
-last_opens w H now group to k bytes (busy a b f e) h = absurd (cc)
-last_opens w H now group to k bytes (opens a b f e) h =
-    let n : k ≡ length (all_transfers w H) = cc in
-    let t = not_engaged (open_transfer w H) (length (all_transfers w H)) (length (told_transfers H)) (all_transfers w H) h (or_parts (is_engaged (open_transfer w H) (length (all_transfers w H))) (is_resting w H now group to) f).0 in
+last_opens w H now group to k bytes e h =
+    let x = transfer_accepts w H now group to k bytes e in
+    let n = x.3 in
+    let t = not_engaged (open_transfer w H) (length (all_transfers w H)) (length (told_transfers H)) (all_transfers w H) h (or_parts (is_engaged (open_transfer w H) (length (all_transfers w H))) (is_resting w H now group to) x.2).0 in
     record {
       token = n ∙ sym t;
       last = ap (slice_get (all_transfers w H ++ (to, broadcast_from w group bytes) ∷ [])) n ∙ get_last (all_transfers w H) (to, broadcast_from w group bytes);
@@ -194,7 +171,7 @@ last_one w (At when (Hear f) ∷ H) e =
     last_hears _ _ (is_lost (address_after w (At when (Hear f) ∷ H))) (λ a. is_replaced (holder w H a) (holder w (At when (Hear f) ∷ H) a)) f (clock_at H when) (open_transfer w H)
     (last_one w H e.0)
 last_one w (At now (TakeFrame (Some f)) ∷ H) e = last_sends _ _ (is_move w H f) (clock_at H now) (open_transfer w H) (last_one w H e.0)
-last_one w (At now (Transfer group to bytes (Ok k)) ∷ H) e = last_opens w H now group to k bytes (transfer_case w H now group to bytes (Ok k) e.1) (last_one w H e.0)
+last_one w (At now (Transfer group to bytes (Ok k)) ∷ H) e = last_opens w H now group to k bytes e.1 (last_one w H e.0)
 last_one w (TakeTransferEnded (Some x) ∷ H) e =
     length_one_more (told_transfers H) x ∙ last_closes (length (told_transfers H)) (all_transfers w H) (open_transfer w H) (is_lost (address_after w H)) x (last_one w H e.0) e.1
 last_one w (call ∷ H) e = last_one w H e.0

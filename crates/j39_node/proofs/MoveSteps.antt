@@ -1,16 +1,6 @@
 -- What a step makes of a sender of transfers.
-use Rattle.std.proofs.Common.{◌≡◌, ◌≢◌, ◌⊎◌, ℕ, zero, suc, ◌+◌, ◌<◌, ◌≤◌, List, [], ◌∷◌, ◌++◌, length, Option, Some, None, Bool, true, false, ◌&&◌, ◌==◌, nat_lt, nat_le, max, refl, sym, ap, ◌∙◌, inl, inr, arith, eqb-true}
-use Rattle.std.specs.List.{slice_get}
-use Rattle.std.proofs.lemmas.Bool.{cases_eq, cases_lt, cond_both, eqb-false}
-use Rattle.j39_frame.specs.Frame.{FrameRecord}
-use Rattle.j39_transport.specs.Cutting.{packet_data}
-use Rattle.j39_transport.specs.Message.{packets_of}
-use Rattle.j39_transport.specs.Protocol.{timeout}
-use Rattle.j39_transport.specs.Sending.{SendState, SenderRecord, SendResult, Idle, Waiting, Sending, Done, Failed, Heard, Tick, aborted, acknowledged, cleared, hears, is_running, is_waiting, may_name, request_of, send_step, sends_packet, ticks_in}
-use Rattle.j39_transport.specs.Signals.{Signal, BroadcastAnnounce, RequestToSend, ClearToSend, Acknowledgment, Abort, Packet, said_between}
-use Rattle.j39_node.specs.History.{Message}
-use Rattle.j39_node.specs.Transfers.{move, says}
-use Rattle.j39_node.specs.Moves.{IsAmong, packet_move}
+use Rattle.j39_node.proofs.Common.{[], ◌&&◌, ◌++◌, ◌+◌, ◌<◌, ◌==◌, ◌∙◌, ◌∷◌, ◌≡◌, ◌≢◌, ◌≤◌, ◌⊎◌, Abort, aborted, Acknowledgment, ap, arith, Bool, BroadcastAnnounce, cases_eq, cases_lt, cleared, ClearToSend, cond_both, eqb-false, eqb-true, Failed, false, FrameRecord, Idle, inl, inr, is_running, is_waiting, IsAmong, length, List, max, may_name, Message, move, nat_le, nat_lt, None, Option, Packet, packet_data, packet_move, packets_of, refl, request_of, RequestToSend, said_between, says, send_step, SenderRecord, Sending, SendResult, sends_packet, SendState, Signal, slice_get, Some, suc, sym, ticks_in, timeout, true, Waiting, zero, ℕ, leb-true}
+use Rattle.j39_transport.specs.Sending.{Done, Heard, Tick, acknowledged, hears}
 
 -- ---- when it is done
 
@@ -162,9 +152,6 @@ three true true false e = absurd (cc)
 three true false c e = absurd (cc)
 three false b c e = absurd (cc)
 
-le_is : (k n : ℕ) → nat_le k n ≡ true → k ≤ n
-le_is k n e = grind arith
-
 not_zero : (n : ℕ) → (n == 0) ≡ false → 1 ≤ n
 not_zero zero e = absurd (cc)
 not_zero (suc n) e = omega arith
@@ -181,7 +168,7 @@ moved_hears s (Some (ClearToSend count p pgn)) now xs h =
     (λ u. cond_both (count == 0) _ _ (λ r. Moved r xs) (λ v. record { state = waiting_some _ _ xs s.state h.state u; taken = h.taken })
     (λ v. cond_both (may_name s p) _ _ (λ r. Moved r xs)
     (λ x. (let z = three (nat_le 1 p) (nat_le p (packets_of s.message)) (nat_le p (s.highest + 1)) x in
-    let a = le_is _ _ z.0 in let b = le_is _ _ z.1 in let c = le_is _ _ z.2 in let d = not_zero count v in
+    let a = leb-true _ _ z.0 in let b = leb-true _ _ z.1 in let c = leb-true _ _ z.2 in let d = not_zero count v in
     record {
       state = (waiting_some _ _ xs s.state h.state u, a, omega (arith, b, d), omega arith, c);
       taken = h.taken;

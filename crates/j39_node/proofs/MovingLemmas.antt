@@ -1,28 +1,8 @@
 -- When a controller may move, by what it has; and what it is then.
-use Rattle.std.proofs.Common.{◌≡◌, ℕ, ◌+◌, ◌-◌, ◌≤◌, ◌<◌, ◌≢◌, List, [], ◌∷◌, length, map, Option, Some, None, Bool, true, false, not, ◌&&◌, ◌||◌, nat_eq, refl, sym, ap, ◌∙◌, subst, arith, eq-eqb, eqb-true}
-use Rattle.std.proofs.lemmas.Bool.{and_parts, and_from}
-use Rattle.std.specs.Option.{is_some, option_map}
-use Rattle.j39_node.specs.declared.controller.Controller.{Controller}
-use Rattle.j39_node.specs.declared.hold.Hold.{Hold}
-use Rattle.j39_node.specs.declared.news.Untold.{Untold}
-use Rattle.j39_address.specs.Claim.{Claim}
-use Rattle.j39_address.specs.Claims.{Knows, holder_in}
-use Rattle.j39_address.specs.Holder.{IsHolderAfter}
-use Rattle.j39_address.specs.Node.{IsLeastFree, NoneFree}
-use Rattle.j39_address.specs.declared.claims.Claims.{Claims}
+use Rattle.j39_node.proofs.Common.{[], ◌&&◌, ◌+◌, ◌-◌, ◌<◌, ◌||◌, ◌∙◌, ◌∷◌, ◌≡◌, ◌≢◌, ◌≤◌, accepted, and_from, and_parts, ap, arith, asked_by, AskEnding, asking_of, Bool, Call, Claim, Claims, Controller, eq-eqb, eqb-true, false, got, handed, has_given, has_place, has_told, HasMoved, hearing_of, hold_after, hold_moved, holder_in, incoming_of, IncomingRecord, Is, IsHolderAfter, IsLeastFree, IsSettled, kept, Knows, lane_of, later, length, List, map, moment, moved, name_raw, named_in, nat_eq, news_of, next_news, no_reception, None, NoneFree, not, open_broadcast, open_transfer, Option, option_map, port_of, PortRecord, posted, Question, received_by, reception, recv_step, refl, refusal_by, request_by, requests, rest, Some, subst, sym, takes_tick, ticked, time_heard, told, told_claims, true, Untold, View, waiting, Who, whole_of, ℕ}
+use Rattle.std.specs.Option.{is_some}
+use Rattle.j39_node.specs.Moving.{begun}
 use Rattle.j39_address.proofs.HolderLemmas.{same_holder}
-use Rattle.j39_address.specs.Name.{name_raw}
-use Rattle.j39_node.specs.History.{Who, Call, moment, accepted, got, handed, kept, open_broadcast, requests, told, told_claims}
-use Rattle.j39_node.specs.Reception.{has_place, later, no_reception, ticked, time_heard, reception}
-use Rattle.j39_node.specs.Hearing.{waiting, whole_of}
-use Rattle.j39_node.specs.Transfers.{open_transfer, rest}
-use Rattle.j39_node.specs.Hold.{moved as hold_moved}
-use Rattle.j39_transport.specs.Receiving.{recv_step}
-use Rattle.j39_transport.specs.Reception.{takes_tick}
-use Rattle.j39_node.specs.Asking.{Question}
-use Rattle.j39_node.specs.declared.kinds.AskEnding.{AskEnding}
-use Rattle.j39_node.specs.Is.{hold_after, HearingRecord, IncomingRecord, Is, LaneRecord, PortRecord, asked_by, asking_of, hearing_of, incoming_of, named_in, lane_of, news_of, next_news, port_of, posted, received_by, refusal_by, request_by}
-use Rattle.j39_node.specs.Moving.{HasMoved, IsSettled, begun, has_given, has_told, moved}
 use Rattle.j39_node.proofs.QueueLemmas.{length_rest}
 use Rattle.j39_node.proofs.SoundLemmas.{front_length, read, sound}
 
@@ -87,31 +67,31 @@ news_none false false (Some n) c e = absurd (cc)
 
 module _ (w : Who) (H : List Call) (c : Controller) (h : Is w H c) where
   messages : length c.outgoing.items ≡ length (accepted w H) - length (told H)
-  messages = length_rest posted c.outgoing.items (length (told H)) (accepted w H) h.outgoing
+  messages = length_rest posted c.outgoing.items (length (told H)) (accepted w H) (ap (λ (v : View). v.outgoing) h.shown)
 
   unread : length c.inbox.unread.items ≡ length (kept w H) - length (got H)
-  unread = length_rest received_by c.inbox.unread.items (length (got H)) (kept w H) h.unread
+  unread = length_rest received_by c.inbox.unread.items (length (got H)) (kept w H) (ap (λ (v : View). v.unread) h.shown)
 
   asked : length c.desk.waiting.items ≡ length (requests w H) - length (handed H)
-  asked = length_rest request_by c.desk.waiting.items (length (handed H)) (requests w H) h.requests
+  asked = length_rest request_by c.desk.waiting.items (length (handed H)) (requests w H) (ap (λ (v : View). v.requests) h.shown)
 
   broadcast : (lane_of w c.lane).current ≡ open_broadcast w H
-  broadcast = ap (λ (l : LaneRecord). l.current) h.lane
+  broadcast = ap (λ (v : View). v.lane.current) h.shown
 
   transfer : (port_of c.transfers).current ≡ open_transfer w H
-  transfer = ap (λ (p : PortRecord). p.current) h.port
+  transfer = ap (λ (v : View). v.port.current) h.shown
 
   waits : (incoming_of c.incoming).reception.waits ≡ (reception w H).waits
-  waits = ap (λ (x : IncomingRecord). x.reception.waits) h.incoming
+  waits = ap (λ (v : View). v.incoming.reception.waits) h.shown
 
   heard : whole_of (hearing_of c.hearing).current ≡ waiting w H
-  heard = ap (λ (r : HearingRecord). whole_of r.current) h.hearing
+  heard = ap (λ (v : View). whole_of v.hearing.current) h.shown
 
   untold : not (c.news.lost || (c.news.another || (is_some c.news.doubled || c.news.missed))) ≡ true → next_news w H ≡ None
-  untold e = no_news _ _ _ _ (sym (ap (λ (u : Untold). not (u.lost || (u.another || (is_some u.doubled || u.missed)))) h.news) ∙ e)
+  untold e = no_news _ _ _ _ (sym (ap (λ (v : View). not (v.news.lost || (v.news.another || (is_some v.news.doubled || v.news.missed)))) h.shown) ∙ e)
 
   all_told : next_news w H ≡ None → not (c.news.lost || (c.news.another || (is_some c.news.doubled || c.news.missed))) ≡ true
-  all_told e = ap (λ (u : Untold). not (u.lost || (u.another || (is_some u.doubled || u.missed)))) h.news ∙ news_none _ _ _ _ e
+  all_told e = ap (λ (v : View). not (v.news.lost || (v.news.another || (is_some v.news.doubled || v.news.missed)))) h.shown ∙ news_none _ _ _ _ e
 
   pub settles : (has_told c && has_given c) ≡ true → IsSettled w H
   settles e =
@@ -128,7 +108,7 @@ module _ (w : Who) (H : List Call) (c : Controller) (h : Is w H c) where
         messages = empty_is _ _ _ messages s.within t.0;
         broadcast = sym broadcast ∙ none_is _ _ t2.0;
         transfer = sym transfer ∙ none_is _ _ t3.0;
-        request = asked_none _ _ _ (sym h.asking ∙ none_is _ _ t3.1);
+        request = asked_none _ _ _ (sym (ap (λ (v : View). v.asking) h.shown) ∙ none_is _ _ t3.1);
         received = empty_is _ _ _ unread (read w H s) g.0;
         requests_taken = empty_is _ _ _ asked (front_length _ _ s.desk.2) g2.0;
         received_transfer = sym waits ∙ place_none _ has_place (λ x. refl) g3.0;
@@ -141,7 +121,7 @@ module _ (w : Who) (H : List Call) (c : Controller) (h : Is w H c) where
       and_from _ _
       (and_from _ _ (is_empty _ _ _ messages s.messages)
       (and_from _ _ (is_none _ _ (broadcast ∙ s.broadcast))
-      (and_from _ _ (is_none _ _ (transfer ∙ s.transfer)) (is_none _ _ (h.asking ∙ none_asked _ _ _ s.request)))))
+      (and_from _ _ (is_none _ _ (transfer ∙ s.transfer)) (is_none _ _ ((ap (λ (v : View). v.asking) h.shown) ∙ none_asked _ _ _ s.request)))))
       (and_from _ _ (is_empty _ _ _ unread s.received)
       (and_from _ _ (is_empty _ _ _ asked s.requests_taken)
       (and_from _ _ (ap has_place (waits ∙ s.received_transfer))
@@ -152,9 +132,6 @@ module _ (w : Who) (H : List Call) (c : Controller) (h : Is w H c) where
 nothing : {T : Type 0} {U : Type 0} (v : T → U) (xs : List T) → nat_eq (length xs) 0 ≡ true → map v xs ≡ []
 nothing v [] e = refl
 nothing v (x ∷ xs) e = absurd (let z = eqb-true _ _ e in omega (arith, z))
-
-mapped : {T : Type 0} {U : Type 0} (v : T → U) (xs : List T) → xs ≡ [] → map v xs ≡ []
-mapped v xs e = ap (map v) e
 
 none_untold : (u : Untold) → not (u.lost || (u.another || (is_some u.doubled || u.missed))) ≡ true → u ≡ record { lost = false; another = false; doubled = None; missed = false }
 none_untold u e = go u.lost u.another u.doubled u.missed refl refl refl refl e
@@ -201,26 +178,26 @@ begins_anew w H old new a h e o1 o2 o5 o3 o4 q1 q2 q3 q4 q5 q6 q7 q8 q9 q10 q11 
     let g2 = and_parts _ _ g.1 in
     let g3 = and_parts _ _ g2.1 in
     let g4 = and_parts _ _ g3.1 in
-    let brought = (moved w H a).brought in
     record {
-      who = (λ i. let v : Who = record { name = name_raw (o1 i); address = o2 i; delay = o5 i; served = o3 i; subscribed = option_map (λ g. g.items) (o4 i); brought = brought } in v)
-          ∙ ap (λ (v : Who). (let u : Who = record { name = v.name; address = a; delay = v.delay; served = v.served; subscribed = v.subscribed; brought = brought } in u)) h.who;
+      shown = λ i. record {
+        who = record { name = (ap name_raw o1 ∙ ap (λ (v : View). v.who.name) h.shown) i; address = o2 i; delay = (o5 ∙ ap (λ (v : View). v.who.delay) h.shown) i; served = (o3 ∙ ap (λ (v : View). v.who.served) h.shown) i; subscribed = (ap (option_map (λ g. g.items)) o4 ∙ ap (λ (v : View). v.who.subscribed) h.shown) i; brought = (moved w H a).brought };
+        hold = (q1 ∙ (ap (λ (v : View). hold_moved v.hold) h.shown ∙ (λ i. record (hold_after (moved w H a) (begun H)) { rest = brought_on (moment H) (rest w H) i }))) i;
+        outgoing = (ap (λ x. map posted x.items) q2 ∙ nothing posted old.outgoing.items t.0) i;
+        taken = q3 i;
+        token = q4 i;
+        asking = (ap asking_of q5 ∙ none_is _ _ t3.1) i;
+        unread = (ap (λ x. map received_by x.items) q6 ∙ nothing received_by old.inbox.unread.items g.0) i;
+        requests = (ap (λ x. map request_by x.items) q8 ∙ nothing request_by old.desk.waiting.items g2.0) i;
+        acknowledgments = map (refusal_by (moved w H a)) (q9 i);
+        news = (q10 ∙ none_untold old.news g4.1) i;
+        missed = q7 i;
+        lane = lane_of (moved w H a) (q12 i);
+        incoming = (q15
+            ∙ ((λ i. (let m = (h.shown i).hold.moment in let x : IncomingRecord = record { moment = m; clock = later 0 m; own = a; has_box = true; named = None; called = 0; reception = no_reception } in x))
+            ∙ (λ i. (let x : IncomingRecord = record { moment = moment H; clock = later 0 (none_less (moment H) i); own = a; has_box = true; named = named_in (none_ticked a (moment H) (time_heard (begun H)) i).session; called = zero_less (moment H - 0) i; reception = none_ticked a (moment H) (time_heard (begun H)) i } in x)))) i;
+        port = (q16 ∙ ap (λ (v : View). (let q : PortRecord = record { current = None; next_token = 0; resting = v.port.resting } in q)) h.shown) i;
+        hearing = q18 i;
+      };
       answered = (tt, tt);
-      hold = q1 ∙ (ap hold_moved h.hold ∙ (λ i. record (hold_after (moved w H a) (begun H)) { rest = brought_on (moment H) (rest w H) i }));
-      outgoing = ap (λ x. map posted x.items) q2 ∙ nothing posted old.outgoing.items t.0;
-      taken = q3;
-      token = q4;
-      asking = ap asking_of q5 ∙ none_is _ _ t3.1;
-      unread = ap (λ x. map received_by x.items) q6 ∙ nothing received_by old.inbox.unread.items g.0;
-      requests = ap (λ x. map request_by x.items) q8 ∙ nothing request_by old.desk.waiting.items g2.0;
-      acknowledgments = mapped (refusal_by (moved w H a)) new.desk.due.items q9;
-      news = q10 ∙ none_untold old.news g4.1;
       holders = subst (λ t. Knows t (told_claims w H)) (sym q11) h.holders;
-      missed = q7;
-      lane = ap (lane_of (moved w H a)) q12;
-      incoming = q15
-          ∙ (ap (λ (m : ℕ). (let x : IncomingRecord = record { moment = m; clock = later 0 m; own = a; has_box = true; named = None; called = 0; reception = no_reception } in x)) (ap (λ (k : Hold). k.moment) h.hold)
-          ∙ (λ i. (let x : IncomingRecord = record { moment = moment H; clock = later 0 (none_less (moment H) i); own = a; has_box = true; named = named_in (none_ticked a (moment H) (time_heard (begun H)) i).session; called = zero_less (moment H - 0) i; reception = none_ticked a (moment H) (time_heard (begun H)) i } in x)));
-      port = q16 ∙ ap (λ (p : PortRecord). (let q : PortRecord = record { current = None; next_token = 0; resting = p.resting } in q)) h.port;
-      hearing = q18;
     }

@@ -1,14 +1,7 @@
 -- Packets, as their frames say them.
-use Rattle.std.proofs.Common.{◌≡◌, ◌==◌, ◌&&◌, ℕ, [], length, slice_index, Option, Some, None, Bool, true, false, not, if◌then◌else◌, nat_lt, refl, ap, arith}
-use Rattle.j39_frame.specs.Frame.{FrameRecord}
-use Rattle.j39_frame.specs.Identifier.{pgn_of, ps_of, source_of}
-use Rattle.j39_frame.specs.Network.{transport_data_group}
+use Rattle.j39_node.proofs.Common.{[], if◌then◌else◌, ◌&&◌, ◌==◌, ◌≡◌, ap, arith, Bool, broadcast_in, control_in, Directed, false, FrameRecord, Heard, key_between, length, nat_lt, None, not, number_in, Option, packed_in, packet_in, pgn_of, ps_of, ReceiverRecord, ReceptionRecord, recv_step, refl, request_in, result_of, said_between, said_to, shown, since_by, slice_index, Some, source_of, strays, takes_signal, transport_data_group, true, ℕ}
+use Rattle.j39_transport.specs.Signals.{said_by}
 use Rattle.j39_transport.specs.Frames as frames
-use Rattle.j39_transport.specs.Key.{Directed, key_between}
-use Rattle.j39_transport.specs.Reception.{ReceptionRecord, takes_signal}
-use Rattle.j39_transport.specs.Receiving.{ReceiverRecord, Heard, recv_step, result_of, said_to}
-use Rattle.j39_transport.specs.Signals.{broadcast_in, control_in, packet_in as packed_in, request_in, said_between, said_by}
-use Rattle.j39_node.specs.Reception.{number_in, packet_in, shown, since_by, strays}
 
 -- a frame with no bytes says nothing
 pub hushed : (own stamp id : ℕ) → said_to own (record { stamp = stamp; id = id; bytes = [] }) ≡ None

@@ -1,48 +1,22 @@
 -- A message in packets answers a request by the frame that makes it whole, be it to this address or to all.
-use Rattle.std.proofs.Common.{◌≡◌, ◌⊎◌, ◌↔◌, IsTrue, ℕ, ◌<◌, ◌==◌, List, ◌∷◌, length, Option, Some, None, Bool, true, false, ◌&&◌, ◌||◌, if◌then◌else◌, nat_eq, refl, sym, ap, ◌∙◌, inl, inr, arith, eq-eqb, eqb-true}
-use Rattle.std.proofs.lemmas.Bool.{and_from, and_parts}
-use Rattle.std.specs.Option.{option_map, option_or}
-use Rattle.j39_frame.specs.Frame.{FrameRecord}
-use Rattle.j39_frame.specs.Identifier.{destination_of, pgn_of, ps_of, source_of}
-use Rattle.j39_frame.specs.Network.{transport_data_group}
-use Rattle.j39_address.specs.Claim.{claim_of}
+use Rattle.j39_node.proofs.Common.{if◌then◌else◌, ◌&&◌, ◌<◌, ◌==◌, ◌||◌, ◌↔◌, ◌∙◌, ◌∷◌, ◌≡◌, ◌⊎◌, and_from, and_parts, Answered, ap, arith, At, Bool, by, Call, comes, destination_of, eq-eqb, eqb-true, false, found, FrameRecord, grown, has_place, Hear, hearing, holder, in_broadcast, in_session, inl, inr, is_coming, is_from, is_key, is_late, IsTrue, known, length, List, made_whole, message_by, MessageRecord, nat_eq, newly, None, open_ask, OpenBroadcast, Option, packs, pgn_of, ps_of, Question, receiver_at, Reception, reception, ReceptionRecord, RecvResult, refl, said_to, says_to, seeks, shown, since_in, Some, source_of, sym, time_heard, transport_data_group, true, waiting, Who, whole_by, whole_of, ℕ, or-true}
+use Rattle.j39_node.specs.Hearing.{begun, is_over, is_whole as is_full}
 use Rattle.j39_transport.specs.Frames as frames
-use Rattle.j39_transport.specs.Key.{Broadcast as by, is_key}
-use Rattle.j39_transport.specs.Message.{MessageRecord}
-use Rattle.j39_transport.specs.Reception.{ReceptionRecord}
-use Rattle.j39_transport.specs.Receiving.{RecvResult, said_to}
-use Rattle.j39_node.specs.declared.kinds.AskEnding.TheVariants.{Answered}
-use Rattle.j39_node.specs.History.{Who, Call, holds, is_smaller}
-use Rattle.j39_node.specs.History.Call.{At}
-use Rattle.j39_node.specs.History.Act.{Hear}
-use Rattle.j39_node.specs.Reception.{Reception, has_place, holder, leaves, left, receiver_at, reception, time_heard, whole, whole_by, shown, known}
-use Rattle.j39_node.specs.Hearing.{OpenBroadcast, begun, found, grown, hearing, is_late, is_over, is_whole as is_full, made_whole, message_by, newly, packs, since_in, waiting, whole_of}
-use Rattle.j39_node.specs.Asking.{Question, comes, in_broadcast, in_session, is_coming, is_from, made, made_of, open_ask, says_to, seeks}
 use Rattle.j39_node.proofs.HearingLaws.{begun_open, whole_is, whole_of_left, none_is as not_both}
 use Rattle.j39_node.proofs.HearingLemmas.{Effect, begins, ends, grows, stays, effect}
 use Rattle.j39_node.proofs.PacketLemmas.{quiet_step, shown_none}
-use Rattle.j39_node.proofs.ReceptionLaws.{goes_there, not_said}
+use Rattle.j39_node.proofs.ReceptionLaws.{goes_there}
 
 -- ---- a message of the group, from whom was asked, answers
 
-or_true : (b : Bool) → (b || true) ≡ true
-or_true true = refl
-or_true false = refl
-
 seeks_by : (q : Question) (source group : ℕ) → group ≡ q.group → (q.to ≡ 255) ⊎ (source ≡ q.to) → seeks q (Some (source, group)) ≡ true
 seeks_by q source group g (inl a) = λ i. eq-eqb _ _ g i && (eq-eqb _ _ a i || nat_eq source q.to)
-seeks_by q source group g (inr a) = (λ i. eq-eqb _ _ g i && (nat_eq q.to 255 || eq-eqb _ _ a i)) ∙ or_true (nat_eq q.to 255)
+seeks_by q source group g (inr a) = (λ i. eq-eqb _ _ g i && (nat_eq q.to 255 || eq-eqb _ _ a i)) ∙ or-true (nat_eq q.to 255)
 
-answers_by : (w : Who) (q : Question) (f : FrameRecord) (m : MessageRecord) (o : Option (ℕ × ℕ)) → o ≡ Some (m.source, m.pgn) → m.pgn ≡ q.group
+pub answers_by : (w : Who) (q : Question) (f : FrameRecord) (m : MessageRecord) (o : Option (ℕ × ℕ)) → o ≡ Some (m.source, m.pgn) → m.pgn ≡ q.group
     → (q.to ≡ 255) ⊎ (m.source ≡ q.to) → says_to w q f o ≡ Some Answered
 answers_by w q f m o e g a =
     ap (says_to w q f) e ∙ ap (λ (b : Bool). if b then Some Answered else says_to w q f None) (seeks_by q m.source m.pgn g a)
-
-pub transfer_answers : (w : Who) (H : List Call) (when : ℕ) (f : FrameRecord) (m : MessageRecord) (q : Question) → whole w H when f ≡ Some m → m.pgn ≡ q.group
-    → (q.to ≡ 255) ⊎ (m.source ≡ q.to) → says_to w q f (made w H when f) ≡ Some Answered
-transfer_answers w H when f m q e g a =
-    answers_by w q f m (made w H when f)
-    (ap (λ (o : Option MessageRecord). option_or (made_of o) (made_of (option_map (λ (x : ℕ × MessageRecord). x.1) (made_whole w H when f)))) e) g a
 
 -- ---- a broadcast is made whole by _ a _ packet to all
 
@@ -87,18 +61,8 @@ none_whole own true held f now r e = refl
 none_whole own false false f now r e = refl
 none_whole own false true f now r e = ap (λ (x : RecvResult). x.delivers) (quiet_step (receiver_at own r) (shown own r.session f) now (has_place r.waits) (shown_none own r.session f e))
 
-to_another : (own : ℕ) (d : Option ℕ) → own < 254 → d ≡ Some 255 → d ≡ Some own → ⊥
+pub to_another : (own : ℕ) (d : Option ℕ) → own < 254 → d ≡ Some 255 → d ≡ Some own → ⊥
 to_another own d l e g = absurd (let z : Some 255 ≡ Some own = sym e ∙ g in let y : 255 ≡ own = cc in omega (arith, y, l))
-
-pub broadcast_answers : (w : Who) (H : List Call) (when : ℕ) (f : FrameRecord) (x : ℕ × MessageRecord) (q : Question) → w.address < 254 → made_whole w H when f ≡ Some x
-    → x.1.pgn ≡ q.group → (q.to ≡ 255) ⊎ (x.1.source ≡ q.to) → says_to w q f (made w H when f) ≡ Some Answered
-broadcast_answers w H when f x q l e g a =
-    let to_all = packs_to_all f (made_by_packet w H when f x e).0 in
-    let none : whole w H when f ≡ None =
-    none_whole w.address (is_smaller w (claim_of f)) (holds w H when) f (time_heard (At when (Hear f) ∷ H))
-    (left (leaves (known w H when f) (holder w (At when (Hear f) ∷ H)) (reception w H).session) (reception w H))
-    (not_said w.address f (to_another w.address (destination_of f.id) l to_all)) in
-    answers_by w q f x.1 (made w H when f) (λ i. option_or (made_of (none i)) (made_of (option_map (λ (y : ℕ × MessageRecord). y.1) (e i)))) g a
 
 -- ---- one that is on its way
 
@@ -154,4 +118,4 @@ comes_means w H time q o = (
         (λ z. is_coming (o z) (in_session (reception w H).session) (in_broadcast time (i z)))
         ∙ ((λ z. is_from q (in_session (reception w H).session) || seeks q (if n z || l z then None else Some (x.source, x.group)))
         ∙ (ap (λ (b : Bool). is_from q (in_session (reception w H).session) || b) (seeks_by q x.source x.group g a)
-        ∙ or_true (is_from q (in_session (reception w H).session))))
+        ∙ or-true (is_from q (in_session (reception w H).session))))

@@ -1,25 +1,10 @@
 -- The open transfer of an answered history goes from the address to another's.
-use Rattle.std.proofs.Common.{◌≡◌, ◌⊎◌, ◌<◌, ◌||◌, ℕ, List, [], ◌∷◌, length, Option, Some, None, Result, Ok, Err, Bool, true, false, if◌then◌else◌, nat_lt, nat_eq, min, IfSome, subst, ltb-true, refl, sym, ap, ◌∙◌, inl, inr, arith}
-use Rattle.std.specs.Option.{option_map}
-use Rattle.j39_frame.specs.Frame.{FrameRecord}
-use Rattle.j39_frame.specs.Network.{transport_control_group, transport_data_group}
+use Rattle.j39_node.proofs.Common.{[], if◌then◌else◌, ◌<◌, ◌||◌, ◌∙◌, ◌∷◌, ◌≡◌, ◌⊎◌, aborted, address_after, after, answer_to_transfer, ap, AreAnswered, arith, At, Bool, both, Call, can_broadcast, Claims, clock_at, Failed, false, FrameRecord, gives_up, group_with, Hear, hears, hears_if, holder, holder_in, IfSome, inl, inr, is_lost, is_move, is_replaced, is_running, is_some, is_spent, Knows, List, listens, ltb-true, Message, min, nat_eq, nat_lt, new_sender, None, Ok, open_transfer, Option, option_map, Packet, PortRecord, refl, Resting, resting, Running, said_between, says, send_step, SenderRecord, SendEvent, sends, sends_if, Signal, signal_by, Some, subst, sym, TakeFrame, TakeTransferEnded, told_claims, Transfer, transfer_by, transport_control_group, transport_data_group, true, Who, ℕ}
+use Rattle.j39_transport.specs.Sending.{Heard, Tick}
 use Rattle.j39_transport.specs.Sending as sending
-use Rattle.j39_transport.specs.Sending.{SendEvent, SenderRecord, Failed, Heard, Tick, aborted, is_running, new_sender, send_step}
-use Rattle.j39_transport.specs.Signals.{Signal, Packet, group_with, said_between}
 use Rattle.j39_transport.proofs.SenderLemmas.{ticked, hears_signal}
-use Rattle.j39_node.specs.declared.kinds.Refused.{Refused}
-use Rattle.j39_node.specs.declared.kinds.Refused.TheVariants.{NoAddress, BadValue, Full}
-use Rattle.j39_node.specs.History.{Who, Message, Call, address_after, can_broadcast, holds, is_lost, is_some, told_claims}
-use Rattle.j39_node.specs.Reception.{holder, is_move}
 use Rattle.j39_node.proofs.ReceptionLemmas.{table_is}
-use Rattle.j39_node.specs.History.Call.{At, TakeTransferEnded}
-use Rattle.j39_node.specs.History.Act.{Hear, TakeFrame, Transfer}
-use Rattle.j39_node.specs.Is.{AreAnswered, PortRecord, port_after}
-use Rattle.j39_node.specs.Transfers.{is_resting, resting, Running, answer_to_transfer, can_transfer, clock_at, gives_up, hears, hears_if, is_engaged, is_replaced, is_spent, listens, open_transfer, says, sends, sends_if, signal_by, transfer_by, transfers}
-use Rattle.j39_node.specs.History.{Resting}
-use Rattle.j39_address.specs.Claims.{Knows, holder_in}
-use Rattle.j39_address.specs.declared.claims.Claims.{Claims}
-use Rattle.std.proofs.lemmas.Bool.{and_parts as both}
+use Rattle.j39_node.proofs.AnswerCases.{transfer_accepts}
 
 -- ---- a step keeps message and destination
 
@@ -32,29 +17,6 @@ pub keeps : (s : SenderRecord) (e : SendEvent) (now : ℕ) → ((send_step s e n
 unfolding send_step
 keeps s Tick now = let h = ticked s s.state now refl in (h.message_is, h.destination_is)
 keeps s (Heard f) now = keeps_heard s (said_between s.destination s.message.source f) now
-
--- ---- what transfer answers
-
-pub data TransferCase (w : Who) (H : List Call) (now group to : ℕ) (bytes : List ℕ) (answer : Result ℕ Refused) : Type 0 where
-  homeless : holds w H now ≡ false → answer ≡ Err NoAddress → TransferCase w H now group to bytes answer
-  unfit : holds w H now ≡ true → can_transfer w group to bytes ≡ false → answer ≡ Err BadValue → TransferCase w H now group to bytes answer
-  busy : holds w H now ≡ true → can_transfer w group to bytes ≡ true → (is_engaged (open_transfer w H) (length (transfers w H)) || is_resting w H now group to) ≡ true → answer ≡ Err Full
-      → TransferCase w H now group to bytes answer
-  opens : holds w H now ≡ true → can_transfer w group to bytes ≡ true → (is_engaged (open_transfer w H) (length (transfers w H)) || is_resting w H now group to) ≡ false
-      → answer ≡ Ok (length (transfers w H)) → TransferCase w H now group to bytes answer
-
-pub transfer_case : (w : Who) (H : List Call) (now group to : ℕ) (bytes : List ℕ) (answer : Result ℕ Refused) → answer ≡ answer_to_transfer w H now group to bytes
-    → TransferCase w H now group to bytes answer
-transfer_case w H now group to bytes answer e =
-    go (holds w H now) (can_transfer w group to bytes) (is_engaged (open_transfer w H) (length (transfers w H)) || is_resting w H now group to) refl refl refl e
-  where
-    go : (x y z : Bool) → holds w H now ≡ x → can_transfer w group to bytes ≡ y → (is_engaged (open_transfer w H) (length (transfers w H)) || is_resting w H now group to) ≡ z
-        → answer ≡ (if x then (if y then (if z then Err Full else Ok (length (transfers w H))) else Err BadValue) else Err NoAddress)
-        → TransferCase w H now group to bytes answer
-    go false y z p q r i = homeless p i
-    go true false z p q r i = unfit p q i
-    go true true true p q r i = busy p q r i
-    go true true false p q r i = opens p q r i
 
 -- ---- between which addresses the open transfer goes
 
@@ -113,13 +75,11 @@ ported_sends w true now (Some t) h = between_same w _ t (sends_same now t) h
 not_all : (n : ℕ) → n < 254 → nat_eq n 255 ≡ false
 not_all n e = grind arith
 
-ported_opens : (w : Who) (H : List Call) (now group to k : ℕ) (bytes : List ℕ) → TransferCase w H now group to bytes (Ok k)
+ported_opens : (w : Who) (H : List Call) (now group to k : ℕ) (bytes : List ℕ) → Ok k ≡ answer_to_transfer w H now group to bytes
     → Ported w (open_transfer w (At now (Transfer group to bytes (Ok k)) ∷ H))
 unfolding new_sender
-ported_opens w H now group to k bytes (homeless a e) = absurd (cc)
-ported_opens w H now group to k bytes (unfit a b e) = absurd (cc)
-ported_opens w H now group to k bytes (busy a b f e) = absurd (cc)
-ported_opens w H now group to k bytes (opens a b f e) =
+ported_opens w H now group to k bytes e =
+    let b = (transfer_accepts w H now group to k bytes e).1 in
     record { source = refl; directed = ltb-true _ _ (both (nat_lt to 254) _ (both (can_broadcast group bytes) _ b).1).0 }
 
 pub ported : (w : Who) (H : List Call) → AreAnswered w H → Ported w (open_transfer w H)
@@ -128,7 +88,7 @@ ported w (At when (Hear f) ∷ H) e =
     ported_hears w (is_lost (address_after w (At when (Hear f) ∷ H))) (λ a. is_replaced (holder w H a) (holder w (At when (Hear f) ∷ H) a)) f (clock_at H when) (open_transfer w H)
     (ported w H e.0)
 ported w (At now (TakeFrame (Some f)) ∷ H) e = ported_sends w (is_move w H f) (clock_at H now) (open_transfer w H) (ported w H e.0)
-ported w (At now (Transfer group to bytes (Ok k)) ∷ H) e = ported_opens w H now group to k bytes (transfer_case w H now group to bytes (Ok k) e.1)
+ported w (At now (Transfer group to bytes (Ok k)) ∷ H) e = ported_opens w H now group to k bytes e.1
 ported w (TakeTransferEnded (Some x) ∷ H) e = tt
 ported w (call ∷ H) e = ported w H e.0
 
@@ -185,16 +145,6 @@ pub is_port : (p q : PortRecord) → p.current ≡ q.current → p.next_token �
 is_port p q e f g =
     ap (λ (x : Option Running). record p { current = x }) e
     ∙ (ap (λ (n : ℕ). record p { current = q.current; next_token = n }) f ∙ ap (λ (x : Resting). record q { resting = x }) g)
-
--- a frame that is none of a transfer leaves it
-pub port_same : (w : Who) (H : List Call) (now : ℕ) (f : FrameRecord) → is_move w H f ≡ false → port_after w H ≡ port_after w (At now (TakeFrame (Some f)) ∷ H)
-port_same w H now f e =
-    sym (ap (λ (b : Bool). (let p : PortRecord = record { current = sends_if b (clock_at H now) (open_transfer w H); next_token = length (transfers w H); resting = resting w H } in p)) e)
-
--- one of a transfer is its sender's step
-pub port_more : (w : Who) (H : List Call) (now : ℕ) (f : FrameRecord) → is_move w H f ≡ true
-    → sends_if true (clock_at H now) (open_transfer w H) ≡ open_transfer w (At now (TakeFrame (Some f)) ∷ H)
-port_more w H now f e = sym (ap (λ (b : Bool). sends_if b (clock_at H now) (open_transfer w H)) e)
 
 pub clock_is : (n : ℕ) → min (min n 18446744073709551615) 9999999999999999 ≡ min n 9999999999999999
 clock_is n = omega arith

@@ -1,24 +1,8 @@
 -- That every broadcast ends, and every message of one frame.
-use Rattle.std.proofs.Math.Nat.{add-mul, suc-mul}
-use Rattle.std.proofs.Common.{◌&&◌, ◌≡◌, ◌⊎◌, ℕ, suc, ◌+◌, ◌-◌, ◌*◌, ◌<◌, ◌≤◌, List, [], ◌∷◌, ◌++◌, length, Option, Some, None, Ok, Bool, true, false, ◌||◌, if◌then◌else◌, nat_eq, nat_le, nat_lt, refl, sym, ap, ◌∙◌, subst, arith, inl, inr}
-use Rattle.j39_frame.specs.Frame.{FrameRecord}
-use Rattle.j39_transport.specs.Message.{MessageRecord, packets_of}
-use Rattle.j39_transport.specs.Protocol.{gap}
-use Rattle.j39_node.specs.declared.controller.Controller.{Controller}
-use Rattle.j39_node.specs.declared.kinds.Ending.{Ending}
-use Rattle.j39_node.specs.declared.kinds.Ending.TheVariants.{Done, Withdrawn}
-use Rattle.j39_node.specs.History.{Who, Message, Call, Address, address_after, broadcast_from, broadcasts, claimed, frame_of, is_claim, is_held, is_lost, is_open, is_packet, is_smaller, message_of, moment, older, open_broadcast, packets, pause, step}
-use Rattle.j39_node.specs.History.Address.{NotClaimed, Claimed, Lost}
-use Rattle.j39_node.specs.History.Call.{At, TakeBroadcastEnded}
-use Rattle.j39_node.specs.History.Act.{Broadcast, Hear, TakeFrame, Again}
-use Rattle.j39_node.specs.Is.{AreAnswered, Is, IsAnswered, broadcast_end, ending_of, next_broadcast_ended, next_frame, packet_by}
-use Rattle.j39_node.specs.Prompt.{IsPrompt, NoneTold, tells_broadcast, waited_in, claims_anew}
-use Rattle.j39_node.specs.Since.{passed_in}
-use Rattle.j39_address.specs.Claim.{claim_of}
-use Rattle.j39_node.proofs.LaneLemmas.{BroadcastCase, broadcast_case}
-use Rattle.j39_node.proofs.LaneLemmas.BroadcastCase.{homeless, unfit, busy, opens}
+use Rattle.j39_node.proofs.Common.{[], if◌then◌else◌, ◌&&◌, ◌*◌, ◌++◌, ◌+◌, ◌-◌, ◌<◌, ◌||◌, ◌∙◌, ◌∷◌, ◌≡◌, ◌≤◌, ◌⊎◌, add-mul, Address, address_after, Again, ap, AreAnswered, arith, At, Bool, Broadcast, broadcast_end, broadcast_from, broadcasts, Call, claim_of, Claimed, claimed, claims_anew, Controller, Done, Ending, ending_of, false, frame_of, FrameRecord, gap, Hear, inl, inr, Is, is_claim, is_held, is_lost, is_open, is_packet, is_smaller, IsAnswered, IsPrompt, length, List, Lost, Message, message_of, MessageRecord, moment, nat_eq, nat_le, nat_lt, next_broadcast_ended, next_frame, None, NoneTold, NotClaimed, Ok, older, open_broadcast, Option, packet_by, packets, packets_of, passed_in, pause, refl, Some, step, subst, suc, suc-mul, sym, TakeBroadcastEnded, TakeFrame, tells_broadcast, true, waited_in, Who, Withdrawn, ℕ, answer_to_broadcast, not_both, leb-true, leb-false}
 use Rattle.j39_node.proofs.QueueLemmas.{length_one_more}
 use Rattle.j39_node.proofs.SoundLemmas.{none_next, held_older, lost_claimed, lost_older, packets_is, pause_is}
+use Rattle.j39_node.proofs.AnswerCases.{broadcast_accepts}
 
 -- ---- an address that was held is held or lost
 
@@ -157,14 +141,11 @@ module _ (w : Who) (B : List Call) (g k : ℕ) (m : MessageRecord) where
   pub no_packet : (now i left : ℕ) → packet_by (Some (k, m)) i left ≡ None → (packets_of m < i) ⊎ (0 < left - 100000)
   no_packet now i left e = go (nat_le left 100000) (nat_le i (packets_of m)) refl refl e
     where
-      past : (a b : ℕ) → nat_le a b ≡ false → b < a
-      past a b z = grind arith
-
       go : (a b : Bool) → nat_le left 100000 ≡ a → nat_le i (packets_of m) ≡ b → (if a && b then Some (frame_of m i) else None) ≡ None
           → (packets_of m < i) ⊎ (0 < left - 100000)
       go true true x z y = absurd (cc)
-      go true false x z y = inl (past _ _ z)
-      go false b x z y = inr (let l = past left 100000 x in omega (arith, l))
+      go true false x z y = inl (leb-false _ _ z)
+      go false b x z y = inr (let l = leb-false left 100000 x in omega (arith, l))
 
   takes_no_frame : (now : ℕ) (later : List Call) → (let none : Option (ℕ × Message) = None in none) ≡ next_frame w (later ++ B) now → Stands later
       → Stands (At now (TakeFrame None) ∷ later)
@@ -188,14 +169,9 @@ module _ (w : Who) (B : List Call) (g k : ℕ) (m : MessageRecord) where
           ]
 
   -- no other is accepted
-  none_begins : (later : List Call) (now group j : ℕ) (bytes : List ℕ) → open_broadcast w (later ++ B) ≡ Some (k, m)
-      → BroadcastCase w (later ++ B) now group bytes (Ok j) → ⊥
-  none_begins later now group j bytes o (homeless a e) = absurd (cc)
-  none_begins later now group j bytes o (unfit a b e) = absurd (cc)
-  none_begins later now group j bytes o (busy a b f e) = absurd (cc)
-  none_begins later now group j bytes o (opens a b f e) =
-      let z : true ≡ false = sym (ap (λ (x : Option (ℕ × MessageRecord)). is_open x || nat_eq (length (broadcasts w (later ++ B))) 18446744073709551615) o) ∙ f in
-      absurd (cc)
+  none_begins : (later : List Call) (now group j : ℕ) (bytes : List ℕ) → open_broadcast w (later ++ B) ≡ Some (k, m) → Ok j ≡ answer_to_broadcast w (later ++ B) now group bytes → ⊥
+  none_begins later now group j bytes o a = not_both _ (broadcast_accepts w (later ++ B) now group j bytes a).2
+      (ap (λ (x : Option (ℕ × MessageRecord)). is_open x || nat_eq (length (broadcasts w (later ++ B))) 18446744073709551615) o)
 
   one_more : (call : Call) (later : List Call) → IsAnswered w (later ++ B) call → tells_broadcast call ≡ false
       → (waited_in later B + step (later ++ B) (moment (call ∷ later ++ B)) ≤ g) × (claims_anew call ≡ false) → Stands later → Stands (call ∷ later)
@@ -203,7 +179,7 @@ module _ (w : Who) (B : List Call) (g k : ℕ) (m : MessageRecord) where
   one_more (At now (TakeFrame (Some f))) later a n p h = takes_one now f later p.0 h
   one_more (At now (TakeFrame None)) later a n p h = takes_no_frame now later a h
   one_more (At now (Broadcast group bytes (Ok j))) later a n p h =
-      absurd (none_begins later now group j bytes h.broadcast (broadcast_case w (later ++ B) now group bytes (Ok j) a))
+      absurd (none_begins later now group j bytes h.broadcast a)
   one_more (At now Again) later a n p h = absurd (let z : true ≡ false = p.1 in cc)
   one_more (TakeBroadcastEnded (Some x)) later a n p h = absurd (let z : true ≡ false = n in cc)
   one_more call later a n p h = record { broadcast = h.broadcast; course = go h.course }
@@ -237,12 +213,6 @@ module _ (w : Who) (B : List Call) (g k : ℕ) (m : MessageRecord) where
       let x = ends_by (length (packets (later ++ B))) (nat_lt (packets_of m) (length (packets (later ++ B)))) (is_lost (address_after w (later ++ B))) refl (go h.course) in
       (x.0, ap (λ (o : Option (ℕ × MessageRecord)). broadcast_end o (length (packets (later ++ B))) (is_lost (address_after w (later ++ B)))) h.broadcast ∙ x.1)
     where
-      past : (a b : ℕ) → nat_le a b ≡ false → b < a
-      past a b z = grind arith
-
-      le_is : (a b : ℕ) → nat_le a b ≡ true → a ≤ b
-      le_is a b z = grind arith
-
       go : Course later → (packets_of m < length (packets (later ++ B))) ⊎ (is_lost (address_after w (later ++ B)) ≡ true)
       go (over z) = inl z
       go (gone e) = inr e
@@ -251,9 +221,9 @@ module _ (w : Who) (B : List Call) (g k : ℕ) (m : MessageRecord) where
           most : (b : Bool) → nat_le (length (packets (later ++ B))) (packets_of m) ≡ b
               → (packets_of m < length (packets (later ++ B))) ⊎ (is_lost (address_after w (later ++ B)) ≡ true)
           most true z =
-              let d = due_last g (length (packets (later ++ B))) (packets_of m) (le_is _ _ z) in
+              let d = due_last g (length (packets (later ++ B))) (packets_of m) (leb-true _ _ z) in
               let a = t.late in absurd (omega (arith, a, d, l, p))
-          most false z = inl (past _ _ z)
+          most false z = inl (leb-false _ _ z)
 
 -- the last call came in time
 pub waited_last : (g : ℕ) (later B : List Call) → IsPrompt g later B → waited_in later B ≤ g
@@ -285,11 +255,5 @@ broadcast_ends w later earlier c g now group k bytes is none prompt l =
     let B = At now (Broadcast group bytes (Ok k)) ∷ earlier in
     ends_so w B g k (broadcast_from w group bytes) later
     (stands w B g k (broadcast_from w group bytes) later is.answered none prompt
-    (record { broadcast = refl; course = runs (held (broadcast_case w earlier now group bytes (Ok k) ((answered_from w later B is.answered).1))) (accepted_now g (pause B - 100000) (let y = pause_most B in omega (arith, y))) }))
+    (record { broadcast = refl; course = runs (broadcast_accepts w earlier now group k bytes (answered_from w later B is.answered).1).0 (accepted_now g (pause B - 100000) (let y = pause_most B in omega (arith, y))) }))
     l (waited_last g later B prompt)
-  where
-    held : BroadcastCase w earlier now group bytes (Ok k) → is_held (address_after w (At now (Broadcast group bytes (Ok k)) ∷ earlier)) ≡ true
-    held (homeless a e) = absurd (cc)
-    held (unfit a b e) = absurd (cc)
-    held (busy a b f e) = absurd (cc)
-    held (opens a b f e) = a

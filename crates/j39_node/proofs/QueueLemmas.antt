@@ -1,9 +1,5 @@
 -- Lists from which the first is taken, and to which one is added at the end.
-use Rattle.std.proofs.Common.{◌||◌, get_or, take, ◌≡◌, ◌⊎◌, ℕ, zero, suc, ◌+◌, ◌-◌, ◌<◌, ◌≤◌, List, [], ◌∷◌, ◌++◌, length, map, drop, remove, slice_index_or, Some, None, Bool, true, false, ◌==◌, refl, sym, ap, ◌∙◌, arith, length-append, inl, inr, eqb-true}
-use Rattle.std.proofs.lemmas.List.{length-drop}
-use Rattle.std.specs.List.{list_any, slice_get}
-use Rattle.std.proofs.lemmas.List.Folds.{list_any_at, list_any_more}
-use Rattle.std.proofs.lemmas.Option.{slice_get_past}
+use Rattle.j39_node.proofs.Common.{[], ◌++◌, ◌+◌, ◌-◌, ◌<◌, ◌==◌, ◌||◌, ◌∙◌, ◌∷◌, ◌≡◌, ◌≤◌, ◌⊎◌, ap, arith, Bool, drop, false, get_or, inl, inr, length, length-append, length-drop, List, list_any, list_any_at, list_any_more, map, None, refl, remove, slice_get, slice_get_past, slice_index_or, Some, suc, sym, take, true, zero, ℕ}
 
 pub not_empty : {T : Type 0} (xs : List T) (b : Bool) → b ≡ (length xs == 0) → b ≡ false → 0 < length xs
 not_empty [] b e f = absurd (let z : true ≡ false = sym e ∙ f in cc)
@@ -101,9 +97,6 @@ get_append (z ∷ L) y (suc i) x e = elim (get_append L y i x e) [
   | inl old ↦ inl old
   | inr new ↦ inr (ap suc new.0, new.1)
 ]
-
-pub none_left : {T : Type 0} (xs : List T) (b : Bool) → b ≡ (length xs == 0) → b ≡ true → length xs ≡ 0
-none_left xs b e f = eqb-true (length xs) 0 (sym e ∙ f)
 
 -- ---- whether one of them is so
 

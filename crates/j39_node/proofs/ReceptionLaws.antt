@@ -1,37 +1,18 @@
 -- The laws of messages that come in packets.
-use Rattle.std.proofs.Common.{◌≡◌, ◌≢◌, ◌⊎◌, ◌↔◌, ℕ, suc, ◌+◌, ◌-◌, ◌/◌, ◌%◌, ◌<◌, ◌≤◌, List, [], ◌∷◌, ◌++◌, length, drop, Option, Some, None, Bool, true, false, not, ◌&&◌, ◌||◌, if◌then◌else◌, nat_eq, nat_lt, ◌==◌, IsTrue, refl, sym, ap, ◌∙◌, subst, inl, inr, arith, append-nil, append_assoc, eqb-true, eq-eqb, ltb-true, ltb-false, lt-ltb}
-use Rattle.std.proofs.lemmas.Bool.{cond_both, and_parts}
-use Rattle.std.specs.List.{slice_get}
-use Rattle.std.specs.Option.{is_some as has_some, option_map}
-use Rattle.byteorder.specs.Endian.{little_bytes}
-use Rattle.j39_frame.specs.Frame.{FrameRecord}
-use Rattle.j39_frame.specs.Identifier.{destination_of, pf_of, pgn_of, ps_of, source_of}
-use Rattle.j39_frame.specs.Network.{address_claimed_group, transport_control_group, transport_data_group}
-use Rattle.j39_address.specs.Claim.{Claim, claim_of}
-use Rattle.j39_transport.specs.Cutting.{ToSend}
+use Rattle.j39_node.proofs.Common.{[], if◌then◌else◌, ◌%◌, ◌&&◌, ◌++◌, ◌+◌, ◌-◌, ◌/◌, ◌<◌, ◌==◌, ◌||◌, ◌↔◌, ◌∙◌, ◌∷◌, ◌≡◌, ◌≢◌, ◌≤◌, ◌⊎◌, Abort, Acknowledgment, Address, address_after, address_claimed_group, Again, and_parts, answer_in, answers, ap, append-nil, append_assoc, AreReceived, arith, asks_again, At, Bool, BoxedReceiver, BroadcastAnnounce, bytes_with, Call, CameFromOne, Claim, claim_of, Claimed, ClearToSend, cond_both, Controller, delivered, destination_of, Directed, drop, eq-eqb, eqb-true, false, FrameRecord, frames_heard, got_transfers, granted_at, grants, group_of, has_place, has_some, Hear, Heard, heard_at, heard_by, held_then, holder, holds, inl, inr, Is, is_acknowledgment, is_claim, is_held, is_lost, is_move, is_over, is_overdue, is_reply, is_same, is_smaller, is_taken, is_that, is_transfer, IsApart, IsReceived, IsTrue, keeps, KeepsHolder, known, known_by, later, leaves, left, length, limit_in, limit_of, List, listed, little_bytes, longest, Lost, lt-ltb, ltb-false, ltb-true, made_by, made_of, Message, message_of, MessageRecord, moment, Move, nat_eq, nat_lt, next_acknowledgment, None, not, NotClaimed, older, Option, option_map, Packet, packets, partner_of, pf_of, pgn_of, ps_of, quiet, Reaction, ready, receiver_at, ReceiverRecord, ReceiverStandsFor, Reception, reception, ReceptionRecord, recv_step, RecvResult, refl, released_by, ReleaseTransfer, replied, reply_from, RequestToSend, result_of, said_between, said_to, says_by, session_tick, shown, Signal, since_by, Single, slice_get, Some, source_of, stamp_at, step, step_at, subst, suc, sym, TakeFrame, taken_by, takes, takes_abort, takes_data, takes_request, takes_signal, takes_tick, Tick, tick_at, ticked, ticked_at, Ticks, time_heard, ToSend, transport_control_group, transport_data_group, true, WereHanded, Who, whole, whole_by, without, written, yields, ℕ, not-false, not_both}
+use Rattle.j39_transport.specs.Reception.{begun as opens}
+use Rattle.j39_transport.specs.ReceiverStands.{passed}
+use Rattle.j39_transport.specs.Signals.{said_by}
+use Rattle.j39_node.specs.declared.turn.Turn.TheVariants.{Packet}
+use Rattle.j39_node.specs.Reception.{says}
 use Rattle.j39_transport.specs.Frames as frames
-use Rattle.j39_transport.specs.Key.{Directed}
-use Rattle.j39_transport.specs.Message.{MessageRecord}
-use Rattle.j39_transport.specs.Reception.{ReceptionRecord, Reaction, answers, asks_again, begun as opens, is_taken, limit_of, granted_at, grants, quiet, takes_abort, takes_data, takes_request, takes_signal, takes_tick}
-use Rattle.j39_transport.specs.Receiving.{BoxedReceiver, ReceiverRecord, RecvResult, Heard, Tick as Ticks, answer_in, partner_of, recv_step, result_of, said_to}
-use Rattle.j39_transport.specs.ReceiverStands.{AreReceived, IsReceived, ReceiverStandsFor, WereHanded, passed}
-use Rattle.j39_transport.specs.Signals.{Signal, BroadcastAnnounce, RequestToSend, ClearToSend, Acknowledgment, Abort, Packet, bytes_with, said_between, said_by, written}
 use Rattle.j39_transport.proofs.Handed.{has_heard, stands_still, were_handed}
-use Rattle.j39_node.specs.declared.controller.Controller.{Controller}
-use Rattle.j39_node.specs.declared.turn.Turn.TheVariants.{Single, Packet, Move}
-use Rattle.j39_node.specs.History.{Who, Message, Call, Address, acknowledged, address_after, due, holds, is_acknowledgment, is_claim, is_held, is_lost, is_packet, is_session, is_smaller, is_some, is_transfer, message_of, moment, older, open_broadcast, packets, pause, stamp_at, step, of_other}
-use Rattle.j39_node.specs.History.Address.{NotClaimed, Claimed, Lost}
-use Rattle.j39_node.specs.History.Call.{At, ReleaseTransfer}
-use Rattle.j39_node.specs.History.Act.{Ask, Hear, Tick, TakeFrame, Send, Acknowledge, Broadcast, Transfer, Again}
-use Rattle.j39_node.specs.Is.{is_overdue, ready, Is, next_acknowledgment}
-use Rattle.j39_node.specs.Asking.{made_of}
-use Rattle.j39_node.specs.Is.{made_by}
-use Rattle.j39_node.specs.Reception.{yields, is_reply, is_that, CameFromOne, IsApart, KeepsHolder, Reception, time_heard, delivered, frames_heard, got_transfers, has_place, heard_at, heard_by, is_move, held_then, holder, is_same, keeps, later, leaves, left, listed, receiver_at, reception, released_by, replied, reply_from, says, says_by, session_tick, step_at, taken_by, takes, tick_at, ticked, whole, whole_by, without, group_of, is_over, limit_in, longest, shown, since_by, ticked_at, known, known_by}
-use Rattle.j39_node.proofs.SoundLemmas.{apart_is, IsTurn, none_at, none_next, turned, FrameCase, frame_case, sound, own_of, due_get, due_taken, single_taken, packet_taken, claim_taken, is_moved, lost_older, lost_claimed, lost_unclaimed}
+use Rattle.j39_node.proofs.SoundLemmas.{IsTurn, none_at, none_next, turned, FrameCase, frame_case, lost_older, lost_claimed, lost_unclaimed}
 use Rattle.j39_node.proofs.PacketLemmas.{hushed, quiet_step, shown_both, shown_none, since_same}
 use Rattle.j39_node.proofs.SoundLemmas.FrameCase.{claims, acknowledges, replies, sends, packs, transfers}
 use Rattle.j39_node.proofs.ReceptionLemmas.{Acknowledges, Fits, Gives, Tidy, own_after, refused_step, replied_get, taken_is, tame_signal, tame_tick, quiet_at, unclaimed_known, tidy, tidy_left, own_ticked as own_kept, no_reply}
 use Rattle.j39_node.proofs.HearingLemmas.{same_same as same_self}
+use Rattle.j39_node.proofs.KindLemmas.{claims_it, acknowledges_it, replies_it}
 
 -- ---- each once, in order
 
@@ -133,7 +114,7 @@ released w H c answer is = go (reception w H).waits answer refl is.answered.1
 -- ---- of one sender
 
 -- a session, and the calls since its RTS
-record Begun (w : Who) (H : List Call) (r : ReceptionRecord) : Type 0 where
+pub record Begun (w : Who) (H : List Call) (r : ReceptionRecord) : Type 0 where
   pub later : List Call
   pub at : ℕ
   pub first : FrameRecord
@@ -181,10 +162,7 @@ not_left before after None b r e f g = absurd (cc)
 not_left before after (Some x) b r e f g =
     let z : x ≡ r = cc in
     subst (λ (y : ReceptionRecord). after y.message.source ≡ before y.message.source) z
-    (same_is (before x.message.source) (after x.message.source) (flip (is_same (before x.message.source) (after x.message.source)) (e ∙ f)))
-  where
-    flip : (c : Bool) → not c ≡ false → c ≡ true
-    flip c e = grind (arith, e)
+    (same_is (before x.message.source) (after x.message.source) (not-false (is_same (before x.message.source) (after x.message.source)) (e ∙ f)))
 
 -- ---- a step of the receiver
 
@@ -204,10 +182,7 @@ stands_heard E r f now found h =
     new = record { state = (recv_step r (Heard f) now found).after; has_box = has_some (recv_step r (Heard f) now found).after.session || false }
 
 pub is_of : (x : ReceptionRecord) (source : ℕ) → is_taken source (Some x) ≡ false → source ≡ x.message.source
-is_of x source e = eqb-true _ _ (flip (source == x.message.source) e)
-  where
-    flip : (c : Bool) → not c ≡ false → c ≡ true
-    flip c e = grind (arith, e)
+is_of x source e = eqb-true _ _ (not-false (source == x.message.source) e)
 
 -- it keeps the source of a session that stays, and what it delivers is of that source
 pub record Kept (x : ReceptionRecord) (y : RecvResult) : Type 0 where
@@ -328,7 +303,7 @@ same_released : (b : Bool) (r : Reception) → (released_by b r).session ≡ r.s
 same_released true r = refl
 same_released false r = refl
 
-begun : (w : Who) (H : List Call) → AreBegun w H (reception w H).session
+pub begun : (w : Who) (H : List Call) → AreBegun w H (reception w H).session
 begun w [] = tt
 begun w (At when (Hear f) ∷ H) = begun_heard w H (is_smaller w (claim_of f)) (holds w H when) _ when f (time_heard (At when (Hear f) ∷ H)) (reception w H) refl (begun w H)
 begun w (At now Tick ∷ H) =
@@ -373,7 +348,7 @@ whole_shown w H when f now found o m h keeps =
     (λ e. absurd (let z : None ≡ Some m = sym (ap (λ (x : RecvResult). x.delivers) (quiet_step (record { own = w.address; session = o }) _ now found (hushed w.address f.stamp f.id))) ∙ e in cc))
     (whole_came w H when f now found o m h keeps)
 
-came_by : (w : Who) (H : List Call) (lost held b : Bool) (when : ℕ) (f : FrameRecord) (now : ℕ) (r : Reception) (m : MessageRecord)
+pub came_by : (w : Who) (H : List Call) (lost held b : Bool) (when : ℕ) (f : FrameRecord) (now : ℕ) (r : Reception) (m : MessageRecord)
     → leaves (known w H when f) (holder w (At when (Hear f) ∷ H)) r.session ≡ b → AreBegun w H r.session → whole_by w.address lost held f now (left b r) ≡ Some m
     → CameFromOne w (At when (Hear f) ∷ H) m
 came_by w H true held b when f now r m e h g = absurd (cc)
@@ -382,9 +357,6 @@ came_by w H false true true when f now r m e h g = whole_shown w H when f now (h
 came_by w H false true false when f now r m e h g =
     whole_shown w H when f now (has_place r.waits) r.session m h (λ x i. not_left (known w H when f) (holder w (At when (Hear f) ∷ H)) r.session false x e refl i) g
 
-pub came : (w : Who) (H : List Call) (when : ℕ) (f : FrameRecord) (m : MessageRecord) → whole w H when f ≡ Some m → CameFromOne w (At when (Hear f) ∷ H) m
-came w H when f m e = came_by w H (is_smaller w (claim_of f)) (holds w H when) _ when f (time_heard (At when (Hear f) ∷ H)) (reception w H) m refl (begun w H) e
-
 -- ---- what is said
 
 -- a reply that is taken, and what waits then
@@ -392,29 +364,18 @@ pub replies_first : (w : Who) (H : List Call) (c : Controller) (now : ℕ) (f : 
     → IsTrue (holds w H now) × (source_of f.id ≡ w.address) × (slice_get (reception w H).replies 0 ≡ Some (message_of f)) × (next_acknowledgment w H now ≡ None)
 replies_first w H c now f is t away = go (frame_case w H now f is.answered.1)
   where
-    k : (is_session f ≡ true) × (not (is_some (destination_of f.id) 255) ≡ true)
-    k = and_parts (is_session f) _ t
-
-    not_session : is_session f ≡ false → ⊥
-    not_session e = (let z : true ≡ false = sym k.0 ∙ e in absurd (cc))
+    replied : is_reply (reception w H).replies f ≡ true
+    replied = λ i. t i && not-false _ (sym (ap (λ (b : Bool). b && not (is_that (message_of f) (slice_get (reception w H).replies 0))) t) ∙ away) i
 
     go : FrameCase w H now f
         → IsTrue (holds w H now) × (source_of f.id ≡ w.address) × (slice_get (reception w H).replies 0 ≡ Some (message_of f)) × (next_acknowledgment w H now ≡ None)
-    go (claims o e) =
-        absurd (not_session (ap (λ (g : ℕ). nat_eq g transport_control_group || nat_eq g transport_data_group) (eqb-true (pgn_of f.id) address_claimed_group (claim_taken f now w _ e))))
-    go (acknowledges m o h g e way) = absurd (not_session (due_taken w f now m e (due_get w (due w H) (length (acknowledged H)) m (sound w H is.answered.0).desk.0 g)).2)
     go (replies m o h n g e) = (
       h,
       ap (λ (y : ℕ × Message). y.1.source) e ∙ (replied_get w.address (reception w H).replies 0 m (tidy w H).replies g).source,
       g ∙ ap (λ (y : ℕ × Message). Some y.1) (sym e),
       n.0,
     )
-    go (sends x o h n g e) = absurd (not_session (single_taken w f now x e (own_of w H x is.answered.0 g)))
-    go (packs m o h n g e) =
-        let p = and_parts (is_session f) _ (packet_taken f now m (open_broadcast w H) (length (packets H)) (pause H - step H now) e g).2 in
-        absurd (let z : not true ≡ true = ap not (sym p.1) ∙ k.1 in cc)
-    go (transfers m o h n g e) =
-        absurd (let y : true ≡ false = sym (is_moved w H f t (apart_is w H now f m g (ap (λ (y : ℕ × Message). y.1) e) (turned w H now (Some Move) n.1).1)) ∙ away in cc)
+    go case = absurd (not_both _ (replies_it w H now f is.answered.0 case) replied)
 
 -- one that waits goes before all but claims, acknowledgments and an overdue frame of a broadcast, unless it yields
 pub replies_before : (w : Who) (H : List Call) (c : Controller) (now : ℕ) (f : FrameRecord) (m : Message) → Is w (At now (TakeFrame (Some f)) ∷ H) c
@@ -433,9 +394,8 @@ replies_before w H c now f m is at k a late first = go (frame_case w H now f is.
     packet (inr t) = goes t.2
 
     go : FrameCase w H now f → message_of f ≡ m
-    go (claims o e) = absurd (let z : true ≡ false = sym (claim_taken f now w _ e) ∙ k in cc)
-    go (acknowledges x o h g e way) =
-        absurd (let z : true ≡ false = sym (due_taken w f now x e (due_get w (due w H) (length (acknowledged H)) x (sound w H is.answered.0).desk.0 g)).1 ∙ a in cc)
+    go (claims o e) = absurd (not_both _ k (claims_it w H now f is.answered.0 (claims o e)))
+    go (acknowledges x o h g e way) = absurd (not_both _ a (acknowledges_it w H now f is.answered.0 (acknowledges x o h g e way)))
     go (replies x o h n g e) = let z : Some x ≡ Some m = sym g ∙ at in ap (λ (y : ℕ × Message). y.1) e ∙ (let y : x ≡ m = cc in y)
     go (sends x o h n g e) = absurd (goes (turned w H now (Some Single) n.1).2)
     go (packs x o h n g e) = absurd (packet (turned w H now (Some Packet) n.1))
@@ -445,12 +405,8 @@ pub taken_rest : (w : Who) (H : List Call) (now : ℕ) (f : FrameRecord) → is_
     → (reception w (At now (TakeFrame (Some f)) ∷ H)).replies ≡ drop 1 (reception w H).replies
 taken_rest w H now f k t m = ap (λ (r : Reception). r.replies) (taken_is w H now f false true k (λ i. t i && is_it i))
   where
-    flip : (b : Bool) → not b ≡ false → b ≡ true
-    flip true i = refl
-    flip false i = absurd (cc)
-
     is_it : is_that (message_of f) (slice_get (reception w H).replies 0) ≡ true
-    is_it = flip _ (sym (ap (λ (b : Bool). b && not (is_that (message_of f) (slice_get (reception w H).replies 0))) t) ∙ m)
+    is_it = not-false _ (sym (ap (λ (b : Bool). b && not (is_that (message_of f) (slice_get (reception w H).replies 0))) t) ∙ m)
 
 pub others_taken : (w : Who) (H : List Call) (now : ℕ) (f : FrameRecord) → is_claim f ≡ false → (is_transfer f ≡ false) ⊎ IsTrue (is_move w H f)
     → (reception w (At now (TakeFrame (Some f)) ∷ H)).replies ≡ (reception w H).replies
@@ -472,7 +428,7 @@ none_replied w H c now is held = none (reception w H).replies (none_next w H now
 
 -- ---- from an address that is lost
 
-record Silent (r : Reception) : Type 0 where
+pub record Silent (r : Reception) : Type 0 where
   pub session : r.session ≡ None
   pub replies : r.replies ≡ []
 
@@ -514,7 +470,7 @@ claim_lost : (b : Bool) (s : ℕ) (a : Address) → is_lost (if b then Rattle.j3
 claim_lost true s a e = sym (lost_older s a) ∙ (sym (lost_claimed (older s a)) ∙ e)
 claim_lost false s a e = sym (lost_older s a) ∙ e
 
-silent : (w : Who) (H : List Call) → is_lost (address_after w H) ≡ true → Silent (reception w H)
+pub silent : (w : Who) (H : List Call) → is_lost (address_after w H) ≡ true → Silent (reception w H)
 silent w [] e = record { session = refl; replies = refl }
 silent w (At when (Hear f) ∷ H) e =
     silent_heard w.address (is_smaller w (claim_of f)) (holds w H when) f (time_heard (At when (Hear f) ∷ H)) _
@@ -527,9 +483,6 @@ silent w (At now (TakeFrame (Some f)) ∷ H) e =
 silent w (ReleaseTransfer answer ∷ H) e = silent_released answer (reception w H) (silent w H e)
 silent w (At now Again ∷ H) e = silent w H (sym (lost_older (step H now) (address_after w H)) ∙ (sym (lost_unclaimed _) ∙ e))
 silent w (call ∷ H) e = silent w H (let z = lost_older (step H (moment (call ∷ H))) (address_after w H) in cc)
-
-pub lost_is_silent : (w : Who) (H : List Call) → IsTrue (is_lost (address_after w H)) → ((reception w H).session ≡ None) × ((reception w H).replies ≡ [])
-lost_is_silent w H e = let s = silent w H e in (s.session, s.replies)
 
 -- ---- frames that are not for a session
 
@@ -676,7 +629,7 @@ refuse_bytes : (own a pgn : ℕ) → (written own a (Abort 2 pgn)).bytes ≡ ref
 unfolding written
 refuse_bytes own a pgn = refl
 
-refuses_by : (own : ℕ) (lost held b : Bool) (f : FrameRecord) (now : ℕ) (r : Reception) (x : ℕ × MessageRecord) (size count most pgn : ℕ) → lost ≡ false → held ≡ true
+pub refuses_by : (own : ℕ) (lost held b : Bool) (f : FrameRecord) (now : ℕ) (r : Reception) (x : ℕ × MessageRecord) (size count most pgn : ℕ) → lost ≡ false → held ≡ true
     → b ≡ false → r.session ≡ None → r.waits ≡ Some x → said_to own f ≡ Some (RequestToSend size count most pgn) → length (without (source_of f.id) r.replies) < 16
     → heard_by own lost held f now (left b r)
     ≡ record { session = None; since = r.since; waits = Some x; replies = without (source_of f.id) r.replies ++ reply_from own (source_of f.id) (refusal pgn) ∷ [] }
@@ -693,23 +646,9 @@ refuses_by own false true false f now r x size count most pgn e g i n k s l =
     else without (source_of f.id) r.replies) (lt-ltb (length (without (source_of f.id) r.replies)) 16 l)
     ∙ ap (λ bytes. without (source_of f.id) r.replies ++ reply_from own (source_of f.id) bytes ∷ []) (refuse_bytes own (frames.source_of f.id) pgn)))
 
-no_session : (r : Reception) (x : ℕ × MessageRecord) → IsApart r → r.waits ≡ Some x → r.session ≡ None
+pub no_session : (r : Reception) (x : ℕ × MessageRecord) → IsApart r → r.waits ≡ Some x → r.session ≡ None
 no_session r x (inl a) e = absurd (let z : None ≡ Some x = sym a ∙ e in cc)
 no_session r x (inr a) e = a
-
-pub full_refuses : (w : Who) (H : List Call) (when : ℕ) (f : FrameRecord) (x : ℕ × MessageRecord) (size count most pgn : ℕ) → (reception w H).waits ≡ Some x
-    → IsTrue (holds w H when) → said_to w.address f ≡ Some (RequestToSend size count most pgn)
-    → length (without (source_of f.id) (reception w H).replies) < 16
-    → reception w (At when (Hear f) ∷ H) ≡ record {
-      session = None;
-      since = (reception w H).since;
-      waits = Some x;
-      replies = without (source_of f.id) (reception w H).replies ++ reply_from w.address (source_of f.id) (255 ∷ 2 ∷ 255 ∷ 255 ∷ 255 ∷ little_bytes 3 pgn) ∷ [];
-    }
-full_refuses w H when f x size count most pgn e held said l =
-    let none = said_no_claim w.address f (RequestToSend size count most pgn) said in
-    refuses_by w.address (is_smaller w (claim_of f)) (holds w H when) (leaves (known w H when f) (holder w (At when (Hear f) ∷ H)) (reception w H).session) f (time_heard (At when (Hear f) ∷ H))
-    (reception w H) x size count most pgn (not_driven w f none) held (not_left_by w H when f none) (no_session (reception w H) x (tidy w H).apart e) e said l
 
 -- ---- a session begins
 
@@ -817,7 +756,7 @@ unfolding asks_again grants
 asks_something now x =
     cond_both (x.asks == 2) _ _ (λ (y : Reaction). (a : Signal) × (y.says ≡ Some a) × Asks a) (λ t. (_, refl, inr refl)) (λ t. (_, refl, inl refl))
 
-some_tick : (own stamp now : ℕ) (r : Reception) (x : ReceptionRecord) → r.session ≡ Some x → limit_in r.since x < now
+pub some_tick : (own stamp now : ℕ) (r : Reception) (x : ReceptionRecord) → r.session ≡ Some x → limit_in r.since x < now
     → (y : ToSend) × ((slice_get y.bytes 0 ≡ Some 17) ⊎ (slice_get y.bytes 0 ≡ Some 255))
     × ((ticked own stamp now r).replies ≡ replied own x.message.source (Some y) r.replies)
 unfolding recv_step takes_tick written
@@ -856,15 +795,6 @@ after_moment limit last time t now e l m = go (nat_lt (last + (suc limit - time)
     go : (b : Bool) → (if b then Some (last + (suc limit - time)) else None) ≡ Some t → limit < later time (now - last)
     go true g = let z : last + (suc limit - time) ≡ t = cc in omega (arith, z, l, m)
     go false g = absurd (cc)
-
-pub tick_says : (w : Who) (H : List Call) (now t : ℕ) (r : ReceptionRecord) → session_tick w H ≡ Some t → (reception w H).session ≡ Some r → t ≤ now
-    → time_heard H + (t - heard_at H) < 10000000000000000
-    → (x : ToSend) × ((slice_get x.bytes 0 ≡ Some 17) ⊎ (slice_get x.bytes 0 ≡ Some 255))
-    × ((reception w (At now Tick ∷ H)).replies ≡ replied w.address r.message.source (Some x) (reception w H).replies)
-tick_says w H now t r e i l m =
-    some_tick w.address now (time_heard (At now Tick ∷ H)) (reception w H) r i
-    (after_moment (limit_in (reception w H).since r) (heard_at H) (time_heard H) t now
-    (sym (ap (λ (o : Option ReceptionRecord). tick_at (reception w H).since o (heard_at H) (time_heard H)) i) ∙ e) l m)
 
 -- ---- acknowledged on the wire
 

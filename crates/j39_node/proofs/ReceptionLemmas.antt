@@ -1,28 +1,9 @@
 -- What every history says of what is received in packets.
-use Rattle.std.proofs.Common.{◌≡◌, ◌⊎◌, ℕ, zero, suc, ◌+◌, ◌-◌, ◌<◌, ◌≤◌, List, [], ◌∷◌, ◌++◌, length, drop, min, Option, Some, None, Bool, true, false, not, ◌&&◌, if◌then◌else◌, nat_eq, nat_lt, ◌==◌, refl, sym, ap, ◌∙◌, subst, inl, inr, arith, ltb-true, ltb-false, append-nil, append_assoc}
-use Rattle.std.proofs.lemmas.Bool.{cond_both}
-use Rattle.std.specs.List.{slice_get}
-use Rattle.j39_frame.specs.Frame.{FrameRecord}
-use Rattle.j39_frame.specs.Identifier.{source_of}
-use Rattle.j39_frame.specs.Network.{transport_control_group}
-use Rattle.j39_address.specs.Claim.{Claim, claim_of, claims_of}
-use Rattle.j39_address.specs.Claims.{Knows, holder_in}
-use Rattle.j39_address.specs.Holder.{IsHolderAfter}
-use Rattle.j39_address.specs.declared.claims.Claims.{Claims}
+use Rattle.j39_node.proofs.Common.{[], if◌then◌else◌, ◌&&◌, ◌++◌, ◌+◌, ◌-◌, ◌<◌, ◌==◌, ◌∙◌, ◌∷◌, ◌≡◌, ◌≤◌, ◌⊎◌, Abort, Acknowledgment, ap, append-nil, append_assoc, arith, asks_again, At, Bool, BroadcastAnnounce, Call, called, calls_claims, Claim, claim_of, claimed_again, Claims, claims_of, ClearToSend, cond_both, delivers_message, Directed, drop, false, FrameRecord, goes_on, goes_to, granted_at, grants, has_place, Hear, Heard, heard_at, heard_by, held_then, held_through, holder, holder_in, holds, inl, inr, is_claim, is_double, is_over, is_reply, is_same, is_smaller, is_some, is_taken, is_that, is_transfer, IsApart, IsHolderAfter, keeps, known, Knows, leaves, left, length, limit_of, List, ltb-false, ltb-true, Message, message_of, MessageRecord, min, nat_eq, nat_lt, None, not, of_other, Option, Packet, partner_of, quiet, Reaction, receiver_at, ReceiverRecord, Reception, reception, ReceptionRecord, recv_step, RecvResult, refl, released_by, ReleaseTransfer, replied, RequestToSend, result_of, said_between, said_to, SessionRecord, shown, Signal, since_by, slice_get, Some, source_of, step_at, still, subst, suc, sym, TakeFrame, taken_by, takes, takes_abort, takes_data, takes_packet, takes_request, takes_signal, takes_tick, Tick, ticked, ticked_at, Ticks, time_heard, told_claims, ToSend, transport_control_group, true, Who, without, zero, ℕ}
+use Rattle.j39_transport.specs.Reception.{begun, is_from}
 use Rattle.j39_address.proofs.HolderLemmas.{held_after, holder_push, none_above, same_holder}
 use Rattle.j39_address.proofs.NotingLemmas.{claims_of-push}
-use Rattle.j39_transport.specs.Cutting.{ToSend}
 use Rattle.j39_transport.specs.Frames as frames
-use Rattle.j39_transport.specs.Key.{Directed}
-use Rattle.j39_transport.specs.Message.{MessageRecord}
-use Rattle.j39_transport.specs.Reception.{ReceptionRecord, Reaction, asks_again, begun, delivers_message, goes_on, granted_at, grants, is_from, is_taken, limit_of, quiet, takes_abort, takes_data, takes_packet, takes_request, takes_signal, takes_tick}
-use Rattle.j39_transport.specs.Receiving.{ReceiverRecord, RecvResult, Heard, Tick as Ticks, partner_of, recv_step, result_of, said_to}
-use Rattle.j39_transport.specs.Session.{SessionRecord}
-use Rattle.j39_transport.specs.Signals.{Signal, BroadcastAnnounce, RequestToSend, ClearToSend, Acknowledgment, Abort, Packet, said_between}
-use Rattle.j39_node.specs.History.{Who, Message, Call, holds, is_claim, is_smaller, told_claims, is_some, message_of, is_transfer, is_double, of_other}
-use Rattle.j39_node.specs.History.Call.{At, ReleaseTransfer}
-use Rattle.j39_node.specs.History.Act.{Hear, Tick, TakeFrame}
-use Rattle.j39_node.specs.Reception.{Reception, IsApart, time_heard, goes_to, has_place, heard_by, held_then, held_through, holder, is_over, is_same, keeps, leaves, left, receiver_at, reception, released_by, replied, shown, since_by, step_at, taken_by, takes, ticked, ticked_at, without, known, called, calls_claims, claimed_again, heard_at, still, is_reply, is_that}
 
 -- ---- what a step of the receiver leaves
 

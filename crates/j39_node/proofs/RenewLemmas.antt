@@ -1,15 +1,6 @@
 -- A message that waits is renewed.
-use Rattle.std.proofs.Common.{◌≡◌, ◌≢◌, ◌⊎◌, ℕ, zero, suc, ◌+◌, ◌-◌, ◌<◌, ◌≤◌, List, [], ◌∷◌, ◌++◌, length, map, drop, take, slice_set, Option, Some, None, Bool, true, false, not, ◌&&◌, if◌then◌else◌, nat_eq, nat_le, refl, sym, ap, ◌∙◌, arith, inl, inr, slice_index_or}
-use Rattle.std.proofs.lemmas.Bool.{and_parts}
-use Rattle.std.specs.List.{refill, slice_get}
-use Rattle.std.proofs.Math.Seq.{take-append_seam, take-suc}
-use Rattle.std.proofs.lemmas.List.{length-take-le, length-set}
-use Rattle.j39_node.specs.declared.outgoing.Outgoing.{Outgoing}
-use Rattle.j39_node.specs.Is.{posted}
+use Rattle.j39_node.proofs.Common.{[], if◌then◌else◌, ◌&&◌, ◌++◌, ◌+◌, ◌-◌, ◌<◌, ◌∙◌, ◌∷◌, ◌≡◌, ◌≢◌, ◌≤◌, ◌⊎◌, and_parts, ap, arith, Bool, drop, false, inl, inr, is_alike, latest, length, length-set, length-take-le, List, map, Message, nat_eq, nat_le, None, not, Option, option_map, Outgoing, posted, refill, refl, request_group, slice_get, slice_index_or, slice_set, Some, suc, sym, take, take-append_seam, take-suc, true, zero, ℕ, leb-true, le-leb}
 use Rattle.j39_node.proofs.QueueLemmas.{length_map, map_append}
-use Rattle.std.specs.Option.{option_map}
-use Rattle.j39_frame.specs.Network.{request_group}
-use Rattle.j39_node.specs.History.{IsFront, Message, content, is_alike, latest}
 
 -- the last that is alike, one more
 pub latest_more : (m : Message) (n i : ℕ) (xs : List (ℕ × Message)) (x : ℕ × Message) (o : Option ℕ)
@@ -44,16 +35,13 @@ pub latest_is : (m : Message) (n i k : ℕ) (xs : List (ℕ × Message)) (o : Op
 latest_is m n i k [] o e = inl e
 latest_is m n i k (x ∷ xs) o e = go (nat_le n i && is_alike m x.1) refl (latest_is m n (suc i) k xs _ e)
   where
-    le_is : (a b : ℕ) → nat_le a b ≡ true → a ≤ b
-    le_is a b f = grind arith
-
     at_head : (b : Bool) → (nat_le n i && is_alike m x.1) ≡ b → (if b then Some i else o) ≡ Some k → (o ≡ Some k) ⊎ IsLatest m n i k (x ∷ xs)
     at_head false f g = inl g
     at_head true f g =
         let z : i ≡ k = cc in let p = and_parts _ _ f in
         inr (record {
           entry = x;
-          from = (let l = le_is n i p.0 in omega (arith, l, z));
+          from = (let l = leb-true n i p.0 in omega (arith, l, z));
           past = omega (arith, z);
           is = ap (slice_get (x ∷ xs)) (let y : k - i ≡ 0 = omega (arith, z) in y);
           alike = p.1;
@@ -86,10 +74,7 @@ latest_past m n i j [] o y e l a = absurd (cc)
 latest_past m n i zero (x ∷ xs) o y e l a =
     let r = latest_keeps m n (suc i) i xs (omega arith) in
     let z : x ≡ y = cc in
-    (r.0, (λ t. latest m n (suc i) xs (if le_true n i (omega (arith, l)) t && (ap (λ (u : ℕ × Message). is_alike m u.1) z ∙ a) t then Some i else o)) ∙ r.1, (let b = r.2 in omega (arith, b)))
-  where
-    le_true : (a b : ℕ) → a ≤ b → nat_le a b ≡ true
-    le_true a b f = grind (arith, f)
+    (r.0, (λ t. latest m n (suc i) xs (if le-leb n i (omega (arith, l)) t && (ap (λ (u : ℕ × Message). is_alike m u.1) z ∙ a) t then Some i else o)) ∙ r.1, (let b = r.2 in omega (arith, b)))
 latest_past m n i (suc j) (x ∷ xs) o y e l a =
     let r = latest_past m n (suc i) j xs (if nat_le n i && is_alike m x.1 then Some i else o) y e (omega (arith, l)) a in (r.0, r.1, (let b = r.2 in omega (arith, b)))
 
@@ -167,17 +152,6 @@ set_other (z ∷ xs) zero zero x n = absurd (n refl)
 set_other (z ∷ xs) zero (suc i) x n = refl
 set_other (z ∷ xs) (suc k) zero x n = refl
 set_other (z ∷ xs) (suc k) (suc i) x n = set_other xs k i x (λ e. n (ap suc e))
-
--- what came before it stays in front
-pub set_front : (front : List Message) (xs : List (ℕ × Message)) (k : ℕ) (x : ℕ × Message) → length front ≤ k → IsFront front (map content xs)
-    → IsFront front (map content (slice_set xs k x))
-set_front [] xs k x l h = (map content (slice_set xs k x), refl)
-set_front (m ∷ front) [] k x l h = h
-set_front (m ∷ front) (y ∷ xs) zero x l h = absurd (omega (arith, l))
-set_front (m ∷ front) (y ∷ xs) (suc k) x l h =
-    let e : y.1 ≡ m = (let z = h.1 in cc) in
-    let r = set_front front xs k x (omega (arith, l)) (h.0, (let z = h.1 in cc)) in
-    (r.0, (let z = r.1 in cc))
 
 -- a request isn't renewed
 pub no_request : (m n : Message) → is_alike m n ≡ true → nat_eq n.group request_group ≡ true → ⊥

@@ -1,22 +1,6 @@
 -- A frame of who wasn't asked, or to another address, says nothing to a request, and ends none.
-use Rattle.std.proofs.Common.{arith, ◌≡◌, ◌≢◌, ℕ, ◌-◌, List, ◌∷◌, Option, Some, None, Bool, true, false, ◌&&◌, ◌||◌, if◌then◌else◌, nat_eq, nat_lt, refl, sym, ap, ◌∙◌, eqb-true}
-use Rattle.std.specs.List.{slice_get}
-use Rattle.std.specs.Option.{option_map, option_or}
-use Rattle.j39_frame.specs.Frame.{FrameRecord}
-use Rattle.j39_frame.specs.Identifier.{destination_of, pgn_of, source_of}
-use Rattle.j39_address.specs.Claim.{claim_of}
-use Rattle.j39_transport.specs.Message.{MessageRecord}
-use Rattle.j39_transport.specs.Reception.{ReceptionRecord}
-use Rattle.j39_transport.specs.Receiving.{Heard, recv_step}
-use Rattle.j39_node.specs.declared.kinds.AskEnding.{AskEnding}
-use Rattle.j39_node.specs.declared.kinds.AskEnding.TheVariants.{Answered}
-use Rattle.j39_node.specs.History.{reached, Who, Call, address_after, holds, is_acknowledgment, is_lost, is_none, is_some, is_smaller, older, step}
-use Rattle.j39_node.specs.History.Address.{Lost}
-use Rattle.j39_node.specs.History.Call.{At}
-use Rattle.j39_node.specs.History.Act.{Hear, Tick}
-use Rattle.j39_node.specs.Reception.{Reception, has_place, holder, leaves, left, reception, time_heard, whole, whole_by, shown, known}
-use Rattle.j39_node.specs.Hearing.{made_whole}
-use Rattle.j39_node.specs.Asking.{Question, ask_end, end_at, ended, first, comes, is_answer, is_of, is_reply, made, made_of, next_ask_ended, open_ask, reaches, said_by, says_to, seeks, silent_end, wait}
+use Rattle.j39_node.proofs.Common.{if◌then◌else◌, ◌&&◌, ◌-◌, ◌||◌, ◌∙◌, ◌∷◌, ◌≡◌, ◌≢◌, address_after, Answered, ap, arith, ask_end, AskEnding, At, Bool, Call, claim_of, comes, destination_of, end_at, ended, eqb-true, false, first, FrameRecord, has_place, Hear, Heard, holder, holds, is_acknowledgment, is_answer, is_lost, is_none, is_of, is_smaller, is_some, known, leaves, left, List, Lost, made, made_of, made_whole, MessageRecord, nat_eq, nat_lt, next_ask_ended, None, older, open_ask, Option, option_map, option_or, pgn_of, Question, reached, reaches, Reception, reception, ReceptionRecord, recv_step, refl, says_to, seeks, shown, silent_end, slice_get, Some, source_of, step, sym, Tick, time_heard, true, wait, Who, whole, whole_by, ℕ, and-false}
+use Rattle.j39_node.specs.Asking.{is_reply, said_by}
 use Rattle.j39_node.proofs.HearingLaws.{unequal}
 use Rattle.j39_node.proofs.PacketsAnswer.{made_by_packet, none_whole, packs_to_all}
 use Rattle.j39_node.proofs.ReceptionLaws.{heard_kept, none_delivered, not_said}
@@ -59,9 +43,6 @@ made_source w H when f x e = go (whole w H when f) (made_whole w H when f) refl 
 
 -- ---- another says nothing
 
-pub and_false : (b : Bool) → (b && false) ≡ false
-and_false b = grind arith
-
 silent_by : (w : Who) (q : Question) (f : FrameRecord) (o : Option (ℕ × ℕ)) → seeks q o ≡ false → is_answer q f ≡ false → is_reply w q f ≡ false
     → says_to w q f o ≡ None
 silent_by w q f o a b c = grind (arith, a, b, c)
@@ -69,14 +50,14 @@ silent_by w q f o a b c = grind (arith, a, b, c)
 pub of_another : (w : Who) (H : List Call) (when : ℕ) (f : FrameRecord) (q : Question) → q.to ≢ 255 → source_of f.id ≢ q.to → says_to w q f (made w H when f) ≡ None
 of_another w H when f q n m =
     silent_by w q f (made w H when f) (whole_one (made w H when f) refl)
-    ((λ i. nat_eq (pgn_of f.id) q.group && (unequal q.to 255 n i || unequal (source_of f.id) q.to m i)) ∙ and_false (nat_eq (pgn_of f.id) q.group))
-    (ap (λ (b : Bool). is_acknowledgment f && (b && is_of w.address q.group f.bytes)) (unequal (source_of f.id) q.to m) ∙ and_false (is_acknowledgment f))
+    ((λ i. nat_eq (pgn_of f.id) q.group && (unequal q.to 255 n i || unequal (source_of f.id) q.to m i)) ∙ and-false (nat_eq (pgn_of f.id) q.group))
+    (ap (λ (b : Bool). is_acknowledgment f && (b && is_of w.address q.group f.bytes)) (unequal (source_of f.id) q.to m) ∙ and-false (is_acknowledgment f))
   where
     whole_one : (o : Option (ℕ × ℕ)) → made w H when f ≡ o → seeks q o ≡ false
     whole_one None e = refl
     whole_one (Some x) e =
         (λ i. nat_eq x.1 q.group && (unequal q.to 255 n i || (ap (λ (a : ℕ). nat_eq a q.to) (made_source w H when f x e) ∙ unequal (source_of f.id) q.to m) i))
-        ∙ and_false (nat_eq x.1 q.group)
+        ∙ and-false (nat_eq x.1 q.group)
 
 pub to_another : (w : Who) (H : List Call) (when : ℕ) (f : FrameRecord) (q : Question) (a : ℕ) → destination_of f.id ≡ Some a → a ≢ 255 → a ≢ w.address
     → says_to w q f (made w H when f) ≡ None
@@ -88,7 +69,7 @@ to_another w H when f q a d n m =
 
     unreached : reaches w f ≡ false
     unreached = (λ i. nat_lt (source_of f.id) 254 && (is_none (d i) || (is_some (d i) 255 || is_some (d i) w.address)))
-        ∙ ((λ i. nat_lt (source_of f.id) 254 && (unequal a 255 n i || unequal a w.address m i)) ∙ and_false (nat_lt (source_of f.id) 254))
+        ∙ ((λ i. nat_lt (source_of f.id) 254 && (unequal a 255 n i || unequal a w.address m i)) ∙ and-false (nat_lt (source_of f.id) 254))
 
     none_to : whole w H when f ≡ None
     none_to =

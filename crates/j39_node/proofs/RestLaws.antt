@@ -1,17 +1,10 @@
 -- When a transfer rests.
-use Rattle.std.proofs.Common.{◌≡◌, ℕ, ◌+◌, ◌-◌, ◌<◌, ◌≤◌, List, [], ◌∷◌, ◌++◌, Option, Some, None, Ok, Bool, true, false, ◌&&◌, if◌then◌else◌, nat_eq, nat_lt, refl, sym, ap, ◌∙◌, arith, IsTrue, eq-eqb, ◌⊎◌, inl, inr, append-nil}
-use Rattle.std.proofs.lemmas.Bool.{and_from, and_parts}
-use Rattle.j39_node.specs.declared.kinds.TransferEnding.{TransferEnding}
-use Rattle.j39_node.specs.History.{Who, Call, moment, step}
-use Rattle.j39_node.specs.History.Call.{TakeTransferEnded}
-use Rattle.j39_node.specs.Moving.{begun, moved}
-use Rattle.j39_node.specs.Since.{ToldSince, passed_in}
-use Rattle.j39_node.specs.Transfers.{Running, holds_back, is_resting, joined, open_transfer, rest, resting, rests_after, with_pair}
-use Rattle.j39_node.specs.History.{Resting, NoneRests, PairRests, AllRest}
+use Rattle.j39_node.proofs.Common.{[], if◌then◌else◌, ◌&&◌, ◌++◌, ◌+◌, ◌-◌, ◌<◌, ◌∙◌, ◌∷◌, ◌≡◌, ◌≤◌, ◌⊎◌, AllRest, and_from, ap, append-nil, arith, Bool, Call, eq-eqb, false, holds_back, inl, inr, is_resting, IsTrue, joined, List, moment, moved, nat_eq, nat_lt, None, NoneRests, open_transfer, Option, PairRests, passed_in, refl, rest, Resting, resting, rests_after, Running, Some, step, TakeTransferEnded, ToldSince, TransferEnding, true, Who, with_pair, ℕ, lt-ltb}
+use Rattle.j39_node.specs.Moving.{begun}
 
 -- ---- it rests only after such an end, or where it did before its history
 
-record Rested (w : Who) (H : List Call) : Type 0 where
+pub record Rested (w : Who) (H : List Call) : Type 0 where
   pub ended : ℕ × TransferEnding
   pub age : ℕ
   pub told : ToldSince H ended age
@@ -24,7 +17,7 @@ Brings w H = rest w H + passed_in H [] ≤ w.brought.rests_until
 abbrev Rests : Who → List Call → Type 0
 Rests w H = 0 < rest w H → Rested w H ⊎ Brings w H
 
--- a call more, after which less is left
+-- a call more, after which ltb-true is left
 one_later : (w : Who) (H : List Call) (call : Call) → rest w (call ∷ H) ≤ rest w H - step H (moment (call ∷ H)) → Rests w H → Rests w (call ∷ H)
 one_later w H call e h l = elim (h (omega (arith, e, l))) [
   | inl r ↦ inl (record {
@@ -57,25 +50,9 @@ since_call w (TakeTransferEnded (Some x)) H h = go (rests_after x.1) refl
         one_later w H (TakeTransferEnded (Some x)) (let z = ap (λ (c : Bool). if c then 4000000 else rest w H) e in omega (arith, z)) h l
 since_call w call H h = one_later w H call (omega arith) h
 
-rested : (w : Who) (H : List Call) → Rests w H
+pub rested : (w : Who) (H : List Call) → Rests w H
 rested w [] l = inr (omega arith)
 rested w (call ∷ H) l = since_call w call H (rested w H) l
-
-less : (m n : ℕ) → nat_lt m n ≡ true → m < n
-less m n z = grind arith
-
-less_is : (m n : ℕ) → m < n → nat_lt m n ≡ true
-less_is m n l = grind arith
-
-pub rests_only : (w : Who) (H : List Call) (now group to : ℕ) → IsTrue (is_resting w H now group to)
-    → ((x : ℕ × TransferEnding) × (e : ℕ) × ToldSince H x e × IsTrue (rests_after x.1) × (e + step H now < 4000000))
-    ⊎ (passed_in H [] + step H now < w.brought.rests_until)
-rests_only w H now group to h =
-    let l = less 0 (rest w H - step H now) (and_parts (nat_lt 0 (rest w H - step H now)) (holds_back (resting w H) group to) h).0 in
-    elim (rested w H (omega (arith, l))) [
-      | inl r ↦ inl (r.ended, r.age, r.told, r.rests, (let p = r.left in omega (arith, p, l)))
-      | inr b ↦ inr (omega (arith, b, l))
-    ]
 
 -- ---- after such an end it rests
 
@@ -142,7 +119,7 @@ module _ (w : Who) (B : List Call) (n group to : ℕ) (most : n ≤ 4000000) whe
   still later now e p l =
       let h = holds later (record { left = omega (arith, e); pair = p }) (omega (arith, l)) in
       and_from (nat_lt 0 (rest w (later ++ B) - step (later ++ B) now)) (holds_back (resting w (later ++ B)) group to)
-      (less_is 0 (rest w (later ++ B) - step (later ++ B) now) (let a = h.left in omega (arith, a, l))) h.pair
+      (lt-ltb 0 (rest w (later ++ B) - step (later ++ B) now) (let a = h.left in omega (arith, a, l))) h.pair
 
 -- the end of a transfer is told, by which it rests
 module _ (w : Who) (earlier : List Call) (group to : ℕ) (x : ℕ × TransferEnding) (t : Running) (r : IsTrue (rests_after x.1))

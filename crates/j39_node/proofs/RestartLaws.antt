@@ -1,15 +1,5 @@
 -- A restart is met.
-use Rattle.std.proofs.Common.{◌≡◌, ◌≢◌, ◌↔◌, ℕ, ◌+◌, ◌-◌, ◌<◌, ◌≤◌, List, [], ◌∷◌, ◌++◌, Option, Some, None, Bool, true, false, not, ◌||◌, ◌&&◌, if◌then◌else◌, IsTrue, nat_eq, min, refl, sym, ap, ◌∙◌, subst, arith, eqb-true, eq-eqb}
-use Rattle.j39_frame.specs.Frame.{FrameRecord}
-use Rattle.j39_address.specs.Claim.{Claim, claim_of}
-use Rattle.j39_transport.specs.Reception.{ReceptionRecord}
-use Rattle.j39_transport.specs.Receiving.{RecvResult, said_to}
-use Rattle.j39_transport.specs.Signals.{Signal}
-use Rattle.j39_node.specs.History.{Who, Call, holds, is_claim, is_smaller, is_some, moment, step, of_other}
-use Rattle.j39_node.specs.History.Call.{At}
-use Rattle.j39_node.specs.History.Act.{Hear, Tick, TakeFrame}
-use Rattle.j39_node.specs.Reception.{KeepsHolder, Reception, asks_claims, called, calls_claims, claimed_again, has_place, heard_at, heard_by, held_then, holder, is_message, is_same, known, leaves, left, reception, restarts, still, time_heard}
-use Rattle.j39_node.specs.Since.{passed_in}
+use Rattle.j39_node.proofs.Common.{[], if◌then◌else◌, ◌&&◌, ◌++◌, ◌+◌, ◌-◌, ◌<◌, ◌||◌, ◌↔◌, ◌∙◌, ◌∷◌, ◌≡◌, ◌≢◌, ◌≤◌, ap, arith, asks_claims, At, Bool, Call, called, calls_claims, Claim, claim_of, claimed_again, eq-eqb, eqb-true, false, FrameRecord, has_place, Hear, heard_at, heard_by, held_then, holder, is_claim, is_message, is_same, is_some, KeepsHolder, known, left, List, min, moment, nat_eq, None, of_other, Option, passed_in, Reception, RecvResult, refl, restarts, said_to, Signal, Some, step, still, sym, TakeFrame, Tick, true, Who, ℕ}
 use Rattle.j39_node.proofs.PacketLemmas.{quiet_step}
 use Rattle.j39_node.proofs.ReceptionLaws.{said_no_claim}
 
@@ -65,31 +55,24 @@ gone w H when a f e =
     still_held false c e =
         ap (λ (b : Bool). if b then Some (min c.name c.name) else if nat_eq c.name c.name then None else Some c.name) (eq-eqb _ _ e) ∙ ap (λ (k : ℕ). Some k) (same c.name)
 
-left_by : (w : Who) (H : List Call) (when a : ℕ) (f : FrameRecord) → restarts w H when f ≡ Some a → is_same (known w H when f a) (holder w (At when (Hear f) ∷ H) a) ≡ false
+pub left_by : (w : Who) (H : List Call) (when a : ℕ) (f : FrameRecord) → restarts w H when f ≡ Some a → is_same (known w H when f a) (holder w (At when (Hear f) ∷ H) a) ≡ false
 left_by w H when a f e = let g = gone w H when a f e in λ i. is_same (g.0 i) (g.1.1 i)
 
 -- ---- what ends
 
-unsaid : (own : ℕ) (f : FrameRecord) (c : Claim) → claim_of f ≡ Some c → said_to own f ≡ None
+pub unsaid : (own : ℕ) (f : FrameRecord) (c : Claim) → claim_of f ≡ Some c → said_to own f ≡ None
 unsaid own f c e = go (said_to own f) refl
   where
     go : (o : Option Signal) → said_to own f ≡ o → o ≡ None
     go None s = refl
     go (Some s) i = absurd (let z : None ≡ Some c = sym (said_no_claim own f s i) ∙ e in cc)
 
-ends_by : (own : ℕ) (lost held b : Bool) (f : FrameRecord) (now : ℕ) (r : Reception) → b ≡ true → said_to own f ≡ None → (heard_by own lost held f now (left b r)).session ≡ None
+pub ends_by : (own : ℕ) (lost held b : Bool) (f : FrameRecord) (now : ℕ) (r : Reception) → b ≡ true → said_to own f ≡ None → (heard_by own lost held f now (left b r)).session ≡ None
 ends_by own true held b f now r e n = refl
 ends_by own false true true f now r e n = ap (λ (u : RecvResult). u.after.session) (quiet_step (record { own = own; session = None }) f now (has_place r.waits) n)
 ends_by own false true false f now r e n = absurd (cc)
 ends_by own false false true f now r e n = refl
 ends_by own false false false f now r e n = absurd (cc)
-
-pub session_ends : (w : Who) (H : List Call) (when : ℕ) (f : FrameRecord) (r : ReceptionRecord) → (reception w H).session ≡ Some r
-    → restarts w H when f ≡ Some r.message.source → (reception w (At when (Hear f) ∷ H)).session ≡ None
-session_ends w H when f r e g =
-    let m = (means w H when r.message.source f).0 g in
-    ends_by w.address (is_smaller w (claim_of f)) (holds w H when) _ f (time_heard (At when (Hear f) ∷ H)) (reception w H)
-    (ap (leaves (known w H when f) (holder w (At when (Hear f) ∷ H))) e ∙ ap not (left_by w H when r.message.source f g)) (unsaid w.address f m.0 m.1)
 
 pub differs : (w : Who) (H : List Call) (when a : ℕ) (f : FrameRecord) → restarts w H when f ≡ Some a → holder w (At when (Hear f) ∷ H) a ≢ known w H when f a
 differs w H when a f e same = let g = gone w H when a f e in absurd (let z : Some g.1.0 ≡ None = sym g.1.1 ∙ (same ∙ g.0) in cc)
@@ -141,7 +124,7 @@ not_yet c m h p now l q = go (nat_eq (c - (now - h)) 0) refl
     go true e = absurd (let z = none_left c (now - h) e in omega (arith, z, l, q))
     go false e = refl
 
-none_restarts : (w : Who) (later E : List Call) (now : ℕ) (g : FrameRecord) → 1250000 ≤ called w E - (moment E - heard_at E) → passed_in later E + step (later ++ E) now < 1250000
+pub none_restarts : (w : Who) (later E : List Call) (now : ℕ) (g : FrameRecord) → 1250000 ≤ called w E - (moment E - heard_at E) → passed_in later E + step (later ++ E) now < 1250000
     → restarts w (later ++ E) now g ≡ None
 none_restarts w later E now g l q = go (claim_of g)
   where
@@ -157,19 +140,6 @@ none_restarts w later E now g l q = go (claim_of g)
         never : (b : Bool) → (let o : Option ℕ = if b && false then Some c.address else None in o) ≡ None
         never true = refl
         never false = refl
-
-pub heard : (w : Who) (later H : List Call) (when now : ℕ) (f g : FrameRecord) → IsTrue (calls_claims (holder w H) f (claim_of f))
-    → passed_in later (At when (Hear f) ∷ H) + step (later ++ At when (Hear f) ∷ H) now < 1250000 → restarts w (later ++ At when (Hear f) ∷ H) now g ≡ None
-heard w later H when now f g t q =
-    none_restarts w later (At when (Hear f) ∷ H) now g
-    (subst (λ (b : Bool). 1250000 ≤ (if b then 1250000 else called w H - (when - heard_at H)) - (when - when)) (sym t) (omega arith)) q
-
-pub taken : (w : Who) (later H : List Call) (when now : ℕ) (f g : FrameRecord) → IsTrue (is_claim f || (is_message f && asks_claims f))
-    → passed_in later (At when (TakeFrame (Some f)) ∷ H) + step (later ++ At when (TakeFrame (Some f)) ∷ H) now < 1250000
-    → restarts w (later ++ At when (TakeFrame (Some f)) ∷ H) now g ≡ None
-taken w later H when now f g t q =
-    none_restarts w later (At when (TakeFrame (Some f)) ∷ H) now g
-    (subst (λ (b : Bool). 1250000 ≤ (if b then 1250000 + (when - heard_at H) else called w H) - (when - heard_at H)) (sym t) (omega arith)) q
 
 -- ---- between the calls that bring a message
 

@@ -1,15 +1,5 @@
 -- The frames of transfers that are made.
-use Rattle.std.proofs.Common.{◌≡◌, ◌↔◌, ℕ, ◌+◌, ◌*◌, ◌<◌, ◌≤◌, List, length, Option, Some, None, IsSome, IfSome, Bool, true, nat_lt, if◌then◌else◌, refl, ap, ◌∙◌, arith}
-use Rattle.std.specs.Option.{option_map}
-use Rattle.j39_frame.specs.Frame.{FrameRecord}
-use Rattle.j39_frame.specs.Identifier.{destination_of, page_of, pf_of, pgn_of, priority_of, ps_of, source_of}
-use Rattle.j39_transport.specs.Cutting.{ToSend, transport_id}
-use Rattle.j39_transport.specs.Sending.{SenderRecord, sent_by}
-use Rattle.j39_transport.specs.SenderModel.{IsSender}
-use Rattle.j39_transport.specs.Signals.{Signal, Packet, group_with, written}
-use Rattle.j39_node.specs.History.{Message, carried}
-use Rattle.j39_node.specs.Is.{stamped}
-use Rattle.j39_node.specs.Transfers.{says}
+use Rattle.j39_node.proofs.Common.{if◌then◌else◌, ◌*◌, ◌+◌, ◌<◌, ◌↔◌, ◌∙◌, ◌≡◌, ◌≤◌, ap, arith, Bool, carried, destination_of, FrameRecord, group_with, IfSome, IsSender, IsSome, length, List, Message, nat_lt, None, Option, option_map, Packet, page_of, pf_of, pgn_of, priority_of, ps_of, refl, says, SenderRecord, sent_by, Signal, Some, source_of, stamped, ToSend, transport_id, true, written, ℕ}
 use Rattle.j39_node.proofs.FrameLemmas.{at_now, made}
 
 abbrev carries : ℕ → ℕ → ℕ → List ℕ → Message
@@ -49,9 +39,3 @@ said_made r now id bytes s (Some a) h e known is l =
     made r now id bytes (says s a) known is l
     (written_is id s.message.source s.destination a bytes h.message.message.source h.destination (ap (λ (f : ToSend). f.id) z)
     ∙ ap (carries (group_with a) s.message.source s.destination) (ap (λ (f : ToSend). f.bytes) z))
-
--- nothing is said
-pub none_said : (now : ℕ) (s : SenderRecord) (o : Option Signal) → (let none : Option ToSend = None in none) ≡ sent_by s o
-    → (let none : Option (ℕ × Message) = None in none) ≡ option_map (at_now now) (option_map (says s) o)
-none_said now s None e = refl
-none_said now s (Some a) e = absurd (cc)

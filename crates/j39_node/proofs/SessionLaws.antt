@@ -1,20 +1,6 @@
 -- A session ends by itself.
-use Rattle.std.proofs.Common.{◌≡◌, ℕ, ◌+◌, ◌-◌, ◌*◌, ◌<◌, ◌≤◌, List, [], ◌∷◌, ◌++◌, Option, Some, None, Bool, true, false, refl, sym, ap, ◌∙◌, arith, if◌then◌else◌, lt-ltb, ltb-false}
-use Rattle.std.proofs.lemmas.Bool.{cond_both}
-use Rattle.std.specs.Option.{option_map}
-use Rattle.j39_frame.specs.Frame.{FrameRecord}
-use Rattle.j39_address.specs.Claim.{claim_of}
-use Rattle.j39_transport.specs.Protocol.{timer_t2}
-use Rattle.j39_transport.specs.Reception.{ReceptionRecord, answers, takes_tick}
-use Rattle.j39_transport.specs.Receiving.{RecvResult, Tick as Ticks, partner_of, recv_step, result_of, said_to}
-use Rattle.j39_transport.specs.Signals.{Signal, Abort, written}
-use Rattle.j39_node.specs.History.{Who, Call, holds, is_claim, is_smaller, moment}
-use Rattle.j39_node.specs.History.Call.{At, ReleaseTransfer}
-use Rattle.j39_node.specs.History.Act.{Hear, Tick, TakeFrame}
-use Rattle.j39_node.specs.Reception.{Reception, has_place, heard_at, group_of, heard_by, holder, is_over, leaves, left, longest, reception, released_by, replied, since_by, step_at, taken_by, ticked_at, time_heard, known, is_reply}
-use Rattle.j39_node.specs.Since.{NeverBack, passed_in}
-use Rattle.j39_node.specs.Is.{Course, clear_in, cleared, named_in}
-use Rattle.j39_node.specs.Ticks.{IsOpenOf, StaysOpen, TicksWithin, unticked_in}
+use Rattle.j39_node.proofs.Common.{[], if◌then◌else◌, ◌*◌, ◌++◌, ◌+◌, ◌-◌, ◌<◌, ◌∙◌, ◌∷◌, ◌≡◌, ◌≤◌, Abort, answers, ap, arith, At, Bool, Call, claim_of, clear_in, cond_both, Course, false, FrameRecord, group_of, has_place, Hear, heard_at, heard_by, holder, holds, is_claim, is_over, is_reply, is_smaller, IsOpenOf, known, leaves, left, List, longest, lt-ltb, ltb-false, moment, named_in, NeverBack, None, Option, option_map, partner_of, passed_in, Reception, reception, ReceptionRecord, recv_step, RecvResult, refl, released_by, ReleaseTransfer, replied, result_of, said_to, Signal, since_by, Some, StaysOpen, step_at, sym, TakeFrame, taken_by, takes_tick, Tick, ticked_at, Ticks, TicksWithin, time_heard, timer_t2, true, unticked_in, Who, written, ℕ}
+use Rattle.j39_node.specs.Is.{cleared}
 use Rattle.j39_node.proofs.IncomingLemmas.{kept_tick}
 use Rattle.j39_node.proofs.PacketLemmas.{quiet_step}
 use Rattle.j39_node.proofs.ReceptionLaws.{not_left_by, said_no_claim}

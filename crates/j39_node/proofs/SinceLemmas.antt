@@ -1,19 +1,9 @@
 -- A claimed address was claimed by a frame that was taken.
-use Rattle.std.proofs.Common.{◌≡◌, ◌≤◌, ℕ, ◌+◌, ◌-◌, List, [], ◌∷◌, ◌++◌, length, nat_eq, Some, Bool, true, false, if◌then◌else◌, nat_le, IsTrue, refl, sym, ap, ◌∙◌, subst, arith}
-use Rattle.j39_frame.specs.Frame.{FrameRecord}
-use Rattle.j39_frame.specs.Network.{address_claimed_group}
-use Rattle.j39_address.specs.Claim.{claim_of}
-use Rattle.j39_node.specs.declared.controller.Controller.{Controller}
-use Rattle.j39_node.specs.History.{Act, Who, Call, Message, Address, address_after, claim_address, claim_from, claimed, content, holds, is_claim, is_held, is_lost, is_smaller, moment, older, unclaimed, open_broadcast, packets, pause, step}
-use Rattle.j39_node.specs.History.Call.{At}
-use Rattle.j39_node.specs.History.Act.{Again, Hear, TakeFrame}
-use Rattle.j39_node.specs.History.Address.{NotClaimed, Claimed, Lost}
-use Rattle.j39_node.specs.Is.{Is, AreAnswered}
-use Rattle.j39_node.specs.Since.{ClaimedSince, NeverBack, NoneUnclaims, unclaims, passed_in}
-use Rattle.j39_node.specs.Reception.{reception}
-use Rattle.j39_node.proofs.ReceptionLemmas.{replied_get, tidy}
-use Rattle.j39_node.proofs.SoundLemmas.{FrameCase, frame_case, own_of, due_get, due_taken, message_taken, packet_taken, reply_taken, sound, transfer_taken}
-use Rattle.j39_node.proofs.SoundLemmas.FrameCase.{claims, acknowledges, replies, sends, packs, transfers}
+use Rattle.j39_node.proofs.Common.{[], if◌then◌else◌, ◌++◌, ◌+◌, ◌-◌, ◌∙◌, ◌∷◌, ◌≡◌, ◌≤◌, Address, address_after, Again, ap, AreAnswered, arith, At, Bool, Call, claim_address, claim_from, claim_of, Claimed, claimed, ClaimedSince, content, false, FrameRecord, Hear, is_claim, is_held, is_lost, is_smaller, IsTrue, List, Lost, moment, nat_le, NeverBack, NoneUnclaims, NotClaimed, older, passed_in, refl, Some, step, subst, sym, TakeFrame, true, unclaimed, Who, ℕ, not_both}
+use Rattle.j39_node.specs.Since.{unclaims}
+use Rattle.j39_node.proofs.SoundLemmas.{FrameCase, frame_case}
+use Rattle.j39_node.proofs.SoundLemmas.FrameCase.{claims}
+use Rattle.j39_node.proofs.KindLemmas.{claims_it}
 
 -- one call later
 one_later : (w : Who) (H : List Call) (call : Call) (e d : ℕ) → ClaimedSince w H e → unclaims w call ≡ false → d ≡ e + step H (moment (call ∷ H))
@@ -76,16 +66,7 @@ begins w H now f right (claims o e) k a = record {
   stays = tt;
   passed = refl;
 }
-begins w H now f right (acknowledges m o h g e way) k a =
-    absurd (let z = (due_taken w f now m e (due_get w _ _ m (sound w H right).desk.0 g)).0 in let y : true ≡ false = sym k ∙ z in cc)
-begins w H now f right (replies m o h n g e) k a =
-    absurd (let z = (reply_taken w.address f now m e (replied_get w.address (reception w H).replies 0 m (tidy w H).replies g)).0 in let y : true ≡ false = sym k ∙ z in cc)
-begins w H now f right (sends x o h n g e) k a =
-    absurd (let z = message_taken w f now x e (own_of w H x right g) in let y : true ≡ false = sym k ∙ z in cc)
-begins w H now f right (packs m o h n g e) k a =
-    absurd (let z = (packet_taken f now m (open_broadcast w H) (length (packets H)) (pause H - step H now) e g).0 in let y : true ≡ false = sym k ∙ z in cc)
-begins w H now f right (transfers m o h n g e) k a =
-    absurd (let z = (transfer_taken w H now f m right e g).claim in let y : true ≡ false = sym k ∙ z in cc)
+begins w H now f right case k a = absurd (not_both _ (claims_it w H now f right case) k)
 
 taken : (w : Who) (H : List Call) (now d : ℕ) (f : FrameRecord) → AreAnswered w H → FrameCase w H now f
     → ((n : ℕ) → address_after w H ≡ Claimed n → ClaimedSince w H n)
@@ -110,7 +91,7 @@ claimed_since w (At now Again ∷ H) d right e = absurd (not_claimed (older (ste
 claimed_since w (call ∷ H) d right e =
     passes w H call d (λ k i. claimed_since w H k right.0 i) refl (let z = same_age (moment H) (address_after w H) in cc)
 
-held_cases : (s : ℕ) (a : Address) → is_held (older s a) ≡ true → (e : ℕ) × (a ≡ Claimed e) × (250000 ≤ e + s)
+pub held_cases : (s : ℕ) (a : Address) → is_held (older s a) ≡ true → (e : ℕ) × (a ≡ Claimed e) × (250000 ≤ e + s)
 held_cases s NotClaimed h = absurd (cc)
 held_cases s Lost h = absurd (cc)
 held_cases s (Claimed n) h = (n, refl, le_is (n + s) h)
@@ -118,16 +99,10 @@ held_cases s (Claimed n) h = (n, refl, le_is (n + s) h)
     le_is : (k : ℕ) → nat_le 250000 k ≡ true → 250000 ≤ k
     le_is k g = grind arith
 
-pub held_since : (w : Who) (H : List Call) (c : Controller) (now : ℕ) → Is w H c → IsTrue (holds w H now)
-    → (e : ℕ) × ClaimedSince w H e × (250000 ≤ e + step H now)
-held_since w H c now is h =
-    let x = held_cases (step H now) (address_after w H) h in
-    (x.0, claimed_since w H x.0 is.answered x.1, x.2)
-
 -- ---- an address that is claimed is held in time
 
 -- it is lost, or was claimed so long ago
-data Stands (a : Address) (p : ℕ) : Type 0 where
+pub data Stands (a : Address) (p : ℕ) : Type 0 where
   gone : a ≡ Lost → Stands a p
   stands : (e : ℕ) → a ≡ Claimed e → p ≤ e → Stands a p
 
@@ -146,7 +121,7 @@ first_claim true NotClaimed e = stands 0 refl (omega arith)
 first_claim true (Claimed n) e = stands n refl (omega arith)
 first_claim true Lost e = gone refl
 
-stands_since : (w : Who) (later E : List Call) (at : ℕ) (f : FrameRecord) → is_claim f ≡ true → NoneUnclaims w later
+pub stands_since : (w : Who) (later E : List Call) (at : ℕ) (f : FrameRecord) → is_claim f ≡ true → NoneUnclaims w later
     → Stands (address_after w (later ++ At at (TakeFrame (Some f)) ∷ E)) (passed_in later (At at (TakeFrame (Some f)) ∷ E))
 stands_since w [] E at f k d = first_claim (is_claim f) (older (step E at) (address_after w E)) k
 stands_since w (At next (Hear g) ∷ later) E at f k d =
@@ -162,30 +137,18 @@ stands_since w (call ∷ later) E at f k d =
     ages (address_after w H) (address_after w (call ∷ H)) (step H (moment (call ∷ H))) _ (stands_since w later E at f k d.1)
     (let z = same_age (moment H) (address_after w H) in cc)
 
-in_time : (s p : ℕ) (a : Address) → Stands a p → (IsTrue (is_lost a) → ⊥) → 250000 ≤ p + s → is_held (older s a) ≡ true
+pub in_time : (s p : ℕ) (a : Address) → Stands a p → (IsTrue (is_lost a) → ⊥) → 250000 ≤ p + s → is_held (older s a) ≡ true
 in_time s p a (gone e) n l = absurd (n (ap is_lost e))
 in_time s p a (stands e g m) n l = ap (λ (x : Address). is_held (older s x)) g ∙ enough (e + s) (omega (arith, l, m))
   where
     enough : (k : ℕ) → 250000 ≤ k → nat_le 250000 k ≡ true
     enough k h = grind arith
 
-pub held_in_time : (w : Who) (H : List Call) (now e : ℕ) → ClaimedSince w H e → (IsTrue (is_lost (address_after w H)) → ⊥) → 250000 ≤ e + step H now
-    → IsTrue (holds w H now)
-held_in_time w H now e h n l =
-    let k : is_claim h.claim ≡ true = ap (λ (m : Message). nat_eq m.group address_claimed_group) h.claims in
-    let s = stands_since w h.later h.earlier h.at h.claim k h.stays in
-    let z = subst (λ (G : List Call). Stands (address_after w G) (passed_in h.later (At h.at (TakeFrame (Some h.claim)) ∷ h.earlier))) (sym h.is) s in
-    in_time (step H now) e (address_after w H) (subst (Stands (address_after w H)) (sym h.passed) z) n l
-
 -- ---- time
 
 pub difference : (later earlier : List Call) → NeverBack later earlier → moment earlier + passed_in later earlier ≡ moment (later ++ earlier)
 difference [] earlier n = omega arith
 difference (call ∷ later) earlier n = let d = difference later earlier n.0 in let m = n.1 in omega (arith, d, m)
-
-pub set_back : (later earlier : List Call) (now : ℕ) (act : Act) → now ≤ moment (later ++ earlier)
-    → (passed_in (At now act ∷ later) earlier ≡ passed_in later earlier) × (moment (At now act ∷ later ++ earlier) ≡ now)
-set_back later earlier now act l = (omega (arith, l), refl)
 
 pub behind : (later earlier : List Call) → moment (later ++ earlier) ≤ moment earlier + passed_in later earlier
 behind [] earlier = omega arith

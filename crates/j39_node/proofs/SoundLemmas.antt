@@ -1,36 +1,9 @@
 -- What every answered history says of what was accepted, sent and told.
-use Rattle.std.proofs.Common.{drop, ◌≡◌, ℕ, zero, suc, ◌+◌, ◌-◌, ◌<◌, ◌≤◌, List, [], ◌∷◌, ◌++◌, length, map, Option, Some, None, Result, Ok, Err, Bool, true, false, not, ◌&&◌, ◌||◌, if◌then◌else◌, nat_eq, nat_lt, nat_le, ◌==◌, refl, sym, ap, ◌∙◌, subst, inl, inr, arith, append_assoc, length-append, eq-eqb, eqb-true, ltb-true, ◌⊎◌, IsTrue, slice_set, max, take}
-use Rattle.std.proofs.lemmas.Bool.{and_from, and_parts, or_parts, leb-true}
-use Rattle.std.proofs.lemmas.Option.{slice_get_past, slice_get-map, slice_get_within}
-use Rattle.std.specs.List.{slice_get}
-use Rattle.std.specs.Option.{option_map}
-use Rattle.j39_frame.specs.Frame.{FrameRecord}
-use Rattle.j39_frame.specs.Identifier.{destination_of, pgn_of, source_of}
-use Rattle.j39_frame.specs.Network.{address_claimed_group, transport_control_group, transport_data_group, request_group}
-use Rattle.j39_address.specs.Claim.{claim_of}
-use Rattle.j39_transport.specs.Message.{MessageRecord, packets_of}
-use Rattle.std.proofs.lemmas.List.{map-set, length-set, take-set-le, take-append-le}
+use Rattle.j39_node.proofs.Common.{[], if◌then◌else◌, ◌&&◌, ◌++◌, ◌+◌, ◌-◌, ◌<◌, ◌==◌, ◌||◌, ◌∙◌, ◌∷◌, ◌≡◌, ◌≤◌, ◌⊎◌, accepted, Acknowledge, acknowledged, acknowledgment, acknowledgment_group, Address, address_after, address_claimed_group, Again, and_from, and_parts, Answer, ap, append_assoc, AreAnswered, arith, Ask, Asked, asked, At, blank, Bool, Busy, bytes_eq-Decides, Call, can_ask, can_send, claim_address, claim_due, claim_from, claim_goes, claim_of, Claimed, claimed, clock_at, content, control_of, destination_of, Done, Draft, drop, due, end_of, Ending, eq-eqb, eqb-true, false, frame_of, FrameRecord, fresh, gives_way, got, handed, has_packets, Hear, holds, inl, inr, is_acknowledgment, is_apart, is_blank, is_claim, is_held, is_left, is_lost, is_move, is_own_group, is_packet, is_refusal_due, is_same, is_sendable, is_served, is_session, is_smaller, is_some, is_that, is_there, is_transfer, is_turn, IsAnswered, IsFront, IsTrue, kept, latest, leb-true, length, length-append, length-set, List, Lost, ltb-true, map, map-set, marks, max, may_go, Message, message_from, message_of, MessageRecord, moment, Move, Nack, nat_eq, nat_le, nat_lt, next_acknowledgment, next_ended, next_frame, next_other, next_packet, next_renewed, next_transfer, next_turn, next_withdrawn, None, not, NotClaimed, Ok, older, open_ask, open_broadcast, open_transfer, Option, option_map, or_parts, other, packet_by, packets, packets_of, past, pause, pgn_of, Question, question, reached, Ready, ready, reception, refl, Renew, Reply, request_for, request_group, requests, Send, sent, Single, slice_get, slice_get-map, slice_get_past, slice_get_within, slice_set, Some, source_of, stamped, step, subst, suc, sym, take, take-append-le, take-set-le, TakeAskEnded, TakeEnded, TakeFrame, TakeReceived, TakeRequest, told, transport_control_group, transport_data_group, true, Turn, turn_frame, turn_of, turns, unblanked, unclaimed, Who, with_refusal, with_request, Withdraw, Withdrawn, yields, zero, ℕ, answer_to_ask, and-false, and-true, ltb-false, not-true}
+use Rattle.j39_node.specs.declared.turn.Turn.TheVariants.{Packet}
 use Rattle.j39_node.proofs.WithdrawLemmas.{get_front, stops_append, past_more, next_false, past_stops, past_within, set_same, unblanked_more, unblanked_past, unpassed}
-use Rattle.j39_node.specs.declared.kinds.Ending.{Ending}
-use Rattle.j39_node.specs.declared.kinds.Ending.TheVariants.{Done, Withdrawn}
-use Rattle.j39_node.specs.declared.kinds.Answer.{Answer}
-use Rattle.j39_node.specs.declared.kinds.Answer.TheVariants.{Nack, Busy}
-use Rattle.j39_node.specs.declared.kinds.Refused.{Refused}
-use Rattle.j39_node.specs.declared.kinds.Refused.TheVariants.{NoAddress, BadValue, Full}
-use Rattle.j39_node.specs.History.{reached, fresh, is_refusal_due, turns, has_packets, is_left, Who, Message, Draft, Call, Address, IsFront, Asked, accepted, acknowledged, acknowledgment, acknowledgment_group, address_after, asked, can_send, claim_address, claim_from, claimed, content, due, frame_of, got, handed, holds, is_acknowledgment, is_claim, is_full, is_held, is_lost, is_own_group, is_packet, is_sendable, is_served, is_session, is_smaller, is_some, is_transfer, kept, message_from, message_of, moment, older, open_broadcast, packets, pause, request_for, requests, sent, step, told, with_refusal, with_request, unclaimed, latest, marks, past, unblanked, is_blank, blank}
-use Rattle.j39_node.specs.History.Call.{At, TakeEnded, TakeReceived, TakeRequest, Renew, Withdraw, TakeAskEnded}
-use Rattle.j39_node.specs.History.Act.{Ask, Hear, TakeFrame, Send, Acknowledge, Again}
-use Rattle.std.proofs.lemmas.Slice.Eq.{bytes_eq-Decides}
-use Rattle.j39_node.specs.Reception.{yields, is_move, is_same, is_that, reception}
 use Rattle.j39_node.proofs.ReceptionLemmas.{IsReply, replied_get, tidy}
-use Rattle.j39_node.specs.History.Address.{NotClaimed, Claimed, Lost}
-use Rattle.j39_node.specs.Is.{is_apart, claim_goes, gives_way, is_there, is_turn, next_acknowledgment, next_other, next_turn, other, ready, turn_frame, turn_of, AreAnswered, IsAnswered, control_of, stamped, packet_by, next_packet, next_frame, next_ended, end_of, answer_to_send, claim_due, next_renewed, next_withdrawn, may_go}
-use Rattle.j39_node.specs.declared.turn.Ready.{Ready}
-use Rattle.j39_node.specs.declared.turn.Turn.{Turn}
-use Rattle.j39_node.specs.declared.turn.Turn.TheVariants.{Reply, Single, Packet, Move}
-use Rattle.j39_node.specs.Transfers.{next_transfer, open_transfer, clock_at}
-use Rattle.j39_node.specs.Asking.{can_ask, open_ask, Question, question}
-use Rattle.j39_node.proofs.AskCases.{AskCase, ask_case, homeless, unfit, busy, asks, sendable}
+use Rattle.j39_node.proofs.AnswerCases.{ask_accepts, send_accepts, sendable}
 use Rattle.j39_node.proofs.PortLemmas.{ported, SaidCase, said_case}
 use Rattle.j39_node.proofs.QueueLemmas.{get_append, length_one_more, map_append, length_map}
 use Rattle.j39_node.proofs.RenewLemmas.{IsLatest, latest_is, set_get, set_other, no_request}
@@ -68,22 +41,10 @@ held_not_lost Lost e = absurd (cc)
 pub holding_not_lost : (w : Who) (H : List Call) (now : ℕ) → holds w H now ≡ true → is_lost (address_after w H) ≡ false
 holding_not_lost w H now e = sym (lost_older (step H now) (address_after w H)) ∙ held_not_lost _ e
 
-pub both : (x y : Bool) → (x && y) ≡ true → (x ≡ true) × (y ≡ true)
-both true y e = (refl, e)
-both false y e = absurd (cc)
-
-some_is : {T : Type 0} (x y : T) → Some x ≡ Some y → x ≡ y
-some_is x y e = cc
-
--- neither an acknowledgment nor another
-pub none_steers : (a b : Option Message) → control_of a b ≡ None → (a ≡ None) × (b ≡ None)
-none_steers None b e = (refl, e)
-none_steers (Some m) b e = absurd (cc)
-
 -- ---- which frame was taken
 
 -- an acknowledgment that goes is due
-acknowledged_is_due : (w : Who) (H : List Call) (now : ℕ) (m : Message) → next_acknowledgment w H now ≡ Some m
+pub acknowledged_is_due : (w : Who) (H : List Call) (now : ℕ) (m : Message) → next_acknowledgment w H now ≡ Some m
     → (slice_get (due w H) (length (acknowledged H)) ≡ Some m) × (gives_way w H now ≡ false)
 acknowledged_is_due w H now m e = go (gives_way w H now) refl e
   where
@@ -92,7 +53,7 @@ acknowledged_is_due w H now m e = go (gives_way w H now) refl e
     go true g e = absurd (cc)
     go false g e = (e, g)
 
--- no acknowledgment goes, and it is the turn of this
+-- not-true acknowledgment goes, and it is the turn of this
 abbrev pub IsNext : Who → List Call → ℕ → Turn → Type 0
 IsNext w H now turn = (next_acknowledgment w H now ≡ None) × (next_turn w H now ≡ Some turn)
 
@@ -141,11 +102,8 @@ frame_case w H now f e = go (claim_goes w H now) (holds w H now) (next_acknowled
 
 -- ---- whose turn it is
 
-not_least : (k n : ℕ) → nat_lt k n ≡ false → n ≤ k
-not_least k n e = grind arith
-
 pub none_at : {T : Type 0} (L : List T) (n : ℕ) → nat_lt n (length L) ≡ false → slice_get L n ≡ None
-none_at L n e = slice_get_past L n (not_least n (length L) e)
+none_at L n e = slice_get_past L n (ltb-false n (length L) e)
 
 pub some_at : {T : Type 0} (L : List T) (n : ℕ) → nat_lt n (length L) ≡ true → slice_get L n ≡ None → ⊥
 some_at L n e = go L n (ltb-true n (length L) e)
@@ -225,7 +183,7 @@ apart_none None a f e = refl
 apart_none (Some m) None f e = absurd (cc)
 apart_none (Some m) (Some x) f e = absurd (cc)
 
--- no reply, no message, and no frame of the open broadcast
+-- not-true reply, not-true message, and not-true frame of the open broadcast
 pub record Rest (w : Who) (H : List Call) (now : ℕ) : Type 0 where
   pub reply : slice_get (reception w H).replies 0 ≡ None
   pub message : slice_get (accepted w H) (reached H) ≡ None
@@ -289,12 +247,6 @@ other_none w H now h e = go (next_turn w H now)
 
 -- ---- who gives way
 
-pub no_claim_goes : (owes : Bool) → (owes && false) ≡ false
-no_claim_goes owes = grind arith
-
-pub goes_on : (owes : Bool) → (owes && true) ≡ owes
-goes_on owes = grind arith
-
 -- where something gives way the other frame goes
 pub given_way : (w : Who) (H : List Call) (now : ℕ) → gives_way w H now ≡ true → (m : Message) × (next_other w H now ≡ Some m) × (next_frame w H now ≡ Some (now, m))
 given_way w H now g = go (holds w H now) (other w H now) refl refl (and_parts (nat_le 2 (turns H)) (is_there (next_other w H now)) g).1
@@ -311,9 +263,9 @@ given_way w H now g = go (holds w H now) (other w H now) refl refl (and_parts (n
     go false o p q t = absurd (cc)
     go true None p q t = absurd (cc)
     go true (Some m) p q t =
-        (m, refl, is true true (Some m) g p q ∙ ap (λ (b : Bool). frame_by b true None (Some m) claim now) (no_claim_goes (claim_due w H now)))
+        (m, refl, is true true (Some m) g p q ∙ ap (λ (b : Bool). frame_by b true None (Some m) claim now) (and-false (claim_due w H now)))
 
--- where no frame goes nothing gives way: a claim that is owed goes, and an acknowledgment that is due
+-- where not-true frame goes nothing gives way: a claim that is owed goes, and an acknowledgment that is due
 pub none_gives : (w : Who) (H : List Call) (now : ℕ) → (let none : Option (ℕ × Message) = None in none) ≡ next_frame w H now → gives_way w H now ≡ false
 none_gives w H now e = go (gives_way w H now) refl
   where
@@ -322,7 +274,7 @@ none_gives w H now e = go (gives_way w H now) refl
     go false g = refl
 
 pub claim_is : (w : Who) (H : List Call) (now : ℕ) → gives_way w H now ≡ false → claim_goes w H now ≡ claim_due w H now
-claim_is w H now g = ap (λ (b : Bool). claim_due w H now && not b) g ∙ goes_on (claim_due w H now)
+claim_is w H now g = ap (λ (b : Bool). claim_due w H now && not b) g ∙ and-true (claim_due w H now)
 
 pub due_is : (w : Who) (H : List Call) (now : ℕ) → gives_way w H now ≡ false → next_acknowledgment w H now ≡ slice_get (due w H) (length (acknowledged H))
 due_is w H now g = ap (λ (b : Bool). if b then None else slice_get (due w H) (length (acknowledged H))) g
@@ -343,7 +295,7 @@ none_due_goes w H now e = go (gives_way w H now)
     go true = refl
     go false = e
 
--- where no frame goes from an address that is held, nothing is due
+-- where not-true frame goes from an address that is held, nothing is due
 pub record NoneDue (w : Who) (H : List Call) (now : ℕ) : Type 0 where
   pub acknowledgment : slice_get (due w H) (length (acknowledged H)) ≡ None
   pub rest : Rest w H now
@@ -377,11 +329,8 @@ pub packet_case : (o : Option (ℕ × MessageRecord)) (i left : ℕ) (m : Messag
 packet_case None i left m e = absurd (cc)
 packet_case (Some x) i left m e = go (nat_le left 100000) (nat_le i (packets_of x.1)) refl refl e
   where
-    le_is : (k n : ℕ) → nat_le k n ≡ true → k ≤ n
-    le_is k n f = grind arith
-
     go : (a b : Bool) → nat_le left 100000 ≡ a → nat_le i (packets_of x.1) ≡ b → (if a && b then Some (frame_of x.1 i) else None) ≡ Some m → PacketCase (Some x) i left m
-    go true true p q r = record { token = x.0; message = x.1; is = refl; over = le_is _ _ p; within = le_is _ _ q; frame = (let z : frame_of x.1 i ≡ m = cc in sym z) }
+    go true true p q r = record { token = x.0; message = x.1; is = refl; over = leb-true _ _ p; within = leb-true _ _ q; frame = (let z : frame_of x.1 i ≡ m = cc in sym z) }
     go true false p q r = absurd (cc)
     go false b p q r = absurd (cc)
 
@@ -405,7 +354,7 @@ packet_frame f now m i e = go (i == 0) (ap (λ (y : ℕ × Message). y.1.group) 
       ap (λ (g : ℕ). (nat_eq g transport_control_group || nat_eq g transport_data_group) && is_some (destination_of f.id) 255) z ∙ to_all,
     )
 
--- a reply is no frame of a broadcast
+-- a reply is not-true frame of a broadcast
 pub reply_taken : (own : ℕ) (f : FrameRecord) (now : ℕ) (m : Message) → stamped f ≡ (now, m) → IsReply own m
     → (is_claim f ≡ false) × (is_acknowledgment f ≡ false) × (is_session f ≡ true) × (is_packet f ≡ false)
 reply_taken own f now m e is =
@@ -441,10 +390,7 @@ pub packet_session : (f : FrameRecord) → is_packet f ≡ true → (is_session 
 packet_session f e = go (is_session f) (is_some (destination_of f.id) 255) refl refl e
   where
     go : (a b : Bool) → is_session f ≡ a → is_some (destination_of f.id) 255 ≡ b → (a && b) ≡ true → (is_session f ≡ true) × (is_transfer f ≡ false)
-    go true true p q r = (p, ap (λ (x : Bool). is_session f && not x) q ∙ off (is_session f))
-      where
-        off : (x : Bool) → (x && false) ≡ false
-        off x = grind arith
+    go true true p q r = (p, ap (λ (x : Bool). is_session f && not x) q ∙ and-false (is_session f))
     go true false p q r = absurd (cc)
     go false b p q r = absurd (cc)
 
@@ -465,20 +411,13 @@ pub reply_is : (w : Who) (H : List Call) (f : FrameRecord) (m : Message) → sli
 reply_is w H f m e i = ap (is_that (message_of f)) e ∙ (ap (λ x. is_that x (Some m)) i ∙ that_same m)
 
 pub reply_no_move : (w : Who) (H : List Call) (f : FrameRecord) (m : Message) → slice_get (reception w H).replies 0 ≡ Some m → message_of f ≡ m → is_move w H f ≡ false
-reply_no_move w H f m e i = ap (λ (b : Bool). is_transfer f && not b) (reply_is w H f m e i) ∙ off (is_transfer f)
-  where
-    off : (b : Bool) → (b && false) ≡ false
-    off b = grind arith
+reply_no_move w H f m e i = ap (λ (b : Bool). is_transfer f && not b) (reply_is w H f m e i) ∙ and-false (is_transfer f)
 
--- one of the open transfer that goes apart from it is no reply
+-- one of the open transfer that goes apart from it is not-true reply
 pub apart_is : (w : Who) (H : List Call) (now : ℕ) (f : FrameRecord) (m : Message) → next_transfer w H now ≡ Some m → message_of f ≡ m
     → (ready w H now).transfer ≡ true → is_that (message_of f) (slice_get (reception w H).replies 0) ≡ false
 apart_is w H now f m g e t = ap (λ x. is_that x (slice_get (reception w H).replies 0)) e
-    ∙ flip _ (sym (ap (λ o. is_apart o (slice_get (reception w H).replies 0)) g) ∙ t)
-  where
-    flip : (b : Bool) → not b ≡ true → b ≡ false
-    flip true i = absurd (cc)
-    flip false i = refl
+    ∙ not-true _ (sym (ap (λ o. is_apart o (slice_get (reception w H).replies 0)) g) ∙ t)
 
 pub is_moved : (w : Who) (H : List Call) (f : FrameRecord) → is_transfer f ≡ true → is_that (message_of f) (slice_get (reception w H).replies 0) ≡ false → is_move w H f ≡ true
 is_moved w H f e g = λ i. e i && not (g i)
@@ -636,42 +575,20 @@ pub neither : (x y : Bool) → not (x || y) ≡ true → (x ≡ false) × (not y
 neither true y e = absurd (cc)
 neither false y e = (refl, e)
 
-no : (x : Bool) → not x ≡ true → x ≡ false
-no x e = grind (arith, e)
-
 is_own : (w : Who) (d : Draft) → can_send w d ≡ true → IsOwn w (message_from w d)
 is_own w d e =
-    let a = both (nat_lt d.priority 8) _ e in
-    let b = both (is_sendable d.group) _ a.1 in
-    let c = both _ (not (is_own_group d.group || nat_eq d.group acknowledgment_group)) b.0 in
+    let a = and_parts (nat_lt d.priority 8) _ e in
+    let b = and_parts (is_sendable d.group) _ a.1 in
+    let c = and_parts _ (not (is_own_group d.group || nat_eq d.group acknowledgment_group)) b.0 in
     let k = neither (is_own_group d.group) _ c.1 in
     let n = neither (nat_eq d.group transport_control_group) (nat_eq d.group transport_data_group || nat_eq d.group address_claimed_group) (ap not k.0) in
     let m = neither (nat_eq d.group transport_data_group) _ n.1 in
     record {
       source = refl;
-      group = no _ m.1;
-      plain = no _ k.1;
+      group = not-true _ m.1;
+      plain = not-true _ k.1;
       single = ap (λ (x : Bool). x || nat_eq d.group transport_data_group) n.0 ∙ m.0;
     }
-
--- ---- what send answers
-
-pub data SendCase (w : Who) (H : List Call) (now : ℕ) (d : Draft) (answer : Result ℕ Refused) : Type 0 where
-  no_address : holds w H now ≡ false → answer ≡ Err NoAddress → SendCase w H now d answer
-  bad_value : holds w H now ≡ true → can_send w d ≡ false → answer ≡ Err BadValue → SendCase w H now d answer
-  full : holds w H now ≡ true → can_send w d ≡ true → is_full w H ≡ true → answer ≡ Err Full → SendCase w H now d answer
-  accepts : holds w H now ≡ true → can_send w d ≡ true → is_full w H ≡ false → answer ≡ Ok (length (accepted w H)) → SendCase w H now d answer
-
-pub send_case : (w : Who) (H : List Call) (now : ℕ) (d : Draft) (answer : Result ℕ Refused) → answer ≡ answer_to_send w H now d → SendCase w H now d answer
-send_case w H now d answer e = go (holds w H now) (can_send w d) (is_full w H) refl refl refl e
-  where
-    go : (x y z : Bool) → holds w H now ≡ x → can_send w d ≡ y → is_full w H ≡ z
-        → answer ≡ (if x then (if y then (if z then Err Full else Ok (length (accepted w H))) else Err BadValue) else Err NoAddress)
-        → SendCase w H now d answer
-    go false y z p q r i = no_address p i
-    go true false z p q r i = bad_value p q i
-    go true true true p q r i = full p q r i
-    go true true false p q r i = accepts p q r i
 
 -- ---- which token was told
 
@@ -982,11 +899,11 @@ withdraw_case w H k e =
     let a = and_parts (not (is_lost (address_after w H))) _ (sym e) in
     let c = and_parts (nat_le (reached H) k) _ a.1 in
     let x = there (slice_get (accepted w H) k) c.1 in
-    record { entry = x.0; kept = no _ a.0; from = leb-true _ _ c.0; is = x.1; stays = x.2.0; plain = x.2.1 }
+    record { entry = x.0; kept = not-true _ a.0; from = leb-true _ _ c.0; is = x.1; stays = x.2.0; plain = x.2.1 }
   where
     there : (o : Option (ℕ × Message)) → may_go o ≡ true → (x : ℕ × Message) × (o ≡ Some x) × ((is_blank x ≡ false) × (nat_eq x.1.group request_group ≡ false))
     there None i = absurd (cc)
-    there (Some x) i = (x, refl, or_parts _ _ (no _ i))
+    there (Some x) i = (x, refl, or_parts _ _ (not-true _ i))
 
 sound_withdrawn : (w : Who) (H : List Call) (k : ℕ) → WithdrawCase w H k → Sound w H → Sound w (Withdraw k true ∷ H)
 sound_withdrawn w H k c h =
@@ -1016,20 +933,8 @@ sound_more w H (At when (Hear f)) right e h = rests w H _ refl refl (refl, refl)
     (kept_grows _ (kept w H) (f.stamp, message_of f) (got H) h.reads)
     (heard_desk w H when f h.desk) h
 sound_more w H (At now (TakeFrame (Some f))) right e h = sound_frame w H now f right (frame_case w H now f e) h
-sound_more w H (At now (Send d (Ok k))) right e h = go (send_case w H now d (Ok k) e)
-  where
-    go : SendCase w H now d (Ok k) → Sound w (At now (Send d (Ok k)) ∷ H)
-    go (no_address a b) = absurd (cc)
-    go (bad_value a b c) = absurd (cc)
-    go (full a b c i) = absurd (cc)
-    go (accepts a b c i) = sound_accept w H now k d b (let z : k ≡ length (accepted w H) = cc in z) h
-sound_more w H (At now (Ask group to (Ok k))) right e h = go (ask_case w H now group to (Ok k) e)
-  where
-    go : AskCase w H now group to (Ok k) → Sound w (At now (Ask group to (Ok k)) ∷ H)
-    go (homeless a b) = absurd (cc)
-    go (unfit a b c) = absurd (cc)
-    go (busy a b c i) = absurd (cc)
-    go (asks a b c i) = sound_ask w H now k group to b (let z : k ≡ length (accepted w H) = cc in z) h
+sound_more w H (At now (Send d (Ok k))) right e h = let x = send_accepts w H now k d e in sound_accept w H now k d x.1 x.3 h
+sound_more w H (At now (Ask group to (Ok k))) right e h = let x = ask_accepts w H now group to k e in sound_ask w H now k group to x.1 x.3 h
 sound_more w H (TakeEnded (Some x)) right e h = sound_ended w H x (end_case w H x e) h
 sound_more w H (TakeReceived (Some x)) right e h = rests w H _ refl refl (refl, refl) refl (λ l. l)
     (front_longer (got H) (kept w H) x h.reads (sym e)) h.desk h
@@ -1082,12 +987,9 @@ grows_on w H call n x right r e = e
 abbrev RequestAt : Who → List Call → ℕ → Type 0
 RequestAt w H k = (x : ℕ × Message) × (slice_get (accepted w H) k ≡ Some x) × (nat_eq x.1.group request_group ≡ true)
 
-request_new : (w : Who) (H : List Call) (now group to k : ℕ) → AskCase w H now group to (Ok k) → RequestAt w (At now (Ask group to (Ok k)) ∷ H) k
-request_new w H now group to k (homeless b i) = absurd (cc)
-request_new w H now group to k (unfit b c i) = absurd (cc)
-request_new w H now group to k (busy b c i j) = absurd (cc)
-request_new w H now group to k (asks b c i j) =
-    let z : k ≡ length (accepted w H) = cc in (x, ap (slice_get (accepted w H ++ x ∷ [])) z ∙ last (accepted w H), refl)
+request_new : (w : Who) (H : List Call) (now group to k : ℕ) → Ok k ≡ answer_to_ask w H now group to → RequestAt w (At now (Ask group to (Ok k)) ∷ H) k
+request_new w H now group to k e =
+    let z = (ask_accepts w H now group to k e).3 in (x, ap (slice_get (accepted w H ++ x ∷ [])) z ∙ last (accepted w H), refl)
   where
     x : ℕ × Message
     x = (k, message_from w (request_for group to))
@@ -1100,7 +1002,7 @@ request_on : (w : Who) (H : List Call) (q : Question) (call : Call) → (open_as
     → open_ask (call ∷ H) ≡ Some q → RequestAt w (call ∷ H) q.token
 request_on w H q (At now (Ask group to (Ok k))) h right i =
     let y : question k group to ≡ q = cc in
-    subst (RequestAt w (At now (Ask group to (Ok k)) ∷ H)) (ap (λ (u : Question). u.token) y) (request_new w H now group to k (ask_case w H now group to (Ok k) right))
+    subst (RequestAt w (At now (Ask group to (Ok k)) ∷ H)) (ap (λ (u : Question). u.token) y) (request_new w H now group to k right)
 request_on w H q (TakeAskEnded (Some x)) h right i = absurd (cc)
 request_on w H q call h right i = let x = h i in (x.0, grows_on w H call q.token x.0 right x.2 x.1, x.2)
 

@@ -1,41 +1,21 @@
 -- That every transfer ends, to a driver that takes one frame at least in each g.
-use Rattle.std.proofs.Common.{◌-◌, ◌≡◌, ◌⊎◌, ℕ, suc, ◌+◌, ◌*◌, ◌<◌, ◌≤◌, List, [], ◌∷◌, ◌++◌, length, Option, Some, None, Ok, Bool, true, false, not, ◌&&◌, ◌||◌, if◌then◌else◌, nat_eq, nat_lt, refl, sym, ap, ◌∙◌, subst, arith, inl, inr, eq-eqb, eqb-true}
-use Rattle.std.specs.List.{slice_get}
-use Rattle.std.specs.Option.{option_map}
-use Rattle.std.proofs.lemmas.Bool.{and_parts, cond_both}
-use Rattle.j39_frame.specs.Frame.{FrameRecord}
-use Rattle.j39_frame.specs.Identifier.{destination_of}
-use Rattle.j39_transport.specs.Message.{MessageRecord, packets_of}
-use Rattle.j39_transport.specs.Protocol.{timer_t3}
-use Rattle.j39_transport.specs.Sending.{SenderRecord, Tick, aborted, is_idle, is_running, new_sender, send_step, ticks_in}
-use Rattle.j39_transport.specs.SenderNext.{granted_by}
-use Rattle.j39_transport.specs.Signals.{Signal, Abort}
-use Rattle.j39_node.specs.declared.controller.Controller.{Controller}
-use Rattle.j39_node.specs.declared.kinds.TransferEnding.{TransferEnding}
-use Rattle.j39_node.specs.declared.turn.Turn.TheVariants.{Reply, Move}
-use Rattle.j39_node.specs.History.{reached, is_session, Who, Message, Call, accepted, acknowledged, address_after, broadcast_from, due, holds, is_acknowledgment, is_claim, is_held, is_lost, is_some, is_transfer, message_of, moment, open_broadcast, packets, pause, sent, step, turns}
-use Rattle.j39_node.specs.History.Call.{At, TakeTransferEnded}
-use Rattle.j39_node.specs.History.Act.{Hear, TakeFrame, Transfer, Again}
-use Rattle.j39_node.specs.Is.{AreAnswered, Is, IsAnswered, is_apart, is_there, next_frame, next_other, other, ready}
-use Rattle.j39_node.specs.Prompt.{IsSteady, NoneTold, counts_for, since_take, taken_for, tells_transfer, claims_anew}
-use Rattle.j39_node.specs.Reception.{yields, holder, is_move, is_same, is_that, reception, is_reply}
-use Rattle.j39_node.specs.Since.{passed_in}
-use Rattle.j39_node.specs.Transfers.{Running, age, begun, clock_at, gives_up, hears, hears_if, is_engaged, is_replaced, is_resting, is_spent, listens, next_transfer, next_transfer_ended, open_transfer, said_to, says, sends, sends_if, signal_by, transfer_by, transfer_end, transfers as all_transfers}
-use Rattle.j39_node.specs.Moves.{clears}
+use Rattle.j39_node.proofs.KindLemmas.{kind_by, moves_it, of_session_it, packs_it, replies_it, steers_it}
+use Rattle.j39_node.proofs.Common.{[], if◌then◌else◌, ◌&&◌, ◌*◌, ◌++◌, ◌+◌, ◌<◌, ◌||◌, ◌∙◌, ◌∷◌, ◌≡◌, ◌≤◌, ◌⊎◌, Abort, aborted, address_after, Again, age, all_transfers, and_parts, ap, AreAnswered, arith, At, begun, Bool, broadcast_from, Call, claims_anew, clears, clock_at, cond_both, Controller, counts_for, destination_of, due, eq-eqb, eqb-true, false, FrameRecord, gives_up, granted_by, Hear, hears, hears_if, holder, holds, inl, inr, Is, is_acknowledgment, is_apart, is_claim, is_engaged, is_held, is_idle, is_lost, is_move, is_replaced, is_reply, is_resting, is_running, is_same, is_session, is_some, is_spent, is_that, is_there, is_transfer, IsAnswered, IsSteady, length, List, listens, Message, MessageRecord, moment, nat_eq, nat_lt, new_sender, next_frame, next_other, next_transfer, next_transfer_ended, None, NoneTold, not, Ok, open_transfer, Option, option_map, other, packets_of, passed_in, ready, reception, refl, Reply, Running, says, send_step, SenderRecord, sends, sends_if, Signal, signal_by, since_take, slice_get, Some, step, subst, suc, sym, TakeFrame, taken_for, TakeTransferEnded, tells_transfer, ticks_in, timer_t3, Transfer, transfer_by, transfer_end, TransferEnding, true, turns, Who, yields, ℕ, answer_to_transfer, not_both, not-false}
+use Rattle.j39_transport.specs.Sending.{Tick}
+use Rattle.j39_node.specs.Transfers.{said_to}
 use Rattle.j39_node.proofs.EndLaws.{Over, ended_aborted, over_hears, over_sends, running_of, tells}
 use Rattle.j39_node.proofs.EndSteps.{heard_case, times_more}
 use Rattle.j39_node.proofs.MoveLemmas.{Sent, hears_token, sent_case}
-use Rattle.j39_node.proofs.PortLemmas.{TransferCase, hears_same, sends_same, transfer_case}
-use Rattle.j39_node.proofs.PortLemmas.TransferCase.{homeless, unfit, busy, opens}
+use Rattle.j39_node.proofs.PortLemmas.{hears_same, sends_same}
 use Rattle.j39_node.proofs.PromptLaws.{answered_from, keeps_heard, keeps_taken, lost_heard, lost_taken}
-use Rattle.j39_node.proofs.LawLemmas.{not_both}
-use Rattle.j39_node.proofs.ReceptionLemmas.{replied_get, tidy, no_reply}
-use Rattle.j39_node.proofs.SoundLemmas.{acknowledgment_single, FrameCase, IsTurn, claim_single, claim_taken, due_get, due_taken, frame_case, held_older, is_directed, lost_older, message_taken, no_transfer, none_next, none_other, own_of, packet_session, packet_taken, plain_taken, reply_taken, single_taken, sound, transfer_taken, turned, reply_is}
+use Rattle.j39_node.proofs.ReceptionLemmas.{no_reply}
+use Rattle.j39_node.proofs.SoundLemmas.{acknowledgment_single, FrameCase, claim_single, frame_case, held_older, is_directed, lost_older, no_transfer, none_next, none_other, packet_session, turned}
 use Rattle.j39_node.proofs.SoundLemmas.FrameCase.{claims, acknowledges, replies, sends as sends_one, packs, transfers}
 use Rattle.j39_node.proofs.SteadyLaws.{few_turns, held_holds, one, since_most, steers, turns_then}
 use Rattle.j39_node.proofs.SteadySteps.{Account, Late, Listened, account_goes, account_holds, account_passes, account_rests, account_steers, due_late, heard_late, most, no_older, none_late, passes, ticked_late}
 use Rattle.j39_node.proofs.SteadySteps.Listened.{over as ends_so, kept, held as holds_on}
 use Rattle.j39_node.proofs.TransferLaws.{Budgeted, BudgetedIf, budgeted}
+use Rattle.j39_node.proofs.AnswerCases.{transfer_accepts}
 
 -- ---- what a frame that isn't one of the open transfer costs
 
@@ -66,30 +46,28 @@ due_there w to H now d = ap (λ (b : Bool). is_there (if b then other w H now el
     go (Some m) e = refl
     go None e = absurd (let x = d.1.1 in let y = (none_other w H now e).1 in let z : None ≡ Some d.1.0 = sym y ∙ x in cc)
 
+steered_by : (w : Who) (to : ℕ) (H : List Call) (now : ℕ) (f : FrameRecord) → AreAnswered w H → (c : FrameCase w H now f) → ((kind_by c).claim || (kind_by c).acknowledgment) ≡ true
+    → (kind_by c).session ≡ false → Kind w to H now f (DueTo w to H now)
+steered_by w to H now f right c e k =
+    let a = steers_it w H now f right c ∙ e in
+    let t = no_transfer f (of_session_it w H now f right c ∙ k) in
+    steered (λ d. few_turns w H now f c (due_there w to H now d) (steers w H now f right c) a) (turns_then H now f true a) (counts_is to f true false _ a t refl)
+    (yields_is w H now f true false a (no_reply (reception w H).replies f t))
+
 kind_of : (w : Who) (to : ℕ) (H : List Call) (now : ℕ) (f : FrameRecord) → AreAnswered w H → FrameCase w H now f → is_move w H f ≡ false
     → Kind w to H now f (DueTo w to H now)
-kind_of w to H now f right (claims o e) away =
-    let i = claim_taken f now w _ e in
-    let a : (is_claim f || is_acknowledgment f) ≡ true = ap (λ (b : Bool). b || is_acknowledgment f) i in
-    let t = no_transfer f (claim_single f i) in
-    steered (λ d. few_turns w H now f (claims o e) (due_there w to H now d) (steers w H now f right (claims o e)) a)
-    (turns_then H now f true a) (counts_is to f true false _ a t refl) (yields_is w H now f true false a (no_reply (reception w H).replies f t))
-kind_of w to H now f right (acknowledges m o h g e way) away =
-    let r = due_taken w f now m e (due_get w (due w H) (length (acknowledged H)) m (sound w H right).desk.0 g) in
-    let a : (is_claim f || is_acknowledgment f) ≡ true = λ i. r.0 i || r.1 i in
-    let t = no_transfer f r.2 in
-    steered (λ d. few_turns w H now f (acknowledges m o h g e way) (due_there w to H now d) (steers w H now f right (acknowledges m o h g e way)) a)
-    (turns_then H now f true a) (counts_is to f true false _ a t refl) (yields_is w H now f true false a (no_reply (reception w H).replies f t))
+kind_of w to H now f right (claims o e) away = steered_by w to H now f right (claims o e) refl refl
+kind_of w to H now f right (acknowledges m o h g e way) away = steered_by w to H now f right (acknowledges m o h g e way) refl refl
 kind_of w to H now f right (replies m o h n g e) away = go (is_some (destination_of f.id) to) refl
   where
-    r : (is_claim f ≡ false) × (is_acknowledgment f ≡ false) × (is_session f ≡ true) × (Rattle.j39_node.specs.History.is_packet f ≡ false)
-    r = reply_taken w.address f now m e (replied_get w.address (reception w H).replies 0 m (tidy w H).replies g)
+    case : FrameCase w H now f
+    case = replies m o h n g e
 
     a : (is_claim f || is_acknowledgment f) ≡ false
-    a = λ i. r.0 i || r.1 i
+    a = steers_it w H now f right case
 
     t : is_transfer f ≡ true
-    t = is_directed f r.2 r.3
+    t = is_directed f (of_session_it w H now f right case) (packs_it w H now f right case)
 
     silent : is_some (destination_of f.id) to ≡ false → DueTo w to H now → yields w H ≡ false
     silent x d = by (yields w H) (turned w H now (Some Reply) n.1).2
@@ -106,12 +84,8 @@ kind_of w to H now f right (replies m o h n g e) away = go (is_some (destination
         apart z = not_both _ x (ap (λ (y : Option ℕ). is_some y to) there
             ∙ same_to d.1.0.destination m.destination (and_parts (is_same d.1.0.destination m.destination) _ (and_parts (nat_eq d.1.0.group m.group) _ that).1).0 d.1.2)
           where
-            flip : (b : Bool) → not b ≡ false → b ≡ true
-            flip true i = refl
-            flip false i = absurd (cc)
-
             that : is_that d.1.0 (Some m) ≡ true
-            that = flip _ (sym (λ i. is_apart (d.1.1 i) (g i)) ∙ z)
+            that = not-false _ (sym (λ i. is_apart (d.1.1 i) (g i)) ∙ z)
 
         by : (y : Bool) → (y && ((ready w H now).message || ((ready w H now).packet || (ready w H now).transfer))) ≡ false → y ≡ false
         by false z = refl
@@ -124,18 +98,14 @@ kind_of w to H now f right (replies m o h n g e) away = go (is_some (destination
 
     go : (d : Bool) → is_some (destination_of f.id) to ≡ d → Kind w to H now f (DueTo w to H now)
     go true x = counted (turns_then H now f false a) (counts_is to f false true true a t x)
-    go false x = answered (turns_then H now f false a) (counts_is to f false true false a t x) (yields_is w H now f false true a (λ i. t i && reply_is w H f m g (ap (λ (y : ℕ × Message). y.1) e) i)) (silent x)
+    go false x = answered (turns_then H now f false a) (counts_is to f false true false a t x) (yields_is w H now f false true a (replies_it w H now f right case)) (silent x)
 kind_of w to H now f right (sends_one x o h n g e) away =
-    let own = own_of w H x right g in
-    let a : (is_claim f || is_acknowledgment f) ≡ false = λ i. message_taken w f now x e own i || plain_taken w f now x e own i in
-    counted (turns_then H now f false a) (counts_is to f false false _ a (no_transfer f (single_taken w f now x e own)) refl)
+    let a = steers_it w H now f right (sends_one x o h n g e) in
+    counted (turns_then H now f false a) (counts_is to f false false _ a (no_transfer f (of_session_it w H now f right (sends_one x o h n g e))) refl)
 kind_of w to H now f right (packs m o h n g e) away =
-    let r = packet_taken f now m (open_broadcast w H) (length (packets H)) (pause H - step H now) e g in
-    let a : (is_claim f || is_acknowledgment f) ≡ false = λ i. r.0 i || r.1 i in
-    counted (turns_then H now f false a) (counts_is to f false false _ a (packet_session f r.2).1 refl)
-kind_of w to H now f right (transfers m o h n g e) away =
-    absurd (not_both _ away (Rattle.j39_node.proofs.SoundLemmas.is_moved w H f (transfer_taken w H now f m right e g).transfer
-    (Rattle.j39_node.proofs.SoundLemmas.apart_is w H now f m g (ap (λ (y : ℕ × Message). y.1) e) (turned w H now (Some Move) n.1).1)))
+    let a = steers_it w H now f right (packs m o h n g e) in
+    counted (turns_then H now f false a) (counts_is to f false false _ a (packet_session f (packs_it w H now f right (packs m o h n g e))).1 refl)
+kind_of w to H now f right (transfers m o h n g e) away = absurd (not_both _ away (moves_it w H now f right (transfers m o h n g e)))
 
 -- one of a session is neither a claim nor an acknowledgment
 plain_of : (f : FrameRecord) → is_transfer f ≡ true → (is_claim f || is_acknowledgment f) ≡ false
@@ -544,12 +514,9 @@ module _ (w : Who) (B : List Call) (g k to : ℕ) (m : MessageRecord) where
   }
 
   -- no other is accepted
-  none_begins : (later : List Call) (now group to j : ℕ) (bytes : List ℕ) → Stands later → TransferCase w (later ++ B) now group to bytes (Ok j) → ⊥
-  none_begins later now group to j bytes h (homeless a e) = absurd (cc)
-  none_begins later now group to j bytes h (unfit a b e) = absurd (cc)
-  none_begins later now group to j bytes h (busy a b f e) = absurd (cc)
-  none_begins later now group to j bytes h (opens a b f e) =
-      let z : true ≡ false = sym (ap (λ (x : Option Running). is_engaged x (length (all_transfers w (later ++ B))) || is_resting w (later ++ B) now group to) h.is) ∙ f in absurd (cc)
+  none_begins : (later : List Call) (now group to j : ℕ) (bytes : List ℕ) → Stands later → Ok j ≡ answer_to_transfer w (later ++ B) now group to bytes → ⊥
+  none_begins later now group to j bytes h a = not_both _ (transfer_accepts w (later ++ B) now group to j bytes a).2
+      (ap (λ (x : Option Running). is_engaged x (length (all_transfers w (later ++ B))) || is_resting w (later ++ B) now group to) h.is)
 
   one_more : (call : Call) (later : List Call) → AreAnswered w (later ++ B) → IsAnswered w (later ++ B) call → tells_transfer call ≡ false
       → (since_take later B + step (later ++ B) (moment (call ∷ later ++ B)) ≤ g) × (claims_anew call ≡ false) → limit g (packets_of m) (taken_for to later) < 9000000000000000 → Stands later → Stands (call ∷ later)
@@ -558,7 +525,7 @@ module _ (w : Who) (B : List Call) (g k to : ℕ) (m : MessageRecord) where
   one_more (At now (TakeFrame None)) later right a n p short h = takes_no_frame now later a p.0 short h
   one_more (At now Again) later right a n p short h = absurd (let z : true ≡ false = p.1 in cc)
   one_more (At now (Transfer group at bytes (Ok j))) later right a n p short h =
-      absurd (none_begins later now group at j bytes h (transfer_case w (later ++ B) now group at bytes (Ok j) a))
+      absurd (none_begins later now group at j bytes h a)
   one_more (TakeTransferEnded (Some x)) later right a n p short h = absurd (let z : true ≡ false = n in cc)
   one_more call later right a n p short h =
       rests_with call later refl (omega arith) refl refl refl refl
@@ -616,7 +583,7 @@ unfolding new_sender
 transfer_goes w later earlier c g now group to k bytes is none steady short l =
     let B = At now (Transfer group to bytes (Ok k)) ∷ earlier in
     let m = broadcast_from w group bytes in
-    let fit = accepted_so (transfer_case w earlier now group to bytes (Ok k) ((answered_from w later B is.answered).1)) in
+    let fit = (transfer_accepts w earlier now group to k bytes (answered_from w later B is.answered).1).0 in
     ends_then w B g k to m later
     (stands w B g k to m later is.answered none steady short (record {
       running = begun k m to;
@@ -629,9 +596,3 @@ transfer_goes w later earlier c g now group to k bytes is none steady short l =
           (record { base_most = omega arith; all_most = omega arith; paid_most = omega arith; streak_most = omega arith; few = omega arith });
     }))
     l (since_most g later B steady)
-  where
-    accepted_so : TransferCase w earlier now group to bytes (Ok k) → is_held (address_after w (At now (Transfer group to bytes (Ok k)) ∷ earlier)) ≡ true
-    accepted_so (homeless a e) = absurd (cc)
-    accepted_so (unfit a b e) = absurd (cc)
-    accepted_so (busy a b f e) = absurd (cc)
-    accepted_so (opens a b f e) = a

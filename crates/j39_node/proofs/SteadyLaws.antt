@@ -1,33 +1,17 @@
 -- A driver that takes one frame at least in each g: how long a frame of a broadcast and a message wait, whoever asks.
-use Rattle.std.proofs.Math.Nat.{add-mul, suc-mul}
-use Rattle.std.proofs.Common.{◌≡◌, ◌⊎◌, ℕ, zero, suc, ◌+◌, ◌-◌, ◌*◌, ◌<◌, ◌≤◌, List, [], ◌∷◌, ◌++◌, length, Option, Some, None, Ok, Bool, true, false, ◌&&◌, ◌||◌, not, if◌then◌else◌, nat_eq, nat_le, nat_lt, IsTrue, refl, sym, ap, ◌∙◌, subst, arith, inl, inr, eqb-true, eq-eqb, lt-ltb}
-use Rattle.std.proofs.lemmas.Bool.{and_from, and_parts}
-use Rattle.j39_frame.specs.Frame.{FrameRecord}
-use Rattle.j39_transport.specs.Message.{MessageRecord, packets_of}
-use Rattle.std.specs.List.{slice_get}
+use Rattle.j39_node.proofs.Common.{[], if◌then◌else◌, ◌&&◌, ◌*◌, ◌++◌, ◌+◌, ◌-◌, ◌<◌, ◌||◌, ◌∙◌, ◌∷◌, ◌≡◌, ◌≤◌, ◌⊎◌, accepted, add-mul, address_after, Again, and_from, and_parts, ap, AreAnswered, arith, At, Bool, Broadcast, broadcast_from, broadcasts, Call, claims_anew, Controller, Ending, eq-eqb, false, FrameRecord, gives_way, has_packets, Hear, holds, inl, inr, Is, is_acknowledgment, is_claim, is_held, is_left, is_lost, is_open, is_overdue, is_packet, is_reply, is_session, is_there, is_turn, IsAnswered, IsPrompt, IsSteady, IsTrue, length, List, lt-ltb, marks, Message, message_of, MessageRecord, moment, Move, nat_eq, nat_le, nat_lt, next_broadcast_ended, next_ended, next_frame, next_other, None, NoneTold, not, Ok, open_broadcast, Option, other, packets, packets_of, packets_taken, passed_in, pause, reached, Ready, ready, reception, refl, Reply, since_take, Single, slice_get, Some, StaysFirst, step, subst, suc, suc-mul, sym, TakeBroadcastEnded, TakeFrame, takes_reply, tells_broadcast, told, true, turn_of, turns, waited_in, Who, yields, zero, ℕ, answer_to_broadcast, not_both, ltb-false, leb-true, leb-false, or_parts, not-true}
+use Rattle.j39_node.specs.declared.turn.Turn.TheVariants.{Packet}
 use Rattle.j39_node.proofs.EndSteps.{times_more}
 use Rattle.j39_node.proofs.WithdrawLemmas.{past_more}
-use Rattle.j39_node.specs.declared.controller.Controller.{Controller}
-use Rattle.j39_node.specs.declared.kinds.Ending.{Ending}
-use Rattle.j39_node.specs.declared.turn.Ready.{Ready}
-use Rattle.j39_node.specs.declared.turn.Turn.TheVariants.{Reply, Single, Packet, Move}
-use Rattle.j39_node.specs.History.{reached, Who, Message, Call, accepted, address_after, broadcast_from, broadcasts, due, has_packets, holds, is_acknowledgment, is_claim, is_held, is_left, is_lost, is_open, is_packet, is_session, is_transfer, message_of, moment, older, open_broadcast, packets, pause, sent, step, told, turns, marks}
-use Rattle.j39_node.specs.History.Call.{At, TakeBroadcastEnded}
-use Rattle.j39_node.specs.History.Act.{Broadcast, Hear, TakeFrame, Again}
-use Rattle.j39_node.specs.Is.{AreAnswered, Is, IsAnswered, claim_goes, gives_way, is_overdue, is_there, is_turn, next_broadcast_ended, next_ended, next_frame, next_other, next_turn, other, ready, turn_of}
-use Rattle.j39_node.specs.Prompt.{IsPrompt, waited_in, IsSteady, NoneTold, packets_taken, since_take, tells_broadcast, claims_anew, StaysFirst, takes_reply}
-use Rattle.j39_node.specs.Reception.{yields, reception, is_reply}
-use Rattle.j39_node.specs.Since.{passed_in}
 use Rattle.j39_node.proofs.LaneLaws.{overdue_goes_by, taken_packet_of}
-use Rattle.j39_node.proofs.LaneLemmas.{BroadcastCase, broadcast_case}
-use Rattle.j39_node.proofs.LaneLemmas.BroadcastCase.{homeless, unfit, busy, opens}
-use Rattle.j39_node.proofs.LawLemmas.{not_both, past_end}
+use Rattle.j39_node.proofs.LawLemmas.{past_end}
 use Rattle.j39_node.proofs.MessageLaws.{accepts_more, told_next, more_sent}
 use Rattle.j39_node.proofs.PromptLaws.{answered_from, ends_by, keeps_heard, keeps_taken, lost_heard, lost_taken, pause_most}
 use Rattle.j39_node.proofs.QueueLemmas.{length_one_more}
-use Rattle.j39_node.proofs.ReceptionLemmas.{replied_get, tidy, no_reply}
-use Rattle.j39_node.proofs.SoundLemmas.{FrameCase, IsTurn, acknowledgment_single, address_is, claim_single, claim_taken, due_get, due_taken, frame_case, frame_there, held_older, is_directed, lost_older, message_taken, no_packet, no_transfer, none_next, none_other, own_of, packet_session, packet_taken, packets_is, pause_is, plain_taken, reply_taken, sent_is, single_taken, some_at, sound, turned, reached_is, reply_is, none_at}
+use Rattle.j39_node.proofs.SoundLemmas.{FrameCase, IsTurn, acknowledgment_single, claim_single, frame_case, frame_there, held_older, lost_older, no_packet, none_next, none_other, packet_session, packets_is, pause_is, some_at, turned, reached_is, none_at}
 use Rattle.j39_node.proofs.SoundLemmas.FrameCase.{claims, acknowledges, replies, sends, packs, transfers}
+use Rattle.j39_node.proofs.AnswerCases.{broadcast_accepts}
+use Rattle.j39_node.proofs.KindLemmas.{replies_it, packs_it, Kind, kind_by, kind_is, claims_it, acknowledges_it, steers_it, of_session_it}
 
 -- ---- of three frames one is neither a claim nor an acknowledgment
 
@@ -43,20 +27,9 @@ few_turns w H now f case there (inr g) e = absurd (not_both _ g e)
 -- a claim or an acknowledgment is taken where it doesn't give way
 pub steers : (w : Who) (H : List Call) (now : ℕ) (f : FrameRecord) → AreAnswered w H → FrameCase w H now f
     → (gives_way w H now ≡ false) ⊎ ((is_claim f || is_acknowledgment f) ≡ false)
-steers w H now f right (claims o e) = inl (off (gives_way w H now) (and_parts _ (not (gives_way w H now)) o).1)
-  where
-    off : (b : Bool) → not b ≡ true → b ≡ false
-    off true z = absurd (cc)
-    off false z = refl
+steers w H now f right (claims o e) = inl (not-true (gives_way w H now) (and_parts _ (not (gives_way w H now)) o).1)
 steers w H now f right (acknowledges m o h g e way) = inl way
-steers w H now f right (replies m o h n g e) =
-    let r = reply_taken w.address f now m e (replied_get w.address (reception w H).replies 0 m (tidy w H).replies g) in inr (λ i. r.0 i || r.1 i)
-steers w H now f right (sends x o h n g e) =
-    let own = own_of w H x right g in
-    inr (λ i. message_taken w f now x e own i || plain_taken w f now x e own i)
-steers w H now f right (packs m o h n g e) =
-    let p = packet_taken f now m (open_broadcast w H) (length (packets H)) (pause H - step H now) e g in inr (λ i. p.0 i || p.1 i)
-steers w H now f right (transfers m o h n g e) = let t = Rattle.j39_node.proofs.SoundLemmas.transfer_taken w H now f m right e g in inr (λ i. t.claim i || t.plain i)
+steers w H now f right case = inr (steers_it w H now f right case)
 
 -- what such frames cost in time
 abbrev pub turn_time : ℕ → ℕ → ℕ
@@ -213,9 +186,6 @@ module _ (w : Who) (B : List Call) (g k c0 : ℕ) (m : MessageRecord) where
       late_is : is_left (open_broadcast w (later ++ B)) (length (packets (later ++ B))) ≡ nat_le (length (packets (later ++ B))) (packets_of m)
       late_is = ap (λ (o : Option (ℕ × MessageRecord)). is_left o (length (packets (later ++ B)))) h.broadcast
 
-      past : (a b : ℕ) → nat_le a b ≡ false → b < a
-      past a b z = grind arith
-
       zero_or : (n : ℕ) → (n ≡ 0) ⊎ (0 < n)
       zero_or zero = inl refl
       zero_or (suc n) = inr (omega arith)
@@ -238,14 +208,10 @@ module _ (w : Who) (B : List Call) (g k c0 : ℕ) (m : MessageRecord) where
 
           steer : is_overdue w (later ++ B) now ≡ true → (b : Bool) → (is_claim f || is_acknowledgment f) ≡ b → b ≡ true
           steer o true q = refl
-          steer o false q = absurd (not_both _ i (overdue_goes_by w (later ++ B) now f right case o (neither (is_claim f) (is_acknowledgment f) q).0 (neither (is_claim f) (is_acknowledgment f) q).1))
-            where
-              neither : (a b : Bool) → (a || b) ≡ false → (a ≡ false) × (b ≡ false)
-              neither true b z = absurd (cc)
-              neither false b z = (refl, z)
+          steer o false q = absurd (not_both _ i (overdue_goes_by w (later ++ B) now f right case o (or_parts (is_claim f) (is_acknowledgment f) q).0 (or_parts (is_claim f) (is_acknowledgment f) q).1))
 
           by : (b : Bool) → nat_le (length (packets (later ++ B))) (packets_of m) ≡ b → left ≡ 0 → Course (At now (TakeFrame (Some f)) ∷ later)
-          by false y z = over (let l = past _ _ y in omega (arith, l, none_left))
+          by false y z = over (let l = leb-false _ _ y in omega (arith, l, none_left))
           by true y z =
               let o : is_overdue w (later ++ B) now ≡ true = and_from _ (nat_eq left 0) (late_is ∙ y) (eq-eqb left 0 z) in
               let s : (is_claim f || is_acknowledgment f) ≡ true = ap (λ (b : Bool). b) (steer_is o) in
@@ -283,14 +249,9 @@ module _ (w : Who) (B : List Call) (g k c0 : ℕ) (m : MessageRecord) where
             | inr z ↦ runs (held_holds w (later ++ B) now e) (not_over g _ _ _ _ _ (step (later ++ B) now) _ _ refl (omega (arith, z)) t)
           ]
 
-  none_begins : (later : List Call) (now group j : ℕ) (bytes : List ℕ) → open_broadcast w (later ++ B) ≡ Some (k, m)
-      → BroadcastCase w (later ++ B) now group bytes (Ok j) → ⊥
-  none_begins later now group j bytes o (homeless a e) = absurd (cc)
-  none_begins later now group j bytes o (unfit a b e) = absurd (cc)
-  none_begins later now group j bytes o (busy a b f e) = absurd (cc)
-  none_begins later now group j bytes o (opens a b f e) =
-      let z : true ≡ false = sym (ap (λ (x : Option (ℕ × MessageRecord)). is_open x || nat_eq (length (broadcasts w (later ++ B))) 18446744073709551615) o) ∙ f in
-      absurd (cc)
+  none_begins : (later : List Call) (now group j : ℕ) (bytes : List ℕ) → open_broadcast w (later ++ B) ≡ Some (k, m) → Ok j ≡ answer_to_broadcast w (later ++ B) now group bytes → ⊥
+  none_begins later now group j bytes o a = not_both _ (broadcast_accepts w (later ++ B) now group j bytes a).2
+      (ap (λ (x : Option (ℕ × MessageRecord)). is_open x || nat_eq (length (broadcasts w (later ++ B))) 18446744073709551615) o)
 
   one_more : (call : Call) (later : List Call) → AreAnswered w (later ++ B) → IsAnswered w (later ++ B) call → tells_broadcast call ≡ false
       → (since_take later B + step (later ++ B) (moment (call ∷ later ++ B)) ≤ g) × (claims_anew call ≡ false) → Stands later → Stands (call ∷ later)
@@ -299,7 +260,7 @@ module _ (w : Who) (B : List Call) (g k c0 : ℕ) (m : MessageRecord) where
   one_more (At now Again) later right a n p h = absurd (let z : true ≡ false = p.1 in cc)
   one_more (At now (TakeFrame None)) later right a n p h = none_taken now later a h
   one_more (At now (Broadcast group bytes (Ok j))) later right a n p h =
-      absurd (none_begins later now group j bytes h.broadcast (broadcast_case w (later ++ B) now group bytes (Ok j) a))
+      absurd (none_begins later now group j bytes h.broadcast a)
   one_more (TakeBroadcastEnded (Some x)) later right a n p h = absurd (let z : true ≡ false = n in cc)
   one_more call later right a n p h = record { broadcast = h.broadcast; count = h.count; course = go h.course }
     where
@@ -319,11 +280,8 @@ module _ (w : Who) (B : List Call) (g k c0 : ℕ) (m : MessageRecord) where
   unfolding overdue_by
   soon_enough call later h none some kept p = go h.course
     where
-      le_is : (a b : ℕ) → nat_le a b ≡ true → a ≤ b
-      le_is a b z = grind arith
-
       go : Course later → passed_in (call ∷ later) B ≤ 150000 + 3 * g
-      go (over l) = absurd (let a = h.count in let b = le_is c0 (packets_of m) some in omega (arith, a, b, l, none))
+      go (over l) = absurd (let a = h.count in let b = leb-true c0 (packets_of m) some in omega (arith, a, b, l, none))
       go (gone e) = absurd (not_both _ kept e)
       go (runs e t) =
           let a = t.late in let b = turn_most g (turns (later ++ B)) in
@@ -336,12 +294,6 @@ module _ (w : Who) (B : List Call) (g k c0 : ℕ) (m : MessageRecord) where
       let x = ends_by w B g k m (length (packets (later ++ B))) (nat_lt (packets_of m) (length (packets (later ++ B)))) (is_lost (address_after w (later ++ B))) refl (go h.course) in
       (x.0, ap (λ (o : Option (ℕ × MessageRecord)). Rattle.j39_node.specs.Is.broadcast_end o (length (packets (later ++ B))) (is_lost (address_after w (later ++ B)))) h.broadcast ∙ x.1)
     where
-      past : (a b : ℕ) → nat_le a b ≡ false → b < a
-      past a b z = grind arith
-
-      le_is : (a b : ℕ) → nat_le a b ≡ true → a ≤ b
-      le_is a b z = grind arith
-
       go : Course later → (packets_of m < length (packets (later ++ B))) ⊎ (is_lost (address_after w (later ++ B)) ≡ true)
       go (over z) = inl z
       go (gone e) = inr e
@@ -350,10 +302,10 @@ module _ (w : Who) (B : List Call) (g k c0 : ℕ) (m : MessageRecord) where
           most : (b : Bool) → nat_le (packets_taken later) (packets_of m) ≡ b
               → (packets_of m < length (packets (later ++ B))) ⊎ (is_lost (address_after w (later ++ B)) ≡ true)
           most true y =
-              let d = overdue_last g (packets_taken later) (packets_of m) (le_is _ _ y) in
+              let d = overdue_last g (packets_taken later) (packets_of m) (leb-true _ _ y) in
               let b = turn_most g (turns (later ++ B)) in
               let a = t.late in absurd (omega (arith, a, b, d, l, p))
-          most false y = inl (let b = past _ _ y in let a = h.count in omega (arith, a, b, z))
+          most false y = inl (let b = leb-false _ _ y in let a = h.count in omega (arith, a, b, z))
 
 -- the driver came in time
 pub since_most : (g : ℕ) (later B : List Call) → IsSteady g later B → since_take later B ≤ g
@@ -391,16 +343,10 @@ ends w later earlier c g now group k bytes is none steady l =
     (stands w B g k 0 (broadcast_from w group bytes) later is.answered none steady (record {
       broadcast = refl;
       count = refl;
-      course = runs (held (broadcast_case w earlier now group bytes (Ok k) ((answered_from w later B is.answered).1)))
+      course = runs (broadcast_accepts w earlier now group k bytes (answered_from w later B is.answered).1).0
           (record { soon = λ z. (let y = pause_most B in omega (arith, y)); late = omega arith });
     }))
     l (since_most g later B steady)
-  where
-    held : BroadcastCase w earlier now group bytes (Ok k) → is_held (address_after w (At now (Broadcast group bytes (Ok k)) ∷ earlier)) ≡ true
-    held (homeless a e) = absurd (cc)
-    held (unfit a b e) = absurd (cc)
-    held (busy a b f e) = absurd (cc)
-    held (opens a b f e) = a
 
 -- ---- how many frames of broadcasts are taken in a time
 
@@ -481,7 +427,7 @@ module _ (w : Who) (B : List Call) (g k : ℕ) where
       → reached B + n ≤ reached (later ++ B) → is_held (address_after w (later ++ B)) ≡ true
       → Counted g n (packets_taken later) others (passed_in later B) (turns (later ++ B)) (since_take later B) (yields w (later ++ B))
       → Waiting (At now (TakeFrame (Some f)) ∷ later)
-  takes_next now f later n others right case p l count held h = go (is_claim f || is_acknowledgment f) refl case
+  takes_next now f later n others right case p l count held h = go case
     where
       H : List Call
       H = later ++ B
@@ -495,67 +441,48 @@ module _ (w : Who) (B : List Call) (g k : ℕ) where
       there : is_there (next_other w H now) ≡ true
       there = message_there w (later ++ B) now (held_holds w (later ++ B) now held) l
 
-      -- what is counted then
-      counted : (n2 o2 p2 t2 : ℕ) (y2 : Bool) → reached B + n2 ≤ reached G → packets_taken (At now (TakeFrame (Some f)) ∷ later) ≡ p2 → turns G ≡ t2 → yields w G ≡ y2
-          → Counted g n2 p2 o2 (passed_in later B + step (later ++ B) now) t2 0 y2 → Waiting (At now (TakeFrame (Some f)) ∷ later)
-      counted n2 o2 p2 t2 y2 a b d e x = waits n2 o2 a still
-          (subst (λ (p3 : ℕ). Counted g n2 p3 o2 (passed_in later B + step (later ++ B) now) (turns G) 0 (yields w G)) (sym b)
-          (subst (λ (t3 : ℕ). Counted g n2 p2 o2 (passed_in later B + step (later ++ B) now) t3 0 (yields w G)) (sym d)
-          (subst (λ (y3 : Bool). Counted g n2 p2 o2 (passed_in later B + step (later ++ B) now) t2 0 y3) (sym e) x)))
-
-      packs_then : (b : Bool) → is_packet f ≡ b → packets_taken (At now (TakeFrame (Some f)) ∷ later) ≡ (if b then suc (packets_taken later) else packets_taken later)
-      packs_then b e = ap (λ (b : Bool). if b then suc (packets_taken later) else packets_taken later) e
-
-      yields_then : (b d : Bool) → (is_claim f || is_acknowledgment f) ≡ b → is_reply (reception w (later ++ B)).replies f ≡ d → yields w G ≡ (if b then yields w (later ++ B) else d)
-      yields_then b d e i = λ j. if e j then yields w (later ++ B) else i j
+      -- what is counted then, by what kind it is
+      counted : (c : FrameCase w H now f) (n2 o2 : ℕ) → reached B + n2 ≤ reached G
+          → Counted g n2 (if (kind_by c).packet then suc (packets_taken later) else packets_taken later) o2 (passed_in later B + step H now)
+          (if (kind_by c).claim || (kind_by c).acknowledgment then suc (turns H) else 0) 0 (if (kind_by c).claim || (kind_by c).acknowledgment then yields w H else (kind_by c).reply)
+          → Waiting (At now (TakeFrame (Some f)) ∷ later)
+      counted c n2 o2 a x = waits n2 o2 a still
+          (subst (λ (k : Kind). Counted g n2 (if k.packet then suc (packets_taken later) else packets_taken later) o2 (passed_in later B + step H now)
+          (if k.claim || k.acknowledgment then suc (turns H) else 0) 0 (if k.claim || k.acknowledgment then yields w H else k.reply)) (sym (kind_is w H now f right c)) x)
 
       -- no fewer messages are passed
       no_fewer : reached B + n ≤ reached G
-      no_fewer = let m = more_sent (later ++ B) (At now (TakeFrame (Some f))) in omega (arith, m, count)
+      no_fewer = let m = more_sent H (At now (TakeFrame (Some f))) in omega (arith, m, count)
 
       -- a claim or an acknowledgment
-      steer : (a b : Bool) → is_claim f ≡ a → is_acknowledgment f ≡ b → (a || b) ≡ true → is_session f ≡ false → Waiting (At now (TakeFrame (Some f)) ∷ later)
-      steer a b x y z s =
-          let e : (is_claim f || is_acknowledgment f) ≡ true = (λ i. x i || y i) ∙ z in
-          let t = few_turns w (later ++ B) now f case there (steers w (later ++ B) now f right case) e in
-          counted n others (packets_taken later) (suc (turns (later ++ B))) (yields w (later ++ B)) no_fewer (packs_then false (no_packet f s))
-          (turns_then (later ++ B) now f true e) (yields_then true _ e refl)
-          (record { few = h.few; late = (let u = h.late in let v = turn_more g (turns (later ++ B)) t in omega (arith, u, v, p)) })
+      steered : (c : FrameCase w H now f) → ((kind_by c).claim || (kind_by c).acknowledgment) ≡ true → Counted g n (packets_taken later) others (passed_in later B + step H now) (suc (turns H)) 0 (yields w H)
+      steered c e =
+          let t = few_turns w H now f case there (steers w H now f right case) (steers_it w H now f right c ∙ e) in
+          record { few = h.few; late = (let u = h.late in let v = turn_more g (turns H) t in omega (arith, u, v, p)) }
 
-      go : (b : Bool) → (is_claim f || is_acknowledgment f) ≡ b → FrameCase w (later ++ B) now f → Waiting (At now (TakeFrame (Some f)) ∷ later)
-      go b z (claims o e) = let i = claim_taken f now w _ e in steer true (is_acknowledgment f) i refl refl (claim_single f i)
-      go b z (acknowledges m o q i e way) =
-          let r = due_taken w f now m e (due_get w (due w (later ++ B)) (length (Rattle.j39_node.specs.History.acknowledged (later ++ B))) m (sound w (later ++ B) right).desk.0 i) in steer false true r.0 r.1 refl r.2
-      go b z (replies m o q i x e) =
-          let r = reply_taken w.address f now m e (replied_get w.address (reception w (later ++ B)).replies 0 m (tidy w (later ++ B)).replies x) in
-          let y = silent (turned w (later ++ B) now (Some Reply) i.1) in
-          counted n (suc others) (packets_taken later) 0 true no_fewer (packs_then false r.3)
-          (turns_then (later ++ B) now f false (λ j. r.0 j || r.1 j)) (yields_then false true (λ j. r.0 j || r.1 j) (λ j. is_directed f r.2 r.3 j && reply_is w (later ++ B) f m x (ap (λ (y : ℕ × Message). y.1) e) j))
-          (goes g n (packets_taken later) others _ _ _ (step (later ++ B) now) (yields w (later ++ B)) n (packets_taken later) true p
-          (let u = h.few in let v = ap one y in omega (arith, u, v)) h)
+      go : FrameCase w H now f → Waiting (At now (TakeFrame (Some f)) ∷ later)
+      go (claims o e) = counted (claims o e) n others no_fewer (steered (claims o e) refl)
+      go (acknowledges m o q i e way) = counted (acknowledges m o q i e way) n others no_fewer (steered (acknowledges m o q i e way) refl)
+      go (replies m o q i x e) = counted (replies m o q i x e) n (suc others) no_fewer
+          (goes g n (packets_taken later) others _ _ _ (step H now) (yields w H) n (packets_taken later) true p
+          (let u = h.few in let v = ap one (silent (turned w H now (Some Reply) i.1)) in omega (arith, u, v)) h)
         where
-          silent : IsTurn (yields w (later ++ B)) (ready w (later ++ B) now) (Some Reply) → yields w (later ++ B) ≡ false
-          silent t = by (yields w (later ++ B)) (lt-ltb _ _ l) t.2
+          silent : IsTurn (yields w H) (ready w H now) (Some Reply) → yields w H ≡ false
+          silent t = by (yields w H) (lt-ltb _ _ l) t.2
             where
-              by : (y : Bool) → (ready w (later ++ B) now).message ≡ true → (y && ((ready w (later ++ B) now).message || ((ready w (later ++ B) now).packet || (ready w (later ++ B) now).transfer))) ≡ false → y ≡ false
+              by : (y : Bool) → (ready w H now).message ≡ true → (y && ((ready w H now).message || ((ready w H now).packet || (ready w H now).transfer))) ≡ false → y ≡ false
               by false u v = refl
-              by true u v = absurd (let z : true ≡ false = (λ j. sym u j || ((ready w (later ++ B) now).packet || (ready w (later ++ B) now).transfer)) ∙ v in cc)
-      go b z (sends x o q i y e) =
-          let own = own_of w (later ++ B) x right y in
-          let r0 = message_taken w f now x e own in let r1 = plain_taken w f now x e own in let r2 = single_taken w f now x e own in
-          counted (suc n) (suc others) (packets_taken later) 0 false
-          (let u = reached_is (later ++ B) now f false false false r0 r1 r2 in let v = past_more (marks (later ++ B)) (suc (reached (later ++ B))) in omega (arith, u, v, count)) (packs_then false (no_packet f r2))
-          (turns_then (later ++ B) now f false (λ j. r0 j || r1 j)) (yields_then false false (λ j. r0 j || r1 j) (no_reply (reception w (later ++ B)).replies f (no_transfer f r2)))
-          (goes g n (packets_taken later) others _ _ _ (step (later ++ B) now) (yields w (later ++ B)) (suc n) (packets_taken later) false p
-          (let u = h.few in let v = one_most (yields w (later ++ B)) in omega (arith, u, v)) h)
-      go b z (packs m o q i x e) =
-          let r = packet_taken f now m (open_broadcast w (later ++ B)) (length (packets (later ++ B))) (pause (later ++ B) - step (later ++ B) now) e x in
-          let s = packet_session f r.2 in
-          counted n (suc others) (suc (packets_taken later)) 0 false no_fewer (packs_then true r.2)
-          (turns_then (later ++ B) now f false (λ j. r.0 j || r.1 j)) (yields_then false false (λ j. r.0 j || r.1 j) (no_reply (reception w (later ++ B)).replies f s.1))
-          (goes g n (packets_taken later) others _ _ _ (step (later ++ B) now) (yields w (later ++ B)) n (suc (packets_taken later)) false p
-          (let u = h.few in let v = one_most (yields w (later ++ B)) in omega (arith, u, v)) h)
-      go b z (transfers m o q i x e) = absurd (not_both _ (turned w (later ++ B) now (Some Move) i.1).0.message (lt-ltb _ _ l))
+              by true u v = absurd (let z : true ≡ false = (λ j. sym u j || ((ready w H now).packet || (ready w H now).transfer)) ∙ v in cc)
+      go (sends x o q i y e) =
+          let c : FrameCase w H now f = sends x o q i y e in
+          let u = reached_is H now f false false false (claims_it w H now f right c) (acknowledges_it w H now f right c) (of_session_it w H now f right c) in
+          counted (sends x o q i y e) (suc n) (suc others) (let v = past_more (marks H) (suc (reached H)) in omega (arith, u, v, count))
+          (goes g n (packets_taken later) others _ _ _ (step H now) (yields w H) (suc n) (packets_taken later) false p
+          (let u = h.few in let v = one_most (yields w H) in omega (arith, u, v)) h)
+      go (packs m o q i x e) = counted (packs m o q i x e) n (suc others) no_fewer
+          (goes g n (packets_taken later) others _ _ _ (step H now) (yields w H) n (suc (packets_taken later)) false p
+          (let u = h.few in let v = one_most (yields w H) in omega (arith, u, v)) h)
+      go (transfers m o q i x e) = absurd (not_both _ (turned w H now (Some Move) i.1).0.message (lt-ltb _ _ l))
 
   one_later : (call : Call) (later : List Call) → AreAnswered w (later ++ B) → IsAnswered w (later ++ B) call
       → (since_take later B + step (later ++ B) (moment (call ∷ later ++ B)) ≤ g) × (claims_anew call ≡ false) → Among later → Among (call ∷ later)
@@ -577,10 +504,7 @@ module _ (w : Who) (B : List Call) (g k : ℕ) where
         where
           by : (b : Bool) → nat_lt k (reached (later ++ B)) ≡ b → Waiting (At now (TakeFrame (Some f)) ∷ later)
           by true z = taken (let l = Rattle.std.proofs.Common.ltb-true _ _ z in let y = more_sent (later ++ B) (At now (TakeFrame (Some f))) in omega (arith, l, y))
-          by false z = takes_next now f later n others right (frame_case w (later ++ B) now f a) p.0 (let l = not_less _ _ z in let y = h.among in omega (arith, l, y)) c e x
-            where
-              not_less : (a b : ℕ) → nat_lt a b ≡ false → b ≤ a
-              not_less a b z = grind arith
+          by false z = takes_next now f later n others right (frame_case w (later ++ B) now f a) p.0 (let l = ltb-false _ _ z in let y = h.among in omega (arith, l, y)) c e x
   one_later (At now Again) later right a p h = absurd (let z : true ≡ false = p.1 in cc)
   one_later (At now (TakeFrame None)) later right a p h = record { among = h.among; course = go h.course }
     where
@@ -614,13 +538,10 @@ module _ (w : Who) (B : List Call) (g k : ℕ) where
       go (away e) = inr e
       go (waits n others c e x) = by (nat_lt k (reached (later ++ B))) refl
         where
-          not_less : (a b : ℕ) → nat_lt a b ≡ false → b ≤ a
-          not_less a b z = grind arith
-
           by : (b : Bool) → nat_lt k (reached (later ++ B)) ≡ b → (k < reached (later ++ B)) ⊎ (is_lost (address_after w (later ++ B)) ≡ true)
           by true z = inl (Rattle.std.proofs.Common.ltb-true _ _ z)
           by false z =
-              let y = not_less _ _ z in
+              let y = ltb-false _ _ z in
               let f = x.few in let o = one_most (yields w (later ++ B)) in
               let a = x.late in let b = turn_most g (turns (later ++ B)) in
               let d = most_others g (k - reached B + packets_taken later) others (omega (arith, f, o, y, c)) in
@@ -685,42 +606,35 @@ module _ (w : Who) (B : List Call) (g : ℕ) (m : Message) where
       yields_then c e = λ j. if e j then yields w (later ++ B) else untaken j
 
       -- a claim or an acknowledgment
-      steer : (is_claim f || is_acknowledgment f) ≡ true → is_session f ≡ false → Replying (At now (TakeFrame (Some f)) ∷ later)
-      steer e s =
-          let t = few_turns w H now f case (reply_there w H now m (held_holds w H now held) first) (steers w H now f right case) e in
+      steer : (c : FrameCase w H now f) → ((kind_by c).claim || (kind_by c).acknowledgment) ≡ true → (kind_by c).packet ≡ false → Replying (At now (TakeFrame (Some f)) ∷ later)
+      steer c e k =
+          let z = steers_it w H now f right c ∙ e in
+          let t = few_turns w H now f case (reply_there w H now m (held_holds w H now held) first) (steers w H now f right case) z in
           stays others (keeps_taken w H now f held) (record {
-            few = (let a = b.few in let c = ap one (yields_then true e) in let d = packs_then false (no_packet f s) in omega (arith, a, c, d));
-            late = (let a = b.late in let c = ap (turn_time g) (turns_then H now f true e) in let d = turn_more g (turns H) t in omega (arith, a, c, d, p));
+            few = (let a = b.few in let y = ap one (yields_then true z) in let d = packs_then false (packs_it w H now f right c ∙ k) in omega (arith, a, y, d));
+            late = (let a = b.late in let y = ap (turn_time g) (turns_then H now f true z) in let d = turn_more g (turns H) t in omega (arith, a, y, d, p));
           })
 
-      -- another: so many frames of broadcasts were taken then
-      goes_by : (n : ℕ) → (is_claim f || is_acknowledgment f) ≡ false → packets_taken (At now (TakeFrame (Some f)) ∷ later) ≡ n → others ≤ n → Replying (At now (TakeFrame (Some f)) ∷ later)
-      goes_by n e i l =
+      -- another, by how many frames of broadcasts were taken then
+      goes_by : (c : FrameCase w H now f) → ((kind_by c).claim || (kind_by c).acknowledgment) ≡ false
+          → others ≤ (if (kind_by c).packet then suc (packets_taken later) else packets_taken later) → Replying (At now (TakeFrame (Some f)) ∷ later)
+      goes_by c e l =
+          let z = steers_it w H now f right c ∙ e in
           stays (suc others) (keeps_taken w H now f held) (record {
-            few = (let c = ap one (yields_then false e) in omega (arith, c, i, l));
-            late = (let a = b.late in let c = ap (turn_time g) (turns_then H now f false e) in let d = turn_most g (turns H) in let k = suc-mul others (3 * g) in omega (arith, a, c, d, k, p));
+            few = (let y = ap one (yields_then false z) in let i = packs_then _ (packs_it w H now f right c) in omega (arith, y, i, l));
+            late = (let a = b.late in let y = ap (turn_time g) (turns_then H now f false z) in let d = turn_most g (turns H) in let k = suc-mul others (3 * g) in omega (arith, a, y, d, k, p));
           })
 
       few_then : yields w H ≡ true → others ≤ packets_taken later
       few_then y = let a = b.few in let c = ap one y in omega (arith, a, c)
 
       go : FrameCase w H now f → Replying (At now (TakeFrame (Some f)) ∷ later)
-      go (claims o e) = let i = claim_taken f now w _ e in steer (ap (λ (c : Bool). c || is_acknowledgment f) i) (claim_single f i)
-      go (acknowledges x o q i e way) =
-          let r = due_taken w f now x e (due_get w (due w H) (length (Rattle.j39_node.specs.History.acknowledged H)) x (sound w H right).desk.0 i) in steer (λ j. r.0 j || r.1 j) r.2
-      go (replies x o q i y e) =
-          let r = reply_taken w.address f now x e (replied_get w.address (reception w H).replies 0 x (tidy w H).replies y) in
-          absurd (let z : true ≡ false = sym (λ j. is_directed f r.2 r.3 j && reply_is w H f x y (ap (λ (u : ℕ × Message). u.1) e) j) ∙ untaken in cc)
-      go (sends x o q i y e) =
-          let own = own_of w H x right y in
-          goes_by (packets_taken later) (λ j. message_taken w f now x e own j || plain_taken w f now x e own j) (packs_then false (no_packet f (single_taken w f now x e own)))
-          (few_then (behind w H now m first (turned w H now (Some Single) i.1).2))
-      go (packs x o q i y e) =
-          let r = packet_taken f now x (open_broadcast w H) (length (packets H)) (pause H - step H now) e y in
-          goes_by (suc (packets_taken later)) (λ j. r.0 j || r.1 j) (packs_then true r.2) (let a = b.few in omega (arith, a))
-      go (transfers x o q i y e) =
-          let t = Rattle.j39_node.proofs.SoundLemmas.transfer_taken w H now f x right e y in
-          goes_by (packets_taken later) (λ j. t.claim j || t.plain j) (packs_then false t.packet) (few_then (behind w H now m first (turned w H now (Some Move) i.1).2))
+      go (claims o e) = steer (claims o e) refl refl
+      go (acknowledges x o q i e way) = steer (acknowledges x o q i e way) refl refl
+      go (replies x o q i y e) = absurd (not_both _ untaken (replies_it w H now f right (replies x o q i y e)))
+      go (sends x o q i y e) = goes_by (sends x o q i y e) refl (few_then (behind w H now m first (turned w H now (Some Single) i.1).2))
+      go (packs x o q i y e) = goes_by (packs x o q i y e) refl (let a = b.few in omega (arith, a))
+      go (transfers x o q i y e) = goes_by (transfers x o q i y e) refl (few_then (behind w H now m first (turned w H now (Some Move) i.1).2))
 
   reply_later : (call : Call) (later : List Call) → AreAnswered w (later ++ B) → IsAnswered w (later ++ B) call
       → (since_take later B + step (later ++ B) (moment (call ∷ later ++ B)) ≤ g) × (claims_anew call ≡ false) → slice_get (reception w (later ++ B)).replies 0 ≡ Some m

@@ -1,11 +1,6 @@
 -- How long a transfer waits for a driver that takes one frame at least, step by step of its sender.
-use Rattle.std.proofs.Math.Nat.{suc-mul}
-use Rattle.std.proofs.Common.{◌≡◌, ◌⊎◌, ℕ, zero, suc, ◌+◌, ◌-◌, ◌*◌, ◌<◌, ◌≤◌, Option, Some, None, Bool, true, false, ◌&&◌, ◌||◌, ◌==◌, if◌then◌else◌, length, nat_lt, max, min, refl, sym, ap, ◌∙◌, subst, arith, inl, inr}
-use Rattle.std.proofs.lemmas.Bool.{cond_both}
-use Rattle.j39_transport.specs.Protocol.{timeout, timer_t3}
-use Rattle.j39_transport.specs.Sending.{SendResult, SenderRecord, SendState, Idle, Waiting, Sending, Done, Failed, is_idle, is_running, sends_packet, ticks_in}
-use Rattle.j39_transport.specs.Signals.{Abort}
-use Rattle.j39_node.specs.Transfers.{granted_after, spent_after}
+use Rattle.j39_node.proofs.Common.{if◌then◌else◌, ◌&&◌, ◌*◌, ◌+◌, ◌<◌, ◌==◌, ◌||◌, ◌∙◌, ◌≡◌, ◌≤◌, ◌⊎◌, Abort, ap, arith, Bool, cond_both, Failed, false, granted_after, Idle, inl, inr, is_idle, is_running, max, nat_lt, None, Option, refl, SenderRecord, Sending, SendResult, sends_packet, SendState, Some, spent_after, subst, suc, suc-mul, sym, ticks_in, timeout, timer_t3, true, Waiting, zero, ℕ, ltb-false}
+use Rattle.j39_transport.specs.Sending.{Done}
 use Rattle.j39_node.proofs.EndSteps.{HeardCase, IsEnded, counts, times_more}
 use Rattle.j39_node.proofs.EndSteps.HeardCase.{same, ends, holds, clears}
 use Rattle.j39_node.proofs.SteadyLaws.{most_others, one, turn_most, turn_more, turn_time}
@@ -125,9 +120,6 @@ ticked_late granted spent age base waited streak t s h = go s.state refl
     spent_so : nat_lt 64 spent ≡ true → age + t ≤ (granted + spent) * timer_t3 + (base + (waited + t)) + 0
     spent_so z = let a = h.gives_up z in omega (arith, a)
 
-    at_most : (a b : ℕ) → nat_lt a b ≡ false → b ≤ a
-    at_most a b i = grind arith
-
     go : (u : SendState) → s.state ≡ u → IsEnded (after u) ⊎ Late granted spent (age + t) (base + (waited + t)) 0 0 (after u)
     go Idle e =
         let q : age ≤ base + waited = subst (InTime (granted + spent) age base waited s.since) e h.phase in
@@ -140,7 +132,7 @@ ticked_late granted spent age base waited streak t s h = go s.state refl
         (λ (x : SendResult). IsEnded x.after ⊎ Late granted spent (age + t) (base + (waited + t)) 0 0 x.after)
         (λ z. inl refl)
         (λ z. inr (record {
-          phase = subst (InTime (granted + spent) (age + t) (base + (waited + t)) 0 s.since) (sym e) (omega (arith, a), (let l = at_most _ _ z in omega (arith, l)));
+          phase = subst (InTime (granted + spent) (age + t) (base + (waited + t)) 0 s.since) (sym e) (omega (arith, a), (let l = ltb-false _ _ z in omega (arith, l)));
           gives_up = spent_so;
           due = λ y. absurd (omega (arith, y));
         }))
@@ -165,10 +157,7 @@ timed : (s : SenderRecord) (limit now : ℕ) (b : Bool) → nat_lt (s.since + li
     → (if b then (let r : SendResult = record { after = record s { state = Failed timeout }; says = Some (Abort timeout s.message.pgn) } in r)
     else (let r : SendResult = record { after = s; says = None } in r)).says ≡ None → now ≤ s.since + limit
 timed s limit now true e z = absurd (cc)
-timed s limit now false e z = at_most _ _ e
-  where
-    at_most : (a b : ℕ) → nat_lt a b ≡ false → b ≤ a
-    at_most a b i = grind arith
+timed s limit now false e z = ltb-false _ _ e
 
 -- nothing of it is due: it waits, and not too long, or it is over
 pub none_late : (granted spent age base waited streak t : ℕ) (s : SenderRecord) → Late granted spent age base waited streak s

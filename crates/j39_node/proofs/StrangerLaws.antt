@@ -1,33 +1,11 @@
 -- A frame of a stranger changes nothing of what is sent to others, received from others, or told to have ended.
-use Rattle.std.proofs.Common.{drop, ◌≡◌, ◌≢◌, ◌⊎◌, ℕ, ◌-◌, List, [], ◌∷◌, ◌++◌, length, Option, Some, None, Bool, true, false, not, ◌&&◌, ◌||◌, if◌then◌else◌, nat_eq, nat_lt, ◌==◌, refl, sym, ap, ◌∙◌, subst, inl, inr, arith, eqb-true, eq-eqb, nat_le, ◌*◌}
-use Rattle.std.proofs.lemmas.Bool.{cond_both, and_parts}
-use Rattle.std.specs.List.{slice_get}
-use Rattle.std.specs.Option.{option_map}
-use Rattle.j39_frame.specs.Frame.{FrameRecord}
-use Rattle.j39_frame.specs.Identifier.{destination_of, pgn_of, ps_of, source_of}
-use Rattle.j39_frame.specs.Network.{transport_control_group, transport_data_group}
-use Rattle.j39_address.specs.Claim.{Claim, claim_of}
-use Rattle.j39_transport.specs.Cutting.{ToSend}
+use Rattle.j39_node.proofs.Common.{[], if◌then◌else◌, ◌&&◌, ◌*◌, ◌++◌, ◌-◌, ◌==◌, ◌||◌, ◌∙◌, ◌∷◌, ◌≡◌, ◌≢◌, ◌⊎◌, Abort, accepted, acknowledged, Acknowledgment, Address, address_after, and_parts, ap, AreAnswered, arith, Asked, asked_group, asked_with, At, Bool, BroadcastAnnounce, Call, calls_for_claim, Claim, claim_address, claim_from, claim_of, ClearToSend, clock_at, cond_both, control_of, Controller, delayed, destination_of, Directed, drop, due, eq-eqb, eqb-true, false, FrameRecord, fresh, goes_to, granted_after, granted_by, grants, handed, has_packets, has_place, Hear, heard_by, hears_if, held_then, holder, holds, inl, inr, Is, is_another, is_apart, is_claim, is_held, is_larger, is_lost, is_refusal_due, is_replaced, is_smaller, is_some, is_spent, is_there, known, leaves, left, length, List, listens, listens_to, Lost, Message, nat_eq, nat_le, nat_lt, next_frame, next_packet, None, not, of_other, older, open_transfer, Option, option_map, owes_claim, Packet, patience, pause, pgn_of, ps_of, reached, Reaction, Ready, Received, Reception, reception, ReceptionRecord, recv_step, refl, replied, reply_from, requests, RequestToSend, Running, said_between, said_to, send_step, shown, Signal, slice_get, Some, source_of, spent_after, step, subst, sym, TakeFrame, takes_abort, takes_data, takes_request, takes_signal, time_heard, ToSend, transfer_by, transport_control_group, transport_data_group, true, turn_frame, turn_of, turns, Who, whole_by, with_refusal, without, yields, ℕ, and-false, or-false}
+use Rattle.j39_transport.specs.Signals.{said_by}
+use Rattle.j39_node.specs.Reception.{says}
 use Rattle.j39_transport.specs.Frames as frames
-use Rattle.j39_transport.specs.Key.{Directed}
-use Rattle.j39_transport.specs.Message.{MessageRecord}
-use Rattle.j39_transport.specs.Reception.{ReceptionRecord, Reaction, grants, takes_abort, takes_data, takes_request, takes_signal}
-use Rattle.j39_transport.specs.Receiving.{Heard as Received, recv_step, said_to}
-use Rattle.j39_transport.specs.Sending.{hears as listens_to, send_step}
-use Rattle.j39_transport.specs.SenderNext.{granted_by}
-use Rattle.j39_transport.specs.Signals.{Signal, BroadcastAnnounce, RequestToSend, ClearToSend, Acknowledgment, Abort, Packet, said_between, said_by}
-use Rattle.j39_node.specs.declared.controller.Controller.{Controller}
-use Rattle.j39_node.specs.History.{reached, fresh, is_refusal_due, pause, has_packets, is_another, is_claim, patience, turns, Who, Message, Call, Address, Asked, accepted, acknowledged, address_after, asked_group, asked_with, calls_for_claim, claim_address, claim_from, due, handed, holds, is_held, is_larger, is_lost, is_some, is_smaller, older, owes_claim, requests, step, with_refusal, of_other, delayed}
-use Rattle.j39_node.specs.History.Address.{Lost}
-use Rattle.j39_node.specs.History.Call.{At}
-use Rattle.j39_node.specs.History.Act.{Hear, Tick, TakeFrame}
-use Rattle.j39_node.specs.Reception.{yields, Reception, goes_to, has_place, heard_by, held_then, holder, keeps, leaves, left, reception, replied, reply_from, says, time_heard, whole_by, without, shown, known}
 use Rattle.j39_node.proofs.ReceptionLemmas.{unclaimed_known}
-use Rattle.j39_node.specs.Transfers.{Running, clock_at, granted_after, hears_if, is_replaced, is_spent, listens, next_transfer_ended, open_transfer, spent_after, transfer_by, transfer_end}
-use Rattle.j39_node.specs.Is.{is_apart, turn_frame, turn_of, is_there, AreAnswered, Is, control_of, long_by, next_frame, next_long, next_packet}
-use Rattle.j39_node.specs.declared.turn.Ready.{Ready}
 use Rattle.j39_node.proofs.PortLemmas.{Ported, ported}
-use Rattle.j39_node.proofs.ReceptionLaws.{goes_there, left_waits, none_delivered, not_left_by, says_it, to_others, waits_after}
+use Rattle.j39_node.proofs.ReceptionLaws.{goes_there, none_delivered, not_left_by, says_it, to_others}
 
 -- ---- a transfer
 
@@ -88,22 +66,6 @@ pub transfer_stays : (w : Who) (H : List Call) (c : Controller) (when : ℕ) (f 
     → is_replaced (holder w H t.sender.destination) (holder w (At when (Hear f) ∷ H) t.sender.destination) ≡ false → open_transfer w (At when (Hear f) ∷ H) ≡ Some t
 transfer_stays w H c when f t is e other kept = transfer_left w H when f t is.answered e other kept
 
-pub next_stays : (w : Who) (H : List Call) (c : Controller) (when : ℕ) (f : FrameRecord) (t : Running) (now : ℕ) → Is w H c → open_transfer w H ≡ Some t
-    → (source_of f.id ≢ t.sender.destination) ⊎ (destination_of f.id ≢ Some w.address)
-    → is_replaced (holder w H t.sender.destination) (holder w (At when (Hear f) ∷ H) t.sender.destination) ≡ false
-    → next_long w (At when (Hear f) ∷ H) now ≡ next_long w (At when Tick ∷ H) now
-next_stays w H c when f t now is e other kept =
-    ap (λ (o : Option Running). long_by (next_packet w (At when (Hear f) ∷ H) now) (transfer_by o (clock_at (At when (Hear f) ∷ H) now)))
-    (transfer_stays w H c when f t is e other kept ∙ sym e)
-
-pub end_stays : (w : Who) (H : List Call) (c : Controller) (when : ℕ) (f : FrameRecord) (t : Running) → Is w H c → open_transfer w H ≡ Some t
-    → (source_of f.id ≢ t.sender.destination) ⊎ (destination_of f.id ≢ Some w.address)
-    → is_replaced (holder w H t.sender.destination) (holder w (At when (Hear f) ∷ H) t.sender.destination) ≡ false → is_smaller w (claim_of f) ≡ false
-    → next_transfer_ended w (At when (Hear f) ∷ H) ≡ next_transfer_ended w (At when Tick ∷ H)
-end_stays w H c when f t is e other kept mine =
-    ap (λ (o : Option Running). transfer_end o (is_lost (address_after w (At when (Hear f) ∷ H)))) (transfer_stays w H c when f t is e other kept ∙ sym e)
-    ∙ ap (λ (b : Bool). transfer_end (open_transfer w H) (is_lost (if b then Lost else older (step H when) (address_after w H)))) mine
-
 -- ---- the next frame
 
 same_held : (o : Option ℕ) → is_replaced o o ≡ false
@@ -124,9 +86,6 @@ open_stays w H when f right e n = go (open_transfer w H) refl
     go (Some t) i =
         transfer_left w H when f t right i (inr n)
         (ap (is_replaced (holder w H t.sender.destination)) (unclaimed w H when f t.sender.destination e) ∙ same_held (holder w H t.sender.destination))
-
-pub no_more : (b : Bool) → (b || false) ≡ b
-no_more b = grind arith
 
 none_asked : (w : Who) (held : Bool) (f : FrameRecord) (d : Option ℕ) → asked_with w held f d None ≡ None
 none_asked w held f None = refl
@@ -156,22 +115,19 @@ frame_stays w H c when f now is e g n m =
         else if held
         then option_map (λ m. (now, m)) (control_of (if gives then None else slice_get acks (length (acknowledged H))) others) else None
 
-    never : (b : Bool) → (b && false) ≡ false
-    never b = grind arith
-
     differs : (b : Bool) → nat_eq (source_of f.id) w.address ≡ b → nat_eq (source_of f.id) w.address ≡ false
     differs true i = absurd (m (eqb-true _ _ i))
     differs false i = i
 
     not_here : (held : Bool) → is_another w held f ≡ false
-    not_here held = ap (λ (b : Bool). held && (b && not (is_claim f))) (differs (nat_eq (source_of f.id) w.address) refl) ∙ never held
+    not_here held = ap (λ (b : Bool). held && (b && not (is_claim f))) (differs (nat_eq (source_of f.id) w.address) refl) ∙ and-false held
 
     calls : calls_for_claim w (is_lost (address_after w H)) f ≡ false
     calls = λ i. ((is_smaller w (e i) || is_larger w (e i)) && not (is_lost (address_after w H)))
         || (is_some (g i) 60928 && (is_some (destination_of f.id) 255 || (is_some (destination_of f.id) w.address && not (is_lost (address_after w H)))))
 
     owes : owes_claim w (At when (Hear f) ∷ H) ≡ owes_claim w H
-    owes = (λ i. owes_claim w H || (calls i || (not_here (holds w H when) i && nat_eq (patience w H - step H when) 0))) ∙ no_more (owes_claim w H)
+    owes = (λ i. owes_claim w H || (calls i || (not_here (holds w H when) i && nat_eq (patience w H - step H when) 0))) ∙ or-false (owes_claim w H)
 
     delays : delayed w (At when (Hear f) ∷ H) ≡ delayed w H - step H when
     delays = λ i. if (calls i || (not_here (holds w H when) i && nat_eq (patience w H - step H when) 0)) && not (is_lost (address_after w H) && owes_claim w H) then w.delay * 600
@@ -233,16 +189,6 @@ whole_by_none own true held b f now r n = refl
 whole_by_none own false false b f now r n = refl
 whole_by_none own false true true f now r n = none_whole own (shown own None f) now (has_place r.waits) None (λ x z. absurd (cc))
 whole_by_none own false true false f now r n = none_whole own (shown own r.session f) now (has_place r.waits) r.session n
-
-pub waits_stay : (w : Who) (H : List Call) (when : ℕ) (f : FrameRecord)
-    → ((r : ReceptionRecord) → (reception w H).session ≡ Some r → source_of f.id ≢ r.message.source)
-    → (reception w (At when (Hear f) ∷ H)).waits ≡ (reception w H).waits
-waits_stay w H when f n =
-    let b = leaves (known w H when f) (holder w (At when (Hear f) ∷ H)) (reception w H).session in
-    waits_after w.address (is_smaller w (claim_of f)) (holds w H when) f (time_heard (At when (Hear f) ∷ H)) (left b (reception w H))
-    ∙ (ap (λ (o : Option MessageRecord). keeps f.stamp o (left b (reception w H)).waits)
-    (whole_by_none w.address (is_smaller w (claim_of f)) (holds w H when) b f (time_heard (At when (Hear f) ∷ H)) (reception w H) n)
-    ∙ left_waits b (reception w H))
 
 -- ---- what is said
 

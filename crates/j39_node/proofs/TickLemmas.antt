@@ -1,21 +1,8 @@
 -- When a tick does something.
-use Rattle.std.proofs.Common.{◌≡◌, ◌⊎◌, ℕ, ◌+◌, ◌-◌, ◌<◌, ◌≤◌, ◌==◌, List, [], ◌∷◌, min, Option, Some, None, Bool, true, false, not, ◌&&◌, ◌||◌, if◌then◌else◌, nat_eq, nat_lt, refl, sym, ap, ◌∙◌, inl, inr, arith, ltb-false, ltb-true, lt-ltb}
-use Rattle.std.specs.Option.{option_map}
-use Rattle.std.proofs.lemmas.Bool.{cond_both}
-use Rattle.j39_transport.specs.Reception.{ReceptionRecord, Reaction, asks_again, granted_at, grants, limit_of, takes_tick}
-use Rattle.j39_transport.specs.Receiving.{ReceiverRecord, RecvResult, Tick as Ticks, recv_step}
-use Rattle.j39_node.specs.declared.controller.Controller.{Controller}
-use Rattle.j39_node.specs.declared.kinds.AskEnding.{AskEnding}
-use Rattle.j39_node.specs.declared.kinds.AskEnding.TheVariants.{TimedOut, Withdrawn}
-use Rattle.j39_node.specs.History.{reached, Who, Call, address_after, is_lost, moment}
-use Rattle.j39_node.specs.History.Call.{At, TakeAskEnded}
-use Rattle.j39_node.specs.History.Act.{Hear, Tick}
-use Rattle.j39_node.specs.Reception.{Reception, heard_at, is_over, reception, receiver_at, session_tick, ticked_at, time_heard}
-use Rattle.j39_node.specs.Hearing.{OpenBroadcast, hearing, hearing_tick, is_late, is_out, is_whole, left, expires}
-use Rattle.j39_node.specs.Asking.{Question, ask_end, comes, ended, in_broadcast, in_session, is_coming, is_from, is_taken, is_waiting, next_ask_ended, open_ask, out_at, request_tick, seeks, wait}
-use Rattle.j39_node.specs.Is.{Is}
-use Rattle.j39_node.specs.Ticks.{next_tick}
-use Rattle.j39_node.specs.Transfers.{sooner}
+use Rattle.j39_node.proofs.Common.{[], if◌then◌else◌, ◌&&◌, ◌+◌, ◌-◌, ◌<◌, ◌==◌, ◌||◌, ◌∙◌, ◌∷◌, ◌≡◌, ◌≤◌, ◌⊎◌, address_after, ap, arith, ask_end, AskEnding, asks_again, At, Bool, Call, comes, cond_both, Controller, ended, expires, false, granted_at, grants, Hear, heard_at, hearing, hearing_tick, in_broadcast, in_session, inl, inr, Is, is_coming, is_from, is_late, is_lost, is_out, is_over, is_whole, limit_of, List, lt-ltb, ltb-false, ltb-true, min, moment, nat_eq, nat_lt, next_ask_ended, next_tick, None, not, open_ask, OpenBroadcast, Option, option_map, out_at, Question, reached, Reaction, receiver_at, ReceiverRecord, Reception, reception, ReceptionRecord, recv_step, RecvResult, refl, request_tick, seeks, session_tick, Some, sooner, sym, TakeAskEnded, takes_tick, Tick, ticked_at, Ticks, time_heard, TimedOut, true, wait, Who, ℕ, and-false, or_parts}
+use Rattle.j39_node.specs.declared.kinds.AskEnding.TheVariants.{Withdrawn}
+use Rattle.j39_node.specs.Hearing.{left}
+use Rattle.j39_node.specs.Asking.{is_taken, is_waiting}
 use Rattle.j39_node.proofs.AskLaws.{over_told}
 use Rattle.j39_node.proofs.HearingLaws.{tick_keeps}
 use Rattle.j39_node.proofs.ReceptionLaws.{tick_waits}
@@ -91,16 +78,11 @@ ticked_left t s (Some x) l = go (is_late s x && not (is_whole x)) (broadcast_lef
 none_begins : (o : Option Question) (a b c d : Option (ℕ × ℕ)) → (b ≡ a) ⊎ (b ≡ None) → (d ≡ c) ⊎ (d ≡ None) → is_coming o a c ≡ false → is_coming o b d ≡ false
 none_begins None a b c d i j e = refl
 none_begins (Some q) a b c d i j e =
-    let s = split (is_from q a) (seeks q c) e in (λ z. one (is_from q) refl a b i s.0 z || one (seeks q) refl c d j s.1 z)
+    let s = or_parts (is_from q a) (seeks q c) e in (λ z. one (is_from q) refl a b i s.0 z || one (seeks q) refl c d j s.1 z)
   where
     one : {T : Type 0} (f : Option T → Bool) → f None ≡ false → (a b : Option T) → (b ≡ a) ⊎ (b ≡ None) → f a ≡ false → f b ≡ false
     one f n a b (inl i) e = ap f i ∙ e
     one f n a b (inr i) e = ap f i ∙ n
-
-    split : (x y : Bool) → (x || y) ≡ false → (x ≡ false) × (y ≡ false)
-    split false false e = (refl, refl)
-    split false true e = absurd (cc)
-    split true y e = absurd (cc)
 
 none_comes : (w : Who) (H : List Call) (now : ℕ) → comes w H (time_heard H) ≡ false → comes w (At now Tick ∷ H) (time_heard (At now Tick ∷ H)) ≡ false
 none_comes w H now e =
@@ -172,11 +154,7 @@ none_ends w H now l m q =
 
     same : (a d : Bool) → ((t : ℕ) → out_at (a && not d) (moment H) (wait H) ≡ Some t → now < t) → silent a (nat_eq (wait H - (now - moment H)) 0) d ≡ silent a (nat_eq (wait H) 0) d
     same false d k = refl
-    same true true k = ap (λ (b : Bool). if b then Some TimedOut else if lost then Some Withdrawn else None) (never (nat_eq (wait H - (now - moment H)) 0) ∙ sym (never (nat_eq (wait H) 0)))
-      where
-        never : (b : Bool) → (b && false) ≡ false
-        never true = refl
-        never false = refl
+    same true true k = ap (λ (b : Bool). if b then Some TimedOut else if lost then Some Withdrawn else None) (and-false (nat_eq (wait H - (now - moment H)) 0) ∙ sym (and-false (nat_eq (wait H) 0)))
     same true false k = ap (λ (b : Bool). silent true b false) (not_yet (moment H) (wait H) now (by (nat_lt (moment H + wait H) 10000000000000000) refl))
       where
         by : (c : Bool) → nat_lt (moment H + wait H) 10000000000000000 ≡ c → now < moment H + wait H

@@ -1,34 +1,15 @@
 -- The laws of transfers.
-use Rattle.std.proofs.Common.{◌≡◌, ◌⊎◌, ◌↔◌, ℕ, ◌+◌, ◌-◌, ◌<◌, ◌≤◌, List, [], ◌∷◌, ◌++◌, length, Option, Some, None, Result, Ok, Err, Bool, true, false, not, ◌&&◌, ◌||◌, ◌==◌, if◌then◌else◌, nat_eq, nat_lt, max, min, refl, sym, ap, ◌∙◌, arith, inl, inr, eq-eqb, eqb-true, subst, IsTrue}
-use Rattle.std.specs.List.{slice_get}
-use Rattle.std.specs.Option.{option_map}
-use Rattle.std.proofs.lemmas.Bool.{cond_both, or_parts, and_parts as both}
-use Rattle.j39_frame.specs.Frame.{FrameRecord}
-use Rattle.j39_frame.specs.Network.{transport_control_group, transport_data_group}
-use Rattle.j39_transport.specs.Cutting.{packet_data}
-use Rattle.j39_transport.specs.Message.{MessageRecord, packets_of}
+use Rattle.j39_node.proofs.Common.{[], if◌then◌else◌, ◌&&◌, ◌++◌, ◌+◌, ◌-◌, ◌<◌, ◌==◌, ◌||◌, ◌∙◌, ◌∷◌, ◌≡◌, ◌≤◌, ◌⊎◌, Abort, abort_move, aborted, Aborts, acked, Acknowledges, Acknowledgment, address_after, all_transfers, ap, AreAnswered, arith, At, Bool, both, BroadcastAnnounce, broken_off, Call, can_transfer, cleared, clears, clears_by, ClearToSend, clock_at, cond_both, Controller, ending_by, eq-eqb, eqb-true, false, FrameRecord, gives_up, Gone, granted_after, granted_by, Happened, Hear, hears, hears_if, holder, holds, inl, inr, Is, is_clear, is_engaged, is_idle, is_lost, is_move, is_replaced, is_resting, is_running, is_spent, is_waiting, IsMove, IsTrue, length, List, listens, long_by, max, may_name, Message, message_of, MessageRecord, min, moves, nat_eq, nat_lt, new_sender, next_packet, next_transfer, None, not, Ok, open_transfer, Option, option_map, or_parts, Packet, packet_data, packets, packets_of, refl, Refused, Replaces, request_of, RequestToSend, Result, Running, said_between, says, send_step, SenderRecord, sends, sends_if, SendState, Signal, signal_by, slice_get, Some, spent_after, subst, sym, TakeFrame, takes_clear, TakeTransferEnded, ticks_in, told_transfers, Transfer, transfer_end, TransferEnding, transport_control_group, transport_data_group, true, Who, ℕ, not_both, ltb-true}
+use Rattle.j39_transport.specs.Sending.{Heard, Tick}
+use Rattle.j39_node.specs.declared.kinds.TransferEnding.TheVariants.{Done, Withdrawn, Failed}
+use Rattle.j39_node.specs.Transfers.{is_over, said_to}
+use Rattle.j39_node.specs.Moves.{NoneEnds}
 use Rattle.j39_transport.specs.Sending as sending
-use Rattle.j39_transport.specs.Sending.{SenderRecord, SendState, Heard, Tick, aborted, acknowledged as acked, cleared, is_idle, is_running, is_waiting, may_name, new_sender, request_of, send_step, sends_packet, ticks_in}
-use Rattle.j39_transport.specs.SenderNext.{granted_by}
-use Rattle.j39_transport.specs.Signals.{Signal, BroadcastAnnounce, RequestToSend, ClearToSend, Acknowledgment, Abort, Packet, said_between}
-use Rattle.j39_node.specs.declared.controller.Controller.{Controller}
-use Rattle.j39_node.specs.declared.kinds.TransferEnding.{TransferEnding}
-use Rattle.j39_node.specs.declared.kinds.TransferEnding.TheVariants.{Done, Withdrawn, Failed, Gone}
-use Rattle.j39_node.specs.declared.kinds.Refused.{Refused}
-use Rattle.j39_node.specs.declared.kinds.Refused.TheVariants.{NoAddress, BadValue, Full}
-use Rattle.j39_node.specs.History.{reached, Who, Message, Call, accepted, acknowledged, address_after, due, has_packets, holds, is_lost, message_of, packets, step}
-use Rattle.j39_node.specs.History.Call.{At, TakeTransferEnded}
-use Rattle.j39_node.specs.History.Act.{Hear, TakeFrame, Transfer}
-use Rattle.j39_node.specs.Is.{AreAnswered, Is, long_by, next_packet, gives_way}
-use Rattle.j39_node.specs.Since.{PacketSince}
-use Rattle.j39_node.specs.Transfers.{Running, broken_off, can_transfer, clock_at, ending_by, gives_up, granted_after, hears, hears_if, is_engaged, is_over, is_replaced, is_resting, is_spent, listens, next_transfer, open_transfer, said_to, says, sends, sends_if, signal_by, spent_after, told_transfers, transfer_end, transfers as all_transfers}
-use Rattle.j39_node.specs.Reception.{holder, is_move}
-use Rattle.j39_node.specs.Moves.{Aborts, Acknowledges, Happened, IsMove, NoneEnds, Replaces, abort_move, clears, clears_by, is_clear, moves, takes_clear}
-use Rattle.j39_node.proofs.SoundLemmas.{frame_case, sound}
-use Rattle.j39_node.proofs.LawLemmas.{not_both, past_end, sent_within, all_acknowledged}
-use Rattle.j39_node.proofs.LaneLaws.{none_long, packet_waits}
-use Rattle.j39_node.proofs.PortLemmas.{TransferCase, transfer_case, hears_same, sends_same}
-use Rattle.j39_node.proofs.PortLemmas.TransferCase.{homeless, unfit, busy, opens}
+use Rattle.j39_node.proofs.SoundLemmas.{frame_case}
+use Rattle.j39_node.proofs.LaneLaws.{none_long}
+use Rattle.j39_node.proofs.PortLemmas.{hears_same, sends_same}
+use Rattle.j39_node.proofs.AnswerCases.{transfer_accepts, waits_for}
+use Rattle.j39_node.proofs.AnswerCases as cases
 use Rattle.j39_node.proofs.MoveSteps.{Moved, SignalCase, signal_case, running_some, done_heard, done_ticked, done_given_up, failed_heard, failed_ticked, failed_given_up}
 use Rattle.j39_node.proofs.MoveSteps.SignalCase.{requests, packs, times_out}
 use Rattle.j39_node.proofs.MoveLemmas.{Arises, LastIf, Sent, last_one, last_open, moved_open, sent_case, traced}
@@ -36,38 +17,7 @@ use Rattle.j39_node.proofs.StrangerLaws.{own_source as from_own}
 
 -- ---- what transfer answers
 
-answers : (w : Who) (H : List Call) (c : Controller) (now group to : ℕ) (bytes : List ℕ) (answer : Result ℕ Refused)
-    → Is w (At now (Transfer group to bytes answer) ∷ H) c → TransferCase w H now group to bytes answer
-answers w H c now group to bytes answer is = transfer_case w H now group to bytes answer is.answered.1
-
-pub refused_address : (w : Who) (H : List Call) (c : Controller) (now group to : ℕ) (bytes : List ℕ) (answer : Result ℕ Refused)
-    → Is w (At now (Transfer group to bytes answer) ∷ H) c → (answer ≡ Err NoAddress ↔ (IsTrue (holds w H now) → ⊥))
-refused_address w H c now group to bytes answer is = go (answers w H c now group to bytes answer is)
-  where
-    go : TransferCase w H now group to bytes answer → (answer ≡ Err NoAddress ↔ (IsTrue (holds w H now) → ⊥))
-    go (homeless a e) = (λ z. not_both _ a, λ z. e)
-    go (unfit a b e) = (λ z. absurd (cc), λ z. absurd (z a))
-    go (busy a b f e) = (λ z. absurd (cc), λ z. absurd (z a))
-    go (opens a b f e) = (λ z. absurd (cc), λ z. absurd (z a))
-
-pub refused_value : (w : Who) (H : List Call) (c : Controller) (now group to : ℕ) (bytes : List ℕ) (answer : Result ℕ Refused)
-    → Is w (At now (Transfer group to bytes answer) ∷ H) c
-    → (answer ≡ Err BadValue ↔ (IsTrue (holds w H now) × (IsTrue (can_transfer w group to bytes) → ⊥)))
-refused_value w H c now group to bytes answer is = go (answers w H c now group to bytes answer is)
-  where
-    go : TransferCase w H now group to bytes answer → (answer ≡ Err BadValue ↔ (IsTrue (holds w H now) × (IsTrue (can_transfer w group to bytes) → ⊥)))
-    go (homeless a e) = (λ z. absurd (cc), λ z. absurd (not_both _ a z.0))
-    go (unfit a b e) = (λ z. (a, not_both _ b), λ z. e)
-    go (busy a b f e) = (λ z. absurd (cc), λ z. absurd (z.1 b))
-    go (opens a b f e) = (λ z. absurd (cc), λ z. absurd (z.1 b))
-
--- one is accepted and not told, there is no token left, or it rests
-AtLimit : Who → List Call → ℕ → ℕ → ℕ → Type 0
-AtLimit w H now group to =
-    (length (all_transfers w H) ≡ length (told_transfers H) + 1)
-    ⊎ ((length (all_transfers w H) ≡ 18446744073709551615) ⊎ IsTrue (is_resting w H now group to))
-
-engaged_limit : (o : Option Running) (told : ℕ) (all : List (ℕ × MessageRecord)) (r : Bool) → LastIf told all o → (is_engaged o (length all) || r) ≡ true
+pub engaged_limit : (o : Option Running) (told : ℕ) (all : List (ℕ × MessageRecord)) (r : Bool) → LastIf told all o → (is_engaged o (length all) || r) ≡ true
     → (length all ≡ told + 1) ⊎ ((length all ≡ 18446744073709551615) ⊎ IsTrue r)
 engaged_limit (Some t) told all r h e = inl (let a = h.token in let b = h.count in omega (arith, a, b))
 engaged_limit None told all r h e = inr (go (nat_eq (length all) 18446744073709551615) refl e)
@@ -76,34 +26,20 @@ engaged_limit None told all r h e = inr (go (nat_eq (length all) 184467440737095
     go true i z = inl (eqb-true _ _ i)
     go false i z = inr z
 
-free_limit : (o : Option Running) (told : ℕ) (all : List (ℕ × MessageRecord)) (r : Bool) → LastIf told all o → (is_engaged o (length all) || r) ≡ false
+pub free_limit : (o : Option Running) (told : ℕ) (all : List (ℕ × MessageRecord)) (r : Bool) → LastIf told all o → (is_engaged o (length all) || r) ≡ false
     → ((length all ≡ told + 1) ⊎ ((length all ≡ 18446744073709551615) ⊎ IsTrue r)) → ⊥
 free_limit None told all r h e (inl a) = absurd (omega (arith, h, a))
 free_limit None told all r h e (inr (inl a)) = not_both _ (or_parts (nat_eq (length all) 18446744073709551615) r e).0 (eq-eqb _ _ a)
 free_limit None told all r h e (inr (inr a)) = not_both _ (or_parts (nat_eq (length all) 18446744073709551615) r e).1 a
 free_limit (Some t) told all r h e l = absurd (let z : true ≡ false = e in cc)
 
-pub refused_full : (w : Who) (H : List Call) (c : Controller) (now group to : ℕ) (bytes : List ℕ) (answer : Result ℕ Refused)
-    → Is w (At now (Transfer group to bytes answer) ∷ H) c
-    → (answer ≡ Err Full ↔ (IsTrue (holds w H now) × IsTrue (can_transfer w group to bytes)
-    × ((length (all_transfers w H) ≡ length (told_transfers H) + 1)
-    ⊎ ((length (all_transfers w H) ≡ 18446744073709551615) ⊎ IsTrue (is_resting w H now group to)))))
-unfolding AtLimit
-refused_full w H c now group to bytes answer is = go (answers w H c now group to bytes answer is)
-  where
-    go : TransferCase w H now group to bytes answer
-        → (answer ≡ Err Full ↔ (IsTrue (holds w H now) × IsTrue (can_transfer w group to bytes) × AtLimit w H now group to))
-    go (homeless a e) = (λ z. absurd (cc), λ z. absurd (not_both _ a z.0))
-    go (unfit a b e) = (λ z. absurd (cc), λ z. absurd (not_both _ b z.1))
-    go (busy a b f e) = (λ z. (a, b, engaged_limit (open_transfer w H) _ _ (is_resting w H now group to) (last_one w H is.answered.0) f), λ z. e)
-    go (opens a b f e) =
-        (λ z. absurd (cc), λ z. absurd (free_limit (open_transfer w H) _ _ (is_resting w H now group to) (last_one w H is.answered.0) f z.2))
-
 pub is_accepted : (w : Who) (H : List Call) (c : Controller) (now group to : ℕ) (bytes : List ℕ) (answer : Result ℕ Refused)
     → Is w (At now (Transfer group to bytes answer) ∷ H) c → IsTrue (holds w H now) → IsTrue (can_transfer w group to bytes)
     → length (all_transfers w H) ≡ length (told_transfers H) → length (all_transfers w H) < 18446744073709551615
     → is_resting w H now group to ≡ false → answer ≡ Ok (length (all_transfers w H))
-is_accepted w H c now group to bytes answer is held can room some rested = go (answers w H c now group to bytes answer is)
+is_accepted w H c now group to bytes answer is held can room some rested =
+    cases.is_accepted (holds w H now) (can_transfer w group to bytes) (waits_for w H now group to) (length (all_transfers w H)) answer is.answered.1 held can
+    (λ f. free (engaged_limit (open_transfer w H) _ _ (is_resting w H now group to) (last_one w H is.answered.0) f))
   where
     free : (length (all_transfers w H) ≡ length (told_transfers H) + 1)
         ⊎ ((length (all_transfers w H) ≡ 18446744073709551615) ⊎ IsTrue (is_resting w H now group to)) → ⊥
@@ -111,28 +47,16 @@ is_accepted w H c now group to bytes answer is held can room some rested = go (a
     free (inr (inl z)) = absurd (omega (arith, z, some))
     free (inr (inr z)) = not_both _ rested z
 
-    go : TransferCase w H now group to bytes answer → answer ≡ Ok (length (all_transfers w H))
-    go (homeless a e) = absurd (not_both _ a held)
-    go (unfit a b e) = absurd (not_both _ b can)
-    go (busy a b f e) = absurd (free (engaged_limit (open_transfer w H) _ _ (is_resting w H now group to) (last_one w H is.answered.0) f))
-    go (opens a b f e) = e
-
 pub token_is : (w : Who) (H : List Call) (c : Controller) (now group to k : ℕ) (bytes : List ℕ) → Is w (At now (Transfer group to bytes (Ok k)) ∷ H) c
     → k ≡ length (all_transfers w H)
-token_is w H c now group to k bytes is = go (answers w H c now group to bytes (Ok k) is)
-  where
-    go : TransferCase w H now group to bytes (Ok k) → k ≡ length (all_transfers w H)
-    go (homeless a e) = absurd (cc)
-    go (unfit a b e) = absurd (cc)
-    go (busy a b f e) = absurd (cc)
-    go (opens a b f e) = cc
+token_is w H c now group to k bytes is = (transfer_accepts w H now group to k bytes is.answered.1).3
 
 -- ---- which frames are taken
 
-sent_one : (w : Who) (H : List Call) (c : Controller) (now : ℕ) (f : FrameRecord) → Is w (At now (TakeFrame (Some f)) ∷ H) c → is_move w H f ≡ true → Sent w H now f
+pub sent_one : (w : Who) (H : List Call) (c : Controller) (now : ℕ) (f : FrameRecord) → Is w (At now (TakeFrame (Some f)) ∷ H) c → is_move w H f ≡ true → Sent w H now f
 sent_one w H c now f is p = sent_case w H now f is.answered.0 (frame_case w H now f is.answered.1) p
 
-given_up : (t : Running) (now : ℕ) (a : Signal) → gives_up t ≡ true → signal_by t now ≡ Some a → a ≡ Abort 5 t.sender.message.pgn
+pub given_up : (t : Running) (now : ℕ) (a : Signal) → gives_up t ≡ true → signal_by t now ≡ Some a → a ≡ Abort 5 t.sender.message.pgn
 given_up t now a g = cond_both t.gone None _ (λ (o : Option Signal). o ≡ Some a → a ≡ Abort 5 t.sender.message.pgn) (λ z e. absurd (cc))
     (λ z. cond_both (gives_up t) _ _ (λ (o : Option Signal). o ≡ Some a → a ≡ Abort 5 t.sender.message.pgn)
     (λ y e. (let x : Abort 5 t.sender.message.pgn ≡ a = cc in sym x)) (λ y e. absurd (not_both _ y g)))
@@ -168,34 +92,12 @@ only w H c now f is p =
           (moves_so s.running (clock_at H now) (moves w H) s.signal (moved_open w H s.running is.answered.0 s.is) s.said),
     )
 
-pub behind : (w : Who) (H : List Call) (c : Controller) (now : ℕ) (f : FrameRecord) → Is w (At now (TakeFrame (Some f)) ∷ H) c → IsTrue (is_move w H f)
-    → IsTrue (holds w H now) × (reached H ≡ length (accepted w H)) × (IsTrue (gives_way w H now) ⊎ (acknowledged H ≡ due w H))
-behind w H c now f is p =
-    let x = sent_one w H c now f is p in
-    let s = sound w H is.answered.0 in
-    let a = past_end (accepted w H) (reached H) x.none_waits in
-    let b = sent_within w H s in
-    (x.held, omega (arith, a, b), all_acknowledged w H now is.answered.0 x.none_due)
-
-pub after_broadcasts : (w : Who) (H : List Call) (c : Controller) (now : ℕ) (f : FrameRecord) → Is w (At now (TakeFrame (Some f)) ∷ H) c → IsTrue (is_move w H f)
-    → IsTrue (has_packets w H) → (e : ℕ) × PacketSince H e × (e + step H now < 50000)
-after_broadcasts w H c now f is p some = packet_waits w H now some (sent_one w H c now f is p).no_packet
-
 pub waits : (w : Who) (H : List Call) (c : Controller) (now : ℕ) → Is w (At now (TakeFrame None) ∷ H) c → IsTrue (holds w H now) → next_transfer w H now ≡ None
 waits w H c now is held = no_long (next_packet w H now) (next_transfer w H now) (none_long w H now held is.answered.1)
   where
     no_long : (a b : Option Message) → long_by a b ≡ None → b ≡ None
     no_long None b e = e
     no_long (Some m) b e = absurd (cc)
-
-pub gives_up_so : (w : Who) (H : List Call) (c : Controller) (now : ℕ) (f : FrameRecord) (t : Running) → Is w (At now (TakeFrame (Some f)) ∷ H) c → IsTrue (is_move w H f)
-    → open_transfer w H ≡ Some t → IsTrue (gives_up t) → message_of f ≡ abort_move t.sender.destination t.sender.message 5
-gives_up_so w H c now f t is p e g =
-    let s = sent_one w H c now f is p in
-    let z : Some s.running ≡ Some t = sym s.is ∙ e in
-    let y : s.running ≡ t = cc in
-    s.frame ∙ (ap (says s.running.sender) (given_up s.running (clock_at H now) s.signal (ap gives_up y ∙ g) s.said)
-    ∙ ap (λ (u : Running). abort_move u.sender.destination u.sender.message 5) y)
 
 -- ---- how many clears to send it takes
 
@@ -234,11 +136,8 @@ budget_listens : (t : Running) (n k : ℕ) (o : Option ℕ) → Within k o → n
 budget_listens t n k None l a b d h = (a, b, omega (arith, d), h)
 budget_listens t n k (Some last) l a b d h = go (nat_lt t.granted last) refl
   where
-    less : (x y : ℕ) → nat_lt x y ≡ true → x < y
-    less x y e = grind arith
-
     go : (b : Bool) → nat_lt t.granted last ≡ b → (n + 1 ≤ max t.granted last + (if b then t.spent else t.spent + 1)) × (max t.granted last ≤ k) × ((if b then t.spent else t.spent + 1) ≤ 65) × ((if b then t.spent else t.spent + 1) ≤ n + 1)
-    go true e = let y = less _ _ e in (omega (arith, y, a), omega (arith, b, l), omega (arith, d), omega (arith, h))
+    go true e = let y = ltb-true _ _ e in (omega (arith, y, a), omega (arith, b, l), omega (arith, d), omega (arith, h))
     go false e = (omega (arith, a), omega (arith, b, l), omega (arith, d), omega (arith, h))
 
 budget_hears : (lost replaced : Bool) (f : FrameRecord) (now : ℕ) (t : Running) (n : ℕ) → Budgeted t n
@@ -285,11 +184,6 @@ budgeted w (At now (TakeFrame (Some f)) ∷ H) = budget_sends (is_move w H f) (c
 budgeted w (At now (Transfer group to bytes (Ok k)) ∷ H) = record { count = omega arith; granted = omega arith; spent = omega arith; heard = omega arith }
 budgeted w (TakeTransferEnded (Some x) ∷ H) = tt
 budgeted w (call ∷ H) = budgeted w H
-
-pub bounded : (w : Who) (H : List Call) (c : Controller) (t : Running) → Is w H c → open_transfer w H ≡ Some t → clears w H ≤ packets_of t.sender.message + 65
-bounded w H c t is e =
-    let h : Budgeted t (clears w H) = subst (λ (o : Option Running). BudgetedIf o (clears w H)) e (budgeted w H) in
-    let a = h.count in let b = h.granted in let d = h.spent in omega (arith, a, b, d)
 
 one_number : (m n : ℕ) → Some m ≡ Some n → m ≡ n
 one_number m n e = cc
@@ -352,17 +246,9 @@ heeds w H when f t e own held here room =
     heard false true g p q r = absurd (cc)
     heard false false true p q r = absurd (cc)
 
-pub goes_on : (w : Who) (H : List Call) (now : ℕ) (f : FrameRecord) (t : Running) → open_transfer w H ≡ Some t → IsTrue (is_move w H f) → gives_up t ≡ false
-    → (x : Running) × (open_transfer w (At now (TakeFrame (Some f)) ∷ H) ≡ Some x) × (x.sender ≡ (send_step t.sender Tick (clock_at H now)).after)
-goes_on w H now f t e p g = (
-  sends (clock_at H now) t,
-  ap (λ (b : Bool). sends_if b (clock_at H now) (open_transfer w H)) p ∙ ap (λ (o : Option Running). sends_if true (clock_at H now) o) e,
-  ap (λ (b : Bool). if b then aborted 5 t.sender else (send_step t.sender Tick (clock_at H now)).after) g,
-)
-
 -- ---- how it ended
 
-record Ended (w : Who) (H : List Call) (k : ℕ) (e : TransferEnding) : Type 0 where
+pub record Ended (w : Who) (H : List Call) (k : ℕ) (e : TransferEnding) : Type 0 where
   pub running : Running
   pub is : open_transfer w H ≡ Some running
   pub token : running.token ≡ k
@@ -383,15 +269,8 @@ ended_by w H k e (Some t) p q = go (ending_by t.sender.state t.gone (is_lost (ad
         let z = same_pair (k, e) (t.token, y) b in
         record { running = t; is = p; token = sym z.0; ending = ap (λ (u : TransferEnding). Some u) z.1 ∙ sym a }
 
-ended : (w : Who) (H : List Call) (c : Controller) (k : ℕ) (e : TransferEnding) → Is w (TakeTransferEnded (Some (k, e)) ∷ H) c → Ended w H k e
+pub ended : (w : Who) (H : List Call) (c : Controller) (k : ℕ) (e : TransferEnding) → Is w (TakeTransferEnded (Some (k, e)) ∷ H) c → Ended w H k e
 ended w H c k e is = ended_by w H k e (open_transfer w H) refl is.answered.1
-
-pub in_turn : (w : Who) (H : List Call) (c : Controller) (k : ℕ) (e : TransferEnding) → Is w (TakeTransferEnded (Some (k, e)) ∷ H) c
-    → (k ≡ length (told_transfers H)) × (k < length (all_transfers w H))
-in_turn w H c k e is =
-    let x = ended w H c k e is in
-    let l = last_open w H x.running is.answered.0 x.is in
-    let a = x.token in let b = l.token in let d = l.count in (omega (arith, a, b), omega (arith, a, d))
 
 broken_done : (gone lost : Bool) → Some Done ≡ broken_off gone lost → ⊥
 broken_done true lost e = absurd (cc)
@@ -422,7 +301,7 @@ broken_gone true lost e = refl
 broken_gone false true e = absurd (cc)
 broken_gone false false e = absurd (cc)
 
-state_gone : (u : SendState) (gone lost : Bool) → Some Gone ≡ ending_by u gone lost → gone ≡ true
+pub state_gone : (u : SendState) (gone lost : Bool) → Some Gone ≡ ending_by u gone lost → gone ≡ true
 state_gone sending.Done gone lost e = absurd (cc)
 state_gone (sending.Failed r) gone lost e = absurd (cc)
 state_gone sending.Idle gone lost e = broken_gone gone lost e
@@ -434,15 +313,12 @@ broken_lost true lost e = absurd (cc)
 broken_lost false true e = refl
 broken_lost false false e = absurd (cc)
 
-state_lost : (u : SendState) (gone lost : Bool) → Some Withdrawn ≡ ending_by u gone lost → lost ≡ true
+pub state_lost : (u : SendState) (gone lost : Bool) → Some Withdrawn ≡ ending_by u gone lost → lost ≡ true
 state_lost sending.Done gone lost e = absurd (cc)
 state_lost (sending.Failed r) gone lost e = absurd (cc)
 state_lost sending.Idle gone lost e = broken_lost gone lost e
 state_lost (sending.Waiting limit) gone lost e = broken_lost gone lost e
 state_lost (sending.Sending next last) gone lost e = broken_lost gone lost e
-
-pub withdrawn_means : (w : Who) (H : List Call) (c : Controller) (k : ℕ) → Is w (TakeTransferEnded (Some (k, Withdrawn)) ∷ H) c → IsTrue (is_lost (address_after w H))
-withdrawn_means w H c k is = let x = ended w H c k Withdrawn is in state_lost x.running.sender.state x.running.gone _ x.ending
 
 -- ---- since when
 
@@ -525,7 +401,7 @@ failed_arises w r = record {
           | inr x ↦ inr (aborts t f a k (let y = sym (ticking t (clock_at H now) a z g) ∙ x in let v : a ≡ Abort r t.sender.message.pgn = cc in v))
         ])
 
-gone_arises : (w : Who) → Arises w (λ t. t.gone ≡ true) (λ to m. Replaces w to)
+pub gone_arises : (w : Who) → Arises w (λ t. t.gone ≡ true) (λ to m. Replaces w to)
 gone_arises w = record {
   begins_not = λ token m to q. absurd (cc);
   by_hearing = λ H when f t right e q.
@@ -541,7 +417,7 @@ gone_arises w = record {
     heard H when f t false false now e = cond_both (t.gone || is_spent t) t (listens f now t)
         (λ (u : Running). u.gone ≡ true → (t.gone ≡ true) ⊎ Replaces w t.sender.destination H (At when (Hear f))) (λ z q. inl q) (λ z q. inl q)
 
-of_token : (w : Who) (H : List Call) (c : Controller) (k : ℕ) (e : TransferEnding) (is : Is w (TakeTransferEnded (Some (k, e)) ∷ H) c) (x : Ended w H k e)
+pub of_token : (w : Who) (H : List Call) (c : Controller) (k : ℕ) (e : TransferEnding) (is : Is w (TakeTransferEnded (Some (k, e)) ∷ H) c) (x : Ended w H k e)
     → slice_get (all_transfers w H) k ≡ Some (x.running.sender.destination, x.running.sender.message)
 of_token w H c k e is x = ap (slice_get (all_transfers w H)) (sym x.token) ∙ (last_open w H x.running is.answered.0 x.is).last
 
@@ -563,16 +439,6 @@ failed_means w H c k r is =
       x.running.sender.message,
       of_token w H c k (Failed r) is x,
       traced w (λ t. t.sender.state ≡ sending.Failed r) (Aborts w r) (failed_arises w r) H x.running is.answered.0 x.is (state_failed x.running.sender.state x.running.gone _ r x.ending),
-    )
-
-pub gone_means : (w : Who) (H : List Call) (c : Controller) (k : ℕ) → Is w (TakeTransferEnded (Some (k, Gone)) ∷ H) c
-    → (to : ℕ) × (m : MessageRecord) × (slice_get (all_transfers w H) k ≡ Some (to, m)) × Happened (Replaces w to) H
-gone_means w H c k is =
-    let x = ended w H c k Gone is in (
-      x.running.sender.destination,
-      x.running.sender.message,
-      of_token w H c k Gone is x,
-      traced w (λ t. t.gone ≡ true) (λ to m. Replaces w to) (gone_arises w) H x.running is.answered.0 x.is (state_gone x.running.sender.state x.running.gone _ x.ending),
     )
 
 -- ---- an acknowledgment makes it done

@@ -1,10 +1,5 @@
 -- Messages that were withdrawn are passed over.
-use Rattle.std.proofs.Common.{◌≡◌, ℕ, zero, suc, ◌+◌, ◌<◌, ◌≤◌, List, [], ◌∷◌, ◌++◌, length, map, drop, take, slice_index_or, slice_set, Option, Some, Bool, true, false, if◌then◌else◌, nat_lt, refl, sym, ap, ◌∙◌, arith, ltb-true}
-use Rattle.std.specs.List.{slice_get}
-use Rattle.std.proofs.lemmas.Option.{slice_get_within}
-use Rattle.j39_node.specs.History.{is_blank, past, unblanked, Message}
-use Rattle.j39_node.specs.declared.outgoing.Outgoing.{Outgoing}
-use Rattle.j39_node.specs.Is.{posted}
+use Rattle.j39_node.proofs.Common.{[], if◌then◌else◌, ◌++◌, ◌+◌, ◌<◌, ◌∙◌, ◌∷◌, ◌≡◌, ◌≤◌, ap, arith, Bool, drop, false, is_blank, length, List, ltb-true, map, Message, nat_lt, Option, Outgoing, past, posted, refl, slice_get, slice_get_within, slice_index_or, slice_set, Some, suc, sym, take, true, unblanked, zero, ℕ}
 use Rattle.j39_node.proofs.QueueLemmas.{get_map, length_map, read}
 
 -- no fewer are passed, none that isn't there, and the one that is reached isn't one of them

@@ -1,9 +1,5 @@
 -- Frames that others exchange.
-use Rattle.std.specs.Prelude.{◌≡◌, ◌≢◌, ℕ, false, Some, None}
-use Rattle.j39_frame.specs.Address.{global_address}
-use Rattle.j39_frame.specs.Frame.{FrameRecord}
-use Rattle.j39_frame.specs.Identifier.{destination_of, source_of}
-use Rattle.j39_address.specs.Claim.{claim_of}
+use Rattle.j39_node.specs.Common.{◌≡◌, ◌≢◌, claim_of, destination_of, false, FrameRecord, global_address, None, Some, source_of, ℕ}
 use Rattle.j39_node.specs.History.{Who}
 use Rattle.j39_node.specs.Reception.{asks_claims}
 

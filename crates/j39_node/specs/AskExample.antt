@@ -1,6 +1,5 @@
 -- A history of requests that a controller can have had.
-use Rattle.std.specs.Prelude.{ℕ, List, [], ◌∷◌, Some, None, Ok, Err}
-use Rattle.j39_frame.specs.Frame.{FrameRecord}
+use Rattle.j39_node.specs.Common.{[], ◌∷◌, Err, FrameRecord, List, None, Ok, Some, ℕ}
 use Rattle.j39_node.specs.declared.kinds.Answer.TheVariants.{Nack}
 use Rattle.j39_node.specs.declared.kinds.AskEnding.TheVariants.{Answered, Acknowledged, TimedOut}
 use Rattle.j39_node.specs.declared.kinds.Refused.TheVariants.{NoAddress, BadValue, Full}

@@ -1,11 +1,5 @@
 -- Asking others for groups (J1939-21, 5.4.2 and 5.4.4): what a history says of it.
-use Rattle.std.specs.Prelude.{◌≡◌, ◌⊎◌, ◌<◌, ◌≤◌, ℕ, ◌+◌, ◌-◌, ◌%◌, ◌/◌, ◌++◌, ◌&&◌, ◌||◌, nat_lt, nat_eq, not, Bool, true, false, IsTrue, List, [], ◌∷◌, length, Option, Some, None, Result, Ok, Err, if◌then◌else◌}
-use Rattle.std.specs.List.{slice_get}
-use Rattle.std.specs.Option.{option_map, option_or}
-use Rattle.j39_frame.specs.Address.{null_address, global_address}
-use Rattle.j39_frame.specs.Frame.{FrameRecord}
-use Rattle.j39_frame.specs.Identifier.{source_of, destination_of, pgn_of}
-use Rattle.j39_frame.specs.Network.{address_claimed_group}
+use Rattle.j39_node.specs.Common.{[], if◌then◌else◌, ◌%◌, ◌&&◌, ◌++◌, ◌+◌, ◌-◌, ◌/◌, ◌<◌, ◌||◌, ◌∷◌, ◌≡◌, ◌≤◌, ◌⊎◌, address_claimed_group, answer_time, Bool, destination_of, Err, false, FrameRecord, global_address, IsTrue, length, List, MessageRecord, nat_eq, nat_lt, None, not, null_address, Ok, Option, option_map, option_or, pgn_of, ReceptionRecord, Result, slice_get, Some, source_of, true, ℕ}
 use Rattle.j39_node.specs.declared.kinds.Answer.TheVariants.{Ack, Nack, Denied, Busy}
 use Rattle.j39_node.specs.declared.kinds.AskEnding.{AskEnding}
 use Rattle.j39_node.specs.declared.kinds.AskEnding.TheVariants.{Answered, Acknowledged, TimedOut, Withdrawn}
@@ -17,8 +11,6 @@ use Rattle.j39_node.specs.History.Act.{Ask, Hear, TakeFrame}
 use Rattle.j39_node.specs.Since.{passed_in}
 use Rattle.j39_node.specs.Reception.{is_message, reception, time_heard, whole}
 use Rattle.j39_node.specs.Hearing.{OpenBroadcast, hearing, is_late, is_whole, made_whole}
-use Rattle.j39_transport.specs.Message.{MessageRecord}
-use Rattle.j39_transport.specs.Reception.{ReceptionRecord}
 
 -- a group that may be sent, or that of claims (J1939-81, 4.2.1), of all or of the address of another
 abbrev pub can_ask : Who → ℕ → ℕ → Bool
@@ -67,7 +59,7 @@ is_request H f = is_message f && has_token (open_ask H) (reached H)
 -- what is left of the 1,250 ms that it waits after that (own); time that goes back is no time
 abbrev pub wait : List Call → ℕ
 wait [] = 0
-wait (At now (TakeFrame (Some f)) ∷ H) = if is_request H f then 1250000 else wait H - step H now
+wait (At now (TakeFrame (Some f)) ∷ H) = if is_request H f then answer_time else wait H - step H now
 wait (At now act ∷ H) = wait H - step H now
 wait (call ∷ H) = wait H
 
@@ -236,7 +228,7 @@ pub record HeardFirst (w : Who) (H : List Call) (q : Question) (ending : AskEndi
   pub none : ended w earlier ≡ None
   pub since : ℕ
   pub asked : AskedSince earlier q since
-  pub in_time : (since + step earlier at < 1250000) ⊎ IsTrue (comes w earlier (time_heard (At at (Hear frame) ∷ earlier)))
+  pub in_time : (since + step earlier at < answer_time) ⊎ IsTrue (comes w earlier (time_heard (At at (Hear frame) ∷ earlier)))
   pub says : says_to w q frame (made w earlier at frame) ≡ Some ending
 
 -- what was coming before the frame that the last call heard
@@ -251,7 +243,7 @@ pub record RanOut (w : Who) (H : List Call) (q : Question) : Type 0 where
   pub is : H ≡ later ++ earlier
   pub since : ℕ
   pub asked : AskedSince earlier q since
-  pub out : 1250000 ≤ since
+  pub out : answer_time ≤ since
   pub none : (comes w earlier (time_heard earlier) ≡ false) ⊎ (found_coming w earlier ≡ false)
 
 -- none is accepted or told

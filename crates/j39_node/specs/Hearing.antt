@@ -1,12 +1,5 @@
 -- Broadcasts in packets that are heard (J1939-21, 5.10.3.5 and 5.13.3), one at a time: what a history says of them.
-use Rattle.std.specs.Prelude.{◌≡◌, ◌≤◌, ℕ, suc, ◌+◌, ◌*◌, ◌++◌, ◌-◌, ◌&&◌, ◌||◌, min, nat_lt, nat_le, nat_eq, not, Bool, true, false, List, [], ◌∷◌, length, take, drop, slice_index, Option, Some, None, if◌then◌else◌, IsTrue}
-use Rattle.j39_frame.specs.Frame.{FrameRecord}
-use Rattle.j39_frame.specs.Identifier.{source_of}
-use Rattle.j39_transport.specs.Carries.{CarriesCut}
-use Rattle.j39_transport.specs.Frames.{is_announcement, is_packet, packets_for, pgn_named, size_named}
-use Rattle.j39_transport.specs.Key.{Broadcast as by}
-use Rattle.j39_transport.specs.Message.{MessageRecord}
-use Rattle.j39_transport.specs.Protocol.{broadcast_limit}
+use Rattle.j39_node.specs.Common.{[], if◌then◌else◌, ◌&&◌, ◌*◌, ◌++◌, ◌+◌, ◌-◌, ◌||◌, ◌∷◌, ◌≡◌, ◌≤◌, Bool, broadcast_limit, by, CarriesCut, drop, false, FrameRecord, is_announcement, is_packet, IsTrue, length, List, MessageRecord, min, nat_eq, nat_le, nat_lt, None, not, Option, packets_for, pgn_named, size_named, slice_index, Some, source_of, suc, take, true, ℕ}
 use Rattle.j39_node.specs.declared.kinds.News.TheVariants.{MessagesMissed}
 use Rattle.j39_node.specs.History.{Who, Call, is_own_group, is_subscribed, stamp_at}
 use Rattle.j39_node.specs.History.Call.{At, TakeNews, ReleaseBroadcast}

@@ -1,14 +1,6 @@
 -- Histories of a controller's calls, each with its arguments, its moment and its answer, the newest first; and what a
 -- history says. All lists of messages have the oldest first.
-use Rattle.std.specs.Prelude.{drop, ◌≡◌, ◌≤◌, ℕ, zero, suc, ◌+◌, ◌-◌, ◌%◌, ◌/◌, ◌++◌, ◌&&◌, ◌||◌, ◌==◌, max, nat_lt, nat_le, nat_eq, not, Bool, true, false, List, [], ◌∷◌, length, Option, Some, None, Result, Ok, if◌then◌else◌, ◌*◌, slice_set}
-use Rattle.byteorder.specs.Endian.{little_bytes, little_number}
-use Rattle.j39_frame.specs.Address.{null_address, global_address}
-use Rattle.j39_frame.specs.Frame.{FrameRecord}
-use Rattle.j39_frame.specs.Identifier.{source_of, destination_of, priority_of, pgn_of}
-use Rattle.j39_frame.specs.Network.{address_claimed_group, request_group, transport_control_group, transport_data_group}
-use Rattle.j39_address.specs.Claim.{Claim, claim_of}
-use Rattle.j39_transport.specs.Cutting.{cut_frame}
-use Rattle.j39_transport.specs.Message.{MessageRecord, packets_of, as_broadcast}
+use Rattle.j39_node.specs.Common.{[], if◌then◌else◌, ◌%◌, ◌&&◌, ◌*◌, ◌++◌, ◌+◌, ◌-◌, ◌/◌, ◌==◌, ◌||◌, ◌∷◌, ◌≡◌, ◌≤◌, address_claimed_group, as_broadcast, Bool, bytes_eq, Claim, claim_of, claim_time, cut_frame, destination_of, drop, false, FrameRecord, global_address, is_there, last_count, length, List, list_any, little_bytes, little_number, max, MessageRecord, nat_eq, nat_le, nat_lt, None, not, null_address, Ok, Option, option_or, packet_time, packets_of, patience_time, pgn_of, places, priority_of, request_group, Result, slack, slice_set, Some, source_of, stamp_end, suc, transport_control_group, transport_data_group, true, zero, ℕ}
 use Rattle.j39_node.specs.declared.kinds.Ending.{Ending}
 use Rattle.j39_node.specs.declared.kinds.TransferEnding.{TransferEnding}
 use Rattle.j39_node.specs.declared.kinds.AskEnding.{AskEnding}
@@ -17,9 +9,6 @@ use Rattle.j39_node.specs.declared.kinds.News.TheVariants.{AddressLost, AnotherA
 use Rattle.j39_node.specs.declared.kinds.Refused.{Refused}
 use Rattle.j39_node.specs.declared.kinds.Answer.{Answer}
 use Rattle.j39_node.specs.declared.kinds.Answer.TheVariants.{Ack, Nack, Denied, Busy}
-use Rattle.std.specs.List.{list_any}
-use Rattle.std.specs.Str.{bytes_eq}
-use Rattle.std.specs.Option.{is_some as is_there, option_or}
 
 -- which transfers rest: none, those of a group to a destination, or all
 pub data Resting : Type 0 where
@@ -194,7 +183,7 @@ is_lost a = false
 
 -- 250 ms after its claim was taken it is held
 abbrev pub is_held : Address → Bool
-is_held (Claimed e) = nat_le 250000 e
+is_held (Claimed e) = nat_le claim_time e
 is_held a = false
 
 -- at this moment after H the address is held
@@ -260,7 +249,7 @@ is_another w held f = held && (nat_eq (source_of f.id) w.address && not (is_clai
 abbrev pub patience : Who → List Call → ℕ
 patience w [] = 0
 patience w (At now (Hear f) ∷ H) =
-    if is_another w (holds w H now) f && nat_eq (patience w H - step H now) 0 then 5000000 else patience w H - step H now
+    if is_another w (holds w H now) f && nat_eq (patience w H - step H now) 0 then patience_time else patience w H - step H now
 patience w (At now act ∷ H) = patience w H - step H now
 patience w (call ∷ H) = patience w H
 
@@ -432,7 +421,7 @@ told (call ∷ H) = told H
 
 -- sixteen are accepted and not told yet, or as many as there are tokens were accepted
 abbrev pub is_full : Who → List Call → Bool
-is_full w H = nat_eq (length (accepted w H) - length (told H)) 16 || nat_eq (length (accepted w H)) 18446744073709551615
+is_full w H = nat_eq (length (accepted w H) - length (told H)) places || nat_eq (length (accepted w H)) last_count
 
 -- ---- messages broadcast in packets (J1939-21, 5.10.3.5 and 5.12.3)
 
@@ -492,8 +481,8 @@ packets (call ∷ H) = packets H
 -- overdue where nothing is (own). At least these 100 ms are left when one is accepted
 abbrev pub pause : List Call → ℕ
 pause [] = 0
-pause (At now (TakeFrame (Some f)) ∷ H) = if is_packet f then 150000 else pause H - step H now
-pause (At now (Broadcast group bytes (Ok token)) ∷ H) = max 100000 (pause H - step H now)
+pause (At now (TakeFrame (Some f)) ∷ H) = if is_packet f then packet_time else pause H - step H now
+pause (At now (Broadcast group bytes (Ok token)) ∷ H) = max slack (pause H - step H now)
 pause (At now act ∷ H) = pause H - step H now
 pause (call ∷ H) = pause H
 
@@ -503,7 +492,7 @@ is_open (Some x) = true
 
 -- one is open, or as many as there are tokens were accepted
 abbrev pub is_busy : Who → List Call → Bool
-is_busy w H = is_open (open_broadcast w H) || nat_eq (length (broadcasts w H)) 18446744073709551615
+is_busy w H = is_open (open_broadcast w H) || nat_eq (length (broadcasts w H)) last_count
 
 -- frame i is one of the broadcast
 abbrev pub is_left : Option (ℕ × MessageRecord) → ℕ → Bool
@@ -555,7 +544,7 @@ got (call ∷ H) = got H
 abbrev pub kept : Who → List Call → List (ℕ × Message)
 kept w [] = []
 kept w (At now (Hear f) ∷ H) =
-    if is_for_program w (holds w H now) f && nat_lt (length (kept w H) - length (got H)) 16
+    if is_for_program w (holds w H now) f && nat_lt (length (kept w H) - length (got H)) places
     then kept w H ++ (f.stamp, message_of f) ∷ []
     else kept w H
 kept w (call ∷ H) = kept w H
@@ -564,7 +553,7 @@ kept w (call ∷ H) = kept w H
 abbrev pub missed : Who → List Call → ℕ
 missed w [] = 0
 missed w (At now (Hear f) ∷ H) =
-    if is_for_program w (holds w H now) f && not (nat_lt (length (kept w H) - length (got H)) 16)
+    if is_for_program w (holds w H now) f && not (nat_lt (length (kept w H) - length (got H)) places)
     then suc (missed w H)
     else missed w H
 missed w (call ∷ H) = missed w H
@@ -633,7 +622,7 @@ with_request w room (Some r) waiting = if is_served w r.group && room then waiti
 abbrev pub requests : Who → List Call → List Asked
 requests w [] = []
 requests w (At now (Hear f) ∷ H) =
-    with_request w (nat_lt (length (requests w H) - length (handed H)) 16)
+    with_request w (nat_lt (length (requests w H) - length (handed H)) places)
     (fresh w (drop (length (handed H)) (requests w H)) (asked w (holds w H now) f)) (requests w H)
 requests w (call ∷ H) = requests w H
 
@@ -663,8 +652,8 @@ abbrev pub due : Who → List Call → List Message
 due w [] = []
 due w (At now (Hear f) ∷ H) =
     let request = fresh w (drop (length (handed H)) (requests w H)) (asked w (holds w H now) f) in
-    with_refusal w (nat_lt (length (requests w H) - length (handed H)) 16)
-    (nat_lt (length (due w H) - length (acknowledged H)) 16 && not (is_refusal_due w (drop (length (acknowledged H)) (due w H)) request))
+    with_refusal w (nat_lt (length (requests w H) - length (handed H)) places)
+    (nat_lt (length (due w H) - length (acknowledged H)) places && not (is_refusal_due w (drop (length (acknowledged H)) (due w H)) request))
     request (due w H)
 due w (At now (Acknowledge r answer (Ok x)) ∷ H) = due w H ++ acknowledgment w answer r ∷ []
 due w (call ∷ H) = due w H
@@ -711,7 +700,7 @@ doubled_news w (call ∷ H) = doubled_news w H
 abbrev pub missed_news : Who → List Call → Bool
 missed_news w [] = false
 missed_news w (At now (Hear f) ∷ H) =
-    missed_news w H || (is_for_program w (holds w H now) f && not (nat_lt (length (kept w H) - length (got H)) 16))
+    missed_news w H || (is_for_program w (holds w H now) f && not (nat_lt (length (kept w H) - length (got H)) places))
 missed_news w (TakeNews (Some MessagesMissed) ∷ H) = false
 missed_news w (call ∷ H) = missed_news w H
 
@@ -719,10 +708,10 @@ missed_news w (call ∷ H) = missed_news w H
 
 -- a moment that a stamp can tell
 abbrev pub stamp_at : ℕ → Option ℕ
-stamp_at n = if nat_lt n 10000000000000000 then Some n else None
+stamp_at n = if nat_lt n stamp_end then Some n else None
 
 -- when a claimed address will be held
 abbrev pub held_at : Address → ℕ → Option ℕ
-held_at (Claimed e) m = if nat_lt e 250000 then stamp_at (m + (250000 - e)) else None
+held_at (Claimed e) m = if nat_lt e claim_time then stamp_at (m + (claim_time - e)) else None
 held_at NotClaimed m = None
 held_at Lost m = None

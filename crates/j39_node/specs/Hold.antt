@@ -1,5 +1,5 @@
 -- How far a controller is with its address, in its own counts.
-use Rattle.std.specs.Prelude.{ℕ, suc, max, min, ◌+◌, ◌-◌, nat_lt, Option, None, ◌||◌, nat_eq, ◌&&◌, Bool, true, false, if◌then◌else◌, not}
+use Rattle.j39_node.specs.Common.{if◌then◌else◌, ◌&&◌, ◌+◌, ◌-◌, ◌||◌, answer_time, Bool, claim_time, false, last_count, max, min, nat_eq, nat_lt, None, not, Option, packet_time, patience_time, rest_time, slack, suc, true, ℕ}
 use Rattle.j39_node.specs.declared.hold.Hold.{Hold}
 use Rattle.j39_node.specs.declared.hold.Standing.{Standing}
 use Rattle.j39_node.specs.declared.hold.Standing.TheVariants as standing
@@ -9,7 +9,7 @@ use Rattle.j39_node.specs.History.Address.{NotClaimed, Claimed, Lost}
 -- it counts what is left of the 250 ms
 abbrev pub standing_of : Address → Standing
 standing_of NotClaimed = standing.Idle
-standing_of (Claimed e) = standing.Claimed (250000 - e)
+standing_of (Claimed e) = standing.Claimed (claim_time - e)
 standing_of Lost = standing.Lost
 
 abbrev pub less : ℕ → Standing → Standing
@@ -36,7 +36,7 @@ passed now h = record {
   patience = h.patience - (now - h.moment);
   delay = h.delay - (now - h.moment);
   pause = h.pause - (now - h.moment);
-  age = min (h.age + (now - h.moment)) 18446744073709551615;
+  age = min (h.age + (now - h.moment)) last_count;
   wait = h.wait - (now - h.moment);
   rest = h.rest - (now - h.moment);
 }
@@ -52,7 +52,7 @@ heard drives_away calls another delay h = record {
   owes_claim = h.owes_claim || (calls || answers another h);
   turns = h.turns;
   yields = h.yields;
-  patience = if answers another h then 5000000 else h.patience;
+  patience = if answers another h then patience_time else h.patience;
   delay = if (calls || answers another h) && not (lost h.standing && h.owes_claim) then delay else h.delay;
   pause = h.pause;
   age = h.age;
@@ -78,7 +78,7 @@ abbrev pub anew : ℕ → Hold → Hold
 anew delay h = record h { standing = unclaims h.standing; owes_claim = true; delay = delay }
 
 abbrev pub claims : Standing → Standing
-claims standing.Idle = standing.Claimed 250000
+claims standing.Idle = standing.Claimed claim_time
 claims (standing.Claimed left) = standing.Claimed left
 claims standing.Lost = standing.Lost
 
@@ -97,11 +97,11 @@ spoken h = record h { turns = 0; yields = true }
 
 -- a frame of a broadcast was taken
 abbrev pub paused : Hold → Hold
-paused h = record h { turns = 0; yields = false; pause = 150000 }
+paused h = record h { turns = 0; yields = false; pause = packet_time }
 
 -- a broadcast was accepted
 abbrev pub opens : Hold → Hold
-opens h = record h { pause = max 100000 h.pause }
+opens h = record h { pause = max slack h.pause }
 
 -- a transfer was accepted
 abbrev pub renewed : Hold → Hold
@@ -109,11 +109,11 @@ renewed h = record h { age = 0 }
 
 -- a message was taken: whether it was the request
 abbrev pub asked : Bool → Hold → Hold
-asked b h = record h { turns = 0; yields = false; wait = if b then 1250000 else h.wait }
+asked b h = record h { turns = 0; yields = false; wait = if b then answer_time else h.wait }
 
 -- the end of a transfer was told: whether one rests by it
 abbrev pub rested : Bool → Hold → Hold
-rested b h = record h { rest = if b then 4000000 else h.rest }
+rested b h = record h { rest = if b then rest_time else h.rest }
 
 abbrev pub stands : Standing → Bool
 stands standing.Idle = false

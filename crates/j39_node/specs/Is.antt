@@ -1,19 +1,5 @@
 -- The histories that a controller can have had.
-use Rattle.std.specs.Prelude.{◌≡◌, ℕ, ◌-◌, nat_eq, nat_lt, nat_le, not, ◌&&◌, ◌||◌, ◌++◌, ◌+◌, Bool, true, false, List, [], ◌∷◌, length, drop, map, min, slice_index, suc, Option, Some, None, Result, Ok, Err, if◌then◌else◌, max, slice_set}
-use Rattle.std.specs.List.{slice_get}
-use Rattle.std.specs.Option.{option_map}
-use Rattle.j39_frame.specs.Address.{global_address, null_address}
-use Rattle.j39_frame.specs.Frame.{FrameRecord}
-use Rattle.j39_frame.specs.Identifier.{id_raw}
-use Rattle.j39_frame.specs.Network.{request_group}
-use Rattle.j39_frame.specs.Pgn.{pgn_raw}
-use Rattle.j39_frame.specs.Stamp.{stamp_micros}
-use Rattle.j39_address.specs.Claim.{claim_of}
-use Rattle.j39_address.specs.Name.{name_raw}
-use Rattle.j39_address.specs.Claims.{Knows}
-use Rattle.j39_transport.specs.Message.{MessageRecord, packets_of}
-use Rattle.j39_address.specs.declared.status.Status.{Status}
-use Rattle.j39_address.specs.declared.status.Status.TheVariants.{Idle, Claiming, Holding, Cannot}
+use Rattle.j39_node.specs.Common.{[], if◌then◌else◌, ◌&&◌, ◌++◌, ◌+◌, ◌-◌, ◌||◌, ◌∷◌, ◌≡◌, announced_by, Bool, BoxedReceiver, called_time, Cannot, claim_of, claim_time, Claiming, clear_to_send, drop, Err, false, FrameRecord, global_address, Heard, Holding, id_raw, Idle, Knows, last_count, length, limit_of, List, map, max, MessageRecord, min, name_raw, nat_eq, nat_le, nat_lt, None, not, null_address, Ok, Option, option_map, packets_of, pgn_raw, places, ReceptionRecord, recv_step, request_group, Result, slack, slice_get, slice_index, slice_set, Some, stamp_micros, Status, suc, ToSend, true, ℕ}
 use Rattle.j39_node.specs.declared.controller.Controller.{Controller}
 use Rattle.j39_node.specs.declared.hold.Hold.{Hold}
 use Rattle.j39_node.specs.declared.lane.Lane.{Lane}
@@ -38,7 +24,7 @@ use Rattle.j39_node.specs.declared.kinds.News.TheVariants.{AddressLost, AnotherA
 use Rattle.j39_node.specs.declared.kinds.Refused.{Refused}
 use Rattle.j39_node.specs.declared.kinds.Refused.TheVariants.{NoAddress, BadValue, Full}
 use Rattle.j39_node.specs.Hold.{standing_of}
-use Rattle.j39_node.specs.History.{reached, Brought, Who, Message, Draft, Call, Address, carried, message_of, moment, address_after, holds, is_lost, claim_address, claim_from, owes_claim, patience, turns, can_send, accepted, told, is_full, got, kept, missed, Asked, requests, handed, due, acknowledged, acknowledgment, told_claims, lost_news, another_news, missed_news, broadcast_from, broadcasts, can_broadcast, frame_of, is_busy, open_broadcast, packets, pause, stamp_at, step, nothing, content, is_blank, has_packets, is_left, delayed, doubled_news, may_claim, latest, message_from}
+use Rattle.j39_node.specs.History.{older, reached, Brought, Who, Message, Draft, Call, Address, carried, message_of, moment, address_after, holds, is_lost, claim_address, claim_from, owes_claim, patience, turns, can_send, accepted, told, is_full, got, kept, missed, Asked, requests, handed, due, acknowledged, acknowledgment, told_claims, lost_news, another_news, missed_news, broadcast_from, broadcasts, can_broadcast, frame_of, is_busy, open_broadcast, packets, pause, stamp_at, step, nothing, content, is_blank, has_packets, is_left, delayed, doubled_news, may_claim, latest, message_from}
 use Rattle.j39_node.specs.History.Call.{At, Withdraw, TakeAskEnded, TakeEnded, TakeReceived, TakeRequest, TakeNews, TakeBroadcastEnded, ReleaseTransfer, TakeTransferEnded, ReleaseBroadcast, Renew}
 use Rattle.j39_node.specs.History.Act.{Ask, TakeFrame, Send, Acknowledge, Broadcast, Transfer}
 use Rattle.j39_node.specs.History.Address.{NotClaimed, Claimed, Lost}
@@ -54,10 +40,6 @@ use Rattle.j39_node.specs.declared.incoming.Said.{Said}
 use Rattle.j39_node.specs.Hearing.{OpenBroadcast, hearing, unheard, unheard_news, waiting}
 use Rattle.j39_node.specs.declared.hearing.Heard.{Heard as Bytes}
 use Rattle.j39_node.specs.declared.hearing.Hearing.{Hearing}
-use Rattle.j39_transport.specs.Cutting.{ToSend}
-use Rattle.j39_transport.specs.Announced.{announced_by}
-use Rattle.j39_transport.specs.Reception.{ReceptionRecord, limit_of}
-use Rattle.j39_transport.specs.Receiving.{BoxedReceiver, Heard, recv_step}
 use Rattle.j39_node.specs.Transfers.{clock, transfer_by, Running, joined, rest, resting, age, answer_to_transfer, next_transfer, next_transfer_ended, open_transfer, transfers as all_transfers}
 use Rattle.j39_node.specs.History.{Resting, NoneRests, PairRests, AllRest}
 
@@ -69,7 +51,7 @@ stamped f = (f.stamp, message_of f)
 -- frame i of the open broadcast, once it is due
 abbrev pub packet_by : Option (ℕ × MessageRecord) → ℕ → ℕ → Option Message
 packet_by None i left = None
-packet_by (Some x) i left = if nat_le left 100000 && nat_le i (packets_of x.1) then Some (frame_of x.1 i) else None
+packet_by (Some x) i left = if nat_le left slack && nat_le i (packets_of x.1) then Some (frame_of x.1 i) else None
 
 abbrev pub next_packet : Who → List Call → ℕ → Option Message
 next_packet w H now = packet_by (open_broadcast w H) (length (packets H)) (pause H - step H now)
@@ -106,7 +88,7 @@ ready w H now = record {
   overdue = is_overdue w H now;
   reply = nat_lt 0 (length (reception w H).replies);
   message = nat_lt (reached H) (length (accepted w H));
-  packet = has_packets w H && nat_le (pause H - step H now) 100000;
+  packet = has_packets w H && nat_le (pause H - step H now) slack;
   transfer = is_apart (next_transfer w H now) (slice_get (reception w H).replies 0);
 }
 
@@ -246,7 +228,7 @@ abbrev pub answer_to_acknowledge : Who → List Call → ℕ → Asked → Resul
 answer_to_acknowledge w H now r =
     if holds w H now
     then (if nat_eq r.destination w.address
-    then (if nat_eq (length (due w H) - length (acknowledged H)) 16 then Err Full else Ok tt)
+    then (if nat_eq (length (due w H) - length (acknowledged H)) places then Err Full else Ok tt)
     else Err BadValue)
     else Err NoAddress
 
@@ -278,7 +260,7 @@ AreAnswered w (call ∷ H) = AreAnswered w H × IsAnswered w H call
 -- how far the address is, as `status` answers it
 abbrev pub status_of : Who → Address → Status
 status_of w NotClaimed = Idle
-status_of w (Claimed e) = if nat_le 250000 e then Holding w.address else Claiming w.address
+status_of w (Claimed e) = if nat_le claim_time e then Holding w.address else Claiming w.address
 status_of w Lost = Cannot
 
 abbrev pub status_after : Who → List Call → Status
@@ -307,10 +289,30 @@ hold_after w H = record {
   patience = patience w H;
   delay = delayed w H;
   pause = pause H;
-  age = min (age H) 18446744073709551615;
+  age = min (age H) last_count;
   wait = wait H;
   rest = rest w H;
 }
+
+-- the same, led to a moment
+abbrev pub led : Who → List Call → ℕ → Hold
+led w H now = record (hold_after w H) {
+  moment = now;
+  standing = standing_of (older (step H now) (address_after w H));
+  patience = patience w H - step H now;
+  delay = delayed w H - step H now;
+  pause = pause H - step H now;
+  age = min (age H + step H now) last_count;
+  wait = wait H - step H now;
+  rest = rest w H - step H now;
+}
+
+-- from an address that is held goes what is due beside claims and acknowledgments, by a hold that was led to this moment
+pub record IsOthers (w : Who) (H : List Call) (now : ℕ) (k : Hold) : Type 0 where
+  pub passed : k ≡ led w H now
+  pub owes : claim_goes w H now ≡ false
+  pub held : holds w H now ≡ true
+  pub none : next_acknowledgment w H now ≡ None
 
 -- the open broadcast, how many of its frames were taken, and the next token
 pub record LaneRecord : Type 0 where
@@ -407,7 +409,7 @@ tick_by since (Some r) (Some n) last clock =
 -- how many packets a CTS that is said grants, and from which on
 abbrev pub clear_in : Option ToSend → Option (ℕ × ℕ)
 clear_in None = None
-clear_in (Some s) = if nat_eq (slice_index s.bytes 0) 17 then Some (slice_index s.bytes 1, slice_index s.bytes 2) else None
+clear_in (Some s) = if nat_eq (slice_index s.bytes 0) clear_to_send then Some (slice_index s.bytes 1, slice_index s.bytes 2) else None
 
 -- what is known by it; by what was announced; and by a packet of the session
 abbrev pub cleared : Option (ℕ × ℕ) → Course → Course
@@ -445,7 +447,7 @@ still_by before now f x = still (claimed_again before (x.called - (now - x.momen
 
 abbrev pub hears : Bool → Bool → ℕ → FrameRecord → (ℕ → Option ℕ) → (ℕ → Option ℕ) → IncomingRecord → IncomingRecord
 hears lost held now f before after x =
-    with_called (if calls_claims before f (claim_of f) then 1250000 else x.called - (now - x.moment))
+    with_called (if calls_claims before f (claim_of f) then called_time else x.called - (now - x.moment))
     (with_reception (heard_by x.own lost held f (later x.clock (now - x.moment))
     (left (leaves (still_by before now f x) after x.reception.session) x.reception)) (passed_to now x))
 
@@ -586,10 +588,10 @@ refusal_by w x =
 
 -- the inbox when a frame was heard
 abbrev pub offered : Bool → ℕ × Message → List (ℕ × Message) → List (ℕ × Message)
-offered wanted x unread = if wanted && nat_lt (length unread) 16 then unread ++ x ∷ [] else unread
+offered wanted x unread = if wanted && nat_lt (length unread) places then unread ++ x ∷ [] else unread
 
 abbrev pub counted : Bool → List (ℕ × Message) → ℕ → ℕ
-counted wanted unread n = if wanted && not (nat_lt (length unread) 16) then min (n + 1) 18446744073709551615 else n
+counted wanted unread n = if wanted && not (nat_lt (length unread) places) then min (n + 1) last_count else n
 
 -- the broadcast that is heard, and how many weren't
 pub record HearingRecord : Type 0 where
@@ -612,7 +614,7 @@ abbrev pub hearing_of : Hearing → HearingRecord
 hearing_of x = record { current = option_map broadcast_by x.current; missed = x.missed }
 
 abbrev pub hearing_after : Who → List Call → HearingRecord
-hearing_after w H = record { current = hearing w H; missed = min (unheard w H) 18446744073709551615 }
+hearing_after w H = record { current = hearing w H; missed = min (unheard w H) last_count }
 
 -- what is due, by the controller at a moment that its hold was led to
 abbrev pub ready_in : Controller → Hold → Ready
@@ -620,26 +622,69 @@ ready_in c hold = record {
   overdue = is_left (lane_of (who_of nothing c.own) c.lane).current c.lane.count && nat_eq hold.pause 0;
   reply = nat_lt 0 (length c.incoming.replies.items);
   message = nat_lt c.taken (length c.outgoing.items);
-  packet = is_left (lane_of (who_of nothing c.own) c.lane).current c.lane.count && nat_le hold.pause 100000;
+  packet = is_left (lane_of (who_of nothing c.own) c.lane).current c.lane.count && nat_le hold.pause slack;
   transfer = is_apart (transfer_by (port_of c.transfers).current (clock hold.age)) (slice_get (incoming_of c.incoming).reception.replies 0);
+}
+
+-- what shows of a controller that was made for w
+pub record View : Type 0 where
+  pub who : Who
+  pub hold : Hold
+  pub outgoing : List (ℕ × Message)
+  pub taken : ℕ
+  pub token : ℕ
+  pub asking : Option AskRecord
+  pub unread : List (ℕ × Message)
+  pub requests : List Asked
+  pub acknowledgments : List Message
+  pub news : Untold
+  pub missed : ℕ
+  pub lane : LaneRecord
+  pub incoming : IncomingRecord
+  pub port : PortRecord
+  pub hearing : HearingRecord
+
+abbrev pub view : Who → Controller → View
+view w c = record {
+  who = who_of w.brought c.own;
+  hold = c.hold;
+  outgoing = map posted c.outgoing.items;
+  taken = c.taken;
+  token = c.next_token;
+  asking = asking_of c.asking;
+  unread = map received_by c.inbox.unread.items;
+  requests = map request_by c.desk.waiting.items;
+  acknowledgments = map (refusal_by w) c.desk.due.items;
+  news = c.news;
+  missed = c.inbox.missed;
+  lane = lane_of w c.lane;
+  incoming = incoming_of c.incoming;
+  port = port_of c.transfers;
+  hearing = hearing_of c.hearing;
+}
+
+-- the same, as a history says it
+abbrev pub after : Who → List Call → View
+after w H = record {
+  who = w;
+  hold = hold_after w H;
+  outgoing = drop (length (told H)) (accepted w H);
+  taken = reached H - length (told H);
+  token = length (accepted w H);
+  asking = asking_after w H;
+  unread = drop (length (got H)) (kept w H);
+  requests = drop (length (handed H)) (requests w H);
+  acknowledgments = drop (length (acknowledged H)) (due w H);
+  news = news_after w H;
+  missed = min (missed w H) last_count;
+  lane = lane_after w H;
+  incoming = incoming_after w H;
+  port = port_after w H;
+  hearing = hearing_after w H;
 }
 
 -- c was made for w and called as H says
 pub record Is (w : Who) (H : List Call) (c : Controller) : Type 0 where
-  pub who : who_of w.brought c.own ≡ w
+  pub shown : view w c ≡ after w H
   pub answered : AreAnswered w H
-  pub hold : c.hold ≡ hold_after w H
-  pub outgoing : map posted c.outgoing.items ≡ drop (length (told H)) (accepted w H)
-  pub taken : c.taken ≡ reached H - length (told H)
-  pub token : c.next_token ≡ length (accepted w H)
-  pub asking : asking_of c.asking ≡ asking_after w H
-  pub unread : map received_by c.inbox.unread.items ≡ drop (length (got H)) (kept w H)
-  pub requests : map request_by c.desk.waiting.items ≡ drop (length (handed H)) (requests w H)
-  pub acknowledgments : map (refusal_by w) c.desk.due.items ≡ drop (length (acknowledged H)) (due w H)
-  pub news : c.news ≡ news_after w H
   pub holders : Knows c.holders (told_claims w H)
-  pub missed : c.inbox.missed ≡ min (missed w H) 18446744073709551615
-  pub lane : lane_of w c.lane ≡ lane_after w H
-  pub incoming : incoming_of c.incoming ≡ incoming_after w H
-  pub port : port_of c.transfers ≡ port_after w H
-  pub hearing : hearing_of c.hearing ≡ hearing_after w H

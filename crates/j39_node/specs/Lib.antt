@@ -1,3 +1,6 @@
+-- the numbers, and the names from elsewhere
+pub mod Times
+pub mod Common
 -- calls, their answers, and what a history of them says
 pub mod History
 -- since when an address is claimed

@@ -1,12 +1,5 @@
 -- What was taken and heard of the open transfer, by places of the history.
-use Rattle.std.specs.Prelude.{◌≡◌, ◌≢◌, ◌⊎◌, ◌≤◌, ℕ, ◌+◌, ◌++◌, ◌&&◌, ◌||◌, not, Bool, true, false, List, [], ◌∷◌, length, Option, Some, None, Ok, if◌then◌else◌}
-use Rattle.std.specs.List.{slice_get}
-use Rattle.j39_frame.specs.Frame.{FrameRecord}
-use Rattle.j39_transport.specs.Cutting.{packet_data}
-use Rattle.j39_transport.specs.Message.{MessageRecord, packets_of}
-use Rattle.j39_transport.specs.Sending.{request_of}
-use Rattle.j39_transport.specs.SenderNext.{granted_by}
-use Rattle.j39_transport.specs.Signals.{Abort, Acknowledgment, Packet, said_between}
+use Rattle.j39_node.specs.Common.{[], if◌then◌else◌, ◌&&◌, ◌++◌, ◌+◌, ◌||◌, ◌∷◌, ◌≡◌, ◌≢◌, ◌≤◌, ◌⊎◌, Abort, Acknowledgment, Bool, false, FrameRecord, granted_by, length, List, MessageRecord, None, not, Ok, Option, Packet, packet_data, packets_of, request_of, said_between, slice_get, Some, true, ℕ}
 use Rattle.j39_node.specs.History.{Who, Call, Message, address_after, is_lost, message_of}
 use Rattle.j39_node.specs.Reception.{holder, is_move}
 use Rattle.j39_node.specs.History.Call.{At, TakeTransferEnded}

@@ -1,10 +1,5 @@
 -- The packets of one session, by the calls behind its RTS (J1939-21, 5.10.3).
-use Rattle.std.specs.Prelude.{◌≡◌, ◌≢◌, ◌⊎◌, ◌≤◌, ℕ, suc, ◌+◌, Bool, true, false, List, [], ◌∷◌, ◌++◌, Option, Some, IsTrue}
-use Rattle.j39_frame.specs.Frame.{FrameRecord}
-use Rattle.j39_frame.specs.Identifier.{source_of}
-use Rattle.j39_transport.specs.Protocol.{timer_t1}
-use Rattle.j39_transport.specs.Receiving.{said_to}
-use Rattle.j39_transport.specs.Signals.{Signal, RequestToSend, Abort, Packet}
+use Rattle.j39_node.specs.Common.{[], ◌++◌, ◌+◌, ◌∷◌, ◌≡◌, ◌≢◌, ◌≤◌, ◌⊎◌, Abort, Bool, false, FrameRecord, IsTrue, List, Option, Packet, RequestToSend, said_to, Signal, Some, source_of, suc, timer_t1, true, ℕ}
 use Rattle.j39_node.specs.History.{Who, Call, address_after, holds, is_lost}
 use Rattle.j39_node.specs.History.Call.{At}
 use Rattle.j39_node.specs.History.Act.{Hear, Tick, TakeFrame}

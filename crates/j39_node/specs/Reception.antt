@@ -1,20 +1,5 @@
 -- Messages that come in packets to the address that is held (J1939-21, 5.10.3): what a history says of them.
-use Rattle.std.specs.Prelude.{◌≡◌, ◌⊎◌, ℕ, suc, ◌+◌, ◌*◌, ◌-◌, ◌++◌, ◌&&◌, ◌||◌, min, nat_lt, nat_eq, ◌==◌, not, Bool, true, false, List, [], ◌∷◌, length, drop, Option, Some, None, if◌then◌else◌}
-use Rattle.std.specs.List.{slice_get}
-use Rattle.std.specs.Option.{option_map}
-use Rattle.std.specs.Str.{bytes_eq}
-use Rattle.j39_frame.specs.Address.{null_address}
-use Rattle.j39_frame.specs.Frame.{FrameRecord}
-use Rattle.j39_frame.specs.Identifier.{source_of}
-use Rattle.j39_frame.specs.Network.{address_claimed_group, transport_control_group}
-use Rattle.j39_address.specs.Claim.{Claim, claim_of}
-use Rattle.j39_transport.specs.Cutting.{ToSend}
-use Rattle.j39_transport.specs.Message.{MessageRecord}
-use Rattle.j39_transport.specs.Protocol.{timeout, timer_t2}
-use Rattle.j39_transport.specs.Reception.{ReceptionRecord, answers, limit_of}
-use Rattle.j39_transport.specs.Receiving.{ReceiverRecord, RecvResult, Heard, Tick as Ticks, partner_of, recv_step, result_of, said_to}
-use Rattle.j39_transport.specs.ReceiverStands.{WasHanded}
-use Rattle.j39_transport.specs.Signals.{Signal, Abort, Packet}
+use Rattle.j39_node.specs.Common.{[], if◌then◌else◌, ◌&&◌, ◌*◌, ◌++◌, ◌+◌, ◌-◌, ◌==◌, ◌||◌, ◌∷◌, ◌≡◌, ◌⊎◌, Abort, address_claimed_group, answers, Bool, bytes_eq, called_time, Claim, claim_of, drop, false, FrameRecord, Heard, last_stamp, length, limit_of, List, MessageRecord, min, nat_eq, nat_lt, None, not, null_address, Option, option_map, Packet, partner_of, places, ReceiverRecord, ReceptionRecord, recv_step, RecvResult, result_of, said_to, Signal, slice_get, Some, source_of, suc, Ticks, timeout, timer_t2, ToSend, transport_control_group, true, WasHanded, ℕ}
 use Rattle.j39_node.specs.History.{reached, Who, Message, Call, accepted, acknowledged, due, holds, asks_with, is_claim, is_session, is_smaller, is_some, is_transfer, message_of, stamp_at, of_other, is_acknowledgment}
 use Rattle.j39_node.specs.History.Call.{At, ReleaseTransfer}
 use Rattle.j39_node.specs.History.Act.{Hear, Tick, TakeFrame}
@@ -55,7 +40,7 @@ heard_at (At now Tick ∷ H) = now
 heard_at (call ∷ H) = heard_at H
 
 abbrev pub later : ℕ → ℕ → ℕ
-later clock step = min (clock + step) 9999999999999999
+later clock step = min (clock + step) last_stamp
 
 abbrev pub time_heard : List Call → ℕ
 time_heard [] = 0
@@ -82,10 +67,10 @@ calls_claims holder f (Some c) = not (is_some (holder c.address) c.name)
 -- claim or request that was taken
 abbrev pub called : Who → List Call → ℕ
 called w [] = 0
-called w (At now (Hear f) ∷ H) = if calls_claims (holder w H) f (claim_of f) then 1250000 else called w H - (now - heard_at H)
+called w (At now (Hear f) ∷ H) = if calls_claims (holder w H) f (claim_of f) then called_time else called w H - (now - heard_at H)
 called w (At now Tick ∷ H) = called w H - (now - heard_at H)
 called w (At now (TakeFrame (Some f)) ∷ H) =
-    if is_claim f || (is_message f && asks_claims f) then 1250000 + (now - heard_at H) else called w H
+    if is_claim f || (is_message f && asks_claims f) then called_time + (now - heard_at H) else called w H
 called w (call ∷ H) = called w H
 
 -- the address that its holder claims again, where nothing called for that
@@ -146,7 +131,7 @@ reply_from own a bytes = record { source = own; destination = Some a; priority =
 abbrev pub replied : ℕ → ℕ → Option ToSend → List Message → List Message
 replied own a None replies = replies
 replied own a (Some f) replies =
-    if nat_lt (length (without a replies)) 16 then without a replies ++ reply_from own a f.bytes ∷ [] else without a replies
+    if nat_lt (length (without a replies)) places then without a replies ++ reply_from own a f.bytes ∷ [] else without a replies
 
 abbrev pub takes : ℕ → ℕ → ℕ → RecvResult → Reception → Reception
 takes stamp since a x r = record {

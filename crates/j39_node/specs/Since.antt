@@ -1,7 +1,5 @@
 -- Since when an address is claimed, and since when a frame of packets was taken, by places of the history.
-use Rattle.std.specs.Prelude.{◌≡◌, ◌≤◌, ℕ, ◌+◌, Bool, true, false, List, [], ◌∷◌, ◌++◌, Some, IsTrue}
-use Rattle.j39_frame.specs.Frame.{FrameRecord}
-use Rattle.j39_address.specs.Claim.{claim_of}
+use Rattle.j39_node.specs.Common.{[], ◌++◌, ◌+◌, ◌∷◌, ◌≡◌, ◌≤◌, Bool, claim_of, false, FrameRecord, IsTrue, List, Some, true, ℕ}
 use Rattle.j39_node.specs.History.{Who, Call, claim_from, is_packet, is_smaller, message_of, moment, step}
 use Rattle.j39_node.specs.History.Call.{At, TakeTransferEnded}
 use Rattle.j39_node.specs.History.Act.{Again, Hear, TakeFrame}

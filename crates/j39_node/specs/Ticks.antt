@@ -1,7 +1,5 @@
 -- The first moment at which a tick does something but let time pass; and a driver that ticks in time, by its calls alone.
-use Rattle.std.specs.Prelude.{◌≡◌, ◌≤◌, ℕ, ◌+◌, List, [], ◌∷◌, ◌++◌, Option, Some, None, false}
-use Rattle.j39_transport.specs.Frames.{packets_for}
-use Rattle.j39_transport.specs.Reception.{ReceptionRecord}
+use Rattle.j39_node.specs.Common.{[], ◌++◌, ◌+◌, ◌∷◌, ◌≡◌, ◌≤◌, false, List, None, Option, packets_for, ReceptionRecord, Some, ℕ}
 use Rattle.j39_node.specs.History.{Who, Call, moment, step}
 use Rattle.j39_node.specs.History.Call.{At}
 use Rattle.j39_node.specs.History.Act.{Tick}

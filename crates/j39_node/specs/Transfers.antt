@@ -1,13 +1,7 @@
 -- Messages sent to one address in packets (J1939-21, 5.10.2.4 and 5.10.3): what a history says of them.
-use Rattle.std.specs.Prelude.{ℕ, ◌+◌, ◌-◌, ◌++◌, ◌&&◌, ◌||◌, nat_lt, nat_eq, not, max, min, Bool, true, false, List, [], ◌∷◌, length, Option, Some, None, Result, Ok, Err, if◌then◌else◌}
-use Rattle.std.specs.Option.{option_map}
-use Rattle.j39_frame.specs.Address.{null_address}
-use Rattle.j39_frame.specs.Frame.{FrameRecord}
-use Rattle.j39_transport.specs.Message.{MessageRecord}
-use Rattle.j39_transport.specs.Sending.{SendState, SenderRecord, Heard, Tick, aborted, is_idle, is_running, new_sender, send_step}
+use Rattle.j39_node.specs.Common.{[], if◌then◌else◌, ◌&&◌, ◌++◌, ◌+◌, ◌-◌, ◌||◌, ◌∷◌, Abort, aborted, Bool, bytes_with, Err, false, FrameRecord, granted_by, group_with, is_idle, is_running, last_count, last_stamp, length, List, max, MessageRecord, min, nat_eq, nat_lt, new_sender, None, not, null_address, Ok, Option, option_map, rest_time, Result, said_between, send_step, SenderRecord, sends_in, SendState, Signal, slack, Some, Tick, true, ℕ}
+use Rattle.j39_transport.specs.Sending.{Heard}
 use Rattle.j39_transport.specs.Sending as sending
-use Rattle.j39_transport.specs.SenderNext.{granted_by, sends_in}
-use Rattle.j39_transport.specs.Signals.{Signal, Abort, bytes_with, group_with, said_between}
 use Rattle.j39_node.specs.declared.kinds.TransferEnding.{TransferEnding}
 use Rattle.j39_node.specs.declared.kinds.TransferEnding.TheVariants.{Done, Withdrawn, Failed, Gone}
 use Rattle.j39_node.specs.declared.kinds.Refused.{Refused}
@@ -42,7 +36,7 @@ age (call ∷ H) = age H
 
 -- this time, as a stamp can tell it
 abbrev pub clock : ℕ → ℕ
-clock time = min time 9999999999999999
+clock time = min time last_stamp
 
 abbrev pub clock_at : List Call → ℕ → ℕ
 clock_at H now = clock (age H + step H now)
@@ -152,7 +146,7 @@ next_transfer w H now = transfer_by (open_transfer w H) (clock_at H now)
 
 -- one is open, or as many as there are tokens were accepted
 abbrev pub is_engaged : Option Running → ℕ → Bool
-is_engaged None count = nat_eq count 18446744073709551615
+is_engaged None count = nat_eq count last_count
 is_engaged (Some t) count = true
 
 -- how it ended: acknowledged, aborted, or before that its destination was gone, or the address lost
@@ -192,7 +186,7 @@ rests_after Gone = true
 abbrev pub rest : Who → List Call → ℕ
 rest w [] = w.brought.rests_until
 rest w (At now act ∷ H) = rest w H - step H now
-rest w (TakeTransferEnded (Some x) ∷ H) = if rests_after x.1 then 4000000 else rest w H
+rest w (TakeTransferEnded (Some x) ∷ H) = if rests_after x.1 then rest_time else rest w H
 rest w (call ∷ H) = rest w H
 
 -- where others still rest when one begins to, all do
@@ -243,7 +237,7 @@ transfer_in (Some t) now = running_in t now
 
 -- in how long a frame of the open broadcast is, by what is left of its pause
 abbrev pub packet_in : Bool → ℕ → Option ℕ
-packet_in left pause = if left then Some (pause - 100000) else None
+packet_in left pause = if left then Some (pause - slack) else None
 
 abbrev pub sooner : Option ℕ → Option ℕ → Option ℕ
 sooner None other = other

@@ -22,6 +22,7 @@ ghost use Rattle.j39_node.specs.Asking.{AskedSince, HeardFirst, NoneEnds, Questi
 ghost use Rattle.j39_node.specs.AskExample.{ask_example};
 ghost use Rattle.j39_node.specs.Example.{two};
 ghost use Rattle.j39_node.specs.Is.{AreAnswered, Is};
+ghost use Rattle.j39_node.specs.Times.{answer_time};
 
 /// What `ask` answers: `NoAddress` where no address is held, `BadValue` where the group can't be asked for or the address not asked,
 /// `Full` where a request is accepted and not told, or sixteen messages are (or as many as there are tokens were accepted), and else
@@ -66,7 +67,7 @@ pub fn request_means()
         → IsTrue (is_request H f)
         → (is_taken q H ≡ false) × IsTrue (is_taken q (At now (TakeFrame (Some f)) ∷ H)) × (reached H ≡ q.token) }
     ensures since { (w : Who) (H : List Call) (c : Controller) (q : Question) → Is w H c → open_ask H ≡ Some q
-        → IsTrue (is_taken q H) → (e : ℕ) × AskedSince H q e × (wait H ≡ 1250000 - e) }
+        → IsTrue (is_taken q H) → (e : ℕ) × AskedSince H q e × (wait H ≡ answer_time - e) }
 {}
 
 /// Each request is told at most once, in order: as answered or acknowledged only where that was heard first, after its frame was taken
@@ -99,7 +100,7 @@ pub fn ask_done_means()
     ensures all { (w : Who) (H : List Call) (c : Controller) → Is w (TakeAskEnded None ∷ H) c
         → (length (told_asks H) ≡ length (asks H))
         ⊎ ((q : Question) × (open_ask H ≡ Some q)
-        × ((is_taken q H ≡ false) ⊎ (((e : ℕ) × AskedSince H q e × (e < 1250000)) ⊎ IsTrue (comes w H (time_heard H))))
+        × ((is_taken q H ≡ false) ⊎ (((e : ℕ) × AskedSince H q e × (e < answer_time)) ⊎ IsTrue (comes w H (time_heard H))))
         × (IsTrue (is_lost (address_after w H)) → ⊥)) }
 {}
 

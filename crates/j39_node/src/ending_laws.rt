@@ -18,6 +18,7 @@ ghost use Rattle.j39_node.specs.Prompt.{IsPrompt, IsSteady, NoneTold, packets_ta
 ghost use Rattle.j39_node.specs.Since.{passed_in};
 ghost use Rattle.j39_node.specs.Example.{nine, two, announcement, busy_to, clear_to, own_claim};
 ghost use Rattle.j39_node.specs.PromptExample.{prompt_example, prompt_start, transfer_example, transfer_start};
+ghost use Rattle.j39_node.specs.Times.{packet_time};
 
 /// A broadcast of n packets ends: where the driver is prompt by g microseconds since its acceptance, and more than
 /// (n + 1) * (50 ms + g) passed, `take_broadcast_ended` would tell its end, unless it told it before. Nothing else that is
@@ -77,14 +78,14 @@ pub fn packets_go()
         → IsTrue (has_packets w (At now (TakeFrame (Some f)) ∷ earlier)) → NoneTold tells_broadcast later → packets_taken later ≡ 0
         → is_lost (address_after w (later ++ At now (TakeFrame (Some f)) ∷ earlier)) ≡ false
         → IsSteady g (call ∷ later) (At now (TakeFrame (Some f)) ∷ earlier)
-        → passed_in (call ∷ later) (At now (TakeFrame (Some f)) ∷ earlier) ≤ 150000 + 3 * g }
+        → passed_in (call ∷ later) (At now (TakeFrame (Some f)) ∷ earlier) ≤ packet_time + 3 * g }
     ensures ends { (w : Who) (later earlier : List Call) (c : Controller) (g now group k : ℕ) (bytes : List ℕ)
         → Is w (later ++ At now (Broadcast group bytes (Ok k)) ∷ earlier) c → NoneTold tells_broadcast later
         → IsSteady g later (At now (Broadcast group bytes (Ok k)) ∷ earlier)
-        → (packets_of (broadcast_from w group bytes) + 1) * (150000 + 3 * g) < passed_in later (At now (Broadcast group bytes (Ok k)) ∷ earlier)
+        → (packets_of (broadcast_from w group bytes) + 1) * (packet_time + 3 * g) < passed_in later (At now (Broadcast group bytes (Ok k)) ∷ earlier)
         → (e : Ending) × (next_broadcast_ended w (later ++ At now (Broadcast group bytes (Ok k)) ∷ earlier) ≡ Some (k, e)) }
     ensures few { (w : Who) (later earlier : List Call) (c : Controller) → Is w (later ++ earlier) c
-        → 50000 * packets_taken later ≤ passed_in later earlier + 50000 }
+        → gap * packets_taken later ≤ passed_in later earlier + gap }
 {}
 
 /// To such a driver a message that was accepted goes, that of a request too, whoever asks: where q accepted before it wait, its frame is
@@ -160,7 +161,7 @@ pub fn an_example_of_steadiness()
     ensures not_told { NoneTold tells_transfer steady_example × NoneTold tells_broadcast (steady_example ++ transfer_accepted) }
     ensures message { IsTrue (is_held (address_after two steady_start)) × (0 < length (accepted two steady_start))
         × ((0 - reached steady_start + packets_taken steady_example + 1) * (6 * 1000000) < passed_in steady_example steady_start) }
-    ensures broadcast { (packets_of (broadcast_from two 65226 nine) + 1) * (150000 + 3 * 1000000)
+    ensures broadcast { (packets_of (broadcast_from two 65226 nine) + 1) * (packet_time + 3 * 1000000)
         < passed_in (steady_example ++ transfer_accepted) (At 300000 (Broadcast 65226 nine (Ok 0)) ∷ message_start) }
     ensures apart { IsTrue (is_packet (announcement 400000)) × IsTrue (has_packets two announced_start) × (packets_taken between_packets ≡ 0)
         × (is_lost (address_after two (between_packets ++ announced_start)) ≡ false) }

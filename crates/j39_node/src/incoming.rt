@@ -20,6 +20,7 @@ ghost use Rattle.j39_address.specs.Claim.{claim_of};
 ghost use Rattle.j39_node.specs.History.{is_some as is_some_of};
 ghost use Rattle.j39_node.specs.Reception.{calls_claims, claimed_again, still, has_place, IsApart, heard_by, is_over, is_same, later, leaves, left, longest, no_reception, number_in, packet_in, replied, reply_from, since_by, strays, without};
 ghost use Rattle.j39_node.specs.Is.{IsNamed, announced, appended, clear_in, cleared, made_by, named_by, named_then, Receives, hears, incoming_of, kept_by, passed_to, said_by, session_by, stamped, strays_by, tick_by, ticks, with_called, with_reception, with_replies};
+ghost use Rattle.j39_node.specs.Times.{called_time};
 
 use crate::own::{ADDRESS_CLAIMED, TRANSPORT_CONTROL, is_request_for};
 use arrayvec::ArrayVec;
@@ -291,7 +292,7 @@ impl Incoming {
 
     /// Claims are called for at this moment, or not.
     pub(crate) fn call(&mut self, calls: bool, now: Stamp)
-        ensures { incoming_of self.new ≡ with_called (if calls then 1250000 + (stamp_micros now - (incoming_of self.old).moment)
+        ensures { incoming_of self.new ≡ with_called (if calls then called_time + (stamp_micros now - (incoming_of self.old).moment)
             else (incoming_of self.old).called) (incoming_of self.old) }
     {
         if calls {

@@ -38,6 +38,7 @@ ghost use Rattle.j39_node.specs.Prompt.{NoneTold, takes_other};
 ghost use Rattle.j39_node.specs.Since.{ClaimedSince, NeverBack, PacketSince, passed_in, HasDouble};
 ghost use Rattle.j39_node.specs.Example.{example, two};
 ghost use Rattle.j39_node.specs.Is.{AreAnswered, Is, gives_way, next_acknowledgment, next_frame, next_long, next_other, next_packet, is_apart, is_overdue, status_after};
+ghost use Rattle.j39_node.specs.Times.{claim_time, gap, patience_time};
 
 /// Each frame that is taken has the moment of its taking, and is the claim of its NAME, or comes from its address, which it
 /// holds at that moment, and is no claim.
@@ -64,9 +65,9 @@ pub fn time()
 /// where that is so, and the address isn't lost, it is held.
 pub fn held_means()
     ensures since { (w : Who) (H : List Call) (c : Controller) (now : ℕ) → Is w H c → IsTrue (holds w H now)
-        → (e : ℕ) × ClaimedSince w H e × (250000 ≤ e + step H now) }
+        → (e : ℕ) × ClaimedSince w H e × (claim_time ≤ e + step H now) }
     ensures in_time { (w : Who) (H : List Call) (now e : ℕ) → ClaimedSince w H e → (IsTrue (is_lost (address_after w H)) → ⊥)
-        → 250000 ≤ e + step H now → IsTrue (holds w H now) }
+        → claim_time ≤ e + step H now → IsTrue (holds w H now) }
 {}
 
 /// The tokens of the messages accepted are 0, 1, 2 and so on, and in this order each is told once to have ended, after it was
@@ -179,7 +180,7 @@ pub fn claims()
         → message_of i ≡ claim_from w (claim_address w (address_after w
         (between ++ (At now (TakeFrame (Some g)) ∷ later ++ At when (Hear f) ∷ H)))) }
     ensures once { (w : Who) (H later : List Call) (when now : ℕ) (f g : FrameRecord) → IsTrue (answers_another w H when f)
-        → passed_in later (At when (Hear f) ∷ H) + step (later ++ At when (Hear f) ∷ H) now < 5000000
+        → passed_in later (At when (Hear f) ∷ H) + step (later ++ At when (Hear f) ∷ H) now < patience_time
         → answers_another w (later ++ At when (Hear f) ∷ H) now g ≡ false }
     ensures at_once { (w : Who) (H : List Call) (c : Controller) (now : ℕ) (answer : Option FrameRecord)
         → Is w (At now (TakeFrame answer) ∷ H) c → IsTrue (owes_claim w H)
@@ -355,9 +356,9 @@ pub fn packets_mean()
     ensures spaced { (w : Who) (H later : List Call) (c : Controller) (now at : ℕ) (f g : FrameRecord)
         → Is w (At now (TakeFrame (Some g)) ∷ later ++ At at (TakeFrame (Some f)) ∷ H) c
         → IsTrue (is_packet f) → IsTrue (is_packet g)
-        → 50000 ≤ passed_in (At now (TakeFrame (Some g)) ∷ later) (At at (TakeFrame (Some f)) ∷ H) }
+        → gap ≤ passed_in (At now (TakeFrame (Some g)) ∷ later) (At at (TakeFrame (Some f)) ∷ H) }
     ensures waits { (w : Who) (H : List Call) (c : Controller) (now : ℕ) → Is w (At now (TakeFrame None) ∷ H) c
-        → IsTrue (holds w H now) → IsTrue (has_packets w H) → (e : ℕ) × PacketSince H e × (e + step H now < 50000) }
+        → IsTrue (holds w H now) → IsTrue (has_packets w H) → (e : ℕ) × PacketSince H e × (e + step H now < gap) }
 {}
 
 /// The tokens of the broadcasts accepted are 0, 1, 2 and so on, and in this order each is told at most once to have ended: as done exactly

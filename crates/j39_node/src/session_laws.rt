@@ -20,6 +20,7 @@ ghost use Rattle.j39_node.specs.Hearing.{OpenBroadcast, found, hearing, is_whole
 ghost use Rattle.j39_node.specs.Reception.{KeepsHolder, asks_claims, called, calls_claims, heard_at, holder, is_message, restarts, longest, reception, replied, time_heard, whole};
 ghost use Rattle.j39_node.specs.Since.{NeverBack, passed_in};
 ghost use Rattle.j39_node.specs.Ticks.{StaysOpen, TicksWithin};
+ghost use Rattle.j39_node.specs.Times.{called_time};
 
 /// A session ends by itself, whatever its source or anybody else sends (own). Its account runs from the RTS by which one is open
 /// where none was; no call begins another while it is open, an RTS in its place neither. Behind each tick it is at most (n + 3) *
@@ -103,10 +104,10 @@ pub fn restarts_are_met()
     ensures broadcast { (w : Who) (H : List Call) (now : ℕ) (f : FrameRecord) (x : OpenBroadcast) → hearing w H ≡ Some x → is_whole x ≡ false
         → restarts w H now f ≡ Some x.source → found w H now f ≡ None }
     ensures heard { (w : Who) (later H : List Call) (when now : ℕ) (f g : FrameRecord) → IsTrue (calls_claims (holder w H) f (claim_of f))
-        → passed_in later (At when (Hear f) ∷ H) + step (later ++ At when (Hear f) ∷ H) now < 1250000
+        → passed_in later (At when (Hear f) ∷ H) + step (later ++ At when (Hear f) ∷ H) now < called_time
         → restarts w (later ++ At when (Hear f) ∷ H) now g ≡ None }
     ensures taken { (w : Who) (later H : List Call) (when now : ℕ) (f g : FrameRecord) → IsTrue (is_claim f || (is_message f && asks_claims f))
-        → passed_in later (At when (TakeFrame (Some f)) ∷ H) + step (later ++ At when (TakeFrame (Some f)) ∷ H) now < 1250000
+        → passed_in later (At when (TakeFrame (Some f)) ∷ H) + step (later ++ At when (TakeFrame (Some f)) ∷ H) now < called_time
         → restarts w (later ++ At when (TakeFrame (Some f)) ∷ H) now g ≡ None }
     ensures between { (w : Who) (a : ℕ) (after before earlier : List Call) (now : ℕ) (f : FrameRecord)
         → KeepsHolder w a (after ++ At now (Hear f) ∷ before) earlier → restarts w (before ++ earlier) now f ≢ Some a }

@@ -22,6 +22,7 @@ ghost use Rattle.j39_node.specs.Reception.{holder, is_move};
 ghost use Rattle.j39_node.specs.Transfers.{Running, can_transfer, clock_at, gives_up, is_over, is_replaced, is_resting, is_spent, next_transfer, next_transfer_ended, open_transfer, rests_after, said_to, told_transfers, transfers};
 ghost use Rattle.j39_node.specs.Moves.{Aborts, Acknowledges, Happened, IsMove, NoneEnds, Replaces, abort_move, clears, moves};
 ghost use Rattle.j39_node.specs.Is.{Is, gives_way, next_long};
+ghost use Rattle.j39_node.specs.Times.{gap, rest_time};
 
 /// What `transfer` answers: `NoAddress` where no address is held, `BadValue` where the message can't be sent so, `Full` where one is
 /// accepted and not told (or as many as there are tokens were accepted) or where it rests, and else the next token.
@@ -60,7 +61,7 @@ pub fn moves_mean()
         → IsTrue (holds w H now) × (reached H ≡ length (accepted w H)) × (IsTrue (gives_way w H now) ⊎ (acknowledged H ≡ due w H)) }
     ensures after_broadcasts { (w : Who) (H : List Call) (c : Controller) (now : ℕ) (f : FrameRecord)
         → Is w (At now (TakeFrame (Some f)) ∷ H) c → IsTrue (is_move w H f) → IsTrue (has_packets w H)
-        → (e : ℕ) × PacketSince H e × (e + step H now < 50000) }
+        → (e : ℕ) × PacketSince H e × (e + step H now < gap) }
     ensures waits { (w : Who) (H : List Call) (c : Controller) (now : ℕ) → Is w (At now (TakeFrame None) ∷ H) c → IsTrue (holds w H now)
         → next_transfer w H now ≡ None }
     ensures gives_up { (w : Who) (H : List Call) (c : Controller) (now : ℕ) (f : FrameRecord) (t : Running)
@@ -145,14 +146,14 @@ pub fn strangers_and_transfers()
 pub fn transfer_rests()
     ensures rests { (w : Who) (later earlier : List Call) (now group to : ℕ) (x : ℕ × TransferEnding) (t : Running)
         → IsTrue (rests_after x.1) → open_transfer w earlier ≡ Some t → t.sender.destination ≡ to → t.sender.message.pgn ≡ group
-        → passed_in later (TakeTransferEnded (Some x) ∷ earlier) + step (later ++ TakeTransferEnded (Some x) ∷ earlier) now < 4000000
+        → passed_in later (TakeTransferEnded (Some x) ∷ earlier) + step (later ++ TakeTransferEnded (Some x) ∷ earlier) now < rest_time
         → IsTrue (is_resting w (later ++ TakeTransferEnded (Some x) ∷ earlier) now group to) }
     ensures moves { (w : Who) (later earlier H moved_from : List Call) (now group to a : ℕ) (x : ℕ × TransferEnding) (t : Running)
         → IsTrue (rests_after x.1) → open_transfer w earlier ≡ Some t → t.sender.destination ≡ to → t.sender.message.pgn ≡ group
         → moved_from ≡ later ++ TakeTransferEnded (Some x) ∷ earlier
-        → passed_in later (TakeTransferEnded (Some x) ∷ earlier) + (passed_in H (begun moved_from) + step (H ++ begun moved_from) now) < 4000000
+        → passed_in later (TakeTransferEnded (Some x) ∷ earlier) + (passed_in H (begun moved_from) + step (H ++ begun moved_from) now) < rest_time
         → IsTrue (is_resting (moved w moved_from a) (H ++ begun moved_from) now group to) }
     ensures only { (w : Who) (H : List Call) (now group to : ℕ) → IsTrue (is_resting w H now group to)
-        → ((x : ℕ × TransferEnding) × (e : ℕ) × ToldSince H x e × IsTrue (rests_after x.1) × (e + step H now < 4000000))
+        → ((x : ℕ × TransferEnding) × (e : ℕ) × ToldSince H x e × IsTrue (rests_after x.1) × (e + step H now < rest_time))
         ⊎ (passed_in H [] + step H now < w.brought.rests_until) }
 {}

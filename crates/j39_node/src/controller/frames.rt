@@ -9,7 +9,7 @@ ghost use Rattle.j39_node.specs.Transfers.{clock, transfer_by};
 ghost use Rattle.j39_node.specs.Hold.{lost, stands};
 ghost use Rattle.j39_node.specs.History.Call.{At};
 ghost use Rattle.j39_node.specs.History.Act.{TakeFrame};
-ghost use Rattle.j39_node.specs.Is.{Is, next_claims_request, lane_of, next_frame, packet_by, posted, stamped, who_of, port_of, incoming_of, is_apart, is_turn, ready_in, turn_frame, turn_of};
+ghost use Rattle.j39_node.specs.Is.{Is, IsOthers, next_claims_request, lane_of, next_frame, packet_by, posted, stamped, who_of, port_of, incoming_of, is_apart, is_turn, ready_in, turn_frame, turn_of};
 
 use crate::asking;
 use crate::controller::Controller;
@@ -45,11 +45,11 @@ impl Controller {
     pub fn take_frame(&mut self, now: Stamp) -> Option<Frame>
         ensures { (w : Who) (H : List Call) → Is w H self.old → Is w (At (stamp_micros now) (TakeFrame result) ∷ H) self.new }
     {
-        self.hold = self.hold.passed(now);
-        let gives_way = self.gives_way(self.hold, now);
-        if self.hold.claims(gives_way) {
+        let hold = self.hold.passed(now);
+        let gives_way = self.gives_way(hold, now);
+        if hold.claims(gives_way) {
             let address = self.claim_address();
-            self.hold = self.hold.claimed();
+            self.hold = hold.claimed();
             let claim = self.own.claim(address, now)?;
             let speaker = self.speaker();
             self.incoming.note(&mut self.holders, &claim, None, false);
@@ -59,16 +59,26 @@ impl Controller {
             self.news = self.news.with_missed(breaks);
             return Some(claim);
         }
-        if !self.hold.is_held() {
+        if !hold.is_held() {
+            self.hold = hold;
             return None;
         }
         if self.is_acknowledgment_due(gives_way) {
-            self.hold = self.hold.acknowledged();
+            self.hold = hold.acknowledged();
             return self.own.acknowledgment(&self.desk.due.remove(0), now);
         }
-        match self.turn(self.hold, now)? {
+        self.take_other(hold, now)
+    }
+
+    /// The same, beside claims and acknowledgments, by the hold that was led to this moment.
+    fn take_other(&mut self, hold: Hold, now: Stamp) -> Option<Frame>
+        ensures { (w : Who) (H : List Call) → Is w H self.old → IsOthers w H (stamp_micros now) hold
+            → Is w (At (stamp_micros now) (TakeFrame result) ∷ H) self.new }
+    {
+        self.hold = hold;
+        match self.turn(hold, now)? {
             Turn::Reply => {
-                self.hold = self.hold.spoken();
+                self.hold = hold.spoken();
                 self.incoming.replies.remove(0).frame(self.own.address, now)
             }
             Turn::Single => {
@@ -76,21 +86,21 @@ impl Controller {
                 let frame = next.frame(now);
                 let is_request = self.asking.take(next.token);
                 self.incoming.call(next.asks_claims(), now);
-                self.hold = self.hold.asked(is_request);
+                self.hold = hold.asked(is_request);
                 self.taken = past(self.outgoing.as_slice(), self.taken + 1);
                 frame
             }
             Turn::Packet => {
-                let packet = self.lane.frame(&self.own, self.hold.pause, now)?;
+                let packet = self.lane.frame(&self.own, hold.pause, now)?;
                 self.lane.count += 1;
-                self.hold = self.hold.paused();
+                self.hold = hold.paused();
                 Some(packet)
             }
             Turn::Move => {
-                let clock = self.hold.clock();
+                let clock = hold.clock();
                 let frame = self.transfers.frame(clock, now)?;
                 self.transfers.taken(clock);
-                self.hold = self.hold.went();
+                self.hold = hold.went();
                 Some(frame)
             }
         }

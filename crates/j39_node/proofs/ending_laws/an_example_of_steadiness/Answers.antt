@@ -1,11 +1,4 @@
-use Rattle.std.proofs.Common.{◌≡◌, ℕ, zero, suc, ◌+◌, ◌*◌, List, [], ◌∷◌, ◌++◌, Ok, Bool, false, refl, arith}
-use Rattle.j39_node.specs.History.{Call, moment}
-use Rattle.j39_node.specs.History.Call.{At}
-use Rattle.j39_node.specs.History.Act.{Broadcast}
-use Rattle.j39_node.specs.Example.{nine}
-use Rattle.j39_node.specs.Prompt.{IsSteady, NoneTold, since_take, tells_broadcast, tells_transfer}
-use Rattle.j39_node.specs.PromptExample.{idle}
-use Rattle.j39_node.specs.SteadyExample.{busy, message_start, transfer_accepted}
+use Rattle.j39_node.proofs.Common.{[], ◌*◌, ◌++◌, ◌+◌, ◌∷◌, ◌≡◌, arith, At, Bool, Broadcast, busy, Call, false, idle, IsSteady, List, message_start, moment, nine, NoneTold, Ok, refl, since_take, suc, tells_broadcast, tells_transfer, transfer_accepted, zero, ℕ}
 use Rattle.j39_node.proofs.ending_laws.an_example_of_steadiness.Goals as goal
 
 -- takes that answer none, each a second after the one before

@@ -1,14 +1,6 @@
-use Rattle.j39_node.proofs.MessageLaws as law
+use Rattle.j39_node.proofs.MessageLaws.{ends_taken, ends_told, asked_fits, sent_fits}
+use Rattle.j39_node.proofs.Common.{Ask, At, Ok, Send, ◌∷◌}
 use Rattle.j39_node.proofs.ending_laws.message_ends.Goals as goal
 
-pub returns-clause-sent : goal.returns-clause-sent
-returns-clause-sent c = law.sent_ends
-
-pub returns-clause-sent_told : goal.returns-clause-sent_told
-returns-clause-sent_told c = law.sent_told
-
-pub returns-clause-asked : goal.returns-clause-asked
-returns-clause-asked c = law.asked_ends
-
-pub returns-clause-asked_told : goal.returns-clause-asked_told
-returns-clause-asked_told c = law.asked_told
+pub returns : goal.returns
+returns c = record { sent = λ w later earlier c g now k d is prompt l. ends_taken w later (At now (Send d (Ok k)) ∷ earlier) c g k is (sent_fits w later earlier c now k d is) prompt l; sent_told = λ w later earlier c g now k d is prompt l. ends_told w later (At now (Send d (Ok k)) ∷ earlier) c g k is (sent_fits w later earlier c now k d is) prompt l; asked = λ w later earlier c g now group to k is prompt l. ends_taken w later (At now (Ask group to (Ok k)) ∷ earlier) c g k is (asked_fits w later earlier c now group to k is) prompt l; asked_told = λ w later earlier c g now group to k is prompt l. ends_told w later (At now (Ask group to (Ok k)) ∷ earlier) c g k is (asked_fits w later earlier c now group to k is) prompt l }

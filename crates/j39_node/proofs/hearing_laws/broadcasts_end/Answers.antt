@@ -1,17 +1,7 @@
+use Rattle.j39_node.proofs.HearingLaws.{in_account, stays_timely}
+use Rattle.j39_node.proofs.Common.{At, Hear, changes, hearing, holder, known, ◌∷◌}
 use Rattle.j39_node.proofs.HearingLaws as law
 use Rattle.j39_node.proofs.hearing_laws.broadcasts_end.Goals as goal
 
-pub returns-clause-begins : goal.returns-clause-begins
-returns-clause-begins c = law.account_begins
-
-pub returns-clause-runs : goal.returns-clause-runs
-returns-clause-runs c = law.account_runs
-
-pub returns-clause-heard : goal.returns-clause-heard
-returns-clause-heard c = law.found_timely
-
-pub returns-clause-ticked : goal.returns-clause-ticked
-returns-clause-ticked c = law.ticked_timely
-
-pub returns-clause-ends : goal.returns-clause-ends
-returns-clause-ends c = law.account_ends
+pub returns : goal.returns
+returns c = record { begins = law.account_begins; runs = law.account_runs; heard = λ who H when f x e w. in_account _ x (stays_timely _ (changes (known who H when f) (holder who (At when (Hear f) ∷ H)) (hearing who H)) (hearing who H) x e w); ticked = law.ticked_timely; ends = law.account_ends }

@@ -1,29 +1,26 @@
+use Rattle.j39_node.proofs.HearingLaws.{next_appended}
+use Rattle.std.proofs.lemmas.List.{length-append}
+use Rattle.j39_node.proofs.HearingLemmas.{drop_one, hearing_same, packs_eight}
+use Rattle.j39_node.proofs.Common.{At, Bool, Hear, HearingRecord, None, Some, ap, arith, drop, grown, if◌then◌else◌, is_whole, le-leb, length, message_by, newly, sym, time_heard, true, waiting, whole_of, ◌++◌, ◌+◌, ◌∙◌, ◌∷◌, ◌≡◌}
 use Rattle.j39_node.proofs.HearingLaws as law
 use Rattle.j39_node.proofs.hearing_laws.packets_heard.Goals as goal
 
-pub returns-clause-next : goal.returns-clause-next
-returns-clause-next c = law.next_appended
-
-pub returns-clause-late : goal.returns-clause-late
-returns-clause-late c = law.late_ends
-
-pub returns-clause-strangers : goal.returns-clause-strangers
-returns-clause-strangers c = law.strangers
-
-pub returns-clause-own : goal.returns-clause-own
-returns-clause-own c = law.own_frames
-
-pub returns-clause-whole : goal.returns-clause-whole
-returns-clause-whole c = law.last_makes_whole
-
-pub returns-clause-repeats : goal.returns-clause-repeats
-returns-clause-repeats c = law.repeat_ignored
-
-pub returns-clause-gap : goal.returns-clause-gap
-returns-clause-gap c = law.gap_ends
-
-pub returns-clause-left : goal.returns-clause-left
-returns-clause-left c = law.left_ends
-
-pub returns-clause-others : goal.returns-clause-others
-returns-clause-others c = law.others_leave
+pub returns : goal.returns
+returns c = record {
+  next = law.next_appended;
+  whole = λ who H when f x e g k l m n o p q.
+      let y = grown (time_heard (At when (Hear f) ∷ H)) f x in
+      let whole : is_whole y ≡ true =
+      le-leb x.size (length (x.bytes ++ drop 1 f.bytes)) (let a = length-append x.bytes (drop 1 f.bytes) in let b = drop_one f.bytes (packs_eight f k) in omega (arith, a, b, q)) in
+      let before : waiting who H ≡ None = ap whole_of l ∙ ap (λ (v : Bool). if v then Some (message_by x) else None) m in
+      let after : waiting who (At when (Hear f) ∷ H) ≡ Some (message_by y) =
+      ap whole_of (next_appended who H when f x e g k l m n o p) ∙ ap (λ (v : Bool). if v then Some (message_by y) else None) whole in
+      λ i. newly (before i) (after i);
+  repeats = law.repeat_ignored;
+  gap = law.gap_ends;
+  late = law.late_ends;
+  left = law.left_ends;
+  strangers = law.strangers;
+  others = law.others_leave;
+  own = λ who H now f e. sym (ap (λ (r : HearingRecord). r.current) (hearing_same who H now f e));
+}

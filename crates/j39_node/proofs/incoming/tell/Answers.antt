@@ -1,5 +1,4 @@
-use Rattle.std.proofs.Common.{sym, subst, Bool, ◌++◌, [], ◌∷◌, if◌then◌else◌}
-use Rattle.j39_address.specs.Claims.{Knows}
+use Rattle.j39_node.proofs.Common.{[], if◌then◌else◌, ◌++◌, ◌∷◌, Bool, Knows, subst, sym}
 use Rattle.j39_node.proofs.incoming.tell.Goals as goal
 
 pub returns-then-not-is_double : goal.returns-then-not-is_double

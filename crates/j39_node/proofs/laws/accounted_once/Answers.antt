@@ -1,11 +1,7 @@
+use Rattle.j39_node.proofs.Common.{◌∷◌}
+use Rattle.j39_node.proofs.AnswerCases.{send_accepts}
 use Rattle.j39_node.proofs.LawLemmas as law
 use Rattle.j39_node.proofs.laws.accounted_once.Goals as goal
 
-pub returns-clause-accepted : goal.returns-clause-accepted
-returns-clause-accepted c = law.token_is
-
-pub returns-clause-told : goal.returns-clause-told
-returns-clause-told c = law.in_turn
-
-pub returns-clause-all : goal.returns-clause-all
-returns-clause-all c = law.all_told
+pub returns : goal.returns
+returns c = record { accepted = λ w H c now k d is. (send_accepts w H now k d is.answered.1).3; told = law.in_turn; all = law.all_told }

@@ -1,26 +1,18 @@
+use Rattle.j39_node.proofs.LawLemmas.{claimed_or_not, or_right, still_owed}
+use Rattle.j39_node.proofs.Common.{At, Hear, owes_claim, ◌++◌, ◌+◌, ◌∷◌}
 use Rattle.j39_node.proofs.LawLemmas as law
 use Rattle.j39_node.proofs.laws.claims.Goals as goal
 
-pub returns-clause-next : goal.returns-clause-next
-returns-clause-next c = law.next_claim
-
-pub returns-clause-at_once : goal.returns-clause-at_once
-returns-clause-at_once c = law.claims_at_once
-
-pub returns-clause-only : goal.returns-clause-only
-returns-clause-only c = law.claims_only
-
-pub returns-clause-second : goal.returns-clause-second
-returns-clause-second c = law.second_claim
-
-pub returns-clause-once : goal.returns-clause-once
-returns-clause-once c = law.answered_once
-
-pub returns-clause-waits : goal.returns-clause-waits
-returns-clause-waits c = law.cannot_claim_waits
-
-pub returns-clause-most : goal.returns-clause-most
-returns-clause-most c = law.most_delayed
-
-pub returns-clause-anew : goal.returns-clause-anew
-returns-clause-anew c = law.anew_claims
+pub returns : goal.returns
+returns c = record {
+  next = λ w H later c now when f g is none called.
+      claimed_or_not w (later ++ At when (Hear f) ∷ H) c now g is
+      (still_owed w later (At when (Hear f) ∷ H) none (or_right (owes_claim w H) _ called));
+  second = law.second_claim;
+  once = law.answered_once;
+  at_once = law.claims_at_once;
+  waits = law.cannot_claim_waits;
+  most = law.most_delayed;
+  anew = law.anew_claims;
+  only = law.claims_only;
+}

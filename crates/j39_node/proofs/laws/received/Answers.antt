@@ -1,17 +1,8 @@
+use Rattle.j39_node.proofs.SoundLemmas.{sound}
+use Rattle.j39_node.proofs.LawLemmas.{past_end, whole}
+use Rattle.j39_node.proofs.Common.{got, kept, length, sym, ◌∷◌}
 use Rattle.j39_node.proofs.LawLemmas as law
 use Rattle.j39_node.proofs.laws.received.Goals as goal
 
-pub returns-clause-in_order : goal.returns-clause-in_order
-returns-clause-in_order c = law.got_in_order
-
-pub returns-clause-all : goal.returns-clause-all
-returns-clause-all c = law.all_got
-
-pub returns-clause-counted : goal.returns-clause-counted
-returns-clause-counted c = law.counted
-
-pub returns-clause-subscribed : goal.returns-clause-subscribed
-returns-clause-subscribed c = law.not_subscribed
-
-pub returns-clause-room : goal.returns-clause-room
-returns-clause-room c = law.missed_full
+pub returns : goal.returns
+returns c = record { in_order = λ w H c is. (sound w H is.answered).reads; all = λ w H c is. whole (got H) (kept w H) (sound w H is.answered.0).reads (past_end (kept w H) (length (got H)) (sym is.answered.1)); counted = law.counted; room = law.missed_full; subscribed = law.not_subscribed }

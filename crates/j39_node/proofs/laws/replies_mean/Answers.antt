@@ -1,20 +1,14 @@
+use Rattle.j39_node.proofs.Common.{◌∷◌}
+use Rattle.j39_node.proofs.ReceptionLaws.{silent}
 use Rattle.j39_node.proofs.ReceptionLaws as law
 use Rattle.j39_node.proofs.laws.replies_mean.Goals as goal
 
-pub returns-clause-first : goal.returns-clause-first
-returns-clause-first c = law.replies_first
-
-pub returns-clause-before : goal.returns-clause-before
-returns-clause-before c = law.replies_before
-
-pub returns-clause-once : goal.returns-clause-once
-returns-clause-once c = law.taken_rest
-
-pub returns-clause-lost : goal.returns-clause-lost
-returns-clause-lost c = law.lost_is_silent
-
-pub returns-clause-others : goal.returns-clause-others
-returns-clause-others c = law.others_taken
-
-pub returns-clause-none_waits : goal.returns-clause-none_waits
-returns-clause-none_waits c = law.none_replied
+pub returns : goal.returns
+returns c = record {
+  first = law.replies_first;
+  before = law.replies_before;
+  once = law.taken_rest;
+  others = law.others_taken;
+  none_waits = law.none_replied;
+  lost = λ w H e. let s = silent w H e in (s.session, s.replies);
+}

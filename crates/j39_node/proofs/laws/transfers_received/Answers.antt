@@ -1,14 +1,7 @@
+use Rattle.j39_node.proofs.ReceptionLaws.{begun, came_by}
+use Rattle.j39_node.proofs.Common.{At, Hear, claim_of, holds, is_smaller, reception, refl, time_heard, ◌∷◌}
 use Rattle.j39_node.proofs.ReceptionLaws as law
 use Rattle.j39_node.proofs.laws.transfers_received.Goals as goal
 
-pub returns-clause-in_order : goal.returns-clause-in_order
-returns-clause-in_order c = law.in_order
-
-pub returns-clause-got : goal.returns-clause-got
-returns-clause-got c = law.released
-
-pub returns-clause-of_one : goal.returns-clause-of_one
-returns-clause-of_one c = law.came
-
-pub returns-clause-begins : goal.returns-clause-begins
-returns-clause-begins c = law.session_begins
+pub returns : goal.returns
+returns c = record { in_order = law.in_order; got = law.released; of_one = λ w H when f m e. came_by w H (is_smaller w (claim_of f)) (holds w H when) _ when f (time_heard (At when (Hear f) ∷ H)) (reception w H) m refl (begun w H) e; begins = law.session_begins }

@@ -1,5 +1,4 @@
-use Rattle.std.proofs.Common.{arith}
-use Rattle.j39_node.specs.Is.{posted}
+use Rattle.j39_node.proofs.Common.{arith, posted}
 use Rattle.j39_node.proofs.RenewLemmas.{latest_on}
 use Rattle.j39_node.proofs.outgoing.latest.Goals as goal
 

@@ -1,6 +1,4 @@
-use Rattle.std.proofs.Common.{◌≡◌, None, map, take}
-use Rattle.j39_node.specs.History.{latest}
-use Rattle.j39_node.specs.Is.{posted}
+use Rattle.j39_node.proofs.Common.{◌≡◌, latest, map, None, posted, take}
 use Rattle.j39_node.proofs.outgoing.latest.Given as goal
 
 -- the last of those so far

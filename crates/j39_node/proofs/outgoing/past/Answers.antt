@@ -1,6 +1,4 @@
-use Rattle.std.proofs.Common.{◌≡◌, ◌+◌, ◌∙◌, List, Bool, suc, sym, ap, map, true, false, arith}
-use Rattle.j39_node.specs.History.{is_blank, past}
-use Rattle.j39_node.specs.Is.{posted}
+use Rattle.j39_node.proofs.Common.{◌+◌, ◌∙◌, ◌≡◌, ap, arith, Bool, false, is_blank, List, map, past, posted, suc, sym, true}
 use Rattle.j39_node.proofs.WithdrawLemmas.{mark_of, none_past, past_next, stops_at}
 use Rattle.j39_node.proofs.outgoing.past.Goals as goal
 

@@ -1,6 +1,4 @@
-use Rattle.std.proofs.Common.{◌≡◌, ◌-◌, length, map}
-use Rattle.j39_node.specs.History.{is_blank, past}
-use Rattle.j39_node.specs.Is.{posted}
+use Rattle.j39_node.proofs.Common.{◌-◌, ◌≡◌, is_blank, length, map, past, posted}
 use Rattle.j39_node.proofs.outgoing.past.Given as goal
 
 -- those so far are passed

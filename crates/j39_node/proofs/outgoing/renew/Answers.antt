@@ -1,6 +1,4 @@
-use Rattle.std.proofs.Common.{◌∙◌, ap, refl, map}
-use Rattle.std.proofs.lemmas.List.{map-set}
-use Rattle.j39_node.specs.Is.{posted}
+use Rattle.j39_node.proofs.Common.{◌∙◌, ap, map, map-set, posted, refl}
 use Rattle.j39_node.proofs.QueueLemmas.{read}
 use Rattle.j39_node.proofs.RenewLemmas.{refilled}
 use Rattle.j39_node.proofs.outgoing.renew.Goals as goal

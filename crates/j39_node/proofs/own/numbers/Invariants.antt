@@ -1,5 +1,4 @@
-use Rattle.std.proofs.Common.{◌≡◌, ◌≤◌, length, map, take}
-use Rattle.j39_frame.specs.Pgn.{pgn_raw}
+use Rattle.j39_node.proofs.Common.{◌≡◌, ◌≤◌, length, map, pgn_raw, take}
 use Rattle.j39_node.proofs.own.numbers.Given as goal
 
 -- the numbers of the groups so far

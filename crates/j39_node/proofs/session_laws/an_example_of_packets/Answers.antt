@@ -1,14 +1,6 @@
-use Rattle.std.proofs.Common.{[], ◌∷◌, Some, refl, inl, arith}
-use Rattle.j39_transport.specs.Frames.{is_announcement, is_packet, goes, group_of, source_of, destination_of, names_message}
-use Rattle.j39_transport.specs.Key.{key_between}
-use Rattle.j39_transport.specs.Receiving.{said_to}
-use Rattle.j39_transport.specs.Signals.{request_in, said_by, control_in, packet_in, said_between}
-use Rattle.j39_node.specs.History.Call.{At}
-use Rattle.j39_node.specs.History.Act.{Hear, TakeFrame}
-use Rattle.j39_node.specs.Example.{clear_to, first_from, other_request_from, two}
-use Rattle.j39_node.specs.Packets.{Bring}
-use Rattle.j39_node.specs.Packets.Bring.{begins, brings, spares}
-use Rattle.j39_node.specs.SteadyExample.{brought_start}
+use Rattle.j39_node.proofs.Common.{[], ◌∷◌, arith, At, begins, Bring, brings, brought_start, clear_to, control_in, first_from, goes, Hear, inl, is_announcement, key_between, names_message, other_request_from, refl, request_in, said_between, said_to, Some, spares, TakeFrame, two}
+use Rattle.j39_transport.specs.Frames.{is_packet, group_of, source_of, destination_of}
+use Rattle.j39_transport.specs.Signals.{said_by, packet_in}
 use Rattle.j39_node.proofs.session_laws.an_example_of_packets.Goals as goal
 
 pub returns-clause-bring : goal.returns-clause-bring

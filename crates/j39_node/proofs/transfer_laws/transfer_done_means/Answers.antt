@@ -1,30 +1,29 @@
+use Rattle.j39_node.proofs.MoveLemmas.{last_open, traced}
+use Rattle.j39_node.proofs.TransferLaws.{ended, gone_arises, of_token, state_gone, state_lost}
+use Rattle.j39_node.specs.declared.kinds.TransferEnding.TheVariants.{Withdrawn}
+use Rattle.j39_node.proofs.Common.{Gone, Replaces, arith, true, ◌∷◌, ◌≡◌}
 use Rattle.j39_node.proofs.ReceptionLemmas.{holders}
 use Rattle.j39_node.proofs.TransferLaws as law
 use Rattle.j39_node.proofs.transfer_laws.transfer_done_means.Goals as goal
 
-pub returns-clause-told : goal.returns-clause-told
-returns-clause-told c = law.in_turn
-
-pub returns-clause-done : goal.returns-clause-done
-returns-clause-done c = law.done_means
-
-pub returns-clause-acknowledged : goal.returns-clause-acknowledged
-returns-clause-acknowledged c = law.is_done
-
-pub returns-clause-failed : goal.returns-clause-failed
-returns-clause-failed c = law.failed_means
-
-pub returns-clause-gone : goal.returns-clause-gone
-returns-clause-gone c = law.gone_means
-
-pub returns-clause-withdrawn : goal.returns-clause-withdrawn
-returns-clause-withdrawn c = law.withdrawn_means
-
-pub returns-clause-all : goal.returns-clause-all
-returns-clause-all c = law.all_told
-
-pub returns-clause-holder : goal.returns-clause-holder
-returns-clause-holder c = λ w H a. (holders w H a).is
-
-pub returns-clause-replaced : goal.returns-clause-replaced
-returns-clause-replaced c = law.is_gone
+pub returns : goal.returns
+returns c = record {
+  told = λ w H c k e is.
+      let x = ended w H c k e is in
+      let l = last_open w H x.running is.answered.0 x.is in
+      let a = x.token in let b = l.token in let d = l.count in (omega (arith, a, b), omega (arith, a, d));
+  done = law.done_means;
+  acknowledged = law.is_done;
+  failed = law.failed_means;
+  gone = λ w H c k is.
+      let x = ended w H c k Gone is in (
+        x.running.sender.destination,
+        x.running.sender.message,
+        of_token w H c k Gone is x,
+        traced w (λ t. t.gone ≡ true) (λ to m. Replaces w to) (gone_arises w) H x.running is.answered.0 x.is (state_gone x.running.sender.state x.running.gone _ x.ending),
+      );
+  replaced = law.is_gone;
+  withdrawn = λ w H c k is. let x = ended w H c k Withdrawn is in state_lost x.running.sender.state x.running.gone _ x.ending;
+  all = law.all_told;
+  holder = λ w H a. (holders w H a).is;
+}

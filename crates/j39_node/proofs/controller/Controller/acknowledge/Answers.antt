@@ -1,17 +1,22 @@
-use Rattle.std.proofs.Common.{◌∙◌, ap, sym, refl, ℕ, length, true, false, nat_eq, eq-eqb}
-use Rattle.j39_frame.specs.Stamp.{stamp_micros}
-use Rattle.j39_node.specs.History.{Who, due, acknowledged}
-use Rattle.j39_node.specs.Is.{request_by, refusal_by}
-use Rattle.j39_node.proofs.QueueLemmas.{length_rest}
-use Rattle.j39_node.proofs.CallLemmas.{passed_is, holds_is, acknowledge_is, due_more}
+use Rattle.j39_node.proofs.Common.{◌∙◌, acknowledged, ap, due, eq-eqb, false, length, nat_eq, refl, refusal_by, stamp_micros, sym, View, ℕ, map, acknowledgment, request_by, ◌∷◌, [], ◌++◌}
+use Rattle.j39_node.proofs.QueueLemmas.{length_rest, map_append, drop_append}
+use Rattle.j39_node.proofs.CallLemmas.{passed_is, holds_is, follows}
 use Rattle.j39_node.proofs.controller.Controller.acknowledge.Goals as goal
+use Rattle.j39_node.proofs.AnswerCases.{answer_is}
+use Rattle.j39_node.proofs.SoundLemmas.{sound, front_length}
 
 pub returns : goal.returns
 returns c = λ w H h.
-    let p = passed_is w H (stamp_micros c.args.now) c.args.self.now.hold c.passed-self.result h.hold c.passed-self.ensures in
+    let p = passed_is w H (stamp_micros c.args.now) c.args.self.now.hold c.passed-self.result (ap (λ (v : View). v.hold) h.shown) c.passed-self.ensures in
     let b = sym (holds_is w H (stamp_micros c.args.now) c.passed-self.result c.is_held.result p c.is_held.ensures) ∙ c.if-not-is_held.false in
-    due_more w H c.args.self.now _ (stamp_micros c.args.now) c.args.answer c.args.request _ h p
-    (sym (acknowledge_is w H (stamp_micros c.args.now) (request_by c.args.request) true true false b
-    (eq-eqb _ _ (c.if-request-self.false ∙ ap (λ (v : Who). v.address) h.who))
-    (ap (λ (n : ℕ). nat_eq n 16) (sym (length_rest (refusal_by w) c.args.self.now.desk.due.items (length (acknowledged H)) (due w H) h.acknowledgments))
-    ∙ (sym c.is_full.ensures.value ∙ c.if-is_full.false)))) (c.new.ensures w) c.push.ensures.items refl
+    follows h refl
+    (sym (answer_is tt b
+    (eq-eqb _ _ (c.if-request-self.false ∙ ap (λ (u : View). u.who.address) h.shown))
+    (ap (λ (n : ℕ). nat_eq n 16) (sym (length_rest (refusal_by w) c.args.self.now.desk.due.items (length (acknowledged H)) (due w H) (ap (λ (v : View). v.acknowledgments) h.shown)))
+    ∙ (sym c.is_full.ensures.value ∙ c.if-is_full.false)))) refl
+    (λ i. record (h.shown i) {
+      hold = p i;
+      acknowledgments = (ap (map (refusal_by w)) c.push.ensures.items ∙ (map_append (refusal_by w) c.args.self.now.desk.due.items _
+          ∙ ((λ i. (h.shown i).acknowledgments ++ c.new.ensures w i ∷ [])
+          ∙ sym (drop_append (length (acknowledged H)) (due w H) (acknowledgment w c.args.answer (request_by c.args.request)) (front_length (acknowledged H) (due w H) (sound w H h.answered).desk.1))))) i;
+    })

@@ -1,9 +1,4 @@
-use Rattle.std.proofs.Common.{◌<◌, ℕ, List, Some}
-use Rattle.j39_address.specs.Name.{name_raw}
-use Rattle.j39_address.specs.Claim.{claims_of}
-use Rattle.j39_address.specs.Holder.{IsHolderAfter}
-use Rattle.j39_node.specs.History.{Who, Call, told_claims}
-use Rattle.j39_node.specs.Is.{Is}
+use Rattle.j39_node.proofs.Common.{◌<◌, Call, claims_of, Is, IsHolderAfter, List, name_raw, Some, told_claims, Who, ℕ}
 use Rattle.j39_node.proofs.controller.Controller.address_of.Given as goal
 
 -- the NAME holds no address so far

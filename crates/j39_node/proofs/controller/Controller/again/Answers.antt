@@ -1,11 +1,11 @@
-use Rattle.std.proofs.Common.{◌∙◌, ap, refl, ℕ}
-use Rattle.j39_frame.specs.Stamp.{stamp_micros}
-use Rattle.j39_node.specs.Hold.{anew}
-use Rattle.j39_node.proofs.CallLemmas.{again_more, passed_is}
+use Rattle.j39_node.proofs.Common.{◌∙◌, anew, ap, refl, stamp_micros, View, ℕ, true, address_after, older, owes_claim, step, led, ◌*◌}
+use Rattle.j39_node.proofs.CallLemmas.{passed_is, follows, unclaims_after}
 use Rattle.j39_node.proofs.controller.Controller.again.Goals as goal
 
 pub returns : goal.returns
 returns c = λ w H h.
-    again_more w H c.args.self.now _ (stamp_micros c.args.now) c.passed.result h
-    (passed_is w H (stamp_micros c.args.now) c.args.self.now.hold c.passed.result h.hold c.passed.ensures)
-    (c.anew-self.ensures ∙ ap (λ (n : ℕ). anew n c.passed.result) c.delay.ensures) refl
+    let p = passed_is w H (stamp_micros c.args.now) c.args.self.now.hold c.passed.result (ap (λ (v : View). v.hold) h.shown) c.passed.ensures in
+    follows h refl tt refl (λ i. record (h.shown i) {
+      hold = (c.anew-self.ensures ∙ (ap (λ (n : ℕ). anew n c.passed.result) c.delay.ensures ∙ ((λ i. anew ((h.shown i).who.delay * 600) (p i))
+          ∙ λ i. record (led w H (stamp_micros c.args.now)) { standing = unclaims_after (older (step H (stamp_micros c.args.now)) (address_after w H)) i; owes_claim = true; delay = w.delay * 600 }))) i;
+    })

@@ -1,41 +1,43 @@
-use Rattle.std.proofs.Common.{◌≡◌, ◌∙◌, ap, sym, refl, arith, true, false, Bool, Ok}
-use Rattle.j39_frame.specs.Stamp.{stamp_micros}
-use Rattle.j39_frame.specs.Pgn.{pgn_raw}
-use Rattle.j39_node.specs.History.{Who, message_from, request_for}
-use Rattle.j39_node.specs.Asking.{can_ask}
-use Rattle.j39_node.proofs.CallLemmas.{passed_is, holds_is}
-use Rattle.j39_node.proofs.AskCases.{ask_is}
-use Rattle.j39_node.proofs.AskCalls.{asks_one, busy_is, refuses_ask}
+use Rattle.j39_node.proofs.LawLemmas.{sent_within}
+use Rattle.j39_node.proofs.Common.{◌∙◌, ap, arith, can_ask, false, message_from, Ok, pgn_raw, refl, request_for, stamp_micros, sym, true, View, Who, length, accepted, not_true, Bool, None, Option, Some, le-ltb, question, reached, AskRecord, ◌∷◌, [], ◌++◌, ◌+◌, ◌≡◌}
+use Rattle.j39_node.proofs.CallLemmas.{asks_no_more_is, passed_is, holds_is, follows, posted_more}
 use Rattle.j39_node.proofs.controller.Controller.ask.Goals as goal
-
-not_true : (b : Bool) → (b ≡ true → false ≡ true) → b ≡ false
-not_true true f = absurd (let z : false ≡ true = f refl in cc)
-not_true false f = refl
+use Rattle.j39_node.proofs.AnswerCases.{answer_is}
+use Rattle.j39_node.proofs.QueueLemmas.{length_one_more}
+use Rattle.j39_node.proofs.SoundLemmas.{sound}
 
 pub returns-then-asks_no_more : goal.returns-then-asks_no_more
 returns-then-asks_no_more c = λ w H h.
-    let p = passed_is w H (stamp_micros c.args.now) c.args.self.now.hold c.passed-self.result h.hold c.passed-self.ensures in
+    let p = passed_is w H (stamp_micros c.args.now) c.args.self.now.hold c.passed-self.result (ap (λ (v : View). v.hold) h.shown) c.passed-self.ensures in
     let b = sym (holds_is w H (stamp_micros c.args.now) c.passed-self.result c.is_held.result p c.is_held.ensures) ∙ c.if-not-is_held.false in
-    refuses_ask w H c.args.self.now _ (stamp_micros c.args.now) (pgn_raw c.args.group) c.args.to _ h p
-    (sym (ask_is w H (stamp_micros c.args.now) (pgn_raw c.args.group) c.args.to true true true b
-    (ap (λ (v : Who). can_ask v (pgn_raw c.args.group) c.args.to) (sym h.who) ∙ c.in-Some.ensures.known.0 refl)
-    (sym (busy_is w H c.args.self.now h) ∙ (sym c.asks_no_more.ensures.value ∙ c.if-asks_no_more.true)))) refl
+    follows h refl (sym (answer_is (length (accepted w H)) b
+    (ap (λ (v : Who). can_ask v (pgn_raw c.args.group) c.args.to) (sym (ap (λ (v : View). v.who) h.shown)) ∙ c.in-Some.ensures.known.0 refl)
+    (sym (asks_no_more_is w H c.args.self.now h) ∙ (sym c.asks_no_more.ensures.value ∙ c.if-asks_no_more.true)))) refl (λ i. record (h.shown i) { hold = p i })
 
 pub returns-else-asks_no_more : goal.returns-else-asks_no_more
 returns-else-asks_no_more c = λ w H h.
-    let p = passed_is w H (stamp_micros c.args.now) c.args.self.now.hold c.passed-self.result h.hold c.passed-self.ensures in
+    let p = passed_is w H (stamp_micros c.args.now) c.args.self.now.hold c.passed-self.result (ap (λ (v : View). v.hold) h.shown) c.passed-self.ensures in
     let b = sym (holds_is w H (stamp_micros c.args.now) c.passed-self.result c.is_held.result p c.is_held.ensures) ∙ c.if-not-is_held.false in
-    asks_one w H c.args.self.now _ (stamp_micros c.args.now) (pgn_raw c.args.group) c.args.to c.in-Some.message c.new.result h p
-    (ap Ok h.token ∙ sym (ask_is w H (stamp_micros c.args.now) (pgn_raw c.args.group) c.args.to true true false b
-    (ap (λ (v : Who). can_ask v (pgn_raw c.args.group) c.args.to) (sym h.who) ∙ c.in-Some.ensures.known.0 refl)
-    (sym (busy_is w H c.args.self.now h) ∙ (sym c.asks_no_more.ensures.value ∙ c.if-asks_no_more.false))))
-    (c.in-Some.ensures.value ∙ ap (λ (v : Who). (c.args.self.now.next_token, message_from v (request_for (pgn_raw c.args.group) c.args.to))) h.who)
-    refl c.push.ensures.items (omega arith) refl c.new.ensures
+    let m = message_from w (request_for (pgn_raw c.args.group) c.args.to) in
+    let t = ap (λ (v : View). v.token) h.shown in
+    let l = length_one_more (accepted w H) (c.args.self.now.next_token, m) in
+    follows h refl
+    (ap Ok t ∙ sym (answer_is (length (accepted w H)) b
+    (ap (λ (v : Who). can_ask v (pgn_raw c.args.group) c.args.to) (sym (ap (λ (v : View). v.who) h.shown)) ∙ c.in-Some.ensures.known.0 refl)
+    (sym (asks_no_more_is w H c.args.self.now h) ∙ (sym c.asks_no_more.ensures.value ∙ c.if-asks_no_more.false)))) refl
+    (λ i. record (h.shown i) {
+      hold = p i;
+      outgoing = posted_more w H c.args.self.now h c.in-Some.message m
+          (c.in-Some.ensures.value ∙ ap (λ (u : View). (c.args.self.now.next_token, message_from u.who (request_for (pgn_raw c.args.group) c.args.to))) h.shown) c.push.ensures.items i;
+      token = (let z : c.args.self.now.next_token + 1 ≡ length (accepted w H ++ (c.args.self.now.next_token, m) ∷ []) = omega (arith, t, l) in z) i;
+      asking = (ap (λ (y : AskRecord). Some y) c.new.ensures
+          ∙ ap (λ (b : Bool). (let r : Option AskRecord = Some (record { question = question c.args.self.now.next_token (pgn_raw c.args.group) c.args.to; taken = b; ending = None }) in r))
+          (sym (le-ltb c.args.self.now.next_token (reached H) (let a = sent_within w H (sound w H h.answered) in omega (arith, t, a))))) i;
+    })
 
 pub returns-in-None : goal.returns-in-None
 returns-in-None c = λ w H h.
-    let p = passed_is w H (stamp_micros c.args.now) c.args.self.now.hold c.passed-self.result h.hold c.passed-self.ensures in
+    let p = passed_is w H (stamp_micros c.args.now) c.args.self.now.hold c.passed-self.result (ap (λ (v : View). v.hold) h.shown) c.passed-self.ensures in
     let b = sym (holds_is w H (stamp_micros c.args.now) c.passed-self.result c.is_held.result p c.is_held.ensures) ∙ c.if-not-is_held.false in
-    refuses_ask w H c.args.self.now _ (stamp_micros c.args.now) (pgn_raw c.args.group) c.args.to _ h p
-    (sym (ask_is w H (stamp_micros c.args.now) (pgn_raw c.args.group) c.args.to true false _ b
-    (ap (λ (v : Who). can_ask v (pgn_raw c.args.group) c.args.to) (sym h.who) ∙ not_true _ c.in-None.ensures.known.1) refl)) refl
+    follows h refl (sym (answer_is (length (accepted w H)) b
+    (ap (λ (v : Who). can_ask v (pgn_raw c.args.group) c.args.to) (sym (ap (λ (v : View). v.who) h.shown)) ∙ not_true _ c.in-None.ensures.known.1) refl)) refl (λ i. record (h.shown i) { hold = p i })

@@ -1,23 +1,24 @@
-use Rattle.std.proofs.Common.{rules}
+use Rattle.j39_node.proofs.Common.{[], after, asking_of, hearing_of, lane_of, map, nothing, posted, received_by, refusal_by, request_by, rules, Who, who_of}
 use Rattle.j39_node.proofs.controller.Controller.begun.Goals as goal
 
 pub returns : goal.returns
-returns c = let incoming = c.new-8.ensures c.args.own.address c.requires in record {
-  who = search rules;
-  answered = search rules;
-  hold = search rules;
-  outgoing = search rules;
-  taken = search rules;
-  token = search rules;
-  asking = search rules;
-  unread = search rules;
-  requests = search rules;
-  acknowledgments = search rules;
-  news = search rules;
-  holders = search rules;
-  missed = search rules;
-  lane = search rules;
-  incoming = incoming;
-  port = search rules;
-  hearing = search rules;
-}
+returns c =
+    let w : Who = who_of nothing c.args.own in
+    record {
+      shown = λ i. record (after w []) {
+        hold = c.new.ensures i;
+        outgoing = map posted (c.new-2.ensures i);
+        asking = asking_of (c.new-3.ensures i);
+        unread = map received_by (c.new-4.ensures.unread i);
+        requests = map request_by (c.new-5.ensures.waiting i);
+        acknowledgments = map (refusal_by w) (c.new-5.ensures.due i);
+        news = c.none.ensures i;
+        missed = c.new-4.ensures.missed i;
+        lane = lane_of w (c.new-7.ensures i);
+        incoming = c.new-8.ensures c.args.own.address c.requires i;
+        port = c.new-9.ensures i;
+        hearing = hearing_of (c.new-10.ensures i);
+      };
+      answered = tt;
+      holders = search rules;
+    }

@@ -1,28 +1,31 @@
-use Rattle.std.proofs.Common.{◌≡◌, ◌∙◌, ap, sym, refl, arith, true, false, Bool, Ok}
-use Rattle.j39_frame.specs.Stamp.{stamp_micros}
-use Rattle.j39_frame.specs.Pgn.{pgn_raw}
-use Rattle.j39_node.specs.Is.{LaneRecord}
-use Rattle.j39_node.proofs.CallLemmas.{passed_is, holds_is, begins, broadcast_is, busy_is, refuses_broadcast}
+use Rattle.j39_node.proofs.Common.{◌∙◌, ap, arith, false, Ok, pgn_raw, refl, stamp_micros, sym, View, length, broadcasts, not_true, Some, broadcast_from, ◌∷◌, [], ◌++◌, ◌+◌, ◌≡◌}
+use Rattle.j39_node.specs.Hold.{opens}
+use Rattle.j39_node.proofs.CallLemmas.{passed_is, holds_is, busy_is, follows}
 use Rattle.j39_node.proofs.controller.Controller.broadcast.Goals as goal
-
-not_true : (b : Bool) → (b ≡ true → false ≡ true) → b ≡ false
-not_true true f = absurd (let z : false ≡ true = f refl in cc)
-not_true false f = refl
+use Rattle.j39_node.proofs.AnswerCases.{answer_is}
+use Rattle.j39_node.proofs.QueueLemmas.{length_one_more}
 
 pub returns-else-is_busy : goal.returns-else-is_busy
 returns-else-is_busy c = λ w H h.
-    let p = passed_is w H (stamp_micros c.args.now) c.args.self.now.hold c.passed-self.result h.hold c.passed-self.ensures in
+    let p = passed_is w H (stamp_micros c.args.now) c.args.self.now.hold c.passed-self.result (ap (λ (v : View). v.hold) h.shown) c.passed-self.ensures in
     let b = sym (holds_is w H (stamp_micros c.args.now) c.passed-self.result c.is_held.result p c.is_held.ensures) ∙ c.if-not-is_held.false in
-    begins w H c.args.self.now _ (stamp_micros c.args.now) (pgn_raw c.args.group) c.args.bytes.now c.in-Some.broadcast c.passed-self.result h p c.opens-self.ensures
-    (sym (broadcast_is w H (stamp_micros c.args.now) (pgn_raw c.args.group) c.args.bytes.now true true false b (c.in-Some.ensures.known.0 refl)
+    follows h refl
+    (sym (answer_is (length (broadcasts w H)) b (c.in-Some.ensures.known.0 refl)
     (sym (busy_is w H c.args.self.now h) ∙ (sym (c.is_busy.ensures.value w) ∙ c.if-is_busy.false))
-    ∙ ap Ok (sym (ap (λ (l : LaneRecord). l.next_token) h.lane))))
-    (c.in-Some.ensures.value w) refl refl refl (omega arith)
+    ∙ ap Ok (sym (ap (λ (v : View). v.lane.next_token) h.shown)))) refl
+    (λ i. record (h.shown i) {
+      hold = (c.opens-self.ensures ∙ ap opens p) i;
+      lane = record {
+        current = Some (c.in-Some.ensures.value w i);
+        count = 0;
+        next_token = (let a = ap (λ (v : View). v.lane.next_token) h.shown in let m = length_one_more (broadcasts w H) (broadcast_from w (pgn_raw c.args.group) c.args.bytes.now) in
+            (let z : c.args.self.now.lane.next_token + 1 ≡ length (broadcasts w H ++ broadcast_from w (pgn_raw c.args.group) c.args.bytes.now ∷ []) = omega (arith, a, m) in z)) i;
+      };
+    })
 
 pub returns-in-None : goal.returns-in-None
 returns-in-None c = λ w H h.
-    let p = passed_is w H (stamp_micros c.args.now) c.args.self.now.hold c.passed-self.result h.hold c.passed-self.ensures in
+    let p = passed_is w H (stamp_micros c.args.now) c.args.self.now.hold c.passed-self.result (ap (λ (v : View). v.hold) h.shown) c.passed-self.ensures in
     let b = sym (holds_is w H (stamp_micros c.args.now) c.passed-self.result c.is_held.result p c.is_held.ensures) ∙ c.if-not-is_held.false in
-    refuses_broadcast w H c.args.self.now _ (stamp_micros c.args.now) (pgn_raw c.args.group) c.args.bytes.now _ h p
-    (sym (broadcast_is w H (stamp_micros c.args.now) (pgn_raw c.args.group) c.args.bytes.now true false _ b
-    (not_true _ c.in-None.ensures.known.1) refl)) refl
+    follows h refl (sym (answer_is (length (broadcasts w H)) b
+    (not_true _ c.in-None.ensures.known.1) refl)) refl (λ i. record (h.shown i) { hold = p i })

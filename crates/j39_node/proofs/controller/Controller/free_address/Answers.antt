@@ -1,9 +1,5 @@
-use Rattle.std.proofs.Common.{◌≡◌, ◌∙◌, Option, Some, None, Bool, true, false, not, refl, sym, arith}
-use Rattle.std.specs.Option.{is_some, option_map}
-use Rattle.j39_address.specs.Claim.{claims_of}
-use Rattle.j39_address.specs.Name.{name_raw}
-use Rattle.j39_address.specs.declared.name.Name.{Name}
-use Rattle.j39_node.specs.History.{told_claims}
+use Rattle.j39_node.proofs.Common.{◌∙◌, ◌≡◌, arith, Bool, claims_of, false, Name, name_raw, None, not, Option, option_map, refl, Some, sym, told_claims, true}
+use Rattle.std.specs.Option.{is_some}
 use Rattle.j39_node.proofs.MovingLemmas.{least_free, none_free}
 use Rattle.j39_node.proofs.controller.Controller.free_address.Goals as goal
 

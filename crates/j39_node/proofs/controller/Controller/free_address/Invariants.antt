@@ -1,5 +1,4 @@
-use Rattle.std.proofs.Common.{◌≢◌, ◌<◌, ◌≤◌, ℕ, None}
-use Rattle.j39_address.specs.Claims.{holder_in}
+use Rattle.j39_node.proofs.Common.{◌<◌, ◌≢◌, ◌≤◌, holder_in, None, ℕ}
 use Rattle.j39_node.proofs.controller.Controller.free_address.Given as goal
 
 -- somebody holds each address so far

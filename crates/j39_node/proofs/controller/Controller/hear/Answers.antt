@@ -1,57 +1,143 @@
-use Rattle.std.proofs.Common.{◌&&◌, length, map, nat_lt, ◌∙◌, ap, refl, not, ◌||◌, Bool, ℕ, Option, subst, ◌++◌, [], ◌∷◌, if◌then◌else◌}
-use Rattle.j39_frame.specs.Stamp.{stamp_micros}
-use Rattle.j39_node.specs.Asking.{in_broadcast, is_coming}
-use Rattle.j39_node.specs.Is.{AskRecord, asking_of, hears_with, port_of, request_by, who_of, hearing_of, incoming_of, made_by, session_by, refusal_by}
-use Rattle.j39_node.specs.History.{fresh, with_refusal}
-use Rattle.j39_node.specs.Hearing.{whole_of}
-use Rattle.j39_node.specs.declared.news.Untold.{Untold}
-use Rattle.j39_node.specs.Transfers.{hears_if}
-use Rattle.std.specs.Option.{is_some, option_map, option_or}
-use Rattle.j39_node.specs.Hold.{lost, heard}
-use Rattle.j39_address.specs.Name.{name_raw}
-use Rattle.j39_address.specs.Claim.{claim_of}
-use Rattle.j39_address.specs.Claims.{Knows}
-use Rattle.j39_node.proofs.PortLemmas.{peers_are}
+use Rattle.j39_node.proofs.ReceptionLaws.{made_is}
+use Rattle.j39_node.proofs.QueueLemmas.{length_rest}
+use Rattle.j39_node.proofs.SoundLemmas.{front_length, lost_older, read, sound}
+use Rattle.j39_node.proofs.HearingLemmas.{either_news, heard_on}
+use Rattle.j39_node.proofs.AskLemmas.{ask_heard}
+use Rattle.j39_node.proofs.ReceptionLemmas.{again_is}
+use Rattle.j39_node.proofs.Common.{[], if◌then◌else◌, ◌&&◌, ◌++◌, ◌||◌, ◌∙◌, ◌∷◌, ap, asking_of, AskRecord, Bool, claim_of, fresh, heard, hearing_of, hears_if, hears_with, in_broadcast, incoming_of, is_coming, is_lost, Knows, length, lost, made_by, map, name_raw, nat_lt, not, Option, option_map, option_or, port_of, refusal_by, request_by, session_by, stamp_micros, subst, Untold, View, who_of, whole_of, with_refusal, ℕ, At, Hear, HearingRecord, Hold, IfSome, IncomingRecord, MessageRecord, OpenBroadcast, Running, Who, acknowledged, address_after, age, asked, called, calls_for_claim, claimed_again, clock_at, comes, counted, delayed, double, drop, due, ended, ends_by, got, handed, has_place, heard_at, hearing, hears_it, hold_after, holder, holder_in, holds, incoming_after, is_another, is_double, is_for_program, is_refusal_due, is_replaced, is_smaller, is_unheard, kept, later, made, made_of, made_whole, min, missed, missed_news, nat_eq, news_after, offered, older, open_ask, open_transfer, owes_claim, patience, port_after, reached, received_by, reception, requests, restarts, resting_by, silence, stamped, standing_of, step, still, sym, time_heard, told_claims, unheard_by, unheard_news, wait, waiting, whole, with_request, ◌*◌, ◌+◌, ◌-◌, ◌≡◌}
+use Rattle.std.specs.Option.{is_some}
+use Rattle.j39_node.proofs.PortLemmas.{peers_are, clock_is, is_port, ported, replaced_is}
 use Rattle.j39_node.proofs.KnownLemmas.{fresh_known, refused_known, asked_known, calls_known, refusal_known, request_known, smaller_known, double_known}
-use Rattle.j39_node.proofs.CallLemmas.{passed_is, heard_more, news_heard}
+use Rattle.j39_node.proofs.CallLemmas.{passed_is, news_heard, cast_by, coming_is, heard_standing, holds_is, incoming_heard, kept_rest, lost_is, missed_rest, refusal_rest, request_rest}
 use Rattle.j39_node.proofs.controller.Controller.hear.Goals as goal
 
 pub returns : goal.returns
 returns c = λ w H h.
     let f = c.args.frame.now in
     let t = stamp_micros c.args.now in
-    let p = passed_is w H t c.args.self.now.hold c.passed-self.result h.hold c.passed-self.ensures in
-    heard_more w H c.args.self.now _ t f c.passed-self.result c.is_held-is_held.result c.is_for_program-wanted.result c.is_lost-is_lost.result
-    c.is_driven_away.result c.calls_for_claim-calls.result c.is_another-another.result c.is_replaced-is_replaced.result c.leave-breaks.result c.hear-unheard.result (option_map request_by c.fresh-request.result) h p c.is_held-is_held.ensures c.is_for_program-wanted.ensures
-    c.offer.ensures.unread c.offer.ensures.missed (c.is_driven_away.ensures ∙ smaller_known w.brought c.args.self.now.own (claim_of f)) c.is_lost-is_lost.ensures (c.calls_for_claim-calls.ensures ∙ calls_known w.brought c.args.self.now.own c.is_lost-is_lost.result f) c.is_another-another.ensures
-    (c.hear.ensures.waiting ∙ request_known w.brought c.args.self.now.own _ (option_map request_by c.fresh-request.result) _)
-    (c.hear.ensures.due ∙ (refusal_known w.brought c.args.self.now.own _ _ (option_map request_by c.fresh-request.result) _
-    ∙ ap (λ (b : Bool). with_refusal (who_of w.brought c.args.self.now.own) (nat_lt (length c.args.self.now.desk.waiting.items) 16)
-    (nat_lt (length c.args.self.now.desk.due.items) 16 && not b) (option_map request_by c.fresh-request.result)
-    (map (refusal_by (who_of w.brought c.args.self.now.own)) c.args.self.now.desk.due.items))
-    (refused_known w.brought c.args.self.now.own (map (refusal_by (who_of w.brought c.args.self.now.own)) c.args.self.now.desk.due.items) (option_map request_by c.fresh-request.result))))
+    let p = passed_is w H t c.args.self.now.hold c.passed-self.result (ap (λ (v : View). v.hold) h.shown) c.passed-self.ensures in
+    let e8 = (c.heard-self-2.ensures ∙ ap (λ (n : ℕ). heard c.is_driven_away.result c.calls_for_claim-calls.result c.is_another-another.result n c.passed-self.result) c.delay.ensures) in
+    let s = sound w H h.answered in
+    let wants : c.is_for_program-wanted.result ≡ is_for_program w (holds w H t) f =
+    c.is_for_program-wanted.ensures ∙ (ap (λ (u : View). is_for_program u.who c.is_held-is_held.result f) h.shown ∙ ap (λ (b : Bool). is_for_program w b f) (holds_is w H t c.passed-self.result c.is_held-is_held.result p c.is_held-is_held.ensures)) in
+    let lost_before : c.is_lost-is_lost.result ≡ is_lost (address_after w H) =
+    c.is_lost-is_lost.ensures ∙ (ap lost (ap (λ (k : Hold). k.standing) p) ∙ (lost_is (older (step H t) (address_after w H)) ∙ lost_older (step H t) (address_after w H))) in
+    let asks_for : (option_map request_by c.fresh-request.result) ≡ fresh w (drop (length (handed H)) (requests w H)) (asked w (holds w H t) f) =
     (c.fresh-request.ensures ∙ (fresh_known w.brought c.args.self.now.own (map request_by c.args.self.now.desk.waiting.items) (option_map request_by c.asked-request.result)
     ∙ ap (fresh (who_of w.brought c.args.self.now.own) (map request_by c.args.self.now.desk.waiting.items)) (c.asked-request.ensures ∙ asked_known w.brought c.args.self.now.own c.is_held-is_held.result f)))
-    (λ F k. subst (λ (b : Bool). Knows c.hear-gone.new.holders (if b then F else F ++ f ∷ [])) (c.is_some.ensures ∙ ap is_some (c.double-doubled.ensures ∙ double_known w.brought c.args.self.now.own (claim_of f))) (c.hear-gone.ensures.knows F k))
-    (c.with_missed-self.ensures ∙ ap (λ (u : Untold). (let v : Untold = record { lost = u.lost; another = u.another; doubled = u.doubled; missed = c.leave-breaks.result || u.missed } in v))
-    (c.with_double.ensures ∙ λ i. let u = news_heard c.args.self.now.news _ _ _ _ _ _ _ c.heard-self.ensures c.is_another-another.ensures c.misses-misses.ensures in
-    record { lost = (u i).lost; another = (u i).another; doubled = option_or ((c.double-doubled.ensures ∙ double_known w.brought c.args.self.now.own (claim_of f)) i) (u i).doubled; missed = (u i).missed }))
-    (c.heard-self-2.ensures ∙ ap (λ (n : ℕ). heard c.is_driven_away.result c.calls_for_claim-calls.result c.is_another-another.result n c.passed-self.result) c.delay.ensures) refl refl refl refl refl c.hear-gone.ensures.heard
-    (peers_are (port_of c.args.self.now.transfers).current c.is_replaced-is_replaced.result (option_map name_raw c.peer-before.result) (option_map name_raw c.peer.result)
-    c.args.self.now.holders _ c.peer-before.ensures c.peer.ensures c.is_replaced-is_replaced.ensures)
-    (λ r e. c.hear-2.ensures.current r e
-    ∙ (ap (λ (b : Bool). hears_if b r f (stamp_micros c.clock.result) (port_of c.args.self.now.transfers).current) c.is_lost.ensures
-    ∙ ap (λ (n : ℕ). hears_if (lost c.heard-self-2.result.standing) r f n (port_of c.args.self.now.transfers).current) c.clock.ensures))
-    c.hear-2.ensures.token c.hear-2.ensures.resting
-    c.made-transferred.result
-    (c.made-transferred.ensures ∙ ap (λ (b : Bool). made_by b (incoming_of c.hear-gone.new.self).reception.waits) c.has_place-has_place.ensures)
-    c.made-broadcast.result
-    (c.made-broadcast.ensures ∙ ap (λ (b : Bool). made_by (not b) (whole_of (hearing_of c.hear-unheard.new.self).current)) c.is_waiting-waited.ensures)
-    c.is_coming-is_coming.result c.silence-silence.result
-    (c.is_coming-is_coming.ensures ∙ ap (λ (n : ℕ). is_coming (option_map (λ (x : AskRecord). x.question) (asking_of c.args.self.now.asking))
-    (session_by (incoming_of c.args.self.now.incoming).reception.session (incoming_of c.args.self.now.incoming).named) (in_broadcast n (hearing_of c.args.self.now.hearing).current)) c.clock_at.ensures)
-    c.silence-silence.ensures
-    (c.hear-3.ensures ∙ ap (λ (o : Option (ℕ × ℕ)). option_map (hears_with (who_of w.brought c.args.self.now.own) c.silence-silence.result f o) (asking_of c.args.self.now.asking)) c.or-made.ensures)
-    (not c.is_same-is_left.result) c.is_over-is_over.result (option_map name_raw c.still.result) (option_map name_raw c.speaker.result) (hearing_of c.leave-breaks.new.self)
-    c.hear-gone.result c.hear-gone.ensures.restarted (c.still.ensures _ c.speaker-speaker.ensures) c.speaker.ensures (ap not c.is_same-is_left.ensures) c.is_over-is_over.ensures c.leave-breaks.ensures.breaks c.leave-breaks.ensures.missed c.leave-breaks.ensures.current
-    c.hear-unheard.ensures.unheard c.hear-unheard.ensures.missed c.hear-unheard.ensures.current
+    ∙ (ap (λ (u : View). fresh u.who (map request_by c.args.self.now.desk.waiting.items) (asked u.who c.is_held-is_held.result f)) h.shown
+    ∙ λ i. fresh w ((h.shown i).requests) (asked w (holds_is w H t c.passed-self.result c.is_held-is_held.result p c.is_held-is_held.ensures i) f)) in
+    let room : nat_lt (length c.args.self.now.desk.waiting.items) 16 ≡ nat_lt (length (requests w H) - length (handed H)) 16 =
+    ap (λ (n : ℕ). nat_lt n 16) (length_rest request_by c.args.self.now.desk.waiting.items (length (handed H)) (requests w H) (ap (λ (v : View). v.requests) h.shown)) in
+    let place : nat_lt (length c.args.self.now.desk.due.items) 16 ≡ nat_lt (length (due w H) - length (acknowledged H)) 16 =
+    ap (λ (n : ℕ). nat_lt n 16) (length_rest (refusal_by w) c.args.self.now.desk.due.items (length (acknowledged H)) (due w H) (ap (λ (v : View). v.acknowledgments) h.shown)) in
+    let goes : c.is_driven_away.result ≡ is_smaller w (claim_of f) = (c.is_driven_away.ensures ∙ smaller_known w.brought c.args.self.now.own (claim_of f)) ∙ ap (λ (u : View). is_smaller u.who (claim_of f)) h.shown in
+    let asks : c.calls_for_claim-calls.result ≡ calls_for_claim w (is_lost (address_after w H)) f =
+    (c.calls_for_claim-calls.ensures ∙ calls_known w.brought c.args.self.now.own c.is_lost-is_lost.result f) ∙ (ap (λ (u : View). calls_for_claim u.who c.is_lost-is_lost.result f) h.shown ∙ ap (λ (b : Bool). calls_for_claim w b f) lost_before) in
+    let others : c.is_another-another.result ≡ is_another w (holds w H t) f =
+    c.is_another-another.ensures ∙ (ap (λ (u : View). is_another u.who c.is_held-is_held.result f) h.shown ∙ ap (λ (b : Bool). is_another w b f) (holds_is w H t c.passed-self.result c.is_held-is_held.result p c.is_held-is_held.ensures)) in
+    let knows : Knows c.hear-gone.new.holders (told_claims w (At t (Hear f) ∷ H)) =
+    subst (λ (u : View). Knows c.hear-gone.new.holders (if is_double u.who (claim_of f) then told_claims w H else told_claims w H ++ f ∷ [])) h.shown
+    (subst (λ (b : Bool). Knows c.hear-gone.new.holders (if b then told_claims w H else told_claims w H ++ f ∷ []))
+    (c.is_some.ensures ∙ ap is_some (c.double-doubled.ensures ∙ double_known w.brought c.args.self.now.own (claim_of f))) (c.hear-gone.ensures.knows (told_claims w H) h.holders)) in
+    let r : ℕ → Bool = λ a. is_replaced (holder w H a) (holder w (At t (Hear f) ∷ H) a) in
+    let current : (port_of c.args.self.now.transfers).current ≡ open_transfer w H = ap (λ (v : View). v.port.current) h.shown in
+    let hold_now : c.heard-self-2.result ≡ hold_after w (At t (Hear f) ∷ H) =
+    e8 ∙ ((λ i. heard (goes i) (asks i) (others i) ((h.shown i).who.delay * 600) (p i)) ∙ λ i. record (hold_after w (At t (Hear f) ∷ H)) {
+      standing = heard_standing (is_smaller w (claim_of f)) (step H t) (address_after w H) i;
+      delay =
+          if (calls_for_claim w (is_lost (address_after w H)) f || (is_another w (holds w H t) f && nat_eq (patience w H - step H t) 0))
+          && not ((lost_is _ ∙ lost_older (step H t) (address_after w H)) i && owes_claim w H)
+          then w.delay * 600
+          else delayed w H - step H t;
+    }) in
+    let stands_now : c.heard-self-2.result.standing ≡ standing_of (address_after w (At t (Hear f) ∷ H)) = ap (λ (k : Hold). k.standing) hold_now in
+    let hears_in : incoming_of c.hear-gone.new.self ≡ incoming_after w (At t (Hear f) ∷ H) =
+    incoming_heard w H c.args.self.now t f c.hear-gone.new.holders c.hear-gone.new.self c.is_driven_away.result c.is_held-is_held.result h knows goes (holds_is w H t c.passed-self.result c.is_held-is_held.result p c.is_held-is_held.ensures) c.hear-gone.ensures.heard in
+    let gone_is : c.hear-gone.result ≡ restarts w H t f =
+    c.hear-gone.ensures.restarted ∙ (ap (λ (v : View). claimed_again (holder_in c.args.self.now.holders) (v.incoming.called - (t - v.incoming.moment)) (claim_of f)) h.shown
+    ∙ again_is w c.args.self.now.holders H (called w H - (t - heard_at H)) (claim_of f) h.holders) in
+    let still_on : (y : Option OpenBroadcast) → IfSome y (λ z. (option_map name_raw c.still.result) ≡ still c.hear-gone.result (holder_in c.args.self.now.holders) z.source) → IfSome y (λ z. (option_map name_raw c.still.result) ≡ still (restarts w H t f) (holder_in c.args.self.now.holders) z.source) =
+    λ y. subst (λ (g : Option ℕ). IfSome y (λ z. (option_map name_raw c.still.result) ≡ still g (holder_in c.args.self.now.holders) z.source)) gone_is in
+    let on = heard_on w H t f c.args.self.now.holders c.hear-gone.new.holders (not c.is_same-is_left.result) c.is_over-is_over.result c.leave-breaks.result c.hear-unheard.result (stamp_micros c.hear-gone.new.self.clock) (option_map name_raw c.still.result) (option_map name_raw c.speaker.result) (hearing_of c.args.self.now.hearing) (hearing_of c.leave-breaks.new.self) (hearing_of c.hear-unheard.new.self) (ap (λ (v : View). v.hearing) h.shown)
+    h.holders knows (ap (λ (x : IncomingRecord). x.clock) hears_in) (still_on (hearing_of c.args.self.now.hearing).current (c.still.ensures _ c.speaker-speaker.ensures)) c.speaker.ensures (ap not c.is_same-is_left.ensures) c.is_over-is_over.ensures c.leave-breaks.ensures.breaks c.leave-breaks.ensures.missed c.leave-breaks.ensures.current
+    (c.hear-unheard.ensures.unheard ∙ ap (λ (u : View). is_unheard u.who f (hearing_of c.leave-breaks.new.self).current) h.shown) c.hear-unheard.ensures.missed
+    (λ fits. c.hear-unheard.ensures.current fits ∙ ap (λ (u : View). hears_it u.who (stamp_micros c.hear-gone.new.self.clock) f (hearing_of c.leave-breaks.new.self).current) h.shown) in
+    let whole_is : c.made-transferred.result ≡ made_of (whole w H t f) =
+    (c.made-transferred.ensures ∙ ap (λ (b : Bool). made_by b (incoming_of c.hear-gone.new.self).reception.waits) c.has_place-has_place.ensures) ∙ (ap (λ (v : View). made_by (has_place v.incoming.reception.waits) (incoming_of c.hear-gone.new.self).reception.waits) h.shown
+    ∙ (ap (λ (x : IncomingRecord). made_by (has_place (reception w H).waits) x.reception.waits) hears_in ∙ made_is w H t f)) in
+    let cast_is : c.made-broadcast.result ≡ made_of (option_map (λ (x : ℕ × MessageRecord). x.1) (made_whole w H t f)) =
+    (c.made-broadcast.ensures ∙ ap (λ (b : Bool). made_by (not b) (whole_of (hearing_of c.hear-unheard.new.self).current)) c.is_waiting-waited.ensures) ∙ (ap (λ (v : View). made_by (not (not (has_place (whole_of v.hearing.current)))) (whole_of (hearing_of c.hear-unheard.new.self).current)) h.shown
+    ∙ (ap (λ (x : HearingRecord). made_by (not (not (has_place (waiting w H)))) (whole_of x.current)) on.hearing
+    ∙ cast_by (waiting w H) (waiting w (At t (Hear f) ∷ H)))) in
+    let lost_now = is_lost (address_after w (At t (Hear f) ∷ H)) in
+    let comes_now = comes w H (time_heard (At t (Hear f) ∷ H)) in
+    let silent_is : c.silence-silence.result ≡ silence (wait H - step H t) comes_now lost_now (asking_of c.args.self.now.asking) =
+    c.silence-silence.ensures ∙ λ i. silence (hold_now i).wait
+    (((c.is_coming-is_coming.ensures ∙ ap (λ (n : ℕ). is_coming (option_map (λ (x : AskRecord). x.question) (asking_of c.args.self.now.asking)) (session_by (incoming_of c.args.self.now.incoming).reception.session (incoming_of c.args.self.now.incoming).named) (in_broadcast n (hearing_of c.args.self.now.hearing).current)) c.clock_at.ensures) ∙ coming_is w H c.args.self.now (later (incoming_of c.args.self.now.incoming).clock (t - (incoming_of c.args.self.now.incoming).moment)) (time_heard (At t (Hear f) ∷ H)) h
+    (ap (λ (v : View). later v.incoming.clock (t - v.incoming.moment)) h.shown)) i)
+    ((ap lost stands_now ∙ lost_is (address_after w (At t (Hear f) ∷ H))) i) (asking_of c.args.self.now.asking) in
+    let made_now : option_or c.made-transferred.result c.made-broadcast.result ≡ made w H t f =
+    ap (λ (y : Option (ℕ × ℕ)). option_or y c.made-broadcast.result) whole_is ∙ ap (option_or (made_of (whole w H t f))) cast_is in
+    let asked_now = fresh w (drop (length (handed H)) (requests w H)) (asked w (holds w H t) f) in
+    let unread_now : length c.args.self.now.inbox.unread.items ≡ length (kept w H) - length (got H) = length_rest received_by c.args.self.now.inbox.unread.items (length (got H)) (kept w H) (ap (λ (v : View). v.unread) h.shown) in
+    let port_now : port_of c.hear-2.new.self ≡ port_after w (At t (Hear f) ∷ H) =
+    is_port _ _
+    (c.hear-2.ensures.current r
+    (subst (λ (y : Option Running). IfSome y (λ x. c.is_replaced-is_replaced.result ≡ is_replaced (holder w H x.sender.destination) (holder w (At t (Hear f) ∷ H) x.sender.destination)))
+    (sym current)
+    (replaced_is w H t f c.args.self.now.holders c.hear-gone.new.holders c.is_replaced-is_replaced.result (open_transfer w H) (ported w H h.answered) h.holders knows
+    (subst (λ (y : Option Running). IfSome y (λ x. c.is_replaced-is_replaced.result ≡ is_replaced (holder_in c.args.self.now.holders x.sender.destination) (holder_in c.hear-gone.new.holders x.sender.destination))) current (peers_are (port_of c.args.self.now.transfers).current c.is_replaced-is_replaced.result (option_map name_raw c.peer-before.result) (option_map name_raw c.peer.result) c.args.self.now.holders _ c.peer-before.ensures c.peer.ensures c.is_replaced-is_replaced.ensures))))
+    ∙ ((ap (λ (b : Bool). hears_if b r f (stamp_micros c.clock.result) (port_of c.args.self.now.transfers).current) c.is_lost.ensures ∙ ap (λ (n : ℕ). hears_if (lost c.heard-self-2.result.standing) r f n (port_of c.args.self.now.transfers).current) c.clock.ensures)
+    ∙ (ap (λ (b : Bool). hears_if b r f (min c.heard-self-2.result.age 9999999999999999) (port_of c.args.self.now.transfers).current)
+    (ap lost stands_now ∙ lost_is (address_after w (At t (Hear f) ∷ H)))
+    ∙ (ap (λ (n : ℕ). hears_if (is_lost (address_after w (At t (Hear f) ∷ H))) r f n (port_of c.args.self.now.transfers).current)
+    (ap (λ (n : ℕ). min n 9999999999999999) (ap (λ (k : Hold). k.age) e8 ∙ (ap (λ (k : Hold). k.age) p)) ∙ clock_is (age H + step H t))
+    ∙ ap (hears_if (is_lost (address_after w (At t (Hear f) ∷ H))) r f (clock_at H t)) current))))
+    (c.hear-2.ensures.token ∙ ap (λ (v : View). v.port.next_token) h.shown) (ap resting_by c.hear-2.ensures.resting ∙ ap (λ (v : View). v.port.resting) h.shown) in
+    record {
+      shown = λ i. record (h.shown i) {
+        hold = hold_now i;
+        asking = ((c.hear-3.ensures ∙ ap (λ (o : Option (ℕ × ℕ)). option_map (hears_with (who_of w.brought c.args.self.now.own) c.silence-silence.result f o) (asking_of c.args.self.now.asking)) c.or-made.ensures)
+            ∙ ((λ i. option_map (hears_with (h.shown i).who (silent_is i) f (made_now i)) (asking_of c.args.self.now.asking))
+            ∙ ((λ i. option_map (hears_with w (silence (wait H - step H t) comes_now lost_now ((h.shown i).asking)) f (made w H t f)) (h.shown i).asking)
+            ∙ ask_heard w (open_ask H) (reached H) (wait H - step H t) (ended w H) comes_now lost_now f (made w H t f)))) i;
+        unread = (c.offer.ensures.unread ∙ (ap (λ (b : Bool). offered b (stamped f) (map received_by c.args.self.now.inbox.unread.items)) wants
+            ∙ kept_rest (is_for_program w (holds w H t) f) (kept w H) _ (length (got H)) (stamped f) (read w H s) (ap (λ (v : View). v.unread) h.shown))) i;
+        requests = ((c.hear.ensures.waiting ∙ request_known w.brought c.args.self.now.own _ (option_map request_by c.fresh-request.result) _) ∙ ((λ i. with_request (h.shown i).who (room i) (asks_for i) (map request_by c.args.self.now.desk.waiting.items))
+            ∙ request_rest w (nat_lt (length (requests w H) - length (handed H)) 16) (fresh w (drop (length (handed H)) (requests w H)) (asked w (holds w H t) f)) (requests w H)
+            (map request_by c.args.self.now.desk.waiting.items) (length (handed H)) (front_length (handed H) (requests w H) s.desk.2) (ap (λ (v : View). v.requests) h.shown))) i;
+        acknowledgments = (ap (λ (v : Who). map (refusal_by v) c.hear.new.self.due.items) (sym (ap (λ (v : View). v.who) h.shown))
+            ∙ ((c.hear.ensures.due ∙ (refusal_known w.brought c.args.self.now.own _ _ (option_map request_by c.fresh-request.result) _
+            ∙ ap (λ (b : Bool). with_refusal (who_of w.brought c.args.self.now.own) (nat_lt (length c.args.self.now.desk.waiting.items) 16) (nat_lt (length c.args.self.now.desk.due.items) 16 && not b) (option_map request_by c.fresh-request.result) (map (refusal_by (who_of w.brought c.args.self.now.own)) c.args.self.now.desk.due.items)) (refused_known w.brought c.args.self.now.own (map (refusal_by (who_of w.brought c.args.self.now.own)) c.args.self.now.desk.due.items) (option_map request_by c.fresh-request.result)))) ∙ ((λ i. let v = (h.shown i).who in
+            with_refusal v (room i) (place i && not (is_refusal_due v (map (refusal_by v) c.args.self.now.desk.due.items) (asks_for i))) (asks_for i) (map (refusal_by v) c.args.self.now.desk.due.items))
+            ∙ ((λ i. with_refusal w (nat_lt (length (requests w H) - length (handed H)) 16) (nat_lt (length (due w H) - length (acknowledged H)) 16
+            && not (is_refusal_due w ((h.shown i).acknowledgments) asked_now)) asked_now (map (refusal_by w) c.args.self.now.desk.due.items))
+            ∙ refusal_rest w (nat_lt (length (requests w H) - length (handed H)) 16)
+            (nat_lt (length (due w H) - length (acknowledged H)) 16 && not (is_refusal_due w (drop (length (acknowledged H)) (due w H)) asked_now)) asked_now
+            (due w H) (map (refusal_by w) c.args.self.now.desk.due.items) (length (acknowledged H)) (front_length (acknowledged H) (due w H) s.desk.1) (ap (λ (v : View). v.acknowledgments) h.shown))))) i;
+        news = ((c.with_missed-self.ensures ∙ ap (λ (u : Untold). (let v : Untold = record { lost = u.lost; another = u.another; doubled = u.doubled; missed = c.leave-breaks.result || u.missed } in v)) (c.with_double.ensures
+            ∙ λ i. let u = news_heard c.args.self.now.news _ _ _ _ _ _ _ c.heard-self.ensures c.is_another-another.ensures c.misses-misses.ensures in record {
+              lost = (u i).lost;
+              another = (u i).another;
+              doubled = option_or ((c.double-doubled.ensures
+                  ∙ double_known w.brought c.args.self.now.own (claim_of f)) i) (u i).doubled;
+              missed = (u i).missed;
+            })) ∙ ((λ i. record {
+              lost = (h.shown i).news.lost || (goes i && not (lost_before i));
+              another = (h.shown i).news.another || (sym c.is_another-another.ensures ∙ others) i;
+              doubled = option_or (double (h.shown i).who (claim_of f)) (h.shown i).news.doubled;
+              missed = on.breaks i || ((h.shown i).news.missed || ((wants i && not (nat_lt (unread_now i) 16)) || on.unheard i));
+            }) ∙ λ i. record (news_after w (At t (Hear f) ∷ H)) {
+              missed = either_news (ends_by w H (At t (Hear f))) (missed_news w H) (unheard_news w H)
+                  (is_for_program w (holds w H t) f && not (nat_lt (length (kept w H) - length (got H)) 16)) (unheard_by w H (At t (Hear f))) i;
+            })) i;
+        missed = (c.offer.ensures.missed ∙ (ap (λ (b : Bool). counted b (map received_by c.args.self.now.inbox.unread.items) c.args.self.now.inbox.missed) wants
+            ∙ missed_rest (is_for_program w (holds w H t) f) (kept w H) _ (length (got H)) (missed w H) _ (ap (λ (v : View). v.unread) h.shown) (ap (λ (v : View). v.missed) h.shown))) i;
+        incoming = hears_in i;
+        hearing = on.hearing i;
+        port = port_now i;
+      };
+      answered = (h.answered, tt);
+      holders = knows;
+    }

@@ -1,21 +1,15 @@
-use Rattle.std.proofs.Common.{◌∙◌, ◌+◌, ap, sym, true, false, ℕ, Option, if◌then◌else◌}
-use Rattle.std.specs.Option.{option_map}
-use Rattle.j39_frame.specs.Stamp.{stamp_micros}
-use Rattle.j39_node.specs.declared.hold.Hold.{Hold}
-use Rattle.j39_node.specs.Hold.{left_at}
-use Rattle.j39_node.specs.History.{moment, address_after, delayed, owes_claim, stamp_at}
-use Rattle.j39_node.specs.Transfers.{at_in}
+use Rattle.j39_node.proofs.Common.{if◌then◌else◌, ◌+◌, ◌∙◌, address_after, ap, at_in, delayed, false, left_at, moment, Option, option_map, owes_claim, stamp_at, stamp_micros, sym, true, View, ℕ}
 use Rattle.j39_node.proofs.CallLemmas.{frame_due, held_due, packets_due, held_at_is, due_is}
 use Rattle.j39_node.proofs.controller.Controller.next_due.Goals as goal
 
 pub returns-then-has_frame : goal.returns-then-has_frame
 returns-then-has_frame c = λ w H h.
-    c.at.ensures ∙ (ap (λ (k : Hold). stamp_at k.moment) h.hold
+    c.at.ensures ∙ (ap (λ (v : View). stamp_at v.hold.moment) h.shown
     ∙ due_is w H true _ (sym c.if-has_frame.true ∙ (c.has_frame.ensures ∙ frame_due w H c.args.self.now h)) (held_due w H c.args.self.now _ h Rattle.std.proofs.Common.refl))
 
 pub returns-in_ok-packets_in : goal.returns-in_ok-packets_in
 returns-in_ok-packets_in c = λ w H h.
-    c.later.ensures ∙ (ap (λ (k : Hold). stamp_at (k.moment + c.in_ok-packets_in.field-0)) h.hold
+    c.later.ensures ∙ (ap (λ (v : View). stamp_at (v.hold.moment + c.in_ok-packets_in.field-0)) h.shown
     ∙ (ap (at_in (moment H)) (sym c.in_ok-packets_in.was ∙ (c.packets_in.ensures w ∙ packets_due w H c.args.self.now h))
     ∙ due_is w H false true (sym c.if-has_frame.false ∙ (c.has_frame.ensures ∙ frame_due w H c.args.self.now h))
     (held_due w H c.args.self.now true h (sym c.if-is_held.true ∙ c.is_held.ensures))))
@@ -29,7 +23,7 @@ returns-in_err-packets_in c = λ w H h.
 
 pub returns-else-is_held : goal.returns-else-is_held
 returns-else-is_held c = λ w H h.
-    c.claim_at.ensures ∙ (ap (λ (k : Hold). if k.owes_claim then stamp_at (k.moment + k.delay) else left_at k.standing k.moment) h.hold
+    c.claim_at.ensures ∙ (ap (λ (v : View). if v.hold.owes_claim then stamp_at (v.hold.moment + v.hold.delay) else left_at v.hold.standing v.hold.moment) h.shown
     ∙ (ap (λ (o : Option ℕ). if owes_claim w H then stamp_at (moment H + delayed w H) else o) (held_at_is (address_after w H) (moment H))
     ∙ due_is w H false false (sym c.if-has_frame.false ∙ (c.has_frame.ensures ∙ frame_due w H c.args.self.now h))
     (held_due w H c.args.self.now false h (sym c.if-is_held.false ∙ c.is_held.ensures))))

@@ -1,43 +1,42 @@
-use Rattle.std.proofs.Common.{◌≡◌, ◌∙◌, ap, sym, refl, arith, true, false, Bool}
-use Rattle.j39_frame.specs.Stamp.{stamp_micros}
-use Rattle.j39_frame.specs.Pgn.{pgn_raw}
-use Rattle.j39_node.specs.History.{Who, Draft, can_send, message_from}
-use Rattle.j39_node.proofs.CallLemmas.{passed_is, holds_is, posts, refuses_send, send_is, full_is}
+use Rattle.j39_node.proofs.Common.{◌∙◌, ap, arith, can_send, Draft, false, message_from, pgn_raw, refl, stamp_micros, sym, true, View, Who, length, accepted, not_true, Ok, ◌∷◌, [], ◌++◌, ◌+◌, ◌≡◌}
+use Rattle.j39_node.proofs.CallLemmas.{passed_is, holds_is, full_is, follows, posted_more}
 use Rattle.j39_node.proofs.controller.Controller.send.Goals as goal
-
-not_true : (b : Bool) → (b ≡ true → false ≡ true) → b ≡ false
-not_true true f = absurd (let z : false ≡ true = f refl in cc)
-not_true false f = refl
+use Rattle.j39_node.proofs.AnswerCases.{answer_is}
+use Rattle.j39_node.proofs.QueueLemmas.{length_one_more}
 
 pub push-requires : goal.push-requires
 push-requires c = (omega arith, c.is_full.ensures.room c.if-is_full.false)
 
 pub returns-else-is_full : goal.returns-else-is_full
 returns-else-is_full c = λ w H h.
-    let p = passed_is w H (stamp_micros c.args.now) c.args.self.now.hold c.passed-self.result h.hold c.passed-self.ensures in
+    let p = passed_is w H (stamp_micros c.args.now) c.args.self.now.hold c.passed-self.result (ap (λ (v : View). v.hold) h.shown) c.passed-self.ensures in
     let b = sym (holds_is w H (stamp_micros c.args.now) c.passed-self.result c.is_held.result p c.is_held.ensures) ∙ c.if-not-is_held.false in
     let d : Draft = record { priority = c.args.priority; group = pgn_raw c.args.group; to = c.args.to; bytes = c.args.bytes.now } in
-    posts w H c.args.self.now _ (stamp_micros c.args.now) d c.in-Some.message h p b
-    (ap (λ (v : Who). can_send v d) (sym h.who) ∙ c.in-Some.ensures.known.0 refl)
-    (sym c.is_full.ensures.value ∙ c.if-is_full.false)
-    (c.in-Some.ensures.value ∙ ap (λ (v : Who). (c.args.self.now.next_token, message_from v d)) h.who)
-    c.push.ensures.items (omega arith) refl refl refl refl refl refl refl refl refl refl refl
+    let a = ap (λ (v : View). v.token) h.shown in
+    let m = length_one_more (accepted w H) (c.args.self.now.next_token, message_from w d) in
+    follows h refl
+    (ap Ok a ∙ sym (answer_is (length (accepted w H)) b (ap (λ (v : Who). can_send v d) (sym (ap (λ (v : View). v.who) h.shown)) ∙ c.in-Some.ensures.known.0 refl)
+    (sym (full_is w H c.args.self.now h) ∙ (sym c.is_full.ensures.value ∙ c.if-is_full.false)))) refl
+    (λ i. record (h.shown i) {
+      hold = p i;
+      outgoing = posted_more w H c.args.self.now h c.in-Some.message (message_from w d)
+          (c.in-Some.ensures.value ∙ ap (λ (u : View). (c.args.self.now.next_token, message_from u.who d)) h.shown) c.push.ensures.items i;
+      token = (let z : c.args.self.now.next_token + 1 ≡ length (accepted w H ++ (c.args.self.now.next_token, message_from w d) ∷ []) = omega (arith, a, m) in z) i;
+    })
 
 pub returns-then-is_full : goal.returns-then-is_full
 returns-then-is_full c = λ w H h.
-    let p = passed_is w H (stamp_micros c.args.now) c.args.self.now.hold c.passed-self.result h.hold c.passed-self.ensures in
+    let p = passed_is w H (stamp_micros c.args.now) c.args.self.now.hold c.passed-self.result (ap (λ (v : View). v.hold) h.shown) c.passed-self.ensures in
     let b = sym (holds_is w H (stamp_micros c.args.now) c.passed-self.result c.is_held.result p c.is_held.ensures) ∙ c.if-not-is_held.false in
     let d : Draft = record { priority = c.args.priority; group = pgn_raw c.args.group; to = c.args.to; bytes = c.args.bytes.now } in
-    refuses_send w H c.args.self.now _ (stamp_micros c.args.now) d _ h p
-    (sym (send_is w H (stamp_micros c.args.now) d true true true b
-    (ap (λ (v : Who). can_send v d) (sym h.who) ∙ c.in-Some.ensures.known.0 refl)
-    (sym (full_is w H c.args.self.now h) ∙ (sym c.is_full.ensures.value ∙ c.if-is_full.true)))) refl
+    follows h refl (sym (answer_is (length (accepted w H)) b
+    (ap (λ (v : Who). can_send v d) (sym (ap (λ (v : View). v.who) h.shown)) ∙ c.in-Some.ensures.known.0 refl)
+    (sym (full_is w H c.args.self.now h) ∙ (sym c.is_full.ensures.value ∙ c.if-is_full.true)))) refl (λ i. record (h.shown i) { hold = p i })
 
 pub returns-in-None : goal.returns-in-None
 returns-in-None c = λ w H h.
-    let p = passed_is w H (stamp_micros c.args.now) c.args.self.now.hold c.passed-self.result h.hold c.passed-self.ensures in
+    let p = passed_is w H (stamp_micros c.args.now) c.args.self.now.hold c.passed-self.result (ap (λ (v : View). v.hold) h.shown) c.passed-self.ensures in
     let b = sym (holds_is w H (stamp_micros c.args.now) c.passed-self.result c.is_held.result p c.is_held.ensures) ∙ c.if-not-is_held.false in
     let d : Draft = record { priority = c.args.priority; group = pgn_raw c.args.group; to = c.args.to; bytes = c.args.bytes.now } in
-    refuses_send w H c.args.self.now _ (stamp_micros c.args.now) d _ h p
-    (sym (send_is w H (stamp_micros c.args.now) d true false _ b
-    (ap (λ (v : Who). can_send v d) (sym h.who) ∙ not_true _ c.in-None.ensures.known.1) refl)) refl
+    follows h refl (sym (answer_is (length (accepted w H)) b
+    (ap (λ (v : Who). can_send v d) (sym (ap (λ (v : View). v.who) h.shown)) ∙ not_true _ c.in-None.ensures.known.1) refl)) refl (λ i. record (h.shown i) { hold = p i })

@@ -1,41 +1,38 @@
-use Rattle.std.proofs.Common.{◌≡◌, ◌∙◌, ap, sym, refl, arith, true, false, Bool, Ok}
-use Rattle.j39_frame.specs.Stamp.{stamp_micros}
-use Rattle.j39_frame.specs.Pgn.{pgn_raw}
-use Rattle.j39_node.specs.History.{Who, broadcast_from}
-use Rattle.j39_node.specs.Transfers.{begun, can_transfer}
-use Rattle.j39_node.specs.Is.{PortRecord}
-use Rattle.j39_node.proofs.CallLemmas.{passed_is, holds_is, transfer_begins, transfer_is, engaged_is, refuses_transfer}
+use Rattle.j39_node.proofs.Common.{◌∙◌, ap, arith, begun, broadcast_from, can_transfer, false, Ok, pgn_raw, refl, stamp_micros, sym, true, View, Who, length, all_transfers, not_true, Some, age, Hold, ◌∷◌, [], ◌++◌, ◌+◌, ◌≡◌}
+use Rattle.j39_node.proofs.CallLemmas.{passed_is, holds_is, engaged_is, follows}
 use Rattle.j39_node.proofs.controller.Controller.transfer.Goals as goal
-
-not_true : (b : Bool) → (b ≡ true → false ≡ true) → b ≡ false
-not_true true f = absurd (let z : false ≡ true = f refl in cc)
-not_true false f = refl
+use Rattle.j39_node.proofs.AnswerCases.{answer_is}
+use Rattle.j39_node.proofs.QueueLemmas.{length_one_more}
 
 pub returns-else-refuses : goal.returns-else-refuses
 returns-else-refuses c = λ w H h.
-    let p = passed_is w H (stamp_micros c.args.now) c.args.self.now.hold c.passed-self.result h.hold c.passed-self.ensures in
+    let p = passed_is w H (stamp_micros c.args.now) c.args.self.now.hold c.passed-self.result (ap (λ (v : View). v.hold) h.shown) c.passed-self.ensures in
     let b = sym (holds_is w H (stamp_micros c.args.now) c.passed-self.result c.is_held.result p c.is_held.ensures) ∙ c.if-not-is_held.false in
-    transfer_begins w H c.args.self.now _ (stamp_micros c.args.now) (pgn_raw c.args.group) c.args.to c.args.bytes.now c.in-Some.transfer c.passed-self.result h p
-    (sym (transfer_is w H (stamp_micros c.args.now) (pgn_raw c.args.group) c.args.to c.args.bytes.now true true false b
-    (ap (λ (v : Who). can_transfer v (pgn_raw c.args.group) c.args.to c.args.bytes.now) (sym h.who) ∙ c.in-Some.ensures.known.0 refl)
+    follows h refl
+    (sym (answer_is (length (all_transfers w H)) b
+    (ap (λ (v : Who). can_transfer v (pgn_raw c.args.group) c.args.to c.args.bytes.now) (sym (ap (λ (v : View). v.who) h.shown)) ∙ c.in-Some.ensures.known.0 refl)
     (sym (engaged_is w H c.args.self.now (stamp_micros c.args.now) (pgn_raw c.args.group) c.args.to c.passed-self.result h p) ∙ (sym c.refuses.ensures.value ∙ c.if-refuses.false))
-    ∙ ap Ok (sym (ap (λ (t : PortRecord). t.next_token) h.port))))
-    (c.in-Some.ensures.value ∙ ap (λ (v : Who). begun c.args.self.now.transfers.next_token (broadcast_from v (pgn_raw c.args.group) c.args.bytes.now) c.args.to) h.who)
-    refl c.renewed-self.ensures refl (omega arith) refl
+    ∙ ap Ok (sym (ap (λ (v : View). v.port.next_token) h.shown)))) refl
+    (λ i. record (h.shown i) {
+      hold = (c.renewed-self.ensures ∙ ap (λ (k : Hold). record k { age = 0 }) p) i;
+      port = record (h.shown i).port {
+        current = Some ((c.in-Some.ensures.value ∙ ap (λ (u : View). begun c.args.self.now.transfers.next_token (broadcast_from u.who (pgn_raw c.args.group) c.args.bytes.now) c.args.to) h.shown) i);
+        next_token = (let a = ap (λ (v : View). v.port.next_token) h.shown in let m = length_one_more (all_transfers w H) (c.args.to, broadcast_from w (pgn_raw c.args.group) c.args.bytes.now) in
+            (let z : c.args.self.now.transfers.next_token + 1 ≡ length (all_transfers w H ++ (c.args.to, broadcast_from w (pgn_raw c.args.group) c.args.bytes.now) ∷ []) = omega (arith, a, m) in z)) i;
+      };
+    })
 
 pub returns-then-refuses : goal.returns-then-refuses
 returns-then-refuses c = λ w H h.
-    let p = passed_is w H (stamp_micros c.args.now) c.args.self.now.hold c.passed-self.result h.hold c.passed-self.ensures in
+    let p = passed_is w H (stamp_micros c.args.now) c.args.self.now.hold c.passed-self.result (ap (λ (v : View). v.hold) h.shown) c.passed-self.ensures in
     let b = sym (holds_is w H (stamp_micros c.args.now) c.passed-self.result c.is_held.result p c.is_held.ensures) ∙ c.if-not-is_held.false in
-    refuses_transfer w H c.args.self.now _ (stamp_micros c.args.now) (pgn_raw c.args.group) c.args.to c.args.bytes.now _ h p
-    (sym (transfer_is w H (stamp_micros c.args.now) (pgn_raw c.args.group) c.args.to c.args.bytes.now true true true b
-    (ap (λ (v : Who). can_transfer v (pgn_raw c.args.group) c.args.to c.args.bytes.now) (sym h.who) ∙ c.in-Some.ensures.known.0 refl)
-    (sym (engaged_is w H c.args.self.now (stamp_micros c.args.now) (pgn_raw c.args.group) c.args.to c.passed-self.result h p) ∙ (sym c.refuses.ensures.value ∙ c.if-refuses.true)))) refl
+    follows h refl (sym (answer_is (length (all_transfers w H)) b
+    (ap (λ (v : Who). can_transfer v (pgn_raw c.args.group) c.args.to c.args.bytes.now) (sym (ap (λ (v : View). v.who) h.shown)) ∙ c.in-Some.ensures.known.0 refl)
+    (sym (engaged_is w H c.args.self.now (stamp_micros c.args.now) (pgn_raw c.args.group) c.args.to c.passed-self.result h p) ∙ (sym c.refuses.ensures.value ∙ c.if-refuses.true)))) refl (λ i. record (h.shown i) { hold = p i })
 
 pub returns-in-None : goal.returns-in-None
 returns-in-None c = λ w H h.
-    let p = passed_is w H (stamp_micros c.args.now) c.args.self.now.hold c.passed-self.result h.hold c.passed-self.ensures in
+    let p = passed_is w H (stamp_micros c.args.now) c.args.self.now.hold c.passed-self.result (ap (λ (v : View). v.hold) h.shown) c.passed-self.ensures in
     let b = sym (holds_is w H (stamp_micros c.args.now) c.passed-self.result c.is_held.result p c.is_held.ensures) ∙ c.if-not-is_held.false in
-    refuses_transfer w H c.args.self.now _ (stamp_micros c.args.now) (pgn_raw c.args.group) c.args.to c.args.bytes.now _ h p
-    (sym (transfer_is w H (stamp_micros c.args.now) (pgn_raw c.args.group) c.args.to c.args.bytes.now true false _ b
-    (ap (λ (v : Who). can_transfer v (pgn_raw c.args.group) c.args.to c.args.bytes.now) (sym h.who) ∙ not_true _ c.in-None.ensures.known.1) refl)) refl
+    follows h refl (sym (answer_is (length (all_transfers w H)) b
+    (ap (λ (v : Who). can_transfer v (pgn_raw c.args.group) c.args.to c.args.bytes.now) (sym (ap (λ (v : View). v.who) h.shown)) ∙ not_true _ c.in-None.ensures.known.1) refl)) refl (λ i. record (h.shown i) { hold = p i })

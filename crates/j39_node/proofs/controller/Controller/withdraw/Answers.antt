@@ -1,7 +1,4 @@
-use Rattle.std.proofs.Common.{◌∙◌, ap, sym, refl, map, List}
-use Rattle.j39_node.specs.History.{is_blank, past}
-use Rattle.j39_node.specs.Is.{place_of, posted}
-use Rattle.j39_node.specs.declared.outgoing.Outgoing.{Outgoing}
+use Rattle.j39_node.proofs.Common.{◌∙◌, ap, is_blank, is_lost, List, map, Outgoing, past, place_of, posted, refl, sym}
 use Rattle.j39_node.proofs.CallLemmas.{lost_keeps, none_at_place, withdraws}
 use Rattle.j39_node.proofs.controller.Controller.withdraw.Goals as goal
 

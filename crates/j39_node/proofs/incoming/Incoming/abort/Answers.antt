@@ -1,5 +1,4 @@
-use Rattle.j39_transport.specs.Signals.{Abort, written}
-use Rattle.j39_node.specs.Is.{named_by}
+use Rattle.j39_node.proofs.Common.{Abort, named_by, written}
 use Rattle.j39_node.proofs.IncomingLemmas.{ended_with}
 use Rattle.j39_node.proofs.incoming.Incoming.abort.Goals as goal
 

@@ -1,8 +1,4 @@
-use Rattle.std.proofs.Common.{◌∙◌, ap, sym}
-use Rattle.std.specs.Option.{option_map}
-use Rattle.j39_transport.specs.Cutting.{to_send}
-use Rattle.j39_node.specs.Is.{incoming_of, with_replies}
-use Rattle.j39_node.specs.Reception.{replied}
+use Rattle.j39_node.proofs.Common.{◌∙◌, ap, incoming_of, option_map, replied, sym, to_send, with_replies}
 use Rattle.j39_node.proofs.incoming.Incoming.reply.Goals as goal
 
 pub returns-in-Some : goal.returns-in-Some

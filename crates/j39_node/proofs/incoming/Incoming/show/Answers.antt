@@ -1,7 +1,4 @@
-use Rattle.std.proofs.Common.{◌∙◌, ℕ, Option, ap}
-use Rattle.j39_frame.specs.Frame.{FrameRecord}
-use Rattle.j39_frame.specs.Identifier.{source_of}
-use Rattle.j39_node.specs.Is.{named_by, named_then}
+use Rattle.j39_node.proofs.Common.{◌∙◌, ap, FrameRecord, named_by, named_then, Option, source_of, ℕ}
 use Rattle.j39_node.proofs.IncomingLemmas.{taken_in}
 use Rattle.j39_node.proofs.incoming.Incoming.show.Goals as goal
 

@@ -1,8 +1,5 @@
-use Rattle.std.proofs.Common.{List, map, not, nat_eq, ap, ◌∙◌, rules}
+use Rattle.j39_node.proofs.Common.{◌∙◌, ap, incoming_of, List, map, Message, nat_eq, not, rules, Said, said_by, with_replies}
 use Rattle.arrayvec.proofs.ArrayVecLemmas.{filter-from_retain}
-use Rattle.j39_node.specs.History.{Message}
-use Rattle.j39_node.specs.declared.incoming.Said.{Said}
-use Rattle.j39_node.specs.Is.{said_by, incoming_of, with_replies}
 use Rattle.j39_node.proofs.IncomingLemmas.{without_is}
 use Rattle.j39_node.proofs.incoming.Incoming.silence.Goals as goal
 

@@ -1,4 +1,4 @@
-use Rattle.std.proofs.Common.{◌∙◌, sym}
+use Rattle.j39_node.proofs.Common.{◌∙◌, sym}
 use Rattle.j39_node.proofs.IncomingLemmas.{no_place, strayed, strays_is}
 use Rattle.j39_node.proofs.incoming.Incoming.take_in.Goals as goal
 

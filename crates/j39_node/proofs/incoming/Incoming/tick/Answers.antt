@@ -1,6 +1,5 @@
-use Rattle.std.proofs.Common.{ℕ, Option, ap, sym, subst, ◌∙◌}
-use Rattle.j39_frame.specs.Stamp.{stamp_micros}
-use Rattle.j39_node.specs.Is.{IsNamed, cleared, named_by}
+use Rattle.j39_node.proofs.Common.{◌∙◌, ap, IsNamed, named_by, Option, stamp_micros, subst, sym, ℕ}
+use Rattle.j39_node.specs.Is.{cleared}
 use Rattle.j39_node.proofs.IncomingLemmas.{aborted, no_session, rests_on, ticked_on}
 use Rattle.j39_node.proofs.incoming.Incoming.tick.Goals as goal
 

@@ -1,5 +1,4 @@
-use Rattle.std.proofs.Common.{arith}
-use Rattle.j39_node.specs.Is.{said_by}
+use Rattle.j39_node.proofs.Common.{arith, said_by}
 use Rattle.j39_node.proofs.FrameLemmas.{made}
 use Rattle.j39_node.proofs.incoming.Said.frame.Goals as goal
 

@@ -1,6 +1,4 @@
-use Rattle.std.proofs.Common.{ap, arith}
-use Rattle.std.specs.Option.{option_map}
-use Rattle.j39_node.specs.Is.{opened}
+use Rattle.j39_node.proofs.Common.{ap, arith, opened, option_map}
 use Rattle.j39_node.proofs.FrameLemmas.{ended_done, ended_withdrawn, ended_none}
 use Rattle.j39_node.proofs.lane.Lane.ended.Goals as goal
 

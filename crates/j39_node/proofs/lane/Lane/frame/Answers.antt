@@ -1,8 +1,4 @@
-use Rattle.std.proofs.Common.{ap, arith}
-use Rattle.std.specs.Option.{option_map}
-use Rattle.j39_frame.specs.Stamp.{stamp_micros}
-use Rattle.j39_node.specs.History.{nothing}
-use Rattle.j39_node.specs.Is.{opened, who_of}
+use Rattle.j39_node.proofs.Common.{ap, arith, nothing, opened, option_map, stamp_micros, who_of}
 use Rattle.j39_node.proofs.FrameLemmas.{packet_past}
 use Rattle.j39_node.proofs.lane.Lane.frame.Goals as goal
 

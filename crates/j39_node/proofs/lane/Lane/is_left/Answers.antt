@@ -1,6 +1,4 @@
-use Rattle.std.proofs.Common.{ap}
-use Rattle.std.specs.Option.{option_map}
-use Rattle.j39_node.specs.Is.{opened}
+use Rattle.j39_node.proofs.Common.{ap, opened, option_map}
 use Rattle.j39_node.proofs.FrameLemmas.{left_is}
 use Rattle.j39_node.proofs.lane.Lane.is_left.Goals as goal
 

@@ -1,9 +1,4 @@
-use Rattle.std.proofs.Common.{◌∙◌, ap, refl, arith, List, ℕ}
-use Rattle.j39_frame.specs.Pgn.{pgn_raw}
-use Rattle.j39_frame.specs.Stamp.{stamp_micros}
-use Rattle.j39_transport.specs.Message.{MessageRecord}
-use Rattle.j39_node.specs.History.{nothing}
-use Rattle.j39_node.specs.Is.{opened, who_of}
+use Rattle.j39_node.proofs.Common.{◌∙◌, ap, arith, List, MessageRecord, nothing, opened, pgn_raw, refl, stamp_micros, who_of, ℕ}
 use Rattle.j39_node.proofs.FrameLemmas.{packet_made}
 use Rattle.j39_node.proofs.lane.Open.frame.Goals as goal
 

@@ -1,9 +1,4 @@
-use Rattle.std.proofs.Common.{◌≡◌, Option, subst}
-use Rattle.std.specs.Option.{IsSomeAnd}
-use Rattle.j39_frame.specs.Address.{null_address}
-use Rattle.j39_frame.specs.Identifier.{id_raw}
-use Rattle.j39_frame.specs.declared.identifier.Id.{Id}
-use Rattle.j39_node.specs.History.{carried, claim_with}
+use Rattle.j39_node.proofs.Common.{◌≡◌, carried, claim_with, Id, id_raw, IsSomeAnd, null_address, Option, subst}
 use Rattle.j39_node.proofs.outgoing.Outgoing.blank.Goals as goal
 
 pub returns : goal.returns

@@ -1,6 +1,4 @@
-use Rattle.std.proofs.Common.{◌≡◌, ◌∙◌, ap, sym, refl, ℕ, List, length, arith}
-use Rattle.j39_node.specs.History.{Message, acknowledgment_group, nothing}
-use Rattle.j39_node.specs.Is.{who_of, refusal_by}
+use Rattle.j39_node.proofs.Common.{◌∙◌, ◌≡◌, acknowledgment_group, ap, arith, length, List, Message, nothing, refl, refusal_by, sym, who_of, ℕ}
 use Rattle.j39_node.proofs.FrameLemmas.{made}
 use Rattle.j39_node.proofs.own.Own.acknowledgment.Goals as goal
 

@@ -1,5 +1,4 @@
-use Rattle.std.proofs.Common.{◌∙◌, ap, ℕ, List, length, arith}
-use Rattle.j39_node.specs.History.{Message, claim_with}
+use Rattle.j39_node.proofs.Common.{◌∙◌, ap, arith, claim_with, length, List, Message, ℕ}
 use Rattle.j39_node.proofs.FrameLemmas.{made}
 use Rattle.j39_node.proofs.own.Own.claim.Goals as goal
 

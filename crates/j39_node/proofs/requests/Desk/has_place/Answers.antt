@@ -1,4 +1,4 @@
-use Rattle.std.proofs.Common.{◌∙◌, sym}
+use Rattle.j39_node.proofs.Common.{◌∙◌, sym}
 use Rattle.j39_node.proofs.KnownLemmas.{has_room, with_room}
 use Rattle.j39_node.proofs.requests.Desk.has_place.Goals as goal
 

@@ -1,9 +1,4 @@
-use Rattle.std.proofs.Common.{◌∙◌, ◌∷◌, [], ◌++◌, Option, Some, ◌&&◌, length, map, nat_lt, not, ap, sym, eq-eqb, inl, inr}
-use Rattle.std.specs.Option.{option_map}
-use Rattle.j39_node.specs.declared.kinds.Answer.{Answer}
-use Rattle.j39_node.specs.declared.requests.Request.{Request}
-use Rattle.j39_node.specs.History.{Message, acknowledgment, is_refusal_due, nothing, with_refusal}
-use Rattle.j39_node.specs.Is.{refusal_by, request_by, who_of}
+use Rattle.j39_node.proofs.Common.{[], ◌&&◌, ◌++◌, ◌∙◌, ◌∷◌, acknowledgment, Answer, ap, eq-eqb, inl, inr, is_refusal_due, length, map, Message, nat_lt, not, nothing, Option, option_map, refusal_by, Request, request_by, Some, sym, who_of, with_refusal}
 use Rattle.j39_node.proofs.KnownLemmas.{no_room, not_refused, place_by, refused, served_not}
 use Rattle.j39_node.proofs.QueueLemmas.{map_append}
 use Rattle.j39_node.proofs.requests.Desk.hear.Goals as goal

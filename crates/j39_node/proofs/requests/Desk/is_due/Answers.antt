@@ -1,7 +1,4 @@
-use Rattle.std.proofs.Common.{◌∙◌, sym}
-use Rattle.std.specs.Str.{bytes_eq}
-use Rattle.j39_node.specs.History.{Message, acknowledgment, nothing}
-use Rattle.j39_node.specs.Is.{refusal_by, request_by, who_of}
+use Rattle.j39_node.proofs.Common.{◌∙◌, acknowledgment, bytes_eq, Message, nothing, refusal_by, request_by, sym, who_of}
 use Rattle.j39_node.proofs.QueueLemmas.{any_found, any_more, any_none}
 use Rattle.j39_node.proofs.requests.Desk.is_due.Goals as goal
 

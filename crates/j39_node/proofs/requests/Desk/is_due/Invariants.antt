@@ -1,9 +1,4 @@
-use Rattle.std.proofs.Common.{◌≡◌, false, take}
-use Rattle.std.specs.List.{list_any}
-use Rattle.std.specs.Str.{bytes_eq}
-use Rattle.j39_node.specs.declared.own.Own.{Own}
-use Rattle.j39_node.specs.History.{acknowledgment, nothing}
-use Rattle.j39_node.specs.Is.{refusal_by, request_by, who_of}
+use Rattle.j39_node.proofs.Common.{◌≡◌, acknowledgment, bytes_eq, false, list_any, nothing, Own, refusal_by, request_by, take, who_of}
 use Rattle.j39_node.proofs.requests.Desk.is_due.Given as goal
 
 -- none of those so far is this one

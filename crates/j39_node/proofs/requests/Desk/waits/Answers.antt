@@ -1,6 +1,4 @@
-use Rattle.std.proofs.Common.{◌∙◌, sym}
-use Rattle.j39_node.specs.History.{repeats}
-use Rattle.j39_node.specs.Is.{request_by}
+use Rattle.j39_node.proofs.Common.{◌∙◌, repeats, request_by, sym}
 use Rattle.j39_node.proofs.QueueLemmas.{any_found, any_none}
 use Rattle.j39_node.proofs.requests.Desk.waits.Goals as goal
 

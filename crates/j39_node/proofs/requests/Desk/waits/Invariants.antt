@@ -1,7 +1,4 @@
-use Rattle.std.proofs.Common.{◌≡◌, false, take}
-use Rattle.std.specs.List.{list_any}
-use Rattle.j39_node.specs.History.{repeats}
-use Rattle.j39_node.specs.Is.{request_by}
+use Rattle.j39_node.proofs.Common.{◌≡◌, false, list_any, repeats, request_by, take}
 use Rattle.j39_node.proofs.requests.Desk.waits.Given as goal
 
 -- none of those so far is such a one

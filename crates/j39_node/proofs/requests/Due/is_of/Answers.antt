@@ -1,5 +1,4 @@
-use Rattle.std.proofs.Common.{◌∙◌}
-use Rattle.std.specs.Str.{bytes_eq}
+use Rattle.j39_node.proofs.Common.{◌∙◌, bytes_eq}
 use Rattle.j39_node.proofs.requests.Due.is_of.Goals as goal
 
 pub returns : goal.returns

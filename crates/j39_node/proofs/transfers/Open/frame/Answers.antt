@@ -1,8 +1,4 @@
-use Rattle.std.proofs.Common.{arith}
-use Rattle.j39_frame.specs.Identifier.{id_raw}
-use Rattle.j39_frame.specs.Stamp.{stamp_micros}
-use Rattle.j39_node.specs.Transfers.{signal_by}
-use Rattle.j39_node.specs.Is.{running}
+use Rattle.j39_node.proofs.Common.{arith, id_raw, running, signal_by, stamp_micros}
 use Rattle.j39_node.proofs.SaidLemmas.{said_made}
 use Rattle.j39_node.proofs.transfers.Open.frame.Goals as goal
 

@@ -1,0 +1,74 @@
+-- What a call answers that accepts something: by whether the address is held, whether it may be sent, and whether there is no room.
+use Rattle.j39_node.proofs.Common.{if◌then◌else◌, ◌&&◌, ◌||◌, ◌↔◌, ◌≡◌, ◌∷◌, List, Call, Draft, BadValue, Bool, Err, false, Full, IsTrue, NoAddress, not, Ok, refl, Refused, Result, true, Who, ℕ, answer_to_send, answer_to_ask, answer_to_broadcast, is_engaged, answer_to_transfer, can_ask, holds, open_transfer, can_send, is_full, can_broadcast, length, can_transfer, request_for, accepted, is_asking, is_busy, all_transfers, is_sendable, nat_eq, nat_lt, open_ask, broadcasts, is_resting}
+
+abbrev pub answer_by : {T : Type 0} → Bool → Bool → Bool → T → Result T Refused
+answer_by a b f x = if a then (if b then (if f then Err Full else Ok x) else Err BadValue) else Err NoAddress
+
+pub answer_is : {T : Type 0} (x : T) {a b f l m n : Bool} → a ≡ l → b ≡ m → f ≡ n → answer_by a b f x ≡ answer_by l m n x
+answer_is x p q r = λ i. answer_by (p i) (q i) (r i) x
+
+-- it was accepted
+abbrev pub Accepts : {T : Type 0} → Bool → Bool → Bool → T → T → Type 0
+Accepts a b f x k = (a ≡ true) × (b ≡ true) × (f ≡ false) × (k ≡ x)
+
+pub accepts : {T : Type 0} (a b f : Bool) (x k : T) → Ok k ≡ answer_by a b f x → Accepts a b f x k
+accepts true true false x k e = (refl, refl, refl, (let z : k ≡ x = cc in z))
+accepts true true true x k e = absurd (cc)
+accepts true false f x k e = absurd (cc)
+accepts false b f x k e = absurd (cc)
+
+pub send_accepts : (w : Who) (H : List Call) (now k : ℕ) (d : Draft) → Ok k ≡ answer_to_send w H now d → Accepts (holds w H now) (can_send w d) (is_full w H) (length (accepted w H)) k
+send_accepts w H now k d e = accepts (holds w H now) (can_send w d) (is_full w H) (length (accepted w H)) k e
+
+pub ask_accepts : (w : Who) (H : List Call) (now group to k : ℕ) → Ok k ≡ answer_to_ask w H now group to
+    → Accepts (holds w H now) (can_ask w group to) (is_full w H || is_asking (open_ask H)) (length (accepted w H)) k
+ask_accepts w H now group to k e = accepts (holds w H now) (can_ask w group to) (is_full w H || is_asking (open_ask H)) (length (accepted w H)) k e
+
+pub broadcast_accepts : (w : Who) (H : List Call) (now group k : ℕ) (bytes : List ℕ) → Ok k ≡ answer_to_broadcast w H now group bytes
+    → Accepts (holds w H now) (can_broadcast group bytes) (is_busy w H) (length (broadcasts w H)) k
+broadcast_accepts w H now group k bytes e = accepts (holds w H now) (can_broadcast group bytes) (is_busy w H) (length (broadcasts w H)) k e
+
+-- another transfer is open, there is no token, or it rests
+abbrev pub waits_for : Who → List Call → ℕ → ℕ → ℕ → Bool
+waits_for w H now group to = is_engaged (open_transfer w H) (length (all_transfers w H)) || is_resting w H now group to
+
+pub transfer_accepts : (w : Who) (H : List Call) (now group to k : ℕ) (bytes : List ℕ) → Ok k ≡ answer_to_transfer w H now group to bytes
+    → Accepts (holds w H now) (can_transfer w group to bytes) (waits_for w H now group to) (length (all_transfers w H)) k
+transfer_accepts w H now group to k bytes e = accepts (holds w H now) (can_transfer w group to bytes) (waits_for w H now group to) (length (all_transfers w H)) k e
+
+-- it is, where nothing stands against it
+pub is_accepted : {T : Type 0} (a b f : Bool) (x : T) (answer : Result T Refused) → answer ≡ answer_by a b f x → IsTrue a → IsTrue b → (f ≡ true → ⊥) → answer ≡ Ok x
+is_accepted true true false x answer e p q r = e
+is_accepted true true true x answer e p q r = absurd (r refl)
+is_accepted true false f x answer e p q r = absurd (let z : false ≡ true = q in cc)
+is_accepted false b f x answer e p q r = absurd (let z : false ≡ true = p in cc)
+
+pub refused_address : {T : Type 0} (a b f : Bool) (x : T) (answer : Result T Refused) → answer ≡ answer_by a b f x → (answer ≡ Err NoAddress ↔ (IsTrue a → ⊥))
+refused_address true true true x answer e = (λ z. absurd (cc), λ z. absurd (z refl))
+refused_address true true false x answer e = (λ z. absurd (cc), λ z. absurd (z refl))
+refused_address true false f x answer e = (λ z. absurd (cc), λ z. absurd (z refl))
+refused_address false b f x answer e = (λ z y. absurd (let u : false ≡ true = y in cc), λ z. e)
+
+pub refused_value : {T : Type 0} (a b f : Bool) (x : T) (answer : Result T Refused) → answer ≡ answer_by a b f x
+    → (answer ≡ Err BadValue ↔ (IsTrue a × (IsTrue b → ⊥)))
+refused_value true true true x answer e = (λ z. absurd (cc), λ z. absurd (z.1 refl))
+refused_value true true false x answer e = (λ z. absurd (cc), λ z. absurd (z.1 refl))
+refused_value true false f x answer e = (λ z. (refl, λ y. absurd (let u : false ≡ true = y in cc)), λ z. e)
+refused_value false b f x answer e = (λ z. absurd (cc), λ z. absurd (let u : false ≡ true = z.0 in cc))
+
+-- there is no room where this is so
+pub refused_full : {T : Type 0} {P : Type 0} (a b f : Bool) (x : T) (answer : Result T Refused) → answer ≡ answer_by a b f x → (f ≡ true → P) → (f ≡ false → P → ⊥)
+    → (answer ≡ Err Full ↔ (IsTrue a × IsTrue b × P))
+refused_full true true true x answer e to from = (λ z. (refl, refl, to refl), λ z. e)
+refused_full true true false x answer e to from = (λ z. absurd (cc), λ z. absurd (from refl z.2))
+refused_full true false f x answer e to from = (λ z. absurd (cc), λ z. absurd (let u : false ≡ true = z.1 in cc))
+refused_full false b f x answer e to from = (λ z. absurd (cc), λ z. absurd (let u : false ≡ true = z.0 in cc))
+
+-- a request is a message that may be sent
+pub sendable : (w : Who) (group to : ℕ) → can_ask w group to ≡ true → can_send w (request_for group to) ≡ true
+sendable w group to e = go (is_sendable group || nat_eq group 60928) (nat_eq to 255 || (nat_lt to 254 && not (nat_eq to w.address))) e
+  where
+    go : (a b : Bool) → (a && b) ≡ true → (b && true) ≡ true
+    go true true f = refl
+    go true false f = absurd (cc)
+    go false b f = absurd (cc)

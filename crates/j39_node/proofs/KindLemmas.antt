@@ -1,0 +1,89 @@
+-- What kind a frame is that is taken.
+use Rattle.j39_node.proofs.SoundLemmas.FrameCase.{claims, acknowledges, replies, sends, packs, transfers}
+use Rattle.j39_node.proofs.Common.{◌≡◌, ◌∷◌, ◌-◌, ◌&&◌, ◌||◌, ap, Bool, eqb-true, false, length, List, nat_eq, Some, true, ℕ, FrameRecord, pgn_of, address_claimed_group, acknowledged, acknowledgment_group, Call, due, is_acknowledgment, is_claim, is_packet, is_session, Message, open_broadcast, packets, pause, step, Who, AreAnswered, is_move, is_reply, reception, Move}
+use Rattle.j39_node.proofs.SoundLemmas.{FrameCase, is_moved, reply_no_move, no_move, is_directed, no_packet, no_transfer, packet_session, claim_single, claim_taken, due_taken, due_get, reply_taken, message_taken, plain_taken, single_taken, own_of, packet_taken, transfer_taken, apart_is, reply_is, turned, sound}
+use Rattle.j39_node.proofs.ReceptionLemmas.{no_reply, replied_get, tidy}
+
+-- a claim, an acknowledgment, one of a session, of a broadcast, the first reply, one of the open transfer
+pub record Kind : Type 0 where
+  pub claim : Bool
+  pub acknowledgment : Bool
+  pub session : Bool
+  pub packet : Bool
+  pub reply : Bool
+  pub move : Bool
+
+abbrev pub kind : Who → List Call → FrameRecord → Kind
+kind w H f = record {
+  claim = is_claim f;
+  acknowledgment = is_acknowledgment f;
+  session = is_session f;
+  packet = is_packet f;
+  reply = is_reply (reception w H).replies f;
+  move = is_move w H f;
+}
+
+abbrev pub single : Bool → Bool → Kind
+single c a = record { claim = c; acknowledgment = a; session = false; packet = false; reply = false; move = false }
+
+abbrev pub of_session : Bool → Bool → Bool → Kind
+of_session p r m = record { claim = false; acknowledgment = false; session = true; packet = p; reply = r; move = m }
+
+kind_single : (w : Who) (H : List Call) (f : FrameRecord) (c a : Bool) → is_claim f ≡ c → is_acknowledgment f ≡ a → is_session f ≡ false → kind w H f ≡ single c a
+kind_single w H f c a e g k =
+    let t = no_transfer f k in
+    λ i. record { claim = e i; acknowledgment = g i; session = k i; packet = no_packet f k i; reply = no_reply (reception w H).replies f t i; move = no_move w H f t i }
+
+-- by what was next
+abbrev pub kind_by : {w : Who} {H : List Call} {now : ℕ} {f : FrameRecord} → FrameCase w H now f → Kind
+kind_by (claims o e) = single true false
+kind_by (acknowledges m o h g e way) = single false true
+kind_by (replies m o h n g e) = of_session false true false
+kind_by (sends x o h n g e) = single false false
+kind_by (packs m o h n g e) = of_session true false false
+kind_by (transfers m o h n g e) = of_session false false true
+
+pub kind_is : (w : Who) (H : List Call) (now : ℕ) (f : FrameRecord) → AreAnswered w H → (c : FrameCase w H now f) → kind w H f ≡ kind_by c
+kind_is w H now f right (claims o e) =
+    let i = claim_taken f now w _ e in
+    kind_single w H f true false i (ap (λ (g : ℕ). nat_eq g acknowledgment_group) (eqb-true (pgn_of f.id) address_claimed_group i)) (claim_single f i)
+kind_is w H now f right (acknowledges m o h g e way) =
+    let r = due_taken w f now m e (due_get w (due w H) (length (acknowledged H)) m (sound w H right).desk.0 g) in kind_single w H f false true r.0 r.1 r.2
+kind_is w H now f right (replies m o h n g e) =
+    let r = reply_taken w.address f now m e (replied_get w.address (reception w H).replies 0 m (tidy w H).replies g) in
+    let that = ap (λ (y : ℕ × Message). y.1) e in
+    λ i. record { claim = r.0 i; acknowledgment = r.1 i; session = r.2 i; packet = r.3 i; reply = is_directed f r.2 r.3 i && reply_is w H f m g that i; move = reply_no_move w H f m g that i }
+kind_is w H now f right (sends x o h n g e) =
+    let own = own_of w H x right g in
+    kind_single w H f false false (message_taken w f now x e own) (plain_taken w f now x e own) (single_taken w f now x e own)
+kind_is w H now f right (packs m o h n g e) =
+    let r = packet_taken f now m (open_broadcast w H) (length (packets H)) (pause H - step H now) e g in
+    let t = packet_session f r.2 in
+    λ i. record { claim = r.0 i; acknowledgment = r.1 i; session = t.0 i; packet = r.2 i; reply = no_reply (reception w H).replies f t.1 i; move = no_move w H f t.1 i }
+kind_is w H now f right (transfers m o h n g e) =
+    let r = transfer_taken w H now f m right e g in
+    let apart = apart_is w H now f m g (ap (λ (y : ℕ × Message). y.1) e) (turned w H now (Some Move) n.1).1 in
+    λ i. record { claim = r.claim i; acknowledgment = r.plain i; session = r.session i; packet = r.packet i; reply = r.transfer i && apart i; move = is_moved w H f r.transfer apart i }
+
+module _ (w : Who) (H : List Call) (now : ℕ) (f : FrameRecord) (right : AreAnswered w H) (c : FrameCase w H now f) where
+  pub claims_it : is_claim f ≡ (kind_by c).claim
+  claims_it = ap (λ (k : Kind). k.claim) (kind_is w H now f right c)
+
+  pub acknowledges_it : is_acknowledgment f ≡ (kind_by c).acknowledgment
+  acknowledges_it = ap (λ (k : Kind). k.acknowledgment) (kind_is w H now f right c)
+
+  -- a claim or an acknowledgment
+  pub steers_it : (is_claim f || is_acknowledgment f) ≡ ((kind_by c).claim || (kind_by c).acknowledgment)
+  steers_it = ap (λ (k : Kind). k.claim || k.acknowledgment) (kind_is w H now f right c)
+
+  pub of_session_it : is_session f ≡ (kind_by c).session
+  of_session_it = ap (λ (k : Kind). k.session) (kind_is w H now f right c)
+
+  pub packs_it : is_packet f ≡ (kind_by c).packet
+  packs_it = ap (λ (k : Kind). k.packet) (kind_is w H now f right c)
+
+  pub replies_it : is_reply (reception w H).replies f ≡ (kind_by c).reply
+  replies_it = ap (λ (k : Kind). k.reply) (kind_is w H now f right c)
+
+  pub moves_it : is_move w H f ≡ (kind_by c).move
+  moves_it = ap (λ (k : Kind). k.move) (kind_is w H now f right c)
