@@ -1,6 +1,5 @@
 -- Each option in turn is right, or it is the first that is wrong.
-use Rattle.std.proofs.Common.{drop, take}
-use Rattle.clap.specs.Words.{found_of}
+use Rattle.j39_cli.proofs.Common.{drop, take, found_of}
 use Rattle.j39_cli.specs.Answer.{IsRead}
 use Rattle.j39_cli.specs.Asked.{IsAsked, asked_checks, asked_found}
 use Rattle.j39_cli.proofs.CheckLemmas.{passed, stopped}

@@ -1,6 +1,5 @@
 -- The bus is checked, then the conversions, what is asked for and what is told; FILE is kept last.
-use Rattle.std.proofs.Common.{◌∙◌, codes, drop, inl, rules, take}
-use Rattle.clap.specs.Words.{found_of}
+use Rattle.j39_cli.proofs.Common.{◌∙◌, codes, drop, inl, rules, take, found_of}
 use Rattle.j39_cli.specs.Answer.{OrMemory}
 use Rattle.j39_cli.specs.CommandWords.{command_found, form_of}
 use Rattle.j39_cli.proofs.CheckLemmas.{passed, stopped}

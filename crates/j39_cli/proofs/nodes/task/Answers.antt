@@ -1,7 +1,5 @@
 -- The bus is checked, then the senders, then how it is written; FILE is kept last.
-use Rattle.std.proofs.Common.{◌∙◌, ap, codes, drop, inl, rules, sym, take}
-use Rattle.std.specs.Prelude.{Some, option_map}
-use Rattle.clap.specs.Words.{first_value, found_of}
+use Rattle.j39_cli.proofs.Common.{◌∙◌, ap, codes, drop, inl, rules, sym, take, Some, option_map, first_value, found_of}
 use Rattle.j39_cli.specs.Answer.{OrMemory}
 use Rattle.j39_cli.specs.CommandWords.{command_found, form_of}
 use Rattle.j39_cli.specs.NodesCommand.{told_by}
