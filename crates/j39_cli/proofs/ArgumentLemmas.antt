@@ -2,11 +2,7 @@
 --
 -- What comes of every choice is computed at once: of a command it is one equation, and that of the choice at hand is a part
 -- of it.
-use Rattle.std.proofs.Common.{◌≡◌, ◌∙◌, ◌++◌, ◌∷◌, [], ℕ, Bool, true, false, List, Option, Some, None, ap, ap₂, append-nil, append_assoc, codes, map, refl, subst, sym, if◌then◌else◌}
-use Rattle.std.specs.Prelude.{option_map}
-use Rattle.std.proofs.lemmas.List.{map-append}
-use Rattle.clap.specs.Words.{App, Row, Rule, Shape, Text, built, first_of}
-use Rattle.clap.specs.Walk.{Waiting, Walk, arg_by_index, finished, nothing_held, positional, walk_from}
+use Rattle.j39_cli.proofs.Common.{◌≡◌, ◌∙◌, ◌++◌, ◌∷◌, [], ℕ, Bool, true, false, List, Option, Some, None, ap, ap₂, append-nil, append_assoc, codes, map, refl, subst, sym, if◌then◌else◌, option_map, map-append, App, Row, Rule, Shape, Text, built, first_of, Waiting, Walk, arg_by_index, finished, nothing_held, positional, walk_from}
 use Rattle.j39_cli.specs.Command.{line_app}
 use Rattle.j39_cli.specs.CommandWords.{CommandWords, HasValues, form_of}
 use Rattle.j39_cli.specs.Form.{AreValues, ArgumentText, HasText, HasValue, HaveTexts, HaveValues, argument_words, flag, option, spelled, texts_of, value, values, words_in}

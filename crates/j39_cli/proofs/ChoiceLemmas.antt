@@ -2,21 +2,11 @@
 --
 -- Each that is given adds its row behind those of the arguments before it, whichever they are. So nothing is computed for a
 -- choice of arguments: of each argument it is computed which rule its name finds.
-use Rattle.std.proofs.Common.{true≢false, ◌≡◌, ◌∙◌, ◌++◌, ◌∷◌, ◌&&◌, ◌||◌, [], Bool, true, false, not, List, Option, Some, None, ap, ap₂, append-nil, append_assoc, codes, find, fold, map, refl, sym, subst, if◌then◌else◌}
-use Rattle.std.specs.Option.{option_or}
-use Rattle.std.specs.Prelude.{option_and_then, option_map, slice_get, unwrap_or}
-use Rattle.std.specs.List.{list_all}
-use Rattle.std.specs.Str.{bytes_eq}
-use Rattle.std.proofs.lemmas.List.{map-append}
+use Rattle.j39_cli.proofs.Common.{true≢false, ◌≡◌, ◌∙◌, ◌++◌, ◌∷◌, ◌&&◌, ◌||◌, [], Bool, true, false, not, List, Option, Some, None, ap, ap₂, append-nil, append_assoc, codes, find, fold, map, refl, sym, subst, if◌then◌else◌, option_or, option_and_then, option_map, slice_get, unwrap_or, list_all, bytes_eq, and-false, and_parts, map-append, filled, App, Row, Rule, Shape, Text, Held, Walk, arg_by_index, finished, is_pending, settled, nothing_held, arg_by_id, arg_by_long, at_row, default_rows, has_row, more_values, reading_by, settled_rows, used, walk_from, with_default, with_values, without, default_passes, is_valid, settle_passes, Reading, CommandLine, DefaultValue}
 use Rattle.std.proofs.lemmas.List.Folds.{find-append, list_any-append}
 use Rattle.std.proofs.lemmas.Slice.Eq.{bytes_eq-Decides}
 use Rattle.clap.specs.Lexer.{long_of}
-use Rattle.clap.specs.Simple.{filled}
-use Rattle.clap.specs.Words.{App, Row, Rule, Shape, Text}
-use Rattle.clap.specs.Walk.{Held, Walk, arg_by_index, finished, is_pending, settled, nothing_held, arg_by_id, arg_by_long, at_row, default_rows, has_row, more_values, reading_by, settled_rows, used, walk_from, walked, with_default, with_values, without}
-use Rattle.clap.specs.Takes.{default_passes, is_valid, settle_passes}
-use Rattle.clap.specs.declared.builder.value_parser.Reading.{Reading}
-use Rattle.clap.specs.declared.parser.matches.ValueSource.TheVariants.{CommandLine, DefaultValue}
+use Rattle.clap.specs.Walk.{walked}
 use Rattle.j39_cli.specs.CommandWords.{CommandWords}
 use Rattle.j39_cli.specs.Form.{ArgumentText, flag, option, spelled, texts_of, value, values}
 use Rattle.j39_cli.specs.Rules.{flag_rule, option_rule}
@@ -220,11 +210,6 @@ are_new_nowhere : (xs : List ArgumentText) → AreNew xs []
 are_new_nowhere [] = tt
 are_new_nowhere (x ∷ xs) = (refl, are_new_nowhere xs)
 
-both : (a b : Bool) → (a && b) ≡ true → (a ≡ true) × (b ≡ true)
-both true true e = (refl, refl)
-both true false e = absurd (true≢false (sym e))
-both false b e = absurd (true≢false (sym e))
-
 neither : (a b : Bool) → (not a && not b) ≡ true → (a ≡ false) × (b ≡ false)
 neither false false e = (refl, refl)
 neither false true e = absurd (true≢false (sym e))
@@ -242,7 +227,7 @@ row_apart (values name texts) id other = refl
 still_new : (x : ArgumentText) (xs : List ArgumentText) (rows : List Row) → list_all (are_two x) xs ≡ true → AreNew xs rows → AreNew xs (rows ++ rows_for x)
 still_new x [] rows apart new = tt
 still_new x (y ∷ xs) rows apart new =
-    let parts = both (are_two x y) (list_all (are_two x) xs) apart in
+    let parts = and_parts (are_two x y) (list_all (are_two x) xs) apart in
     let here = neither (bytes_eq (name_of x) (name_of y)) (bytes_eq (name_of y) (name_of x)) parts.0 in
     (has_row-append (name_of y) rows (rows_for x) new.0 (row_apart x (name_of y) here.0), still_new x xs rows parts.1 new.1)
 
@@ -280,7 +265,7 @@ goes_all s [] choices known apart h rows settles new = stays s h rows settles []
 goes_all s (x ∷ xs) choices known apart h rows settles new =
     let c = first_choice x xs choices in
     let k = first_known s.rules x xs known in
-    let a = both (list_all (are_two x) xs) (are_apart xs) apart in
+    let a = and_parts (list_all (are_two x) xs) (are_apart xs) apart in
     let first = goes_one s h rows settles x c.0 k.0 new.0 in
     let next = goes_all s xs c.1 k.1 a.1 first.held (rows ++ rows_for x) first.settles (still_new x xs rows a.0 new.1) in
     subst (Goes s h (parts_of x ++ parts_in xs)) (append_assoc rows (rows_for x) (rows_in xs))
@@ -372,7 +357,7 @@ own_found (values name texts) = refl
 new_in : (x : ArgumentText) (xs : List ArgumentText) → list_all (are_two x) xs ≡ true → has_row (name_of x) (rows_in xs) ≡ false
 new_in x [] apart = refl
 new_in x (y ∷ xs) apart =
-    let parts = both (are_two x y) (list_all (are_two x) xs) apart in
+    let parts = and_parts (are_two x y) (list_all (are_two x) xs) apart in
     let here = neither (bytes_eq (name_of x) (name_of y)) (bytes_eq (name_of y) (name_of x)) parts.0 in
     has_row-append (name_of x) (rows_for y) (rows_in xs) (row_apart y (name_of x) here.1) (new_in x xs parts.1)
 
@@ -386,7 +371,7 @@ each_found : (xs : List ArgumentText) (before after : List Row) → are_apart xs
     → map (λ x. find_row (name_of x) ((before ++ rows_in xs) ++ after)) xs ≡ map own_row xs
 each_found [] before after apart new behind = refl
 each_found (x ∷ xs) before after apart new behind =
-    let a = both (list_all (are_two x) xs) (are_apart xs) apart in
+    let a = and_parts (list_all (are_two x) xs) (are_apart xs) apart in
     let n = name_of x in
     let here : find_row n ((before ++ (rows_for x ++ rows_in xs)) ++ after) ≡ own_row x =
     find_row-append n (before ++ (rows_for x ++ rows_in xs)) after
@@ -419,10 +404,6 @@ all_met (x ∷ xs) choices rules rows found defaults =
 
 -- ---- a command of options and flags, and of as many values behind them as there are
 
-and_false : (b : Bool) → (b && false) ≡ false
-and_false true = refl
-and_false false = refl
-
 -- the names of its options and flags find their rules, and a default each flag; no two names are the same, nor is that of the values
 pub record HasChoices (s : Shape) (rule : Rule) (xs : List ArgumentText) : Type 0 where
   pub choices : AreChoices xs
@@ -448,7 +429,7 @@ each_texts rule (text ∷ texts) = rw (same_self rule.id) refl
 each_new : (rule : Rule) (texts : List Text) (xs : List ArgumentText) → list_all (are_two (values rule.id [])) xs ≡ true → AreNew xs (each_rows rule texts)
 each_new rule texts [] apart = tt
 each_new rule texts (x ∷ xs) apart =
-    let parts = both (are_two (values rule.id []) x) (list_all (are_two (values rule.id [])) xs) apart in
+    let parts = and_parts (are_two (values rule.id []) x) (list_all (are_two (values rule.id [])) xs) apart in
     (here texts (neither (bytes_eq rule.id (name_of x)) (bytes_eq (name_of x) rule.id) parts.0).0, each_new rule texts xs parts.1)
   where
     here : (texts : List Text) → bytes_eq rule.id (name_of x) ≡ false → has_row (name_of x) (each_rows rule texts) ≡ false
@@ -457,7 +438,7 @@ each_new rule texts (x ∷ xs) apart =
 
 module _ (s : Shape) (rule : Rule) (xs : List ArgumentText) (has : HasChoices s rule xs) where
   apart_from : (list_all (are_two (values rule.id [])) xs ≡ true) × (are_apart xs ≡ true)
-  apart_from = both (list_all (are_two (values rule.id [])) xs) (are_apart xs) has.apart
+  apart_from = and_parts (list_all (are_two (values rule.id [])) xs) (are_apart xs) has.apart
 
   goes : Goes s nothing_held (parts_in xs) (rows_in xs)
   goes = goes_all s xs has.choices has.known apart_from.1 nothing_held [] (nothing_settles s) (are_new_nowhere xs)
@@ -507,7 +488,7 @@ module _ (s : Shape) (rule : Rule) (xs : List ArgumentText) (has : HasChoices s 
         ∙ ap (λ (w : Walk). parts_walk s.rules w (given text ∷ [])) goes.walks ∙ one goes.held
       where
         one : (h : Held) → part_walked s.rules (walk_from h) (given text) ≡ behind_word rule text (settled_rows s.rules h.pending h.rows) h.skip 1
-        one h = rw (has.first, takes.is_multiple, takes.is_single, takes.is_met, and_false (is_pending rule h.pending)) refl
+        one h = rw (has.first, takes.is_multiple, takes.is_single, takes.is_met, and-false (is_pending rule h.pending)) refl
 
     first_passes : parts_pass s (walk_from nothing_held) first_parts ≡ true
     unfolding parts_pass
@@ -515,7 +496,7 @@ module _ (s : Shape) (rule : Rule) (xs : List ArgumentText) (has : HasChoices s 
         ∙ ap₂ (λ (b : Bool) (w : Walk). b && parts_pass s w (given text ∷ [])) goes.passes goes.walks ∙ one goes.held goes.settles.passes
       where
         one : (h : Held) → settle_passes s.rules s.args_override_self h ≡ true → parts_pass s (walk_from h) (given text ∷ []) ≡ true
-        one h passes = rw (has.first, takes.is_single, and_false (is_pending rule h.pending), passes) refl
+        one h passes = rw (has.first, takes.is_single, and-false (is_pending rule h.pending), passes) refl
 
     rows_first : rows_of_each s rule (held_after s first_parts) texts ≡ fold with_default (rows_in xs ++ each_rows rule (text ∷ texts)) s.rules
     rows_first =

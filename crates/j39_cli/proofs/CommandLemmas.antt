@@ -1,8 +1,5 @@
 -- What is proved of each command.
-use Rattle.std.proofs.Common.{◌≡◌, ◌∷◌, [], Some, codes, refl}
-use Rattle.clap.specs.Words.{Rule, Shape, Text}
-use Rattle.clap.specs.Simple.{filled, with_index}
-use Rattle.clap.specs.Walk.{arg_by_id}
+use Rattle.j39_cli.proofs.Common.{◌≡◌, ◌∷◌, [], Some, codes, refl, Rule, Shape, Text, filled, with_index, arg_by_id}
 use Rattle.clap.proofs.OnLiterals.{clap_on_literals}
 use Rattle.j39_cli.specs.Command.{line_app}
 use Rattle.j39_cli.specs.CommandWords.{CommandWords, HasValues, answer, cut, faults, form_of, groups, id, name, nodes, report, summary, survey, watch}

@@ -1,7 +1,5 @@
 -- The number of a day is that of the calendar.
-use Rattle.std.proofs.Common.{None, Option, Some, subst, ◌≡◌, ◌∙◌, ◌≤◌, ◌<◌, ◌+◌, ◌-◌, ◌==◌, ◌||◌, ℕ, zero, suc, Bool, true, false, nat_lt, refl, sym, ap, arith, ltb-true, ltb-false, if◌then◌else◌}
-use Rattle.std.proofs.lemmas.Bool.{cond_both}
-use Rattle.std.specs.Option.{SomeIff}
+use Rattle.j39_cli.proofs.Common.{None, Option, Some, subst, ◌≡◌, ◌∙◌, ◌≤◌, ◌<◌, ◌+◌, ◌-◌, ◌==◌, ◌||◌, ℕ, zero, suc, Bool, true, false, nat_lt, refl, sym, ap, arith, ltb-true, ltb-false, if◌then◌else◌, cond_both, SomeIff}
 use Rattle.j39_rows.specs.Calendar.{Day, day_after, days_in_month, is_leap_year, next_day}
 use Rattle.j39_cli.specs.UtcMoment.{IsDate, day_number, days_of_months, days_of_years, year_length}
 

@@ -1,11 +1,8 @@
 -- How large the numbers are that digits write.
-use Rattle.std.proofs.Common.{◌≡◌, ◌<◌, ◌≤◌, ◌-◌, ◌^◌, ℕ, List, None, Option, Some, length, subst, arith}
-use Rattle.std.specs.Prelude.{IfSome}
-use Rattle.std.specs.Option.{SomeIff}
+use Rattle.j39_cli.proofs.Common.{◌≡◌, ◌<◌, ◌≤◌, ◌-◌, ◌^◌, ℕ, List, None, Option, Some, length, subst, arith, IfSome, SomeIff, length-drop, length-take-le}
 use Rattle.std.specs.Str.Parse.{AllDigits, digits_value}
 use Rattle.std.proofs.Math.Nat.{pow-le-pow_right}
 use Rattle.std.proofs.lemmas.Int.Digits.{digits_value-lt}
-use Rattle.std.proofs.lemmas.List.{length-drop, length-take-le}
 use Rattle.j39_cli.specs.CutCommand.{IsMomentText, micros_of, moment_value, seconds_of}
 
 -- 16 hex digits write a number of 64 bits

@@ -2,16 +2,9 @@
 --
 -- Each such word ends the use of the word before. So what clap holds at the end is what it holds behind the first word, with
 -- the others as more values: a form that computes, however many there are.
-use Rattle.std.proofs.Common.{◌≡◌, ◌∙◌, ◌&&◌, ℕ, Bool, true, false, List, [], ◌∷◌, ◌++◌, Option, Some, None, ap, ap₂, append-nil, append_assoc, fold, map, refl, sym, if◌then◌else◌}
-use Rattle.std.specs.List.{list_all}
-use Rattle.std.specs.Str.{bytes_eq}
-use Rattle.clap.specs.Words.{Row, Rule, Shape, Text}
-use Rattle.clap.specs.Walk.{Held, Walk, action_of, arg_by_id, arg_by_index, finished, is_multiple, nothing_held, positional, reading_by, settled, stronger, takes_several, walk_from, with_default, with_values}
-use Rattle.clap.specs.Takes.{default_passes, is_valid, settle_passes, use_passes}
+use Rattle.j39_cli.proofs.Common.{◌≡◌, ◌∙◌, ◌&&◌, ℕ, Bool, true, false, List, [], ◌∷◌, ◌++◌, Option, Some, None, ap, ap₂, append-nil, append_assoc, fold, map, refl, sym, and-true, and_assoc, list_all, bytes_eq, Row, Rule, Shape, Text, Held, Walk, action_of, arg_by_id, arg_by_index, finished, is_multiple, nothing_held, positional, reading_by, settled, stronger, takes_several, walk_from, with_default, with_values, default_passes, is_valid, settle_passes, use_passes, CommandLine, DefaultValue, Reading}
 use Rattle.clap.specs.declared.builder.action.ArgAction.TheVariants.{Append}
 use Rattle.clap.specs.declared.parser.matches.ValueSource.{ValueSource}
-use Rattle.clap.specs.declared.parser.matches.ValueSource.TheVariants.{CommandLine, DefaultValue}
-use Rattle.clap.specs.declared.builder.value_parser.Reading.{Reading}
 use Rattle.j39_cli.proofs.PartLemmas.{Part, given, held_after, part_passes, part_walked, parts_pass, parts_walk, takes_parts}
 
 -- ---- values of one row
@@ -24,9 +17,6 @@ of_words : (source : Option ValueSource) → stronger source CommandLine ≡ Com
 of_words None = refl
 of_words (Some DefaultValue) = refl
 of_words (Some CommandLine) = refl
-
-abbrev with_row : Bool → List Row → Row → List Row → List Row
-with_row b changed r others = if b then changed ++ [] else r ∷ others
 
 -- first some values, then more
 pub added_twice : (id : Text) (how : Reading) (xs ys : List Text) (rows : List Row) → bytes_eq id id ≡ true
@@ -141,14 +131,6 @@ unfolding parts_pass
 parts_pass-append s w [] qs = refl
 parts_pass-append s w (p ∷ ps) qs = ap (λ (b : Bool). part_passes s w p && b) (parts_pass-append s (part_walked s.rules w p) ps qs)
     ∙ sym (and_assoc (part_passes s w p) (parts_pass s (part_walked s.rules w p) ps) (parts_pass s (parts_walk s.rules (part_walked s.rules w p) ps) qs))
-  where
-    and_assoc : (a b c : Bool) → ((a && b) && c) ≡ a && (b && c)
-    and_assoc true b c = refl
-    and_assoc false b c = refl
-
-and_true : (b : Bool) → (b && true) ≡ b
-and_true true = refl
-and_true false = refl
 
 module _ (s : Shape) (a : Rule) (ps : List Part) (text : Text) (ends : EndsWith s a ps text) (texts : List Text) where
   abbrev end_of_walk : Walk
@@ -186,7 +168,7 @@ module _ (s : Shape) (a : Rule) (ps : List Part) (text : Text) (ends : EndsWith 
       ∙ ap (λ (w : Walk). parts_pass s (walk_from nothing_held) ps && parts_pass s w (map given texts)) ends.is
       ∙ ap (λ (b : Bool). parts_pass s (walk_from nothing_held) ps && b)
       (all_pass s a ends.takes (held_after s ps).skip ends.position ends.here texts text (held_after s ps).rows)
-      ∙ and_true (parts_pass s (walk_from nothing_held) ps)
+      ∙ and-true (parts_pass s (walk_from nothing_held) ps)
 
   -- all is taken
   pub taken_each : takes_parts s (ps ++ map given texts) ≡ takes_each s a ps texts

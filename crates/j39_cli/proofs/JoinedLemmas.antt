@@ -1,9 +1,5 @@
 -- What is left of logs one behind the other, after a read of the first, and behind its end.
-use Rattle.std.proofs.Common.{◌≡◌, ◌∙◌, ◌<◌, ◌≤◌, ◌-◌, ◌==◌, ℕ, zero, suc, Bool, true, false, not, List, [], ◌∷◌, ◌++◌, Option, None, Some, ap, arith, append_assoc, length, refl, slice_index_or, take, if◌then◌else◌}
-use Rattle.std.specs.Prelude.{option_map}
-use Rattle.std.specs.Io.KnownBytes.{Consumes, IsAtEnd, Keeps, prepend_known}
-use Rattle.std.proofs.KnownBytes.{Keeps-refl}
-use Rattle.j39_io.specs.Chars.{newline}
+use Rattle.j39_cli.proofs.Common.{◌≡◌, ◌∙◌, ◌<◌, ◌≤◌, ◌-◌, ◌==◌, ℕ, zero, suc, Bool, true, false, not, List, [], ◌∷◌, ◌++◌, Option, None, Some, ap, arith, append_assoc, length, refl, slice_index_or, take, if◌then◌else◌, option_map, Consumes, IsAtEnd, Keeps, prepend_known, Keeps-refl, newline}
 use Rattle.j39_cli.specs.Joined.{all_known, ended, is_open, joined, joined_known}
 use Rattle.j39_cli.specs.JoinedSoFar.{GoesOn, left_of}
 

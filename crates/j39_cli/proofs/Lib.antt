@@ -1,3 +1,5 @@
+-- names of other crates
+pub mod Common
 -- numbers in words
 pub mod FieldLemmas
 pub mod DigitLemmas

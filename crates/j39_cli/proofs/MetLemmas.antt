@@ -1,9 +1,7 @@
 -- From the command that clap met to the command that was spelled.
-use Rattle.std.proofs.Common.{◌≡◌, ◌∙◌, ◌++◌, ◌∷◌, [], ap, codes, sym, subst, List, refl, Some, None, Option}
-use Rattle.std.specs.Prelude.{Result, Ok, Err, IfOk, Box, option_map, unwrap_or}
+use Rattle.j39_cli.proofs.Common.{◌≡◌, ◌∙◌, ◌++◌, ◌∷◌, [], ap, codes, sym, subst, List, refl, Some, None, Option, Result, Ok, Err, IfOk, Box, option_map, unwrap_or, Row, Text, first_value, rows_of, subcommand_name_of, subcommand_rows, subcommand_rows_of}
 use Rattle.std.specs.Box.{box_value}
 use Rattle.std.specs.Result.{IsErr}
-use Rattle.clap.specs.Words.{Row, Text, first_value, rows_of, subcommand_name_of, subcommand_rows, subcommand_rows_of}
 use Rattle.clap.specs.declared.parser.matches.ArgMatches.{ArgMatches}
 use Rattle.clap.specs.declared.parser.matches.ArgMatches.TheViews.{out-ArgMatches, out-SubCommand}
 use Rattle.clap.specs.declared.parser.matches.Found.{Found}

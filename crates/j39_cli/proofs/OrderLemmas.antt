@@ -1,8 +1,6 @@
 -- The ends of a text, and what is told of FILEs.
-use Rattle.std.proofs.Common.{◌≡◌, ◌==◌, ◌≤◌, ◌<◌, ◌+◌, ◌-◌, ◌++◌, ◌∷◌, ◌∙◌, [], ℕ, zero, suc, List, Bool, true, false, ap, arith, drop, get_or, if◌then◌else◌, length, map, min, nat_le, refl, sym}
-use Rattle.std.proofs.lemmas.List.{length-drop}
+use Rattle.j39_cli.proofs.Common.{◌≡◌, ◌==◌, ◌≤◌, ◌<◌, ◌+◌, ◌-◌, ◌++◌, ◌∷◌, ◌∙◌, [], ℕ, zero, suc, List, Bool, true, false, ap, arith, drop, get_or, if◌then◌else◌, length, map, min, nat_le, refl, sym, length-drop, newline}
 use Rattle.std.specs.Borrow.{Bor}
-use Rattle.j39_io.specs.Chars.{newline}
 use Rattle.j39_cli.specs.FileSpans.{span_record}
 use Rattle.j39_cli.specs.Order.{is_before, order_line, order_text, without_end}
 use Rattle.j39_cli.specs.declared.file_span.FileSpan.{FileSpan}

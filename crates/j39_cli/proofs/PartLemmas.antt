@@ -4,14 +4,10 @@
 -- at. Of a value it is known that it has a letter and that the first is no `-`: clap takes it as it
 -- stands. So here a command line is a list of parts, and each lemma turns clap's walk over the words
 -- into one over the parts, which looks at no letter of a value and so computes to its end.
-use Rattle.std.proofs.Common.{◌≡◌, ◌∙◌, ◌&&◌, ◌||◌, ◌==◌, ℕ, Bool, List, [], ◌∷◌, ◌++◌, map, fold, refl, ap, ap₂, sym, subst, eqb-true, true, false, Some, None, Option, is_some, if◌then◌else◌, append_assoc, append-nil}
-use Rattle.std.specs.Option.{option_map_or}
-use Rattle.std.specs.List.{list_all}
-use Rattle.std.specs.Prelude.{find, option_map}
-use Rattle.clap.specs.Words.{Rule, Shape, Text}
-use Rattle.clap.specs.Walk.{answers_to, finished, nothing_held, rows_after, Held, Names, Step, Waiting, Walk, idle, option, positional, value, after_step, plain_word, word_met, walked, walked_from, walk, walk_from}
-use Rattle.clap.specs.Takes.{built_takes, default_passes, entered_passes, is_valid, level_passes, settle_passes, step_passes, turn_passes, word_passes, walk_passes}
-use Rattle.clap.specs.Simple.{App, entered, label_of, names_of, rows_at}
+use Rattle.j39_cli.proofs.Common.{◌≡◌, ◌∙◌, ◌&&◌, ◌||◌, ◌==◌, ℕ, Bool, List, [], ◌∷◌, ◌++◌, map, fold, refl, ap, ap₂, sym, subst, eqb-true, true, false, Some, None, Option, is_some, if◌then◌else◌, append_assoc, append-nil, option_map_or, list_all, find, option_map, Rule, Shape, Text, answers_to, finished, nothing_held, rows_after, Held, Names, Step, Waiting, Walk, idle, option, positional, value, after_step, plain_word, word_met, walked_from, walk, walk_from, built_takes, default_passes, entered_passes, is_valid, level_passes, settle_passes, step_passes, turn_passes, word_passes, entered, label_of, names_of, rows_at}
+use Rattle.clap.specs.Walk.{walked}
+use Rattle.clap.specs.Takes.{walk_passes}
+use Rattle.clap.specs.Simple.{App}
 use Rattle.j39_cli.specs.Form.{IsValue, hyphen}
 
 -- ---- parts

@@ -1,12 +1,7 @@
 -- From what a run ensures to what its command promises.
-use Rattle.std.proofs.Common.{◌≡◌, ◌∙◌, ◌⊎◌, ℕ, List, Option, Some, inl, inr, subst, sym}
-use Rattle.std.specs.Prelude.{IfSome, OnOk, Result, Ok, Err}
-use Rattle.std.specs.Result.{result_map_both}
-use Rattle.j39_io.specs.Turn.{Turn}
+use Rattle.j39_cli.proofs.Common.{◌≡◌, ◌∙◌, ◌⊎◌, ℕ, List, Option, Some, inl, inr, subst, sym, IfSome, OnOk, Result, Ok, Err, result_map_both, Turn, AsksForBoxes, Wanting, Making}
 use Rattle.j39_groups.specs.Row.{RowRecord}
-use Rattle.j39_listen.specs.Asking.{AsksForBoxes, Wanting}
 use Rattle.j39_listen.specs.Filter.{FilterRecord, no_filter}
-use Rattle.j39_listen.specs.Output.{Making}
 use Rattle.j39_listen.specs.Ran.{Ran}
 use Rattle.j39_listen.specs.Run.{WritesAsked, WritesPublished, WritesWholeLines}
 use Rattle.j39_listen.specs.declared.format.Format.{Format}

@@ -1,9 +1,5 @@
 -- How clap takes a command as it is spelled, and meets it with its texts.
-use Rattle.std.proofs.Common.{◌≡◌, ◌∙◌, ap, List, [], ◌∷◌, refl, true, Some, map}
-use Rattle.std.specs.Prelude.{Err}
-use Rattle.clap.specs.Words.{App, Row, Shape, Text, built, is_simple, is_simple_and_free, subcommand_of, takes}
-use Rattle.clap.specs.Simple.{built_leaf}
-use Rattle.clap.specs.Walk.{finished}
+use Rattle.j39_cli.proofs.Common.{◌≡◌, ◌∙◌, ap, List, [], ◌∷◌, refl, true, Some, map, Err, App, Row, Shape, Text, built, is_simple, is_simple_and_free, subcommand_of, takes, built_leaf, finished}
 use Rattle.clap.proofs.OnLiterals.{clap_on_literals}
 use Rattle.j39_cli.specs.Answer.{AreChecked, Check, OrMemory}
 use Rattle.j39_cli.specs.Command.{line_app}

@@ -1,7 +1,5 @@
 -- What is told of nothing.
-use Rattle.std.proofs.Common.{[], ℕ, Bool, List, Option, refl}
-use Rattle.std.proofs.KnownBytes.{Appends-nil}
-use Rattle.j39_io.specs.Turn.{turn}
+use Rattle.j39_cli.proofs.Common.{[], ℕ, Bool, List, Option, refl, Appends-nil, turn}
 use Rattle.j39_cli.specs.Tells.{Tells}
 
 pub tells_nothing : {T : Type 0} (written : T → Option (List ℕ)) (has_failed : T → Bool) (stream : T) → Tells (turn written has_failed stream stream) []

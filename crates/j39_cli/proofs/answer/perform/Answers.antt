@@ -1,10 +1,7 @@
 -- The run is on the task's own bus, for its own address, and its fault is told.
-use Rattle.std.proofs.Common.{◌≡◌, ◌<◌, ℕ, List, Option, subst, arith}
-use Rattle.j39_io.specs.Turn.{Turn}
+use Rattle.j39_cli.proofs.Common.{◌≡◌, ◌<◌, ℕ, List, Option, subst, arith, Turn, AsksForBoxes, MakesAnswers}
 use Rattle.j39_address.specs.Name.{name_raw}
 use Rattle.j39_address.specs.Node.{idle_node}
-use Rattle.j39_listen.specs.Asking.{AsksForBoxes}
-use Rattle.j39_listen.specs.Output.{MakesAnswers}
 use Rattle.j39_cli.specs.LogCommand.{IsRun}
 use Rattle.j39_cli.proofs.RunLemmas.{ended_err, ended_some, is_run, told_as}
 use Rattle.j39_cli.proofs.answer.perform.Goals as goal

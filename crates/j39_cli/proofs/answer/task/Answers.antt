@@ -1,6 +1,5 @@
 -- The texts that are read are those that were found.
-use Rattle.std.proofs.Common.{codes, refl}
-use Rattle.clap.specs.Words.{found_of}
+use Rattle.j39_cli.proofs.Common.{codes, refl, found_of}
 use Rattle.j39_cli.specs.CommandWords.{answer}
 use Rattle.j39_cli.proofs.MetLemmas.{tells, tells_none}
 use Rattle.j39_cli.proofs.answer.task.Goals as goal

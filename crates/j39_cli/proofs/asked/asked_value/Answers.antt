@@ -1,17 +1,9 @@
 -- Each option in turn is right, or it is the first that is wrong.
-use Rattle.std.proofs.Common.{drop, take}
-use Rattle.clap.specs.Words.{found_of}
+use Rattle.j39_cli.proofs.Common.{drop, take, found_of}
 use Rattle.j39_cli.specs.Answer.{IsRead}
 use Rattle.j39_cli.specs.Asked.{IsAsked, asked_checks, asked_found}
 use Rattle.j39_cli.proofs.CheckLemmas.{passed, stopped}
 use Rattle.j39_cli.proofs.asked.asked_value.Goals as goal
-
-pub returns-in_err-spns-clause-read : goal.returns-in_err-spns-clause-read
-returns-in_err-spns-clause-read c =
-    let texts = asked_found (found_of c.args.given.now) in
-    let all = asked_checks texts in
-    let next = IsRead (IsAsked texts) in
-    stopped next (take 1 all) (drop 1 all) _ _ _ c.in_err-spns.ensures.read c.from_residual.ensures
 
 pub returns-in_err-from-clause-read : goal.returns-in_err-from-clause-read
 returns-in_err-from-clause-read c =

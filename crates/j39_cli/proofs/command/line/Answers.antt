@@ -1,8 +1,5 @@
 -- One command after the other.
-use Rattle.std.proofs.Common.{◌≡◌}
-use Rattle.std.specs.Prelude.{Err, IfOk, Ok, Result}
-use Rattle.clap.specs.Words.{App, app_of}
-use Rattle.clap.specs.declared.builder.command.Command.{Command}
+use Rattle.j39_cli.proofs.Common.{◌≡◌, Err, IfOk, Ok, Result, App, app_of, Command}
 use Rattle.j39_cli.specs.Command.{line_app}
 use Rattle.j39_cli.specs.Rules.{IsMade}
 use Rattle.j39_cli.proofs.command.line.Goals as goal

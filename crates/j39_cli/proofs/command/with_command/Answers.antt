@@ -1,9 +1,6 @@
 -- Where both are zipped, neither is an error.
-use Rattle.std.proofs.Common.{◌≡◌, Err, Ok, Result, Some, ap, rules, subst}
-use Rattle.std.specs.Option.{option_zip}
-use Rattle.std.specs.Result.{result_ok}
+use Rattle.j39_cli.proofs.Common.{◌≡◌, Err, Ok, Result, Some, ap, rules, subst, option_zip, result_ok, Command}
 use Rattle.std.specs.declared.alloc.AllocError.{AllocError}
-use Rattle.clap.specs.declared.builder.command.Command.{Command}
 use Rattle.j39_cli.specs.Rules.{IsMade}
 use Rattle.j39_cli.proofs.command.with_command.Goals as goal
 

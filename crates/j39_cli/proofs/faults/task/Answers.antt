@@ -1,6 +1,5 @@
 -- The bus is checked, then the conversions, what is asked for and what is told; FILE is kept last.
-use Rattle.std.proofs.Common.{◌∙◌, codes, drop, inl, rules, take}
-use Rattle.clap.specs.Words.{found_of}
+use Rattle.j39_cli.proofs.Common.{◌∙◌, codes, drop, rules, take, found_of}
 use Rattle.j39_cli.specs.Answer.{OrMemory}
 use Rattle.j39_cli.specs.CommandWords.{command_found, form_of}
 use Rattle.j39_cli.proofs.CheckLemmas.{passed, stopped}
@@ -94,19 +93,4 @@ returns-in-Ok c =
           ))))));
       memory = search rules;
       in_range = search rules;
-    }
-
-pub returns-in-Err : goal.returns-in-Err
-returns-in-Err c =
-    let form = form_of (command_found (codes "faults") (found_of c.args.given.now)) in
-    let all = form.checks in
-    let next = OrMemory form.Is in
-    record {
-      answer = passed next (take 1 all) (drop 1 all) _ _ _ c.in_ok-bus.ensures.read (λ _.
-          passed next (take 1 (drop 1 all)) (drop 2 all) _ _ _ c.in_ok-conversions.ensures.read (λ _.
-          passed next (take 6 (drop 2 all)) (drop 8 all) _ _ _ c.in_ok-asked.ensures.read (λ _.
-          passed next (take 1 (drop 8 all)) (drop 9 all) _ _ _ c.in_ok-told.ensures.read (λ _.
-          passed next (take 1 (drop 9 all)) (drop 10 all) _ _ _ c.in_ok-format.ensures.read (λ _. rw c.in-Err.ensures.0 tt)))));
-      memory = λ _. inl c.in-Err.ensures.1;
-      in_range = tt;
     }

@@ -1,6 +1,5 @@
 -- Each word in turn has a value, or there is no list.
-use Rattle.std.proofs.Common.{◌∙◌, ◌+◌, ◌∷◌, [], ◌++◌, ap, arith, length, map, refl, sym, subst}
-use Rattle.std.proofs.lemmas.List.{length-map}
+use Rattle.j39_cli.proofs.Common.{◌∙◌, ◌+◌, ◌∷◌, [], ◌++◌, ap, arith, length, map, refl, sym, subst, length-map}
 use Rattle.j39_cli.specs.Lists.{words_in}
 use Rattle.j39_cli.proofs.ListLemmas.{AreRead, all_read, no_value, reads_more, word_at}
 use Rattle.j39_cli.proofs.lists.list_of.Goals as goal

@@ -1,5 +1,4 @@
-use Rattle.std.proofs.Common.{◌≡◌}
-use Rattle.arrayvec.specs.ArrayVec.{array_vec_len}
+use Rattle.j39_cli.proofs.Common.{◌≡◌, array_vec_len}
 use Rattle.j39_cli.specs.Lists.{words_in}
 use Rattle.j39_cli.proofs.ListLemmas.{AreRead}
 use Rattle.j39_cli.proofs.lists.list_of.Given as goal

@@ -1,6 +1,5 @@
 -- The bus is checked, then what is asked for, and how it is written; FILE is kept last.
-use Rattle.std.proofs.Common.{◌∙◌, ◌++◌, ◌∷◌, [], rules}
-use Rattle.clap.specs.Words.{found_of}
+use Rattle.j39_cli.proofs.Common.{◌∙◌, ◌++◌, ◌∷◌, [], rules, found_of}
 use Rattle.j39_cli.specs.Answer.{OrMemory, bus_check}
 use Rattle.j39_cli.specs.Asked.{asked_checks}
 use Rattle.j39_cli.specs.LogCommand.{forms_check}

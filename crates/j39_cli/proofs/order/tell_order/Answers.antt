@@ -1,6 +1,5 @@
 -- The first two of which it is so are told.
-use Rattle.std.proofs.Common.{◌≡◌, ◌∙◌, [], ℕ, List, ap, arith, length, refl, subst, sym}
-use Rattle.j39_io.specs.Turn.{turn}
+use Rattle.j39_cli.proofs.Common.{◌≡◌, ◌∙◌, [], ℕ, List, ap, arith, length, refl, subst, sym, turn}
 use Rattle.j39_cli.specs.Tells.{Tells}
 use Rattle.j39_cli.proofs.OrderLemmas.{text_end, text_here, text_next, text_of}
 use Rattle.j39_cli.proofs.TellsLemmas.{tells_nothing}

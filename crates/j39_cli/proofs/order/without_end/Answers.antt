@@ -1,6 +1,5 @@
 -- The last byte is a newline, or it is none.
-use Rattle.std.proofs.Common.{◌++◌, ◌∷◌, ◌∙◌, [], ap, sym}
-use Rattle.std.proofs.lemmas.Bool.{ne_eqb}
+use Rattle.j39_cli.proofs.Common.{◌++◌, ◌∷◌, ◌∙◌, [], ap, sym, ne_eqb}
 use Rattle.j39_cli.proofs.OrderLemmas.{end_dropped, end_kept}
 use Rattle.j39_cli.specs.Order.{without_end}
 use Rattle.j39_cli.proofs.order.without_end.Goals as goal

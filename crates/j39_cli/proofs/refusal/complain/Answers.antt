@@ -1,6 +1,5 @@
 -- Where the line was put whole, it stays so.
-use Rattle.std.proofs.Common.{rules}
-use Rattle.j39_io.proofs.DeviceLemmas.{front_of_all}
+use Rattle.j39_cli.proofs.Common.{rules, front_of_all}
 use Rattle.j39_cli.proofs.refusal.complain.Goals as goal
 
 pub returns-in-Ok-clause-text : goal.returns-in-Ok-clause-text

@@ -1,7 +1,5 @@
 -- The parts of the line, one behind the other.
-use Rattle.std.proofs.Common.{◌∷◌, ◌++◌, [], codes}
-use Rattle.j39_io.specs.Chars.{newline}
-use Rattle.j39_io.proofs.PutsLemmas.{puts_first, puts_then}
+use Rattle.j39_cli.proofs.Common.{◌∷◌, ◌++◌, [], codes, newline, puts_first, puts_then}
 use Rattle.j39_cli.proofs.refusal.put_line.Goals as goal
 
 pub returns-in_err-put_all : goal.returns-in_err-put_all

@@ -1,6 +1,5 @@
 -- The task is that of what was read.
-use Rattle.std.proofs.Common.{[], codes, inl, rules}
-use Rattle.clap.specs.Words.{found_of}
+use Rattle.j39_cli.proofs.Common.{[], codes, inl, rules, found_of}
 use Rattle.j39_cli.specs.Answer.{OrMemory}
 use Rattle.j39_cli.specs.CommandWords.{command_found, form_of}
 use Rattle.j39_cli.proofs.CheckLemmas.{failed, passed}

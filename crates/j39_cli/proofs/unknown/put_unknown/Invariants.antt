@@ -1,7 +1,5 @@
-use Rattle.std.proofs.Common.{take, Ok}
-use Rattle.std.specs.List.{flat_map}
+use Rattle.j39_cli.proofs.Common.{take, Ok, flat_map, turn}
 use Rattle.j39_io.specs.Puts.{Puts}
-use Rattle.j39_io.specs.Turn.{turn}
 use Rattle.j39_cli.specs.Unknown.{unknown_line}
 use Rattle.j39_cli.proofs.unknown.put_unknown.Given as goal
 

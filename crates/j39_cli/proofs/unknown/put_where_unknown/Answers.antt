@@ -1,7 +1,5 @@
 -- The line of a parameter that no row has.
-use Rattle.std.proofs.Common.{◌∙◌, ap, codes, sym}
-use Rattle.std.proofs.lemmas.Bool.{cond-false}
-use Rattle.j39_io.proofs.PutsLemmas.{puts_as}
+use Rattle.j39_cli.proofs.Common.{◌∙◌, ap, codes, sym, cond-false, puts_as}
 use Rattle.j39_cli.specs.Refusal.{error_line}
 use Rattle.j39_cli.proofs.unknown.put_where_unknown.Goals as goal
 

@@ -1,6 +1,5 @@
 -- Where the lines were put whole, they stay so.
-use Rattle.std.proofs.Common.{rules}
-use Rattle.j39_io.proofs.DeviceLemmas.{front_of_all}
+use Rattle.j39_cli.proofs.Common.{rules, front_of_all}
 use Rattle.j39_cli.proofs.unknown.show_unknown.Goals as goal
 
 pub returns-in-Ok-clause-told : goal.returns-in-Ok-clause-told

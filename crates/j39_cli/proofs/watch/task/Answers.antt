@@ -1,21 +1,9 @@
 -- The bus is checked, then the rows, then the width; FILE is kept last.
-use Rattle.std.proofs.Common.{◌∙◌, codes, drop, inl, rules, take}
-use Rattle.clap.specs.Words.{found_of}
+use Rattle.j39_cli.proofs.Common.{codes, drop, rules, take, found_of}
 use Rattle.j39_cli.specs.Answer.{OrMemory}
 use Rattle.j39_cli.specs.CommandWords.{command_found, form_of}
 use Rattle.j39_cli.proofs.CheckLemmas.{passed, stopped}
 use Rattle.j39_cli.proofs.watch.task.Goals as goal
-
-pub returns-in_err-bus : goal.returns-in_err-bus
-returns-in_err-bus c =
-    let form = form_of (command_found (codes "watch") (found_of c.args.given.now)) in
-    let all = form.checks in
-    let next = OrMemory form.Is in
-    record {
-      answer = stopped next (take 1 all) (drop 1 all) _ _ _ c.in_err-bus.ensures.read c.from_residual.ensures;
-      memory = search rules;
-      in_range = search rules;
-    }
 
 pub returns-in_err-rows : goal.returns-in_err-rows
 returns-in_err-rows c =
@@ -40,30 +28,4 @@ returns-in_err-width c =
           stopped next (take 1 (drop 2 all)) (drop 3 all) _ _ _ c.in_err-width.ensures.read.read c.from_residual-in_err-width.ensures));
       memory = search rules;
       in_range = search rules;
-    }
-
-pub returns-in-Ok : goal.returns-in-Ok
-returns-in-Ok c =
-    let form = form_of (command_found (codes "watch") (found_of c.args.given.now)) in
-    let all = form.checks in
-    let next = OrMemory form.Is in
-    record {
-      answer = passed next (take 1 all) (drop 1 all) _ _ _ c.in_ok-bus.ensures.read (λ bus_is.
-          passed next (take 1 (drop 1 all)) (drop 2 all) _ _ _ c.in_ok-rows.ensures.read.read (λ rows_is.
-          passed next (take 1 (drop 2 all)) (drop 3 all) _ _ _ c.in_ok-width.ensures.read.read (λ width_is. (c.in-Ok.ensures.0 ∙ bus_is, search rules, cc (rows_is, width_is, c.size_for-size.ensures.rows, c.size_for-size.ensures.width), c.in-Ok.ensures.1))));
-      memory = search rules;
-      in_range = search rules;
-    }
-
-pub returns-in-Err : goal.returns-in-Err
-returns-in-Err c =
-    let form = form_of (command_found (codes "watch") (found_of c.args.given.now)) in
-    let all = form.checks in
-    let next = OrMemory form.Is in
-    record {
-      answer = passed next (take 1 all) (drop 1 all) _ _ _ c.in_ok-bus.ensures.read (λ _.
-          passed next (take 1 (drop 1 all)) (drop 2 all) _ _ _ c.in_ok-rows.ensures.read.read (λ _.
-          passed next (take 1 (drop 2 all)) (drop 3 all) _ _ _ c.in_ok-width.ensures.read.read (λ _. rw c.in-Err.ensures.0 tt)));
-      memory = λ _. inl c.in-Err.ensures.1;
-      in_range = tt;
     }

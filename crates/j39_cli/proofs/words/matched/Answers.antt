@@ -1,7 +1,6 @@
 -- clap was told the whole command line.
-use Rattle.std.proofs.Common.{◌≡◌, ◌∙◌, [], ap, inl, inr, map, subst}
+use Rattle.j39_cli.proofs.Common.{◌≡◌, ◌∙◌, [], ap, inl, inr, map, subst, App, HasMatchesOf, fault_of, is_simple_and_free, kind_of, takes}
 use Rattle.clap.specs.Kinds.{HasKind, Kinds}
-use Rattle.clap.specs.Words.{App, HasMatchesOf, fault_of, is_simple_and_free, kind_of, takes}
 use Rattle.clap.specs.declared.error.Error.{Error}
 use Rattle.j39_cli.specs.Refused.{IsRefusal, IsSaid}
 use Rattle.j39_cli.specs.declared.task.ParseFault.{ParseFault}

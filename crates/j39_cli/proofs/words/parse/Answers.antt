@@ -1,8 +1,5 @@
 -- clap takes each command that is spelled, and meets it with its texts.
-use Rattle.std.proofs.Common.{◌≡◌, ◌∙◌, List, Some, ap, sym, subst}
-use Rattle.std.specs.Prelude.{Err}
-use Rattle.std.proofs.lemmas.Result.{IfOk-weaker}
-use Rattle.clap.specs.Words.{Text, subcommand_of, subcommand_rows_of, takes}
+use Rattle.j39_cli.proofs.Common.{◌≡◌, ◌∙◌, List, Some, ap, sym, subst, Err, IfOk-weaker, Text, subcommand_of, subcommand_rows_of, takes}
 use Rattle.j39_cli.specs.Command.{line_app}
 use Rattle.j39_cli.specs.CommandWords.{IsAnswer}
 use Rattle.j39_cli.specs.declared.task.ParseFault.{ParseFault}

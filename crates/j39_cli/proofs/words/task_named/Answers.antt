@@ -1,6 +1,5 @@
 -- Each command answers what clap met under its name.
-use Rattle.std.proofs.Common.{codes, refl}
-use Rattle.clap.specs.Words.{found_of}
+use Rattle.j39_cli.proofs.Common.{codes, refl, found_of}
 use Rattle.j39_cli.specs.CommandWords.{faults, groups, id, name, nodes, report, summary, survey, watch}
 use Rattle.j39_cli.specs.RowOptions.{rows_found}
 use Rattle.j39_cli.proofs.MetLemmas.{tells, tells_none}

@@ -1,7 +1,5 @@
 -- The command that clap met is the one that was spelled.
-use Rattle.std.proofs.Common.{◌≡◌, ◌∙◌, List, Some, ap, codes, inl, inr, subst, sym}
-use Rattle.std.proofs.lemmas.Result.{IfOk-weaker}
-use Rattle.clap.specs.Words.{Row, Text, found_of, rows_of}
+use Rattle.j39_cli.proofs.Common.{◌≡◌, ◌∙◌, List, Some, ap, codes, inl, inr, subst, sym, IfOk-weaker, Row, Text, found_of, rows_of}
 use Rattle.j39_cli.specs.CommandWords.{HasTexts}
 use Rattle.j39_cli.proofs.MetLemmas.{met_is, texts_found-rows}
 use Rattle.j39_cli.proofs.words.task_of.Goals as goal

@@ -1,6 +1,5 @@
 -- They are kept from behind.
-use Rattle.std.proofs.Common.{map}
-use Rattle.std.proofs.lemmas.List.{reverse-reverse}
+use Rattle.j39_cli.proofs.Common.{map, reverse-reverse}
 use Rattle.j39_cli.proofs.JoinedLemmas.{left-joined}
 use Rattle.j39_cli.proofs.joined.Joined.new.Goals as goal
 

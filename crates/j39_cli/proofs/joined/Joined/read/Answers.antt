@@ -1,6 +1,5 @@
 -- A read of the current one takes of what is left.
-use Rattle.std.proofs.Common.{◌≡◌, Bool, [], arith, map, reverse, subst, take}
-use Rattle.std.specs.Io.KnownBytes.{Consumes}
+use Rattle.j39_cli.proofs.Common.{◌≡◌, Bool, [], arith, map, reverse, subst, take, Consumes}
 use Rattle.j39_cli.specs.JoinedSoFar.{left_of}
 use Rattle.j39_cli.proofs.JoinedLemmas.{is_open-last, left-kept, left-read}
 use Rattle.j39_cli.proofs.joined.Joined.read.Goals as goal

@@ -1,6 +1,5 @@
 -- What was read so far is nothing, and then the newline.
-use Rattle.std.proofs.Common.{◌≡◌, ◌<◌, ℕ, List, [], ◌∷◌, arith, length, refl, rules, slice_set, take}
-use Rattle.std.proofs.KnownBytes.{Consumes-trans}
+use Rattle.j39_cli.proofs.Common.{◌≡◌, ◌<◌, ℕ, List, [], ◌∷◌, arith, length, refl, rules, slice_set, take, Consumes-trans}
 use Rattle.j39_cli.proofs.joined.JoinedSource.pull.Goals as goal
 
 front : (xs : List ℕ) → 0 < length xs → take 1 (slice_set xs 0 10) ≡ 10 ∷ []

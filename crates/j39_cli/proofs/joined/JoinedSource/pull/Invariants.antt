@@ -1,5 +1,4 @@
-use Rattle.std.proofs.Common.{◌≡◌, ◌<◌, ◌≤◌, length, take}
-use Rattle.std.specs.Io.KnownBytes.{Consumes, IsAtEnd}
+use Rattle.j39_cli.proofs.Common.{◌≡◌, ◌<◌, ◌≤◌, length, take, Consumes, IsAtEnd}
 use Rattle.j39_cli.specs.JoinedSoFar.{current_of, has_fault, later_of, left_in}
 use Rattle.j39_cli.proofs.joined.JoinedSource.pull.Given as goal
 

@@ -1,5 +1,4 @@
-use Rattle.std.proofs.Common.{◌≡◌, ◌≤◌, ◌*◌}
-use Rattle.arrayvec.specs.ArrayVec.{array_vec_len}
+use Rattle.j39_cli.proofs.Common.{◌≡◌, ◌≤◌, ◌*◌, array_vec_len}
 use Rattle.j39_cli.specs.Outgoing.{first_lines}
 use Rattle.j39_cli.proofs.outgoing.Outgoing.lines.Given as goal
 
