@@ -1,5 +1,6 @@
 -- Frames that others exchange.
-use Rattle.j39_node.specs.Common.{◌≡◌, ◌≢◌, claim_of, destination_of, false, FrameRecord, global_address, None, Some, source_of, ℕ}
+use Rattle.std.specs.Prelude.{◌≡◌, ◌≢◌}
+use Rattle.j39_node.specs.Common.{claim_of, destination_of, false, FrameRecord, global_address, None, Some, source_of, ℕ}
 use Rattle.j39_node.specs.History.{Who}
 use Rattle.j39_node.specs.Reception.{asks_claims}
 

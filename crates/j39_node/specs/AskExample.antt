@@ -1,5 +1,6 @@
 -- A history of requests that a controller can have had.
-use Rattle.j39_node.specs.Common.{[], ◌∷◌, Err, FrameRecord, List, None, Ok, Some, ℕ}
+use Rattle.std.specs.Prelude.{◌∷◌}
+use Rattle.j39_node.specs.Common.{[], Err, FrameRecord, List, None, Ok, Some, ℕ}
 use Rattle.j39_node.specs.declared.kinds.Answer.TheVariants.{Nack}
 use Rattle.j39_node.specs.declared.kinds.AskEnding.TheVariants.{Answered, Acknowledged, TimedOut}
 use Rattle.j39_node.specs.declared.kinds.Refused.TheVariants.{NoAddress, BadValue, Full}

@@ -1,5 +1,6 @@
 -- Asking others for groups (J1939-21, 5.4.2 and 5.4.4): what a history says of it.
-use Rattle.j39_node.specs.Common.{[], if◌then◌else◌, ◌%◌, ◌&&◌, ◌++◌, ◌+◌, ◌-◌, ◌/◌, ◌<◌, ◌||◌, ◌∷◌, ◌≡◌, ◌≤◌, ◌⊎◌, address_claimed_group, answer_time, Bool, destination_of, Err, false, FrameRecord, global_address, IsTrue, length, List, MessageRecord, nat_eq, nat_lt, None, not, null_address, Ok, Option, option_map, option_or, pgn_of, ReceptionRecord, Result, slice_get, Some, source_of, true, ℕ}
+use Rattle.std.specs.Prelude.{if◌then◌else◌, ◌%◌, ◌&&◌, ◌++◌, ◌+◌, ◌-◌, ◌/◌, ◌<◌, ◌||◌, ◌∷◌, ◌≡◌, ◌≤◌, ◌⊎◌}
+use Rattle.j39_node.specs.Common.{[], address_claimed_group, answer_time, Bool, destination_of, Err, false, FrameRecord, global_address, IsTrue, length, List, MessageRecord, nat_eq, nat_lt, None, not, null_address, Ok, Option, option_map, option_or, pgn_of, ReceptionRecord, Result, slice_get, Some, source_of, true, ℕ}
 use Rattle.j39_node.specs.declared.kinds.Answer.TheVariants.{Ack, Nack, Denied, Busy}
 use Rattle.j39_node.specs.declared.kinds.AskEnding.{AskEnding}
 use Rattle.j39_node.specs.declared.kinds.AskEnding.TheVariants.{Answered, Acknowledged, TimedOut, Withdrawn}

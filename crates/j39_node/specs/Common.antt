@@ -1,7 +1,7 @@
 -- The names from elsewhere that definitions here cite, passed on from one place. Declares nothing.
 pub use Rattle.std.specs.List.{list_any, slice_get}
 pub use Rattle.std.specs.Option.{is_some, is_some as is_there, option_map, option_or}
-pub use Rattle.std.specs.Prelude.{[], if◌then◌else◌, ◌%◌, ◌&&◌, ◌*◌, ◌++◌, ◌+◌, ◌-◌, ◌/◌, ◌<◌, ◌==◌, ◌||◌, ◌∷◌, ◌≡◌, ◌≢◌, ◌≤◌, ◌⊎◌, Bool, drop, Err, false, IsTrue, length, List, map, max, min, nat_eq, nat_le, nat_lt, None, not, Ok, Option, Result, slice_index, slice_set, Some, suc, take, true, zero, ℕ}
+pub use Rattle.std.specs.Prelude.{[], Bool, drop, Err, false, IsTrue, length, List, map, max, min, nat_eq, nat_le, nat_lt, None, not, Ok, Option, Result, slice_index, slice_set, Some, suc, take, true, zero, ℕ}
 pub use Rattle.std.specs.Str.{bytes_eq}
 pub use Rattle.byteorder.specs.Endian.{little_bytes, little_number}
 pub use Rattle.j39_address.specs.Claim.{Claim, claim_of}

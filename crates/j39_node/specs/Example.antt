@@ -1,5 +1,6 @@
 -- A history that a controller can have had.
-use Rattle.j39_node.specs.Common.{[], ◌+◌, ◌∷◌, Err, false, FrameRecord, List, None, Ok, Some, true, ℕ}
+use Rattle.std.specs.Prelude.{◌+◌, ◌∷◌}
+use Rattle.j39_node.specs.Common.{[], Err, false, FrameRecord, List, None, Ok, Some, true, ℕ}
 use Rattle.j39_node.specs.declared.kinds.Ending.TheVariants.{Done, Withdrawn}
 use Rattle.j39_node.specs.declared.kinds.TransferEnding.TheVariants as transfer
 use Rattle.j39_node.specs.declared.kinds.Answer.TheVariants.{Ack}

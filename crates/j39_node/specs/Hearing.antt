@@ -1,5 +1,6 @@
 -- Broadcasts in packets that are heard (J1939-21, 5.10.3.5 and 5.13.3), one at a time: what a history says of them.
-use Rattle.j39_node.specs.Common.{[], if◌then◌else◌, ◌&&◌, ◌*◌, ◌++◌, ◌+◌, ◌-◌, ◌||◌, ◌∷◌, ◌≡◌, ◌≤◌, Bool, broadcast_limit, by, CarriesCut, drop, false, FrameRecord, is_announcement, is_packet, IsTrue, length, List, MessageRecord, min, nat_eq, nat_le, nat_lt, None, not, Option, packets_for, pgn_named, size_named, slice_index, Some, source_of, suc, take, true, ℕ}
+use Rattle.std.specs.Prelude.{if◌then◌else◌, ◌&&◌, ◌*◌, ◌++◌, ◌+◌, ◌-◌, ◌||◌, ◌∷◌, ◌≡◌, ◌≤◌}
+use Rattle.j39_node.specs.Common.{[], Bool, broadcast_limit, by, CarriesCut, drop, false, FrameRecord, is_announcement, is_packet, IsTrue, length, List, MessageRecord, min, nat_eq, nat_le, nat_lt, None, not, Option, packets_for, pgn_named, size_named, slice_index, Some, source_of, suc, take, true, ℕ}
 use Rattle.j39_node.specs.declared.kinds.News.TheVariants.{MessagesMissed}
 use Rattle.j39_node.specs.History.{Who, Call, is_own_group, is_subscribed, stamp_at}
 use Rattle.j39_node.specs.History.Call.{At, TakeNews, ReleaseBroadcast}

@@ -1,6 +1,7 @@
 -- Histories of a controller's calls, each with its arguments, its moment and its answer, the newest first; and what a
 -- history says. All lists of messages have the oldest first.
-use Rattle.j39_node.specs.Common.{[], if◌then◌else◌, ◌%◌, ◌&&◌, ◌*◌, ◌++◌, ◌+◌, ◌-◌, ◌/◌, ◌==◌, ◌||◌, ◌∷◌, ◌≡◌, ◌≤◌, address_claimed_group, as_broadcast, Bool, bytes_eq, Claim, claim_of, claim_time, cut_frame, destination_of, drop, false, FrameRecord, global_address, is_there, last_count, length, List, list_any, little_bytes, little_number, max, MessageRecord, nat_eq, nat_le, nat_lt, None, not, null_address, Ok, Option, option_or, packet_time, packets_of, patience_time, pgn_of, places, priority_of, request_group, Result, slack, slice_set, Some, source_of, stamp_end, suc, transport_control_group, transport_data_group, true, zero, ℕ}
+use Rattle.std.specs.Prelude.{if◌then◌else◌, ◌%◌, ◌&&◌, ◌*◌, ◌++◌, ◌+◌, ◌-◌, ◌/◌, ◌==◌, ◌||◌, ◌∷◌, ◌≡◌, ◌≤◌}
+use Rattle.j39_node.specs.Common.{[], address_claimed_group, as_broadcast, Bool, bytes_eq, Claim, claim_of, claim_time, cut_frame, destination_of, drop, false, FrameRecord, global_address, is_there, last_count, length, List, list_any, little_bytes, little_number, max, MessageRecord, nat_eq, nat_le, nat_lt, None, not, null_address, Ok, Option, option_or, packet_time, packets_of, patience_time, pgn_of, places, priority_of, request_group, Result, slack, slice_set, Some, source_of, stamp_end, suc, transport_control_group, transport_data_group, true, zero, ℕ}
 use Rattle.j39_node.specs.declared.kinds.Ending.{Ending}
 use Rattle.j39_node.specs.declared.kinds.TransferEnding.{TransferEnding}
 use Rattle.j39_node.specs.declared.kinds.AskEnding.{AskEnding}

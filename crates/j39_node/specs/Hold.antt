@@ -1,5 +1,6 @@
 -- How far a controller is with its address, in its own counts.
-use Rattle.j39_node.specs.Common.{if◌then◌else◌, ◌&&◌, ◌+◌, ◌-◌, ◌||◌, answer_time, Bool, claim_time, false, last_count, max, min, nat_eq, nat_lt, None, not, Option, packet_time, patience_time, rest_time, slack, suc, true, ℕ}
+use Rattle.std.specs.Prelude.{if◌then◌else◌, ◌&&◌, ◌+◌, ◌-◌, ◌||◌}
+use Rattle.j39_node.specs.Common.{answer_time, Bool, claim_time, false, last_count, max, min, nat_eq, nat_lt, None, not, Option, packet_time, patience_time, rest_time, slack, suc, true, ℕ}
 use Rattle.j39_node.specs.declared.hold.Hold.{Hold}
 use Rattle.j39_node.specs.declared.hold.Standing.{Standing}
 use Rattle.j39_node.specs.declared.hold.Standing.TheVariants as standing

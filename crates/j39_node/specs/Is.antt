@@ -1,5 +1,6 @@
 -- The histories that a controller can have had.
-use Rattle.j39_node.specs.Common.{[], if◌then◌else◌, ◌&&◌, ◌++◌, ◌+◌, ◌-◌, ◌||◌, ◌∷◌, ◌≡◌, announced_by, Bool, BoxedReceiver, called_time, Cannot, claim_of, claim_time, Claiming, clear_to_send, drop, Err, false, FrameRecord, global_address, Heard, Holding, id_raw, Idle, Knows, last_count, length, limit_of, List, map, max, MessageRecord, min, name_raw, nat_eq, nat_le, nat_lt, None, not, null_address, Ok, Option, option_map, packets_of, pgn_raw, places, ReceptionRecord, recv_step, request_group, Result, slack, slice_get, slice_index, slice_set, Some, stamp_micros, Status, suc, ToSend, true, ℕ}
+use Rattle.std.specs.Prelude.{if◌then◌else◌, ◌&&◌, ◌++◌, ◌+◌, ◌-◌, ◌||◌, ◌∷◌, ◌≡◌}
+use Rattle.j39_node.specs.Common.{[], announced_by, Bool, BoxedReceiver, called_time, Cannot, claim_of, claim_time, Claiming, clear_to_send, drop, Err, false, FrameRecord, global_address, Heard, Holding, id_raw, Idle, Knows, last_count, length, limit_of, List, map, max, MessageRecord, min, name_raw, nat_eq, nat_le, nat_lt, None, not, null_address, Ok, Option, option_map, packets_of, pgn_raw, places, ReceptionRecord, recv_step, request_group, Result, slack, slice_get, slice_index, slice_set, Some, stamp_micros, Status, suc, ToSend, true, ℕ}
 use Rattle.j39_node.specs.declared.controller.Controller.{Controller}
 use Rattle.j39_node.specs.declared.hold.Hold.{Hold}
 use Rattle.j39_node.specs.declared.lane.Lane.{Lane}

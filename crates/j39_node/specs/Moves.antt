@@ -1,5 +1,6 @@
 -- What was taken and heard of the open transfer, by places of the history.
-use Rattle.j39_node.specs.Common.{[], if◌then◌else◌, ◌&&◌, ◌++◌, ◌+◌, ◌||◌, ◌∷◌, ◌≡◌, ◌≢◌, ◌≤◌, ◌⊎◌, Abort, Acknowledgment, Bool, false, FrameRecord, granted_by, length, List, MessageRecord, None, not, Ok, Option, Packet, packet_data, packets_of, request_of, said_between, slice_get, Some, true, ℕ}
+use Rattle.std.specs.Prelude.{if◌then◌else◌, ◌&&◌, ◌++◌, ◌+◌, ◌||◌, ◌∷◌, ◌≡◌, ◌≢◌, ◌≤◌, ◌⊎◌}
+use Rattle.j39_node.specs.Common.{[], Abort, Acknowledgment, Bool, false, FrameRecord, granted_by, length, List, MessageRecord, None, not, Ok, Option, Packet, packet_data, packets_of, request_of, said_between, slice_get, Some, true, ℕ}
 use Rattle.j39_node.specs.History.{Who, Call, Message, address_after, is_lost, message_of}
 use Rattle.j39_node.specs.Reception.{holder, is_move}
 use Rattle.j39_node.specs.History.Call.{At, TakeTransferEnded}

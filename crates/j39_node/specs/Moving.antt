@@ -1,5 +1,6 @@
 -- When a controller may move to another address, and what it is then.
-use Rattle.j39_node.specs.Common.{[], ◌&&◌, ◌+◌, ◌||◌, ◌∷◌, ◌≡◌, Bool, is_some, length, List, nat_eq, None, not, ℕ}
+use Rattle.std.specs.Prelude.{◌&&◌, ◌+◌, ◌||◌, ◌∷◌, ◌≡◌}
+use Rattle.j39_node.specs.Common.{[], Bool, is_some, length, List, nat_eq, None, not, ℕ}
 use Rattle.j39_node.specs.declared.controller.Controller.{Controller}
 use Rattle.j39_node.specs.History.{Who, Call, accepted, got, handed, kept, moment, open_broadcast, requests, told, told_claims}
 use Rattle.j39_node.specs.Reception.{has_place, reception}

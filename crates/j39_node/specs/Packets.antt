@@ -1,5 +1,6 @@
 -- The packets of one session, by the calls behind its RTS (J1939-21, 5.10.3).
-use Rattle.j39_node.specs.Common.{[], ◌++◌, ◌+◌, ◌∷◌, ◌≡◌, ◌≢◌, ◌≤◌, ◌⊎◌, Abort, Bool, false, FrameRecord, IsTrue, List, Option, Packet, RequestToSend, said_to, Signal, Some, source_of, suc, timer_t1, true, ℕ}
+use Rattle.std.specs.Prelude.{◌++◌, ◌+◌, ◌∷◌, ◌≡◌, ◌≢◌, ◌≤◌, ◌⊎◌}
+use Rattle.j39_node.specs.Common.{[], Abort, Bool, false, FrameRecord, IsTrue, List, Option, Packet, RequestToSend, said_to, Signal, Some, source_of, suc, timer_t1, true, ℕ}
 use Rattle.j39_node.specs.History.{Who, Call, address_after, holds, is_lost}
 use Rattle.j39_node.specs.History.Call.{At}
 use Rattle.j39_node.specs.History.Act.{Hear, Tick, TakeFrame}

@@ -1,5 +1,6 @@
 -- A driver that is prompt, by its calls alone.
-use Rattle.j39_node.specs.Common.{[], if◌then◌else◌, ◌&&◌, ◌++◌, ◌+◌, ◌||◌, ◌∷◌, ◌≡◌, ◌≤◌, Bool, destination_of, false, FrameRecord, List, None, not, slice_get, Some, suc, true, ℕ}
+use Rattle.std.specs.Prelude.{if◌then◌else◌, ◌&&◌, ◌++◌, ◌+◌, ◌||◌, ◌∷◌, ◌≡◌, ◌≤◌}
+use Rattle.j39_node.specs.Common.{[], Bool, destination_of, false, FrameRecord, List, None, not, slice_get, Some, suc, true, ℕ}
 use Rattle.j39_node.specs.Reception.{is_reply, reception}
 use Rattle.j39_node.specs.History.{is_some, is_transfer, is_packet, is_acknowledgment, is_claim, Call, moment, step, Message, Who}
 use Rattle.j39_node.specs.History.Call.{At, TakeBroadcastEnded, TakeTransferEnded}

@@ -1,5 +1,6 @@
 -- Histories of drivers that are prompt.
-use Rattle.j39_node.specs.Common.{[], ◌*◌, ◌++◌, ◌+◌, ◌∷◌, List, None, Ok, Some, suc, zero, ℕ}
+use Rattle.std.specs.Prelude.{◌*◌, ◌++◌, ◌+◌, ◌∷◌}
+use Rattle.j39_node.specs.Common.{[], List, None, Ok, Some, suc, zero, ℕ}
 use Rattle.j39_node.specs.History.{Call}
 use Rattle.j39_node.specs.History.Call.{At}
 use Rattle.j39_node.specs.History.Act.{Broadcast, Hear, Send, TakeFrame, Transfer}

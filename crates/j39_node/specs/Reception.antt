@@ -1,5 +1,6 @@
 -- Messages that come in packets to the address that is held (J1939-21, 5.10.3): what a history says of them.
-use Rattle.j39_node.specs.Common.{[], if◌then◌else◌, ◌&&◌, ◌*◌, ◌++◌, ◌+◌, ◌-◌, ◌==◌, ◌||◌, ◌∷◌, ◌≡◌, ◌⊎◌, Abort, address_claimed_group, answers, Bool, bytes_eq, called_time, Claim, claim_of, drop, false, FrameRecord, Heard, last_stamp, length, limit_of, List, MessageRecord, min, nat_eq, nat_lt, None, not, null_address, Option, option_map, Packet, partner_of, places, ReceiverRecord, ReceptionRecord, recv_step, RecvResult, result_of, said_to, Signal, slice_get, Some, source_of, suc, Ticks, timeout, timer_t2, ToSend, transport_control_group, true, WasHanded, ℕ}
+use Rattle.std.specs.Prelude.{if◌then◌else◌, ◌&&◌, ◌*◌, ◌++◌, ◌+◌, ◌-◌, ◌==◌, ◌||◌, ◌∷◌, ◌≡◌, ◌⊎◌}
+use Rattle.j39_node.specs.Common.{[], Abort, address_claimed_group, answers, Bool, bytes_eq, called_time, Claim, claim_of, drop, false, FrameRecord, Heard, last_stamp, length, limit_of, List, MessageRecord, min, nat_eq, nat_lt, None, not, null_address, Option, option_map, Packet, partner_of, places, ReceiverRecord, ReceptionRecord, recv_step, RecvResult, result_of, said_to, Signal, slice_get, Some, source_of, suc, Ticks, timeout, timer_t2, ToSend, transport_control_group, true, WasHanded, ℕ}
 use Rattle.j39_node.specs.History.{reached, Who, Message, Call, accepted, acknowledged, due, holds, asks_with, is_claim, is_session, is_smaller, is_some, is_transfer, message_of, stamp_at, of_other, is_acknowledgment}
 use Rattle.j39_node.specs.History.Call.{At, ReleaseTransfer}
 use Rattle.j39_node.specs.History.Act.{Hear, Tick, TakeFrame}

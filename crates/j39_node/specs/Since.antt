@@ -1,5 +1,6 @@
 -- Since when an address is claimed, and since when a frame of packets was taken, by places of the history.
-use Rattle.j39_node.specs.Common.{[], ◌++◌, ◌+◌, ◌∷◌, ◌≡◌, ◌≤◌, Bool, claim_of, false, FrameRecord, IsTrue, List, Some, true, ℕ}
+use Rattle.std.specs.Prelude.{◌++◌, ◌+◌, ◌∷◌, ◌≡◌, ◌≤◌}
+use Rattle.j39_node.specs.Common.{[], Bool, claim_of, false, FrameRecord, IsTrue, List, Some, true, ℕ}
 use Rattle.j39_node.specs.History.{Who, Call, claim_from, is_packet, is_smaller, message_of, moment, step}
 use Rattle.j39_node.specs.History.Call.{At, TakeTransferEnded}
 use Rattle.j39_node.specs.History.Act.{Again, Hear, TakeFrame}

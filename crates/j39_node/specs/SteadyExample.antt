@@ -1,5 +1,6 @@
 -- Histories of a driver that takes one frame at least in each second, and of frames that take turns.
-use Rattle.j39_node.specs.Common.{[], ◌++◌, ◌∷◌, FrameRecord, List, None, Ok, Some, ℕ}
+use Rattle.std.specs.Prelude.{◌++◌, ◌∷◌}
+use Rattle.j39_node.specs.Common.{[], FrameRecord, List, None, Ok, Some, ℕ}
 use Rattle.j39_node.specs.History.{Call}
 use Rattle.j39_node.specs.History.Call.{At}
 use Rattle.j39_node.specs.History.Act.{Broadcast, Hear, Send, TakeFrame, Transfer}

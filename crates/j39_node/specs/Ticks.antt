@@ -1,5 +1,6 @@
 -- The first moment at which a tick does something but let time pass; and a driver that ticks in time, by its calls alone.
-use Rattle.j39_node.specs.Common.{[], ◌++◌, ◌+◌, ◌∷◌, ◌≡◌, ◌≤◌, false, List, None, Option, packets_for, ReceptionRecord, Some, ℕ}
+use Rattle.std.specs.Prelude.{◌++◌, ◌+◌, ◌∷◌, ◌≡◌, ◌≤◌}
+use Rattle.j39_node.specs.Common.{[], false, List, None, Option, packets_for, ReceptionRecord, Some, ℕ}
 use Rattle.j39_node.specs.History.{Who, Call, moment, step}
 use Rattle.j39_node.specs.History.Call.{At}
 use Rattle.j39_node.specs.History.Act.{Tick}

@@ -1,5 +1,6 @@
 -- Messages sent to one address in packets (J1939-21, 5.10.2.4 and 5.10.3): what a history says of them.
-use Rattle.j39_node.specs.Common.{[], if◌then◌else◌, ◌&&◌, ◌++◌, ◌+◌, ◌-◌, ◌||◌, ◌∷◌, Abort, aborted, Bool, bytes_with, Err, false, FrameRecord, granted_by, group_with, is_idle, is_running, last_count, last_stamp, length, List, max, MessageRecord, min, nat_eq, nat_lt, new_sender, None, not, null_address, Ok, Option, option_map, rest_time, Result, said_between, send_step, SenderRecord, sends_in, SendState, Signal, slack, Some, Tick, true, ℕ}
+use Rattle.std.specs.Prelude.{if◌then◌else◌, ◌&&◌, ◌++◌, ◌+◌, ◌-◌, ◌||◌, ◌∷◌}
+use Rattle.j39_node.specs.Common.{[], Abort, aborted, Bool, bytes_with, Err, false, FrameRecord, granted_by, group_with, is_idle, is_running, last_count, last_stamp, length, List, max, MessageRecord, min, nat_eq, nat_lt, new_sender, None, not, null_address, Ok, Option, option_map, rest_time, Result, said_between, send_step, SenderRecord, sends_in, SendState, Signal, slack, Some, Tick, true, ℕ}
 use Rattle.j39_transport.specs.Sending.{Heard}
 use Rattle.j39_transport.specs.Sending as sending
 use Rattle.j39_node.specs.declared.kinds.TransferEnding.{TransferEnding}
