@@ -15,8 +15,8 @@ LIES(j1939_frame, 24);
 LIES(j1939_message, 1816);
 LIES(j1939_reading, 24);
 LIES(j1939_broadcast, 16);
-LIES(j1939_claims, 4064);
-LIES(j1939_node, 4088);
+LIES(j1939_claims, 2288);
+LIES(j1939_node, 2312);
 LIES(j1939_handle, 8);
 LIES(j1939_ended, 16);
 _Static_assert(offsetof(j1939_node, moment) == 16 && offsetof(j1939_node, claims) == 24, "j1939_node");
@@ -30,6 +30,12 @@ int32_t j39_name_compose(const j1939_name_fields *fields, uint64_t *name);
 int32_t j39_reading(const j1939_message *message, j1939_reading *reading, uint64_t index);
 int32_t j39_reading_text(const j1939_message *message, uint64_t index, char *text, uint64_t room);
 int32_t j39_raw_of(uint32_t spn, int64_t value, uint32_t *raw);
+int32_t j39_fault(const j1939_message *message, j1939_fault *fault, uint64_t index);
+int32_t j39_lamps(const j1939_message *message, j1939_lamps *lamps);
+int32_t j39_parameter_name(uint32_t spn, char *text, uint64_t room);
+int32_t j39_group_name(uint32_t pgn, char *text, uint64_t room);
+int32_t j39_function_name(uint8_t function, char *text, uint64_t room);
+int32_t j39_maker_name(uint16_t manufacturer, char *text, uint64_t room);
 int32_t j39_cut_frame(uint8_t source, uint32_t pgn, const uint8_t *payload, uint64_t size, uint16_t k, uint64_t micros,
                       j1939_frame *out);
 void j39_broadcast_init(j1939_broadcast *broadcast);
@@ -60,11 +66,8 @@ int32_t j39_sender_new(j1939_handle *sender, uint8_t source, uint8_t destination
 int32_t j39_sender_tick(j1939_handle *sender, uint64_t micros, j1939_frame *out);
 int32_t j39_sender_on(j1939_handle *sender, const j1939_frame *frame);
 int32_t j39_sender_state(j1939_handle *sender, uint8_t *reason);
-int32_t j39_controller_new(j1939_handle *controller, uint64_t name, uint8_t address, uint8_t delay,
-                           const uint32_t *served, uint64_t count);
-int32_t j39_controller_new_subscribed(j1939_handle *controller, uint64_t name, uint8_t address, uint8_t delay,
-                                      const uint32_t *served, uint64_t count, const uint32_t *wanted,
-                                      uint64_t wanted_count);
+int32_t j39_controller_new(j1939_handle *controller, const j1939_setup *setup, const uint32_t *served, uint64_t count,
+                           const uint32_t *subscribed, uint64_t subscribed_count);
 int32_t j39_controller_again(j1939_handle *controller, uint64_t micros);
 int32_t j39_controller_renew(j1939_handle *controller, uint8_t priority, uint32_t pgn, uint8_t to,
                              const uint8_t *payload, uint64_t size, uint64_t *token);
@@ -124,6 +127,30 @@ int32_t j1939_read_text(const j1939_message *message, size_t index, char *text, 
 
 int32_t j1939_raw_of(uint32_t spn, int64_t value, uint32_t *raw) {
     return raw ? j39_raw_of(spn, value, raw) : J1939_NULL;
+}
+
+int32_t j1939_fault_at(const j1939_message *message, size_t index, j1939_fault *fault) {
+    return message && fault ? j39_fault(message, fault, index) : J1939_NULL;
+}
+
+int32_t j1939_lamps_of(const j1939_message *message, j1939_lamps *lamps) {
+    return message && lamps ? j39_lamps(message, lamps) : J1939_NULL;
+}
+
+int32_t j1939_parameter_name(uint32_t spn, char *text, size_t room) {
+    return text ? j39_parameter_name(spn, text, room) : J1939_NULL;
+}
+
+int32_t j1939_group_name(uint32_t pgn, char *text, size_t room) {
+    return text ? j39_group_name(pgn, text, room) : J1939_NULL;
+}
+
+int32_t j1939_function_name(uint8_t function, char *text, size_t room) {
+    return text ? j39_function_name(function, text, room) : J1939_NULL;
+}
+
+int32_t j1939_maker_name(uint16_t manufacturer, char *text, size_t room) {
+    return text ? j39_maker_name(manufacturer, text, room) : J1939_NULL;
 }
 
 int32_t j1939_cut_frame(uint8_t source, uint32_t pgn, const uint8_t *payload, size_t size, uint16_t k, uint64_t micros,
@@ -272,20 +299,12 @@ int32_t j1939_sender_close(j1939_sender *sender) {
     return sender ? close_handle(&sender->handle) : J1939_NULL;
 }
 
-int32_t j1939_controller_new(j1939_controller *controller, uint64_t name, uint8_t address, uint8_t delay,
-                             const uint32_t *served, size_t count) {
+int32_t j1939_controller_new(j1939_controller *controller, const j1939_setup *setup) {
     static const uint32_t none[1] = {0};
-    if (!controller || (!served && count)) return J1939_NULL;
-    return j39_controller_new(&controller->handle, name, address, delay, served ? served : none, count);
-}
-
-int32_t j1939_controller_new_subscribed(j1939_controller *controller, uint64_t name, uint8_t address, uint8_t delay,
-                                        const uint32_t *served, size_t count, const uint32_t *wanted,
-                                        size_t wanted_count) {
-    static const uint32_t none[1] = {0};
-    if (!controller || (!served && count) || (!wanted && wanted_count)) return J1939_NULL;
-    return j39_controller_new_subscribed(&controller->handle, name, address, delay, served ? served : none, count,
-                                         wanted ? wanted : none, wanted_count);
+    if (!controller || !setup) return J1939_NULL;
+    if ((!setup->served && setup->served_count) || (!setup->subscribed && setup->subscribed_count)) return J1939_NULL;
+    return j39_controller_new(&controller->handle, setup, setup->served ? setup->served : none, setup->served_count,
+                              setup->subscribed ? setup->subscribed : none, setup->subscribed_count);
 }
 
 int32_t j1939_controller_hear(j1939_controller *controller, const j1939_frame *frame, uint64_t micros) {

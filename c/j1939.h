@@ -32,13 +32,13 @@
  *  - a pointer that is not NULL points to memory of its type, or of the size that you say (NULL is tested);
  *  - the memory of two parameters that are written to does not overlap;
  *  - a handle was set to J1939_EMPTY, or written by the library last; an open one is neither copied nor written by
- *    you;
+ *    you, but moved: copied once, and the old one set to J1939_EMPTY, with no call between;
  *  - one call at a time on the same handle, node or claims; none from a signal handler, while one may be running;
  *  - malloc, realloc and free may be called by several threads at once, where you call from several.
  *
  * Times are microseconds from any moment on, below 10^16; a time that goes back counts as no time passed. Addresses
- * are 0 to 253; 254 is the null address, 255 all. Sections are those of SAE J1939-21 (data link), -71 (application)
- * and -81 (network management).
+ * are 0 to 253; 254 is the null address, 255 all. Sections are those of SAE J1939-21 (data link), -71 (application),
+ * -73 (diagnostics) and -81 (network management).
  */
 #ifndef J1939_H
 #define J1939_H
@@ -177,6 +177,71 @@ int32_t j1939_read_text(const j1939_message *message, size_t index, char *text, 
  * @return 0, 1 */
 int32_t j1939_raw_of(uint32_t spn, int64_t value, uint32_t *raw);
 
+/* ---- trouble codes (J1939-73, 5.7) */
+
+/** A trouble code (J1939-73, 5.7.1). */
+typedef struct {
+    uint32_t spn;       /**< the parameter; by conversion method 1, by version 3 of the older ones */
+    uint32_t version_1; /**< by conversion method 1, by version 1; else as spn */
+    uint32_t version_2; /**< by conversion method 1, by version 2; else as spn */
+    uint8_t fmi;        /**< what is wrong with it, 0 to 31 */
+    uint8_t count;      /**< how often it came, 0 to 126; 127 where that is not available */
+    uint8_t conversion; /**< the conversion method, 0 or 1: its maker knows by which version */
+} j1939_fault;
+
+/** Reads trouble code number index, from 0 on, of a message of DM1 (65226), DM2 (65227), DM6 (65231), DM12 (65236), DM23
+ * (64949), DM27 (64898) or DM28 (64896). J1939_END behind the last, and for another group; J1939_BAD_VALUE as of j1939_read.
+ * @return 0, J1939_BAD_VALUE, J1939_END */
+int32_t j1939_fault_at(const j1939_message *message, size_t index, j1939_fault *fault);
+
+/** Whether a lamp is on. */
+enum j1939_lamp_state { J1939_LAMP_OFF = 0, J1939_LAMP_ON = 1, J1939_LAMP_RESERVED = 2, J1939_LAMP_NOT_AVAILABLE = 3 };
+
+/** How a lamp flashes. */
+enum j1939_lamp_flash {
+    J1939_FLASH_SLOW = 0,     /**< once a second */
+    J1939_FLASH_FAST = 1,     /**< twice a second or more */
+    J1939_FLASH_RESERVED = 2, /**< reserved */
+    J1939_FLASH_STEADY = 3    /**< it doesn't flash */
+};
+
+/** A lamp. */
+typedef struct {
+    uint8_t state; /**< J1939_LAMP_OFF and so on */
+    uint8_t flash; /**< J1939_FLASH_SLOW and so on */
+} j1939_lamp;
+
+/** The lamps of a message of trouble codes. */
+typedef struct {
+    j1939_lamp malfunction; /**< of emissions */
+    j1939_lamp red;         /**< the red stop lamp */
+    j1939_lamp amber;       /**< the amber warning lamp */
+    j1939_lamp protect;     /**< the protect lamp */
+} j1939_lamps;
+
+/** Reads the lamps of a message of the same groups. J1939_END for another group, and for less than two bytes.
+ * @return 0, J1939_BAD_VALUE, J1939_END */
+int32_t j1939_lamps_of(const j1939_message *message, j1939_lamps *lamps);
+
+/* ---- names, built in: of 1 to 80 bytes of ASCII, with no zero at the end */
+
+/** Writes out what a parameter is called: the name's length. J1939_NO_ROOM where it is longer than room; J1939_END where no
+ * name is known.
+ * @return 0 to room, J1939_NO_ROOM, J1939_END */
+int32_t j1939_parameter_name(uint32_t spn, char *text, size_t room);
+
+/** The same of a group: its short name, as EEC1.
+ * @return 0 to room, J1939_NO_ROOM, J1939_END */
+int32_t j1939_group_name(uint32_t pgn, char *text, size_t room);
+
+/** The same of a function of a NAME, below 128 (J1939-81, 4.1.1).
+ * @return 0 to room, J1939_NO_ROOM, J1939_END */
+int32_t j1939_function_name(uint8_t function, char *text, size_t room);
+
+/** The same of who makes a controller, by the manufacturer code of its NAME.
+ * @return 0 to room, J1939_NO_ROOM, J1939_END */
+int32_t j1939_maker_name(uint16_t manufacturer, char *text, size_t room);
+
 /* ---- broadcasts (J1939-21, 5.10.1 to 5.10.2) */
 
 /** Frame number k of the broadcast of these bytes, at a moment: 1 and the frame (0 is the announcement), 0 behind the
@@ -207,10 +272,8 @@ int32_t j1939_broadcast_poll(j1939_broadcast *broadcast, uint8_t source, uint32_
 
 /** Who holds which address. What stands in it is the library's. */
 typedef struct {
-    struct {
-        uint8_t is_held;
-        J1939_ALIGNED uint64_t name;
-    } places[254];
+    J1939_ALIGNED uint64_t names[254];
+    uint8_t are_held[254];
 } j1939_claims;
 
 /** Nobody holds an address.
@@ -403,30 +466,36 @@ int32_t j1939_sender_close(j1939_sender *sender);
  *    handed in: j1939_controller_tick; then .._take_frame until it answers 0, or, where the driver may have no room,
  *    .._peek_frame first; and then .._take_ended until it answers 0.
  *
- * What it hands out waits for you: 16 messages of one frame, 16 requests, and one message in packets of each kind. What
- * comes beyond is refused, or told by j1939_controller_missed.
+ * What it hands out waits for you: 16 messages of one frame, 16 requests, one message in packets to its address, and as
+ * many to all as .._new was given. What comes beyond is refused, or told by j1939_controller_missed.
  *
  * A call with a handle that holds no controller answers J1939_NO_PART, but for .._new and .._close, and where a frame,
  * a moment, a group or an acknowledgment is out of its range. Where a message is not accepted, by J1939_BAD_VALUE for
  * one of these nothing has changed, and else time alone has passed. J1939_NO_ADDRESS comes where no address is held,
  * before each other J1939_BAD_VALUE; J1939_FULL comes last. */
 
-/** Opens a controller of this NAME, that will claim this address, and whose program serves these groups: a request for
- * another group is refused. Its word that it can't claim an address waits for delay times 0.6 ms: a number by chance, so
- * that two that lose at once don't say it at once (J1939-81, 4.2.2). J1939_BAD_VALUE for an address above 253, more than 16 groups, or one of 2^18 and above.
- * Where count is 0, served may be NULL. It takes all its memory here: some 15 kB.
- * @return 0, J1939_BAD_VALUE, J1939_NO_MEMORY, J1939_IN_USE */
-int32_t j1939_controller_new(j1939_controller *controller, uint64_t name, uint8_t address, uint8_t delay,
-                             const uint32_t *served, size_t count);
+/** What a controller is made for. What isn't named in an initializer is 0, or NULL. */
+typedef struct {
+    J1939_ALIGNED uint64_t name;  /**< its NAME */
+    uint8_t address;              /**< the address that it will claim, 0 to 253 */
+    uint8_t delay;                /**< its word that it can't claim an address waits for delay times 0.6 ms: a number by
+                                       chance, so that two that lose at once don't say it at once (J1939-81, 4.2.2) */
+    uint8_t broadcasts;           /**< how many broadcasts in packets are heard at once or wait for you, one of each source at
+                                       a time: with as many as others announce to all, none is missed for want of a box */
+    uint8_t is_subscribed;        /**< not 0 where its program subscribes groups alone: messages of others, of one frame or
+                                       broadcast in packets, are neither handed out nor missed. What comes in packets to its
+                                       address is handed out in any case, and .._ask hears its answer of any group, unless
+                                       that is broadcast in packets */
+    const uint32_t *served;       /**< the groups that its program serves: a request for another is refused */
+    size_t served_count;          /**< how many these are, 0 to 16 */
+    const uint32_t *subscribed;   /**< the groups that it subscribes, where is_subscribed is not 0 */
+    size_t subscribed_count;      /**< how many these are, 0 to 64 */
+} j1939_setup;
 
-/** The same, but its program subscribes these groups alone: messages of others, of one frame or broadcast in packets, are
- * neither handed out nor missed. What comes in packets to its address is handed out in any case, and .._ask hears its
- * answer of any group, unless that is broadcast in packets. J1939_BAD_VALUE also for more than 64. Where wanted_count is
- * 0, wanted may be NULL.
+/** Opens a controller that is made for this. J1939_BAD_VALUE for an address above 253, more groups, or one of 2^18 and above.
+ * It takes all its memory here: some 12 kB, and 1.9 kB for each broadcast.
  * @return 0, J1939_BAD_VALUE, J1939_NO_MEMORY, J1939_IN_USE */
-int32_t j1939_controller_new_subscribed(j1939_controller *controller, uint64_t name, uint8_t address, uint8_t delay,
-                                        const uint32_t *served, size_t count, const uint32_t *wanted,
-                                        size_t wanted_count);
+int32_t j1939_controller_new(j1939_controller *controller, const j1939_setup *setup);
 
 /** Shows it a frame that another controller sent, of any group, at the moment of this call. The frame's own stamp may be
  * of another clock: it is handed on with what is received, and is no moment.
@@ -583,9 +652,9 @@ enum j1939_received_kind {
 };
 
 /** Takes a message that was received, each once: 0 where there is none; J1939_RECEIVED_FRAME and so on where it stands
- * in *message. It has no NAME, and its destination but where that is all by packets. Of J1939_RECEIVED_FRAME alone
- * *priority is written; requests and what the stack itself speaks are none. Of the two others by this there is room for
- * the next.
+ * in *message: with the NAME that held its source when its last frame was heard, if any, and its destination, which
+ * one to all in packets has not. Of J1939_RECEIVED_FRAME alone *priority is written; requests and what the stack itself
+ * speaks are none. Of the two others by this there is room for the next.
  * @return 0 to 3, J1939_NO_PART */
 int32_t j1939_controller_take_received(j1939_controller *controller, j1939_message *message, uint8_t *priority);
 

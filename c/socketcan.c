@@ -349,8 +349,12 @@ static void run(station *s, uint8_t preferred, uint64_t last) {
     s->start = moment();
     s->own = UINT64_MAX, s->wanted = NOBODY;
     s->values_due = s->faults_due = s->request_due = s->start + PATIENCE;
-    sure(j1939_controller_new(&s->controller, s->name, preferred, (uint8_t)s->start, SERVED,
-                              sizeof SERVED / sizeof SERVED[0]));
+    sure(j1939_controller_new(&s->controller, &(j1939_setup){.name = s->name,
+                                                             .address = preferred,
+                                                             .delay = (uint8_t)s->start,
+                                                             .broadcasts = 1,
+                                                             .served = SERVED,
+                                                             .served_count = sizeof SERVED / sizeof SERVED[0]}));
     while ((now = moment()) < last && !is_over) {
         if (s->socket < 0) regain_interface(s);
         due = now < s->start + s->begins ? s->start + s->begins : turn(s, now);

@@ -10,7 +10,11 @@ class Filter:
         self.senders = self.part(chance, "--from", lambda: self.sender(chance, names))
         self.to = self.part(chance, "--to", lambda: self.number(chance, chance.choice([255, 255, 0, 3, 11, 249]), "%X", "%02x"))
         self.pgns = self.part(chance, "--pgn", lambda: self.number(chance, chance.choice(groups + [65281]), "%d", "%06d"))
+        self.forms = set()
         self.since, self.until = (self.moment(chance, word, last) for word in ["--since", "--until"])
+        # What is said of two moments of one form, between which none lies.
+        is_turned = None not in (self.since, self.until) and self.until < self.since and len(self.forms) == 1
+        self.said = "j1939: --since is behind --until\n" if is_turned else ""
 
     def part(self, chance, word, one):
         if chance.random() < 0.6:
@@ -42,6 +46,7 @@ class Filter:
             text = moment.strftime("%Y-%m-%dT%H:%M:%S.") + "%06dZ" % (micros % 1_000_000)
         else:
             text = "+%d.%06d" % divmod(micros - self.first, 1_000_000)
+        self.forms.add(form == "behind")
         self.words += [word, text]
         return micros
 
@@ -50,7 +55,10 @@ class Filter:
         is_from = self.senders is None or any(asked in (("address", address), ("name", name)) for asked in self.senders)
         is_to = self.to is None or (255 if to is None else to) in self.to
         is_of = self.pgns is None or pgn in self.pgns
-        return is_from and is_to and is_of and (self.since is None or self.since <= now) and (self.until is None or now <= self.until)
+        return is_from and is_to and is_of and self.is_in_time(now)
+
+    def is_in_time(self, now):
+        return (self.since is None or self.since <= now) and (self.until is None or now <= self.until)
 
 
 def filter_of(chance, names, groups, lines):

@@ -27,6 +27,7 @@ static void null_pointers(void) {
     j1939_receiver receiver = J1939_EMPTY;
     j1939_sender sender = J1939_EMPTY;
     j1939_controller controller = J1939_EMPTY;
+    j1939_setup setup = {.name = 1}, serving = {.served_count = 1}, wanting = {.is_subscribed = 1, .subscribed_count = 1};
     j1939_request request;
     j1939_frame frame = {0};
     uint8_t byte = 0, changed[2];
@@ -40,6 +41,13 @@ static void null_pointers(void) {
     EXPECT(j1939_read_text(NULL, 0, text, sizeof text) == J1939_NULL);
     EXPECT(j1939_read_text(&message, 0, NULL, 0) == J1939_NULL);
     EXPECT(j1939_raw_of(190, 0, NULL) == J1939_NULL);
+    EXPECT(j1939_fault_at(NULL, 0, NULL) == J1939_NULL);
+    EXPECT(j1939_fault_at(&message, 0, NULL) == J1939_NULL);
+    EXPECT(j1939_lamps_of(&message, NULL) == J1939_NULL);
+    EXPECT(j1939_parameter_name(190, NULL, 0) == J1939_NULL);
+    EXPECT(j1939_group_name(61444, NULL, 0) == J1939_NULL);
+    EXPECT(j1939_function_name(0, NULL, 0) == J1939_NULL);
+    EXPECT(j1939_maker_name(10, NULL, 0) == J1939_NULL);
     EXPECT(j1939_cut_frame(0, 0, NULL, 9, 0, 0, &out) == J1939_NULL);
     EXPECT(j1939_broadcast_init(NULL) == J1939_NULL);
     EXPECT(j1939_broadcast_poll(&broadcast, 0, 0, payload, 9, 0, &out, NULL) == J1939_NULL);
@@ -70,11 +78,10 @@ static void null_pointers(void) {
     EXPECT(j1939_sender_on(&sender, NULL) == J1939_NULL);
     EXPECT(j1939_sender_state(NULL, &byte) == J1939_NULL);
     EXPECT(j1939_sender_close(NULL) == J1939_NULL);
-    EXPECT(j1939_controller_new(NULL, 0, 0, 0, NULL, 0) == J1939_NULL);
-    EXPECT(j1939_controller_new(&controller, 0, 0, 0, NULL, 1) == J1939_NULL);
-    EXPECT(j1939_controller_new_subscribed(NULL, 0, 0, 0, NULL, 0, NULL, 0) == J1939_NULL);
-    EXPECT(j1939_controller_new_subscribed(&controller, 0, 0, 0, NULL, 1, NULL, 0) == J1939_NULL);
-    EXPECT(j1939_controller_new_subscribed(&controller, 0, 0, 0, NULL, 0, NULL, 1) == J1939_NULL);
+    EXPECT(j1939_controller_new(NULL, &setup) == J1939_NULL);
+    EXPECT(j1939_controller_new(&controller, NULL) == J1939_NULL);
+    EXPECT(j1939_controller_new(&controller, &serving) == J1939_NULL);
+    EXPECT(j1939_controller_new(&controller, &wanting) == J1939_NULL);
     EXPECT(j1939_controller_hear(&controller, NULL, 0) == J1939_NULL);
     EXPECT(j1939_controller_tick(NULL, 0) == J1939_NULL);
     EXPECT(j1939_controller_again(NULL, 0) == J1939_NULL);
@@ -293,6 +300,43 @@ static void readings(void) {
     EXPECT(reading.number == 1500000 && reading.places == 3 && strcmp(reading.unit, "rpm") == 0);
     EXPECT(j1939_raw_of(190, 1500000, &raw) == 1 && raw == 12000);
     EXPECT(j1939_raw_of(190, 1, &raw) == 0 && raw == 12000);
+}
+
+/* A DM1 of two codes, of conversion method 0 and 1: amber is on and flashes fast (J1939-73, 5.7.1). */
+static void faults(void) {
+    const uint8_t codes[] = {0x04, 0xF7, 110, 0, 0xE0 | 3, 5, 0x12, 0x34, 0x5F, 0xFF};
+    j1939_fault fault;
+    j1939_lamps lamps;
+    message.pgn = 65226, message.len = sizeof codes;
+    memcpy(message.data, codes, sizeof codes);
+    EXPECT(j1939_fault_at(&message, 0, &fault) == 0 && fault.spn == 7 * 65536 + 110 && fault.fmi == 3 && fault.count == 5);
+    EXPECT(fault.conversion == 0 && fault.version_1 == fault.spn && fault.version_2 == fault.spn);
+    EXPECT(j1939_fault_at(&message, 1, &fault) == 0 && fault.fmi == 31 && fault.count == 127 && fault.conversion == 1);
+    EXPECT(fault.version_1 == 0x12 * 2048 + 0x34 * 8 + 2 && fault.version_2 == 0x34 * 2048 + 0x12 * 8 + 2);
+    EXPECT(fault.spn == 2 * 65536 + 0x3412);
+    EXPECT(j1939_fault_at(&message, 2, &fault) == J1939_END);
+    EXPECT(j1939_lamps_of(&message, &lamps) == 0);
+    EXPECT(lamps.amber.state == J1939_LAMP_ON && lamps.amber.flash == J1939_FLASH_FAST);
+    EXPECT(lamps.red.state == J1939_LAMP_OFF && lamps.red.flash == J1939_FLASH_STEADY);
+    message.len = 1;
+    EXPECT(j1939_lamps_of(&message, &lamps) == J1939_END);
+    message.len = sizeof codes, message.pgn = 65228;
+    EXPECT(j1939_fault_at(&message, 0, &fault) == J1939_END && j1939_lamps_of(&message, &lamps) == J1939_END);
+    message.pgn = 1u << 18;
+    EXPECT(j1939_fault_at(&message, 0, &fault) == J1939_BAD_VALUE);
+    EXPECT(j1939_lamps_of(&message, &lamps) == J1939_BAD_VALUE);
+}
+
+static void names(void) {
+    char text[80];
+    EXPECT(j1939_parameter_name(190, text, sizeof text) == 12 && memcmp(text, "engine speed", 12) == 0);
+    EXPECT(j1939_parameter_name(190, text, 11) == J1939_NO_ROOM);
+    EXPECT(j1939_parameter_name(0xFFFFFFFF, text, sizeof text) == J1939_END);
+    EXPECT(j1939_group_name(61444, text, 4) == 4 && memcmp(text, "EEC1", 4) == 0);
+    EXPECT(j1939_function_name(0, text, sizeof text) == 6 && memcmp(text, "engine", 6) == 0);
+    EXPECT(j1939_function_name(128, text, sizeof text) == J1939_END);
+    EXPECT(j1939_maker_name(10, text, sizeof text) == 7 && memcmp(text, "Cummins", 7) == 0);
+    EXPECT(j1939_maker_name(0xFFFF, text, sizeof text) == J1939_END);
 }
 
 static void transfers(void) {
@@ -610,6 +654,46 @@ static void packets_of(j1939_controller *controller) {
     EXPECT(j1939_controller_take_received(controller, &message, &priority) == 0);
 }
 
+/* Who held the source when a message was heard: nobody, then one, then one of a smaller NAME. */
+static void senders_of(j1939_controller *controller) {
+    j1939_frame single = {.micros = 7600000, .id = 0x18FEEE82, .len = 8};
+    j1939_frame claim = {.micros = 7600000, .id = 0x18EEFF82, .len = 8, .data = {9, 0, 0, 0, 0, 0, 0, 0x80}};
+    j1939_frame next, rts = bam;
+    uint8_t priority;
+    EXPECT(j1939_controller_hear(controller, &single, 7600000) == 0);
+    EXPECT(j1939_controller_hear(controller, &claim, 7600000) == 0);
+    EXPECT(j1939_controller_hear(controller, &single, 7600000) == 0);
+    rts.id = 0x1CECFF82;
+    EXPECT(j1939_controller_hear(controller, &rts, 7600000) == 0);
+    for (uint8_t k = 1; k <= 3; k++) {
+        next = packet(k);
+        next.id = 0x1CEBFF82;
+        EXPECT(j1939_controller_hear(controller, &next, 7600000) == 0);
+    }
+    rts.id = 0x1CEC8082, rts.data[0] = 0x10, rts.data[4] = 0xFF;
+    EXPECT(j1939_controller_hear(controller, &rts, 7600000) == 0);
+    EXPECT(taken(controller, 7600000) == 0x1CEC8280 && out.data[0] == 0x11);
+    for (uint8_t k = 1; k <= 3; k++) {
+        next = packet(k);
+        next.id = 0x1CEB8082;
+        EXPECT(j1939_controller_hear(controller, &next, 7600000) == 0);
+    }
+    EXPECT(taken(controller, 7600000) == 0x1CEC8280 && out.data[0] == 0x13);
+    claim.data[0] = 8;
+    EXPECT(j1939_controller_hear(controller, &claim, 7600000) == 0);
+    EXPECT(j1939_controller_hear(controller, &single, 7600000) == 0);
+    EXPECT(j1939_controller_take_received(controller, &message, &priority) == J1939_RECEIVED_FRAME && !message.is_named);
+    EXPECT(j1939_controller_take_received(controller, &message, &priority) == J1939_RECEIVED_FRAME && message.is_named);
+    EXPECT(message.name == 0x8000000000000009);
+    EXPECT(j1939_controller_take_received(controller, &message, &priority) == J1939_RECEIVED_FRAME && message.is_named);
+    EXPECT(message.name == 0x8000000000000008);
+    EXPECT(j1939_controller_take_received(controller, &message, &priority) == J1939_RECEIVED_TRANSFER);
+    EXPECT(message.is_named && message.name == 0x8000000000000009 && message.source == 0x82 && message.len == 20);
+    EXPECT(j1939_controller_take_received(controller, &message, &priority) == J1939_RECEIVED_BROADCAST);
+    EXPECT(message.is_named && message.name == 0x8000000000000009 && message.source == 0x82 && !message.is_addressed);
+    EXPECT(j1939_controller_take_received(controller, &message, &priority) == 0);
+}
+
 /* Its address is lost to a smaller NAME. */
 static void loss_of(j1939_controller *controller) {
     j1939_frame claim = {.micros = 7900000, .id = 0x18EEFF80, .len = 8};
@@ -658,24 +742,30 @@ static void move_of(j1939_controller *controller) {
 
 static void controllers(void) {
     static const uint32_t served[17] = {65260}, no_group[1] = {1u << 18};
+    j1939_setup setup = {.name = 1, .address = 254, .delay = 10, .broadcasts = 1, .served = served, .served_count = 16};
     j1939_controller controller = J1939_EMPTY;
     j1939_listener foreign = J1939_EMPTY;
-    EXPECT(j1939_controller_new(&controller, 1, 254, 0, NULL, 0) == J1939_BAD_VALUE);
-    EXPECT(j1939_controller_new(&controller, 1, 0x80, 10, served, 17) == J1939_BAD_VALUE);
-    EXPECT(j1939_controller_new(&controller, 1, 0x80, 10, no_group, 1) == J1939_BAD_VALUE);
+    EXPECT(j1939_controller_new(&controller, &setup) == J1939_BAD_VALUE);
+    setup.address = 0x80, setup.served_count = 17;
+    EXPECT(j1939_controller_new(&controller, &setup) == J1939_BAD_VALUE);
+    setup.served = no_group, setup.served_count = 1;
+    EXPECT(j1939_controller_new(&controller, &setup) == J1939_BAD_VALUE);
+    setup.served = served, setup.served_count = 16;
     for (long granted = 0; granted < 3; granted++) {
         allowed = granted;
-        EXPECT(j1939_controller_new(&controller, 1, 0x80, 10, served, 1) == J1939_NO_MEMORY && !controller.handle.part);
+        EXPECT(j1939_controller_new(&controller, &setup) == J1939_NO_MEMORY && !controller.handle.part);
     }
     allowed = -1;
     EXPECT(j1939_listener_new(&foreign) == 0);
     no_controller(&controller);
     no_controller((j1939_controller *)&foreign);
     controller_in_range((j1939_controller *)&foreign);
-    EXPECT(j1939_controller_new((j1939_controller *)&foreign, 1, 254, 0, NULL, 0) == J1939_IN_USE);
+    setup.address = 254;
+    EXPECT(j1939_controller_new((j1939_controller *)&foreign, &setup) == J1939_IN_USE);
     EXPECT(j1939_listener_close(&foreign) == 0);
-    EXPECT(j1939_controller_new(&controller, 1, 0x80, 10, served, 16) == 0);
-    EXPECT(j1939_controller_new(&controller, 1, 0x80, 10, served, 16) == J1939_IN_USE);
+    setup.address = 0x80;
+    EXPECT(j1939_controller_new(&controller, &setup) == 0);
+    EXPECT(j1939_controller_new(&controller, &setup) == J1939_IN_USE);
     allowed = 0; /* from here on it takes no memory */
     controller_in_range(&controller);
     claim_of(&controller);
@@ -684,6 +774,7 @@ static void controllers(void) {
     again_of(&controller);
     hearing_of(&controller);
     packets_of(&controller);
+    senders_of(&controller);
     loss_of(&controller);
     move_of(&controller);
     allowed = -1;
@@ -717,13 +808,16 @@ static void const_handles(void) {
 /* Of two groups it subscribes one. */
 static void subscribed(void) {
     static const uint32_t wanted[65] = {65262}, no_group[1] = {1u << 18};
+    j1939_setup setup = {.name = 1, .address = 0x80, .broadcasts = 1, .is_subscribed = 1, .subscribed = wanted, .subscribed_count = 65};
     j1939_controller controller = J1939_EMPTY;
     j1939_frame heard = {.micros = 1, .id = 0x18FEEF81, .len = 8};
     uint8_t priority;
-    EXPECT(j1939_controller_new_subscribed(&controller, 1, 0x80, 0, NULL, 0, wanted, 65) == J1939_BAD_VALUE);
-    EXPECT(j1939_controller_new_subscribed(&controller, 1, 0x80, 0, NULL, 0, no_group, 1) == J1939_BAD_VALUE);
-    EXPECT(j1939_controller_new_subscribed(&controller, 1, 0x80, 0, NULL, 0, wanted, 64) == 0);
-    EXPECT(j1939_controller_new_subscribed(&controller, 1, 0x80, 0, NULL, 0, wanted, 64) == J1939_IN_USE);
+    EXPECT(j1939_controller_new(&controller, &setup) == J1939_BAD_VALUE);
+    setup.subscribed = no_group, setup.subscribed_count = 1;
+    EXPECT(j1939_controller_new(&controller, &setup) == J1939_BAD_VALUE);
+    setup.subscribed = wanted, setup.subscribed_count = 64;
+    EXPECT(j1939_controller_new(&controller, &setup) == 0);
+    EXPECT(j1939_controller_new(&controller, &setup) == J1939_IN_USE);
     EXPECT(j1939_controller_hear(&controller, &heard, heard.micros) == 0);
     EXPECT(j1939_controller_take_received(&controller, &message, &priority) == 0);
     heard.id = 0x18FEEE81;
@@ -739,6 +833,8 @@ int main(void) {
     claims();
     listeners();
     readings();
+    faults();
+    names();
     assemblers();
     transfers();
     broadcasts();

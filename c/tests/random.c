@@ -174,7 +174,7 @@ static void empty_controller(j1939_controller *controller) {
     }
     answered(answer, J1939_NO_PART, 0);
     while ((answer = j1939_controller_take_received(controller, &message, &priority)) > 0) {
-        EXPECT(answer <= J1939_RECEIVED_BROADCAST && message.len <= J1939_LONGEST && !message.is_named && priority < 8);
+        EXPECT(answer <= J1939_RECEIVED_BROADCAST && message.len <= J1939_LONGEST && priority < 8);
         EXPECT((answer == J1939_RECEIVED_FRAME) == (message.len < 9));
         mix((uint64_t)answer), mix(priority), mix_message();
     }
@@ -224,10 +224,13 @@ static void call_controller(j1939_controller *controller, uint8_t address) {
     size_t size = (size_t)(next() % 64 ? 9 + next() % 20 : next() % sizeof payload);
     uint8_t priority = (uint8_t)(next() % 9), delay = (uint8_t)next();
     uint32_t pgn = next() % 2 ? 65260 : 65262;
+    j1939_setup setup = {.name = name, .address = address, .delay = delay, .broadcasts = 1, .served = served, .served_count = 2,
+                         .subscribed = wanted, .subscribed_count = 3};
     payload[next() % sizeof payload] = (uint8_t)size;
     switch (next() % 15) {
     case 0:
-        answered(j1939_controller_new(controller, name, address, delay, served, 2 + !(next() % 8)), J1939_IN_USE, 0);
+        setup.served_count = 2 + !(next() % 8);
+        answered(j1939_controller_new(controller, &setup), J1939_IN_USE, 0);
         break;
     case 1:
         if (next() % 256 == 0) answered(j1939_controller_close(controller), 0, 0);
@@ -249,7 +252,8 @@ static void call_controller(j1939_controller *controller, uint8_t address) {
         answered(j1939_controller_withdraw(controller, next() % 64), J1939_NO_PART, 1);
         break;
     case 12:
-        answered(j1939_controller_new_subscribed(controller, name, address, delay, served, 2, wanted, 3), J1939_IN_USE, 0);
+        setup.is_subscribed = 1;
+        answered(j1939_controller_new(controller, &setup), J1939_IN_USE, 0);
         break;
     default: answered(j1939_controller_hear(controller, &frame, frame.micros), J1939_NO_PART, 0);
     }

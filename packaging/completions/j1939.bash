@@ -17,7 +17,7 @@ _j1939_options() {
     answer) echo --name --address --bus --help -h ;;
     cut) echo --source --pgn --at --bus --help -h ;;
     groups) echo --table --help -h ;;
-    survey) echo --bus --table --help -h ;;
+    survey) echo --bus --table --csv --json --help -h ;;
     watch) echo --bus --table --rows --width --help -h ;;
     id | name) echo --help -h ;;
   esac

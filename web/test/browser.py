@@ -124,6 +124,11 @@ class Trial:
                  log.name, log.read_text("latin-1"))
         self.until("return document.body.dataset.done")
 
+    def finished(self):
+        """What was saved: what the browser still writes is hidden or has a name of its own."""
+        left = list(self.downloads.iterdir())
+        return left[0] if len(left) == 1 and left[0].name[0] != "." and left[0].suffix != ".crdownload" else None
+
     def download(self, button):
         """The bytes that a button saves."""
         for old in self.downloads.iterdir():
@@ -131,9 +136,9 @@ class Trial:
         self.browser.find_element(By.ID, button).click()
         for _ in range(400):
             time.sleep(0.05)
-            left = list(self.downloads.iterdir())
-            if len(left) == 1 and left[0].suffix != ".crdownload" and left[0].stat().st_size:
-                return left[0].read_bytes()
+            file = self.finished()
+            if file and file.stat().st_size:
+                return file.read_bytes()
         return b""
 
     def saved(self, button, want, what):
@@ -144,8 +149,8 @@ class Trial:
         end, is_so = time.time() + 20, False
         while not is_so and time.time() < end:
             time.sleep(0.05)
-            left = list(self.downloads.iterdir())
-            is_so = len(left) == 1 and left[0].suffix != ".crdownload" and left[0].read_bytes() == want
+            file = self.finished()
+            is_so = file is not None and file.read_bytes() == want
         self.check(is_so, what)
 
     def picture(self, file, width, first="html", last="html"):

@@ -29,7 +29,7 @@ pub record IsHeard (old : Player) (f : FrameRecord) (new : Player) : Type 0 wher
   pub obeyed : Controller
   pub obeys : Calls is_taking heard obeyed
   pub aim : Option ℕ
-  pub commanded : (w : Who) (H : List Call) → Is w H heard → aim ≡ target (command_to (name_raw old.name) (waiting w H)) old.commanded
+  pub commanded : (w : Who) (H : List Call) → Is w H heard → aim ≡ target (command_to (name_raw old.name) (slice_get (waiting w H) 0)) old.commanded
   pub moves : Moves aim obeyed new.commanded (controller_of new)
   pub rest : new ≡ record old { station = new.station; commanded = new.commanded }
 

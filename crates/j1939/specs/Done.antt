@@ -1,5 +1,5 @@
 -- What the program does for its words: a task over its log and by its table, or what is told in its place.
-use Rattle.std.specs.Prelude.{◌≡◌, ◌⊎◌, ◌↔◌, ◌∷◌, ℕ, false, true, IfOk, List, [], MatchOption, MatchResult, Option, codes, length}
+use Rattle.std.specs.Prelude.{◌≡◌, ◌⊎◌, ◌↔◌, ◌∷◌, ℕ, false, true, IfOk, List, [], MatchOption, MatchResult, Option, codes, length, map}
 use Rattle.std.specs.List.{All, Contains}
 use Rattle.j39_io.specs.Turn.{Device, Turn}
 use Rattle.j39_groups.specs.Row.{RowRecord}
@@ -11,7 +11,7 @@ use Rattle.j39_cli.specs.Answer.{Answer}
 use Rattle.j39_cli.specs.CommandWords.{CommandWords, HasValues, IsAnswer, words_of}
 use Rattle.j39_cli.specs.Joined.{joined_known}
 use Rattle.j39_cli.specs.LogCommand.{inputs_of}
-use Rattle.j39_cli.specs.Order.{IsSpanOfSome, Span, order_text}
+use Rattle.j39_cli.specs.FileEnds.{Ends, IsEndsOfSome, files_text}
 use Rattle.j39_cli.specs.OwnTable.{table_line}
 use Rattle.j39_cli.specs.Refusal.{IsHelp, IsWrongLine, error_line, error_words, folder_line, out_words}
 use Rattle.j39_cli.specs.Spelling.{IsSpelled}
@@ -41,13 +41,14 @@ abbrev pub TellsFault : List ℕ → TableFault → ℕ → Turn → Turn → Ty
 TellsFault name fault status out err = TellsLine (table_line name fault) status out err
 
 -- the task was performed by these rows over what each of its FILEs holds, one behind the other, as one log that no fault has
--- come to; before that it was told which of them begins before the one before it ends, by what was seen at both ends of each
+-- come to; before that it was told which of them is no log and which begins before the end of those before it, by what was seen at
+-- both ends of each
 pub record IsDoneOver (rows : List RowRecord) (task : Task) (status : ℕ) (out err : Turn) : Type 0 where
-  pub spans : List Span
-  pub each_span : length spans ≡ length (files_of task)
-  pub seen : All IsSpanOfSome spans
+  pub ends : List Ends
+  pub of_each : map (λ (e : Ends). e.file) ends ≡ files_of task
+  pub seen : All IsEndsOfSome ends
   pub between : Device
-  pub told : Tells (record { old = err.old; new = between }) (order_text (files_of task) spans)
+  pub told : Tells (record { old = err.old; new = between }) (files_text ends)
   pub held : List (Option (List ℕ))
   pub each : length held ≡ length (inputs_of (files_of task))
   pub log : Turn

@@ -16,7 +16,7 @@ mod table;
 use input::{Unopened, opened};
 use j39_cli::{
     Joined, ParseFault, Task, asks_for_unknown, asks_input_twice, not_a_file, parse, perform_with,
-    refuse, tell_order, unopened, wrong_table,
+    refuse, tell_files, unopened, wrong_table,
 };
 use j39_groups::Groups;
 use j39_io::{Sink, Told};
@@ -194,7 +194,7 @@ fn over<W: Sink, E: Sink>(
 {
     match opened(rt, task.files()) {
         Ok(logs) => {
-            tell_order(task.files(), logs.spans.as_slice(), err);
+            tell_files(logs.seen.as_slice(), err);
             let mut log = Joined::new(logs.first, logs.later);
             perform_with(rt.alloc(), groups, task, &mut log, out, err)
         }

@@ -2,7 +2,6 @@
 use Rattle.std.specs.Prelude.{ℕ, zero, suc, List, get_or, Option, None, Some}
 use Rattle.std.specs.Option.{option_map}
 use Rattle.j39_address.specs.declared.claims.Claims.{Claims}
-use Rattle.j39_address.specs.declared.claims.Holder.{Holder}
 use Rattle.j39_address.specs.declared.name.Name.{Name}
 use Rattle.j39_address.specs.Name.{name_raw}
 use Rattle.j39_frame.specs.Frame.{FrameRecord}
@@ -14,15 +13,9 @@ abbrev pub name_if : ℕ → Name → Option Name
 name_if zero n = None
 name_if (suc k) n = Some n
 
-abbrev pub name_at : Holder → Option Name
-name_at p = name_if p.is_held p.name
-
-abbrev pub nobody : Holder
-nobody = record { is_held = 0; name = record { bits = 0 } }
-
 -- the holder of a that the table has
 abbrev pub holder_in : Claims → ℕ → Option ℕ
-holder_in table a = option_map name_raw (name_at (get_or table.holders a nobody))
+holder_in table a = option_map name_raw (name_if (get_or table.are_held a 0) (get_or table.names a (record { bits = 0 })))
 
 -- the table has, for each address, its holder after the claims
 abbrev pub StandsFor : Claims → List (Option Claim) → Type 0

@@ -7,7 +7,7 @@ ghost use Rattle.j39_address.specs.Name.{name_raw};
 ghost use Rattle.j39_address.specs.Claim.{Claim, claim_by, claims_of};
 ghost use Rattle.j39_address.specs.Holder.{IsHolderAfter};
 ghost use Rattle.j39_address.specs.Changes.{AreChanged};
-ghost use Rattle.j39_address.specs.Claims.{Knows, StandsFor, holder_in, name_at, nobody};
+ghost use Rattle.j39_address.specs.Claims.{Knows, StandsFor, holder_in};
 ghost use Rattle.j39_address.specs.Noting.{Leaves, Takes, in_order};
 
 use crate::{Name, claim_of};
@@ -21,43 +21,10 @@ const PLACES: usize = 254;
 #[repr(C)]
 #[derive(Drop)]
 pub struct Claims {
-    holders: [Holder; PLACES],
-}
-
-/// The holder of one address.
-#[repr(C)]
-#[derive(Clone, Copy)]
-struct Holder {
-    /// 0 where nobody holds it.
-    is_held: u8,
-    name: Name,
-}
-
-impl Holder {
-    fn of(name: Name) -> Holder
-        ensures { name_at result ≡ Some name }
-    {
-        Holder { is_held: 1, name }
-    }
-
-    fn nobody() -> Holder
-        ensures { result ≡ nobody }
-    {
-        Holder {
-            is_held: 0,
-            name: Name::new(0),
-        }
-    }
-
-    fn holder(self) -> Option<Name>
-        ensures { result ≡ name_at self }
-    {
-        if self.is_held == 0 {
-            None
-        } else {
-            Some(self.name)
-        }
-    }
+    /// The NAME that holds each address, where one does.
+    names: [Name; PLACES],
+    /// 0 for each address that nobody holds.
+    are_held: [u8; PLACES],
 }
 
 impl Claims {
@@ -66,7 +33,8 @@ impl Claims {
         ensures { Knows result [] }
     {
         Claims {
-            holders: [Holder::nobody(); PLACES],
+            names: [Name::new(0); PLACES],
+            are_held: [0; PLACES],
         }
     }
 
@@ -77,8 +45,9 @@ impl Claims {
         ensures holder { (F : List FrameRecord) → Knows self.now F
             → IsHolderAfter (claims_of F) address (option_map name_raw result) }
     {
-        if is_address(address) {
-            self.holders[usize::from(address)].holder()
+        let place = usize::from(address);
+        if is_address(address) && self.are_held[place] != 0 {
+            Some(self.names[place])
         } else {
             None
         }
@@ -119,7 +88,7 @@ impl Claims {
             return None;
         }
         let held = self.address_of(name)?;
-        self.holders[usize::from(held)] = Holder::nobody();
+        self.are_held[usize::from(held)] = 0;
         Some(held)
     }
 
@@ -143,13 +112,14 @@ impl Claims {
         if !is_address(address) {
             return None;
         }
-        let place = usize::from(address);
-        if let Some(held) = self.holders[place].holder() {
+        if let Some(held) = self.holder(address) {
             if held.raw() <= name.raw() {
                 return None;
             }
         }
-        self.holders[place] = Holder::of(name);
+        let place = usize::from(address);
+        self.names[place] = name;
+        self.are_held[place] = 1;
         Some(address)
     }
 }

@@ -1,6 +1,6 @@
 -- The units of the built-in table are short.
-use Rattle.std.proofs.Common.{◌≡◌, ◌∙◌, ◌+◌, ◌-◌, ◌/◌, ◌%◌, ◌^◌, ◌==◌, ℕ, List, [], ◌∷◌, Bool, true, false, Some, None, ap, arith, drop, inl, inr, length, map, refl, subst, take}
-use Rattle.std.specs.Prelude.{◌+ℤ◌, ◌*ℤ◌, ◌&&◌, ◌||◌, Option, if◌then◌else◌, nat_le, nat_lt, pos, slice_get}
+use Rattle.std.proofs.Common.{◌≡◌, ◌∙◌, ◌+◌, ◌-◌, ◌/◌, ◌%◌, ◌^◌, ◌==◌, ℕ, List, [], ◌∷◌, Bool, true, false, Some, None, ap, drop, inl, inr, length, refl, subst, take}
+use Rattle.std.specs.Prelude.{◌+ℤ◌, ◌*ℤ◌, ◌&&◌, Option, if◌then◌else◌, nat_le, nat_lt, pos, slice_get}
 use Rattle.std.specs.List.{filter_map, flat_map, list_all}
 use Rattle.std.specs.Option.{option_and_then, option_map, option_to_list}
 use Rattle.std.proofs.lemmas.Bool.{and_parts, cases_Bool}

@@ -1,5 +1,5 @@
 -- What a controller answers to C, by the histories of its calls.
-use Rattle.std.specs.Prelude.{◌≡◌, ◌<◌, ◌≤◌, ◌^◌, ◌+◌, min, ◌∷◌, ◌++◌, [], ℕ, zero, suc, ℤ, pos, negsuc, nat_eq, nat_lt, Bool, true, false, Option, Some, None, IfSome, IsSomeAnd, Result, Ok, Err, List, length, if◌then◌else◌}
+use Rattle.std.specs.Prelude.{◌≡◌, ◌<◌, ◌≤◌, ◌^◌, ◌+◌, min, ◌∷◌, ◌++◌, [], ℕ, zero, suc, ℤ, pos, negsuc, ◌==◌, nat_eq, nat_lt, Bool, true, false, Option, Some, None, IfSome, IsSomeAnd, Result, Ok, Err, List, length, if◌then◌else◌, slice_get}
 use Rattle.std.specs.Option.{option_map}
 use Rattle.std.specs.List.{list_all}
 use Rattle.j39_address.specs.Claim.{claims_of}
@@ -7,12 +7,12 @@ use Rattle.j39_address.specs.Holder.{IsHolderAfter}
 use Rattle.j39_address.specs.Node.{IsLeastFree, NoneFree}
 use Rattle.j39_frame.specs.Address.{IsAddress}
 use Rattle.j39_transport.specs.Message.{MessageRecord}
-use Rattle.j39_node.specs.History.{Act, Asked, Call, Message, Who, nothing, missed, told_claims}
+use Rattle.j39_node.specs.History.{Act, Asked, Call, Message, Who, got, nothing, missed, told_claims}
 use Rattle.j39_node.specs.History.Call.{At, ReleaseBroadcast, ReleaseTransfer, TakeAskEnded, TakeBroadcastEnded, TakeEnded, TakeReceived, TakeTransferEnded, Withdraw}
-use Rattle.j39_node.specs.Hearing.{unheard, waiting}
+use Rattle.j39_node.specs.Hearing.{broadcast_senders, unheard, waiting}
 use Rattle.j39_node.specs.Is.{Is}
 use Rattle.j39_node.specs.Moving.{HasMoved, IsSettled}
-use Rattle.j39_node.specs.Reception.{reception}
+use Rattle.j39_node.specs.Reception.{reception, senders, transfer_sender}
 use Rattle.j39_node.specs.declared.controller.Controller.{Controller}
 use Rattle.j39_node.specs.declared.kinds.Answer.{Answer}
 use Rattle.j39_node.specs.declared.kinds.Answer.TheVariants.{Ack, Nack, Denied, Busy}
@@ -26,6 +26,7 @@ use Rattle.j39_node.specs.declared.kinds.Refused.{Refused}
 use Rattle.j39_node.specs.declared.kinds.Refused.TheVariants.{NoAddress, BadValue, Full}
 use Rattle.j39_node.specs.declared.kinds.TransferEnding.{TransferEnding}
 use Rattle.j39_node.specs.declared.kinds.TransferEnding.TheVariants as transfer
+use Rattle.j39_c.specs.declared.controller.PlainSetup.{PlainSetup}
 use Rattle.j39_c.specs.Codes.{bad_value, full, no_address, no_part}
 use Rattle.j39_c.specs.Messages.{hearing_in}
 use Rattle.j39_c.specs.Parts.{controller_in}
@@ -66,10 +67,21 @@ pub record CanServe (address : ℕ) (served : List ℕ) (subscribed : Option (Li
   pub can_read : CanRead 16 served
   pub can_subscribe : CanSubscribe subscribed
 
+-- the groups that are subscribed, if not all are
+abbrev pub chosen_of : PlainSetup → List ℕ → Option (List ℕ)
+chosen_of setup groups = if setup.is_subscribed == 0 then None else Some groups
+
 -- a controller that begins so
-abbrev pub IsNew : ℕ → ℕ → ℕ → List ℕ → Option (List ℕ) → Controller → Type 0
-IsNew name address delay served subscribed c = Is (record
-    { name = name; address = address; delay = delay; served = served; subscribed = subscribed; brought = nothing }) [] c
+abbrev pub IsNew : PlainSetup → List ℕ → Option (List ℕ) → Controller → Type 0
+IsNew s served subscribed c = Is (record {
+  name = s.name;
+  address = s.address;
+  delay = s.delay;
+  served = served;
+  subscribed = subscribed;
+  boxes = s.broadcasts;
+  brought = nothing;
+}) [] c
 
 -- why there is no controller of them
 abbrev pub IsMakeRefusal : ℕ → List ℕ → Option (List ℕ) → Refusal → Type 0
@@ -224,14 +236,22 @@ received_by (pos (suc (suc zero))) m priority = ReleaseTransfer true ∷ TakeRec
 received_by (pos (suc (suc (suc n)))) m priority = ReleaseBroadcast true ∷ TakeReceived None ∷ []
 received_by (negsuc n) m priority = []
 
+-- the NAME that it tells: of who held its source when it was heard, or was whole
+abbrev pub IsNamed : ℤ → WholeMessage → Who → List Call → Type 0
+IsNamed (pos zero) m w H = Unit {0}
+IsNamed (pos (suc zero)) m w H = slice_get (senders w H) (length (got H)) ≡ Some (hearing_in m).name
+IsNamed (pos (suc (suc zero))) m w H = (hearing_in m).name ≡ transfer_sender w H
+IsNamed (pos (suc (suc (suc n)))) m w H = IfSome (slice_get (broadcast_senders w H) 0) (λ name. (hearing_in m).name ≡ name)
+IsNamed (negsuc n) m w H = Unit {0}
+
 -- what waited in packets, at its address and to all
 abbrev pub Waited : ℤ → WholeMessage → Who → List Call → Type 0
-Waited (pos zero) m w H = ((reception w H).waits ≡ None) × (waiting w H ≡ None)
+Waited (pos zero) m w H = ((reception w H).waits ≡ None) × (slice_get (waiting w H) 0 ≡ None)
 Waited (pos (suc zero)) m w H = Unit {0}
 Waited (pos (suc (suc zero))) m w H =
     ((reception w H).waits ≡ Some (long_in m)) × ((hearing_in m).destination ≡ Some w.address)
 Waited (pos (suc (suc (suc n)))) m w H =
-    ((reception w H).waits ≡ None) × (waiting w H ≡ Some (long_in m))
+    ((reception w H).waits ≡ None) × (slice_get (waiting w H) 0 ≡ Some (long_in m))
 Waited (negsuc n) m w H = Unit {0}
 
 -- ---- news: 1 the address was lost, 2 another sends from it, 3 messages were missed, 4 and more that another of its NAME claims an

@@ -5,6 +5,7 @@ pub mod Can
 pub mod Codes
 pub mod Controllers
 pub mod Cut
+pub mod Faults
 pub mod Fields
 pub mod HandleOwns
 pub mod Holders

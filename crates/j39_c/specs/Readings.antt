@@ -1,7 +1,8 @@
 -- Readings as C has them.
-use Rattle.std.specs.Prelude.{◌≡◌, ◌<◌, ◌≤◌, ◌^◌, ◌++◌, ◌-◌, ◌⊎◌, ℕ, zero, suc, ℤ, pos, negsuc, List, [], Option, length, replicate, slice_get, take}
+use Rattle.std.specs.Prelude.{◌≡◌, ◌<◌, ◌≤◌, ◌^◌, ◌++◌, ◌-◌, ◌⊎◌, ℕ, zero, suc, ℤ, pos, negsuc, List, [], Option, Some, None, length, replicate, slice_get, take}
 use Rattle.j39_groups.specs.Readings.{readings_of}
 use Rattle.j39_groups.specs.Value.{ReadingRecord, ValueRecord, number, on, off, error, reserved, indicator, text}
+use Rattle.j39_c.specs.Codes.{end}
 use Rattle.j39_c.specs.declared.message.WholeMessage.{WholeMessage}
 use Rattle.j39_c.specs.declared.reading.PlainReading.{PlainReading}
 
@@ -49,3 +50,8 @@ IsTextAnswer room wanted (negsuc (suc (suc (suc zero)))) buffer = ⊥
 IsTextAnswer room wanted (negsuc (suc (suc (suc (suc zero))))) buffer =
     (room < length wanted) ⊎ (2 ^ 31 ≤ length wanted)
 IsTextAnswer room wanted (negsuc (suc (suc (suc (suc (suc n)))))) buffer = ⊥
+
+-- the same of a name, where there is one
+abbrev pub IsNameAnswer : Option (List ℕ) → ℕ → ℤ → List ℕ → Type 0
+IsNameAnswer (Some name) room answer buffer = IsTextAnswer room name answer buffer
+IsNameAnswer None room answer buffer = answer ≡ end

@@ -14,7 +14,7 @@ ghost use Rattle.j39_node.specs.Transfers.{next_due};
 ghost use Rattle.j39_c.specs.Calls.{Answers, Asks, Fills, Never, Opens};
 ghost use Rattle.j39_c.specs.Can.{Fits, frame_of};
 ghost use Rattle.j39_c.specs.Codes.{IsDone, IsRefused, bad_value, in_use, no_memory, no_part, sent, told};
-ghost use Rattle.j39_c.specs.Controllers.{CanRead, CanServe, Continues, IsAddressOf, IsFree, IsMakeRefusal, IsNew, CanSubscribe, Moves, Says, count_missed, news_in};
+ghost use Rattle.j39_c.specs.Controllers.{CanRead, CanServe, Continues, IsAddressOf, IsFree, IsMakeRefusal, IsNew, CanSubscribe, Moves, Says, chosen_of, count_missed, news_in};
 ghost use Rattle.j39_c.specs.Nodes.{IsStatus};
 ghost use Rattle.j39_c.specs.Parts.{controller_in};
 
@@ -26,7 +26,7 @@ use crate::part::{Part, ask};
 use crate::refusal::Refusal;
 use j39_address::Name;
 use j39_frame::{Pgn, Stamp};
-use j39_node::{Controller, News};
+use j39_node::{Controller, News, Setup};
 use std::alloc::Global;
 
 /// The most groups that a program serves.
@@ -35,53 +35,54 @@ const MOST_SERVED: usize = 16;
 /// The most groups that a program subscribes, unless it does all.
 const MOST_SUBSCRIBED: usize = 64;
 
-/// Opens a controller of this NAME, that will claim this address, whose 'cannot claim' waits for the delay in 0.6 ms, and whose program
-/// serves these groups and subscribes all: 0; -1 for an
-/// address above 253, more than 16 groups, or one of 2^18 and above, -3 where memory is refused, -4 where the handle is
-/// open.
+/// What a controller is made for beside its groups: what `j1939_setup` of the header begins with.
+#[repr(C)]
+#[derive(Clone, Copy, Debug)]
+pub struct PlainSetup {
+    /// Its NAME.
+    pub name: u64,
+    /// The address that it will claim, 0 to 253.
+    pub address: u8,
+    /// How long its 'cannot claim' waits, in 0.6 ms.
+    pub delay: u8,
+    /// How many broadcasts in packets it hears at once.
+    pub broadcasts: u8,
+    /// 0 where its program subscribes all groups.
+    pub is_subscribed: u8,
+}
+
+/// Opens a controller that is made for this, whose program serves these groups, and subscribes these, unless it does all: 0; -1 for an
+/// address above 253, more than 16 groups served, or 64 subscribed, or one of 2^18 and above, -3 where memory is refused, -4 where the
+/// handle is open.
 #[unsafe(no_mangle)]
 pub extern "C" fn j39_controller_new(
     alloc: Global,
     controller: &mut Handle,
-    name: u64,
-    address: u8,
-    delay: u8,
+    setup: &PlainSetup,
     served: &[u32],
+    subscribed: &[u32],
 ) -> i32
-    ensures opens { Opens controller_in (CanServe address served.now None) controller.old.part result controller.new.part
-        (IsNew name address delay served.now None) }
+    ensures opens { Opens controller_in (CanServe setup.now.address served.now (chosen_of setup.now subscribed.now)) controller.old.part
+        result controller.new.part (IsNew setup.now served.now (chosen_of setup.now subscribed.now)) }
     ensures answers { Answers 0 (bad_value ∷ no_memory ∷ in_use ∷ []) result }
 {
     if controller.is_open(alloc) {
         return Refusal::InUse.code();
     }
-    match make(alloc, name, address, delay, served, None) {
+    match make(alloc, setup, served, chosen_of(setup, subscribed)) {
         Ok(made) => controller.put_new(alloc, Part::Controlling(made)),
         Err(refusal) => refusal.code(),
     }
 }
 
-/// The same, but it subscribes these groups alone: -1 also for more than 64, or one of 2^18 and above.
-#[unsafe(no_mangle)]
-pub extern "C" fn j39_controller_new_subscribed(
-    alloc: Global,
-    controller: &mut Handle,
-    name: u64,
-    address: u8,
-    delay: u8,
-    served: &[u32],
-    subscribed: &[u32],
-) -> i32
-    ensures opens { Opens controller_in (CanServe address served.now (Some subscribed.now)) controller.old.part result
-        controller.new.part (IsNew name address delay served.now (Some subscribed.now)) }
-    ensures answers { Answers 0 (bad_value ∷ no_memory ∷ in_use ∷ []) result }
+/// The groups that are subscribed, if not all are.
+fn chosen_of<'g>(setup: &PlainSetup, groups: &'g [u32]) -> Option<&'g [u32]>
+    ensures { option_map (λ g. g.now) result ≡ chosen_of setup.now groups.now }
 {
-    if controller.is_open(alloc) {
-        return Refusal::InUse.code();
-    }
-    match make(alloc, name, address, delay, served, Some(subscribed)) {
-        Ok(made) => controller.put_new(alloc, Part::Controlling(made)),
-        Err(refusal) => refusal.code(),
+    if setup.is_subscribed == 0 {
+        None
+    } else {
+        Some(groups)
     }
 }
 
@@ -359,15 +360,13 @@ pub extern "C" fn j39_controller_take_news(alloc: Global, controller: &mut Handl
 /// A controller of these values, or why there is none.
 fn make(
     alloc: Global,
-    name: u64,
-    address: u8,
-    delay: u8,
+    setup: &PlainSetup,
     served: &[u32],
     subscribed: Option<&[u32]>,
 ) -> Result<Box<Controller>, Refusal>
-    ensures made { IfOk result (λ made. CanServe address served.now (option_map (λ g. g.now) subscribed.entry)
-        × IsNew name address delay served.now (option_map (λ g. g.now) subscribed.entry) made.value) }
-    ensures refused { IfErr result (λ refusal. IsMakeRefusal address served.now (option_map (λ g. g.now) subscribed.entry) refusal) }
+    ensures made { IfOk result (λ made. CanServe setup.now.address served.now (option_map (λ g. g.now) subscribed.entry)
+        × IsNew setup.now served.now (option_map (λ g. g.now) subscribed.entry) made.value) }
+    ensures refused { IfErr result (λ refusal. IsMakeRefusal setup.now.address served.now (option_map (λ g. g.now) subscribed.entry) refusal) }
 {
     let mut groups = [Pgn::new(0).unwrap(); MOST_SERVED];
     if !read_groups(served, &mut groups) {
@@ -377,14 +376,15 @@ fn make(
     let Some(subscribed) = read_wanted(subscribed, &mut wanted) else {
         return Err(Refusal::BadValue);
     };
-    match Controller::boxed(
-        alloc,
-        Name::new(name),
-        address,
-        delay,
-        &groups[..served.len()],
+    let made = Setup {
+        name: Name::new(setup.name),
+        address: setup.address,
+        delay: setup.delay,
+        served: &groups[..served.len()],
         subscribed,
-    ) {
+        broadcasts: setup.broadcasts,
+    };
+    match Controller::boxed(alloc, &made) {
         Ok(Some(made)) => Ok(made),
         Ok(None) => Err(Refusal::BadValue),
         Err(_) => Err(Refusal::NoMemory),

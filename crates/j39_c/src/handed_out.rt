@@ -107,10 +107,10 @@ fn refused(why: Refused) -> i32
     }
 }
 
-/// Writes out a message of one frame, and its priority.
+/// Writes out a message of one frame, with its sender's NAME, and its priority.
 pub(crate) fn put_received(message: &Received, out: &mut WholeMessage, priority: &mut u8)
     ensures value { short_in out.new priority.new ≡ received_by message.now }
-    ensures unnamed { (hearing_in out.new).name ≡ None }
+    ensures named { (hearing_in out.new).name ≡ option_map name_raw message.now.name }
 {
     let whole = Message {
         source: message.source,
@@ -118,7 +118,7 @@ pub(crate) fn put_received(message: &Received, out: &mut WholeMessage, priority:
         payload: message.bytes.as_slice(),
         stamp: message.stamp,
     };
-    out.put_message(&whole, None);
+    out.put_message(&whole, message.name);
     out.put_destination(message.destination);
     *priority = message.priority;
 }

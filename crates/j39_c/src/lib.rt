@@ -8,12 +8,14 @@ mod claims;
 mod controller;
 mod cut;
 mod emptied;
+mod faults;
 mod fields;
 mod handed_out;
 mod handle;
 mod listener;
 mod loose;
 mod message;
+mod names;
 mod node;
 mod offering;
 mod part;
@@ -28,14 +30,14 @@ pub use broadcast::{j39_broadcast_init, j39_broadcast_poll};
 pub use can::CanFrame;
 pub use claims::{j39_claims_holder, j39_claims_init, j39_claims_note};
 pub use controller::{
-    j39_controller_address_of, j39_controller_again, j39_controller_claims_request,
+    PlainSetup, j39_controller_address_of, j39_controller_again, j39_controller_claims_request,
     j39_controller_free_address, j39_controller_hear, j39_controller_holder, j39_controller_missed,
-    j39_controller_move_to, j39_controller_new, j39_controller_new_subscribed,
-    j39_controller_next_due, j39_controller_next_tick, j39_controller_peek_frame,
-    j39_controller_status, j39_controller_take_frame, j39_controller_take_news,
-    j39_controller_tick,
+    j39_controller_move_to, j39_controller_new, j39_controller_next_due, j39_controller_next_tick,
+    j39_controller_peek_frame, j39_controller_status, j39_controller_take_frame,
+    j39_controller_take_news, j39_controller_tick,
 };
 pub use cut::j39_cut_frame;
+pub use faults::{PlainFault, PlainLamp, PlainLamps, j39_fault, j39_lamps};
 pub use fields::{
     IdFields, NameParts, j39_id_compose, j39_id_split, j39_name_compose, j39_name_split,
 };
@@ -43,6 +45,7 @@ pub use handed_out::{PlainEnded, PlainRequest};
 pub use handle::{Handle, j39_close};
 pub use listener::{j39_listener_feed, j39_listener_holder, j39_listener_new};
 pub use message::WholeMessage;
+pub use names::{j39_function_name, j39_group_name, j39_maker_name, j39_parameter_name};
 pub use node::{
     j39_node_commanded, j39_node_init, j39_node_on, j39_node_start, j39_node_status, j39_node_tick,
 };

@@ -84,7 +84,7 @@ pub extern "C" fn j39_reading_text(
 }
 
 /// The bytes of a message; `None` for one that says too many.
-fn payload_of(message: &WholeMessage) -> Option<&[u8]>
+pub(crate) fn payload_of(message: &WholeMessage) -> Option<&[u8]>
     ensures known { IsSome result ↔ (message.now.len ≤ 1785) }
     ensures value { IfSome result (λ payload. payload.now ≡ take message.now.len message.now.data) }
 {
@@ -167,7 +167,7 @@ fn text_of(alloc: Global, value: &Value<'_, '_>) -> Result<Vec<u8>, Refusal>
 }
 
 /// Copies bytes to the front of a buffer, and answers how many.
-fn copy(from: &[u8], to: &mut [u8]) -> i32
+pub(crate) fn copy(from: &[u8], to: &mut [u8]) -> i32
     ensures text { IsTextAnswer (length to.old) from.now result to.new }
     ensures answers { Answers (length to.old) (no_room ∷ []) result }
     ensures fills { FillsFront result to.old to.new }

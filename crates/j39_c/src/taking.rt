@@ -1,14 +1,15 @@
 //! What a controller hands out.
-ghost use Rattle.std.specs.Prelude.{◌≡◌, ◌≤◌, ◌∷◌, [], ⊤, pos, None, IfSome, true, false, length, take};
+ghost use Rattle.std.specs.Prelude.{◌≡◌, ◌≤◌, ◌∷◌, [], ⊤, pos, IfSome, true, false, length, take, slice_get};
 ghost use Rattle.std.specs.Option.{option_map};
+ghost use Rattle.j39_address.specs.Name.{name_raw};
 ghost use Rattle.j39_frame.specs.Stamp.{stamp_micros};
 ghost use Rattle.j39_transport.specs.ReceiverModel.{message_shown};
-ghost use Rattle.j39_node.specs.Hearing.{waiting};
+ghost use Rattle.j39_node.specs.Hearing.{broadcast_senders, waiting};
 ghost use Rattle.j39_node.specs.History.Call.{ReleaseBroadcast, ReleaseTransfer, TakeRequest};
-ghost use Rattle.j39_node.specs.Reception.{reception};
+ghost use Rattle.j39_node.specs.Reception.{reception, transfer_sender};
 ghost use Rattle.j39_c.specs.Calls.{Answers, Asks, Fills, Never};
 ghost use Rattle.j39_c.specs.Codes.{IsDone, IsRefused, no_part, told};
-ghost use Rattle.j39_c.specs.Controllers.{Continues, Goes, Says, Waited, ended_by, long_if, long_in, received_by, request_in};
+ghost use Rattle.j39_c.specs.Controllers.{Continues, Goes, IsNamed, Says, Waited, ended_by, long_if, long_in, received_by, request_in};
 ghost use Rattle.j39_c.specs.Messages.{hearing_in};
 ghost use Rattle.j39_c.specs.Parts.{controller_in};
 
@@ -17,6 +18,7 @@ use crate::handle::Handle;
 use crate::message::WholeMessage;
 use crate::part::ask;
 use crate::refusal::Refusal;
+use j39_address::Name;
 use j39_node::Controller;
 use j39_transport::Message;
 use std::alloc::Global;
@@ -38,9 +40,10 @@ pub extern "C" fn j39_controller_take_ended(
     ask!(alloc, controller, Controlling(held) => put_ended(held, out))
 }
 
-/// Takes a message that was received, each once: 0 where there is none; else it is in `out`, with no NAME: 1 a message of
-/// 0 to 8 bytes, with its destination and its priority; 2 one in packets to its address, which is its destination,
-/// 3 one in packets to all, with no destination there. -2 where the handle holds no controller.
+/// Takes a message that was received, each once: 0 where there is none; else it is in `out`: 1 a message of 0 to 8 bytes, with
+/// its destination and its priority; 2 one in packets to its address, which is its destination; 3 one in packets to all, with
+/// no destination. Each has the NAME that held the source when the last frame was heard. -2 where the handle holds no
+/// controller.
 #[unsafe(no_mangle)]
 pub extern "C" fn j39_controller_take_received(
     alloc: Global,
@@ -49,8 +52,8 @@ pub extern "C" fn j39_controller_take_received(
     priority: &mut u8,
 ) -> i32
     ensures asks { Asks controller_in ⊤ controller.old.part result controller.new.part
-        (λ old new. Goes (received_by result out.new priority.new) old new × Says (Waited result out.new) old) Never }
-    ensures unnamed { IfSome (told result (hearing_in out.new)) (λ m. m.name ≡ None) }
+        (λ old new. Goes (received_by result out.new priority.new) old new × Says (Waited result out.new) old
+        × Says (IsNamed result out.new) old) Never }
     ensures refused { IsRefused result → controller.new.part ≡ controller.old.part }
     ensures answers { Answers 3 (no_part ∷ []) result }
     ensures fills_out { Fills (pos 1 ∷ pos 2 ∷ pos 3 ∷ []) result (out.new ≡ out.old) }
@@ -107,7 +110,7 @@ fn put_message(controller: &mut Controller, out: &mut WholeMessage, priority: &m
     ensures done { IsDone result }
     ensures goes { Goes (received_by result out.new priority.new) controller.old controller.new }
     ensures waited { Says (Waited result out.new) controller.old }
-    ensures unnamed { IfSome (told result (hearing_in out.new)) (λ m. m.name ≡ None) }
+    ensures named { Says (IsNamed result out.new) controller.old }
     ensures answers { Answers 3 [] result }
     ensures fills_out { Fills (pos 1 ∷ pos 2 ∷ pos 3 ∷ []) result (out.new ≡ out.old) }
     ensures fills_priority { Fills (pos 1 ∷ []) result (priority.new ≡ priority.old) }
@@ -129,14 +132,14 @@ fn put_message(controller: &mut Controller, out: &mut WholeMessage, priority: &m
 fn put_transfer(controller: &mut Controller, out: &mut WholeMessage) -> bool
     ensures waits { Says (λ w H. (reception w H).waits ≡ long_if result out.new) controller.old }
     ensures addressed { result ≡ true → Says (λ w H. (hearing_in out.new).destination ≡ Some w.address) controller.old }
+    ensures named { result ≡ true → Says (λ w H. (hearing_in out.new).name ≡ transfer_sender w H) controller.old }
     ensures goes { result ≡ true → Continues (ReleaseTransfer true) controller.old controller.new }
-    ensures unnamed { result ≡ true → (hearing_in out.new).name ≡ None }
     ensures kept { result ≡ false → (controller.new ≡ controller.old) × (out.new ≡ out.old) }
 {
     let Some(message) = controller.received_transfer() else {
         return false;
     };
-    put_long(&message, out);
+    put_long(&message, controller.transfer_sender(), out);
     out.put_destination(Some(controller.address()));
     controller.release_transfer();
     true
@@ -144,24 +147,24 @@ fn put_transfer(controller: &mut Controller, out: &mut WholeMessage) -> bool
 
 /// Takes the message in packets to all, where one waits.
 fn put_broadcast(controller: &mut Controller, out: &mut WholeMessage) -> bool
-    ensures waits { Says (λ w H. waiting w H ≡ long_if result out.new) controller.old }
+    ensures waits { Says (λ w H. slice_get (waiting w H) 0 ≡ long_if result out.new) controller.old }
     ensures goes { result ≡ true → Continues (ReleaseBroadcast true) controller.old controller.new }
-    ensures unnamed { result ≡ true → (hearing_in out.new).name ≡ None }
+    ensures named { result ≡ true → Says (λ w H. IfSome (slice_get (broadcast_senders w H) 0) (λ name. (hearing_in out.new).name ≡ name)) controller.old }
     ensures kept { result ≡ false → (controller.new ≡ controller.old) × (out.new ≡ out.old) }
 {
     let Some(message) = controller.received_broadcast() else {
         return false;
     };
-    put_long(&message, out);
+    put_long(&message, controller.broadcast_sender(), out);
     controller.release_broadcast();
     true
 }
 
-/// Writes out a message in packets.
-fn put_long(message: &Message<'_>, out: &mut WholeMessage)
+/// Writes out a message in packets, and who sent it.
+fn put_long(message: &Message<'_>, sender: Option<Name>, out: &mut WholeMessage)
     requires { length message.now.payload.now ≤ 1785 }
     ensures value { long_in out.new ≡ (stamp_micros message.now.stamp, message_shown message.now) }
-    ensures unnamed { (hearing_in out.new).name ≡ None }
+    ensures named { (hearing_in out.new).name ≡ option_map name_raw sender }
 {
-    out.put_message(message, None);
+    out.put_message(message, sender);
 }

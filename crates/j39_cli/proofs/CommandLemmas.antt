@@ -68,8 +68,8 @@ is_read program (cut source pgn moment bus hex) = parsed program cut_app (cut so
     (record { step = refl; passes = refl; found = refl; checks = refl }) refl refl
 is_read program (groups table) = parsed program groups_app (groups table) [] (form_of (groups table)).arguments refl
     (record { step = refl; passes = refl; found = refl; checks = refl }) refl refl
-is_read program (survey bus table file) =
-    parsed_choices program survey_app (survey bus table file) (before_each (form_of (survey bus table file)).arguments) file_rule file (takes_file refl)
+is_read program (survey bus table csv json file) =
+    parsed_choices program survey_app (survey bus table csv json file) (before_each (form_of (survey bus table csv json file)).arguments) file_rule file (takes_file refl)
     (record { choices = tt; known = refl; apart = refl; defaults = refl; none_by_default = refl; first = refl; valid = λ rows. refl })
     (record { step = refl; passes = refl; found = refl; checks = refl }) refl refl
 is_read program (watch bus table rows width file) =

@@ -130,7 +130,7 @@ is_command_found (command.answer node address bus file) found are =
 is_command_found (command.id hex) found are = cc (is_text_found found (codes "hex") hex are.0)
 is_command_found (command.name hex) found are = cc (is_text_found found (codes "hex") hex are.0)
 is_command_found (command.groups table) found are = cc
-is_command_found (command.survey bus table file) found are = cc
+is_command_found (command.survey bus table csv json file) found are = cc
 is_command_found (command.watch bus table rows width file) found are = cc
 is_command_found (command.cut source pgn moment bus hex) found are =
     cc (

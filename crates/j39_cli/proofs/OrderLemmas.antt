@@ -1,72 +1,52 @@
--- The ends of a text, and what is told of FILEs.
-use Rattle.j39_cli.proofs.Common.{◌≡◌, ◌==◌, ◌≤◌, ◌<◌, ◌+◌, ◌-◌, ◌++◌, ◌∷◌, ◌∙◌, [], ℕ, zero, suc, List, Bool, true, false, ap, arith, drop, get_or, if◌then◌else◌, length, map, min, nat_le, refl, sym, length-drop, newline}
-use Rattle.std.specs.Borrow.{Bor}
-use Rattle.j39_cli.specs.FileSpans.{span_record}
-use Rattle.j39_cli.specs.Order.{is_before, order_line, order_text, without_end}
-use Rattle.j39_cli.specs.declared.file_span.FileSpan.{FileSpan}
+-- The lines of a text, and what is told of FILEs.
+use Rattle.j39_cli.proofs.Common.{◌≡◌, ◌==◌, ◌<◌, ◌+◌, ◌∷◌, ◌∙◌, [], ℕ, suc, Bool, true, false, List, Option, None, Some, ap, arith, drop, get_or, if◌then◌else◌, length, map, refl, sym, take}
+use Rattle.std.proofs.Common.{add-one, drop-cons}
+use Rattle.std.specs.List.{prefix_len}
+use Rattle.j39_io.specs.Chars.{newline}
+use Rattle.j39_log.specs.Newline.{is_no_newline}
+use Rattle.j39_cli.specs.FileEnds.{ends_record, lines_behind, span_record}
+use Rattle.j39_cli.specs.Order.{begun_with, is_before, latest, lines_of, name_of, order_after, order_line}
+use Rattle.j39_cli.specs.declared.file_ends.FileEnds.{FileEnds}
 
-pub end_dropped : (front : List ℕ) → without_end (front ++ newline ∷ []) ≡ front
-end_dropped [] = refl
-end_dropped (x ∷ []) = refl
-end_dropped (x ∷ y ∷ front) = ap (λ (t : List ℕ). x ∷ t) (end_dropped (y ∷ front))
+-- behind the newline that a text begins with
+abbrev pub behind : List ℕ → Option (List ℕ)
+behind [] = None
+behind (byte ∷ text) = Some text
 
-pub end_kept : (front : List ℕ) (last : ℕ) → (last == newline) ≡ false → without_end (front ++ last ∷ []) ≡ front ++ last ∷ []
-end_kept [] last other = rw other refl
-end_kept (x ∷ []) last other = rw other refl
-end_kept (x ∷ y ∷ front) last other = ap (λ (t : List ℕ). x ∷ t) (end_kept (y ∷ front) last other)
+abbrev IsCut : List ℕ → Type 0
+IsCut text = lines_of text ≡ take (prefix_len is_no_newline text) text ∷ lines_behind (behind (drop (prefix_len is_no_newline text) text))
 
--- what is told of some FILEs, as the code has them
-abbrev pub text_of : List (Bor (List ℕ)) → List FileSpan → List ℕ
-text_of files spans = order_text (map (λ file. file.now) files) (map span_record spans)
+cut_more : (byte : ℕ) (text : List ℕ) (b : Bool) → (byte == newline) ≡ b → IsCut text → IsCut (byte ∷ text)
+cut_more byte text true is cut = rw is refl
+cut_more byte text false is cut =
+    let more : 1 + prefix_len is_no_newline text ≡ suc (prefix_len is_no_newline text) = omega arith in
+    rw (is, more) (ap (begun_with byte) cut)
 
--- by a place and the one behind it
-pub text_at : (i : ℕ) (files : List (Bor (List ℕ))) (spans : List FileSpan) (f g : Bor (List ℕ)) (s t : FileSpan) → suc i < length files → suc i < length spans
-    → text_of (drop i files) (drop i spans) ≡ (if is_before (span_record (get_or spans i s)).ends (span_record (get_or spans (suc i) t)).begins
-    then order_line (get_or files i f).now (get_or files (suc i) g).now else text_of (drop (suc i) files) (drop (suc i) spans))
-text_at i [] spans f g s t some more = absurd (omega (arith, some))
-text_at i (a ∷ files) [] f g s t some more = absurd (omega (arith, more))
-text_at zero (a ∷ []) (x ∷ spans) f g s t some more = absurd (omega (arith, some))
-text_at zero (a ∷ b ∷ files) (x ∷ []) f g s t some more = absurd (omega (arith, more))
-text_at zero (a ∷ b ∷ files) (x ∷ y ∷ spans) f g s t some more = refl
-text_at (suc i) (a ∷ files) (x ∷ spans) f g s t some more = text_at i files spans f g s t (omega (arith, some)) (omega (arith, more))
+pub cut : (text : List ℕ) → IsCut text
+cut [] = refl
+cut (byte ∷ text) = cut_more byte text (byte == newline) refl (cut text)
 
-pub text_next : (at : ℕ) (files : List (Bor (List ℕ))) (spans : List FileSpan) (s t : FileSpan) → 1 ≤ at → at < length files → at < length spans
-    → s ≡ get_or spans (at - 1) s → t ≡ get_or spans at t → is_before (span_record s).ends (span_record t).begins ≡ false
-    → text_of (drop (at - 1) files) (drop (at - 1) spans) ≡ text_of (drop (at + 1 - 1) files) (drop (at + 1 - 1) spans)
-text_next at [] spans s t low some more is next other = absurd (omega (arith, some))
-text_next at (f ∷ files) spans s t low some more is next other =
-    let e : suc (at - 1) ≡ at = omega (arith, low) in
-    let here : at + 1 - 1 ≡ at = omega arith in
-    rw e at (text_at (at - 1) (f ∷ files) spans f f s t (rw e some) (rw e more)) ∙ rw (sym is, sym next, other, here) refl
+pub cut_at : (text line rest : List ℕ) (n : ℕ) → n ≡ prefix_len is_no_newline text → line ≡ take n text → rest ≡ drop n text
+    → lines_of text ≡ line ∷ lines_behind (behind rest)
+cut_at text line rest n value front back = rw (front, back, value) (cut text)
 
-pub text_here : (at : ℕ) (files : List (Bor (List ℕ))) (spans : List FileSpan) (f g : Bor (List ℕ)) (s t : FileSpan) → 1 ≤ at → at < length files → at < length spans
-    → s ≡ get_or spans (at - 1) s → t ≡ get_or spans at t → is_before (span_record s).ends (span_record t).begins ≡ true
-    → text_of (drop (at - 1) files) (drop (at - 1) spans) ≡ order_line (get_or files (at - 1) f).now (get_or files at g).now
-text_here at files spans f g s t low some more is next other =
-    let e : suc (at - 1) ≡ at = omega (arith, low) in
-    rw e at (text_at (at - 1) files spans f g s t (rw e some) (rw e more)) ∙ rw (sym is, sym next, other) refl
+-- what is told of these, behind the last
+abbrev pub told_after : Option (List ℕ × ℕ) → List FileEnds → List ℕ
+told_after last files = order_after last (map (λ ends. (ends.file, ends.span)) (map ends_record files))
 
--- behind the last two
-few_files : (files : List (Bor (List ℕ))) (spans : List FileSpan) → length files ≤ 1 → text_of files spans ≡ []
-few_files [] spans few = refl
-few_files (a ∷ []) spans few = refl
-few_files (a ∷ b ∷ files) spans few = absurd (omega (arith, few))
+pub told_next : (last : Option (List ℕ × ℕ)) (files : List FileEnds) (i : ℕ) (e : FileEnds) → i < length files → e ≡ get_or files i e
+    → told_after last (drop i files) ≡ (if is_before (span_record e.span).begins last then order_line (name_of last) e.file.now
+    else told_after (latest e.file.now (span_record e.span).ends last) (drop (i + 1) files))
+told_next last files i e fits is = rw (add-one, drop-cons files i e, sym is) refl
 
-few_spans : (files : List (Bor (List ℕ))) (spans : List FileSpan) → length spans ≤ 1 → text_of files spans ≡ []
-few_spans [] spans few = refl
-few_spans (a ∷ []) spans few = refl
-few_spans (a ∷ b ∷ files) [] few = refl
-few_spans (a ∷ b ∷ files) (x ∷ []) few = refl
-few_spans (a ∷ b ∷ files) (x ∷ y ∷ spans) few = absurd (omega (arith, few))
+-- the one that is told
+overtakes : (b : Bool) (x y : List ℕ) → Some x ≡ (if b then Some y else None) → (b ≡ true) × (x ≡ y)
+overtakes true x y is = (refl, cc)
+overtakes false x y is = absurd (cc)
 
-pub text_end : (at n : ℕ) (files : List (Bor (List ℕ))) (spans : List FileSpan) → 1 ≤ at → n ≡ min (length files) (length spans) → n ≤ at
-    → text_of (drop (at - 1) files) (drop (at - 1) spans) ≡ []
-text_end at n files spans low count end = by (nat_le (length files) (length spans)) refl
-  where
-    by : (b : Bool) → nat_le (length files) (length spans) ≡ b → text_of (drop (at - 1) files) (drop (at - 1) spans) ≡ []
-    by true less =
-        let l = length-drop (at - 1) files in
-        few_files (drop (at - 1) files) (drop (at - 1) spans) (grind (arith, l, low, count, end, less))
-    by false more =
-        let l = length-drop (at - 1) spans in
-        few_spans (drop (at - 1) files) (drop (at - 1) spans) (grind (arith, l, low, count, end, more))
+pub told_here : (last : Option (List ℕ × ℕ)) (files : List FileEnds) (i : ℕ) (e : FileEnds) (before : List ℕ) → i < length files → e ≡ get_or files i e
+    → Some before ≡ (if is_before (span_record e.span).begins last then Some (name_of last) else None)
+    → told_after last (drop i files) ≡ order_line before e.file.now
+told_here last files i e before fits is told =
+    let o = overtakes (is_before (span_record e.span).begins last) before (name_of last) told in
+    told_next last files i e fits is ∙ rw (o.0, o.1) refl

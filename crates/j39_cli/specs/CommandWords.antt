@@ -32,7 +32,7 @@ pub data CommandWords : Type 0 where
   name : Text → CommandWords
   cut : Text → Text → Text → Text → Text → CommandWords
   groups : Option Text → CommandWords
-  survey : Option Text → Option Text → List Text → CommandWords
+  survey : Option Text → Option Text → Bool → Bool → List Text → CommandWords
   watch : Option Text → Option Text → Option Text → Option Text → List Text → CommandWords
 
 abbrev pub form_of : CommandWords → Form
@@ -45,7 +45,7 @@ form_of (id hex) = id_form hex
 form_of (name hex) = name_form hex
 form_of (cut source pgn at bus hex) = cut_form source pgn at bus hex
 form_of (groups table) = groups_form table
-form_of (survey bus table file) = survey_form bus table file
+form_of (survey bus table csv json file) = survey_form bus table csv json file
 form_of (watch bus table rows width file) = watch_form bus table rows width file
 
 -- the words after the program's name
@@ -78,7 +78,8 @@ command_found called found =
     else if bytes_eq called (codes "id") then id (text_found found (codes "hex"))
     else if bytes_eq called (codes "name") then name (text_found found (codes "hex"))
     else if bytes_eq called (codes "groups") then groups table
-    else if bytes_eq called (codes "survey") then survey bus table file
+    else if bytes_eq called (codes "survey") then
+    survey bus table (is_given (first_value found (codes "csv"))) (is_given (first_value found (codes "json"))) file
     else if bytes_eq called (codes "watch") then
     watch bus table (first_value found (codes "rows")) (first_value found (codes "width")) file
     else cut (text_found found (codes "source")) (text_found found (codes "pgn")) (text_found found (codes "at"))

@@ -3,6 +3,7 @@
 use Rattle.std.specs.Prelude.{◌≡◌, ◌≢◌, ◌⊎◌, ◌∷◌, ◌++◌, [], ℕ, Bool, true, false, List, Option, Some, None, Result, Ok, Err, codes, option_map, unwrap_or}
 use Rattle.j39_io.specs.Turn.{Turn}
 use Rattle.clap.specs.Words.{App, Text, new_app, with_rule}
+use Rattle.j39_listen.specs.Filter.{FilterRecord}
 use Rattle.j39_listen.specs.Output.{Making}
 use Rattle.j39_listen.specs.declared.running.RunFault.{RunFault}
 use Rattle.j39_reports.specs.Broken.{ToldFaults}
@@ -82,9 +83,12 @@ makes_told Now conversions asked format rows =
 abbrev pub makes_by : FaultOptions → List RowRecord → Making
 makes_by o = makes_told o.told (versions_in o.conversions) o.rows.asked o.rows.format
 
-abbrev pub asks_by : FaultsTold → Wanting
-asks_by (InMessages telling) = AsksForFaults
-asks_by Now = AsksForFaultsNow
+abbrev pub asks_told : FaultsTold → FilterRecord → Wanting
+asks_told (InMessages telling) = AsksForFaults
+asks_told Now = AsksForFaultsNow
+
+abbrev pub asks_by : FaultOptions → Wanting
+asks_by o = asks_told o.told (filter_in o.rows.asked)
 
 -- the end of a run is told: its counts, with the messages that were broken, with status 0, or its fault, with status 1
 abbrev pub IsFaultsTold : Result FaultCounts RunFault → ℕ → Turn → Type 0
@@ -99,7 +103,7 @@ pub record IsFaultsRun (makes : Making) (asks : Wanting) (bus : Option (List ℕ
   pub told : IsFaultsTold result status err
 
 abbrev pub IsFaultsBy : FaultOptions → Running
-IsFaultsBy o rows = IsFaultsRun (makes_by o rows) (asks_by o.told) o.rows.input.bus
+IsFaultsBy o rows = IsFaultsRun (makes_by o rows) (asks_by o) o.rows.input.bus
 
 abbrev pub faults_meaning : FaultOptions → Meaning
 faults_meaning o = row_meaning o.rows (IsFaultsBy o)

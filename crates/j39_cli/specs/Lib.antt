@@ -42,4 +42,5 @@ pub mod Counted
 pub mod OwnTable
 pub mod Unknown
 pub mod Order
-pub mod FileSpans
+pub mod OtherLog
+pub mod FileEnds

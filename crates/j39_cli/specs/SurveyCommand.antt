@@ -1,15 +1,16 @@
--- The command `survey [--bus B] [--table T] [FILE]..`.
-use Rattle.std.specs.Prelude.{◌≡◌, ◌⊎◌, ◌∷◌, ℕ, List, [], Option, Result, Ok, Err, codes, true}
+-- The command `survey [--bus B] [--table T] [--csv | --json] [FILE]..`.
+use Rattle.std.specs.Prelude.{◌≡◌, ◌⊎◌, ◌∷◌, ℕ, List, [], Bool, Option, Some, Result, Ok, Err, codes, true}
 use Rattle.j39_io.specs.Turn.{Turn}
 use Rattle.std.specs.Option.{ForSome}
 use Rattle.clap.specs.Words.{App, Text, new_app}
 use Rattle.j39_log.specs.Bus.{IsBusName}
 use Rattle.j39_groups.specs.Row.{RowRecord}
+use Rattle.j39_listen.specs.declared.format.Format.{Format}
 use Rattle.j39_listen.specs.declared.running.RunFault.{RunFault}
 use Rattle.j39_reports.specs.SurveyRun.{Surveyed}
 use Rattle.j39_cli.specs.Answer.{bus_check}
-use Rattle.j39_cli.specs.Form.{Form, Meaning, option, values}
-use Rattle.j39_cli.specs.LogCommand.{fault_text, log_limit, with_log}
+use Rattle.j39_cli.specs.Form.{Form, Meaning, option}
+use Rattle.j39_cli.specs.LogCommand.{fault_text, forms_check, log_arguments, log_limit, with_forms, with_log, written_by}
 use Rattle.j39_cli.specs.Refusal.{error_line}
 use Rattle.j39_cli.specs.Rules.{with_table}
 use Rattle.j39_cli.specs.Tells.{Tells}
@@ -18,18 +19,19 @@ use Rattle.j39_cli.specs.declared.task.Task.{Task}
 use Rattle.j39_cli.specs.declared.task.Task.TheVariants.{Survey}
 
 abbrev pub survey_app : App
-survey_app = with_log (with_table (new_app (codes "survey")))
+survey_app = with_log (with_forms (with_table (new_app (codes "survey"))))
 
-abbrev pub IsSurveyTask : Option (List ℕ) → Option (List ℕ) → List (List ℕ) → Task → Type 0
-IsSurveyTask bus table file (Survey input table') = (input.bus ≡ bus) × (table' ≡ table) × (input.file ≡ file)
-IsSurveyTask bus table file t = ⊥
+abbrev pub IsSurveyTask : Option (List ℕ) → Option (List ℕ) → Bool → Bool → List (List ℕ) → Task → Type 0
+IsSurveyTask bus table csv json file (Survey input table' format) =
+    (input.bus ≡ bus) × (table' ≡ table) × (written_by csv json ≡ Some format) × (input.file ≡ file)
+IsSurveyTask bus table csv json file t = ⊥
 
-abbrev pub survey_form : Option Text → Option Text → List Text → Form
-survey_form bus table file = record {
+abbrev pub survey_form : Option Text → Option Text → Bool → Bool → List Text → Form
+survey_form bus table csv json file = record {
   called = codes "survey";
-  arguments = option (codes "bus") bus ∷ option (codes "table") table ∷ values (codes "file") file ∷ [];
-  checks = bus_check bus ∷ [];
-  Is = IsSurveyTask bus table file;
+  arguments = option (codes "bus") bus ∷ option (codes "table") table ∷ log_arguments csv json file;
+  checks = bus_check bus ∷ forms_check csv json ∷ [];
+  Is = IsSurveyTask bus table csv json file;
 }
 
 -- the end of a survey: nothing is said of one that was written, with status 0, and a fault is told, with status 1
@@ -38,17 +40,17 @@ IsSurveyTold (Ok none) status err = (status ≡ 0) × (err.new ≡ err.old)
 IsSurveyTold (Err fault) status err = (status ≡ 1) × Tells err (error_line (fault_text fault) [])
 
 -- a survey of the log ended so, as `survey` of `j39_reports` may, and its end is told
-pub record IsSurvey (bus : Option (List ℕ)) (rows : List RowRecord) (status : ℕ) (log out err : Turn) : Type 0 where
+pub record IsSurvey (form : Format) (bus : Option (List ℕ)) (rows : List RowRecord) (status : ℕ) (log out err : Turn) : Type 0 where
   pub known : (status ≡ 0) ⊎ (status ≡ 1)
   pub result : Result (Unit {0}) RunFault
-  pub ran : Surveyed (record { table = rows; given = bus }) log_limit result log out
+  pub ran : Surveyed (record { form = form; table = rows; given = bus }) log_limit result log out
   pub told : IsSurveyTold result status err
 
-abbrev pub survey_meaning : LogInput → Option (List ℕ) → Meaning
-survey_meaning input table = record {
+abbrev pub survey_meaning : LogInput → Option (List ℕ) → Format → Meaning
+survey_meaning input table form = record {
   file = input.file;
   table = table;
   InRange = ForSome input.bus IsBusName;
   reads_log = true;
-  Performs = IsSurvey input.bus;
+  Performs = IsSurvey form input.bus;
 }

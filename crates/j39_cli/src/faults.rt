@@ -38,8 +38,8 @@ before of that group from that address, or that is the first. With --all, of eac
 message. With --changes instead what became of each active code from one DM1 of an
 address to its next under the same NAME: set (that before doesn't name it, or there
 is none), again (its count rose), cleared (this one doesn't name it); silence clears
-none. With --now instead, at the end of the log, each code that the last DM1 of a
-controller names, or that it names none. Then the line's time is that of the first
+none. With --now instead, at the log's end or --until, each code that the last DM1 of
+a controller names, or that it names none. Then the line's time is that of the first
 DM1 since which the controller names the code; behind the NAME stand the time of the
 last DM1, and how many there are. Who fell silent still stands there. The line has
 the time, the source address (hex), the NAME that holds it (hex, or dashes if no
@@ -187,7 +187,7 @@ fn run<R: Source, W: Sink>(
     source: &mut R,
     sink: &mut W,
 ) -> Result<FaultCounts, RunFault>
-    ensures told { ToldFaults (makes_by options.now groups.now) (asks_by options.now.told) options.now.rows.input.bus log_limit result
+    ensures told { ToldFaults (makes_by options.now groups.now) (asks_by options.now) options.now.rows.input.bus log_limit result
         (turn R.remaining R.has_failed source.old source.new) (turn W.written W.has_failed sink.old sink.new) }
     ensures flushed { PassesOn result (begins_flushed options.now.rows.format (W.is_flushed sink.old)) (W.is_flushed sink.new) }
 {

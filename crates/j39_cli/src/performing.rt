@@ -90,8 +90,8 @@ pub fn perform_with<R: Source, W: Sink, E: Sink>(
         Task::Name(name) => show_text(name_lines(*name).as_slice(), sink, err),
         Task::Cut(outgoing) => show_text(outgoing.lines().as_slice(), sink, err),
         Task::Groups(_) => groups::perform(groups, sink, err),
-        Task::Survey { input, .. } => {
-            survey::perform(alloc, groups, &input.bus, source, sink, err)
+        Task::Survey { input, format, .. } => {
+            survey::perform(alloc, *format, groups, &input.bus, source, sink, err)
         }
         Task::Watch { input, size, .. } => {
             let end = watch::run(alloc, groups, *size, &input.bus, source, sink);

@@ -7,12 +7,13 @@ ghost use Rattle.j39_cli.specs.SurveyCommand.{IsSurvey, survey_app};
 ghost use Rattle.j39_cli.specs.Rules.{IsMade};
 
 use crate::command::{new_command, with_table};
-use crate::log::{LOG_LIMIT, copy_of, tell_fault, with_log};
-use crate::words::{bus_value, log_input};
+use crate::log::{LOG_LIMIT, copy_of, tell_fault, with_forms, with_log};
+use crate::words::{bus_value, format_value, log_input};
 use crate::{ParseFault, Task, WordText};
 use clap::{ArgMatches, Command};
 use j39_groups::Groups;
 use j39_io::{Sink, Source};
+use j39_listen::Format;
 use j39_log::Bus;
 use std::alloc::{AllocError, Global};
 
@@ -24,7 +25,7 @@ messages in packets were announced and came whole, from how many controllers'
 addresses, and how far apart it came, in seconds; whether a report reads it (read),
 the network needs it (network) or neither (not read), and its name; the lines that
 hold no such frame, by kind; and the lines that are unread, of which the first five
-are shown.";
+are shown. With --csv and --json the column record says what a row is of.";
 
 const HELP: &str = "\
 Example:
@@ -43,7 +44,7 @@ pub(crate) fn command<'a>(alloc: Global) -> Result<Command<'a>, AllocError>
 {
     let about = "Writes what a log is: its interfaces, groups and lines";
     let command = with_table(alloc, new_command(alloc, "survey", about, ABOUT, HELP));
-    with_log(alloc, command)
+    with_log(alloc, with_forms(alloc, command))
 }
 
 /// The task that its words ask for.
@@ -52,8 +53,13 @@ pub(crate) fn task<'a>(alloc: Global, given: &ArgMatches<'a>) -> Result<Task<'a>
 {
     let table = given.get_str("table").map(WordText::new);
     let bus = bus_value(given)?;
+    let format = format_value(given)?;
     match log_input(alloc, bus, given) {
-        Ok(input) => Ok(Task::Survey { input, table }),
+        Ok(input) => Ok(Task::Survey {
+            input,
+            table,
+            format,
+        }),
         Err(fault) => Err(fault),
     }
 }
@@ -61,13 +67,14 @@ pub(crate) fn task<'a>(alloc: Global, given: &ArgMatches<'a>) -> Result<Task<'a>
 /// Performs it by a table of parameters: the survey goes to `sink`, what failed to `err`.
 pub(crate) fn perform<R: Source, W: Sink, E: Sink>(
     alloc: Global,
+    format: Format,
     groups: &Groups<'_>,
     bus: &Option<Bus>,
     source: &mut R,
     sink: &mut W,
     err: &mut E,
 ) -> u8
-    ensures survey { IsSurvey bus.now groups.now result
+    ensures survey { IsSurvey format bus.now groups.now result
         (turn R.remaining R.has_failed source.old source.new)
         (turn W.written W.has_failed sink.old sink.new)
         (turn E.written E.has_failed err.old err.new) }
@@ -75,7 +82,8 @@ pub(crate) fn perform<R: Source, W: Sink, E: Sink>(
     ensures passed_out { W.is_flushed sink.old ≡ true → W.has_failed sink.new ≡ false → W.is_flushed sink.new ≡ true }
     ensures passed_on { result ≡ 1 → E.has_failed err.new ≡ false → E.is_flushed err.new ≡ true }
 {
-    match j39_reports::survey(alloc, groups, source, sink, copy_of(bus), LOG_LIMIT) {
+    let bus = copy_of(bus);
+    match j39_reports::survey(alloc, format, groups, source, sink, bus, LOG_LIMIT) {
         Ok(()) => 0,
         Err(fault) => tell_fault(fault, err),
     }

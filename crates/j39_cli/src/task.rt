@@ -181,6 +181,8 @@ pub enum Task<'a> {
         input: LogInput<'a>,
         /// The file of the table, as of a report.
         table: Option<WordText<'a>>,
+        /// How it is written.
+        format: Format,
     },
     /// What a log is, at each half second.
     Watch {

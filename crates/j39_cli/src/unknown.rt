@@ -1,5 +1,6 @@
-//! What a task asks for and can't have: parameters that no row of the table has, and standard input twice.
-ghost use Rattle.std.specs.Prelude.{◌≡◌, ◌<◌, [], codes, count_by, false, length, map, not, true};
+//! What a task asks for and can't have: parameters that no row of the table has, moments between which none lies, and standard
+//! input twice.
+ghost use Rattle.std.specs.Prelude.{◌≡◌, ◌<◌, [], codes, count_by, false, length, map, true};
 ghost use Rattle.std.specs.List.{flat_map, list_any};
 ghost use Rattle.j39_io.specs.Puts.{Puts};
 ghost use Rattle.j39_io.specs.Turn.{turn};
@@ -7,15 +8,16 @@ ghost use Rattle.j39_cli.specs.LogCommand.{is_input};
 ghost use Rattle.j39_cli.specs.Refusal.{error_line};
 ghost use Rattle.j39_cli.specs.Task.{asks_input_twice};
 ghost use Rattle.j39_cli.specs.Tells.{Tells};
-ghost use Rattle.j39_cli.specs.Unknown.{asks_for_unknown, has_row, none_has, unknown_line, unknown_text, unknown_words, words_if};
+ghost use Rattle.j39_cli.specs.Unknown.{are_turned, asked_text, asks_for_unknown, has_row, none_has, turned_text, unknown_line, unknown_text, words_if};
 
 use crate::refusal::{complain, put_line};
-use crate::{Spns, Task};
+use crate::{Asked, Spns, Task};
 use j39_groups::{Groups, decimal_of};
 use j39_io::{DeviceFault, Sink};
+use j39_listen::Moment;
 
-/// Says which of the parameters that a task asks for no row of the table has, and answers whether that is all of them.
-/// A fault of the writer is passed over.
+/// Says which of the parameters that a task asks for no row of the table has, and answers whether that is all of them; and
+/// that nothing lies between the moments that it asks for, where that is so. A fault of the writer is passed over.
 pub fn asks_for_unknown<E: Sink>(groups: &Groups<'_>, task: &Task<'_>, err: &mut E) -> bool
     ensures answer { result ≡ asks_for_unknown groups.now task.now }
     ensures told { Tells (turn E.written E.has_failed err.old err.new) (unknown_text groups.now task.now) }
@@ -24,22 +26,25 @@ pub fn asks_for_unknown<E: Sink>(groups: &Groups<'_>, task: &Task<'_>, err: &mut
         → E.is_flushed err.new ≡ true }
 {
     match task {
-        Task::Report(options) => tell_if_any(groups, &options.asked.spns, err),
-        Task::Summary(options) => tell_if_any(groups, &options.asked.spns, err),
+        Task::Report(options) => tell_asked(groups, &options.asked, err),
+        Task::Summary(options) => tell_asked(groups, &options.asked, err),
+        Task::Faults(options) => {
+            tell_turned(&options.rows.asked, err);
+            false
+        }
         _ => false,
     }
 }
 
-/// Says which of these parameters, if any are asked for, no row has, and answers whether that is all of them.
-fn tell_if_any<E: Sink>(groups: &Groups<'_>, spns: &Option<Spns>, err: &mut E) -> bool
-    ensures answer { result ≡ none_has groups.now spns.now }
-    ensures told { Tells (turn E.written E.has_failed err.old err.new) (words_if groups.now spns.now) }
-    ensures passed_on { result ≡ true → E.has_failed err.new ≡ false → E.is_flushed err.new ≡ true }
-    ensures some { 0 < length (words_if groups.now spns.now) → E.has_failed err.new ≡ false
-        → E.is_flushed err.new ≡ true }
+/// Says which of the parameters that are asked for no row has, and answers whether that is all of them; and the same of moments.
+fn tell_asked<E: Sink>(groups: &Groups<'_>, asked: &Asked, err: &mut E) -> bool
+    ensures answer { result ≡ none_has groups.now asked.now.spns }
+    ensures told { Tells (turn E.written E.has_failed err.old err.new) (asked_text groups.now asked.now) }
+    ensures passed_on { E.has_failed err.new ≡ false → E.is_flushed err.new ≡ true }
 {
-    match spns {
-        Some(spns) => tell_unknown(groups, spns.as_slice(), err),
+    show_asked(groups, asked, err);
+    match &asked.spns {
+        Some(spns) => !has_any(groups, spns.as_slice()),
         None => false,
     }
 }
@@ -66,26 +71,76 @@ fn inputs_among(files: &[&str]) -> usize
     files.iter().filter(|file| **file == "-").count()
 }
 
-/// Says which of these no row has, and answers whether that is all of them.
-fn tell_unknown<E: Sink>(groups: &Groups<'_>, spns: &[u32], err: &mut E) -> bool
-    ensures answer { result ≡ not (list_any (has_row groups.now) spns.now) }
-    ensures told { Tells (turn E.written E.has_failed err.old err.new) (unknown_words groups.now spns.now) }
+/// Says what is asked for and can't be had. A fault of the writer is passed over.
+fn show_asked<E: Sink>(groups: &Groups<'_>, asked: &Asked, err: &mut E)
+    ensures told { Tells (turn E.written E.has_failed err.old err.new) (asked_text groups.now asked.now) }
     ensures passed_on { E.has_failed err.new ≡ false → E.is_flushed err.new ≡ true }
 {
-    show_unknown(groups, spns, err);
-    !has_any(groups, spns)
-}
-
-/// Says which of these no row has. A fault of the writer is passed over.
-fn show_unknown<E: Sink>(groups: &Groups<'_>, spns: &[u32], err: &mut E)
-    ensures told { Tells (turn E.written E.has_failed err.old err.new) (unknown_words groups.now spns.now) }
-    ensures passed_on { E.has_failed err.new ≡ false → E.is_flushed err.new ≡ true }
-{
-    match put_unknown(groups, spns, err) {
+    match put_asked(groups, asked, err) {
         Ok(()) => {
             let _ = err.flush();
         }
         Err(DeviceFault) => {}
+    }
+}
+
+/// Says that nothing lies between the moments, where that is so. A fault of the writer is passed over.
+fn tell_turned<E: Sink>(asked: &Asked, err: &mut E)
+    ensures told { Tells (turn E.written E.has_failed err.old err.new) (turned_text asked.now) }
+    ensures passed_on { E.has_failed err.new ≡ false → E.is_flushed err.new ≡ true }
+{
+    match put_turned(asked, err) {
+        Ok(()) => {
+            let _ = err.flush();
+        }
+        Err(DeviceFault) => {}
+    }
+}
+
+/// Writes what is asked for and can't be had.
+fn put_asked<E: Sink>(groups: &Groups<'_>, asked: &Asked, err: &mut E) -> Result<(), DeviceFault>
+    ensures { Puts (asked_text groups.now asked.now) result (turn E.written E.has_failed err.old err.new) }
+{
+    put_if_any(groups, &asked.spns, err)?;
+    put_turned(asked, err)
+}
+
+/// Writes a line for each of these that no row has, if any are asked for.
+fn put_if_any<E: Sink>(
+    groups: &Groups<'_>,
+    spns: &Option<Spns>,
+    err: &mut E,
+) -> Result<(), DeviceFault>
+    ensures { Puts (words_if groups.now spns.now) result (turn E.written E.has_failed err.old err.new) }
+{
+    match spns {
+        Some(spns) => put_unknown(groups, spns.as_slice(), err),
+        None => Ok(()),
+    }
+}
+
+/// Writes that nothing lies between the moments, where that is so.
+fn put_turned<E: Sink>(asked: &Asked, err: &mut E) -> Result<(), DeviceFault>
+    ensures { Puts (turned_text asked.now) result (turn E.written E.has_failed err.old err.new) }
+{
+    if are_turned(asked.since, asked.until) {
+        put_line(err, b"--since is behind --until", b"")
+    } else {
+        Ok(())
+    }
+}
+
+/// Whether the last moment lies before the first, whatever the stamp of the first frame.
+fn are_turned(since: Option<Moment>, until: Option<Moment>) -> bool
+    ensures { result ≡ are_turned since until }
+{
+    match (since, until) {
+        (Some(Moment::At(since)), Some(Moment::At(until))) => until < since,
+        (Some(Moment::Behind(since)), Some(Moment::Behind(until))) => until < since,
+        (Some(Moment::At(_)), Some(Moment::Behind(_))) => false,
+        (Some(Moment::Behind(_)), Some(Moment::At(_))) => false,
+        (Some(_), None) => false,
+        (None, _) => false,
     }
 }
 

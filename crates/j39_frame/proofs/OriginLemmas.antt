@@ -1,8 +1,12 @@
 -- Origins that are the same.
-use Rattle.std.proofs.Common.{◌≡◌, ◌==◌, ◌&&◌, ℕ, Bool, true, false, Option, Some, None, refl, sym, ap, ◌∙◌, eqb-true, arith, inl, inr}
-use Rattle.std.proofs.lemmas.Bool.{both_ways, cases_Bool, true≢false}
+use Rattle.std.proofs.Common.{◌≡◌, ◌==◌, ◌&&◌, ℕ, Bool, true, false, Option, Some, None, refl, sym, ap, ap₂, ◌∙◌, eqb-true, cond, lt-ltb, arith, inl, inr}
+use Rattle.std.proofs.lemmas.Bool.{both_ways, cases_Bool, cases_lt, le-ltb, ne_eqb, true≢false}
 use Rattle.std.specs.Cmp.{IsEquivalence}
-use Rattle.j39_frame.specs.Origin.{is_same, is_same_or_none}
+use Rattle.std.specs.Option.{option_cmp}
+use Rattle.std.specs.Ordering.{is_eq, nat_cmp, ordering_then}
+use Rattle.std.specs.declared.cmp.Ordering.{Ordering}
+use Rattle.std.specs.declared.cmp.Ordering.TheVariants.{Equal, Greater, Less}
+use Rattle.j39_frame.specs.Origin.{is_same, is_same_or_none, origin_cmp}
 use Rattle.j39_frame.specs.declared.origin.Origin.{Origin}
 
 left : (a b : Bool) → (a && b) ≡ true → a ≡ true
@@ -66,3 +70,34 @@ same_equiv = record {
   symm = same_sym;
   congr = λ a b c h. ap (λ o. is_same o c) (same_true a b h);
 }
+
+-- ---- their order
+
+both_equal : (a b : Ordering) → is_eq (ordering_then a b) ≡ (is_eq a && is_eq b)
+both_equal Less b = refl
+both_equal Equal b = refl
+both_equal Greater b = refl
+
+nat_equal : (a b : ℕ) → is_eq (nat_cmp a b) ≡ (a == b)
+nat_equal a b = elim (cases_lt a b) [
+  | inl less ↦ rw (lt-ltb a b less, ne_eqb a b (λ same. omega (arith, less, same))) refl
+  | inr least ↦ rw (le-ltb a b least) (by (a == b) refl)
+]
+  where
+    by : (c : Bool) → (a == b) ≡ c → is_eq (cond c Equal Greater) ≡ c
+    by true is = refl
+    by false is = refl
+
+or_none_equal : (a b : Option ℕ) → is_eq (option_cmp nat_cmp a b) ≡ is_same_or_none a b
+or_none_equal None None = refl
+or_none_equal None (Some b) = refl
+or_none_equal (Some a) None = refl
+or_none_equal (Some a) (Some b) = nat_equal a b
+
+-- origins are the same where none is the lesser
+pub same_cmp : (a b : Origin) → is_eq (origin_cmp a b) ≡ is_same a b
+same_cmp a b =
+    both_equal (nat_cmp a.address b.address) _ ∙ ap₂ (λ p q. p && q) (nat_equal a.address b.address)
+    (both_equal (option_cmp nat_cmp a.destination b.destination) _ ∙ ap₂ (λ p q. p && q) (or_none_equal a.destination b.destination)
+    (both_equal (option_cmp nat_cmp a.name b.name) _ ∙ ap₂ (λ p q. p && q) (or_none_equal a.name b.name)
+    (both_equal (nat_cmp a.pgn b.pgn) _ ∙ ap₂ (λ p q. p && q) (nat_equal a.pgn b.pgn) (nat_equal a.spn b.spn))))

@@ -1,9 +1,11 @@
 -- Where an origin stands.
-use Rattle.std.proofs.Common.{◌≡◌, ◌∷◌, [], ◌<◌, ℕ, Bool, true, false, cond, List, Some, None, length, get_or, arith, refl, sym, ap, ◌∙◌, lt-ltb, true≢false}
-use Rattle.std.specs.List.{IsDistinct, list_any, position_or_len}
+use Rattle.std.proofs.Common.{◌≡◌, ◌∷◌, [], ◌<◌, ◌+◌, ◌++◌, ℕ, zero, suc, Bool, true, false, cond, List, Option, Some, None, length, get_or, arith, refl, sym, ap, ap₂, ◌∙◌, lt-ltb, true≢false, unwrap_or}
+use Rattle.std.specs.List.{AllByRecursion, IsDistinct, list_any, position_from, position_or_len}
 use Rattle.std.specs.Map.{keys_of}
-use Rattle.std.specs.Option.{option_map}
-use Rattle.std.specs.Prelude.{nat_lt, slice_get}
+use Rattle.std.specs.Option.{option_map, option_or}
+use Rattle.std.specs.Prelude.{nat_lt, position, slice_get, slice_set}
+use Rattle.std.proofs.lemmas.Iterator.Adapters.{position_from-zero}
+use Rattle.std.proofs.lemmas.List.{map-append}
 use Rattle.std.proofs.lemmas.List.Quantifiers.{position-Some}
 use Rattle.std.proofs.lemmas.List.Sums.{position_or_len_is}
 use Rattle.std.proofs.lemmas.Map.Entries.{length-keys_of}
@@ -69,3 +71,58 @@ absent es k nowhere = by (list_any (is_same k) os) refl
         let inside = lt-ltb (position_or_len (is_same k) os) (length os) (found_within (is_same k) os some) in
         let here : Some (position_or_len (is_same k) os) ≡ None = ap (λ b. cond b (Some (position_or_len (is_same k) os)) None) (sym inside) ∙ nowhere in
         cc
+
+-- ---- with one more
+
+all_more : (P : Origin → Type 0) (os : List Origin) (k : Origin) → AllByRecursion P os → P k → AllByRecursion P (os ++ k ∷ [])
+all_more P [] k all here = (here, tt)
+all_more P (o ∷ os) k all here = (all.0, all_more P os k all.1 here)
+
+-- origins that are apart, and one that is none of them
+pub distinct_more : (os : List Origin) (k : Origin) → IsDistinct is_same os → list_any (is_same k) os ≡ false → IsDistinct is_same (os ++ k ∷ [])
+unfolding IsDistinct
+distinct_more [] k apart none = (tt, tt)
+distinct_more (o ∷ os) k apart none = by (is_same k o) refl (distinct_more os k)
+  where
+    by : (b : Bool) → is_same k o ≡ b → (IsDistinct is_same os → list_any (is_same k) os ≡ false → IsDistinct is_same (os ++ k ∷ [])) → IsDistinct is_same ((o ∷ os) ++ k ∷ [])
+    by true one rest = absurd (true≢false (rw one at none))
+    by false other rest = (all_more (λ y. is_same o y ≡ false) os k apart.0 (same_sym o k ∙ other), rest apart.1 (rw other at none))
+
+from_more : (p : Origin → Bool) (n : ℕ) (os : List Origin) (k : Origin) → position_from p n (os ++ k ∷ []) ≡ option_or (position_from p n os) (cond (p k) (Some (n + length os)) None)
+from_more p n [] k =
+    let same : n ≡ n + 0 = omega arith in
+    ap (λ m. cond (p k) (Some m) None) same
+from_more p n (o ∷ os) k = by (p o) (from_more p (n + 1) os k)
+  where
+    next : (n + 1) + length os ≡ n + length (o ∷ os)
+    next = omega arith
+
+    by : (b : Bool) → position_from p (n + 1) (os ++ k ∷ []) ≡ option_or (position_from p (n + 1) os) (cond (p k) (Some ((n + 1) + length os)) None)
+        → cond b (Some n) (position_from p (n + 1) (os ++ k ∷ [])) ≡ option_or (cond b (Some n) (position_from p (n + 1) os)) (cond (p k) (Some (n + length (o ∷ os))) None)
+    by true rest = refl
+    by false rest = rest ∙ ap (λ m. option_or (position_from p (n + 1) os) (cond (p k) (Some m) None)) next
+
+or_none : {T : Type 0} (o : Option T) → option_or o None ≡ o
+or_none None = refl
+or_none (Some x) = refl
+
+-- where an origin stands, with one more that stood nowhere
+pub place_more : {T : Type 0} (es : List (Origin × T)) (k : Origin) (v : T) (q : Origin) → place_in es k ≡ None
+    → place_in (es ++ (k, v) ∷ []) q ≡ cond (is_same k q) (Some (length es)) (place_in es q)
+place_more es k v q nowhere =
+    let count : 0 + length (keys_of es) ≡ length es = omega (arith, length-keys_of es) in
+    ap (position (is_same q)) (map-append (λ e. e.0) es ((k, v) ∷ []))
+    ∙ position_from-zero (is_same q) (keys_of es ++ k ∷ []) ∙ from_more (is_same q) 0 (keys_of es) k
+    ∙ ap (λ o. option_or o (cond (is_same q k) (Some (0 + length (keys_of es))) None)) (sym (position_from-zero (is_same q) (keys_of es)))
+    ∙ ap₂ (λ b n. option_or (place_in es q) (cond b (Some n) None)) (same_sym q k) count
+    ∙ by (is_same k q) refl
+  where
+    by : (b : Bool) → is_same k q ≡ b → option_or (place_in es q) (cond b (Some (length es)) None) ≡ cond b (Some (length es)) (place_in es q)
+    by true same = ap (λ o. option_or o (Some (length es))) (ap (place_in es) (sym (same_true k q same)) ∙ nowhere)
+    by false other = or_none (place_in es q)
+
+-- another value where an origin stands leaves the origins
+pub keys_set : {T : Type 0} (es : List (Origin × T)) (i : ℕ) (o : Origin) (v w : T) → slice_get es i ≡ Some (o, v) → keys_of (slice_set es i (o, w)) ≡ keys_of es
+keys_set [] i o v w here = refl
+keys_set (e ∷ es) zero o v w here = ap (λ k. k ∷ keys_of es) (sym (ap (λ x. (unwrap_or x e).0) here))
+keys_set (e ∷ es) (suc i) o v w here = ap (λ ks. e.0 ∷ ks) (keys_set es i o v w here)

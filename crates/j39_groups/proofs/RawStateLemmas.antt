@@ -1,12 +1,12 @@
 -- The raw number that a value was read from stands behind it: law `states_are_of_raw_numbers`.
-use Rattle.std.proofs.Common.{◌≡◌, ◌∙◌, ℕ, zero, suc, ℤ, pos, ◌+◌, ◌*◌, ◌/◌, ◌%◌, ◌^◌, ◌<◌, ◌≤◌, ◌==◌, ◌&&◌, ◌||◌, ◌+ℤ◌, ◌-ℤ◌, ◌*ℤ◌, Bool, true, false, nat_le, nat_lt, Option, Some, None, refl, sym, ap, ap₂, arith, eqb-true, ne_eqb, if◌then◌else◌}
+use Rattle.std.proofs.Common.{◌≡◌, ◌∙◌, ℕ, ℤ, pos, ◌+◌, ◌*◌, ◌/◌, ◌%◌, ◌^◌, ◌<◌, ◌==◌, ◌&&◌, ◌||◌, ◌+ℤ◌, ◌-ℤ◌, ◌*ℤ◌, Bool, true, false, nat_le, nat_lt, Option, Some, None, refl, sym, ap, ap₂, arith, eqb-true, ne_eqb, if◌then◌else◌}
 use Rattle.std.specs.Prelude.{◌≢◌, unsigned_abs}
 use Rattle.std.specs.Int.{is_negative}
 use Rattle.std.proofs.Math.IntN.{+ℤ-neg_ℤ_cancel, pos-*ℤ-pos}
 use Rattle.std.proofs.lemmas.Nat.{div-mul-add, mod-mul-add}
 use Rattle.std.proofs.lemmas.Bool.{eqb-false}
 use Rattle.std.proofs.lemmas.Bool.Decides.{nat_tests}
-use Rattle.j39_groups.specs.Ranges.{is_valid, top_byte}
+use Rattle.j39_groups.specs.Ranges.{top_byte}
 use Rattle.j39_groups.specs.Readings.{bits_meaning, by_top_byte, number_meaning, switch_meaning}
 use Rattle.j39_groups.specs.Row.{bits_field, number_field, switch_field}
 use Rattle.j39_groups.specs.States.{error_in, indicator_in, raw_behind, steps_up}

@@ -90,7 +90,7 @@ the_other : (a b : Bool) → (a || b) ≡ true → a ≡ false → b ≡ true
 the_other true b either fails = absurd (false≢true (sym fails))
 the_other false b either fails = either
 
-first_of : (rows : List Row) (pgn : ℕ) (d : Row) → list_any (is_of pgn) (take 1 rows) ≡ true → (get_or rows 0 d).pgn ≡ pgn
+first_of : (rows : List Row) (pgn : ℕ) (d : Row) → list_any (is_of pgn) (take 1 rows) ≡ true → (get_or rows zero d).pgn ≡ pgn
 first_of [] pgn d h = absurd (false≢true h)
 first_of (row ∷ rows) pgn d h = elim (cases_Bool (is_of pgn row)) [
   | inl same ↦ eqb-true _ _ same
@@ -108,7 +108,7 @@ together_at (row ∷ rows) zero (suc j) (suc k) d h up down below same =
     elim (cases_Bool (list_any (is_of row.pgn) (take 1 rows))) [
       | inl next ↦
           let first = first_of rows row.pgn d next in
-          together_at rows 0 j k d both.1 (omega arith) (omega (arith, down)) inside (first ∙ same) ∙ first
+          together_at rows zero j k d both.1 (omega arith) (omega (arith, down)) inside (first ∙ same) ∙ first
       | inr last ↦
           let other = AllPass-from_list_all (is_not_of row.pgn) rows (the_other _ _ both.0 last) k d inside in
           absurd (eqb-false _ _ (not-true _ other) (sym same))

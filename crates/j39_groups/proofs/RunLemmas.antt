@@ -12,7 +12,7 @@ use Rattle.std.proofs.lemmas.List.Elements.{filter-append}
 use Rattle.std.proofs.lemmas.List.Folds.{list_all-append}
 use Rattle.j39_groups.specs.declared.row.Row.{Row}
 use Rattle.j39_groups.specs.declared.runs.Run.{Run}
-use Rattle.j39_groups.specs.Runs.{AreRuns, IsRun, is_elsewhere, is_here, place_of}
+use Rattle.j39_groups.specs.Runs.{AreRuns, IsRun, bounds_of, is_elsewhere, is_here, place_of}
 
 cases_zero : (n : ℕ) → (n ≡ 0) ⊎ (0 < n)
 cases_zero zero = inl refl
@@ -29,20 +29,20 @@ none_elsewhere pgn (row ∷ rows) all =
     rw other (none_elsewhere pgn rows both.1)
 
 -- so all of them lie in the run of its place
-all_sought : (rows : List Row) (pgn : ℕ) (run : Run) → IsRun rows (place_of pgn) run
-    → filter (λ row. row.pgn == pgn) (take (run.end - run.first) (drop run.first rows)) ≡ filter (λ row. row.pgn == pgn) rows
-all_sought rows pgn run is =
+all_sought : (rows : List Row) (pgn : ℕ) (low high : ℕ) → IsRun rows (place_of pgn) low high
+    → filter (λ row. row.pgn == pgn) (take (high - low) (drop low rows)) ≡ filter (λ row. row.pgn == pgn) rows
+all_sought rows pgn low high is =
     let p : Row → Bool = λ row. row.pgn == pgn in
-    let n = run.end - run.first in
-    let front : filter p (take run.first rows) ≡ [] = none_elsewhere pgn (take run.first rows) is.none_before in
-    let to_end : run.first + n ≡ run.end = omega (arith, is.ordered) in
-    let back : filter p (drop n (drop run.first rows)) ≡ [] =
-    ap (filter p) (drop-drop n run.first rows ∙ ap (λ k. drop k rows) to_end) ∙ none_elsewhere pgn (drop run.end rows) is.none_behind in
+    let n = high - low in
+    let front : filter p (take low rows) ≡ [] = none_elsewhere pgn (take low rows) is.none_before in
+    let to_end : low + n ≡ high = omega (arith, is.ordered) in
+    let back : filter p (drop n (drop low rows)) ≡ [] =
+    ap (filter p) (drop-drop n low rows ∙ ap (λ k. drop k rows) to_end) ∙ none_elsewhere pgn (drop high rows) is.none_behind in
     sym (
-    ap (filter p) (sym (take-append-drop run.first rows)) ∙ filter-append p (take run.first rows) (drop run.first rows)
-    ∙ ap (λ found. found ++ filter p (drop run.first rows)) front
-    ∙ ap (filter p) (sym (take-append-drop n (drop run.first rows))) ∙ filter-append p (take n (drop run.first rows)) (drop n (drop run.first rows))
-    ∙ ap (λ found. filter p (take n (drop run.first rows)) ++ found) back ∙ append-nil (filter p (take n (drop run.first rows)))
+    ap (filter p) (sym (take-append-drop low rows)) ∙ filter-append p (take low rows) (drop low rows)
+    ∙ ap (λ found. found ++ filter p (drop low rows)) front
+    ∙ ap (filter p) (sym (take-append-drop n (drop low rows))) ∙ filter-append p (take n (drop low rows)) (drop n (drop low rows))
+    ∙ ap (λ found. filter p (take n (drop low rows)) ++ found) back ∙ append-nil (filter p (take n (drop low rows)))
     )
 
 -- what no group of a place but this one has
@@ -88,109 +88,111 @@ not_first (x ∷ xs) pgn place alone sound here first = elim (cases_Bool (is_lis
 ]
 
 -- a run is the rows of the group of its first row
-pub run_is : (rows : List Row) (pgn place : ℕ) (run : Run) → place ≡ place_of pgn → IsRun rows place run → list_all is_row rows ≡ true → Alone pgn place
-    → list_any (λ row. row.pgn == pgn) (take 1 (take (run.end - run.first) (drop run.first rows))) ≡ true
-    → take (run.end - run.first) (drop run.first rows) ≡ filter (λ row. row.pgn == pgn) rows
-run_is rows pgn place run at is sound alone first =
-    of_first _ pgn place alone (all_part is_row rows run.first (run.end - run.first) sound) is.own first
-    ∙ all_sought rows pgn run (subst (λ p. IsRun rows p run) at is)
+pub run_is : (rows : List Row) (pgn place : ℕ) (low high : ℕ) → place ≡ place_of pgn → IsRun rows place low high → list_all is_row rows ≡ true → Alone pgn place
+    → list_any (λ row. row.pgn == pgn) (take 1 (take (high - low) (drop low rows))) ≡ true
+    → take (high - low) (drop low rows) ≡ filter (λ row. row.pgn == pgn) rows
+run_is rows pgn place low high at is sound alone first =
+    of_first _ pgn place alone (all_part is_row rows low (high - low) sound) is.own first
+    ∙ all_sought rows pgn low high (subst (λ p. IsRun rows p low high) at is)
 
 -- and has none of another
-pub run_is_not : (rows : List Row) (pgn place : ℕ) (run : Run) → place ≡ place_of pgn → IsRun rows place run → list_all is_row rows ≡ true → Alone pgn place
-    → list_any (λ row. row.pgn == pgn) (take 1 (take (run.end - run.first) (drop run.first rows))) ≡ false
+pub run_is_not : (rows : List Row) (pgn place : ℕ) (low high : ℕ) → place ≡ place_of pgn → IsRun rows place low high → list_all is_row rows ≡ true → Alone pgn place
+    → list_any (λ row. row.pgn == pgn) (take 1 (take (high - low) (drop low rows))) ≡ false
     → [] ≡ filter (λ row. row.pgn == pgn) rows
-run_is_not rows pgn place run at is sound alone first =
-    not_first _ pgn place alone (all_part is_row rows run.first (run.end - run.first) sound) is.own first
-    ∙ all_sought rows pgn run (subst (λ p. IsRun rows p run) at is)
+run_is_not rows pgn place low high at is sound alone first =
+    not_first _ pgn place alone (all_part is_row rows low (high - low) sound) is.own first
+    ∙ all_sought rows pgn low high (subst (λ p. IsRun rows p low high) at is)
 
 -- the run of a place that stands for no row yet
-no_run : (place : ℕ) (run : Run) → run.first ≡ 0 → run.end ≡ 0 → IsRun [] place run
-no_run place run first end = record {
-  ordered = omega (arith, first, end);
-  inside = omega (arith, end);
-  filled = λ some. absurd (omega (arith, end, some));
-  own = rw (first, end) refl;
-  none_before = rw first refl;
-  none_behind = rw end refl;
+no_run : (place : ℕ) → IsRun [] place 0 0
+no_run place = record {
+  ordered = omega arith;
+  inside = omega arith;
+  filled = λ some. absurd (omega (arith, some));
+  own = refl;
+  none_before = refl;
+  none_behind = refl;
 }
 
-pub no_runs : (run : Run) → run.first ≡ 0 → run.end ≡ 0 → AreRuns (replicate 17408 run) []
-no_runs run first end place d below = let at = get_or-replicate 17408 place run d below in rw at (no_run place run first end)
+pub no_runs : (run : Run) → bounds_of run ≡ (0, 0) → AreRuns (replicate 17408 run) []
+no_runs run none place d below =
+    let at = get_or-replicate 17408 place run d below in
+    rw at (subst (λ (b : ℕ × ℕ). IsRun [] place b.0 b.1) (sym none) (no_run place))
 
 all_of_one : {X : Type 0} (p : X → Bool) (x : X) (xs : List X) → p x ≡ true → list_all p xs ≡ true → list_all p (xs ++ (x ∷ [])) ≡ true
 all_of_one p x xs here all = list_all-append p xs (x ∷ []) ∙ (rw (all, here) refl)
 
 -- a row behind the others, of another place
-run_kept : (rows : List Row) (row : Row) (place : ℕ) (run : Run) → is_elsewhere place row ≡ true → IsRun rows place run → IsRun (rows ++ (row ∷ [])) place run
-run_kept rows row place run other is =
+run_kept : (rows : List Row) (row : Row) (place : ℕ) (low high : ℕ) → is_elsewhere place row ≡ true → IsRun rows place low high → IsRun (rows ++ (row ∷ [])) place low high
+run_kept rows row place low high other is =
     let len = length-append rows (row ∷ []) in
     let inside = is.inside in
     let ordered = is.ordered in
-    let behind = drop-append-le run.first rows (row ∷ []) (omega (arith, ordered, inside)) in
+    let behind = drop-append-le low rows (row ∷ []) (omega (arith, ordered, inside)) in
     record {
       ordered = is.ordered;
       inside = omega (arith, len, inside);
       filled = is.filled;
-      own = ap (λ rs. list_all (is_here place) (take (run.end - run.first) rs)) behind
-          ∙ ap (list_all (is_here place)) (take-append-le (run.end - run.first) (drop run.first rows) (row ∷ []) (simp length-drop (omega (arith, ordered, inside)))) ∙ is.own;
-      none_before = ap (list_all (is_elsewhere place)) (take-append-le run.first rows (row ∷ []) (let ordered = is.ordered in omega (arith, ordered, inside))) ∙ is.none_before;
-      none_behind = ap (list_all (is_elsewhere place)) (drop-append-le run.end rows (row ∷ []) inside) ∙ all_of_one (is_elsewhere place) row (drop run.end rows) other is.none_behind;
+      own = ap (λ rs. list_all (is_here place) (take (high - low) rs)) behind
+          ∙ ap (list_all (is_here place)) (take-append-le (high - low) (drop low rows) (row ∷ []) (simp length-drop (omega (arith, ordered, inside)))) ∙ is.own;
+      none_before = ap (list_all (is_elsewhere place)) (take-append-le low rows (row ∷ []) (let ordered = is.ordered in omega (arith, ordered, inside))) ∙ is.none_before;
+      none_behind = ap (list_all (is_elsewhere place)) (drop-append-le high rows (row ∷ []) inside) ∙ all_of_one (is_elsewhere place) row (drop high rows) other is.none_behind;
     }
 
 -- the last row of a run
-last_here : (rows : List Row) (place : ℕ) (run : Run) (d : Row) → IsRun rows place run → 0 < run.end → place_of (get_or rows (run.end - 1) d).pgn ≡ place
-last_here rows place run d is some =
+last_here : (rows : List Row) (place : ℕ) (low high : ℕ) (d : Row) → IsRun rows place low high → 0 < high → place_of (get_or rows (high - 1) d).pgn ≡ place
+last_here rows place low high d is some =
     let filled = is.filled some in
     let inside = is.inside in
-    let n = run.end - run.first in
-    let part = take n (drop run.first rows) in
+    let n = high - low in
+    let part = take n (drop low rows) in
     let below : n - 1 < length part = simp (length-take, length-drop) (omega (arith, filled, inside)) in
-    let at : get_or part (n - 1) d ≡ get_or rows (run.end - 1) d =
-    get_or-take n (drop run.first rows) (n - 1) d (omega (arith, filled)) ∙ get_or-drop run.first rows (n - 1) d ∙ ap (λ k. get_or rows k d) (omega (arith, filled)) in
+    let at : get_or part (n - 1) d ≡ get_or rows (high - 1) d =
+    get_or-take n (drop low rows) (n - 1) d (omega (arith, filled)) ∙ get_or-drop low rows (n - 1) d ∙ ap (λ k. get_or rows k d) (omega (arith, filled)) in
     eqb-true _ _ (subst (λ row. is_here place row ≡ true) at (AllPass-from_list_all (is_here place) part is.own (n - 1) d below))
 
 -- a row behind those of its place stands behind all rows so far: between two of a group stand rows of this group alone
-run_ends : (rows : List Row) (i place : ℕ) (run : Run) (d : Row) → i < length rows → IsRun (take i rows) place run → 0 < run.end
+run_ends : (rows : List Row) (i place : ℕ) (low high : ℕ) (d : Row) → i < length rows → IsRun (take i rows) place low high → 0 < high
     → StandTogether rows → list_all is_row rows ≡ true → place ≡ place_of (get_or rows i d).pgn
     → Alone (get_or rows i d).pgn place
-    → run.end ≡ i
-run_ends rows i place run d below is some together sound here alone =
+    → high ≡ i
+run_ends rows i place low high d below is some together sound here alone =
     let len = length-take i rows in
     let inside = is.inside in
     let row = get_or rows i d in
-    elim (cases_Bool (nat_lt run.end i)) [
+    elim (cases_Bool (nat_lt high i)) [
       | inl less ↦
-          let l : run.end < i = ltb-true _ _ less in
-          let first : get_or (take i rows) (run.end - 1) d ≡ get_or rows (run.end - 1) d = get_or-take i rows (run.end - 1) d (omega (arith, l)) in
-          let next : get_or (drop run.end (take i rows)) 0 d ≡ get_or rows run.end d =
-          get_or-drop run.end (take i rows) 0 d ∙ ap (λ k. get_or (take i rows) k d) (omega arith) ∙ get_or-take i rows run.end d l in
+          let l : high < i = ltb-true _ _ less in
+          let first : get_or (take i rows) (high - 1) d ≡ get_or rows (high - 1) d = get_or-take i rows (high - 1) d (omega (arith, l)) in
+          let next : get_or (drop high (take i rows)) 0 d ≡ get_or rows high d =
+          get_or-drop high (take i rows) 0 d ∙ ap (λ k. get_or (take i rows) k d) (omega arith) ∙ get_or-take i rows high d l in
           let listed = λ (k : ℕ) (h : k < length rows). (row_is (get_or rows k d) (row_at rows k d sound h)).listed in
-          let same : (get_or rows (run.end - 1) d).pgn ≡ row.pgn =
-          alone _ (listed i below) (listed (run.end - 1) (omega (arith, l, below))) (ap (λ (r : Row). place_of r.pgn) (sym first) ∙ last_here (take i rows) place run d is some) in
-          let between : (get_or rows run.end d).pgn ≡ row.pgn = together (run.end - 1) run.end i d (omega arith) (omega (arith, l)) below same ∙ same in
-          let elsewhere = AllPass-from_list_all (is_elsewhere place) (drop run.end (take i rows)) is.none_behind 0 d (simp length-drop (omega (arith, l, len, below))) in
+          let same : (get_or rows (high - 1) d).pgn ≡ row.pgn =
+          alone _ (listed i below) (listed (high - 1) (omega (arith, l, below))) (ap (λ (r : Row). place_of r.pgn) (sym first) ∙ last_here (take i rows) place low high d is some) in
+          let between : (get_or rows high d).pgn ≡ row.pgn = together (high - 1) high i d (omega arith) (omega (arith, l)) below same ∙ same in
+          let elsewhere = AllPass-from_list_all (is_elsewhere place) (drop high (take i rows)) is.none_behind 0 d (simp length-drop (omega (arith, l, len, below))) in
           let other = subst (λ r. is_elsewhere place r ≡ true) next elsewhere in
           absurd (eqb-false _ _ (not-true _ other) (ap place_of between ∙ sym here))
       | inr more ↦ let m = ltb-false _ _ more in omega (arith, m, inside, len, below)
     ]
 
 -- and of this one
-run_grown : (rows : List Row) (row : Row) (place : ℕ) (run next : Run) → (run.end ≡ 0 → next.first ≡ length rows) → (0 < run.end → next.first ≡ run.first)
-    → next.end ≡ length rows + 1 → (0 < run.end → run.end ≡ length rows) → is_here place row ≡ true → IsRun rows place run → IsRun (rows ++ (row ∷ [])) place next
-run_grown rows row place run next begun grown end last here is =
+run_grown : (rows : List Row) (row : Row) (place : ℕ) (low high low' high' : ℕ) → (high ≡ 0 → low' ≡ length rows) → (0 < high → low' ≡ low)
+    → high' ≡ length rows + 1 → (0 < high → high ≡ length rows) → is_here place row ≡ true → IsRun rows place low high → IsRun (rows ++ (row ∷ [])) place low' high'
+run_grown rows row place low high low' high' begun grown end last here is =
     let all = rows ++ (row ∷ []) in
     let len = length-append rows (row ∷ []) in
-    let behind : drop next.end all ≡ [] = drop_all next.end all (omega (arith, len, end)) in
-    let none_behind : list_all (is_elsewhere place) (drop next.end all) ≡ true = ap (list_all (is_elsewhere place)) behind in
-    let own : (first : ℕ) → next.first ≡ first → first ≤ length rows → list_all (is_here place) (drop first rows) ≡ true
-    → list_all (is_here place) (take (next.end - next.first) (drop next.first all)) ≡ true = λ first same fits holds.
-    ap (λ k. list_all (is_here place) (take (next.end - k) (drop k all))) same
-    ∙ ap (list_all (is_here place)) (take_all (next.end - first) (drop first all) (simp length-drop (omega (arith, len, end))) ∙ drop-append-le first rows (row ∷ []) fits)
+    let behind : drop high' all ≡ [] = drop_all high' all (omega (arith, len, end)) in
+    let none_behind : list_all (is_elsewhere place) (drop high' all) ≡ true = ap (list_all (is_elsewhere place)) behind in
+    let own : (first : ℕ) → low' ≡ first → first ≤ length rows → list_all (is_here place) (drop first rows) ≡ true
+    → list_all (is_here place) (take (high' - low') (drop low' all)) ≡ true = λ first same fits holds.
+    ap (λ k. list_all (is_here place) (take (high' - k) (drop k all))) same
+    ∙ ap (list_all (is_here place)) (take_all (high' - first) (drop first all) (simp length-drop (omega (arith, len, end))) ∙ drop-append-le first rows (row ∷ []) fits)
     ∙ all_of_one (is_here place) row (drop first rows) here holds in
-    elim (cases_zero run.end) [
+    elim (cases_zero high) [
       | inl empty ↦
           let first = begun empty in
-          let whole : take next.first all ≡ drop run.end rows = ap (λ k. take k all) first ∙ take-append-le (length rows) rows (row ∷ []) (omega arith) ∙ take_all (length rows) rows (omega arith) ∙ sym (ap (λ k. drop k rows) empty) in
+          let whole : take low' all ≡ drop high rows = ap (λ k. take k all) first ∙ take-append-le (length rows) rows (row ∷ []) (omega arith) ∙ take_all (length rows) rows (omega arith) ∙ sym (ap (λ k. drop k rows) empty) in
           record {
             ordered = omega (arith, first, end);
             inside = omega (arith, len, end);
@@ -204,21 +206,21 @@ run_grown rows row place run next begun grown end last here is =
           let inside = is.inside in
           let ordered = is.ordered in
           let whole = last some in
-          let part : take (run.end - run.first) (drop run.first rows) ≡ drop run.first rows = take_all (run.end - run.first) (drop run.first rows) (simp length-drop (omega (arith, whole, ordered))) in
+          let part : take (high - low) (drop low rows) ≡ drop low rows = take_all (high - low) (drop low rows) (simp length-drop (omega (arith, whole, ordered))) in
           record {
             ordered = omega (arith, first, end, inside, ordered);
             inside = omega (arith, len, end);
             filled = λ more. omega (arith, first, end, inside, ordered);
-            own = own run.first first (omega (arith, inside, ordered)) (ap (list_all (is_here place)) (sym part) ∙ is.own);
+            own = own low first (omega (arith, inside, ordered)) (ap (list_all (is_here place)) (sym part) ∙ is.own);
             none_before = ap (λ k. list_all (is_elsewhere place) (take k all)) first
-                ∙ ap (list_all (is_elsewhere place)) (take-append-le run.first rows (row ∷ []) (omega (arith, ordered, inside))) ∙ is.none_before;
+                ∙ ap (list_all (is_elsewhere place)) (take-append-le low rows (row ∷ []) (omega (arith, ordered, inside))) ∙ is.none_before;
             none_behind = none_behind;
           }
     ]
 
 -- the runs of one row more
 pub runs_more : (runs : List Run) (rows : List Row) (i k : ℕ) (d : Row) (o next : Run) → i < length rows → k ≡ place_of (get_or rows i d).pgn → k < length runs
-    → ((get_or runs k o).end ≡ 0 → next.first ≡ i) → (0 < (get_or runs k o).end → next.first ≡ (get_or runs k o).first) → next.end ≡ i + 1
+    → ((bounds_of (get_or runs k o)).1 ≡ 0 → (bounds_of next).0 ≡ i) → (0 < (bounds_of (get_or runs k o)).1 → (bounds_of next).0 ≡ (bounds_of (get_or runs k o)).0) → (bounds_of next).1 ≡ i + 1
     → StandTogether rows → list_all is_row rows ≡ true
     → Alone (get_or rows i d).pgn k
     → AreRuns runs (take i rows) → AreRuns (slice_set runs k next) (take (i + 1) rows)
@@ -227,17 +229,23 @@ runs_more runs rows i k d o next below is inside begun grown end together sound 
     let len = length-take i rows in
     let here : length (take i rows) ≡ i = omega (arith, len, below) in
     let whole = take_more rows i d below in
-    subst (λ rs. IsRun rs place (get_or (slice_set runs k next) place e)) (sym whole) (elim (cases_Bool (place == k)) [
+    subst (λ rs. IsRun rs place (bounds_of (get_or (slice_set runs k next) place e)).0 (bounds_of (get_or (slice_set runs k next) place e)).1) (sym whole) (elim (cases_Bool (place == k)) [
       | inl same ↦
           let at = get_or-set_at runs k place next e (eqb-true _ _ same) inside in
-          let this = subst (λ m. IsRun (take i rows) m (get_or runs m o)) (eqb-true _ _ same) (are place o few) in
-          let that : IsRun (take i rows ++ (row ∷ [])) k next =
-          run_grown (take i rows) row k (get_or runs k o) next (λ z. begun z ∙ sym here) grown (end ∙ ap (λ n. n + 1) (sym here))
-          (λ some. run_ends rows i k (get_or runs k o) d below this some together sound is alone ∙ sym here) (eq-eqb _ _ (sym is)) this in
-          rw at (subst (λ m. IsRun (take i rows ++ (row ∷ [])) m next) (sym (eqb-true _ _ same)) that)
+          let this = subst (λ m. IsRun (take i rows) m (bounds_of (get_or runs m o)).0 (bounds_of (get_or runs m o)).1) (eqb-true _ _ same) (are place o few) in
+          let that : IsRun (take i rows ++ (row ∷ [])) k (bounds_of next).0 (bounds_of next).1 =
+          run_grown (take i rows) row k _ _ _ _ (λ z. begun z ∙ sym here) grown (end ∙ ap (λ n. n + 1) (sym here))
+          (λ some. run_ends rows i k _ _ d below this some together sound is alone ∙ sym here) (eq-eqb _ _ (sym is)) this in
+          rw at (subst (λ m. IsRun (take i rows ++ (row ∷ [])) m (bounds_of next).0 (bounds_of next).1) (sym (eqb-true _ _ same)) that)
       | inr other ↦
           let at = get_or-set_other runs k place next e (eqb-false _ _ other) in
           let apart : (place_of row.pgn == place) ≡ false = ne_eqb _ _ (λ same. eqb-false _ _ other (sym same ∙ sym is)) in
           let elsewhere : is_elsewhere place row ≡ true = ap not apart in
-          rw at (run_kept (take i rows) row place (get_or runs place e) elsewhere (are place e few))
+          rw at (run_kept (take i rows) row place _ _ elsewhere (are place e few))
     ])
+
+-- the run of a place, by its bounds
+pub run_at : (runs : List Run) (rows : List Row) (place : ℕ) (bounds : ℕ × ℕ) → bounds ≡ bounds_of (get_or runs place (record { first = 0; last = 0 }))
+    → AreRuns runs rows → place < 17408 → IsRun rows place bounds.0 bounds.1
+run_at runs rows place bounds is are fits =
+    subst (λ (b : ℕ × ℕ). IsRun rows place b.0 b.1) (sym is) (are place (record { first = 0; last = 0 }) fits)

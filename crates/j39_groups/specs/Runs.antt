@@ -16,13 +16,19 @@ is_here place row = place_of row.pgn == place
 abbrev pub is_elsewhere : ℕ → Row → Bool
 is_elsewhere place row = not (is_here place row)
 
-pub record IsRun (rows : List Row) (place : ℕ) (run : Run) : Type 0 where
-  pub ordered : run.first ≤ run.end
-  pub inside : run.end ≤ length rows
-  pub filled : 0 < run.end → run.first < run.end
-  pub own : list_all (is_here place) (take (run.end - run.first) (drop run.first rows)) ≡ true
-  pub none_before : list_all (is_elsewhere place) (take run.first rows) ≡ true
-  pub none_behind : list_all (is_elsewhere place) (drop run.end rows) ≡ true
+-- the places of a run's rows, from the first up to the end
+abbrev pub bounds_of : Run → ℕ × ℕ
+bounds_of run = if nat_lt run.last run.first then (0, 0) else (run.first, run.last + 1)
+
+-- the rows from the first up to the end are those of a place, and no others
+pub record IsRun (rows : List Row) (place : ℕ) (first end : ℕ) : Type 0 where
+  pub ordered : first ≤ end
+  pub inside : end ≤ length rows
+  pub filled : 0 < end → first < end
+  pub own : list_all (is_here place) (take (end - first) (drop first rows)) ≡ true
+  pub none_before : list_all (is_elsewhere place) (take first rows) ≡ true
+  pub none_behind : list_all (is_elsewhere place) (drop end rows) ≡ true
 
 abbrev pub AreRuns : List Run → List Row → Type 0
-AreRuns runs rows = (place : ℕ) (d : Run) → place < 17408 → IsRun rows place (slice_index_or runs place d)
+AreRuns runs rows = (place : ℕ) (d : Run) → place < 17408
+    → IsRun rows place (bounds_of (slice_index_or runs place d)).0 (bounds_of (slice_index_or runs place d)).1

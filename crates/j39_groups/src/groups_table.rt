@@ -124,7 +124,8 @@ impl<'t> Groups<'t> {
     pub fn group_name(&self, pgn: Pgn) -> Option<&[u8]>
         ensures { option_copied result ≡ group_name_in self.now (pgn_raw pgn) }
     {
-        group_name_in(rows_of(&self.listed), pgn.raw())
+        let pgn = pgn.raw();
+        group_name_in(self.rows_for(pgn), pgn)
     }
 
     /// What the table calls a parameter (SPN), of whatever group: the name in its first row, of any bytes. `None`

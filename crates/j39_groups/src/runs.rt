@@ -2,31 +2,51 @@
 ghost use Rattle.std.specs.Prelude.{◌≡◌, ◌==◌, ◌+◌, ◌<◌, ◌≤◌, ℕ, filter, length, take, true};
 ghost use Rattle.std.specs.List.{list_all, list_any};
 ghost use Rattle.j39_groups.specs.Rows.{StandTogether, is_listed_group, is_row};
-ghost use Rattle.j39_groups.specs.Runs.{AreRuns, place_of};
+ghost use Rattle.j39_groups.specs.Runs.{AreRuns, bounds_of, place_of};
 
 use crate::row::Row;
 
 /// How many places there are: in each of four pages one for each PF, and one for each group of PF 240 and more.
 const PLACES: usize = 4 * 256 + 4 * 16 * 256;
 
-/// Where all rows of a place lie, and no others.
+/// Where all rows of a place lie, and no others: from the first to the last; none, where the last stands before the first.
 #[derive(Clone, Copy)]
 pub(crate) struct Run {
-    pub first: u32,
-    /// One behind the last; 0 where there is none.
-    pub end: u32,
+    pub first: u16,
+    pub last: u16,
 }
 
 impl Run {
-    /// With the row at a place behind it.
-    fn up_to(self, at: u32) -> Run
-        requires { at < 65536 }
-        ensures begun { self.end ≡ 0 → result.first ≡ at }
-        ensures grown { 0 < self.end → result.first ≡ self.first }
-        ensures end { result.end ≡ at + 1 }
+    /// Of no rows.
+    const NONE: Run = Run { first: 1, last: 0 };
+
+    /// The rows' places, from the first up to the end.
+    #[inline(always)]
+    fn bounds(self) -> (usize, usize)
+        ensures { result ≡ bounds_of self }
     {
-        let first = if self.end == 0 { at } else { self.first };
-        Run { first, end: at + 1 }
+        if self.last < self.first {
+            (0, 0)
+        } else {
+            (usize::from(self.first), usize::from(self.last) + 1)
+        }
+    }
+
+    /// With the row at a place behind it.
+    fn up_to(self, at: usize) -> Run
+        requires few { at < 65536 }
+        requires behind { (bounds_of self).1 ≤ at }
+        ensures begun { (bounds_of self).1 ≡ 0 → (bounds_of result).0 ≡ at }
+        ensures grown { 0 < (bounds_of self).1 → (bounds_of result).0 ≡ (bounds_of self).0 }
+        ensures end { (bounds_of result).1 ≡ at + 1 }
+    {
+        let last = at as u16;
+        let first = if self.last < self.first {
+            last
+        } else {
+            self.first
+        };
+        Run { first, last }
     }
 }
 
@@ -37,10 +57,10 @@ pub(crate) fn runs_of(rows: &[Row<'_>]) -> [Run; PLACES]
     requires together { StandTogether rows.now }
     ensures { AreRuns result rows.now }
 {
-    let mut runs = [Run { first: 0, end: 0 }; PLACES];
+    let mut runs = [Run::NONE; PLACES];
     for (at, row) in rows.iter().enumerate() {
         let place = place_of(row.pgn);
-        runs[place] = runs[place].up_to(at as u32);
+        runs[place] = runs[place].up_to(at);
     }
     runs
 }
@@ -53,8 +73,8 @@ pub(crate) fn run_of<'r, 't>(runs: &[Run; PLACES], rows: &'r [Row<'t>], pgn: u32
     ensures same { result.now ≡ filter (λ row. row.pgn == pgn) rows.now }
     ensures few { length result.now ≤ length rows.now }
 {
-    let run = runs[place_of(pgn)];
-    let rows = &rows[run.first as usize..run.end as usize];
+    let (first, end) = runs[place_of(pgn)].bounds();
+    let rows = &rows[first..end];
     if is_first(rows, pgn) { rows } else { &[] }
 }
 

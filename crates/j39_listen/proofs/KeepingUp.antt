@@ -1,5 +1,5 @@
 -- What a run had written where a read ended it.
-use Rattle.std.proofs.Common.{◌≡◌, ◌++◌, ℕ, List, [], Option, inl, refl, subst}
+use Rattle.std.proofs.Common.{ℕ, List, [], Option, inl, refl, subst}
 use Rattle.std.specs.Io.KnownBytes.{Appends, Consumes}
 use Rattle.std.proofs.KnownBytes.{Appends-trans}
 use Rattle.j39_frame.specs.Frame.{FrameRecord}

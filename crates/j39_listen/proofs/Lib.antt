@@ -13,14 +13,9 @@ pub mod Between
 pub mod Feeding
 pub mod Existing
 pub mod ListenerLemmas
--- the accounts: for those of `report`, `nodes` and `answer`
+-- the accounts: for those of `report` and `answer`
 pub mod ReportAccount
 pub mod FilterLemmas
-pub mod ByAddressLemmas
-pub mod SeenLemmas
-mod SecondsLemmas
-pub mod NodeLemmas
-pub mod SeenNodeLemmas
 pub mod AnswerLemmas
 pub mod AnswerAccount
 pub mod AnswerExisting

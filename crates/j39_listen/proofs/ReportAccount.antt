@@ -1,5 +1,5 @@
 -- The report as an account, in whatever form: what is taken of what is heard in more frames, and its text.
-use Rattle.std.proofs.Common.{Bor, ◌≡◌, ◌∙◌, ◌++◌, ◌∷◌, [], ℕ, Bool, List, Option, Some, None, ap, append-nil, append_assoc, flat_map, if◌then◌else◌, length, length-append, refl, subst, sym}
+use Rattle.std.proofs.Common.{Bor, arith, ◌≡◌, ◌∙◌, ◌++◌, ◌∷◌, [], ℕ, Bool, List, Option, Some, None, ap, append-nil, append_assoc, flat_map, if◌then◌else◌, length, length-append, refl, subst, sym}
 use Rattle.std.specs.Io.KnownBytes.{Appends}
 use Rattle.std.proofs.KnownBytes.{Appends-nil}
 use Rattle.std.proofs.lemmas.Grind.{flat_map-append}
@@ -182,3 +182,13 @@ module _ (form : Form) (subject : Subject) where
         all_is = is_all;
         front = (m.front.0, m.front.1 ++ rest, ap (λ x. x ++ rest) m.front.2 ∙ append_assoc m.front.0 m.front.1 rest, m.front.3);
       }
+
+  -- a frame at which nothing is heard, and that leaves the report as it is
+  pub report_passes : {E : Type 0} (r : Report E) (f : FrameRecord) (held : Option (List ℕ)) → ((asked : FilterRecord) (F : List FrameRecord) → Chooses asked r.chooser F → Chooses asked r.chooser (F ++ f ∷ []))
+      → ((asked : FilterRecord) (F : List FrameRecord) → Hears r.listener F → MeetsFrame form (record { rows = r.roles.groups.now; which = asked }) r.listener F f (made_by None) held held)
+      → Meets (HasReported form subject) r r (f ∷ []) held held
+  report_passes r f held notes meets = λ F before has.
+      let same : r.made ≡ made_sum r.made (made_by None) =
+      has.made_is ∙ same_made _ _ (capped-sum before.messages 0 before.messages (omega arith)) (capped-sum before.lines 0 before.lines (omega arith))
+      ∙ ap (λ (x : Made). made_sum x (made_by None)) (sym has.made_is) in
+      report_meets r r refl f notes (made_by None) held held (λ asked G hears chosen. meets asked G hears) same F before has

@@ -1,5 +1,5 @@
 -- What a run writes tells of publishers what was published.
-use Rattle.std.proofs.Common.{◌≡◌, ◌∙◌, ◌++◌, [], ℕ, List, Option, IfSome, Some, None, ap, refl, subst, sym}
+use Rattle.std.proofs.Common.{◌∙◌, [], ℕ, List, Option, IfSome, Some, None, ap, refl, subst}
 use Rattle.j39_log.specs.Log.{frames_of}
 use Rattle.std.proofs.KnownBytes.{Appends-nil}
 use Rattle.j39_listen.proofs.FilterLemmas.{either_order}

@@ -74,11 +74,14 @@ is_listed f address name destination pgn =
     is_asked (is_sender address name) f.from
     && (is_asked (λ asked. asked == goes_to destination) f.to && is_asked (λ asked. asked == pgn) f.pgns)
 
--- where the first frame has this stamp, what was sent so is asked for: by its stamp, of which both moments take their own, and by
--- its sender, its destination and its group
+-- where the first frame has this stamp, this one lies between the moments that are asked for, which both take their own
+abbrev pub is_in_time : FilterRecord → ℕ → ℕ → Bool
+is_in_time f first stamp = is_since first stamp f.since && is_until first stamp f.until
+
+-- what was sent so is asked for: by its stamp, and by its sender, its destination and its group
 abbrev pub asks_for : FilterRecord → ℕ → ℕ → ℕ → Option ℕ → Option ℕ → ℕ → Bool
 asks_for f first stamp address name destination pgn =
-    (is_since first stamp f.since && is_until first stamp f.until) && is_listed f address name destination pgn
+    is_in_time f first stamp && is_listed f address name destination pgn
 
 -- so is the entry
 abbrev pub takes : FilterRecord → ℕ → Entry → Bool
@@ -91,6 +94,10 @@ takes_message f first h = asks_for f first h.stamp h.message.source h.name h.des
 -- the messages that are asked for, in order
 abbrev pub messages_taken : FilterRecord → ℕ → List Hearing → List Hearing
 messages_taken f first heard = filter (takes_message f first) heard
+
+-- those between the moments
+abbrev pub in_time : FilterRecord → ℕ → List Hearing → List Hearing
+in_time f first heard = filter (λ h. is_in_time f first h.stamp) heard
 
 -- the stamp of the first frame, where there is one
 abbrev pub first_of : List FrameRecord → Option ℕ

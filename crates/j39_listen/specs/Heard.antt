@@ -1,9 +1,9 @@
 -- What is heard in the frames of a bus, in order (J1939-21, 5.10; J1939-81, 4.2): messages in packets of every group, and in
 -- one frame those of some groups, as those that a table of parameters reports.
-use Rattle.std.specs.Prelude.{◌≡◌, ◌⊎◌, ℕ, zero, suc, ◌/◌, ◌%◌, ◌<◌, ◌≤◌, nat_lt, if◌then◌else◌, Bool, true, false, List, [], ◌∷◌, ◌++◌, map, length, get_or, Option, Some, None}
-use Rattle.j39_frame.specs.Address.{IsAddress}
+use Rattle.std.specs.Prelude.{◌≡◌, ◌==◌, ◌⊎◌, ℕ, zero, suc, ◌/◌, ◌%◌, ◌<◌, ◌≤◌, nat_lt, if◌then◌else◌, Bool, true, false, List, [], ◌∷◌, ◌++◌, map, length, get_or, Option, Some, None}
+use Rattle.j39_frame.specs.Address.{IsAddress, global_address}
 use Rattle.j39_frame.specs.Frame.{FrameRecord}
-use Rattle.j39_frame.specs.Identifier.{source_of, pgn_of, ps_of}
+use Rattle.j39_frame.specs.Identifier.{destination_of, source_of, pgn_of, ps_of}
 use Rattle.j39_groups.specs.Readings.{is_network_group, is_reported_in}
 use Rattle.j39_groups.specs.Row.{RowRecord}
 use Rattle.j39_transport.specs.Events.{Event}
@@ -21,10 +21,16 @@ pub record Hearing : Type 0 where
   pub stamp : ℕ
   pub name : Option ℕ
 
+-- what goes to one address has that destination
+abbrev pub to_one : Option ℕ → Option ℕ
+to_one None = None
+to_one (Some a) = if a == global_address then None else Some a
+
 -- the destination of a message of this group whose last frame has this identifier: its PS, an address or 255 for all, where the
--- group's PF is below 240; other groups have none (J1939-21, 5.2.5)
+-- group's PF is below 240; of other groups what came to one address, by RTS and CTS, has that one, and all else none (J1939-21,
+-- 5.2.5, 5.10.3)
 abbrev pub sent_to : ℕ → ℕ → Option ℕ
-sent_to pgn id = if nat_lt (pgn / 256 % 256) 240 then Some (ps_of id) else None
+sent_to pgn id = if nat_lt (pgn / 256 % 256) 240 then Some (ps_of id) else to_one (destination_of id)
 
 -- what stands past the end: a frame that means nothing
 abbrev pub frame_at : List FrameRecord → ℕ → FrameRecord

@@ -2,12 +2,8 @@
 pub mod Heard
 pub mod Forgets
 pub mod Report
-pub mod ByAddress
-pub mod Nodes
-pub mod SeenNodes
 pub mod Answers
 pub mod Output
-pub mod Members
 pub mod Headed
 pub mod Filter
 -- what was published, and what a report tells of it
@@ -33,8 +29,6 @@ pub mod OneFrameMore
 pub mod AccountCalls
 pub mod RolesSoFar
 pub mod ReportSoFar
-pub mod NodesSoFar
-pub mod SeenSoFar
 pub mod AnswersSoFar
 pub mod LinesSoFar
 pub mod PiecesSoFar

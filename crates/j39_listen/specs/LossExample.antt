@@ -1,7 +1,7 @@
 -- A log that loses a packet of a transfer, and has one of a broadcast twice: what was sent, what is left, what is heard.
 use Rattle.std.specs.Prelude.{ℕ, Bool, ◌||◌, ◌==◌, List, [], ◌∷◌}
 use Rattle.j39_frame.specs.Frame.{FrameRecord}
-use Rattle.j39_listen.specs.TransferExample.{directed_first, directed_item, directed_second, directed_third, engine, engine_claim, three_granted, two_granted, vin_acknowledged, vin_requested, vin_value}
+use Rattle.j39_listen.specs.TransferExample.{directed_first, directed_item, directed_second, directed_third, engine, engine_claim, three_granted, two_granted, vin_acknowledged, vin_requested, vin_sent}
 use Rattle.j39_listen.specs.NoTransferExamples.{device, device_claim, parts_announced, parts_first, parts_item, parts_second, parts_values}
 use Rattle.j39_listen.specs.Published.{Publishing}
 use Rattle.j39_listen.specs.Report.{Entry}
@@ -29,7 +29,7 @@ sent = record {
 }
 
 abbrev pub sent_values : List Entry
-sent_values = vin_value 2070000 ∷ parts_values 2105000
+sent_values = vin_sent 2070000 ∷ parts_values 2105000
 
 -- the third packet of the transfer, both times
 abbrev pub lost : ℕ → Bool

@@ -83,5 +83,9 @@ example = record { publishers = engine ∷ []; items = directed_item (1 ∷ 3 �
 abbrev pub vin_value : ℕ → Entry
 vin_value stamp = entry stamp engine 65260 237 (text (codes "1FUJA6CV12LK12345"))
 
+-- the same, sent to the one that it is for
+abbrev pub vin_sent : ℕ → Entry
+vin_sent stamp = record (vin_value stamp) { destination = Some 11 }
+
 abbrev pub example_values : List Entry
-example_values = vin_value 2070000 ∷ []
+example_values = vin_sent 2070000 ∷ []

@@ -1,15 +1,16 @@
 //! What a run makes of the frames of its bus.
-ghost use Rattle.std.specs.Prelude.{◌≡◌, ◌∷◌, [], List, OnOk, OnErr, IfOk, Err};
+ghost use Rattle.std.specs.Prelude.{◌≡◌, ◌∷◌, [], ℕ, List, Option, OnOk, OnErr, IfOk, Err, true};
 ghost use Rattle.j39_io.specs.Device.{Marks};
 ghost use Rattle.j39_io.specs.Turn.{turn};
 ghost use Rattle.j39_frame.specs.Frame.{FrameRecord};
+ghost use Rattle.j39_frame.specs.Identifier.{id_raw};
 ghost use Rattle.j39_listen.specs.AccountCalls.{Begins, Closes, LeavesWriter, MakesOne, Meets, Stops, StopsAtEnd};
 ghost use Rattle.j39_listen.specs.Output.{Output, Making, Meeting};
 ghost use Rattle.j39_listen.specs.declared.account.LineFault.TheVariants.{Memory, Write};
 ghost use Rattle.j39_listen.specs.Asking.{Wanting};
 
 use crate::counts::Made;
-use j39_frame::Frame;
+use j39_frame::{Frame, Id};
 use j39_io::{DeviceFault, Sink};
 use j39_log::Bus;
 
@@ -49,6 +50,17 @@ pub trait Account: Drop {
             (W.written sink.new) }
         ensures asked { result ≡ Err Memory → (subject : Subject) (F : List FrameRecord) (output : Output)
             → has_met subject bus.now self.old F output → asks subject F frame.now };
+
+    /// Whether nothing is to be made of a frame with this identifier, nor to be kept of it: then it needn't be taken. `false` says
+    /// nothing.
+    #[inline(always)]
+    fn passes_over(&self, id: Id) -> bool
+        ensures { result ≡ true → (subject : Subject) (bus : List ℕ) (frame : FrameRecord) (held : Option (List ℕ))
+            → frame.id ≡ id_raw id → Meets (has_met subject bus) self.now self.now (frame ∷ []) held held }
+    {
+        let _ = id;
+        false
+    }
 
     /// Writes what is left to be written at the end, and answers the numbers of the whole.
     fn close<W: Sink>(&self, sink: &mut W) -> Result<Made, DeviceFault>

@@ -1,11 +1,11 @@
 //! A filter that chooses among what is heard.
-ghost use Rattle.std.specs.Prelude.{◌≡◌, ◌&&◌, ◌++◌, ◌∷◌, [], List, nat_le};
+ghost use Rattle.std.specs.Prelude.{◌≡◌, ◌++◌, ◌∷◌, [], List, true};
 ghost use Rattle.std.specs.Option.{option_map};
 ghost use Rattle.j39_address.specs.Name.{name_raw};
 ghost use Rattle.j39_frame.specs.Frame.{FrameRecord};
 ghost use Rattle.j39_frame.specs.Stamp.{stamp_micros};
 ghost use Rattle.j39_listen.specs.Chooses.{Chooses, which_of};
-ghost use Rattle.j39_listen.specs.Filter.{FilterRecord, asks_for, first_stamp, takes_message};
+ghost use Rattle.j39_listen.specs.Filter.{FilterRecord, asks_for, first_stamp, is_in_time, takes_message};
 ghost use Rattle.j39_listen.specs.HeardModel.{hearing_of};
 
 use crate::Heard;
@@ -37,6 +37,15 @@ impl<'f> Chooser<'f> {
             since: first_asked(filter.since, zero),
             until: last_asked(filter.until, zero),
         }
+    }
+
+    /// Whether it was told of the first frame: from there on no frame changes it.
+    #[inline(always)]
+    pub(crate) fn is_begun(&self) -> bool
+        ensures { result ≡ true → (which : FilterRecord) (F : List FrameRecord) (frame : FrameRecord) → Chooses which self.now F
+            → Chooses which self.now (F ++ frame ∷ []) }
+    {
+        self.is_begun
     }
 
     /// Notes a frame of the bus.
@@ -95,8 +104,9 @@ impl<'f> Chooser<'f> {
 
     /// Whether both moments take the stamp.
     #[inline(always)]
-    fn is_in_time(&self, stamp: Stamp) -> bool
-        ensures { result ≡ (nat_le self.now.since (stamp_micros stamp) && nat_le (stamp_micros stamp) self.now.until) }
+    pub fn is_in_time(&self, stamp: Stamp) -> bool
+        ensures { (which : FilterRecord) (F : List FrameRecord) → Chooses which self.now F
+            → result ≡ is_in_time which (first_stamp F) (stamp_micros stamp) }
     {
         self.since <= stamp.micros() && stamp.micros() <= self.until
     }

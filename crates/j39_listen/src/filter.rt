@@ -90,7 +90,7 @@ impl<'f> Filter<'f> {
 
 /// Whether this sender is asked for.
 #[inline(always)]
-pub(crate) fn is_from(from: Option<&[Sender]>, address: u8, holder: Option<Name>) -> bool
+pub fn is_from(from: Option<&[Sender]>, address: u8, holder: Option<Name>) -> bool
     ensures { result ≡ is_asked (is_sender address (option_map name_raw holder))
         (option_map (λ senders. senders.now) from.entry) }
 {

@@ -1,5 +1,5 @@
 //! Laws about the definitions, each the contract of a function that does nothing.
-ghost use Rattle.std.specs.Prelude.{◌≡◌, ◌&&◌, ◌<◌, ◌∷◌, [], ℕ, List, None, Option, Some, filter, length};
+ghost use Rattle.std.specs.Prelude.{◌≡◌, ◌&&◌, ◌<◌, ◌∷◌, [], ℕ, List, Option, Some, filter, length};
 ghost use Rattle.std.specs.List.{flat_map};
 ghost use Rattle.j39_frame.specs.Frame.{FrameRecord};
 ghost use Rattle.j39_address.specs.Command.{Command};
@@ -14,8 +14,6 @@ ghost use Rattle.j39_listen.specs.NoTransferExamples.{Publishes, early, early_fr
 ghost use Rattle.j39_listen.specs.Filter.{FilterRecord, IsAmong, filtered_of, is_name, messages_taken, no_filter, taken, takes};
 ghost use Rattle.j39_listen.specs.Heard.{AreHeard, HeardAt, Hearing};
 ghost use Rattle.j39_listen.specs.Output.{report_of};
-ghost use Rattle.j39_listen.specs.ByAddress.{shown_from};
-ghost use Rattle.j39_listen.specs.SeenNodes.{Presence, is_seen_node};
 ghost use Rattle.j39_listen.specs.Report.{Entry, Form, IsReport, entries_among, entries_of};
 ghost use Rattle.j39_listen.specs.Loss.{LostTogether, Repeated, Thinned};
 ghost use Rattle.j39_listen.specs.LossExample.{heard_frames, left_frames, left_values, lost, sent, sent_frames, sent_values};
@@ -51,7 +49,7 @@ pub fn restricted_report()
 {}
 
 /// What a filter takes stands in the report, in the same order; two filters meet in what both take, in either order; and where
-/// nothing is asked for, what is made is the report. So it is of messages and of nodes; the entries of the messages that a filter
+/// nothing is asked for, what is made is the report. So it is of messages; the entries of the messages that a filter
 /// takes are those that it takes.
 pub fn filters()
     ensures among { (f : FilterRecord) (first : ℕ) (entries : List Entry) → IsAmong (taken f first entries) entries }
@@ -62,7 +60,6 @@ pub fn filters()
     ensures none { (form : Form) (groups : List RowRecord) (first : ℕ) (heard : List Hearing)
         → filtered_of form groups no_filter first heard ≡ report_of form groups heard }
     ensures no_message { (first : ℕ) (heard : List Hearing) → messages_taken no_filter first heard ≡ heard }
-    ensures no_sender { (nodes : List Presence) → shown_from is_seen_node None nodes ≡ nodes }
     ensures messages { (f : FilterRecord) (groups : List RowRecord) (first : ℕ) (heard : List Hearing)
         → flat_map (entries_of groups) (messages_taken f first heard) ≡ taken f first (flat_map (entries_of groups) heard) }
 {}

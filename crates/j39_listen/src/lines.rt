@@ -1,12 +1,13 @@
 //! A run, line by line.
-ghost use Rattle.std.specs.Prelude.{◌≡◌, ℕ, List, Option, Some, true, IfOk, OnOk, OnErr, Err, unwrap_or};
+ghost use Rattle.std.specs.Prelude.{◌≡◌, ◌∷◌, [], ℕ, List, Option, Some, true, IfOk, OnOk, OnErr, Err, unwrap_or};
 ghost use Rattle.j39_io.specs.Device.{Marks};
 ghost use Rattle.j39_io.specs.Turn.{turn};
+ghost use Rattle.j39_frame.specs.Frame.{FrameRecord};
 ghost use Rattle.j39_log.specs.Bus.{IsBusName};
 ghost use Rattle.j39_log.specs.LineRead.{spelled_of};
 ghost use Rattle.j39_log.specs.Spelled.{Spelled, frame as spelled_frame};
 ghost use Rattle.j39_log.specs.Splitter.{IsRawLine};
-ghost use Rattle.j39_listen.specs.AccountCalls.{LeavesWriter};
+ghost use Rattle.j39_listen.specs.AccountCalls.{LeavesWriter, Meets};
 ghost use Rattle.j39_listen.specs.WantsMemory.{AsksAs, AsksLine};
 ghost use Rattle.j39_listen.specs.LinesSoFar.{IsSpelling, MeetsLine, StopsLine, met_tally};
 ghost use Rattle.j39_listen.specs.PiecesSoFar.{HasMetAll, ReadsAs, ReadsLine, StopsAs, StopsAt, WritesAll, WritesSome};
@@ -62,6 +63,16 @@ impl<A: Account> Lines<A> {
             → AsksAs (A.has_met subject) (A.asks subject) line self.old }
     {
         self.read(raw.read(), sink)
+    }
+
+    /// Counts the line of a frame of the bus of which nothing is made.
+    #[inline(always)]
+    pub fn pass_over(&mut self)
+        ensures { (subject : A.Subject) (name : List ℕ) (frame : FrameRecord) (held : Option (List ℕ)) → self.old.bus ≡ Some name
+            → Meets (A.has_met subject name) self.old.account self.old.account (frame ∷ []) held held
+            → ReadsLine (A.has_met subject) (spelled_frame name frame) self.old self.new held held }
+    {
+        self.tally = self.tally.with(Met::Frame);
     }
 
     /// Takes the line of this frame, where the bus is known and the frame is one of it, as `read` does: no line goes by

@@ -23,7 +23,7 @@ pub(crate) struct Pieces<A> {
     splitter: Splitter,
     lines: Lines<A>,
     /// What the lines that were read quickly share with the next ones: it tells nothing of the lines.
-    second: LastSecond,
+    last: LastSecond,
 }
 
 impl<A: Account> Pieces<A> {
@@ -39,7 +39,7 @@ impl<A: Account> Pieces<A> {
                 account,
                 tally: Tally::default(),
             },
-            second: LastSecond::new(),
+            last: LastSecond::new(),
         }
     }
 
@@ -147,11 +147,16 @@ impl<A: Account> Pieces<A> {
         ensures asked { result ≡ Err Memory → (subject : A.Subject) (begun : List ℕ) → HasBegun self.old.splitter begun
             → AsksIn (A.has_met subject) (A.asks subject) begun bytes.now self.old.lines }
     {
-        let quick = self
-            .splitter
-            .frame_on(bytes, &mut self.second, &self.lines.bus);
-        match quick {
-            Some((frame, n)) => match self.lines.read_frame(&frame, sink) {
+        let bus = &self.lines.bus;
+        let Some((line, n)) = self.splitter.line_on(bytes, &mut self.last, bus) else {
+            return self.take_any(bytes, sink);
+        };
+        if self.lines.account.passes_over(line.id) {
+            self.lines.pass_over();
+            return Ok(n);
+        }
+        match line.frame() {
+            Some(frame) => match self.lines.read_frame(&frame, sink) {
                 Ok(()) => Ok(n),
                 Err(fault) => Err(fault),
             },

@@ -24,7 +24,7 @@ use crate::entry_form::EntryForm;
 use crate::filter::Filter;
 use crate::roles::Roles;
 use crate::{Heard, Listener};
-use j39_frame::Frame;
+use j39_frame::{Frame, Id};
 use j39_groups::Groups;
 use j39_io::{DeviceFault, Sink};
 use j39_log::Bus;
@@ -73,7 +73,12 @@ impl<'g, 't, E: EntryForm> Account for Report<'g, 't, E> {
 
     ghost asks = { λ subject. AsksForBoxes };
 
-    /// Most frames are of groups that nobody hears: those are done with here.
+    /// Most frames are of groups that nobody hears.
+    #[inline(always)]
+    fn passes_over(&self, id: Id) -> bool {
+        self.chooser.is_begun() && self.roles.passes_over(id)
+    }
+
     #[inline(always)]
     fn feed<W: Sink>(&mut self, _: &Bus, frame: &Frame, sink: &mut W) -> Result<(), LineFault> {
         self.chooser.note(frame);

@@ -1,8 +1,8 @@
 //! What the frames of an identifier are to who hears by a table, remembered: most frames have one of a few.
-ghost use Rattle.std.specs.Prelude.{◌≡◌, ◌<◌};
+ghost use Rattle.std.specs.Prelude.{◌≡◌, ◌<◌, true, false};
 ghost use Rattle.j39_frame.specs.Identifier.{id_raw};
 ghost use Rattle.std.proofs.Props.{props};
-ghost use Rattle.j39_listen.specs.RolesSoFar.{AreKnown, IsRole};
+ghost use Rattle.j39_listen.specs.RolesSoFar.{AreKnown, IsRole, is_heard};
 
 use j39_frame::Id;
 use j39_groups::{Groups, is_network_group};
@@ -66,6 +66,16 @@ impl<'g, 't> Roles<'g, 't> {
         } else {
             self.learn(place, id)
         }
+    }
+
+    /// Whether it is remembered that frames of an identifier are not heard.
+    #[inline(always)]
+    pub fn passes_over(&self, id: Id) -> bool
+        ensures { result ≡ true → is_heard self.now.groups.now (id_raw id) ≡ false }
+    {
+        let raw = id.raw();
+        let known = self.known[place_of(raw)];
+        known.id == raw && !known.role.is_heard
     }
 
     /// Asks the table, and remembers what it says.

@@ -1,13 +1,12 @@
 -- What vectors compute, lane by lane.
-use Rattle.std.proofs.Common.{◌≡◌, ◌<◌, ◌≤◌, ◌+◌, ◌-◌, ◌*◌, ◌%◌, ◌^◌, ℕ, zero, suc, Bool, true, false, not, cond, eqb, ltb, leb, nat_le, nat_eq, ◌||◌, List, [], ◌∷◌, length, map, take, replicate, get_or, bit_or, refl, sym, ap, ap₂, ◌∙◌, arith, subst, Option, Some, None, unwrap_or, Result, Ok, w8}
-use lib.Count.{count_trailing_zeros}
-use Rattle.std.specs.List.{AllByRecursion, prefix_len, range_with_len}
+use Rattle.std.proofs.Common.{◌≡◌, ◌<◌, ◌≤◌, ◌+◌, ◌-◌, ◌*◌, ◌%◌, ◌^◌, ℕ, zero, suc, Bool, true, false, cond, ltb, leb, nat_le, nat_eq, ◌||◌, List, [], ◌∷◌, length, map, replicate, get_or, bit_or, refl, sym, ap, ◌∙◌, arith, subst, Option, Some, None, unwrap_or, Result, Ok, w8, not, leb-true, ltb-true}
+use Rattle.std.specs.List.{AllByRecursion, AllPass, range_with_len}
 use Rattle.std.specs.Simd.Lanes.{zip2, sel_l, mask_l, top}
-use Rattle.std.proofs.lemmas.Simd.{first_set_mask_l, length-zip2, mask_l-mod, pick_l_whole, tops_compared, zip2_splat_left}
-use Rattle.std.proofs.lemmas.Bool.{eqb-true, leb-false, agree_below_at}
+use Rattle.std.proofs.lemmas.Simd.{mask_l-mod, pick_l_whole, tops_compared, zip2_splat_left}
+use Rattle.std.proofs.lemmas.Bool.{leb-false, agree_below_at}
 use Rattle.std.proofs.lemmas.List.{length-map}
-use Rattle.hex.specs.Hex.{hex_digit_value, digit_or_error, decode_pairs, decode_of, ◌>>=◌}
-use Rattle.hex.proofs.HexLemmas.{decode_of-even}
+use Rattle.hex.specs.Hex.{is_hex_digit, hex_digit_value, digit_or_error, decode_pairs, decode_of, ◌>>=◌}
+use Rattle.hex.proofs.HexLemmas.{decode_of-even, decode_of-ok}
 use Rattle.hex.specs.declared.error.FromHexError.{FromHexError}
 use Rattle.j39_log.specs.Lanes.{digit_lane, hex_lane, letter_lane, pair_at}
 
@@ -29,41 +28,13 @@ none_set y (x ∷ xs) h =
     let both = no_bit (leb y x) (mask_l (map (leb y) xs)) h in
     (leb-false y x both.0, none_set y xs both.1)
 
--- ---- two blocks
+no_bits : (b : Bool) (x y m : ℕ) → leb y x ≡ b → x < y → m ≡ 0 → cond b 1 0 + 2 * m ≡ 0
+no_bits true x y m e h none = let l = leb-true y x e in absurd (omega (arith, l, h))
+no_bits false x y m e h none = omega (arith, none)
 
--- whether two bytes are others
-abbrev are_others : ℕ → ℕ → Bool
-are_others a b = not (eqb a b)
-
-alike_more : (same : Bool) (n x y : ℕ) (xs ys : List ℕ) → eqb x y ≡ same → (n ≤ prefix_len not (zip2 are_others xs ys) → take n xs ≡ take n ys)
-    → suc n ≤ prefix_len not (not same ∷ zip2 are_others xs ys) → take (suc n) (x ∷ xs) ≡ take (suc n) (y ∷ ys)
-alike_more true n x y xs ys is later h = ap₂ (λ z zs. z ∷ zs) (eqb-true x y is) (later (omega (arith, h)))
-alike_more false n x y xs ys is later h = absurd (omega (arith, h))
-
-alike_front : (n : ℕ) (xs ys : List ℕ) → length xs ≡ length ys → n ≤ prefix_len not (zip2 are_others xs ys) → take n xs ≡ take n ys
-alike_front zero xs ys e h = refl
-alike_front (suc n) [] [] e h = refl
-alike_front (suc n) [] (y ∷ ys) e h = absurd (omega arith)
-alike_front (suc n) (x ∷ xs) [] e h = absurd (omega arith)
-alike_front (suc n) (x ∷ xs) (y ∷ ys) e h = alike_more (eqb x y) n x y xs ys refl (alike_front n xs ys (omega arith)) h
-
-map_itself : (bs : List Bool) → map (λ b. b) bs ≡ bs
-map_itself [] = refl
-map_itself (b ∷ bs) = ap (λ cs. b ∷ cs) (map_itself bs)
-
-within_first : (none : Bool) (n len count : ℕ) → n ≤ 16 → cond none 16 count ≡ len → n ≤ count → n ≤ len
-within_first true n len count few all h = omega (arith, all, few)
-within_first false n len count few some h = omega (arith, some, h)
-
-pub alike_blocks : (xs ys : List ℕ) → length xs ≡ 16 → length ys ≡ 16 → (n : ℕ) → n ≤ 16
-    → n ≤ count_trailing_zeros 64 (mask_l (map (top 7) (zip2 (λ a b. cond (are_others a b) 255 0) xs ys)) % 2 ^ 64) → take n xs ≡ take n ys
-alike_blocks xs ys long_x long_y n few h =
-    let others = zip2 are_others xs ys in
-    let long : length others ≡ 16 = length-zip2 are_others xs ys (long_x ∙ sym long_y) ∙ long_x in
-    let mask : mask_l (map (top 7) (zip2 (λ a b. cond (are_others a b) 255 0) xs ys)) % 2 ^ 64 ≡ mask_l (map (λ b. b) others) =
-    ap (λ ms. mask_l ms % 2 ^ 64) (tops_compared w8 are_others xs ys) ∙ mask_l-mod others 64 (omega (arith, long)) ∙ ap mask_l (sym (map_itself others)) in
-    let first = first_set_mask_l (λ b. b) others 16 long (omega arith) in
-    alike_front n xs ys (long_x ∙ sym long_y) (within_first _ n _ _ few first (rw mask at h))
+pub all_below : (y : ℕ) (v : List ℕ) → AllByRecursion (λ x. x < y) v → mask_l (map (leb y) v) ≡ 0
+all_below y [] h = refl
+all_below y (x ∷ xs) h = no_bits (leb y x) x y (mask_l (map (leb y) xs)) refl h.0 (all_below y xs h.1)
 
 -- ---- hex digits
 
@@ -137,3 +108,20 @@ pub decoded_16 : (s v : List ℕ) → length s ≡ 16 → ((k : ℕ) → get_or 
 decoded_16 s v long fits is small =
     let len : length v ≡ 16 = ap length is ∙ (length-map s hex_lane ∙ long) in
     decoded s v (rw long refl) fits is small ∙ ap Ok (subst (λ w. paired w ≡ map (pair_at 16 w) (range_with_len 0 8)) (pick_l_whole 0 v 16 len) refl)
+
+-- ---- what writes bytes has digits alone
+
+implied : (a b : Bool) → (not a || b) ≡ true → a ≡ true → b ≡ true
+implied true b h e = h
+implied false b h e = absurd (cc)
+
+digit_lane_of : (b : ℕ) → b < 256 → is_hex_digit b ≡ true → hex_lane b < 16
+digit_lane_of b fits e =
+    ltb-true _ _ (implied (is_hex_digit b) (ltb (hex_lane b) 16) (agree_below_at (λ b. not (is_hex_digit b) || ltb (hex_lane b) 16) (λ _. true) 256 b refl fits) e)
+
+lanes_of : (s : List ℕ) → ((k : ℕ) → get_or s k 0 < 256) → AllPass is_hex_digit s → AllByRecursion (λ x. x < 16) (map hex_lane s)
+lanes_of [] fits all = tt
+lanes_of (b ∷ s) fits all = (digit_lane_of b (fits 0) (all 0 0 (omega arith)), lanes_of s (λ k. fits (suc k)) (λ k d l. all (suc k) d (omega arith)))
+
+pub digits_of : (s bytes : List ℕ) → ((k : ℕ) → get_or s k 0 < 256) → decode_of s ≡ Ok bytes → AllByRecursion (λ x. x < 16) (map hex_lane s)
+digits_of s bytes fits e = lanes_of s fits (decode_of-ok s bytes e).1

@@ -7,6 +7,7 @@ pub mod SpacedLemmas
 pub mod LaneLemmas
 pub mod StampLaneLemmas
 pub mod PlainLemmas
+pub mod FormLemmas
 pub mod ReaderLemmas
 -- lines of a log, and the frames of a run's bus
 pub mod LogLemmas

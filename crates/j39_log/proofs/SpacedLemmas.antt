@@ -149,30 +149,27 @@ end_is body cr from (inr one) =
       omega arith,
     )
 
--- the line that bytes begin with, part by part
-pub first_line : (bytes front after cut behind bus last third end cr later : List ℕ) (frame : FrameRecord) → length front ≡ 18 → length third ≡ 25
-    → bytes ≡ front ++ after → after ≡ cut ++ behind → behind ≡ 41 ∷ 32 ∷ (bus ++ (32 ∷ last)) → last ≡ third ++ end → end ≡ cr ++ (10 ∷ later)
-    → length cut ≤ 3 → (cr ≡ []) ⊎ (cr ≡ 13 ∷ []) → IsStampText (front ++ (cut ++ (41 ∷ []))) frame.stamp → IsBusName bus → IsFrameText third frame.id frame.bytes
-    → (line : List ℕ) × TakesLine bytes line later × IsFrameLine line bus frame
-first_line bytes front after cut behind bus last third end cr later frame long whole f a b l e short ends s named t =
+-- the line that bytes begin with, part by part, and the frames that it spells
+pub first_line : (bytes front cut bus third cr later payload : List ℕ) (stamp id : ℕ) → length front ≡ 18 → length third ≡ 25
+    → bytes ≡ front ++ (cut ++ (41 ∷ (32 ∷ (bus ++ (32 ∷ (third ++ (cr ++ (10 ∷ later)))))))) → length cut ≤ 3 → (cr ≡ []) ⊎ (cr ≡ 13 ∷ [])
+    → IsStampText (front ++ (cut ++ (41 ∷ []))) stamp → IsBusName bus → IsFrameText third id payload
+    → (line : List ℕ) × TakesLine bytes line later
+    × ((frame : FrameRecord) → IsStampText (front ++ (cut ++ (41 ∷ []))) frame.stamp → IsFrameText third frame.id frame.bytes → IsFrameLine line bus frame)
+first_line bytes front cut bus third cr later payload stamp id long whole is short ends s named t =
     let first = front ++ (cut ++ (41 ∷ [])) in
     let body = first ++ (32 ∷ (bus ++ (32 ∷ third))) in
-    let is = end_is body cr (spaced_from first bus third frame.stamp frame.id frame.bytes s named t) ends in
+    let end = end_is body cr (spaced_from first bus third stamp id payload s named t) ends in
     let cut_first : length first ≡ 18 + (length cut + 1) = length-append front (cut ++ (41 ∷ [])) ∙ (let n = length-append cut (41 ∷ []) in omega (arith, long, n)) in
     let cut_body : length body ≡ length first + suc (length bus + suc (length third)) =
     length-append first (32 ∷ (bus ++ (32 ∷ third))) ∙ ap (λ n. length first + suc n) (length-append bus (32 ∷ third)) in
     let few : length (body ++ cr) ≤ 256 =
-    (let n = length-append body cr in let m = named.1 in let k = is.2 in omega (arith, n, m, k, cut_first, cut_body, short, whole)) in
+    (let n = length-append body cr in let m = named.1 in let k = end.2 in omega (arith, n, m, k, cut_first, cut_body, short, whole)) in
     let joined : front ++ (cut ++ (41 ∷ (32 ∷ (bus ++ (32 ∷ (third ++ (cr ++ (10 ∷ later)))))))) ≡ (body ++ cr) ++ (10 ∷ later) = simp append_assoc refl in (
       body ++ cr,
-      record {
-        whole = is.1;
-        bytes_are =
-            f ∙ ap (λ t. front ++ t) (a ∙ ap (λ t. cut ++ t) (b ∙ ap (λ t. 41 ∷ (32 ∷ (bus ++ (32 ∷ t)))) (l ∙ ap (λ t. third ++ t) e))) ∙ joined;
-      },
-      record {
+      record { whole = end.1; bytes_are = is ∙ joined },
+      λ frame spelled text. record {
         third = third;
-        parts = spaced_parts (body ++ cr) body first bus third frame.stamp few is.0 refl s named (IsField-frame third frame.id frame.bytes t);
-        third_is = t;
+        parts = spaced_parts (body ++ cr) body first bus third frame.stamp few end.0 refl spelled named (IsField-frame third frame.id frame.bytes text);
+        third_is = text;
       },
     )

@@ -4,6 +4,7 @@ use Rattle.std.specs.List.{AllByRecursion, range_with_len}
 use Rattle.std.specs.Char.{digit_value}
 use Rattle.std.specs.Str.Parse.{AllDigits, digits_value, digits_value_after}
 use Rattle.std.proofs.lemmas.Simd.{pick_l_whole}
+use Rattle.std.proofs.lemmas.Str.Parse.{digit_at}
 use Rattle.j39_log.specs.Lanes.{pair_at, stamp_lanes}
 use Rattle.j39_log.specs.LastSecond.{AreDecimals, IsSecond}
 use Rattle.j39_log.specs.Text.{IsStampText}
@@ -26,6 +27,9 @@ digits_read n (c ∷ cs) fits small =
   where
     digit : (c : ℕ) → c < 256 → (c + 208) % 256 < 10 → digit_value c ≡ (c + 208) % 256
     digit c fits small = let e : (c + 208) % 256 ≡ c - 48 = omega arith in let low : 47 < c = omega arith in let high : c < 58 = omega arith in grind arith
+
+pub digits_of_lanes : (cs : List ℕ) → AllByRecursion (λ d. d < 10) (map dec_lane cs) → AllByRecursion (λ c. c < 256) cs → AllDigits 10 cs
+digits_of_lanes cs small fits = (digits_read 0 cs fits small).0
 
 digits_from : (c : ℕ) (cs : List ℕ) → AllByRecursion (λ c. c < 256) (c ∷ cs) → AllByRecursion (λ d. d < 10) (map dec_lane (c ∷ cs))
     → AllDigits 10 (c ∷ cs) × (digits_value 10 (c ∷ cs) ≡ value_after (dec_lane c) (map dec_lane cs))
@@ -162,3 +166,37 @@ stamp_read front cut micros more s d are short =
       cut_are = are;
       stamp_is = ap₂ (λ a b. a + b) s.micros_are d.micros_are;
     }
+
+-- the lanes of a stamp's front are digits
+small_lane : (b : ℕ) → digit_value b < 10 → dec_lane b < 10
+small_lane b h = let r = digit_at (b ∷ []) 0 (h, tt) (omega arith) in omega (arith, r.0, r.1)
+
+small_lanes : (bs : List ℕ) → AllDigits 10 bs → AllByRecursion (λ d. d < 10) (map dec_lane bs)
+small_lanes [] h = tt
+small_lanes (b ∷ bs) h = (small_lane b h.0, small_lanes bs h.1)
+
+ends : (xs ys : List ℕ) (x y : ℕ) → length xs ≡ length ys → xs ++ (x ∷ []) ≡ ys ++ (y ∷ []) → (xs ≡ ys) × (x ≡ y)
+ends [] [] x y e h = (refl, cc)
+ends [] (b ∷ ys) x y e h = absurd (omega arith)
+ends (a ∷ xs) [] x y e h = absurd (omega arith)
+ends (a ∷ xs) (b ∷ ys) x y e h =
+    let r = ends xs ys x y (omega arith) (cc) in
+    let first : a ≡ b = cc in
+    (ap₂ (λ z zs. z ∷ zs) first r.0, r.1)
+
+lanes_small_of : (t : ℕ → ℕ) (micros : ℕ) → IsSecond (take 12 (front_of t)) micros → AllDigits 10 (drop 12 (front_of t)) → AllByRecursion (λ d. d < 10) (stamp_lanes (front_of t))
+lanes_small_of t micros s d =
+    let front : List ℕ = map dec_lane (map t (range_with_len 2 9)) in
+    let back : List ℕ = (t 11 + 210) % 256 ∷ map dec_lane (map t (range_with_len 12 6)) in
+    let text : t 0 ∷ (map t (range_with_len 1 10) ++ (t 11 ∷ [])) ≡ 40 ∷ (s.seconds ++ (46 ∷ [])) = s.text_is in
+    let both = ends (map t (range_with_len 1 10)) s.seconds (t 11) 46 (sym s.seconds_fit) (cc) in
+    let digits : AllDigits 10 (map t (range_with_len 1 10)) = subst (AllDigits 10) (sym both.0) s.seconds_are in
+    let point : (t 11 + 210) % 256 < 10 = omega (arith, both.1) in
+    All-append front back (small_lanes (map t (range_with_len 2 9)) digits.1) (point, small_lanes (map t (range_with_len 12 6)) d)
+
+pub lanes_small : (front : List ℕ) (micros : ℕ) → length front ≡ 18 → IsSecond (take 12 front) micros → AllDigits 10 (drop 12 front) → AllByRecursion (λ d. d < 10) (stamp_lanes front)
+lanes_small front micros long s d =
+    let whole = pick_l_whole 0 front 18 long in
+    let t : ℕ → ℕ = λ i. get_or front i 0 in
+    subst (λ u. AllByRecursion (λ x. x < 10) (stamp_lanes u)) whole
+    (lanes_small_of t micros (subst (λ u. IsSecond (take 12 u) micros) (sym whole) s) (subst (λ u. AllDigits 10 (drop 12 u)) (sym whole) d))

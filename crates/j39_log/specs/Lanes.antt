@@ -1,6 +1,7 @@
 -- Digits as vectors read them.
-use Rattle.std.specs.Prelude.{ℕ, ◌+◌, ◌-◌, ◌*◌, ◌%◌, Bool, List, [], ◌∷◌, ◌++◌, take, drop, get_or, bit_or, nat_le, nat_lt, if◌then◌else◌}
+use Rattle.std.specs.Prelude.{ℕ, ◌+◌, ◌-◌, ◌*◌, ◌%◌, Bool, List, [], ◌∷◌, ◌++◌, take, drop, get_or, map, bit_or, nat_le, nat_lt, if◌then◌else◌}
 use Rattle.std.specs.Simd.Lanes.{zip2}
+use Rattle.std.specs.List.{range_with_len}
 
 abbrev pub smaller : ℕ → ℕ → ℕ
 smaller a b = if nat_lt a b then a else b
@@ -23,6 +24,10 @@ hex_lane b = smaller (digit_lane b) (letter_lane b)
 -- the number of the k-th pair of digits
 abbrev pub pair_at : ℕ → List ℕ → ℕ → ℕ
 pair_at base v k = (get_or (v ++ v) (2 * k) 0 * base % 256 + get_or (v ++ v) (2 * k + 1) 0) % 256
+
+-- the bytes that sixteen hex digits write
+abbrev pub bytes_of : List ℕ → List ℕ
+bytes_of digits = map (pair_at 16 (map hex_lane digits)) (range_with_len 0 8)
 
 -- the third to the last byte of `(0123456789.012345`, each less the zero or the point that stands there
 abbrev pub stamp_lanes : List ℕ → List ℕ

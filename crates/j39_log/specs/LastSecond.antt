@@ -1,7 +1,7 @@
 -- A second, as the bytes that each stamp within it begins with.
-use Rattle.std.specs.Prelude.{◌≡◌, ◌*◌, ◌^◌, ℕ, List, ◌++◌, length, codes}
-use Rattle.std.specs.Int.{to_le_bytes, w32, w64}
+use Rattle.std.specs.Prelude.{◌≡◌, ◌*◌, ◌^◌, ℕ, List, ◌++◌, length, replicate, codes}
 use Rattle.std.specs.Str.Parse.{AllDigits, digits_value}
+use Rattle.j39_log.specs.declared.fast.form.Form.{Form}
 
 -- `(`, ten digits and `.`, and the microseconds before this second
 pub record IsSecond (text : List ℕ) (micros : ℕ) : Type 0 where
@@ -17,6 +17,9 @@ pub record AreDecimals (text : List ℕ) (micros : ℕ) : Type 0 where
   pub are : AllDigits 10 text
   pub micros_are : micros ≡ digits_value 10 text
 
--- the twelve bytes that are kept as two numbers
-abbrev pub kept_text : ℕ → ℕ → List ℕ
-kept_text head tail = to_le_bytes w64 head ++ to_le_bytes w32 tail
+-- what has this form begins a stamp within the second: its text, and four digits
+pub record HasSecond (form : Form) (micros : ℕ) : Type 0 where
+  pub text : List ℕ
+  pub second : IsSecond text micros
+  pub least_is : form.least ≡ text ++ codes "0000"
+  pub above_is : form.above ≡ replicate 12 0 ++ replicate 4 9

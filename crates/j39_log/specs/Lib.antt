@@ -21,6 +21,8 @@ pub mod Shape
 pub mod LineParts
 pub mod LineRead
 pub mod Lanes
+pub mod Form
 pub mod Identifiers
 pub mod LastSecond
+pub mod FrameLine
 pub mod SplitterChanges

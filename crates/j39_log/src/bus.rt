@@ -1,33 +1,37 @@
 //! Names of buses.
 ghost use Rattle.std.specs.Prelude.{◌≡◌, ◌≤◌, ◌↔◌, IsSome, IfSome, IsTrue, length};
 ghost use Rattle.std.specs.Str.{bytes_eq};
-ghost use Rattle.j39_log.specs.Bus.{IsBusName, between_len, between_of};
+ghost use Rattle.j39_log.specs.Bus.{IsBusName, IsBetween, third_of};
 
+use crate::fast::Form;
 use arrayvec::ArrayVec;
-use j39_io::backwards::{byte_before, slice_before};
+use j39_io::backwards::{bytes_before, slice_before};
 use std::marker::Model;
+
+/// As far above what stands there, as a byte may be that must stand there.
+const FIXED: [u8; 14] = [0; 14];
 
 /// The name of an interface, as `can0`: 1 to 15 bytes, each above 0x20 and not 0x7F (own).
 #[derive(Debug, Drop)]
 pub struct Bus {
     name: ArrayVec<u8, 15>,
-    /// What stands between the decimals of a stamp and the identifier, for the quick reader, and how many of these bytes
-    /// count: more than there are, where they are too few for the name.
-    pub(crate) between: [u8; 16],
-    pub(crate) counted: usize,
+    /// What stands from the fifth decimal of a stamp on, for the quick reader.
+    pub(crate) between: Form,
+    /// Where the identifier then stands: behind every line, where a block is too short for the name.
+    pub(crate) third_at: usize,
 }
 
 impl Model for Bus {
     ghost use Rattle.std.specs.Prelude.{ℕ, List};
     ghost use Rattle.std.specs.Prelude.{◌≡◌};
-    ghost use Rattle.j39_log.specs.Bus.{IsBusName, between_len, between_of};
+    ghost use Rattle.j39_log.specs.Bus.{IsBusName, IsBetween, third_of};
 
     ghost Value = { List ℕ };
 
     ghost view = { λ b. b.name.items };
 
-    ghost invariant = { λ b. IsBusName b.name.items × (b.between ≡ between_of b.name.items)
-        × (b.counted ≡ between_len b.name.items) };
+    ghost invariant = { λ b. IsBusName b.name.items × IsBetween b.name.items b.between
+        × (b.third_at ≡ third_of b.name.items) };
 }
 
 impl Bus {
@@ -42,11 +46,11 @@ impl Bus {
         let mut name = ArrayVec::new();
         name.try_extend_from_slice(bytes).ok()?;
         let between = between_of(bytes);
-        let counted = between_len(bytes);
+        let third_at = third_of(bytes);
         Some(Bus {
             name,
             between,
-            counted,
+            third_at,
         })
     }
 
@@ -67,26 +71,29 @@ impl Bus {
     }
 }
 
-/// `)`, a space, the name and a space, as they stand behind a stamp's decimals, and spaces; of a name above 13 bytes its front.
-fn between_of(name: &[u8]) -> [u8; 16]
+/// Two digits, `)`, a space, the name and a space, and whatever follows; of a name above 11 bytes its front.
+fn between_of(name: &[u8]) -> Form
     requires { length name.now ≤ 15 }
-    ensures { result ≡ between_of name.now }
+    ensures { IsBetween name.now result }
 {
-    let (front, _) = name.split_at(name.len().min(13));
-    let mut block = [b' '; 16];
-    let text = slice_before(&mut block, 2 + front.len(), front);
-    let space = byte_before(&mut block, text, b' ');
-    let _ = byte_before(&mut block, space, b')');
-    block
+    let (front, _) = name.split_at(name.len().min(11));
+    let mut least = [b' '; 16];
+    let text = slice_before(&mut least, 4 + front.len(), front);
+    let _ = bytes_before(&mut least, text, *b"00) ");
+    let (fixed, _) = FIXED.split_at(3 + front.len());
+    let mut above = [255; 16];
+    let text = slice_before(&mut above, 5 + front.len(), fixed);
+    let _ = bytes_before(&mut above, text, [9, 9]);
+    Form { least, above }
 }
 
-/// How many bytes a name takes with what stands round it, and more than any block has where that is more than 16.
-fn between_len(name: &[u8]) -> usize
+/// Where the identifier stands in a line with six decimals, and more than any line has where a block is too short for the name.
+fn third_of(name: &[u8]) -> usize
     requires { length name.now ≤ 15 }
-    ensures { result ≡ between_len name.now }
+    ensures { result ≡ third_of name.now }
 {
-    if name.len() <= 13 {
-        name.len() + 3
+    if name.len() <= 11 {
+        name.len() + 21
     } else {
         usize::MAX
     }

@@ -18,7 +18,7 @@ mod text;
 
 pub use bus::Bus;
 pub use canonical::line_of;
-pub use fast::LastSecond;
+pub use fast::{FrameLine, LastSecond};
 pub use kind::{OtherKind, kind_of};
 pub use line::{LINE_LIMIT, Line};
 pub use printed::is_printed;

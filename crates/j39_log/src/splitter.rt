@@ -3,7 +3,7 @@ ghost use Rattle.std.specs.Prelude.{◌≡◌, ◌<◌, ◌≤◌, ◌++◌, ℕ
 ghost use Rattle.std.specs.Borrow.{sem};
 ghost use Rattle.std.specs.Io.BufRead.{Rests};
 
-use crate::fast::first_frame;
+use crate::fast::{FrameLine, first_line};
 use crate::newline::split_line;
 use crate::{Bus, LINE_LIMIT, LastSecond, RawLine};
 use arrayvec::ArrayVec;
@@ -30,6 +30,7 @@ enum PieceStep<'a> {
 }
 
 impl Splitter {
+    ghost use Rattle.j39_log.specs.FrameLine.{HasLine};
     ghost use Rattle.j39_log.specs.Splitter.{AnswersEnd, AnswersPiece, BeginsFrame, HasBegun, IsKept, IsRawLine};
     ghost use Rattle.j39_log.specs.SplitterChanges.{Finishes, StepFits, Steps};
     ghost use Rattle.j39_log.specs.contracts.splitter.Splitter.{the_row};
@@ -45,19 +46,19 @@ impl Splitter {
         }
     }
 
-    /// The frame of this bus in the line that the piece begins with, and how many bytes the line has with its newline, where
-    /// nothing was begun before and the line has the form of most: ten digits of seconds, six decimals or nine, one space
-    /// between the fields, a name of at most 13 bytes, eight bytes of data, and one CR at its end or none. `None` says
-    /// nothing of the piece, which `feed` takes whatever it is. The second of the line and its identifier are kept for the next ones.
+    /// The line of a frame of this bus that the piece begins with, and how many bytes it has with its newline, where nothing was
+    /// begun before and the line has the form of most: ten digits of seconds, six decimals or nine, one space between the fields,
+    /// a name of at most 11 bytes, eight bytes of data, and one CR at its end or none. `None` says nothing of the piece, which
+    /// `feed` takes whatever it is. The second of the line and its identifier are kept for the next ones.
     #[inline(always)]
-    pub fn frame_on(
+    pub fn line_on<'a>(
         &self,
-        piece: &[u8],
-        second: &mut LastSecond,
+        piece: &'a [u8],
+        last: &mut LastSecond,
         bus: &Option<Bus>,
-    ) -> Option<(Frame, usize)>
-        ensures frame { IfSome result (λ found. (begun : List ℕ) → HasBegun self.now begun
-            → BeginsFrame self.now begun piece.now bus.now found.0 found.1) }
+    ) -> Option<(FrameLine<'a>, usize)>
+        ensures line { IfSome result (λ found. (begun : List ℕ) → HasBegun self.now begun
+            → HasLine self.now begun piece.now bus.now found.0 found.1) }
         ensures count { IfSome result (λ found. found.1 ≤ length piece.now) }
         ensures some { IfSome result (λ found. 0 < found.1) }
     {
@@ -65,8 +66,25 @@ impl Splitter {
             return None;
         }
         let bus = bus.as_ref()?;
-        let (frame, rest) = first_frame(piece, second, bus)?;
-        Some((frame, piece.len() - rest.len()))
+        let (line, rest) = first_line(piece, last, bus)?;
+        Some((line, piece.len() - rest.len()))
+    }
+
+    /// The frame of such a line.
+    #[inline(always)]
+    pub fn frame_on(
+        &self,
+        piece: &[u8],
+        last: &mut LastSecond,
+        bus: &Option<Bus>,
+    ) -> Option<(Frame, usize)>
+        ensures frame { IfSome result (λ found. (begun : List ℕ) → HasBegun self.now begun
+            → BeginsFrame self.now begun piece.now bus.now found.0 found.1) }
+        ensures count { IfSome result (λ found. found.1 ≤ length piece.now) }
+        ensures some { IfSome result (λ found. 0 < found.1) }
+    {
+        let (line, n) = self.line_on(piece, last, bus)?;
+        Some((line.frame()?, n))
     }
 
     /// Takes the bytes up to and with the first newline of the piece, else all of them: how many

@@ -2,3 +2,5 @@
 mod SortLemmas
 -- the values that an index shows
 mod IndexLemmas
+-- where origins stand
+mod TreeLemmas

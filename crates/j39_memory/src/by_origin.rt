@@ -1,11 +1,17 @@
 //! The values, each with its origin.
-ghost use Rattle.std.specs.Prelude.{◌≡◌, ◌↔◌, ◌++◌, ◌∷◌, ◌<◌, [], Result, None, Some, IsTrue, OnErr, OnOk, length, slice_get, slice_set};
+ghost use Rattle.std.specs.Prelude.{◌≡◌, ◌↔◌, ◌++◌, ◌∷◌, ◌<◌, ◌≤◌, [], Result, None, Some, IsTrue, OnErr, OnOk, length, slice_get, slice_set};
 ghost use Rattle.std.specs.declared.alloc.AllocError.{AllocError};
-ghost use Rattle.j39_frame.specs.Origin.{place_in};
+ghost use Rattle.std.specs.BTreeMap.{get};
+ghost use Rattle.std.specs.List.{IsDistinct};
+ghost use Rattle.std.specs.Map.{keys_of};
+ghost use Rattle.std.proofs.Props.{props};
+ghost use Rattle.j39_frame.specs.Origin.{is_same, origin_cmp, place_in};
+ghost use Rattle.j39_frame.specs.declared.origin.Origin.{Origin};
 
-use indexmap::IndexMap;
+use crate::list::MOST;
 use j39_frame::Origin;
 use std::alloc::{AllocError, Global};
+use std::collections::BTreeMap;
 
 /// What is done to a value.
 pub trait OriginChange<T> {
@@ -17,10 +23,15 @@ pub trait OriginChange<T> {
         ensures { changes self value.old result value.new };
 }
 
-/// A value for each origin, in the order in which the origins came.
+/// A value for each origin, 65,536 at most, in the order in which the origins came. Where each stands is found in a tree: whoever
+/// chooses NAMEs makes no way in it longer.
 #[derive(Drop)]
 pub struct ByOrigin<T: Drop> {
-    values: IndexMap<Origin, T>,
+    values: Vec<(Origin, T)>,
+    places: BTreeMap<Origin, usize>,
+    ghost placed: { (origin : Origin) → get origin_cmp places origin ≡ place_in values.items origin } by { Prim.hlevel props },
+    ghost apart: { IsDistinct is_same (keys_of values.items) } by { Prim.hlevel props },
+    ghost few: { length values.items ≤ 65536 },
 }
 
 impl<T: Drop> ByOrigin<T> {
@@ -32,7 +43,8 @@ impl<T: Drop> ByOrigin<T> {
         ensures { pairs_of result ≡ [] }
     {
         ByOrigin {
-            values: IndexMap::new(alloc),
+            values: Vec::new(alloc),
+            places: BTreeMap::new(alloc),
         }
     }
 
@@ -49,7 +61,7 @@ impl<T: Drop> ByOrigin<T> {
     pub fn place_of(&self, origin: Origin) -> Option<usize>
         ensures { result ≡ place_in (pairs_of self.now) origin }
     {
-        self.values.get_index_of(&origin)
+        self.places.get(&origin).copied()
     }
 
     /// Whether it is this place where an origin stands.
@@ -57,11 +69,10 @@ impl<T: Drop> ByOrigin<T> {
     pub fn stands_at(&self, place: usize, origin: Origin) -> bool
         ensures { IsTrue result ↔ (place_in (pairs_of self.now) origin ≡ Some place) }
     {
-        if place >= self.values.len() {
-            return false;
+        match self.values.get(place) {
+            Some((found, _)) => *found == origin,
+            None => false,
         }
-        let (found, _) = self.values.get_index(place).unwrap();
-        *found == origin
     }
 
     /// The origin at a place, and its value.
@@ -70,7 +81,7 @@ impl<T: Drop> ByOrigin<T> {
         requires { place < length (pairs_of self.now) }
         ensures { slice_get (pairs_of self.now) place ≡ Some (result.0, result.1.now) }
     {
-        let (origin, value) = self.values.get_index(place).unwrap();
+        let (origin, value) = &self.values[place];
         (*origin, value)
     }
 
@@ -82,19 +93,28 @@ impl<T: Drop> ByOrigin<T> {
             × (slice_get (pairs_of self.old) place ≡ Some (origin, old))
             × (pairs_of self.new ≡ slice_set (pairs_of self.old) place (origin, new)) }
     {
-        change.make(&mut self.values[place])
+        change.make(&mut self.values[place].1)
     }
 
-    /// Adds a value of an origin that has none. An error comes where there is no room for it.
+    /// Adds a value of an origin that has none. An error comes where memory is refused, or there are 65,536 already.
     #[inline]
     pub fn add(&mut self, origin: Origin, value: T) -> Result<(), AllocError>
         requires { place_in (pairs_of self.old) origin ≡ None }
         ensures added { OnOk result (pairs_of self.new ≡ pairs_of self.old ++ (origin, value) ∷ []) }
         ensures refused { OnErr result (pairs_of self.new ≡ pairs_of self.old) }
+        ensures few { length (pairs_of self.new) ≤ 65536 }
         ensures full { OnErr result (room_in self.old ≡ 0) }
     {
-        match self.values.insert(origin, value) {
-            Ok(_) => Ok(()),
+        let place = self.values.len();
+        if place >= MOST {
+            return Err(AllocError);
+        }
+        self.values.try_reserve(1)?;
+        match self.places.insert(origin, place) {
+            Ok(_) => {
+                self.values.push_reserved((origin, value));
+                Ok(())
+            }
             Err(_) => Err(AllocError),
         }
     }

@@ -1,6 +1,6 @@
 -- Origins beside the places of their values.
-use Rattle.std.proofs.Common.{◌≡◌, ◌<◌, ◌≤◌, ◌+◌, ◌∷◌, ◌++◌, [], ℕ, zero, suc, Bool, true, false, List, Option, Some, None, length, take, drop, get_or, arith, refl, sym, ap, ◌∙◌, subst, true≢false, is_some, unwrap_or, length-take}
-use Rattle.std.specs.List.{AllByRecursion, IsDistinct, list_any}
+use Rattle.std.proofs.Common.{◌≡◌, ◌<◌, ◌≤◌, ◌+◌, ◌∷◌, ◌++◌, [], ℕ, zero, suc, true, false, List, Option, Some, None, length, take, drop, get_or, arith, refl, sym, ap, ◌∙◌, subst, true≢false, is_some, unwrap_or, length-take}
+use Rattle.std.specs.List.{IsDistinct, list_any}
 use Rattle.std.specs.Map.{keys_of}
 use Rattle.std.specs.Prelude.{slice_get, slice_set}
 use Rattle.std.proofs.lemmas.List.{get_or-take, map-append, take-set, take_more_set}
@@ -9,8 +9,7 @@ use Rattle.std.proofs.lemmas.Option.{get_or_from_slice_get, slice_get_within}
 use Rattle.j39_frame.specs.Origin.{is_same, place_in}
 use Rattle.j39_memory_in_place.specs.Paired.{paired}
 use Rattle.j39_frame.specs.declared.origin.Origin.{Origin}
-use Rattle.j39_frame.proofs.OriginLemmas.{same_sym}
-use Rattle.j39_frame.proofs.PlaceLemmas.{absent, guessed, stands, stands_within}
+use Rattle.j39_frame.proofs.PlaceLemmas.{absent, distinct_more, guessed, stands, stands_within}
 
 -- ---- what stands at a place
 
@@ -169,19 +168,6 @@ pub more_held : {T : Type 0} (xs : List Origin) (vs : List (Option T)) (n : ℕ)
 more_held xs vs n k w inside room held =
     ap keys_of (more_pairs xs vs n k w inside room held) ∙ map-append (λ e. e.0) (paired (take n xs) vs) ((k, w) ∷ [])
     ∙ ap (λ ks. ks ++ k ∷ []) held ∙ sym (take_more_set xs n k inside)
-
-all_more : (P : Origin → Type 0) (os : List Origin) (k : Origin) → AllByRecursion P os → P k → AllByRecursion P (os ++ k ∷ [])
-all_more P [] k all here = (here, tt)
-all_more P (o ∷ os) k all here = (all.0, all_more P os k all.1 here)
-
-distinct_more : (os : List Origin) (k : Origin) → IsDistinct is_same os → list_any (is_same k) os ≡ false → IsDistinct is_same (os ++ k ∷ [])
-unfolding IsDistinct
-distinct_more [] k apart none = (tt, tt)
-distinct_more (o ∷ os) k apart none = by (is_same k o) refl (distinct_more os k)
-  where
-    by : (b : Bool) → is_same k o ≡ b → (IsDistinct is_same os → list_any (is_same k) os ≡ false → IsDistinct is_same (os ++ k ∷ [])) → IsDistinct is_same ((o ∷ os) ++ k ∷ [])
-    by true one rest = absurd (true≢false (rw one at none))
-    by false other rest = (all_more (λ y. is_same o y ≡ false) os k apart.0 (same_sym o k ∙ other), rest apart.1 (rw other at none))
 
 pub more_apart : {T : Type 0} (xs : List Origin) (vs : List (Option T)) (n : ℕ) (k : Origin) → n < length xs → keys_of (paired (take n xs) vs) ≡ take n xs → IsDistinct is_same (take n xs)
     → place_in (paired (take n xs) vs) k ≡ None → IsDistinct is_same (take (n + 1) (slice_set xs n k))

@@ -133,6 +133,7 @@ impl<T: Drop> ByOrigin<T> {
         requires { place_in (pairs_of self.old) origin ≡ None }
         ensures added { OnOk result (pairs_of self.new ≡ pairs_of self.old ++ (origin, value) ∷ []) }
         ensures refused { OnErr result (pairs_of self.new ≡ pairs_of self.old) }
+        ensures few { length (pairs_of self.new) ≤ 65536 }
         ensures full { OnErr result (room_in self.old ≡ 0) }
     {
         let place = self.count;

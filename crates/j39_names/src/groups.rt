@@ -1,5 +1,8 @@
 //! The short names of groups (J1939-21, J1939-71, J1939-73), by PGN. Made by tools/names of tables/groups.
 ghost use Rattle.std.specs.Prelude.{◌≡◌};
+ghost use Rattle.j39_names.specs.Names.{names_of};
+
+use crate::name_table::NameTable;
 
 /// The PGNs that have a name, from the least on.
 pub const NUMBERS: [u32; 186] = [
@@ -44,23 +47,13 @@ T1IASC4ASC3ASC1BMVFET3EFSDITCO1HTRHRWACC1CVWLTPAAIVEP2S2SP2ETHFLEIEESEACRBITCWTC
 ETC3DM1DM2DM3DM4DM5DM6DM8DM10DM11DM12AUXIO1SOFTEFL/P2IOTCAIR2EEC3VDRCTCFGEC1SHUTNHOURSTDVHVDSLFCVWCI\
 VICCSSET1EFL/P1PTOCCVSLFEVPTIREAMBIC1VEP1TRF1AIBRFDDA1AWPPOI";
 
-/// The PGNs.
-pub(crate) fn numbers() -> &'static [u32]
-    ensures { result.now ≡ NUMBERS }
+/// All of them.
+pub(crate) fn table() -> NameTable<'static>
+    ensures { names_of result ≡ record { numbers = NUMBERS; starts = STARTS; text = NAMES.now } }
 {
-    &NUMBERS
-}
-
-/// Where their names start.
-pub(crate) fn starts() -> &'static [u32]
-    ensures { result.now ≡ STARTS }
-{
-    &STARTS
-}
-
-/// Their names.
-pub(crate) fn names() -> &'static [u8]
-    ensures { result.now ≡ NAMES.now }
-{
-    NAMES.as_bytes()
+    NameTable {
+        numbers: &NUMBERS,
+        starts: &STARTS,
+        text: NAMES.as_bytes(),
+    }
 }

@@ -1,60 +1,40 @@
 //! What the numbers of SAE J1939 are called, whatever table reads the values.
 #![tactic(auto)]
 
-ghost use Rattle.std.specs.Prelude.{◌≡◌, ◌==◌, option_map, position};
-ghost use Rattle.j39_names.specs.Names.{between, group_called, name_at, name_in, parameter_called};
+ghost use Rattle.std.specs.Prelude.{◌≡◌, option_map};
+ghost use Rattle.j39_names.specs.Called.{function_called, group_called, maker_called, parameter_called};
 
+mod functions;
 mod groups;
+mod makers;
+mod name_table;
 mod parameters;
 
 /// What a parameter is called (J1939-71, J1939-73); `None` where its name isn't known.
 pub fn parameter_name(spn: u32) -> Option<&'static [u8]>
     ensures { option_map (λ name. name.now) result ≡ parameter_called spn }
 {
-    name_in(
-        parameters::numbers(),
-        parameters::starts(),
-        parameters::names(),
-        spn,
-    )
+    parameters::table().name_of(spn)
 }
 
 /// The short name of a group (J1939-21, J1939-71, J1939-73); `None` where it isn't known.
 pub fn group_name(pgn: u32) -> Option<&'static [u8]>
     ensures { option_map (λ name. name.now) result ≡ group_called pgn }
 {
-    name_in(groups::numbers(), groups::starts(), groups::names(), pgn)
+    groups::table().name_of(pgn)
 }
 
-/// The name of a number: numbers and their names stand in one order.
-fn name_in<'t>(numbers: &[u32], starts: &[u32], text: &'t [u8], number: u32) -> Option<&'t [u8]>
-    ensures { option_map (λ name. name.now) result ≡ name_in numbers.now starts.now text.now number }
+/// What a function of a NAME is called (J1939-81, 4.1.1); `None` where its name isn't known, and from 128 on, where it means
+/// another thing in each industry group.
+pub fn function_name(function: u8) -> Option<&'static [u8]>
+    ensures { option_map (λ name. name.now) result ≡ function_called function }
 {
-    match place_of(numbers, number) {
-        Some(at) => name_at(starts, text, at),
-        None => None,
-    }
+    functions::table().name_of(u32::from(function))
 }
 
-/// Where a number stands.
-fn place_of(numbers: &[u32], number: u32) -> Option<usize>
-    ensures { result ≡ position (λ listed. listed == number) numbers.now }
+/// Who makes a controller, by the manufacturer code of its NAME, 0 to 2,047 (J1939-81, 4.1.1); `None` where that isn't known.
+pub fn maker_name(code: u16) -> Option<&'static [u8]>
+    ensures { option_map (λ name. name.now) result ≡ maker_called code }
 {
-    numbers.iter().position(|listed| *listed == number)
-}
-
-/// The name in this place of a text in which each name starts where the one before it ends.
-fn name_at<'t>(starts: &[u32], text: &'t [u8], at: usize) -> Option<&'t [u8]>
-    ensures { option_map (λ name. name.now) result ≡ name_at starts.now text.now at }
-{
-    let start = *starts.get(at)?;
-    let end = *starts.get(at + 1)?;
-    between(text, start as usize, end as usize)
-}
-
-/// What lies in a text from one place to another.
-fn between(text: &[u8], start: usize, end: usize) -> Option<&[u8]>
-    ensures { option_map (λ part. part.now) result ≡ between text.now start end }
-{
-    text.get(start..end)
+    makers::table().name_of(u32::from(code))
 }

@@ -1,5 +1,8 @@
 //! What parameters are called (J1939-71, J1939-73), by SPN. Made by tools/names of tables/spns.
 ghost use Rattle.std.specs.Prelude.{◌≡◌};
+ghost use Rattle.j39_names.specs.Names.{names_of};
+
+use crate::name_table::NameTable;
 
 /// The SPNs that have a name, from the least on.
 pub const NUMBERS: [u32; 1424] = [
@@ -627,23 +630,13 @@ peexhaust gas recirculation valve malfunctiondiesel exhaust fluid quality malfun
 system malfunctionaftertreatment 1 SCR intermediate ammoniaaftertreatment 1 SCR intermediate tempera\
 turewater in fuel indicator 2";
 
-/// The SPNs.
-pub(crate) fn numbers() -> &'static [u32]
-    ensures { result.now ≡ NUMBERS }
+/// All of them.
+pub(crate) fn table() -> NameTable<'static>
+    ensures { names_of result ≡ record { numbers = NUMBERS; starts = STARTS; text = NAMES.now } }
 {
-    &NUMBERS
-}
-
-/// Where their names start.
-pub(crate) fn starts() -> &'static [u32]
-    ensures { result.now ≡ STARTS }
-{
-    &STARTS
-}
-
-/// Their names.
-pub(crate) fn names() -> &'static [u8]
-    ensures { result.now ≡ NAMES.now }
-{
-    NAMES.as_bytes()
+    NameTable {
+        numbers: &NUMBERS,
+        starts: &STARTS,
+        text: NAMES.as_bytes(),
+    }
 }

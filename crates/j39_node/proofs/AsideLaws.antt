@@ -1,12 +1,10 @@
 -- Which frame others exchange makes no difference to any answer, whatever comes later.
-use Rattle.j39_node.proofs.Common.{[], if◌then◌else◌, ◌&&◌, ◌*◌, ◌++◌, ◌+◌, ◌-◌, ◌||◌, ◌↔◌, ◌∙◌, ◌∷◌, ◌≡◌, ◌≢◌, accepted, Acknowledge, acknowledged, acknowledgment, Address, address_after, AddressLost, Again, age, announces, another_news, AnotherAtAddress, ap, AreAnswered, arith, Ask, ask_end, Asked, asked, asked_group, asked_with, AskEnding, asks_claims, At, begun, blank, Bool, breaks, Broadcast, broadcast_end, broadcast_from, broadcasts, by, Call, called, calls_claims, calls_for_claim, can_ask, can_broadcast, can_send, can_transfer, changes, claim_address, claim_from, claim_of, claimed, claimed_again, clock, comes, control_of, delayed, destination_of, double, doubled_news, drop, due, end_at, end_of, ended, Ending, ends_by, Err, false, first, found, FrameRecord, fresh, got, handed, has_place, has_token, Hear, heard_at, heard_by, hearing, hears_if, hears_it, held_then, holder, holds, holds_back, in_broadcast, in_session, in_time, inl, is_acknowledgment, is_another, is_apart, is_asking, is_claim, is_coming, is_engaged, is_for_program, is_held, is_left, is_lost, is_message, is_open, is_out, is_packet, is_refusal_due, is_replaced, is_reply, is_session, is_smaller, is_that, is_there, is_transfer, is_unheard, IsAnswered, IsAside, joined, kept, known, later, latest, leaves, leaves_it, left, length, List, Lost, lost_news, made, made_of, marks, max, may_go, Message, message_from, message_of, MessageRecord, MessagesMissed, missed_news, moment, NameDoubled, nat_eq, nat_le, nat_lt, newly, news_of, None, not, of_other, Ok, older, open_ask, open_broadcast, open_transfer, OpenBroadcast, Option, option_map, option_or, owes_claim, packet_by, packets, packs, past, patience, pause, pgn_of, ps_of, Question, question, reached, Ready, Reception, reception, refl, ReleaseBroadcast, released_by, ReleaseTransfer, Renew, request_for, requests, rest, Resting, resting, rests_after, Running, Send, sends_if, silent_end, slice_get, slice_set, Some, source_of, stamped, step, still, subst, suc, sym, TakeAskEnded, TakeBroadcastEnded, TakeEnded, TakeFrame, taken_by, TakeNews, TakeReceived, TakeRequest, TakeTransferEnded, Tick, ticked, time_heard, told, Transfer, transfer_by, transfer_end, transfers, transport_control_group, true, turn_frame, turn_of, turns, unheard_news, wait, Who, whole_by, whole_of, with_refusal, with_request, Withdraw, yields, ℕ, and-false, or-false, false_from_ne_true}
-use Rattle.j39_node.specs.Hearing.{is_over}
+use Rattle.j39_node.proofs.Common.{[], if◌then◌else◌, ◌&&◌, ◌*◌, ◌++◌, ◌+◌, ◌-◌, ◌||◌, ◌↔◌, ◌∙◌, ◌∷◌, ◌≡◌, ◌≢◌, accepted, Acknowledge, acknowledged, acknowledgment, Address, address_after, AddressLost, Again, age, announces, another_news, AnotherAtAddress, ap, AreAnswered, arith, Ask, ask_end, Asked, asked, asked_group, asked_with, AskEnding, asks_claims, At, begun, blank, Bool, Broadcast, broadcast_end, broadcast_from, broadcasts, by, Call, called, calls_claims, calls_for_claim, can_ask, can_broadcast, can_send, can_transfer, claim_address, claim_from, claim_of, claimed, claimed_again, clock, comes, control_of, delayed, destination_of, double, doubled_news, drop, due, end_at, end_of, ended, Ending, Err, false, first, FrameRecord, fresh, got, handed, has_place, has_token, Hear, heard_at, heard_by, hears_if, held_then, holder, holds, holds_back, in_session, is_acknowledgment, is_another, is_apart, is_asking, is_claim, is_coming, is_engaged, is_for_program, is_held, is_left, is_lost, is_message, is_open, is_packet, is_refusal_due, is_replaced, is_reply, is_session, is_smaller, is_that, is_there, is_transfer, IsAnswered, IsAside, joined, kept, later, latest, leaves, left, length, List, Lost, lost_news, made, made_of, marks, max, may_go, Message, message_from, message_of, MessageRecord, MessagesMissed, missed_news, moment, NameDoubled, nat_eq, nat_le, nat_lt, news_of, None, not, of_other, Ok, older, open_ask, open_broadcast, open_transfer, OpenBroadcast, Option, option_map, option_or, owes_claim, packet_by, packets, packs, past, patience, pause, pgn_of, ps_of, Question, question, reached, Ready, Reception, reception, refl, ReleaseBroadcast, released_by, ReleaseTransfer, Renew, request_for, requests, rest, Resting, resting, rests_after, Running, Send, sends_if, silent_end, slice_get, slice_set, Some, source_of, stamped, step, still, subst, suc, sym, TakeAskEnded, TakeBroadcastEnded, TakeEnded, TakeFrame, taken_by, TakeNews, TakeReceived, TakeRequest, TakeTransferEnded, Tick, ticked, time_heard, told, Transfer, transfer_by, transfer_end, transfers, transport_control_group, true, turn_frame, turn_of, turns, unheard_news, wait, Who, whole_by, with_refusal, with_request, Withdraw, yields, ℕ, and-false, or-false, false_from_ne_true, found_in, hears_in, is_any, is_unheard_in, Listening, listening, made_in, over_by, staying, those_over}
 use Rattle.j39_transport.specs.Frames as frames
 use Rattle.j39_transport.proofs.FrameFacts.{announcement_facts}
 use Rattle.j39_node.proofs.AnswerCases.{answer_by}
 use Rattle.j39_node.proofs.HearingLaws as hearing_laws
-use Rattle.j39_node.proofs.HearingLaws.{unequal}
-use Rattle.j39_node.proofs.HearingLemmas.{unchanged, unheard_is}
+use Rattle.j39_node.proofs.ListenLemmas.{unequal, unheard_by_kind}
 use Rattle.j39_node.proofs.PacketsAnswer.{packs_to_all}
 use Rattle.j39_node.proofs.ReceptionLaws.{goes_there, to_others}
 use Rattle.j39_node.proofs.RequestStrangers.{to_another}
@@ -48,7 +46,7 @@ record State : Type 0 where
   pub holder : ℕ → Option ℕ
   pub called : ℕ
   pub reception : Reception
-  pub hearing : Option OpenBroadcast
+  pub hearing : Listening
   pub ask : Option Question
   pub wait : ℕ
   pub ended : Option AskEnding
@@ -91,7 +89,7 @@ state w H = record {
   holder = holder w H;
   called = called w H;
   reception = reception w H;
-  hearing = hearing w H;
+  hearing = listening w H;
   ask = open_ask H;
   wait = wait H;
   ended = ended w H;
@@ -118,10 +116,10 @@ passes now s = record s {
 
 -- an answer is coming
 abbrev comes_at : ℕ → State → Bool
-comes_at time s = is_coming s.ask (in_session s.reception.session) (in_broadcast time s.hearing)
+comes_at time s = is_coming time s.ask (in_session s.reception.session) s.hearing.current
 
--- the address is lost or held, the time, who holds what, whether a broadcast ends, and the one that is found
-abbrev hears_with : Who → ℕ → FrameRecord → Address → Bool → ℕ → (ℕ → Option ℕ) → Bool → Option OpenBroadcast → Reception → State → State
+-- the address is lost or held, the time, who holds what, the broadcasts that end, and those that are found
+abbrev hears_with : Who → ℕ → FrameRecord → Address → Bool → ℕ → (ℕ → Option ℕ) → List OpenBroadcast → Listening → Reception → State → State
 hears_with w when f a held time holds ends found r s = record (passes when s) {
   address = a;
   owes = s.owes || (calls_for_claim w (is_lost s.address) f || (is_another w held f && nat_eq (s.patience - (when - s.moment)) 0));
@@ -138,29 +136,28 @@ hears_with w when f a held time holds ends found r s = record (passes when s) {
   another = s.another || is_another w held f;
   doubled = option_or (double w (claim_of f)) s.doubled;
   missed = s.missed || (is_for_program w held f && not (nat_lt (length s.kept - length s.got) 16));
-  unheard = (ends || is_unheard w f found) || s.unheard;
+  unheard = (is_any ends || is_unheard_in w.boxes w f found) || s.unheard;
   heard_at = when;
   time = time;
   called = if calls_claims s.holder f (claim_of f) then 1250000 else s.called - (when - s.heard_at);
   holder = holds;
   reception = heard_by w.address (is_smaller w (claim_of f)) held f time r;
-  hearing = hears_it w time f found;
+  hearing = hears_in w.boxes w (holds (source_of f.id)) time f found;
   ended =
       first s.ended
       (end_at w s.ask (s.reached) (s.wait - (when - s.moment)) (comes_at time s) (is_lost a) f
       (option_or (made_of (whole_by w.address (is_smaller w (claim_of f)) held f time r))
-      (made_of (option_map (λ (x : ℕ × MessageRecord). x.1) (newly (whole_of s.hearing) (whole_of (hears_it w time f found)))))));
+      (made_of (option_map (λ (x : ℕ × MessageRecord). x.1) (made_in w.boxes w (holds (source_of f.id)) time f found)))));
   transfer = hears_if (is_lost a) (λ b. is_replaced (s.holder b) (holds b)) f (clock (s.age + (when - s.moment))) s.transfer;
 }
 
 abbrev heard : Who → ℕ → FrameRecord → State → State
 heard w when f s =
     let holds : ℕ → Option ℕ = λ b. held_then b (of_other w (claim_of f)) (s.holder b) in
-    let held : ℕ → Option ℕ = still (claimed_again s.holder (s.called - (when - s.heard_at)) (claim_of f)) s.holder in
+    let gone : Option ℕ = claimed_again s.holder (s.called - (when - s.heard_at)) (claim_of f) in
     hears_with w when f (if is_smaller w (claim_of f) then Lost else older (when - s.moment) s.address) (is_held (older (when - s.moment) s.address))
-    (later s.time (when - s.heard_at)) holds (breaks (is_over held holds (later s.time (when - s.heard_at)) s.hearing) s.hearing)
-    (leaves_it (is_over held holds (later s.time (when - s.heard_at)) s.hearing) s.hearing)
-    (left (leaves held holds s.reception.session) s.reception) s
+    (later s.time (when - s.heard_at)) holds (those_over gone holds (later s.time (when - s.heard_at)) s.hearing.current)
+    (staying gone holds (later s.time (when - s.heard_at)) s.hearing) (left (leaves (still gone s.holder) holds s.reception.session) s.reception) s
 
 abbrev takes_with : ℕ → FrameRecord → (ℕ → Option ℕ) → State → State
 takes_with now f holds s = record (passes now s) {
@@ -176,8 +173,8 @@ takes_with now f holds s = record (passes now s) {
   called = if is_claim f || (is_message f && asks_claims f) then 1250000 + (now - s.heard_at) else s.called;
   holder = holds;
   reception = taken_by (is_claim f) (is_reply s.reception.replies f) (leaves s.holder holds s.reception.session) s.reception;
-  unheard = (breaks (changes s.holder holds s.hearing) s.hearing || false) || s.unheard;
-  hearing = leaves_it (changes s.holder holds s.hearing) s.hearing;
+  unheard = (is_any (if is_claim f then those_over None holds s.time s.hearing.current else []) || false) || s.unheard;
+  hearing = if is_claim f then staying None holds s.time s.hearing else s.hearing;
   transfer = sends_if (is_transfer f && not (is_that (message_of f) (slice_get s.reception.replies 0))) (clock (s.age + (now - s.moment))) s.transfer;
 }
 
@@ -189,8 +186,8 @@ next w (At now Tick) s = record (passes now s) {
   called = s.called - (now - s.heard_at);
   time = later s.time (now - s.heard_at);
   reception = ticked w.address now (later s.time (now - s.heard_at)) s.reception;
-  unheard = (breaks (is_out (later s.time (now - s.heard_at)) s.hearing) s.hearing || false) || s.unheard;
-  hearing = in_time (later s.time (now - s.heard_at)) s.hearing;
+  unheard = (is_any (those_over None s.holder (later s.time (now - s.heard_at)) s.hearing.current) || false) || s.unheard;
+  hearing = staying None s.holder (later s.time (now - s.heard_at)) s.hearing;
 }
 next w (At now (TakeFrame None)) s = passes now s
 next w (At now (TakeFrame (Some f))) s = takes_with now f (λ b. if is_claim f then held_then b (claim_of f) (s.holder b) else s.holder b) s
@@ -249,7 +246,7 @@ next w (TakeAskEnded None) s = s
 next w (TakeAskEnded (Some x)) s = record s { ask = None }
 next w (ReleaseTransfer b) s = record s { reception = released_by b s.reception }
 next w (ReleaseBroadcast false) s = s
-next w (ReleaseBroadcast true) s = record s { hearing = None }
+next w (ReleaseBroadcast true) s = record s { hearing = record { current = s.hearing.current; waits = drop 1 s.hearing.waits } }
 
 state_is : (w : Who) (call : Call) (H : List Call) → state w (call ∷ H) ≡ next w call (state w H)
 state_is w (At now (TakeFrame None)) H = refl
@@ -321,7 +318,7 @@ Answers w s (At now (Transfer group to bytes answer)) =
 Answers w s (TakeTransferEnded answer) = answer ≡ transfer_end s.transfer (is_lost s.address)
 Answers w s (At now (Ask group to answer)) = answer ≡ answer_by (holds_at s now) (can_ask w group to) (full_by s || is_asking s.ask) (length s.accepted)
 Answers w s (TakeAskEnded answer) = answer ≡ ask_end s.ask (s.reached) s.ended s.wait (comes_at s.time s) (is_lost s.address)
-Answers w s (ReleaseBroadcast answer) = answer ≡ not (has_place (whole_of s.hearing))
+Answers w s (ReleaseBroadcast answer) = answer ≡ nat_lt 0 (length s.hearing.waits)
 Answers w s call = Unit {0}
 
 answered : (w : Who) (H : List Call) (call : Call) → IsAnswered w H call → Answers w (state w H) call
@@ -358,8 +355,8 @@ aside w now s = record (passes now s) {
   heard_at = now;
   called = s.called - (now - s.heard_at);
   time = later s.time (now - s.heard_at);
-  unheard = (breaks (is_out (later s.time (now - s.heard_at)) s.hearing) s.hearing || false) || s.unheard;
-  hearing = in_time (later s.time (now - s.heard_at)) s.hearing;
+  unheard = (is_any (those_over None s.holder (later s.time (now - s.heard_at)) s.hearing.current) || false) || s.unheard;
+  hearing = staying None s.holder (later s.time (now - s.heard_at)) s.hearing;
   ended = first s.ended (silence_of s.ask (s.reached) (s.wait - (now - s.moment)) (comes_at (later s.time (now - s.heard_at)) s) (is_lost (older (now - s.moment) s.address)));
 }
 
@@ -429,7 +426,7 @@ module _ (w : Who) (f : FrameRecord) (a : IsAside w f) where
         called = quiets i;
         holder = λ b. held_then b (of_other w (a.claims i)) (holder w H b);
         reception = (to_others w H when f mine (λ r z. unclaimed_known w H when f r.message.source a.claims) (elsewhere w.address a.not_here)) i;
-        hearing = hearing_laws.strangers w H when f a.claims unannounced (inl unpacked) i;
+        hearing = hearing_laws.strangers w H when f a.claims unannounced unpacked i;
         ended = ends i;
         transfer = open_stays w H when f right a.claims (elsewhere w.address a.not_here) i;
       }
@@ -449,9 +446,9 @@ module _ (w : Who) (f : FrameRecord) (a : IsAside w f) where
       lives : address_after w (At when (Hear f) ∷ H) ≡ older (step H when) (address_after w H)
       lives = ap (λ (b : Bool). if b then Lost else older (step H when) (address_after w H)) mine
 
-      unheard : unheard_news w (At when (Hear f) ∷ H) ≡ (ends_by w H (At when Tick) || false) || unheard_news w H
-      unheard = λ i. (breaks (unchanged (known w H when f) (holder w (At when (Hear f) ∷ H)) (hearing w H) (λ b. unclaimed_known w H when f b a.claims) i || is_out (time_heard (At when Tick ∷ H)) (hearing w H)) (hearing w H)
-          || unheard_is w f (found w H when f) false false unannounced unpacked i) || unheard_news w H
+      unheard : unheard_news w (At when (Hear f) ∷ H) ≡ (is_any (over_by w H (At when Tick)) || false) || unheard_news w H
+      unheard = λ i. (is_any (those_over (claimed_again (holder w H) (called w H - (when - heard_at H)) (a.claims i)) (λ b. held_then b (of_other w (a.claims i)) (holder w H b)) (time_heard (At when Tick ∷ H)) (listening w H).current)
+          || unheard_by_kind w f w.boxes (found_in w H when f) false unannounced unpacked i) || unheard_news w H
 
       silent : (o : Option Question) (n left : ℕ) (coming lost : Bool) → end_at w o n left coming lost f (made w H when f) ≡ silence_of o n left coming lost
       silent None n left coming lost = refl

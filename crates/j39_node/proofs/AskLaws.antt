@@ -1,23 +1,21 @@
 -- The laws of requests.
-use Rattle.j39_node.proofs.Common.{[], if◌then◌else◌, ◌&&◌, ◌++◌, ◌+◌, ◌-◌, ◌<◌, ◌||◌, ◌∙◌, ◌∷◌, ◌≡◌, ◌≤◌, ◌⊎◌, accepted, Ack, Acknowledged, address_after, Again, Answer, Answered, ap, AreAnswered, arith, Ask, ask_end, AskedSince, AskEnding, asks, At, Bool, Busy, Call, can_ask, claim_of, comes, Controller, Denied, end_at, ended, ends, eqb-true, false, first, FrameRecord, has_token, Hear, HeardFirst, holds, inl, inr, Is, is_acknowledgment, is_answer, is_asking, is_claim, is_full, is_lost, is_message, is_request, is_session, is_smaller, IsAnswered, IsTrue, length, List, made, marks, message_from, moment, Nack, nat_eq, nat_lt, None, NoneEnds, not, Ok, open_ask, Option, option_map, passed_in, past, Question, question, RanOut, reached, reaches, refl, Refused, request_for, Result, says_to, seeks, silent_end, slice_get, slice_set, Some, step, subst, suc, sym, TakeAskEnded, TakeFrame, time_heard, TimedOut, told, told_asks, true, wait, Who, Withdraw, ℕ, answer_to_ask, asked, passed, not_both, and_parts, not-true}
+use Rattle.j39_node.proofs.Common.{Ack, Acknowledged, Answer, Answered, AreAnswered, Ask, AskEnding, AskedSince, At, Bool, Busy, Call, Controller, Denied, FrameRecord, Hear, HeardFirst, Is, IsAnswered, IsTrue, List, Nack, None, NoneEnds, Ok, Option, Question, RanOut, Refused, Result, Some, TakeAskEnded, TakeFrame, TimedOut, Who, Withdraw, [], accepted, address_after, and_parts, answer_to_ask, ap, arith, ask_end, asked, asks, by, can_ask, comes, end_at, ended, ends, eqb-true, false, first, fresh, has_token, hears, holds, if◌then◌else◌, inl, inr, is_acknowledgment, is_answer, is_asking, is_claim, is_full, is_lost, is_message, is_request, is_session, kept, later, left, length, less, lost, made, marks, message_from, moment, nat_eq, nat_lt, not, not-true, not_both, open_ask, option_map, passed, passed_in, past, question, reached, reaches, refl, request_for, says, says_to, seeks, silent, silent_end, slice_get, slice_set, step, subst, suc, sym, takes, time_heard, told, told_asks, true, wait, waiting, ℕ, ◌&&◌, ◌++◌, ◌+◌, ◌-◌, ◌<◌, ◌||◌, ◌∙◌, ◌∷◌, ◌≡◌, ◌≤◌, ◌⊎◌}
 use Rattle.j39_node.specs.declared.kinds.AskEnding.TheVariants.{Withdrawn}
 use Rattle.j39_node.specs.Asking.{is_reply, is_taken, said_by}
 use Rattle.j39_node.proofs.WithdrawLemmas.{get_front, unpassed}
 use Rattle.j39_node.proofs.AnswerCases.{ask_accepts}
 use Rattle.j39_node.proofs.AnswerCases as cases
 use Rattle.j39_node.proofs.QueueLemmas.{get_append, length_one_more}
-use Rattle.j39_node.proofs.SoundLemmas.{lost_older, sound, lost_unclaimed, grows_on, passes_request, request_stays}
-use Rattle.j39_node.proofs.LawLemmas.{full_from, full_parts, sent_within, stays_lost, stays_lost_claimed}
+use Rattle.j39_node.proofs.SoundLemmas.{sound, grows_on, passes_request, request_stays}
+use Rattle.j39_node.proofs.LaneLemmas.{get_last}
+use Rattle.j39_node.proofs.PromptLaws.{stays_lost}
+use Rattle.j39_node.proofs.LawLemmas.{full_from, full_parts, sent_within}
 
 -- ---- which is open
 
 abbrev Listed : ℕ → List Question → Option Question → Type 0
 Listed n qs None = length qs ≡ n
 Listed n qs (Some q) = (slice_get qs n ≡ Some q) × (length qs ≡ suc n)
-
-pub get_last : {T : Type 0} (L : List T) (y : T) → slice_get (L ++ y ∷ []) (length L) ≡ Some y
-get_last [] y = refl
-get_last (x ∷ L) y = get_last L y
 
 none_open : (b : Bool) (o : Option Question) → (b || is_asking o) ≡ false → o ≡ None
 none_open true o e = absurd (cc)
@@ -182,9 +180,8 @@ pub data Outcome (w : Who) (H : List Call) (q : Question) (e : AskEnding) : Type
   by_time : e ≡ TimedOut → RanOut w H q → Outcome w H q e
   by_loss : e ≡ Withdrawn → is_lost (address_after w H) ≡ true → Outcome w H q e
 
-later_outcome : (w : Who) (H : List Call) (call : Call) (q : Question) (e : AskEnding) → (is_lost (address_after w H) ≡ true → is_lost (address_after w (call ∷ H)) ≡ true)
-    → Outcome w H q e → Outcome w (call ∷ H) q e
-later_outcome w H call q e l (by_word k h) = by_word k (record {
+later_outcome : (w : Who) (H : List Call) (call : Call) (q : Question) (e : AskEnding) → Outcome w H q e → Outcome w (call ∷ H) q e
+later_outcome w H call q e (by_word k h) = by_word k (record {
   later = call ∷ h.later;
   at = h.at;
   frame = h.frame;
@@ -197,7 +194,7 @@ later_outcome w H call q e l (by_word k h) = by_word k (record {
   in_time = h.in_time;
   says = h.says;
 })
-later_outcome w H call q e l (by_time z h) = by_time z (record {
+later_outcome w H call q e (by_time z h) = by_time z (record {
   later = call ∷ h.later;
   earlier = h.earlier;
   is = ap (λ G. call ∷ G) h.is;
@@ -206,7 +203,7 @@ later_outcome w H call q e l (by_time z h) = by_time z (record {
   out = h.out;
   none = h.none;
 })
-later_outcome w H call q e l (by_loss z h) = by_loss z (l h)
+later_outcome w H call q e (by_loss z h) = by_loss z (stays_lost w H call h)
 
 -- without a word
 silently : (w : Who) (H : List Call) (q : Question) (e : AskEnding) (taken : Bool) (left : ℕ) (coming lost : Bool) → silent_end taken left coming lost ≡ Some e
@@ -296,7 +293,7 @@ outcome w (call ∷ H) right q e o z = go call (λ i k. outcome w H right.0 q e 
   where
     hears : (when : ℕ) (f : FrameRecord) (b : Option AskEnding) → (open_ask H ≡ Some q → ended w H ≡ Some e → Outcome w H q e) → open_ask H ≡ Some q → ended w H ≡ b
         → first b (end_at w (open_ask H) (reached H) (wait H - step H when) (comes w H (time_heard (At when (Hear f) ∷ H))) (is_lost (address_after w (At when (Hear f) ∷ H))) f (made w H when f)) ≡ Some e → Outcome w (At when (Hear f) ∷ H) q e
-    hears when f (Some x) prior o p z = later_outcome w H (At when (Hear f)) q e (stays_lost (is_smaller w (claim_of f)) (step H when) (address_after w H)) (prior o (p ∙ z))
+    hears when f (Some x) prior o p z = later_outcome w H (At when (Hear f)) q e (prior o (p ∙ z))
     hears when f None prior o p z = ends_by w H when f q e right.0 o p
         (sym (ap (λ (x : Option Question). end_at w x (reached H) (wait H - step H when) (comes w H (time_heard (At when (Hear f) ∷ H))) (is_lost (address_after w (At when (Hear f) ∷ H))) f (made w H when f)) o) ∙ z)
 
@@ -305,11 +302,7 @@ outcome w (call ∷ H) right q e o z = go call (λ i k. outcome w H right.0 q e 
     go (At now (Ask group to (Ok k))) prior o z = absurd (cc)
     go (TakeAskEnded (Some x)) prior o z = absurd (cc)
     go (At when (Hear f)) prior o z = hears when f (ended w H) prior o refl z
-    go (At now (TakeFrame (Some f))) prior o z =
-        later_outcome w H (At now (TakeFrame (Some f))) q e (stays_lost_claimed (is_claim f) (step H now) (address_after w H)) (prior o z)
-    go (At now Again) prior o z = later_outcome w H (At now Again) q e (λ l. lost_unclaimed _ ∙ (lost_older (step H now) (address_after w H) ∙ l)) (prior o z)
-    go call prior o z =
-        later_outcome w H call q e (λ l. let y = lost_older (step H (moment (call ∷ H))) (address_after w H) in cc) (prior o z)
+    go call prior o z = later_outcome w H call q e (prior o z)
 
 -- it ran out now
 ran_out : (w : Who) (H : List Call) (q : Question) → AreAnswered w H → open_ask H ≡ Some q → is_taken q H ≡ true → wait H ≡ 0 → comes w H (time_heard H) ≡ false

@@ -1,17 +1,18 @@
 -- A call more.
 use Rattle.j39_node.proofs.KindLemmas.{Kind, kind, kind_is, single, of_session}
 use Rattle.j39_node.proofs.SoundLemmas.FrameCase.{claims as claims_first, acknowledges, replies, sends, packs, transfers}
-use Rattle.j39_node.proofs.Common.{led, le-ltb, [], if◌then◌else◌, ◌&&◌, ◌++◌, ◌+◌, ◌-◌, ◌<◌, ◌||◌, ◌∙◌, ◌∷◌, ◌≡◌, ◌≤◌, accepted, acknowledged, acknowledgment, Address, address_after, after, age, all_transfers, ap, AreAnswered, arith, Asked, asked_by, asking_of, AskRecord, asks_claims, asks_with, At, at_in, blank, Bool, breaks_it, Busy, Call, called, can_claim, can_send, claim_address, claim_due, claim_from, claim_goes, claim_of, Claimed, claimed, Claims, claims, clock, clock_at, comes, content, control_of, Controller, counted, delayed, Done, Draft, drop, drop-map, Due, due, end_of, ended, Ending, ending_of, eqb-true, false, FrameRecord, gives_way, has_packets, has_place, has_token, Hear, heard_at, heard_by, hearing, hearing_after, hearing_of, held_at, Hold, hold_acknowledged, hold_after, hold_asked, hold_claimed, hold_spoken, hold_went, holder, holder_in, holds, holds_back, IfSome, in_broadcast, in_session, Incoming, incoming_after, incoming_of, IncomingRecord, inl, inr, Is, is_apart, is_blank, is_busy, is_claim, is_coming, is_engaged, is_full, is_held, is_left, is_lost, is_open, is_resting, is_same, is_served, is_smaller, is_there, is_turn, IsAnswered, IsApart, IsNamed, known, Knows, lane_after, lane_of, latest, leaves, leaves_it, left, left_at, length, length-drop, length-set, less, List, Lost, lost, lt-ltb, ltb-false, ltb-true, made_by, made_of, map, marks, max, may_claim, may_go, Message, message_from, message_of, MessageRecord, min, missed, missed_news, moment, Move, Nack, named_in, nat_eq, nat_le, nat_lt, newly, news_after, next_acknowledgment, next_due, next_frame, next_packet, next_renewed, next_transfer, next_transfer_ended, next_turn, next_withdrawn, None, not, NotClaimed, nothing, offered, older, open_ask, open_broadcast, open_transfer, Option, option_map, other, Outgoing, owes_claim, packet_by, packets, packets_in, passed, past, pause, paused, place_of, port_after, port_of, posted, reached, Ready, ready_in, reception, ReceptionRecord, refl, refusal_by, Renew, Renews, Reply, rest, resting, resting_by, Said, said_by, sends_if, session_by, Single, slice_get, slice_get_past, slice_get_within, slice_set, Some, sooner, stamp_at, stamped, standing_of, stands, step, subst, suc, sym, TakeEnded, TakeFrame, taken_by, time_heard, told, told_claims, transfer_by, transfer_end, transfer_in, true, Turn, turn_frame, turn_of, turns, unclaimed, unclaims, unheard_news, Untold, View, view, wait, waiting, Who, who_of, with_called, with_reception, with_refusal, with_replies, with_request, Withdraw, Withdrawn, yields, ℕ, leb-true, IsOthers, is_asking}
+use Rattle.j39_node.proofs.Common.{Address, AreAnswered, AskRecord, Asked, At, Bool, Busy, Call, Claimed, Claims, Controller, Done, Draft, Due, Ending, FrameRecord, Hear, Hold, IfSome, Incoming, IncomingRecord, Is, IsAnswered, IsApart, IsOthers, Knows, List, Lost, Message, Move, Nack, None, NotClaimed, Option, Outgoing, Question, Ready, Renew, Renews, Reply, Said, Single, Some, TakeEnded, TakeFrame, Turn, Untold, View, Who, Withdraw, Withdrawn, [], accepted, acknowledged, acknowledgment, address_after, after, age, all_transfers, ap, arith, asked_by, asking_of, asks, asks_claims, asks_with, at_in, blank, by, called, calls, can_claim, can_send, claim_address, claim_due, claim_from, claim_goes, claim_of, claimed, claims, clock, clock_at, comes, content, control_of, counted, delayed, drop, drop-map, due, end_of, ended, ending_of, eqb-true, false, first, gives_way, got, has_packets, has_token, heard_at, heard_by, hearing, hearing_after, hearing_of, held_at, hold_acknowledged, hold_after, hold_asked, hold_claimed, hold_spoken, hold_went, holder, holder_in, holds, holds_back, if◌then◌else◌, in_session, incoming_after, incoming_of, inl, inr, is_apart, is_asking, is_blank, is_busy, is_claim, is_coming, is_engaged, is_for_program, is_full, is_held, is_left, is_lost, is_open, is_resting, is_served, is_smaller, is_there, is_turn, kept, known, lane_after, lane_of, latest, le-ltb, leaves, leb-true, led, left, left_at, length, length-append, length-drop, length-set, less, listening, lost, lt-ltb, ltb-false, ltb-true, map, marks, max, may_claim, may_go, message_from, message_of, min, missed, missed_news, moment, more, move, nat_eq, nat_le, nat_lt, news_after, next_acknowledgment, next_due, next_frame, next_packet, next_renewed, next_transfer, next_transfer_ended, next_turn, next_withdrawn, not, nothing, offered, older, open_ask, open_broadcast, open_transfer, option_map, other, owes_claim, packet_by, packets, packets_in, passed, past, pause, paused, place_of, port_after, port_of, posted, question, reached, ready_in, reception, refl, refusal_by, rest, resting, resting_by, said_by, senders, sends_if, shown, slice_get, slice_get_past, slice_get_within, slice_set, sooner, source_of, stamp_at, stamped, standing_of, stands, step, subst, suc, sym, taken_by, those_over, time_heard, told, told_claims, transfer_by, transfer_end, transfer_in, true, turn_frame, turn_of, turns, unclaimed, unclaims, unheard_news, view, wait, waiting, who_of, whole, with_called, with_reception, with_refusal, with_replies, with_request, yields, ℕ, ◌&&◌, ◌++◌, ◌+◌, ◌-◌, ◌<◌, ◌||◌, ◌∙◌, ◌∷◌, ◌≡◌, ◌≤◌}
+use Rattle.j39_node.specs.Boxes.{in_box}
+use Rattle.j39_node.specs.Is.{leaving}
 use Rattle.j39_node.specs.Reception.{is_waiting}
 use Rattle.j39_node.specs.Transfers.{packet_in}
 use Rattle.j39_node.specs.Is.{hears}
 use Rattle.j39_node.specs.declared.turn.Turn.TheVariants.{Packet}
 use Rattle.j39_node.proofs.WithdrawLemmas.{past_rest}
 use Rattle.j39_node.specs.declared.hold.Standing.TheVariants as standing
-use Rattle.j39_node.specs.declared.transfers.Open as transfers
 use Rattle.j39_node.proofs.AskLemmas.{asking_is, ask_more, takes, token_of, ask_withdrawn}
 use Rattle.j39_node.proofs.ReceptionLemmas.{leaves_is, tidy, calls_is, leaves_still}
-use Rattle.j39_node.proofs.HearingLemmas.{broken_news, claimed_on, hearing_same, is_hearing, news_same, missed_one}
+use Rattle.j39_node.proofs.HearingLemmas.{broken_news, claimed_on, claimed_says, hearing_same, missed_one, news_same}
 use Rattle.j39_node.proofs.QueueLemmas.{length_one_more, length_map, map_append, length_rest, in_rest, not_in_rest, First, drop_append, get_at, get_map, get_of_drop}
 use Rattle.j39_node.proofs.SoundLemmas.{IsTurn, frame_there, overdue_due, packet_there, some_at, turn_is, sound, frame_by, held_not_lost, holding_not_lost, lost_older, Sound, withdraw_case, acknowledged_is_due}
 use Rattle.j39_node.proofs.FrameLemmas.{at_now}
@@ -89,7 +90,6 @@ framed w H now f k =
       incoming =
           let r = taken_by k.claim k.reply (leaves (holder w H) (holder w G) (reception w H).session) (reception w H) in
           record (incoming_after w H) {
-            named = named_in r.session;
             called = if k.claim || (not (k.claim || (k.acknowledgment || k.session)) && asks_claims f) then 1250000 + (now - heard_at H) else called w H;
             reception = r;
           };
@@ -114,10 +114,6 @@ replies_is w H c h = ap (λ (v : View). v.incoming.reception.replies) h.shown
 replies_length : (w : Who) (H : List Call) (c : Controller) → Is w H c → length c.incoming.replies.items ≡ length (reception w H).replies
 replies_length w H c h = sym (length_map (said_by c.incoming.receiver.state.own) c.incoming.replies.items) ∙ ap length (replies_is w H c h)
 
--- what was kept of the open session's RTS
-pub kept_named : (w : Who) (H : List Call) (c : Controller) → Is w H c → IsNamed (incoming_of c.incoming)
-kept_named w H c h = subst IsNamed (sym (ap (λ (v : View). v.incoming) h.shown)) refl
-
 told_is : (w : Who) (H : List Call) (now : ℕ) (f : FrameRecord) → is_claim f ≡ true → told_claims w (At now (TakeFrame (Some f)) ∷ H) ≡ told_claims w H ++ f ∷ []
 told_is w H now f e = ap (λ (b : Bool). if b then told_claims w H ++ f ∷ [] else told_claims w H) e
 
@@ -136,11 +132,11 @@ incoming_claimed w H old now f table h is knows =
 -- a frame is heard
 pub incoming_heard : (w : Who) (H : List Call) (old : Controller) (when : ℕ) (f : FrameRecord) (table : Claims) (new : Incoming) (gone held : Bool) → Is w H old
     → Knows table (told_claims w (At when (Hear f) ∷ H)) → gone ≡ is_smaller w (claim_of f) → held ≡ holds w H when
-    → (old.incoming.receiver.has_box ≡ true → IsApart (incoming_of old.incoming).reception → IsNamed (incoming_of old.incoming)
+    → (old.incoming.receiver.has_box ≡ true → IsApart (incoming_of old.incoming).reception
     → incoming_of new ≡ hears gone held when f (holder_in old.holders) (holder_in table) (incoming_of old.incoming))
     → incoming_of new ≡ incoming_after w (At when (Hear f) ∷ H)
 incoming_heard w H old when f table new gone held h knows away stays does =
-    does (ap (λ (v : View). v.incoming.has_box) h.shown) (subst (λ (x : IncomingRecord). IsApart x.reception) (sym (ap (λ (v : View). v.incoming) h.shown)) (tidy w H).apart) (kept_named w H old h)
+    does (ap (λ (v : View). v.incoming.has_box) h.shown) (subst (λ (x : IncomingRecord). IsApart x.reception) (sym (ap (λ (v : View). v.incoming) h.shown)) (tidy w H).apart)
     ∙ (ap (hears gone held when f (holder_in old.holders) (holder_in table)) (ap (λ (v : View). v.incoming) h.shown)
     ∙ ((λ i. with_called (if calls_is w old.holders H f (claim_of f) h.holders i then 1250000 else called w H - (when - heard_at H))
     (with_reception (heard_by w.address gone held f (time_heard (At when (Hear f) ∷ H)) (left (leaves_still w old.holders table H when f (reception w H).session h.holders knows i) (reception w H))) (incoming_now w H when f)))
@@ -148,7 +144,7 @@ incoming_heard w H old when f table new gone held h knows away stays does =
     (left (leaves (known w H when f) (holder w (At when (Hear f) ∷ H)) (reception w H).session) (reception w H))) (incoming_now w H when f))))
   where
     incoming_now : Who → List Call → ℕ → FrameRecord → IncomingRecord
-    incoming_now w H when f = record { moment = when; clock = time_heard (At when (Hear f) ∷ H); own = w.address; has_box = true; named = named_in (reception w H).session; called = called w H - (when - heard_at H); reception = reception w H }
+    incoming_now w H when f = record { moment = when; clock = time_heard (At when (Hear f) ∷ H); own = w.address; has_box = true; called = called w H - (when - heard_at H); reception = reception w H }
 
 pub transfer_next : (w : Who) (H : List Call) (c : Controller) (now time : ℕ) → Is w H c → time ≡ min (age H + step H now) 18446744073709551615
     → transfer_by (port_of c.transfers).current (clock time) ≡ next_transfer w H now
@@ -454,7 +450,7 @@ pub heard_standing : (b : Bool) (s : ℕ) (a : Address) → (if b then standing.
 heard_standing true s a = refl
 heard_standing false s a = refl
 
-pub kept_rest : (wanted : Bool) (K unread : List (ℕ × Message)) (n : ℕ) (x : ℕ × Message) → n ≤ length K → unread ≡ drop n K
+pub kept_rest : {T : Type 0} (wanted : Bool) (K unread : List T) (n : ℕ) (x : T) → n ≤ length K → unread ≡ drop n K
     → offered wanted x unread ≡ drop n (if wanted && nat_lt (length K - n) 16 then K ++ x ∷ [] else K)
 kept_rest wanted K unread n x l e =
     ap (offered wanted x) e
@@ -463,6 +459,29 @@ kept_rest wanted K unread n x l e =
     go : (b : Bool) → (if b then drop n K ++ x ∷ [] else drop n K) ≡ drop n (if b then K ++ x ∷ [] else K)
     go true = sym (drop_append n K x l)
     go false = refl
+
+-- the NAMEs beside them
+one_more : {T : Type 0} {U : Type 0} (b : Bool) (xs : List T) (ys : List U) (x : T) (y : U) → length xs ≡ length ys
+    → length (if b then xs ++ x ∷ [] else xs) ≡ length (if b then ys ++ y ∷ [] else ys)
+one_more true xs ys x y e =
+    let a = length-append xs (x ∷ []) in
+    let b = length-append ys (y ∷ []) in
+    omega (arith, a, b, e)
+one_more false xs ys x y e = e
+
+pub senders_length : (w : Who) (H : List Call) → length (senders w H) ≡ length (kept w H)
+senders_length w [] = refl
+senders_length w (At now (Hear f) ∷ H) =
+    one_more (is_for_program w (holds w H now) f && nat_lt (length (kept w H) - length (got H)) 16) (senders w H) (kept w H) (holder w H (source_of f.id)) (f.stamp, message_of f) (senders_length w H)
+senders_length w (call ∷ H) = senders_length w H
+
+pub senders_rest : (w : Who) (H : List Call) (now : ℕ) (f : FrameRecord) (unread : List (Option ℕ)) (x : Option ℕ) → length (got H) ≤ length (kept w H)
+    → unread ≡ drop (length (got H)) (senders w H) → x ≡ holder w H (source_of f.id)
+    → offered (is_for_program w (holds w H now) f) x unread ≡ drop (length (got H)) (senders w (At now (Hear f) ∷ H))
+senders_rest w H now f unread x l e is =
+    ap (λ (y : Option ℕ). offered (is_for_program w (holds w H now) f) y unread) is
+    ∙ (kept_rest (is_for_program w (holds w H now) f) (senders w H) unread (length (got H)) (holder w H (source_of f.id)) (rw (senders_length w H) l) e
+    ∙ ap (λ (n : ℕ). drop (length (got H)) (if is_for_program w (holds w H now) f && nat_lt (n - length (got H)) 16 then senders w H ++ holder w H (source_of f.id) ∷ [] else senders w H)) (senders_length w H))
 
 pub missed_rest : (wanted : Bool) (K unread : List (ℕ × Message)) (n m c : ℕ) → unread ≡ drop n K → c ≡ min m 18446744073709551615
     → counted wanted unread c ≡ min (if wanted && not (nat_lt (length K - n) 16) then suc m else m) 18446744073709551615
@@ -496,25 +515,13 @@ pub news_heard : (u v : Untold) (l a b m n o : Bool) → v ≡ record { lost = l
     → v ≡ record { lost = l; another = u.another || b; doubled = u.doubled; missed = u.missed || (n || o) }
 news_heard u v l a b m n o x f g = x ∙ λ i. record { lost = l; another = u.another || f i; doubled = u.doubled; missed = u.missed || (g i || o) }
 
--- a broadcast that waits now, where none did, was made whole
-pub cast_by : (before after : Option (ℕ × MessageRecord))
-    → made_by (not (not (has_place before))) after ≡ made_of (option_map (λ (x : ℕ × MessageRecord). x.1) (newly before after))
-cast_by None None = refl
-cast_by None (Some x) = refl
-cast_by (Some y) None = refl
-cast_by (Some y) (Some x) = refl
-
 -- an answer is coming
 pub coming_is : (w : Who) (H : List Call) (c : Controller) (t time : ℕ) → Is w H c → t ≡ time
-    → is_coming (option_map (λ (x : AskRecord). x.question) (asking_of c.asking)) (session_by (incoming_of c.incoming).reception.session (incoming_of c.incoming).named) (in_broadcast t (hearing_of c.hearing).current)
+    → is_coming t (option_map (λ (x : AskRecord). x.question) (asking_of c.asking)) (in_session (incoming_of c.incoming).reception.session) (hearing_of c.hearing).listening.current
     ≡ comes w H time
 coming_is w H c t time h e =
-    (λ i. is_coming (option_map (λ (x : AskRecord). x.question) ((h.shown i).asking)) (session_by (h.shown i).incoming.reception.session (h.shown i).incoming.named) (in_broadcast (e i) (h.shown i).hearing.current))
-    ∙ λ i. is_coming (token_of (open_ask H) (reached H) (ended w H) i) (session_is (reception w H).session i) (in_broadcast time (hearing w H))
-  where
-    session_is : (o : Option ReceptionRecord) → session_by o (named_in o) ≡ in_session o
-    session_is None = refl
-    session_is (Some r) = refl
+    (λ i. is_coming (e i) (option_map (λ (x : AskRecord). x.question) ((h.shown i).asking)) (in_session (h.shown i).incoming.reception.session) (h.shown i).hearing.listening.current)
+    ∙ ap (λ (o : Option Question). is_coming time o (in_session (reception w H).session) (listening w H).current) (token_of (open_ask H) (reached H) (ended w H))
 
 -- a broadcast broke off, by a tick or its own claim
 pub is_broken : (w : Who) (H : List Call) (b c : Bool) (u : Untold) → u ≡ news_after w H → b ≡ c
@@ -784,30 +791,28 @@ pub claims_more : (w : Who) (H : List Call) (old new : Controller) (now : ℕ) (
     → claim_goes w H now ≡ true → new.hold ≡ hold_claimed mid
     → Some (stamped f) ≡ Some (now, claim_from (who_of w.brought old.own) a) → a ≡ (if lost old.hold.standing then 254 else old.own.address)
     → ((F : List FrameRecord) → Knows old.holders F → Knows new.holders (F ++ f ∷ []))
-    → (IsNamed (incoming_of old.incoming) → incoming_of new.incoming ≡ with_called (1250000 + (now - (incoming_of old.incoming).moment))
+    → incoming_of new.incoming ≡ with_called (1250000 + (now - (incoming_of old.incoming).moment))
     (with_reception (left (leaves (holder_in old.holders) (holder_in new.holders) (incoming_of old.incoming).reception.session)
-    (incoming_of old.incoming).reception) (incoming_of old.incoming)))
-    → (left_by broken : Bool) (p1 p2 : Option ℕ) → IfSome (hearing_of old.hearing).current (λ z. p1 ≡ holder_in old.holders z.source)
-    → IfSome (hearing_of old.hearing).current (λ z. p2 ≡ holder_in new.holders z.source) → left_by ≡ not (is_same p1 p2)
-    → broken ≡ breaks_it left_by (hearing_of old.hearing).current
-    → new.hearing.missed ≡ (if broken then min (old.hearing.missed + 1) 18446744073709551615 else old.hearing.missed)
-    → (hearing_of new.hearing).current ≡ leaves_it left_by (hearing_of old.hearing).current
+    (incoming_of old.incoming).reception) (incoming_of old.incoming))
+    → (broken : Bool) (t : ℕ) → t ≡ time_heard H → broken ≡ nat_lt 0 (length (those_over None (holder_in new.holders) t (hearing_of old.hearing).listening.current))
+    → hearing_of new.hearing ≡ leaving None (holder_in new.holders) t (hearing_of old.hearing) → new.hearing.whole ≡ old.hearing.whole
     → new.news ≡ record { lost = old.news.lost; another = old.news.another; doubled = old.news.doubled; missed = broken || old.news.missed }
     → new ≡ record old { hold = new.hold; holders = new.holders; incoming = new.incoming; hearing = new.hearing; news = new.news }
     → Is w (At now (TakeFrame (Some f)) ∷ H) new
-claims_more w H old new now f mid a h p owes e0 m at knows drops left_by broken p1 p2 t1 t2 t3 t4 t5 t6 u e =
+claims_more w H old new now f mid a h p owes e0 m at knows drops broken t t1 t2 t3 t4 u e =
     let k : stamped f ≡ (now, claim_from (who_of w.brought old.own) a) = cc in
     let j : stamped f ≡ (now, claim_from w (claim_address w (address_after w H))) = k ∙ ap (λ (x : Message). (now, x)) (claim_told w H old a h at) in
     let kind_now = kind_is w H now f h.answered (claims_first owes j) in
     let n = ap (λ (k : Kind). k.claim) kind_now in
     let knows_now : Knows new.holders (told_claims w (At now (TakeFrame (Some f)) ∷ H)) = subst (Knows new.holders) (sym (told_is w H now f n)) (knows (told_claims w H) h.holders) in
-    let on = claimed_on w H now f old.holders new.holders left_by broken p1 p2 (hearing_of old.hearing) (hearing_of new.hearing) (ap (λ (v : View). v.hearing) h.shown) h.holders knows_now t1 t2 t3 t4 t5 t6 in
+    let was = ap (λ (v : View). v.hearing) h.shown in
     record {
       shown = ap (view w) e ∙ ((λ i. record (h.shown i) {
         hold = (e0 ∙ (ap hold_claimed p ∙ λ i. record (led w H now) { standing = claims_after (older (step H now) (address_after w H)) i; owes_claim = false; turns = turns_more (turns H) i })) i;
-        news = (u ∙ is_broken w H broken _ old.news (ap (λ (v : View). v.news) h.shown) on.says) i;
-        hearing = is_hearing _ _ on.current on.missed i;
-        incoming = (drops (kept_named w H old h) ∙ incoming_claimed w H old now f new.holders h kind_now knows_now) i;
+        news = (u ∙ is_broken w H broken _ old.news (ap (λ (v : View). v.news) h.shown) (claimed_says w H now f new.holders t (hearing_of old.hearing) broken n was knows_now t1 t2)) i;
+        hearing = claimed_on w H now f new.holders t (hearing_of old.hearing) (hearing_of new.hearing) n was knows_now t1 t3 i;
+        broadcast_senders = (ap (λ v. map (λ b. (in_box b).name) v.items) t4 ∙ ap (λ (v : View). v.broadcast_senders) h.shown) i;
+        incoming = (drops ∙ incoming_claimed w H old now f new.holders h kind_now knows_now) i;
       }) ∙ ap (λ (k : Kind). record (framed w H now f k) { incoming = incoming_after w (At now (TakeFrame (Some f)) ∷ H) }) (sym kind_now));
       answered = (
         h.answered,

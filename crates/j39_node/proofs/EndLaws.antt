@@ -1,17 +1,19 @@
 -- That every transfer ends.
-use Rattle.j39_node.proofs.Common.{[], if◌then◌else◌, ◌&&◌, ◌*◌, ◌++◌, ◌+◌, ◌/◌, ◌<◌, ◌||◌, ◌∙◌, ◌∷◌, ◌≡◌, ◌≤◌, ◌⊎◌, Abort, aborted, address_after, Again, age, all_transfers, and_parts, ap, AreAnswered, arith, At, begun, Bool, broadcast_from, broken_off, Call, can_broadcast, claims_anew, clears, clock_at, cond_both, Controller, ending_by, false, FrameRecord, gives_up, Gone, granted_after, granted_by, Hear, hears, hears_if, holder, inl, inr, Is, is_engaged, is_held, is_idle, is_lost, is_move, is_replaced, is_resting, is_running, is_sendable, is_spent, IsAnswered, IsPrompt, length, List, listens, long_by, Message, MessageRecord, moment, nat_eq, nat_le, nat_lt, new_sender, next_frame, next_packet, next_transfer, next_transfer_ended, None, NoneTold, not, Ok, open_transfer, Option, option_map, packets_of, passed_in, refl, Running, says, send_step, SenderRecord, sends, sends_if, SendState, Signal, signal_by, Some, spent_after, step, subst, sym, TakeFrame, TakeTransferEnded, tells_transfer, ticks_in, timer_t3, Transfer, transfer_by, transfer_end, TransferEnding, true, waited_in, Who, ℕ, answer_to_transfer, not_both, leb-true}
+use Rattle.j39_node.proofs.Common.{Abort, AreAnswered, At, Bool, Call, Controller, FrameRecord, Gone, Hear, Idle, Is, IsAnswered, IsPaced, IsPrompt, List, Message, MessageRecord, None, NoneTold, Ok, Option, Running, SendState, SenderRecord, Sending, Signal, Some, TakeFrame, TakeTransferEnded, Transfer, TransferEnding, Waiting, Who, [], aborted, address_after, after, age, all_transfers, and_parts, answer_to_transfer, ap, arith, begun, broadcast_from, broken_off, by, can_broadcast, claims_anew, clears, clock_at, cond_both, counts_for, destination_of, due, ending_by, eq-eqb, false, first, gives_up, granted_by, hears, hears_if, holder, holds, idle, if◌then◌else◌, inl, inr, is_acknowledgment, is_claim, is_engaged, is_held, is_idle, is_lost, is_move, is_replaced, is_resting, is_running, is_sendable, is_session, is_some, is_spent, is_transfer, later, leb-true, length, listens, lost, moment, nat_eq, nat_le, nat_lt, new_sender, next_transfer, next_transfer_ended, not, not_both, open_transfer, option_map, or_parts, packets_of, passed_in, refl, running, says, send_step, sends, sends_if, signal_by, step, subst, suc, sym, tells_transfer, ticks_in, timer_t3, told, transfer_by, transfer_end, true, waited_in, ℕ, ◌&&◌, ◌*◌, ◌++◌, ◌+◌, ◌/◌, ◌<◌, ◌||◌, ◌∙◌, ◌∷◌, ◌≡◌, ◌≤◌, ◌⊎◌}
 use Rattle.j39_transport.specs.Sending.{Tick}
 use Rattle.j39_node.specs.declared.kinds.TransferEnding.TheVariants.{Done, Withdrawn, Failed}
 use Rattle.j39_node.specs.Transfers.{said_to}
 use Rattle.j39_transport.specs.Sending as sending
-use Rattle.j39_node.proofs.EndSteps.{HeardCase, IsEnded, Timely, accepted_now, heard_case, heard_timely, most, none_timely, passes, ticked_timely, times_more}
-use Rattle.j39_node.proofs.EndSteps.HeardCase.{same, ends, holds as holds_on, clears as is_cleared}
-use Rattle.j39_node.proofs.LaneLaws.{none_long}
-use Rattle.j39_node.proofs.MoveLemmas.{hears_token}
+use Rattle.j39_node.proofs.EndSteps.{HeardCase, IsEnded, Late, Listened, due_late, heard_case, heard_late, most, none_late, passes, rank_of, ticked_late, times_more}
+use Rattle.j39_node.proofs.EndSteps.HeardCase.{same, ends, holds as holding, clears as is_cleared}
+use Rattle.j39_node.proofs.EndSteps.Listened.{over as ends_so, kept, held as holds_on}
+use Rattle.j39_node.proofs.MoveLemmas.{hears_token, sent_case}
 use Rattle.j39_node.proofs.PortLemmas.{hears_same, sends_same}
-use Rattle.j39_node.proofs.PromptLaws.{answered_from, keeps_heard, keeps_taken, lost_heard, lost_taken, waited_last}
-use Rattle.j39_node.proofs.SoundLemmas.{held_older, lost_older}
-use Rattle.j39_node.proofs.TransferLaws.{Budgeted, BudgetedIf, budgeted}
+use Rattle.j39_node.proofs.PromptLaws.{answered_from, ended_or_lost, Fate, later_on, takes, waited_last, waited_more}
+use Rattle.j39_node.proofs.PromptLaws.Fate.{runs}
+use Rattle.j39_node.proofs.SoundLemmas.{FrameCase, frame_case, held_not_lost, held_older, none_next, plain_session}
+use Rattle.j39_node.proofs.SteadySteps.{Account, account_holds, account_passes, account_rests, dist}
+use Rattle.j39_node.proofs.TransferLaws.{BudgetedIf, budgeted}
 use Rattle.j39_node.proofs.AnswerCases.{transfer_accepts}
 
 -- ---- what is over stays over
@@ -22,7 +24,7 @@ Over t = (t.gone ≡ true) ⊎ IsEnded t.sender
 ended_heard : (s : SenderRecord) (o : Option ℕ) (r : SenderRecord) (now : ℕ) → HeardCase s now o r → IsEnded s → IsEnded r
 ended_heard s o r now (same a b) e = subst IsEnded (sym b) e
 ended_heard s o r now (ends z) e = z
-ended_heard s o r now (holds_on limit i a b) e =
+ended_heard s o r now (holding limit i a b) e =
     absurd (let z : true ≡ false = sym (ap (λ (u : SendState). is_idle u || is_running u) i) ∙ e in cc)
 ended_heard s o r now (is_cleared limit next last i a b) e =
     absurd (let z : true ≡ false = sym (ap (λ (u : SendState). is_idle u || is_running u) i) ∙ e in cc)
@@ -81,262 +83,412 @@ tells sending.Idle gone lost h = open_one gone lost h
 tells (sending.Waiting limit) gone lost h = open_one gone lost h
 tells (sending.Sending next last) gone lost h = open_one gone lost h
 
+-- ---- a driver's pace
+
+-- a frame of the open transfer is due
+abbrev pub DueTo : Who → ℕ → List Call → ℕ → Type 0
+DueTo w to H now = (holds w H now ≡ true) × ((m : Message) × (next_transfer w H now ≡ Some m) × (m.destination ≡ Some to))
+
+-- what a history pays for the clears that were taken, that with which it waits too: it waited so long to be taken before, so long since
+-- a take found nothing of it, and so long one of its frames is due
+pub record Pace (w : Who) (B : List Call) (g most to : ℕ) (since : List Call → List Call → ℕ) (Paid : List Call → ℕ → ℕ → ℕ → ℕ → Type 0) (limit : List Call → ℕ) : Type 0 where
+  pub passes : (call : Call) (later : List Call) (n m base waited streak : ℕ) → takes call ≡ false → n ≤ m → Paid later n base waited streak
+      → Paid (call ∷ later) m base (waited + step (later ++ B) (moment (call ∷ later ++ B))) streak
+  pub holds : (when : ℕ) (f : FrameRecord) (later : List Call) (n m base waited streak : ℕ) → suc n ≤ m → since later B + step (later ++ B) when ≤ g
+      → Paid later n base waited streak → Paid (At when (Hear f) ∷ later) m (base + (waited + step (later ++ B) when)) 0 0
+  pub rests : (now : ℕ) (later : List Call) (n base waited : ℕ) → Paid later n base waited 0 → Paid (At now (TakeFrame None) ∷ later) n base 0 0
+  -- another's frame is taken while nothing of it is due, or something is
+  pub beside : (now : ℕ) (f : FrameRecord) (later : List Call) (n base waited : ℕ) → AreAnswered w (later ++ B) → FrameCase w (later ++ B) now f → is_move w (later ++ B) f ≡ false
+      → Paid later n base waited 0 → Paid (At now (TakeFrame (Some f)) ∷ later) n base 0 0
+  pub before : (now : ℕ) (f : FrameRecord) (later : List Call) (n base waited streak : ℕ) → AreAnswered w (later ++ B) → FrameCase w (later ++ B) now f → is_move w (later ++ B) f ≡ false
+      → DueTo w to (later ++ B) now → since later B + step (later ++ B) now ≤ g → Paid later n base waited streak
+      → (k : ℕ) × Paid (At now (TakeFrame (Some f)) ∷ later) n base (waited + step (later ++ B) now) k
+  -- its own is, by which it goes on, or waits
+  pub goes : (now : ℕ) (f : FrameRecord) (later : List Call) (n m base waited streak : ℕ) → (is_claim f || is_acknowledgment f) ≡ false → counts_for to f ≡ true
+      → since later B + step (later ++ B) now ≤ g → n ≤ m → Paid later n base waited streak → Paid (At now (TakeFrame (Some f)) ∷ later) m base (waited + step (later ++ B) now) 0
+  pub waits : (now : ℕ) (f : FrameRecord) (later : List Call) (n m base waited streak : ℕ) → (is_claim f || is_acknowledgment f) ≡ false → counts_for to f ≡ true
+      → since later B + step (later ++ B) now ≤ g → suc n ≤ m → Paid later n base waited streak → Paid (At now (TakeFrame (Some f)) ∷ later) m (base + (waited + step (later ++ B) now)) 0 0
+  -- so it is no older than the limit, which doesn't shrink
+  pub older : (later : List Call) (n base waited streak age s : ℕ) → n ≤ most → age ≤ most * timer_t3 + base + waited → since later B + s ≤ g → Paid later n base waited streak
+      → age + s ≤ limit later
+  pub less : (call : Call) (later : List Call) → limit later ≤ limit (call ∷ later)
+
+pub counts_is : (to : ℕ) (f : FrameRecord) (a b d : Bool) → (is_claim f || is_acknowledgment f) ≡ a → is_transfer f ≡ b → is_some (destination_of f.id) to ≡ d
+    → counts_for to f ≡ (not a && not (b && not d))
+counts_is to f a b d x y z = λ i. not (x i) && not (y i && not (z i))
+
+-- what a signal says of its sender
+no_signal : (t : Running) (now : ℕ) → t.gone ≡ false → signal_by t now ≡ None → (gives_up t ≡ false) × ((ticks_in t.sender.state now t.sender).says ≡ None)
+unfolding send_step
+no_signal t now n e = go (gives_up t) refl (ap (λ (b : Bool). if b then (let o : Option Signal = None in o) else if gives_up t then Some (Abort 5 t.sender.message.pgn)
+    else (send_step t.sender Tick now).says) (sym n) ∙ e)
+  where
+    go : (b : Bool) → gives_up t ≡ b → (if b then Some (Abort 5 t.sender.message.pgn) else (send_step t.sender Tick now).says) ≡ None
+        → (gives_up t ≡ false) × ((ticks_in t.sender.state now t.sender).says ≡ None)
+    go true i y = absurd (cc)
+    go false i y = (i, y)
+
+a_signal : (t : Running) (now : ℕ) (x : Signal) → t.gone ≡ false → signal_by t now ≡ Some x
+    → ((ticks_in t.sender.state now t.sender).says ≡ None → ⊥) ⊎ (nat_lt 64 t.spent ≡ true)
+unfolding send_step
+a_signal t now x n e = go (gives_up t) refl (ap (λ (b : Bool). if b then (let o : Option Signal = None in o) else if gives_up t then Some (Abort 5 t.sender.message.pgn)
+    else (send_step t.sender Tick now).says) (sym n) ∙ e)
+  where
+    spent : (a b : Bool) → (a && b) ≡ true → a ≡ true
+    spent true b i = refl
+    spent false b i = absurd (cc)
+
+    go : (b : Bool) → gives_up t ≡ b → (if b then Some (Abort 5 t.sender.message.pgn) else (send_step t.sender Tick now).says) ≡ Some x
+        → ((ticks_in t.sender.state now t.sender).says ≡ None → ⊥) ⊎ (nat_lt 64 t.spent ≡ true)
+    go true i y = inr (spent (is_spent t) (is_running t.sender.state) i)
+    go false i y = inl (λ z. (let k : None ≡ Some x = sym z ∙ y in absurd (cc)))
+
 -- ---- the course of a transfer
 
-module _ (w : Who) (B : List Call) (g k : ℕ) (m : MessageRecord) (few : packets_of m ≤ 255) (short : g < 1000000000000) where
-  data Course (later : List Call) (t : Running) : Type 0 where
-    over : Over t → Course later t
-    gone : is_lost (address_after w (later ++ B)) ≡ true → Course later t
-    runs : is_held (address_after w (later ++ B)) ≡ true → t.gone ≡ false
-        → Timely g t.granted t.spent (age (later ++ B)) (waited_in later B) t.sender → Course later t
+module _ (w : Who) (B : List Call) (g k to : ℕ) (m : MessageRecord) (since : List Call → List Call → ℕ) (Paid : List Call → ℕ → ℕ → ℕ → ℕ → Type 0) (limit : List Call → ℕ)
+    (pace : Pace w B g (packets_of m + 65) to since Paid limit) where
+  pub record Runs (later : List Call) (t : Running) : Type 0 where
+    here : t.gone ≡ false
+    base : ℕ
+    waited : ℕ
+    streak : ℕ
+    late : Late t.granted t.spent (age (later ++ B)) base waited streak t.sender
+    paid : Paid later (rank_of t.granted t.spent t.sender) base waited streak
 
-  record Stands (later : List Call) : Type 0 where
+  pub record Stands (later : List Call) : Type 0 where
     pub running : Running
     pub is : open_transfer w (later ++ B) ≡ Some running
     pub token : running.token ≡ k
     pub message : running.sender.message ≡ m
+    pub destination : running.sender.destination ≡ to
     pub aged : age (later ++ B) ≡ passed_in later B
-    pub course : Course later running
+    pub course : Fate (address_after w (later ++ B)) (Over running) (Runs later running)
 
-  within : (later : List Call) (h : Stands later) → Budgeted h.running (clears w (later ++ B))
-  within later h = subst (λ (o : Option Running). BudgetedIf o (clears w (later ++ B))) h.is (budgeted w (later ++ B))
+  pub begins : is_held (address_after w B) ≡ true → open_transfer w B ≡ Some (begun k m to) → age B ≡ 0 → Paid [] 0 0 0 0 → Stands []
+  unfolding new_sender
+  begins e o a p = record {
+    running = begun k m to;
+    is = o;
+    token = refl;
+    message = refl;
+    destination = refl;
+    aged = a;
+    course = runs e (record {
+      here = refl;
+      base = 0;
+      waited = 0;
+      streak = 0;
+      late = record { phase = λ z. omega (arith, a); gives_up = λ z. omega (arith, a); due = λ z. tt };
+      paid = p;
+    });
+  }
 
-  old_at_most : (later : List Call) (h : Stands later) → Timely g h.running.granted h.running.spent (age (later ++ B)) (waited_in later B) h.running.sender
-      → (is_idle h.running.sender.state || is_running h.running.sender.state) ≡ true
-      → age (later ++ B) ≤ (packets_of m + 65) * (timer_t3 + g) + waited_in later B
-  old_at_most later h t r =
-      let b = within later h in
-      most g h.running.granted h.running.spent (age (later ++ B)) (waited_in later B) (packets_of m) h.running.sender t r
-      (subst (λ (x : MessageRecord). h.running.granted ≤ packets_of x) h.message b.granted) b.spent
+  -- it goes on, or is over
+  alive : (t : Running) → Over t ⊎ ((is_idle t.sender.state || is_running t.sender.state) ≡ true)
+  alive t = go (is_idle t.sender.state || is_running t.sender.state) refl
+    where
+      go : (u : Bool) → (is_idle t.sender.state || is_running t.sender.state) ≡ u → Over t ⊎ ((is_idle t.sender.state || is_running t.sender.state) ≡ true)
+      go true e = inr e
+      go false e = inl (inr e)
+
+  old_at_most : (later : List Call) (h : Stands later) (s : ℕ) → Runs later h.running → (is_idle h.running.sender.state || is_running h.running.sender.state) ≡ true
+      → since later B + s ≤ g → age (later ++ B) + s ≤ limit later
+  old_at_most later h s r e p =
+      let b = subst (λ (o : Option Running). BudgetedIf o (clears w (later ++ B))) h.is (budgeted w (later ++ B)) in
+      let y = most h.running.granted h.running.spent (age (later ++ B)) r.base r.waited r.streak (packets_of m) h.running.sender r.late e
+      (subst (λ (x : MessageRecord). h.running.granted ≤ packets_of x) h.message b.granted) b.spent in
+      pace.older later (rank_of h.running.granted h.running.spent h.running.sender) r.base r.waited r.streak (age (later ++ B)) s y.1 y.0 p r.paid
 
   -- its clock doesn't stand still
-  clock_goes : (later : List Call) (h : Stands later) (now : ℕ) → waited_in later B + step (later ++ B) now ≤ g
-      → Timely g h.running.granted h.running.spent (age (later ++ B)) (waited_in later B) h.running.sender
-      → (is_idle h.running.sender.state || is_running h.running.sender.state) ≡ true → clock_at (later ++ B) now ≡ age (later ++ B) + step (later ++ B) now
-  clock_goes later h now p t r =
-      let a = old_at_most later h t r in
-      let b = product (packets_of m + 65) (timer_t3 + g) (omega (arith, few)) (omega (arith, short)) in
-      omega (arith, a, b, p, short)
-    where
-      product : (x y : ℕ) → x ≤ 320 → y ≤ 1000001250000 → x * y ≤ 320000400000000
-      product x y l n = let z = times_more x 320 y l in omega (arith, z, n)
+  clock_goes : (later : List Call) (h : Stands later) (now : ℕ) → limit later < 9000000000000000 → Runs later h.running
+      → (is_idle h.running.sender.state || is_running h.running.sender.state) ≡ true → since later B + step (later ++ B) now ≤ g
+      → clock_at (later ++ B) now ≡ age (later ++ B) + step (later ++ B) now
+  clock_goes later h now short r e p = let a = old_at_most later h (step (later ++ B) now) r e p in omega (arith, a, short)
 
-  -- a call by which time passes alone
-  rests_with : (call : Call) (later : List Call) → open_transfer w (call ∷ later ++ B) ≡ open_transfer w (later ++ B)
-      → age (call ∷ later ++ B) ≡ age (later ++ B) + step (later ++ B) (moment (call ∷ later ++ B))
-      → waited_in (call ∷ later) B ≡ waited_in later B + step (later ++ B) (moment (call ∷ later ++ B))
-      → (is_lost (address_after w (later ++ B)) ≡ true → is_lost (address_after w (call ∷ later ++ B)) ≡ true)
-      → (is_held (address_after w (later ++ B)) ≡ true → is_held (address_after w (call ∷ later ++ B)) ≡ true)
-      → Stands later → Stands (call ∷ later)
-  rests_with call later o a q lost held h = record {
-    running = h.running;
-    is = o ∙ h.is;
-    token = h.token;
-    message = h.message;
-    aged = a ∙ ap (λ (n : ℕ). n + step (later ++ B) (moment (call ∷ later ++ B))) h.aged;
-    course = go h.course;
+  -- time passes for it
+  rests_on : (call : Call) (later : List Call) (t : Running) → takes call ≡ false → age (call ∷ later ++ B) ≡ age (later ++ B) + step (later ++ B) (moment (call ∷ later ++ B))
+      → Runs later t → Runs (call ∷ later) t
+  rests_on call later t n a r = record {
+    here = r.here;
+    base = r.base;
+    waited = r.waited + step (later ++ B) (moment (call ∷ later ++ B));
+    streak = r.streak;
+    late = subst (λ (x : ℕ). Late t.granted t.spent x r.base (r.waited + step (later ++ B) (moment (call ∷ later ++ B))) r.streak t.sender) (sym a)
+        (passes t.granted t.spent (age (later ++ B)) r.base r.waited r.streak (step (later ++ B) (moment (call ∷ later ++ B))) t.sender r.late);
+    paid = pace.passes call later _ _ r.base r.waited r.streak n (omega arith) r.paid;
   }
-    where
-      go : Course later h.running → Course (call ∷ later) h.running
-      go (over z) = over z
-      go (gone z) = gone (lost z)
-      go (runs e n t) = runs (held e) n
-          (subst (λ (x : ℕ). Timely g h.running.granted h.running.spent x (waited_in (call ∷ later) B) h.running.sender) (sym a)
-          (subst (λ (x : ℕ). Timely g h.running.granted h.running.spent (age (later ++ B) + step (later ++ B) (moment (call ∷ later ++ B))) x h.running.sender) (sym q)
-          (passes g h.running.granted h.running.spent (age (later ++ B)) (waited_in later B) (step (later ++ B) (moment (call ∷ later ++ B))) h.running.sender t)))
 
   -- a frame is heard
-  heard_so : (later : List Call) (when : ℕ) (f : FrameRecord) (h : Stands later) (lost replaced : Bool) → is_lost (address_after w (At when (Hear f) ∷ later ++ B)) ≡ lost
-      → waited_in later B + step (later ++ B) when ≤ g → (u : Bool) → (is_idle h.running.sender.state || is_running h.running.sender.state) ≡ u → Course later h.running
-      → Course (At when (Hear f) ∷ later) (hears lost replaced f (clock_at (later ++ B) when) h.running)
+  heard_so : (later : List Call) (when : ℕ) (f : FrameRecord) (h : Stands later) (lost replaced : Bool) → lost ≡ false → limit later < 9000000000000000
+      → since later B + step (later ++ B) when ≤ g → Runs later h.running
+      → Over (hears lost replaced f (clock_at (later ++ B) when) h.running) ⊎ Runs (At when (Hear f) ∷ later) (hears lost replaced f (clock_at (later ++ B) when) h.running)
   unfolding send_step
-  heard_so later when f h true replaced l p u z c = gone l
-  heard_so later when f h false replaced l p u z (over x) = over (over_hears false replaced f (clock_at (later ++ B) when) h.running x)
-  heard_so later when f h false replaced l p u z (gone x) = absurd (let y : true ≡ false = sym (lost_heard w (later ++ B) when f x) ∙ l in cc)
-  heard_so later when f h false true l p u z (runs e n t) = over (inl refl)
-  heard_so later when f h false false l p false z (runs e n t) = over (over_hears false false f (clock_at (later ++ B) when) h.running (inr z))
-  heard_so later when f h false false l p true z (runs e n t) =
-      subst (λ (now : ℕ). Course (At when (Hear f) ∷ later) (hears false false f now h.running)) (sym (clock_goes later h when p t z)) (go (keeps_heard w (later ++ B) when f e))
+  heard_so later when f h true replaced l short p r = absurd (let z : true ≡ false = l in cc)
+  heard_so later when f h false true l short p r = inl (inl refl)
+  heard_so later when f h false false l short p r = elim (alive h.running) [
+    | inl z ↦ inl (over_hears false false f (clock_at (later ++ B) when) h.running z)
+    | inr z ↦ subst (λ (now : ℕ). Over (hears false false f now h.running) ⊎ Runs (At when (Hear f) ∷ later) (hears false false f now h.running))
+        (sym (clock_goes later h when short r z p))
+        (cond_both (h.running.gone || is_spent h.running) h.running (listens f now h.running) (λ (t : Running). Over t ⊎ Runs (At when (Hear f) ∷ later) t)
+        (λ i. inr (rests_on (At when (Hear f)) later h.running refl refl r))
+        (λ i. listened (heard_late h.running.granted h.running.spent (age (later ++ B)) r.base r.waited r.streak (step (later ++ B) when) h.running.sender
+        (listens f now h.running).sender (granted_by h.running.sender (said_to h.running.sender f))
+        (heard_case h.running.sender (said_to h.running.sender f) now) (or_parts h.running.gone (is_spent h.running) i).1 r.late)))
+  ]
     where
       now : ℕ
       now = age (later ++ B) + step (later ++ B) when
 
-      by : IsEnded (listens f now h.running).sender
-          ⊎ Timely g (granted_after (granted_by h.running.sender (said_to h.running.sender f)) h.running.granted)
-          (spent_after (granted_by h.running.sender (said_to h.running.sender f)) h.running.granted h.running.spent) now
-          (waited_in later B + step (later ++ B) when) (listens f now h.running).sender
-      by = heard_timely g h.running.granted h.running.spent (age (later ++ B)) (waited_in later B) (step (later ++ B) when) h.running.sender
-          (listens f now h.running).sender (granted_by h.running.sender (said_to h.running.sender f))
-          (heard_case h.running.sender (said_to h.running.sender f) now) t p
+      listened : Listened h.running.granted h.running.spent (age (later ++ B)) r.base r.waited r.streak (step (later ++ B) when) h.running.sender (listens f now h.running).sender
+          (listens f now h.running).granted (listens f now h.running).spent → Over (listens f now h.running) ⊎ Runs (At when (Hear f) ∷ later) (listens f now h.running)
+      listened (ends_so x) = inl (inr x)
+      listened (kept i x) = inr (record {
+        here = r.here;
+        base = r.base;
+        waited = r.waited + step (later ++ B) when;
+        streak = r.streak;
+        late = x;
+        paid = pace.passes (At when (Hear f)) later _ _ r.base r.waited r.streak refl i r.paid;
+      })
+      listened (holds_on i x) = inr (record {
+        here = r.here;
+        base = r.base + (r.waited + step (later ++ B) when);
+        waited = 0;
+        streak = 0;
+        late = x;
+        paid = pace.holds when f later _ _ r.base r.waited r.streak i p r.paid;
+      })
 
-      go : (is_lost (address_after w (At when (Hear f) ∷ later ++ B)) ≡ true) ⊎ (is_held (address_after w (At when (Hear f) ∷ later ++ B)) ≡ true)
-          → Course (At when (Hear f) ∷ later) (hears false false f now h.running)
-      go (inl y) = absurd (let x : true ≡ false = sym y ∙ l in cc)
-      go (inr y) = cond_both (h.running.gone || is_spent h.running) h.running (listens f now h.running) (Course (At when (Hear f) ∷ later))
-          (λ i. runs y n (passes g h.running.granted h.running.spent (age (later ++ B)) (waited_in later B) (step (later ++ B) when) h.running.sender t))
-          (λ i. elim by [
-            | inl x ↦ over (inr x)
-            | inr x ↦ runs y n x
-          ])
+  -- something of it is due
+  due_now : (later : List Call) (now : ℕ) (h : Stands later) (x : Signal) → is_held (address_after w (later ++ B)) ≡ true
+      → clock_at (later ++ B) now ≡ age (later ++ B) + step (later ++ B) now → signal_by h.running (age (later ++ B) + step (later ++ B) now) ≡ Some x
+      → DueTo w to (later ++ B) now
+  due_now later now h x e c i = (
+    held_older (step (later ++ B) now) (address_after w (later ++ B)) e,
+    (
+      says h.running.sender x,
+      ap (λ (o : Option Running). transfer_by o (clock_at (later ++ B) now)) h.is
+          ∙ (ap (λ (n : ℕ). transfer_by (Some h.running) n) c ∙ ap (option_map (says h.running.sender)) i),
+      ap (λ (d : ℕ). (let o : Option ℕ = Some d in o)) h.destination,
+    ),
+  )
 
-  hears_one : (when : ℕ) (f : FrameRecord) (later : List Call) → waited_in later B + step (later ++ B) when ≤ g → Stands later → Stands (At when (Hear f) ∷ later)
-  hears_one when f later p h =
-      let G = later ++ B in
-      let l = is_lost (address_after w (At when (Hear f) ∷ G)) in
-      let r : ℕ → Bool = λ a. is_replaced (holder w G a) (holder w (At when (Hear f) ∷ G) a) in
-      record {
-        running = hears l (r h.running.sender.destination) f (clock_at G when) h.running;
-        is = ap (hears_if l r f (clock_at G when)) h.is;
-        token = hears_token l (r h.running.sender.destination) f (clock_at G when) h.running ∙ h.token;
-        message = (hears_same l (r h.running.sender.destination) f (clock_at G when) h.running).0 ∙ h.message;
-        aged = ap (λ (n : ℕ). n + step G when) h.aged;
-        course = heard_so later when f h l (r h.running.sender.destination) refl p _ refl h.course;
-      }
+  -- a take finds nothing of it, or something
+  found_so : (call : Call) (later : List Call) (now : ℕ) (h : Stands later) → limit later < 9000000000000000 → since later B + step (later ++ B) now ≤ g
+      → is_held (address_after w (later ++ B)) ≡ true → age (call ∷ later ++ B) ≡ age (later ++ B) + step (later ++ B) now → (r : Runs later h.running)
+      → (Paid later (rank_of h.running.granted h.running.spent h.running.sender) r.base r.waited 0
+      → Paid (call ∷ later) (rank_of h.running.granted h.running.spent h.running.sender) r.base 0 0)
+      → (DueTo w to (later ++ B) now → (i : ℕ) × Paid (call ∷ later) (rank_of h.running.granted h.running.spent h.running.sender) r.base (r.waited + step (later ++ B) now) i)
+      → Over h.running ⊎ Runs (call ∷ later) h.running
+  found_so call later now h short p e a r rests due = elim (alive h.running) [
+    | inl z ↦ inl z
+    | inr z ↦ by z (signal_by h.running time) refl
+  ]
+    where
+      time : ℕ
+      time = age (later ++ B) + step (later ++ B) now
 
-  -- a frame is taken
-  moved_so : (later : List Call) (now : ℕ) (f : FrameRecord) (h : Stands later) (b : Bool) → waited_in later B + step (later ++ B) now ≤ g
-      → (u : Bool) → (is_idle h.running.sender.state || is_running h.running.sender.state) ≡ u → Course later h.running
-      → (x : Running) × (sends_if b (clock_at (later ++ B) now) (Some h.running) ≡ Some x) × Course (At now (TakeFrame (Some f)) ∷ later) x
+      idle : (gives_up h.running ≡ false) × ((ticks_in h.running.sender.state time h.running.sender).says ≡ None) → Over h.running ⊎ Runs (call ∷ later) h.running
+      idle q = elim (none_late h.running.granted h.running.spent (age (later ++ B)) r.base r.waited r.streak (step (later ++ B) now) h.running.sender r.late q.1 q.0) [
+        | inl y ↦ inl (inr y)
+        | inr y ↦ inr (record {
+          here = r.here;
+          base = r.base;
+          waited = 0;
+          streak = 0;
+          late = subst (λ (x : ℕ). Late h.running.granted h.running.spent x r.base 0 0 h.running.sender) (sym a) y.0;
+          paid = rests (subst (Paid later (rank_of h.running.granted h.running.spent h.running.sender) r.base r.waited) y.1 r.paid);
+        })
+      ]
+
+      waits : (x : (i : ℕ) × Paid (call ∷ later) (rank_of h.running.granted h.running.spent h.running.sender) r.base (r.waited + step (later ++ B) now) i)
+          → ((ticks_in h.running.sender.state time h.running.sender).says ≡ None → ⊥) ⊎ (nat_lt 64 h.running.spent ≡ true) → Over h.running ⊎ Runs (call ∷ later) h.running
+      waits x q = inr (record {
+        here = r.here;
+        base = r.base;
+        waited = r.waited + step (later ++ B) now;
+        streak = x.0;
+        late = subst (λ (y : ℕ). Late h.running.granted h.running.spent y r.base (r.waited + step (later ++ B) now) x.0 h.running.sender) (sym a)
+            (due_late h.running.granted h.running.spent (age (later ++ B)) r.base r.waited r.streak (step (later ++ B) now) x.0 h.running.sender r.late q);
+        paid = x.1;
+      })
+
+      by : (is_idle h.running.sender.state || is_running h.running.sender.state) ≡ true → (o : Option Signal) → signal_by h.running time ≡ o → Over h.running ⊎ Runs (call ∷ later) h.running
+      by z None i = idle (no_signal h.running time r.here i)
+      by z (Some x) i = waits (due (due_now later now h x e (clock_goes later h now short r z p) i)) (a_signal h.running time x r.here i)
+
+  -- its own frame is taken
+  own_so : (later : List Call) (now : ℕ) (f : FrameRecord) (h : Stands later) → (is_claim f || is_acknowledgment f) ≡ false → counts_for to f ≡ true
+      → limit later < 9000000000000000 → since later B + step (later ++ B) now ≤ g → Runs later h.running
+      → Over (sends (clock_at (later ++ B) now) h.running) ⊎ Runs (At now (TakeFrame (Some f)) ∷ later) (sends (clock_at (later ++ B) now) h.running)
   unfolding send_step
-  moved_so later now f h false p u z (over x) = (h.running, refl, over x)
-  moved_so later now f h true p u z (over x) = (sends (clock_at (later ++ B) now) h.running, refl, over (over_sends (clock_at (later ++ B) now) h.running x))
-  moved_so later now f h false p u z (gone x) = (h.running, refl, gone (lost_taken w (later ++ B) now f x))
-  moved_so later now f h true p u z (gone x) = (sends (clock_at (later ++ B) now) h.running, refl, gone (lost_taken w (later ++ B) now f x))
-  moved_so later now f h false p u z (runs e n t) = (
-    h.running,
-    refl,
-    runs (keeps_taken w (later ++ B) now f e) n
-        (passes g h.running.granted h.running.spent (age (later ++ B)) (waited_in later B) (step (later ++ B) now) h.running.sender t),
-  )
-  moved_so later now f h true p false z (runs e n t) =
-      (sends (clock_at (later ++ B) now) h.running, refl, over (over_sends (clock_at (later ++ B) now) h.running (inr z)))
-  moved_so later now f h true p true z (runs e n t) = (
-    sends (clock_at (later ++ B) now) h.running,
-    refl,
-    subst (λ (x : ℕ). Course (At now (TakeFrame (Some f)) ∷ later) (sends x h.running)) (sym (clock_goes later h now p t z))
+  own_so later now f h plain counts short p r = elim (alive h.running) [
+    | inl z ↦ inl (over_sends (clock_at (later ++ B) now) h.running z)
+    | inr z ↦ subst (λ (x : ℕ). Over (sends x h.running) ⊎ Runs (At now (TakeFrame (Some f)) ∷ later) (sends x h.running)) (sym (clock_goes later h now short r z p))
         (cond_both (gives_up h.running) (aborted 5 h.running.sender) (send_step h.running.sender Tick (age (later ++ B) + step (later ++ B) now)).after
-        (λ (r : SenderRecord). Course (At now (TakeFrame (Some f)) ∷ later) (record h.running { sender = r }))
-        (λ i. over (inr (ended_aborted h.running.sender 5 (running_of h.running i))))
-        (λ i. elim (ticked_timely g h.running.granted h.running.spent (age (later ++ B)) (waited_in later B) (step (later ++ B) now) h.running.sender t p) [
-          | inl y ↦ over (inr y)
-          | inr y ↦ runs (keeps_taken w (later ++ B) now f e) n y
-        ])),
-  )
+        (λ (s : SenderRecord). Over (record h.running { sender = s }) ⊎ Runs (At now (TakeFrame (Some f)) ∷ later) (record h.running { sender = s }))
+        (λ i. inl (inr (ended_aborted h.running.sender 5 (running_of h.running i))))
+        (λ i. taken _ (ticked_late h.running.granted h.running.spent (age (later ++ B)) r.base r.waited r.streak (step (later ++ B) now) h.running.sender r.late)))
+  ]
+    where
+      taken : (s : SenderRecord) → Listened h.running.granted h.running.spent (age (later ++ B)) r.base r.waited 0 (step (later ++ B) now) h.running.sender s h.running.granted h.running.spent
+          → Over (record h.running { sender = s }) ⊎ Runs (At now (TakeFrame (Some f)) ∷ later) (record h.running { sender = s })
+      taken s (ends_so x) = inl (inr x)
+      taken s (kept i x) = inr (record {
+        here = r.here;
+        base = r.base;
+        waited = r.waited + step (later ++ B) now;
+        streak = 0;
+        late = x;
+        paid = pace.goes now f later _ _ r.base r.waited r.streak plain counts p i r.paid;
+      })
+      taken s (holds_on i x) = inr (record {
+        here = r.here;
+        base = r.base + (r.waited + step (later ++ B) now);
+        waited = 0;
+        streak = 0;
+        late = x;
+        paid = pace.waits now f later _ _ r.base r.waited r.streak plain counts p i r.paid;
+      })
 
-  takes_one : (now : ℕ) (f : FrameRecord) (later : List Call) → waited_in later B + step (later ++ B) now ≤ g → Stands later
+  takes_one : (now : ℕ) (f : FrameRecord) (later : List Call) → AreAnswered w (later ++ B) → IsAnswered w (later ++ B) (At now (TakeFrame (Some f)))
+      → since later B + step (later ++ B) now ≤ g → limit later < 9000000000000000 → Stands later → (b : Bool) → is_move w (later ++ B) f ≡ b
       → Stands (At now (TakeFrame (Some f)) ∷ later)
-  takes_one now f later p h =
-      let x = moved_so later now f h (is_move w (later ++ B) f) p _ refl h.course in
-      let e : open_transfer w (At now (TakeFrame (Some f)) ∷ later ++ B) ≡ Some x.0 =
-      ap (sends_if (is_move w (later ++ B) f) (clock_at (later ++ B) now)) h.is ∙ x.1 in
-      let kept = stays_so (is_move w (later ++ B) f) (clock_at (later ++ B) now) h.running x.0 x.1 in
+  takes_one now f later right answer p short h false i = record {
+    running = h.running;
+    is = ap (λ (b : Bool). sends_if b (clock_at (later ++ B) now) (open_transfer w (later ++ B))) i ∙ h.is;
+    token = h.token;
+    message = h.message;
+    destination = h.destination;
+    aged = ap (λ (n : ℕ). n + step (later ++ B) now) h.aged;
+    course = later_on w (later ++ B) (At now (TakeFrame (Some f))) refl (λ y. y)
+        (λ e z r. found_so (At now (TakeFrame (Some f))) later now h short p e refl r
+        (pace.beside now f later _ r.base r.waited right (frame_case w (later ++ B) now f answer) i)
+        (λ d. pace.before now f later _ r.base r.waited r.streak right (frame_case w (later ++ B) now f answer) i d p r.paid)) h.course;
+  }
+  takes_one now f later right answer p short h true i =
+      let t = (and_parts (is_transfer f) _ i).0 in
+      let s = sent_case w (later ++ B) now f right (frame_case w (later ++ B) now f answer) i in
+      let same = sends_same (clock_at (later ++ B) now) h.running in
       record {
-        running = x.0;
-        is = e;
-        token = kept.0 ∙ h.token;
-        message = kept.1 ∙ h.message;
+        running = sends (clock_at (later ++ B) now) h.running;
+        is = ap (λ (b : Bool). sends_if b (clock_at (later ++ B) now) (open_transfer w (later ++ B))) i
+            ∙ ap (sends_if true (clock_at (later ++ B) now)) h.is;
+        token = h.token;
+        message = same.0 ∙ h.message;
+        destination = same.1 ∙ h.destination;
         aged = ap (λ (n : ℕ). n + step (later ++ B) now) h.aged;
-        course = x.2;
+        course = later_on w (later ++ B) (At now (TakeFrame (Some f))) refl (over_sends (clock_at (later ++ B) now) h.running)
+            (λ e z r. own_so later now f h (plain_session f (and_parts (is_session f) _ t).0) (counts_is to f false true true (plain_session f (and_parts (is_session f) _ t).0) t
+            (ap (λ (y : Message). is_some y.destination to) s.frame ∙ eq-eqb _ to
+            (ap (λ (r : Running). r.sender.destination) (one_running s.running h.running (sym s.is ∙ h.is)) ∙ h.destination))) short p r) h.course;
       }
     where
       one_running : (t x : Running) → Some t ≡ Some x → t ≡ x
       one_running t x e = cc
-
-      stays_so : (b : Bool) (n : ℕ) (t x : Running) → sends_if b n (Some t) ≡ Some x → (x.token ≡ t.token) × (x.sender.message ≡ t.sender.message)
-      stays_so false n t x e = let y : x ≡ t = sym (one_running t x e) in (ap (λ (r : Running). r.token) y, ap (λ (r : Running). r.sender.message) y)
-      stays_so true n t x e =
-          let y : x ≡ sends n t = sym (one_running (sends n t) x e) in
-          (ap (λ (r : Running). r.token) y, ap (λ (r : Running). r.sender.message) y ∙ (sends_same n t).0)
-
-  -- none is taken
-  no_transfer : (a b : Option Message) → long_by a b ≡ None → b ≡ None
-  no_transfer None b e = e
-  no_transfer (Some x) b e = absurd (cc)
-
-  says_none : (s : SenderRecord) (o : Option Signal) → option_map (says s) o ≡ None → o ≡ None
-  says_none s None e = refl
-  says_none s (Some a) e = absurd (cc)
-
-  none_so : (later : List Call) (now : ℕ) (h : Stands later) → transfer_by (Some h.running) (clock_at (later ++ B) now) ≡ None
-      → waited_in later B + step (later ++ B) now ≤ g → (u : Bool) → (is_idle h.running.sender.state || is_running h.running.sender.state) ≡ u
-      → is_held (address_after w (later ++ B)) ≡ true → h.running.gone ≡ false
-      → Timely g h.running.granted h.running.spent (age (later ++ B)) (waited_in later B) h.running.sender → Course (At now (TakeFrame None) ∷ later) h.running
-  unfolding send_step
-  none_so later now h none p false z e n t = over (inr z)
-  none_so later now h none p true z e n t =
-      by (gives_up h.running) refl
-      (ap (λ (b : Bool). if b then (let o : Option Signal = None in o) else if gives_up h.running then Some (Abort 5 h.running.sender.message.pgn)
-      else (send_step h.running.sender Tick (clock_at (later ++ B) now)).says) (sym n) ∙ says_none h.running.sender (signal_by h.running (clock_at (later ++ B) now)) none)
-    where
-      by : (b : Bool) → gives_up h.running ≡ b → (if b then Some (Abort 5 h.running.sender.message.pgn)
-          else (send_step h.running.sender Tick (clock_at (later ++ B) now)).says) ≡ None → Course (At now (TakeFrame None) ∷ later) h.running
-      by true i y = absurd (cc)
-      by false i y = elim (none_timely g h.running.granted h.running.spent (age (later ++ B)) (waited_in later B) (step (later ++ B) now) h.running.sender t
-          (ap (λ (x : ℕ). (ticks_in h.running.sender.state x h.running.sender).says) (sym (clock_goes later h now p t z)) ∙ y) i) [
-            | inl x ↦ over (inr x)
-            | inr x ↦ runs (held_older (step (later ++ B) now) (address_after w (later ++ B)) e) n x
-          ]
-
-  takes_no_frame : (now : ℕ) (later : List Call) → (let none : Option (ℕ × Message) = None in none) ≡ next_frame w (later ++ B) now
-      → waited_in later B + step (later ++ B) now ≤ g → Stands later → Stands (At now (TakeFrame None) ∷ later)
-  takes_no_frame now later answer p h = record {
-    running = h.running;
-    is = h.is;
-    token = h.token;
-    message = h.message;
-    aged = ap (λ (n : ℕ). n + step (later ++ B) now) h.aged;
-    course = go h.course;
-  }
-    where
-      go : Course later h.running → Course (At now (TakeFrame None) ∷ later) h.running
-      go (over x) = over x
-      go (gone x) = gone (lost_older (step (later ++ B) now) (address_after w (later ++ B)) ∙ x)
-      go (runs e n t) = none_so later now h
-          (ap (λ (o : Option Running). transfer_by o (clock_at (later ++ B) now)) (sym h.is)
-          ∙ no_transfer (next_packet w (later ++ B) now) (next_transfer w (later ++ B) now)
-          (none_long w (later ++ B) now (held_older (step (later ++ B) now) (address_after w (later ++ B)) e) answer))
-          p (is_idle h.running.sender.state || is_running h.running.sender.state) refl e n t
 
   -- no other is accepted
   none_begins : (later : List Call) (now group to j : ℕ) (bytes : List ℕ) → Stands later → Ok j ≡ answer_to_transfer w (later ++ B) now group to bytes → ⊥
   none_begins later now group to j bytes h a = not_both _ (transfer_accepts w (later ++ B) now group to j bytes a).2
       (ap (λ (x : Option Running). is_engaged x (length (all_transfers w (later ++ B))) || is_resting w (later ++ B) now group to) h.is)
 
-  one_more : (call : Call) (later : List Call) → IsAnswered w (later ++ B) call → tells_transfer call ≡ false
-      → (waited_in later B + step (later ++ B) (moment (call ∷ later ++ B)) ≤ g) × (claims_anew call ≡ false) → Stands later → Stands (call ∷ later)
-  one_more (At when (Hear f)) later a n p h = hears_one when f later p.0 h
-  one_more (At now (TakeFrame (Some f))) later a n p h = takes_one now f later p.0 h
-  one_more (At now (TakeFrame None)) later a n p h = takes_no_frame now later a p.0 h
-  one_more (At now (Transfer group to bytes (Ok j))) later a n p h =
-      absurd (none_begins later now group to j bytes h a)
-  one_more (At now Again) later a n p h = absurd (let z : true ≡ false = p.1 in cc)
-  one_more (TakeTransferEnded (Some x)) later a n p h = absurd (let z : true ≡ false = n in cc)
-  one_more call later a n p h =
-      rests_with call later refl (omega arith) refl
-      (λ e. let z = lost_older (step (later ++ B) (moment (call ∷ later ++ B))) (address_after w (later ++ B)) in cc)
-      (λ e. let z = held_older (step (later ++ B) (moment (call ∷ later ++ B))) (address_after w (later ++ B)) e in cc) h
+  one_more : (call : Call) (later : List Call) → AreAnswered w (later ++ B) → IsAnswered w (later ++ B) call → tells_transfer call ≡ false
+      → (since later B + step (later ++ B) (moment (call ∷ later ++ B)) ≤ g) × (claims_anew call ≡ false) → limit later < 9000000000000000 → Stands later → Stands (call ∷ later)
+  one_more (At when (Hear f)) later right a n p short h =
+      let G = later ++ B in
+      let l = is_lost (address_after w (At when (Hear f) ∷ G)) in
+      let r : ℕ → Bool = λ a. is_replaced (holder w G a) (holder w (At when (Hear f) ∷ G) a) in
+      let same = hears_same l (r h.running.sender.destination) f (clock_at G when) h.running in
+      record {
+        running = hears l (r h.running.sender.destination) f (clock_at G when) h.running;
+        is = ap (hears_if l r f (clock_at G when)) h.is;
+        token = hears_token l (r h.running.sender.destination) f (clock_at G when) h.running ∙ h.token;
+        message = same.0 ∙ h.message;
+        destination = same.1 ∙ h.destination;
+        aged = ap (λ (n : ℕ). n + step G when) h.aged;
+        course = later_on w G (At when (Hear f)) refl (over_hears l (r h.running.sender.destination) f (clock_at G when) h.running)
+            (λ e z x. heard_so later when f h l (r h.running.sender.destination) (held_not_lost (address_after w (At when (Hear f) ∷ G)) z) short p.0 x) h.course;
+      }
+  one_more (At now (TakeFrame (Some f))) later right a n p short h = takes_one now f later right a p.0 short h (is_move w (later ++ B) f) refl
+  one_more (At now (TakeFrame None)) later right a n p short h = record {
+    running = h.running;
+    is = h.is;
+    token = h.token;
+    message = h.message;
+    destination = h.destination;
+    aged = ap (λ (n : ℕ). n + step (later ++ B) now) h.aged;
+    course = later_on w (later ++ B) (At now (TakeFrame None)) refl (λ y. y)
+        (λ e z r. found_so (At now (TakeFrame None)) later now h short p.0 e refl r (pace.rests now later _ r.base r.waited)
+        (λ d. absurd (let q = (none_next w (later ++ B) now (held_older (step (later ++ B) now) (address_after w (later ++ B)) e) a).transfer in
+        let y : None ≡ Some d.1.0 = sym q ∙ d.1.1 in cc))) h.course;
+  }
+  one_more (At now (Transfer group at bytes (Ok j))) later right a n p short h = absurd (none_begins later now group at j bytes h a)
+  one_more (TakeTransferEnded (Some x)) later right a n p short h = absurd (let z : true ≡ false = n in cc)
+  one_more call later right a n p short h = record {
+    running = h.running;
+    is = h.is;
+    token = h.token;
+    message = h.message;
+    destination = h.destination;
+    aged = (let e : age (call ∷ later ++ B) ≡ age (later ++ B) + step (later ++ B) (moment (call ∷ later ++ B)) = omega arith in e) ∙ ap (λ (n : ℕ). n + step (later ++ B) (moment (call ∷ later ++ B))) h.aged;
+    course = later_on w (later ++ B) call p.1 (λ y. y) (λ e z r. inr (rests_on call later h.running refl (omega arith) r)) h.course;
+  }
 
-  stands : (later : List Call) → AreAnswered w (later ++ B) → NoneTold tells_transfer later → IsPrompt g later B → Stands [] → Stands later
-  stands [] a n p h = h
-  stands (call ∷ later) a n p h = one_more call later a.1 n.0 p.1 (stands later a.0 n.1 p.0 h)
+  stands : (later : List Call) → AreAnswered w (later ++ B) → NoneTold tells_transfer later → IsPaced since g later B → limit later < 9000000000000000 → Stands [] → Stands later
+  stands [] a n p short h = h
+  stands (call ∷ later) a n p short h =
+      let s : limit later < 9000000000000000 = (let l = pace.less call later in omega (arith, l, short)) in
+      one_more call later a.0 a.1 n.0 p.1 s (stands later a.0 n.1 p.0 s h)
 
-  ends_so : (later : List Call) → Stands later → (packets_of m + 65) * (timer_t3 + g) + g < passed_in later B → waited_in later B ≤ g
-      → (e : TransferEnding) × (next_transfer_ended w (later ++ B) ≡ Some (k, e))
-  ends_so later h l p =
-      let x = tells h.running.sender.state h.running.gone (is_lost (address_after w (later ++ B))) (go h.course _ refl) in (
-        x.0,
-        ap (λ (o : Option Running). transfer_end o (is_lost (address_after w (later ++ B)))) h.is
-            ∙ (ap (option_map (λ e. (h.running.token, e))) x.1 ∙ ap (λ (n : ℕ). (let y : Option (ℕ × TransferEnding) = Some (n, x.0) in y)) h.token),
-      )
+  pub ends_then : (later : List Call) → AreAnswered w (later ++ B) → NoneTold tells_transfer later → IsPaced since g later B → limit later < 9000000000000000 → Stands []
+      → limit later < passed_in later B → since later B ≤ g → (e : TransferEnding) × (next_transfer_ended w (later ++ B) ≡ Some (k, e))
+  ends_then later a n paced short first l p = told (stands later a n paced short first)
     where
-      go : Course later h.running → (u : Bool) → (is_idle h.running.sender.state || is_running h.running.sender.state) ≡ u
-          → (h.running.gone ≡ true) ⊎ (((is_idle h.running.sender.state || is_running h.running.sender.state) ≡ false)
-          ⊎ (is_lost (address_after w (later ++ B)) ≡ true))
-      go (over (inl e)) u z = inl e
-      go (over (inr e)) u z = inr (inl e)
-      go (gone e) u z = inr (inr e)
-      go (runs e n t) false z = inr (inl z)
-      go (runs e n t) true z = let a = old_at_most later h t z in let b = h.aged in absurd (omega (arith, a, b, l, p))
+      told : Stands later → (e : TransferEnding) × (next_transfer_ended w (later ++ B) ≡ Some (k, e))
+      told h =
+          let x = tells h.running.sender.state h.running.gone (is_lost (address_after w (later ++ B))) (go (ended_or_lost h.course (λ r. elim (alive h.running) [
+            | inl z ↦ z
+            | inr z ↦ absurd (let y = old_at_most later h 0 r z (omega (arith, p)) in let b = h.aged in omega (arith, y, b, l))
+          ]))) in (
+            x.0,
+            ap (λ (o : Option Running). transfer_end o (is_lost (address_after w (later ++ B)))) h.is
+                ∙ (ap (option_map (λ e. (h.running.token, e))) x.1 ∙ ap (λ (n : ℕ). (let y : Option (ℕ × TransferEnding) = Some (n, x.0) in y)) h.token),
+          )
+        where
+          go : Over h.running ⊎ (is_lost (address_after w (later ++ B)) ≡ true) → (h.running.gone ≡ true)
+              ⊎ (((is_idle h.running.sender.state || is_running h.running.sender.state) ≡ false) ⊎ (is_lost (address_after w (later ++ B)) ≡ true))
+          go (inl (inl e)) = inl e
+          go (inl (inr e)) = inr (inl e)
+          go (inr e) = inr (inr e)
+
+-- ---- to a driver that takes all
+
+module _ (w : Who) (B : List Call) (g most to : ℕ) where
+  abbrev Paid : List Call → ℕ → ℕ → ℕ → ℕ → Type 0
+  Paid later n base waited streak = (streak ≡ 0) × Account g n 0 base waited (waited_in later B) 0 0 0 0 false
+
+  on : (call : Call) (later : List Call) (n m base waited streak : ℕ) → takes call ≡ false → n ≤ m → Paid later n base waited streak
+      → Paid (call ∷ later) m base (waited + step (later ++ B) (moment (call ∷ later ++ B))) streak
+  on call later n m base waited streak e l h = (
+    h.0,
+    subst (λ (x : ℕ). Account g m 0 base (waited + step (later ++ B) (moment (call ∷ later ++ B))) x 0 0 0 0 false) (sym (waited_more call later B e))
+        (account_passes g n m 0 base waited (waited_in later B) 0 0 0 0 (step (later ++ B) (moment (call ∷ later ++ B))) false l h.1),
+  )
+
+  prompt : Pace w B g most to waited_in Paid (λ later. most * (timer_t3 + g) + g)
+  prompt = record {
+    passes = on;
+    holds = λ when f later n m base waited streak l p h. (refl, account_holds g n m 0 base waited (waited_in later B) 0 0 0 0 (step (later ++ B) when) false l p h.1);
+    rests = λ now later n base waited h. (refl, account_rests g n 0 base waited (waited_in later B) 0 0 0 0 0 0 0 false false refl (omega arith) h.1);
+    beside = λ now f later n base waited right case away h.
+        (refl, account_rests g n 0 base waited (waited_in later B) 0 0 0 0 (waited_in later B + step (later ++ B) now) 0 0 false false refl (omega arith) h.1);
+    before = λ now f later n base waited streak right case away due p h.
+        (0, (refl, account_passes g n n 0 base waited (waited_in later B) 0 0 0 0 (step (later ++ B) now) false (omega arith) h.1));
+    goes = λ now f later n m base waited streak plain counts p l h. (refl, account_passes g n m 0 base waited (waited_in later B) 0 0 0 0 (step (later ++ B) now) false l h.1);
+    waits = λ now f later n m base waited streak plain counts p l h. (refl, account_holds g n m 0 base waited (waited_in later B) 0 0 0 0 (step (later ++ B) now) false l p h.1);
+    older = λ later n base waited streak age s l a p h. (let x = h.1.all_most in let b = times_more n most g l in let d = dist most timer_t3 g in omega (arith, a, x, b, d, p));
+    less = λ call later. omega arith;
+  }
 
 few_packets : (group : ℕ) (bytes : List ℕ) → can_broadcast group bytes ≡ true → (length bytes + 6) / 7 ≤ 255
 few_packets group bytes e =
@@ -348,19 +500,17 @@ pub transfer_ends : (w : Who) (later earlier : List Call) (c : Controller) (g no
     → IsPrompt g later (At now (Transfer group to bytes (Ok k)) ∷ earlier) → g < 1000000000000
     → (packets_of (broadcast_from w group bytes) + 65) * (timer_t3 + g) + g < passed_in later (At now (Transfer group to bytes (Ok k)) ∷ earlier)
     → (e : TransferEnding) × (next_transfer_ended w (later ++ At now (Transfer group to bytes (Ok k)) ∷ earlier) ≡ Some (k, e))
-unfolding new_sender
-transfer_ends w later earlier c g now group to k bytes is none prompt short l =
+transfer_ends w later earlier c g now group to k bytes is none paced short l =
     let B = At now (Transfer group to bytes (Ok k)) ∷ earlier in
     let m = broadcast_from w group bytes in
     let fit = transfer_accepts w earlier now group to k bytes (answered_from w later B is.answered).1 in
     let few = few_packets group bytes (and_parts (can_broadcast group bytes) (nat_lt to 254 && not (nat_eq to w.address)) fit.1).0 in
-    ends_so w B g k m few short later
-    (stands w B g k m few short later is.answered none prompt (record {
-      running = begun k m to;
-      is = refl;
-      token = refl;
-      message = refl;
-      aged = refl;
-      course = runs fit.0 refl (accepted_now g (new_sender m to) refl);
-    }))
-    l (waited_last g later B prompt)
+    let x = prompt w B g (packets_of m + 65) to in
+    ends_then w B g k to m waited_in (Paid w B g (packets_of m + 65) to) (λ later. (packets_of m + 65) * (timer_t3 + g) + g) x later is.answered none paced
+    (let z = product (packets_of m + 65) (timer_t3 + g) (omega (arith, few)) (omega (arith, short)) in omega (arith, z, short))
+    (begins w B g k to m waited_in (Paid w B g (packets_of m + 65) to) (λ later. (packets_of m + 65) * (timer_t3 + g) + g) x fit.0 refl refl
+    (refl, record { base_most = omega arith; all_most = omega arith; paid_most = omega arith; streak_most = omega arith; few = omega arith }))
+    l (waited_last g later B paced)
+  where
+    product : (x y : ℕ) → x ≤ 320 → y ≤ 1000001250000 → x * y ≤ 320000400000000
+    product x y l n = let z = times_more x 320 y l in omega (arith, z, n)

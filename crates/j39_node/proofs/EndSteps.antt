@@ -1,64 +1,102 @@
 -- How long a transfer waits, step by step of its sender.
-use Rattle.j39_node.proofs.Common.{if◌then◌else◌, ◌&&◌, ◌*◌, ◌+◌, ◌-◌, ◌==◌, ◌||◌, ◌∙◌, ◌≡◌, ◌≤◌, ◌⊎◌, Abort, aborted, Acknowledgment, add-mul, ap, arith, Bool, cleared, ClearToSend, cond_both, Failed, false, granted_after, granted_by, Idle, inl, inr, is_idle, is_running, is_waiting, length, max, may_name, min, nat_lt, None, Option, packets_of, refl, SenderRecord, Sending, sends_packet, SendState, Signal, Some, spent_after, subst, suc, suc-mul, sym, ticks_in, timeout, timer_t3, timer_t4, true, Waiting, waits, ℕ, ltb-false, ltb-true}
+use Rattle.j39_node.proofs.Common.{Abort, Acknowledgment, Bool, ClearToSend, Failed, Idle, None, Option, SendResult, SendState, SenderRecord, Sending, Signal, Some, Waiting, aborted, add-mul, after, age, ap, arith, by, cleared, cond_both, false, granted_after, granted_by, if◌then◌else◌, inl, inr, is_idle, is_running, is_waiting, length, ltb-false, ltb-true, max, may_name, min, more, nat_lt, not, other, packets, packets_of, refl, says, sends_packet, spent_after, subst, suc, suc-mul, sym, ticks_in, timeout, timer_t3, timer_t4, true, waits, zero, ℕ, ◌&&◌, ◌*◌, ◌+◌, ◌-◌, ◌<◌, ◌==◌, ◌||◌, ◌∙◌, ◌≡◌, ◌≤◌, ◌⊎◌}
 use Rattle.j39_transport.specs.Sending.{Done, acknowledged, hears}
-
--- ---- how long after its acceptance it is where it is, at most
-
--- by its state: where it has taken so many clears at least, is so old, and a take answered none so long ago
-abbrev pub InTime : ℕ → ℕ → ℕ → ℕ → ℕ → SendState → Type 0
-InTime g n age waited since Idle = age ≤ waited
-InTime g n age waited since (Waiting limit) = (since + limit ≤ suc n * (timer_t3 + g)) × (age ≤ since + limit + waited)
-InTime g n age waited since (Sending next last) = age ≤ n * (timer_t3 + g) + waited
-InTime g n age waited since Done = Unit {0}
-InTime g n age waited since (Failed reason) = Unit {0}
-
-pub record Timely (g granted spent age waited : ℕ) (s : SenderRecord) : Type 0 where
-  pub phase : InTime g (granted + spent) age waited s.since s.state
-  pub gives_up : nat_lt 64 spent ≡ true → age ≤ (granted + spent) * (timer_t3 + g) + waited
 
 abbrev pub IsEnded : SenderRecord → Type 0
 IsEnded s = (is_idle s.state || is_running s.state) ≡ false
 
--- time passes
-phase_passes : (g n age waited since t : ℕ) (u : SendState) → InTime g n age waited since u → InTime g n (age + t) (waited + t) since u
-phase_passes g n age waited since t Idle h = omega (arith, h)
-phase_passes g n age waited since t (Waiting limit) h = (h.0, (let a = h.1 in omega (arith, a)))
-phase_passes g n age waited since t (Sending next last) h = omega (arith, h)
-phase_passes g n age waited since t Done h = tt
-phase_passes g n age waited since t (Failed reason) h = tt
-
-pub passes : (g granted spent age waited t : ℕ) (s : SenderRecord) → Timely g granted spent age waited s → Timely g granted spent (age + t) (waited + t) s
-passes g granted spent age waited t s h = record {
-  phase = phase_passes g (granted + spent) age waited s.since t s.state h.phase;
-  gives_up = λ z. (let a = h.gives_up z in omega (arith, a));
-}
-
--- never longer than this
 pub times_more : (n k x : ℕ) → n ≤ k → n * x ≤ k * x
 times_more n k x l =
     let e : k ≡ n + (k - n) = omega (arith, l) in
     let a = ap (λ (i : ℕ). i * x) e in let b = add-mul n (k - n) x in omega (arith, a, b)
 
-phase_most : (g n k age waited since : ℕ) (u : SendState) → suc n ≤ k → (is_idle u || is_running u) ≡ true → InTime g n age waited since u
-    → age ≤ k * (timer_t3 + g) + waited
-phase_most g n k age waited since Idle l r h = omega (arith, h)
-phase_most g n k age waited since (Waiting limit) l r h =
-    let a = h.0 in let b = h.1 in let d = times_more (suc n) k (timer_t3 + g) l in omega (arith, a, b, d)
-phase_most g n k age waited since (Sending next last) l r h = let d = times_more n k (timer_t3 + g) (omega (arith, l)) in omega (arith, h, d)
-phase_most g n k age waited since Done l r h = absurd (let z : false ≡ true = r in cc)
-phase_most g n k age waited since (Failed reason) l r h = absurd (let z : false ≡ true = r in cc)
+-- ---- how old it is at most
 
-pub most : (g granted spent age waited k : ℕ) (s : SenderRecord) → Timely g granted spent age waited s → (is_idle s.state || is_running s.state) ≡ true
-    → granted ≤ k → spent ≤ 65 → age ≤ (k + 65) * (timer_t3 + g) + waited
-most g granted spent age waited k s h r a b = go (nat_lt 64 spent) refl
+-- by its state: where it has taken so many clears at least, is so old, waited so long to be taken before, and so long since a take found
+-- nothing of it
+abbrev pub InTime : ℕ → ℕ → ℕ → ℕ → ℕ → SendState → Type 0
+InTime n age base waited since Idle = age ≤ base + waited
+InTime n age base waited since (Waiting limit) = (since + limit ≤ suc n * timer_t3 + base) × (age ≤ since + limit + waited)
+InTime n age base waited since (Sending next last) = age ≤ n * timer_t3 + base + waited
+InTime n age base waited since Done = Unit {0}
+InTime n age base waited since (Failed reason) = Unit {0}
+
+-- a frame of it is due
+abbrev pub IsDue : ℕ → ℕ → ℕ → SendState → Type 0
+IsDue spent age since (Waiting limit) = (since + limit < age) ⊎ (nat_lt 64 spent ≡ true)
+IsDue spent age since Idle = Unit {0}
+IsDue spent age since (Sending next last) = Unit {0}
+IsDue spent age since Done = Unit {0}
+IsDue spent age since (Failed reason) = Unit {0}
+
+-- so many clears, and with the one that it waits for, unless it gives up
+abbrev pub rank : ℕ → Bool → Bool → ℕ
+rank n waits spent = if waits && not spent then suc n else n
+
+abbrev pub rank_of : ℕ → ℕ → SenderRecord → ℕ
+rank_of granted spent s = rank (granted + spent) (is_waiting s.state) (nat_lt 64 spent)
+
+rank_least : (n : ℕ) (a b : Bool) → (n ≤ rank n a b) × (rank n a b ≤ suc n)
+rank_least n true true = (omega arith, omega arith)
+rank_least n true false = (omega arith, omega arith)
+rank_least n false b = (omega arith, omega arith)
+
+rank_spent : (n : ℕ) (a b : Bool) → b ≡ true → rank n a b ≡ n
+rank_spent n true true e = refl
+rank_spent n false true e = refl
+rank_spent n a false e = absurd (cc)
+
+pub record Late (granted spent age base waited streak : ℕ) (s : SenderRecord) : Type 0 where
+  pub phase : nat_lt 64 spent ≡ false → InTime (granted + spent) age base waited s.since s.state
+  pub gives_up : nat_lt 64 spent ≡ true → age ≤ (granted + spent) * timer_t3 + base + waited
+  pub due : 0 < streak → IsDue spent age s.since s.state
+
+phase_passes : (n age base waited since t : ℕ) (u : SendState) → InTime n age base waited since u → InTime n (age + t) base (waited + t) since u
+phase_passes n age base waited since t Idle h = omega (arith, h)
+phase_passes n age base waited since t (Waiting limit) h = (h.0, (let a = h.1 in omega (arith, a)))
+phase_passes n age base waited since t (Sending next last) h = omega (arith, h)
+phase_passes n age base waited since t Done h = tt
+phase_passes n age base waited since t (Failed reason) h = tt
+
+due_passes : (spent age since t : ℕ) (u : SendState) → IsDue spent age since u → IsDue spent (age + t) since u
+due_passes spent age since t (Waiting limit) (inl a) = inl (omega (arith, a))
+due_passes spent age since t (Waiting limit) (inr a) = inr a
+due_passes spent age since t Idle h = tt
+due_passes spent age since t (Sending next last) h = tt
+due_passes spent age since t Done h = tt
+due_passes spent age since t (Failed reason) h = tt
+
+pub passes : (granted spent age base waited streak t : ℕ) (s : SenderRecord) → Late granted spent age base waited streak s
+    → Late granted spent (age + t) base (waited + t) streak s
+passes granted spent age base waited streak t s h = record {
+  phase = λ z. phase_passes (granted + spent) age base waited s.since t s.state (h.phase z);
+  gives_up = λ z. (let a = h.gives_up z in omega (arith, a));
+  due = λ z. due_passes spent age s.since t s.state (h.due z);
+}
+
+both_ways : (n : ℕ) → nat_lt 64 n ≡ true → nat_lt 64 n ≡ false → ⊥
+both_ways n e f = (let z : true ≡ false = sym e ∙ f in absurd (cc))
+
+-- never older than this, and never of a higher rank
+pub most : (granted spent age base waited streak k : ℕ) (s : SenderRecord) → Late granted spent age base waited streak s
+    → (is_idle s.state || is_running s.state) ≡ true → granted ≤ k → spent ≤ 65 → (age ≤ (k + 65) * timer_t3 + base + waited) × (rank_of granted spent s ≤ k + 65)
+most granted spent age base waited streak k s h r a b = go (nat_lt 64 spent) refl
   where
-    not_more : (i : ℕ) → nat_lt 64 i ≡ false → i ≤ 64
-    not_more i e = grind arith
+    by : (u : SendState) → suc (granted + spent) ≤ k + 65 → (is_idle u || is_running u) ≡ true → InTime (granted + spent) age base waited s.since u
+        → age ≤ (k + 65) * timer_t3 + base + waited
+    by Idle l e p = omega (arith, p)
+    by (Waiting limit) l e p = let x = p.0 in let y = p.1 in let d = times_more (suc (granted + spent)) (k + 65) timer_t3 l in omega (arith, x, y, d)
+    by (Sending next last) l e p = let d = times_more (granted + spent) (k + 65) timer_t3 (omega (arith, l)) in omega (arith, p, d)
+    by Done l e p = absurd (let z : false ≡ true = e in cc)
+    by (Failed reason) l e p = absurd (let z : false ≡ true = e in cc)
 
-    go : (c : Bool) → nat_lt 64 spent ≡ c → age ≤ (k + 65) * (timer_t3 + g) + waited
-    go true e = let d = times_more (granted + spent) (k + 65) (timer_t3 + g) (omega (arith, a, b)) in let z = h.gives_up e in omega (arith, d, z)
+    go : (c : Bool) → nat_lt 64 spent ≡ c → (age ≤ (k + 65) * timer_t3 + base + waited) × (rank_of granted spent s ≤ k + 65)
+    go true e =
+        let d = times_more (granted + spent) (k + 65) timer_t3 (omega (arith, a, b)) in let z = h.gives_up e in
+        let q = rank_spent (granted + spent) (is_waiting s.state) (nat_lt 64 spent) e in (omega (arith, d, z), omega (arith, q, a, b))
     go false e =
-        let l = not_more spent e in phase_most g (granted + spent) (k + 65) age waited s.since s.state (omega (arith, a, l)) r h.phase
+        let l = ltb-false _ _ e in let q = (rank_least (granted + spent) (is_waiting s.state) (nat_lt 64 spent)).1 in
+        (by s.state (omega (arith, a, l)) r (h.phase e), omega (arith, q, a, l))
 
 -- ---- what is heard
 
@@ -101,98 +139,176 @@ counts granted spent last = go (nat_lt granted last) refl
     go true e = let y = ltb-true _ _ e in omega (arith, y)
     go false e = omega arith
 
--- from waiting it is cleared
-cleared_by : (g granted spent age waited t last limit : ℕ) (s : SenderRecord) → s.state ≡ Waiting limit → Timely g granted spent age waited s
-    → (age + t ≤ (granted_after (Some last) granted + spent_after (Some last) granted spent) * (timer_t3 + g) + (waited + t))
-cleared_by g granted spent age waited t last limit s e h =
-    let p : InTime g (granted + spent) age waited s.since (Waiting limit) = subst (InTime g (granted + spent) age waited s.since) e h.phase in
+-- what became of it: its rank is higher where what it waited is counted with its clears
+pub data Listened (granted spent age base waited streak more : ℕ) (s r : SenderRecord) (granted_then spent_then : ℕ) : Type 0 where
+  over : IsEnded r → Listened granted spent age base waited streak more s r granted_then spent_then
+  kept : rank_of granted spent s ≤ rank_of granted_then spent_then r → Late granted_then spent_then (age + more) base (waited + more) streak r
+      → Listened granted spent age base waited streak more s r granted_then spent_then
+  held : suc (rank_of granted spent s) ≤ rank_of granted_then spent_then r → Late granted_then spent_then (age + more) (base + (waited + more)) 0 0 r
+      → Listened granted spent age base waited streak more s r granted_then spent_then
+
+cleared_by : (granted spent age base waited streak t last limit : ℕ) (s : SenderRecord) → s.state ≡ Waiting limit → nat_lt 64 spent ≡ false
+    → Late granted spent age base waited streak s
+    → age + t ≤ (granted_after (Some last) granted + spent_after (Some last) granted spent) * timer_t3 + base + (waited + t)
+cleared_by granted spent age base waited streak t last limit s e few h =
+    let p : InTime (granted + spent) age base waited s.since (Waiting limit) = subst (InTime (granted + spent) age base waited s.since) e (h.phase few) in
     let a = p.0 in let b = p.1 in
-    let d = times_more (suc (granted + spent)) (granted_after (Some last) granted + spent_after (Some last) granted spent) (timer_t3 + g) (counts granted spent last) in
+    let d = times_more (suc (granted + spent)) (granted_after (Some last) granted + spent_after (Some last) granted spent) timer_t3 (counts granted spent last) in
     omega (arith, a, b, d)
 
-pub heard_timely : (g granted spent age waited t : ℕ) (s r : SenderRecord) (o : Option ℕ) → HeardCase s (age + t) o r → Timely g granted spent age waited s
-    → waited + t ≤ g → IsEnded r ⊎ Timely g (granted_after o granted) (spent_after o granted spent) (age + t) (waited + t) r
-heard_timely g granted spent age waited t s r o (same a b) h p =
-    inr (subst (λ (x : Option ℕ). Timely g (granted_after x granted) (spent_after x granted spent) (age + t) (waited + t) r) (sym a)
-    (subst (Timely g granted spent (age + t) (waited + t)) (sym b) (passes g granted spent age waited t s h)))
-heard_timely g granted spent age waited t s r o (ends e) h p = inl e
-heard_timely g granted spent age waited t s r o (holds limit i a b) h p =
-    let c = cleared_by g granted spent age waited t 0 limit s i h in
-    let m = suc-mul (granted_after (Some 0) granted + spent_after (Some 0) granted spent) (timer_t3 + g) in
-    inr (subst (λ (x : Option ℕ). Timely g (granted_after x granted) (spent_after x granted spent) (age + t) (waited + t) r) (sym a)
-    (subst (Timely g (granted_after (Some 0) granted) (spent_after (Some 0) granted spent) (age + t) (waited + t)) (sym b)
-    (record { phase = (omega (arith, c, m, p), omega arith); gives_up = λ z. c })))
-heard_timely g granted spent age waited t s r o (clears limit next last i a b) h p =
-    let c = cleared_by g granted spent age waited t last limit s i h in
-    inr (subst (λ (x : Option ℕ). Timely g (granted_after x granted) (spent_after x granted spent) (age + t) (waited + t) r) (sym a)
-    (subst (Timely g (granted_after (Some last) granted) (spent_after (Some last) granted spent) (age + t) (waited + t)) (sym b)
-    (record { phase = c; gives_up = λ z. c })))
+pub heard_late : (granted spent age base waited streak t : ℕ) (s r : SenderRecord) (o : Option ℕ) → HeardCase s (age + t) o r → nat_lt 64 spent ≡ false
+    → Late granted spent age base waited streak s → Listened granted spent age base waited streak t s r (granted_after o granted) (spent_after o granted spent)
+heard_late granted spent age base waited streak t s r o (same a b) few h =
+    subst (λ (x : Option ℕ). Listened granted spent age base waited streak t s r (granted_after x granted) (spent_after x granted spent)) (sym a)
+    (subst (λ (y : SenderRecord). Listened granted spent age base waited streak t s y granted spent) (sym b) (kept (omega arith) (passes granted spent age base waited streak t s h)))
+heard_late granted spent age base waited streak t s r o (ends e) few h = over e
+heard_late granted spent age base waited streak t s r o (holds limit i a b) few h =
+    subst (λ (x : Option ℕ). Listened granted spent age base waited streak t s r (granted_after x granted) (spent_after x granted spent)) (sym a)
+    (subst (λ (y : SenderRecord). Listened granted spent age base waited streak t s y g2 s2) (sym b) (go (nat_lt 64 s2) refl))
+  where
+    g2 : ℕ
+    g2 = granted_after (Some 0) granted
+
+    s2 : ℕ
+    s2 = spent_after (Some 0) granted spent
+
+    c : age + t ≤ (g2 + s2) * timer_t3 + base + (waited + t)
+    c = cleared_by granted spent age base waited streak t 0 limit s i few h
+
+    more : rank_of granted spent s ≤ g2 + s2
+    more = let x = (rank_least (granted + spent) (is_waiting s.state) (nat_lt 64 spent)).1 in let y = counts granted spent 0 in omega (arith, x, y)
+
+    go : (v : Bool) → nat_lt 64 s2 ≡ v → Listened granted spent age base waited streak t s (waits timer_t4 (age + t) s) g2 s2
+    go true e = kept (let y = (rank_least (g2 + s2) true (nat_lt 64 s2)).0 in omega (arith, more, y))
+        (record { phase = λ z. absurd (both_ways s2 e z); gives_up = λ z. c; due = λ z. inr e })
+    go false e = held (let y = ap (λ (b : Bool). rank (g2 + s2) true b) e in omega (arith, more, y))
+        (record { phase = λ z. (let m = suc-mul (g2 + s2) timer_t3 in (omega (arith, c, m), omega arith)); gives_up = λ z. omega (arith, c); due = λ z. absurd (omega (arith, z)) })
+heard_late granted spent age base waited streak t s r o (clears limit next last i a b) few h =
+    let c = cleared_by granted spent age base waited streak t last limit s i few h in
+    let n = granted_after (Some last) granted + spent_after (Some last) granted spent in
+    subst (λ (x : Option ℕ). Listened granted spent age base waited streak t s r (granted_after x granted) (spent_after x granted spent)) (sym a)
+    (subst (λ (y : SenderRecord). Listened granted spent age base waited streak t s y (granted_after (Some last) granted) (spent_after (Some last) granted spent)) (sym b)
+    (kept (let x = (rank_least (granted + spent) (is_waiting s.state) (nat_lt 64 spent)).1 in let y = counts granted spent last in
+    let z = (rank_least n false (nat_lt 64 (spent_after (Some last) granted spent))).0 in omega (arith, x, y, z))
+    (record { phase = λ z. c; gives_up = λ z. c; due = λ z. tt })))
 
 -- ---- what is taken
 
-pub ticked_timely : (g granted spent age waited t : ℕ) (s : SenderRecord) → Timely g granted spent age waited s → waited + t ≤ g
-    → IsEnded (ticks_in s.state (age + t) s).after ⊎ Timely g granted spent (age + t) (waited + t) (ticks_in s.state (age + t) s).after
+pub ticked_late : (granted spent age base waited streak t : ℕ) (s : SenderRecord) → Late granted spent age base waited streak s
+    → Listened granted spent age base waited 0 t s (ticks_in s.state (age + t) s).after granted spent
 unfolding ticks_in sends_packet
-ticked_timely g granted spent age waited t s h p = go s.state refl
+ticked_late granted spent age base waited streak t s h = go s.state refl
   where
-    after : SendState → SenderRecord
-    after u = (ticks_in u (age + t) s).after
-
-    spent_so : nat_lt 64 spent ≡ true → age + t ≤ (granted + spent) * (timer_t3 + g) + (waited + t)
+    spent_so : nat_lt 64 spent ≡ true → age + t ≤ (granted + spent) * timer_t3 + base + (waited + t)
     spent_so z = let a = h.gives_up z in omega (arith, a)
 
-    go : (u : SendState) → s.state ≡ u → IsEnded (after u) ⊎ Timely g granted spent (age + t) (waited + t) (after u)
-    go Idle e =
-        let q : age ≤ waited = subst (InTime g (granted + spent) age waited s.since) e h.phase in
-        let m = suc-mul (granted + spent) (timer_t3 + g) in
-        inr (record { phase = (omega (arith, q, m, p), omega arith); gives_up = spent_so })
-    go (Waiting limit) e = cond_both (nat_lt (s.since + limit) (age + t)) _ _
-        (λ (x : Rattle.j39_transport.specs.Sending.SendResult). IsEnded x.after ⊎ Timely g granted spent (age + t) (waited + t) x.after)
-        (λ z. inl refl) (λ z. inr (passes g granted spent age waited t s h))
-    go (Sending next last) e =
-        let q : age ≤ (granted + spent) * (timer_t3 + g) + waited = subst (InTime g (granted + spent) age waited s.since) e h.phase in
-        let m = suc-mul (granted + spent) (timer_t3 + g) in
-        cond_both (next == last) (Waiting timer_t3) (Sending (next + 1) last)
-        (λ (u : SendState). IsEnded (record { message = s.message; destination = s.destination; state = u; since = (if next == last then age + t else s.since); highest = max s.highest next })
-        ⊎ Timely g granted spent (age + t) (waited + t)
-        (record { message = s.message; destination = s.destination; state = u; since = (if next == last then age + t else s.since); highest = max s.highest next }))
-        (λ z. inr (record {
-          phase = subst (λ (n : ℕ). InTime g (granted + spent) (age + t) (waited + t) n (Waiting timer_t3))
-              (sym (ap (λ (b : Bool). if b then age + t else s.since) z)) (omega (arith, q, m, p), omega arith);
-          gives_up = spent_so;
-        }))
-        (λ z. inr (record { phase = omega (arith, q); gives_up = spent_so }))
-    go Done e = inl (ap (λ (u : SendState). is_idle u || is_running u) e)
-    go (Failed reason) e = inl (ap (λ (u : SendState). is_idle u || is_running u) e)
+    -- it waits from now on
+    waits_now : (r : SenderRecord) → is_waiting s.state ≡ false → r.state ≡ Waiting timer_t3 → r.since ≡ age + t
+        → (nat_lt 64 spent ≡ false → age ≤ (granted + spent) * timer_t3 + base + waited) → Listened granted spent age base waited 0 t s r granted spent
+    waits_now r w e f q = by (nat_lt 64 spent) refl
+      where
+        old : rank_of granted spent s ≡ granted + spent
+        old = ap (λ (b : Bool). rank (granted + spent) b (nat_lt 64 spent)) w
 
--- nothing is to be taken: it waits, and not too long, or it is over
-pub none_timely : (g granted spent age waited t : ℕ) (s : SenderRecord) → Timely g granted spent age waited s → (ticks_in s.state (age + t) s).says ≡ None
-    → (nat_lt 64 spent && is_running s.state) ≡ false → IsEnded s ⊎ Timely g granted spent (age + t) 0 s
+        by : (b : Bool) → nat_lt 64 spent ≡ b → Listened granted spent age base waited 0 t s r granted spent
+        by true z = kept (let y = (rank_least (granted + spent) (is_waiting r.state) (nat_lt 64 spent)).0 in omega (arith, old, y))
+            (record { phase = λ v. absurd (both_ways spent z v); gives_up = spent_so; due = λ v. absurd (omega (arith, v)) })
+        by false z = held (let y : rank_of granted spent r ≡ suc (granted + spent) = (λ i. rank (granted + spent) (is_waiting (e i)) (z i)) in omega (arith, old, y))
+            (record {
+              phase = λ v. (let a = q z in let m = suc-mul (granted + spent) timer_t3 in
+                  subst (InTime (granted + spent) (age + t) (base + (waited + t)) 0 r.since) (sym e) (omega (arith, a, m, f), omega (arith, f)));
+              gives_up = λ v. absurd (both_ways spent v z);
+              due = λ v. absurd (omega (arith, v));
+            })
+
+    go : (u : SendState) → s.state ≡ u → Listened granted spent age base waited 0 t s (ticks_in u (age + t) s).after granted spent
+    go Idle e = waits_now (ticks_in Idle (age + t) s).after (ap is_waiting e) refl refl
+        (λ z. (let q : age ≤ base + waited = subst (InTime (granted + spent) age base waited s.since) e (h.phase z) in omega (arith, q)))
+    go (Waiting limit) e = cond_both (nat_lt (s.since + limit) (age + t)) _ _
+        (λ (x : SendResult). Listened granted spent age base waited 0 t s x.after granted spent) (λ z. over refl)
+        (λ z. (let p = passes granted spent age base waited streak t s h in kept (omega arith) (record { phase = p.phase; gives_up = p.gives_up; due = λ v. absurd (omega (arith, v)) })))
+    go (Sending next last) e = by (next == last) refl
+      where
+        was : nat_lt 64 spent ≡ false → age ≤ (granted + spent) * timer_t3 + base + waited
+        was z = subst (InTime (granted + spent) age base waited s.since) e (h.phase z)
+
+        by : (b : Bool) → (next == last) ≡ b → Listened granted spent age base waited 0 t s (ticks_in (Sending next last) (age + t) s).after granted spent
+        by true z = waits_now (ticks_in (Sending next last) (age + t) s).after (ap is_waiting e) (ap (λ (b : Bool). if b then Waiting timer_t3 else Sending (next + 1) last) z)
+            (ap (λ (b : Bool). if b then age + t else s.since) z) was
+        by false z =
+            let on : (ticks_in (Sending next last) (age + t) s).after.state ≡ Sending (next + 1) last = ap (λ (b : Bool). if b then Waiting timer_t3 else Sending (next + 1) last) z in
+            kept (let x = ap (λ (u : SendState). rank (granted + spent) (is_waiting u) (nat_lt 64 spent)) e in
+            let y = ap (λ (u : SendState). rank (granted + spent) (is_waiting u) (nat_lt 64 spent)) on in omega (arith, x, y))
+            (record {
+              phase = λ v. subst (InTime (granted + spent) (age + t) base (waited + t) (ticks_in (Sending next last) (age + t) s).after.since) (sym on) (let a = was v in omega (arith, a));
+              gives_up = spent_so;
+              due = λ v. absurd (omega (arith, v));
+            })
+    go Done e = over (ap (λ (u : SendState). is_idle u || is_running u) e)
+    go (Failed reason) e = over (ap (λ (u : SendState). is_idle u || is_running u) e)
+
+timed : (s : SenderRecord) (limit now : ℕ) (b : Bool) → nat_lt (s.since + limit) now ≡ b
+    → (if b then (let r : SendResult = record { after = record s { state = Failed timeout }; says = Some (Abort timeout s.message.pgn) } in r)
+    else (let r : SendResult = record { after = s; says = None } in r)).says ≡ None → now ≤ s.since + limit
+timed s limit now true e z = absurd (cc)
+timed s limit now false e z = ltb-false _ _ e
+
+-- nothing of it is due: it waits, and not too long, or it is over
+pub none_late : (granted spent age base waited streak t : ℕ) (s : SenderRecord) → Late granted spent age base waited streak s
+    → (ticks_in s.state (age + t) s).says ≡ None → (nat_lt 64 spent && is_running s.state) ≡ false
+    → IsEnded s ⊎ (Late granted spent (age + t) base 0 0 s × (streak ≡ 0))
 unfolding ticks_in sends_packet
-none_timely g granted spent age waited t s h says up = go s.state refl says
+none_late granted spent age base waited streak t s h says up = go s.state refl says
   where
     not_spent : (b c : Bool) → c ≡ true → (b && c) ≡ false → b ≡ false
     not_spent true c i k = absurd (let z : true ≡ false = sym i ∙ k in cc)
     not_spent false c i k = refl
 
-    by_time : (limit : ℕ) (b : Bool) → nat_lt (s.since + limit) (age + t) ≡ b
-        → (if b then (let r : Rattle.j39_transport.specs.Sending.SendResult = record { after = record s { state = Failed timeout }; says = Some (Abort timeout s.message.pgn) } in r)
-        else (let r : Rattle.j39_transport.specs.Sending.SendResult = record { after = s; says = None } in r)).says ≡ None → age + t ≤ s.since + limit
-    by_time limit true e z = absurd (cc)
-    by_time limit false e z = ltb-false _ _ e
+    never : (limit : ℕ) (n : ℕ) → n ≡ streak → s.state ≡ Waiting limit → nat_lt 64 spent ≡ false → age + t ≤ s.since + limit → n ≡ 0
+    never limit zero i e few l = refl
+    never limit (suc n) i e few l = absurd (by (subst (IsDue spent age s.since) e (h.due (omega (arith, i)))))
+      where
+        by : IsDue spent age s.since (Waiting limit) → ⊥
+        by (inl a) = omega (arith, a, l)
+        by (inr a) = both_ways spent a few
 
-    go : (u : SendState) → s.state ≡ u → (ticks_in u (age + t) s).says ≡ None → IsEnded s ⊎ Timely g granted spent (age + t) 0 s
+    go : (u : SendState) → s.state ≡ u → (ticks_in u (age + t) s).says ≡ None → IsEnded s ⊎ (Late granted spent (age + t) base 0 0 s × (streak ≡ 0))
     go Idle e z = absurd (cc)
     go (Waiting limit) e z =
-        let q : (s.since + limit ≤ suc (granted + spent) * (timer_t3 + g)) × (age ≤ s.since + limit + waited) = subst (InTime g (granted + spent) age waited s.since) e h.phase in
-        let l = by_time limit (nat_lt (s.since + limit) (age + t)) refl z in
-        inr (record {
-          phase = subst (InTime g (granted + spent) (age + t) 0 s.since) (sym e) (q.0, omega (arith, l));
-          gives_up = λ y. absurd (let k : true ≡ false = sym y ∙ not_spent (nat_lt 64 spent) (is_running s.state) (ap is_running e) up in cc);
-        })
+        let few = not_spent (nat_lt 64 spent) (is_running s.state) (ap is_running e) up in
+        let q : (s.since + limit ≤ suc (granted + spent) * timer_t3 + base) × (age ≤ s.since + limit + waited) = subst (InTime (granted + spent) age base waited s.since) e (h.phase few) in
+        let l = timed s limit (age + t) (nat_lt (s.since + limit) (age + t)) refl z in
+        inr (
+          record {
+            phase = λ v. subst (InTime (granted + spent) (age + t) base 0 s.since) (sym e) (q.0, omega (arith, l));
+            gives_up = λ y. absurd (both_ways spent y few);
+            due = λ y. absurd (omega (arith, y));
+          },
+          never limit streak refl e few l,
+        )
     go (Sending next last) e z = absurd (cc)
     go Done e z = inl (ap (λ (u : SendState). is_idle u || is_running u) e)
     go (Failed reason) e z = inl (ap (λ (u : SendState). is_idle u || is_running u) e)
 
-pub accepted_now : (g : ℕ) (s : SenderRecord) → s.state ≡ Idle → Timely g 0 0 0 0 s
-accepted_now g s e = record { phase = subst (InTime g 0 0 0 s.since) (sym e) (omega arith); gives_up = λ z. omega arith }
+-- a frame of it is due, and another goes
+pub due_late : (granted spent age base waited streak t streak_then : ℕ) (s : SenderRecord) → Late granted spent age base waited streak s
+    → ((ticks_in s.state (age + t) s).says ≡ None → ⊥) ⊎ (nat_lt 64 spent ≡ true) → Late granted spent (age + t) base (waited + t) streak_then s
+unfolding ticks_in
+due_late granted spent age base waited streak t streak_then s h d =
+    let p = passes granted spent age base waited streak t s h in record { phase = p.phase; gives_up = p.gives_up; due = λ z. go s.state refl d }
+  where
+    more : (a b : ℕ) (r : SendResult) → nat_lt a b ≡ false → (if nat_lt a b then r else (let x : SendResult = record { after = s; says = None } in x)).says ≡ None
+    more a b r e = ap (λ (c : Bool). (if c then r else (let x : SendResult = record { after = s; says = None } in x)).says) e
+
+    out : (limit : ℕ) (b : Bool) → nat_lt (s.since + limit) (age + t) ≡ b → ((ticks_in (Waiting limit) (age + t) s).says ≡ None → ⊥) → s.since + limit < age + t
+    out limit true e n = Rattle.std.proofs.Common.ltb-true _ _ e
+    out limit false e n = absurd (n (more (s.since + limit) (age + t) _ e))
+
+    go : (u : SendState) → s.state ≡ u → ((ticks_in s.state (age + t) s).says ≡ None → ⊥) ⊎ (nat_lt 64 spent ≡ true) → IsDue spent (age + t) s.since s.state
+    go (Waiting limit) e (inl n) = subst (IsDue spent (age + t) s.since) (sym e)
+        (inl (out limit (nat_lt (s.since + limit) (age + t)) refl (λ z. n (ap (λ (u : SendState). (ticks_in u (age + t) s).says) e ∙ z))))
+    go (Waiting limit) e (inr a) = subst (IsDue spent (age + t) s.since) (sym e) (inr a)
+    go Idle e n = subst (IsDue spent (age + t) s.since) (sym e) tt
+    go (Sending next last) e n = subst (IsDue spent (age + t) s.since) (sym e) tt
+    go Done e n = subst (IsDue spent (age + t) s.since) (sym e) tt
+    go (Failed reason) e n = subst (IsDue spent (age + t) s.since) (sym e) tt

@@ -1,141 +1,303 @@
 -- The laws of broadcasts in packets that are heard.
-use Rattle.j39_node.proofs.Common.{[], if◌then◌else◌, ◌&&◌, ◌*◌, ◌++◌, ◌+◌, ◌-◌, ◌<◌, ◌||◌, ◌↔◌, ◌∙◌, ◌∷◌, ◌≡◌, ◌≢◌, ◌≤◌, ◌⊎◌, account, announced, announces, ap, append-nil, AreAnswered, AreNumbered, arith, At, Bool, breaks, broadcast_limit, by, Call, changes, chosen, claim_of, Controller, drop, ends_by, eq-eqb, expires, false, flat_map-append, found, FrameRecord, frames_heard, got_broadcasts, grown, has_place, has_room, Hear, heard_at, hearing, hearing_tick, holder, IfSome, in_time, inl, inr, Is, is_announcement, is_beside, is_ignored, is_late, is_out, is_own_group, is_partial, is_same, is_subscribed, is_unheard, is_wanted, is_whole, IsFit, IsHeardOf, IsPartOf, IsTrue, KeepsHolder, Key, known, known_by, late_at, leb-false, leb-true, length, length-drop, length-take-le, List, listed, lt-leb, lt-ltb, ltb-false, made_whole, message_by, MessageRecord, MessagesMissed, more, nat_eq, nat_le, NeverBack, newly, None, not, OpenBroadcast, opens, Option, packed, packets_for, packs, passed_in, pgn_named, refl, ReleaseBroadcast, since_in, size_named, skips, slice_index, Some, source_of, stamp_at, StaysHeard, subst, suc, sym, take, take-append-drop, TakeFrame, TakeNews, Tick, TicksWithin, time_heard, true, unheard, unheard_by, unheard_news, waiting, WasBroadcast, Who, whole_broadcasts, whole_of, ℕ, or-true, le-leb}
-use Rattle.std.proofs.lemmas.List.{length-append}
+use Rattle.j39_node.proofs.Common.{[], if◌then◌else◌, ◌&&◌, ◌*◌, ◌++◌, ◌+◌, ◌-◌, ◌<◌, ◌||◌, ◌↔◌, ◌∙◌, ◌∷◌, ◌≡◌, ◌≢◌, ◌≤◌, ◌⊎◌, account, announced, announces, ap, append-nil, AreNumbered, arith, At, Bool, broadcast_limit, by, Call, chosen, claim_of, cond_both, Controller, drop, earliest, eq-eqb, eqb-true, expires, false, flat_map-append, found, found_in, FrameRecord, frames_heard, get_or, got_broadcasts, grown, has_room, has_some, Hear, heard_at, hearing, hearing_tick, hears_in, hears_it, holder, IfSome, inl, inr, Is, is_announcement, is_any, is_beside, is_claim, is_ignored, is_late, is_own_group, is_same, is_some, is_subscribed, is_unheard_in, is_wanted, is_whole, IsFit, IsHeardOf, IsPartOf, IsTrue, KeepsHolder, Key, known, known_by, late_at, le-leb, leb-false, leb-true, length, length-append, length-drop, length-take-le, List, listed, Listening, listening, lt-leb, lt-ltb, ltb-false, made_in, made_whole, message_by, MessageRecord, MessagesMissed, min, more, nat_eq, nat_le, nat_lt, NeverBack, None, not, of, OpenBroadcast, opens, Option, or-true, others, over_by, packed, packets_for, packs, part_of, passed_in, pgn_named, refl, ReleaseBroadcast, restarts, since_in, size_named, skips, slice_index, Some, sooner, source_of, stay, staying, StaysHeard, still, subst, suc, sym, take, take-append-drop, TakeFrame, TakeNews, those_over, Tick, TicksWithin, time_heard, true, unheard, unheard_by, unheard_news, waiting, WasBroadcast, Who, whole_broadcasts, whole_of, with_all, with_one, without_source, ℕ}
+use Rattle.std.specs.List.{All, filter}
+use Rattle.std.proofs.lemmas.List.{append_assoc}
+use Rattle.std.proofs.lemmas.List.Elements.{All-append, All-cons, All-filter, All-head, All-tail, filter_passes}
+use Rattle.std.proofs.lemmas.List.Filters.{length-filter_both}
 use Rattle.j39_transport.specs.Carries.{joined}
 use Rattle.j39_transport.specs.Frames.{is_packet}
-use Rattle.j39_node.specs.Hearing.{begun, ended, hears, is_over, left, opened, passed}
+use Rattle.j39_node.specs.Hearing.{begun, broadcast_senders, ended, goes_on, has_box, is_gap, is_left, is_over, opened, passed, sender_in, with_sender}
 use Rattle.j39_transport.proofs.FrameFacts.{announcement_facts}
-use Rattle.j39_node.proofs.ReceptionLemmas.{unclaimed_known}
-use Rattle.j39_node.proofs.ReceptionLaws.{after_moment, before_moment, same_is}
-use Rattle.j39_node.proofs.HearingLemmas.{Effect, begins, ends, grows, stays, effect, fit, left_keeps, left_none, same_same, unchanged, packs_eight, drop_one}
+use Rattle.j39_node.proofs.ReceptionLaws.{after_moment, before_moment}
+use Rattle.j39_node.proofs.ListenLemmas.{all_of, begun_open, none_other, unequal}
+use Rattle.j39_node.proofs.HearingLemmas.{IsNamed, all_more, drop_one, hearing_same, kept_by, of_another, of_filter, of_its, of_one, of_source, open_part, packs_eight, result_is, same_is, same_same, stands, stands_found}
 use Rattle.j39_node.proofs.FrameLemmas.{lt_false}
+use Rattle.j39_node.proofs.RestartLaws.{gone}
 use Rattle.j39_node.proofs.SessionLaws.{ages}
 
 -- ---- each once, in order
 
--- one that is whole stays
-left_whole : (b : Bool) (x : OpenBroadcast) → is_whole x ≡ true → left b (Some x) ≡ Some x
-left_whole true x e = ap (λ (w : Bool). if not w then None else Some x) e
-left_whole false x e = refl
+waits_made : (n : ℕ) (w : Who) (name : Option ℕ) (now : ℕ) (f : FrameRecord) (l : Listening) → (hears_in n w name now f l).waits ≡ l.waits ++ listed (made_in n w name now f l)
+waits_made n w name now f l = go (announces f || packs f)
+  where
+    o : Option OpenBroadcast
+    o = hears_it w name now f (has_room n (source_of f.id) l) (of (source_of f.id) l.current)
 
-pub whole_of_left : (b : Bool) (o : Option OpenBroadcast) → whole_of (left b o) ≡ whole_of o
-whole_of_left b None = refl
-whole_of_left b (Some x) = grind arith
+    go : (b : Bool) → (if b then with_one o (without_source (source_of f.id) l) else l).waits ≡ l.waits ++ listed (if b then whole_of o else None)
+    go true = refl
+    go false = sym (append-nil l.waits)
 
-pub whole_is : (o : Option OpenBroadcast) (p : ℕ × MessageRecord) → whole_of o ≡ Some p → (x : OpenBroadcast) × (o ≡ Some x) × (is_whole x ≡ true)
-whole_is None p e = absurd (cc)
-whole_is (Some x) p e = (x, refl, grind (arith, e))
+claim_waits : (b : Bool) (l m : Listening) → m.waits ≡ l.waits → (if b then m else l).waits ≡ l.waits
+claim_waits true l m e = e
+claim_waits false l m e = refl
 
-pub none_is : (o : Option (ℕ × MessageRecord)) (p : ℕ × MessageRecord) → o ≡ None → o ≡ Some p → ⊥
-none_is o p e g = absurd (let z : None ≡ Some p = sym e ∙ g in cc)
-
-open_none : (x : OpenBroadcast) → is_whole x ≡ false → whole_of (Some x) ≡ None
-open_none x e = ap (λ (v : Bool). if v then Some (message_by x) else None) e
-
--- what a frame finds whole stays
-kept_whole : (who : Who) (now : ℕ) (f : FrameRecord) (o y : Option OpenBroadcast) (a b : Bool) (p : ℕ × MessageRecord) → Effect who now f o a b y → whole_of o ≡ Some p → y ≡ o
-kept_whole who now f o y a b p (begins e1 e2 e3 e4 e5 e6 e7) g = absurd (none_is _ p e5 g)
-kept_whole who now f o y a b p (ends e1 e2 e3 e4 e5) g = absurd (none_is _ p e3 g)
-kept_whole who now f o y a b p (grows x e1 e2 e3 e4 e5 e6 e7 e8 e9) g = absurd (none_is _ p (ap whole_of e1 ∙ open_none x e3) g)
-kept_whole who now f o y a b p (stays x e1 e2 e3 e4) g = e4 ∙ sym e1
-
-whole_stays : (who : Who) (b : Bool) (now : ℕ) (f : FrameRecord) (o : Option OpenBroadcast) (p : ℕ × MessageRecord) → whole_of o ≡ Some p → hears who now f (left b o) ≡ o
-whole_stays who b now f o p e =
-    let x = whole_is o p e in
-    kept_whole who now f (left b o) _ _ _ p (effect who now f (left b o)) (whole_of_left b o ∙ e) ∙ (ap (left b) x.1 ∙ (left_whole b x.0 x.2 ∙ sym x.1))
-
-list_more : (a b : Option (ℕ × MessageRecord)) (W G : List (ℕ × MessageRecord)) → W ≡ G ++ listed a → ((p : ℕ × MessageRecord) → a ≡ Some p → b ≡ a)
-    → W ++ listed (newly a b) ≡ G ++ listed b
-list_more None b W G e h = ap (λ z. z ++ listed b) (e ∙ append-nil G)
-list_more (Some p) b W G e h = append-nil W ∙ (e ∙ ap (λ z. G ++ listed z) (sym (h p refl)))
-
-pub in_order : (who : Who) (H : List Call) → whole_broadcasts who H ≡ got_broadcasts who H ++ listed (waiting who H)
+pub in_order : (who : Who) (H : List Call) → whole_broadcasts who H ≡ got_broadcasts who H ++ waiting who H
 in_order who [] = refl
 in_order who (At when (Hear f) ∷ H) =
-    list_more (waiting who H) (waiting who (At when (Hear f) ∷ H)) (whole_broadcasts who H) (got_broadcasts who H) (in_order who H)
-    (λ p e. ap whole_of (whole_stays who (is_over (known who H when f) (holder who (At when (Hear f) ∷ H)) (time_heard (At when (Hear f) ∷ H)) (hearing who H)) (time_heard (At when (Hear f) ∷ H)) f (hearing who H) p e))
-in_order who (At now Tick ∷ H) =
-    in_order who H ∙ ap (λ z. got_broadcasts who H ++ listed z) (sym (whole_of_left (is_out (time_heard (At now Tick ∷ H)) (hearing who H)) (hearing who H)))
+    let G = At when (Hear f) ∷ H in
+    ap (λ z. z ++ listed (made_whole who H when f)) (in_order who H)
+    ∙ (append_assoc (got_broadcasts who H) (waiting who H) (listed (made_whole who H when f))
+    ∙ ap (λ z. got_broadcasts who H ++ z) (sym (waits_made who.boxes who (holder who G (source_of f.id)) (time_heard G) f (found_in who H when f))))
 in_order who (At now (TakeFrame (Some f)) ∷ H) =
-    in_order who H ∙ ap (λ z. got_broadcasts who H ++ listed z) (sym (whole_of_left (changes (holder who H) (holder who (At now (TakeFrame (Some f)) ∷ H)) (hearing who H)) (hearing who H)))
-in_order who (ReleaseBroadcast true ∷ H) = in_order who H ∙ sym (append-nil (got_broadcasts who H ++ listed (waiting who H)))
+    in_order who H ∙ ap (λ z. got_broadcasts who H ++ z) (sym (claim_waits (is_claim f) (listening who H) (staying None (holder who (At now (TakeFrame (Some f)) ∷ H)) (time_heard H) (listening who H)) refl))
+in_order who (ReleaseBroadcast true ∷ H) =
+    in_order who H
+    ∙ (ap (λ z. got_broadcasts who H ++ z) (sym (take-append-drop 1 (waiting who H))) ∙ sym (append_assoc (got_broadcasts who H) (take 1 (waiting who H)) (drop 1 (waiting who H))))
 in_order who (call ∷ H) = in_order who H
 
+-- a sender for each that waits
+with_each : (o : Option (ℕ × MessageRecord)) (name : Option ℕ) (names : List (Option ℕ)) (xs : List (ℕ × MessageRecord)) → length names ≡ length xs
+    → length (with_sender o name names) ≡ length (xs ++ listed o)
+with_each None name names xs e = e ∙ ap length (sym (append-nil xs))
+with_each (Some x) name names xs e =
+    let a = length-append names (name ∷ []) in let b = length-append xs (x ∷ []) in omega (arith, a, b, e)
+
+pub each_sender : (who : Who) (H : List Call) → length (broadcast_senders who H) ≡ length (waiting who H)
+each_sender who [] = refl
+each_sender who (At when (Hear f) ∷ H) =
+    let G = At when (Hear f) ∷ H in
+    with_each (made_whole who H when f) (sender_in (found who H when f (source_of f.id))) (broadcast_senders who H) (waiting who H) (each_sender who H)
+    ∙ ap length (sym (waits_made who.boxes who (holder who G (source_of f.id)) (time_heard G) f (found_in who H when f)))
+each_sender who (At now (TakeFrame (Some f)) ∷ H) =
+    each_sender who H ∙ ap length (sym (claim_waits (is_claim f) (listening who H) (staying None (holder who (At now (TakeFrame (Some f)) ∷ H)) (time_heard H) (listening who H)) refl))
+each_sender who (ReleaseBroadcast true ∷ H) =
+    let a = length-drop 1 (broadcast_senders who H) in let b = length-drop 1 (waiting who H) in let e = each_sender who H in omega (arith, a, b, e)
+each_sender who (call ∷ H) = each_sender who H
+
 pub released : (who : Who) (H : List Call) (c : Controller) (answer : Bool) → Is who (ReleaseBroadcast answer ∷ H) c
-    → (answer ≡ true ↔ ((x : ℕ × MessageRecord) × (waiting who H ≡ Some x)))
-released who H c answer is = go (waiting who H) answer refl is.answered.1
+    → (answer ≡ true ↔ ((x : ℕ × MessageRecord) × (xs : List (ℕ × MessageRecord)) × (waiting who H ≡ x ∷ xs)))
+released who H c answer is = go (waiting who H) refl is.answered.1
   where
-    go : (o : Option (ℕ × MessageRecord)) (b : Bool) → waiting who H ≡ o → b ≡ not (has_place o)
-        → (b ≡ true ↔ ((x : ℕ × MessageRecord) × (waiting who H ≡ Some x)))
-    go None b e f = (λ z. absurd (let y : false ≡ true = sym f ∙ z in cc), λ z. absurd (let y : None ≡ Some z.0 = sym e ∙ z.1 in cc))
-    go (Some x) b e f = (λ z. (x, e), λ z. f)
+    go : (ys : List (ℕ × MessageRecord)) → waiting who H ≡ ys → answer ≡ nat_lt 0 (length ys)
+        → (answer ≡ true ↔ ((x : ℕ × MessageRecord) × (xs : List (ℕ × MessageRecord)) × (waiting who H ≡ x ∷ xs)))
+    go [] e f = (λ z. absurd (let y : false ≡ true = sym f ∙ z in cc), λ z. absurd (let y = ap length (sym e ∙ z.2) in omega (arith, y)))
+    go (x ∷ xs) e f = (λ z. (x, xs, e), λ z. f ∙ lt-ltb 0 (length (x ∷ xs)) (omega arith))
 
--- ---- what isn't heard
+-- ---- what a frame finds
 
--- what stays open is in time
-pub stays_timely : (now : ℕ) (c : Bool) (o : Option OpenBroadcast) (x : OpenBroadcast) → left (c || is_out now o) o ≡ Some x → is_whole x ≡ false → is_late now x ≡ false
-stays_timely now c None x k w = absurd (cc)
-stays_timely now c (Some y) x k w = grind (arith, k, w)
+-- it was open, and isn't over
+record Found (who : Who) (H : List Call) (when a : ℕ) (f : FrameRecord) (x : OpenBroadcast) : Type 0 where
+  pub was : hearing who H a ≡ Some x
+  pub here : is_left (restarts who H when f) (holder who (At when (Hear f) ∷ H)) x ≡ false
+  pub timely : is_late (time_heard (At when (Hear f) ∷ H)) x ≡ false
 
-not_ignored : (who : Who) (group : ℕ) → is_ignored who group ≡ false → IsTrue (is_subscribed who group) × (is_own_group group ≡ false)
-not_ignored who group e = (grind (arith, e), grind (arith, e))
+kept_is : (p : OpenBroadcast → Bool) (o : Option OpenBroadcast) (x : OpenBroadcast) → kept_by p o ≡ Some x → (o ≡ Some x) × (p x ≡ true)
+kept_is p None x e = absurd (cc)
+kept_is p (Some y) x e = go (p y) refl e
+  where
+    go : (b : Bool) → p y ≡ b → (if b then Some y else None) ≡ Some x → (Some y ≡ Some x) × (p x ≡ true)
+    go true i z = let q : y ≡ x = cc in (z, ap p (sym q) ∙ i)
+    go false i z = absurd (cc)
 
-module _ (who : Who) (H : List Call) (when : ℕ) (f : FrameRecord) (e : announces f ≡ true) (own : is_own_group (pgn_named f) ≡ false) (listed : IsTrue (is_subscribed who (pgn_named f))) where
-  abbrev G : List Call
-  G = At when (Hear f) ∷ H
+neither : (a b : Bool) → not (a || b) ≡ true → (a ≡ false) × (b ≡ false)
+neither a b e = (grind (arith, e), grind (arith, e))
 
-  for_program : is_ignored who (pgn_named f) ≡ false
-  for_program = λ i. own i || not (listed i)
+found_is : (who : Who) (H : List Call) (when a : ℕ) (f : FrameRecord) (x : OpenBroadcast) → found who H when f a ≡ Some x → Found who H when a f x
+found_is who H when a f x e =
+    let G = At when (Hear f) ∷ H in
+    let k = kept_is (λ y. not (is_over (restarts who H when f) (holder who G) (time_heard G) y)) (hearing who H a) x
+    (sym (of_filter (λ y. not (is_over (restarts who H when f) (holder who G) (time_heard G) y)) a (listening who H).current (stands who H).apart) ∙ e) in
+    let n = neither _ _ k.1 in record { was = k.0; here = n.0; timely = n.1 }
 
-  is_for : is_wanted who f ≡ true
-  is_for = λ i. e i && not (for_program i)
+named : (who : Who) (H : List Call) (a : ℕ) (x : OpenBroadcast) → hearing who H a ≡ Some x → (x.name ≡ holder who H a) × (x.source ≡ a)
+named who H a x e =
+    let s : x.source ≡ a = subst (λ (o : Option OpenBroadcast). IfSome o (λ y. y.source ≡ a)) e (of_source a (listening who H).current) in
+    (all_of (IsNamed (holder who H)) a (listening who H).current x (stands who H).named e ∙ ap (holder who H) s, s)
 
-  broken : (b : Bool) (o : Option OpenBroadcast) → breaks b o ≡ true → left b o ≡ None
-  broken b None k = refl
-  broken b (Some x) k = ap (λ (v : Bool). if v then None else Some x) k
+-- its source has the holder that it had, and didn't restart
+here_is : (gone : Option ℕ) (before after : ℕ → Option ℕ) (x : OpenBroadcast) → x.name ≡ before x.source → is_left gone after x ≡ false → after x.source ≡ still gone before x.source
+here_is gone before after x e g =
+    let b : is_some gone x.source ≡ false = grind (arith, g) in
+    let d : is_same x.name (after x.source) ≡ true = grind (arith, g) in
+    sym (same_is _ _ d) ∙ (e ∙ sym (ap (λ (v : Bool). if v then None else before x.source) b))
 
-  -- it begins, or finds one that stays, and is counted
-  abbrev Outcome : Type 0
-  Outcome = (hearing who G ≡ Some (opened who H when f))
-      ⊎ ((x : OpenBroadcast) × (found who H when f ≡ Some x) × ((is_whole x ≡ true) ⊎ (is_beside x.source x.count f ≡ true)) × (unheard who G ≡ suc (unheard who H)))
+pub found_known : (who : Who) (H : List Call) (when a : ℕ) (f : FrameRecord) (x : OpenBroadcast) → found who H when f a ≡ Some x
+    → holder who (At when (Hear f) ∷ H) a ≡ known who H when f a
+found_known who H when a f x e =
+    let k = found_is who H when a f x e in
+    let n = named who H a x k.was in
+    ap (holder who (At when (Hear f) ∷ H)) (sym n.1)
+    ∙ (here_is (restarts who H when f) (holder who H) (holder who (At when (Hear f) ∷ H)) x (n.0 ∙ ap (holder who H) (sym n.1)) k.here ∙ ap (known who H when f) n.1)
 
-  begins_or : Outcome
-  begins_or = go (ends_by who H (At when (Hear f))) refl (effect who (time_heard G) f (found who H when f))
-    where
-      not_for : {T : Type 0} → is_wanted who f ≡ false → T
-      not_for k = absurd (let z : true ≡ false = sym is_for ∙ k in cc)
+pub none_known : (who : Who) (H : List Call) (when a : ℕ) (f : FrameRecord) → holder who (At when (Hear f) ∷ H) a ≢ known who H when f a → found who H when f a ≡ None
+none_known who H when a f n = go (found who H when f a) refl
+  where
+    go : (o : Option OpenBroadcast) → found who H when f a ≡ o → found who H when f a ≡ None
+    go None i = i
+    go (Some x) i = absurd (n (found_known who H when a f x i))
 
-      go : (b : Bool) → ends_by who H (At when (Hear f)) ≡ b → Effect who (time_heard G) f (found who H when f) (is_wanted who f) (is_unheard who f (found who H when f)) (hearing who G) → Outcome
-      go true i h =
-          let n : found who H when f ≡ None = broken _ (hearing who H) i in
-          inl ((λ j. if e j then (if has_room (source_of f.id) (n j) then opens who (time_heard G) f (found who H when f) else found who H when f) else if packs f then packed (time_heard G) f (found who H when f) else found who H when f)
-          ∙ λ j. if for_program j then None else Some (opened who H when f))
-      go false i (begins e1 e2 e3 e4 e5 e6 e7) = inl e7
-      go false i (ends e1 e2 e3 e4 e5) = not_for e1
-      go false i (grows x e1 e2 e3 e4 e5 e6 e7 e8 e9) = not_for e6
-      go false i (stays x e1 e2 e3 e4) = inr (x, e1, e3, λ j. more ((e2 ∙ is_for) j) (more (i j) (unheard who H)))
+-- and back
+kept_here : (gone : Option ℕ) (before after : ℕ → Option ℕ) (x : OpenBroadcast) → x.name ≡ before x.source → after x.source ≡ still gone before x.source
+    → ((n : ℕ) → gone ≡ Some n → (m : ℕ) × (after n ≡ Some m)) → is_left gone after x ≡ false
+kept_here gone before after x e g h = go (is_some gone x.source) refl g
+  where
+    none : gone ≡ Some x.source → after x.source ≡ None → ⊥
+    none i k = let z = h x.source i in absurd (let y : None ≡ Some z.0 = sym k ∙ z.1 in cc)
 
-  pub heard_or_counted : (hearing who G ≡ Some (opened who H when f)) ⊎ (unheard who G ≡ suc (unheard who H))
-  heard_or_counted = elim begins_or [
-    | inl z ↦ inl z
-    | inr z ↦ inr z.3
-  ]
+    of_some : (o : Option ℕ) (a : ℕ) → is_some o a ≡ true → o ≡ Some a
+    of_some None a i = absurd (cc)
+    of_some (Some b) a i = ap Some (eqb-true b a i)
 
-  pub full : hearing who G ≢ Some (opened who H when f)
-      → (x : OpenBroadcast) × (found who H when f ≡ Some x) × (IsTrue (is_whole x) ⊎ ((source_of f.id ≢ x.source) × (is_late (time_heard G) x ≡ false)))
-  full n = elim begins_or [
-    | inl z ↦ absurd (n z)
-    | inr z ↦ (z.0, z.1, why z.0 z.1 (is_whole z.0) refl z.2)
-  ]
-    where
-      other : (x : OpenBroadcast) → is_beside x.source x.count f ≡ true → source_of f.id ≢ x.source
-      other x k s = absurd (let z : false ≡ true = (λ j. not (sym (eq-eqb _ _ s) j) || (not (sym e j) && (not (packs f) || nat_le (slice_index f.bytes 0) x.count))) ∙ k in cc)
+    go : (b : Bool) → is_some gone x.source ≡ b → after x.source ≡ (if b then None else before x.source) → (b || not (is_same x.name (after x.source))) ≡ false
+    go true i k = absurd (none (of_some gone x.source i) k)
+    go false i k = ap (λ (o : Option ℕ). not (is_same x.name o)) (k ∙ sym e) ∙ ap not (same_same x.name)
 
-      why : (x : OpenBroadcast) → found who H when f ≡ Some x → (v : Bool) → is_whole x ≡ v → (is_whole x ≡ true) ⊎ (is_beside x.source x.count f ≡ true)
-          → IsTrue (is_whole x) ⊎ ((source_of f.id ≢ x.source) × (is_late (time_heard G) x ≡ false))
-      why x g true w k = inl w
-      why x g false w (inl k) = inl k
-      why x g false w (inr k) = inr (other x k, stays_timely (time_heard G) (changes (known who H when f) (holder who G) (hearing who H)) (hearing who H) x g w)
+pub found_means : (who : Who) (H : List Call) (when a : ℕ) (f : FrameRecord) (x : OpenBroadcast) → hearing who H a ≡ Some x
+    → (found who H when f a ≡ Some x ↔ ((holder who (At when (Hear f) ∷ H) a ≡ known who H when f a) × (is_late (time_heard (At when (Hear f) ∷ H)) x ≡ false)))
+found_means who H when a f x e = (
+  λ z. (found_known who H when a f x z, (found_is who H when a f x z).timely),
+  λ z. of_filter (λ y. not (is_over (restarts who H when f) (holder who (At when (Hear f) ∷ H)) (time_heard (At when (Hear f) ∷ H)) y)) a (listening who H).current (stands who H).apart
+      ∙ (ap (kept_by (λ y. not (is_over (restarts who H when f) (holder who (At when (Hear f) ∷ H)) (time_heard (At when (Hear f) ∷ H)) y))) e
+      ∙ λ i. if not (stays z.0 i || z.1 i) then Some x else None),
+)
+  where
+    stays : holder who (At when (Hear f) ∷ H) a ≡ known who H when f a → is_left (restarts who H when f) (holder who (At when (Hear f) ∷ H)) x ≡ false
+    stays k =
+        let n = named who H a x e in
+        kept_here (restarts who H when f) (holder who H) (holder who (At when (Hear f) ∷ H)) x (n.0 ∙ ap (holder who H) (sym n.1))
+        (subst (λ (b : ℕ). holder who (At when (Hear f) ∷ H) b ≡ known who H when f b) (sym n.1) k) (λ m i. (gone who H when m f i).1)
+
+pub released_leaves : (who : Who) (H : List Call) (answer : Bool) → (listening who (ReleaseBroadcast answer ∷ H)).current ≡ (listening who H).current
+released_leaves who H true = refl
+released_leaves who H false = refl
+
+pub none_found : (who : Who) (H : List Call) (when a : ℕ) (f : FrameRecord) (x : OpenBroadcast) → found who H when f a ≡ Some x → hearing who H a ≡ Some x
+none_found who H when a f x e = (found_is who H when a f x e).was
+
+pub others_leave : (who : Who) (H : List Call) (when a : ℕ) (f : FrameRecord) → source_of f.id ≢ a → hearing who (At when (Hear f) ∷ H) a ≡ found who H when f a
+others_leave who H when a f n =
+    of_another who.boxes who (holder who (At when (Hear f) ∷ H) (source_of f.id)) (time_heard (At when (Hear f) ∷ H)) f (found_in who H when f) a n
+
+-- ---- packets
+
+module _ (who : Who) (H : List Call) (when : ℕ) (f : FrameRecord) where
+  abbrev pub K : List Call
+  K = At when (Hear f) ∷ H
+
+  abbrev pub s : ℕ
+  s = source_of f.id
+
+  abbrev pub room : Bool
+  room = has_room who.boxes s (found_in who H when f)
+
+  its : (announces f || packs f) ≡ true
+      → hearing who K s ≡ open_part who.boxes who (holder who K s) (time_heard K) f (found_in who H when f) (hears_it who (holder who K s) (time_heard K) f room (found who H when f s))
+  its e = of_its who.boxes who (holder who K s) (time_heard K) f (found_in who H when f) e
+
+  packet : (x : OpenBroadcast) (g h : Bool) → announces f ≡ false → packs f ≡ true → found who H when f s ≡ Some x → skips f x ≡ g → nat_eq (slice_index f.bytes 0) (suc x.count) ≡ h
+      → hears_it who (holder who K s) (time_heard K) f room (found who H when f s) ≡ (if g then None else if h then Some (grown (time_heard K) f x) else Some x)
+  packet x g h e p k m n =
+      (λ i. if e i then (if room then opens who (holder who K s) (time_heard K) f (found who H when f s) else found who H when f s) else if p i then packed (time_heard K) f (k i) else k i)
+      ∙ λ i. if m i then None else if n i then Some (grown (time_heard K) f x) else Some x
+
+  some_kind : announces f ≡ false → packs f ≡ true → (announces f || packs f) ≡ true
+  some_kind e p = (λ i. e i || p i)
+
+  open_one : (o : Option OpenBroadcast) (x : OpenBroadcast) → o ≡ Some x → is_whole x ≡ false → open_part who.boxes who (holder who K s) (time_heard K) f (found_in who H when f) o ≡ Some x
+  open_one o x e w = ap (open_part who.boxes who (holder who K s) (time_heard K) f (found_in who H when f)) e ∙ ap (λ (b : Bool). if b then None else Some x) w
+
+  pub next_appended : (x : OpenBroadcast) → announces f ≡ false → IsTrue (packs f) → found who H when f s ≡ Some x → slice_index f.bytes 0 ≡ suc x.count → length x.bytes + 7 < x.size
+      → hearing who K s ≡ Some (grown (time_heard K) f x)
+  next_appended x e p k m n =
+      its (some_kind e p)
+      ∙ open_one _ (grown (time_heard K) f x) (packet x false true e p k (lt_false _ _ (omega (arith, m))) (eq-eqb _ _ m))
+      (lt-leb x.size (length (x.bytes ++ drop 1 f.bytes)) (let a = length-append x.bytes (drop 1 f.bytes) in let b = drop_one f.bytes (packs_eight f p) in omega (arith, a, b, n)))
+
+  pub whole_made : (x : OpenBroadcast) → announces f ≡ false → IsTrue (packs f) → found who H when f s ≡ Some x → slice_index f.bytes 0 ≡ suc x.count → x.size ≤ length x.bytes + 7
+      → made_whole who H when f ≡ Some (message_by (grown (time_heard K) f x))
+  whole_made x e p k m n =
+      ap (λ (b : Bool). if b then whole_of (hears_it who (holder who K s) (time_heard K) f room (found who H when f s)) else None) (some_kind e p)
+      ∙ (ap whole_of (packet x false true e p k (lt_false _ _ (omega (arith, m))) (eq-eqb _ _ m))
+      ∙ ap (λ (b : Bool). if b then Some (message_by (grown (time_heard K) f x)) else None)
+      (le-leb x.size (length (x.bytes ++ drop 1 f.bytes)) (let a = length-append x.bytes (drop 1 f.bytes) in let b = drop_one f.bytes (packs_eight f p) in omega (arith, a, b, n))))
+
+  not_whole : (x : OpenBroadcast) → found who H when f s ≡ Some x → is_whole x ≡ false
+  not_whole x e = (all_of IsFit s (found_in who H when f).current x (stands_found who H when f).fit e).2
+
+  pub repeat_ignored : (x : OpenBroadcast) → announces f ≡ false → IsTrue (packs f) → found who H when f s ≡ Some x → slice_index f.bytes 0 ≤ x.count → hearing who K s ≡ Some x
+  repeat_ignored x e p k n =
+      its (some_kind e p) ∙ open_one _ x (packet x false false e p k (lt_false _ _ (omega (arith, n))) (unequal _ _ (λ z. omega (arith, n, z)))) (not_whole x k)
+
+  pub gap_ends : (x : OpenBroadcast) → announces f ≡ false → IsTrue (packs f) → found who H when f s ≡ Some x → suc x.count < slice_index f.bytes 0 → hearing who K s ≡ None
+  gap_ends x e p k n =
+      its (some_kind e p) ∙ ap (open_part who.boxes who (holder who K s) (time_heard K) f (found_in who H when f)) (packet x true _ e p k (lt-ltb _ _ n) refl)
+
+  -- what is no claim leaves who holds an address
+  pub strangers : claim_of f ≡ None → announces f ≡ false → packs f ≡ false → listening who K ≡ listening who (At when Tick ∷ H)
+  strangers e g p =
+      (λ i. (let l = staying (restarts who H when f) (holder who K) (time_heard K) (listening who H) in
+      if g i || p i then with_one (hears_it who (holder who K s) (time_heard K) f room (found who H when f s)) (without_source s l) else l))
+      ∙ λ i. staying (Rattle.j39_node.specs.Reception.claimed_again (holder who H) (Rattle.j39_node.specs.Reception.called who H - (when - heard_at H)) (e i))
+      (λ a. Rattle.j39_node.specs.Reception.held_then a (Rattle.j39_node.specs.History.of_other who (e i)) (holder who H a)) (time_heard K) (listening who H)
+
+  -- ---- announcements
+
+  module _ (e : announces f ≡ true) where
+    announced_one : hears_it who (holder who K s) (time_heard K) f room (found who H when f s)
+        ≡ (if room then opens who (holder who K s) (time_heard K) f (found who H when f s) else found who H when f s)
+    announced_one = λ i. if e i then (if room then opens who (holder who K s) (time_heard K) f (found who H when f s) else found who H when f s) else if packs f then packed (time_heard K) f (found who H when f s) else found who H when f s
+
+    module _ (own : is_own_group (pgn_named f) ≡ false) (subscribed : IsTrue (is_subscribed who (pgn_named f))) where
+      for_program : is_ignored who (pgn_named f) ≡ false
+      for_program = λ i. own i || not (subscribed i)
+
+      begins : room ≡ true → hearing who K s ≡ Some (opened who H when f)
+      begins r =
+          its (ap (λ (b : Bool). b || packs f) e)
+          ∙ open_one _ (opened who H when f) (announced_one ∙ λ i. if r i then (if for_program i then None else Some (opened who H when f)) else found who H when f s)
+          (begun_open (holder who K s) (since_in (time_heard K) (found who H when f s)) (time_heard K) f e)
+
+      counted : room ≡ false → unheard who K ≡ suc (length (over_by who H (At when (Hear f))) + unheard who H)
+      counted r =
+          (λ i. more (if e i then (if r i then has_some (found who H when f s) else not (for_program i)) else packs f && is_gap f (found who H when f s))
+          (with_all (over_by who H (At when (Hear f))) (unheard who H)))
+          ∙ ap suc (all_more (over_by who H (At when (Hear f))) (unheard who H))
+
+      pub heard_or_counted : (hearing who K s ≡ Some (opened who H when f)) ⊎ (unheard who K ≡ suc (length (over_by who H (At when (Hear f))) + unheard who H))
+      heard_or_counted = go room refl
+        where
+          go : (b : Bool) → room ≡ b → (hearing who K s ≡ Some (opened who H when f)) ⊎ (unheard who K ≡ suc (length (over_by who H (At when (Hear f))) + unheard who H))
+          go true r = inl (begins r)
+          go false r = inr (counted r)
+
+      pub full : hearing who K s ≢ Some (opened who H when f)
+          → (who.boxes ≡ length (found_in who H when f).current + length (waiting who H)) × ((a : ℕ) (x : OpenBroadcast) → found who H when f a ≡ Some x
+          → (s ≢ a) × (is_late (time_heard K) x ≡ false))
+      full n = go room refl
+        where
+          none : (o : Option OpenBroadcast) (b : Bool) → (has_some o || b) ≡ false → (o ≡ None) × (b ≡ false)
+          none None b z = (refl, z)
+          none (Some x) b z = absurd (cc)
+
+          go : (b : Bool) → room ≡ b → (who.boxes ≡ length (found_in who H when f).current + length (waiting who H)) × ((a : ℕ) (x : OpenBroadcast) → found who H when f a ≡ Some x
+              → (s ≢ a) × (is_late (time_heard K) x ≡ false))
+          go true r = absurd (n (begins r))
+          go false r =
+              let z = none (found who H when f s) _ r in
+              let l = ltb-false _ _ z.1 in
+              let m = (stands_found who H when f).room in (
+                omega (arith, l, m),
+                λ a x k. (λ q. absurd (let y : None ≡ Some x = sym z.0 ∙ (ap (found who H when f) q ∙ k) in cc), (found_is who H when a f x k).timely),
+              )
+
+pub as_ticked : (who : Who) (H : List Call) (when a : ℕ) (f : FrameRecord) → claim_of f ≡ None → source_of f.id ≢ a
+    → hearing who (At when (Hear f) ∷ H) a ≡ hearing who (At when Tick ∷ H) a
+as_ticked who H when a f e n =
+    others_leave who H when a f n
+    ∙ λ i. of a (stay (Rattle.j39_node.specs.Reception.claimed_again (holder who H) (Rattle.j39_node.specs.Reception.called who H - (when - heard_at H)) (e i))
+    (λ b. Rattle.j39_node.specs.Reception.held_then b (Rattle.j39_node.specs.History.of_other who (e i)) (holder who H b)) (time_heard (At when Tick ∷ H)) (listening who H).current)
+
+pub begins_there : (who : Who) (H : List Call) (when : ℕ) (f : FrameRecord) → announces f ≡ true → is_own_group (pgn_named f) ≡ false → IsTrue (is_subscribed who (pgn_named f))
+    → (length (found_in who H when f).current + length (waiting who H) < who.boxes) ⊎ ((x : OpenBroadcast) × (found who H when f (source_of f.id) ≡ Some x))
+    → hearing who (At when (Hear f) ∷ H) (source_of f.id) ≡ Some (opened who H when f)
+begins_there who H when f e own subscribed h = begins who H when f e own subscribed (there h)
+  where
+    there : (length (found_in who H when f).current + length (waiting who H) < who.boxes) ⊎ ((x : OpenBroadcast) × (found who H when f (source_of f.id) ≡ Some x)) → room who H when f ≡ true
+    there (inl l) = ap (λ (b : Bool). has_some (found who H when f (source_of f.id)) || b) (lt-ltb _ _ l) ∙ or-true (has_some (found who H when f (source_of f.id)))
+    there (inr x) = ap (λ (o : Option OpenBroadcast). has_some o || has_box who.boxes (found_in who H when f)) x.1
+
+pub boxes : (who : Who) (H : List Call) → length (listening who H).current + length (waiting who H) ≤ who.boxes
+boxes who H = (stands who H).room
 
 -- ---- all that was announced is whole, counted or open
 
@@ -146,233 +308,164 @@ one b = more b 0
 more_is : (b : Bool) (n : ℕ) → more b n ≡ n + one b
 more_is b n = grind arith
 
-left_counts : (b : Bool) (o : Option OpenBroadcast) → one (is_partial o) ≡ one (breaks b o) + one (is_partial (left b o))
-left_counts b None = omega arith
-left_counts b (Some x) = grind arith
+rest_count : (a : ℕ) (xs : List OpenBroadcast) (o : Option OpenBroadcast) → Rattle.j39_node.specs.Hearing.AreApart xs → of a xs ≡ o → length xs ≡ length (others a xs) + one (has_some o)
+rest_count a xs None h e = let z = ap length (none_other a xs e) in omega (arith, z)
+rest_count a xs (Some x) h e = let z = of_one a xs x h e in omega (arith, z)
 
-pub begun_open : (since now : ℕ) (f : FrameRecord) → announces f ≡ true → is_whole (begun since now f) ≡ false
-begun_open since now f e = lt-leb _ 0 (let l = (announcement_facts (by (source_of f.id)) f e).large in omega (arith, l))
-
-newly_same : (o : Option (ℕ × MessageRecord)) → length (listed (newly o o)) ≡ 0
-newly_same None = refl
-newly_same (Some x) = refl
-
-heard_counts : (who : Who) (now : ℕ) (f : FrameRecord) (o y : Option OpenBroadcast) (a b : Bool) → Effect who now f o a b y
-    → one a + one (is_partial o) ≡ length (listed (newly (whole_of o) (whole_of y))) + (one b + one (is_partial y))
-heard_counts who now f o y a b (begins e1 e2 e3 e4 e5 e6 e7) =
-    let a_one = ap one e3 in
-    let p = ap one e4 in
-    let none = ap (λ (z : Option (ℕ × MessageRecord)). length (listed z)) ((λ i. newly (e5 i) (whole_of (e7 i))) ∙ open_none (begun (since_in now o) now f) (begun_open (since_in now o) now f e1)) in
-    let q = ap one (ap is_partial e7 ∙ ap not (begun_open (since_in now o) now f e1)) in
-    omega (arith, a_one, p, none, q)
-heard_counts who now f o y a b (ends e1 e2 e3 e4 e5) =
-    let a_none = ap one e1 in
-    let p = ap one e2 in
-    let none : length (listed (newly (whole_of o) (whole_of y))) ≡ 0 = λ i. length (listed (newly (e3 i) (whole_of (e5 i)))) in
-    let q = ap (λ (z : Option OpenBroadcast). one (is_partial z)) e5 in
-    omega (arith, a_none, p, none, q)
-heard_counts who now f o y a b (grows x e1 e2 e3 e4 e5 e6 e7 e8 e9) =
-    let a_none = ap one e6 in
-    let b_none = ap one e7 in
-    let p = ap one (ap is_partial e1 ∙ ap not e3) in
-    let made = ap (λ (z : Option (ℕ × MessageRecord)). length (listed (newly z (whole_of y)))) (ap whole_of e1 ∙ open_none x e3) ∙ ap (λ (z : Option OpenBroadcast). length (listed (whole_of z))) e9 in
-    let q = ap (λ (z : Option OpenBroadcast). one (is_partial z)) e9 in
-    let all = either_one (is_whole (grown now f x)) in
-    omega (arith, a_none, b_none, p, made, q, all)
+part_count : (y : OpenBroadcast) → length (part_of (Some y)) + length (listed (whole_of (Some y))) ≡ 1
+part_count y = go (is_whole y)
   where
-    either_one : (v : Bool) → length (listed (if v then Some (message_by (grown now f x)) else None)) + one (not v) ≡ 1
-    either_one v = grind arith
-heard_counts who now f o y a b (stays x e1 e2 e3 e4) =
-    let same = ap one e2 in
-    let none = ap (λ (z : Option OpenBroadcast). length (listed (newly (whole_of o) (whole_of z)))) (e4 ∙ sym e1) ∙ newly_same (whole_of o) in
-    let q = ap (λ (z : Option OpenBroadcast). one (is_partial z)) (e4 ∙ sym e1) in
-    omega (arith, same, none, q)
+    go : (b : Bool) → length (if b then [] else y ∷ []) + length (listed (if b then Some (message_by y) else None)) ≡ 1
+    go true = refl
+    go false = refl
 
-waits_whole : (o : Option OpenBroadcast) → true ≡ not (has_place (whole_of o)) → one (is_partial o) ≡ 0
-waits_whole None e = absurd (cc)
-waits_whole (Some x) e = grind (arith, e)
+module _ (n : ℕ) (w : Who) (name : Option ℕ) (now : ℕ) (f : FrameRecord) (l : Listening) (apart : Rattle.j39_node.specs.Hearing.AreApart l.current) where
+  abbrev a : ℕ
+  a = source_of f.id
 
-pub exact : (who : Who) (H : List Call) → AreAnswered who H → announced who H ≡ length (whole_broadcasts who H) + unheard who H + one (is_partial (hearing who H))
-exact who [] h = refl
-exact who (At when (Hear f) ∷ H) h =
+  abbrev Counts : Option OpenBroadcast → Bool → Bool → Type 0
+  Counts o wanted u = one wanted + length l.current ≡ length (listed (whole_of o)) + one u + (length (others a l.current) + length (part_of o))
+
+  counts_none : (o : Option OpenBroadcast) → of a l.current ≡ o → Counts None false (has_some o)
+  counts_none o e = let z = rest_count a l.current o apart e in omega (arith, z)
+
+  counts_some : (o : Option OpenBroadcast) (y : OpenBroadcast) (b u : Bool) → of a l.current ≡ o → one b + one (has_some o) ≡ one u + 1 → Counts (Some y) b u
+  counts_some o y b u e k = let z = rest_count a l.current o apart e in let p = part_count y in omega (arith, z, p, k)
+
+  by_kind : (ann p i r : Bool) (o : Option OpenBroadcast) → of a l.current ≡ o
+      → Counts (if ann then (if has_some o || r then (if i then None else Some (begun name (since_in now o) now f)) else o) else if p then packed now f o else o) (ann && not i)
+      (if ann then (if has_some o || r then has_some o else not i) else p && is_gap f o) ⊎ ((ann || p) ≡ false)
+  by_kind true p true true None e = inl (counts_none None e)
+  by_kind true p false true None e = inl (counts_some None (begun name now now f) true false e refl)
+  by_kind true p true false None e = inl (counts_none None e)
+  by_kind true p false false None e = inl (let z = rest_count a l.current None apart e in omega (arith, z))
+  by_kind true p true r (Some y) e = inl (counts_none (Some y) e)
+  by_kind true p false r (Some y) e = inl (counts_some (Some y) (begun name y.since now f) true true e refl)
+  by_kind false true i r None e = inl (counts_none None e)
+  by_kind false true i r (Some y) e = inl (go (skips f y) (nat_eq (slice_index f.bytes 0) (suc y.count)))
+    where
+      go : (g h : Bool) → Counts (if g then None else if h then Some (grown now f y) else Some y) false g
+      go true h = counts_none (Some y) e
+      go false true = counts_some (Some y) (grown now f y) false false e refl
+      go false false = counts_some (Some y) y false false e refl
+  by_kind false false i r o e = inr refl
+
+  pub heard_counts : one (is_wanted w f) + length l.current ≡ length (listed (made_in n w name now f l)) + one (is_unheard_in n w f l) + length (hears_in n w name now f l).current
+  heard_counts = go (announces f) (packs f) refl refl (by_kind (announces f) (packs f) (is_ignored w (pgn_named f)) (has_box n l) (of a l.current) refl)
+    where
+      both : (announces f || packs f) ≡ true → Counts (hears_it w name now f (has_room n a l) (of a l.current)) (is_wanted w f) (is_unheard_in n w f l)
+          → one (is_wanted w f) + length l.current ≡ length (listed (made_in n w name now f l)) + one (is_unheard_in n w f l) + length (hears_in n w name now f l).current
+      both g z = let d = Rattle.j39_node.proofs.HearingLemmas.lengths n w name now f l g in
+          let m = ap (λ (b : Bool). length (listed (if b then whole_of (hears_it w name now f (has_room n a l) (of a l.current)) else None))) g in
+          omega (arith, z, d, m)
+
+      none : (announces f || packs f) ≡ false → one (is_wanted w f) + length l.current ≡ length (listed (made_in n w name now f l)) + one (is_unheard_in n w f l) + length (hears_in n w name now f l).current
+      none z =
+          let x : announces f ≡ false = grind (arith, z) in
+          let y : packs f ≡ false = grind (arith, z) in
+          (λ j. one (x j && not (is_ignored w (pgn_named f))) + length l.current)
+          ∙ sym ((λ j. length (listed (if z j then whole_of (hears_it w name now f (has_room n a l) (of a l.current)) else None))
+          + one (if x j then (if has_room n a l then has_some (of a l.current) else not (is_ignored w (pgn_named f))) else y j && is_gap f (of a l.current))
+          + length (if z j then with_one (hears_it w name now f (has_room n a l) (of a l.current)) (without_source a l) else l).current) ∙ (let q : 0 + 0 + length l.current ≡ 0 + length l.current = omega arith in q))
+
+      go : (ann p : Bool) → announces f ≡ ann → packs f ≡ p
+          → Counts (hears_it w name now f (has_room n a l) (of a l.current)) (is_wanted w f) (is_unheard_in n w f l) ⊎ ((announces f || packs f) ≡ false)
+          → one (is_wanted w f) + length l.current ≡ length (listed (made_in n w name now f l)) + one (is_unheard_in n w f l) + length (hears_in n w name now f l).current
+      go ann p i k (inr z) = none z
+      go true p i k (inl z) = both (ap (λ (b : Bool). b || packs f) i) z
+      go false true i k (inl z) = both (λ j. i j || k j) z
+      go false false i k (inl z) = none (λ j. i j || k j)
+
+over_count : (gone : Option ℕ) (holds : ℕ → Option ℕ) (now : ℕ) (xs : List OpenBroadcast) → length (those_over gone holds now xs) + length (stay gone holds now xs) ≡ length xs
+over_count gone holds now xs = length-filter_both (is_over gone holds now) (λ x. not (is_over gone holds now x)) (λ x. refl) xs
+
+pub exact : (who : Who) (H : List Call) → announced who H ≡ length (whole_broadcasts who H) + unheard who H + length (listening who H).current
+exact who [] = refl
+exact who (At when (Hear f) ∷ H) =
     let G = At when (Hear f) ∷ H in
-    let n = exact who H h.0 in
-    let l = left_counts (is_over (known who H when f) (holder who G) (time_heard G) (hearing who H)) (hearing who H) in
-    let d = heard_counts who (time_heard G) f (found who H when f) _ _ _ (effect who (time_heard G) f (found who H when f)) in
-    let k = ap (λ (o : Option (ℕ × MessageRecord)). length (listed (newly o (waiting who G)))) (whole_of_left (is_over (known who H when f) (holder who G) (time_heard G) (hearing who H)) (hearing who H)) in
+    let n = exact who H in
+    let o = over_count (restarts who H when f) (holder who G) (time_heard G) (listening who H).current in
+    let d = heard_counts who.boxes who (holder who G (source_of f.id)) (time_heard G) f (found_in who H when f) (stands_found who H when f).apart in
     let m = length-append (whole_broadcasts who H) (listed (made_whole who H when f)) in
     let p = more_is (is_wanted who f) (announced who H) in
-    let q = more_is (unheard_by who H (At when (Hear f))) (more (ends_by who H (At when (Hear f))) (unheard who H)) in
-    let r = more_is (ends_by who H (At when (Hear f))) (unheard who H) in
-    omega (arith, n, l, d, k, m, p, q, r)
-exact who (At now Tick ∷ H) h =
-    let n = exact who H h.0 in
-    let l = left_counts (is_out (time_heard (At now Tick ∷ H)) (hearing who H)) (hearing who H) in
-    let r = more_is (ends_by who H (At now Tick)) (unheard who H) in
-    omega (arith, n, l, r)
-exact who (At now (TakeFrame (Some f)) ∷ H) h =
-    let n = exact who H h.0 in
-    let l = left_counts (changes (holder who H) (holder who (At now (TakeFrame (Some f)) ∷ H)) (hearing who H)) (hearing who H) in
-    let r = more_is (ends_by who H (At now (TakeFrame (Some f)))) (unheard who H) in
-    omega (arith, n, l, r)
-exact who (ReleaseBroadcast true ∷ H) h =
-    let n = exact who H h.0 in
-    let w = waits_whole (hearing who H) h.1 in
-    omega (arith, n, w)
-exact who (call ∷ H) h = exact who H h.0
+    let q = more_is (unheard_by who H (At when (Hear f))) (with_all (over_by who H (At when (Hear f))) (unheard who H)) in
+    let r = all_more (over_by who H (At when (Hear f))) (unheard who H) in
+    omega (arith, n, o, d, m, p, q, r)
+exact who (At now Tick ∷ H) =
+    let n = exact who H in
+    let o = over_count None (holder who H) (time_heard (At now Tick ∷ H)) (listening who H).current in
+    let r = all_more (over_by who H (At now Tick)) (unheard who H) in
+    omega (arith, n, o, r)
+exact who (At now (TakeFrame (Some f)) ∷ H) = go (is_claim f) (exact who H)
+  where
+    G : List Call
+    G = At now (TakeFrame (Some f)) ∷ H
+
+    go : (b : Bool) → announced who H ≡ length (whole_broadcasts who H) + unheard who H + length (listening who H).current
+        → announced who H ≡ length (whole_broadcasts who H) + with_all (if b then those_over None (holder who G) (time_heard H) (listening who H).current else []) (unheard who H)
+        + length (if b then staying None (holder who G) (time_heard H) (listening who H) else listening who H).current
+    go true n =
+        let o = over_count None (holder who G) (time_heard H) (listening who H).current in
+        let r = all_more (those_over None (holder who G) (time_heard H) (listening who H).current) (unheard who H) in
+        omega (arith, n, o, r)
+    go false n = n
+exact who (ReleaseBroadcast true ∷ H) = exact who H
+exact who (call ∷ H) = exact who H
 
 -- ---- news
 
 pub some_unheard : (who : Who) (H : List Call) → IsTrue (unheard_news who H) → 0 < unheard who H
 some_unheard who [] e = absurd (cc)
 some_unheard who (TakeNews (Some MessagesMissed) ∷ H) e = absurd (cc)
-some_unheard who (call ∷ H) e = go (ends_by who H call) (unheard_by who H call) (unheard_news who H) (unheard who H) (some_unheard who H) e
+some_unheard who (call ∷ H) e = go (over_by who H call) (unheard_by who H call) (unheard_news who H) (unheard who H) (some_unheard who H) e
   where
-    go : (a b c : Bool) (n : ℕ) → (IsTrue c → 0 < n) → ((a || b) || c) ≡ true → 0 < more b (more a n)
-    go a b c n h i = grind (arith, h, i)
+    go : (xs : List OpenBroadcast) (b c : Bool) (n : ℕ) → (IsTrue c → 0 < n) → ((is_any xs || b) || c) ≡ true → 0 < more b (with_all xs n)
+    go [] b c n h i = grind (arith, h, i)
+    go (x ∷ xs) b c n h i = let m = more_is b (suc (with_all xs n)) in omega (arith, m)
 
 pub is_told : (who : Who) (H : List Call) (call : Call) → unheard who (call ∷ H) ≢ unheard who H → IsTrue (unheard_news who (call ∷ H))
 is_told who H (TakeNews (Some MessagesMissed)) n = absurd (n refl)
-is_told who H call n = go (ends_by who H call) (unheard_by who H call) n
+is_told who H call n = go (over_by who H call) (unheard_by who H call) n
   where
-    go : (a b : Bool) → (more b (more a (unheard who H)) ≢ unheard who H) → ((a || b) || unheard_news who H) ≡ true
-    go a b m = grind (arith, m)
+    go : (xs : List OpenBroadcast) (b : Bool) → (more b (with_all xs (unheard who H)) ≢ unheard who H) → ((is_any xs || b) || unheard_news who H) ≡ true
+    go [] b m = grind (arith, m)
+    go (x ∷ xs) b m = refl
 
 -- ---- what is heard is for the program
 
-abbrev IsWanted : Who → Option OpenBroadcast → Type 0
-IsWanted who None = Unit {0}
-IsWanted who (Some x) = is_ignored who x.group ≡ false
+not_ignored : (who : Who) (group : ℕ) → is_ignored who group ≡ false → IsTrue (is_subscribed who group) × (is_own_group group ≡ false)
+not_ignored who group e = (grind (arith, e), grind (arith, e))
 
-wanted_effect : (who : Who) (now : ℕ) (f : FrameRecord) (o y : Option OpenBroadcast) (a b : Bool) → Effect who now f o a b y → IsWanted who o → IsWanted who y
-wanted_effect who now f o y a b (begins e1 e2 e3 e4 e5 e6 e7) h = subst (IsWanted who) (sym e7) e2
-wanted_effect who now f o y a b (ends e1 e2 e3 e4 e5) h = subst (IsWanted who) (sym e5) tt
-wanted_effect who now f o y a b (grows x e1 e2 e3 e4 e5 e6 e7 e8 e9) h = let g : is_ignored who x.group ≡ false = subst (IsWanted who) e1 h in subst (IsWanted who) (sym e9) g
-wanted_effect who now f o y a b (stays x e1 e2 e3 e4) h = subst (IsWanted who) (e1 ∙ sym e4) h
+-- what is whole by a frame is a grown one
+pub made_is : (who : Who) (H : List Call) (when : ℕ) (f : FrameRecord) (p : ℕ × MessageRecord) → made_whole who H when f ≡ Some p
+    → (z : OpenBroadcast) × (hears_it who (holder who (At when (Hear f) ∷ H) (source_of f.id)) (time_heard (At when (Hear f) ∷ H)) f (room who H when f) (found who H when f (source_of f.id)) ≡ Some z)
+    × (is_whole z ≡ true) × (p ≡ message_by z) × ((announces f || packs f) ≡ true)
+made_is who H when f p e = go (announces f || packs f) refl e
+  where
+    o : Option OpenBroadcast
+    o = hears_it who (holder who (At when (Hear f) ∷ H) (source_of f.id)) (time_heard (At when (Hear f) ∷ H)) f (room who H when f) (found who H when f (source_of f.id))
 
-wanted : (w : Who) (H : List Call) → IsWanted w (hearing w H)
-wanted w [] = tt
-wanted w (At when (Hear f) ∷ H) =
-    wanted_effect w (time_heard (At when (Hear f) ∷ H)) f _ _ _ _ (effect w (time_heard (At when (Hear f) ∷ H)) f (found w H when f)) (left_keeps (IsWanted w) _ (hearing w H) tt (wanted w H))
-wanted w (At now Tick ∷ H) = left_keeps (IsWanted w) (is_out (time_heard (At now Tick ∷ H)) (hearing w H)) (hearing w H) tt (wanted w H)
-wanted w (At now (TakeFrame (Some f)) ∷ H) = left_keeps (IsWanted w) (changes (holder w H) (holder w (At now (TakeFrame (Some f)) ∷ H)) (hearing w H)) (hearing w H) tt (wanted w H)
-wanted w (ReleaseBroadcast true ∷ H) = tt
-wanted w (call ∷ H) = wanted w H
+    of_some : (o : Option OpenBroadcast) → whole_of o ≡ Some p → (z : OpenBroadcast) × (o ≡ Some z) × (is_whole z ≡ true) × (p ≡ message_by z)
+    of_some None k = absurd (cc)
+    of_some (Some z) k = by (is_whole z) refl k
+      where
+        by : (b : Bool) → is_whole z ≡ b → (if b then Some (message_by z) else None) ≡ Some p → (y : OpenBroadcast) × (Some z ≡ Some y) × (is_whole y ≡ true) × (p ≡ message_by y)
+        by true i m = let q : message_by z ≡ p = cc in (z, refl, i, sym q)
+        by false i m = absurd (cc)
+
+    go : (b : Bool) → (announces f || packs f) ≡ b → (if b then whole_of o else None) ≡ Some p → (z : OpenBroadcast) × (o ≡ Some z) × (is_whole z ≡ true) × (p ≡ message_by z) × ((announces f || packs f) ≡ true)
+    go true i k = let z = of_some o k in (z.0, z.1, z.2, z.3, i)
+    go false i k = absurd (cc)
 
 pub wanted_whole : (who : Who) (H : List Call) (when : ℕ) (f : FrameRecord) (p : ℕ × MessageRecord) → made_whole who H when f ≡ Some p
     → IsTrue (is_subscribed who p.1.pgn) × (is_own_group p.1.pgn ≡ false)
-wanted_whole who H when f p e = not_ignored who p.1.pgn (go (waiting who H) e)
-  where
-    by : (o : Option OpenBroadcast) → IsWanted who o → whole_of o ≡ Some p → is_ignored who p.1.pgn ≡ false
-    by None h i = absurd (cc)
-    by (Some x) h i = all (is_whole x) i
-      where
-        all : (v : Bool) → (if v then Some (message_by x) else None) ≡ Some p → is_ignored who p.1.pgn ≡ false
-        all true j = let q : message_by x ≡ p = cc in subst (λ (r : ℕ × MessageRecord). is_ignored who r.1.pgn ≡ false) q h
-        all false j = absurd (cc)
-
-    go : (o : Option (ℕ × MessageRecord)) → newly o (waiting who (At when (Hear f) ∷ H)) ≡ Some p → is_ignored who p.1.pgn ≡ false
-    go None i = by (hearing who (At when (Hear f) ∷ H)) (wanted who (At when (Hear f) ∷ H)) i
-    go (Some q) i = absurd (cc)
-
-pub unequal : (m n : ℕ) → (m ≢ n) → nat_eq m n ≡ false
-unequal m n h = grind (arith, h)
-
--- ---- packets
-
-module _ (who : Who) (H : List Call) (when : ℕ) (f : FrameRecord) where
-  abbrev K : List Call
-  K = At when (Hear f) ∷ H
-
-  abbrev now : ℕ
-  now = time_heard K
-
-  -- what is no claim leaves who holds an address
-  unclaimed : claim_of f ≡ None → found who H when f ≡ in_time now (hearing who H)
-  unclaimed e =
-      ap (λ (b : Bool). left (b || is_out now (hearing who H)) (hearing who H))
-      (unchanged (known who H when f) (holder who K) (hearing who H) (λ a. unclaimed_known who H when f a e))
-
-  timely : (x : OpenBroadcast) → is_late now x ≡ false → in_time now (Some x) ≡ Some x
-  timely x e = ap (λ (b : Bool). left b (Some x)) e
-
-  hears_found : (x : OpenBroadcast) → claim_of f ≡ None → hearing who H ≡ Some x → is_late now x ≡ false → hearing who K ≡ hears who now f (Some x)
-  hears_found x e g l = ap (hears who now f) (unclaimed e ∙ (ap (in_time now) g ∙ timely x l))
-
-  -- a frame that is none of it leaves it
-  beside : (x : OpenBroadcast) (y : Option OpenBroadcast) (a b : Bool) → is_beside x.source x.count f ≡ true → Effect who now f (Some x) a b y → y ≡ Some x
-  beside x y a b k (begins e1 e2 e3 e4 e5 e6 e7) = absurd (let z : true ≡ false = sym k ∙ e6 in cc)
-  beside x y a b k (ends e1 e2 e3 e4 e5) = absurd (let z : true ≡ false = sym k ∙ e4 in cc)
-  beside x y a b k (grows z e1 e2 e3 e4 e5 e6 e7 e8 e9) =
-      absurd (let s : x ≡ z = cc in let q : true ≡ false = sym k ∙ (ap (λ (u : OpenBroadcast). is_beside u.source u.count f) s ∙ e8) in cc)
-  beside x y a b k (stays z e1 e2 e3 e4) = e4 ∙ sym e1
-
-  packed_by : (x : OpenBroadcast) (g h : Bool) → announces f ≡ false → packs f ≡ true → is_whole x ≡ false → source_of f.id ≡ x.source
-      → skips f x ≡ g → nat_eq (slice_index f.bytes 0) (suc x.count) ≡ h
-      → hears who now f (Some x) ≡ (if g then None else if h then Some (grown now f x) else Some x)
-  packed_by x g h e p w s k l =
-      λ i. if e i then (if has_room (source_of f.id) (Some x) then opens who now f (Some x) else Some x) else if p i
-      then (if w i || not (eq-eqb _ _ s i) then Some x else if k i then None else if l i then Some (grown now f x) else Some x) else Some x
-
-  over_ends : (x : OpenBroadcast) → hearing who H ≡ Some x → is_whole x ≡ false → is_over (known who H when f) (holder who K) now (Some x) ≡ true → found who H when f ≡ None
-  over_ends x e w l =
-      ap (λ (o : Option OpenBroadcast). left (is_over (known who H when f) (holder who K) now o) o) e ∙ λ i. if l i && not (w i) then None else Some x
-
-  pub next_appended : (x : OpenBroadcast) → claim_of f ≡ None → announces f ≡ false → IsTrue (packs f) → hearing who H ≡ Some x → is_whole x ≡ false
-      → source_of f.id ≡ x.source → is_late now x ≡ false → slice_index f.bytes 0 ≡ suc x.count → hearing who K ≡ Some (grown now f x)
-  next_appended x e g k l m n o p = hears_found x e l o ∙ packed_by x false true g k m n (lt_false _ _ (omega (arith, p))) (eq-eqb _ _ p)
-
-  pub gap_ends : (x : OpenBroadcast) → claim_of f ≡ None → announces f ≡ false → IsTrue (packs f) → hearing who H ≡ Some x → is_whole x ≡ false
-      → source_of f.id ≡ x.source → is_late now x ≡ false → suc x.count < slice_index f.bytes 0 → hearing who K ≡ None
-  gap_ends x e g k l m n o p = hears_found x e l o ∙ packed_by x true _ g k m n (lt-ltb _ _ p) refl
-
-  pub repeat_ignored : (x : OpenBroadcast) → claim_of f ≡ None → announces f ≡ false → IsTrue (packs f) → hearing who H ≡ Some x → is_whole x ≡ false
-      → source_of f.id ≡ x.source → is_late now x ≡ false → slice_index f.bytes 0 ≤ x.count → hearing who K ≡ Some x
-  repeat_ignored x e g k l m n o p =
-      hears_found x e l o
-      ∙ beside x _ _ _ ((λ i. not (nat_eq (source_of f.id) x.source) || (not (g i) && (not (k i) || le-leb _ _ p i))) ∙ or-true (not (nat_eq (source_of f.id) x.source)))
-      (effect who now f (Some x))
-
-  pub late_ends : (x : OpenBroadcast) → hearing who H ≡ Some x → is_whole x ≡ false → IsTrue (is_late now x) → found who H when f ≡ None
-  late_ends x e w l = over_ends x e w (ap (λ (b : Bool). changes (known who H when f) (holder who K) (Some x) || b) l ∙ or-true _)
-
-  pub left_ends : (x : OpenBroadcast) → hearing who H ≡ Some x → is_whole x ≡ false → holder who K x.source ≢ known who H when f x.source → found who H when f ≡ None
-  left_ends x e w h = over_ends x e w (ap (λ (b : Bool). not b || is_late now x) (other (is_same (known who H when f x.source) (holder who K x.source)) refl))
-    where
-      other : (b : Bool) → is_same (known who H when f x.source) (holder who K x.source) ≡ b → is_same (known who H when f x.source) (holder who K x.source) ≡ false
-      other true i = absurd (h (same_is _ _ i))
-      other false i = i
-
-  pub strangers : claim_of f ≡ None → announces f ≡ false → (packs f ≡ false) ⊎ ((x : OpenBroadcast) → hearing who H ≡ Some x → source_of f.id ≢ x.source)
-      → hearing who K ≡ in_time now (hearing who H)
-  strangers e g k = ap (hears who now f) (unclaimed e) ∙ go (hearing who H) refl
-    where
-      none : (b : Bool) → (let o : Option OpenBroadcast = None in if b then o else o) ≡ None
-      none b = grind arith
-
-      gone : hears who now f None ≡ None
-      gone = (λ i. if g i then opens who now f None else if packs f then None else None) ∙ none (packs f)
-
-      apart : (x : OpenBroadcast) → hearing who H ≡ Some x → (packs f ≡ false) ⊎ ((x : OpenBroadcast) → hearing who H ≡ Some x → source_of f.id ≢ x.source)
-          → is_beside x.source x.count f ≡ true
-      apart x i (inl p) = (λ j. not (nat_eq (source_of f.id) x.source) || (not (g j) && (not (p j) || nat_le (slice_index f.bytes 0) x.count))) ∙ or-true (not (nat_eq (source_of f.id) x.source))
-      apart x i (inr n) = ap (λ (b : Bool). not b || (not (announces f) && (not (packs f) || nat_le (slice_index f.bytes 0) x.count))) (unequal _ _ (n x i))
-
-      go : (o : Option OpenBroadcast) → hearing who H ≡ o → hears who now f (in_time now o) ≡ in_time now o
-      go None i = gone
-      go (Some x) i = by (is_late now x && not (is_whole x))
-        where
-          by : (b : Bool) → hears who now f (if b then None else Some x) ≡ (if b then None else Some x)
-          by true = gone
-          by false = beside x _ _ _ (apart x i k) (effect who now f (Some x))
-
-  -- in time, a frame of another source
-  pub others_leave : (x : OpenBroadcast) → hearing who H ≡ Some x → holder who K x.source ≡ known who H when f x.source → source_of f.id ≢ x.source → is_late now x ≡ false
-      → hearing who K ≡ Some x
-  others_leave x e held n late =
-      ap (λ (o : Option OpenBroadcast). hears who now f (left (is_over (known who H when f) (holder who K) now o) o)) e
-      ∙ ((λ i. hears who now f (left (not ((ap (is_same (known who H when f x.source)) held ∙ same_same (known who H when f x.source)) i) || late i) (Some x)))
-      ∙ beside x _ _ _ (ap (λ (b : Bool). not b || (not (announces f) && (not (packs f) || nat_le (slice_index f.bytes 0) x.count))) (unequal _ _ n)) (effect who now f (Some x)))
+wanted_whole who H when f p e =
+    let G = At when (Hear f) ∷ H in
+    let z = made_is who H when f p e in
+    let q = result_is who.boxes who (holder who G (source_of f.id)) (time_heard G) f (found_in who H when f) (λ y. is_ignored who y.group ≡ false) (λ y. is_whole y ≡ true → is_ignored who y.group ≡ false)
+    (λ since z a w. absurd (let k : true ≡ false = sym w ∙ begun_open (holder who G (source_of f.id)) since (time_heard G) f a in cc)) (λ y b k m g w. g) (λ y a k m g w. g) (stands_found who H when f).wanted in
+    not_ignored who p.1.pgn
+    (subst (λ (m : ℕ × MessageRecord). is_ignored who m.1.pgn ≡ false) (sym z.3) (subst (λ (o : Option OpenBroadcast). IfSome o (λ y. is_whole y ≡ true → is_ignored who y.group ≡ false)) z.1 q z.2))
 
 -- ---- of one sender
 
@@ -399,15 +492,8 @@ record Begun (who : Who) (H : List Call) (x : OpenBroadcast) : Type 0 where
   pub came : Came x first packets
   pub one : KeepsHolder who x.source later (At at (Hear first) ∷ earlier)
 
--- each that isn't whole, and it stands before a call that leaves the holder of its source
-abbrev AreBegun : Who → List Call → Option OpenBroadcast → Type 0
-AreBegun who H o = IfSome o (λ x. (is_whole x ≡ true) ⊎ Begun who H x)
-
-abbrev AreKept : Who → Call → List Call → Option OpenBroadcast → Type 0
-AreKept who call H o = IfSome o (λ x. (is_whole x ≡ true) ⊎ (Begun who H x × (holder who (call ∷ H) x.source ≡ known_by who call H x.source)))
-
-anew : (who : Who) (H : List Call) (since now when : ℕ) (f : FrameRecord) → announces f ≡ true → Begun who (At when (Hear f) ∷ H) (begun since now f)
-anew who H since now when f e = record {
+anew : (who : Who) (H : List Call) (name : Option ℕ) (since now when : ℕ) (f : FrameRecord) → announces f ≡ true → Begun who (At when (Hear f) ∷ H) (begun name since now f)
+anew who H name since now when f e = record {
   later = [];
   at = when;
   first = f;
@@ -420,9 +506,9 @@ anew who H since now when f e = record {
 }
 
 -- a call later
-goes_on : (who : Who) (call : Call) (H : List Call) (x y : OpenBroadcast) (h : Begun who H x) → holder who (call ∷ H) x.source ≡ known_by who call H x.source → y.source ≡ x.source
+goes_on_by : (who : Who) (call : Call) (H : List Call) (x y : OpenBroadcast) (h : Begun who H x) → holder who (call ∷ H) x.source ≡ known_by who call H x.source → y.source ≡ x.source
     → (packets : List FrameRecord) → IsPartOf y.source packets (frames_heard (call ∷ h.later)) → Came y h.first packets → Begun who (call ∷ H) y
-goes_on who call H x y h k s packets part came = record {
+goes_on_by who call H x y h k s packets part came = record {
   later = call ∷ h.later;
   at = h.at;
   first = h.first;
@@ -444,7 +530,7 @@ numbered_more k n (x ∷ fs) f h e g = (h.0, h.1, numbered_more k (n + 1) fs f h
 appends : (who : Who) (H : List Call) (when : ℕ) (f : FrameRecord) (x : OpenBroadcast) (now : ℕ) → holder who (At when (Hear f) ∷ H) x.source ≡ known who H when f x.source → packs f ≡ true
     → source_of f.id ≡ x.source → slice_index f.bytes 0 ≡ suc x.count → is_whole x ≡ false → Begun who H x → Begun who (At when (Hear f) ∷ H) (grown now f x)
 appends who H when f x now k p s n w h =
-    goes_on who (At when (Hear f)) H x (grown now f x) h k refl (h.packets ++ f ∷ []) (chosen f h.packets (frames_heard h.later) h.part) (record {
+    goes_on_by who (At when (Hear f)) H x (grown now f x) h k refl (h.packets ++ f ∷ []) (chosen f h.packets (frames_heard h.later) h.part) (record {
       source = h.came.source;
       announced = h.came.announced;
       group = h.came.group;
@@ -455,99 +541,104 @@ appends who H when f x now k p s n w h =
       few = (let a = length-append x.bytes (drop 1 f.bytes) in let b = drop_one f.bytes (packs_eight f p) in let c = leb-false _ _ w in omega (arith, a, b, c));
     })
 
--- one that isn't whole
-not_full : (x : OpenBroadcast) → whole_of (Some x) ≡ None → is_whole x ≡ false
-not_full x e = grind (arith, e)
+-- what is heard beside it
+beside_one : (f : FrameRecord) (x : OpenBroadcast) → (source_of f.id ≢ x.source) ⊎ ((announces f ≡ false) × ((packs f ≡ false) ⊎ (slice_index f.bytes 0 ≤ x.count))) → is_beside x.source x.count f ≡ true
+beside_one f x (inl n) = ap (λ (b : Bool). not b || (not (announces f) && (not (packs f) || nat_le (slice_index f.bytes 0) x.count))) (unequal _ _ n)
+beside_one f x (inr (a, inl p)) = (λ i. not (nat_eq (source_of f.id) x.source) || (not (a i) && (not (p i) || nat_le (slice_index f.bytes 0) x.count))) ∙ or-true (not (nat_eq (source_of f.id) x.source))
+beside_one f x (inr (a, inr n)) =
+    ((λ i. not (nat_eq (source_of f.id) x.source) || (not (a i) && (not (packs f) || le-leb _ _ n i))) ∙ ap (λ (b : Bool). not (nat_eq (source_of f.id) x.source) || b) (or-true (not (packs f))))
+    ∙ or-true (not (nat_eq (source_of f.id) x.source))
 
-open_one : (who : Who) (call : Call) (H : List Call) (x : OpenBroadcast) → AreKept who call H (Some x) → is_whole x ≡ false
-    → Begun who H x × (holder who (call ∷ H) x.source ≡ known_by who call H x.source)
-open_one who call H x (inl i) w = absurd (let z : true ≡ false = sym i ∙ w in cc)
-open_one who call H x (inr h) w = h
+passes_it : (who : Who) (H : List Call) (when : ℕ) (f : FrameRecord) (x : OpenBroadcast) → holder who (At when (Hear f) ∷ H) x.source ≡ known who H when f x.source → Begun who H x
+    → is_beside x.source x.count f ≡ true → Begun who (At when (Hear f) ∷ H) x
+passes_it who H when f x k h b =
+    goes_on_by who (At when (Hear f)) H x x h k refl h.packets (passed f h.packets (frames_heard h.later) (ap (λ (n : ℕ). is_beside x.source n f) h.came.count ∙ b) h.part) h.came
 
--- a frame is heard, where none waits
-heard_open : (who : Who) (H : List Call) (when now : ℕ) (f : FrameRecord) (o y : Option OpenBroadcast) (a b : Bool) → AreKept who (At when (Hear f)) H o → whole_of o ≡ None
-    → Effect who now f o a b y → IfSome y (Begun who (At when (Hear f) ∷ H))
-heard_open who H when now f o y a b h n (begins e1 e2 e3 e4 e5 e6 e7) = subst (λ (z : Option OpenBroadcast). IfSome z (Begun who (At when (Hear f) ∷ H))) (sym e7) (anew who H (since_in now o) now when f e1)
-heard_open who H when now f o y a b h n (ends e1 e2 e3 e4 e5) = subst (λ (z : Option OpenBroadcast). IfSome z (Begun who (At when (Hear f) ∷ H))) (sym e5) tt
-heard_open who H when now f o y a b h n (grows x e1 e2 e3 e4 e5 e6 e7 e8 e9) =
-    let k = open_one who (At when (Hear f)) H x (subst (AreKept who (At when (Hear f)) H) e1 h) e3 in
-    subst (λ (z : Option OpenBroadcast). IfSome z (Begun who (At when (Hear f) ∷ H))) (sym e9) (appends who H when f x now k.1 e2 e4 e5 e3 k.0)
-heard_open who H when now f o y a b h n (stays x e1 e2 e3 e4) =
-    let w = not_full x (sym (ap whole_of e1) ∙ n) in
-    let k = open_one who (At when (Hear f)) H x (subst (AreKept who (At when (Hear f)) H) e1 h) w in
-    subst (λ (z : Option OpenBroadcast). IfSome z (Begun who (At when (Hear f) ∷ H))) (sym e4) (goes_on who (At when (Hear f)) H x x k.0 k.1 refl k.0.packets
-    (passed f k.0.packets (frames_heard k.0.later) (ap (λ (n : ℕ). is_beside x.source n f) k.0.came.count ∙ none_of x w e3) k.0.part) k.0.came)
-  where
-    none_of : (x : OpenBroadcast) → is_whole x ≡ false → (is_whole x ≡ true) ⊎ (is_beside x.source x.count f ≡ true) → is_beside x.source x.count f ≡ true
-    none_of x w (inl i) = absurd (let z : true ≡ false = sym i ∙ w in cc)
-    none_of x w (inr i) = i
+-- those that a call leaves
+abbrev IsKept : Who → Call → List Call → OpenBroadcast → Type 0
+IsKept who call H x = Begun who H x × (holder who (call ∷ H) x.source ≡ known_by who call H x.source)
 
-begun_ones : (who : Who) (H : List Call) (o : Option OpenBroadcast) → IfSome o (Begun who H) → AreBegun who H o
-begun_ones who H None h = tt
-begun_ones who H (Some x) h = inr h
+all_kept : (who : Who) (call : Call) (H : List Call) (gone : Option ℕ) (now : ℕ) → ((a : ℕ) → known_by who call H a ≡ still gone (holder who H) a) → All (Begun who H) (listening who H).current
+    → All (IsKept who call H) (stay gone (holder who (call ∷ H)) now (listening who H).current)
+all_kept who call H gone now k h = λ i d l.
+    let p = λ (x : OpenBroadcast). not (is_over gone (holder who (call ∷ H)) now x) in
+    let xs = (listening who H).current in
+    let b = All-filter p (Begun who H) xs h i d l in
+    let n = All-filter p (IsNamed (holder who H)) xs (stands who H).named i d l in
+    let o = filter_passes p xs i d l in
+    let x = get_or (stay gone (holder who (call ∷ H)) now xs) i d in
+    (b, here_is gone (holder who H) (holder who (call ∷ H)) x n (neither _ _ o).0 ∙ sym (k x.source))
 
-heard_more : (who : Who) (H : List Call) (when now : ℕ) (f : FrameRecord) (o : Option OpenBroadcast) → AreKept who (At when (Hear f)) H o
-    → AreBegun who (At when (Hear f) ∷ H) (hears who now f o)
-heard_more who H when now f o h = go (whole_of o) refl
-  where
-    go : (p : Option (ℕ × MessageRecord)) → whole_of o ≡ p → AreBegun who (At when (Hear f) ∷ H) (hears who now f o)
-    go None e = begun_ones who (At when (Hear f) ∷ H) _ (heard_open who H when now f o _ _ _ h e (effect who now f o))
-    go (Some p) e =
-        let x = whole_is o p e in
-        subst (AreBegun who (At when (Hear f) ∷ H)) (sym (kept_whole who now f o _ _ _ p (effect who now f o) e ∙ x.1)) (inl x.2)
+goes_quiet : (who : Who) (call : Call) (H : List Call) → ((G : List Call) → frames_heard (call ∷ G) ≡ frames_heard G) → (x : OpenBroadcast) → IsKept who call H x → Begun who (call ∷ H) x
+goes_quiet who call H quiet x h =
+    goes_on_by who call H x x h.0 h.1 refl h.0.packets (subst (IsPartOf x.source h.0.packets) (sym (quiet h.0.later)) h.0.part) h.0.came
 
--- what a call leaves
-left_more : (who : Who) (call : Call) (H : List Call) (b : Bool) (o : Option OpenBroadcast)
-    → IfSome o (λ x. b ≡ false → holder who (call ∷ H) x.source ≡ known_by who call H x.source) → AreBegun who H o → AreKept who call H (left b o)
-left_more who call H b None k h = tt
-left_more who call H b (Some x) k (inl w) = subst (AreKept who call H) (sym (left_whole b x w)) (inl w)
-left_more who call H true (Some x) k (inr h) = go (is_whole x) refl
-  where
-    go : (w : Bool) → is_whole x ≡ w → AreKept who call H (if not w then None else Some x)
-    go true e = inl e
-    go false e = tt
-left_more who call H false (Some x) k (inr h) = inr (h, k refl)
+each : (P Q : OpenBroadcast → Type 0) (xs : List OpenBroadcast) → ((x : OpenBroadcast) → P x → Q x) → All P xs → All Q xs
+each P Q xs g h = λ i d l. g _ (h i d l)
 
-quiet_more : (who : Who) (call : Call) (H : List Call) (o : Option OpenBroadcast) → ((G : List Call) → frames_heard (call ∷ G) ≡ frames_heard G)
-    → AreKept who call H o → AreBegun who (call ∷ H) o
-quiet_more who call H None quiet h = tt
-quiet_more who call H (Some x) quiet (inl w) = inl w
-quiet_more who call H (Some x) quiet (inr h) = inr (goes_on who call H x x h.0 h.1 refl h.0.packets (subst (IsPartOf x.source h.0.packets) (sym (quiet h.0.later)) h.0.part) h.0.came)
+module _ (who : Who) (H : List Call) (when : ℕ) (f : FrameRecord) (h : All (Begun who H) (listening who H).current) where
+  kept_ones : All (IsKept who (At when (Hear f)) H) (found_in who H when f).current
+  kept_ones = all_kept who (At when (Hear f)) H (restarts who H when f) (time_heard (K who H when f)) (λ a. refl) h
 
--- it isn't over, so its source has the holder that it had
-unchanged_by : (before after : ℕ → Option ℕ) (o : Option OpenBroadcast) → IfSome o (λ x. changes before after o ≡ false → after x.source ≡ before x.source)
-unchanged_by before after None = tt
-unchanged_by before after (Some x) = λ e. same_is _ _ (grind (arith, e))
+  its_one : IfSome (hears_it who (holder who (K who H when f) (s who H when f)) (time_heard (K who H when f)) f (room who H when f) (found who H when f (s who H when f))) (Begun who (K who H when f))
+  its_one =
+      result_is who.boxes who (holder who (K who H when f) (s who H when f)) (time_heard (K who H when f)) f (found_in who H when f) (IsKept who (At when (Hear f)) H) (Begun who (K who H when f))
+      (λ since z e. anew who H (holder who (K who H when f) (s who H when f)) since (time_heard (K who H when f)) when f e)
+      (λ y p k m g. appends who H when f y (time_heard (K who H when f)) g.1 p (sym (source_is y k)) m (not_whole who H when f y k) g.0)
+      (λ y a k m g. passes_it who H when f y g.1 g.0 (beside_one f y (inr (a, m)))) kept_ones
+    where
+      source_is : (y : OpenBroadcast) → found who H when f (s who H when f) ≡ Some y → y.source ≡ s who H when f
+      source_is y k = subst (λ (o : Option OpenBroadcast). IfSome o (λ z. z.source ≡ s who H when f)) k (of_source (s who H when f) (found_in who H when f).current)
 
-not_over : (before after : ℕ → Option ℕ) (now : ℕ) (o : Option OpenBroadcast) → IfSome o (λ x. is_over before after now o ≡ false → after x.source ≡ before x.source)
-not_over before after now None = tt
-not_over before after now (Some x) = λ e. same_is _ _ (grind (arith, e))
+  differs : (b c : ℕ) → not (nat_eq b c) ≡ true → b ≢ c
+  differs b c e = λ z. absurd (let q : false ≡ true = sym (ap not (eq-eqb b c z)) ∙ e in cc)
 
-same_holders : (who : Who) (call : Call) (H : List Call) (b : Bool) (o : Option OpenBroadcast) → ((a : ℕ) → holder who (call ∷ H) a ≡ known_by who call H a)
-    → IfSome o (λ x. b ≡ false → holder who (call ∷ H) x.source ≡ known_by who call H x.source)
-same_holders who call H b None k = tt
-same_holders who call H b (Some x) k = λ e. k x.source
+  heard_begun : All (Begun who (K who H when f)) (listening who (K who H when f)).current
+  heard_begun = go (announces f) (packs f) refl refl
+    where
+      l : Listening
+      l = found_in who H when f
 
-found_kept : (who : Who) (H : List Call) (when : ℕ) (f : FrameRecord) → AreBegun who H (hearing who H) → AreKept who (At when (Hear f)) H (found who H when f)
-found_kept who H when f h =
-    let G = At when (Hear f) ∷ H in
-    left_more who (At when (Hear f)) H (is_over (known who H when f) (holder who G) (time_heard G) (hearing who H)) (hearing who H)
-    (not_over (known who H when f) (holder who G) (time_heard G) (hearing who H)) h
+      o : Option OpenBroadcast
+      o = hears_it who (holder who (K who H when f) (s who H when f)) (time_heard (K who H when f)) f (room who H when f) (found who H when f (s who H when f))
 
-are_begun : (who : Who) (H : List Call) → AreBegun who H (hearing who H)
-are_begun who [] = tt
-are_begun who (At when (Hear f) ∷ H) = heard_more who H when (time_heard (At when (Hear f) ∷ H)) f (found who H when f) (found_kept who H when f (are_begun who H))
+      apart_ones : All (Begun who (K who H when f)) (others (s who H when f) l.current)
+      apart_ones = λ i d m.
+          let p = λ (x : OpenBroadcast). not (nat_eq (s who H when f) x.source) in
+          let k = All-filter p (IsKept who (At when (Hear f)) H) l.current kept_ones i d m in
+          let x = get_or (others (s who H when f) l.current) i d in
+          passes_it who H when f x k.1 k.0 (beside_one f x (inl (differs (s who H when f) x.source (filter_passes p l.current i d m))))
+
+      last : (o : Option OpenBroadcast) → IfSome o (Begun who (K who H when f)) → All (Begun who (K who H when f)) (part_of o)
+      last None k = λ i d m. absurd (omega (arith, m))
+      last (Some y) k = cond_both (is_whole y) [] (y ∷ []) (All (Begun who (K who H when f))) (λ e. λ i d m. absurd (omega (arith, m))) (λ e. All-cons (Begun who (K who H when f)) y [] k (λ i d m. absurd (omega (arith, m))))
+
+      with : All (Begun who (K who H when f)) (with_one o (without_source (s who H when f) l)).current
+      with = All-append (Begun who (K who H when f)) (others (s who H when f) l.current) (part_of o) apart_ones (last o its_one)
+
+      P : Bool → Type 0
+      P b = All (Begun who (K who H when f)) (if b then with_one o (without_source (s who H when f) l) else l).current
+
+      go : (a b : Bool) → announces f ≡ a → packs f ≡ b → P (announces f || packs f)
+      go true b e g = subst P (sym (ap (λ (c : Bool). c || packs f) e)) with
+      go false true e g = subst P (sym (λ i. e i || g i)) with
+      go false false e g = subst P (sym (λ i. e i || g i)) (each (IsKept who (At when (Hear f)) H) (Begun who (K who H when f)) l.current (λ x k. passes_it who H when f x k.1 k.0 (beside_one f x (inr (e, inl g)))) kept_ones)
+
+are_begun : (who : Who) (H : List Call) → All (Begun who H) (listening who H).current
+are_begun who [] = λ i d l. absurd (omega (arith, l))
+are_begun who (At when (Hear f) ∷ H) = heard_begun who H when f (are_begun who H)
 are_begun who (At now Tick ∷ H) =
-    let b = is_out (time_heard (At now Tick ∷ H)) (hearing who H) in
-    quiet_more who (At now Tick) H _ (λ G. refl) (left_more who (At now Tick) H b (hearing who H) (same_holders who (At now Tick) H b (hearing who H) (λ a. refl)) (are_begun who H))
-are_begun who (At now (TakeFrame (Some f)) ∷ H) =
-    let G = At now (TakeFrame (Some f)) ∷ H in
-    quiet_more who (At now (TakeFrame (Some f))) H _ (λ G. refl)
-    (left_more who (At now (TakeFrame (Some f))) H (changes (holder who H) (holder who G) (hearing who H)) (hearing who H) (unchanged_by (holder who H) (holder who G) (hearing who H)) (are_begun who H))
-are_begun who (ReleaseBroadcast true ∷ H) = tt
-are_begun who (call ∷ H) =
-    quiet_more who call H (hearing who H) (λ G. refl)
-    (subst (AreKept who call H) (left_none (hearing who H)) (left_more who call H false (hearing who H) (same_holders who call H false (hearing who H) (λ a. refl)) (are_begun who H)))
+    each _ _ (listening who (At now Tick ∷ H)).current (goes_quiet who (At now Tick) H (λ G. refl)) (all_kept who (At now Tick) H None (time_heard (At now Tick ∷ H)) (λ a. refl) (are_begun who H))
+are_begun who (At now (TakeFrame (Some f)) ∷ H) = go (is_claim f) refl (are_begun who H)
+  where
+    G : List Call
+    G = At now (TakeFrame (Some f)) ∷ H
+
+    go : (b : Bool) → is_claim f ≡ b → All (Begun who H) (listening who H).current → All (Begun who G) (if b then staying None (holder who G) (time_heard H) (listening who H) else listening who H).current
+    go true e h = each _ _ (stay None (holder who G) (time_heard H) (listening who H).current) (goes_quiet who (At now (TakeFrame (Some f))) H (λ G. refl)) (all_kept who (At now (TakeFrame (Some f))) H None (time_heard H) (λ a. refl) h)
+    go false e h = each _ _ (listening who H).current (λ x k. goes_quiet who (At now (TakeFrame (Some f))) H (λ G. refl) x (k, ap (λ (b : Bool). if b then Rattle.j39_node.specs.Reception.held_then x.source (claim_of f) (holder who H x.source) else holder who H x.source) e)) h
+are_begun who (ReleaseBroadcast true ∷ H) = each _ _ (listening who H).current (λ x k. goes_quiet who (ReleaseBroadcast true) H (λ G. refl) x (k, refl)) (are_begun who H)
+are_begun who (call ∷ H) = each _ _ (listening who H).current (λ x k. goes_quiet who call H (λ G. refl) x (k, refl)) (are_begun who H)
 
 -- all its packets came
 done : (who : Who) (H : List Call) (x : OpenBroadcast) → Begun who H x → is_whole x ≡ true → length x.bytes ≡ 7 * x.count → WasBroadcast who H (message_by x).1
@@ -579,146 +670,197 @@ done who H x h w seven =
     }
 
 pub came : (who : Who) (H : List Call) (when : ℕ) (f : FrameRecord) (p : ℕ × MessageRecord) → made_whole who H when f ≡ Some p → WasBroadcast who (At when (Hear f) ∷ H) p.1
-came who H when f p e = go (waiting who H) refl e
-  where
-    G : List Call
-    G = At when (Hear f) ∷ H
-
-    last : (o : Option OpenBroadcast) → IfSome o (Begun who G) → IsFit o → whole_of o ≡ Some p → WasBroadcast who G p.1
-    last o h fits i =
-        let x = whole_is o p i in
-        let z : Some (message_by x.0) ≡ Some p = sym (ap whole_of x.1 ∙ ap (λ (v : Bool). if v then Some (message_by x.0) else None) x.2) ∙ i in
-        let q : message_by x.0 ≡ p = cc in
-        subst (λ (r : ℕ × MessageRecord). WasBroadcast who G r.1) q
-        (done who G x.0 (subst (λ (o : Option OpenBroadcast). IfSome o (Begun who G)) x.1 h) x.2 (subst IsFit x.1 fits).0)
-
-    go : (o : Option (ℕ × MessageRecord)) → waiting who H ≡ o → newly o (waiting who G) ≡ Some p → WasBroadcast who G p.1
-    go None i k =
-        last (hearing who G)
-        (heard_open who H when (time_heard G) f (found who H when f) _ _ _ (found_kept who H when f (are_begun who H))
-        (whole_of_left (is_over (known who H when f) (holder who G) (time_heard G) (hearing who H)) (hearing who H) ∙ i) (effect who (time_heard G) f (found who H when f)))
-        (fit who G) k
-    go (Some q) i k = absurd (cc)
-
--- ---- what a packet and a claim do
+came who H when f p e =
+    let G = At when (Hear f) ∷ H in
+    let z = made_is who H when f p e in
+    let q = subst (λ (o : Option OpenBroadcast). IfSome o (Begun who G)) z.1 (its_one who H when f (are_begun who H)) in
+    let seven = result_is who.boxes who (holder who G (source_of f.id)) (time_heard G) f (found_in who H when f) IsFit (λ y. length y.bytes ≡ 7 * y.count) (λ since z a. refl)
+    (λ y b k m g. (let a = length-append y.bytes (drop 1 f.bytes) in let d = drop_one f.bytes (packs_eight f b) in let n = g.0 in omega (arith, a, d, n))) (λ y a k m g. g.0) (stands_found who H when f).fit in
+    subst (λ (m : ℕ × MessageRecord). WasBroadcast who G m.1) (sym z.3) (done who G z.0 q z.2 (subst (λ (o : Option OpenBroadcast). IfSome o (λ y. length y.bytes ≡ 7 * y.count)) z.1 seven))
 
 -- ---- a tick
 
--- before the moment that is told nothing is over
-pub tick_keeps : (who : Who) (H : List Call) (now : ℕ) → heard_at H ≤ now → now < 10000000000000000 → ((t : ℕ) → hearing_tick who H ≡ Some t → now < t)
-    → hearing who (At now Tick ∷ H) ≡ hearing who H
-tick_keeps who H now l m q = go (hearing who H) q
-  where
-    go : (o : Option OpenBroadcast) → ((t : ℕ) → late_at o (heard_at H) (time_heard H) ≡ Some t → now < t) → in_time (time_heard (At now Tick ∷ H)) o ≡ o
-    go None k = refl
-    go (Some x) k = by (is_whole x) refl
-      where
-        by : (v : Bool) → is_whole x ≡ v → in_time (time_heard (At now Tick ∷ H)) (Some x) ≡ Some x
-        by true w = left_whole _ x w
-        by false w =
-            ap (λ (b : Bool). left b (Some x))
-            (lt_false _ _ (before_moment (expires x) (heard_at H) (time_heard H) now l m
-            (λ t e. k t (ap (λ (v : Bool). if v then None else stamp_at (heard_at H + (suc (expires x) - time_heard H))) w ∙ e))))
+keeps_one : (holds : ℕ → Option ℕ) (now : ℕ) (x : OpenBroadcast) → IsNamed holds x → now ≤ expires x → is_over None holds now x ≡ false
+keeps_one holds now x n l = λ i. not ((ap (λ (o : Option ℕ). is_same o (holds x.source)) n ∙ same_same (holds x.source)) i) || lt_false _ _ l i
 
--- from it on it is over
-pub tick_ends : (who : Who) (H : List Call) (now t : ℕ) → hearing_tick who H ≡ Some t → t ≤ now → time_heard H + (t - heard_at H) < 10000000000000000
-    → hearing who (At now Tick ∷ H) ≡ None
-tick_ends who H now t e l m = go (hearing who H) e
+none_over : (holds : ℕ → Option ℕ) (now : ℕ) (xs : List OpenBroadcast) → All (IsNamed holds) xs → ((e : ℕ) → earliest xs ≡ Some e → now ≤ e) → stay None holds now xs ≡ xs
+none_over holds now [] h q = refl
+none_over holds now (x ∷ xs) h q = go (earliest xs) refl (none_over holds now xs (All-tail (IsNamed holds) x xs h))
   where
-    go : (o : Option OpenBroadcast) → late_at o (heard_at H) (time_heard H) ≡ Some t → in_time (time_heard (At now Tick ∷ H)) o ≡ None
-    go None k = refl
-    go (Some x) k = by (is_whole x) refl k
-      where
-        by : (v : Bool) → is_whole x ≡ v → (if v then None else stamp_at (heard_at H + (suc (expires x) - time_heard H))) ≡ Some t
-            → in_time (time_heard (At now Tick ∷ H)) (Some x) ≡ None
-        by true w i = absurd (cc)
-        by false w i =
-            λ j. if lt-ltb _ _ (after_moment (expires x) (heard_at H) (time_heard H) t now i l m) j && not (w j) then None else Some x
+    n : IsNamed holds x
+    n = All-head (IsNamed holds) x xs h
+
+    stays : now ≤ expires x → stay None holds now xs ≡ xs → stay None holds now (x ∷ xs) ≡ x ∷ xs
+    stays l e = ap (λ (b : Bool). if not b then x ∷ stay None holds now xs else stay None holds now xs) (keeps_one holds now x n l) ∙ ap (λ ys. x ∷ ys) e
+
+    go : (o : Option ℕ) → earliest xs ≡ o → (((e : ℕ) → earliest xs ≡ Some e → now ≤ e) → stay None holds now xs ≡ xs) → stay None holds now (x ∷ xs) ≡ x ∷ xs
+    go None i k = stays (q (expires x) (ap (sooner (Some (expires x))) i)) (k (λ e z. absurd (let y : None ≡ Some e = sym i ∙ z in cc)))
+    go (Some m) i k =
+        let l = q (min (expires x) m) (ap (sooner (Some (expires x))) i) in
+        stays (omega (arith, l)) (k (λ e z. (let y : Some m ≡ Some e = sym i ∙ z in let w : m ≡ e = cc in omega (arith, l, w))))
+
+some_over : (holds : ℕ → Option ℕ) (now e : ℕ) (xs : List OpenBroadcast) → earliest xs ≡ Some e → e < now → 0 < length (those_over None holds now xs)
+some_over holds now e [] g l = absurd (cc)
+some_over holds now e (x ∷ xs) g l = go (is_over None holds now x) refl (earliest xs) refl (λ k. some_over holds now k xs)
+  where
+    go : (b : Bool) → is_over None holds now x ≡ b → (o : Option ℕ) → earliest xs ≡ o → ((k : ℕ) → earliest xs ≡ Some k → k < now → 0 < length (those_over None holds now xs))
+        → 0 < length (if b then x ∷ those_over None holds now xs else those_over None holds now xs)
+    go true i o j k = omega arith
+    go false i None j k =
+        let z : Some (expires x) ≡ Some e = sym (ap (sooner (Some (expires x))) j) ∙ g in
+        let y : expires x ≡ e = cc in
+        let w : nat_lt (expires x) now ≡ false = grind (arith, i) in
+        absurd (let a = ltb-false _ _ w in omega (arith, a, y, l))
+    go false i (Some m) j k =
+        let z : Some (min (expires x) m) ≡ Some e = sym (ap (sooner (Some (expires x))) j) ∙ g in
+        let y : min (expires x) m ≡ e = cc in
+        let w : nat_lt (expires x) now ≡ false = grind (arith, i) in
+        let a = ltb-false _ _ w in k m j (omega (arith, a, y, l))
+
+pub tick_keeps : (who : Who) (H : List Call) (now : ℕ) → heard_at H ≤ now → now < 10000000000000000 → ((t : ℕ) → hearing_tick who H ≡ Some t → now < t)
+    → listening who (At now Tick ∷ H) ≡ listening who H
+tick_keeps who H now l m q =
+    λ i. record {
+      current =
+          none_over (holder who H) (time_heard (At now Tick ∷ H)) (listening who H).current (stands who H).named
+          (λ e z. before_moment e (heard_at H) (time_heard H) now l m (λ t k. q t (ap (λ (o : Option ℕ). late_at o (heard_at H) (time_heard H)) z ∙ k))) i;
+      waits = (listening who H).waits;
+    }
+
+pub tick_ends : (who : Who) (H : List Call) (now t : ℕ) → hearing_tick who H ≡ Some t → t ≤ now → time_heard H + (t - heard_at H) < 10000000000000000
+    → 0 < length (over_by who H (At now Tick))
+tick_ends who H now t e l m = go (earliest (listening who H).current) refl e
+  where
+    go : (o : Option ℕ) → earliest (listening who H).current ≡ o → late_at o (heard_at H) (time_heard H) ≡ Some t → 0 < length (over_by who H (At now Tick))
+    go None i k = absurd (cc)
+    go (Some n) i k = some_over (holder who H) (time_heard (At now Tick ∷ H)) n (listening who H).current i (after_moment n (heard_at H) (time_heard H) t now k l m)
 
 -- ---- its account
 
-pub account_begins : (who : Who) (H : List Call) (when : ℕ) (f : FrameRecord) (x : OpenBroadcast) → found who H when f ≡ None → hearing who (At when (Hear f) ∷ H) ≡ Some x
+-- its account is that of the one whose place it takes, or else begins now
+account_is : (who : Who) (H : List Call) (when a : ℕ) (f : FrameRecord) (y : OpenBroadcast) → hearing who (At when (Hear f) ∷ H) a ≡ Some y
+    → y.since ≡ since_in (time_heard (At when (Hear f) ∷ H)) (found who H when f a)
+account_is who H when a f y e = go (nat_eq (source_of f.id) a) refl
+  where
+    now : ℕ
+    now = time_heard (At when (Hear f) ∷ H)
+
+    name : Option ℕ
+    name = holder who (At when (Hear f) ∷ H) (source_of f.id)
+
+    l : Listening
+    l = found_in who H when f
+
+    o : Option OpenBroadcast
+    o = of (source_of f.id) l.current
+
+    Q : OpenBroadcast → Type 0
+    Q z = z.since ≡ since_in now o
+
+    of_part : (r : Option OpenBroadcast) → IfSome r Q → open_part who.boxes who name now f l r ≡ Some y → Q y
+    of_part None h k = absurd (cc)
+    of_part (Some z) h k = go (is_whole z) k
+      where
+        go : (b : Bool) → (if b then None else Some z) ≡ Some y → Q y
+        go true k = absurd (cc)
+        go false k = let q : z ≡ y = cc in subst Q q h
+
+    kind : (b : Bool) → (announces f || packs f) ≡ b
+        → of (source_of f.id) (if b then with_one (hears_it who name now f (has_room who.boxes (source_of f.id) l) o) (without_source (source_of f.id) l) else l).current ≡ Some y → Q y
+    kind true i k =
+        of_part _
+        (result_is who.boxes who name now f l IsFit Q (λ since z b. z) (λ z b g n h. sym (ap (since_in now) g)) (λ z b g n h. sym (ap (since_in now) g)) (stands_found who H when f).fit)
+        (sym (of_its who.boxes who name now f l i)
+        ∙ (ap (λ (b : Bool). of (source_of f.id) (if b then with_one (hears_it who name now f (has_room who.boxes (source_of f.id) l) o) (without_source (source_of f.id) l) else l).current) i ∙ k))
+    kind false i k = sym (ap (since_in now) k)
+
+    go : (b : Bool) → nat_eq (source_of f.id) a ≡ b → y.since ≡ since_in now (found who H when f a)
+    go true i = let s = eqb-true (source_of f.id) a i in kind (announces f || packs f) refl (ap (hearing who (At when (Hear f) ∷ H)) s ∙ e) ∙ ap (λ (b : ℕ). since_in now (found who H when f b)) s
+    go false i = sym (ap (since_in now) (sym (others_leave who H when a f (λ s. absurd (let q : true ≡ false = sym (eq-eqb _ _ s) ∙ i in cc))) ∙ e))
+
+pub account_begins : (who : Who) (H : List Call) (when a : ℕ) (f : FrameRecord) (x : OpenBroadcast) → found who H when f a ≡ None → hearing who (At when (Hear f) ∷ H) a ≡ Some x
     → x.since ≡ time_heard (At when (Hear f) ∷ H)
-account_begins who H when f x n e =
-    go None _ _ _ refl (effect who now f None) (sym (ap (hears who now f) n) ∙ e)
+account_begins who H when a f x n e = account_is who H when a f x e ∙ ap (since_in (time_heard (At when (Hear f) ∷ H))) n
+
+-- it isn't over
+goes_past : (p : OpenBroadcast → Bool) (a : ℕ) (xs : List OpenBroadcast) (x : OpenBroadcast) → Rattle.j39_node.specs.Hearing.AreApart xs → of a xs ≡ Some x → of a (filter p xs) ≡ None
+    → of a (filter (λ y. not (p y)) xs) ≡ Some x
+goes_past p a xs x h e n =
+    let k : kept_by p (Some x) ≡ None = ap (kept_by p) (sym e) ∙ (sym (of_filter p a xs h) ∙ n) in
+    let b : p x ≡ false = grind (arith, k) in
+    of_filter (λ y. not (p y)) a xs h ∙ (ap (kept_by (λ y. not (p y))) e ∙ ap (λ (v : Bool). if not v then Some x else None) b)
+
+one_is : (o : Option OpenBroadcast) (x y : OpenBroadcast) → o ≡ Some x → o ≡ Some y → y.since ≡ x.since
+one_is o x y e g = let z : Some x ≡ Some y = sym e ∙ g in let q : x ≡ y = cc in ap (λ (u : OpenBroadcast). u.since) (sym q)
+
+account_goes : (who : Who) (H : List Call) (when a : ℕ) (f : FrameRecord) (x y : OpenBroadcast) → found who H when f a ≡ Some x → hearing who (At when (Hear f) ∷ H) a ≡ Some y → y.since ≡ x.since
+account_goes who H when a f x y n e = account_is who H when a f y e ∙ ap (since_in (time_heard (At when (Hear f) ∷ H))) n
+
+pub account_runs : (who : Who) (H : List Call) (call : Call) (a : ℕ) (x y : OpenBroadcast) → hearing who H a ≡ Some x → hearing who (call ∷ H) a ≡ Some y
+    → of a (over_by who H call) ≡ None → y.since ≡ x.since
+account_runs who H (At when (Hear f)) a x y e g n =
+    account_goes who H when a f x y
+    (goes_past (is_over (restarts who H when f) (holder who (At when (Hear f) ∷ H)) (time_heard (At when (Hear f) ∷ H))) a (listening who H).current x (stands who H).apart e n) g
+account_runs who H (At now Tick) a x y e g n =
+    one_is _ x y (goes_past (is_over None (holder who H) (time_heard (At now Tick ∷ H))) a (listening who H).current x (stands who H).apart e n) g
+account_runs who H (At now (TakeFrame (Some f))) a x y e g n = go (is_claim f) g n
   where
-    now : ℕ
-    now = time_heard (At when (Hear f) ∷ H)
+    G : List Call
+    G = At now (TakeFrame (Some f)) ∷ H
 
-    go : (o y : Option OpenBroadcast) (a b : Bool) → o ≡ None → Effect who now f o a b y → y ≡ Some x → x.since ≡ now
-    go o y a b n (begins e1 e2 e3 e4 e5 e6 e7) g = let z : begun (since_in now o) now f ≡ x = cc in ap (λ (u : OpenBroadcast). u.since) (sym z) ∙ ap (since_in now) n
-    go o y a b n (ends e1 e2 e3 e4 e5) g = absurd (cc)
-    go o y a b n (grows z e1 e2 e3 e4 e5 e6 e7 e8 e9) g = absurd (cc)
-    go o y a b n (stays z e1 e2 e3 e4) g = absurd (cc)
-
-left_is : (b : Bool) (o : Option OpenBroadcast) (x y : OpenBroadcast) → o ≡ Some x → left b o ≡ Some y → y ≡ x
-left_is b None x y e g = absurd (cc)
-left_is b (Some z) x y e g = grind (arith, e, g)
-
-pub account_runs : (who : Who) (H : List Call) (call : Call) (x y : OpenBroadcast) → hearing who H ≡ Some x → is_whole x ≡ false → hearing who (call ∷ H) ≡ Some y
-    → ends_by who H call ≡ false → y.since ≡ x.since
-account_runs who H (At when (Hear f)) x y e w g n = go (found who H when f) _ _ _ (stayed (hearing who H) e n) (effect who now f (found who H when f)) g
-  where
-    now : ℕ
-    now = time_heard (At when (Hear f) ∷ H)
-
-    over : Option OpenBroadcast → Bool
-    over o = is_over (known who H when f) (holder who (At when (Hear f) ∷ H)) now o
-
-    stayed : (o : Option OpenBroadcast) → o ≡ Some x → breaks (over o) o ≡ false → left (over o) o ≡ Some x
-    stayed None e n = absurd (cc)
-    stayed (Some z) e n = ap (λ (b : Bool). if b then None else Some z) n ∙ e
-
-    go : (o p : Option OpenBroadcast) (a b : Bool) → o ≡ Some x → Effect who now f o a b p → p ≡ Some y → y.since ≡ x.since
-    go o p a b e (begins e1 e2 e3 e4 e5 e6 e7) g = let z : begun (since_in now o) now f ≡ y = cc in ap (λ (u : OpenBroadcast). u.since) (sym z) ∙ ap (since_in now) e
-    go o p a b e (ends e1 e2 e3 e4 e5) g = absurd (cc)
-    go o p a b e (grows z e1 e2 e3 e4 e5 e6 e7 e8 e9) g = let u : grown now f z ≡ y = cc in let v : z ≡ x = cc in ap (λ (q : OpenBroadcast). q.since) (sym u) ∙ ap (λ (q : OpenBroadcast). q.since) v
-    go o p a b e (stays z e1 e2 e3 e4) g = let v : y ≡ x = cc in ap (λ (q : OpenBroadcast). q.since) v
-account_runs who H (At now Tick) x y e w g n = ap (λ (q : OpenBroadcast). q.since) (left_is _ (hearing who H) x y e g)
-account_runs who H (At now (TakeFrame (Some f))) x y e w g n = ap (λ (q : OpenBroadcast). q.since) (left_is _ (hearing who H) x y e g)
-account_runs who H (ReleaseBroadcast true) x y e w g n = absurd (cc)
-account_runs who H call x y e w g n = let z : y ≡ x = cc in ap (λ (q : OpenBroadcast). q.since) z
+    go : (b : Bool) → of a (if b then staying None (holder who G) (time_heard H) (listening who H) else listening who H).current ≡ Some y
+        → of a (if b then those_over None (holder who G) (time_heard H) (listening who H).current else []) ≡ None → y.since ≡ x.since
+    go true k m = one_is _ x y (goes_past (is_over None (holder who G) (time_heard H)) a (listening who H).current x (stands who H).apart e m) k
+    go false k m = one_is (hearing who H a) x y e k
+account_runs who H (ReleaseBroadcast true) a x y e g n = one_is (hearing who H a) x y e g
+account_runs who H call a x y e g n = one_is (hearing who H a) x y e g
 
 -- in time, by both
 pub in_account : (now : ℕ) (x : OpenBroadcast) → is_late now x ≡ false → (now ≤ x.time + broadcast_limit) × (now ≤ x.since + account (packets_for x.size))
 in_account now x e = let l = ltb-false (expires x) now e in (omega (arith, l), omega (arith, l))
 
-pub ticked_timely : (who : Who) (H : List Call) (now : ℕ) (x : OpenBroadcast) → hearing who (At now Tick ∷ H) ≡ Some x → is_whole x ≡ false
+pub found_timely : (who : Who) (H : List Call) (when a : ℕ) (f : FrameRecord) (x : OpenBroadcast) → found who H when f a ≡ Some x
+    → (time_heard (At when (Hear f) ∷ H) ≤ x.time + broadcast_limit) × (time_heard (At when (Hear f) ∷ H) ≤ x.since + account (packets_for x.size))
+found_timely who H when a f x e = in_account _ x (found_is who H when a f x e).timely
+
+pub ticked_timely : (who : Who) (H : List Call) (now a : ℕ) (x : OpenBroadcast) → hearing who (At now Tick ∷ H) a ≡ Some x
     → (time_heard (At now Tick ∷ H) ≤ x.time + broadcast_limit) × (time_heard (At now Tick ∷ H) ≤ x.since + account (packets_for x.size))
-ticked_timely who H when x e w = in_account _ x (stays_timely _ false (hearing who H) x e w)
+ticked_timely who H now a x e =
+    let p = λ (y : OpenBroadcast). not (is_over None (holder who H) (time_heard (At now Tick ∷ H)) y) in
+    in_account _ x (neither _ _ (kept_is p (hearing who H a) x (sym (of_filter p a (listening who H).current (stands who H).apart) ∙ e)).1).1
 
-heard_of : (n : ℕ) (o : Option OpenBroadcast) → IsHeardOf n o → (x : OpenBroadcast) × (o ≡ Some x) × (is_whole x ≡ false) × (packets_for x.size ≤ n)
+heard_of : (n : ℕ) (o : Option OpenBroadcast) → IsHeardOf n o → (x : OpenBroadcast) × (o ≡ Some x) × (packets_for x.size ≤ n)
 heard_of n None h = absurd h
-heard_of n (Some x) h = (x, refl, h.0, h.1)
+heard_of n (Some x) h = (x, refl, h)
 
-heard_now : (who : Who) (n : ℕ) (later E : List Call) → StaysHeard who n later E → IsHeardOf n (hearing who (later ++ E))
-heard_now who n [] E h = h
-heard_now who n (call ∷ later) E h = h.2
+heard_now : (who : Who) (a n : ℕ) (later E : List Call) → StaysHeard who a n later E → IsHeardOf n (hearing who (later ++ E) a)
+heard_now who a n [] E h = h
+heard_now who a n (call ∷ later) E h = h.2
 
 -- the account of all is that of the first
-on_account : (who : Who) (n : ℕ) (E : List Call) (x : OpenBroadcast) → hearing who E ≡ Some x → (later : List Call) → StaysHeard who n later E
-    → (y : OpenBroadcast) → hearing who (later ++ E) ≡ Some y → y.since ≡ x.since
-on_account who n E x e [] h y g = let z : y ≡ x = cc in ap (λ (q : OpenBroadcast). q.since) z
-on_account who n E x e (call ∷ later) h y g =
-    let z = heard_of n (hearing who (later ++ E)) (heard_now who n later E h.0) in
-    account_runs who (later ++ E) call z.0 y z.1 z.2 g h.1 ∙ on_account who n E x e later h.0 z.0 z.1
+on_account : (who : Who) (a n : ℕ) (E : List Call) (x : OpenBroadcast) → hearing who E a ≡ Some x → (later : List Call) → StaysHeard who a n later E
+    → (y : OpenBroadcast) → hearing who (later ++ E) a ≡ Some y → y.since ≡ x.since
+on_account who a n E x e [] h y g = one_is (hearing who E a) x y e g
+on_account who a n E x e (call ∷ later) h y g =
+    let z = heard_of n (hearing who (later ++ E) a) (heard_now who a n later E h.0) in
+    account_runs who (later ++ E) call a z.0 y z.1 g h.1 ∙ on_account who a n E x e later h.0 z.0 z.1
 
-pub account_ends : (who : Who) (later earlier : List Call) (g n at : ℕ) (f : FrameRecord) → found who earlier at f ≡ None
-    → StaysHeard who n later (At at (Hear f) ∷ earlier) → TicksWithin g later (At at (Hear f) ∷ earlier) → NeverBack later (At at (Hear f) ∷ earlier)
+pub account_ends : (who : Who) (later earlier : List Call) (g n at a : ℕ) (f : FrameRecord) → found who earlier at f a ≡ None
+    → StaysHeard who a n later (At at (Hear f) ∷ earlier) → TicksWithin g later (At at (Hear f) ∷ earlier) → NeverBack later (At at (Hear f) ∷ earlier)
     → time_heard (At at (Hear f) ∷ earlier) + passed_in later (At at (Hear f) ∷ earlier) < 10000000000000000
     → passed_in later (At at (Hear f) ∷ earlier) ≤ (n + 1) * broadcast_limit + g
-account_ends who later earlier g n at f none h t b l =
-    let first = heard_of n (hearing who (At at (Hear f) ∷ earlier)) (begins_heard later h) in
-    let s = account_begins who earlier at f first.0 none first.1 in
-    ages (At at (Hear f) ∷ earlier) (account n) (λ later. StaysHeard who n later (At at (Hear f) ∷ earlier)) refl (λ call later h. h.0)
+account_ends who later earlier g n at a f none h t b l =
+    let first = heard_of n (hearing who (At at (Hear f) ∷ earlier) a) (begins_heard later h) in
+    let s = account_begins who earlier at a f first.0 none first.1 in
+    ages (At at (Hear f) ∷ earlier) (account n) (λ later. StaysHeard who a n later (At at (Hear f) ∷ earlier)) refl (λ call later h. h.0)
     (λ now later h.
     (let E = At at (Hear f) ∷ earlier in
-    let x = heard_of n (hearing who (At now Tick ∷ later ++ E)) h.2 in
-    let o = (ticked_timely who (later ++ E) now x.0 x.1 x.2).1 in
-    let t = on_account who n E first.0 first.1 (At now Tick ∷ later) h x.0 x.1 in
-    let m = x.3 in
+    let x = heard_of n (hearing who (At now Tick ∷ later ++ E) a) h.2 in
+    let o = (ticked_timely who (later ++ E) now a x.0 x.1).1 in
+    let t = on_account who a n E first.0 first.1 (At now Tick ∷ later) h x.0 x.1 in
+    let m = x.2 in
     omega (arith, o, t, m, s))) g later h t b l
   where
-    begins_heard : (later : List Call) → StaysHeard who n later (At at (Hear f) ∷ earlier) → IsHeardOf n (hearing who (At at (Hear f) ∷ earlier))
+    begins_heard : (later : List Call) → StaysHeard who a n later (At at (Hear f) ∷ earlier) → IsHeardOf n (hearing who (At at (Hear f) ∷ earlier) a)
     begins_heard [] h = h
     begins_heard (call ∷ later) h = begins_heard later h.0

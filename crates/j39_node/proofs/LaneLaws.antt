@@ -5,7 +5,6 @@ use Rattle.j39_node.proofs.QueueLemmas.{length_one_more}
 use Rattle.j39_node.proofs.SoundLemmas.{address_is, packet_taken, IsTurn, none_next, packet_there, turned, FrameCase, frame_case, packet_case, sound, claim_taken, claim_single, due_get, due_taken, no_packet, pause_is, no_packet}
 use Rattle.j39_node.proofs.SoundLemmas.FrameCase.{claims, acknowledges, replies, sends, packs, transfers}
 use Rattle.j39_node.proofs.LaneLemmas.{LaneEnd, lane_end, Opened, Laned, laned, closed, stands_open, opened_by}
-use Rattle.j39_node.proofs.AnswerCases as cases
 use Rattle.j39_node.proofs.LaneLemmas.LaneEnd.{complete, broken}
 use Rattle.j39_node.proofs.LawLemmas.{either}
 use Rattle.j39_node.proofs.KindLemmas.{packs_it}

@@ -1,17 +1,17 @@
 -- The laws.
-use Rattle.j39_node.proofs.Common.{[], if◌then◌else◌, ◌&&◌, ◌*◌, ◌++◌, ◌+◌, ◌-◌, ◌<◌, ◌||◌, ◌↔◌, ◌∙◌, ◌∷◌, ◌≡◌, ◌≢◌, ◌≤◌, ◌⊎◌, accepted, acknowledged, acknowledgment, acknowledgment_group, Address, address_after, address_claimed_group, AddressLost, Again, age, and_from, and_parts, AnotherAtAddress, answers_another, ap, append-nil, AreAnswered, arith, Asked, asked, At, at_in, Bool, Busy, Call, calls, calls_for_claim, Claim, claim_address, claim_due, claim_from, claim_goes, claim_of, Claimed, claimed, content, Controller, delayed, destination_of, Done, double, doubled_news, Draft, drop, due, end_of, Ending, eq-eqb, eqb-true, false, FrameRecord, frames, fresh, gives_way, global_address, got, handed, HasDouble, Hear, held_at, holds, inl, inr, Is, is_acknowledgment, is_alike, is_another, is_apart, is_blank, is_claim, is_double, is_for_program, is_held, is_larger, is_lost, is_move, is_none, is_own_group, is_refusal_due, is_reply, is_served, is_session, is_smaller, is_some, is_subscribed, is_there, is_transfer, IsFront, IsTrue, kept, length, length-append, List, long_by, Lost, lost_news, lt-ltb, ltb-true, marks, may_claim, may_go, Message, message_from, message_of, MessagesMissed, missed, missed_news, moment, Move, Nack, NameDoubled, nat_eq, nat_le, nat_lt, News, news_of, next_acknowledgment, next_due, next_frame, next_long, next_other, next_packet, next_transfer, next_withdrawn, None, NoneTold, not, NotClaimed, null_address, older, open_broadcast, Option, option_map, option_or, other, owes_claim, packets, passed_in, patience, pause, pgn_of, reached, ready, reception, refl, refusal_waits, Renew, Reply, request_group, requests, slice_get, slice_get-map, slice_get_within, Some, source_of, stamp_at, stamped, status_after, status_of, step, suc, sym, TakeEnded, TakeFrame, TakeNews, takes_other, Tick, told, true, turns, unclaimed, waits_already, Who, with_refusal, with_request, Withdraw, Withdrawn, yields, zero, ℕ, not_both, and-false, ltb-false, le-ltb, le-leb, or_parts}
+use Rattle.j39_node.proofs.Common.{Address, AddressLost, AnotherAtAddress, AreAnswered, Asked, At, Bool, Busy, Call, Claim, Claimed, Controller, Done, Draft, Ending, FrameRecord, HasDouble, Hear, Is, IsFront, IsTrue, List, Lost, Message, MessagesMissed, Move, Nack, NameDoubled, News, None, NoneTold, NotClaimed, Option, Renew, Reply, Some, TakeEnded, TakeFrame, TakeNews, Tick, Who, Withdraw, Withdrawn, [], accepted, acknowledged, acknowledgment, acknowledgment_group, address_after, address_claimed_group, age, and-false, and_from, and_parts, answers_another, ap, append-nil, arith, asked, at_in, begins, by, called, calls, calls_for_claim, claim_address, claim_due, claim_from, claim_goes, claim_of, content, delayed, destination_of, double, doubled_news, drop, due, end_of, eq-eqb, eqb-true, false, first, frames, fresh, gives_way, global_address, got, handed, held_at, holds, if◌then◌else◌, inl, inr, is_acknowledgment, is_alike, is_another, is_apart, is_blank, is_claim, is_double, is_for_program, is_held, is_larger, is_lost, is_move, is_none, is_own_group, is_refusal_due, is_reply, is_served, is_session, is_smaller, is_some, is_subscribed, is_there, is_transfer, kept, later, le-leb, le-ltb, left, length, length-append, long_by, lost_news, lt-ltb, ltb-false, ltb-true, marks, may_claim, may_go, message_from, message_of, missed, missed_news, moment, more, nat_eq, nat_le, nat_lt, news_of, next_acknowledgment, next_due, next_frame, next_long, next_other, next_packet, next_transfer, next_withdrawn, not, not_both, null_address, older, open_broadcast, option_map, option_or, or_parts, other, owes_claim, packets, passed, passed_in, patience, pause, pgn_of, reached, ready, reception, refl, refusal_waits, request_group, requests, rest, slice_get, slice_get-map, slice_get_within, source_of, stamp_at, stamped, status_after, status_of, step, still, suc, sym, takes_other, told, true, turns, two, unclaimed, waits, waits_already, with_refusal, with_request, yields, zero, ℕ, ◌&&◌, ◌*◌, ◌++◌, ◌+◌, ◌-◌, ◌<◌, ◌||◌, ◌↔◌, ◌∙◌, ◌∷◌, ◌≡◌, ◌≢◌, ◌≤◌, ◌⊎◌}
+use Rattle.j39_node.proofs.PromptLaws.{answered_from, stays_lost}
 use Rattle.j39_node.specs.History.{heard, Again}
 use Rattle.j39_node.specs.Reception.{is_waiting}
 use Rattle.j39_address.specs.declared.status.Status.TheVariants as status
 use Rattle.j39_node.proofs.ReceptionLemmas.{replied_get, tidy}
 use Rattle.j39_node.proofs.DueLemmas.{both_none, from_long, quiet_long, then_long}
 use Rattle.j39_node.proofs.QueueLemmas.{length_one_more}
-use Rattle.j39_node.proofs.SoundLemmas.{apart_is, is_moved, IsTurn, acknowledgment_single, claim_single, no_transfer, none_there, packet_session, packet_there, single_taken, turned, Rest, none_at, none_next, none_other, other_none, claim_is, given_way, none_acknowledged, none_due_goes, none_gives, EndCase, FrameCase, Sound, claim_taken, due_get, due_taken, end_case, frame_by, frame_case, held_older, lost_claimed, lost_older, own_of, packet_case, packet_taken, sound, transfer_taken, lost_unclaimed, holding_not_lost, renew_case, WithdrawCase, withdraw_case}
+use Rattle.j39_node.proofs.SoundLemmas.{apart_is, is_moved, IsTurn, acknowledgment_single, claim_single, no_transfer, none_there, packet_session, packet_there, single_taken, turned, Rest, none_at, none_next, none_other, other_none, claim_is, given_way, none_acknowledged, none_due_goes, none_gives, EndCase, FrameCase, Sound, claim_taken, due_get, due_taken, end_case, frame_by, frame_case, held_older, lost_older, own_of, packet_case, packet_taken, sound, transfer_taken, lost_unclaimed, holding_not_lost, renew_case, WithdrawCase, withdraw_case}
 use Rattle.j39_node.proofs.KnownLemmas.{fresh_one, not_refused}
 use Rattle.j39_node.proofs.LaneLemmas.{laned, opened_by}
 use Rattle.j39_node.proofs.CallLemmas.{due_by}
 use Rattle.j39_node.proofs.SoundLemmas.FrameCase.{claims, acknowledges, replies, sends, packs, transfers}
-use Rattle.j39_node.proofs.AnswerCases as cases
 use Rattle.j39_node.proofs.SoundLemmas.EndCase.{done, withdrawn}
 use Rattle.j39_node.proofs.RenewLemmas.{none_past}
 use Rattle.j39_node.proofs.KindLemmas.{kind_by, claims_it, acknowledges_it}
@@ -274,10 +274,6 @@ claimed_or_not w H c now g is o = go (gives_way w H now) refl
     go true e = inl e
     go false e = inr (owed w H now g (frame w H c now g is) (claim_is w H now e ∙ due_now))
 
-answered_before : (w : Who) (later H : List Call) → AreAnswered w (later ++ H) → AreAnswered w H
-answered_before w [] H h = h
-answered_before w (call ∷ later) H h = answered_before w later H h.0
-
 -- no frame is taken between
 same_turns : (later H : List Call) → frames later ≡ [] → turns (later ++ H) ≡ turns H
 same_turns [] H e = refl
@@ -306,7 +302,7 @@ second_claim w H later between c last now when f g i is none none_between called
     few n e z = grind (arith, z)
 
     right : AreAnswered w (At now (TakeFrame (Some g)) ∷ later ++ At when (Hear f) ∷ H)
-    right = answered_before w between (At now (TakeFrame (Some g)) ∷ later ++ At when (Hear f) ∷ H) is.answered.0
+    right = answered_from w between (At now (TakeFrame (Some g)) ∷ later ++ At when (Hear f) ∷ H) is.answered.0
 
     plain : (is_claim g ≡ false) × (is_acknowledgment g ≡ false)
     plain = other_plain w (later ++ At when (Hear f) ∷ H) now g right.0 (frame_case w (later ++ At when (Hear f) ∷ H) now g right.1) gives
@@ -447,14 +443,6 @@ no_claim_left w H now o e = go (claim_goes w H now) o e
     go true p f = absurd (cc)
     go false p f = absurd (cc)
 
-pub stays_lost : (b : Bool) (s : ℕ) (a : Address) → is_lost a ≡ true → is_lost (if b then Lost else older s a) ≡ true
-stays_lost true s a e = refl
-stays_lost false s a e = lost_older s a ∙ e
-
-pub stays_lost_claimed : (b : Bool) (s : ℕ) (a : Address) → is_lost a ≡ true → is_lost (if b then claimed (older s a) else older s a) ≡ true
-stays_lost_claimed true s a e = lost_claimed (older s a) ∙ (lost_older s a ∙ e)
-stays_lost_claimed false s a e = lost_older s a ∙ e
-
 due_by_then : (w : Who) (H : List Call) (now : ℕ) → owes_claim w H ≡ true → (IsTrue (is_lost (address_after w H)) → delayed w H ≤ step H now)
     → claim_due w H now ≡ true
 due_by_then w H now o ripe = go (is_lost (address_after w H)) refl
@@ -479,10 +467,7 @@ most_delayed w (call ∷ H) = let z = most_delayed w H in omega (arith, z)
 -- 'cannot claim' waits, and nothing goes before it
 still_lost : (w : Who) (later H : List Call) → is_lost (address_after w H) ≡ true → is_lost (address_after w (later ++ H)) ≡ true
 still_lost w [] H e = e
-still_lost w (At when (Hear f) ∷ later) H e = stays_lost (is_smaller w (claim_of f)) (step (later ++ H) when) (address_after w (later ++ H)) (still_lost w later H e)
-still_lost w (At now (TakeFrame (Some f)) ∷ later) H e = stays_lost_claimed (is_claim f) (step (later ++ H) now) (address_after w (later ++ H)) (still_lost w later H e)
-still_lost w (At now Again ∷ later) H e = lost_unclaimed _ ∙ (lost_older (step (later ++ H) now) (address_after w (later ++ H)) ∙ still_lost w later H e)
-still_lost w (call ∷ later) H e = let z = lost_older (step (later ++ H) (moment (call ∷ later ++ H))) (address_after w (later ++ H)) in let h = still_lost w later H e in cc
+still_lost w (call ∷ later) H e = stays_lost w (later ++ H) call (still_lost w later H e)
 
 still_delayed : (w : Who) (later H : List Call) → frames later ≡ [] → is_lost (address_after w H) ≡ true → owes_claim w H ≡ true
     → w.delay * 600 ≤ delayed w H → w.delay * 600 ≤ delayed w (later ++ H) + passed_in later H
@@ -976,13 +961,11 @@ is_driven false c s a e = absurd (cc)
 pub lost_is_lost : (w : Who) (H : List Call) → IsTrue (lost_news w H) → IsTrue (is_lost (address_after w H))
 lost_is_lost w [] e = absurd (cc)
 lost_is_lost w (At when (Hear f) ∷ H) e = elim (either (lost_news w H) (is_smaller w (claim_of f) && not (is_lost (address_after w H))) e) [
-  | inl z ↦ stays_lost (is_smaller w (claim_of f)) (step H when) (address_after w H) (lost_is_lost w H z)
+  | inl z ↦ stays_lost w H (At when (Hear f)) (lost_is_lost w H z)
   | inr z ↦ is_driven (is_smaller w (claim_of f)) _ (step H when) (address_after w H) z
 ]
-lost_is_lost w (At now (TakeFrame (Some f)) ∷ H) e = stays_lost_claimed (is_claim f) (step H now) (address_after w H) (lost_is_lost w H e)
 lost_is_lost w (TakeNews (Some AddressLost) ∷ H) e = absurd (cc)
-lost_is_lost w (At now Again ∷ H) e = lost_unclaimed _ ∙ (lost_older (step H now) (address_after w H) ∙ lost_is_lost w H e)
-lost_is_lost w (call ∷ H) e = let z = lost_older (step H (moment (call ∷ H))) (address_after w H) in let h = lost_is_lost w H e in cc
+lost_is_lost w (call ∷ H) e = stays_lost w H call (lost_is_lost w H e)
 
 still_missed : (b : Bool) (m : ℕ) → 0 < m → 0 < (if b then suc m else m)
 still_missed true m l = omega (arith, l)

@@ -11,6 +11,7 @@ pub mod ReceptionLemmas
 pub mod RenewLemmas
 -- broadcasts in packets that are heard
 pub mod HearingLemmas
+pub mod ListenLemmas
 -- transfers: between which addresses the open one goes, and the frames that it makes
 pub mod PortLemmas
 pub mod SaidLemmas
@@ -57,6 +58,7 @@ pub mod MoveLemmas
 pub mod TransferLaws
 -- the laws of broadcasts in packets that are heard
 pub mod HearingLaws
+pub mod ApartLaws
 -- what is made whole in packets answers a request
 pub mod PacketsAnswer
 -- frames of strangers

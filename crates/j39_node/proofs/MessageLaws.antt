@@ -1,9 +1,10 @@
 -- That every message of one frame ends.
-use Rattle.j39_node.proofs.Common.{[], if◌then◌else◌, ◌++◌, ◌+◌, ◌<◌, ◌||◌, ◌∙◌, ◌∷◌, ◌≡◌, ◌≤◌, ◌⊎◌, accepted, address_after, Again, ap, AreAnswered, arith, Ask, At, blank, Bool, Call, claims_anew, Controller, Done, Draft, end_of, Ending, ending_of, false, Hear, holds, inl, inr, Is, is_acknowledgment, is_blank, is_claim, is_held, is_lost, is_session, IsAnswered, IsPrompt, length, length-set, List, marks, Message, message_from, moment, nat_lt, next_ended, next_frame, None, not, Ok, Option, passed_in, past, reached, refl, Renew, request_for, Send, slice_get, slice_set, Some, step, suc, TakeFrame, told, true, waited_in, Who, Withdraw, Withdrawn, zero, ℕ, lt-ltb}
+use Rattle.j39_node.proofs.Common.{AreAnswered, Ask, At, Bool, Call, Controller, Done, Draft, Ending, Is, IsAnswered, IsPrompt, List, Message, None, Ok, Option, Renew, Send, Some, TakeFrame, Who, Withdraw, Withdrawn, [], accepted, address_after, ap, arith, blank, claims_anew, end_of, ending_of, false, holds, if◌then◌else◌, inl, inr, is_acknowledgment, is_blank, is_claim, is_held, is_lost, is_session, later, length, length-set, lost, lt-ltb, marks, message_from, moment, nat_lt, next_ended, next_frame, not, passed_in, past, reached, refl, request_for, rest, slice_get, slice_set, step, suc, told, true, waited_in, zero, ℕ, ◌++◌, ◌+◌, ◌<◌, ◌||◌, ◌∙◌, ◌∷◌, ◌≡◌, ◌≤◌, ◌⊎◌}
 use Rattle.j39_node.proofs.LawLemmas.{past_end}
-use Rattle.j39_node.proofs.PromptLaws.{answered_from, keeps_heard, keeps_taken, lost_heard, lost_taken, waited_last}
+use Rattle.j39_node.proofs.PromptLaws.{answered_from, ended_or_lost, Fate, later_on, waited_last}
+use Rattle.j39_node.proofs.PromptLaws.Fate.{runs}
 use Rattle.j39_node.proofs.QueueLemmas.{length_one_more}
-use Rattle.j39_node.proofs.SoundLemmas.{held_older, none_next, lost_older, sound}
+use Rattle.j39_node.proofs.SoundLemmas.{held_older, none_next, sound}
 use Rattle.j39_node.proofs.WithdrawLemmas.{past_more}
 use Rattle.j39_node.proofs.AnswerCases.{send_accepts, ask_accepts}
 
@@ -30,61 +31,27 @@ accepts_more w H call = omega arith
 
 module _ (w : Who) (B : List Call) (g k : ℕ) where
   -- taken, or the address is lost; or it waits, and no take answered none since its acceptance
-  data Course (later : List Call) : Type 0 where
-    taken : k < reached (later ++ B) → Course later
-    gone : is_lost (address_after w (later ++ B)) ≡ true → Course later
-    waits : is_held (address_after w (later ++ B)) ≡ true → passed_in later B ≡ waited_in later B → Course later
-
   record Stands (later : List Call) : Type 0 where
     pub among : k < length (accepted w (later ++ B))
-    pub course : Course later
-
-  passes : (later : List Call) (now : ℕ) → passed_in later B ≡ waited_in later B
-      → passed_in later B + step (later ++ B) now ≡ waited_in later B + step (later ++ B) now
-  passes later now p = ap (λ (n : ℕ). n + step (later ++ B) now) p
+    pub course : Fate (address_after w (later ++ B)) (k < reached (later ++ B)) (passed_in later B ≡ waited_in later B)
 
   one_more : (call : Call) (later : List Call) → IsAnswered w (later ++ B) call → claims_anew call ≡ false → Stands later → Stands (call ∷ later)
-  one_more (At when (Hear f)) later a n h = record { among = h.among; course = go h.course }
-    where
-      go : Course later → Course (At when (Hear f) ∷ later)
-      go (taken l) = taken l
-      go (gone e) = gone (lost_heard w (later ++ B) when f e)
-      go (waits e p) = elim (keeps_heard w (later ++ B) when f e) [ inl z ↦ gone z | inr z ↦ waits z (passes later when p) ]
-  one_more (At now (TakeFrame (Some f))) later a n h = record { among = h.among; course = go h.course }
-    where
-      go : Course later → Course (At now (TakeFrame (Some f)) ∷ later)
-      go (taken l) = taken (let e = more_sent (later ++ B) (At now (TakeFrame (Some f))) in omega (arith, e, l))
-      go (gone e) = gone (lost_taken w (later ++ B) now f e)
-      go (waits e p) = waits (keeps_taken w (later ++ B) now f e) (passes later now p)
-  one_more (At now (TakeFrame None)) later a n h = record { among = h.among; course = go h.course }
-    where
-      go : Course later → Course (At now (TakeFrame None) ∷ later)
-      go (taken l) = taken l
-      go (gone e) = gone (lost_older (step (later ++ B) now) (address_after w (later ++ B)) ∙ e)
-      go (waits e p) = taken (let l = past_end (accepted w (later ++ B)) (reached (later ++ B))
-          (none_waits w (later ++ B) now (held_older (step (later ++ B) now) (address_after w (later ++ B)) e) a) in
-          let b = h.among in omega (arith, l, b))
-  one_more (At now Again) later a n h = absurd (let z : true ≡ false = n in cc)
-  one_more call later a n h = record { among = (let m = accepts_more w (later ++ B) call in let b = h.among in omega (arith, m, b)); course = go h.course }
-    where
-      go : Course later → Course (call ∷ later)
-      go (taken l) = taken (let e = more_sent (later ++ B) call in omega (arith, e, l))
-      go (gone e) = gone (let z = lost_older (step (later ++ B) (moment (call ∷ later ++ B))) (address_after w (later ++ B)) in cc)
-      go (waits e p) = waits (let z = held_older (step (later ++ B) (moment (call ∷ later ++ B))) (address_after w (later ++ B)) e in cc)
-          (passes later (moment (call ∷ later ++ B)) p)
+  one_more (At now (TakeFrame None)) later a n h = record {
+    among = h.among;
+    course = later_on w (later ++ B) (At now (TakeFrame None)) refl (λ l. l)
+        (λ e z p. inl (let l = past_end (accepted w (later ++ B)) (reached (later ++ B))
+        (none_waits w (later ++ B) now (held_older (step (later ++ B) now) (address_after w (later ++ B)) e) a) in
+        let b = h.among in omega (arith, l, b))) h.course;
+  }
+  one_more call later a n h = record {
+    among = (let m = accepts_more w (later ++ B) call in let b = h.among in omega (arith, m, b));
+    course = later_on w (later ++ B) call n (λ l. (let e = more_sent (later ++ B) call in omega (arith, e, l)))
+        (λ e z p. inr (ap (λ (n : ℕ). n + step (later ++ B) (moment (call ∷ later ++ B))) p)) h.course;
+  }
 
   stands : (later : List Call) → AreAnswered w (later ++ B) → IsPrompt g later B → Stands [] → Stands later
   stands [] a p h = h
   stands (call ∷ later) a p h = one_more call later a.1 p.1.1 (stands later a.0 p.0 h)
-
-  ends_so : (later : List Call) → Stands later → g < passed_in later B → waited_in later B ≤ g
-      → (k < reached (later ++ B)) ⊎ (is_lost (address_after w (later ++ B)) ≡ true)
-  ends_so later h l p = go h.course
-    where
-      go : Course later → (k < reached (later ++ B)) ⊎ (is_lost (address_after w (later ++ B)) ≡ true)
-      go (taken z) = inl z
-      go (gone e) = inr e
-      go (waits e q) = absurd (omega (arith, l, p, q))
 
 -- the oldest that isn't told would be told
 some_at : {T : Type 0} (L : List T) (n : ℕ) → n < length L → (x : T) × (slice_get L n ≡ Some x)
@@ -122,10 +89,10 @@ told_next w H k a l t h =
 module _ (w : Who) (later B : List Call) (c : Controller) (g k : ℕ) (is : Is w (later ++ B) c)
     (fits : (is_held (address_after w B) ≡ true) × (k < length (accepted w B))) (prompt : IsPrompt g later B) (l : g < passed_in later B) where
   here : Stands w B g k later
-  here = stands w B g k later is.answered prompt (record { among = fits.1; course = waits fits.0 refl })
+  here = stands w B g k later is.answered prompt (record { among = fits.1; course = runs fits.0 refl })
 
   pub ends_taken : (k < reached (later ++ B)) ⊎ (is_lost (address_after w (later ++ B)) ≡ true)
-  ends_taken = ends_so w B g k later here l (waited_last g later B prompt)
+  ends_taken = let p = waited_last g later B prompt in ended_or_lost here.course (λ q. absurd (omega (arith, l, p, q)))
 
   pub ends_told : length (told (later ++ B)) ≤ k → (e : Ending) × (next_ended w (later ++ B) ≡ Some (length (told (later ++ B)), e))
   ends_told t = told_next w (later ++ B) k is.answered here.among t ends_taken

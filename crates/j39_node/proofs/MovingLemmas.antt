@@ -1,5 +1,6 @@
 -- When a controller may move, by what it has; and what it is then.
-use Rattle.j39_node.proofs.Common.{[], ◌&&◌, ◌+◌, ◌-◌, ◌<◌, ◌||◌, ◌∙◌, ◌∷◌, ◌≡◌, ◌≢◌, ◌≤◌, accepted, and_from, and_parts, ap, arith, asked_by, AskEnding, asking_of, Bool, Call, Claim, Claims, Controller, eq-eqb, eqb-true, false, got, handed, has_given, has_place, has_told, HasMoved, hearing_of, hold_after, hold_moved, holder_in, incoming_of, IncomingRecord, Is, IsHolderAfter, IsLeastFree, IsSettled, kept, Knows, lane_of, later, length, List, map, moment, moved, name_raw, named_in, nat_eq, news_of, next_news, no_reception, None, NoneFree, not, open_broadcast, open_transfer, Option, option_map, port_of, PortRecord, posted, Question, received_by, reception, recv_step, refl, refusal_by, request_by, requests, rest, Some, subst, sym, takes_tick, ticked, time_heard, told, told_claims, true, Untold, View, waiting, Who, whole_of, ℕ}
+use Rattle.j39_node.proofs.Common.{AskEnding, Bool, Call, Claim, Claims, Controller, HasMoved, HearingRecord, IncomingRecord, Is, IsHolderAfter, IsLeastFree, IsSettled, Knows, List, None, NoneFree, Option, PortRecord, Question, Some, Untold, View, Who, [], accepted, and_parts, ap, arith, asked_by, asking_of, called, clock, due, eqb-true, false, got, handed, has_given, has_place, has_told, hearing, hearing_of, hold_after, hold_moved, holder_in, incoming_of, kept, lane_of, later, length, length-map, listening, lost, map, message_by, missed, moment, moved, name_raw, nat_eq, news_of, next_news, no_reception, not, open_broadcast, open_transfer, option_map, port_of, posted, received_by, reception, recv_step, refl, refusal_by, request_by, requests, rest, resting, sender_by, senders, shown, subst, sym, takes_tick, ticked, time_heard, told, told_claims, transfer_sender, transfers, true, waiting, whole, ℕ, ◌&&◌, ◌+◌, ◌-◌, ◌<◌, ◌||◌, ◌∙◌, ◌∷◌, ◌≡◌, ◌≢◌, ◌≤◌}
+use Rattle.j39_node.specs.Boxes.{in_box}
 use Rattle.std.specs.Option.{is_some}
 use Rattle.j39_node.specs.Moving.{begun}
 use Rattle.j39_address.proofs.HolderLemmas.{same_holder}
@@ -28,24 +29,13 @@ none_free table C h none b f = none b f.least f.most (unheld table C b h f.unhel
 empty_is : (a b n : ℕ) → a ≡ b - n → n ≤ b → nat_eq a 0 ≡ true → n ≡ b
 empty_is a b n e l z = let y = eqb-true _ _ z in omega (arith, e, l, y)
 
-is_empty : (a b n : ℕ) → a ≡ b - n → n ≡ b → nat_eq a 0 ≡ true
-is_empty a b n e l = eq-eqb a 0 (omega (arith, e, l))
-
 none_is : {T : Type 0} {U : Type 0} (v : T → U) (o : Option T) → not (is_some o) ≡ true → option_map v o ≡ None
 none_is v None e = refl
 none_is v (Some x) e = absurd (cc)
 
-is_none : {T : Type 0} {U : Type 0} (v : T → U) (o : Option T) → option_map v o ≡ None → not (is_some o) ≡ true
-is_none v None e = refl
-is_none v (Some x) e = absurd (cc)
-
 asked_none : (o : Option Question) (n : ℕ) (e : Option AskEnding) → asked_by o n e ≡ None → o ≡ None
 asked_none None n e h = refl
 asked_none (Some q) n e h = absurd (cc)
-
-none_asked : (o : Option Question) (n : ℕ) (e : Option AskEnding) → o ≡ None → asked_by o n e ≡ None
-none_asked None n e h = refl
-none_asked (Some q) n e h = absurd (cc)
 
 place_none : {T : Type 0} (o : Option T) → (p : Option T → Bool) → ((x : T) → p (Some x) ≡ false) → p o ≡ true → o ≡ None
 place_none None p q e = refl
@@ -57,11 +47,9 @@ no_news true b (Some n) c e = absurd (cc)
 no_news false true (Some n) c e = absurd (cc)
 no_news false false (Some n) c e = absurd (cc)
 
-news_none : (a b : Bool) (d : Option ℕ) (c : Bool) → news_of a b d c ≡ None → not (a || (b || (is_some d || c))) ≡ true
-news_none a b None c e = grind (arith, e)
-news_none true b (Some n) c e = absurd (cc)
-news_none false true (Some n) c e = absurd (cc)
-news_none false false (Some n) c e = absurd (cc)
+none_waits : {T : Type 0} (n : ℕ) (xs : List T) → n ≡ length xs → nat_eq n 0 ≡ true → xs ≡ []
+none_waits n [] e g = refl
+none_waits n (x ∷ xs) e g = absurd (let z = eqb-true n 0 g in omega (arith, e, z))
 
 -- ---- all of them
 
@@ -84,14 +72,11 @@ module _ (w : Who) (H : List Call) (c : Controller) (h : Is w H c) where
   waits : (incoming_of c.incoming).reception.waits ≡ (reception w H).waits
   waits = ap (λ (v : View). v.incoming.reception.waits) h.shown
 
-  heard : whole_of (hearing_of c.hearing).current ≡ waiting w H
-  heard = ap (λ (v : View). whole_of v.hearing.current) h.shown
+  heard : length c.hearing.whole.items ≡ length (waiting w H)
+  heard = sym (length-map c.hearing.whole.items (λ b. message_by (in_box b))) ∙ ap (λ (v : View). length v.hearing.listening.waits) h.shown
 
   untold : not (c.news.lost || (c.news.another || (is_some c.news.doubled || c.news.missed))) ≡ true → next_news w H ≡ None
   untold e = no_news _ _ _ _ (sym (ap (λ (v : View). not (v.news.lost || (v.news.another || (is_some v.news.doubled || v.news.missed)))) h.shown) ∙ e)
-
-  all_told : next_news w H ≡ None → not (c.news.lost || (c.news.another || (is_some c.news.doubled || c.news.missed))) ≡ true
-  all_told e = ap (λ (v : View). not (v.news.lost || (v.news.another || (is_some v.news.doubled || v.news.missed)))) h.shown ∙ news_none _ _ _ _ e
 
   pub settles : (has_told c && has_given c) ≡ true → IsSettled w H
   settles e =
@@ -112,20 +97,9 @@ module _ (w : Who) (H : List Call) (c : Controller) (h : Is w H c) where
         received = empty_is _ _ _ unread (read w H s) g.0;
         requests_taken = empty_is _ _ _ asked (front_length _ _ s.desk.2) g2.0;
         received_transfer = sym waits ∙ place_none _ has_place (λ x. refl) g3.0;
-        received_broadcast = sym heard ∙ place_none _ has_place (λ x. refl) g4.0;
+        received_broadcast = none_waits _ _ heard g4.0;
         news = untold g4.1;
       }
-
-  pub settled : IsSettled w H → (has_told c && has_given c) ≡ true
-  settled s =
-      and_from _ _
-      (and_from _ _ (is_empty _ _ _ messages s.messages)
-      (and_from _ _ (is_none _ _ (broadcast ∙ s.broadcast))
-      (and_from _ _ (is_none _ _ (transfer ∙ s.transfer)) (is_none _ _ ((ap (λ (v : View). v.asking) h.shown) ∙ none_asked _ _ _ s.request)))))
-      (and_from _ _ (is_empty _ _ _ unread s.received)
-      (and_from _ _ (is_empty _ _ _ asked s.requests_taken)
-      (and_from _ _ (ap has_place (waits ∙ s.received_transfer))
-      (and_from _ _ (ap has_place (heard ∙ s.received_broadcast)) (all_told s.news)))))
 
 -- ---- it begins anew
 
@@ -162,15 +136,15 @@ zero_less : (n : ℕ) → 0 ≡ 0 - n
 zero_less n = omega arith
 
 pub begins_anew : (w : Who) (H : List Call) (old new : Controller) (a : ℕ) → Is w H old → (has_told old && has_given old) ≡ true
-    → new.own.name ≡ old.own.name → new.own.address ≡ a → new.own.delay ≡ old.own.delay → new.own.served.items ≡ old.own.served.items → new.own.subscribed ≡ old.own.subscribed
+    → new.own.name ≡ old.own.name → new.own.address ≡ a → new.own.delay ≡ old.own.delay → new.own.served.items ≡ old.own.served.items → new.own.subscribed ≡ old.own.subscribed → new.own.boxes ≡ old.own.boxes
     → new.hold ≡ hold_moved old.hold
     → new.outgoing ≡ old.outgoing → new.taken ≡ 0 → new.next_token ≡ 0 → new.asking ≡ old.asking → new.inbox.unread ≡ old.inbox.unread → new.inbox.missed ≡ 0
     → new.desk.waiting ≡ old.desk.waiting → new.desk.due.items ≡ [] → new.news ≡ old.news → new.holders ≡ old.holders
     → new.lane ≡ record { current = None; count = 0; next_token = 0 }
-    → incoming_of new.incoming ≡ record { moment = old.hold.moment; clock = later 0 old.hold.moment; own = a; has_box = true; named = None; called = 0; reception = no_reception }
-    → port_of new.transfers ≡ record { current = None; next_token = 0; resting = (port_of old.transfers).resting } → hearing_of new.hearing ≡ record { current = None; missed = 0 }
+    → incoming_of new.incoming ≡ record { moment = old.hold.moment; clock = later 0 old.hold.moment; own = a; has_box = true; called = 0; reception = no_reception }
+    → port_of new.transfers ≡ record { current = None; next_token = 0; resting = (port_of old.transfers).resting } → ((hearing_of old.hearing).listening.waits ≡ [] → hearing_of new.hearing ≡ record { listening = record { current = []; waits = [] }; boxes = (hearing_of old.hearing).boxes; missed = 0 }) → new.hearing.whole ≡ old.hearing.whole → new.transfer_sender ≡ None
     → HasMoved w H a new
-begins_anew w H old new a h e o1 o2 o5 o3 o4 q1 q2 q3 q4 q5 q6 q7 q8 q9 q10 q11 q12 q15 q16 q18 =
+begins_anew w H old new a h e o1 o2 o5 o3 o4 o6 q1 q2 q3 q4 q5 q6 q7 q8 q9 q10 q11 q12 q15 q16 q18 q20 q19 =
     let p = and_parts _ _ e in
     let t = and_parts _ _ p.0 in
     let t3 = and_parts _ _ (and_parts _ _ t.1).1 in
@@ -180,23 +154,26 @@ begins_anew w H old new a h e o1 o2 o5 o3 o4 q1 q2 q3 q4 q5 q6 q7 q8 q9 q10 q11 
     let g4 = and_parts _ _ g3.1 in
     record {
       shown = λ i. record {
-        who = record { name = (ap name_raw o1 ∙ ap (λ (v : View). v.who.name) h.shown) i; address = o2 i; delay = (o5 ∙ ap (λ (v : View). v.who.delay) h.shown) i; served = (o3 ∙ ap (λ (v : View). v.who.served) h.shown) i; subscribed = (ap (option_map (λ g. g.items)) o4 ∙ ap (λ (v : View). v.who.subscribed) h.shown) i; brought = (moved w H a).brought };
+        who = record { name = (ap name_raw o1 ∙ ap (λ (v : View). v.who.name) h.shown) i; address = o2 i; delay = (o5 ∙ ap (λ (v : View). v.who.delay) h.shown) i; served = (o3 ∙ ap (λ (v : View). v.who.served) h.shown) i; subscribed = (ap (option_map (λ g. g.items)) o4 ∙ ap (λ (v : View). v.who.subscribed) h.shown) i; boxes = (o6 ∙ ap (λ (v : View). v.who.boxes) h.shown) i; brought = (moved w H a).brought };
         hold = (q1 ∙ (ap (λ (v : View). hold_moved v.hold) h.shown ∙ (λ i. record (hold_after (moved w H a) (begun H)) { rest = brought_on (moment H) (rest w H) i }))) i;
         outgoing = (ap (λ x. map posted x.items) q2 ∙ nothing posted old.outgoing.items t.0) i;
         taken = q3 i;
         token = q4 i;
         asking = (ap asking_of q5 ∙ none_is _ _ t3.1) i;
         unread = (ap (λ x. map received_by x.items) q6 ∙ nothing received_by old.inbox.unread.items g.0) i;
+        senders = (ap (λ x. map sender_by x.items) q6 ∙ nothing sender_by old.inbox.unread.items g.0) i;
         requests = (ap (λ x. map request_by x.items) q8 ∙ nothing request_by old.desk.waiting.items g2.0) i;
         acknowledgments = map (refusal_by (moved w H a)) (q9 i);
         news = (q10 ∙ none_untold old.news g4.1) i;
         missed = q7 i;
         lane = lane_of (moved w H a) (q12 i);
         incoming = (q15
-            ∙ ((λ i. (let m = (h.shown i).hold.moment in let x : IncomingRecord = record { moment = m; clock = later 0 m; own = a; has_box = true; named = None; called = 0; reception = no_reception } in x))
-            ∙ (λ i. (let x : IncomingRecord = record { moment = moment H; clock = later 0 (none_less (moment H) i); own = a; has_box = true; named = named_in (none_ticked a (moment H) (time_heard (begun H)) i).session; called = zero_less (moment H - 0) i; reception = none_ticked a (moment H) (time_heard (begun H)) i } in x)))) i;
+            ∙ ((λ i. (let m = (h.shown i).hold.moment in let x : IncomingRecord = record { moment = m; clock = later 0 m; own = a; has_box = true; called = 0; reception = no_reception } in x))
+            ∙ (λ i. (let x : IncomingRecord = record { moment = moment H; clock = later 0 (none_less (moment H) i); own = a; has_box = true; called = zero_less (moment H - 0) i; reception = none_ticked a (moment H) (time_heard (begun H)) i } in x)))) i;
         port = (q16 ∙ ap (λ (v : View). (let q : PortRecord = record { current = None; next_token = 0; resting = v.port.resting } in q)) h.shown) i;
-        hearing = q18 i;
+        hearing = (q18 (nothing (λ b. message_by (in_box b)) old.hearing.whole.items g4.0) ∙ ap (λ (v : View). (let x : HearingRecord = record { listening = record { current = []; waits = [] }; boxes = v.hearing.boxes; missed = 0 } in x)) h.shown) i;
+        transfer_sender = ap (option_map name_raw) q19 i;
+        broadcast_senders = (ap (λ v. map (λ b. (in_box b).name) v.items) q20 ∙ nothing (λ b. (in_box b).name) old.hearing.whole.items g4.0) i;
       };
       answered = (tt, tt);
       holders = subst (λ t. Knows t (told_claims w H)) (sym q11) h.holders;

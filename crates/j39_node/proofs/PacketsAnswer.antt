@@ -1,9 +1,10 @@
 -- A message in packets answers a request by the frame that makes it whole, be it to this address or to all.
-use Rattle.j39_node.proofs.Common.{if◌then◌else◌, ◌&&◌, ◌<◌, ◌==◌, ◌||◌, ◌↔◌, ◌∙◌, ◌∷◌, ◌≡◌, ◌⊎◌, and_from, and_parts, Answered, ap, arith, At, Bool, by, Call, comes, destination_of, eq-eqb, eqb-true, false, found, FrameRecord, grown, has_place, Hear, hearing, holder, in_broadcast, in_session, inl, inr, is_coming, is_from, is_key, is_late, IsTrue, known, length, List, made_whole, message_by, MessageRecord, nat_eq, newly, None, open_ask, OpenBroadcast, Option, packs, pgn_of, ps_of, Question, receiver_at, Reception, reception, ReceptionRecord, RecvResult, refl, said_to, says_to, seeks, shown, since_in, Some, source_of, sym, time_heard, transport_data_group, true, waiting, Who, whole_by, whole_of, ℕ, or-true}
-use Rattle.j39_node.specs.Hearing.{begun, is_over, is_whole as is_full}
+use Rattle.j39_node.proofs.Common.{[], if◌then◌else◌, ◌&&◌, ◌<◌, ◌==◌, ◌||◌, ◌↔◌, ◌∙◌, ◌∷◌, ◌≡◌, ◌⊎◌, and_from, and_parts, Answered, ap, arith, At, Bool, by, Call, comes, destination_of, eq-eqb, eqb-true, false, found, FrameRecord, has_place, Hear, hearing, holder, in_session, inl, inr, is_coming, is_from, is_key, is_late, IsTrue, length, List, made_whole, MessageRecord, nat_eq, None, open_ask, OpenBroadcast, Option, packs, pgn_of, ps_of, Question, receiver_at, Reception, reception, ReceptionRecord, RecvResult, refl, said_to, says_to, seeks, shown, Some, source_of, sym, time_heard, transport_data_group, true, Who, whole_by, ℕ, or-true, comes_by, comes_in, found_in, has_room, IfSome, IsFit, list_any, listening, not, of, subst, AreApart}
+use Rattle.j39_node.specs.Hearing.{is_whole as is_full}
 use Rattle.j39_transport.specs.Frames as frames
-use Rattle.j39_node.proofs.HearingLaws.{begun_open, whole_is, whole_of_left, none_is as not_both}
-use Rattle.j39_node.proofs.HearingLemmas.{Effect, begins, ends, grows, stays, effect}
+use Rattle.j39_node.proofs.HearingLaws.{made_is}
+use Rattle.j39_node.proofs.HearingLemmas.{hears_source, of_source, result_is, stands, stands_found}
+use Rattle.j39_node.proofs.ListenLemmas.{begun_open}
 use Rattle.j39_node.proofs.PacketLemmas.{quiet_step, shown_none}
 use Rattle.j39_node.proofs.ReceptionLaws.{goes_there}
 
@@ -20,31 +21,19 @@ answers_by w q f m o e g a =
 
 -- ---- a broadcast is made whole by _ a _ packet to all
 
-by_packet : (who : Who) (now : ℕ) (f : FrameRecord) (o y : Option OpenBroadcast) (a b : Bool) (p : ℕ × MessageRecord) → Effect who now f o a b y → whole_of o ≡ None
-    → whole_of y ≡ Some p → (packs f ≡ true) × (p.1.source ≡ source_of f.id)
-by_packet who now f o y a b p (begins e1 e2 e3 e4 e5 e6 e7) n e =
-    absurd (not_both _ p (ap whole_of e7 ∙ ap (λ (v : Bool). if v then Some (message_by (begun (since_in now o) now f)) else None) (begun_open (since_in now o) now f e1)) e)
-by_packet who now f o y a b p (ends e1 e2 e3 e4 e5) n e = absurd (not_both _ p (ap whole_of e5) e)
-by_packet who now f o y a b p (grows x e1 e2 e3 e4 e5 e6 e7 e8 e9) n e =
-    let z = whole_is y p e in
-    let s : z.0 ≡ grown now f x = (let q : Some z.0 ≡ Some (grown now f x) = sym z.1 ∙ e9 in cc) in
-    let k : Some (message_by z.0) ≡ Some p = sym (ap whole_of z.1 ∙ ap (λ (v : Bool). if v then Some (message_by z.0) else None) z.2) ∙ e in
-    let m : message_by z.0 ≡ p = cc in
-    (e2, ap (λ (u : ℕ × MessageRecord). u.1.source) (sym m) ∙ (ap (λ (u : OpenBroadcast). u.source) s ∙ sym e4))
-by_packet who now f o y a b p (stays x e1 e2 e3 e4) n e = absurd (not_both _ p (ap whole_of (e4 ∙ sym e1) ∙ n) e)
-
 pub made_by_packet : (who : Who) (H : List Call) (when : ℕ) (f : FrameRecord) (p : ℕ × MessageRecord) → made_whole who H when f ≡ Some p
     → (packs f ≡ true) × (p.1.source ≡ source_of f.id)
-made_by_packet who H when f p e = go (waiting who H) refl e
-  where
-    G : List Call
-    G = At when (Hear f) ∷ H
-
-    go : (o : Option (ℕ × MessageRecord)) → waiting who H ≡ o → newly o (waiting who G) ≡ Some p → (packs f ≡ true) × (p.1.source ≡ source_of f.id)
-    go None i z =
-        by_packet who (time_heard G) f (found who H when f) _ _ _ p (effect who (time_heard G) f (found who H when f))
-        (whole_of_left (is_over (known who H when f) (holder who G) (time_heard G) (hearing who H)) (hearing who H) ∙ i) z
-    go (Some x) i z = absurd (cc)
+made_by_packet who H when f p e =
+    let G = At when (Hear f) ∷ H in
+    let name = holder who G (source_of f.id) in
+    let z = made_is who H when f p e in
+    let q = result_is who.boxes who name (time_heard G) f (found_in who H when f) IsFit (λ y. is_full y ≡ true → packs f ≡ true)
+    (λ since z a w. absurd (let k : true ≡ false = sym w ∙ begun_open name since (time_heard G) f a in cc)) (λ y b k m g w. b)
+    (λ y a k m g w. absurd (let n : true ≡ false = sym w ∙ g.2 in cc)) (stands_found who H when f).fit in
+    let s = hears_source who name (time_heard G) f (has_room who.boxes (source_of f.id) (found_in who H when f)) (found who H when f (source_of f.id)) (of_source (source_of f.id) (found_in who H when f).current) in (
+      subst (λ (o : Option OpenBroadcast). IfSome o (λ y. is_full y ≡ true → packs f ≡ true)) z.1 q z.2,
+      ap (λ (m : ℕ × MessageRecord). m.1.source) z.3 ∙ subst (λ (o : Option OpenBroadcast). IfSome o (λ y. y.source ≡ source_of f.id)) z.1 s,
+    )
 
 pub packs_to_all : (f : FrameRecord) → packs f ≡ true → destination_of f.id ≡ Some 255
 unfolding frames.is_packet frames.goes frames.group_of frames.source_of frames.destination_of
@@ -82,13 +71,34 @@ InSession w H q =
 
 abbrev InBroadcast : Who → List Call → ℕ → Question → Type 0
 InBroadcast w H time q =
-    (x : OpenBroadcast) × (hearing w H ≡ Some x) × (is_full x ≡ false) × (is_late time x ≡ false) × (x.group ≡ q.group)
-    × ((q.to ≡ 255) ⊎ (x.source ≡ q.to))
+    (x : OpenBroadcast) × (a : ℕ) × (hearing w H a ≡ Some x) × (is_late time x ≡ false) × (x.group ≡ q.group) × ((q.to ≡ 255) ⊎ (x.source ≡ q.to))
+
+-- one of those that are open
+any_open : (p : OpenBroadcast → Bool) (xs : List OpenBroadcast) → AreApart xs → list_any p xs ≡ true → (x : OpenBroadcast) × (of x.source xs ≡ Some x) × (p x ≡ true)
+any_open p [] h e = absurd (cc)
+any_open p (x ∷ xs) h e = go (p x) refl e (any_open p xs h.1)
+  where
+    go : (b : Bool) → p x ≡ b → (b || list_any p xs) ≡ true → (list_any p xs ≡ true → (y : OpenBroadcast) × (of y.source xs ≡ Some y) × (p y ≡ true))
+        → (y : OpenBroadcast) × (of y.source (x ∷ xs) ≡ Some y) × (p y ≡ true)
+    go true i z k = (x, ap (λ (b : Bool). if b then Some x else of x.source xs) (eq-eqb x.source x.source refl), i)
+    go false i z k = let y = k z in (y.0, later y.0 y.1 (nat_eq y.0.source x.source) refl, y.2)
+      where
+        later : (y : OpenBroadcast) → of y.source xs ≡ Some y → (b : Bool) → nat_eq y.source x.source ≡ b → (if b then Some x else of y.source xs) ≡ Some y
+        later y g true m = absurd (let n : None ≡ Some y = sym (ap (λ (a : ℕ). of a xs) (eqb-true y.source x.source m) ∙ h.0) ∙ g in cc)
+        later y g false m = g
+
+open_any : (p : OpenBroadcast → Bool) (a : ℕ) (xs : List OpenBroadcast) (x : OpenBroadcast) → of a xs ≡ Some x → p x ≡ true → list_any p xs ≡ true
+open_any p a [] x e g = absurd (cc)
+open_any p a (y ∷ xs) x e g = go (nat_eq a y.source) e (open_any p a xs x)
+  where
+    go : (b : Bool) → (if b then Some y else of a xs) ≡ Some x → (of a xs ≡ Some x → p x ≡ true → list_any p xs ≡ true) → (p y || list_any p xs) ≡ true
+    go true z k = let q : y ≡ x = cc in ap (λ (b : Bool). b || list_any p xs) (ap p q ∙ g)
+    go false z k = ap (λ (b : Bool). p y || b) (k z g) ∙ or-true (p y)
 
 pub comes_means : (w : Who) (H : List Call) (time : ℕ) (q : Question) → open_ask H ≡ Some q → (IsTrue (comes w H time) ↔ (InSession w H q ⊎ InBroadcast w H time q))
 comes_means w H time q o = (
-  λ z. split (is_from q (in_session (reception w H).session)) (seeks q (in_broadcast time (hearing w H))) refl refl
-      (sym (ap (λ (x : Option Question). is_coming x (in_session (reception w H).session) (in_broadcast time (hearing w H))) o) ∙ z),
+  λ z. split (is_from q (in_session (reception w H).session)) (comes_in time q (listening w H).current) refl refl
+      (sym (ap (λ (x : Option Question). is_coming time x (in_session (reception w H).session) (listening w H).current) o) ∙ z),
   from,
 )
   where
@@ -96,26 +106,24 @@ comes_means w H time q o = (
     by_session None i e = absurd (cc)
     by_session (Some r) i e = let p = and_parts (nat_eq r.message.source q.to) (nat_eq r.message.group q.group) e in (r, i, eqb-true _ _ p.0, eqb-true _ _ p.1)
 
-    by_broadcast : (b : Option OpenBroadcast) → hearing w H ≡ b → seeks q (in_broadcast time b) ≡ true → InBroadcast w H time q
-    by_broadcast None i e = absurd (cc)
-    by_broadcast (Some x) i e = go (is_full x) (is_late time x) refl refl e
-      where
-        go : (a b : Bool) → is_full x ≡ a → is_late time x ≡ b → seeks q (if a || b then None else Some (x.source, x.group)) ≡ true → InBroadcast w H time q
-        go true b j k e = absurd (cc)
-        go false true j k e = absurd (cc)
-        go false false j k e = let s = seeks_from q x.source x.group e in (x, i, j, k, s.0, s.1)
+    by_broadcast : comes_in time q (listening w H).current ≡ true → InBroadcast w H time q
+    by_broadcast e =
+        let x = any_open (comes_by time q) (listening w H).current (stands w H).apart e in
+        let p = and_parts (not (is_late time x.0)) (seeks q (Some (x.0.source, x.0.group))) x.2 in
+        let s = seeks_from q x.0.source x.0.group p.1 in
+        let l : is_late time x.0 ≡ false = (let k = p.0 in grind (arith, k)) in (x.0, x.0.source, x.1, l, s.0, s.1)
 
-    split : (a b : Bool) → is_from q (in_session (reception w H).session) ≡ a → seeks q (in_broadcast time (hearing w H)) ≡ b → (a || b) ≡ true → InSession w H q ⊎ InBroadcast w H time q
+    split : (a b : Bool) → is_from q (in_session (reception w H).session) ≡ a → comes_in time q (listening w H).current ≡ b → (a || b) ≡ true → InSession w H q ⊎ InBroadcast w H time q
     split true b i j z = inl (by_session (reception w H).session refl i)
-    split false true i j z = inr (by_broadcast (hearing w H) refl j)
+    split false true i j z = inr (by_broadcast j)
     split false false i j z = absurd (cc)
 
     from : InSession w H q ⊎ InBroadcast w H time q → IsTrue (comes w H time)
     from (inl (r, i, g, k)) =
-        (λ z. is_coming (o z) (in_session (i z)) (in_broadcast time (hearing w H)))
-        ∙ ap (λ (b : Bool). b || seeks q (in_broadcast time (hearing w H))) (and_from _ _ (eq-eqb _ _ g) (eq-eqb _ _ k))
-    from (inr (x, i, n, l, g, a)) =
-        (λ z. is_coming (o z) (in_session (reception w H).session) (in_broadcast time (i z)))
-        ∙ ((λ z. is_from q (in_session (reception w H).session) || seeks q (if n z || l z then None else Some (x.source, x.group)))
-        ∙ (ap (λ (b : Bool). is_from q (in_session (reception w H).session) || b) (seeks_by q x.source x.group g a)
-        ∙ or-true (is_from q (in_session (reception w H).session))))
+        (λ z. is_coming time (o z) (in_session (i z)) (listening w H).current)
+        ∙ ap (λ (b : Bool). b || comes_in time q (listening w H).current) (and_from _ _ (eq-eqb _ _ g) (eq-eqb _ _ k))
+    from (inr (x, a, i, l, g, t)) =
+        ap (λ (p : Option Question). is_coming time p (in_session (reception w H).session) (listening w H).current) o
+        ∙ (ap (λ (b : Bool). is_from q (in_session (reception w H).session) || b)
+        (open_any (comes_by time q) a (listening w H).current x i (and_from _ _ (ap not l) (seeks_by q x.source x.group g t)))
+        ∙ or-true (is_from q (in_session (reception w H).session)))

@@ -1,235 +1,242 @@
--- That every broadcast ends, and every message of one frame.
-use Rattle.j39_node.proofs.Common.{[], if◌then◌else◌, ◌&&◌, ◌*◌, ◌++◌, ◌+◌, ◌-◌, ◌<◌, ◌||◌, ◌∙◌, ◌∷◌, ◌≡◌, ◌≤◌, ◌⊎◌, add-mul, Address, address_after, Again, ap, AreAnswered, arith, At, Bool, Broadcast, broadcast_end, broadcast_from, broadcasts, Call, claim_of, Claimed, claimed, claims_anew, Controller, Done, Ending, ending_of, false, frame_of, FrameRecord, gap, Hear, inl, inr, Is, is_claim, is_held, is_lost, is_open, is_packet, is_smaller, IsAnswered, IsPrompt, length, List, Lost, Message, message_of, MessageRecord, moment, nat_eq, nat_le, nat_lt, next_broadcast_ended, next_frame, None, NoneTold, NotClaimed, Ok, older, open_broadcast, Option, packet_by, packets, packets_of, passed_in, pause, refl, Some, step, subst, suc, suc-mul, sym, TakeBroadcastEnded, TakeFrame, tells_broadcast, true, waited_in, Who, Withdrawn, ℕ, answer_to_broadcast, not_both, leb-true, leb-false}
+-- A driver's pace: what was accepted goes on, is over, or its address is lost. Broadcasts first.
+use Rattle.j39_node.proofs.Common.{Address, Again, AreAnswered, At, Bool, Broadcast, Call, Claimed, Controller, Done, Ending, FrameRecord, Hear, Is, IsAnswered, IsPaced, IsPrompt, List, Lost, MessageRecord, None, NoneTold, NotClaimed, Ok, Option, Some, TakeBroadcastEnded, TakeFrame, Who, Withdrawn, [], add-mul, address_after, after, answer_to_broadcast, ap, arith, broadcast_end, broadcast_from, broadcasts, by, claim_of, claimed, claims_anew, ending_of, false, frame_of, gap, goes, idle, if◌then◌else◌, inl, inr, is_claim, is_held, is_lost, is_open, is_packet, is_smaller, later, leb-false, leb-true, left, length, lost, message_of, moment, more, nat_eq, nat_le, nat_lt, next_broadcast_ended, not_both, older, open_broadcast, packet_by, packets, packets_of, packets_taken, passed, passed_in, pause, refl, rest, step, subst, suc, suc-mul, sym, tells_broadcast, true, waited_in, ℕ, ◌&&◌, ◌*◌, ◌++◌, ◌+◌, ◌-◌, ◌<◌, ◌||◌, ◌∙◌, ◌∷◌, ◌≡◌, ◌≤◌, ◌⊎◌}
 use Rattle.j39_node.proofs.QueueLemmas.{length_one_more}
-use Rattle.j39_node.proofs.SoundLemmas.{none_next, held_older, lost_claimed, lost_older, packets_is, pause_is}
+use Rattle.j39_node.proofs.SoundLemmas.{none_next, held_older, lost_claimed, lost_older, lost_unclaimed, packets_is, pause_is}
 use Rattle.j39_node.proofs.AnswerCases.{broadcast_accepts}
 
--- ---- an address that was held is held or lost
+-- ---- an address that was held is held or lost, and one that was lost is lost
 
 held_claimed : (a : Address) → is_held a ≡ true → is_held (claimed a) ≡ true
 held_claimed NotClaimed e = absurd (cc)
 held_claimed (Claimed n) e = e
 held_claimed Lost e = absurd (cc)
 
-pub keeps_heard : (w : Who) (H : List Call) (when : ℕ) (f : FrameRecord) → is_held (address_after w H) ≡ true
-    → (is_lost (address_after w (At when (Hear f) ∷ H)) ≡ true) ⊎ (is_held (address_after w (At when (Hear f) ∷ H)) ≡ true)
-keeps_heard w H when f e = go (is_smaller w (claim_of f))
+keeps : (w : Who) (H : List Call) (call : Call) → claims_anew call ≡ false → is_held (address_after w H) ≡ true
+    → (is_lost (address_after w (call ∷ H)) ≡ true) ⊎ (is_held (address_after w (call ∷ H)) ≡ true)
+keeps w H (At when (Hear f)) n e = go (is_smaller w (claim_of f))
   where
     go : (b : Bool) → (is_lost (if b then Lost else older (step H when) (address_after w H)) ≡ true)
         ⊎ (is_held (if b then Lost else older (step H when) (address_after w H)) ≡ true)
     go true = inl refl
     go false = inr (held_older (step H when) (address_after w H) e)
-
-pub keeps_taken : (w : Who) (H : List Call) (now : ℕ) (f : FrameRecord) → is_held (address_after w H) ≡ true
-    → is_held (address_after w (At now (TakeFrame (Some f)) ∷ H)) ≡ true
-keeps_taken w H now f e = go (is_claim f)
+keeps w H (At now (TakeFrame (Some f))) n e = inr (go (is_claim f))
   where
     go : (b : Bool) → is_held (if b then claimed (older (step H now) (address_after w H)) else older (step H now) (address_after w H)) ≡ true
     go true = held_claimed (older (step H now) (address_after w H)) (held_older (step H now) (address_after w H) e)
     go false = held_older (step H now) (address_after w H) e
+keeps w H (At now Again) n e = absurd (let z : true ≡ false = n in cc)
+keeps w H call n e = inr (let z = held_older (step H (moment (call ∷ H))) (address_after w H) e in cc)
 
--- what is lost stays lost
-pub lost_heard : (w : Who) (H : List Call) (when : ℕ) (f : FrameRecord) → is_lost (address_after w H) ≡ true → is_lost (address_after w (At when (Hear f) ∷ H)) ≡ true
-lost_heard w H when f e = go (is_smaller w (claim_of f))
+pub stays_lost : (w : Who) (H : List Call) (call : Call) → is_lost (address_after w H) ≡ true → is_lost (address_after w (call ∷ H)) ≡ true
+stays_lost w H (At when (Hear f)) e = go (is_smaller w (claim_of f))
   where
     go : (b : Bool) → is_lost (if b then Lost else older (step H when) (address_after w H)) ≡ true
     go true = refl
     go false = lost_older (step H when) (address_after w H) ∙ e
-
-pub lost_taken : (w : Who) (H : List Call) (now : ℕ) (f : FrameRecord) → is_lost (address_after w H) ≡ true
-    → is_lost (address_after w (At now (TakeFrame (Some f)) ∷ H)) ≡ true
-lost_taken w H now f e = go (is_claim f)
+stays_lost w H (At now (TakeFrame (Some f))) e = go (is_claim f)
   where
     go : (b : Bool) → is_lost (if b then claimed (older (step H now) (address_after w H)) else older (step H now) (address_after w H)) ≡ true
     go true = lost_claimed (older (step H now) (address_after w H)) ∙ (lost_older (step H now) (address_after w H) ∙ e)
     go false = lost_older (step H now) (address_after w H) ∙ e
+stays_lost w H (At now Again) e = lost_unclaimed (older (step H now) (address_after w H)) ∙ (lost_older (step H now) (address_after w H) ∙ e)
+stays_lost w H call e = let z = lost_older (step H (moment (call ∷ H))) (address_after w H) in cc
+
+-- it is over, its address is lost, or it goes on from an address that is held
+pub data Fate (a : Address) (Over Runs : Type 0) : Type 0 where
+  over : Over → Fate a Over Runs
+  gone : is_lost a ≡ true → Fate a Over Runs
+  runs : is_held a ≡ true → Runs → Fate a Over Runs
+
+-- a call later
+pub later_on : {Over Runs Ends Goes : Type 0} (w : Who) (H : List Call) (call : Call) → claims_anew call ≡ false → (Over → Ends)
+    → (is_held (address_after w H) ≡ true → is_held (address_after w (call ∷ H)) ≡ true → Runs → Ends ⊎ Goes)
+    → Fate (address_after w H) Over Runs → Fate (address_after w (call ∷ H)) Ends Goes
+later_on w H call n more goes (over x) = over (more x)
+later_on w H call n more goes (gone e) = gone (stays_lost w H call e)
+later_on {Over} {Runs} {Ends} {Goes} w H call n more goes (runs e r) = by (keeps w H call n e)
+  where
+    held : is_held (address_after w (call ∷ H)) ≡ true → Ends ⊎ Goes → Fate (address_after w (call ∷ H)) Ends Goes
+    held z (inl x) = over x
+    held z (inr x) = runs z x
+
+    by : (is_lost (address_after w (call ∷ H)) ≡ true) ⊎ (is_held (address_after w (call ∷ H)) ≡ true) → Fate (address_after w (call ∷ H)) Ends Goes
+    by (inl z) = gone z
+    by (inr z) = held z (goes e z r)
+
+-- what is over, or whose address is lost, unless it goes on
+pub ended_or_lost : {a : Address} {Over Runs : Type 0} → Fate a Over Runs → (Runs → Over) → Over ⊎ (is_lost a ≡ true)
+ended_or_lost (over x) h = inl x
+ended_or_lost (gone e) h = inr e
+ended_or_lost (runs e r) h = inl (h r)
+
+-- a frame is taken, or none
+abbrev pub takes : Call → Bool
+takes (At now (TakeFrame answer)) = true
+takes call = false
+
+pub answered_from : (w : Who) (later B : List Call) → AreAnswered w (later ++ B) → AreAnswered w B
+answered_from w [] B a = a
+answered_from w (call ∷ later) B a = answered_from w later B a.0
 
 -- ---- when the next frame of a broadcast is taken at the latest
 
--- after c of its frames the gap is over so long after its acceptance at most
-due_by : ℕ → ℕ → ℕ
-due_by g c = gap + c * (gap + g)
+-- after c of its frames the time of the next is over so long after the beginning at most
+unfoldable pub due_by : ℕ → ℕ → ℕ → ℕ
+due_by most each c = most + c * (most + each)
 
-due_more : (g c : ℕ) → due_by g (suc c) ≡ due_by g c + (gap + g)
+due_more : (most each c : ℕ) → due_by most each (suc c) ≡ due_by most each c + (most + each)
 unfolding due_by
-due_more g c = let e = suc-mul c (gap + g) in omega (arith, e)
+due_more most each c = let e = suc-mul c (most + each) in omega (arith, e)
 
-due_last : (g c n : ℕ) → c ≤ n → due_by g c + g ≤ (n + 1) * (gap + g)
+due_last : (most each c n : ℕ) → c ≤ n → due_by most each c + each ≤ (n + 1) * (most + each)
 unfolding due_by
-due_last g c n l =
+due_last most each c n l =
     let e : n + 1 ≡ suc c + (n - c) = omega (arith, l) in
-    let a = ap (λ (k : ℕ). k * (gap + g)) e in
-    let b = add-mul (suc c) (n - c) (gap + g) in
-    let d = suc-mul c (gap + g) in
+    let a = ap (λ (k : ℕ). k * (most + each)) e in
+    let b = add-mul (suc c) (n - c) (most + each) in
+    let d = suc-mul c (most + each) in
     omega (arith, a, b, d)
 
--- so long after the acceptance, with so much of the gap left, and so long after a take that answered none
-record Timely (g count passed left waited : ℕ) : Type 0 where
-  pub soon : 0 < left → passed + left ≤ due_by g count
-  pub late : passed ≤ due_by g count + waited
+-- so long after the beginning, with so much of its time left, and so late at most
+pub record Timely (most each count passed left slack : ℕ) : Type 0 where
+  pub soon : 0 < left → passed + left ≤ due_by most each count
+  pub late : passed ≤ due_by most each count + slack
 
-accepted_now : (g left : ℕ) → left ≤ gap → Timely g 0 0 left 0
+pub begins_timely : (most each left slack : ℕ) → left ≤ most → Timely most each 0 0 left slack
 unfolding due_by
-accepted_now g left l = record { soon = λ z. omega (arith, l); late = omega arith }
+begins_timely most each left slack l = record { soon = λ z. omega (arith, l); late = omega arith }
 
-passes : (g count passed left waited s rest : ℕ) → rest ≡ left - s → Timely g count passed left waited → Timely g count (passed + s) rest (waited + s)
-passes g count passed left waited s rest e h = record {
+passes : (most each count passed left slack s rest : ℕ) → rest ≡ left - s → Timely most each count passed left slack → Timely most each count (passed + s) rest (slack + s)
+passes most each count passed left slack s rest e h = record {
   soon = λ z. (let a = h.soon (omega (arith, e, z)) in omega (arith, a, e, z));
   late = (let a = h.late in omega (arith, a));
 }
 
-finds_none : (g count passed left waited s rest : ℕ) → rest ≡ left - s → Timely g count passed left waited → 0 < rest → Timely g count (passed + s) rest 0
-finds_none g count passed left waited s rest e h l =
+pub not_yet : (most each count passed left slack s rest after : ℕ) → rest ≡ left - s → 0 < rest → Timely most each count passed left slack
+    → Timely most each count (passed + s) rest after
+not_yet most each count passed left slack s rest after e l h =
     let a = h.soon (omega (arith, e, l)) in record { soon = λ z. omega (arith, a, e, l); late = omega (arith, a, e, l) }
 
-packs_one : (g count passed left waited s : ℕ) → Timely g count passed left waited → waited + s ≤ g → Timely g (suc count) (passed + s) gap (waited + s)
-packs_one g count passed left waited s h p =
-    let a = h.late in let e = due_more g count in record { soon = λ z. omega (arith, a, e, p); late = omega (arith, a, e) }
+packs_one : (most each count passed left slack s after : ℕ) → slack + s ≤ each → Timely most each count passed left slack → Timely most each (suc count) (passed + s) most after
+packs_one most each count passed left slack s after p h =
+    let a = h.late in let e = due_more most each count in record { soon = λ z. omega (arith, a, e, p); late = omega (arith, a, e, p) }
 
--- ---- the course of a broadcast
+-- ---- the course of a broadcast, of which c0 frames were taken before
 
-module _ (w : Who) (B : List Call) (g k : ℕ) (m : MessageRecord) where
-  data Course (later : List Call) : Type 0 where
-    over : packets_of m < length (packets (later ++ B)) → Course later
-    gone : is_lost (address_after w (later ++ B)) ≡ true → Course later
-    runs : is_held (address_after w (later ++ B)) ≡ true
-        → Timely g (length (packets (later ++ B))) (passed_in later B) (pause (later ++ B) - 100000) (waited_in later B) → Course later
+pub no_packet : (k : ℕ) (m : MessageRecord) (i left : ℕ) → packet_by (Some (k, m)) i left ≡ None → (packets_of m < i) ⊎ (0 < left - 100000)
+no_packet k m i left e = go (nat_le left 100000) (nat_le i (packets_of m)) refl refl e
+  where
+    go : (a b : Bool) → nat_le left 100000 ≡ a → nat_le i (packets_of m) ≡ b → (if a && b then Some (frame_of m i) else None) ≡ None
+        → (packets_of m < i) ⊎ (0 < left - 100000)
+    go true true x z y = absurd (cc)
+    go true false x z y = inl (leb-false _ _ z)
+    go false b x z y = inr (let l = leb-false left 100000 x in omega (arith, l))
 
-  record Stands (later : List Call) : Type 0 where
+-- then its end would be told
+ends_by : (k : ℕ) (m : MessageRecord) (i : ℕ) (b lost : Bool) → nat_lt (packets_of m) i ≡ b → (packets_of m < i) ⊎ (lost ≡ true) → (e : Ending) × (ending_of b lost k ≡ Some (k, e))
+ends_by k m i true lost z h = (Done, refl)
+ends_by k m i false true z h = (Withdrawn, refl)
+ends_by k m i false false z (inl l) = absurd (not_past _ _ z l)
+  where
+    not_past : (a b : ℕ) → nat_lt a b ≡ false → a < b → ⊥
+    not_past a b y l = absurd (let x : b ≤ a = grind arith in omega (arith, x, l))
+ends_by k m i false false z (inr l) = absurd (let y : false ≡ true = l in cc)
+
+-- its frames are late by the slack of the driver's pace; of the gap behind each so much counts as spare
+module _ (w : Who) (B : List Call) (since : List Call → List Call → ℕ) (slack : List Call → ℕ) (g most each spare k c0 : ℕ) (m : MessageRecord) where
+  abbrev pub IsOver : List Call → Type 0
+  IsOver later = packets_of m < length (packets (later ++ B))
+
+  abbrev pub Runs : List Call → Type 0
+  Runs later = Timely most each (packets_taken later) (passed_in later B) (pause (later ++ B) - spare) (slack later)
+
+  pub record Stands (later : List Call) : Type 0 where
     pub broadcast : open_broadcast w (later ++ B) ≡ Some (k, m)
-    pub course : Course later
+    pub count : length (packets (later ++ B)) ≡ c0 + packets_taken later
+    pub course : Fate (address_after w (later ++ B)) (IsOver later) (Runs later)
 
-  -- a frame is heard
-  hears_one : (when : ℕ) (f : FrameRecord) (later : List Call) → Stands later → Stands (At when (Hear f) ∷ later)
-  hears_one when f later h = record { broadcast = h.broadcast; course = go h.course }
-    where
-      go : Course later → Course (At when (Hear f) ∷ later)
-      go (over l) = over l
-      go (gone e) = gone (lost_heard w (later ++ B) when f e)
-      go (runs e t) = elim (keeps_heard w (later ++ B) when f e) [
-        | inl z ↦ gone z
-        | inr z ↦ runs z (passes g _ _ _ _ (step (later ++ B) when) _ (omega arith) t)
-      ]
+  pub record Pace : Type 0 where
+    pub idle : (call : Call) (later : List Call) → takes call ≡ false → slack (call ∷ later) ≡ slack later + step (later ++ B) (moment (call ∷ later ++ B))
+    pub quick : (later : List Call) (s : ℕ) → since later B + s ≤ g → slack later + s ≤ each
+    pub beside : (now : ℕ) (f : FrameRecord) (later : List Call) → AreAnswered w (later ++ B) → IsAnswered w (later ++ B) (At now (TakeFrame (Some f)))
+        → since later B + step (later ++ B) now ≤ g → is_packet f ≡ false → is_held (address_after w (later ++ B)) ≡ true → Stands later → Runs later
+        → IsOver (At now (TakeFrame (Some f)) ∷ later) ⊎ Runs (At now (TakeFrame (Some f)) ∷ later)
+    pub last : 150000 - spare ≡ most
+    pub within : spare ≤ 100000
 
-  -- a frame is taken
-  takes_one : (now : ℕ) (f : FrameRecord) (later : List Call) → waited_in later B + step (later ++ B) now ≤ g → Stands later
-      → Stands (At now (TakeFrame (Some f)) ∷ later)
-  takes_one now f later p h = record { broadcast = h.broadcast; course = go (is_packet f) refl h.course }
-    where
-      G : List Call
-      G = At now (TakeFrame (Some f)) ∷ later ++ B
+  counts : (now : ℕ) (f : FrameRecord) (later : List Call) (b : Bool) → is_packet f ≡ b
+      → (length (packets (At now (TakeFrame (Some f)) ∷ later ++ B)) ≡ (if b then suc (length (packets (later ++ B))) else length (packets (later ++ B))))
+      × (packets_taken (At now (TakeFrame (Some f)) ∷ later) ≡ (if b then suc (packets_taken later) else packets_taken later))
+  counts now f later true i =
+      (ap length (packets_is (later ++ B) now f true i) ∙ length_one_more (packets (later ++ B)) (message_of f), ap (λ (b : Bool). if b then suc (packets_taken later) else packets_taken later) i)
+  counts now f later false i = (ap length (packets_is (later ++ B) now f false i), ap (λ (b : Bool). if b then suc (packets_taken later) else packets_taken later) i)
 
-      go : (b : Bool) → is_packet f ≡ b → Course later → Course (At now (TakeFrame (Some f)) ∷ later)
-      go true i (over l) =
-          over (let n = ap length (packets_is (later ++ B) now f true i) in let o = length_one_more (packets (later ++ B)) (message_of f) in omega (arith, l, n, o))
-      go false i (over l) = over (let n = ap length (packets_is (later ++ B) now f false i) in omega (arith, l, n))
-      go b i (gone e) = gone (lost_taken w (later ++ B) now f e)
-      go true i (runs e t) = runs (keeps_taken w (later ++ B) now f e)
-          (subst (λ (n : ℕ). Timely g n (passed_in (At now (TakeFrame (Some f)) ∷ later) B) (pause G - 100000) (waited_in (At now (TakeFrame (Some f)) ∷ later) B))
-          (sym (ap length (packets_is (later ++ B) now f true i) ∙ length_one_more (packets (later ++ B)) (message_of f)))
-          (subst (λ (n : ℕ). Timely g (suc (length (packets (later ++ B)))) (passed_in (At now (TakeFrame (Some f)) ∷ later) B) (n - 100000) (waited_in (At now (TakeFrame (Some f)) ∷ later) B))
-          (sym (pause_is (later ++ B) now f true i))
-          (packs_one g _ _ _ _ (step (later ++ B) now) t p)))
-      go false i (runs e t) = runs (keeps_taken w (later ++ B) now f e)
-          (subst (λ (n : ℕ). Timely g n (passed_in (At now (TakeFrame (Some f)) ∷ later) B) (pause G - 100000) (waited_in (At now (TakeFrame (Some f)) ∷ later) B))
-          (sym (ap length (packets_is (later ++ B) now f false i)))
-          (subst (λ (n : ℕ). Timely g (length (packets (later ++ B))) (passed_in (At now (TakeFrame (Some f)) ∷ later) B) (n - 100000) (waited_in (At now (TakeFrame (Some f)) ∷ later) B))
-          (sym (pause_is (later ++ B) now f false i))
-          (passes g _ _ _ _ (step (later ++ B) now) _ (omega arith) t)))
-
-  -- none is taken: the gap isn't over, or all were
-  pub no_packet : (now i left : ℕ) → packet_by (Some (k, m)) i left ≡ None → (packets_of m < i) ⊎ (0 < left - 100000)
-  no_packet now i left e = go (nat_le left 100000) (nat_le i (packets_of m)) refl refl e
-    where
-      go : (a b : Bool) → nat_le left 100000 ≡ a → nat_le i (packets_of m) ≡ b → (if a && b then Some (frame_of m i) else None) ≡ None
-          → (packets_of m < i) ⊎ (0 < left - 100000)
-      go true true x z y = absurd (cc)
-      go true false x z y = inl (leb-false _ _ z)
-      go false b x z y = inr (let l = leb-false left 100000 x in omega (arith, l))
-
-  takes_no_frame : (now : ℕ) (later : List Call) → (let none : Option (ℕ × Message) = None in none) ≡ next_frame w (later ++ B) now → Stands later
-      → Stands (At now (TakeFrame None) ∷ later)
-  takes_no_frame now later answer h = record { broadcast = h.broadcast; course = go h.course }
-    where
-      G : List Call
-      G = later ++ B
-
-      s : ℕ
-      s = step G now
-
-      go : Course later → Course (At now (TakeFrame None) ∷ later)
-      go (over l) = over l
-      go (gone e) = gone (lost_older (step (later ++ B) now) (address_after w (later ++ B)) ∙ e)
-      go (runs e t) =
-          elim (no_packet now (length (packets (later ++ B))) (pause (later ++ B) - step (later ++ B) now)
-          (ap (λ (o : Option (ℕ × MessageRecord)). packet_by o (length (packets (later ++ B))) (pause (later ++ B) - step (later ++ B) now)) (sym h.broadcast)
-          ∙ (none_next w (later ++ B) now (held_older (step (later ++ B) now) (address_after w (later ++ B)) e) answer).rest.packet)) [
-            | inl z ↦ over z
-            | inr z ↦ runs (held_older (step (later ++ B) now) (address_after w (later ++ B)) e) (finds_none g _ _ _ _ (step (later ++ B) now) _ (omega arith) t z)
-          ]
+  takes_one : Pace → (now : ℕ) (f : FrameRecord) (later : List Call) → AreAnswered w (later ++ B) → IsAnswered w (later ++ B) (At now (TakeFrame (Some f)))
+      → since later B + step (later ++ B) now ≤ g → Stands later → (b : Bool) → is_packet f ≡ b → Stands (At now (TakeFrame (Some f)) ∷ later)
+  takes_one x now f later right a p h true i = record {
+    broadcast = h.broadcast;
+    count = (let n = counts now f later true i in let q = n.0 in let r = n.1 in let c = h.count in omega (arith, q, r, c));
+    course = later_on w (later ++ B) (At now (TakeFrame (Some f))) refl (λ l. (let q = (counts now f later true i).0 in omega (arith, l, q)))
+        (λ e z t. inr (subst (λ (n : ℕ). Timely most each n (passed_in later B + step (later ++ B) now) (pause (At now (TakeFrame (Some f)) ∷ later ++ B) - spare) (slack (At now (TakeFrame (Some f)) ∷ later)))
+        (sym (counts now f later true i).1)
+        (subst (λ (n : ℕ). Timely most each (suc (packets_taken later)) (passed_in later B + step (later ++ B) now) n (slack (At now (TakeFrame (Some f)) ∷ later)))
+        (sym (ap (λ (n : ℕ). n - spare) (pause_is (later ++ B) now f true i) ∙ x.last))
+        (packs_one most each _ _ _ _ (step (later ++ B) now) _ (x.quick later (step (later ++ B) now) p) t)))) h.course;
+  }
+  takes_one x now f later right a p h false i = record {
+    broadcast = h.broadcast;
+    count = (let n = counts now f later false i in let q = n.0 in let r = n.1 in let c = h.count in omega (arith, q, r, c));
+    course = later_on w (later ++ B) (At now (TakeFrame (Some f))) refl (λ l. (let q = (counts now f later false i).0 in omega (arith, l, q)))
+        (λ e z t. x.beside now f later right a p i e h t) h.course;
+  }
 
   -- no other is accepted
   none_begins : (later : List Call) (now group j : ℕ) (bytes : List ℕ) → open_broadcast w (later ++ B) ≡ Some (k, m) → Ok j ≡ answer_to_broadcast w (later ++ B) now group bytes → ⊥
   none_begins later now group j bytes o a = not_both _ (broadcast_accepts w (later ++ B) now group j bytes a).2
       (ap (λ (x : Option (ℕ × MessageRecord)). is_open x || nat_eq (length (broadcasts w (later ++ B))) 18446744073709551615) o)
 
-  one_more : (call : Call) (later : List Call) → IsAnswered w (later ++ B) call → tells_broadcast call ≡ false
-      → (waited_in later B + step (later ++ B) (moment (call ∷ later ++ B)) ≤ g) × (claims_anew call ≡ false) → Stands later → Stands (call ∷ later)
-  one_more (At when (Hear f)) later a n p h = hears_one when f later h
-  one_more (At now (TakeFrame (Some f))) later a n p h = takes_one now f later p.0 h
-  one_more (At now (TakeFrame None)) later a n p h = takes_no_frame now later a h
-  one_more (At now (Broadcast group bytes (Ok j))) later a n p h =
-      absurd (none_begins later now group j bytes h.broadcast a)
-  one_more (At now Again) later a n p h = absurd (let z : true ≡ false = p.1 in cc)
-  one_more (TakeBroadcastEnded (Some x)) later a n p h = absurd (let z : true ≡ false = n in cc)
-  one_more call later a n p h = record { broadcast = h.broadcast; course = go h.course }
-    where
-      left : pause (call ∷ later ++ B) - 100000 ≡ pause (later ++ B) - 100000 - step (later ++ B) (moment (call ∷ later ++ B))
-      left = omega arith
+  one_more : Pace → (call : Call) (later : List Call) → AreAnswered w (later ++ B) → IsAnswered w (later ++ B) call → tells_broadcast call ≡ false
+      → (since later B + step (later ++ B) (moment (call ∷ later ++ B)) ≤ g) × (claims_anew call ≡ false) → Stands later → Stands (call ∷ later)
+  one_more x (At now (TakeFrame (Some f))) later right a n p h = takes_one x now f later right a p.0 h (is_packet f) refl
+  one_more x (At now (TakeFrame None)) later right a n p h = record {
+    broadcast = h.broadcast;
+    count = h.count;
+    course = later_on w (later ++ B) (At now (TakeFrame None)) refl (λ l. l)
+        (λ e z t. elim (no_packet k m (length (packets (later ++ B))) (pause (later ++ B) - step (later ++ B) now)
+        (ap (λ (o : Option (ℕ × MessageRecord)). packet_by o (length (packets (later ++ B))) (pause (later ++ B) - step (later ++ B) now)) (sym h.broadcast)
+        ∙ (none_next w (later ++ B) now (held_older (step (later ++ B) now) (address_after w (later ++ B)) e) a).rest.packet)) [
+          | inl y ↦ inl y
+          | inr y ↦ inr (not_yet most each (packets_taken later) (passed_in later B) (pause (later ++ B) - spare) (slack later) (step (later ++ B) now)
+              (pause (later ++ B) - step (later ++ B) now - spare) (slack (At now (TakeFrame None) ∷ later)) (omega arith) (let q = x.within in omega (arith, y, q)) t)
+        ]) h.course;
+  }
+  one_more x (At now (Broadcast group bytes (Ok j))) later right a n p h = absurd (none_begins later now group j bytes h.broadcast a)
+  one_more x (TakeBroadcastEnded (Some y)) later right a n p h = absurd (let z : true ≡ false = n in cc)
+  one_more x call later right a n p h = record {
+    broadcast = h.broadcast;
+    count = h.count;
+    course = later_on w (later ++ B) call p.1 (λ l. l)
+        (λ e z t. inr (subst (λ (n : ℕ). Timely most each (packets_taken later) (passed_in (call ∷ later) B) (pause (call ∷ later ++ B) - spare) n) (sym (x.idle call later refl))
+        (passes most each _ _ _ _ (step (later ++ B) (moment (call ∷ later ++ B))) _ (omega arith) t))) h.course;
+  }
 
-      go : Course later → Course (call ∷ later)
-      go (over l) = over l
-      go (gone e) = gone (let z = lost_older (step (later ++ B) (moment (call ∷ later ++ B))) (address_after w (later ++ B)) in cc)
-      go (runs e t) = runs (let z = held_older (step (later ++ B) (moment (call ∷ later ++ B))) (address_after w (later ++ B)) e in cc)
-          (passes g _ _ _ _ (step (later ++ B) (moment (call ∷ later ++ B))) _ left t)
+  pub stands : Pace → (later : List Call) → AreAnswered w (later ++ B) → NoneTold tells_broadcast later → IsPaced since g later B → Stands [] → Stands later
+  stands x [] a n p h = h
+  stands x (call ∷ later) a n p h = one_more x call later a.0 a.1 n.0 p.1 (stands x later a.0 n.1 p.0 h)
 
-  stands : (later : List Call) → AreAnswered w (later ++ B) → NoneTold tells_broadcast later → IsPrompt g later B → Stands [] → Stands later
-  stands [] a n p h = h
-  stands (call ∷ later) a n p h = one_more call later a.1 n.0 p.1 (stands later a.0 n.1 p.0 h)
-
-  -- then its end would be told
-  pub ends_by : (i : ℕ) (b lost : Bool) → nat_lt (packets_of m) i ≡ b → (packets_of m < i) ⊎ (lost ≡ true) → (e : Ending) × (ending_of b lost k ≡ Some (k, e))
-  ends_by i true lost z h = (Done, refl)
-  ends_by i false true z h = (Withdrawn, refl)
-  ends_by i false false z (inl l) = absurd (not_past _ _ z l)
-    where
-      not_past : (a b : ℕ) → nat_lt a b ≡ false → a < b → ⊥
-      not_past a b y l = absurd (let x : b ≤ a = grind arith in omega (arith, x, l))
-  ends_by i false false z (inr l) = absurd (let y : false ≡ true = l in cc)
-
-  ends_so : (later : List Call) → Stands later → (packets_of m + 1) * (gap + g) < passed_in later B → waited_in later B ≤ g
+  pub ends_so : Pace → (later : List Call) → c0 ≡ 0 → Stands later → (packets_of m + 1) * (most + each) < passed_in later B → since later B ≤ g
       → (e : Ending) × (next_broadcast_ended w (later ++ B) ≡ Some (k, e))
-  ends_so later h l p =
-      let x = ends_by (length (packets (later ++ B))) (nat_lt (packets_of m) (length (packets (later ++ B)))) (is_lost (address_after w (later ++ B))) refl (go h.course) in
-      (x.0, ap (λ (o : Option (ℕ × MessageRecord)). broadcast_end o (length (packets (later ++ B))) (is_lost (address_after w (later ++ B)))) h.broadcast ∙ x.1)
+  ends_so x later z h l p =
+      let y = ends_by k m (length (packets (later ++ B))) (nat_lt (packets_of m) (length (packets (later ++ B)))) (is_lost (address_after w (later ++ B))) refl
+      (ended_or_lost h.course (λ t. by (nat_le (packets_taken later) (packets_of m)) refl t)) in
+      (y.0, ap (λ (o : Option (ℕ × MessageRecord)). broadcast_end o (length (packets (later ++ B))) (is_lost (address_after w (later ++ B)))) h.broadcast ∙ y.1)
     where
-      go : Course later → (packets_of m < length (packets (later ++ B))) ⊎ (is_lost (address_after w (later ++ B)) ≡ true)
-      go (over z) = inl z
-      go (gone e) = inr e
-      go (runs e t) = most (nat_le (length (packets (later ++ B))) (packets_of m)) refl
-        where
-          most : (b : Bool) → nat_le (length (packets (later ++ B))) (packets_of m) ≡ b
-              → (packets_of m < length (packets (later ++ B))) ⊎ (is_lost (address_after w (later ++ B)) ≡ true)
-          most true z =
-              let d = due_last g (length (packets (later ++ B))) (packets_of m) (leb-true _ _ z) in
-              let a = t.late in absurd (omega (arith, a, d, l, p))
-          most false z = inl (leb-false _ _ z)
-
--- the last call came in time
-pub waited_last : (g : ℕ) (later B : List Call) → IsPrompt g later B → waited_in later B ≤ g
-waited_last g [] B p = omega arith
-waited_last g (At now (TakeFrame None) ∷ later) B p = omega arith
-waited_last g (call ∷ later) B p = p.1.0
+      by : (b : Bool) → nat_le (packets_taken later) (packets_of m) ≡ b → Runs later → IsOver later
+      by true y t =
+          let d = due_last most each (packets_taken later) (packets_of m) (leb-true _ _ y) in
+          let q = x.quick later 0 (omega (arith, p)) in
+          let a = t.late in absurd (omega (arith, a, d, l, q))
+      by false y t = (let b = leb-false _ _ y in let a = h.count in omega (arith, a, b, z))
 
 -- never is more left than this
 pub pause_most : (H : List Call) → pause H ≤ 150000
@@ -242,18 +249,52 @@ pause_most (At now (TakeFrame (Some f)) ∷ H) = go (is_packet f) (pause_most H)
 pause_most (At now (Broadcast group bytes (Ok k)) ∷ H) = let l = pause_most H in omega (arith, l)
 pause_most (call ∷ H) = let l = pause_most H in omega (arith, l)
 
-pub answered_from : (w : Who) (later B : List Call) → AreAnswered w (later ++ B) → AreAnswered w B
-answered_from w [] B a = a
-answered_from w (call ∷ later) B a = answered_from w later B a.0
+-- ---- to a driver that takes all
+
+-- the last call came in time
+pub waited_last : (g : ℕ) (later B : List Call) → IsPrompt g later B → waited_in later B ≤ g
+waited_last g [] B p = omega arith
+waited_last g (At now (TakeFrame None) ∷ later) B p = omega arith
+waited_last g (call ∷ later) B p = p.1.0
+
+pub waited_more : (call : Call) (later B : List Call) → takes call ≡ false → waited_in (call ∷ later) B ≡ waited_in later B + step (later ++ B) (moment (call ∷ later ++ B))
+waited_more (At now (TakeFrame answer)) later B e = absurd (let z : true ≡ false = e in cc)
+waited_more call later B e = refl
+
+module _ (w : Who) (B : List Call) (g k : ℕ) (m : MessageRecord) where
+  prompt : Pace w B waited_in (λ later. waited_in later B) g gap g 100000 k 0 m
+  prompt = record {
+    idle = λ call later e. waited_more call later B e;
+    quick = λ later s p. p;
+    beside = λ now f later right a p i e h t. inr (beside now f later i t);
+    last = refl;
+    within = omega arith;
+  }
+    where
+      R : List Call → Type 0
+      R = Runs w B waited_in (λ later. waited_in later B) g gap g 100000 k 0 m
+
+      beside : (now : ℕ) (f : FrameRecord) (later : List Call) → is_packet f ≡ false → R later → R (At now (TakeFrame (Some f)) ∷ later)
+      beside now f later i t =
+          subst (λ (n : ℕ). Timely gap g n (passed_in later B + step (later ++ B) now) (pause (At now (TakeFrame (Some f)) ∷ later ++ B) - 100000) (waited_in later B + step (later ++ B) now))
+          (sym (ap (λ (b : Bool). if b then suc (packets_taken later) else packets_taken later) i))
+          (subst (λ (n : ℕ). Timely gap g (packets_taken later) (passed_in later B + step (later ++ B) now) (n - 100000) (waited_in later B + step (later ++ B) now))
+          (sym (pause_is (later ++ B) now f false i)) (passes gap g _ _ _ _ (step (later ++ B) now) _ (omega arith) t))
 
 pub broadcast_ends : (w : Who) (later earlier : List Call) (c : Controller) (g now group k : ℕ) (bytes : List ℕ)
     → Is w (later ++ At now (Broadcast group bytes (Ok k)) ∷ earlier) c → NoneTold tells_broadcast later
     → IsPrompt g later (At now (Broadcast group bytes (Ok k)) ∷ earlier)
     → (packets_of (broadcast_from w group bytes) + 1) * (gap + g) < passed_in later (At now (Broadcast group bytes (Ok k)) ∷ earlier)
     → (e : Ending) × (next_broadcast_ended w (later ++ At now (Broadcast group bytes (Ok k)) ∷ earlier) ≡ Some (k, e))
-broadcast_ends w later earlier c g now group k bytes is none prompt l =
+broadcast_ends w later earlier c g now group k bytes is none paced l =
     let B = At now (Broadcast group bytes (Ok k)) ∷ earlier in
-    ends_so w B g k (broadcast_from w group bytes) later
-    (stands w B g k (broadcast_from w group bytes) later is.answered none prompt
-    (record { broadcast = refl; course = runs (broadcast_accepts w earlier now group k bytes (answered_from w later B is.answered).1).0 (accepted_now g (pause B - 100000) (let y = pause_most B in omega (arith, y))) }))
-    l (waited_last g later B prompt)
+    let m = broadcast_from w group bytes in
+    let x = prompt w B g k m in
+    ends_so w B waited_in (λ later. waited_in later B) g gap g 100000 k 0 m x later refl
+    (stands w B waited_in (λ later. waited_in later B) g gap g 100000 k 0 m x later is.answered none paced
+    (record {
+      broadcast = refl;
+      count = refl;
+      course = runs (broadcast_accepts w earlier now group k bytes (answered_from w later B is.answered).1).0 (begins_timely gap g (pause B - 100000) 0 (let y = pause_most B in omega (arith, y)));
+    }))
+    l (waited_last g later B paced)

@@ -104,7 +104,7 @@ any_map : {T : Type 0} {U : Type 0} (v : T → U) (p : U → Bool) (xs : List T)
 any_map v p [] = refl
 any_map v p (x ∷ xs) = ap (λ (b : Bool). p (v x) || b) (any_map v p xs)
 
-take_past : {T : Type 0} (xs : List T) (i : ℕ) → length xs ≤ i → take i xs ≡ xs
+pub take_past : {T : Type 0} (xs : List T) (i : ℕ) → length xs ≤ i → take i xs ≡ xs
 take_past [] zero l = refl
 take_past [] (suc i) l = refl
 take_past (x ∷ xs) zero l = absurd (omega (arith, l))

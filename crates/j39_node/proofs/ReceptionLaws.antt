@@ -1,5 +1,5 @@
 -- The laws of messages that come in packets.
-use Rattle.j39_node.proofs.Common.{[], if◌then◌else◌, ◌%◌, ◌&&◌, ◌++◌, ◌+◌, ◌-◌, ◌/◌, ◌<◌, ◌==◌, ◌||◌, ◌↔◌, ◌∙◌, ◌∷◌, ◌≡◌, ◌≢◌, ◌≤◌, ◌⊎◌, Abort, Acknowledgment, Address, address_after, address_claimed_group, Again, and_parts, answer_in, answers, ap, append-nil, append_assoc, AreReceived, arith, asks_again, At, Bool, BoxedReceiver, BroadcastAnnounce, bytes_with, Call, CameFromOne, Claim, claim_of, Claimed, ClearToSend, cond_both, Controller, delivered, destination_of, Directed, drop, eq-eqb, eqb-true, false, FrameRecord, frames_heard, got_transfers, granted_at, grants, group_of, has_place, has_some, Hear, Heard, heard_at, heard_by, held_then, holder, holds, inl, inr, Is, is_acknowledgment, is_claim, is_held, is_lost, is_move, is_over, is_overdue, is_reply, is_same, is_smaller, is_taken, is_that, is_transfer, IsApart, IsReceived, IsTrue, keeps, KeepsHolder, known, known_by, later, leaves, left, length, limit_in, limit_of, List, listed, little_bytes, longest, Lost, lt-ltb, ltb-false, ltb-true, made_by, made_of, Message, message_of, MessageRecord, moment, Move, nat_eq, nat_lt, next_acknowledgment, None, not, NotClaimed, older, Option, option_map, Packet, packets, partner_of, pf_of, pgn_of, ps_of, quiet, Reaction, ready, receiver_at, ReceiverRecord, ReceiverStandsFor, Reception, reception, ReceptionRecord, recv_step, RecvResult, refl, released_by, ReleaseTransfer, replied, reply_from, RequestToSend, result_of, said_between, said_to, says_by, session_tick, shown, Signal, since_by, Single, slice_get, Some, source_of, stamp_at, step, step_at, subst, suc, sym, TakeFrame, taken_by, takes, takes_abort, takes_data, takes_request, takes_signal, takes_tick, Tick, tick_at, ticked, ticked_at, Ticks, time_heard, ToSend, transport_control_group, transport_data_group, true, WereHanded, Who, whole, whole_by, without, written, yields, ℕ, not-false, not_both}
+use Rattle.j39_node.proofs.Common.{[], if◌then◌else◌, ◌%◌, ◌&&◌, ◌++◌, ◌+◌, ◌-◌, ◌/◌, ◌<◌, ◌==◌, ◌||◌, ◌↔◌, ◌∙◌, ◌∷◌, ◌≡◌, ◌≢◌, ◌≤◌, ◌⊎◌, Abort, Acknowledgment, Address, address_after, address_claimed_group, Again, and_parts, answer_in, answers, ap, append-nil, append_assoc, AreReceived, arith, asks_again, At, Bool, BoxedReceiver, BroadcastAnnounce, bytes_with, Call, CameFromOne, Claim, claim_of, Claimed, ClearToSend, cond_both, Controller, delivered, destination_of, Directed, drop, eq-eqb, eqb-true, false, FrameRecord, frames_heard, got_transfers, granted_at, grants, group_of, has_place, has_some, Hear, Heard, heard_at, heard_by, held_then, holder, holds, inl, inr, Is, is_acknowledgment, is_claim, is_held, is_lost, is_move, is_over, is_overdue, is_reply, is_same, is_smaller, is_taken, is_that, is_transfer, IsApart, IsReceived, IsTrue, keeps, KeepsHolder, known, known_by, later, leaves, left, length, limit_in, limit_of, List, listed, little_bytes, longest, Lost, lt-ltb, ltb-false, ltb-true, made_by, made_of, Message, message_of, MessageRecord, moment, Move, nat_eq, nat_lt, next_acknowledgment, None, not, NotClaimed, older, Option, option_map, Packet, partner_of, pf_of, pgn_of, ps_of, quiet, Reaction, ready, receiver_at, ReceiverRecord, ReceiverStandsFor, Reception, reception, ReceptionRecord, recv_step, RecvResult, refl, released_by, ReleaseTransfer, replied, reply_from, RequestToSend, result_of, said_between, said_to, says_by, session_tick, shown, Signal, since_by, Single, slice_get, Some, source_of, stamp_at, step, step_at, subst, suc, sym, TakeFrame, taken_by, takes, takes_abort, takes_data, takes_request, takes_signal, takes_tick, Tick, tick_at, ticked, ticked_at, Ticks, time_heard, ToSend, transport_control_group, transport_data_group, true, WereHanded, Who, whole, whole_by, without, written, yields, ℕ, not-false, not_both, Claims, holder_in, Knows, sender_by_made, sender_of, told_claims}
 use Rattle.j39_transport.specs.Reception.{begun as opens}
 use Rattle.j39_transport.specs.ReceiverStands.{passed}
 use Rattle.j39_transport.specs.Signals.{said_by}
@@ -10,7 +10,7 @@ use Rattle.j39_transport.proofs.Handed.{has_heard, stands_still, were_handed}
 use Rattle.j39_node.proofs.SoundLemmas.{IsTurn, none_at, none_next, turned, FrameCase, frame_case, lost_older, lost_claimed, lost_unclaimed}
 use Rattle.j39_node.proofs.PacketLemmas.{hushed, quiet_step, shown_both, shown_none, since_same}
 use Rattle.j39_node.proofs.SoundLemmas.FrameCase.{claims, acknowledges, replies, sends, packs, transfers}
-use Rattle.j39_node.proofs.ReceptionLemmas.{Acknowledges, Fits, Gives, Tidy, own_after, refused_step, replied_get, taken_is, tame_signal, tame_tick, quiet_at, unclaimed_known, tidy, tidy_left, own_ticked as own_kept, no_reply}
+use Rattle.j39_node.proofs.ReceptionLemmas.{table_is, Acknowledges, Fits, Gives, Tidy, own_after, refused_step, replied_get, taken_is, tame_signal, tame_tick, quiet_at, unclaimed_known, tidy, tidy_left, own_ticked as own_kept, no_reply}
 use Rattle.j39_node.proofs.HearingLemmas.{same_same as same_self}
 use Rattle.j39_node.proofs.KindLemmas.{claims_it, acknowledges_it, replies_it}
 
@@ -57,6 +57,11 @@ in_order_heard own lost held b f now r done got t e =
     ∙ ap listed (sym (waits_after own lost held f now q)))))
 
 -- what waits after a frame, where nothing waited, is what it makes whole
+pub sender_is : (w : Who) (H : List Call) (table : Claims) (m : Option MessageRecord) (before : Option ℕ) → Knows table (told_claims w H)
+    → sender_by_made (holder_in table) (made_of m) before ≡ sender_of (holder w H) m before
+sender_is w H table None before k = refl
+sender_is w H table (Some m) before k = table_is w table H m.source k
+
 pub made_is : (w : Who) (H : List Call) (when : ℕ) (f : FrameRecord) → made_by (has_place (reception w H).waits) (reception w (At when (Hear f) ∷ H)).waits ≡ made_of (whole w H when f)
 made_is w H when f = go (reception w H).waits refl
   where

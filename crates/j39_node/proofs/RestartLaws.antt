@@ -37,7 +37,7 @@ means w H now a f = (
         go false y i j z = absurd (cc)
 
 -- the address has its holder still, who isn't the one before
-gone : (w : Who) (H : List Call) (when a : ℕ) (f : FrameRecord) → restarts w H when f ≡ Some a → (known w H when f a ≡ None) × ((n : ℕ) × (holder w (At when (Hear f) ∷ H) a ≡ Some n))
+pub gone : (w : Who) (H : List Call) (when a : ℕ) (f : FrameRecord) → restarts w H when f ≡ Some a → (known w H when f a ≡ None) × ((n : ℕ) × (holder w (At when (Hear f) ∷ H) a ≡ Some n))
 gone w H when a f e =
     let m = (means w H when a f).0 e in (
       ap (λ (o : Option ℕ). still o (holder w H) a) e ∙ ap (λ (b : Bool). if b then None else holder w H a) (eq-eqb a a refl),

@@ -1,7 +1,5 @@
 -- A session ends by itself.
-use Rattle.j39_node.proofs.Common.{[], if◌then◌else◌, ◌*◌, ◌++◌, ◌+◌, ◌-◌, ◌<◌, ◌∙◌, ◌∷◌, ◌≡◌, ◌≤◌, Abort, answers, ap, arith, At, Bool, Call, claim_of, clear_in, cond_both, Course, false, FrameRecord, group_of, has_place, Hear, heard_at, heard_by, holder, holds, is_claim, is_over, is_reply, is_smaller, IsOpenOf, known, leaves, left, List, longest, lt-ltb, ltb-false, moment, named_in, NeverBack, None, Option, option_map, partner_of, passed_in, Reception, reception, ReceptionRecord, recv_step, RecvResult, refl, released_by, ReleaseTransfer, replied, result_of, said_to, Signal, since_by, Some, StaysOpen, step_at, sym, TakeFrame, taken_by, takes_tick, Tick, ticked_at, Ticks, TicksWithin, time_heard, timer_t2, true, unticked_in, Who, written, ℕ}
-use Rattle.j39_node.specs.Is.{cleared}
-use Rattle.j39_node.proofs.IncomingLemmas.{kept_tick}
+use Rattle.j39_node.proofs.Common.{Abort, At, Bool, Call, FrameRecord, Hear, IsOpenOf, List, NeverBack, None, Option, Reaction, Reception, ReceptionRecord, RecvResult, ReleaseTransfer, Signal, Some, StaysOpen, TakeFrame, Tick, Ticks, TicksWithin, Who, [], after, answers, ap, arith, asks, asks_again, claim_of, cond_both, false, first, granted_at, grants, group_of, has_place, heard_at, heard_by, holder, holds, if◌then◌else◌, is_claim, is_over, is_reply, is_smaller, known, later, leaves, left, limit_of, longest, lost, lt-ltb, ltb-false, moment, nat_lt, packets, partner_of, passed_in, reception, recv_step, refl, released_by, replied, rest, result_of, said_to, sends, since_by, step, step_at, sym, taken_by, takes_tick, ticked_at, time_heard, timer_t2, true, unticked_in, waits, written, ℕ, ◌*◌, ◌++◌, ◌+◌, ◌-◌, ◌<◌, ◌==◌, ◌∙◌, ◌∷◌, ◌≡◌, ◌≤◌}
 use Rattle.j39_node.proofs.PacketLemmas.{quiet_step}
 use Rattle.j39_node.proofs.ReceptionLaws.{not_left_by, said_no_claim}
 
@@ -56,29 +54,24 @@ runs w H call r s e g = refl
 
 -- ---- a tick behind its time
 
+-- a tick leaves how many packets the message has
+packets_stay : (now : ℕ) (x y : ReceptionRecord) → (takes_tick now (Some x)).session ≡ Some y → x.message.packets ≡ y.message.packets
+unfolding takes_tick asks_again grants granted_at
+packets_stay now x y = cond_both (nat_lt (x.message.last + limit_of x) now) _ _ (λ (z : Reaction). z.session ≡ Some y → x.message.packets ≡ y.message.packets)
+    (λ t. cond_both (x.asks == 2) _ _ (λ (z : Reaction). z.session ≡ Some y → x.message.packets ≡ y.message.packets) (λ u e. absurd (let z : None ≡ Some y = e in cc)) (λ u e. same _ e)) (λ t e. same x e)
+  where
+    same : (z : ReceptionRecord) → Some z ≡ Some y → z.message.packets ≡ y.message.packets
+    same z e = let q : z ≡ y = cc in ap (λ (u : ReceptionRecord). u.message.packets) q
+
 over_by : (own now : ℕ) (r : Reception) (y : ReceptionRecord) → (ticked_at own now r).after.session ≡ Some y → now ≤ r.since + longest y.message.packets
 unfolding recv_step takes_tick
 over_by own now r y = cond_both (is_over r.since now r.session) _ _ (λ (x : RecvResult). x.after.session ≡ Some y → now ≤ r.since + longest y.message.packets)
     (λ t e. absurd (let z : None ≡ Some y = e in cc)) (λ t e. go r.session t e)
   where
-    clears : ReceptionRecord → Option (ℕ × ℕ)
-    clears x = clear_in (option_map (written own own) (takes_tick now (Some x)).says)
-
-    packets_stay : (c : Option (ℕ × ℕ)) (n : Course) → (cleared c n).packets ≡ n.packets
-    packets_stay None n = refl
-    packets_stay (Some c) n = refl
-
     go : (o : Option ReceptionRecord) → is_over r.since now o ≡ false → (recv_step (record { own = own; session = o }) Ticks now true).after.session ≡ Some y
         → now ≤ r.since + longest y.message.packets
     go None t e = absurd (let z : None ≡ Some y = e in cc)
-    go (Some x) t e =
-        let n : Course = record { group = x.message.group; packets = x.message.packets; next = x.message.count + 1; behind = x.granted + 1 } in
-        let m : Some (cleared (clears x) n) ≡ named_in (Some y) =
-        ap (option_map (λ (u : ReceptionRecord). cleared (clears x) n)) (sym e) ∙ (kept_tick n own own now (Some x) refl ∙ ap named_in e) in
-        let p : cleared (clears x) n ≡ record { group = y.message.group; packets = y.message.packets; next = y.message.count + 1; behind = y.granted + 1 } = cc in
-        let same : x.message.packets ≡ y.message.packets = sym (packets_stay (clears x) n) ∙ ap (λ (c : Course). c.packets) p in
-        let l = ltb-false (r.since + longest x.message.packets) now t in
-        omega (arith, l, same)
+    go (Some x) t e = let l = ltb-false (r.since + longest x.message.packets) now t in let s = packets_stay now x y e in omega (arith, l, s)
 
 pub over : (w : Who) (H : List Call) (now : ℕ) (r : ReceptionRecord) → (reception w (At now Tick ∷ H)).session ≡ Some r
     → time_heard (At now Tick ∷ H) ≤ (reception w H).since + longest r.message.packets

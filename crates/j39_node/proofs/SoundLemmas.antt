@@ -1,5 +1,5 @@
 -- What every answered history says of what was accepted, sent and told.
-use Rattle.j39_node.proofs.Common.{[], if◌then◌else◌, ◌&&◌, ◌++◌, ◌+◌, ◌-◌, ◌<◌, ◌==◌, ◌||◌, ◌∙◌, ◌∷◌, ◌≡◌, ◌≤◌, ◌⊎◌, accepted, Acknowledge, acknowledged, acknowledgment, acknowledgment_group, Address, address_after, address_claimed_group, Again, and_from, and_parts, Answer, ap, append_assoc, AreAnswered, arith, Ask, Asked, asked, At, blank, Bool, Busy, bytes_eq-Decides, Call, can_ask, can_send, claim_address, claim_due, claim_from, claim_goes, claim_of, Claimed, claimed, clock_at, content, control_of, destination_of, Done, Draft, drop, due, end_of, Ending, eq-eqb, eqb-true, false, frame_of, FrameRecord, fresh, gives_way, got, handed, has_packets, Hear, holds, inl, inr, is_acknowledgment, is_apart, is_blank, is_claim, is_held, is_left, is_lost, is_move, is_own_group, is_packet, is_refusal_due, is_same, is_sendable, is_served, is_session, is_smaller, is_some, is_that, is_there, is_transfer, is_turn, IsAnswered, IsFront, IsTrue, kept, latest, leb-true, length, length-append, length-set, List, Lost, ltb-true, map, map-set, marks, max, may_go, Message, message_from, message_of, MessageRecord, moment, Move, Nack, nat_eq, nat_le, nat_lt, next_acknowledgment, next_ended, next_frame, next_other, next_packet, next_renewed, next_transfer, next_turn, next_withdrawn, None, not, NotClaimed, Ok, older, open_ask, open_broadcast, open_transfer, Option, option_map, or_parts, other, packet_by, packets, packets_of, past, pause, pgn_of, Question, question, reached, Ready, ready, reception, refl, Renew, Reply, request_for, request_group, requests, Send, sent, Single, slice_get, slice_get-map, slice_get_past, slice_get_within, slice_set, Some, source_of, stamped, step, subst, suc, sym, take, take-append-le, take-set-le, TakeAskEnded, TakeEnded, TakeFrame, TakeReceived, TakeRequest, told, transport_control_group, transport_data_group, true, Turn, turn_frame, turn_of, turns, unblanked, unclaimed, Who, with_refusal, with_request, Withdraw, Withdrawn, yields, zero, ℕ, answer_to_ask, and-false, and-true, ltb-false, not-true}
+use Rattle.j39_node.proofs.Common.{Acknowledge, Address, Again, Answer, AreAnswered, Ask, Asked, At, Bool, Busy, Call, Claimed, Done, Draft, Ending, FrameRecord, Hear, IsAnswered, IsFront, IsTrue, List, Lost, Message, MessageRecord, Move, Nack, None, NotClaimed, Ok, Option, Question, Ready, Renew, Reply, Send, Single, Some, TakeAskEnded, TakeEnded, TakeFrame, TakeReceived, TakeRequest, Turn, Who, Withdraw, Withdrawn, [], accepted, acknowledged, acknowledgment, acknowledgment_group, address_after, address_claimed_group, and-false, and-true, and_from, and_parts, answer_to_ask, ap, append_assoc, arith, asked, blank, by, bytes_eq-Decides, can_ask, can_send, claim_address, claim_due, claim_from, claim_goes, claim_of, claimed, clock_at, content, control_of, destination_of, drop, due, end_of, eq-eqb, eqb-true, false, found, frame_of, fresh, gives_way, got, handed, has_packets, holds, if◌then◌else◌, inl, inr, is_acknowledgment, is_apart, is_blank, is_claim, is_held, is_left, is_lost, is_move, is_own_group, is_packet, is_refusal_due, is_same, is_sendable, is_served, is_session, is_smaller, is_some, is_that, is_there, is_transfer, is_turn, kept, latest, leb-true, left, length, length-append, length-set, lost, ltb-false, ltb-true, map, map-set, marks, max, may_go, message_from, message_of, moment, more, nat_eq, nat_le, nat_lt, next_acknowledgment, next_ended, next_frame, next_other, next_packet, next_renewed, next_transfer, next_turn, next_withdrawn, not, not-true, of, older, open_ask, open_broadcast, open_transfer, option_map, or_parts, other, packet_by, packets, packets_of, past, pause, pgn_of, question, reached, ready, reception, refl, request_for, request_group, requests, sent, slice_get, slice_get-map, slice_get_past, slice_get_within, slice_set, source_of, stamped, step, subst, suc, sym, take, take-append-le, take-set-le, told, transport_control_group, transport_data_group, true, turn_frame, turn_of, turns, unblanked, unclaimed, with_refusal, with_request, yields, zero, ℕ, ◌&&◌, ◌++◌, ◌+◌, ◌-◌, ◌<◌, ◌==◌, ◌||◌, ◌∙◌, ◌∷◌, ◌≡◌, ◌≤◌, ◌⊎◌}
 use Rattle.j39_node.specs.declared.turn.Turn.TheVariants.{Packet}
 use Rattle.j39_node.proofs.WithdrawLemmas.{get_front, stops_append, past_more, next_false, past_stops, past_within, set_same, unblanked_more, unblanked_past, unpassed}
 use Rattle.j39_node.proofs.ReceptionLemmas.{IsReply, replied_get, tidy}
@@ -639,6 +639,15 @@ claim_single f e = ap (λ (g : ℕ). nat_eq g transport_control_group || nat_eq 
 
 pub acknowledgment_single : (f : FrameRecord) → is_acknowledgment f ≡ true → is_session f ≡ false
 acknowledgment_single f e = ap (λ (g : ℕ). nat_eq g transport_control_group || nat_eq g transport_data_group) (eqb-true (pgn_of f.id) acknowledgment_group e)
+
+-- one of a session is neither
+pub plain_session : (f : FrameRecord) → is_session f ≡ true → (is_claim f || is_acknowledgment f) ≡ false
+plain_session f s = go (is_claim f) (is_acknowledgment f) refl refl
+  where
+    go : (a b : Bool) → is_claim f ≡ a → is_acknowledgment f ≡ b → (a || b) ≡ false
+    go true b p q = absurd (let z : true ≡ false = sym s ∙ claim_single f p in cc)
+    go false true p q = absurd (let z : true ≡ false = sym s ∙ acknowledgment_single f q in cc)
+    go false false p q = refl
 
 pub due_taken : (w : Who) (f : FrameRecord) (now : ℕ) (m : Message) → stamped f ≡ (now, m) → IsDue w m
     → (is_claim f ≡ false) × (is_acknowledgment f ≡ true) × (is_session f ≡ false)

@@ -1,14 +1,14 @@
 -- A driver that takes one frame at least in each g: how long a frame of a broadcast and a message wait, whoever asks.
-use Rattle.j39_node.proofs.Common.{[], if◌then◌else◌, ◌&&◌, ◌*◌, ◌++◌, ◌+◌, ◌-◌, ◌<◌, ◌||◌, ◌∙◌, ◌∷◌, ◌≡◌, ◌≤◌, ◌⊎◌, accepted, add-mul, address_after, Again, and_from, and_parts, ap, AreAnswered, arith, At, Bool, Broadcast, broadcast_from, broadcasts, Call, claims_anew, Controller, Ending, eq-eqb, false, FrameRecord, gives_way, has_packets, Hear, holds, inl, inr, Is, is_acknowledgment, is_claim, is_held, is_left, is_lost, is_open, is_overdue, is_packet, is_reply, is_session, is_there, is_turn, IsAnswered, IsPrompt, IsSteady, IsTrue, length, List, lt-ltb, marks, Message, message_of, MessageRecord, moment, Move, nat_eq, nat_le, nat_lt, next_broadcast_ended, next_ended, next_frame, next_other, None, NoneTold, not, Ok, open_broadcast, Option, other, packets, packets_of, packets_taken, passed_in, pause, reached, Ready, ready, reception, refl, Reply, since_take, Single, slice_get, Some, StaysFirst, step, subst, suc, suc-mul, sym, TakeBroadcastEnded, TakeFrame, takes_reply, tells_broadcast, told, true, turn_of, turns, waited_in, Who, yields, zero, ℕ, answer_to_broadcast, not_both, ltb-false, leb-true, leb-false, or_parts, not-true}
+use Rattle.j39_node.proofs.Common.{AreAnswered, At, Bool, Broadcast, Call, Controller, Ending, FrameRecord, Is, IsAnswered, IsPrompt, IsSteady, IsTrue, List, Message, MessageRecord, Move, None, NoneTold, Ok, Option, Ready, Reply, Single, Some, StaysFirst, TakeFrame, Who, [], accepted, acknowledgment, add-mul, address_after, and_from, and_parts, ap, arith, broadcast_from, by, claims_anew, counted, eq-eqb, false, gives_way, has_packets, holds, if◌then◌else◌, inl, inr, is_acknowledgment, is_claim, is_held, is_left, is_lost, is_overdue, is_packet, is_reply, is_there, is_turn, kept, later, leb-false, leb-true, left, length, less, lt-ltb, ltb-false, ltb-true, marks, moment, more, nat_eq, nat_le, nat_lt, next_broadcast_ended, next_ended, next_other, not, not-true, not_both, open_broadcast, or_parts, other, others, packets, packets_of, packets_taken, passed, passed_in, pause, quiet, reached, ready, reception, refl, rest, silent, since_take, slice_get, step, subst, suc, suc-mul, sym, takes_reply, tells_broadcast, told, true, turn_of, turns, waited_in, yields, zero, ℕ, ◌&&◌, ◌*◌, ◌++◌, ◌+◌, ◌-◌, ◌<◌, ◌||◌, ◌∙◌, ◌∷◌, ◌≡◌, ◌≤◌, ◌⊎◌}
 use Rattle.j39_node.specs.declared.turn.Turn.TheVariants.{Packet}
 use Rattle.j39_node.proofs.EndSteps.{times_more}
 use Rattle.j39_node.proofs.WithdrawLemmas.{past_more}
 use Rattle.j39_node.proofs.LaneLaws.{overdue_goes_by, taken_packet_of}
 use Rattle.j39_node.proofs.LawLemmas.{past_end}
 use Rattle.j39_node.proofs.MessageLaws.{accepts_more, told_next, more_sent}
-use Rattle.j39_node.proofs.PromptLaws.{answered_from, ends_by, keeps_heard, keeps_taken, lost_heard, lost_taken, pause_most}
-use Rattle.j39_node.proofs.QueueLemmas.{length_one_more}
-use Rattle.j39_node.proofs.SoundLemmas.{FrameCase, IsTurn, acknowledgment_single, claim_single, frame_case, frame_there, held_older, lost_older, no_packet, none_next, none_other, packet_session, packets_is, pause_is, some_at, turned, reached_is, none_at}
+use Rattle.j39_node.proofs.PromptLaws.{answered_from, begins_timely, due_by, ended_or_lost, ends_so, Fate, IsOver, later_on, not_yet, Pace, pause_most, Runs, Stands, stands, takes, Timely}
+use Rattle.j39_node.proofs.PromptLaws.Fate.{over, gone, runs}
+use Rattle.j39_node.proofs.SoundLemmas.{FrameCase, IsTurn, frame_case, frame_there, held_older, none_next, none_other, packets_is, pause_is, some_at, turned, reached_is, none_at}
 use Rattle.j39_node.proofs.SoundLemmas.FrameCase.{claims, acknowledges, replies, sends, packs, transfers}
 use Rattle.j39_node.proofs.AnswerCases.{broadcast_accepts}
 use Rattle.j39_node.proofs.KindLemmas.{replies_it, packs_it, Kind, kind_by, kind_is, claims_it, acknowledges_it, steers_it, of_session_it}
@@ -63,109 +63,43 @@ overdue_there w H now h o =
     first r e = ap (λ (b : Bool). is_turn (if b then Some Packet else if r.reply && not (yields w H && (r.message || (r.packet || r.transfer))) then Some Reply
         else if r.message then Some Single else if r.packet then Some Packet else if r.transfer then Some Move else None)) e
 
-pub message_there : (w : Who) (H : List Call) (now : ℕ) → holds w H now ≡ true → reached H < length (accepted w H) → is_there (next_other w H now) ≡ true
-message_there w H now h l = ap (λ (b : Bool). is_there (if b then other w H now else None)) h ∙ go (other w H now) refl
+pub there_by : (w : Who) (H : List Call) (now : ℕ) → holds w H now ≡ true → (other w H now ≡ None → ⊥) → is_there (next_other w H now) ≡ true
+there_by w H now h some = ap (λ (b : Bool). is_there (if b then other w H now else None)) h ∙ go (other w H now) refl
   where
     go : (o : Option Message) → other w H now ≡ o → is_there o ≡ true
     go (Some m) e = refl
-    go None e = absurd (some_at (accepted w H) (reached H) (lt-ltb _ _ l) (none_other w H now e).0.message)
+    go None e = absurd (some e)
 
-pub plain_packet : (f : FrameRecord) → is_packet f ≡ true → (is_claim f || is_acknowledgment f) ≡ false
-plain_packet f e = go (is_claim f) (is_acknowledgment f) refl refl
-  where
-    session : is_session f ≡ true
-    session = (packet_session f e).0
-
-    go : (a b : Bool) → is_claim f ≡ a → is_acknowledgment f ≡ b → (a || b) ≡ false
-    go true b p q = absurd (not_both _ (claim_single f p) session)
-    go false true p q = absurd (not_both _ (acknowledgment_single f q) session)
-    go false false p q = refl
+message_there : (w : Who) (H : List Call) (now : ℕ) → holds w H now ≡ true → reached H < length (accepted w H) → is_there (next_other w H now) ≡ true
+message_there w H now h l = there_by w H now h (λ e. some_at (accepted w H) (reached H) (lt-ltb _ _ l) (none_other w H now e).0.message)
 
 -- ---- how long a frame of a broadcast waits
 
--- after c more of its frames the next is overdue so long after the beginning at most
-overdue_by : ℕ → ℕ → ℕ
-overdue_by g c = 150000 + c * (150000 + 3 * g)
-
-overdue_more : (g c : ℕ) → overdue_by g (suc c) ≡ overdue_by g c + (150000 + 3 * g)
-unfolding overdue_by
-overdue_more g c = let e = suc-mul c (150000 + 3 * g) in omega (arith, e)
-
-overdue_last : (g c n : ℕ) → c ≤ n → overdue_by g c + 3 * g ≤ (n + 1) * (150000 + 3 * g)
-unfolding overdue_by
-overdue_last g c n l =
-    let e : n + 1 ≡ suc c + (n - c) = omega (arith, l) in
-    let a = ap (λ (k : ℕ). k * (150000 + 3 * g)) e in
-    let b = add-mul (suc c) (n - c) (150000 + 3 * g) in
-    let d = suc-mul c (150000 + 3 * g) in
-    omega (arith, a, b, d)
-
-record Timely (g count passed left t waited : ℕ) : Type 0 where
-  pub soon : 0 < left → passed + left ≤ overdue_by g count
-  pub late : passed ≤ overdue_by g count + turn_time g t + waited
-
-passes : (g count passed left t waited s rest : ℕ) → rest ≡ left - s → Timely g count passed left t waited → Timely g count (passed + s) rest t (waited + s)
-passes g count passed left t waited s rest e h = record {
-  soon = λ z. (let a = h.soon (omega (arith, e, z)) in omega (arith, a, e, z));
-  late = (let a = h.late in omega (arith, a));
-}
-
--- it isn't overdue yet
-not_over : (g count passed left t waited s rest u : ℕ) → rest ≡ left - s → 0 < rest → Timely g count passed left t waited → Timely g count (passed + s) rest u 0
-not_over g count passed left t waited s rest u e l h = record {
-  soon = λ z. (let a = h.soon (omega (arith, e, l)) in omega (arith, a, e, l));
-  late = (let a = h.soon (omega (arith, e, l)) in let b = turn_most g u in omega (arith, a, e, l, b));
-}
-
--- it is, and a claim or an acknowledgment goes
-steers_one : (g count passed left t waited s rest : ℕ) → rest ≡ 0 → t < 2 → waited + s ≤ g → Timely g count passed left t waited
-    → Timely g count (passed + s) rest (suc t) 0
-steers_one g count passed left t waited s rest e l p h = record {
-  soon = λ z. absurd (omega (arith, e, z));
-  late = (let a = h.late in let b = turn_more g t l in omega (arith, a, b, p));
-}
-
-packs_one : (g count passed left t waited s : ℕ) → Timely g count passed left t waited → waited + s ≤ g → Timely g (suc count) (passed + s) 150000 0 0
-packs_one g count passed left t waited s h p =
-    let a = h.late in let b = turn_most g t in let e = overdue_more g count in
-    record { soon = λ z. omega (arith, a, b, e, p); late = omega (arith, a, b, e, p) }
-
 module _ (w : Who) (B : List Call) (g k c0 : ℕ) (m : MessageRecord) where
-  data Course (later : List Call) : Type 0 where
-    over : packets_of m < length (packets (later ++ B)) → Course later
-    gone : is_lost (address_after w (later ++ B)) ≡ true → Course later
-    runs : is_held (address_after w (later ++ B)) ≡ true
-        → Timely g (packets_taken later) (passed_in later B) (pause (later ++ B)) (turns (later ++ B)) (since_take later B) → Course later
+  abbrev slack : List Call → ℕ
+  slack later = turn_time g (turns (later ++ B)) + since_take later B
 
-  record Stands (later : List Call) : Type 0 where
-    pub broadcast : open_broadcast w (later ++ B) ≡ Some (k, m)
-    pub count : length (packets (later ++ B)) ≡ c0 + packets_taken later
-    pub course : Course later
+  abbrev Casts : List Call → Type 0
+  Casts = Stands w B since_take slack g 150000 (3 * g) 0 k c0 m
 
-  hears_one : (when : ℕ) (f : FrameRecord) (later : List Call) → Stands later → Stands (At when (Hear f) ∷ later)
-  hears_one when f later h = record { broadcast = h.broadcast; count = h.count; course = go h.course }
-    where
-      go : Course later → Course (At when (Hear f) ∷ later)
-      go (over l) = over l
-      go (gone e) = gone (lost_heard w (later ++ B) when f e)
-      go (runs e t) = elim (keeps_heard w (later ++ B) when f e) [
-        | inl z ↦ gone z
-        | inr z ↦ runs z (passes g _ _ _ _ _ (step (later ++ B) when) _ refl t)
-      ]
+  abbrev Goes : List Call → Type 0
+  Goes = Runs w B since_take slack g 150000 (3 * g) 0 k c0 m
 
-  counts : (now : ℕ) (f : FrameRecord) (later : List Call) (b : Bool) → is_packet f ≡ b → Stands later
-      → length (packets (At now (TakeFrame (Some f)) ∷ later ++ B)) ≡ c0 + packets_taken (At now (TakeFrame (Some f)) ∷ later)
-  counts now f later true i h =
-      let n = ap length (packets_is (later ++ B) now f true i) in let o = length_one_more (packets (later ++ B)) (message_of f) in
-      let q = ap (λ (b : Bool). if b then suc (packets_taken later) else packets_taken later) i in let a = h.count in omega (arith, a, n, o, q)
-  counts now f later false i h =
-      let n = ap length (packets_is (later ++ B) now f false i) in
-      let q = ap (λ (b : Bool). if b then suc (packets_taken later) else packets_taken later) i in let a = h.count in omega (arith, a, n, q)
+  abbrev IsDone : List Call → Type 0
+  IsDone = IsOver w B since_take slack g 150000 (3 * g) 0 k c0 m
 
-  takes_one : (now : ℕ) (f : FrameRecord) (later : List Call) → AreAnswered w (later ++ B) → IsAnswered w (later ++ B) (At now (TakeFrame (Some f)))
-      → since_take later B + step (later ++ B) now ≤ g → Stands later → Stands (At now (TakeFrame (Some f)) ∷ later)
-  takes_one now f later right a p h =
-      record { broadcast = h.broadcast; count = counts now f later (is_packet f) refl h; course = go (is_packet f) refl h.course }
+  idle : (call : Call) (later : List Call) → takes call ≡ false → slack (call ∷ later) ≡ slack later + step (later ++ B) (moment (call ∷ later ++ B))
+  idle (At now (TakeFrame answer)) later e = absurd (let z : true ≡ false = e in cc)
+  idle call later e = omega arith
+
+  -- a frame of none is taken
+  beside : (now : ℕ) (f : FrameRecord) (later : List Call) → AreAnswered w (later ++ B) → IsAnswered w (later ++ B) (At now (TakeFrame (Some f)))
+      → since_take later B + step (later ++ B) now ≤ g → is_packet f ≡ false → is_held (address_after w (later ++ B)) ≡ true → Casts later → Goes later
+      → IsDone (At now (TakeFrame (Some f)) ∷ later) ⊎ Goes (At now (TakeFrame (Some f)) ∷ later)
+  beside now f later right a p i e h t = elim (zero_or left) [
+    | inl z ↦ by (nat_le (length (packets (later ++ B))) (packets_of m)) refl z
+    | inr l ↦ inr (same _ (not_yet 150000 (3 * g) _ _ _ _ (step (later ++ B) now) left (slack (At now (TakeFrame (Some f)) ∷ later)) (omega arith) l t))
+  ]
     where
       G : List Call
       G = At now (TakeFrame (Some f)) ∷ later ++ B
@@ -173,139 +107,70 @@ module _ (w : Who) (B : List Call) (g k c0 : ℕ) (m : MessageRecord) where
       left : ℕ
       left = pause (later ++ B) - step (later ++ B) now
 
-      case : FrameCase w (later ++ B) now f
-      case = frame_case w (later ++ B) now f a
-
-      T : ℕ → ℕ → ℕ → Type 0
-      T n l t = Timely g n (passed_in later B + step (later ++ B) now) l t 0
-
-      same : (n l t : ℕ) → packets_taken (At now (TakeFrame (Some f)) ∷ later) ≡ n → pause G ≡ l → turns G ≡ t → T n l t
-          → Timely g (packets_taken (At now (TakeFrame (Some f)) ∷ later)) (passed_in later B + step (later ++ B) now) (pause G) (turns G) 0
-      same n l t x y z h = subst (λ (n : ℕ). T n (pause G) (turns G)) (sym x) (subst (λ (l : ℕ). T n l (turns G)) (sym y) (subst (T n l) (sym z) h))
-
-      late_is : is_left (open_broadcast w (later ++ B)) (length (packets (later ++ B))) ≡ nat_le (length (packets (later ++ B))) (packets_of m)
-      late_is = ap (λ (o : Option (ℕ × MessageRecord)). is_left o (length (packets (later ++ B)))) h.broadcast
+      same : (l : ℕ) → Timely 150000 (3 * g) (packets_taken later) (passed_in later B + step (later ++ B) now) left l
+          → Timely 150000 (3 * g) (packets_taken (At now (TakeFrame (Some f)) ∷ later)) (passed_in later B + step (later ++ B) now) (pause G - 0) l
+      same l h =
+          let q = pause_is (later ++ B) now f false i in
+          subst (λ (n : ℕ). Timely 150000 (3 * g) n (passed_in later B + step (later ++ B) now) (pause G - 0) l)
+          (sym (ap (λ (b : Bool). if b then suc (packets_taken later) else packets_taken later) i))
+          (subst (λ (n : ℕ). Timely 150000 (3 * g) (packets_taken later) (passed_in later B + step (later ++ B) now) n l)
+          (let z : left ≡ pause G - 0 = omega (arith, q) in z) h)
 
       zero_or : (n : ℕ) → (n ≡ 0) ⊎ (0 < n)
       zero_or zero = inl refl
       zero_or (suc n) = inr (omega arith)
 
-      -- it is none of a broadcast
-      rest : is_packet f ≡ false → is_held (address_after w (later ++ B)) ≡ true
-          → Timely g (packets_taken later) (passed_in later B) (pause (later ++ B)) (turns (later ++ B)) (since_take later B)
-          → Course (At now (TakeFrame (Some f)) ∷ later)
-      rest i e t = elim (zero_or left) [
-        | inl z ↦ by (nat_le (length (packets (later ++ B))) (packets_of m)) refl z
-        | inr l ↦ runs (keeps_taken w (later ++ B) now f e)
-            (same _ left (turns G) taken (pause_is (later ++ B) now f false i) refl (not_over g _ _ _ _ _ (step (later ++ B) now) left (turns G) refl l t))
-      ]
-        where
-          taken : packets_taken (At now (TakeFrame (Some f)) ∷ later) ≡ packets_taken later
-          taken = ap (λ (b : Bool). if b then suc (packets_taken later) else packets_taken later) i
+      case : FrameCase w (later ++ B) now f
+      case = frame_case w (later ++ B) now f a
 
-          none_left : length (packets G) ≡ length (packets (later ++ B))
-          none_left = ap length (packets_is (later ++ B) now f false i)
+      steer : is_overdue w (later ++ B) now ≡ true → (b : Bool) → (is_claim f || is_acknowledgment f) ≡ b → b ≡ true
+      steer o true q = refl
+      steer o false q = absurd (not_both _ i (overdue_goes_by w (later ++ B) now f right case o (or_parts (is_claim f) (is_acknowledgment f) q).0 (or_parts (is_claim f) (is_acknowledgment f) q).1))
 
-          steer : is_overdue w (later ++ B) now ≡ true → (b : Bool) → (is_claim f || is_acknowledgment f) ≡ b → b ≡ true
-          steer o true q = refl
-          steer o false q = absurd (not_both _ i (overdue_goes_by w (later ++ B) now f right case o (or_parts (is_claim f) (is_acknowledgment f) q).0 (or_parts (is_claim f) (is_acknowledgment f) q).1))
+      by : (b : Bool) → nat_le (length (packets (later ++ B))) (packets_of m) ≡ b → left ≡ 0 → IsDone (At now (TakeFrame (Some f)) ∷ later) ⊎ Goes (At now (TakeFrame (Some f)) ∷ later)
+      by false y z = inl (let l = leb-false _ _ y in let n = ap length (packets_is (later ++ B) now f false i) in omega (arith, l, n))
+      by true y z =
+          let late_is = ap (λ (o : Option (ℕ × MessageRecord)). is_left o (length (packets (later ++ B)))) h.broadcast in
+          let o : is_overdue w (later ++ B) now ≡ true = and_from _ (nat_eq left 0) (late_is ∙ y) (eq-eqb left 0 z) in
+          let s : (is_claim f || is_acknowledgment f) ≡ true = steer o (is_claim f || is_acknowledgment f) refl in
+          let l = few_turns w (later ++ B) now f case (overdue_there w (later ++ B) now (held_holds w (later ++ B) now e) o) (steers w (later ++ B) now f right case) s in
+          let u = ap (turn_time g) (turns_then (later ++ B) now f true s) in
+          let v = turn_more g (turns (later ++ B)) l in
+          let d = t.late in
+          inr (same _ (record { soon = λ q. absurd (omega (arith, q, z)); late = omega (arith, d, u, v, p) }))
 
-          by : (b : Bool) → nat_le (length (packets (later ++ B))) (packets_of m) ≡ b → left ≡ 0 → Course (At now (TakeFrame (Some f)) ∷ later)
-          by false y z = over (let l = leb-false _ _ y in omega (arith, l, none_left))
-          by true y z =
-              let o : is_overdue w (later ++ B) now ≡ true = and_from _ (nat_eq left 0) (late_is ∙ y) (eq-eqb left 0 z) in
-              let s : (is_claim f || is_acknowledgment f) ≡ true = ap (λ (b : Bool). b) (steer_is o) in
-              let l = few_turns w (later ++ B) now f case (overdue_there w (later ++ B) now (held_holds w (later ++ B) now e) o) (steers w (later ++ B) now f right case) s in
-              runs (keeps_taken w (later ++ B) now f e)
-              (same _ left (suc (turns (later ++ B))) taken (pause_is (later ++ B) now f false i) (turns_then (later ++ B) now f true s)
-              (steers_one g _ _ _ _ _ (step (later ++ B) now) left z l p t))
-            where
-              steer_is : is_overdue w (later ++ B) now ≡ true → (is_claim f || is_acknowledgment f) ≡ true
-              steer_is o = steer o (is_claim f || is_acknowledgment f) refl
+  pace : Pace w B since_take slack g 150000 (3 * g) 0 k c0 m
+  pace = record {
+    idle = idle;
+    quick = λ later s p. (let a = turn_most g (turns (later ++ B)) in omega (arith, a, p));
+    beside = beside;
+    last = refl;
+    within = omega arith;
+  }
 
-      go : (b : Bool) → is_packet f ≡ b → Course later → Course (At now (TakeFrame (Some f)) ∷ later)
-      go true i (over l) =
-          over (let n = ap length (packets_is (later ++ B) now f true i) in let o = length_one_more (packets (later ++ B)) (message_of f) in omega (arith, l, n, o))
-      go false i (over l) = over (let n = ap length (packets_is (later ++ B) now f false i) in omega (arith, l, n))
-      go b i (gone e) = gone (lost_taken w (later ++ B) now f e)
-      go true i (runs e t) = runs (keeps_taken w (later ++ B) now f e)
-          (same (suc (packets_taken later)) 150000 0 (ap (λ (b : Bool). if b then suc (packets_taken later) else packets_taken later) i)
-          (pause_is (later ++ B) now f true i) (turns_then (later ++ B) now f false (plain_packet f i))
-          (packs_one g _ _ _ _ _ (step (later ++ B) now) t p))
-      go false i (runs e t) = rest i e t
+  casts : (later : List Call) → AreAnswered w (later ++ B) → NoneTold tells_broadcast later → IsSteady g later B → Casts [] → Casts later
+  casts = stands w B since_take slack g 150000 (3 * g) 0 k c0 m pace
 
-  none_taken : (now : ℕ) (later : List Call) → (let none : Option (ℕ × Message) = None in none) ≡ next_frame w (later ++ B) now → Stands later
-      → Stands (At now (TakeFrame None) ∷ later)
-  none_taken now later answer h = record { broadcast = h.broadcast; count = h.count; course = go h.course }
-    where
-      go : Course later → Course (At now (TakeFrame None) ∷ later)
-      go (over l) = over l
-      go (gone e) = gone (lost_older (step (later ++ B) now) (address_after w (later ++ B)) ∙ e)
-      go (runs e t) =
-          elim (Rattle.j39_node.proofs.PromptLaws.no_packet w B g k m now (length (packets (later ++ B))) (pause (later ++ B) - step (later ++ B) now)
-          (ap (λ (o : Option (ℕ × MessageRecord)). Rattle.j39_node.specs.Is.packet_by o (length (packets (later ++ B))) (pause (later ++ B) - step (later ++ B) now)) (sym h.broadcast)
-          ∙ (none_next w (later ++ B) now (held_holds w (later ++ B) now e) answer).rest.packet)) [
-            | inl z ↦ over z
-            | inr z ↦ runs (held_holds w (later ++ B) now e) (not_over g _ _ _ _ _ (step (later ++ B) now) _ _ refl (omega (arith, z)) t)
-          ]
-
-  none_begins : (later : List Call) (now group j : ℕ) (bytes : List ℕ) → open_broadcast w (later ++ B) ≡ Some (k, m) → Ok j ≡ answer_to_broadcast w (later ++ B) now group bytes → ⊥
-  none_begins later now group j bytes o a = not_both _ (broadcast_accepts w (later ++ B) now group j bytes a).2
-      (ap (λ (x : Option (ℕ × MessageRecord)). is_open x || nat_eq (length (broadcasts w (later ++ B))) 18446744073709551615) o)
-
-  one_more : (call : Call) (later : List Call) → AreAnswered w (later ++ B) → IsAnswered w (later ++ B) call → tells_broadcast call ≡ false
-      → (since_take later B + step (later ++ B) (moment (call ∷ later ++ B)) ≤ g) × (claims_anew call ≡ false) → Stands later → Stands (call ∷ later)
-  one_more (At when (Hear f)) later right a n p h = hears_one when f later h
-  one_more (At now (TakeFrame (Some f))) later right a n p h = takes_one now f later right a p.0 h
-  one_more (At now Again) later right a n p h = absurd (let z : true ≡ false = p.1 in cc)
-  one_more (At now (TakeFrame None)) later right a n p h = none_taken now later a h
-  one_more (At now (Broadcast group bytes (Ok j))) later right a n p h =
-      absurd (none_begins later now group j bytes h.broadcast a)
-  one_more (TakeBroadcastEnded (Some x)) later right a n p h = absurd (let z : true ≡ false = n in cc)
-  one_more call later right a n p h = record { broadcast = h.broadcast; count = h.count; course = go h.course }
-    where
-      go : Course later → Course (call ∷ later)
-      go (over l) = over l
-      go (gone e) = gone (let z = lost_older (step (later ++ B) (moment (call ∷ later ++ B))) (address_after w (later ++ B)) in cc)
-      go (runs e t) = runs (let z = held_older (step (later ++ B) (moment (call ∷ later ++ B))) (address_after w (later ++ B)) e in cc)
-          (passes g _ _ _ _ _ (step (later ++ B) (moment (call ∷ later ++ B))) _ (omega arith) t)
-
-  stands : (later : List Call) → AreAnswered w (later ++ B) → NoneTold tells_broadcast later → IsSteady g later B → Stands [] → Stands later
-  stands [] a n p h = h
-  stands (call ∷ later) a n p h = one_more call later a.0 a.1 n.0 p.1 (stands later a.0 n.1 p.0 h)
+  first : is_held (address_after w B) ≡ true → open_broadcast w B ≡ Some (k, m) → length (packets B) ≡ c0 → Casts []
+  first e o n = record {
+    broadcast = o;
+    count = omega (arith, n);
+    course = runs e (begins_timely 150000 (3 * g) (pause B - 0) (slack []) (let y = pause_most B in omega (arith, y)));
+  }
 
   -- as long as none of its frames is taken, it isn't long ago
-  soon_enough : (call : Call) (later : List Call) → Stands later → packets_taken later ≡ 0 → is_left (Some (k, m)) c0 ≡ true → is_lost (address_after w (later ++ B)) ≡ false
+  soon_enough : (call : Call) (later : List Call) → Casts later → packets_taken later ≡ 0 → is_left (Some (k, m)) c0 ≡ true → is_lost (address_after w (later ++ B)) ≡ false
       → since_take later B + step (later ++ B) (moment (call ∷ later ++ B)) ≤ g → passed_in (call ∷ later) B ≤ 150000 + 3 * g
-  unfolding overdue_by
+  unfolding due_by
   soon_enough call later h none some kept p = go h.course
     where
-      go : Course later → passed_in (call ∷ later) B ≤ 150000 + 3 * g
+      go : Fate (address_after w (later ++ B)) (IsDone later) (Goes later) → passed_in (call ∷ later) B ≤ 150000 + 3 * g
       go (over l) = absurd (let a = h.count in let b = leb-true c0 (packets_of m) some in omega (arith, a, b, l, none))
       go (gone e) = absurd (not_both _ kept e)
       go (runs e t) =
           let a = t.late in let b = turn_most g (turns (later ++ B)) in
           let d = ap (λ (n : ℕ). n * (150000 + 3 * g)) none in
           omega (arith, a, b, d, p)
-
-  ends_so : (later : List Call) → c0 ≡ 0 → Stands later → (packets_of m + 1) * (150000 + 3 * g) < passed_in later B → since_take later B ≤ g
-      → (e : Ending) × (next_broadcast_ended w (later ++ B) ≡ Some (k, e))
-  ends_so later z h l p =
-      let x = ends_by w B g k m (length (packets (later ++ B))) (nat_lt (packets_of m) (length (packets (later ++ B)))) (is_lost (address_after w (later ++ B))) refl (go h.course) in
-      (x.0, ap (λ (o : Option (ℕ × MessageRecord)). Rattle.j39_node.specs.Is.broadcast_end o (length (packets (later ++ B))) (is_lost (address_after w (later ++ B)))) h.broadcast ∙ x.1)
-    where
-      go : Course later → (packets_of m < length (packets (later ++ B))) ⊎ (is_lost (address_after w (later ++ B)) ≡ true)
-      go (over z) = inl z
-      go (gone e) = inr e
-      go (runs e t) = most (nat_le (packets_taken later) (packets_of m)) refl
-        where
-          most : (b : Bool) → nat_le (packets_taken later) (packets_of m) ≡ b
-              → (packets_of m < length (packets (later ++ B))) ⊎ (is_lost (address_after w (later ++ B)) ≡ true)
-          most true y =
-              let d = overdue_last g (packets_taken later) (packets_of m) (leb-true _ _ y) in
-              let b = turn_most g (turns (later ++ B)) in
-              let a = t.late in absurd (omega (arith, a, b, d, l, p))
-          most false y = inl (let b = leb-false _ _ y in let a = h.count in omega (arith, a, b, z))
 
 -- the driver came in time
 pub since_most : (g : ℕ) (later B : List Call) → IsSteady g later B → since_take later B ≤ g
@@ -317,18 +182,13 @@ pub apart : (w : Who) (later earlier : List Call) (call : Call) (c : Controller)
     → Is w (call ∷ later ++ At now (TakeFrame (Some f)) ∷ earlier) c → IsTrue (is_packet f) → IsTrue (has_packets w (At now (TakeFrame (Some f)) ∷ earlier))
     → NoneTold tells_broadcast later → packets_taken later ≡ 0 → is_lost (address_after w (later ++ At now (TakeFrame (Some f)) ∷ earlier)) ≡ false
     → IsSteady g (call ∷ later) (At now (TakeFrame (Some f)) ∷ earlier) → passed_in (call ∷ later) (At now (TakeFrame (Some f)) ∷ earlier) ≤ 150000 + 3 * g
-unfolding overdue_by
 apart w later earlier call c g now f is i some none quiet kept steady =
     let B = At now (TakeFrame (Some f)) ∷ earlier in
     let right = answered_from w later B is.answered.0 in
     let p = taken_packet_of w earlier now f right.0 (frame_case w earlier now f right.1) i in
     let count = length (packets B) in
     soon_enough w B g p.token count p.message call later
-    (stands w B g p.token count p.message later is.answered.0 none steady.0 (record {
-      broadcast = p.current;
-      count = omega arith;
-      course = runs (p.held) (record { soon = λ z. (let y = pause_most B in omega (arith, y)); late = omega arith });
-    }))
+    (casts w B g p.token count p.message later is.answered.0 none steady.0 (first w B g p.token count p.message p.held p.current refl))
     quiet (sym (ap (λ (o : Option (ℕ × MessageRecord)). is_left o count) p.current) ∙ some) kept steady.1.0
 
 pub ends : (w : Who) (later earlier : List Call) (c : Controller) (g now group k : ℕ) (bytes : List ℕ)
@@ -336,16 +196,11 @@ pub ends : (w : Who) (later earlier : List Call) (c : Controller) (g now group k
     → IsSteady g later (At now (Broadcast group bytes (Ok k)) ∷ earlier)
     → (packets_of (broadcast_from w group bytes) + 1) * (150000 + 3 * g) < passed_in later (At now (Broadcast group bytes (Ok k)) ∷ earlier)
     → (e : Ending) × (next_broadcast_ended w (later ++ At now (Broadcast group bytes (Ok k)) ∷ earlier) ≡ Some (k, e))
-unfolding overdue_by
 ends w later earlier c g now group k bytes is none steady l =
     let B = At now (Broadcast group bytes (Ok k)) ∷ earlier in
-    ends_so w B g k 0 (broadcast_from w group bytes) later refl
-    (stands w B g k 0 (broadcast_from w group bytes) later is.answered none steady (record {
-      broadcast = refl;
-      count = refl;
-      course = runs (broadcast_accepts w earlier now group k bytes (answered_from w later B is.answered).1).0
-          (record { soon = λ z. (let y = pause_most B in omega (arith, y)); late = omega arith });
-    }))
+    let m = broadcast_from w group bytes in
+    ends_so w B since_take (slack w B g k 0 m) g 150000 (3 * g) 0 k 0 m (pace w B g k 0 m) later refl
+    (casts w B g k 0 m later is.answered none steady (first w B g k 0 m (broadcast_accepts w earlier now group k bytes (answered_from w later B is.answered).1).0 refl refl))
     l (since_most g later B steady)
 
 -- ---- how many frames of broadcasts are taken in a time
@@ -407,36 +262,38 @@ most_others g n others l =
     twice (suc n) x y e = let h = twice n x y e in let a = suc-mul n x in let b = suc-mul n y in omega (arith, h, a, b, e)
 
 module _ (w : Who) (B : List Call) (g k : ℕ) where
-  data Waiting (later : List Call) : Type 0 where
-    taken : k < reached (later ++ B) → Waiting later
-    away : is_lost (address_after w (later ++ B)) ≡ true → Waiting later
-    waits : (n others : ℕ) → reached B + n ≤ reached (later ++ B) → is_held (address_after w (later ++ B)) ≡ true
-        → Counted g n (packets_taken later) others (passed_in later B) (turns (later ++ B)) (since_take later B) (yields w (later ++ B)) → Waiting later
+  record Waits (later : List Call) : Type 0 where
+    singles : ℕ
+    others : ℕ
+    behind : reached B + singles ≤ reached (later ++ B)
+    counted : Counted g singles (packets_taken later) others (passed_in later B) (turns (later ++ B)) (since_take later B) (yields w (later ++ B))
 
   record Among (later : List Call) : Type 0 where
     pub among : k < length (accepted w (later ++ B))
-    pub course : Waiting later
+    pub course : Fate (address_after w (later ++ B)) (k < reached (later ++ B)) (Waits later)
 
-  passes_on : (later : List Call) (call : Call) (n others : ℕ) (t s : ℕ) → (y : Bool)
-      → Counted g n (packets_taken later) others (passed_in later B) t (since_take later B) y
-      → Counted g n (packets_taken later) others (passed_in later B + s) t (since_take later B + s) y
-  passes_on later call n others t s y h = record { few = h.few; late = (let a = h.late in omega (arith, a)) }
-
-  takes_next : (now : ℕ) (f : FrameRecord) (later : List Call) (n others : ℕ) → AreAnswered w (later ++ B) → FrameCase w (later ++ B) now f
+  takes_next : (now : ℕ) (f : FrameRecord) (later : List Call) → AreAnswered w (later ++ B) → FrameCase w (later ++ B) now f
       → since_take later B + step (later ++ B) now ≤ g → reached (later ++ B) < length (accepted w (later ++ B))
-      → reached B + n ≤ reached (later ++ B) → is_held (address_after w (later ++ B)) ≡ true
-      → Counted g n (packets_taken later) others (passed_in later B) (turns (later ++ B)) (since_take later B) (yields w (later ++ B))
-      → Waiting (At now (TakeFrame (Some f)) ∷ later)
-  takes_next now f later n others right case p l count held h = go case
+      → is_held (address_after w (later ++ B)) ≡ true → Waits later → Waits (At now (TakeFrame (Some f)) ∷ later)
+  takes_next now f later right case p l held x = go case
     where
+      n : ℕ
+      n = x.singles
+
+      others : ℕ
+      others = x.others
+
+      count : reached B + x.singles ≤ reached (later ++ B)
+      count = x.behind
+
+      h : Counted g x.singles (packets_taken later) x.others (passed_in later B) (turns (later ++ B)) (since_take later B) (yields w (later ++ B))
+      h = x.counted
+
       H : List Call
       H = later ++ B
 
       G : List Call
       G = At now (TakeFrame (Some f)) ∷ later ++ B
-
-      still : is_held (address_after w G) ≡ true
-      still = keeps_taken w (later ++ B) now f held
 
       there : is_there (next_other w H now) ≡ true
       there = message_there w (later ++ B) now (held_holds w (later ++ B) now held) l
@@ -445,10 +302,15 @@ module _ (w : Who) (B : List Call) (g k : ℕ) where
       counted : (c : FrameCase w H now f) (n2 o2 : ℕ) → reached B + n2 ≤ reached G
           → Counted g n2 (if (kind_by c).packet then suc (packets_taken later) else packets_taken later) o2 (passed_in later B + step H now)
           (if (kind_by c).claim || (kind_by c).acknowledgment then suc (turns H) else 0) 0 (if (kind_by c).claim || (kind_by c).acknowledgment then yields w H else (kind_by c).reply)
-          → Waiting (At now (TakeFrame (Some f)) ∷ later)
-      counted c n2 o2 a x = waits n2 o2 a still
-          (subst (λ (k : Kind). Counted g n2 (if k.packet then suc (packets_taken later) else packets_taken later) o2 (passed_in later B + step H now)
-          (if k.claim || k.acknowledgment then suc (turns H) else 0) 0 (if k.claim || k.acknowledgment then yields w H else k.reply)) (sym (kind_is w H now f right c)) x)
+          → Waits (At now (TakeFrame (Some f)) ∷ later)
+      counted c n2 o2 a x = record {
+        singles = n2;
+        others = o2;
+        behind = a;
+        counted =
+            (subst (λ (k : Kind). Counted g n2 (if k.packet then suc (packets_taken later) else packets_taken later) o2 (passed_in later B + step H now)
+            (if k.claim || k.acknowledgment then suc (turns H) else 0) 0 (if k.claim || k.acknowledgment then yields w H else k.reply)) (sym (kind_is w H now f right c)) x);
+      }
 
       -- no fewer messages are passed
       no_fewer : reached B + n ≤ reached G
@@ -460,7 +322,7 @@ module _ (w : Who) (B : List Call) (g k : ℕ) where
           let t = few_turns w H now f case there (steers w H now f right case) (steers_it w H now f right c ∙ e) in
           record { few = h.few; late = (let u = h.late in let v = turn_more g (turns H) t in omega (arith, u, v, p)) }
 
-      go : FrameCase w H now f → Waiting (At now (TakeFrame (Some f)) ∷ later)
+      go : FrameCase w H now f → Waits (At now (TakeFrame (Some f)) ∷ later)
       go (claims o e) = counted (claims o e) n others no_fewer (steered (claims o e) refl)
       go (acknowledges m o q i e way) = counted (acknowledges m o q i e way) n others no_fewer (steered (acknowledges m o q i e way) refl)
       go (replies m o q i x e) = counted (replies m o q i x e) n (suc others) no_fewer
@@ -486,44 +348,35 @@ module _ (w : Who) (B : List Call) (g k : ℕ) where
 
   one_later : (call : Call) (later : List Call) → AreAnswered w (later ++ B) → IsAnswered w (later ++ B) call
       → (since_take later B + step (later ++ B) (moment (call ∷ later ++ B)) ≤ g) × (claims_anew call ≡ false) → Among later → Among (call ∷ later)
-  one_later (At when (Hear f)) later right a p h = record { among = h.among; course = go h.course }
+  one_later (At now (TakeFrame (Some f))) later right a p h = record {
+    among = h.among;
+    course = later_on w (later ++ B) (At now (TakeFrame (Some f))) refl (λ l. (let e = more_sent (later ++ B) (At now (TakeFrame (Some f))) in omega (arith, e, l)))
+        (λ e z x. by (nat_lt k (reached (later ++ B))) refl e x) h.course;
+  }
     where
-      go : Waiting later → Waiting (At when (Hear f) ∷ later)
-      go (taken l) = taken l
-      go (away e) = away (lost_heard w (later ++ B) when f e)
-      go (waits n others c e x) = elim (keeps_heard w (later ++ B) when f e) [
-        | inl z ↦ away z
-        | inr z ↦ waits n others c z (passes_on later (At when (Hear f)) n others _ (step (later ++ B) when) _ x)
-      ]
-  one_later (At now (TakeFrame (Some f))) later right a p h = record { among = h.among; course = go h.course }
-    where
-      go : Waiting later → Waiting (At now (TakeFrame (Some f)) ∷ later)
-      go (taken l) = taken (let e = more_sent (later ++ B) (At now (TakeFrame (Some f))) in omega (arith, e, l))
-      go (away e) = away (lost_taken w (later ++ B) now f e)
-      go (waits n others c e x) = by (nat_lt k (reached (later ++ B))) refl
-        where
-          by : (b : Bool) → nat_lt k (reached (later ++ B)) ≡ b → Waiting (At now (TakeFrame (Some f)) ∷ later)
-          by true z = taken (let l = Rattle.std.proofs.Common.ltb-true _ _ z in let y = more_sent (later ++ B) (At now (TakeFrame (Some f))) in omega (arith, l, y))
-          by false z = takes_next now f later n others right (frame_case w (later ++ B) now f a) p.0 (let l = ltb-false _ _ z in let y = h.among in omega (arith, l, y)) c e x
-  one_later (At now Again) later right a p h = absurd (let z : true ≡ false = p.1 in cc)
-  one_later (At now (TakeFrame None)) later right a p h = record { among = h.among; course = go h.course }
-    where
-      go : Waiting later → Waiting (At now (TakeFrame None) ∷ later)
-      go (taken l) = taken l
-      go (away e) = away (lost_older (step (later ++ B) now) (address_after w (later ++ B)) ∙ e)
-      go (waits n others c e x) = taken (let l = past_end (accepted w (later ++ B)) (reached (later ++ B))
-          (none_next w (later ++ B) now (held_holds w (later ++ B) now e) a).rest.message in
-          let b = h.among in omega (arith, l, b))
-  one_later call later right a p h = record { among = (let m = accepts_more w (later ++ B) call in let b = h.among in omega (arith, m, b)); course = go h.course }
+      by : (b : Bool) → nat_lt k (reached (later ++ B)) ≡ b → is_held (address_after w (later ++ B)) ≡ true → Waits later
+          → (k < reached (At now (TakeFrame (Some f)) ∷ later ++ B)) ⊎ Waits (At now (TakeFrame (Some f)) ∷ later)
+      by true z e x = inl (let l = ltb-true _ _ z in let y = more_sent (later ++ B) (At now (TakeFrame (Some f))) in omega (arith, l, y))
+      by false z e x = inr (takes_next now f later right (frame_case w (later ++ B) now f a) p.0 (let l = ltb-false _ _ z in let y = h.among in omega (arith, l, y)) e x)
+  one_later (At now (TakeFrame None)) later right a p h = record {
+    among = h.among;
+    course = later_on w (later ++ B) (At now (TakeFrame None)) refl (λ l. l)
+        (λ e z x. inl (let l = past_end (accepted w (later ++ B)) (reached (later ++ B)) (none_next w (later ++ B) now (held_holds w (later ++ B) now e) a).rest.message in
+        let b = h.among in omega (arith, l, b))) h.course;
+  }
+  one_later call later right a p h = record {
+    among = (let m = accepts_more w (later ++ B) call in let b = h.among in omega (arith, m, b));
+    course = later_on w (later ++ B) call p.1 (λ l. omega (arith, l, more))
+        (λ e z x. inr (record {
+          singles = x.singles;
+          others = x.others;
+          behind = (let b = x.behind in omega (arith, b, more));
+          counted = record { few = x.counted.few; late = (let b = x.counted.late in omega (arith, b)) };
+        })) h.course;
+  }
     where
       more : reached (later ++ B) ≤ reached (call ∷ later ++ B)
       more = more_sent (later ++ B) call
-
-      go : Waiting later → Waiting (call ∷ later)
-      go (taken l) = taken (omega (arith, l, more))
-      go (away e) = away (let z = lost_older (step (later ++ B) (moment (call ∷ later ++ B))) (address_after w (later ++ B)) in cc)
-      go (waits n others c e x) = waits n others (omega (arith, c, more)) (let z = held_older (step (later ++ B) (moment (call ∷ later ++ B))) (address_after w (later ++ B)) e in cc)
-          (passes_on later call n others _ (step (later ++ B) (moment (call ∷ later ++ B))) _ x)
 
   among : (later : List Call) → AreAnswered w (later ++ B) → IsSteady g later B → Among [] → Among later
   among [] a p h = h
@@ -531,21 +384,17 @@ module _ (w : Who) (B : List Call) (g k : ℕ) where
 
   goes_so : (later : List Call) → Among later → (k - reached B + packets_taken later + 1) * (6 * g) < passed_in later B → since_take later B ≤ g
       → (k < reached (later ++ B)) ⊎ (is_lost (address_after w (later ++ B)) ≡ true)
-  goes_so later h l p = go h.course
+  goes_so later h l p = ended_or_lost h.course (λ x. by (nat_lt k (reached (later ++ B))) refl x)
     where
-      go : Waiting later → (k < reached (later ++ B)) ⊎ (is_lost (address_after w (later ++ B)) ≡ true)
-      go (taken z) = inl z
-      go (away e) = inr e
-      go (waits n others c e x) = by (nat_lt k (reached (later ++ B))) refl
-        where
-          by : (b : Bool) → nat_lt k (reached (later ++ B)) ≡ b → (k < reached (later ++ B)) ⊎ (is_lost (address_after w (later ++ B)) ≡ true)
-          by true z = inl (Rattle.std.proofs.Common.ltb-true _ _ z)
-          by false z =
-              let y = ltb-false _ _ z in
-              let f = x.few in let o = one_most (yields w (later ++ B)) in
-              let a = x.late in let b = turn_most g (turns (later ++ B)) in
-              let d = most_others g (k - reached B + packets_taken later) others (omega (arith, f, o, y, c)) in
-              absurd (omega (arith, a, b, d, l, p))
+      by : (b : Bool) → nat_lt k (reached (later ++ B)) ≡ b → Waits later → k < reached (later ++ B)
+      by true z x = ltb-true _ _ z
+      by false z x =
+          let y = ltb-false _ _ z in
+          let c = x.behind in
+          let f = x.counted.few in let o = one_most (yields w (later ++ B)) in
+          let a = x.counted.late in let b = turn_most g (turns (later ++ B)) in
+          let d = most_others g (k - reached B + packets_taken later) x.others (omega (arith, f, o, y, c)) in
+          absurd (omega (arith, a, b, d, l, p))
 
 module _ (w : Who) (later earlier : List Call) (c : Controller) (g k : ℕ) (is : Is w (later ++ earlier) c) (held : IsTrue (is_held (address_after w earlier)))
     (some : k < length (accepted w earlier)) (steady : IsSteady g later earlier)
@@ -553,7 +402,7 @@ module _ (w : Who) (later earlier : List Call) (c : Controller) (g k : ℕ) (is 
   here : Among w earlier g k later
   here = among w earlier g k later is.answered steady (record {
     among = some;
-    course = waits 0 0 (omega arith) held (record { few = omega arith; late = omega arith });
+    course = runs held (record { singles = 0; others = 0; behind = omega arith; counted = record { few = omega arith; late = omega arith } });
   })
 
   pub message_goes : (k < reached (later ++ earlier)) ⊎ IsTrue (is_lost (address_after w (later ++ earlier)))
@@ -566,11 +415,7 @@ module _ (w : Who) (later earlier : List Call) (c : Controller) (g k : ℕ) (is 
 
 -- one that waits is due
 reply_there : (w : Who) (H : List Call) (now : ℕ) (m : Message) → holds w H now ≡ true → slice_get (reception w H).replies 0 ≡ Some m → is_there (next_other w H now) ≡ true
-reply_there w H now m h first = ap (λ (b : Bool). is_there (if b then other w H now else None)) h ∙ go (other w H now) refl
-  where
-    go : (o : Option Message) → other w H now ≡ o → is_there o ≡ true
-    go (Some x) e = refl
-    go None e = absurd (let z : Some m ≡ None = sym first ∙ (none_other w H now e).0.reply in cc)
+reply_there w H now m h first = there_by w H now h (λ e. (let z : Some m ≡ None = sym first ∙ (none_other w H now e).0.reply in absurd (cc)))
 
 -- of what is due beside an overdue frame nothing goes before it but behind another
 behind : (w : Who) (H : List Call) (now : ℕ) (m : Message) → slice_get (reception w H).replies 0 ≡ Some m → ((ready w H now).reply ≡ false) ⊎ (yields w H ≡ true) → yields w H ≡ true
@@ -579,20 +424,20 @@ behind w H now m first (inr e) = e
 
 module _ (w : Who) (B : List Call) (g : ℕ) (m : Message) where
   -- so many frames that are neither claims nor acknowledgments went before it
-  record Before (later : List Call) (others : ℕ) : Type 0 where
+  record Before (later : List Call) : Type 0 where
+    pub others : ℕ
     pub few : others + one (yields w (later ++ B)) ≤ packets_taken later + 1
     pub late : passed_in later B ≤ others * (3 * g) + turn_time g (turns (later ++ B)) + since_take later B
 
-  data Replying (later : List Call) : Type 0 where
-    gone : is_lost (address_after w (later ++ B)) ≡ true → Replying later
-    stays : (others : ℕ) → is_held (address_after w (later ++ B)) ≡ true → Before later others → Replying later
-
-  beside : (now : ℕ) (f : FrameRecord) (later : List Call) (others : ℕ) → AreAnswered w (later ++ B) → FrameCase w (later ++ B) now f
+  before : (now : ℕ) (f : FrameRecord) (later : List Call) → AreAnswered w (later ++ B) → FrameCase w (later ++ B) now f
       → since_take later B + step (later ++ B) now ≤ g → slice_get (reception w (later ++ B)).replies 0 ≡ Some m
-      → is_reply (reception w (later ++ B)).replies f ≡ false → is_held (address_after w (later ++ B)) ≡ true → Before later others
-      → Replying (At now (TakeFrame (Some f)) ∷ later)
-  beside now f later others right case p first untaken held b = go case
+      → is_reply (reception w (later ++ B)).replies f ≡ false → is_held (address_after w (later ++ B)) ≡ true → Before later
+      → Before (At now (TakeFrame (Some f)) ∷ later)
+  before now f later right case p first untaken held b = go case
     where
+      others : ℕ
+      others = b.others
+
       H : List Call
       H = later ++ B
 
@@ -606,29 +451,31 @@ module _ (w : Who) (B : List Call) (g : ℕ) (m : Message) where
       yields_then c e = λ j. if e j then yields w (later ++ B) else untaken j
 
       -- a claim or an acknowledgment
-      steer : (c : FrameCase w H now f) → ((kind_by c).claim || (kind_by c).acknowledgment) ≡ true → (kind_by c).packet ≡ false → Replying (At now (TakeFrame (Some f)) ∷ later)
+      steer : (c : FrameCase w H now f) → ((kind_by c).claim || (kind_by c).acknowledgment) ≡ true → (kind_by c).packet ≡ false → Before (At now (TakeFrame (Some f)) ∷ later)
       steer c e k =
           let z = steers_it w H now f right c ∙ e in
           let t = few_turns w H now f case (reply_there w H now m (held_holds w H now held) first) (steers w H now f right case) z in
-          stays others (keeps_taken w H now f held) (record {
+          record {
+            others = b.others;
             few = (let a = b.few in let y = ap one (yields_then true z) in let d = packs_then false (packs_it w H now f right c ∙ k) in omega (arith, a, y, d));
             late = (let a = b.late in let y = ap (turn_time g) (turns_then H now f true z) in let d = turn_more g (turns H) t in omega (arith, a, y, d, p));
-          })
+          }
 
       -- another, by how many frames of broadcasts were taken then
       goes_by : (c : FrameCase w H now f) → ((kind_by c).claim || (kind_by c).acknowledgment) ≡ false
-          → others ≤ (if (kind_by c).packet then suc (packets_taken later) else packets_taken later) → Replying (At now (TakeFrame (Some f)) ∷ later)
+          → others ≤ (if (kind_by c).packet then suc (packets_taken later) else packets_taken later) → Before (At now (TakeFrame (Some f)) ∷ later)
       goes_by c e l =
           let z = steers_it w H now f right c ∙ e in
-          stays (suc others) (keeps_taken w H now f held) (record {
+          record {
+            others = suc others;
             few = (let y = ap one (yields_then false z) in let i = packs_then _ (packs_it w H now f right c) in omega (arith, y, i, l));
             late = (let a = b.late in let y = ap (turn_time g) (turns_then H now f false z) in let d = turn_most g (turns H) in let k = suc-mul others (3 * g) in omega (arith, a, y, d, k, p));
-          })
+          }
 
       few_then : yields w H ≡ true → others ≤ packets_taken later
       few_then y = let a = b.few in let c = ap one y in omega (arith, a, c)
 
-      go : FrameCase w H now f → Replying (At now (TakeFrame (Some f)) ∷ later)
+      go : FrameCase w H now f → Before (At now (TakeFrame (Some f)) ∷ later)
       go (claims o e) = steer (claims o e) refl refl
       go (acknowledges x o q i e way) = steer (acknowledges x o q i e way) refl refl
       go (replies x o q i y e) = absurd (not_both _ untaken (replies_it w H now f right (replies x o q i y e)))
@@ -636,23 +483,20 @@ module _ (w : Who) (B : List Call) (g : ℕ) (m : Message) where
       go (packs x o q i y e) = goes_by (packs x o q i y e) refl (let a = b.few in omega (arith, a))
       go (transfers x o q i y e) = goes_by (transfers x o q i y e) refl (few_then (behind w H now m first (turned w H now (Some Move) i.1).2))
 
+  abbrev Replying : List Call → Type 0
+  Replying later = Fate (address_after w (later ++ B)) ⊥ (Before later)
+
   reply_later : (call : Call) (later : List Call) → AreAnswered w (later ++ B) → IsAnswered w (later ++ B) call
       → (since_take later B + step (later ++ B) (moment (call ∷ later ++ B)) ≤ g) × (claims_anew call ≡ false) → slice_get (reception w (later ++ B)).replies 0 ≡ Some m
       → takes_reply w (later ++ B) call ≡ false → Replying later → Replying (call ∷ later)
-  reply_later (At when (Hear f)) later right a p first untaken (gone e) = gone (lost_heard w (later ++ B) when f e)
-  reply_later (At when (Hear f)) later right a p first untaken (stays others e b) = elim (keeps_heard w (later ++ B) when f e) [
-    | inl z ↦ gone z
-    | inr z ↦ stays others z (record { few = b.few; late = (let l = b.late in omega (arith, l)) })
-  ]
-  reply_later (At now (TakeFrame (Some f))) later right a p first untaken (gone e) = gone (lost_taken w (later ++ B) now f e)
-  reply_later (At now (TakeFrame (Some f))) later right a p first untaken (stays others e b) = beside now f later others right (frame_case w (later ++ B) now f a) p.0 first untaken e b
-  reply_later (At now (TakeFrame None)) later right a p first untaken (gone e) = gone (lost_older (step (later ++ B) now) (address_after w (later ++ B)) ∙ e)
-  reply_later (At now (TakeFrame None)) later right a p first untaken (stays others e b) =
-      absurd (let z : Some m ≡ None = sym first ∙ (none_next w (later ++ B) now (held_holds w (later ++ B) now e) a).rest.reply in cc)
-  reply_later (At now Again) later right a p first untaken r = absurd (let z : true ≡ false = p.1 in cc)
-  reply_later call later right a p first untaken (gone e) = gone (let z = lost_older (step (later ++ B) (moment (call ∷ later ++ B))) (address_after w (later ++ B)) in cc)
-  reply_later call later right a p first untaken (stays others e b) =
-      stays others (let z = held_older (step (later ++ B) (moment (call ∷ later ++ B))) (address_after w (later ++ B)) e in cc) (record { few = b.few; late = (let l = b.late in omega (arith, l)) })
+  reply_later (At now (TakeFrame (Some f))) later right a p first untaken h =
+      later_on w (later ++ B) (At now (TakeFrame (Some f))) refl (λ x. x)
+      (λ e z b. inr (before now f later right (frame_case w (later ++ B) now f a) p.0 first untaken e b)) h
+  reply_later (At now (TakeFrame None)) later right a p first untaken h =
+      later_on w (later ++ B) (At now (TakeFrame None)) refl (λ x. x)
+      (λ e z b. absurd (let z : Some m ≡ None = sym first ∙ (none_next w (later ++ B) now (held_holds w (later ++ B) now e) a).rest.reply in cc)) h
+  reply_later call later right a p first untaken h =
+      later_on w (later ++ B) call p.1 (λ x. x) (λ e z b. inr (record { others = b.others; few = b.few; late = (let l = b.late in omega (arith, l)) })) h
 
   first_now : (later : List Call) → StaysFirst w m later B → slice_get (reception w (later ++ B)).replies 0 ≡ Some m
   first_now [] s = s
@@ -665,15 +509,16 @@ module _ (w : Who) (B : List Call) (g : ℕ) (m : Message) where
 pub reply_goes : (w : Who) (later earlier : List Call) (c : Controller) (g : ℕ) (m : Message) → Is w (later ++ earlier) c → IsTrue (is_held (address_after w earlier))
     → StaysFirst w m later earlier → IsSteady g later earlier → is_lost (address_after w (later ++ earlier)) ≡ false → passed_in later earlier ≤ (packets_taken later + 2) * (3 * g)
 reply_goes w later earlier c g m is held first steady there =
-    go (replying w earlier g m later is.answered steady first (stays 0 held (record { few = (let y = one_most (yields w earlier) in omega (arith, y)); late = omega arith })))
+    go (replying w earlier g m later is.answered steady first (runs held (record { others = 0; few = (let y = one_most (yields w earlier) in omega (arith, y)); late = omega arith })))
   where
     go : Replying w earlier g m later → passed_in later earlier ≤ (packets_taken later + 2) * (3 * g)
+    go (over x) = absurd x
     go (gone e) = absurd (not_both _ there e)
-    go (stays others e b) =
+    go (runs e b) =
         let a = b.few in
-        let d = times_more (others + 1) (packets_taken later + 2) (3 * g) (omega (arith, a)) in
-        let k = suc-mul others (3 * g) in
-        let u : (others + 1) * (3 * g) ≡ suc others * (3 * g) = ap (λ (n : ℕ). n * (3 * g)) (omega arith) in
+        let d = times_more (b.others + 1) (packets_taken later + 2) (3 * g) (omega (arith, a)) in
+        let k = suc-mul b.others (3 * g) in
+        let u : (b.others + 1) * (3 * g) ≡ suc b.others * (3 * g) = ap (λ (n : ℕ). n * (3 * g)) (omega arith) in
         let l = b.late in
         let t = turn_most g (turns (later ++ earlier)) in
         let s = since_most g later earlier steady in

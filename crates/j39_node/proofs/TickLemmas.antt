@@ -1,7 +1,9 @@
 -- When a tick does something.
-use Rattle.j39_node.proofs.Common.{[], if◌then◌else◌, ◌&&◌, ◌+◌, ◌-◌, ◌<◌, ◌==◌, ◌||◌, ◌∙◌, ◌∷◌, ◌≡◌, ◌≤◌, ◌⊎◌, address_after, ap, arith, ask_end, AskEnding, asks_again, At, Bool, Call, comes, cond_both, Controller, ended, expires, false, granted_at, grants, Hear, heard_at, hearing, hearing_tick, in_broadcast, in_session, inl, inr, Is, is_coming, is_from, is_late, is_lost, is_out, is_over, is_whole, limit_of, List, lt-ltb, ltb-false, ltb-true, min, moment, nat_eq, nat_lt, next_ask_ended, next_tick, None, not, open_ask, OpenBroadcast, Option, option_map, out_at, Question, reached, Reaction, receiver_at, ReceiverRecord, Reception, reception, ReceptionRecord, recv_step, RecvResult, refl, request_tick, seeks, session_tick, Some, sooner, sym, TakeAskEnded, takes_tick, Tick, ticked_at, Ticks, time_heard, TimedOut, true, wait, Who, ℕ, and-false, or_parts}
+use Rattle.j39_node.proofs.Common.{[], if◌then◌else◌, ◌&&◌, ◌+◌, ◌-◌, ◌<◌, ◌==◌, ◌||◌, ◌∙◌, ◌∷◌, ◌≡◌, ◌≤◌, ◌⊎◌, address_after, ap, arith, ask_end, AskEnding, asks_again, At, Bool, Call, comes, cond_both, Controller, ended, false, granted_at, grants, Hear, heard_at, hearing_tick, in_session, inl, inr, Is, is_coming, is_from, is_late, is_lost, is_over, limit_of, List, ltb-false, min, moment, nat_eq, nat_lt, next_ask_ended, next_tick, None, not, open_ask, OpenBroadcast, Option, option_map, out_at, Question, reached, Reaction, receiver_at, ReceiverRecord, Reception, reception, ReceptionRecord, recv_step, RecvResult, refl, request_tick, seeks, session_tick, Some, sooner, sym, TakeAskEnded, takes_tick, Tick, ticked_at, Ticks, time_heard, TimedOut, true, wait, Who, ℕ, and-false, or_parts, comes_by, comes_in, get_or, holder, Listening, listening, stay, subst}
+use Rattle.std.specs.List.{All, filter}
+use Rattle.std.proofs.lemmas.List.Elements.{All-head, All-tail, filter_passes}
+use Rattle.j39_node.proofs.FrameLemmas.{lt_false}
 use Rattle.j39_node.specs.declared.kinds.AskEnding.TheVariants.{Withdrawn}
-use Rattle.j39_node.specs.Hearing.{left}
 use Rattle.j39_node.specs.Asking.{is_taken, is_waiting}
 use Rattle.j39_node.proofs.AskLaws.{over_told}
 use Rattle.j39_node.proofs.HearingLaws.{tick_keeps}
@@ -48,47 +50,44 @@ left_at : (own now : ℕ) (r : Reception) → (in_session (ticked_at own now r).
 left_at own now r =
     cond_both (is_over r.since now r.session) _ _ (λ (x : RecvResult). (in_session x.after.session ≡ in_session r.session) ⊎ (in_session x.after.session ≡ None)) (λ t. inr refl) (λ t. session_left (receiver_at own r) now)
 
-broadcast_left : (t s : ℕ) (o : Option OpenBroadcast) → t ≤ s → (in_broadcast s o ≡ in_broadcast t o) ⊎ (in_broadcast s o ≡ None)
-broadcast_left t s None l = inl refl
-broadcast_left t s (Some x) l = go (is_whole x) (is_late t x) (is_late s x) refl refl refl
+-- what comes later came before
+late_later : (t s : ℕ) (x : OpenBroadcast) → t ≤ s → is_late s x ≡ false → is_late t x ≡ false
+late_later t s x l e = lt_false _ _ (let a = ltb-false _ _ e in omega (arith, a, l))
+
+none_more : (t s : ℕ) (q : Question) (p : OpenBroadcast → Bool) (xs : List OpenBroadcast) → t ≤ s → comes_in t q xs ≡ false → comes_in s q (filter p xs) ≡ false
+none_more t s q p [] l e = refl
+none_more t s q p (x ∷ xs) l e = let a = or_parts (comes_by t q x) (comes_in t q xs) e in go (p x) (one (is_late s x) refl a.0) (none_more t s q p xs l a.1)
   where
-    after : (n : ℕ) → nat_lt n t ≡ true → nat_lt n s ≡ true
-    after n e = let g = ltb-true n t e in lt-ltb n s (omega (arith, g, l))
+    one : (b : Bool) → is_late s x ≡ b → comes_by t q x ≡ false → comes_by s q x ≡ false
+    one true i k = ap (λ (b : Bool). not b && seeks q (Some (x.source, x.group))) i
+    one false i k = ap (λ (b : Bool). not b && seeks q (Some (x.source, x.group))) (i ∙ sym (late_later t s x l i)) ∙ k
 
-    by : (a b : Bool) → Option (ℕ × ℕ)
-    by a b = if a || b then None else Some (x.source, x.group)
+    go : (b : Bool) → comes_by s q x ≡ false → comes_in s q (filter p xs) ≡ false → comes_in s q (if b then x ∷ filter p xs else filter p xs) ≡ false
+    go true i k = λ z. i z || k z
+    go false i k = k
 
-    go : (a b c : Bool) → is_whole x ≡ a → is_late t x ≡ b → is_late s x ≡ c → (in_broadcast s (Some x) ≡ in_broadcast t (Some x)) ⊎ (in_broadcast s (Some x) ≡ None)
-    go true b c i j k = inr (λ z. by (i z) (is_late s x))
-    go false b true i j k = inr (λ z. by (i z) (k z))
-    go false true false i j k = absurd (let z : true ≡ false = sym (after (expires x) j) ∙ k in cc)
-    go false false false i j k = inl ((λ z. by (is_whole x) (k z)) ∙ λ z. by (is_whole x) (sym j z))
+same_coming : (t s : ℕ) (q : Question) (xs : List OpenBroadcast) → t ≤ s → All (λ x. is_late s x ≡ false) xs → comes_in s q xs ≡ comes_in t q xs
+same_coming t s q [] l h = refl
+same_coming t s q (x ∷ xs) l h =
+    let i = All-head (λ y. is_late s y ≡ false) x xs h in
+    let k = same_coming t s q xs l (All-tail (λ y. is_late s y ≡ false) x xs h) in
+    λ z. (not ((i ∙ sym (late_later t s x l i)) z) && seeks q (Some (x.source, x.group))) || k z
 
-ticked_left : (t s : ℕ) (o : Option OpenBroadcast) → t ≤ s → (in_broadcast s (left (is_out s o) o) ≡ in_broadcast t o) ⊎ (in_broadcast s (left (is_out s o) o) ≡ None)
-ticked_left t s None l = inl refl
-ticked_left t s (Some x) l = go (is_late s x && not (is_whole x)) (broadcast_left t s (Some x) l)
+none_begins : (o : Option Question) (t s : ℕ) (p : OpenBroadcast → Bool) (a b : Option (ℕ × ℕ)) (xs : List OpenBroadcast) → t ≤ s → (b ≡ a) ⊎ (b ≡ None) → is_coming t o a xs ≡ false
+    → is_coming s o b (filter p xs) ≡ false
+none_begins None t s p a b xs l i e = refl
+none_begins (Some q) t s p a b xs l i e =
+    let h = or_parts (is_from q a) (comes_in t q xs) e in (λ z. one a b i h.0 z || none_more t s q p xs l h.1 z)
   where
-    Left : Option OpenBroadcast → Type 0
-    Left o = (in_broadcast s o ≡ in_broadcast t (Some x)) ⊎ (in_broadcast s o ≡ None)
-
-    go : (b : Bool) → Left (Some x) → Left (if b then None else Some x)
-    go true h = inr refl
-    go false h = h
-
-none_begins : (o : Option Question) (a b c d : Option (ℕ × ℕ)) → (b ≡ a) ⊎ (b ≡ None) → (d ≡ c) ⊎ (d ≡ None) → is_coming o a c ≡ false → is_coming o b d ≡ false
-none_begins None a b c d i j e = refl
-none_begins (Some q) a b c d i j e =
-    let s = or_parts (is_from q a) (seeks q c) e in (λ z. one (is_from q) refl a b i s.0 z || one (seeks q) refl c d j s.1 z)
-  where
-    one : {T : Type 0} (f : Option T → Bool) → f None ≡ false → (a b : Option T) → (b ≡ a) ⊎ (b ≡ None) → f a ≡ false → f b ≡ false
-    one f n a b (inl i) e = ap f i ∙ e
-    one f n a b (inr i) e = ap f i ∙ n
+    one : (a b : Option (ℕ × ℕ)) → (b ≡ a) ⊎ (b ≡ None) → is_from q a ≡ false → is_from q b ≡ false
+    one a b (inl i) e = ap (is_from q) i ∙ e
+    one a b (inr i) e = ap (is_from q) i
 
 none_comes : (w : Who) (H : List Call) (now : ℕ) → comes w H (time_heard H) ≡ false → comes w (At now Tick ∷ H) (time_heard (At now Tick ∷ H)) ≡ false
 none_comes w H now e =
     let l = time_fits H in
-    none_begins (open_ask H) _ _ _ _ (left_at w.address (time_heard (At now Tick ∷ H)) (reception w H))
-    (ticked_left (time_heard H) (time_heard (At now Tick ∷ H)) (hearing w H) (omega (arith, l))) e
+    none_begins (open_ask H) (time_heard H) (time_heard (At now Tick ∷ H)) (λ x. not (Rattle.j39_node.specs.Hearing.is_over None (holder w H) (time_heard (At now Tick ∷ H)) x)) _ _ (listening w H).current (omega (arith, l))
+    (left_at w.address (time_heard (At now Tick ∷ H)) (reception w H)) e
 
 -- ---- at a tick from its moment on a request is told as timed out
 
@@ -120,20 +119,16 @@ request_ends w H c now t answer e l is = go (open_ask H) (ended w H) (comes w H 
 not_yet : (last left now : ℕ) → now < last + left → nat_eq (left - (now - last)) 0 ≡ nat_eq left 0
 not_yet last left now l = grind arith
 
--- what is left of it comes on
-stays_heard : (t s : ℕ) (o : Option OpenBroadcast) → t ≤ s → left (is_out s o) o ≡ o → in_broadcast s (left (is_out s o) o) ≡ in_broadcast t o
-stays_heard t s None l e = refl
-stays_heard t s (Some x) l e = ap (in_broadcast s) e ∙ go (is_whole x) (is_late s x) refl refl (broadcast_left t s (Some x) l)
+-- what stays at a tick is in time
+all_timely : (holds : ℕ → Option ℕ) (now : ℕ) (xs : List OpenBroadcast) → stay None holds now xs ≡ xs → All (λ x. is_late now x ≡ false) xs
+all_timely holds now xs e = subst (All (λ x. is_late now x ≡ false)) e (λ i d l. in_it (get_or (stay None holds now xs) i d) (filter_passes (λ x. not (Rattle.j39_node.specs.Hearing.is_over None holds now x)) xs i d l))
   where
-    by : Bool → Bool → Option (ℕ × ℕ)
-    by a b = if a || b then None else Some (x.source, x.group)
+    in_it : (x : OpenBroadcast) → not (Rattle.j39_node.specs.Hearing.is_over None holds now x) ≡ true → is_late now x ≡ false
+    in_it x e = grind (arith, e)
 
-    go : (a c : Bool) → is_whole x ≡ a → is_late s x ≡ c → (in_broadcast s (Some x) ≡ in_broadcast t (Some x)) ⊎ (in_broadcast s (Some x) ≡ None)
-        → in_broadcast s (Some x) ≡ in_broadcast t (Some x)
-    go a c i k (inl h) = h
-    go true c i k (inr h) = (λ z. by (i z) (is_late s x)) ∙ λ z. by (sym i z) (is_late t x)
-    go false true i k (inr h) = absurd (let z : None ≡ Some x = (λ z. (let o : Option OpenBroadcast = if sym k z && not (sym i z) then None else Some x in o)) ∙ e in cc)
-    go false false i k (inr h) = absurd (let z : Some (x.source, x.group) ≡ None = (λ z. by (sym i z) (sym k z)) ∙ h in cc)
+comes_on : (o : Option Question) (t s : ℕ) (a : Option (ℕ × ℕ)) (xs : List OpenBroadcast) → t ≤ s → All (λ x. is_late s x ≡ false) xs → is_coming s o a xs ≡ is_coming t o a xs
+comes_on None t s a xs l h = refl
+comes_on (Some q) t s a xs l h = ap (λ (b : Bool). is_from q a || b) (same_coming t s q xs l h)
 
 pub none_ends : (w : Who) (H : List Call) (now : ℕ) → heard_at H ≤ now → now < 10000000000000000 → ((t : ℕ) → next_tick w H ≡ Some t → now < t)
     → next_ask_ended w (At now Tick ∷ H) ≡ next_ask_ended w H
@@ -141,10 +136,14 @@ none_ends w H now l m q =
     let b = before_each now (session_tick w H) (sooner (hearing_tick w H) (request_tick w H)) q in
     let d = before_each now (hearing_tick w H) (request_tick w H) b.1 in
     let f = time_fits H in
-    let e = stays_heard (time_heard H) (time_heard (At now Tick ∷ H)) (hearing w H) (omega (arith, f)) (tick_keeps w H now l m d.0) in
+    let t = time_heard (At now Tick ∷ H) in
+    let k = tick_keeps w H now l m d.0 in
+    let h = all_timely (holder w H) t (listening w H).current (ap (λ (x : Listening). x.current) k) in
     (λ i. ask_end (open_ask H) (reached H) (ended w H) (wait H - (now - moment H))
-    (is_coming (open_ask H) (in_session (tick_waits w H now l m b.0 i).session) (e i)) (lost_older (now - moment H) (address_after w H) i))
-    ∙ go (open_ask H) (ended w H) (comes w H (time_heard H)) d.1
+    (is_coming t (open_ask H) (in_session (tick_waits w H now l m b.0 i).session) (k i).current) (lost_older (now - moment H) (address_after w H) i))
+    ∙ (ap (λ (c : Bool). ask_end (open_ask H) (reached H) (ended w H) (wait H - (now - moment H)) c lost)
+    (comes_on (open_ask H) (time_heard H) t (in_session (reception w H).session) (listening w H).current (omega (arith, f)) h)
+    ∙ go (open_ask H) (ended w H) (comes w H (time_heard H)) d.1)
   where
     lost : Bool
     lost = is_lost (address_after w H)

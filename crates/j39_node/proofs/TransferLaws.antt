@@ -1,5 +1,5 @@
 -- The laws of transfers.
-use Rattle.j39_node.proofs.Common.{[], if◌then◌else◌, ◌&&◌, ◌++◌, ◌+◌, ◌-◌, ◌<◌, ◌==◌, ◌||◌, ◌∙◌, ◌∷◌, ◌≡◌, ◌≤◌, ◌⊎◌, Abort, abort_move, aborted, Aborts, acked, Acknowledges, Acknowledgment, address_after, all_transfers, ap, AreAnswered, arith, At, Bool, both, BroadcastAnnounce, broken_off, Call, can_transfer, cleared, clears, clears_by, ClearToSend, clock_at, cond_both, Controller, ending_by, eq-eqb, eqb-true, false, FrameRecord, gives_up, Gone, granted_after, granted_by, Happened, Hear, hears, hears_if, holder, holds, inl, inr, Is, is_clear, is_engaged, is_idle, is_lost, is_move, is_replaced, is_resting, is_running, is_spent, is_waiting, IsMove, IsTrue, length, List, listens, long_by, max, may_name, Message, message_of, MessageRecord, min, moves, nat_eq, nat_lt, new_sender, next_packet, next_transfer, None, not, Ok, open_transfer, Option, option_map, or_parts, Packet, packet_data, packets, packets_of, refl, Refused, Replaces, request_of, RequestToSend, Result, Running, said_between, says, send_step, SenderRecord, sends, sends_if, SendState, Signal, signal_by, slice_get, Some, spent_after, subst, sym, TakeFrame, takes_clear, TakeTransferEnded, ticks_in, told_transfers, Transfer, transfer_end, TransferEnding, transport_control_group, transport_data_group, true, Who, ℕ, not_both, ltb-true}
+use Rattle.j39_node.proofs.Common.{Abort, Aborts, Acknowledges, Acknowledgment, AreAnswered, At, Bool, BroadcastAnnounce, Call, ClearToSend, Controller, FrameRecord, Gone, Happened, Hear, Idle, Is, IsMove, IsTrue, List, Message, MessageRecord, None, Ok, Option, Packet, Refused, Replaces, RequestToSend, Result, Running, SendState, SenderRecord, Sending, Signal, Some, TakeFrame, TakeTransferEnded, Transfer, TransferEnding, Waiting, Who, [], abort_move, aborted, acked, address_after, after, all_transfers, ap, arith, both, broken_off, by, can_transfer, cleared, clears, clears_by, clock_at, cond_both, ending_by, eq-eqb, eqb-true, false, first, gives_up, granted_after, granted_by, hears, hears_if, holder, holds, idle, if◌then◌else◌, inl, inr, is_clear, is_engaged, is_idle, is_lost, is_move, is_replaced, is_resting, is_running, is_spent, is_waiting, later, left, length, listens, long_by, lost, ltb-true, max, may_name, message_of, min, moves, nat_eq, nat_lt, new_sender, next_packet, next_transfer, not, not_both, nothing, open_transfer, option_map, or_parts, other, packet_data, packets, packets_of, refl, request_of, rested, said_between, says, send_step, sends, sends_if, signal_by, silent, slice_get, spent_after, still, subst, sym, takes_clear, ticks_in, told, told_transfers, transfer_end, transport_control_group, transport_data_group, true, waiting, ℕ, ◌&&◌, ◌++◌, ◌+◌, ◌-◌, ◌<◌, ◌==◌, ◌||◌, ◌∙◌, ◌∷◌, ◌≡◌, ◌≤◌, ◌⊎◌}
 use Rattle.j39_transport.specs.Sending.{Heard, Tick}
 use Rattle.j39_node.specs.declared.kinds.TransferEnding.TheVariants.{Done, Withdrawn, Failed}
 use Rattle.j39_node.specs.Transfers.{is_over, said_to}
@@ -146,9 +146,6 @@ budget_hears true replaced f now t n h = record { count = h.count; granted = h.g
 budget_hears false true f now t n h = record { count = h.count; granted = h.granted; spent = h.spent; heard = h.heard }
 budget_hears false false f now t n h = go (t.gone || is_spent t) refl
   where
-    second : (x y : Bool) → (x || y) ≡ false → y ≡ false
-    second x y e = grind (arith, e)
-
     same : packets_of (send_step t.sender (Heard f) now).after.message ≡ packets_of t.sender.message
     same = ap packets_of (hears_same false false f now (record t { gone = false; spent = 0 })).0
 
@@ -157,7 +154,7 @@ budget_hears false false f now t n h = go (t.gone || is_spent t) refl
     go true e = h
     go false e =
         let x = budget_listens t n (packets_of t.sender.message) (granted_by t.sender (said_to t.sender f)) (granted_within t.sender (said_to t.sender f)) h.count h.granted
-        (not_more t.spent (second t.gone (is_spent t) e)) h.heard in
+        (not_more t.spent (or_parts t.gone (is_spent t) e).1) h.heard in
         record { count = x.0; granted = subst (λ (k : ℕ). granted_after (granted_by t.sender (said_to t.sender f)) t.granted ≤ k) (sym same) x.1; spent = x.2; heard = x.3 }
 
 budget_hears_if : (lost : Bool) (replaced : ℕ → Bool) (f : FrameRecord) (now : ℕ) (o : Option Running) (n : ℕ) → BudgetedIf o n
@@ -330,7 +327,8 @@ done_arises : (w : Who) → Arises w (λ t. t.sender.state ≡ sending.Done) (Ac
 unfolding new_sender
 done_arises w = record {
   begins_not = λ token m to q. (let z : sending.Idle ≡ sending.Done = q in absurd (cc));
-  by_hearing = hearing;
+  by_hearing = λ H when f t right e q.
+      heard H when f t (is_lost (address_after w (At when (Hear f) ∷ H))) (is_replaced (holder w H t.sender.destination) (holder w (At when (Hear f) ∷ H) t.sender.destination)) (clock_at H when) right e q;
   by_sending = λ H now f t a right e g k q. inl (cond_both (gives_up t) (aborted 5 t.sender) (send_step t.sender Tick (clock_at H now)).after
       (λ (r : SenderRecord). r.state ≡ sending.Done → t.sender.state ≡ sending.Done) (λ z. done_given_up t.sender 5) (λ z. done_ticked t.sender (clock_at H now)) q);
 }
@@ -351,18 +349,12 @@ done_arises w = record {
           )
         ])
 
-    hearing : (H : List Call) (when : ℕ) (f : FrameRecord) (t : Running) → AreAnswered w H → open_transfer w H ≡ Some t
-        → (hears (is_lost (address_after w (At when (Hear f) ∷ H))) (is_replaced (holder w H t.sender.destination) (holder w (At when (Hear f) ∷ H) t.sender.destination)) f (clock_at H when) t).sender.state
-        ≡ sending.Done
-        → (t.sender.state ≡ sending.Done) ⊎ Acknowledges w t.sender.destination t.sender.message H (At when (Hear f))
-    hearing H when f t right e q =
-        heard H when f t (is_lost (address_after w (At when (Hear f) ∷ H))) (is_replaced (holder w H t.sender.destination) (holder w (At when (Hear f) ∷ H) t.sender.destination)) (clock_at H when) right e q
-
 failed_arises : (w : Who) (r : ℕ) → Arises w (λ t. t.sender.state ≡ sending.Failed r) (Aborts w r)
 unfolding new_sender
 failed_arises w r = record {
   begins_not = λ token m to q. (let z : sending.Idle ≡ sending.Failed r = q in absurd (cc));
-  by_hearing = hearing;
+  by_hearing = λ H when f t right e q.
+      heard H when f t (is_lost (address_after w (At when (Hear f) ∷ H))) (is_replaced (holder w H t.sender.destination) (holder w (At when (Hear f) ∷ H) t.sender.destination)) (clock_at H when) right e q;
   by_sending = sending_one;
 }
   where
@@ -375,13 +367,6 @@ failed_arises w r = record {
         (λ (u : Running). u.sender.state ≡ sending.Failed r → (t.sender.state ≡ sending.Failed r) ⊎ Aborts w r t.sender.destination t.sender.message H (At when (Hear f)))
         (λ z q. inl q)
         (λ z q. elim (failed_heard t.sender f now r q) [ inl x ↦ inl x | inr x ↦ inr (said_own w H t f _ right e x) ])
-
-    hearing : (H : List Call) (when : ℕ) (f : FrameRecord) (t : Running) → AreAnswered w H → open_transfer w H ≡ Some t
-        → (hears (is_lost (address_after w (At when (Hear f) ∷ H))) (is_replaced (holder w H t.sender.destination) (holder w (At when (Hear f) ∷ H) t.sender.destination)) f (clock_at H when) t).sender.state
-        ≡ sending.Failed r
-        → (t.sender.state ≡ sending.Failed r) ⊎ Aborts w r t.sender.destination t.sender.message H (At when (Hear f))
-    hearing H when f t right e q =
-        heard H when f t (is_lost (address_after w (At when (Hear f) ∷ H))) (is_replaced (holder w H t.sender.destination) (holder w (At when (Hear f) ∷ H) t.sender.destination)) (clock_at H when) right e q
 
     aborts : (t : Running) (f : FrameRecord) (a : Signal) → message_of f ≡ says t.sender a → a ≡ Abort r t.sender.message.pgn
         → message_of f ≡ abort_move t.sender.destination t.sender.message r
@@ -612,10 +597,6 @@ is_gone w H later c when f t answer is n e going own left =
     ∙ (ap (option_map (λ (y : TransferEnding). (d.running.token, y))) (gone d.running.sender.state _ d.unended)
     ∙ ap (λ (k : ℕ). (let o : Option (ℕ × TransferEnding) = Some (k, Gone) in o)) d.token_is)))
   where
-    second : (x y : Bool) → (x || y) ≡ false → y ≡ false
-    second true y k = absurd (cc)
-    second false y k = k
-
     gone : (u : SendState) (lost : Bool) → not (is_idle u || is_running u) ≡ false → ending_by u true lost ≡ Some Gone
     gone sending.Idle lost k = refl
     gone (sending.Waiting limit) lost k = refl
@@ -626,7 +607,7 @@ is_gone w H later c when f t answer is n e going own left =
     heard : (a b : Bool) → a ≡ false → b ≡ true → IsGone t.token (Some (hears a b f (clock_at H when) t))
     heard true b p q = absurd (cc)
     heard false false p q = absurd (cc)
-    heard false true p q = record { running = record t { gone = true }; is = refl; token_is = refl; gone = refl; unended = second t.gone _ going }
+    heard false true p q = record { running = record t { gone = true }; is = refl; token_is = refl; gone = refl; unended = (or_parts t.gone _ going).1 }
 
     first : IsGone t.token (open_transfer w (At when (Hear f) ∷ H))
     first = subst (λ (o : Option Running). IsGone t.token (hears_if (is_lost (address_after w (At when (Hear f) ∷ H))) (λ a. is_replaced (holder w H a) (holder w (At when (Hear f) ∷ H) a)) f (clock_at H when) o))

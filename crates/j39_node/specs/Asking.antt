@@ -1,6 +1,6 @@
 -- Asking others for groups (J1939-21, 5.4.2 and 5.4.4): what a history says of it.
 use Rattle.std.specs.Prelude.{if◌then◌else◌, ◌%◌, ◌&&◌, ◌++◌, ◌+◌, ◌-◌, ◌/◌, ◌<◌, ◌||◌, ◌∷◌, ◌≡◌, ◌≤◌, ◌⊎◌}
-use Rattle.j39_node.specs.Common.{[], address_claimed_group, answer_time, Bool, destination_of, Err, false, FrameRecord, global_address, IsTrue, length, List, MessageRecord, nat_eq, nat_lt, None, not, null_address, Ok, Option, option_map, option_or, pgn_of, ReceptionRecord, Result, slice_get, Some, source_of, true, ℕ}
+use Rattle.j39_node.specs.Common.{[], address_claimed_group, answer_time, Bool, destination_of, Err, false, FrameRecord, global_address, IsTrue, length, List, list_any, MessageRecord, nat_eq, nat_lt, None, not, null_address, Ok, Option, option_map, option_or, pgn_of, ReceptionRecord, Result, slice_get, Some, source_of, true, ℕ}
 use Rattle.j39_node.specs.declared.kinds.Answer.TheVariants.{Ack, Nack, Denied, Busy}
 use Rattle.j39_node.specs.declared.kinds.AskEnding.{AskEnding}
 use Rattle.j39_node.specs.declared.kinds.AskEnding.TheVariants.{Answered, Acknowledged, TimedOut, Withdrawn}
@@ -11,7 +11,7 @@ use Rattle.j39_node.specs.History.Call.{At, TakeAskEnded}
 use Rattle.j39_node.specs.History.Act.{Ask, Hear, TakeFrame}
 use Rattle.j39_node.specs.Since.{passed_in}
 use Rattle.j39_node.specs.Reception.{is_message, reception, time_heard, whole}
-use Rattle.j39_node.specs.Hearing.{OpenBroadcast, hearing, is_late, is_whole, made_whole}
+use Rattle.j39_node.specs.Hearing.{OpenBroadcast, is_late, listening, made_whole}
 
 -- a group that may be sent, or that of claims (J1939-81, 4.2.1), of all or of the address of another
 abbrev pub can_ask : Who → ℕ → ℕ → Bool
@@ -116,27 +116,30 @@ says_to w q f made =
 
 -- ---- an answer in packets on its way (J1939-21, 5.12.3: the 1,250 ms are for its begin)
 
--- the source and the group of an open session, and of a broadcast that isn't whole, and in time
+-- the source and the group of an open session
 abbrev pub in_session : Option ReceptionRecord → Option (ℕ × ℕ)
 in_session None = None
 in_session (Some r) = Some (r.message.source, r.message.group)
 
-abbrev pub in_broadcast : ℕ → Option OpenBroadcast → Option (ℕ × ℕ)
-in_broadcast time None = None
-in_broadcast time (Some x) = if is_whole x || is_late time x then None else Some (x.source, x.group)
+-- a broadcast is in time, and of the group and of whom was asked
+abbrev pub comes_by : ℕ → Question → OpenBroadcast → Bool
+comes_by time q x = not (is_late time x) && seeks q (Some (x.source, x.group))
+
+abbrev pub comes_in : ℕ → Question → List OpenBroadcast → Bool
+comes_in time q = list_any (comes_by time q)
 
 -- it is a session of whom was asked, and of the group (J1939-21, 5.10.3.1: its RTS tells it)
 abbrev pub is_from : Question → Option (ℕ × ℕ) → Bool
 is_from q None = false
 is_from q (Some x) = nat_eq x.0 q.to && nat_eq x.1 q.group
 
-abbrev pub is_coming : Option Question → Option (ℕ × ℕ) → Option (ℕ × ℕ) → Bool
-is_coming None session broadcast = false
-is_coming (Some q) session broadcast = is_from q session || seeks q broadcast
+abbrev pub is_coming : ℕ → Option Question → Option (ℕ × ℕ) → List OpenBroadcast → Bool
+is_coming time None session broadcasts = false
+is_coming time (Some q) session broadcasts = is_from q session || comes_in time q broadcasts
 
 -- at this time, by which a broadcast may be late, one to the open request is on its way
 abbrev pub comes : Who → List Call → ℕ → Bool
-comes w H time = is_coming (open_ask H) (in_session (reception w H).session) (in_broadcast time (hearing w H))
+comes w H time = is_coming time (open_ask H) (in_session (reception w H).session) (listening w H).current
 
 -- ---- how it ends
 

@@ -12,7 +12,7 @@ use Rattle.j39_node.specs.History.Act.{Acknowledge, Broadcast, Hear, Tick, TakeF
 
 -- NAME 2 at address 128, whose program serves group 65259 and subscribes 0 and 65226
 abbrev pub two : Who
-two = record { name = 2; address = 128; delay = 10; served = 65259 ∷ []; subscribed = Some (0 ∷ 65226 ∷ []); brought = nothing }
+two = record { name = 2; address = 128; delay = 10; served = 65259 ∷ []; subscribed = Some (0 ∷ 65226 ∷ []); boxes = 1; brought = nothing }
 
 -- its claim, and 'cannot claim'
 abbrev pub own_claim : ℕ → FrameRecord
@@ -186,3 +186,10 @@ example =
     ∷ At 100 (TakeFrame (Some (own_claim 100)))
     ∷ At 90 Tick
     ∷ []
+
+-- the same with two boxes: each of two sources has a broadcast open, and both are whole
+abbrev pub wide : Who
+wide = record two { boxes = 2 }
+
+abbrev pub two_open : List Call
+two_open = At 115 (Hear (announced_by 12 115)) ∷ At 110 (Hear (announced_by 11 110)) ∷ []

@@ -1,14 +1,16 @@
--- Broadcasts in packets that are heard (J1939-21, 5.10.3.5 and 5.13.3), one at a time: what a history says of them.
+-- Broadcasts in packets that are heard (J1939-21, 5.10.3.5 and 5.13.3), one of each source: what a history says of them.
 use Rattle.std.specs.Prelude.{if◌then◌else◌, ◌&&◌, ◌*◌, ◌++◌, ◌+◌, ◌-◌, ◌||◌, ◌∷◌, ◌≡◌, ◌≤◌}
-use Rattle.j39_node.specs.Common.{[], Bool, broadcast_limit, by, CarriesCut, drop, false, FrameRecord, is_announcement, is_packet, IsTrue, length, List, MessageRecord, min, nat_eq, nat_le, nat_lt, None, not, Option, packets_for, pgn_named, size_named, slice_index, Some, source_of, suc, take, true, ℕ}
+use Rattle.std.specs.List.{filter, find}
+use Rattle.j39_node.specs.Common.{[], Bool, broadcast_limit, by, CarriesCut, drop, false, FrameRecord, is_announcement, is_packet, is_there, IsTrue, length, List, MessageRecord, min, nat_eq, nat_le, nat_lt, None, not, Option, packets_for, pgn_named, size_named, slice_index, Some, source_of, suc, take, true, ℕ}
 use Rattle.j39_node.specs.declared.kinds.News.TheVariants.{MessagesMissed}
-use Rattle.j39_node.specs.History.{Who, Call, is_own_group, is_subscribed, stamp_at}
+use Rattle.j39_node.specs.History.{Who, Call, is_claim, is_own_group, is_some, is_subscribed, stamp_at}
 use Rattle.j39_node.specs.History.Call.{At, TakeNews, ReleaseBroadcast}
 use Rattle.j39_node.specs.History.Act.{Hear, Tick, TakeFrame}
-use Rattle.j39_node.specs.Reception.{KeepsHolder, frames_heard, heard_at, holder, is_same, known, listed, time_heard}
+use Rattle.j39_node.specs.Reception.{KeepsHolder, frames_heard, heard_at, holder, is_same, listed, restarts, time_heard}
+use Rattle.j39_node.specs.Transfers.{sooner}
 
 -- what was announced and by whom, how many packets were appended and their data, the moment and the time of the last, or of the
--- announcement before the first, and the time since which its source has one open
+-- announcement before the first, the time since which its source has one open, and the NAME that held its source
 pub record OpenBroadcast : Type 0 where
   pub source : ℕ
   pub group : ℕ
@@ -18,15 +20,11 @@ pub record OpenBroadcast : Type 0 where
   pub stamp : ℕ
   pub time : ℕ
   pub since : ℕ
+  pub name : Option ℕ
 
--- the last packet came: it waits for the program
+-- the last packet came
 abbrev pub is_whole : OpenBroadcast → Bool
 is_whole x = nat_le x.size (length x.bytes)
-
--- it is announced, and not whole
-abbrev pub is_partial : Option OpenBroadcast → Bool
-is_partial None = false
-is_partial (Some x) = not (is_whole x)
 
 -- broadcasts of one source that take one another's place may take so long till one of n packets is whole (own)
 abbrev pub account : ℕ → ℕ
@@ -40,9 +38,29 @@ expires x = min (x.time + broadcast_limit) (x.since + account (packets_for x.siz
 abbrev pub is_late : ℕ → OpenBroadcast → Bool
 is_late now x = nat_lt (expires x) now
 
-abbrev pub is_out : ℕ → Option OpenBroadcast → Bool
-is_out now None = false
-is_out now (Some x) = is_late now x
+-- ---- those that are open, and the whole ones that wait for the program, the oldest first
+
+pub record Listening : Type 0 where
+  pub current : List OpenBroadcast
+  pub waits : List (ℕ × MessageRecord)
+
+-- the open one of a source, and those of others
+abbrev pub of : ℕ → List OpenBroadcast → Option OpenBroadcast
+of source = find (λ x. nat_eq source x.source)
+
+abbrev pub others : ℕ → List OpenBroadcast → List OpenBroadcast
+others source = filter (λ x. not (nat_eq source x.source))
+
+abbrev pub without_source : ℕ → Listening → Listening
+without_source source l = record { current = others source l.current; waits = l.waits }
+
+-- of n boxes one is free
+abbrev pub has_box : ℕ → Listening → Bool
+has_box n l = nat_lt (length l.current + length l.waits) n
+
+-- an announcement is heard in the box of the open one of its source, or in a free one
+abbrev pub has_room : ℕ → ℕ → Listening → Bool
+has_room n source l = is_there (of source l.current) || has_box n l
 
 -- ---- a frame at a time
 
@@ -53,8 +71,8 @@ announces f = is_announcement (by (source_of f.id)) f
 abbrev pub packs : FrameRecord → Bool
 packs f = is_packet (by (source_of f.id)) f
 
-abbrev pub begun : ℕ → ℕ → FrameRecord → OpenBroadcast
-begun since now f = record {
+abbrev pub begun : Option ℕ → ℕ → ℕ → FrameRecord → OpenBroadcast
+begun name since now f = record {
   source = source_of f.id;
   group = pgn_named f;
   size = size_named f;
@@ -63,17 +81,13 @@ begun since now f = record {
   stamp = f.stamp;
   time = now;
   since = since;
+  name = name;
 }
 
 -- its account: that of the one whose place it takes, or else it begins now
 abbrev pub since_in : ℕ → Option OpenBroadcast → ℕ
 since_in now None = now
 since_in now (Some x) = x.since
-
--- an announcement is heard where none waits, nor one of another source is open
-abbrev pub has_room : ℕ → Option OpenBroadcast → Bool
-has_room source None = true
-has_room source (Some x) = not (is_whole x) && nat_eq source x.source
 
 -- a message of this group isn't for the program: the group is the stack's own, or isn't subscribed
 abbrev pub is_ignored : Who → ℕ → Bool
@@ -84,8 +98,8 @@ abbrev pub is_wanted : Who → FrameRecord → Bool
 is_wanted w f = announces f && not (is_ignored w (pgn_named f))
 
 -- one that isn't for the program opens nothing
-abbrev pub opens : Who → ℕ → FrameRecord → Option OpenBroadcast → Option OpenBroadcast
-opens w now f o = if is_ignored w (pgn_named f) then None else Some (begun (since_in now o) now f)
+abbrev pub opens : Who → Option ℕ → ℕ → FrameRecord → Option OpenBroadcast → Option OpenBroadcast
+opens w name now f o = if is_ignored w (pgn_named f) then None else Some (begun name (since_in now o) now f)
 
 -- the packet of the next number is appended
 abbrev pub grown : ℕ → FrameRecord → OpenBroadcast → OpenBroadcast
@@ -98,83 +112,129 @@ skips f x = nat_lt (suc x.count) (slice_index f.bytes 0)
 abbrev pub goes_on : ℕ → FrameRecord → OpenBroadcast → Option OpenBroadcast
 goes_on now f x = if skips f x then None else if nat_eq (slice_index f.bytes 0) (suc x.count) then Some (grown now f x) else Some x
 
--- a packet of this source isn't one of it
-abbrev pub passes_by : ℕ → OpenBroadcast → Bool
-passes_by source x = is_whole x || not (nat_eq source x.source)
-
 abbrev pub packed : ℕ → FrameRecord → Option OpenBroadcast → Option OpenBroadcast
 packed now f None = None
-packed now f (Some x) = if passes_by (source_of f.id) x then Some x else goes_on now f x
+packed now f (Some x) = goes_on now f x
 
-abbrev pub hears : Who → ℕ → FrameRecord → Option OpenBroadcast → Option OpenBroadcast
-hears w now f o =
-    if announces f then (if has_room (source_of f.id) o then opens w now f o else o) else if packs f then packed now f o else o
+-- what the frame makes of the open one of its source, where there is room for one or not
+abbrev pub hears : Who → Option ℕ → ℕ → FrameRecord → Bool → Option OpenBroadcast → Option OpenBroadcast
+hears w name now f room o = if announces f then (if room then opens w name now f o else o) else if packs f then packed now f o else o
+
+abbrev pub message_by : OpenBroadcast → ℕ × MessageRecord
+message_by x = (x.stamp, record { source = x.source; pgn = x.group; bytes = take x.size x.bytes })
+
+-- the message that is whole, or the one that stays open
+abbrev pub whole_of : Option OpenBroadcast → Option (ℕ × MessageRecord)
+whole_of None = None
+whole_of (Some x) = if is_whole x then Some (message_by x) else None
+
+abbrev pub part_of : Option OpenBroadcast → List OpenBroadcast
+part_of None = []
+part_of (Some x) = if is_whole x then [] else x ∷ []
+
+abbrev pub with_one : Option OpenBroadcast → Listening → Listening
+with_one o l = record { current = l.current ++ part_of o; waits = l.waits ++ listed (whole_of o) }
+
+-- what is no announcement and no packet changes nothing
+abbrev pub hears_in : ℕ → Who → Option ℕ → ℕ → FrameRecord → Listening → Listening
+hears_in n w name now f l =
+    if announces f || packs f
+    then with_one (hears w name now f (has_room n (source_of f.id) l) (of (source_of f.id) l.current)) (without_source (source_of f.id) l)
+    else l
+
+-- the message that it makes whole
+abbrev pub made_in : ℕ → Who → Option ℕ → ℕ → FrameRecord → Listening → Option (ℕ × MessageRecord)
+made_in n w name now f l =
+    if announces f || packs f
+    then whole_of (hears w name now f (has_room n (source_of f.id) l) (of (source_of f.id) l.current))
+    else None
 
 -- the packet leaves a gap
 abbrev pub is_gap : FrameRecord → Option OpenBroadcast → Bool
 is_gap f None = false
-is_gap f (Some x) = not (passes_by (source_of f.id) x) && skips f x
+is_gap f (Some x) = skips f x
 
--- the frame ends the one that is open, or announces a message for the program that isn't heard
-abbrev pub is_unheard : Who → FrameRecord → Option OpenBroadcast → Bool
-is_unheard w f o =
-    if announces f then (if has_room (source_of f.id) o then is_partial o else not (is_ignored w (pgn_named f))) else packs f && is_gap f o
+-- the frame ends the open one of its source, or announces a message for the program that isn't heard
+abbrev pub is_unheard : Who → FrameRecord → Bool → Option OpenBroadcast → Bool
+is_unheard w f room o = if announces f then (if room then is_there o else not (is_ignored w (pgn_named f))) else packs f && is_gap f o
 
--- another NAME holds its source, or none does
-abbrev pub changes : (ℕ → Option ℕ) → (ℕ → Option ℕ) → Option OpenBroadcast → Bool
-changes before after None = false
-changes before after (Some x) = not (is_same (before x.source) (after x.source))
+abbrev pub is_unheard_in : ℕ → Who → FrameRecord → Listening → Bool
+is_unheard_in n w f l = is_unheard w f (has_room n (source_of f.id) l) (of (source_of f.id) l.current)
 
--- it is over, unless it is whole
-abbrev pub left : Bool → Option OpenBroadcast → Option OpenBroadcast
-left over None = None
-left over (Some x) = if over && not (is_whole x) then None else Some x
+-- another NAME holds its source than at its announcement, or none does, or its holder restarted
+abbrev pub is_left : Option ℕ → (ℕ → Option ℕ) → OpenBroadcast → Bool
+is_left gone holder x = is_some gone x.source || not (is_same x.name (holder x.source))
 
-abbrev pub breaks : Bool → Option OpenBroadcast → Bool
-breaks over None = false
-breaks over (Some x) = over && not (is_whole x)
+-- it is over
+abbrev pub is_over : Option ℕ → (ℕ → Option ℕ) → ℕ → OpenBroadcast → Bool
+is_over gone holder now x = is_left gone holder x || is_late now x
 
-abbrev pub in_time : ℕ → Option OpenBroadcast → Option OpenBroadcast
-in_time now o = left (is_out now o) o
+abbrev pub those_over : Option ℕ → (ℕ → Option ℕ) → ℕ → List OpenBroadcast → List OpenBroadcast
+those_over gone holder now = filter (is_over gone holder now)
 
-abbrev pub is_over : (ℕ → Option ℕ) → (ℕ → Option ℕ) → ℕ → Option OpenBroadcast → Bool
-is_over before after now o = changes before after o || is_out now o
+abbrev pub stay : Option ℕ → (ℕ → Option ℕ) → ℕ → List OpenBroadcast → List OpenBroadcast
+stay gone holder now = filter (λ x. not (is_over gone holder now x))
+
+abbrev pub staying : Option ℕ → (ℕ → Option ℕ) → ℕ → Listening → Listening
+staying gone holder now l = record { current = stay gone holder now l.current; waits = l.waits }
 
 -- ---- the history
 
-abbrev pub hearing : Who → List Call → Option OpenBroadcast
-hearing w [] = None
-hearing w (At now (Hear f) ∷ H) =
-    hears w (time_heard (At now (Hear f) ∷ H)) f
-    (left (is_over (known w H now f) (holder w (At now (Hear f) ∷ H)) (time_heard (At now (Hear f) ∷ H)) (hearing w H)) (hearing w H))
-hearing w (At now Tick ∷ H) = in_time (time_heard (At now Tick ∷ H)) (hearing w H)
-hearing w (At now (TakeFrame (Some f)) ∷ H) = left (changes (holder w H) (holder w (At now (TakeFrame (Some f)) ∷ H)) (hearing w H)) (hearing w H)
-hearing w (ReleaseBroadcast true ∷ H) = None
-hearing w (call ∷ H) = hearing w H
+abbrev pub listening : Who → List Call → Listening
+listening w [] = record { current = []; waits = [] }
+listening w (At now (Hear f) ∷ H) =
+    hears_in w.boxes w (holder w (At now (Hear f) ∷ H) (source_of f.id)) (time_heard (At now (Hear f) ∷ H)) f
+    (staying (restarts w H now f) (holder w (At now (Hear f) ∷ H)) (time_heard (At now (Hear f) ∷ H)) (listening w H))
+listening w (At now Tick ∷ H) = staying None (holder w H) (time_heard (At now Tick ∷ H)) (listening w H)
+listening w (At now (TakeFrame (Some f)) ∷ H) =
+    if is_claim f then staying None (holder w (At now (TakeFrame (Some f)) ∷ H)) (time_heard H) (listening w H) else listening w H
+listening w (ReleaseBroadcast true ∷ H) = record { current = (listening w H).current; waits = drop 1 (listening w H).waits }
+listening w (call ∷ H) = listening w H
 
--- the broadcast that f finds
-abbrev pub found : Who → List Call → ℕ → FrameRecord → Option OpenBroadcast
-found w H now f = left (is_over (known w H now f) (holder w (At now (Hear f) ∷ H)) (time_heard (At now (Hear f) ∷ H)) (hearing w H)) (hearing w H)
+-- the open broadcast of a source, and the whole ones that wait, each with the moment of its last packet
+abbrev pub hearing : Who → List Call → ℕ → Option OpenBroadcast
+hearing w H source = of source (listening w H).current
+
+abbrev pub waiting : Who → List Call → List (ℕ × MessageRecord)
+waiting w H = (listening w H).waits
+
+-- what f finds, of all and of its source
+abbrev pub found_in : Who → List Call → ℕ → FrameRecord → Listening
+found_in w H now f = staying (restarts w H now f) (holder w (At now (Hear f) ∷ H)) (time_heard (At now (Hear f) ∷ H)) (listening w H)
+
+abbrev pub found : Who → List Call → ℕ → FrameRecord → ℕ → Option OpenBroadcast
+found w H now f source = of source (found_in w H now f).current
 
 -- what an announcement opens by it
 abbrev pub opened : Who → List Call → ℕ → FrameRecord → OpenBroadcast
-opened w H now f = begun (since_in (time_heard (At now (Hear f) ∷ H)) (found w H now f)) (time_heard (At now (Hear f) ∷ H)) f
+opened w H now f =
+    begun (holder w (At now (Hear f) ∷ H) (source_of f.id)) (since_in (time_heard (At now (Hear f) ∷ H)) (found w H now f (source_of f.id)))
+    (time_heard (At now (Hear f) ∷ H)) f
 
--- the open one is over by the call: its source has another holder, or it is late
-abbrev pub ends_by : Who → List Call → Call → Bool
-ends_by w H (At now (Hear f)) =
-    breaks (is_over (known w H now f) (holder w (At now (Hear f) ∷ H)) (time_heard (At now (Hear f) ∷ H)) (hearing w H)) (hearing w H)
-ends_by w H (At now Tick) = breaks (is_out (time_heard (At now Tick ∷ H)) (hearing w H)) (hearing w H)
-ends_by w H (At now (TakeFrame (Some f))) = breaks (changes (holder w H) (holder w (At now (TakeFrame (Some f)) ∷ H)) (hearing w H)) (hearing w H)
-ends_by w H call = false
+-- those that are over by the call: their source has another holder, or they are late
+abbrev pub over_by : Who → List Call → Call → List OpenBroadcast
+over_by w H (At now (Hear f)) =
+    those_over (restarts w H now f) (holder w (At now (Hear f) ∷ H)) (time_heard (At now (Hear f) ∷ H)) (listening w H).current
+over_by w H (At now Tick) = those_over None (holder w H) (time_heard (At now Tick ∷ H)) (listening w H).current
+over_by w H (At now (TakeFrame (Some f))) =
+    if is_claim f then those_over None (holder w (At now (TakeFrame (Some f)) ∷ H)) (time_heard H) (listening w H).current else []
+over_by w H call = []
 
 abbrev pub unheard_by : Who → List Call → Call → Bool
-unheard_by w H (At now (Hear f)) = is_unheard w f (found w H now f)
+unheard_by w H (At now (Hear f)) = is_unheard_in w.boxes w f (found_in w H now f)
 unheard_by w H call = false
 
 -- how many announcements for the program were heard, how many of their messages broke off or weren't heard, and whether that is news
 abbrev pub more : Bool → ℕ → ℕ
 more b n = if b then suc n else n
+
+abbrev pub with_all : List OpenBroadcast → ℕ → ℕ
+with_all [] n = n
+with_all (x ∷ xs) n = suc (with_all xs n)
+
+abbrev pub is_any : List OpenBroadcast → Bool
+is_any [] = false
+is_any (x ∷ xs) = true
 
 abbrev pub announced : Who → List Call → ℕ
 announced w [] = 0
@@ -183,33 +243,19 @@ announced w (call ∷ H) = announced w H
 
 abbrev pub unheard : Who → List Call → ℕ
 unheard w [] = 0
-unheard w (call ∷ H) = more (unheard_by w H call) (more (ends_by w H call) (unheard w H))
+unheard w (call ∷ H) = more (unheard_by w H call) (with_all (over_by w H call) (unheard w H))
 
 abbrev pub unheard_news : Who → List Call → Bool
 unheard_news w [] = false
 unheard_news w (TakeNews (Some MessagesMissed) ∷ H) = false
-unheard_news w (call ∷ H) = (ends_by w H call || unheard_by w H call) || unheard_news w H
+unheard_news w (call ∷ H) = (is_any (over_by w H call) || unheard_by w H call) || unheard_news w H
 
 -- ---- which messages
 
-abbrev pub message_by : OpenBroadcast → ℕ × MessageRecord
-message_by x = (x.stamp, record { source = x.source; pgn = x.group; bytes = take x.size x.bytes })
-
-abbrev pub whole_of : Option OpenBroadcast → Option (ℕ × MessageRecord)
-whole_of None = None
-whole_of (Some x) = if is_whole x then Some (message_by x) else None
-
--- the one that waits for the program, with the moment of its last packet
-abbrev pub waiting : Who → List Call → Option (ℕ × MessageRecord)
-waiting w H = whole_of (hearing w H)
-
--- what f makes whole: none waited before
-abbrev pub newly : Option (ℕ × MessageRecord) → Option (ℕ × MessageRecord) → Option (ℕ × MessageRecord)
-newly None after = after
-newly (Some x) after = None
-
+-- what f makes whole
 abbrev pub made_whole : Who → List Call → ℕ → FrameRecord → Option (ℕ × MessageRecord)
-made_whole w H now f = newly (waiting w H) (waiting w (At now (Hear f) ∷ H))
+made_whole w H now f =
+    made_in w.boxes w (holder w (At now (Hear f) ∷ H) (source_of f.id)) (time_heard (At now (Hear f) ∷ H)) f (found_in w H now f)
 
 -- those that were whole
 abbrev pub whole_broadcasts : Who → List Call → List (ℕ × MessageRecord)
@@ -220,8 +266,25 @@ whole_broadcasts w (call ∷ H) = whole_broadcasts w H
 -- those that the program got
 abbrev pub got_broadcasts : Who → List Call → List (ℕ × MessageRecord)
 got_broadcasts w [] = []
-got_broadcasts w (ReleaseBroadcast true ∷ H) = got_broadcasts w H ++ listed (waiting w H)
+got_broadcasts w (ReleaseBroadcast true ∷ H) = got_broadcasts w H ++ take 1 (waiting w H)
 got_broadcasts w (call ∷ H) = got_broadcasts w H
+
+-- the NAME that held its source at its announcement, and since
+abbrev pub sender_in : Option OpenBroadcast → Option ℕ
+sender_in None = None
+sender_in (Some x) = x.name
+
+-- with that of one that is made whole
+abbrev pub with_sender : {T : Type 0} → Option T → Option ℕ → List (Option ℕ) → List (Option ℕ)
+with_sender None name names = names
+with_sender (Some made) name names = names ++ name ∷ []
+
+-- of those that wait
+abbrev pub broadcast_senders : Who → List Call → List (Option ℕ)
+broadcast_senders w [] = []
+broadcast_senders w (At now (Hear f) ∷ H) = with_sender (made_whole w H now f) (sender_in (found w H now f (source_of f.id))) (broadcast_senders w H)
+broadcast_senders w (ReleaseBroadcast true ∷ H) = drop 1 (broadcast_senders w H)
+broadcast_senders w (call ∷ H) = broadcast_senders w H
 
 -- ---- of one sender
 
@@ -248,19 +311,27 @@ pub record WasBroadcast (w : Who) (H : List Call) (m : MessageRecord) : Type 0 w
   pub carries : CarriesCut (by m.source) m first packets
   pub one : KeepsHolder w m.source later (At at (Hear first) ∷ earlier)
 
--- ---- when it is over by itself
+-- ---- when one is over by itself
 
-abbrev pub late_at : Option OpenBroadcast → ℕ → ℕ → Option ℕ
+abbrev pub earliest : List OpenBroadcast → Option ℕ
+earliest [] = None
+earliest (x ∷ xs) = sooner (Some (expires x)) (earliest xs)
+
+abbrev pub late_at : Option ℕ → ℕ → ℕ → Option ℕ
 late_at None last clock = None
-late_at (Some x) last clock = if is_whole x then None else stamp_at (last + (suc (expires x) - clock))
+late_at (Some e) last clock = stamp_at (last + (suc e - clock))
 
--- the first moment at which a tick ends it, by when the last one was
+-- the first moment at which a tick ends one, by when the last one was
 abbrev pub hearing_tick : Who → List Call → Option ℕ
-hearing_tick w H = late_at (hearing w H) (heard_at H) (time_heard H)
+hearing_tick w H = late_at (earliest (listening w H).current) (heard_at H) (time_heard H)
 
--- ---- what every history says of it
+-- ---- what every history says of them
 
--- seven bytes of each packet came
-abbrev pub IsFit : Option OpenBroadcast → Type 0
-IsFit None = Unit {0}
-IsFit (Some x) = (length x.bytes ≡ 7 * x.count) × (x.size ≤ 1785)
+-- seven bytes of each packet came, and more are to come
+abbrev pub IsFit : OpenBroadcast → Type 0
+IsFit x = (length x.bytes ≡ 7 * x.count) × (x.size ≤ 1785) × (is_whole x ≡ false)
+
+-- no two are of one source
+abbrev pub AreApart : List OpenBroadcast → Type 0
+AreApart [] = Unit {0}
+AreApart (x ∷ xs) = (of x.source xs ≡ None) × AreApart xs

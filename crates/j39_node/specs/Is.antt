@@ -1,6 +1,6 @@
 -- The histories that a controller can have had.
-use Rattle.std.specs.Prelude.{if◌then◌else◌, ◌&&◌, ◌++◌, ◌+◌, ◌-◌, ◌||◌, ◌∷◌, ◌≡◌}
-use Rattle.j39_node.specs.Common.{[], announced_by, Bool, BoxedReceiver, called_time, Cannot, claim_of, claim_time, Claiming, clear_to_send, drop, Err, false, FrameRecord, global_address, Heard, Holding, id_raw, Idle, Knows, last_count, length, limit_of, List, map, max, MessageRecord, min, name_raw, nat_eq, nat_le, nat_lt, None, not, null_address, Ok, Option, option_map, packets_of, pgn_raw, places, ReceptionRecord, recv_step, request_group, Result, slack, slice_get, slice_index, slice_set, Some, stamp_micros, Status, suc, ToSend, true, ℕ}
+use Rattle.std.specs.Prelude.{if◌then◌else◌, ◌&&◌, ◌++◌, ◌+◌, ◌-◌, ◌||◌, ◌∷◌, ◌≡◌, ◌≤◌}
+use Rattle.j39_node.specs.Common.{[], Bool, BoxedReceiver, called_time, Cannot, claim_of, claim_time, Claiming, drop, Err, false, FrameRecord, global_address, Heard, Holding, id_raw, Idle, Knows, last_count, length, List, map, max, MessageRecord, min, name_raw, nat_eq, nat_le, nat_lt, None, not, null_address, Ok, Option, option_map, packets_of, pgn_raw, places, recv_step, request_group, Result, slack, slice_get, slice_set, Some, stamp_micros, Status, ToSend, true, ℕ}
 use Rattle.j39_node.specs.declared.controller.Controller.{Controller}
 use Rattle.j39_node.specs.declared.hold.Hold.{Hold}
 use Rattle.j39_node.specs.declared.lane.Lane.{Lane}
@@ -8,7 +8,9 @@ use Rattle.j39_node.specs.declared.lane.Open.{Open}
 use Rattle.j39_node.specs.declared.turn.Ready.{Ready}
 use Rattle.j39_node.specs.declared.turn.Turn.{Turn}
 use Rattle.j39_node.specs.declared.turn.Turn.TheVariants.{Reply, Single, Packet, Move}
+use Rattle.j39_frame.specs.Address.{IsAddress}
 use Rattle.j39_node.specs.declared.own.Own.{Own}
+use Rattle.j39_node.specs.declared.setup.Setup.{Setup}
 use Rattle.j39_node.specs.declared.transfers.Open as transfers
 use Rattle.j39_node.specs.declared.transfers.Transfers.{Transfers}
 use Rattle.j39_node.specs.declared.transfers.Resting.{Resting as DeclaredResting}
@@ -25,21 +27,20 @@ use Rattle.j39_node.specs.declared.kinds.News.TheVariants.{AddressLost, AnotherA
 use Rattle.j39_node.specs.declared.kinds.Refused.{Refused}
 use Rattle.j39_node.specs.declared.kinds.Refused.TheVariants.{NoAddress, BadValue, Full}
 use Rattle.j39_node.specs.Hold.{standing_of}
-use Rattle.j39_node.specs.History.{older, reached, Brought, Who, Message, Draft, Call, Address, carried, message_of, moment, address_after, holds, is_lost, claim_address, claim_from, owes_claim, patience, turns, can_send, accepted, told, is_full, got, kept, missed, Asked, requests, handed, due, acknowledged, acknowledgment, told_claims, lost_news, another_news, missed_news, broadcast_from, broadcasts, can_broadcast, frame_of, is_busy, open_broadcast, packets, pause, stamp_at, step, nothing, content, is_blank, has_packets, is_left, delayed, doubled_news, may_claim, latest, message_from}
+use Rattle.j39_node.specs.History.{older, reached, Brought, Who, Message, Draft, Call, Address, carried, message_of, AreFew, moment, address_after, holds, is_lost, claim_address, claim_from, owes_claim, patience, turns, can_send, accepted, told, is_full, got, kept, missed, Asked, requests, handed, due, acknowledged, acknowledgment, told_claims, lost_news, another_news, missed_news, broadcast_from, broadcasts, can_broadcast, frame_of, is_busy, open_broadcast, packets, pause, step, nothing, content, is_blank, has_packets, is_left, delayed, doubled_news, may_claim, latest, message_from}
 use Rattle.j39_node.specs.History.Call.{At, Withdraw, TakeAskEnded, TakeEnded, TakeReceived, TakeRequest, TakeNews, TakeBroadcastEnded, ReleaseTransfer, TakeTransferEnded, ReleaseBroadcast, Renew}
 use Rattle.j39_node.specs.History.Act.{Ask, TakeFrame, Send, Acknowledge, Broadcast, Transfer}
 use Rattle.j39_node.specs.History.Address.{NotClaimed, Claimed, Lost}
-use Rattle.j39_node.specs.Reception.{yields, Reception, called, calls_claims, claimed_again, still, time_heard, longest, has_place, heard_at, heard_by, keeps, later, leaves, left, reception, reply_from, ticked, is_that}
+use Rattle.j39_node.specs.Reception.{yields, Reception, senders, transfer_sender, called, calls_claims, claimed_again, still, time_heard, has_place, heard_at, heard_by, keeps, later, leaves, left, reception, reply_from, ticked, is_that}
 use Rattle.j39_node.specs.Asking.{Question, answer_to_ask, ended, first, lacks_answer, next_ask_ended, open_ask, question, says_to, silent_end, wait}
 use Rattle.j39_node.specs.declared.kinds.AskEnding.{AskEnding}
 use Rattle.j39_node.specs.declared.asking.Asking.{Asking}
 use Rattle.j39_node.specs.declared.asking.Open as asking
 use Rattle.j39_node.specs.declared.incoming.Incoming.{Incoming}
 use Rattle.j39_node.specs.declared.incoming.Kept.{Kept}
-use Rattle.j39_node.specs.declared.incoming.Named.{Named}
 use Rattle.j39_node.specs.declared.incoming.Said.{Said}
-use Rattle.j39_node.specs.Hearing.{OpenBroadcast, hearing, unheard, unheard_news, waiting}
-use Rattle.j39_node.specs.declared.hearing.Heard.{Heard as Bytes}
+use Rattle.j39_node.specs.Hearing.{broadcast_senders, Listening, hears_in, is_unheard_in, listening, message_by, staying, those_over, unheard, unheard_news, waiting}
+use Rattle.j39_node.specs.Boxes.{in_box}
 use Rattle.j39_node.specs.declared.hearing.Hearing.{Hearing}
 use Rattle.j39_node.specs.Transfers.{clock, transfer_by, Running, joined, rest, resting, age, answer_to_transfer, next_transfer, next_transfer_ended, open_transfer, transfers as all_transfers}
 use Rattle.j39_node.specs.History.{Resting, NoneRests, PairRests, AllRest}
@@ -251,7 +252,7 @@ IsAnswered w H (At now (Transfer group to bytes answer)) = answer ≡ answer_to_
 IsAnswered w H (TakeTransferEnded answer) = answer ≡ next_transfer_ended w H
 IsAnswered w H (At now (Ask group to answer)) = answer ≡ answer_to_ask w H now group to
 IsAnswered w H (TakeAskEnded answer) = answer ≡ next_ask_ended w H
-IsAnswered w H (ReleaseBroadcast answer) = answer ≡ not (has_place (waiting w H))
+IsAnswered w H (ReleaseBroadcast answer) = answer ≡ nat_lt 0 (length (waiting w H))
 IsAnswered w H call = Unit {0}
 
 abbrev pub AreAnswered : Who → List Call → Type 0
@@ -277,8 +278,24 @@ who_of brought own = record {
   delay = own.delay;
   served = own.served.items;
   subscribed = option_map (λ groups. groups.items) own.subscribed;
+  boxes = own.boxes;
   brought = brought;
 }
+
+abbrev pub who_for : Setup → Who
+who_for s = record {
+  name = name_raw s.name;
+  address = s.address;
+  delay = s.delay;
+  served = map pgn_raw s.served.now;
+  subscribed = option_map (λ groups. map pgn_raw groups.now) s.subscribed;
+  boxes = s.broadcasts;
+  brought = nothing;
+}
+
+-- a controller is made of it
+abbrev pub IsRight : Who → Type 0
+IsRight w = IsAddress w.address × (length w.served ≤ 16) × AreFew w.subscribed
 
 abbrev pub hold_after : Who → List Call → Hold
 hold_after w H = record {
@@ -336,28 +353,12 @@ said_by own x = reply_from own x.to x.bytes
 abbrev pub kept_by : Kept → ℕ × MessageRecord
 kept_by x = (stamp_micros x.stamp, record { source = x.source; pgn = pgn_raw x.group; bytes = x.bytes.items })
 
--- what is known of the open session: its group, how many packets, the number of the next one, and that behind the last granted
-pub record Course : Type 0 where
-  pub group : ℕ
-  pub packets : ℕ
-  pub next : ℕ
-  pub behind : ℕ
-
-abbrev pub named_in : Option ReceptionRecord → Option Course
-named_in None = None
-named_in (Some r) = Some (record { group = r.message.group; packets = r.message.packets; next = r.message.count + 1; behind = r.granted + 1 })
-
-abbrev pub named_by : Named → Course
-named_by x = record { group = pgn_raw x.group; packets = x.packets; next = x.next; behind = x.behind }
-
--- what is received, when the receiver was told the time, how late it is there, its address, that it has its buffer, and what is known of
--- the open session
+-- what is received, when the receiver was told the time, how late it is there, its address, and that it has its buffer
 pub record IncomingRecord : Type 0 where
   pub moment : ℕ
   pub clock : ℕ
   pub own : ℕ
   pub has_box : Bool
-  pub named : Option Course
   pub called : ℕ
   pub reception : Reception
 
@@ -367,7 +368,6 @@ incoming_of x = record {
   clock = stamp_micros x.clock;
   own = x.receiver.state.own;
   has_box = x.receiver.has_box;
-  named = option_map (λ r. named_by x.named) x.receiver.state.session;
   called = x.called;
   reception = record {
     session = x.receiver.state.session;
@@ -378,69 +378,16 @@ incoming_of x = record {
 }
 
 abbrev pub with_reception : Reception → IncomingRecord → IncomingRecord
-with_reception r x = record
-    { moment = x.moment; clock = x.clock; own = x.own; has_box = x.has_box; named = named_in r.session; called = x.called; reception = r }
+with_reception r x = record x { reception = r }
 
 abbrev pub with_replies : List Message → IncomingRecord → IncomingRecord
-with_replies replies x = record {
-  moment = x.moment;
-  clock = x.clock;
-  own = x.own;
-  has_box = x.has_box;
-  named = x.named;
-  called = x.called;
-  reception = record { session = x.reception.session; since = x.reception.since; waits = x.reception.waits; replies = replies };
-}
-
--- that is so
-abbrev pub IsNamed : IncomingRecord → Type 0
-IsNamed x = x.named ≡ named_in x.reception.session
-
--- the source and the group of the open session, and the first moment at which a tick says something, by what is known
-abbrev pub session_by : Option ReceptionRecord → Option Course → Option (ℕ × ℕ)
-session_by None named = None
-session_by (Some r) named = option_map (λ n. (r.message.source, n.group)) named
-
-abbrev pub tick_by : ℕ → Option ReceptionRecord → Option Course → ℕ → ℕ → Option ℕ
-tick_by since None named last clock = None
-tick_by since (Some r) None last clock = None
-tick_by since (Some r) (Some n) last clock =
-    stamp_at (last + (suc (min (r.message.last + limit_of r) (since + longest n.packets)) - clock))
-
--- how many packets a CTS that is said grants, and from which on
-abbrev pub clear_in : Option ToSend → Option (ℕ × ℕ)
-clear_in None = None
-clear_in (Some s) = if nat_eq (slice_index s.bytes 0) clear_to_send then Some (slice_index s.bytes 1, slice_index s.bytes 2) else None
-
--- what is known by it; by what was announced; and by a packet of the session
-abbrev pub cleared : Option (ℕ × ℕ) → Course → Course
-cleared None n = n
-cleared (Some c) n = record n { next = c.1; behind = c.0 + c.1 }
-
-abbrev pub announced : FrameRecord → Option ℕ → Course → Course
-announced f None n = n
-announced f (Some group) n = record n { group = group; packets = slice_index f.bytes 3 }
-
-abbrev pub appended : Option ℕ → Course → Course
-appended None n = n
-appended (Some k) n = if nat_eq k n.next then record n { next = k + 1 } else n
-
-abbrev pub strays_by : Option ℕ → Course → Bool
-strays_by None n = false
-strays_by (Some k) n = not (nat_eq k n.next || nat_eq (k + 1) n.behind)
-
--- a frame was heard, and a CTS was said to it or not
-abbrev pub named_then : Option ℕ → FrameRecord → Option (ℕ × ℕ) → Course → Course
-named_then k f None n = appended k n
-named_then k f (Some c) n = cleared (Some c) (announced f (announced_by f) n)
+with_replies replies x = record x { reception = record x.reception { replies = replies } }
 
 abbrev pub passed_to : ℕ → IncomingRecord → IncomingRecord
-passed_to now x = record
-    { moment = now; clock = later x.clock (now - x.moment); own = x.own; has_box = x.has_box; named = x.named; called = x.called - (now - x.moment); reception = x.reception }
+passed_to now x = record x { moment = now; clock = later x.clock (now - x.moment); called = x.called - (now - x.moment) }
 
 abbrev pub with_called : ℕ → IncomingRecord → IncomingRecord
-with_called n x = record
-    { moment = x.moment; clock = x.clock; own = x.own; has_box = x.has_box; named = x.named; called = n; reception = x.reception }
+with_called n x = record x { called = n }
 
 -- who holds an address since before, by who did
 abbrev pub still_by : (ℕ → Option ℕ) → ℕ → FrameRecord → IncomingRecord → ℕ → Option ℕ
@@ -469,7 +416,6 @@ incoming_after w H = record {
   clock = time_heard H;
   own = w.address;
   has_box = true;
-  named = named_in (reception w H).session;
   called = called w H;
   reception = reception w H;
 }
@@ -523,6 +469,11 @@ abbrev pub made_by : Bool → Option (ℕ × MessageRecord) → Option (ℕ × �
 made_by true (Some x) = Some (x.1.source, x.1.pgn)
 made_by true None = None
 made_by false x = None
+
+-- who holds the source of what waits, where nothing waited before
+abbrev pub sender_by_made : (ℕ → Option ℕ) → Option (ℕ × ℕ) → Option ℕ → Option ℕ
+sender_by_made holder None before = before
+sender_by_made holder (Some made) before = holder made.0
 
 -- a frame is heard, before which it ended so or not without a word
 abbrev pub silence : ℕ → Bool → Bool → Option AskRecord → Option AskEnding
@@ -580,6 +531,10 @@ received_by r = (
   },
 )
 
+-- the NAME that held its source
+abbrev pub sender_by : Received → Option ℕ
+sender_by r = option_map name_raw r.name
+
 abbrev pub request_by : Request → Asked
 request_by r = record { source = r.source; destination = r.destination; group = pgn_raw r.group }
 
@@ -588,34 +543,49 @@ refusal_by w x =
     acknowledgment w x.answer (record { source = x.source; destination = global_address; group = pgn_raw x.group })
 
 -- the inbox when a frame was heard
-abbrev pub offered : Bool → ℕ × Message → List (ℕ × Message) → List (ℕ × Message)
+abbrev pub offered : {T : Type 0} → Bool → T → List T → List T
 offered wanted x unread = if wanted && nat_lt (length unread) places then unread ++ x ∷ [] else unread
 
 abbrev pub counted : Bool → List (ℕ × Message) → ℕ → ℕ
 counted wanted unread n = if wanted && not (nat_lt (length unread) places) then min (n + 1) last_count else n
 
--- the broadcast that is heard, and how many weren't
+-- the broadcasts that are heard or wait, how many boxes there are, and how many broadcasts weren't heard
 pub record HearingRecord : Type 0 where
-  pub current : Option OpenBroadcast
+  pub listening : Listening
+  pub boxes : ℕ
   pub missed : ℕ
 
-abbrev pub broadcast_by : Bytes → OpenBroadcast
-broadcast_by x = record {
-  source = x.source;
-  group = pgn_raw x.group;
-  size = x.size;
-  count = x.count;
-  bytes = x.bytes.items;
-  stamp = stamp_micros x.stamp;
-  time = stamp_micros x.time;
-  since = stamp_micros x.since;
+abbrev pub hearing_of : Hearing → HearingRecord
+hearing_of x = record {
+  listening = record { current = map in_box x.current.items; waits = map (λ b. message_by (in_box b)) x.whole.items };
+  boxes = length x.current.items + length x.whole.items + length x.free.items;
+  missed = x.missed;
 }
 
-abbrev pub hearing_of : Hearing → HearingRecord
-hearing_of x = record { current = option_map broadcast_by x.current; missed = x.missed }
+-- the NAME that held the source of each that waits
+abbrev pub senders_of : Hearing → List (Option ℕ)
+senders_of x = map (λ b. (in_box b).name) x.whole.items
 
 abbrev pub hearing_after : Who → List Call → HearingRecord
-hearing_after w H = record { current = hearing w H; missed = min (unheard w H) last_count }
+hearing_after w H = record { listening = listening w H; boxes = w.boxes; missed = min (unheard w H) last_count }
+
+-- those that are over end; a frame is heard; the oldest that waits is released
+abbrev pub leaving : Option ℕ → (ℕ → Option ℕ) → ℕ → HearingRecord → HearingRecord
+leaving gone holder now x = record {
+  listening = staying gone holder now x.listening;
+  boxes = x.boxes;
+  missed = min (x.missed + length (those_over gone holder now x.listening.current)) last_count;
+}
+
+abbrev pub hearing_it : Who → Option ℕ → ℕ → FrameRecord → HearingRecord → HearingRecord
+hearing_it w name now f x = record {
+  listening = hears_in x.boxes w name now f x.listening;
+  boxes = x.boxes;
+  missed = if is_unheard_in x.boxes w f x.listening then min (x.missed + 1) last_count else x.missed;
+}
+
+abbrev pub releasing : HearingRecord → HearingRecord
+releasing x = record { listening = record { current = x.listening.current; waits = drop 1 x.listening.waits }; boxes = x.boxes; missed = x.missed }
 
 -- what is due, by the controller at a moment that its hold was led to
 abbrev pub ready_in : Controller → Hold → Ready
@@ -636,6 +606,7 @@ pub record View : Type 0 where
   pub token : ℕ
   pub asking : Option AskRecord
   pub unread : List (ℕ × Message)
+  pub senders : List (Option ℕ)
   pub requests : List Asked
   pub acknowledgments : List Message
   pub news : Untold
@@ -644,6 +615,8 @@ pub record View : Type 0 where
   pub incoming : IncomingRecord
   pub port : PortRecord
   pub hearing : HearingRecord
+  pub transfer_sender : Option ℕ
+  pub broadcast_senders : List (Option ℕ)
 
 abbrev pub view : Who → Controller → View
 view w c = record {
@@ -654,6 +627,7 @@ view w c = record {
   token = c.next_token;
   asking = asking_of c.asking;
   unread = map received_by c.inbox.unread.items;
+  senders = map sender_by c.inbox.unread.items;
   requests = map request_by c.desk.waiting.items;
   acknowledgments = map (refusal_by w) c.desk.due.items;
   news = c.news;
@@ -662,6 +636,8 @@ view w c = record {
   incoming = incoming_of c.incoming;
   port = port_of c.transfers;
   hearing = hearing_of c.hearing;
+  transfer_sender = option_map name_raw c.transfer_sender;
+  broadcast_senders = senders_of c.hearing;
 }
 
 -- the same, as a history says it
@@ -674,6 +650,7 @@ after w H = record {
   token = length (accepted w H);
   asking = asking_after w H;
   unread = drop (length (got H)) (kept w H);
+  senders = drop (length (got H)) (senders w H);
   requests = drop (length (handed H)) (requests w H);
   acknowledgments = drop (length (acknowledged H)) (due w H);
   news = news_after w H;
@@ -682,6 +659,8 @@ after w H = record {
   incoming = incoming_after w H;
   port = port_after w H;
   hearing = hearing_after w H;
+  transfer_sender = transfer_sender w H;
+  broadcast_senders = broadcast_senders w H;
 }
 
 -- c was made for w and called as H says

@@ -8,6 +8,8 @@ pub mod Since
 -- messages in packets to its address
 pub mod Reception
 -- broadcasts in packets that are heard
+pub mod Apart
+pub mod Boxes
 pub mod Hearing
 -- transfers to one address
 pub mod Transfers

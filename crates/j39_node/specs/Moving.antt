@@ -4,12 +4,12 @@ use Rattle.j39_node.specs.Common.{[], Bool, is_some, length, List, nat_eq, None,
 use Rattle.j39_node.specs.declared.controller.Controller.{Controller}
 use Rattle.j39_node.specs.History.{Who, Call, accepted, got, handed, kept, moment, open_broadcast, requests, told, told_claims}
 use Rattle.j39_node.specs.Reception.{has_place, reception}
-use Rattle.j39_node.specs.Hearing.{waiting, whole_of}
+use Rattle.j39_node.specs.Hearing.{waiting}
 use Rattle.j39_node.specs.Transfers.{open_transfer, rest, resting}
 use Rattle.j39_node.specs.Asking.{open_ask}
 use Rattle.j39_node.specs.History.Call.{At}
 use Rattle.j39_node.specs.History.Act.{Tick}
-use Rattle.j39_node.specs.Is.{Is, hearing_of, incoming_of, next_news}
+use Rattle.j39_node.specs.Is.{Is, incoming_of, next_news}
 
 -- all that was accepted is told to have ended, all that was received is taken, and so is all news
 pub record IsSettled (w : Who) (H : List Call) : Type 0 where
@@ -20,7 +20,7 @@ pub record IsSettled (w : Who) (H : List Call) : Type 0 where
   pub received : length (got H) ≡ length (kept w H)
   pub requests_taken : length (handed H) ≡ length (requests w H)
   pub received_transfer : (reception w H).waits ≡ None
-  pub received_broadcast : waiting w H ≡ None
+  pub received_broadcast : waiting w H ≡ []
   pub news : next_news w H ≡ None
 
 -- the same controller at another address: it knows the claims told so far, and what rests goes on to rest
@@ -31,6 +31,7 @@ moved w H address = record {
   delay = w.delay;
   served = w.served;
   subscribed = w.subscribed;
+  boxes = w.boxes;
   brought = record {
     known = told_claims w H;
     resting = resting w H;
@@ -57,4 +58,4 @@ has_given c =
     nat_eq (length c.inbox.unread.items) 0
     && (nat_eq (length c.desk.waiting.items) 0
     && (has_place (incoming_of c.incoming).reception.waits
-    && (has_place (whole_of (hearing_of c.hearing).current) && not (c.news.lost || (c.news.another || (is_some c.news.doubled || c.news.missed))))))
+    && (nat_eq (length c.hearing.whole.items) 0 && not (c.news.lost || (c.news.another || (is_some c.news.doubled || c.news.missed))))))

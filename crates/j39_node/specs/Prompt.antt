@@ -17,12 +17,16 @@ abbrev pub claims_anew : Call → Bool
 claims_anew (At now Again) = true
 claims_anew call = false
 
+-- no sum of this kind gets above g microseconds; and the driver doesn't claim the address anew
+abbrev pub IsPaced : (List Call → List Call → ℕ) → ℕ → List Call → List Call → Type 0
+IsPaced since g [] earlier = Unit {0}
+IsPaced since g (call ∷ later) earlier =
+    IsPaced since g later earlier × ((since later earlier + step (later ++ earlier) (moment (call ∷ later ++ earlier)) ≤ g) × (claims_anew call ≡ false))
+
 -- from the earlier calls to the first take that answers none, and from each such take to the next, at most g microseconds pass:
--- the driver comes back in time, and then takes frames until there is none. It doesn't claim the address anew
+-- the driver comes back in time, and then takes frames until there is none
 abbrev pub IsPrompt : ℕ → List Call → List Call → Type 0
-IsPrompt g [] earlier = Unit {0}
-IsPrompt g (call ∷ later) earlier =
-    IsPrompt g later earlier × ((waited_in later earlier + step (later ++ earlier) (moment (call ∷ later ++ earlier)) ≤ g) × (claims_anew call ≡ false))
+IsPrompt g later earlier = IsPaced waited_in g later earlier
 
 -- no end of a broadcast is told
 abbrev pub tells_broadcast : Call → Bool
@@ -50,11 +54,9 @@ since_take (At now (TakeFrame answer) ∷ later) earlier = 0
 since_take (call ∷ later) earlier = since_take later earlier + step (later ++ earlier) (moment (call ∷ later ++ earlier))
 
 -- from the earlier calls to the first take, and from each take to the next, at most g microseconds pass: the driver takes one frame at
--- least in each g, if one is due. It doesn't claim the address anew
+-- least in each g, if one is due
 abbrev pub IsSteady : ℕ → List Call → List Call → Type 0
-IsSteady g [] earlier = Unit {0}
-IsSteady g (call ∷ later) earlier =
-    IsSteady g later earlier × ((since_take later earlier + step (later ++ earlier) (moment (call ∷ later ++ earlier)) ≤ g) × (claims_anew call ≡ false))
+IsSteady g later earlier = IsPaced since_take g later earlier
 
 -- how many frames of broadcasts are taken
 abbrev pub packets_taken : List Call → ℕ

@@ -1,7 +1,7 @@
 -- Messages that come in packets to the address that is held (J1939-21, 5.10.3): what a history says of them.
 use Rattle.std.specs.Prelude.{if◌then◌else◌, ◌&&◌, ◌*◌, ◌++◌, ◌+◌, ◌-◌, ◌==◌, ◌||◌, ◌∷◌, ◌≡◌, ◌⊎◌}
 use Rattle.j39_node.specs.Common.{[], Abort, address_claimed_group, answers, Bool, bytes_eq, called_time, Claim, claim_of, drop, false, FrameRecord, Heard, last_stamp, length, limit_of, List, MessageRecord, min, nat_eq, nat_lt, None, not, null_address, Option, option_map, Packet, partner_of, places, ReceiverRecord, ReceptionRecord, recv_step, RecvResult, result_of, said_to, Signal, slice_get, Some, source_of, suc, Ticks, timeout, timer_t2, ToSend, transport_control_group, true, WasHanded, ℕ}
-use Rattle.j39_node.specs.History.{reached, Who, Message, Call, accepted, acknowledged, due, holds, asks_with, is_claim, is_session, is_smaller, is_some, is_transfer, message_of, stamp_at, of_other, is_acknowledgment}
+use Rattle.j39_node.specs.History.{reached, Who, Message, Call, accepted, acknowledged, due, got, kept, is_for_program, holds, asks_with, is_claim, is_session, is_smaller, is_some, is_transfer, message_of, stamp_at, of_other, is_acknowledgment}
 use Rattle.j39_node.specs.History.Call.{At, ReleaseTransfer}
 use Rattle.j39_node.specs.History.Act.{Hear, Tick, TakeFrame}
 
@@ -25,6 +25,15 @@ holder w [] a = held_through a w.brought.known None
 holder w (At now (Hear f) ∷ H) a = held_then a (of_other w (claim_of f)) (holder w H a)
 holder w (At now (TakeFrame (Some f)) ∷ H) a = if is_claim f then held_then a (claim_of f) (holder w H a) else holder w H a
 holder w (call ∷ H) a = holder w H a
+
+-- the NAME that held the source of each message that was kept, when it was heard
+abbrev pub senders : Who → List Call → List (Option ℕ)
+senders w [] = []
+senders w (At now (Hear f) ∷ H) =
+    if is_for_program w (holds w H now) f && nat_lt (length (kept w H) - length (got H)) places
+    then senders w H ++ holder w H (source_of f.id) ∷ []
+    else senders w H
+senders w (call ∷ H) = senders w H
 
 abbrev pub is_same : Option ℕ → Option ℕ → Bool
 is_same None None = true
@@ -284,6 +293,16 @@ abbrev pub says : Who → List Call → ℕ → FrameRecord → Option ToSend
 says w H now f =
     says_by w.address (is_smaller w (claim_of f)) (holds w H now) f (time_heard (At now (Hear f) ∷ H))
     (left (leaves (known w H now f) (holder w (At now (Hear f) ∷ H)) (reception w H).session) (reception w H))
+
+-- the NAME that held the source of the one that was whole last, when it was
+abbrev pub sender_of : (ℕ → Option ℕ) → Option MessageRecord → Option ℕ → Option ℕ
+sender_of holder None before = before
+sender_of holder (Some m) before = holder m.source
+
+abbrev pub transfer_sender : Who → List Call → Option ℕ
+transfer_sender w [] = None
+transfer_sender w (At now (Hear f) ∷ H) = sender_of (holder w (At now (Hear f) ∷ H)) (whole w H now f) (transfer_sender w H)
+transfer_sender w (call ∷ H) = transfer_sender w H
 
 -- those that were whole, each with the moment of its last packet
 abbrev pub delivered : Who → List Call → List (ℕ × MessageRecord)

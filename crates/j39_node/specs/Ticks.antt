@@ -1,15 +1,15 @@
 -- The first moment at which a tick does something but let time pass; and a driver that ticks in time, by its calls alone.
 use Rattle.std.specs.Prelude.{◌++◌, ◌+◌, ◌∷◌, ◌≡◌, ◌≤◌}
-use Rattle.j39_node.specs.Common.{[], false, List, None, Option, packets_for, ReceptionRecord, Some, ℕ}
+use Rattle.j39_node.specs.Common.{[], List, None, Option, packets_for, ReceptionRecord, Some, ℕ}
 use Rattle.j39_node.specs.History.{Who, Call, moment, step}
 use Rattle.j39_node.specs.History.Call.{At}
 use Rattle.j39_node.specs.History.Act.{Tick}
 use Rattle.j39_node.specs.Asking.{request_tick}
-use Rattle.j39_node.specs.Hearing.{OpenBroadcast, ends_by, hearing, hearing_tick, is_whole}
+use Rattle.j39_node.specs.Hearing.{OpenBroadcast, hearing, hearing_tick, of, over_by}
 use Rattle.j39_node.specs.Reception.{reception, session_tick}
 use Rattle.j39_node.specs.Transfers.{sooner}
 
--- of the session, of the broadcast that is heard, or of the open request
+-- of the session, of a broadcast that is heard, or of the open request
 abbrev pub next_tick : Who → List Call → Option ℕ
 next_tick w H = sooner (session_tick w H) (sooner (hearing_tick w H) (request_tick w H))
 
@@ -34,12 +34,13 @@ abbrev pub StaysOpen : Who → ℕ → List Call → List Call → Type 0
 StaysOpen w n [] earlier = IsOpenOf n (reception w earlier).session
 StaysOpen w n (call ∷ later) earlier = StaysOpen w n later earlier × IsOpenOf n (reception w (call ∷ later ++ earlier)).session
 
--- a broadcast that isn't whole is heard after each of these calls, on one account, each of at most n packets
+-- a broadcast of the source is open after each of these calls, on one account, each of at most n packets
 abbrev pub IsHeardOf : ℕ → Option OpenBroadcast → Type 0
 IsHeardOf n None = ⊥
-IsHeardOf n (Some x) = (is_whole x ≡ false) × (packets_for x.size ≤ n)
+IsHeardOf n (Some x) = packets_for x.size ≤ n
 
-abbrev pub StaysHeard : Who → ℕ → List Call → List Call → Type 0
-StaysHeard w n [] earlier = IsHeardOf n (hearing w earlier)
-StaysHeard w n (call ∷ later) earlier =
-    StaysHeard w n later earlier × (ends_by w (later ++ earlier) call ≡ false) × IsHeardOf n (hearing w (call ∷ later ++ earlier))
+abbrev pub StaysHeard : Who → ℕ → ℕ → List Call → List Call → Type 0
+StaysHeard w source n [] earlier = IsHeardOf n (hearing w earlier source)
+StaysHeard w source n (call ∷ later) earlier =
+    StaysHeard w source n later earlier × (of source (over_by w (later ++ earlier) call) ≡ None)
+    × IsHeardOf n (hearing w (call ∷ later ++ earlier) source)

@@ -16,7 +16,7 @@ ghost use Rattle.j39_node.specs.History.{reached, Who, Call, accepted, address_a
 ghost use Rattle.j39_node.specs.History.Call.{At, TakeAskEnded};
 ghost use Rattle.j39_node.specs.History.Act.{Ask, Hear, TakeFrame, Tick};
 ghost use Rattle.j39_node.specs.Reception.{reception, time_heard, whole};
-ghost use Rattle.j39_node.specs.Hearing.{OpenBroadcast, hearing, is_late, is_whole, made_whole};
+ghost use Rattle.j39_node.specs.Hearing.{OpenBroadcast, hearing, is_late, made_whole};
 ghost use Rattle.j39_transport.specs.Reception.{ReceptionRecord};
 ghost use Rattle.j39_node.specs.Asking.{AskedSince, HeardFirst, NoneEnds, Question, RanOut, asks, can_ask, comes, ended, is_request, is_taken, made, next_ask_ended, open_ask, says_to, told_asks, wait};
 ghost use Rattle.j39_node.specs.AskExample.{ask_example};
@@ -115,7 +115,7 @@ pub fn packets_answer()
         → says_to w q f (made w H now f) ≡ Some ending.Answered }
     ensures coming { (w : Who) (H : List Call) (time : ℕ) (q : Question) → open_ask H ≡ Some q → (IsTrue (comes w H time)
         ↔ (((r : ReceptionRecord) × ((reception w H).session ≡ Some r) × (r.message.source ≡ q.to) × (r.message.group ≡ q.group))
-        ⊎ ((x : OpenBroadcast) × (hearing w H ≡ Some x) × (is_whole x ≡ false) × (is_late time x ≡ false) × (x.group ≡ q.group)
+        ⊎ ((x : OpenBroadcast) × (a : ℕ) × (hearing w H a ≡ Some x) × (is_late time x ≡ false) × (x.group ≡ q.group)
         × ((q.to ≡ global_address) ⊎ (x.source ≡ q.to))))) }
 {}
 

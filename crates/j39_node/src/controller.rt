@@ -11,7 +11,9 @@ ghost use Rattle.j39_transport.specs.Receiving.{new_receiver};
 ghost use Rattle.j39_node.specs.History.{Who, Call, missed, told_claims, nothing};
 ghost use Rattle.j39_node.specs.Hearing.{unheard};
 ghost use Rattle.j39_node.specs.Moving.{HasMoved, IsSettled, has_given, has_told};
-ghost use Rattle.j39_node.specs.Is.{Is, status_after, who_of};
+ghost use Rattle.j39_node.specs.Is.{Is, IsRight, hearing_after, hearing_of, senders_of, status_after, who_for, who_of};
+
+pub(crate) use due::sooner;
 
 mod accepts;
 mod due;
@@ -19,6 +21,7 @@ mod frames;
 mod gives;
 mod hears;
 
+use crate::Setup;
 use crate::asking::{self, Asking};
 use crate::hearing::Hearing;
 use crate::hold::{Hold, Standing};
@@ -60,78 +63,47 @@ pub struct Controller {
     incoming: Incoming,
     transfers: Transfers,
     hearing: Hearing,
+    /// Who held the source of the message in packets that came to its address last, when it was whole.
+    transfer_sender: Option<Name>,
     news: Untold,
 }
 
 impl Controller {
     ghost use Rattle.std.specs.Prelude.{◌≡◌, ◌<◌, ℕ, List, [], ◌↔◌, ◌≤◌, length, map, min, IfOk, OnErr, IsSome, IfSome, Some, None};
     ghost use Rattle.j39_node.specs.Is.{Is};
-    ghost use Rattle.j39_node.specs.History.{Who, Call, AreFew};
+    ghost use Rattle.j39_node.specs.History.{Who, Call};
 
-    /// A controller of this NAME that will claim this address, whose program serves these groups, and subscribes these, or all
-    /// where there are none: of others it receives neither frames nor broadcasts in packets, and misses none. Its word that it can't
-    /// claim one waits for `delay` times 0.6 ms (J1939-81, 4.2.2): a number by chance, so that two that lose at once don't say it at once.
-    /// `None` for an address above 253, more than 16 groups served, or more than 64 subscribed, where no memory is taken. An error
-    /// where memory is refused.
-    pub fn new(
-        alloc: Global,
-        name: Name,
-        address: u8,
-        delay: u8,
-        served: &[Pgn],
-        subscribed: Option<&[Pgn]>,
-    ) -> Result<Option<Controller>, AllocError>
-        ensures known { IfOk result (λ found. IsSome found ↔ (IsAddress address × (length served.now ≤ 16)
-            × AreFew (option_map (λ g. map pgn_raw g.now) subscribed.entry))) }
-        ensures is { IfOk result (λ found. IfSome found (λ c. Is (record {
-          name = name_raw name;
-          address = address;
-          delay = delay;
-          served = map pgn_raw served.now;
-          subscribed = option_map (λ g. map pgn_raw g.now) subscribed.entry;
-          brought = nothing;
-        }) [] c)) }
-        ensures refused { OnErr result (IsAddress address × (length served.now ≤ 16)
-            × AreFew (option_map (λ g. map pgn_raw g.now) subscribed.entry)) }
+    /// A controller. `None` for an address above 253, more than 16 groups served, or more than 64 subscribed, where no memory is
+    /// taken. An error where memory is refused.
+    pub fn new(alloc: Global, setup: &Setup<'_>) -> Result<Option<Controller>, AllocError>
+        ensures known { IfOk result (λ found. IsSome found ↔ IsRight (who_for setup.now)) }
+        ensures is { IfOk result (λ found. IfSome found (λ c. Is (who_for setup.now) [] c)) }
+        ensures refused { OnErr result (IsRight (who_for setup.now)) }
     {
-        let Some(own) = Own::new(name, address, delay, served, subscribed) else {
+        let Some(own) = Own::new(setup) else {
             return Ok(None);
         };
-        let Some(receiver) = Receiver::with_buffer(alloc, address)? else {
+        let Some(receiver) = Receiver::with_buffer(alloc, setup.address)? else {
             return Ok(None);
         };
-        Ok(Some(Controller::begun(own, receiver)))
+        let hearing = Hearing::new(alloc, setup.broadcasts)?;
+        Ok(Some(Controller::begun(own, receiver, hearing)))
     }
 
     /// The same, built in a box of its own: so it takes little stack.
-    pub fn boxed(
-        alloc: Global,
-        name: Name,
-        address: u8,
-        delay: u8,
-        served: &[Pgn],
-        subscribed: Option<&[Pgn]>,
-    ) -> Result<Option<Box<Controller>>, AllocError>
-        ensures known { IfOk result (λ found. IsSome found ↔ (IsAddress address × (length served.now ≤ 16)
-            × AreFew (option_map (λ g. map pgn_raw g.now) subscribed.entry))) }
-        ensures is { IfOk result (λ found. IfSome found (λ b. Is (record {
-          name = name_raw name;
-          address = address;
-          delay = delay;
-          served = map pgn_raw served.now;
-          subscribed = option_map (λ g. map pgn_raw g.now) subscribed.entry;
-          brought = nothing;
-        }) [] b.value)) }
-        ensures refused { OnErr result (IsAddress address × (length served.now ≤ 16)
-            × AreFew (option_map (λ g. map pgn_raw g.now) subscribed.entry)) }
+    pub fn boxed(alloc: Global, setup: &Setup<'_>) -> Result<Option<Box<Controller>>, AllocError>
+        ensures known { IfOk result (λ found. IsSome found ↔ IsRight (who_for setup.now)) }
+        ensures is { IfOk result (λ found. IfSome found (λ b. Is (who_for setup.now) [] b.value)) }
+        ensures refused { OnErr result (IsRight (who_for setup.now)) }
     {
-        let Some(own) = Own::new(name, address, delay, served, subscribed) else {
+        let Some(own) = Own::new(setup) else {
             return Ok(None);
         };
-        let Some(receiver) = Receiver::with_buffer(alloc, address)? else {
+        let Some(receiver) = Receiver::with_buffer(alloc, setup.address)? else {
             return Ok(None);
         };
-        match Box::new(alloc, Controller::begun(own, receiver)) {
+        let hearing = Hearing::new(alloc, setup.broadcasts)?;
+        match Box::new(alloc, Controller::begun(own, receiver, hearing)) {
             Ok(controller) => Ok(Some(controller)),
             Err(_) => Err(AllocError),
         }
@@ -139,8 +111,10 @@ impl Controller {
 
     /// Nothing was called of it.
     #[inline(always)]
-    fn begun(own: Own, receiver: Receiver) -> Controller
-        requires { receiver ≡ record { state = new_receiver own.address; has_box = true } }
+    fn begun(own: Own, receiver: Receiver, hearing: Hearing) -> Controller
+        requires receiver { receiver ≡ record { state = new_receiver own.address; has_box = true } }
+        requires hearing { hearing_of hearing ≡ hearing_after (who_of nothing own) [] }
+        requires senders { senders_of hearing ≡ [] }
         ensures { Is (who_of nothing own) [] result }
     {
         Controller {
@@ -156,7 +130,8 @@ impl Controller {
             lane: Lane::new(),
             incoming: Incoming::new(receiver),
             transfers: Transfers::new(),
-            hearing: Hearing::new(),
+            hearing,
+            transfer_sender: None,
             news: Untold::none(),
         }
     }
@@ -250,12 +225,13 @@ impl Controller {
         self.desk.due.clear();
         self.lane = Lane::new();
         self.transfers.begin_anew();
-        self.hearing = Hearing::new();
+        self.hearing.begin_anew();
+        self.transfer_sender = None;
         true
     }
 
-    /// How many messages for the program were missed, since sixteen lay unread, or of broadcasts in packets, since another lay there or
-    /// was being heard, or they broke off.
+    /// How many messages for the program were missed, since sixteen lay unread, or of broadcasts in packets, since no box was free,
+    /// or they broke off.
     pub fn missed(&self) -> u64
         ensures { (w : Who) (H : List Call) → Is w H self.now
             → result ≡ min (missed w H + unheard w H) 18446744073709551615 }

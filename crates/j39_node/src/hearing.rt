@@ -1,22 +1,29 @@
-//! Broadcasts in packets that are heard, one at a time (J1939-21, 5.10.3.5 and 5.13.3).
-ghost use Rattle.std.specs.Prelude.{◌≡◌, [], ◌&&◌, ◌||◌, not, true, false, ◌+◌, ◌*◌, ◌≤◌, ◌<◌, ◌^◌, length, min, nat_eq, slice_index, None, Some, if◌then◌else◌, IsSome, IfSome, ◌↔◌};
-ghost use Rattle.std.specs.Option.{option_map};
+//! Broadcasts in packets that are heard, one of each source, in as many boxes as there are (J1939-21, 5.10.3.5 and 5.13.3).
+ghost use Rattle.std.specs.Prelude.{ℕ, ◌≡◌, [], ◌++◌, ◌∷◌, ◌&&◌, ◌||◌, not, true, false, ◌+◌, ◌*◌, ◌≤◌, ◌<◌, ◌^◌, length, map, drop, min, nat_eq, nat_lt, slice_get, slice_index, None, Some, if◌then◌else◌, IsSome, IfSome, IfOk, ◌↔◌};
+ghost use Rattle.std.specs.List.{All, list_any, position};
+ghost use Rattle.std.specs.Option.{is_some as is_there, option_map};
+ghost use Rattle.std.specs.Vec.{vec_capacity};
 ghost use Rattle.j39_frame.specs.Identifier.{source_of};
 ghost use Rattle.j39_frame.specs.Pgn.{pgn_raw};
 ghost use Rattle.j39_frame.specs.Stamp.{stamp_micros};
+ghost use Rattle.j39_address.specs.Claims.{holder_in};
+ghost use Rattle.j39_address.specs.Name.{name_raw};
 ghost use Rattle.j39_transport.specs.Frames.{agree, goes, pgn_named, size_named};
 ghost use Rattle.j39_transport.specs.Key.{Broadcast, is_key};
 ghost use Rattle.j39_transport.specs.ReceiverModel.{message_shown};
-ghost use Rattle.j39_node.specs.Reception.{has_place};
-ghost use Rattle.j39_node.specs.Hearing.{IsFit, announces, begun, breaks, goes_on, grown, has_room, hears, is_gap, is_ignored, is_late, is_out, is_partial, is_unheard, is_whole, late_at, left, expires, opens, packed, packs, passes_by, since_in, skips, whole_of};
-ghost use Rattle.j39_node.specs.Asking.{in_broadcast};
+ghost use Rattle.j39_node.specs.Hearing.{sender_in, with_sender, AreApart, IsFit, announces, begun, earliest, expires, goes_on, is_gap, is_late, is_over, is_unheard_in, is_whole, late_at, made_in, of, others, packed, skips, those_over, whole_of, with_one, without_source};
+ghost use Rattle.j39_node.specs.Asking.{comes_by, comes_in, made_of};
 ghost use Rattle.j39_node.specs.History.{nothing};
-ghost use Rattle.j39_node.specs.Is.{broadcast_by, hearing_of, made_by, who_of};
+ghost use Rattle.j39_node.specs.Boxes.{broadcast_by, in_box};
 
-use crate::own::{Own, TRANSPORT_CONTROL, TRANSPORT_DATA, is_own_group};
+use crate::controller::sooner;
+use crate::incoming::is_same;
+use crate::own::{Own, TRANSPORT_CONTROL, TRANSPORT_DATA};
 use arrayvec::ArrayVec;
+use j39_address::{Claims, Name};
 use j39_frame::{Frame, GLOBAL_ADDRESS, NULL_ADDRESS, Pgn, Stamp};
 use j39_transport::{LONGEST, Message, SHORTEST};
+use std::alloc::{AllocError, Global};
 
 /// The first byte of an announcement to all (BAM).
 const ANNOUNCEMENT: u8 = 32;
@@ -63,25 +70,50 @@ pub(crate) struct Heard {
     pub(crate) time: Stamp,
     /// The time since which its source has one open.
     pub(crate) since: Stamp,
+    /// The NAME that held its source at its announcement.
+    pub(crate) name: Option<Name>,
+}
+
+/// When an announcement is heard: its time, since when its source has one open, and the NAME that holds its source.
+#[derive(Clone, Copy)]
+struct Opening {
+    time: Stamp,
+    since: Stamp,
+    name: Option<Name>,
 }
 
 impl Heard {
+    /// A box in which nothing was begun yet.
     #[inline(always)]
-    fn new(announcement: Announcement, frame: &Frame, since: Stamp, time: Stamp) -> Heard
-        requires group { pgn_raw announcement.group ≡ pgn_named frame.now }
-        requires size { announcement.size ≡ size_named frame.now }
-        ensures { broadcast_by result ≡ begun (stamp_micros since) (stamp_micros time) frame.now }
-    {
+    fn unused() -> Heard {
         Heard {
             bytes: ArrayVec::new(),
-            source: frame.id.source(),
-            group: announcement.group,
-            size: announcement.size,
+            source: NULL_ADDRESS,
+            group: Pgn::new(0).unwrap(),
+            size: 0,
             count: 0,
-            stamp: frame.stamp,
-            time,
-            since,
+            stamp: Stamp::new(0).unwrap(),
+            time: Stamp::new(0).unwrap(),
+            since: Stamp::new(0).unwrap(),
+            name: None,
         }
+    }
+
+    /// A message is announced.
+    fn begin(&mut self, announcement: Announcement, frame: &Frame, opening: Opening)
+        requires group { pgn_raw announcement.group ≡ pgn_named frame.now }
+        requires size { announcement.size ≡ size_named frame.now }
+        ensures { broadcast_by self.new ≡ begun (option_map name_raw opening.name) (stamp_micros opening.since) (stamp_micros opening.time) frame.now }
+    {
+        self.bytes.clear();
+        self.source = frame.id.source();
+        self.group = announcement.group;
+        self.size = announcement.size;
+        self.count = 0;
+        self.stamp = frame.stamp;
+        self.time = opening.time;
+        self.since = opening.since;
+        self.name = opening.name;
     }
 
     fn is_whole(&self) -> bool
@@ -96,38 +128,50 @@ impl Heard {
         self.expires() < time.micros()
     }
 
+    /// Whether its source has another holder than at its announcement, or restarted, or it is out of time.
+    fn is_over(&self, gone: Option<u8>, holders: &Claims, time: Stamp) -> bool
+        ensures { result ≡ is_over gone (holder_in holders.now) (stamp_micros time) (broadcast_by self.now) }
+    {
+        gone == Some(self.source)
+            || !is_same(self.name, holders.holder(self.source))
+            || self.is_late(time)
+    }
+
     /// Till when its next packet may come: 750 ms after the last, or its announcement, and (n + 1) * 750 ms, of n packets, after
     /// the first of its source's that took one another's place (own).
     fn expires(&self) -> u64
-        ensures { result ≡ expires (broadcast_by self.now) }
+        ensures value { result ≡ expires (broadcast_by self.now) }
+        ensures fits { result < 2 ^ 60 }
     {
         let packets = (u64::from(self.size) + 6) / 7;
         let account = self.since.micros() + (packets + 1) * LIMIT;
         account.min(self.time.micros() + LIMIT)
     }
 
-    /// Whether packets of this source are its own, and it isn't whole.
-    fn goes_on_by(&self, source: u8) -> bool
-        ensures { result ≡ not (passes_by source (broadcast_by self.now)) }
+    /// Whether it is in time, of this group, and from this address, or from anybody where that is 255.
+    fn answers(&self, group: u32, to: u8, time: Stamp) -> bool
+        ensures { (token : ℕ) → result ≡ comes_by (stamp_micros time) (record { token = token; group = group; to = to }) (broadcast_by self.now) }
     {
-        !self.is_whole() && source == self.source
+        !self.is_late(time)
+            && self.group.raw() == group
+            && (to == GLOBAL_ADDRESS || self.source == to)
     }
 
-    /// Whether a packet is one of its own, and one before it was lost.
+    /// Whether one before this packet was lost.
     fn is_gap(&self, frame: &Frame) -> bool
         requires { length frame.now.bytes ≡ 8 }
-        ensures value { result ≡ is_gap frame.now (Some (broadcast_by self.now)) }
+        ensures { result ≡ skips frame.now (broadcast_by self.now) }
     {
         let number = frame.bytes.as_slice()[0];
-        self.goes_on_by(frame.id.source()) && u16::from(self.count) + 1 < u16::from(number)
+        u16::from(self.count) + 1 < u16::from(number)
     }
 
-    /// A packet of its own, with no gap: the next, or a repeat.
+    /// A packet with no gap: the next, or a repeat.
     fn goes_on(&mut self, frame: &Frame, time: Stamp)
         requires { length frame.now.bytes ≡ 8 }
-        ensures current { length self.old.bytes.items ≡ 7 * self.old.count → self.old.size ≤ 1785 → is_whole (broadcast_by self.old) ≡ false
-            → skips frame.now (broadcast_by self.old) ≡ false
+        ensures current { IsFit (broadcast_by self.old) → skips frame.now (broadcast_by self.old) ≡ false
             → Some (broadcast_by self.new) ≡ goes_on (stamp_micros time) frame.now (broadcast_by self.old) }
+        ensures name { self.new.name ≡ self.old.name }
     {
         let bytes = frame.bytes.as_slice();
         let number = bytes[0];
@@ -140,239 +184,329 @@ impl Heard {
     }
 }
 
-/// The broadcast that is heard, or waits for the program.
+/// What a frame does: a message for the program breaks off by it, or isn't heard; or this source's, of this group, is whole.
+#[derive(Clone, Copy)]
+pub(crate) struct Outcome {
+    pub(crate) is_missed: bool,
+    pub(crate) made: Option<(u8, u32)>,
+}
+
+/// The broadcasts that are heard, or wait for the program, each in its box.
 #[derive(Drop)]
 pub(crate) struct Hearing {
-    pub(crate) current: Option<Heard>,
+    pub(crate) current: Vec<Box<Heard>>,
+    /// Those that wait, the oldest first.
+    pub(crate) whole: Vec<Box<Heard>>,
+    pub(crate) free: Vec<Box<Heard>>,
     /// How many that were announced weren't received.
     pub(crate) missed: u64,
+    pub ghost wholes: { All (λ b. is_whole (in_box b) ≡ true) whole.items },
+    pub ghost opens: { length current.items + length whole.items + length free.items ≤ vec_capacity current },
+    pub ghost waits: { length current.items + length whole.items + length free.items ≤ vec_capacity whole },
+    pub ghost frees: { length current.items + length whole.items + length free.items ≤ vec_capacity free },
 }
 
 impl Hearing {
-    /// Nothing was heard.
-    pub(crate) fn new() -> Hearing
-        ensures { result ≡ record { current = None; missed = 0 } }
+    ghost use Rattle.j39_node.specs.Is.{hearing_it, hearing_of, leaving, releasing, senders_of, who_of};
+
+    /// Nothing was heard. It takes memory for so many at once.
+    pub(crate) fn new(alloc: Global, boxes: u8) -> Result<Hearing, AllocError>
+        ensures nothing { IfOk result (λ h. hearing_of h ≡ record { listening = record { current = []; waits = [] }; boxes = boxes; missed = 0 }) }
+        ensures nobody { IfOk result (λ h. senders_of h ≡ []) }
     {
-        Hearing {
-            current: None,
+        let most = usize::from(boxes);
+        let mut free = Vec::with_capacity(alloc, most)?;
+        for _ in 0..most {
+            put(&mut free, Box::new(alloc, Heard::unused())?);
+        }
+        Ok(Hearing {
+            current: Vec::with_capacity(alloc, most)?,
+            whole: Vec::with_capacity(alloc, most)?,
+            free,
             missed: 0,
-        }
+        })
     }
 
-    /// From whom the broadcast comes.
-    pub(crate) fn source(&self) -> Option<u8>
-        ensures { result ≡ option_map (λ x. x.source) (hearing_of self.now).current }
+    /// It begins anew, in the same boxes.
+    pub(crate) fn begin_anew(&mut self)
+        ensures anew { (hearing_of self.old).listening.waits ≡ [] → hearing_of self.new
+            ≡ record { listening = record { current = []; waits = [] }; boxes = (hearing_of self.old).boxes; missed = 0 } }
+        ensures whole { self.new.whole ≡ self.old.whole }
     {
-        match &self.current {
-            Some(heard) => Some(heard.source),
-            None => None,
+        while let Some(heard) = self.current.pop() {
+            put(&mut self.free, heard);
         }
+        self.missed = 0;
     }
 
-    /// The source and the group of the one that isn't whole, and in time.
-    pub(crate) fn broadcast(&self, time: Stamp) -> Option<(u8, u32)>
-        ensures { result ≡ in_broadcast (stamp_micros time) (hearing_of self.now).current }
+    /// Whether one of this group is open, in time, and from this address, or from anybody where that is 255.
+    pub(crate) fn is_coming(&self, group: u32, to: u8, time: Stamp) -> bool
+        ensures { (token : ℕ) → result ≡ comes_in (stamp_micros time) (record { token = token; group = group; to = to }) (hearing_of self.now).listening.current }
     {
-        match &self.current {
-            Some(heard) => {
-                if heard.is_whole() || heard.is_late(time) {
-                    None
-                } else {
-                    Some((heard.source, heard.group.raw()))
-                }
+        for heard in &self.current {
+            if heard.answers(group, to, time) {
+                return true;
             }
-            None => None,
         }
+        false
     }
 
-    /// Where it is over, it ends, unless it is whole; whether it did.
-    pub(crate) fn leave(&mut self, is_over: bool) -> bool
-        ensures breaks { result ≡ breaks is_over (hearing_of self.old).current }
-        ensures missed { self.new.missed
-            ≡ (if result then min (self.old.missed + 1) 18446744073709551615 else self.old.missed) }
-        ensures current { (hearing_of self.new).current ≡ left is_over (hearing_of self.old).current }
+    /// Those end that are over at this time: another NAME holds their source, or nobody, or its holder restarted, or they are late.
+    /// Whether any did.
+    pub(crate) fn leave(&mut self, gone: Option<u8>, holders: &Claims, time: Stamp) -> bool
+        ensures broken { result ≡ nat_lt 0 (length (those_over gone (holder_in holders.now) (stamp_micros time) (hearing_of self.old).listening.current)) }
+        ensures left { hearing_of self.new ≡ leaving gone (holder_in holders.now) (stamp_micros time) (hearing_of self.old) }
+        ensures whole { self.new.whole ≡ self.old.whole }
     {
-        let breaks = is_over && self.is_partial();
-        if breaks {
-            self.current = None;
-            self.miss();
+        let before = self.current.len();
+        let mut place = before;
+        while 0 < place {
+            place -= 1;
+            if self.current[place].is_over(gone, holders, time) {
+                let heard = self.current.remove(place);
+                put(&mut self.free, heard);
+            }
         }
-        breaks
+        let over = before - self.current.len();
+        self.missed = self.missed.saturating_add(over as u64);
+        0 < over
     }
 
-    /// Its source has another holder, or it is out of time.
-    pub(crate) fn is_over(&self, is_left: bool, time: Stamp) -> bool
-        ensures { result ≡ (is_left || is_out (stamp_micros time) (hearing_of self.now).current) }
-    {
-        is_left || self.is_out(time)
-    }
-
-    /// The time till which its next packet may come is over.
-    pub(crate) fn is_out(&self, time: Stamp) -> bool
-        ensures { result ≡ is_out (stamp_micros time) (hearing_of self.now).current }
-    {
-        match &self.current {
-            Some(heard) => heard.is_late(time),
-            None => false,
-        }
-    }
-
-    /// The first moment at which a tick ends it.
+    /// The first moment at which a tick ends one.
     pub(crate) fn next_tick(&self, moment: u64, clock: Stamp) -> Option<Stamp>
-        ensures { option_map stamp_micros result ≡ late_at (hearing_of self.now).current moment (stamp_micros clock) }
+        ensures { option_map stamp_micros result ≡ late_at (earliest (hearing_of self.now).listening.current) moment (stamp_micros clock) }
     {
-        match &self.current {
-            Some(heard) => {
-                if heard.is_whole() {
-                    return None;
-                }
-                let left = (heard.expires() + 1).saturating_sub(clock.micros());
-                Stamp::new(moment.saturating_add(left))
-            }
-            None => None,
-        }
+        let left = (self.earliest()? + 1).saturating_sub(clock.micros());
+        Stamp::new(moment.saturating_add(left))
     }
 
-    /// A frame was heard at this time; whether by it a message for the program breaks off, or isn't heard.
-    pub(crate) fn hear(&mut self, own: &Own, frame: &Frame, time: Stamp) -> bool
-        ensures unheard { result ≡ is_unheard (who_of nothing own.now) frame.now (hearing_of self.old).current }
-        ensures missed { self.new.missed
-            ≡ (if result then min (self.old.missed + 1) 18446744073709551615 else self.old.missed) }
-        ensures current { IsFit (hearing_of self.old).current → (hearing_of self.new).current
-            ≡ hears (who_of nothing own.now) (stamp_micros time) frame.now (hearing_of self.old).current }
+    /// When the first of them is late.
+    fn earliest(&self) -> Option<u64>
+        ensures value { result ≡ earliest (hearing_of self.now).listening.current }
+        ensures fits { IfSome result (λ n. n < 2 ^ 60) }
+    {
+        let mut found = None;
+        for heard in &self.current {
+            found = sooner(found, Some(heard.expires()));
+        }
+        found
+    }
+
+    /// A frame was heard at this time.
+    pub(crate) fn hear(
+        &mut self,
+        own: &Own,
+        holders: &Claims,
+        frame: &Frame,
+        time: Stamp,
+    ) -> Outcome
+        ensures missed { result.is_missed ≡ is_unheard_in (hearing_of self.old).boxes (who_of nothing own.now) frame.now (hearing_of self.old).listening }
+        ensures made { AreApart (hearing_of self.old).listening.current → All IsFit (hearing_of self.old).listening.current
+            → result.made ≡ made_of (option_map (λ x. x.1) (made_in (hearing_of self.old).boxes (who_of nothing own.now)
+            (holder_in holders.now (source_of frame.now.id)) (stamp_micros time) frame.now (hearing_of self.old).listening)) }
+        ensures heard { AreApart (hearing_of self.old).listening.current → All IsFit (hearing_of self.old).listening.current
+            → hearing_of self.new ≡ hearing_it (who_of nothing own.now) (holder_in holders.now (source_of frame.now.id)) (stamp_micros time) frame.now (hearing_of self.old) }
+        ensures senders { senders_of self.new ≡ with_sender result.made
+            (sender_in (of (source_of frame.now.id) (hearing_of self.old).listening.current)) (senders_of self.old) }
     {
         match Announcement::of(frame) {
-            Some(announcement) => self.announce(own, announcement, frame, time),
+            Some(announcement) => {
+                let is_missed = self.announce(own, holders, announcement, frame, time);
+                Outcome {
+                    is_missed,
+                    made: None,
+                }
+            }
             None => {
                 if is_to_all(frame, TRANSPORT_DATA) {
                     return self.pack(frame, time);
                 }
-                false
-            }
-        }
-    }
-
-    /// The broadcast that waits for the program.
-    pub(crate) fn message(&self) -> Option<Message<'_>>
-        ensures value { option_map (λ m. (stamp_micros m.stamp, message_shown m)) result ≡ whole_of (hearing_of self.now).current }
-        ensures most { IfSome result (λ m. length m.payload.now ≤ 1785) }
-    {
-        match &self.current {
-            Some(heard) => {
-                if heard.is_whole() {
-                    Some(Message {
-                        source: heard.source,
-                        pgn: heard.group,
-                        payload: &heard.bytes.as_slice()[..usize::from(heard.size)],
-                        stamp: heard.stamp,
-                    })
-                } else {
-                    None
+                Outcome {
+                    is_missed: false,
+                    made: None,
                 }
             }
-            None => None,
         }
     }
 
-    /// Makes room for the next; whether one waited.
-    pub(crate) fn release(&mut self) -> bool
-        ensures missed { self.new.missed ≡ self.old.missed }
-        ensures waited { result ≡ not (has_place (whole_of (hearing_of self.old).current)) }
-        ensures current { (hearing_of self.new).current ≡ (if result then None else (hearing_of self.old).current) }
+    /// The oldest that waits for the program.
+    pub(crate) fn message(&self) -> Option<Message<'_>>
+        ensures value { option_map (λ m. (stamp_micros m.stamp, message_shown m)) result ≡ slice_get (hearing_of self.now).listening.waits 0 }
+        ensures most { IfSome result (λ m. length m.payload.now ≤ 1785) }
     {
-        let waits = self.is_waiting();
-        if waits {
-            self.current = None;
+        let heard = self.whole.first()?;
+        Some(Message {
+            source: heard.source,
+            pgn: heard.group,
+            payload: &heard.bytes.as_slice()[..usize::from(heard.size)],
+            stamp: heard.stamp,
+        })
+    }
+
+    /// The NAME that held the source of the oldest that waits.
+    pub(crate) fn sender(&self) -> Option<Name>
+        ensures { IfSome (slice_get (senders_of self.now) 0) (λ name. option_map name_raw result ≡ name) }
+    {
+        self.whole.first()?.name
+    }
+
+    /// Frees the box of the oldest that waits; whether one did.
+    pub(crate) fn release(&mut self) -> bool
+        ensures waited { result ≡ nat_lt 0 (length (hearing_of self.old).listening.waits) }
+        ensures released { hearing_of self.new ≡ releasing (hearing_of self.old) }
+        ensures senders { senders_of self.new ≡ drop 1 (senders_of self.old) }
+    {
+        if self.whole.is_empty() {
+            return false;
         }
-        waits
+        let heard = self.whole.remove(0);
+        put(&mut self.free, heard);
+        true
     }
 
     /// Whether one that is whole waits.
     pub(crate) fn is_waiting(&self) -> bool
-        ensures { result ≡ not (has_place (whole_of (hearing_of self.now).current)) }
+        ensures { result ≡ nat_lt 0 (length (hearing_of self.now).listening.waits) }
     {
-        match &self.current {
-            Some(heard) => heard.is_whole(),
-            None => false,
-        }
+        !self.whole.is_empty()
     }
 
-    /// The source and the group of the one that waits, where none did.
-    pub(crate) fn made(&self, waited: bool) -> Option<(u8, u32)>
-        ensures { result ≡ made_by (not waited) (whole_of (hearing_of self.now).current) }
+    /// Takes out the open one of a source.
+    fn take_out(&mut self, source: u8) -> Option<Box<Heard>>
+        ensures value { option_map in_box result ≡ of source (hearing_of self.old).listening.current }
+        ensures rest { AreApart (hearing_of self.old).listening.current → map in_box self.new.current.items ≡ others source (hearing_of self.old).listening.current }
+        ensures none { result ≡ None → self.new ≡ self.old }
+        ensures stays { (self.new.whole ≡ self.old.whole) × (self.new.free ≡ self.old.free) × (self.new.missed ≡ self.old.missed) }
+        ensures counts { IsSome result → length self.new.current.items + 1 ≡ length self.old.current.items }
+        ensures room { IsSome result → vec_capacity self.new.current ≡ vec_capacity self.old.current }
     {
-        match &self.current {
-            Some(heard) => {
-                if heard.is_whole() && !waited {
-                    Some((heard.source, heard.group.raw()))
-                } else {
-                    None
-                }
-            }
-            None => None,
-        }
+        let place = self.place(source)?;
+        Some(self.current.remove(place))
     }
 
-    /// Whether one is announced that isn't whole.
-    fn is_partial(&self) -> bool
-        ensures { result ≡ is_partial (hearing_of self.now).current }
+    /// The place of the open one of a source.
+    fn place(&self, source: u8) -> Option<usize>
+        ensures { result ≡ position (λ b. nat_eq source (in_box b).source) self.now.current.items }
     {
-        match &self.current {
-            Some(heard) => !heard.is_whole(),
-            None => false,
-        }
+        self.current.iter().position(|heard| source == heard.source)
     }
 
-    fn has_room(&self, source: u8) -> bool
-        ensures { result ≡ has_room source (hearing_of self.now).current }
-    {
-        match &self.current {
-            Some(heard) => !heard.is_whole() && source == heard.source,
-            None => true,
-        }
-    }
-
-    /// The time since which the source of the open one has one open; else this one.
-    fn since(&self, time: Stamp) -> Stamp
-        ensures { stamp_micros result ≡ since_in (stamp_micros time) (hearing_of self.now).current }
-    {
-        match &self.current {
-            Some(heard) => heard.since,
-            None => time,
-        }
-    }
-
-    /// A message is announced.
+    /// A message is announced; whether one for the program breaks off by that, or isn't heard.
     fn announce(
         &mut self,
         own: &Own,
+        holders: &Claims,
         announcement: Announcement,
         frame: &Frame,
         time: Stamp,
     ) -> bool
+        requires announces { announces frame.now ≡ true }
         requires group { pgn_raw announcement.group ≡ pgn_named frame.now }
         requires size { announcement.size ≡ size_named frame.now }
-        ensures unheard { result ≡ (if has_room (source_of frame.now.id) (hearing_of self.old).current
-            then is_partial (hearing_of self.old).current else not (is_ignored (who_of nothing own.now) (pgn_named frame.now))) }
-        ensures missed { self.new.missed
-            ≡ (if result then min (self.old.missed + 1) 18446744073709551615 else self.old.missed) }
-        ensures current { (hearing_of self.new).current
-            ≡ (if has_room (source_of frame.now.id) (hearing_of self.old).current
-            then opens (who_of nothing own.now) (stamp_micros time) frame.now (hearing_of self.old).current else (hearing_of self.old).current) }
+        ensures missed { result ≡ is_unheard_in (hearing_of self.old).boxes (who_of nothing own.now) frame.now (hearing_of self.old).listening }
+        ensures heard { AreApart (hearing_of self.old).listening.current
+            → hearing_of self.new ≡ hearing_it (who_of nothing own.now) (holder_in holders.now (source_of frame.now.id)) (stamp_micros time) frame.now (hearing_of self.old) }
+        ensures senders { senders_of self.new ≡ senders_of self.old }
     {
-        let is_ignored = is_own_group(announcement.group) || !own.is_subscribed(announcement.group);
-        if self.has_room(frame.id.source()) {
-            let since = self.since(time);
-            let breaks = self.leave(true);
-            if !is_ignored {
-                self.current = Some(Heard::new(announcement, frame, since, time));
+        let source = source_in(frame);
+        let name = holders.holder(source);
+        let is_ignored = own.is_ignored(announcement.group);
+        match self.take_out(source) {
+            Some(mut heard) => {
+                self.miss();
+                if is_ignored {
+                    put(&mut self.free, heard);
+                    return true;
+                }
+                let since = heard.since;
+                heard.begin(announcement, frame, Opening { time, since, name });
+                let _none = self.settle(heard);
+                true
             }
-            return breaks;
+            None => {
+                if is_ignored {
+                    return false;
+                }
+                match self.free.pop() {
+                    Some(mut heard) => {
+                        heard.begin(
+                            announcement,
+                            frame,
+                            Opening {
+                                time,
+                                since: time,
+                                name,
+                            },
+                        );
+                        let _none = self.settle(heard);
+                        false
+                    }
+                    None => {
+                        self.miss();
+                        true
+                    }
+                }
+            }
         }
-        if !is_ignored {
+    }
+
+    /// A packet is heard. One that leaves a gap ends the open one of its source.
+    fn pack(&mut self, frame: &Frame, time: Stamp) -> Outcome
+        requires { length frame.now.bytes ≡ 8 }
+        ensures missed { result.is_missed ≡ is_gap frame.now (of (source_of frame.now.id) (hearing_of self.old).listening.current) }
+        ensures made { All IsFit (hearing_of self.old).listening.current → result.made
+            ≡ made_of (option_map (λ x. x.1) (whole_of (packed (stamp_micros time) frame.now (of (source_of frame.now.id) (hearing_of self.old).listening.current)))) }
+        ensures heard { AreApart (hearing_of self.old).listening.current → All IsFit (hearing_of self.old).listening.current → hearing_of self.new ≡ record {
+          listening = with_one (packed (stamp_micros time) frame.now (of (source_of frame.now.id) (hearing_of self.old).listening.current))
+              (without_source (source_of frame.now.id) (hearing_of self.old).listening);
+          boxes = (hearing_of self.old).boxes;
+          missed = if result.is_missed then min (self.old.missed + 1) 18446744073709551615 else self.old.missed;
+        } }
+        ensures senders { senders_of self.new ≡ with_sender result.made
+            (sender_in (of (source_of frame.now.id) (hearing_of self.old).listening.current)) (senders_of self.old) }
+    {
+        let Some(mut heard) = self.take_out(source_in(frame)) else {
+            return Outcome {
+                is_missed: false,
+                made: None,
+            };
+        };
+        if heard.is_gap(frame) {
+            put(&mut self.free, heard);
             self.miss();
+            return Outcome {
+                is_missed: true,
+                made: None,
+            };
         }
-        !is_ignored
+        heard.goes_on(frame, time);
+        Outcome {
+            is_missed: false,
+            made: self.settle(heard),
+        }
+    }
+
+    /// Puts a box behind the whole ones that wait, or those that are open. Answers the source and the group of a whole one.
+    fn settle(&mut self, heard: Box<Heard>) -> Option<(u8, u32)>
+        requires current { length self.old.current.items + length self.old.whole.items + length self.old.free.items < vec_capacity self.old.current }
+        requires whole { length self.old.current.items + length self.old.whole.items + length self.old.free.items < vec_capacity self.old.whole }
+        requires free { length self.old.current.items + length self.old.whole.items + length self.old.free.items < vec_capacity self.old.free }
+        ensures made { result ≡ made_of (option_map (λ x. x.1) (whole_of (Some (in_box heard)))) }
+        ensures settled { hearing_of self.new ≡ record {
+          listening = with_one (Some (in_box heard)) (hearing_of self.old).listening;
+          boxes = (hearing_of self.old).boxes + 1;
+          missed = self.old.missed;
+        } }
+        ensures senders { senders_of self.new ≡ with_sender result (in_box heard).name (senders_of self.old) }
+    {
+        if heard.is_whole() {
+            let made = Some((heard.source, heard.group.raw()));
+            put(&mut self.whole, heard);
+            made
+        } else {
+            put(&mut self.current, heard);
+            None
+        }
     }
 
     fn miss(&mut self)
@@ -380,36 +514,21 @@ impl Hearing {
     {
         self.missed = self.missed.saturating_add(1);
     }
+}
 
-    /// A packet to all; whether it leaves a gap.
-    fn pack(&mut self, frame: &Frame, time: Stamp) -> bool
-        requires { length frame.now.bytes ≡ 8 }
-        ensures gap { result ≡ is_gap frame.now (hearing_of self.old).current }
-        ensures missed { self.new.missed
-            ≡ (if result then min (self.old.missed + 1) 18446744073709551615 else self.old.missed) }
-        ensures current { IsFit (hearing_of self.old).current → (hearing_of self.new).current
-            ≡ packed (stamp_micros time) frame.now (hearing_of self.old).current }
-    {
-        if self.is_gap(frame) {
-            return self.leave(true);
-        }
-        if let Some(heard) = &mut self.current {
-            if heard.goes_on_by(frame.id.source()) {
-                heard.goes_on(frame, time);
-            }
-        }
-        false
-    }
+fn source_in(frame: &Frame) -> u8
+    ensures { result ≡ source_of frame.now.id }
+{
+    frame.id.source()
+}
 
-    fn is_gap(&self, frame: &Frame) -> bool
-        requires { length frame.now.bytes ≡ 8 }
-        ensures { result ≡ is_gap frame.now (hearing_of self.now).current }
-    {
-        match &self.current {
-            Some(heard) => heard.is_gap(frame),
-            None => false,
-        }
-    }
+/// Puts a box behind the others; room was made for it.
+fn put(boxes: &mut Vec<Box<Heard>>, heard: Box<Heard>)
+    requires { length boxes.old.items < vec_capacity boxes.old }
+    ensures items { boxes.new.items ≡ boxes.old.items ++ heard ∷ [] }
+    ensures room { vec_capacity boxes.old ≤ vec_capacity boxes.new }
+{
+    let _fits = boxes.push(heard);
 }
 
 /// A frame that announces a message to all: of 9 to 1,785 bytes, in as many packets as it takes.

@@ -1,8 +1,7 @@
 //! Messages that come in packets to the address that is held (J1939-21, 5.10.3).
-ghost use Rattle.std.specs.Prelude.{if◌then◌else◌, IsTrue, ◌≡◌, ◌≤◌, ◌<◌, ◌+◌, ◌-◌, ◌^◌, ◌↔◌, ◌++◌, ◌∷◌, [], ℕ, List, length, true, false, Option, IfSome, IsSomeAnd, Some, None, slice_index};
+ghost use Rattle.std.specs.Prelude.{if◌then◌else◌, IsTrue, ◌≡◌, ◌≤◌, ◌<◌, ◌+◌, ◌-◌, ◌^◌, ◌↔◌, ◌++◌, ◌∷◌, [], ℕ, List, length, true, false, Option, IfSome, IsSomeAnd, Some, None};
 ghost use Rattle.std.specs.List.{slice_get};
 ghost use Rattle.std.specs.Option.{is_some, option_map};
-ghost use Rattle.j39_transport.specs.Announced.{announced_by};
 ghost use Rattle.j39_transport.specs.Reception.{ReceptionRecord};
 ghost use Rattle.j39_transport.specs.Receiving.{new_receiver, said_to};
 ghost use Rattle.j39_transport.specs.Signals.{Abort, written};
@@ -18,8 +17,9 @@ ghost use Rattle.j39_transport.specs.ReceiverModel.{message_shown};
 ghost use Rattle.j39_node.specs.History.{carried};
 ghost use Rattle.j39_address.specs.Claim.{claim_of};
 ghost use Rattle.j39_node.specs.History.{is_some as is_some_of};
-ghost use Rattle.j39_node.specs.Reception.{calls_claims, claimed_again, still, has_place, IsApart, heard_by, is_over, is_same, later, leaves, left, longest, no_reception, number_in, packet_in, replied, reply_from, since_by, strays, without};
-ghost use Rattle.j39_node.specs.Is.{IsNamed, announced, appended, clear_in, cleared, made_by, named_by, named_then, Receives, hears, incoming_of, kept_by, passed_to, said_by, session_by, stamped, strays_by, tick_by, ticks, with_called, with_reception, with_replies};
+ghost use Rattle.j39_node.specs.Reception.{calls_claims, claimed_again, group_of, strays, tick_at, still, has_place, IsApart, heard_by, is_over, is_same, later, leaves, left, longest, no_reception, number_in, packet_in, replied, reply_from, since_by, without};
+ghost use Rattle.j39_node.specs.Asking.{in_session};
+ghost use Rattle.j39_node.specs.Is.{made_by, Receives, hears, incoming_of, kept_by, passed_to, said_by, stamped, ticks, with_called, with_reception, with_replies};
 ghost use Rattle.j39_node.specs.Times.{called_time};
 
 use crate::own::{ADDRESS_CLAIMED, TRANSPORT_CONTROL, is_request_for};
@@ -27,10 +27,7 @@ use arrayvec::ArrayVec;
 use byteorder::{ByteOrder, LittleEndian};
 use j39_address::{Claims, Name, claim_of};
 use j39_frame::{Frame, Id, NULL_ADDRESS, Pgn, Stamp};
-use j39_transport::{LONGEST, Message, Receiver, Reply, announced_group};
-
-/// The first byte of a clear to send (J1939-21, 5.10.3.2).
-const CLEAR_TO_SEND: u8 = 17;
+use j39_transport::{LONGEST, Message, Receiver, Reply};
 
 /// The longest wait of the two ends, in microseconds (T2 of J1939-21, 5.10.2.4).
 const T2: u64 = 1_250_000;
@@ -104,117 +101,10 @@ pub(crate) struct Bearing {
     pub(crate) is_held: bool,
 }
 
-/// What is known of a session.
-#[derive(Clone, Copy)]
-pub(crate) struct Named {
-    pub(crate) group: Pgn,
-    pub(crate) packets: u8,
-    /// The number of the packet that is next.
-    pub(crate) next: u16,
-    /// That behind the last that was granted.
-    pub(crate) behind: u16,
-}
-
-impl Named {
-    /// Nothing yet.
-    fn nothing() -> Named {
-        Named {
-            group: Pgn::new(0).unwrap(),
-            packets: 0,
-            next: 0,
-            behind: 0,
-        }
-    }
-
-    /// Once a frame was heard, a packet of the session or none, and a CTS was said to it or not.
-    fn then(self, packet: Option<u8>, frame: &Frame, clear: Option<(u8, u8)>) -> Named
-        ensures { named_by result ≡ named_then packet frame.now clear (named_by self) }
-    {
-        if clear.is_some() {
-            self.announced(frame).cleared(clear)
-        } else {
-            self.appended(packet)
-        }
-    }
-
-    /// What an RTS announces.
-    fn announced(self, frame: &Frame) -> Named
-        ensures { named_by result ≡ announced frame.now (announced_by frame.now) (named_by self) }
-    {
-        match announced_group(frame) {
-            Some(group) => Named {
-                group,
-                packets: packets_named(frame),
-                next: self.next,
-                behind: self.behind,
-            },
-            None => self,
-        }
-    }
-
-    /// A CTS grants so many packets, from this one on.
-    fn cleared(self, clear: Option<(u8, u8)>) -> Named
-        ensures { named_by result ≡ cleared clear (named_by self) }
-    {
-        match clear {
-            Some((count, next)) => Named {
-                group: self.group,
-                packets: self.packets,
-                next: u16::from(next),
-                behind: u16::from(count) + u16::from(next),
-            },
-            None => self,
-        }
-    }
-
-    /// A packet of this number is appended, if it is next.
-    fn appended(self, packet: Option<u8>) -> Named
-        ensures { named_by result ≡ appended packet (named_by self) }
-    {
-        match packet {
-            Some(number) => {
-                if u16::from(number) != self.next {
-                    return self;
-                }
-                Named {
-                    group: self.group,
-                    packets: self.packets,
-                    next: u16::from(number) + 1,
-                    behind: self.behind,
-                }
-            }
-            None => self,
-        }
-    }
-
-    /// Whether a packet of the session is neither the next one nor the last that was granted.
-    fn strays(self, packet: Option<u8>) -> bool
-        ensures { result ≡ strays_by packet (named_by self) }
-    {
-        match packet {
-            Some(number) => {
-                let number = u16::from(number);
-                !(number == self.next || number + 1 == self.behind)
-            }
-            None => false,
-        }
-    }
-
-    /// How long a session may take in all.
-    fn longest(self) -> u64
-        ensures value { result ≡ longest (named_by self).packets }
-        ensures fits { result < 2 ^ 29 }
-    {
-        (u64::from(self.packets) + 3) * T2
-    }
-}
-
 /// What is received in packets, one message at a time.
 #[derive(Drop)]
 pub(crate) struct Incoming {
     pub(crate) receiver: Receiver,
-    /// What is known of its session.
-    pub(crate) named: Named,
     /// The receiver's time since which the source of its session has one open.
     pub(crate) since: Stamp,
     /// The moment of the last frame heard or tick.
@@ -234,12 +124,11 @@ impl Incoming {
     #[inline(always)]
     pub(crate) fn new(receiver: Receiver) -> Incoming
         ensures { (own : ℕ) → receiver ≡ record { state = new_receiver own; has_box = true } → incoming_of result ≡ record
-            { moment = 0; clock = 0; own = own; has_box = true; named = None; called = 0; reception = no_reception } }
+            { moment = 0; clock = 0; own = own; has_box = true; called = 0; reception = no_reception } }
     {
         let start = Stamp::new(0).unwrap();
         Incoming {
             receiver,
-            named: Named::nothing(),
             since: start,
             called: 0,
             moment: 0,
@@ -262,7 +151,7 @@ impl Incoming {
             (claim_of frame.now) }
         ensures knows { (F : List FrameRecord) → Knows holders.old F
             → Knows holders.new (if bearing.is_double then F else F ++ frame.now ∷ []) }
-        ensures heard { self.old.receiver.has_box ≡ true → IsApart (incoming_of self.old).reception → IsNamed (incoming_of self.old) → incoming_of self.new
+        ensures heard { self.old.receiver.has_box ≡ true → IsApart (incoming_of self.old).reception → incoming_of self.new
             ≡ hears bearing.drives_away bearing.is_held (stamp_micros now) frame.now (holder_in holders.old) (holder_in holders.new) (incoming_of self.old) }
     {
         self.pass(now);
@@ -305,7 +194,7 @@ impl Incoming {
     pub(crate) fn move_to(&mut self, own: u8, moment: u64) -> bool
         ensures known { IsTrue result ↔ IsAddress own }
         ensures moved { result ≡ true → self.old.receiver.has_box ≡ true → incoming_of self.new ≡ record
-            { moment = moment; clock = later 0 moment; own = own; has_box = true; named = None; called = 0; reception = no_reception } }
+            { moment = moment; clock = later 0 moment; own = own; has_box = true; called = 0; reception = no_reception } }
         ensures stays { result ≡ false → self.new ≡ self.old }
     {
         if !self.receiver.move_to(own) {
@@ -348,7 +237,7 @@ impl Incoming {
 
     /// Time passes.
     pub(crate) fn tick(&mut self, now: Stamp)
-        ensures { IsNamed (incoming_of self.old) → incoming_of self.new ≡ ticks (stamp_micros now) (incoming_of self.old) }
+        ensures { incoming_of self.new ≡ ticks (stamp_micros now) (incoming_of self.old) }
     {
         self.pass(now);
         if let Some(source) = self.receiver.source() {
@@ -356,7 +245,6 @@ impl Incoming {
                 self.abort(source);
             } else {
                 let said = self.receiver.tick(self.clock);
-                self.named = self.named.cleared(clear_in(said));
                 self.reply(source, said);
             }
         }
@@ -372,7 +260,7 @@ impl Incoming {
         is_double: bool,
     )
         ensures knows { (F : List FrameRecord) → Knows holders.old F → Knows holders.new (if is_double then F else F ++ frame.now ∷ []) }
-        ensures left { IsNamed (incoming_of self.old) → incoming_of self.new ≡ with_reception (left (leaves (still gone (holder_in holders.old)) (holder_in holders.new)
+        ensures left { incoming_of self.new ≡ with_reception (left (leaves (still gone (holder_in holders.old)) (holder_in holders.new)
             (incoming_of self.old).reception.session) (incoming_of self.old).reception) (incoming_of self.old) }
     {
         match self.receiver.source() {
@@ -391,34 +279,39 @@ impl Incoming {
 
     /// The first moment at which a tick says something.
     pub(crate) fn next_tick(&self) -> Option<Stamp>
-        ensures { option_map stamp_micros result ≡ tick_by (incoming_of self.now).reception.since (incoming_of self.now).reception.session
-            (incoming_of self.now).named (incoming_of self.now).moment (incoming_of self.now).clock }
+        ensures { option_map stamp_micros result ≡ tick_at (incoming_of self.now).reception.since (incoming_of self.now).reception.session
+            (incoming_of self.now).moment (incoming_of self.now).clock }
     {
-        let limit = self.receiver.limit()?.min(self.latest());
+        let limit = self.receiver.limit()?.min(self.latest()?);
         let left = (limit + 1).saturating_sub(self.clock.micros());
         Stamp::new(self.moment.saturating_add(left))
     }
 
     /// The time after which a tick aborts the session.
-    fn latest(&self) -> u64
-        ensures value { result ≡ (incoming_of self.now).reception.since + longest (named_by self.now.named).packets }
-        ensures fits { result < 2 ^ 54 }
+    fn latest(&self) -> Option<u64>
+        ensures value { result ≡ option_map (λ r. (incoming_of self.now).reception.since + longest r.message.packets) (incoming_of self.now).reception.session }
+        ensures fits { IfSome result (λ n. n < 2 ^ 54) }
     {
-        self.since.micros() + self.named.longest()
+        match self.receiver.packets() {
+            Some(packets) => Some(self.since.micros() + (u64::from(packets) + 3) * T2),
+            None => None,
+        }
     }
 
     /// Whether the session's time is over.
     fn is_over(&self) -> bool
-        ensures { IsNamed (incoming_of self.now)
-            → result ≡ is_over (incoming_of self.now).reception.since (incoming_of self.now).clock (incoming_of self.now).reception.session }
+        ensures { result ≡ is_over (incoming_of self.now).reception.since (incoming_of self.now).clock (incoming_of self.now).reception.session }
     {
-        self.receiver.busy() && self.latest() < self.clock.micros()
+        match self.latest() {
+            Some(latest) => latest < self.clock.micros(),
+            None => false,
+        }
     }
 
     /// Ends the session of this source, whose time is over (abort 3).
     fn abort(&mut self, source: u8)
         ensures { incoming_of self.new ≡ with_replies (replied self.old.receiver.state.own source
-            (Some (written self.old.receiver.state.own source (Abort 3 (named_by self.old.named).group))) (incoming_of self.old).reception.replies)
+            (Some (written self.old.receiver.state.own source (Abort 3 (group_of (incoming_of self.old).reception.session)))) (incoming_of self.old).reception.replies)
             (with_reception (record {
               session = None;
               since = (incoming_of self.old).reception.since;
@@ -426,17 +319,27 @@ impl Incoming {
               replies = (incoming_of self.old).reception.replies;
             }) (incoming_of self.old)) }
     {
-        let bytes = abort_bytes(self.named.group);
+        let bytes = abort_bytes(self.group());
         self.receiver.end();
         self.say(source, bytes);
     }
 
+    /// The group of the open session.
+    fn group(&self) -> Pgn
+        ensures { pgn_raw result ≡ group_of (incoming_of self.now).reception.session }
+    {
+        match self.receiver.group() {
+            Some(group) => group,
+            None => Pgn::new(0).unwrap(),
+        }
+    }
+
     /// The source and the group of the open session.
     pub(crate) fn session(&self) -> Option<(u8, u32)>
-        ensures { result ≡ session_by (incoming_of self.now).reception.session (incoming_of self.now).named }
+        ensures { result ≡ in_session (incoming_of self.now).reception.session }
     {
         match self.receiver.source() {
-            Some(source) => Some((source, self.named.group.raw())),
+            Some(source) => Some((source, self.group().raw())),
             None => None,
         }
     }
@@ -499,7 +402,7 @@ impl Incoming {
 
     /// A frame to the address that is held. While a message waits, there is no room for another.
     fn take_in(&mut self, frame: &Frame)
-        ensures { self.old.receiver.has_box ≡ true → IsApart (incoming_of self.old).reception → IsNamed (incoming_of self.old) → incoming_of self.new
+        ensures { self.old.receiver.has_box ≡ true → IsApart (incoming_of self.old).reception → incoming_of self.new
             ≡ with_reception (heard_by (incoming_of self.old).own false true frame.now (incoming_of self.old).clock
             (incoming_of self.old).reception) (incoming_of self.old) }
     {
@@ -509,26 +412,34 @@ impl Incoming {
             self.reply(source, refusal);
         } else {
             let packet = self.packet(frame);
-            if self.named.strays(packet) {
+            if self.strays(packet) {
                 return;
             }
-            self.show(packet, frame);
+            self.show(frame);
         }
     }
 
-    /// The receiver is shown a frame, a packet of the session or none.
-    fn show(&mut self, packet: Option<u8>, frame: &Frame)
-        ensures { self.old.receiver.has_box ≡ true → IsNamed (incoming_of self.old) → (incoming_of self.old).reception.waits ≡ None
-            → packet ≡ packet_in (incoming_of self.old).own frame.now (incoming_of self.old).reception.session
-            → strays packet (incoming_of self.old).reception.session ≡ false → incoming_of self.new
-            ≡ with_reception (heard_by (incoming_of self.old).own false true frame.now (incoming_of self.old).clock
+    /// The receiver is shown a frame, no packet that strays.
+    fn show(&mut self, frame: &Frame)
+        ensures { self.old.receiver.has_box ≡ true → (incoming_of self.old).reception.waits ≡ None
+            → strays (packet_in (incoming_of self.old).own frame.now (incoming_of self.old).reception.session) (incoming_of self.old).reception.session ≡ false
+            → incoming_of self.new ≡ with_reception (heard_by (incoming_of self.old).own false true frame.now (incoming_of self.old).clock
             (incoming_of self.old).reception) (incoming_of self.old) }
     {
         let was_open = self.receiver.busy();
         let said = receive(&mut self.receiver, &mut self.place, frame, self.clock);
         self.since = self.since_then(was_open);
-        self.named = self.named.then(packet, frame, clear_in(said));
         self.reply(frame.id.source(), said);
+    }
+
+    /// Whether a packet of the session is neither the next one nor the last that was granted.
+    fn strays(&self, packet: Option<u8>) -> bool
+        ensures { result ≡ strays packet (incoming_of self.now).reception.session }
+    {
+        match packet {
+            Some(number) => self.receiver.busy() && !self.receiver.expects(number),
+            None => false,
+        }
     }
 
     /// The number of a packet of the session.
@@ -618,19 +529,6 @@ fn abort_bytes(group: Pgn) -> [u8; 8]
     bytes
 }
 
-/// How many packets a CTS that is said grants, and from which on.
-fn clear_in(said: Option<(Id, [u8; 8])>) -> Option<(u8, u8)>
-    ensures { result ≡ clear_in (option_map to_send said) }
-{
-    let frame = said?;
-    let [control, count, next, _, _, _, _, _] = frame.1;
-    if control == CLEAR_TO_SEND {
-        Some((count, next))
-    } else {
-        None
-    }
-}
-
 /// The number of a packet that goes from an address to this one; none goes to the null address.
 #[tactic(auto, using(crate::proofs::PacketLemmas::number_is))]
 fn number_in(own: u8, frame: &Frame) -> Option<u8>
@@ -643,16 +541,6 @@ fn number_in(own: u8, frame: &Frame) -> Option<u8>
         frame.bytes.as_slice().get(0).copied()
     } else {
         None
-    }
-}
-
-/// How many packets an RTS names, in its byte 4.
-fn packets_named(frame: &Frame) -> u8
-    ensures { result ≡ slice_index frame.now.bytes 3 }
-{
-    match frame.bytes.as_slice().get(3) {
-        Some(packets) => *packets,
-        None => 0,
     }
 }
 

@@ -26,7 +26,7 @@ ghost use Rattle.j39_transport.specs.Cutting.{ToSend};
 ghost use Rattle.j39_transport.specs.Receiving.{said_to};
 ghost use Rattle.j39_transport.specs.Signals.{RequestToSend};
 ghost use Rattle.byteorder.specs.Endian.{little_bytes};
-ghost use Rattle.j39_node.specs.Hearing.{hearing, hearing_tick, unheard_news};
+ghost use Rattle.j39_node.specs.Hearing.{hearing_tick, listening, over_by, unheard_news};
 ghost use Rattle.j39_node.specs.Transfers.{age, next_due, next_transfer, told_transfers, transfers};
 ghost use Rattle.j39_node.specs.Moves.{moves};
 ghost use Rattle.j39_node.specs.Asking.{Question, asks, ended, next_ask_ended, open_ask, request_tick, told_asks};
@@ -491,8 +491,8 @@ pub fn full_refuses()
 {}
 
 /// `next_tick` tells the soonest of three moments. Before the session's a tick says nothing and ends no session; from then on one says a
-/// CTS or an abort (its first byte is 17 or 255) to the session's source. Before the broadcast's a tick leaves what is heard; from then on
-/// one ends the broadcast, and its place is free. Before all three it ends no request; from the request's on this is told as timed out.
+/// CTS or an abort (its first byte is 17 or 255) to the session's source. Before the broadcasts' a tick leaves what is heard; from then on
+/// one ends one. Before all three it ends no request; from the request's on this is told as timed out.
 pub fn ticks_wait()
     ensures waits { (w : Who) (H : List Call) (now : ℕ) → heard_at H ≤ now → now < 10000000000000000
         → ((t : ℕ) → session_tick w H ≡ Some t → now < t) → reception w (At now Tick ∷ H) ≡ reception w H }
@@ -501,9 +501,9 @@ pub fn ticks_wait()
         → (x : ToSend) × ((slice_get x.bytes 0 ≡ Some 17) ⊎ (slice_get x.bytes 0 ≡ Some 255))
         × ((reception w (At now Tick ∷ H)).replies ≡ replied w.address r.message.source (Some x) (reception w H).replies) }
     ensures keeps { (w : Who) (H : List Call) (now : ℕ) → heard_at H ≤ now → now < 10000000000000000
-        → ((t : ℕ) → hearing_tick w H ≡ Some t → now < t) → hearing w (At now Tick ∷ H) ≡ hearing w H }
+        → ((t : ℕ) → hearing_tick w H ≡ Some t → now < t) → listening w (At now Tick ∷ H) ≡ listening w H }
     ensures ends { (w : Who) (H : List Call) (now t : ℕ) → hearing_tick w H ≡ Some t → t ≤ now
-        → time_heard H + (t - heard_at H) < 10000000000000000 → hearing w (At now Tick ∷ H) ≡ None }
+        → time_heard H + (t - heard_at H) < 10000000000000000 → 0 < length (over_by w H (At now Tick)) }
     ensures none_ends { (w : Who) (H : List Call) (now : ℕ) → heard_at H ≤ now → now < 10000000000000000
         → ((t : ℕ) → next_tick w H ≡ Some t → now < t)
         → next_ask_ended w (At now Tick ∷ H) ≡ next_ask_ended w H }

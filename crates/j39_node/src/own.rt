@@ -10,6 +10,7 @@ ghost use Rattle.j39_address.specs.Name.{name_raw};
 ghost use Rattle.j39_node.specs.History.{is_smaller, is_larger, asked_group, is_some, is_none, is_asked, calls_for_claim, is_for_program, is_own_group, is_subscribed, has_group, AreFew, asks_with, claim_from, claim_with, carried, is_another, is_served, nothing, double};
 ghost use Rattle.j39_frame.specs.Address.{IsAddress};
 
+use crate::Setup;
 use crate::requests::Due;
 use arrayvec::ArrayVec;
 use byteorder::{ByteOrder, LittleEndian};
@@ -43,41 +44,31 @@ pub(crate) struct Own {
     pub(crate) served: ArrayVec<u32, 16>,
     /// All where there is none.
     pub(crate) subscribed: Option<ArrayVec<u32, 64>>,
+    /// How many broadcasts in packets are heard at once.
+    pub(crate) boxes: u8,
     pub ghost fits: { IsAddress address },
 }
 
 impl Own {
-    ghost use Rattle.j39_node.specs.Is.{who_of, stamped, refusal_by};
+    ghost use Rattle.j39_node.specs.Hearing.{is_ignored};
+    ghost use Rattle.j39_node.specs.Is.{IsRight, refusal_by, stamped, who_for, who_of};
 
     /// `None` for an address above 253, more than 16 groups served, or more than 64 subscribed.
     #[inline(always)]
-    pub(crate) fn new(
-        name: Name,
-        address: u8,
-        delay: u8,
-        served: &[Pgn],
-        subscribed: Option<&[Pgn]>,
-    ) -> Option<Own>
-        ensures known { IsSome result ↔ (IsAddress address × (length served.now ≤ 16)
-            × AreFew (option_map (λ g. map pgn_raw g.now) subscribed.entry)) }
-        ensures value { IfSome result (λ own. who_of nothing own ≡ record {
-          name = name_raw name;
-          address = address;
-          delay = delay;
-          served = map pgn_raw served.now;
-          subscribed = option_map (λ g. map pgn_raw g.now) subscribed.entry;
-          brought = nothing;
-        }) }
+    pub(crate) fn new(setup: &Setup<'_>) -> Option<Own>
+        ensures known { IsSome result ↔ IsRight (who_for setup.now) }
+        ensures value { IfSome result (λ own. who_of nothing own ≡ who_for setup.now) }
     {
-        if !is_address(address) {
+        if !is_address(setup.address) {
             return None;
         }
         Some(Own {
-            name,
-            address,
-            delay,
-            served: numbers(served)?,
-            subscribed: subscriptions(subscribed)?,
+            name: setup.name,
+            address: setup.address,
+            delay: setup.delay,
+            served: numbers(setup.served)?,
+            subscribed: subscriptions(setup.subscribed)?,
+            boxes: setup.broadcasts,
         })
     }
 
@@ -164,6 +155,13 @@ impl Own {
         ensures { result ≡ is_served (who_of nothing self.now) (pgn_raw group) }
     {
         is_among(self.served.as_slice(), group.raw())
+    }
+
+    /// Whether a message of the group isn't for the program: the group is the stack's own, or isn't subscribed.
+    pub(crate) fn is_ignored(&self, group: Pgn) -> bool
+        ensures { result ≡ is_ignored (who_of nothing self.now) (pgn_raw group) }
+    {
+        is_own_group(group) || !self.is_subscribed(group)
     }
 
     /// Whether its program subscribed the group.

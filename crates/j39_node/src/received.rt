@@ -1,9 +1,11 @@
 //! Messages that were received.
 ghost use Rattle.std.specs.Prelude.{◌≡◌, ◌&&◌, [], Some, length, map, nat_lt, not};
 ghost use Rattle.std.specs.Option.{option_map};
-ghost use Rattle.j39_node.specs.Is.{received_by, stamped, offered, counted};
+ghost use Rattle.j39_address.specs.Name.{name_raw};
+ghost use Rattle.j39_node.specs.Is.{received_by, sender_by, stamped, offered, counted};
 
 use arrayvec::ArrayVec;
+use j39_address::Name;
 use j39_frame::{Frame, Pgn, Stamp};
 
 /// A message that was heard.
@@ -13,6 +15,9 @@ pub struct Received {
     pub stamp: Stamp,
     /// Who sent it, 0 to 253.
     pub source: u8,
+    /// The NAME that held that address when it was heard, by the claims heard and the own ones that were taken; `None` where nobody
+    /// did.
+    pub name: Option<Name>,
     /// 255 where it is to all, or this controller's address; `None` for a group of PF 240 and up.
     pub destination: Option<u8>,
     /// Its priority, 0 (the highest) to 7.
@@ -28,6 +33,7 @@ impl Default for Received {
         Received {
             stamp: Stamp::new(0).unwrap(),
             source: 0,
+            name: None,
             destination: None,
             priority: 0,
             group: Pgn::new(0).unwrap(),
@@ -37,15 +43,17 @@ impl Default for Received {
 }
 
 impl Received {
-    /// The message of a frame.
-    pub(crate) fn of(frame: &Frame) -> Option<Received>
-        ensures { option_map received_by result ≡ Some (stamped frame.now) }
+    /// The message of a frame, whose source this NAME holds.
+    pub(crate) fn of(frame: &Frame, name: Option<Name>) -> Option<Received>
+        ensures message { option_map received_by result ≡ Some (stamped frame.now) }
+        ensures sender { option_map sender_by result ≡ Some (option_map name_raw name) }
     {
         let mut bytes = ArrayVec::new();
         bytes.try_extend_from_slice(frame.bytes.as_slice()).ok()?;
         Some(Received {
             stamp: frame.stamp,
             source: frame.id.source(),
+            name,
             destination: frame.id.destination(),
             priority: frame.id.priority(),
             group: frame.id.pgn(),
@@ -80,10 +88,12 @@ impl Inbox {
         wanted && !(self.unread.len() < 16)
     }
 
-    /// Keeps the frame where it is wanted and there is room, else counts it as missed.
-    pub(crate) fn offer(&mut self, wanted: bool, frame: &Frame)
+    /// Keeps the frame, whose source this NAME holds, where it is wanted and there is room, else counts it as missed.
+    pub(crate) fn offer(&mut self, wanted: bool, frame: &Frame, name: Option<Name>)
         ensures unread { map received_by self.new.unread.items
             ≡ offered wanted (stamped frame.now) (map received_by self.old.unread.items) }
+        ensures senders { map sender_by self.new.unread.items
+            ≡ offered wanted (option_map name_raw name) (map sender_by self.old.unread.items) }
         ensures missed { self.new.missed
             ≡ counted wanted (map received_by self.old.unread.items) self.old.missed }
     {
@@ -94,7 +104,7 @@ impl Inbox {
             self.missed = self.missed.saturating_add(1);
             return;
         }
-        if let Some(message) = Received::of(frame) {
+        if let Some(message) = Received::of(frame, name) {
             self.unread.push(message);
         }
     }

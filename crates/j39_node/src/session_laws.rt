@@ -16,7 +16,7 @@ ghost use Rattle.j39_node.specs.History.Call.{At};
 ghost use Rattle.j39_node.specs.History.Act.{Hear, TakeFrame, Tick};
 ghost use Rattle.j39_node.specs.Packets.{Bring, IsPacket};
 ghost use Rattle.j39_address.specs.Claim.{Claim, claim_of};
-ghost use Rattle.j39_node.specs.Hearing.{OpenBroadcast, found, hearing, is_whole};
+ghost use Rattle.j39_node.specs.Hearing.{found};
 ghost use Rattle.j39_node.specs.Reception.{KeepsHolder, asks_claims, called, calls_claims, heard_at, holder, is_message, restarts, longest, reception, replied, time_heard, whole};
 ghost use Rattle.j39_node.specs.Since.{NeverBack, passed_in};
 ghost use Rattle.j39_node.specs.Ticks.{StaysOpen, TicksWithin};
@@ -101,8 +101,8 @@ pub fn restarts_are_met()
         ↔ ((c : Claim) × (claim_of f ≡ Some c) × (c.address ≡ a) × (holder w H a ≡ Some c.name) × (called w H ≤ now - heard_at H))) }
     ensures session { (w : Who) (H : List Call) (now : ℕ) (f : FrameRecord) (r : ReceptionRecord) → (reception w H).session ≡ Some r
         → restarts w H now f ≡ Some r.message.source → (reception w (At now (Hear f) ∷ H)).session ≡ None }
-    ensures broadcast { (w : Who) (H : List Call) (now : ℕ) (f : FrameRecord) (x : OpenBroadcast) → hearing w H ≡ Some x → is_whole x ≡ false
-        → restarts w H now f ≡ Some x.source → found w H now f ≡ None }
+    ensures broadcast { (w : Who) (H : List Call) (now : ℕ) (f : FrameRecord) (a : ℕ) → restarts w H now f ≡ Some a
+        → found w H now f a ≡ None }
     ensures heard { (w : Who) (later H : List Call) (when now : ℕ) (f g : FrameRecord) → IsTrue (calls_claims (holder w H) f (claim_of f))
         → passed_in later (At when (Hear f) ∷ H) + step (later ++ At when (Hear f) ∷ H) now < called_time
         → restarts w (later ++ At when (Hear f) ∷ H) now g ≡ None }

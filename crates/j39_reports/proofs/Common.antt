@@ -64,11 +64,11 @@ pub use Rattle.j39_listen.specs.AccountCalls.{Begins, Closes, LeavesWriter, Make
 pub use Rattle.j39_listen.specs.Asking.{AsksAmong, AsksForBoxes, Wanting}
 pub use Rattle.j39_listen.specs.Chooses.{Chooses, which_of}
 pub use Rattle.j39_listen.specs.Counting.{capped}
-pub use Rattle.j39_listen.specs.Filter.{FilterRecord, asks_for, filtered_of, first_stamp, messages_taken, no_filter, takes_message}
+pub use Rattle.j39_listen.specs.Filter.{FilterRecord, asks_for, filtered_of, first_stamp, in_time, is_in_time, messages_taken, no_filter, takes_message}
 pub use Rattle.j39_listen.specs.Heard.{AreHeard, AreHeardWith, HeardAt, HeardAtWith, HeardBelowWith, Hearing, IsHeardWith, LeavesNetwork, frame_at, frames_only, or_none}
 pub use Rattle.j39_listen.specs.HeardModel.{hearing_of}
 pub use Rattle.j39_listen.specs.Listening.{Hears, holder_of}
-pub use Rattle.j39_listen.specs.Members.{address_string, in_marks, name_string, or_null}
+pub use Rattle.j39_rows.specs.Members.{address_string, in_marks, name_string, or_null}
 pub use Rattle.j39_listen.specs.Output.{Making, Meeting, Output, nothing}
 pub use Rattle.j39_listen.specs.Report.{Entry, Form, entries_of, entry_of, name_text}
 pub use Rattle.j39_listen.specs.ReportSoFar.{HasReported, Subject, made_of, made_sum}

@@ -37,6 +37,11 @@ pub mod CurrentLemmas
 pub mod NowPlaceLemmas
 pub mod NowLineLemmas
 pub mod CurrentAccountLemmas
+-- who is at which address
+pub mod ByAddressLemmas
+pub mod SeenLemmas
+pub mod NodeLemmas
+pub mod SeenNodeLemmas
 -- a watch: its lines
 pub mod CutLemmas
 pub mod LatestLemmas

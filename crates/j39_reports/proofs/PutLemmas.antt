@@ -1,5 +1,5 @@
 -- What is told of one message.
-use Rattle.j39_reports.proofs.Common.{◌≡◌, ◌≢◌, ◌∙◌, ◌<◌, ◌≤◌, ◌^◌, ◌&&◌, ◌||◌, ℕ, Bool, true, false, List, [], ◌∷◌, ◌++◌, Option, Some, or-true, None, ap, arith, is_some, length, nat_le, refl, subst, sym, Result, Ok, Err, IfOk, OnOk, le-leb, Appends, AppendsFront, Puts, Device, Turn, puts_as, puts_nothing, cleared_in, kind_of, lamps_of, Kind, Lamps, LeavesWriter, capped, LineFault, takes_message, Hearing, Made, capped-fits, same_made, version_for, Version, Format}
+use Rattle.j39_reports.proofs.Common.{◌≡◌, ◌≢◌, ◌∙◌, ◌<◌, ◌≤◌, ◌^◌, ◌&&◌, ◌||◌, ℕ, Bool, true, false, List, [], ◌∷◌, ◌++◌, Option, Some, or-true, None, ap, append-nil, arith, cases_Bool, inl, inr, is_some, length, nat_le, refl, subst, sym, Result, Ok, Err, IfOk, OnOk, le-leb, Appends, Appends-nil, AppendsFront, Puts, Device, Turn, puts_as, puts_nothing, cleared_in, kind_of, lamps_of, Kind, Lamps, LeavesWriter, capped, LineFault, in_time, is_in_time, takes_message, Hearing, Made, capped-fits, same_made, version_for, Version, Format}
 use Rattle.j39_listen.specs.declared.account.LineFault.TheVariants.{Memory, Write}
 use Rattle.j39_reports.specs.Faults.{Fault, Manner, clearing_of, faults_by, faults_in, faults_or_clearing, faults_taken, lines_in, names_asked}
 use Rattle.j39_reports.specs.News.{Chosen, is_clearing, is_news, is_of_codes, is_of_faults, last_from, says_other}
@@ -12,7 +12,7 @@ use Rattle.j39_reports.specs.FaultsSoFar.{Tells, TellsFaults, TellsFront, tells_
 use Rattle.j39_reports.specs.declared.fault_news.last_faults.LastFaults.{LastFaults}
 use Rattle.j39_reports.specs.declared.fault_news.telling.Telling.{Telling}
 use Rattle.j39_reports.specs.declared.fault_news.telling.Telling.TheVariants.{News, All, Changes}
-use Rattle.j39_reports.proofs.FaultAccountLemmas.{among_no, among_yes, faults_text-none, next_no, next_yes, tells_nothing}
+use Rattle.j39_reports.proofs.FaultAccountLemmas.{among_no, among_yes, faults_text-none, in_time_no, in_time_yes, next_no, next_yes, tells_nothing, untimely}
 use Rattle.j39_reports.proofs.AskedLemmas.{taken_next, told_both}
 use Rattle.j39_reports.proofs.TellLemmas.{before_is, by_request, news_is, remembers_asked, remembers_more}
 
@@ -136,13 +136,25 @@ module _ (form : Format) (rows : Manner) (which : Chosen) (first : ℕ) (last : 
   next_faults : faults_taken which.asked first (told_next which ms (Some h)) ≡ taken_since
   next_faults = taken_next which first ms h ∙ (λ i. told_faults (sym asked_is i) ((next_yes which ms h (of_faults h kind lamps k l) ∙ told_are which.telling) i))
 
-  pub tells_message : (last' : LastFaults) (made : Made) (old new : Option (List ℕ)) → length h.message.bytes ≤ 1785 → last' ≡ noted last kind h.message.source (said_in h)
+  -- it is remembered only if it came between the moments
+  pub tells_passed : (made : Made) (held : Option (List ℕ)) → is_in_time which.asked first h.stamp ≡ false → made.messages ≡ 1 → made.lines ≡ 0
+      → Tells form rows which first last ms (Some h) made held held
+  tells_passed made held passed messages lines =
+      let among = among_yes h (of_faults h kind lamps k l) in
+      let none = untimely which first ms h passed in
+      record {
+        remembers = subst (Remembers last) (sym (ap (λ (x : List Hearing). ms ++ in_time which.asked first x) among ∙ ap (λ (x : List Hearing). ms ++ x) (in_time_no which.asked first h passed) ∙ append-nil ms)) remembers;
+        made_is = same_made _ _ (messages ∙ sym (ap (λ (x : List Hearing). capped (length x)) among)) (lines ∙ sym (ap (λ (x : List Fault). capped (lines_in rows x)) none));
+        written = subst (Appends held held) (sym (ap (faults_text form rows) none ∙ faults_text-none form rows)) (Appends-nil held);
+      }
+
+  pub tells_message : (last' : LastFaults) (made : Made) (old new : Option (List ℕ)) → is_in_time which.asked first h.stamp ≡ true → length h.message.bytes ≤ 1785 → last' ≡ noted last kind h.message.source (said_in h)
       → made.messages ≡ 1 → made.lines ≡ lines_in rows taken_since → made.lines < 2 ^ 64
       → Appends old new (faults_text form rows taken_since) → Tells form rows which first last' ms (Some h) made old new
-  tells_message last' made old new short notes messages lines fits written =
+  tells_message last' made old new now short notes messages lines fits written =
       let among = among_yes h (of_faults h kind lamps k l) in
       record {
-        remembers = subst (λ (x : List Hearing). Remembers last' (ms ++ x)) (sym among) (remembers_more last last' ms h kind k notes remembers short);
+        remembers = subst (λ (x : List Hearing). Remembers last' (ms ++ x)) (sym (ap (in_time which.asked first) among ∙ in_time_yes which.asked first h now)) (remembers_more last last' ms h kind k notes remembers short);
         made_is = same_made _ _ (messages ∙ sym (ap (λ (x : List Hearing). capped (length x)) among))
             (sym (ap (λ (x : List Fault). capped (lines_in rows x)) next_faults ∙ ap capped (sym lines) ∙ capped-fits made.lines fits));
         written = subst (Appends old new) (sym (ap (faults_text form rows) next_faults)) written;
@@ -183,7 +195,10 @@ module _ (form : Format) (rows : Manner) (which : Chosen) (first : ℕ) (last : 
   tells_asking made old new remembers short messages lines fits written =
       let among = among_yes h (asks_to h kind asks) in
       record {
-        remembers = subst (λ (x : List Hearing). Remembers last (ms ++ x)) (sym among) (remembers_asked last ms h kind asks remembers short);
+        remembers = elim (cases_Bool (is_in_time which.asked first h.stamp)) [
+          | inl now ↦ subst (λ (x : List Hearing). Remembers last (ms ++ x)) (sym (ap (in_time which.asked first) among ∙ in_time_yes which.asked first h now)) (remembers_asked last ms h kind asks remembers short)
+          | inr passed ↦ subst (Remembers last) (sym (ap (λ (x : List Hearing). ms ++ in_time which.asked first x) among ∙ ap (λ (x : List Hearing). ms ++ x) (in_time_no which.asked first h passed) ∙ append-nil ms)) remembers
+        ];
         made_is = same_made _ _ (messages ∙ sym (ap (λ (x : List Hearing). capped (length x)) among))
             (sym (ap (λ (x : List Fault). capped (lines_in rows x)) clears_next ∙ ap capped (sym lines) ∙ capped-fits made.lines fits));
         written = subst (Appends old new) (sym (ap (faults_text form rows) clears_next)) written;

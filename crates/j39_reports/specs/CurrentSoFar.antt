@@ -6,7 +6,7 @@ use Rattle.j39_faults.specs.declared.code.Code.{Code}
 use Rattle.j39_faults.specs.declared.conversion.Conversion.{Conversion}
 use Rattle.j39_listen.specs.Counting.{capped}
 use Rattle.j39_listen.specs.Chooses.{Chooses}
-use Rattle.j39_listen.specs.Filter.{FilterRecord}
+use Rattle.j39_listen.specs.Filter.{FilterRecord, first_stamp as stamp_of_first, in_time}
 use Rattle.j39_listen.specs.Heard.{AreHeardWith, Hearing, HeardAtWith, or_none}
 use Rattle.j39_listen.specs.Listening.{Hears}
 use Rattle.j39_listen.specs.Output.{Output, nothing}
@@ -89,14 +89,14 @@ taken_below which first places n = now_taken which first (shown_below places n)
 
 -- ---- one frame more
 
--- behind the frames F this is heard at the frame f, and taken to the messages before
-pub record TakesFrame (conversions : List Conversion) (F : List FrameRecord) (f : FrameRecord) (l' : Listener) (places : Places)
-    (a a' : Announced) (ms : List Hearing) (messages : ℕ) : Type 0 where
+-- behind the frames F this is heard at the frame f, and between the moments taken to the messages before
+pub record TakesFrame (which : FilterRecord) (conversions : List Conversion) (F : List FrameRecord) (f : FrameRecord) (l' : Listener)
+    (places : Places) (a a' : Announced) (ms : List Hearing) (messages : ℕ) : Type 0 where
   pub heard : Option Hearing
   pub heard_at : HeardAtWith is_fault_group (F ++ f ∷ []) (length F) heard
   pub hears : Hears l' (F ++ f ∷ [])
   pub announced_is : a' ≡ with_either (with_frame a f) heard
-  pub are_kept : AreKept conversions places (ms ++ active_among (or_none heard))
+  pub are_kept : AreKept conversions places (ms ++ in_time which (stamp_of_first (F ++ f ∷ [])) (active_among (or_none heard)))
   pub messages_are : messages ≡ length (active_among (or_none heard))
 
 -- the table of parameters and those that are asked for, the versions of the conversion, and what is asked for
@@ -114,7 +114,7 @@ pub record HasKept (form : Format) (s : NowSubject) (account : FaultsNow) (F : L
   pub heard : List Hearing
   pub are_heard : AreHeardWith is_fault_group F heard
   pub hears : Hears account.listener F
-  pub are_kept : AreKept s.conversions account.places (active_among heard)
+  pub are_kept : AreKept s.conversions account.places (in_time s.which (stamp_of_first F) (active_among heard))
   pub messages_are : account.messages ≡ capped (length (active_among heard))
   pub announced_is : account.announced ≡ announced_in F heard
   pub nothing_yet : output ≡ nothing

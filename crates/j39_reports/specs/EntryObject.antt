@@ -4,7 +4,7 @@ use Rattle.j39_groups.specs.Names.{group_name_in, name_in, state_in}
 use Rattle.j39_groups.specs.Row.{RowRecord}
 use Rattle.j39_groups.specs.Value.{ValueRecord, number, on, off, error, reserved, indicator, text}
 use Rattle.j39_groups.specs.ValueText.{magnitude_text, scaled_text}
-use Rattle.j39_listen.specs.Members.{address_string, in_marks, name_string, or_null}
+use Rattle.j39_rows.specs.Members.{address_string, in_marks, name_string, or_null}
 use Rattle.j39_listen.specs.Report.{Entry}
 use Rattle.j39_reports.specs.Json.{bytes_member, string_or_null}
 use Rattle.j39_rows.specs.Json.{string_text}

@@ -18,7 +18,7 @@ use Rattle.j39_groups.specs.Names.{parameter_name}
 use Rattle.j39_groups.specs.Row.{RowRecord}
 use Rattle.j39_listen.specs.Filter.{FilterRecord, asks_for}
 use Rattle.j39_listen.specs.Heard.{Hearing}
-use Rattle.j39_names.specs.Names.{parameter_called}
+use Rattle.j39_names.specs.Called.{parameter_called}
 
 -- a code of a kind, what became of it, or that a message has none, and with which lamps; or that the codes of a kind are to be
 -- cleared

@@ -6,7 +6,7 @@ use Rattle.j39_faults.specs.declared.conversion.Conversion.{Conversion}
 use Rattle.j39_faults.specs.declared.kind.Kind.TheVariants.{Active}
 use Rattle.j39_faults.specs.declared.text.State.TheVariants.{Is}
 use Rattle.j39_listen.specs.Asking.{AsksForBoxes, Wanting}
-use Rattle.j39_listen.specs.Filter.{FilterRecord, first_stamp}
+use Rattle.j39_listen.specs.Filter.{FilterRecord, first_stamp, in_time, is_in_time}
 use Rattle.j39_listen.specs.Headed.{Columned}
 use Rattle.j39_listen.specs.Heard.{AreHeardWith, Hearing, IsHeardWith}
 use Rattle.j39_listen.specs.Output.{Making, Output}
@@ -43,12 +43,12 @@ now_text form manner ns = flat_map (now_line form manner) ns
 abbrev pub now_lines : Manner → List Now → ℕ
 now_lines manner ns = count_by (λ n. names_asked manner.spns n.code) ns
 
--- of those that are asked for; each message of active codes counts
+-- of the messages between the moments what is asked for; each message of active codes counts
 abbrev pub faults_now_of : Format → Manner → List Conversion → FilterRecord → ℕ → List Hearing → Output
 faults_now_of form manner conversions which first ms = record {
-  text = now_text form manner (now_taken which first (faults_now conversions ms));
+  text = now_text form manner (now_taken which first (faults_now conversions (in_time which first ms)));
   messages = length ms;
-  lines = now_lines manner (now_taken which first (faults_now conversions ms));
+  lines = now_lines manner (now_taken which first (faults_now conversions (in_time which first ms)));
 }
 
 -- of the frames, whatever their bus is called, in either form
@@ -61,15 +61,17 @@ MakesFaultsNowIn form manner conversions which bus F output =
 abbrev pub MakesFaultsNow : Format → Manner → List Conversion → FilterRecord → Making
 MakesFaultsNow form manner conversions which = Columned now_columns form (MakesFaultsNowIn form manner conversions which)
 
--- behind the frames F a message of active codes is heard at the frame, and none is the last of a controller at its address
-pub record IsFirstActive (F : List FrameRecord) (frame : FrameRecord) : Type 0 where
+-- behind the frames F a message of active codes is heard at the frame, between the moments, where none is the last of a
+-- controller at its address
+pub record IsFirstActive (which : FilterRecord) (F : List FrameRecord) (frame : FrameRecord) : Type 0 where
   pub before : List Hearing
   pub are_heard : AreHeardWith is_fault_group F before
   pub message : Hearing
   pub is_heard : IsHeardWith is_fault_group (F ++ frame ∷ []) (length F) message
   pub of_active : is_active_message message ≡ true
-  pub first : filter (is_at message.message.source) (lasts (active_among before)) ≡ []
+  pub now : is_in_time which (first_stamp (F ++ frame ∷ [])) message.stamp ≡ true
+  pub first : filter (is_at message.message.source) (lasts (in_time which (first_stamp (F ++ frame ∷ [])) (active_among before))) ≡ []
 
 -- where a message in packets is announced that needs a box, or one of active codes is the first of its address
-abbrev pub AsksForFaultsNow : Wanting
-AsksForFaultsNow F frame = AsksForBoxes F frame ⊎ IsFirstActive F frame
+abbrev pub AsksForFaultsNow : FilterRecord → Wanting
+AsksForFaultsNow which F frame = AsksForBoxes F frame ⊎ IsFirstActive which F frame

@@ -16,7 +16,7 @@ use Rattle.j39_faults.specs.declared.kind.Kind.{Kind}
 use Rattle.j39_faults.specs.declared.lamps.Lamps.{Lamps}
 use Rattle.j39_frame.specs.Frame.{FrameRecord}
 use Rattle.j39_listen.specs.Chooses.{Chooses}
-use Rattle.j39_listen.specs.Filter.{first_stamp}
+use Rattle.j39_listen.specs.Filter.{first_stamp, in_time}
 use Rattle.j39_listen.specs.Heard.{AreHeardWith, Hearing, HeardAtWith, or_none}
 use Rattle.j39_listen.specs.Listening.{Hears}
 use Rattle.j39_listen.specs.Output.{Output}
@@ -114,10 +114,10 @@ pub record TellsFaults (form : Format) (manner : Manner) (faults : List Fault) (
   pub stops : result ≡ Err Write → AppendsFront sink.old.bytes sink.new.bytes (faults_text form manner faults)
   pub writer : LeavesWriter result sink
 
--- behind these messages this was heard, and what is told of it was written
+-- behind these messages between the moments this was heard, and what is told of it was written
 pub record Tells (form : Format) (manner : Manner) (which : Chosen) (first : ℕ) (last' : LastFaults) (ms : List Hearing)
     (heard : Option Hearing) (made : Made) (old new : Option (List ℕ)) : Type 0 where
-  pub remembers : Remembers last' (ms ++ faults_among (or_none heard))
+  pub remembers : Remembers last' (ms ++ in_time which.asked first (faults_among (or_none heard)))
   pub made_is : made ≡ made_of (added form manner which first ms heard)
   pub written : Appends old new (added form manner which first ms heard).text
 
@@ -180,7 +180,7 @@ pub record HasTold (form : Format) (s : Subject) (news : FaultNews) (F : List Fr
   pub are_heard : AreHeardWith is_fault_group F heard
   pub output_is : output ≡ faults_of form s.manner s.which (first_stamp F) (faults_among heard)
   pub hears : Hears news.listener F
-  pub remembers : Remembers news.last (faults_among heard)
+  pub remembers : Remembers news.last (in_time s.which.asked (first_stamp F) (faults_among heard))
   pub made_is : news.made ≡ made_of output
   pub announced_is : news.announced ≡ announced_in F heard
 

@@ -1,7 +1,7 @@
 -- Strings of JSON (RFC 8259, 7; own).
 use Rattle.std.specs.Prelude.{◌==◌, ◌||◌, ℕ, Bool, List, Option, codes, nat_lt, option_map}
 use Rattle.j39_io.specs.Chars.{backslash, quote, space}
-use Rattle.j39_listen.specs.Members.{or_null}
+use Rattle.j39_rows.specs.Members.{or_null}
 use Rattle.j39_rows.specs.Json.{bytes_under, string_text}
 
 -- a byte that doesn't stand as it is, or is no character by itself

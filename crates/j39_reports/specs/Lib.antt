@@ -41,6 +41,13 @@ pub mod FaultsNowRun
 -- the faults that are there now: the code's steps, below the rules
 pub mod CurrentPlaces
 pub mod CurrentSoFar
+-- who is at which address: what a run makes of the frames
+pub mod ByAddress
+pub mod Nodes
+pub mod SeenNodes
+-- who is at which address: the code's steps, below the rules
+pub mod NodesSoFar
+pub mod SeenSoFar
 -- a watch: what stands on its screens
 pub mod Watch
 -- a watch: the code's steps, below the rules

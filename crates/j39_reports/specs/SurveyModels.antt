@@ -6,6 +6,7 @@ use Rattle.j39_memory.specs.ByGroup.{values_of}
 use Rattle.j39_frame.specs.Frame.{FrameRecord}
 use Rattle.j39_frame.specs.Groups.{IsHeardGroup, place_of_group}
 use Rattle.j39_frame.specs.Identifier.{source_of}
+use Rattle.j39_frame.specs.Stamp.{stamp_micros}
 use Rattle.j39_log.specs.Log.{bus_of, frames_of}
 use Rattle.j39_listen.specs.Counting.{capped}
 use Rattle.j39_listen.specs.Heard.{Hearing}
@@ -15,7 +16,9 @@ use Rattle.j39_reports.specs.GroupCounts as counted
 use Rattle.j39_reports.specs.Interfaces.{InterfaceRecord, interfaces_of, last_behind, untold_in}
 use Rattle.j39_reports.specs.LogLines.{LogLine, Seen, UnreadRecord, has_log_line, others_in, seen_in, spelled_in, unread_in}
 use Rattle.j39_reports.specs.OtherLines.{OthersRecord, others_of}
+use Rattle.j39_reports.specs.SurveyText as rows
 use Rattle.j39_reports.specs.UnreadLines.{ShownRecord, are_printed, shown_in}
+use Rattle.j39_rows.specs.Models.{cell_of}
 use Rattle.j39_reports.specs.declared.surveys.addresses.Addresses.{Addresses}
 use Rattle.j39_reports.specs.declared.surveys.arrivals.Arrivals.{Arrivals}
 use Rattle.j39_reports.specs.declared.surveys.distances.Distances.{Distances}
@@ -27,6 +30,7 @@ use Rattle.j39_reports.specs.declared.surveys.interfaces.Interfaces.{Interfaces}
 use Rattle.j39_reports.specs.declared.surveys.others.Others.{Others}
 use Rattle.j39_reports.specs.declared.surveys.log_survey.Survey.{Survey}
 use Rattle.j39_reports.specs.declared.surveys.senders.Senders.{Senders}
+use Rattle.j39_reports.specs.declared.surveys.survey_row.SurveyRow.{SurveyRow}
 use Rattle.j39_reports.specs.declared.surveys.traffic.Traffic.{Traffic}
 use Rattle.j39_reports.specs.declared.surveys.unread.UnreadLine.{UnreadLine}
 use Rattle.j39_reports.specs.declared.surveys.unread.UnreadLines.{UnreadLines}
@@ -90,8 +94,8 @@ abbrev pub interface_record : InterfaceCounts → InterfaceRecord
 interface_record i = record {
   name = i.name.items;
   frames = i.frames;
-  first = i.first;
-  last = i.last;
+  first = stamp_micros i.first;
+  last = stamp_micros i.last;
   back = i.back;
 }
 
@@ -117,6 +121,35 @@ pub record HaveNoted (lines : UnreadLines) (unread : List UnreadRecord) : Type 0
   pub count_is : lines.count ≡ capped (length unread)
   pub first_are : map shown_record lines.first.items ≡ shown_in unread
   pub printed_is : lines.are_printed ≡ are_printed unread
+
+-- ---- rows
+
+abbrev pub row_shown : SurveyRow → rows.SurveyRow
+row_shown row = record {
+  kind = row.kind.now;
+  lines = cell_of row.lines;
+  interface = cell_of row.interface;
+  pgn = cell_of row.pgn;
+  frames = cell_of row.frames;
+  first = option_map stamp_micros row.first;
+  last = option_map stamp_micros row.last;
+  back = cell_of row.back;
+  announced = cell_of row.announced;
+  whole = cell_of row.whole;
+  addresses = cell_of row.addresses;
+  least = cell_of row.least;
+  mean = cell_of row.mean;
+  most = cell_of row.most;
+  class = cell_of row.class;
+  name = cell_of row.name;
+  standard = cell_of row.standard;
+  remote = cell_of row.remote;
+  flexible = cell_of row.flexible;
+  error = cell_of row.error;
+  odd = cell_of row.odd;
+  line = cell_of row.line;
+  text = cell_of row.text;
+}
 
 -- ---- all lines so far
 

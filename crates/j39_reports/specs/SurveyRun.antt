@@ -9,14 +9,16 @@ use Rattle.j39_listen.specs.Asking.{AsksForBoxes, AsksWithin}
 use Rattle.j39_listen.specs.Heard.{Hearing}
 use Rattle.j39_listen.specs.Ran.{Ended}
 use Rattle.j39_listen.specs.Run.{PassesLimit}
+use Rattle.j39_listen.specs.declared.format.Format.{Format}
 use Rattle.j39_listen.specs.declared.running.RunFault.{RunFault}
 use Rattle.j39_listen.specs.declared.running.RunFault.TheVariants.{Memory, TooLong, Write}
 use Rattle.j39_reports.specs.GroupCounts.{ArePutTogether}
 use Rattle.j39_reports.specs.LogLines.{AreLogLines, LogLine, spelled_in}
 use Rattle.j39_reports.specs.SurveyText.{survey_text}
 
--- a survey by a table; of the interface of this name, or of that of the first frame
+-- a survey in a form, by a table; of the interface of this name, or of that of the first frame
 pub record Asked : Type 0 where
+  pub form : Format
   pub table : List RowRecord
   pub given : Option (List ℕ)
 
@@ -26,14 +28,14 @@ pub record WritesSurvey (asked : Asked) (log : List ℕ) (old new : Option (List
   pub are_lines : AreLogLines log lines
   pub heard : List Hearing
   pub are_heard : ArePutTogether (frames_of asked.given (spelled_in lines)) heard
-  pub written : Appends old new (survey_text asked.table asked.given lines heard)
+  pub written : Appends old new (survey_text asked.form asked.table asked.given lines heard)
 
 -- a front of the survey of these bytes was written
 abbrev pub WritesFront : Asked → List ℕ → Option (List ℕ) → Option (List ℕ) → Type 0
 WritesFront asked taken old new =
     (lines : List LogLine) (heard : List Hearing) → AreLogLines taken lines
     → ArePutTogether (frames_of asked.given (spelled_in lines)) heard
-    → AppendsFront old new (survey_text asked.table asked.given lines heard)
+    → AppendsFront old new (survey_text asked.form asked.table asked.given lines heard)
 
 -- a run that stopped took these bytes of its source, and wrote a front of their survey
 pub record StopsWithin (asked : Asked) (remaining remaining' old new : Option (List ℕ)) : Type 0 where

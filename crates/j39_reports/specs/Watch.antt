@@ -14,6 +14,7 @@ use Rattle.j39_groups.specs.Row.{RowRecord}
 use Rattle.j39_groups.specs.ValueText.{value_text}
 use Rattle.j39_listen.specs.Asking.{AsksForBoxes, Wanting}
 use Rattle.j39_listen.specs.Counting.{capped}
+use Rattle.j39_listen.specs.Filter.{no_filter}
 use Rattle.j39_listen.specs.Heard.{AreHeard, AreHeardWith, HeardAt, Hearing}
 use Rattle.j39_listen.specs.Output.{Making}
 use Rattle.j39_listen.specs.Report.{Entry, entries_of, name_text}
@@ -240,4 +241,4 @@ pub record AsksForValue (groups : List RowRecord) (F : List FrameRecord) (frame 
 
 -- where it may want memory: for a message in packets, for such a value, and for the first DM1 of an address
 abbrev pub AsksForWatch : List RowRecord → Wanting
-AsksForWatch groups F frame = AsksForBoxes F frame ⊎ (AsksForValue groups F frame ⊎ IsFirstActive F frame)
+AsksForWatch groups F frame = AsksForBoxes F frame ⊎ (AsksForValue groups F frame ⊎ IsFirstActive no_filter F frame)

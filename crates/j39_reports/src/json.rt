@@ -1,5 +1,5 @@
 //! Strings of JSON (RFC 8259, 7).
-ghost use Rattle.j39_listen.specs.Members.{in_marks};
+ghost use Rattle.j39_rows.specs.Members.{in_marks};
 ghost use Rattle.std.specs.Prelude.{◌≡◌, ◌+◌, ◌≤◌, IfSome, false, length, map, nat_lt, true};
 ghost use Rattle.std.specs.List.{list_any};
 ghost use Rattle.std.specs.Option.{option_map};

@@ -11,7 +11,7 @@ mod others;
 mod pieces;
 mod running;
 mod senders;
-mod survey_text;
+mod survey_row;
 mod traffic;
 mod unread;
 mod writing;

@@ -5,7 +5,7 @@ use Rattle.std.specs.Str.Lossy.{utf8_lossy}
 use Rattle.std.specs.List.{flat_map}
 use Rattle.hex.specs.Hex.{encode_upper}
 use Rattle.j39_io.specs.Chars.{backslash, quote, space}
-use Rattle.j39_listen.specs.Members.{in_marks}
+use Rattle.j39_rows.specs.Members.{in_marks}
 
 -- a quote and a backslash stand behind a backslash, what is below the space as `\u00` and two hex digits
 abbrev pub character_text : ℕ → List ℕ

@@ -1,7 +1,8 @@
 -- moments in UTC (ISO 8601)
 pub mod Calendar
 pub mod Utc
--- strings of JSON (RFC 8259)
+-- strings and numbers of JSON (RFC 8259)
+pub mod Members
 pub mod Json
 -- a row as it is written in each form
 pub mod Row

@@ -2,6 +2,7 @@
 use Rattle.std.specs.Prelude.{map}
 use Rattle.j39_frame.specs.Stamp.{stamp_micros}
 use Rattle.j39_groups.specs.ValueText.{scaled_text}
+use Rattle.j39_rows.specs.Members.{seconds_number}
 use Rattle.j39_rows.specs.Row.{CellRecord, ColumnRecord, HeadRecord, PlaceRecord, PlainRecord, address_word, always, aside, beside_lines, digits, if_any, in_all, in_lines, name_word, nothing, numeral, plain, seconds, sent, text, utc_word, word}
 use Rattle.j39_rows.specs.declared.cell.Head.{Head}
 use Rattle.j39_rows.specs.declared.cell.Cell.{Cell}
@@ -11,11 +12,12 @@ use Rattle.j39_rows.specs.declared.cell.Column.TheVariants.{All, BesideLines, In
 use Rattle.j39_rows.specs.declared.cell.Place.{Place}
 use Rattle.j39_rows.specs.declared.cell.Place.TheVariants.{Always, IfAny}
 use Rattle.j39_rows.specs.declared.cell.Plain.{Plain}
-use Rattle.j39_rows.specs.declared.cell.Plain.TheVariants.{Address, Name, Number, Scaled, Seconds, Utc, Word}
+use Rattle.j39_rows.specs.declared.cell.Plain.TheVariants.{Address, Micros, Name, Number, Scaled, Seconds, Utc, Word}
 
 abbrev pub plain_of : Plain → PlainRecord
 plain_of (Number n) = numeral n
 plain_of (Scaled n places) = digits (scaled_text places n)
+plain_of (Micros n) = digits (seconds_number n)
 plain_of (Word bytes) = word bytes.now
 plain_of (Seconds stamp) = seconds (stamp_micros stamp)
 plain_of (Utc stamp) = utc_word (stamp_micros stamp)

@@ -6,7 +6,7 @@ use Rattle.hex.specs.Hex.{encode_upper}
 use Rattle.j39_groups.specs.ValueText.{quoted, text_in_field}
 use Rattle.j39_io.specs.Chars.{newline}
 use Rattle.j39_io.specs.Records.{later_text, line_end}
-use Rattle.j39_listen.specs.Members.{in_marks, seconds_number}
+use Rattle.j39_rows.specs.Members.{in_marks, seconds_number}
 use Rattle.j39_listen.specs.declared.format.Format.{Format}
 use Rattle.j39_listen.specs.declared.format.Format.TheVariants.{Line, Object, Record}
 use Rattle.j39_log.specs.StampText.{seconds_text, stamp_text}
@@ -61,6 +61,10 @@ name_word name = word (encode_upper (to_be_bytes w64 name))
 
 abbrev pub number_cell : ℕ → CellRecord
 number_cell n = plain (numeral n)
+
+-- microseconds as a number of seconds
+abbrev pub micros_cell : ℕ → CellRecord
+micros_cell n = plain (digits (seconds_number n))
 
 abbrev pub seconds_cell : ℕ → CellRecord
 seconds_cell stamp = plain (seconds stamp)

@@ -1,7 +1,8 @@
 //! What stands in a row.
 ghost use Rattle.std.specs.Prelude.{◌≡◌, option_map};
+ghost use Rattle.j39_frame.specs.Stamp.{stamp_micros};
 ghost use Rattle.j39_rows.specs.Models.{cell_of};
-ghost use Rattle.j39_rows.specs.Row.{address_cell, name_cell, number_cell, or_nothing, text, text_or_nothing};
+ghost use Rattle.j39_rows.specs.Row.{address_cell, name_cell, number_cell, or_nothing, seconds_cell, text, text_or_nothing, utc_cell};
 
 use j39_frame::Stamp;
 
@@ -11,6 +12,8 @@ pub enum Plain<'a> {
     Number(u64),
     /// A number in units of its last place, and how many places it has.
     Scaled(i64, u8),
+    /// A number of microseconds, in seconds.
+    Micros(u64),
     /// Bytes that need no quotes in a record, and no escape in an object.
     Word(&'a [u8]),
     /// A moment in seconds; in lines in brackets.
@@ -79,6 +82,26 @@ impl<'a> Cell<'a> {
     {
         match address {
             Some(address) => Cell::Is(Plain::Address(address)),
+            None => Cell::Nothing,
+        }
+    }
+
+    /// A moment in seconds, or nothing.
+    pub fn seconds(moment: Option<Stamp>) -> Cell<'a>
+        ensures { cell_of result ≡ or_nothing seconds_cell (option_map stamp_micros moment) }
+    {
+        match moment {
+            Some(moment) => Cell::Is(Plain::Seconds(moment)),
+            None => Cell::Nothing,
+        }
+    }
+
+    /// A moment in UTC, or nothing.
+    pub fn utc(moment: Option<Stamp>) -> Cell<'a>
+        ensures { cell_of result ≡ or_nothing utc_cell (option_map stamp_micros moment) }
+    {
+        match moment {
+            Some(moment) => Cell::Is(Plain::Utc(moment)),
             None => Cell::Nothing,
         }
     }

@@ -8,6 +8,7 @@ ghost use Rattle.j39_io.specs.Puts.{Puts};
 ghost use Rattle.j39_io.specs.Turn.{turn};
 ghost use Rattle.j39_listen.specs.declared.format.Format.TheVariants.{Record};
 ghost use Rattle.j39_rows.specs.Json.{bytes_under, string_text};
+ghost use Rattle.j39_rows.specs.Members.{seconds_number};
 ghost use Rattle.j39_rows.specs.Models.{cell_of, column_of, head_of, place_of, plain_of};
 ghost use Rattle.j39_rows.specs.Row.{closing, column_text, field_behind, head_text, line_text, member_text, object_text, opening, plain_text, row_text, seconds, shown_text, word};
 
@@ -18,9 +19,9 @@ use crate::utc::utc_text;
 use arrayvec::ArrayVec;
 use j39_frame::Stamp;
 use j39_groups::{Value, put_value, scaled_text};
-use j39_io::printing::{push_hex, push_number};
+use j39_io::printing::{push_hex, push_last_digits, push_number};
 use j39_io::{DeviceFault, Sink, put_all, put_behind_comma};
-use j39_listen::{Format, push_seconds_number};
+use j39_listen::Format;
 use j39_log::{push_seconds, push_stamp};
 
 /// A number, a moment, an address or a NAME.
@@ -215,6 +216,7 @@ fn put_plain<W: Sink>(form: Format, plain: Plain<'_>, sink: &mut W) -> Result<()
     match plain {
         Plain::Number(number) => put_all(sink, decimal_of(number).as_slice()),
         Plain::Scaled(number, places) => put_all(sink, scaled_text(number, places).as_slice()),
+        Plain::Micros(micros) => put_all(sink, seconds_number(micros).as_slice()),
         Plain::Word(word) => put_word(form, word, sink),
         Plain::Seconds(stamp) => put_all(sink, seconds_of(form, stamp).as_slice()),
         Plain::Utc(stamp) => put_word(form, utc_text(stamp).as_slice(), sink),
@@ -252,8 +254,20 @@ fn seconds_of(form: Format, stamp: Stamp) -> Short
     match form {
         Format::Line => push_stamp(&mut text, stamp),
         Format::Record => push_seconds(&mut text, stamp.micros()),
-        Format::Object => push_seconds_number(&mut text, stamp),
+        Format::Object => return seconds_number(stamp.micros()),
     }
+    text
+}
+
+/// A number of microseconds, in seconds.
+#[tactic(auto, unfolding(j39_groups::specs::ValueText::magnitude_text), using(crate::proofs::NumberLemmas::short_decimal))]
+fn seconds_number(micros: u64) -> Short
+    ensures { result.items ≡ seconds_number micros }
+{
+    let mut text = ArrayVec::new();
+    push_number(&mut text, micros / 1_000_000);
+    text.push(b'.');
+    push_last_digits(&mut text, 6, micros);
     text
 }
 

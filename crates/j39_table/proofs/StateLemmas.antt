@@ -1,5 +1,6 @@
 -- The names of states: their numbers, and what stands between the commas.
-use Rattle.std.proofs.Common.{◌≡◌, ◌<◌, ◌≤◌, ◌+◌, ◌-◌, ◌*◌, ◌^◌, ◌∙◌, ◌++◌, ◌==◌, ℕ, suc, List, [], ◌∷◌, Some, length, take, drop, drop-cons, get_or, refl, sym, ap, subst, arith, decimal, append_assoc}
+use Rattle.std.proofs.lemmas.Bool.{cases_Bool}
+use Rattle.std.proofs.Common.{◌≡◌, ◌<◌, ◌≤◌, ◌+◌, ◌-◌, ◌*◌, ◌^◌, ◌%◌, ◌∙◌, ◌++◌, ◌==◌, inl, inr, ℕ, suc, List, [], ◌∷◌, Some, length, take, drop, drop-cons, get_or, refl, sym, ap, subst, arith, decimal, append_assoc}
 use Rattle.std.specs.Prelude.{IsSomeAnd, None, Option, count_by, nat_le, nat_lt}
 use Rattle.std.specs.Option.{SomeIff}
 use Rattle.std.proofs.lemmas.Grind.{common_steps}
@@ -15,7 +16,7 @@ use Rattle.j39_groups.proofs.StateLemmas.{words_front}
 use Rattle.j39_table.proofs.PlaceLemmas.{Leads, leads}
 use Rattle.j39_table.specs.Positions.{is_digit}
 use Rattle.j39_table.specs.Rows.{IsGoodField}
-use Rattle.j39_table.specs.States.{AreGoodStates, AreStates, IsState, states_limit}
+use Rattle.j39_table.specs.States.{AreGoodStates, AreStates, IsState, bits_limit, states_limit}
 
 -- ---- the number of a state
 
@@ -82,11 +83,23 @@ pub no_states : (limit : ℕ) (part : List ℕ) → length part ≡ 0 → AreGoo
 no_states limit [] none = tt
 no_states limit (b ∷ part) none = absurd (omega (arith, none))
 
+pub bits_fit : (count : ℕ) → count ≤ 32 → bits_limit count ≤ 2 ^ 32
+bits_fit count narrow =
+    let all = pow_mono {i = count} {j = 32} narrow in
+    let bytes = pow_mono {i = count - 8} {j = 24} (omega (arith, narrow)) in
+    elim (cases_Bool (count % 8 == 0)) [
+      | inl whole ↦ rw whole (omega (arith, bytes))
+      | inr part ↦ elim (cases_Bool (count == 1)) [
+        | inl one ↦ rw (part, one) (omega arith)
+        | inr more ↦ rw (part, more) (omega (arith, all))
+      ]
+    ]
+
 -- the raw numbers of a field have 32 bits at most
 pub limit_fits : (field : FieldRecord) → IsGoodField field → states_limit field ≤ 2 ^ 32
 limit_fits (number_field first last slot) good =
-    let narrow = good.0.narrow in pow_mono {i = 8 * (last - first + 1)} {j = 32} (omega (arith, narrow))
-limit_fits (bits_field byte low count slot) good = let narrow = good.0.narrow in pow_mono {i = count} {j = 32} narrow
+    let narrow = good.0.narrow in let small = pow_mono {i = 8 * (last - first)} {j = 24} (omega (arith, narrow)) in omega (arith, small)
+limit_fits (bits_field byte low count slot) good = bits_fit count good.0.narrow
 limit_fits (signed_field byte low count slot) good =
     let narrow = good.0.narrow in pow_mono {i = count - 1} {j = 32} (omega (arith, narrow))
 limit_fits (switch_field byte low high) good = omega arith

@@ -5,26 +5,42 @@ ghost use Rattle.j39_io.specs.Records.{comma};
 ghost use Rattle.j39_groups.specs.Models.{field_record};
 ghost use Rattle.j39_groups.specs.States.{state_words};
 ghost use Rattle.j39_table.specs.Rows.{IsGoodField};
-ghost use Rattle.j39_table.specs.States.{AreGoodStates, AreStates, IsState, states_limit};
+ghost use Rattle.j39_table.specs.States.{AreGoodStates, AreStates, IsState, bits_limit, states_limit};
 
 use crate::position::digits_len;
 use crate::words::is_name;
 use j39_groups::{Field, state_words};
 use j39_io::number;
 
-/// What the raw numbers of a field are below, those of a signed one that are not negative. A text has none.
+/// What the raw numbers of a field that are ever told are below, of a signed one those that are not negative. A text has none.
 pub(crate) fn states_limit(field: Field<'_>) -> u64
     requires { IsGoodField (field_record field) }
     ensures value { result ≡ states_limit (field_record field.entry) }
     ensures few { result ≤ 2 ^ 32 }
 {
     match field {
-        Field::Number { first, last, .. } => power_of_two(8 * (last - first + 1)),
-        Field::Bits { count, .. } => power_of_two(count),
+        Field::Number { first, last, .. } => 0xFF * power_of_two(8 * (last - first)),
+        Field::Bits { count, .. } => bits_limit(count),
         Field::Signed { count, .. } => power_of_two(count - 1),
-        Field::Switch { .. } => 4,
+        Field::Switch { .. } => 3,
         Field::Text { .. } => 0,
         Field::Texts { .. } => 0,
+    }
+}
+
+/// From where up a number of so many bits is not available.
+fn bits_limit(count: u8) -> u64
+    requires few { count ≤ 32 }
+    requires some { 0 < count }
+    ensures value { result ≡ bits_limit count }
+    ensures few { result ≤ 2 ^ 32 }
+{
+    if count % 8 == 0 {
+        0xFF * power_of_two(count - 8)
+    } else if count == 1 {
+        2
+    } else {
+        power_of_two(count) - 1
     }
 }
 

@@ -1,5 +1,5 @@
 -- A message that a receiver is receiving, and what an event does to it (J1939-21, 5.10.2.4 and 5.10.3).
-use Rattle.std.specs.Prelude.{ℕ, ◌+◌, ◌-◌, min, take, nat_lt, ◌==◌, Bool, true, false, not, ◌&&◌, if◌then◌else◌, List, Option, Some, None}
+use Rattle.std.specs.Prelude.{ℕ, ◌+◌, ◌-◌, min, take, nat_lt, ◌==◌, Bool, true, false, not, ◌&&◌, ◌||◌, if◌then◌else◌, List, Option, Some, None}
 use Rattle.j39_transport.specs.Key.{Key, sender}
 use Rattle.j39_transport.specs.Message.{MessageRecord}
 use Rattle.j39_transport.specs.Protocol.{no_limit, busy, no_resources, timeout, timer_t1, timer_t2}
@@ -54,6 +54,11 @@ asks_again now r =
     else grants now (record r { asks = r.asks + 1 })
 
 -- ---- packets
+
+-- this one is next, or the last that was granted
+abbrev pub expects : ℕ → Option ReceptionRecord → Bool
+expects number None = false
+expects number (Some r) = number == r.message.count + 1 || number == r.granted
 
 abbrev pub message_of : SessionRecord → MessageRecord
 message_of x = record { source = x.source; pgn = x.group; bytes = take x.size x.bytes }

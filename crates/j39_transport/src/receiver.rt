@@ -5,12 +5,13 @@ ghost use Rattle.std.specs.Io.BufRead.{Rests};
 ghost use Rattle.std.specs.Option.{is_some, option_map};
 ghost use Rattle.j39_frame.specs.Address.{IsAddress};
 ghost use Rattle.j39_frame.specs.Frame.{FrameRecord};
+ghost use Rattle.j39_frame.specs.Pgn.{pgn_raw};
 ghost use Rattle.j39_frame.specs.Stamp.{stamp_micros};
 ghost use Rattle.j39_transport.specs.Cutting.{to_send};
 ghost use Rattle.j39_transport.specs.Frames.{source_of};
 ghost use Rattle.j39_transport.specs.Key.Key.{Directed};
 ghost use Rattle.j39_transport.specs.ReceiverStands.{ReceiverStandsFor, WereHanded, HasHeard};
-ghost use Rattle.j39_transport.specs.Reception.{takes_request, takes_data, takes_abort, takes_signal, takes_tick, is_taken, limit_of};
+ghost use Rattle.j39_transport.specs.Reception.{expects, takes_request, takes_data, takes_abort, takes_signal, takes_tick, is_taken, limit_of};
 ghost use Rattle.j39_transport.specs.Receiving.{said_to, RecvStep, HearStep, Tick, Heard, recv_step, answer_in, result_of, new_receiver, partner_of};
 ghost use Rattle.j39_transport.specs.SessionModel.{opened_by};
 ghost use Rattle.j39_transport.specs.SignalModel.{said};
@@ -21,7 +22,7 @@ use crate::message::Message;
 use crate::protocol::{BUSY, NO_RESOURCES};
 use crate::reception::{Reception, Step};
 use crate::signal::{self, Pair, Signal};
-use j39_frame::{Frame, Id, NULL_ADDRESS, Stamp, is_address};
+use j39_frame::{Frame, Id, NULL_ADDRESS, Pgn, Stamp, is_address};
 use std::alloc::{AllocError, Global};
 use std::marker::Model;
 
@@ -228,6 +229,36 @@ impl Receiver {
         match &self.buffers.session {
             Some(session) => Some(session.source()),
             None => None,
+        }
+    }
+
+    /// The group of the open session's message.
+    pub fn group(&self) -> Option<Pgn>
+        ensures { option_map pgn_raw result ≡ option_map (λ r. r.message.group) self.now.state.session }
+    {
+        match &self.buffers.session {
+            Some(session) => Some(session.pgn()),
+            None => None,
+        }
+    }
+
+    /// How many packets the open session's message has.
+    pub fn packets(&self) -> Option<u8>
+        ensures { result ≡ option_map (λ r. r.message.packets) self.now.state.session }
+    {
+        match &self.buffers.session {
+            Some(session) => Some(session.packets()),
+            None => None,
+        }
+    }
+
+    /// Whether the open session's packet of this number is next, or the last that was granted.
+    pub fn expects(&self, number: u8) -> bool
+        ensures { result ≡ expects number self.now.state.session }
+    {
+        match &self.buffers.session {
+            Some(session) => session.expects(number),
+            None => false,
         }
     }
 

@@ -2,7 +2,7 @@
 ghost use Rattle.std.specs.Prelude.{◌≡◌, ◌<◌, ◌≤◌, ◌+◌, ◌^◌, length, take, Some};
 ghost use Rattle.j39_frame.specs.Pgn.{pgn_raw};
 ghost use Rattle.j39_frame.specs.Stamp.{stamp_micros};
-ghost use Rattle.j39_transport.specs.Reception.{begun, most_named, granted_at, window, asks_again, goes_on, takes_packet, takes_tick, limit_of};
+ghost use Rattle.j39_transport.specs.Reception.{begun, expects, most_named, granted_at, window, asks_again, goes_on, takes_packet, takes_tick, limit_of};
 ghost use Rattle.j39_transport.specs.ReceiverModel.{stepped, IsStep};
 ghost use Rattle.j39_transport.specs.SessionModel.{opened_by};
 ghost use Rattle.j39_transport.specs.SignalModel.{said};
@@ -99,6 +99,20 @@ impl Reception {
         ensures { pgn_raw result ≡ self.now.message.group }
     {
         self.message.pgn()
+    }
+
+    /// How many packets it has.
+    pub(crate) fn packets(&self) -> u8
+        ensures { result ≡ self.now.message.packets }
+    {
+        self.message.packets()
+    }
+
+    /// Whether this packet is next, or the last that was granted.
+    pub(crate) fn expects(&self, number: u8) -> bool
+        ensures { result ≡ expects number (Some self.now) }
+    {
+        u16::from(number) == u16::from(self.message.count()) + 1 || number == self.granted
     }
 
     /// The bytes of a whole message, without padding.

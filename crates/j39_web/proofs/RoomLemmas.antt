@@ -95,15 +95,15 @@ overflows makes one given log log' (Err TooLong) z n m k xs ys room l e made fro
 surveyed_made : (asked : Asked) (log : List ℕ) (n m k : ℕ) (ys room : List ℕ)
     → WritesSurvey asked log (Some (n ∷ [])) (Some (m ∷ take k ys)) → k ≡ length ys → (n ≡ m → ys ≡ room) → SurveyOverflows asked log room
 surveyed_made asked log n m k ys room w full same = λ lines heard are together.
-    let mine = survey_text asked.table asked.given w.lines w.heard in
-    let text = same_survey asked.table asked.given log w.lines lines w.heard heard w.are_lines are w.are_heard together in
-    fills n m k ys room mine [] (survey_text asked.table asked.given lines heard) w.written (sym text ∙ sym (append-nil mine)) full same
+    let mine = survey_text asked.form asked.table asked.given w.lines w.heard in
+    let text = same_survey asked.form asked.table asked.given log w.lines lines w.heard heard w.are_lines are w.are_heard together in
+    fills n m k ys room mine [] (survey_text asked.form asked.table asked.given lines heard) w.written (sym text ∙ sym (append-nil mine)) full same
 
 surveyed_front : (asked : Asked) (log : List ℕ) (n m k : ℕ) (ys room : List ℕ)
     → WritesSurveyFront asked log (Some (n ∷ [])) (Some (m ∷ take k ys)) → k ≡ length ys → (n ≡ m → ys ≡ room) → SurveyOverflows asked log room
 surveyed_front asked log n m k ys room h full same = λ lines heard are together.
     let f = h lines heard are together in
-    fills n m k ys room f.0 f.1 (survey_text asked.table asked.given lines heard) f.3 f.2 full same
+    fills n m k ys room f.0 f.1 (survey_text asked.form asked.table asked.given lines heard) f.3 f.2 full same
 
 -- where a survey has no room
 pub survey_overflows : {U : Type 0} (asked : Asked) (log log' : List ℕ) (ran : Result U RunFault) (counted : Result Counts RunFault)

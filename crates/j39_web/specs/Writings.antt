@@ -33,5 +33,5 @@ abbrev pub asks : Writing → List RowRecord → Wanting
 asks Report = λ rows. AsksForBoxes
 asks Records = λ rows. AsksForBoxes
 asks Summary = AsksForRows no_filter
-asks Faults = λ rows. AsksForFaults
+asks Faults = λ rows. AsksForFaults no_filter
 asks (Series of) = λ rows. AsksForBoxes

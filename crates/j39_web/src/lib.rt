@@ -9,7 +9,7 @@ ghost use Rattle.j39_reports.specs.News.{news};
 ghost use Rattle.j39_groups.specs.Printed.{rows_text};
 ghost use Rattle.j39_listen.specs.Asking.{AsksForBoxes};
 ghost use Rattle.j39_listen.specs.Filter.{no_filter};
-ghost use Rattle.j39_listen.specs.SeenNodes.{MakesSeenNodes};
+ghost use Rattle.j39_reports.specs.SeenNodes.{MakesSeenNodes};
 ghost use Rattle.j39_listen.specs.Output.{MakesReport};
 ghost use Rattle.j39_listen.specs.declared.format.Format.TheVariants.{Line, Record};
 ghost use Rattle.j39_reports.specs.SummaryRun.{AsksForRows, MakesSummary};
@@ -151,7 +151,7 @@ pub extern "C" fn j39_faults(
     // What is written is the faults that are told in the log's frames. Memory is wanted at a frame that announces a
     // message, and at one at which an address says its codes for the first time.
     ensures { Tells (ByTable table.now) (λ rows. MakesFaults Line (record { rows = rows; spns = None }) news)
-        (λ _. AsksSomewhere AsksForFaults (given_bus bus.now) log.now)
+        (λ _. AsksSomewhere (AsksForFaults no_filter) (given_bus bus.now) log.now)
         log.now bus.now table.now room.old room.new text.old text.new result }
 {
     tell(alloc, Writing::Faults, log, bus, table, room, text)
@@ -194,12 +194,12 @@ pub extern "C" fn j39_survey(
 ) -> u32
     // What stands at the front of the room is the survey of the log's lines, and nothing else.
     ensures survey { result ≡ done → ByTable table.now
-        (λ rows. IsSurveyed (record { table = rows; given = given_bus bus.now }) log.now text.new room.new) }
+        (λ rows. IsSurveyed (record { form = Line; table = rows; given = given_bus bus.now }) log.now text.new room.new) }
 
     // The room is too small exactly where the survey has as many bytes, or more.
     ensures fits { result ≡ done → text.new.bytes < length room.new }
     ensures too_small { result ≡ too_small → ByTable table.now
-        (λ rows. SurveyOverflows (record { table = rows; given = given_bus bus.now }) log.now room.new) }
+        (λ rows. SurveyOverflows (record { form = Line; table = rows; given = given_bus bus.now }) log.now room.new) }
 
     ensures memory { result ≡ no_memory → WantsRows table.now ⊎ ByTable table.now (λ _. ⊤) }
     ensures bus { (result ≡ wrong_bus) ↔ IsWrongBus bus.now }

@@ -1,7 +1,7 @@
 //! What is made of a log, in the room of a page.
 ghost use Rattle.std.specs.Prelude.{◌≡◌, ◌≢◌, ◌<◌, length, take, IfErr, IfOk, None, OnErr, OnOk, Ok, Err};
 ghost use Rattle.j39_groups.specs.Printed.{rows_text};
-ghost use Rattle.j39_listen.specs.SeenNodes.{MakesSeenNodes};
+ghost use Rattle.j39_reports.specs.SeenNodes.{MakesSeenNodes};
 ghost use Rattle.j39_listen.specs.declared.format.Format.TheVariants.{Line};
 ghost use Rattle.j39_listen.specs.declared.running.RunFault.TheVariants as fault;
 ghost use Rattle.j39_table.specs.FaultWords.{fault_text};
@@ -105,7 +105,7 @@ pub fn nodes(log: &[u8], bus: Option<Bus>, room: &mut [u8]) -> Result<LogText, R
     let mut source = LogBytes::new(log);
     let mut sink = Room::new(room);
     let limit = log.len() as u64;
-    let ran = j39_listen::nodes_seen(Format::Line, None, &mut source, &mut sink, bus, limit);
+    let ran = j39_reports::nodes_seen(Format::Line, None, &mut source, &mut sink, bus, limit);
     told(ran, &sink)
 }
 
@@ -141,15 +141,23 @@ pub fn survey(
     groups: &Groups<'_>,
     room: &mut [u8],
 ) -> Result<LogText, Refusal>
-    ensures survey { IfOk result (λ text. IsSurveyed (record { table = groups.now; given = bus }) log.now text room.new) }
+    ensures survey { IfOk result (λ text. IsSurveyed (record { form = Line; table = groups.now; given = bus }) log.now text room.new) }
     ensures fits { IfOk result (λ text. text.bytes < length room.new) }
-    ensures too_small { result ≡ Err TooSmall → SurveyOverflows (record { table = groups.now; given = bus }) log.now room.new }
+    ensures too_small { result ≡ Err TooSmall → SurveyOverflows (record { form = Line; table = groups.now; given = bus }) log.now room.new }
     ensures counts { IfOk result (λ text. counts_in text ≡ no_counts) }
 {
     let mut source = LogBytes::new(log);
     let mut sink = Room::new(room);
     let limit = log.len() as u64;
-    let ran = j39_reports::survey(alloc, groups, &mut source, &mut sink, bus, limit);
+    let ran = j39_reports::survey(
+        alloc,
+        Format::Line,
+        groups,
+        &mut source,
+        &mut sink,
+        bus,
+        limit,
+    );
     told(uncounted(ran), &sink)
 }
 

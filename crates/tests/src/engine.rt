@@ -3,7 +3,7 @@ use crate::examples::engine_speed;
 use j39_address::{Name, Status};
 use j39_frame::{Frame, GLOBAL_ADDRESS, Pgn, Stamp};
 use j39_groups::raw_of;
-use j39_node::{Answer, Controller, Request};
+use j39_node::{Answer, Controller, Request, Setup};
 use std::alloc::{AllocError, Global};
 
 /// An engine's controller, what it measures and shows, and when it sends next.
@@ -17,13 +17,27 @@ pub struct Engine {
     due: u64,
 }
 
+/// It claims address 0, and hears no broadcast in packets.
+fn setup<'a>(name: Name, served: &'a [Pgn], subscribed: &'a [Pgn]) -> Setup<'a> {
+    Setup {
+        name,
+        address: 0,
+        delay: 0,
+        served,
+        subscribed: Some(subscribed),
+        broadcasts: 0,
+    }
+}
+
 impl Engine {
     /// One that serves these groups: a request for any other is refused without its program. It receives engine speeds alone.
     pub fn new(alloc: Global, name: Name, served: &[Pgn]) -> Result<Option<Engine>, AllocError> {
         let Some(speeds) = Pgn::new(61_444) else {
             return Ok(None);
         };
-        let Some(controller) = Controller::new(alloc, name, 0, 0, served, Some(&[speeds]))? else {
+        let subscribed = [speeds];
+        let setup = setup(name, served, &subscribed);
+        let Some(controller) = Controller::new(alloc, &setup)? else {
             return Ok(None);
         };
         Ok(Some(Engine {

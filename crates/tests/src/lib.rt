@@ -21,6 +21,8 @@ mod node_address;
 #[cfg(test)]
 mod node_asks;
 #[cfg(test)]
+mod node_at_once;
+#[cfg(test)]
 mod node_clock;
 #[cfg(test)]
 mod node_flood;
@@ -40,6 +42,7 @@ mod quick_lines;
 mod raw_values;
 #[cfg(test)]
 mod run_faults;
+pub mod setup;
 #[cfg(test)]
 mod sizes;
 #[cfg(test)]

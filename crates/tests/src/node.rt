@@ -1,4 +1,5 @@
 //! A controller: what it answers, call by call; frames as the lines that a standard's reader would write.
+use crate::setup::setup;
 use j39_address::{Name, Status};
 use j39_frame::{Frame, Pgn, Stamp};
 use j39_log::{Bus, Line, line_of, read_line};
@@ -349,13 +350,11 @@ fn wrong_step(node: &mut Controller, steps: &[Step]) -> Option<usize> {
 #[test]
 fn node(rt: HostRuntime) -> Result<(), Fail> {
     let served = [Pgn::new(65_259).ok_or("group")?];
-    let mut node = Controller::new(rt.alloc(), Name::new(2), 128, 0, &served, None)?.ok_or("node")?;
+    let mut node = Controller::new(rt.alloc(), &setup(2, 128, &served))?.ok_or("node")?;
     assert_eq!(rt; wrong_step(&mut node, STEPS), None);
-    let mut deaf = Controller::new(rt.alloc(), Name::new(2), 128, 0, &served, None)?.ok_or("node")?;
+    let mut deaf = Controller::new(rt.alloc(), &setup(2, 128, &served))?.ok_or("node")?;
     assert_eq!(rt; wrong_step(&mut deaf, UNREAD), None);
-    let mut asked = Controller::new(rt.alloc(), Name::new(2), 128, 0, &served, None)?.ok_or(
-        "node",
-    )?;
+    let mut asked = Controller::new(rt.alloc(), &setup(2, 128, &served))?.ok_or("node")?;
     assert_eq!(rt; wrong_step(&mut asked, FLOOD), None);
     Ok(())
 }
@@ -390,7 +389,7 @@ fn put_together(
 
 #[test]
 fn broadcasts_of_a_node(rt: HostRuntime) -> Result<(), Fail> {
-    let mut node = Controller::new(rt.alloc(), Name::new(2), 128, 0, &[], None)?.ok_or("node")?;
+    let mut node = Controller::new(rt.alloc(), &setup(2, 128, &[]))?.ok_or("node")?;
     let mut assembler = Assembler::new(rt.alloc());
     let _claim = node.take_frame(Stamp::new(0).ok_or("moment")?);
     let bytes: [u8; 1_785] = std::array::from_fn(|place| (place % 251) as u8);

@@ -1,8 +1,9 @@
 //! A controller's address over time: claimed anew, lost, doubled; and the newest value (`j39_node`).
 use crate::node::{frame, is_line};
+use crate::setup::setup;
 use j39_address::{Name, Status};
 use j39_frame::{GLOBAL_ADDRESS, Pgn, Stamp};
-use j39_node::{Controller, Ending, News};
+use j39_node::{Controller, Ending, News, Setup};
 use std::alloc::Global;
 use std::test::Fail;
 
@@ -15,7 +16,14 @@ fn at(micros: u64) -> Result<Stamp, Fail> {
 
 /// Holds its address at 250 ms; 'cannot claim' waits 9 ms.
 fn holding(alloc: Global) -> Result<Controller, Fail> {
-    let mut node = Controller::new(alloc, Name::new(2), OWN, 15, &[], None)?.ok_or("controller")?;
+    let mut node = Controller::new(
+        alloc,
+        &Setup {
+            delay: 15,
+            ..setup(2, OWN, &[])
+        },
+    )?
+    .ok_or("controller")?;
     node.take_frame(at(0)?);
     node.tick(at(250_000)?);
     Ok(node)

@@ -1,5 +1,6 @@
 //! A controller at 80 that asks others for groups: its requests, and how they end.
 use crate::node::{hear_line, is_line};
+use crate::setup::setup;
 use j39_address::Name;
 use j39_frame::{Frame, Id, Pgn, Stamp};
 use j39_node::{Answer, AskEnding, Controller, Ending, Refused};
@@ -345,14 +346,14 @@ fn wrong_step(node: &mut Controller, steps: &[Step]) -> Option<usize> {
 
 #[test]
 fn node_asks(rt: HostRuntime) -> Result<(), Fail> {
-    let mut node = Controller::new(rt.alloc(), Name::new(2), 128, 0, &[], None)?.ok_or("node")?;
+    let mut node = Controller::new(rt.alloc(), &setup(2, 128, &[]))?.ok_or("node")?;
     assert_eq!(rt; wrong_step(&mut node, STEPS), None);
     Ok(())
 }
 
 #[test]
 fn node_asks_for_long_messages(rt: HostRuntime) -> Result<(), Fail> {
-    let mut node = Controller::new(rt.alloc(), Name::new(2), 128, 0, &[], None)?.ok_or("node")?;
+    let mut node = Controller::new(rt.alloc(), &setup(2, 128, &[]))?.ok_or("node")?;
     assert_eq!(rt; wrong_step(&mut node, LONG), None);
     Ok(())
 }

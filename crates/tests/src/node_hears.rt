@@ -1,5 +1,6 @@
 //! A controller that hears broadcasts in packets: what it has, frames as the lines that a standard's reader would write.
 use crate::node::hear_line;
+use crate::setup::setup;
 use j39_address::Name;
 use j39_frame::Stamp;
 use j39_node::{Controller, News};
@@ -196,7 +197,7 @@ fn does(node: &mut Controller, step: &Step) -> Option<bool> {
 
 #[test]
 fn node_hears(rt: HostRuntime) -> Result<(), Fail> {
-    let mut node = Controller::new(rt.alloc(), Name::new(2), 128, 0, &[], None)?.ok_or("node")?;
+    let mut node = Controller::new(rt.alloc(), &setup(2, 128, &[]))?.ok_or("node")?;
     let mut wrong = None;
     for (place, step) in STEPS.iter().enumerate() {
         if wrong.is_none() && does(&mut node, step) != Some(true) {

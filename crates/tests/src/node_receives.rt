@@ -1,5 +1,6 @@
 //! A controller that is sent messages in packets: what it answers, frames as the lines that a standard's reader would write.
 use crate::node::{hear_line, is_line};
+use crate::setup::setup;
 use crate::transfers::VIN;
 use j39_address::Name;
 use j39_frame::Stamp;
@@ -137,7 +138,7 @@ fn does(node: &mut Controller, step: &Step) -> Option<bool> {
 
 #[test]
 fn node_receives(rt: HostRuntime) -> Result<(), Fail> {
-    let mut node = Controller::new(rt.alloc(), Name::new(2), 128, 0, &[], None)?.ok_or("node")?;
+    let mut node = Controller::new(rt.alloc(), &setup(2, 128, &[]))?.ok_or("node")?;
     let mut wrong = None;
     for (place, step) in STEPS.iter().enumerate() {
         if wrong.is_none() && does(&mut node, step) != Some(true) {

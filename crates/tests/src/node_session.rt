@@ -1,5 +1,6 @@
 //! A source that holds the only session, or the only broadcast, for messages in packets: when another gets in; and one that restarts.
 use crate::node::{frame, hear_line};
+use crate::setup::setup;
 use j39_address::Name;
 use j39_frame::Stamp;
 use j39_node::Controller;
@@ -51,7 +52,7 @@ fn let_in_after(node: &mut Controller, again: &str, every: u64) -> Option<u64> {
 
 #[test]
 fn node_lets_another_in_beside_one_that_begins_again(rt: HostRuntime) -> Result<(), Fail> {
-    let mut node = Controller::new(rt.alloc(), Name::new(2), 128, 0, &[], None)?.ok_or("node")?;
+    let mut node = Controller::new(rt.alloc(), &setup(2, 128, &[]))?.ok_or("node")?;
     assert_eq!(rt; let_in_after(&mut node, FIRST, 3_000), Some(8_500));
     Ok(())
 }
@@ -60,7 +61,7 @@ fn node_lets_another_in_beside_one_that_begins_again(rt: HostRuntime) -> Result<
 fn node_lets_another_in_beside_one_whose_packets_are_never_next(
     rt: HostRuntime,
 ) -> Result<(), Fail> {
-    let mut node = Controller::new(rt.alloc(), Name::new(2), 128, 0, &[], None)?.ok_or("node")?;
+    let mut node = Controller::new(rt.alloc(), &setup(2, 128, &[]))?.ok_or("node")?;
     assert_eq!(rt; let_in_after(&mut node, PACKET, 700), Some(4_500));
     Ok(())
 }
@@ -99,7 +100,7 @@ fn received_beside(node: &mut Controller, seconds: u64) -> Option<u64> {
 
 #[test]
 fn node_hears_another_beside_one_that_announces_anew(rt: HostRuntime) -> Result<(), Fail> {
-    let mut node = Controller::new(rt.alloc(), Name::new(2), 128, 0, &[], None)?.ok_or("node")?;
+    let mut node = Controller::new(rt.alloc(), &setup(2, 128, &[]))?.ok_or("node")?;
     assert_eq!(rt; received_beside(&mut node, 300), Some(43));
     Ok(())
 }
@@ -149,7 +150,7 @@ fn receives(node: &mut Controller, between: &[&str]) -> Option<(bool, bool)> {
 
 /// The same of a new controller.
 fn received(alloc: Global, between: &[&str]) -> Result<Option<(bool, bool)>, Fail> {
-    let mut node = Controller::new(alloc, Name::new(2), 128, 0, &[], None)?.ok_or("node")?;
+    let mut node = Controller::new(alloc, &setup(2, 128, &[]))?.ok_or("node")?;
     Ok(receives(&mut node, between))
 }
 

@@ -1,5 +1,6 @@
 //! Transfers of a controller to one address: from 80 to 0B, of the group 65226.
 use crate::node::{frame, hear_line, is_line};
+use crate::setup::setup;
 use j39_address::Name;
 use j39_frame::{Pgn, Stamp};
 use j39_node::{Controller, Refused, TransferEnding};
@@ -274,7 +275,7 @@ fn wrong_step(node: &mut Controller, steps: &[Step]) -> Option<usize> {
 
 /// The place of the first wrong step, after an address is held and a request to send was sent.
 fn wrong_after(alloc: Global, steps: &[Step]) -> Option<usize> {
-    let mut node = Controller::new(alloc, Name::new(2), 128, 0, &[], None).ok()??;
+    let mut node = Controller::new(alloc, &setup(2, 128, &[])).ok()??;
     match wrong_step(&mut node, BEGINS) {
         Some(place) => Some(place.saturating_add(1_000)),
         None => wrong_step(&mut node, steps),
@@ -323,7 +324,7 @@ fn delivered(
 
 #[test]
 fn transfers_to_a_receiver(rt: HostRuntime) -> Result<(), Fail> {
-    let mut node = Controller::new(rt.alloc(), Name::new(2), 128, 0, &[], None)?.ok_or("node")?;
+    let mut node = Controller::new(rt.alloc(), &setup(2, 128, &[]))?.ok_or("node")?;
     let _claim = node.take_frame(Stamp::new(0).ok_or("moment")?);
     let mut receiver = crate::transfers::receiver(rt.alloc()).ok_or("receiver")?;
     let bytes: [u8; 1_785] = std::array::from_fn(|place| (place % 251) as u8);

@@ -41,8 +41,8 @@ static ROWS: &[Row] = &[
         bytes: [0, 0, 0, 0, 0, 0, 0, 0],
     },
     Row {
-        line: b"(9999999999.999999000) abcdefghijklm 1CECFF00#20140003FFE3FE00\r\n(",
-        bus: b"abcdefghijklm",
+        line: b"(9999999999.999999000) abcdefghijk 1CECFF00#20140003FFE3FE00\r\n(",
+        bus: b"abcdefghijk",
         micros: 9_999_999_999_999_999,
         id: 0x1CEC_FF00,
         bytes: [0x20, 0x14, 0x00, 0x03, 0xFF, 0xE3, 0xFE, 0x00],

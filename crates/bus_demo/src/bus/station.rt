@@ -22,7 +22,7 @@ use crate::bus::book::{Book, Fate, MessageFrame};
 use arrayvec::ArrayVec;
 use j39_address::{Name, Status, commanded_of};
 use j39_frame::{Frame, GLOBAL_ADDRESS, Pgn, Stamp};
-use j39_node::{Controller, Refused, TransferEnding};
+use j39_node::{Controller, Refused, Setup, TransferEnding};
 use std::alloc::{AllocError, Global};
 
 /// A message that is to be sent.
@@ -43,6 +43,9 @@ pub struct Sent {
     pub part: Option<MessageFrame>,
 }
 
+/// How many broadcasts in packets a controller here hears at once.
+const BROADCASTS: u8 = 8;
+
 /// A controller, and the numbers that the book has for what it was handed and has not told to have ended.
 #[derive(Drop)]
 pub struct Station {
@@ -58,9 +61,17 @@ impl Station {
     pub fn new(alloc: Global, name: Name, address: u8) -> Result<Option<Station>, AllocError>
         ensures known { IfOk result (λ found. IsSome found ↔ IsAddress address) }
         ensures fresh { IfOk result (λ found. IfSome found (λ station. Is (record
-            { name = name_raw name; address = address; delay = 0; served = []; subscribed = None; brought = nothing }) [] station.controller)) }
+            { name = name_raw name; address = address; delay = 0; served = []; subscribed = None; boxes = 8; brought = nothing }) [] station.controller)) }
     {
-        let Some(controller) = Controller::new(alloc, name, address, 0, &[], None)? else {
+        let setup = Setup {
+            name,
+            address,
+            delay: 0,
+            served: &[],
+            subscribed: None,
+            broadcasts: BROADCASTS,
+        };
+        let Some(controller) = Controller::new(alloc, &setup)? else {
             return Ok(None);
         };
         Ok(Some(Station {
@@ -233,7 +244,7 @@ impl Station {
     /// Takes the message that was broadcast in packets: the address that it commands, if it does and this is the NAME.
     pub fn command(&mut self, name: Name) -> Option<u8>
         ensures value { (w : Who) (H : List Call) → Is w H self.old.controller
-            → result ≡ command_to (name_raw name) (waiting w H) }
+            → result ≡ command_to (name_raw name) (slice_get (waiting w H) 0) }
         ensures calls { Calls is_taking self.old.controller self.new.controller }
     {
         let address = self.commanded(name);
@@ -243,7 +254,7 @@ impl Station {
 
     fn commanded(&self, name: Name) -> Option<u8>
         ensures { (w : Who) (H : List Call) → Is w H self.now.controller
-            → result ≡ command_to (name_raw name) (waiting w H) }
+            → result ≡ command_to (name_raw name) (slice_get (waiting w H) 0) }
     {
         let message = self.controller.received_broadcast()?;
         let (whom, address) = commanded_of(&message)?;

@@ -1,8 +1,9 @@
 //! Identifiers by their digits, remembered: most lines have one of a few.
-ghost use Rattle.std.specs.Prelude.{◌≡◌, ◌<◌, IfSome};
+ghost use Rattle.std.specs.Prelude.{◌≡◌, ◌<◌, IfSome, None};
 ghost use Rattle.std.specs.Int.{to_le_bytes, w64};
 ghost use Rattle.std.proofs.Props.{props};
 ghost use Rattle.j39_log.specs.Identifiers.{AreKnown, IsWritten};
+ghost use Rattle.j39_frame.specs.declared.identifier.Id.{Id};
 
 use crate::fast::plain::id_of;
 use j39_frame::Id;
@@ -10,11 +11,11 @@ use j39_frame::Id;
 /// How many identifiers are remembered.
 const PLACES: usize = 2048;
 
-/// Eight bytes as a number, and the identifier whose digits they are, where they are.
+/// Eight hex digits as a number, and the identifier that they write.
 #[derive(Clone, Copy, Debug)]
 struct Known {
     digits: u64,
-    id: Option<Id>,
+    id: Id,
 }
 
 /// The identifiers that were read last.
@@ -25,27 +26,28 @@ pub(crate) struct Identifiers {
 }
 
 impl Identifiers {
-    /// With none remembered.
-    pub fn new() -> Identifiers {
-        let none = Known {
-            digits: 0,
-            id: None,
-        };
+    /// With the identifier 0 in each place: what is remembered changes no answer.
+    pub(crate) fn new() -> Identifiers {
+        // Eight digits 0.
+        let digits = 0x3030_3030_3030_3030;
+        let id = Id::new(0).unwrap();
+        let zero = Known { digits, id };
         Identifiers {
-            known: [none; PLACES],
+            known: [zero; PLACES],
         }
     }
 
-    /// The identifier of eight hex digits.
+    /// The identifier that eight hex digits write; `None` where they write none.
     #[inline(always)]
-    pub fn of(&mut self, digits: &[u8; 8]) -> Option<Id>
-        ensures { IfSome result (IsWritten digits.now) }
+    pub(crate) fn of(&mut self, digits: &[u8; 8]) -> Option<Id>
+        ensures some { IfSome result (IsWritten digits.now) }
+        ensures none { result ≡ None → (id : Id) → IsWritten digits.now id → ⊥ }
     {
         let number = u64::from_le_bytes(*digits);
         let place = place_of(number);
         let known = self.known[place];
         if known.digits == number {
-            known.id
+            Some(known.id)
         } else {
             self.learn(place, number, digits)
         }
@@ -56,11 +58,12 @@ impl Identifiers {
     fn learn(&mut self, place: usize, number: u64, digits: &[u8; 8]) -> Option<Id>
         requires place { place < 2048 }
         requires number { digits.now ≡ to_le_bytes w64 number }
-        ensures { IfSome result (IsWritten digits.now) }
+        ensures some { IfSome result (IsWritten digits.now) }
+        ensures none { result ≡ None → (id : Id) → IsWritten digits.now id → ⊥ }
     {
-        let id = id_of(digits);
+        let id = id_of(digits)?;
         self.known[place] = Known { digits: number, id };
-        id
+        Some(id)
     }
 }
 

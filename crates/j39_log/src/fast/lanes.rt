@@ -1,5 +1,5 @@
 //! Digits by vectors, all at once.
-ghost use Rattle.std.specs.Prelude.{◌≡◌, ◌≤◌, ◌<◌, ℕ, map, take, IfSome, Ok};
+ghost use Rattle.std.specs.Prelude.{◌≡◌, ◌≤◌, ◌<◌, ℕ, List, map, IfSome, None, Ok, true};
 ghost use Rattle.std.specs.Simd.Lanes.{mask_l};
 ghost use Rattle.std.specs.Bool.{OnTrue};
 ghost use Rattle.std.specs.List.{AllByRecursion, range_with_len};
@@ -12,7 +12,8 @@ use std::simd::prelude::*;
 #[inline(always)]
 pub(crate) fn are_below<const N: usize>(v: Simd<u8, N>, limit: u8) -> bool
     requires { N ≤ 64 }
-    ensures { OnTrue result (AllByRecursion (λ x. x < limit) v.entry) }
+    ensures so { OnTrue result (AllByRecursion (λ x. x < limit) v.entry) }
+    ensures no { AllByRecursion (λ x. x < limit) v.entry → result ≡ true }
 {
     v.simd_ge(Simd::splat(limit)).to_bitmask() == 0
 }
@@ -26,20 +27,10 @@ pub(crate) fn gaps_of(block: &[u8; 16]) -> u64
     from_first.simd_ge(u8x16::splat(94)).to_bitmask()
 }
 
-/// How many bytes two blocks begin with alike, where that is less than 16.
-#[inline(always)]
-pub(crate) fn alike_len(a: &[u8; 16], b: &[u8; 16]) -> usize
-    ensures alike { (n : ℕ) → n ≤ 16 → n ≤ result → take n a.now ≡ take n b.now }
-    ensures few { result ≤ 64 }
-{
-    let others = u8x16::from_array(*a).simd_ne(u8x16::from_array(*b));
-    others.to_bitmask().trailing_zeros() as usize
-}
-
 /// The value of each hex digit, and 16 or more for another byte: digits come to 246 and up, which wraps to 0 to 9, letters
 /// to 0 to 5, and what is neither is kept from wrapping.
 #[inline(always)]
-fn hex_values<const N: usize>(v: Simd<u8, N>) -> Simd<u8, N>
+pub(crate) fn hex_values<const N: usize>(v: Simd<u8, N>) -> Simd<u8, N>
     ensures { result ≡ map hex_lane v.entry }
 {
     let digit = (v + Simd::splat(198)).simd_max(Simd::splat(6)) + Simd::splat(10);
@@ -50,7 +41,8 @@ fn hex_values<const N: usize>(v: Simd<u8, N>) -> Simd<u8, N>
 /// The bytes that 8 hex digits write; `None` where one is no digit.
 #[inline(always)]
 pub(crate) fn four(digits: &[u8; 8]) -> Option<[u8; 4]>
-    ensures { IfSome result (λ bytes. decode_of digits.now ≡ Ok bytes) }
+    ensures some { IfSome result (λ bytes. decode_of digits.now ≡ Ok bytes) }
+    ensures none { result ≡ None → (bytes : List ℕ) → decode_of digits.now ≡ Ok bytes → ⊥ }
 {
     let value = hex_values(u8x8::from_array(*digits));
     if !are_below(value, 16) {

@@ -1,81 +1,49 @@
-//! The second of the line before, which most lines share.
-ghost use Rattle.std.specs.Prelude.{◌≡◌, ◌++◌, ◌⊎◌, ℕ, List, length, take, IfSome, codes};
-ghost use Rattle.std.specs.Bool.{OnTrue};
-ghost use Rattle.std.specs.Str.Parse.{AllDigits};
-ghost use Rattle.j39_frame.specs.Stamp.{stamp_micros};
-ghost use Rattle.j39_log.specs.Identifiers.{IsWritten};
-ghost use Rattle.j39_log.specs.LastSecond.{IsSecond, kept_text};
-ghost use Rattle.j39_log.specs.Text.{IsStampText};
+//! What most lines share with one before: the second of the stamp, and the identifier.
+ghost use Rattle.std.specs.Prelude.{◌≡◌, ◌++◌, codes, replicate};
 
+use crate::fast::form::Form;
 use crate::fast::identifiers::Identifiers;
-use crate::fast::plain::{decimals_of, second_of};
-use j39_frame::{Id, Stamp};
+use crate::fast::plain::second_of;
+use j39_io::backwards::slice_before;
 use std::marker::Model;
 
-/// What most lines share with one before: the second of the stamp that was read last, and the identifiers that were read.
+/// The second of the stamp that was read last, and the identifiers that were read.
 #[derive(Debug, Drop)]
 pub struct LastSecond {
-    second: Second,
-    identifiers: Identifiers,
-}
-
-// A clause sees the microseconds before the second.
-impl Model for LastSecond {
-    ghost use Rattle.std.specs.Prelude.{ℕ};
-
-    ghost Value = { ℕ };
-
-    ghost view = { λ s. s.second };
+    pub(crate) second: Second,
+    pub(crate) identifiers: Identifiers,
 }
 
 impl LastSecond {
     /// The second 0, and no identifiers.
     pub fn new() -> LastSecond
-        ensures { result ≡ 0 }
+        ensures second { result.second ≡ 0 }
     {
         LastSecond {
             second: Second::new(),
             identifiers: Identifiers::new(),
         }
     }
-
-    /// The stamp that begins with `(`, ten digits, `.` and six digits, as `plain::stamp_of` reads it.
-    #[inline(always)]
-    pub(crate) fn stamp_of(&mut self, front: &[u8; 18]) -> Option<Stamp>
-        ensures { IfSome result (λ stamp. (cut : List ℕ) → AllDigits 10 cut → (length cut ≡ 0) ⊎ (length cut ≡ 3)
-            → IsStampText (front.now ++ (cut ++ codes ")")) (stamp_micros stamp)) }
-    {
-        self.second.stamp_of(front)
-    }
-
-    /// The identifier of eight hex digits.
-    #[inline(always)]
-    pub(crate) fn id_of(&mut self, digits: &[u8; 8]) -> Option<Id>
-        ensures { IfSome result (IsWritten digits.now) }
-    {
-        self.identifiers.of(digits)
-    }
 }
 
-/// The second of the stamp that was read last, by the twelve bytes that each stamp within it begins with: most lines
-/// come within the second of the line before, and of theirs the decimals alone are read.
+/// A second, by the form of the first sixteen bytes of each stamp within it: most lines come within the second of the line
+/// before, and of theirs the decimals alone are read.
 #[derive(Debug, Drop)]
 pub(crate) struct Second {
-    head: u64,
-    tail: u32,
-    micros: u64,
+    pub form: Form,
+    pub micros: u64,
 }
 
 // A clause sees the microseconds before the second.
 impl Model for Second {
     ghost use Rattle.std.specs.Prelude.{ℕ, ◌<◌, ◌^◌};
-    ghost use Rattle.j39_log.specs.LastSecond.{IsSecond, kept_text};
+    ghost use Rattle.j39_log.specs.LastSecond.{HasSecond};
 
     ghost Value = { ℕ };
 
     ghost view = { λ s. s.micros };
 
-    ghost invariant = { λ s. IsSecond (kept_text s.head s.tail) s.micros × (s.micros < 2 ^ 60) };
+    ghost invariant = { λ s. HasSecond s.form s.micros × (s.micros < 2 ^ 60) };
 }
 
 impl Second {
@@ -83,55 +51,24 @@ impl Second {
     fn new() -> Second
         ensures { result ≡ 0 }
     {
-        Second {
-            head: u64::from_le_bytes(*b"(0000000"),
-            tail: u32::from_le_bytes(*b"000."),
-            micros: 0,
-        }
+        let form = form_of(b"(0000000000.");
+        Second { form, micros: 0 }
     }
 
-    /// The stamp that begins with `(`, ten digits, `.` and six digits, as `plain::stamp_of` reads it.
+    /// Whether a text begins with this second.
     #[inline(always)]
-    pub(crate) fn stamp_of(&mut self, front: &[u8; 18]) -> Option<Stamp>
-        ensures { IfSome result (λ stamp. (cut : List ℕ) → AllDigits 10 cut → (length cut ≡ 0) ⊎ (length cut ≡ 3)
-            → IsStampText (front.now ++ (cut ++ codes ")")) (stamp_micros stamp)) }
-    {
-        if !self.reach(front) {
-            return None;
-        }
-        let more = decimals_of(front)?;
-        Stamp::new(self.micros + more)
-    }
-
-    /// Whether a stamp begins with a second, to which this then is turned; else it stays.
-    #[inline(always)]
-    fn reach(&mut self, front: &[u8; 18]) -> bool
-        ensures { OnTrue result (IsSecond (take 12 front.now) self.new) }
-    {
-        if self.is_at(front) {
-            true
-        } else {
-            self.turn_to(front)
+    pub(crate) fn begins(&self, text: &[u8]) -> bool {
+        match (words_of(text), words_of(&self.form.least)) {
+            (Some(words), Some(own)) => words.0 == own.0 && words.1 == own.1,
+            _ => false,
         }
     }
 
-    /// Whether a stamp begins with this second.
-    #[inline(always)]
-    fn is_at(&self, front: &[u8; 18]) -> bool
-        ensures { OnTrue result (IsSecond (take 12 front.now) self.now) }
-    {
-        match words_of(front) {
-            Some((head, tail)) => head == self.head && tail == self.tail,
-            None => false,
-        }
-    }
-
-    /// Turns to the second of a stamp; `false` where it begins with none.
+    /// Turns to the second of a stamp, where a text begins with one; whether it turned. It hands no second out, so its caller
+    /// needs no room for one.
     #[inline(never)]
-    fn turn_to(&mut self, front: &[u8; 18]) -> bool
-        ensures { OnTrue result (IsSecond (take 12 front.now) self.new) }
-    {
-        match Second::of(front) {
+    pub(crate) fn turn_to(&mut self, text: &[u8]) -> bool {
+        match Second::of(text) {
             Some(second) => {
                 *self = second;
                 true
@@ -140,22 +77,36 @@ impl Second {
         }
     }
 
-    /// The second of a stamp.
-    fn of(front: &[u8; 18]) -> Option<Second>
-        ensures { IfSome result (λ second. IsSecond (take 12 front.now) second) }
-    {
+    /// The second of a stamp that a text begins with.
+    fn of(text: &[u8]) -> Option<Second> {
+        let (front, _) = text.split_first_chunk::<18>()?;
         let micros = second_of(front)?;
-        let (head, tail) = words_of(front)?;
-        Some(Second { head, tail, micros })
+        let (text, _) = front.as_slice().split_first_chunk::<12>()?;
+        let form = form_of(text);
+        Some(Second { form, micros })
     }
 }
 
 /// The first twelve bytes as two numbers, which are compared at once.
 #[inline(always)]
-fn words_of(front: &[u8; 18]) -> Option<(u64, u32)>
-    ensures { IfSome result (λ words. kept_text words.0 words.1 ≡ take 12 front.now) }
-{
-    let (head, rest) = front.as_slice().split_first_chunk::<8>()?;
+fn words_of(text: &[u8]) -> Option<(u64, u32)> {
+    let (head, rest) = text.split_first_chunk::<8>()?;
     let (tail, _) = rest.split_first_chunk::<4>()?;
     Some((u64::from_le_bytes(*head), u32::from_le_bytes(*tail)))
+}
+
+/// How far each byte may lie above that of the form: the decimals alone.
+const ABOVE: [u8; 16] = [0, 0, 0, 0, 0, 0, 0, 0, 0, 0, 0, 0, 9, 9, 9, 9];
+
+/// These bytes, and four digits.
+fn form_of(text: &[u8; 12]) -> Form
+    ensures least { result.least ≡ text.now ++ codes "0000" }
+    ensures above { result.above ≡ replicate 12 0 ++ replicate 4 9 }
+{
+    let mut least = [b'0'; 16];
+    let _ = slice_before(&mut least, 12, text);
+    Form {
+        least,
+        above: ABOVE,
+    }
 }

@@ -1,6 +1,6 @@
 //! A quick reader of the line as `candump` writes it: ten digits of seconds, six decimals or nine,
 //! one space between the fields, and none before or after them.
-ghost use Rattle.std.specs.Prelude.{◌≡◌, ◌<◌, ◌+◌, ◌*◌, ◌^◌, ◌++◌, ◌∷◌, ◌⊎◌, ◌≤◌, [], ℕ, List, length, take, drop, get_or, map, not, IfSome, Ok, codes};
+ghost use Rattle.std.specs.Prelude.{◌≡◌, ◌<◌, ◌+◌, ◌*◌, ◌^◌, ◌++◌, ◌∷◌, ◌⊎◌, ◌≤◌, [], ℕ, List, length, take, drop, get_or, map, not, IfSome, None, Ok, codes};
 ghost use Rattle.std.specs.Bool.{OnTrue};
 ghost use Rattle.std.specs.List.{AllByRecursion, prefix_len, range_with_len};
 ghost use Rattle.std.specs.Str.Parse.{AllDigits};
@@ -15,6 +15,7 @@ ghost use Rattle.j39_log.specs.LastSecond.{AreDecimals, IsSecond};
 ghost use Rattle.j39_log.specs.LineRead.{spelled_of};
 ghost use Rattle.j39_log.specs.Spelled.{Spells};
 ghost use Rattle.j39_frame.specs.Stamp.{stamp_micros};
+ghost use Rattle.j39_frame.specs.declared.identifier.Id.{Id};
 ghost use Rattle.j39_log.specs.Text.{IsFrameText, IsStampText};
 
 use crate::fast::lanes::{are_below, eight, four, gaps_of, pairs};
@@ -111,6 +112,16 @@ pub(crate) fn decimals_of(front: &[u8; 18]) -> Option<u64>
     Some(micros_within(&p))
 }
 
+/// The microseconds that six digits behind a second write.
+#[inline(always)]
+pub(crate) fn decimals(front: &[u8; 18]) -> u64
+    ensures value { (micros : ℕ) → IsSecond (take 12 front.now) micros → AllDigits 10 (drop 12 front.now)
+        → AreDecimals (drop 12 front.now) result }
+    ensures fits { result < 2 ^ 32 }
+{
+    micros_within(&pairs(lanes_of(front), 10))
+}
+
 /// The microseconds that a first digit of seconds and the first five pairs write.
 #[inline(always)]
 fn micros_before(first: u8, p: &[u8; 8]) -> u64
@@ -138,11 +149,19 @@ fn pairs_of(front: &[u8; 18]) -> Option<[u8; 8]>
     ensures { IfSome result (λ p. AllByRecursion (λ d. d < 10) (stamp_lanes front.now)
         × (p ≡ map (pair_at 10 (stamp_lanes front.now)) (range_with_len 0 8))) }
 {
-    let digits = u8x16::from_slice(&front[2..]) - u8x16::from_array(ZEROS);
+    let digits = lanes_of(front);
     if !are_below(digits, 10) {
         return None;
     }
     Some(pairs(digits, 10))
+}
+
+/// The third to the last byte, each less the zero or the point that stands there.
+#[inline(always)]
+fn lanes_of(front: &[u8; 18]) -> u8x16
+    ensures { result ≡ stamp_lanes front.now }
+{
+    u8x16::from_slice(&front[2..]) - u8x16::from_array(ZEROS)
 }
 
 /// What follows the six decimals, three that are cut or none, `)` and a space.
@@ -231,9 +250,11 @@ pub(crate) fn frame_behind(stamp: Stamp, digits: &[u8; 8], id: Id, rest: &[u8]) 
 /// The identifier that 8 hex digits write.
 #[inline(always)]
 pub(crate) fn id_of(digits: &[u8; 8]) -> Option<Id>
-    ensures { IfSome result (IsWritten digits.now) }
+    ensures some { IfSome result (IsWritten digits.now) }
+    ensures none { result ≡ None → (id : Id) → IsWritten digits.now id → ⊥ }
 {
-    Id::new(u32::from_be_bytes(four(digits)?))
+    let bytes = four(digits)?;
+    Id::new(u32::from_be_bytes(bytes))
 }
 
 #[inline(always)]

@@ -1,72 +1,94 @@
-//! A quick reader of the line of a frame of the run's bus, as `candump` writes it: each part stands behind the one before,
-//! so that no end has to be looked for, the line's neither.
-ghost use Rattle.std.specs.Prelude.{◌≡◌, ◌++◌, ◌∷◌, ◌⊎◌, [], ℕ, List, length, IfSome, codes};
+//! A quick reader of the line of a frame of the run's bus, as `candump` writes it: each part stands where it mostly stands, so that
+//! no end has to be looked for, the line's neither, and all are asked at once.
+ghost use Rattle.std.specs.Prelude.{◌≡◌, ◌++◌, ◌∷◌, ◌⊎◌, [], ℕ, List, length, IfSome};
 ghost use Rattle.std.specs.Str.Parse.{AllDigits};
-ghost use Rattle.j39_io.specs.Chars.{carriage_return, newline, space};
-ghost use Rattle.j39_log.specs.Bus.{IsBusName};
-ghost use Rattle.j39_log.specs.Line.{IsFrameLine};
-ghost use Rattle.j39_log.specs.Newline.{TakesLine};
+ghost use Rattle.j39_io.specs.Chars.{carriage_return, newline};
+ghost use Rattle.j39_log.specs.FrameLine.{BeginsLine, HasForm};
 
-use crate::fast::lanes::alike_len;
-use crate::fast::plain::{frame_behind, is_digit};
+use crate::fast::form::{have_form, values_of};
+use crate::fast::frame_line::FrameLine;
+use crate::fast::plain::is_digit;
 use crate::{Bus, LastSecond};
-use j39_frame::Frame;
 
 /// The bytes of the shortest such line, with its newline.
 const SHORTEST: usize = 48;
 
-/// The frame of this bus in the line that the bytes begin with, and what follows its newline, where the line has the form of
-/// most (`Splitter::frame_on`). `None` says nothing of the line. The second of the line and its identifier are kept for the next ones.
+/// The line of a frame of this bus that the bytes begin with, and what follows its newline, where the line has the form of
+/// most (`Splitter::line_on`). `None` says nothing of the line. Its second and its identifier are kept for the next ones.
 #[inline(always)]
-pub(crate) fn first_frame<'a>(
+pub(crate) fn first_line<'a>(
     bytes: &'a [u8],
-    second: &mut LastSecond,
+    last: &mut LastSecond,
     bus: &Bus,
-) -> Option<(Frame, &'a [u8])>
-    ensures { IfSome result (λ found. (line : List ℕ) × TakesLine bytes.now line found.1.now
-        × IsFrameLine line bus.now found.0) }
+) -> Option<(FrameLine<'a>, &'a [u8])>
+    ensures { IfSome result (λ found. BeginsLine bytes.now bus.now found.0 found.1.now) }
+{
+    match of_last_second(bytes, last, bus) {
+        Some(found) => Some(found),
+        None => {
+            if last.second.begins(bytes) || !last.second.turn_to(bytes) {
+                return None;
+            }
+            of_last_second(bytes, last, bus)
+        }
+    }
+}
+
+/// The same, of a line of the last second.
+#[inline(always)]
+fn of_last_second<'a>(
+    bytes: &'a [u8],
+    last: &mut LastSecond,
+    bus: &Bus,
+) -> Option<(FrameLine<'a>, &'a [u8])>
+    ensures { IfSome result (λ found. BeginsLine bytes.now bus.now found.0 found.1.now) }
+{
+    match with_six(bytes, last, bus) {
+        Some(found) => Some(found),
+        None => with_nine(bytes, last, bus),
+    }
+}
+
+/// The same, of a line of the last second with six decimals.
+#[inline(always)]
+fn with_six<'a>(
+    bytes: &'a [u8],
+    last: &mut LastSecond,
+    bus: &Bus,
+) -> Option<(FrameLine<'a>, &'a [u8])>
+    ensures { IfSome result (λ found. BeginsLine bytes.now bus.now found.0 found.1.now) }
 {
     // Asked once, this needn't be asked of each part.
     if bytes.len() < SHORTEST {
         return None;
     }
-    let (front, rest) = bytes.split_first_chunk::<18>()?;
-    let rest = after_bus(rest, bus)?;
-    let (third, rest) = last_of(rest)?;
-    let stamp = second.stamp_of(front)?;
-    let (digits, data) = third.split_first_chunk::<8>()?;
-    let id = second.id_of(digits)?;
-    let frame = frame_behind(stamp, digits, id, data)?;
-    Some((frame, rest))
+    let (_, behind) = bytes.split_first_chunk::<16>()?;
+    let (between, _) = behind.split_first_chunk::<16>()?;
+    formed(bytes, between, bus.third_at, last, bus)
 }
 
-/// What follows the three decimals that are cut, where a stamp has nine, `)`, a space, the name of this bus and a space. No
-/// byte of these is asked by itself before: the vector that they are compared in would be put together of parts then.
+/// The same, of one with nine.
 #[inline(always)]
-fn after_bus<'a>(text: &'a [u8], bus: &Bus) -> Option<&'a [u8]>
-    ensures { IfSome result (λ third. (cut : List ℕ) × AllDigits 10 cut × ((length cut ≡ 0) ⊎ (length cut ≡ 3))
-        × IsBusName bus.now × (text.now ≡ cut ++ (codes ") " ++ (bus.now ++ (space ∷ third.now))))) }
+fn with_nine<'a>(
+    bytes: &'a [u8],
+    last: &mut LastSecond,
+    bus: &Bus,
+) -> Option<(FrameLine<'a>, &'a [u8])>
+    ensures { IfSome result (λ found. BeginsLine bytes.now bus.now found.0 found.1.now) }
 {
-    match after_name(text, bus) {
-        Some(third) => Some(third),
-        None => after_cut(text, bus),
+    if bus.third_at > bytes.len() {
+        return None;
     }
+    let (_, behind) = bytes.split_first_chunk::<16>()?;
+    let behind = after_three(behind)?;
+    let (between, _) = behind.split_first_chunk::<16>()?;
+    formed(bytes, between, bus.third_at + 3, last, bus)
 }
 
-/// The same, of a stamp with nine decimals.
-#[inline(never)]
-fn after_cut<'a>(text: &'a [u8], bus: &Bus) -> Option<&'a [u8]>
-    ensures { IfSome result (λ third. (cut : List ℕ) × AllDigits 10 cut × (length cut ≡ 3) × IsBusName bus.now
-        × (text.now ≡ cut ++ (codes ") " ++ (bus.now ++ (space ∷ third.now))))) }
-{
-    let rest = after_decimals(text)?;
-    after_name(rest, bus)
-}
-
-/// What follows the three decimals that are cut.
+/// What follows three digits.
 #[inline(always)]
-fn after_decimals(text: &[u8]) -> Option<&[u8]>
-    ensures { IfSome result (λ later. (cut : List ℕ) × AllDigits 10 cut × (length cut ≡ 3) × (text.now ≡ cut ++ later.now)) }
+fn after_three(text: &[u8]) -> Option<&[u8]>
+    ensures { IfSome result (λ later. (three : List ℕ) × AllDigits 10 three × (length three ≡ 3) × (text.now ≡ three ++ later.now)) }
 {
     match text {
         [a, b, c, later @ ..] if is_digit(*a) && is_digit(*b) && is_digit(*c) => Some(later),
@@ -74,32 +96,54 @@ fn after_decimals(text: &[u8]) -> Option<&[u8]>
     }
 }
 
-/// What follows `)`, a space, the name of this bus and a space.
+/// The line's parts, where they have the form of most: `between` begins with two digits, and the identifier
+/// stands at `third_at`.
 #[inline(always)]
-fn after_name<'a>(text: &'a [u8], bus: &Bus) -> Option<&'a [u8]>
-    ensures { IfSome result (λ third. IsBusName bus.now × (text.now ≡ codes ") " ++ (bus.now ++ (space ∷ third.now)))) }
+fn formed<'a>(
+    bytes: &'a [u8],
+    between: &[u8; 16],
+    third_at: usize,
+    last: &mut LastSecond,
+    bus: &Bus,
+) -> Option<(FrameLine<'a>, &'a [u8])>
+    ensures { IfSome result (λ found. HasForm bytes.now between.now third_at bus.now found.0 found.1.now) }
 {
-    let (block, _) = text.split_first_chunk::<16>()?;
-    let n = bus.counted;
-    if alike_len(block, &bus.between) < n {
+    let (front, _) = bytes.split_first_chunk::<18>()?;
+    let (first, _) = bytes.split_first_chunk::<16>()?;
+    if third_at > bytes.len() {
         return None;
     }
-    let (_, third) = text.split_at(n);
-    Some(third)
+    let (_, third) = bytes.split_at(third_at);
+    let (third, rest) = third.split_first_chunk::<26>()?;
+    let (digits, third) = third.as_slice().split_first_chunk::<8>()?;
+    let (hash, third) = third.split_first()?;
+    let (data, third) = third.split_first_chunk::<16>()?;
+    let (end, _) = third.split_first()?;
+    let rest = after_end(*end, rest)?;
+    let values = values_of(data);
+    if *hash != b'#' || !have_form(first, &last.second.form, between, &bus.between, values) {
+        return None;
+    }
+    let id = last.identifiers.of(digits)?;
+    let second = last.second.micros;
+    let line = FrameLine {
+        front,
+        second,
+        id,
+        data,
+    };
+    Some((line, rest))
 }
 
-/// The last field of a line, of 25 bytes, and what follows its newline and the CR before that, where there is one.
+/// What follows a newline, whose first byte was taken off, or the CR before it.
 #[inline(always)]
-fn last_of(text: &[u8]) -> Option<(&[u8], &[u8])>
-    ensures { IfSome result (λ found. (length found.0.now ≡ 25)
-        × ((cr : List ℕ) × ((cr ≡ []) ⊎ (cr ≡ carriage_return ∷ []))
-        × (text.now ≡ found.0.now ++ (cr ++ (newline ∷ found.1.now))))) }
+fn after_end(end: u8, rest: &[u8]) -> Option<&[u8]>
+    ensures { IfSome result (λ later. (cr : List ℕ) × ((cr ≡ []) ⊎ (cr ≡ carriage_return ∷ []))
+        × (end ∷ rest.now ≡ cr ++ (newline ∷ later.now))) }
 {
-    let (block, rest) = text.split_first_chunk::<26>()?;
-    let (end, third) = block.split_last()?;
-    match *end {
-        b'\n' => Some((third, rest)),
-        b'\r' => Some((third, after_newline(rest)?)),
+    match end {
+        b'\n' => Some(rest),
+        b'\r' => after_newline(rest),
         _ => None,
     }
 }

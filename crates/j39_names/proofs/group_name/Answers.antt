@@ -1,12 +1,9 @@
--- It is the name in the text that is built in.
+-- It is the name in the table that is built in.
 use Rattle.std.proofs.Common.{◌∙◌, ap}
-use Rattle.j39_names.specs.Names.{group_called, name_in}
-use Rattle.j39_names.specs.declared.groups.TheConstants.{NUMBERS, STARTS}
+use Rattle.j39_names.specs.Called.{group_called}
+use Rattle.j39_names.specs.Names.{name_in}
 use Rattle.j39_names.proofs.group_name.Goals as goal
 
 pub returns : goal.returns
 unfolding group_called
-returns c = c.name_in.ensures
-    ∙ ap (λ numbers. name_in numbers c.starts.result.now c.names.result.now c.args.pgn) c.numbers.ensures
-    ∙ ap (λ starts. name_in NUMBERS starts c.names.result.now c.args.pgn) c.starts.ensures
-    ∙ ap (λ names. name_in NUMBERS STARTS names c.args.pgn) c.names.ensures
+returns c = c.name_of.ensures ∙ ap (λ names. name_in names c.args.pgn) c.table.ensures

@@ -6,8 +6,8 @@ ghost use Rattle.j39_node.specs.History.{Who, Call, is_left};
 ghost use Rattle.j39_node.specs.Ticks.{next_tick};
 ghost use Rattle.j39_node.specs.Transfers.{clock, next_due, packet_in, packets_in, sooner, transfer_in};
 ghost use Rattle.j39_node.specs.Hold.{can_claim, stands};
-ghost use Rattle.j39_node.specs.Asking.{in_broadcast, is_coming, out_at};
-ghost use Rattle.j39_node.specs.Is.{asking_of, Is, lane_of, port_of, hearing_of, incoming_of, session_by, waits_with};
+ghost use Rattle.j39_node.specs.Asking.{in_session, is_coming, out_at};
+ghost use Rattle.j39_node.specs.Is.{asking_of, Is, lane_of, port_of, hearing_of, incoming_of, waits_with};
 
 use crate::controller::Controller;
 use crate::hold::SLACK;
@@ -42,9 +42,9 @@ impl Controller {
 
     /// When the open request times out.
     fn request_tick(&self) -> Option<Stamp>
-        ensures { option_map stamp_micros result ≡ out_at (waits_with (is_coming (option_map (λ x. x.question) (asking_of self.now.asking))
-            (session_by (incoming_of self.now.incoming).reception.session (incoming_of self.now.incoming).named)
-            (in_broadcast (incoming_of self.now.incoming).clock (hearing_of self.now.hearing).current)) (asking_of self.now.asking))
+        ensures { option_map stamp_micros result ≡ out_at (waits_with (is_coming (incoming_of self.now.incoming).clock (option_map (λ x. x.question) (asking_of self.now.asking))
+            (in_session (incoming_of self.now.incoming).reception.session)
+            (hearing_of self.now.hearing).listening.current) (asking_of self.now.asking))
             self.now.hold.moment self.now.hold.wait }
     {
         if self.asking.is_waiting(self.is_coming(self.incoming.clock)) {
@@ -88,7 +88,7 @@ impl Controller {
     }
 }
 
-fn sooner(one: Option<u64>, other: Option<u64>) -> Option<u64>
+pub(crate) fn sooner(one: Option<u64>, other: Option<u64>) -> Option<u64>
     ensures { result ≡ sooner one other }
 {
     match (one, other) {

@@ -14,7 +14,6 @@ ghost use Rattle.j39_node.specs.Is.{Is, IsOthers, next_claims_request, lane_of, 
 use crate::asking;
 use crate::controller::Controller;
 use crate::hold::{Hold, SLACK};
-use crate::incoming::is_same;
 use crate::outgoing::past;
 use crate::requests::Due;
 use crate::turn::{Ready, Turn, is_that};
@@ -51,11 +50,9 @@ impl Controller {
             let address = self.claim_address();
             self.hold = hold.claimed();
             let claim = self.own.claim(address, now)?;
-            let speaker = self.speaker();
             self.incoming.note(&mut self.holders, &claim, None, false);
             self.incoming.call(true, now);
-            let is_left = !is_same(speaker, self.speaker());
-            let breaks = self.hearing.leave(is_left);
+            let breaks = self.hearing.leave(None, &self.holders, self.incoming.clock);
             self.news = self.news.with_missed(breaks);
             return Some(claim);
         }

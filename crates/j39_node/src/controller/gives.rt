@@ -1,16 +1,19 @@
 //! What a controller gives its program: how what was accepted ended, what was received, news and requests.
 ghost use Rattle.std.specs.Prelude.{◌≡◌, Option, List, ◌∷◌, IfSome, Some, None, length, ◌<◌, ◌≤◌, false};
+ghost use Rattle.std.specs.List.{slice_get};
 ghost use Rattle.std.specs.Option.{option_map};
 ghost use Rattle.j39_frame.specs.Stamp.{stamp_micros};
 ghost use Rattle.j39_transport.specs.ReceiverModel.{message_shown};
-ghost use Rattle.j39_node.specs.History.{Who, Call};
-ghost use Rattle.j39_node.specs.Reception.{reception};
-ghost use Rattle.j39_node.specs.Hearing.{waiting};
+ghost use Rattle.j39_address.specs.Name.{name_raw};
+ghost use Rattle.j39_node.specs.History.{Who, Call, got};
+ghost use Rattle.j39_node.specs.Reception.{reception, senders, transfer_sender};
+ghost use Rattle.j39_node.specs.Hearing.{broadcast_senders, waiting};
 ghost use Rattle.j39_node.specs.History.Call.{TakeAskEnded, TakeEnded, TakeReceived, TakeRequest, TakeNews, TakeBroadcastEnded, ReleaseTransfer, TakeTransferEnded, ReleaseBroadcast};
 ghost use Rattle.j39_node.specs.Is.{Is, received_by, request_by, silence};
 
 use crate::controller::Controller;
 use crate::{AskEnding, Ending, News, Received, Request, TransferEnding};
+use j39_address::Name;
 use j39_transport::Message;
 
 impl Controller {
@@ -69,9 +72,11 @@ impl Controller {
         Some(ended)
     }
 
-    /// A message that was heard for the program, each once, the oldest first.
+    /// A message that was heard for the program, each once, the oldest first, with the NAME that held its source then.
     pub fn take_received(&mut self) -> Option<Received>
-        ensures { (w : Who) (H : List Call) → Is w H self.old
+        ensures sender { IfSome result (λ r. (w : Who) (H : List Call) → Is w H self.old
+            → slice_get (senders w H) (length (got H)) ≡ Some (option_map name_raw r.name)) }
+        ensures is { (w : Who) (H : List Call) → Is w H self.old
             → Is w (TakeReceived (option_map received_by result) ∷ H) self.new }
     {
         if self.inbox.unread.is_empty() {
@@ -91,6 +96,13 @@ impl Controller {
         self.incoming.message()
     }
 
+    /// The NAME that held the source of the message that came so last, when its last packet was heard; `None` where nobody did.
+    pub fn transfer_sender(&self) -> Option<Name>
+        ensures { (w : Who) (H : List Call) → Is w H self.now → option_map name_raw result ≡ transfer_sender w H }
+    {
+        self.transfer_sender
+    }
+
     /// Makes room for the next message in packets; whether one lay there, which by this the program got.
     pub fn release_transfer(&mut self) -> bool
         ensures { (w : Who) (H : List Call) → Is w H self.old → Is w (ReleaseTransfer result ∷ H) self.new }
@@ -100,17 +112,25 @@ impl Controller {
         waits
     }
 
-    /// The message of 9 to 1,785 bytes that came in packets to all, until `release_broadcast` is called. Till then no other is
-    /// heard; such are counted in `missed`.
+    /// The oldest message of 9 to 1,785 bytes that came in packets to all, until `release_broadcast` is called. Till then its box
+    /// isn't free for another.
     pub fn received_broadcast(&self) -> Option<Message<'_>>
         ensures value { (w : Who) (H : List Call) → Is w H self.now
-            → option_map (λ m. (stamp_micros m.stamp, message_shown m)) result ≡ waiting w H }
+            → option_map (λ m. (stamp_micros m.stamp, message_shown m)) result ≡ slice_get (waiting w H) 0 }
         ensures most { IfSome result (λ m. length m.payload.now ≤ 1785) }
     {
         self.hearing.message()
     }
 
-    /// Makes room for the next broadcast in packets; whether one lay there, which by this the program got.
+    /// The NAME that held the source of that broadcast from its announcement to its last packet; `None` where nobody did.
+    pub fn broadcast_sender(&self) -> Option<Name>
+        ensures { (w : Who) (H : List Call) → Is w H self.now
+            → IfSome (slice_get (broadcast_senders w H) 0) (λ name. option_map name_raw result ≡ name) }
+    {
+        self.hearing.sender()
+    }
+
+    /// Frees the box of that broadcast, which by this the program got; whether there was one.
     pub fn release_broadcast(&mut self) -> bool
         ensures { (w : Who) (H : List Call) → Is w H self.old → Is w (ReleaseBroadcast result ∷ H) self.new }
     {

@@ -5,18 +5,17 @@ ghost use Rattle.j39_frame.specs.Stamp.{stamp_micros};
 ghost use Rattle.j39_address.specs.Name.{name_raw};
 ghost use Rattle.j39_address.specs.Claims.{holder_in};
 ghost use Rattle.j39_node.specs.History.{Who, Call, is_left};
-ghost use Rattle.j39_node.specs.Reception.{still};
 ghost use Rattle.j39_node.specs.Hearing.{unheard};
 ghost use Rattle.j39_node.specs.Transfers.{is_replaced};
 ghost use Rattle.j39_node.specs.Hold.{lost};
 ghost use Rattle.j39_node.specs.History.Call.{At};
 ghost use Rattle.j39_node.specs.History.Act.{Hear, Tick, Again};
-ghost use Rattle.j39_node.specs.Asking.{in_broadcast, is_coming};
-ghost use Rattle.j39_node.specs.Is.{asking_of, Is, silence, port_of, hearing_of, incoming_of, session_by};
+ghost use Rattle.j39_node.specs.Asking.{in_session, is_coming};
+ghost use Rattle.j39_node.specs.Is.{asking_of, Is, sender_by_made, silence, port_of, hearing_of, incoming_of};
 
 use crate::AskEnding;
 use crate::controller::Controller;
-use crate::incoming::{Bearing, is_same};
+use crate::incoming::Bearing;
 use crate::requests::asked;
 use j39_address::Name;
 use j39_frame::{Frame, Stamp};
@@ -32,14 +31,13 @@ impl Controller {
         let is_held = self.hold.is_held();
         let wanted = self.own.is_for_program(is_held, frame);
         let misses = self.inbox.misses(wanted);
-        self.inbox.offer(wanted, frame);
+        let sender = self.holders.holder(frame.id.source());
+        self.inbox.offer(wanted, frame, sender);
         let request = asked(&self.own, is_held, frame);
         let request = self.desk.fresh(&self.own, request);
         self.desk.hear(&self.own, request);
         let before = self.peer();
-        let speaker = self.speaker();
         let has_place = self.incoming.has_place();
-        let waited = self.hearing.is_waiting();
         let doubled = self.own.double(frame);
         let bearing = Bearing {
             drives_away: self.own.is_driven_away(frame),
@@ -48,20 +46,22 @@ impl Controller {
         };
         let gone = self.incoming.hear(&mut self.holders, bearing, frame, now);
         let transferred = self.incoming.made(has_place);
+        self.transfer_sender = self.sender_of(transferred);
         let is_replaced = is_replaced(before, self.peer());
-        let is_left = !is_same(self.still(gone, speaker), self.speaker());
         let time = self.incoming.clock;
-        let is_over = self.hearing.is_over(is_left, time);
-        let breaks = self.hearing.leave(is_over);
-        let unheard = self.hearing.hear(&self.own, frame, time);
-        let broadcast = self.hearing.made(waited);
-        let made = transferred.or(broadcast);
+        let breaks = self.hearing.leave(gone, &self.holders, time);
+        let broadcast = self.hearing.hear(&self.own, &self.holders, frame, time);
+        let made = transferred.or(broadcast.made);
         let is_lost = self.hold.is_lost();
         let calls = self.own.calls_for_claim(is_lost, frame);
         let another = self.own.is_another(is_held, frame);
-        self.news = self
-            .news
-            .heard(bearing.drives_away, is_lost, another, misses, unheard);
+        self.news = self.news.heard(
+            bearing.drives_away,
+            is_lost,
+            another,
+            misses,
+            broadcast.is_missed,
+        );
         self.news = self.news.with_double(doubled).with_missed(breaks);
         self.hold = self
             .hold
@@ -88,20 +88,18 @@ impl Controller {
     {
         self.hold = self.hold.passed(now);
         self.incoming.tick(now);
-        let is_out = self.hearing.is_out(self.incoming.clock);
-        let breaks = self.hearing.leave(is_out);
+        let breaks = self.hearing.leave(None, &self.holders, self.incoming.clock);
         self.news = self.news.with_missed(breaks);
     }
 
     /// An answer to the open request is on its way, at this time.
     pub(super) fn is_coming(&self, time: Stamp) -> bool
-        ensures { result ≡ is_coming (option_map (λ x. x.question) (asking_of self.now.asking))
-            (session_by (incoming_of self.now.incoming).reception.session (incoming_of self.now.incoming).named)
-            (in_broadcast (stamp_micros time) (hearing_of self.now.hearing).current) }
+        ensures { result ≡ is_coming (stamp_micros time) (option_map (λ x. x.question) (asking_of self.now.asking))
+            (in_session (incoming_of self.now.incoming).reception.session)
+            (hearing_of self.now.hearing).listening.current }
     {
-        let session = self.incoming.session();
-        let broadcast = self.hearing.broadcast(time);
-        self.asking.is_coming(session, broadcast)
+        self.asking
+            .is_coming(self.incoming.session(), &self.hearing, time)
     }
 
     /// How the open request ended without a word.
@@ -123,25 +121,14 @@ impl Controller {
         }
     }
 
-    /// The NAME that holds the address from which the open broadcast comes.
-    pub(super) fn speaker(&self) -> Option<Name>
-        ensures { IfSome (hearing_of self.now.hearing).current (λ x.
-            option_map name_raw result ≡ holder_in self.now.holders x.source) }
+    /// Who holds the source of the message in packets that came to its address last, if it came now.
+    fn sender_of(&self, made: Option<(u8, u32)>) -> Option<Name>
+        ensures { option_map name_raw result ≡ sender_by_made (holder_in self.now.holders)
+            made (option_map name_raw self.now.transfer_sender) }
     {
-        match self.hearing.source() {
-            Some(address) => self.holders.holder(address),
-            None => None,
-        }
-    }
-
-    /// Who held the address from which the open broadcast comes, and holds it still: nobody, if its holder restarted.
-    fn still(&self, gone: Option<u8>, speaker: Option<Name>) -> Option<Name>
-        ensures { (before : ℕ → Option ℕ) → IfSome (hearing_of self.now.hearing).current (λ x. option_map name_raw speaker ≡ before x.source)
-            → IfSome (hearing_of self.now.hearing).current (λ x. option_map name_raw result ≡ still gone before x.source) }
-    {
-        match self.hearing.source() {
-            Some(source) => { if gone == Some(source) { None } else { speaker } }
-            None => None,
+        match made {
+            Some((source, _)) => self.holders.holder(source),
+            None => self.transfer_sender,
         }
     }
 }

@@ -1,8 +1,9 @@
 //! The faults that are there now, as an account of the frames of a bus.
-ghost use Rattle.std.specs.Prelude.{◌≡◌, ◌<◌, ◌≤◌, ◌++◌, ◌∷◌, [], List, None, IfOk, OnErr, length, true};
+ghost use Rattle.std.specs.Prelude.{◌≡◌, ◌<◌, ◌≤◌, ◌++◌, ◌∷◌, [], List, None, IfOk, OnErr, OnOk, ℕ, length, true};
 ghost use Rattle.j39_frame.specs.Frame.{FrameRecord};
 ghost use Rattle.j39_frame.specs.Identifier.{id_raw, pgn_of};
-ghost use Rattle.j39_listen.specs.Chooses.{which_of};
+ghost use Rattle.j39_listen.specs.Chooses.{Chooses, which_of};
+ghost use Rattle.j39_listen.specs.Filter.{FilterRecord, first_stamp, in_time, is_in_time};
 ghost use Rattle.j39_listen.specs.Heard.{AreHeardWith, Hearing};
 ghost use Rattle.j39_listen.specs.HeardModel.{hearing_of};
 ghost use Rattle.j39_listen.specs.Listening.{Hears};
@@ -82,7 +83,7 @@ impl<'g, 't, 'c> Account for FaultsNow<'g, 't, 'c> {
 
     ghost makes = { λ subject. MakesFaultsNowIn subject.0 subject.1.manner subject.1.conversions subject.1.which };
 
-    ghost asks = { λ subject. AsksForFaultsNow };
+    ghost asks = { λ subject. AsksForFaultsNow subject.1.which };
 
     fn feed<W: Sink>(&mut self, _: &Bus, frame: &Frame, _: &mut W) -> Result<(), LineFault> {
         self.chooser.note(frame);
@@ -90,6 +91,7 @@ impl<'g, 't, 'c> Account for FaultsNow<'g, 't, 'c> {
             self.alloc,
             &mut self.listener,
             self.conversions,
+            &self.chooser,
             &mut self.places,
             &mut self.announced,
             frame,
@@ -119,21 +121,24 @@ impl<'g, 't, 'c> Account for FaultsNow<'g, 't, 'c> {
     {}
 }
 
-/// Takes what is heard at a frame of the run's bus, and answers how many messages of active codes that is.
+/// Takes what is heard at a frame of the run's bus, if it came between the moments, and answers how many messages of active codes
+/// that is.
 fn take_frame(
     alloc: Global,
     listener: &mut Listener,
     conversions: &[Conversion],
+    chooser: &Chooser<'_>,
     places: &mut Places,
     announced: &mut Announced,
     frame: &Frame,
 ) -> Result<u64, AllocError>
-    ensures taken { IfOk result (λ messages. (F : List FrameRecord) (ms : List Hearing) → Hears listener.old F
-        → AreKept conversions.now places.old ms
-        → TakesFrame conversions.now F frame.now listener.new places.new announced.old announced.new ms messages) }
-    ensures asked { OnErr result ((F : List FrameRecord) (heard : List Hearing) → Hears listener.old F
-        → AreHeardWith is_fault_group F heard → AreKept conversions.now places.old (active_among heard)
-        → AsksForFaultsNow F frame.now) }
+    ensures taken { IfOk result (λ messages. (which : FilterRecord) (F : List FrameRecord) (ms : List Hearing) → Hears listener.old F
+        → Chooses which chooser.now (F ++ frame.now ∷ []) → AreKept conversions.now places.old ms
+        → TakesFrame which conversions.now F frame.now listener.new places.new announced.old announced.new ms messages) }
+    ensures asked { OnErr result ((which : FilterRecord) (F : List FrameRecord) (heard : List Hearing) → Hears listener.old F
+        → Chooses which chooser.now (F ++ frame.now ∷ []) → AreHeardWith is_fault_group F heard
+        → AreKept conversions.now places.old (in_time which (first_stamp (F ++ frame.now ∷ [])) (active_among heard))
+        → AsksForFaultsNow which F frame.now) }
 {
     let is_single = is_of_fault_group(frame.id);
     announced.add_frame(frame);
@@ -142,23 +147,27 @@ fn take_frame(
         Ok(None) => Ok(0),
         Ok(Some(heard)) => {
             announced.add_heard(&heard);
-            take_heard(alloc, &heard, conversions, places)
+            let is_timely = chooser.is_in_time(heard.message.stamp);
+            take_heard(alloc, &heard, is_timely, conversions, places)
         }
     }
 }
 
-/// Takes a message, where it is one of active codes, and answers how many that is.
+/// Takes a message, where it is one of active codes, if it came between the moments, and answers how many of active codes that is.
 pub(crate) fn take_heard(
     alloc: Global,
     heard: &Heard<'_>,
+    is_timely: bool,
     conversions: &[Conversion],
     places: &mut Places,
 ) -> Result<u64, AllocError>
     requires { length heard.now.message.payload.now ≤ 1785 }
-    ensures taken { IfOk result (λ messages. (messages ≡ length (active_among (hearing_of heard.now ∷ [])))
-        × ((ms : List Hearing) → AreKept conversions.now places.old ms
-        → AreKept conversions.now places.new (ms ++ active_among (hearing_of heard.now ∷ [])))) }
-    ensures asked { OnErr result ((is_active_message (hearing_of heard.now) ≡ true) × (at places.old heard.now.message.source ≡ None)) }
+    ensures counted { IfOk result (λ messages. messages ≡ length (active_among (hearing_of heard.now ∷ []))) }
+    ensures taken { OnOk result ((which : FilterRecord) (first : ℕ) (ms : List Hearing)
+        → is_timely ≡ is_in_time which first (hearing_of heard.now).stamp → AreKept conversions.now places.old ms
+        → AreKept conversions.now places.new (ms ++ in_time which first (active_among (hearing_of heard.now ∷ [])))) }
+    ensures asked { OnErr result ((is_active_message (hearing_of heard.now) ≡ true) × (is_timely ≡ true)
+        × (at places.old heard.now.message.source ≡ None)) }
     ensures fits { heard.now.message.source < 256 }
 {
     let _fits = is_byte(heard.message.source);
@@ -168,6 +177,9 @@ pub(crate) fn take_heard(
     let Some(lamps) = lamps_of(heard.message.payload) else {
         return Ok(0);
     };
+    if !is_timely {
+        return Ok(1);
+    }
     match places.take(alloc, conversions, heard, lamps) {
         Ok(()) => Ok(1),
         Err(AllocError) => Err(AllocError),

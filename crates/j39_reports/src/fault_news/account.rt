@@ -8,7 +8,7 @@ ghost use Rattle.j39_address.specs.Name.{name_raw};
 ghost use Rattle.j39_faults.specs.Conversions.{version_for};
 ghost use Rattle.j39_listen.specs.AccountCalls.{LeavesWriter};
 ghost use Rattle.j39_listen.specs.Chooses.{Chooses};
-ghost use Rattle.j39_listen.specs.Filter.{takes_message};
+ghost use Rattle.j39_listen.specs.Filter.{first_stamp, in_time, is_in_time, takes_message};
 ghost use Rattle.j39_listen.specs.Heard.{AreHeardWith, Hearing};
 ghost use Rattle.j39_listen.specs.Listening.{Hears};
 ghost use Rattle.j39_listen.specs.HeardModel.{hearing_of};
@@ -90,7 +90,7 @@ impl<'g, 't, 'c> Account for FaultNews<'g, 't, 'c> {
 
     ghost makes = { λ subject. MakesFaultsIn subject.0 subject.1.manner subject.1.which };
 
-    ghost asks = { λ subject. AsksForFaults };
+    ghost asks = { λ subject. AsksForFaults subject.1.which.asked };
 
     fn feed<W: Sink>(&mut self, _: &Bus, frame: &Frame, sink: &mut W) -> Result<(), LineFault> {
         self.chooser.note(frame);
@@ -145,8 +145,10 @@ fn put_frame<W: Sink>(
         → Chooses (chosen_of choice.entry).asked chooser.now (F ++ frame.now ∷ []) → Remembers last.old ms → StopsFrame writing.entry.form (manner_of writing.entry) (chosen_of choice.entry) F frame.now ms
         (W.written sink.old) (W.written sink.new) }
     ensures asked { result ≡ Err line_fault.Memory → (F : List FrameRecord) (heard : List Hearing)
-        → Hears listener.old F → AreHeardWith is_fault_group F heard → Remembers last.old (faults_among heard)
-        → AsksForFaults F frame.now }
+        → Hears listener.old F → AreHeardWith is_fault_group F heard
+        → Chooses (chosen_of choice.entry).asked chooser.now (F ++ frame.now ∷ [])
+        → Remembers last.old (in_time (chosen_of choice.entry).asked (first_stamp (F ++ frame.now ∷ [])) (faults_among heard))
+        → AsksForFaults (chosen_of choice.entry).asked F frame.now }
 {
     announced.add_frame(frame);
     let is_single = is_of_fault_group(frame.id);
@@ -155,39 +157,52 @@ fn put_frame<W: Sink>(
         Ok(None) => Ok(Made::default()),
         Ok(Some(heard)) => {
             announced.add_heard(&heard);
-            let is_asked = chooser.takes(&heard);
-            put_heard(alloc, &heard, writing, choice, is_asked, last, sink)
+            let asked = Asked {
+                is_in_time: chooser.is_in_time(heard.message.stamp),
+                is_taken: chooser.takes(&heard),
+            };
+            put_heard(alloc, &heard, writing, choice, asked, last, sink)
         }
     }
 }
 
-/// Tells the faults of a message, where it is one of faults, is told and is asked for, and answers its numbers.
+/// What a filter says of a message: whether it came between the moments, and whether it is taken.
+#[derive(Clone, Copy)]
+struct Asked {
+    is_in_time: bool,
+    is_taken: bool,
+}
+
+/// Tells the faults of a message, where it is one of faults, is told and is asked for, and answers its numbers. One that didn't come
+/// between the moments is as if it hadn't come, but that it counts.
 fn put_heard<W: Sink>(
     alloc: Global,
     heard: &Heard<'_>,
     writing: Writing<'_, '_>,
     choice: Choice<'_>,
-    is_asked: bool,
+    asked: Asked,
     last: &mut LastFaults,
     sink: &mut W,
 ) -> Result<Made, LineFault>
     ensures met { IfOk result (λ made. (first : ℕ) (ms : List Hearing)
-        → is_asked ≡ takes_message (chosen_of choice.entry).asked first (hearing_of heard.now)
+        → asked.is_in_time ≡ is_in_time (chosen_of choice.entry).asked first (hearing_of heard.now).stamp
+        → asked.is_taken ≡ takes_message (chosen_of choice.entry).asked first (hearing_of heard.now)
         → Remembers last.old ms → length heard.now.message.payload.now ≤ 1785
         → Tells writing.entry.form (manner_of writing.entry) (chosen_of choice.entry) first last.new ms (Some (hearing_of heard.now)) made
         (W.written sink.old) (W.written sink.new)) }
     ensures writer { LeavesWriter result (turn W.written W.has_failed sink.old sink.new) }
     ensures stops { result ≡ Err line_fault.Write → (first : ℕ) (ms : List Hearing)
-        → is_asked ≡ takes_message (chosen_of choice.entry).asked first (hearing_of heard.now)
+        → asked.is_taken ≡ takes_message (chosen_of choice.entry).asked first (hearing_of heard.now)
         → Remembers last.old ms → length heard.now.message.payload.now ≤ 1785
         → TellsFront writing.entry.form (manner_of writing.entry) (chosen_of choice.entry) first ms (Some (hearing_of heard.now))
         (W.written sink.old) (W.written sink.new) }
     ensures of_faults { result ≡ Err line_fault.Memory → is_of_faults (hearing_of heard.now) ≡ true }
+    ensures now { result ≡ Err line_fault.Memory → asked.is_in_time ≡ true }
     ensures first { result ≡ Err line_fault.Memory → (ms : List Hearing) → Remembers last.old ms
         → last_from (pgn_raw heard.now.message.pgn) heard.now.message.source ms ≡ None }
 {
     if let Some(kind) = cleared_in(heard.message.pgn, heard.message.payload) {
-        let is_told = tells_clearing(choice.telling, is_asked);
+        let is_told = tells_clearing(choice.telling, asked.is_taken);
         return put_asked(heard, writing, is_told, kind, sink);
     }
     let Some(kind) = fault_group(heard.message.pgn) else {
@@ -197,13 +212,19 @@ fn put_heard<W: Sink>(
         return Ok(Made::default());
     };
     let _fits = is_byte(heard.message.source);
+    if !asked.is_in_time {
+        return Ok(Made {
+            messages: 1,
+            lines: 0,
+        });
+    }
     let version = version_of(choice.conversions, heard.name);
     put_since(
         alloc,
         heard,
         writing,
         choice.telling,
-        is_asked,
+        asked.is_taken,
         version,
         kind,
         lamps,

@@ -8,6 +8,7 @@ ghost use Rattle.j39_reports.specs.FaultAsking.{AsksForFaults};
 ghost use Rattle.j39_reports.specs.FaultRun.{MakesFaults};
 ghost use Rattle.j39_reports.specs.FaultRows.{fault_columns};
 ghost use Rattle.j39_reports.specs.FaultsSoFar.{spns_now};
+ghost use Rattle.j39_listen.specs.Chooses.{which_of};
 ghost use Rattle.j39_reports.specs.News.{chosen_of};
 
 use crate::fault_news::account::FaultNews;
@@ -53,8 +54,8 @@ pub fn faults<R: Source, W: Sink>(
 ) -> Result<FaultCounts, RunFault>
     // What the run promises is `Ran`: what is written is the faults that are told in the frames of the log, and nothing
     // else. Memory is wanted only at a frame of the log that announces a message, or at the first message of faults of
-    // its group from an address. And it counts which messages of codes were broken.
-    ensures told { ToldFaults (MakesFaults format (record { rows = groups.now; spns = spns_now choice.entry.spns }) (chosen_of choice.entry)) AsksForFaults bus limit result
+    // its group from an address between the moments. And it counts which messages of codes were broken.
+    ensures told { ToldFaults (MakesFaults format (record { rows = groups.now; spns = spns_now choice.entry.spns }) (chosen_of choice.entry)) (AsksForFaults (which_of choice.entry.filter)) bus limit result
         (turn R.remaining R.has_failed source.old source.new) (turn W.written W.has_failed sink.old sink.new) }
 
     // What was written is passed on at the end, and before each read, the names of the columns before the first.

@@ -1,5 +1,5 @@
 //! What the objects of a message begin with, written backwards.
-ghost use Rattle.j39_listen.specs.Members.{address_string, name_string, or_null};
+ghost use Rattle.j39_rows.specs.Members.{address_string, name_string, or_null};
 ghost use Rattle.std.specs.Prelude.{◌≡◌, ◌+◌, ◌≤◌, IfSome, drop, length};
 ghost use Rattle.std.specs.Option.{option_map};
 ghost use Rattle.j39_address.specs.Name.{name_raw};

@@ -1,5 +1,5 @@
 //! The interfaces of the frames so far.
-ghost use Rattle.std.specs.Prelude.{◌≡◌, ◌∷◌, ◌++◌, ◌==◌, [], ℕ, List, map, nat_lt, if◌then◌else◌};
+ghost use Rattle.std.specs.Prelude.{◌≡◌, ◌∷◌, ◌++◌, ◌==◌, [], List, map, nat_lt, if◌then◌else◌};
 ghost use Rattle.std.specs.List.{list_any};
 ghost use Rattle.std.specs.Str.{bytes_eq};
 ghost use Rattle.j39_frame.specs.Stamp.{stamp_micros};
@@ -15,22 +15,28 @@ use j39_frame::Stamp;
 /// The most bytes of an interface's name.
 const NAME: usize = 15;
 
-/// An interface: its frames so far, and their stamps, in microseconds.
-#[derive(Default, Drop)]
+/// An interface: its frames so far, and their stamps.
+#[derive(Drop)]
 pub(crate) struct InterfaceCounts {
     pub name: ArrayVec<u8, NAME>,
     pub frames: u64,
-    pub first: u64,
-    pub last: u64,
+    pub first: Stamp,
+    pub last: Stamp,
     /// How many stamps were below the one before.
     pub back: u64,
+}
+
+impl Default for InterfaceCounts {
+    fn default() -> InterfaceCounts {
+        named(b"")
+    }
 }
 
 impl InterfaceCounts {
     /// One frame more.
     #[inline(always)]
-    fn add(&mut self, stamp: u64)
-        ensures { interface_record self.new ≡ with_stamp stamp (interface_record self.old) }
+    fn add(&mut self, stamp: Stamp)
+        ensures { interface_record self.new ≡ with_stamp (stamp_micros stamp) (interface_record self.old) }
     {
         self.first = first_of(self.frames, self.first, stamp);
         self.back = self.back.saturating_add(falls(self.last, stamp));
@@ -40,9 +46,9 @@ impl InterfaceCounts {
 
     /// One frame more where this is its name, and whether it is.
     #[inline(always)]
-    fn add_where(&mut self, name: &[u8], stamp: u64) -> bool
+    fn add_where(&mut self, name: &[u8], stamp: Stamp) -> bool
         ensures found { result ≡ bytes_eq name.now (interface_record self.old).name }
-        ensures met { interface_record self.new ≡ met_on name.now stamp (interface_record self.old) }
+        ensures met { interface_record self.new ≡ met_on name.now (stamp_micros stamp) (interface_record self.old) }
     {
         if name == self.name.as_slice() {
             self.add(stamp);
@@ -54,17 +60,17 @@ impl InterfaceCounts {
 }
 
 /// The first stamp, with one more.
-fn first_of(frames: u64, first: u64, stamp: u64) -> u64
-    ensures { result ≡ (if frames == 0 then stamp else first) }
+fn first_of(frames: u64, first: Stamp, stamp: Stamp) -> Stamp
+    ensures { stamp_micros result ≡ (if frames == 0 then stamp_micros stamp else stamp_micros first) }
 {
     if frames == 0 { stamp } else { first }
 }
 
 /// 1 where a stamp is below the one before, else 0.
-fn falls(last: u64, stamp: u64) -> u64
-    ensures { result ≡ one_if (nat_lt stamp last) }
+fn falls(last: Stamp, stamp: Stamp) -> u64
+    ensures { result ≡ one_if (nat_lt (stamp_micros stamp) (stamp_micros last)) }
 {
-    if stamp < last { 1 } else { 0 }
+    if stamp.micros() < last.micros() { 1 } else { 0 }
 }
 
 /// The first sixteen interfaces, and the frames of the others.
@@ -92,7 +98,6 @@ impl Interfaces {
         ensures { (seen : List Seen) (s : Seen) → IsBusName name.now → s.bus ≡ name.now
             → s.content.stamp ≡ stamp_micros stamp → HaveMet self.old seen → HaveMet self.new (seen ++ s ∷ []) }
     {
-        let stamp = stamp.micros();
         if meet(self.told.as_mut_slice(), name, stamp) {
             return;
         }
@@ -112,21 +117,22 @@ fn named(name: &[u8]) -> InterfaceCounts
 {
     let mut kept = ArrayVec::new();
     let _fits = kept.try_extend_from_slice(name);
+    let start = Stamp::new(0).unwrap();
     InterfaceCounts {
         name: kept,
         frames: 0,
-        first: 0,
-        last: 0,
+        first: start,
+        last: start,
         back: 0,
     }
 }
 
 /// Adds a frame where one of these has this name, and says whether one has.
 #[inline(always)]
-fn meet(told: &mut [InterfaceCounts], name: &[u8], stamp: u64) -> bool
+fn meet(told: &mut [InterfaceCounts], name: &[u8], stamp: Stamp) -> bool
     ensures found { result ≡ list_any (λ i. bytes_eq name.now i.name) (map interface_record told.old) }
     ensures met { map interface_record told.new
-        ≡ map (met_on name.now stamp) (map interface_record told.old) }
+        ≡ map (met_on name.now (stamp_micros stamp)) (map interface_record told.old) }
 {
     let mut is_told = false;
     for interface in told.iter_mut() {

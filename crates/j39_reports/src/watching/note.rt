@@ -123,7 +123,7 @@ fn note_fault(
     if !counts {
         return Ok(());
     }
-    match take_heard(alloc, &again(heard), &[], places) {
+    match take_heard(alloc, &again(heard), true, &[], places) {
         Ok(_) => Ok(()),
         Err(AllocError) => Err(AllocError),
     }

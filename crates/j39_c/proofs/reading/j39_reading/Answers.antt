@@ -1,6 +1,5 @@
 -- Each reading of the built-in table has a short unit.
-use Rattle.std.proofs.Common.{◌∙◌, ap, sym}
-use Rattle.j39_frame.specs.Pgn.{pgn_raw}
+use Rattle.std.proofs.Common.{sym}
 use Rattle.j39_groups.specs.Models.{reading_of}
 use Rattle.j39_c.proofs.UnitLemmas.{reading_is_short}
 use Rattle.j39_c.proofs.reading.j39_reading.Goals as goal

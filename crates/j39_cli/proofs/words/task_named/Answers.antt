@@ -21,7 +21,7 @@ pub returns-in-groups-clause-tells : goal.returns-in-groups-clause-tells
 returns-in-groups-clause-tells c = tells _ (found_of c.args.given.now) c.task-in-groups.result (groups _) c.in-groups.is (refl, tt) c.task-in-groups.ensures.answer
 
 pub returns-in-survey-clause-tells : goal.returns-in-survey-clause-tells
-returns-in-survey-clause-tells c = tells _ (found_of c.args.given.now) c.task-in-survey.result (survey _ _ _) c.in-survey.is (refl, (refl, (refl, tt))) c.task-in-survey.ensures.answer
+returns-in-survey-clause-tells c = tells _ (found_of c.args.given.now) c.task-in-survey.result (survey _ _ _ _ _) c.in-survey.is (refl, (refl, (refl, (refl, (refl, tt))))) c.task-in-survey.ensures.answer
 
 pub returns-in-watch-clause-tells : goal.returns-in-watch-clause-tells
 returns-in-watch-clause-tells c = tells _ (found_of c.args.given.now) c.task-in-watch.result (watch _ _ _ _ _) c.in-watch.is (refl, (refl, (refl, (refl, (refl, tt))))) c.task-in-watch.ensures.answer

@@ -1,8 +1,7 @@
 -- A row that names no states.
-use Rattle.std.proofs.Common.{◌≡◌, ◌∙◌, ◌<◌, [], None, ap, arith, length, sym}
+use Rattle.std.proofs.Common.{◌≡◌, ◌∙◌, length, sym}
 use Rattle.std.proofs.lemmas.Bool.{eqb-true}
 use Rattle.j39_groups.specs.Models.{row_record, value_of}
-use Rattle.j39_groups.specs.States.{states_part}
 use Rattle.j39_groups.proofs.StateLemmas.{none_by}
 use Rattle.j39_groups.proofs.states.called_by.Goals as goal
 

@@ -1,4 +1,3 @@
-use Rattle.std.proofs.Common.{refl}
 use Rattle.j39_listen.specs.Filter.{takes}
 use Rattle.j39_listen.proofs.FilterLemmas.{among, both, either_order, no_message, of_messages, whole}
 use Rattle.j39_listen.proofs.laws.filters.Goals as goal
@@ -10,6 +9,5 @@ returns c = record {
   either_order = λ f g first entries. either_order (takes f first) (takes g first) entries;
   none = whole;
   no_message = no_message;
-  no_sender = λ nodes. refl;
   messages = of_messages;
 }

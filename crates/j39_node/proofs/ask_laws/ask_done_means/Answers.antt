@@ -1,5 +1,5 @@
 use Rattle.j39_node.proofs.AskLaws.{out_of, word_of}
-use Rattle.j39_node.proofs.Common.{Acknowledged, Answered, refl, ◌∷◌}
+use Rattle.j39_node.proofs.Common.{Acknowledged, Answered, refl}
 use Rattle.j39_node.proofs.AskLaws as law
 use Rattle.j39_node.proofs.ask_laws.ask_done_means.Goals as goal
 

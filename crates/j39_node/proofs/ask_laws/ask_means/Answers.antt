@@ -1,5 +1,5 @@
 use Rattle.j39_node.proofs.AskLaws.{opens, from_limit, limit}
-use Rattle.j39_node.proofs.Common.{◌||◌, accepted, can_ask, holds, is_asking, is_full, length, open_ask, ◌∷◌}
+use Rattle.j39_node.proofs.Common.{◌||◌, accepted, can_ask, holds, is_asking, is_full, length, open_ask}
 use Rattle.j39_node.proofs.AnswerCases.{refused_address, refused_value, refused_full}
 use Rattle.j39_node.proofs.AskLaws as law
 use Rattle.j39_node.proofs.ask_laws.ask_means.Goals as goal

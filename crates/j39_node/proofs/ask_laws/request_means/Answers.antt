@@ -1,4 +1,3 @@
-use Rattle.j39_node.proofs.Common.{◌∷◌}
 use Rattle.j39_node.proofs.AskLaws.{request_sent, waits}
 use Rattle.j39_node.proofs.AskLaws as law
 use Rattle.j39_node.proofs.ask_laws.request_means.Goals as goal

@@ -5,7 +5,8 @@ pub returns : goal.returns
 returns c = record {
   heard = law.heard_or_counted;
   full = law.full;
-  exact = λ w H k is. law.exact w H is.answered;
+  boxes = law.boxes;
+  exact = law.exact;
   subscribed = law.wanted_whole;
   news = law.some_unheard;
   told = law.is_told;

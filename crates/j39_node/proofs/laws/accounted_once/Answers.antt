@@ -1,4 +1,3 @@
-use Rattle.j39_node.proofs.Common.{◌∷◌}
 use Rattle.j39_node.proofs.AnswerCases.{send_accepts}
 use Rattle.j39_node.proofs.LawLemmas as law
 use Rattle.j39_node.proofs.laws.accounted_once.Goals as goal

@@ -1,5 +1,5 @@
 use Rattle.j39_node.proofs.SoundLemmas.{sound}
-use Rattle.j39_node.proofs.Common.{acknowledged, arith, due, eq-eqb, eqb-true, false_from_ne_true, holds, length, nat_eq, ◌-◌, ◌∙◌, ◌∷◌}
+use Rattle.j39_node.proofs.Common.{acknowledged, arith, due, eq-eqb, eqb-true, false_from_ne_true, holds, length, nat_eq, ◌-◌, ◌∙◌}
 use Rattle.j39_node.proofs.AnswerCases.{accepts, answer_is}
 use Rattle.j39_node.proofs.LawLemmas as law
 use Rattle.j39_node.proofs.laws.acknowledgments.Goals as goal

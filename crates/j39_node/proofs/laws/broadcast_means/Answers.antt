@@ -1,5 +1,5 @@
 use Rattle.j39_node.proofs.LaneLaws.{limit, no_limit}
-use Rattle.j39_node.proofs.Common.{broadcasts, can_broadcast, holds, is_busy, length, arith, inl, inr, ◌∷◌}
+use Rattle.j39_node.proofs.Common.{broadcasts, can_broadcast, holds, is_busy, length, arith, inl, inr}
 use Rattle.j39_node.proofs.AnswerCases.{refused_address, refused_value, broadcast_accepts, is_accepted, refused_full}
 use Rattle.j39_node.proofs.laws.broadcast_means.Goals as goal
 

@@ -1,5 +1,5 @@
 use Rattle.j39_node.proofs.LawLemmas.{double_is, news_case, no_news}
-use Rattle.j39_node.proofs.Common.{Bool, Claim, Option, [], ap, double, doubled_news, eq-eqb, if◌then◌else◌, is_double, option_or, refl, told_claims, ℕ, ◌++◌, ◌+◌, ◌∙◌, ◌∷◌}
+use Rattle.j39_node.proofs.Common.{Bool, Claim, Option, [], ap, double, doubled_news, eq-eqb, if◌then◌else◌, is_double, option_or, refl, told_claims, ℕ, ◌++◌, ◌∙◌, ◌∷◌}
 use Rattle.j39_node.proofs.LawLemmas as law
 use Rattle.j39_node.proofs.laws.news.Goals as goal
 

@@ -1,6 +1,6 @@
 use Rattle.j39_node.proofs.SoundLemmas.{sound}
 use Rattle.j39_node.proofs.LawLemmas.{past_end, whole}
-use Rattle.j39_node.proofs.Common.{got, kept, length, sym, ◌∷◌}
+use Rattle.j39_node.proofs.Common.{got, kept, length, sym}
 use Rattle.j39_node.proofs.LawLemmas as law
 use Rattle.j39_node.proofs.laws.received.Goals as goal
 

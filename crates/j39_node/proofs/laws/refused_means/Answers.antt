@@ -1,5 +1,5 @@
 use Rattle.j39_node.proofs.LawLemmas.{full_from, full_parts}
-use Rattle.j39_node.proofs.Common.{accepted, can_send, holds, is_full, length, arith, inl, inr, not_both, told, ◌∷◌}
+use Rattle.j39_node.proofs.Common.{accepted, can_send, holds, is_full, length, arith, inl, inr, not_both, told}
 use Rattle.j39_node.proofs.AnswerCases.{refused_address, refused_value, is_accepted, refused_full}
 use Rattle.j39_node.proofs.laws.refused_means.Goals as goal
 

@@ -1,6 +1,6 @@
 use Rattle.j39_node.proofs.SoundLemmas.{renew_case, sound}
 use Rattle.j39_node.proofs.RenewLemmas.{none_past, set_here, set_other}
-use Rattle.j39_node.proofs.Common.{Bool, Message, None, Option, Some, accepted, ap, arith, if◌then◌else◌, latest, length, max, message_from, reached, slice_get, sym, told, ℕ, ◌-◌, ◌∙◌, ◌∷◌, ◌≡◌}
+use Rattle.j39_node.proofs.Common.{Bool, Message, None, Option, Some, accepted, ap, arith, if◌then◌else◌, latest, length, max, message_from, reached, slice_get, sym, told, ℕ, ◌-◌, ◌∙◌, ◌≡◌}
 use Rattle.j39_node.proofs.LawLemmas as law
 use Rattle.j39_node.proofs.laws.renew_means.Goals as goal
 

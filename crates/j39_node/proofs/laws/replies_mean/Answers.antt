@@ -1,4 +1,3 @@
-use Rattle.j39_node.proofs.Common.{◌∷◌}
 use Rattle.j39_node.proofs.ReceptionLaws.{silent}
 use Rattle.j39_node.proofs.ReceptionLaws as law
 use Rattle.j39_node.proofs.laws.replies_mean.Goals as goal

@@ -1,4 +1,4 @@
-use Rattle.j39_node.proofs.Common.{arith, refl, ◌∷◌}
+use Rattle.j39_node.proofs.Common.{arith, refl}
 use Rattle.j39_node.proofs.SinceLemmas as law
 use Rattle.j39_node.proofs.laws.time.Goals as goal
 

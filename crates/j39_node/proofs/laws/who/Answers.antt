@@ -1,5 +1,5 @@
 use Rattle.j39_node.proofs.LawLemmas.{held_now, holding_is}
-use Rattle.j39_node.proofs.Common.{address_after, moment, sym, ◌∙◌, ◌∷◌}
+use Rattle.j39_node.proofs.Common.{address_after, moment, sym, ◌∙◌}
 use Rattle.j39_node.proofs.LawLemmas as law
 use Rattle.j39_node.proofs.laws.who.Goals as goal
 

@@ -1,6 +1,6 @@
 use Rattle.j39_node.proofs.LawLemmas.{withdrawn_is}
 use Rattle.j39_node.proofs.RenewLemmas.{set_here, set_other}
-use Rattle.j39_node.proofs.Common.{false, marks, refl, true, ◌∷◌}
+use Rattle.j39_node.proofs.Common.{false, marks, refl, true}
 use Rattle.j39_node.proofs.LawLemmas as law
 use Rattle.j39_node.proofs.laws.withdraw_means.Goals as goal
 

@@ -1,7 +1,7 @@
 use Rattle.j39_node.proofs.MoveLemmas.{last_open, traced}
 use Rattle.j39_node.proofs.TransferLaws.{ended, gone_arises, of_token, state_gone, state_lost}
 use Rattle.j39_node.specs.declared.kinds.TransferEnding.TheVariants.{Withdrawn}
-use Rattle.j39_node.proofs.Common.{Gone, Replaces, arith, true, ◌∷◌, ◌≡◌}
+use Rattle.j39_node.proofs.Common.{Gone, Replaces, arith, true, ◌≡◌}
 use Rattle.j39_node.proofs.ReceptionLemmas.{holders}
 use Rattle.j39_node.proofs.TransferLaws as law
 use Rattle.j39_node.proofs.transfer_laws.transfer_done_means.Goals as goal

@@ -1,6 +1,6 @@
 use Rattle.j39_node.proofs.MoveLemmas.{last_one}
 use Rattle.j39_node.proofs.TransferLaws.{engaged_limit, free_limit}
-use Rattle.j39_node.proofs.Common.{all_transfers, can_transfer, holds, length, is_resting, open_transfer, ◌∷◌}
+use Rattle.j39_node.proofs.Common.{all_transfers, can_transfer, holds, length, is_resting, open_transfer}
 use Rattle.j39_node.proofs.AnswerCases.{refused_address, refused_value, waits_for, refused_full}
 use Rattle.j39_node.proofs.TransferLaws as law
 use Rattle.j39_node.proofs.transfer_laws.transfer_means.Goals as goal

@@ -1,5 +1,5 @@
 use Rattle.j39_node.proofs.RestLaws.{rested}
-use Rattle.j39_node.proofs.Common.{and_parts, arith, holds_back, inl, inr, ltb-true, nat_lt, rest, resting, step, ◌-◌, ◌∷◌}
+use Rattle.j39_node.proofs.Common.{and_parts, arith, holds_back, inl, inr, ltb-true, nat_lt, rest, resting, step, ◌-◌}
 use Rattle.j39_node.proofs.RestLaws as law
 use Rattle.j39_node.proofs.transfer_laws.transfer_rests.Goals as goal
 

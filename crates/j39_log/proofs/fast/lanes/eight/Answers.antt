@@ -5,4 +5,4 @@ use Rattle.j39_log.proofs.fast.lanes.eight.Goals as goal
 
 pub returns : goal.returns
 returns c =
-    decoded_16 c.args.digits.now c.hex_values-value.result c.told-digits c.fits-digits c.hex_values-value.ensures (OnTrue_at c.if-not-are_below.false c.are_below.ensures) ∙ ap Ok (sym c.pairs.ensures)
+    decoded_16 c.args.digits.now c.hex_values-value.result c.told-digits c.fits-digits c.hex_values-value.ensures (OnTrue_at c.if-not-are_below.false c.are_below.ensures.so) ∙ ap Ok (sym c.pairs.ensures)

@@ -1,4 +1,4 @@
-use Rattle.j39_node.proofs.Common.{◌∙◌, acknowledged, ap, due, eq-eqb, false, length, nat_eq, refl, refusal_by, stamp_micros, sym, View, ℕ, map, acknowledgment, request_by, ◌∷◌, [], ◌++◌}
+use Rattle.j39_node.proofs.Common.{◌∙◌, acknowledged, ap, due, eq-eqb, length, nat_eq, refl, refusal_by, stamp_micros, sym, View, ℕ, map, acknowledgment, request_by, ◌∷◌, [], ◌++◌}
 use Rattle.j39_node.proofs.QueueLemmas.{length_rest, map_append, drop_append}
 use Rattle.j39_node.proofs.CallLemmas.{passed_is, holds_is, follows}
 use Rattle.j39_node.proofs.controller.Controller.acknowledge.Goals as goal

@@ -1,4 +1,4 @@
-use Rattle.j39_node.proofs.Common.{◌∙◌, anew, ap, refl, stamp_micros, View, ℕ, true, address_after, older, owes_claim, step, led, ◌*◌}
+use Rattle.j39_node.proofs.Common.{◌∙◌, anew, ap, refl, stamp_micros, View, ℕ, true, address_after, older, step, led, ◌*◌}
 use Rattle.j39_node.proofs.CallLemmas.{passed_is, follows, unclaims_after}
 use Rattle.j39_node.proofs.controller.Controller.again.Goals as goal
 

@@ -1,5 +1,5 @@
 use Rattle.j39_node.proofs.LawLemmas.{sent_within}
-use Rattle.j39_node.proofs.Common.{◌∙◌, ap, arith, can_ask, false, message_from, Ok, pgn_raw, refl, request_for, stamp_micros, sym, true, View, Who, length, accepted, not_true, Bool, None, Option, Some, le-ltb, question, reached, AskRecord, ◌∷◌, [], ◌++◌, ◌+◌, ◌≡◌}
+use Rattle.j39_node.proofs.Common.{◌∙◌, ap, arith, can_ask, message_from, Ok, pgn_raw, refl, request_for, stamp_micros, sym, View, Who, length, accepted, not_true, Bool, None, Option, Some, le-ltb, question, reached, AskRecord, ◌∷◌, [], ◌++◌, ◌+◌, ◌≡◌}
 use Rattle.j39_node.proofs.CallLemmas.{asks_no_more_is, passed_is, holds_is, follows, posted_more}
 use Rattle.j39_node.proofs.controller.Controller.ask.Goals as goal
 use Rattle.j39_node.proofs.AnswerCases.{answer_is}

@@ -1,4 +1,4 @@
-use Rattle.j39_node.proofs.Common.{[], after, asking_of, hearing_of, lane_of, map, nothing, posted, received_by, refusal_by, request_by, rules, Who, who_of}
+use Rattle.j39_node.proofs.Common.{[], after, asking_of, lane_of, map, nothing, posted, received_by, refusal_by, request_by, rules, Who, who_of, sender_by, None}
 use Rattle.j39_node.proofs.controller.Controller.begun.Goals as goal
 
 pub returns : goal.returns
@@ -10,14 +10,17 @@ returns c =
         outgoing = map posted (c.new-2.ensures i);
         asking = asking_of (c.new-3.ensures i);
         unread = map received_by (c.new-4.ensures.unread i);
+        senders = map sender_by (c.new-4.ensures.unread i);
         requests = map request_by (c.new-5.ensures.waiting i);
         acknowledgments = map (refusal_by w) (c.new-5.ensures.due i);
         news = c.none.ensures i;
         missed = c.new-4.ensures.missed i;
         lane = lane_of w (c.new-7.ensures i);
-        incoming = c.new-8.ensures c.args.own.address c.requires i;
+        incoming = c.new-8.ensures c.args.own.address c.requires.receiver i;
         port = c.new-9.ensures i;
-        hearing = hearing_of (c.new-10.ensures i);
+        hearing = c.requires.hearing i;
+        transfer_sender = None;
+        broadcast_senders = c.requires.senders i;
       };
       answered = tt;
       holders = search rules;

@@ -1,4 +1,4 @@
-use Rattle.j39_node.proofs.Common.{◌∙◌, ap, arith, false, Ok, pgn_raw, refl, stamp_micros, sym, View, length, broadcasts, not_true, Some, broadcast_from, ◌∷◌, [], ◌++◌, ◌+◌, ◌≡◌}
+use Rattle.j39_node.proofs.Common.{◌∙◌, ap, arith, Ok, pgn_raw, refl, stamp_micros, sym, View, length, broadcasts, not_true, Some, broadcast_from, ◌∷◌, [], ◌++◌, ◌+◌, ◌≡◌}
 use Rattle.j39_node.specs.Hold.{opens}
 use Rattle.j39_node.proofs.CallLemmas.{passed_is, holds_is, busy_is, follows}
 use Rattle.j39_node.proofs.controller.Controller.broadcast.Goals as goal

@@ -1,14 +1,17 @@
-use Rattle.j39_node.proofs.ReceptionLaws.{made_is}
+use Rattle.j39_node.proofs.ReceptionLaws.{made_is, sender_is}
 use Rattle.j39_node.proofs.QueueLemmas.{length_rest}
 use Rattle.j39_node.proofs.SoundLemmas.{front_length, lost_older, read, sound}
-use Rattle.j39_node.proofs.HearingLemmas.{either_news, heard_on}
+use Rattle.j39_node.proofs.HearingLemmas.{either_news, heard_on, made_sender}
+use Rattle.j39_node.specs.Boxes.{in_box}
+use Rattle.j39_node.specs.Hearing.{broadcast_senders, found, made_whole, of, sender_in, with_sender}
 use Rattle.j39_node.proofs.AskLemmas.{ask_heard}
-use Rattle.j39_node.proofs.ReceptionLemmas.{again_is}
-use Rattle.j39_node.proofs.Common.{[], if◌then◌else◌, ◌&&◌, ◌++◌, ◌||◌, ◌∙◌, ◌∷◌, ap, asking_of, AskRecord, Bool, claim_of, fresh, heard, hearing_of, hears_if, hears_with, in_broadcast, incoming_of, is_coming, is_lost, Knows, length, lost, made_by, map, name_raw, nat_lt, not, Option, option_map, option_or, port_of, refusal_by, request_by, session_by, stamp_micros, subst, Untold, View, who_of, whole_of, with_refusal, ℕ, At, Hear, HearingRecord, Hold, IfSome, IncomingRecord, MessageRecord, OpenBroadcast, Running, Who, acknowledged, address_after, age, asked, called, calls_for_claim, claimed_again, clock_at, comes, counted, delayed, double, drop, due, ended, ends_by, got, handed, has_place, heard_at, hearing, hears_it, hold_after, holder, holder_in, holds, incoming_after, is_another, is_double, is_for_program, is_refusal_due, is_replaced, is_smaller, is_unheard, kept, later, made, made_of, made_whole, min, missed, missed_news, nat_eq, news_after, offered, older, open_ask, open_transfer, owes_claim, patience, port_after, reached, received_by, reception, requests, restarts, resting_by, silence, stamped, standing_of, step, still, sym, time_heard, told_claims, unheard_by, unheard_news, wait, waiting, whole, with_request, ◌*◌, ◌+◌, ◌-◌, ◌≡◌}
+use Rattle.j39_node.proofs.ReceptionLemmas.{again_is, table_is}
+use Rattle.j39_node.proofs.Common.{[], if◌then◌else◌, ◌&&◌, ◌++◌, ◌||◌, ◌∙◌, ◌∷◌, ap, asking_of, AskRecord, Bool, claim_of, fresh, heard, hearing_of, hears_if, hears_with, incoming_of, is_coming, is_lost, Knows, length, lost, made_by, map, name_raw, nat_lt, not, Option, option_map, option_or, port_of, refusal_by, request_by, in_session, stamp_micros, subst, Untold, View, who_of, with_refusal, ℕ, At, Hear, Hold, IfSome, IncomingRecord, MessageRecord, Running, Who, acknowledged, address_after, age, asked, called, calls_for_claim, claimed_again, clock_at, comes, counted, delayed, double, drop, due, ended, is_any, over_by, got, handed, has_place, heard_at, hold_after, holder, holder_in, holds, incoming_after, is_another, is_double, is_for_program, is_refusal_due, is_replaced, is_smaller, is_unheard_in, made_in, source_of, kept, later, made, made_of, min, missed, missed_news, nat_eq, news_after, offered, older, open_ask, open_transfer, owes_claim, patience, port_after, reached, received_by, reception, requests, restarts, resting_by, silence, stamped, standing_of, step, sym, time_heard, told_claims, unheard_by, unheard_news, wait, whole, with_request, ◌*◌, ◌+◌, ◌-◌, ◌≡◌, sender_by, sender_by_made, transfer_sender, FrameRecord}
+use Rattle.j39_node.specs.Is.{hearing_it}
 use Rattle.std.specs.Option.{is_some}
 use Rattle.j39_node.proofs.PortLemmas.{peers_are, clock_is, is_port, ported, replaced_is}
 use Rattle.j39_node.proofs.KnownLemmas.{fresh_known, refused_known, asked_known, calls_known, refusal_known, request_known, smaller_known, double_known}
-use Rattle.j39_node.proofs.CallLemmas.{passed_is, news_heard, cast_by, coming_is, heard_standing, holds_is, incoming_heard, kept_rest, lost_is, missed_rest, refusal_rest, request_rest}
+use Rattle.j39_node.proofs.CallLemmas.{passed_is, news_heard, coming_is, heard_standing, holds_is, incoming_heard, kept_rest, senders_rest, lost_is, missed_rest, refusal_rest, request_rest}
 use Rattle.j39_node.proofs.controller.Controller.hear.Goals as goal
 
 pub returns : goal.returns
@@ -57,28 +60,24 @@ returns c = λ w H h.
     let gone_is : c.hear-gone.result ≡ restarts w H t f =
     c.hear-gone.ensures.restarted ∙ (ap (λ (v : View). claimed_again (holder_in c.args.self.now.holders) (v.incoming.called - (t - v.incoming.moment)) (claim_of f)) h.shown
     ∙ again_is w c.args.self.now.holders H (called w H - (t - heard_at H)) (claim_of f) h.holders) in
-    let still_on : (y : Option OpenBroadcast) → IfSome y (λ z. (option_map name_raw c.still.result) ≡ still c.hear-gone.result (holder_in c.args.self.now.holders) z.source) → IfSome y (λ z. (option_map name_raw c.still.result) ≡ still (restarts w H t f) (holder_in c.args.self.now.holders) z.source) =
-    λ y. subst (λ (g : Option ℕ). IfSome y (λ z. (option_map name_raw c.still.result) ≡ still g (holder_in c.args.self.now.holders) z.source)) gone_is in
-    let on = heard_on w H t f c.args.self.now.holders c.hear-gone.new.holders (not c.is_same-is_left.result) c.is_over-is_over.result c.leave-breaks.result c.hear-unheard.result (stamp_micros c.hear-gone.new.self.clock) (option_map name_raw c.still.result) (option_map name_raw c.speaker.result) (hearing_of c.args.self.now.hearing) (hearing_of c.leave-breaks.new.self) (hearing_of c.hear-unheard.new.self) (ap (λ (v : View). v.hearing) h.shown)
-    h.holders knows (ap (λ (x : IncomingRecord). x.clock) hears_in) (still_on (hearing_of c.args.self.now.hearing).current (c.still.ensures _ c.speaker-speaker.ensures)) c.speaker.ensures (ap not c.is_same-is_left.ensures) c.is_over-is_over.ensures c.leave-breaks.ensures.breaks c.leave-breaks.ensures.missed c.leave-breaks.ensures.current
-    (c.hear-unheard.ensures.unheard ∙ ap (λ (u : View). is_unheard u.who f (hearing_of c.leave-breaks.new.self).current) h.shown) c.hear-unheard.ensures.missed
-    (λ fits. c.hear-unheard.ensures.current fits ∙ ap (λ (u : View). hears_it u.who (stamp_micros c.hear-gone.new.self.clock) f (hearing_of c.leave-breaks.new.self).current) h.shown) in
+    let on = heard_on w H t f c.hear-gone.new.holders c.hear-gone.result (stamp_micros c.hear-gone.new.self.clock) c.leave-breaks.result c.hear-broadcast.result.is_missed c.hear-broadcast.result.made
+    (hearing_of c.args.self.now.hearing) (hearing_of c.leave-breaks.new.self) (hearing_of c.hear-broadcast.new.self) (ap (λ (v : View). v.hearing) h.shown) knows (ap (λ (x : IncomingRecord). x.clock) hears_in) gone_is
+    c.leave-breaks.ensures.broken c.leave-breaks.ensures.left
+    (c.hear-broadcast.ensures.missed ∙ ap (λ (u : View). is_unheard_in (hearing_of c.leave-breaks.new.self).boxes u.who f (hearing_of c.leave-breaks.new.self).listening) h.shown)
+    (λ apart fits. c.hear-broadcast.ensures.made apart fits ∙ ap (λ (u : View). made_of (option_map (λ (p : ℕ × MessageRecord). p.1) (made_in (hearing_of c.leave-breaks.new.self).boxes u.who (holder_in c.hear-gone.new.holders (source_of f.id)) (stamp_micros c.hear-gone.new.self.clock) f (hearing_of c.leave-breaks.new.self).listening))) h.shown)
+    (λ apart fits. c.hear-broadcast.ensures.heard apart fits ∙ ap (λ (u : View). hearing_it u.who (holder_in c.hear-gone.new.holders (source_of f.id)) (stamp_micros c.hear-gone.new.self.clock) f (hearing_of c.leave-breaks.new.self)) h.shown) in
     let whole_is : c.made-transferred.result ≡ made_of (whole w H t f) =
     (c.made-transferred.ensures ∙ ap (λ (b : Bool). made_by b (incoming_of c.hear-gone.new.self).reception.waits) c.has_place-has_place.ensures) ∙ (ap (λ (v : View). made_by (has_place v.incoming.reception.waits) (incoming_of c.hear-gone.new.self).reception.waits) h.shown
     ∙ (ap (λ (x : IncomingRecord). made_by (has_place (reception w H).waits) x.reception.waits) hears_in ∙ made_is w H t f)) in
-    let cast_is : c.made-broadcast.result ≡ made_of (option_map (λ (x : ℕ × MessageRecord). x.1) (made_whole w H t f)) =
-    (c.made-broadcast.ensures ∙ ap (λ (b : Bool). made_by (not b) (whole_of (hearing_of c.hear-unheard.new.self).current)) c.is_waiting-waited.ensures) ∙ (ap (λ (v : View). made_by (not (not (has_place (whole_of v.hearing.current)))) (whole_of (hearing_of c.hear-unheard.new.self).current)) h.shown
-    ∙ (ap (λ (x : HearingRecord). made_by (not (not (has_place (waiting w H)))) (whole_of x.current)) on.hearing
-    ∙ cast_by (waiting w H) (waiting w (At t (Hear f) ∷ H)))) in
     let lost_now = is_lost (address_after w (At t (Hear f) ∷ H)) in
     let comes_now = comes w H (time_heard (At t (Hear f) ∷ H)) in
     let silent_is : c.silence-silence.result ≡ silence (wait H - step H t) comes_now lost_now (asking_of c.args.self.now.asking) =
     c.silence-silence.ensures ∙ λ i. silence (hold_now i).wait
-    (((c.is_coming-is_coming.ensures ∙ ap (λ (n : ℕ). is_coming (option_map (λ (x : AskRecord). x.question) (asking_of c.args.self.now.asking)) (session_by (incoming_of c.args.self.now.incoming).reception.session (incoming_of c.args.self.now.incoming).named) (in_broadcast n (hearing_of c.args.self.now.hearing).current)) c.clock_at.ensures) ∙ coming_is w H c.args.self.now (later (incoming_of c.args.self.now.incoming).clock (t - (incoming_of c.args.self.now.incoming).moment)) (time_heard (At t (Hear f) ∷ H)) h
+    (((c.is_coming-is_coming.ensures ∙ ap (λ (n : ℕ). is_coming n (option_map (λ (x : AskRecord). x.question) (asking_of c.args.self.now.asking)) (in_session (incoming_of c.args.self.now.incoming).reception.session) (hearing_of c.args.self.now.hearing).listening.current) c.clock_at.ensures) ∙ coming_is w H c.args.self.now (later (incoming_of c.args.self.now.incoming).clock (t - (incoming_of c.args.self.now.incoming).moment)) (time_heard (At t (Hear f) ∷ H)) h
     (ap (λ (v : View). later v.incoming.clock (t - v.incoming.moment)) h.shown)) i)
     ((ap lost stands_now ∙ lost_is (address_after w (At t (Hear f) ∷ H))) i) (asking_of c.args.self.now.asking) in
-    let made_now : option_or c.made-transferred.result c.made-broadcast.result ≡ made w H t f =
-    ap (λ (y : Option (ℕ × ℕ)). option_or y c.made-broadcast.result) whole_is ∙ ap (option_or (made_of (whole w H t f))) cast_is in
+    let made_now : option_or c.made-transferred.result c.hear-broadcast.result.made ≡ made w H t f =
+    ap (λ (y : Option (ℕ × ℕ)). option_or y c.hear-broadcast.result.made) whole_is ∙ ap (option_or (made_of (whole w H t f))) on.made in
     let asked_now = fresh w (drop (length (handed H)) (requests w H)) (asked w (holds w H t) f) in
     let unread_now : length c.args.self.now.inbox.unread.items ≡ length (kept w H) - length (got H) = length_rest received_by c.args.self.now.inbox.unread.items (length (got H)) (kept w H) (ap (λ (v : View). v.unread) h.shown) in
     let port_now : port_of c.hear-2.new.self ≡ port_after w (At t (Hear f) ∷ H) =
@@ -104,6 +103,8 @@ returns c = λ w H h.
             ∙ ask_heard w (open_ask H) (reached H) (wait H - step H t) (ended w H) comes_now lost_now f (made w H t f)))) i;
         unread = (c.offer.ensures.unread ∙ (ap (λ (b : Bool). offered b (stamped f) (map received_by c.args.self.now.inbox.unread.items)) wants
             ∙ kept_rest (is_for_program w (holds w H t) f) (kept w H) _ (length (got H)) (stamped f) (read w H s) (ap (λ (v : View). v.unread) h.shown))) i;
+        senders = (c.offer.ensures.senders ∙ (ap (λ (b : Bool). offered b (option_map name_raw c.holder-sender.result) (map sender_by c.args.self.now.inbox.unread.items)) wants
+            ∙ senders_rest w H t f _ _ (read w H s) (ap (λ (v : View). v.senders) h.shown) (c.holder-sender.ensures.value ∙ (ap (holder_in c.args.self.now.holders) (c.source.ensures ∙ ap (λ (g : FrameRecord). source_of g.id) c.frame.view_is) ∙ table_is w c.args.self.now.holders H (source_of f.id) h.holders)))) i;
         requests = ((c.hear.ensures.waiting ∙ request_known w.brought c.args.self.now.own _ (option_map request_by c.fresh-request.result) _) ∙ ((λ i. with_request (h.shown i).who (room i) (asks_for i) (map request_by c.args.self.now.desk.waiting.items))
             ∙ request_rest w (nat_lt (length (requests w H) - length (handed H)) 16) (fresh w (drop (length (handed H)) (requests w H)) (asked w (holds w H t) f)) (requests w H)
             (map request_by c.args.self.now.desk.waiting.items) (length (handed H)) (front_length (handed H) (requests w H) s.desk.2) (ap (λ (v : View). v.requests) h.shown))) i;
@@ -129,14 +130,20 @@ returns c = λ w H h.
               doubled = option_or (double (h.shown i).who (claim_of f)) (h.shown i).news.doubled;
               missed = on.breaks i || ((h.shown i).news.missed || ((wants i && not (nat_lt (unread_now i) 16)) || on.unheard i));
             }) ∙ λ i. record (news_after w (At t (Hear f) ∷ H)) {
-              missed = either_news (ends_by w H (At t (Hear f))) (missed_news w H) (unheard_news w H)
+              missed = either_news (is_any (over_by w H (At t (Hear f)))) (missed_news w H) (unheard_news w H)
                   (is_for_program w (holds w H t) f && not (nat_lt (length (kept w H) - length (got H)) 16)) (unheard_by w H (At t (Hear f))) i;
             })) i;
         missed = (c.offer.ensures.missed ∙ (ap (λ (b : Bool). counted b (map received_by c.args.self.now.inbox.unread.items) c.args.self.now.inbox.missed) wants
             ∙ missed_rest (is_for_program w (holds w H t) f) (kept w H) _ (length (got H)) (missed w H) _ (ap (λ (v : View). v.unread) h.shown) (ap (λ (v : View). v.missed) h.shown))) i;
         incoming = hears_in i;
         hearing = on.hearing i;
+        broadcast_senders = (c.hear-broadcast.ensures.senders
+            ∙ ((λ i. with_sender (on.made i) (sender_in (of (source_of f.id) (on.found i).current))
+            ((ap (λ v. map (λ b. (in_box b).name) v.items) c.leave-breaks.ensures.whole ∙ ap (λ (v : View). v.broadcast_senders) h.shown) i))
+            ∙ made_sender (made_whole w H t f) (sender_in (found w H t f (source_of f.id))) (broadcast_senders w H))) i;
         port = port_now i;
+        transfer_sender = (c.sender_of-self.ensures ∙ ((λ i. sender_by_made (holder_in c.hear-gone.new.holders) (whole_is i) ((h.shown i).transfer_sender))
+            ∙ sender_is w (At t (Hear f) ∷ H) c.hear-gone.new.holders (whole w H t f) (transfer_sender w H) knows)) i;
       };
       answered = (h.answered, tt);
       holders = knows;

@@ -1,4 +1,4 @@
-use Rattle.j39_node.proofs.Common.{◌∙◌, ap, arith, can_send, Draft, false, message_from, pgn_raw, refl, stamp_micros, sym, true, View, Who, length, accepted, not_true, Ok, ◌∷◌, [], ◌++◌, ◌+◌, ◌≡◌}
+use Rattle.j39_node.proofs.Common.{◌∙◌, ap, arith, can_send, Draft, message_from, pgn_raw, refl, stamp_micros, sym, View, Who, length, accepted, not_true, Ok, ◌∷◌, [], ◌++◌, ◌+◌, ◌≡◌}
 use Rattle.j39_node.proofs.CallLemmas.{passed_is, holds_is, full_is, follows, posted_more}
 use Rattle.j39_node.proofs.controller.Controller.send.Goals as goal
 use Rattle.j39_node.proofs.AnswerCases.{answer_is}

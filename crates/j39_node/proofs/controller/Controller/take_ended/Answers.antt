@@ -1,4 +1,4 @@
-use Rattle.j39_node.proofs.Common.{◌∙◌, accepted, ap, arith, is_lost, length, posted, refl, sym, told, View}
+use Rattle.j39_node.proofs.Common.{◌∙◌, accepted, ap, arith, length, posted, refl, sym, told, View}
 use Rattle.j39_node.proofs.QueueLemmas.{first, not_empty}
 use Rattle.j39_node.proofs.CallLemmas.{told_done, told_withdrawn}
 use Rattle.j39_node.proofs.controller.Controller.take_ended.Goals as goal

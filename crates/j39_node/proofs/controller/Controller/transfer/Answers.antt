@@ -1,4 +1,4 @@
-use Rattle.j39_node.proofs.Common.{◌∙◌, ap, arith, begun, broadcast_from, can_transfer, false, Ok, pgn_raw, refl, stamp_micros, sym, true, View, Who, length, all_transfers, not_true, Some, age, Hold, ◌∷◌, [], ◌++◌, ◌+◌, ◌≡◌}
+use Rattle.j39_node.proofs.Common.{◌∙◌, ap, arith, begun, broadcast_from, can_transfer, Ok, pgn_raw, refl, stamp_micros, sym, View, Who, length, all_transfers, not_true, Some, Hold, ◌∷◌, [], ◌++◌, ◌+◌, ◌≡◌}
 use Rattle.j39_node.proofs.CallLemmas.{passed_is, holds_is, engaged_is, follows}
 use Rattle.j39_node.proofs.controller.Controller.transfer.Goals as goal
 use Rattle.j39_node.proofs.AnswerCases.{answer_is}

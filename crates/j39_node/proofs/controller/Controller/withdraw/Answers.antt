@@ -1,4 +1,4 @@
-use Rattle.j39_node.proofs.Common.{◌∙◌, ap, is_blank, is_lost, List, map, Outgoing, past, place_of, posted, refl, sym}
+use Rattle.j39_node.proofs.Common.{◌∙◌, ap, is_blank, List, map, Outgoing, past, place_of, posted, refl, sym}
 use Rattle.j39_node.proofs.CallLemmas.{lost_keeps, none_at_place, withdraws}
 use Rattle.j39_node.proofs.controller.Controller.withdraw.Goals as goal
 

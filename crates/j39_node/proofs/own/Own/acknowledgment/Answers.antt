@@ -1,4 +1,4 @@
-use Rattle.j39_node.proofs.Common.{◌∙◌, ◌≡◌, acknowledgment_group, ap, arith, length, List, Message, nothing, refl, refusal_by, sym, who_of, ℕ}
+use Rattle.j39_node.proofs.Common.{◌∙◌, acknowledgment_group, ap, arith, length, List, Message, nothing, refusal_by, who_of, ℕ}
 use Rattle.j39_node.proofs.FrameLemmas.{made}
 use Rattle.j39_node.proofs.own.Own.acknowledgment.Goals as goal
 

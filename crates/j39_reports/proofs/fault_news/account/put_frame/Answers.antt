@@ -1,5 +1,5 @@
 -- A message is heard at the frame, or none.
-use Rattle.j39_reports.proofs.Common.{◌≤◌, ◌∙◌, ◌++◌, ◌∷◌, List, [], None, Some, ap, inr, refl, length, subst, sym, FrameRecord, pgn_of, first_stamp, HeardAtWith, hearing_of, on_ok, if_ok, Hears}
+use Rattle.j39_reports.proofs.Common.{◌≤◌, ◌∙◌, ◌++◌, ◌∷◌, List, [], None, Some, ap, inr, refl, length, subst, sym, FrameRecord, pgn_of, first_stamp, in_time, HeardAtWith, hearing_of, on_ok, if_ok, Hears}
 use Rattle.j39_reports.specs.News.{chosen_of, faults_among, is_fault_group}
 use Rattle.j39_reports.proofs.FaultAccountLemmas.{faults_leave, tells_nothing}
 use Rattle.j39_reports.proofs.HeardLemmas.{short_heard}
@@ -38,7 +38,7 @@ returns-in-Ok-Some-clause-met g c = if_ok c.put_heard.result _ _ (λ made met F 
   announced_is = c.add_heard.ensures ∙ ap (λ (x : Announced). with_heard x (hearing_of c.in-Ok-Some.heard)) c.add_frame.ensures;
   heard_at = heard_here g c F h;
   hears = on_ok _ _ _ _ c.in-Ok-Some.is c.feed_as.follows.holds-at-none F h;
-  tells = met (first_stamp (F ++ c.args.frame.now ∷ [])) ms (c.takes-is_asked.ensures (chosen_of c.args.choice).asked (F ++ c.args.frame.now ∷ []) chosen) remembers (short_here g c F h);
+  tells = met (first_stamp (F ++ c.args.frame.now ∷ [])) ms (c.is_in_time.ensures (chosen_of c.args.choice).asked (F ++ c.args.frame.now ∷ []) chosen) (c.takes.ensures (chosen_of c.args.choice).asked (F ++ c.args.frame.now ∷ []) chosen) remembers (short_here g c F h);
 })
     c.put_heard.ensures.met
 
@@ -46,16 +46,18 @@ pub returns-in-Ok-Some-clause-stops : goal.returns-in-Ok-Some-clause-stops
 returns-in-Ok-Some-clause-stops g c = λ fails F ms h chosen remembers. record {
   heard = Some (hearing_of c.in-Ok-Some.heard);
   heard_at = heard_here g c F h;
-  front = c.put_heard.ensures.stops fails (first_stamp (F ++ c.args.frame.now ∷ [])) ms (c.takes-is_asked.ensures (chosen_of c.args.choice).asked (F ++ c.args.frame.now ∷ []) chosen) remembers (short_here g c F h);
+  front = c.put_heard.ensures.stops fails (first_stamp (F ++ c.args.frame.now ∷ [])) ms (c.takes.ensures (chosen_of c.args.choice).asked (F ++ c.args.frame.now ∷ []) chosen) remembers (short_here g c F h);
 }
 
 pub returns-in-Ok-Some-clause-asked : goal.returns-in-Ok-Some-clause-asked
-returns-in-Ok-Some-clause-asked g c = λ fails F heard h are remembers.
+returns-in-Ok-Some-clause-asked g c = λ fails F heard h are chosen remembers.
+    let which = (chosen_of c.args.choice).asked in
     inr (record {
       before = heard;
       are_heard = are;
       message = hearing_of c.in-Ok-Some.heard;
       is_heard = heard_here g c F h;
       of_faults = c.put_heard.ensures.of_faults fails;
-      first = c.put_heard.ensures.first fails (faults_among heard) remembers;
+      now = sym (c.is_in_time.ensures which (F ++ c.args.frame.now ∷ []) chosen) ∙ c.put_heard.ensures.now fails;
+      first = c.put_heard.ensures.first fails (in_time which (first_stamp (F ++ c.args.frame.now ∷ [])) (faults_among heard)) remembers;
     })

@@ -1,5 +1,5 @@
 -- One interface after the other.
-use Rattle.j39_reports.proofs.Common.{◌≡◌, ◌||◌, ◌∙◌, ap, ap₂, sym, Bool, get_or, add-one, bytes_eq}
+use Rattle.j39_reports.proofs.Common.{◌≡◌, ◌||◌, ◌∙◌, ap, ap₂, sym, Bool, get_or, add-one, bytes_eq, stamp_micros}
 use Rattle.j39_reports.specs.Interfaces.{InterfaceRecord}
 use Rattle.j39_reports.specs.SurveyModels.{interface_record}
 use Rattle.j39_reports.specs.SurveySoFar.{met_on}
@@ -12,7 +12,7 @@ loop-interface-preserved c =
     let told = c.loop-interface.told in
     let init = c.args.told.now in
     let x = c.interface-item.result in
-    let g = met_on c.args.name.now c.args.stamp in
+    let g = met_on c.args.name.now (stamp_micros c.args.stamp) in
     let below = c.loop-interface-test.true in
     let inv = c.loop-interface.invariant in
     let same = same_at interface_record g told init i x below inv.0 in

@@ -8,5 +8,5 @@ use Rattle.j39_reports.proofs.surveys.writing.put_groups.Given as goal
 abbrev pub invariant-loop-front : goal.invariant-loop-front
 invariant-loop-front g l =
     ((F : List FrameRecord) (heard : List Hearing) → HaveCounted l.table (came_in F heard)
-    → Puts {T = Unit} {E = Unit} (groups_from l.groups (came_in F heard) 0 (l.front * 256)) (Ok tt) (turn g.W.Sink.written g.W.Sink.has_failed l.initial.sink l.sink))
+    → Puts {T = Unit} {E = Unit} (groups_from l.form l.groups (came_in F heard) 0 (l.front * 256)) (Ok tt) (turn g.W.Sink.written g.W.Sink.has_failed l.initial.sink l.sink))
     × (g.W.Sink.has_failed l.sink ≡ g.W.Sink.has_failed l.initial.sink)

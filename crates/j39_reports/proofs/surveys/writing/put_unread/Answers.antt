@@ -1,11 +1,15 @@
--- After a fault a front of the lines that are left was written.
-use Rattle.std.proofs.Common.{◌∙◌}
+-- One row after the other; after a fault a front of those that are left was written.
 use Rattle.j39_reports.specs.SurveyModels.{shown_record}
-use Rattle.j39_reports.specs.SurveyText.{shown_text}
-use Rattle.j39_reports.proofs.SurveyWritingLemmas.{line_stops}
+use Rattle.j39_reports.specs.SurveyText.{row_in, shown_row}
+use Rattle.j39_reports.proofs.SurveyWritingLemmas.{line_more, line_stops}
 use Rattle.j39_reports.proofs.surveys.writing.put_unread.Goals as goal
 
-pub returns-in_err-put_all : goal.returns-in_err-put_all
-returns-in_err-put_all g c =
-    line_stops (λ x. shown_text (shown_record x)) c.args.first.now c.loop-line.line-index c.line-item.result _ _ _ _ _ _
-    c.loop-line-test.true c.line-item.is (c.as_slice.ensures.value ∙ c.shown_line.ensures) c.from_residual.ensures.0 c.loop-line.invariant c.in_err-put_all.ensures.puts
+pub loop-line-preserved : goal.loop-line-preserved
+loop-line-preserved g c =
+    line_more (λ x. row_in c.args.form (shown_row (shown_record x))) c.args.first.now c.loop-line.line-index c.line-item.result _ _ _
+    c.loop-line-test.true c.line-item.is c.loop-line.invariant c.in_ok-put_shown.ensures
+
+pub returns-in_err-put_shown : goal.returns-in_err-put_shown
+returns-in_err-put_shown g c =
+    line_stops (λ x. row_in c.args.form (shown_row (shown_record x))) c.args.first.now c.loop-line.line-index c.line-item.result _ _ _ _ _
+    c.loop-line-test.true c.line-item.is c.from_residual.ensures.0 c.loop-line.invariant c.in_err-put_shown.ensures

@@ -10,7 +10,7 @@ use Rattle.bus_demo.proofs.bus.station.Station.clear.Goals as goal
 pub loop-message-preserved : goal.loop-message-preserved
 loop-message-preserved c =
     calls_then is_taking c.args.self.now.controller c.loop-message.self.controller c.take_received.new.self c.loop-message.invariant
-    (calls_one is_taking (TakeReceived (option_map received_by c.take_received.result)) _ _ refl c.take_received.ensures)
+    (calls_one is_taking (TakeReceived (option_map received_by c.take_received.result)) _ _ refl c.take_received.ensures.is)
 
 pub returns : goal.returns
 returns c =

@@ -19,4 +19,4 @@ returns-in-Ok-clause-met g c =
 
 pub returns-in-Err-clause-asked : goal.returns-in-Err-clause-asked
 returns-in-Err-clause-asked g c = λ fails (form, subject) F output has.
-    now_asks form subject c.args.self.now F c.args.frame.now output c.in-Err.ensures.asked has
+    now_asks form subject c.args.self.now c.note.new.self F c.args.frame.now output c.note.ensures c.in-Err.ensures.asked has

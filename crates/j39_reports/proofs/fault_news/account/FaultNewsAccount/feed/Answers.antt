@@ -1,6 +1,6 @@
 use Rattle.j39_reports.proofs.Common.{ap, refl, Err, same_fault}
 use Rattle.j39_reports.specs.declared.fault_news.account.FaultNews.{FaultNews}
-use Rattle.j39_reports.proofs.FaultAccountLemmas.{news_meets, news_stops}
+use Rattle.j39_reports.proofs.FaultAccountLemmas.{news_asks, news_meets, news_stops}
 use Rattle.j39_reports.proofs.fault_news.account.FaultNewsAccount.feed.Goals as goal
 
 pub returns-in-Ok-clause-met : goal.returns-in-Ok-clause-met
@@ -20,3 +20,7 @@ returns-in-Ok-clause-met g c =
 pub returns-in-Err-clause-stops : goal.returns-in-Err-clause-stops
 returns-in-Err-clause-stops g c = λ fails (form, subject).
     news_stops form subject c.args.self.now c.note.new.self c.args.frame.now _ _ c.note.ensures (c.in-Err.ensures.stops (ap Err (same_fault _ _ fails))) c.args.arg2.now
+
+pub returns-in-Err-clause-asked : goal.returns-in-Err-clause-asked
+returns-in-Err-clause-asked g c = λ fails (form, subject) F output has.
+    news_asks form subject c.args.self.now c.note.new.self c.args.frame.now c.note.ensures (c.in-Err.ensures.asked (ap Err (same_fault _ _ fails))) F output has

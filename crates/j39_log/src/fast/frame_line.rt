@@ -1,0 +1,36 @@
+//! The line of a frame.
+ghost use Rattle.std.specs.Prelude.{◌<◌, ◌^◌};
+
+use crate::fast::form::values_of;
+use crate::fast::lanes::pairs;
+use crate::fast::plain::decimals;
+use arrayvec::ArrayVec;
+use j39_frame::{Frame, Id, Stamp};
+
+/// The line of a frame of a bus, whose form is right. Its stamp and its data are made of it where they are asked for.
+#[derive(Clone, Copy)]
+pub struct FrameLine<'a> {
+    pub(crate) front: &'a [u8; 18],
+    /// The microseconds before its second.
+    pub(crate) second: u64,
+    /// The frame's identifier.
+    pub id: Id,
+    /// The digits of its data.
+    pub(crate) data: &'a [u8; 16],
+    ghost fits: { second < 2 ^ 60 },
+}
+
+impl<'a> FrameLine<'a> {
+    ghost use Rattle.std.specs.Prelude.{IfSome};
+    ghost use Rattle.j39_log.specs.FrameLine.{IsFrameOf};
+
+    /// The line's frame.
+    #[inline(always)]
+    pub fn frame(&self) -> Option<Frame>
+        ensures { IfSome result (λ frame. IsFrameOf self.now frame) }
+    {
+        let stamp = Stamp::new(self.second + decimals(self.front))?;
+        let bytes = ArrayVec::from_array_in((), pairs(values_of(self.data), 16));
+        Some(Frame::from_parts(stamp, self.id, bytes))
+    }
+}

@@ -1,0 +1,9 @@
+//! Who is at which address of a bus (J1939-81, 4.2).
+
+mod by_address;
+pub(crate) mod held;
+pub mod laws;
+mod seen;
+
+pub use held::{nodes, nodes_of};
+pub use seen::nodes_seen;
