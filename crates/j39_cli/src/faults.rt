@@ -30,25 +30,28 @@ use j39_reports::{Choice, FaultCounts, Telling, faults, faults_now};
 use std::alloc::{AllocError, Global};
 
 const ABOUT: &str = "\
-Writes the fault codes in a log, as they become news: one line for each code of
-each message of DM1 (active codes), DM2 (previously active), DM27 (pending), DM28
+Writes the fault codes in a log, as they become news: one line for each code of each
+message of DM1 (active codes), DM2 (previously active), DM27 (pending), DM28
 (permanent), and of emissions DM6, DM12 and DM23 (pending, active, previously
 active) that tells something else, or under another NAME, than the last message
 before of that group from that address, or that is the first. With --all, of each
-message. With --changes instead what became of each active code from one DM1 of an
-address to its next under the same NAME: set (that before doesn't name it, or there
-is none), again (its count rose), cleared (this one doesn't name it); silence clears
-none. With --now instead, at the log's end or --until, each code that the last DM1 of
-a controller names, or that it names none. Then the line's time is that of the first
+message. A message with no code writes none. Who asks to clear codes is told too:
+the previously active ones (DM3), or the active ones (DM11), of all (FF) or of one.
+
+With --changes instead: what became of each active code from one DM1 of an address
+to its next, under the same NAME or before one was known: set (that before doesn't
+name it, or there is none), again (its count rose), cleared (this one doesn't name
+it); silence clears none.
+
+With --now instead: each code that the last DM1 of a controller names, or that it
+names none, at the log's end or --until. Then the line's time is that of the first
 DM1 since which the controller names the code; behind the NAME stand the time of the
-last DM1, and how many there are. Who fell silent still stands there. The line has
-the time, the source address (hex), the NAME that holds it (hex, or dashes if no
-claim before tells it), the state, or what became of the code, the SPN, the FMI, how
-often it came (or -), the lamps of the controller (a flashing one with *, or - if all
-are off), what the table calls the parameter, and what the FMI means. A message with
-no code writes none. Who asks to clear codes is told too, but for --changes and
---now: the previously active ones (DM3), or the active ones (DM11), of all (FF) or of
-one.";
+last DM1, and how many there are. Who fell silent still stands there.
+
+The line has the time, the source address (hex), the NAME that holds it (hex, or
+dashes if no claim before tells it), the state, or what became of the code, the SPN,
+the FMI, how often it came (or -), the lamps of the controller (a flashing one with
+*, or - if all are off), what the table calls the parameter, and what the FMI means.";
 
 const HELP: &str = "\
 At the end the counts go to standard error:

@@ -4,7 +4,7 @@ use Rattle.std.proofs.Common.{option_map}
 use Rattle.std.specs.Bool.{⊤}
 use Rattle.j39_faults.specs.FaultGroups.{cleared_in}
 use Rattle.j39_faults.specs.Sameness.{tells_same}
-use Rattle.j39_reports.specs.News.{last_from, says_other}
+use Rattle.j39_reports.specs.News.{goes_on, last_from, says_other}
 use Rattle.j39_reports.specs.Remembered.{Remembers, kept, noted, said_at, said_in}
 use Rattle.j39_reports.specs.FaultChanges.{bytes_before}
 use Rattle.j39_reports.specs.LastMessages.{LastMessages, LastRecord, at, differs, said_before}
@@ -228,11 +228,11 @@ news_is cs l ms m kind h is k =
     ap (λ o. differs (version_for cs m.name) o m.message.bytes m.name) (said_is l ms m.message.pgn m.message.source kind h is k)
     ∙ differs_by (version_for cs m.name) (last_from m.message.pgn m.message.source ms) m (λ x e. h.whole x m.message.pgn m.message.source e)
 
--- what it said before under the same NAME
+-- what it said before, if it may be of who speaks now
 before_by : (o : Option Hearing) (name : Option ℕ) → ((x : Hearing) → o ≡ Some x → take 1785 x.message.bytes ≡ x.message.bytes)
     → said_before (option_map said_in o) name ≡ bytes_before o name
 before_by None name whole = refl
-before_by (Some x) name whole = ap (λ bs. if is_same_or_none x.name name then bs else []) (whole x refl)
+before_by (Some x) name whole = ap (λ bs. if goes_on x.name name then bs else []) (whole x refl)
 
 pub before_is : (l : LastFaults) (ms : List Hearing) (m : Hearing) (kind : Kind) → Remembers l ms → kind_of m.message.pgn ≡ Some kind → m.message.source < 256
     → said_before (said_at l kind m.message.source) m.name ≡ bytes_before (last_from m.message.pgn m.message.source ms) m.name

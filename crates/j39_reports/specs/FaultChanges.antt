@@ -1,7 +1,6 @@
 -- What becomes of a controller's active codes, from one message of DM1 to the next (own).
 use Rattle.std.specs.Prelude.{◌++◌, ◌∷◌, [], ℕ, Bool, true, false, List, Option, Some, None, if◌then◌else◌}
 use Rattle.std.specs.List.{flat_map}
-use Rattle.j39_frame.specs.Origin.{is_same_or_none}
 use Rattle.j39_faults.specs.Changes.{change_since, clearing_by}
 use Rattle.j39_faults.specs.Conversions.{codes_by, version_for}
 use Rattle.j39_faults.specs.FaultGroups.{kind_of}
@@ -16,12 +15,12 @@ use Rattle.j39_faults.specs.declared.lamps.Lamps.{Lamps}
 use Rattle.j39_faults.specs.declared.text.State.TheVariants.{Became}
 use Rattle.j39_listen.specs.Heard.{Hearing}
 use Rattle.j39_reports.specs.Faults.{Fault, fault_of}
-use Rattle.j39_reports.specs.News.{last_from}
+use Rattle.j39_reports.specs.News.{goes_on, last_from}
 
--- what the message before said, where that came under this NAME, or both came under none; else nothing
+-- what the message before said, if it may be of who speaks now; else nothing
 abbrev pub bytes_before : Option Hearing → Option ℕ → List ℕ
 bytes_before None name = []
-bytes_before (Some before) name = if is_same_or_none before.name name then before.message.bytes else []
+bytes_before (Some before) name = if goes_on before.name name then before.message.bytes else []
 
 -- what became of a code, if anything did
 abbrev pub became : Hearing → Lamps → Code → Option Change → List Fault

@@ -5,6 +5,7 @@ use Rattle.j39_memory.specs.Stored.{value_of}
 use Rattle.j39_frame.specs.Origin.{is_same_or_none}
 use Rattle.j39_faults.specs.Sameness.{tells_same}
 use Rattle.j39_faults.specs.declared.conversion.Version.{Version}
+use Rattle.j39_reports.specs.News.{goes_on}
 
 -- the bytes of a message, and the NAME that it came under
 pub record LastRecord : Type 0 where
@@ -22,10 +23,10 @@ abbrev pub differs : Option Version → Option LastRecord → List ℕ → Optio
 differs version None bytes name = true
 differs version (Some s) bytes name = not (is_said version s bytes name)
 
--- its bytes, where it came under this NAME, or both came under none
+-- its bytes, if it may be of who speaks now
 abbrev pub said_before : Option LastRecord → Option ℕ → List ℕ
 said_before None name = []
-said_before (Some s) name = if is_same_or_none s.name name then s.bytes else []
+said_before (Some s) name = if goes_on s.name name then s.bytes else []
 
 abbrev pub LastMessages : Type 0
 LastMessages = List (Option LastRecord)

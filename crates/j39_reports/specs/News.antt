@@ -1,5 +1,5 @@
 -- Which messages are of faults, and which of them are news (J1939-73, 5.7).
-use Rattle.std.specs.Prelude.{◌==◌, ◌&&◌, ◌||◌, not, ℕ, Bool, true, List, [], Option, Some, None}
+use Rattle.std.specs.Prelude.{◌==◌, ◌&&◌, ◌||◌, not, ℕ, Bool, true, false, List, [], Option, Some, None}
 use Rattle.std.specs.Prelude.{filter, is_some, length, nat_le}
 use Rattle.std.specs.List.{last_or}
 use Rattle.j39_frame.specs.Network.{request_group}
@@ -47,6 +47,12 @@ is_of_faults h = is_clearing h || is_of_codes h
 
 abbrev pub faults_among : List Hearing → List Hearing
 faults_among hs = filter is_of_faults hs
+
+-- who speaks under the later NAME may be who spoke before: under the same, or before a claim told any
+abbrev pub goes_on : Option ℕ → Option ℕ → Bool
+goes_on None later = true
+goes_on (Some a) None = false
+goes_on (Some a) (Some b) = a == b
 
 -- the last of these messages that is of this group, from this address
 unfoldable pub last_from : ℕ → ℕ → List Hearing → Option Hearing

@@ -3,6 +3,7 @@ ghost use Rattle.std.specs.Prelude.{◌≡◌, ◌≤◌, Some, length, option_m
 ghost use Rattle.j39_address.specs.Name.{name_raw};
 ghost use Rattle.j39_frame.specs.Origin.{is_same_or_none};
 ghost use Rattle.j39_reports.specs.LastMessages.{is_said, said_before, said_by};
+ghost use Rattle.j39_reports.specs.News.{goes_on};
 
 use arrayvec::ArrayVec;
 use j39_address::Name;
@@ -47,11 +48,11 @@ impl LastMessage {
         self.name = name;
     }
 
-    /// Its bytes, if it came under this NAME, or both came under none; else none.
-    pub(crate) fn bytes_under(&self, name: Option<Name>) -> &[u8]
+    /// Its bytes, if they may be of who speaks now, under this NAME; else none.
+    pub(crate) fn bytes_for(&self, name: Option<Name>) -> &[u8]
         ensures { result.now ≡ said_before (Some self.now) (option_map name_raw name) }
     {
-        if is_same_or_none(self.name, name) {
+        if goes_on(self.name, name) {
             self.bytes.as_slice()
         } else {
             &[]
@@ -76,6 +77,17 @@ fn front_of(payload: &[u8]) -> &[u8]
     } else {
         let (front, _) = payload.split_at(LONGEST);
         front
+    }
+}
+
+/// Whether who speaks under the later NAME may be who spoke before: under the same, or before a claim told any.
+fn goes_on(before: Option<Name>, now: Option<Name>) -> bool
+    ensures { result ≡ goes_on (option_map name_raw before) (option_map name_raw now) }
+{
+    match (before, now) {
+        (None, _) => true,
+        (Some(_), None) => false,
+        (Some(before), Some(now)) => before.raw() == now.raw(),
     }
 }
 

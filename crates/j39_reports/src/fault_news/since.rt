@@ -156,7 +156,7 @@ fn put_active<W: Sink>(
             Ok(_) => put_made(heard, writing, is_asked, version, lamps, &[], sink),
         };
     };
-    let before = said.bytes_under(heard.name);
+    let before = said.bytes_for(heard.name);
     let made = put_made(heard, writing, is_asked, version, lamps, before, sink);
     said.replace(payload, heard.name);
     active.put(source, said);

@@ -11,7 +11,8 @@ pub enum Telling {
     /// The codes of each.
     All,
     /// What became of active codes: of each message of DM1 the codes that are set, or came again, since the last from
-    /// that address, and those that are cleared. Messages under two NAMEs aren't compared: all codes of the later are set.
+    /// that address, and those that are cleared. A message isn't compared with one under another NAME: all its codes are set. That
+    /// its NAME wasn't known yet before, or that it has none any more, is another thing: the first is compared, the second not.
     Changes,
 }
 
