@@ -22,10 +22,11 @@ Writes what a log is: how many lines it has; for each of the first sixteen
 interfaces its frames, its first and last stamp, and how often a stamp is below
 the one before (back); for each group (PGN) of one interface its frames, how many
 messages in packets were announced and came whole, from how many controllers'
-addresses, and how far apart it came, in seconds; whether a report reads it (read),
-the network needs it (network) or neither (not read), and its name; the lines that
-hold no such frame, by kind; and the lines that are unread, of which the first five
-are shown. With --csv and --json the column record says what a row is of.";
+addresses, and how far apart it came, in seconds, with the time since when it stayed
+away the longest; whether a report reads it (read), the network needs it (network) or
+neither (not read), and its name; the lines that hold no such frame, by kind; and the
+lines that are unread, of which the first five are shown. With --csv and --json the
+column record says what a row is of.";
 
 const HELP: &str = "\
 Example:
@@ -34,7 +35,7 @@ writes lines such as
   lines 12000
   interface can0 frames 12000 from (0000000001.010000) to (0000000061.000000) back 0
   group 61444 frames 2400 announced 0 whole 0 addresses 1 least 0.024871
-     mean 0.025003 most 0.051212 read EEC1
+     mean 0.025003 most 0.051212 since (0000000031.001000) read EEC1
   other standard 0 remote 0 fd 0 error 0 odd 0
   unread 0";
 

@@ -3,7 +3,7 @@ use Rattle.j39_reports.proofs.Common.{◌≡◌, ◌==◌, ◌||◌, ◌+◌, �
 use Rattle.std.proofs.lemmas.List.{length-set}
 use Rattle.j39_reports.specs.CameSoFar.{at_group, at_named, group_heard, with_announced, with_own, with_whole}
 use Rattle.j39_reports.specs.Firsts.{firsts}
-use Rattle.j39_reports.specs.GroupCounts.{Came, Spread, announces, came_in, came_with, controllers_in, distances_behind, distances_in, group_named, is_named, is_of, nothing, one_where, senders_in, spread_of}
+use Rattle.j39_reports.specs.GroupCounts.{Came, Silence, Spread, announces, came_in, came_with, controllers_in, group_named, is_named, is_of, longer, nothing, one_where, senders_in, silences_behind, silences_in, spread_of}
 use Rattle.j39_reports.specs.Interfaces.{last_behind}
 use Rattle.j39_reports.specs.SurveyModels.{HasCounted, HaveCounted, last_in}
 use Rattle.j39_reports.specs.declared.surveys.group_table.GroupCount.{GroupCount}
@@ -49,51 +49,56 @@ heard-more sources x a can =
     or_swap (a == x) (list_any (λ y. a == y) known) ∙ sym (list_any-append (λ y. a == y) known (x ∷ []))
     ∙ ap (list_any (λ y. a == y)) (sym (controllers-more sources x can))
 
--- ---- distances
+-- ---- silences
 
 last_behind-more : (x : ℕ) (ys : List ℕ) (y : ℕ) → last_behind x (ys ++ y ∷ []) ≡ y
 last_behind-more x [] y = refl
 last_behind-more x (z ∷ zs) y = last_behind-more z zs y
 
-distances_behind-more : (x : ℕ) (ys : List ℕ) (y : ℕ) → distances_behind x (ys ++ y ∷ []) ≡ distances_behind x ys ++ (y - last_behind x ys) ∷ []
-distances_behind-more x [] y = refl
-distances_behind-more x (z ∷ zs) y = ap (λ ds. (z - x) ∷ ds) (distances_behind-more z zs y)
+-- how long a moment is behind another
+abbrev silence_from : ℕ → ℕ → Silence
+silence_from x y = record { since = x; length = y - x }
+
+silences_behind-more : (x : ℕ) (ys : List ℕ) (y : ℕ) → silences_behind x (ys ++ y ∷ []) ≡ silences_behind x ys ++ silence_from (last_behind x ys) y ∷ []
+silences_behind-more x [] y = refl
+silences_behind-more x (z ∷ zs) y = ap (λ ss. silence_from x z ∷ ss) (silences_behind-more z zs y)
 
 pub last-more : (xs : List ℕ) (y : ℕ) → last_in (xs ++ y ∷ []) ≡ Some y
 last-more [] y = refl
 last-more (x ∷ xs) y = ap (λ n. Some n) (last_behind-more x xs y)
 
--- behind a last moment there is one distance more, and else none
-pub distances-more : (xs : List ℕ) (last y : ℕ) → Some last ≡ last_in xs → distances_in (xs ++ y ∷ []) ≡ distances_in xs ++ (y - last) ∷ []
-distances-more [] last y is = cc
-distances-more (x ∷ xs) last y is =
+-- behind a last moment there is one silence more, and else none
+pub silences-more : (xs : List ℕ) (last y : ℕ) → Some last ≡ last_in xs → silences_in (xs ++ y ∷ []) ≡ silences_in xs ++ silence_from last y ∷ []
+silences-more [] last y is = cc
+silences-more (x ∷ xs) last y is =
     let same : last ≡ last_behind x xs = cc in
-    distances_behind-more x xs y ∙ ap (λ n. distances_behind x xs ++ (y - n) ∷ []) (sym same)
+    silences_behind-more x xs y ∙ ap (λ n. silences_behind x xs ++ silence_from n y ∷ []) (sym same)
 
-pub distances-first : (xs : List ℕ) (y : ℕ) → None ≡ last_in xs → (xs ≡ []) × (distances_in (xs ++ y ∷ []) ≡ [])
-distances-first [] y is = (refl, refl)
-distances-first (x ∷ xs) y is = cc
+pub silences-first : (xs : List ℕ) (y : ℕ) → None ≡ last_in xs → (xs ≡ []) × (silences_in (xs ++ y ∷ []) ≡ [])
+silences-first [] y is = (refl, refl)
+silences-first (x ∷ xs) y is = cc
 
--- one distance more
-pub spread-more : (ds : List ℕ) (s : Spread) (d count sum least most : ℕ) → Some s ≡ spread_of ds → count ≡ capped (s.count + 1) → sum ≡ capped (s.sum + d)
-    → least ≡ min s.least d → most ≡ max s.most d
-    → (let o : Option Spread = Some (record { count = count; sum = sum; least = least; most = most }) in o) ≡ spread_of (ds ++ d ∷ [])
-spread-more [] s d count sum least most is c t l m = cc
-spread-more (x ∷ xs) s d count sum least most is c t l m =
-    let same : s ≡ record { count = capped (length (x ∷ xs)); sum = capped (sum_by (λ n. n) (x ∷ xs)); least = fold min x xs; most = fold max x xs } = cc in
-    let c' : count ≡ capped (length (x ∷ xs ++ d ∷ [])) =
-    c ∙ capped_more s.count (length (x ∷ xs)) (ap (λ (r : Spread). r.count) same) ∙ ap capped (sym (length_more (x ∷ xs) d)) in
-    let both : sum_by (λ n. n) ((x ∷ xs) ++ d ∷ []) ≡ sum_by (λ n. n) (x ∷ xs) + d =
-    sum_by-append (λ n. n) (x ∷ xs) (d ∷ []) ∙ omega arith in
-    let t' : sum ≡ capped (sum_by (λ n. n) (x ∷ xs ++ d ∷ [])) =
-    t ∙ capped_sum s.sum (sum_by (λ n. n) (x ∷ xs)) d (ap (λ (r : Spread). r.sum) same) ∙ ap capped (sym both) in
-    let l' : least ≡ fold min x (xs ++ d ∷ []) = l ∙ ap (λ (r : Spread). min r.least d) same ∙ sym (fold-append min x xs (d ∷ [])) in
-    let m' : most ≡ fold max x (xs ++ d ∷ []) = m ∙ ap (λ (r : Spread). max r.most d) same ∙ sym (fold-append max x xs (d ∷ [])) in
-    λ i. Some (record { count = c' i; sum = t' i; least = l' i; most = m' i })
+-- one silence more
+pub spread-more : (ss : List Silence) (s : Spread) (x : Silence) (count sum least : ℕ) (longest : Silence) → Some s ≡ spread_of ss
+    → count ≡ capped (s.count + 1) → sum ≡ capped (s.sum + x.length) → least ≡ min s.least x.length → longest ≡ longer s.longest x
+    → (let o : Option Spread = Some (record { count = count; sum = sum; least = least; longest = longest }) in o) ≡ spread_of (ss ++ x ∷ [])
+spread-more [] s x count sum least longest is c t l m = cc
+spread-more (y ∷ ys) s x count sum least longest is c t l m =
+    let same : s ≡ record { count = capped (length (y ∷ ys)); sum = capped (sum_by (λ n. n.length) (y ∷ ys)); least = fold (λ n z. min n z.length) y.length ys; longest = fold longer y ys } = cc in
+    let c' : count ≡ capped (length (y ∷ ys ++ x ∷ [])) =
+    c ∙ capped_more s.count (length (y ∷ ys)) (ap (λ (r : Spread). r.count) same) ∙ ap capped (sym (length_more (y ∷ ys) x)) in
+    let both : sum_by (λ (n : Silence). n.length) ((y ∷ ys) ++ x ∷ []) ≡ sum_by (λ (n : Silence). n.length) (y ∷ ys) + x.length =
+    sum_by-append (λ (n : Silence). n.length) (y ∷ ys) (x ∷ []) ∙ omega arith in
+    let t' : sum ≡ capped (sum_by (λ (n : Silence). n.length) (y ∷ ys ++ x ∷ [])) =
+    t ∙ capped_sum s.sum (sum_by (λ (n : Silence). n.length) (y ∷ ys)) x.length (ap (λ (r : Spread). r.sum) same) ∙ ap capped (sym both) in
+    let l' : least ≡ fold (λ n z. min n z.length) y.length (ys ++ x ∷ []) =
+    l ∙ ap (λ (r : Spread). min r.least x.length) same ∙ sym (fold-append (λ n (z : Silence). min n z.length) y.length ys (x ∷ [])) in
+    let m' : longest ≡ fold longer y (ys ++ x ∷ []) = m ∙ ap (λ (r : Spread). longer r.longest x) same ∙ sym (fold-append longer y ys (x ∷ [])) in
+    λ i. Some (record { count = c' i; sum = t' i; least = l' i; longest = m' i })
 
-pub no_spread : (ds : List ℕ) → None ≡ spread_of ds → ds ≡ []
+pub no_spread : (ss : List Silence) → None ≡ spread_of ss → ss ≡ []
 no_spread [] is = refl
-no_spread (d ∷ ds) is = cc
+no_spread (s ∷ ss) is = cc
 
 -- ---- what came of a group
 

@@ -46,29 +46,37 @@ senders_in sources = capped (length (firsts nat_eq (controllers_in sources)))
 
 -- ---- how far apart
 
--- how far each moment is behind the one before it; one that goes back is not behind
-abbrev pub distances_behind : ℕ → List ℕ → List ℕ
-distances_behind x [] = []
-distances_behind x (y ∷ ys) = (y - x) ∷ distances_behind y ys
+-- a moment, and how long after it the next came; where that goes back, not at all
+pub record Silence : Type 0 where
+  pub since : ℕ
+  pub length : ℕ
 
-abbrev pub distances_in : List ℕ → List ℕ
-distances_in [] = []
-distances_in (x ∷ xs) = distances_behind x xs
+abbrev pub silences_behind : ℕ → List ℕ → List Silence
+silences_behind x [] = []
+silences_behind x (y ∷ ys) = record { since = x; length = y - x } ∷ silences_behind y ys
 
--- how many distances there are, their sum, the least and the most; of no distances there is none
+abbrev pub silences_in : List ℕ → List Silence
+silences_in [] = []
+silences_in (x ∷ xs) = silences_behind x xs
+
+-- the longer of two, or the first
+abbrev pub longer : Silence → Silence → Silence
+longer a b = if nat_lt a.length b.length then b else a
+
+-- how many silences there are, their sum, the least, and the first of the longest; of none there is none
 pub record Spread : Type 0 where
   pub count : ℕ
   pub sum : ℕ
   pub least : ℕ
-  pub most : ℕ
+  pub longest : Silence
 
-abbrev pub spread_of : List ℕ → Option Spread
+abbrev pub spread_of : List Silence → Option Spread
 spread_of [] = None
-spread_of (d ∷ ds) = Some (record {
-  count = capped (length (d ∷ ds));
-  sum = capped (sum_by (λ x. x) (d ∷ ds));
-  least = fold min d ds;
-  most = fold max d ds;
+spread_of (s ∷ ss) = Some (record {
+  count = capped (length (s ∷ ss));
+  sum = capped (sum_by (λ x. x.length) (s ∷ ss));
+  least = fold (λ n x. min n x.length) s.length ss;
+  longest = fold longer s ss;
 })
 
 -- ---- all of it
@@ -113,7 +121,7 @@ group_of c = record {
   addresses = senders_in (map (λ f. source_of f.id) c.frames);
   announced = capped c.announced;
   whole = capped c.whole;
-  spread = spread_of (distances_in (map (λ f. f.stamp) c.frames));
+  spread = spread_of (silences_in (map (λ f. f.stamp) c.frames));
 }
 
 -- the groups that the network itself needs: packets, announcements, claims, and requests (59904)

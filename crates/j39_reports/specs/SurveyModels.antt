@@ -11,7 +11,7 @@ use Rattle.j39_log.specs.Log.{bus_of, frames_of}
 use Rattle.j39_listen.specs.Counting.{capped}
 use Rattle.j39_listen.specs.Heard.{Hearing}
 use Rattle.j39_listen.specs.Listening.{Hears}
-use Rattle.j39_reports.specs.GroupCounts.{ArePutTogether, Came, came_in, controllers_in, distances_in, senders_in, spread_of}
+use Rattle.j39_reports.specs.GroupCounts.{ArePutTogether, Came, came_in, controllers_in, senders_in, silences_in, spread_of}
 use Rattle.j39_reports.specs.GroupCounts as counted
 use Rattle.j39_reports.specs.Interfaces.{InterfaceRecord, interfaces_of, last_behind, untold_in}
 use Rattle.j39_reports.specs.LogLines.{LogLine, Seen, UnreadRecord, has_log_line, others_in, seen_in, spelled_in, unread_in}
@@ -22,6 +22,7 @@ use Rattle.j39_rows.specs.Models.{cell_of}
 use Rattle.j39_reports.specs.declared.surveys.addresses.Addresses.{Addresses}
 use Rattle.j39_reports.specs.declared.surveys.arrivals.Arrivals.{Arrivals}
 use Rattle.j39_reports.specs.declared.surveys.distances.Distances.{Distances}
+use Rattle.j39_reports.specs.declared.surveys.distances.Silence.{Silence}
 use Rattle.j39_reports.specs.declared.surveys.distances.Spread.{Spread}
 use Rattle.j39_reports.specs.declared.surveys.group_table.GroupCount.{GroupCount}
 use Rattle.j39_reports.specs.declared.surveys.group_table.GroupTable.{GroupTable}
@@ -50,8 +51,11 @@ pub record HaveSent (senders : Senders) (sources : List ℕ) : Type 0 where
   pub count_is : senders.count ≡ senders_in sources
   pub heard_are : (a : ℕ) → has_address senders.heard a ≡ list_any (λ x. a == x) (controllers_in sources)
 
+abbrev pub silence_record : Silence → counted.Silence
+silence_record s = record { since = stamp_micros s.since; length = s.length }
+
 abbrev pub spread_record : Spread → counted.Spread
-spread_record s = record { count = s.count; sum = s.sum; least = s.least; most = s.most }
+spread_record s = record { count = s.count; sum = s.sum; least = s.least; longest = silence_record s.longest }
 
 -- the last of some moments
 abbrev pub last_in : List ℕ → Option ℕ
@@ -60,8 +64,8 @@ last_in (x ∷ xs) = Some (last_behind x xs)
 
 -- it came at these moments, one after the other
 pub record HaveMeasured (distances : Distances) (moments : List ℕ) : Type 0 where
-  pub last_is : distances.last ≡ last_in moments
-  pub spread_is : option_map spread_record distances.spread ≡ spread_of (distances_in moments)
+  pub last_is : option_map stamp_micros distances.last ≡ last_in moments
+  pub spread_is : option_map spread_record distances.spread ≡ spread_of (silences_in moments)
 
 -- it came with these frames
 pub record HaveArrived (arrivals : Arrivals) (frames : List FrameRecord) : Type 0 where
@@ -140,6 +144,7 @@ row_shown row = record {
   least = cell_of row.least;
   mean = cell_of row.mean;
   most = cell_of row.most;
+  since = option_map stamp_micros row.since;
   class = cell_of row.class;
   name = cell_of row.name;
   standard = cell_of row.standard;

@@ -1,5 +1,5 @@
 -- The rows of a survey (own).
-use Rattle.std.specs.Prelude.{◌==◌, ◌&&◌, ◌+◌, ◌/◌, ℕ, zero, suc, List, [], ◌∷◌, ◌++◌, Bool, Option, Some, None, codes, length, nat_le, if◌then◌else◌}
+use Rattle.std.specs.Prelude.{◌==◌, ◌&&◌, ◌+◌, ◌/◌, ℕ, zero, suc, List, [], ◌∷◌, ◌++◌, Bool, Option, Some, None, codes, length, nat_le, option_map, if◌then◌else◌}
 use Rattle.std.specs.List.{flat_map}
 use Rattle.std.specs.Option.{option_or}
 use Rattle.hex.specs.Hex.{encode_upper}
@@ -21,7 +21,8 @@ use Rattle.j39_io.specs.Chars.{backslash, newline}
 use Rattle.j39_rows.specs.Row.{CellRecord, ColumnRecord, HeadRecord, aside, beside_lines, if_any, in_all, micros_cell, nothing, number_cell, or_nothing, plain, row_text, seconds_cell, text, utc_cell, word}
 
 -- what a row has behind its kind: numbers of lines; an interface, a group; frames; the first and the last stamp; what came of
--- a group, from how many addresses, how far apart, and who reads it; the other lines by kind; an unread line
+-- a group, from how many addresses, how far apart, since when it was silent for longest, and who reads it; the other lines by
+-- kind; an unread line
 pub record SurveyRow : Type 0 where
   pub kind : List ℕ
   pub lines : CellRecord
@@ -37,6 +38,7 @@ pub record SurveyRow : Type 0 where
   pub least : CellRecord
   pub mean : CellRecord
   pub most : CellRecord
+  pub since : Option ℕ
   pub class : CellRecord
   pub name : CellRecord
   pub standard : CellRecord
@@ -63,6 +65,7 @@ no_row = record {
   least = nothing;
   mean = nothing;
   most = nothing;
+  since = None;
   class = nothing;
   name = nothing;
   standard = nothing;
@@ -87,7 +90,9 @@ survey_columns row =
     ∷ in_all (codes "whole") (if_any (codes " whole ")) row.whole
     ∷ in_all (codes "addresses") (if_any (codes " addresses ")) row.addresses
     ∷ in_all (codes "least") (if_any (codes " least ")) row.least ∷ in_all (codes "mean") (if_any (codes " mean ")) row.mean
-    ∷ in_all (codes "most") (if_any (codes " most ")) row.most ∷ in_all (codes "class") (if_any (codes " ")) row.class
+    ∷ in_all (codes "most") (if_any (codes " most ")) row.most
+    ∷ in_all (codes "since_stamp") (if_any (codes " since ")) (or_nothing seconds_cell row.since)
+    ∷ beside_lines (codes "since_utc") (or_nothing utc_cell row.since) ∷ in_all (codes "class") (if_any (codes " ")) row.class
     ∷ in_all (codes "group") (if_any (codes " ")) row.name
     ∷ in_all (codes "standard") (if_any (codes " standard ")) row.standard
     ∷ in_all (codes "remote") (if_any (codes " remote ")) row.remote ∷ in_all (codes "fd") (if_any (codes " fd ")) row.flexible
@@ -104,7 +109,7 @@ row_in form row = row_text form (row_head row.kind) (survey_columns row)
 -- the names of the columns, which stand above records
 abbrev pub survey_names : List ℕ
 survey_names =
-    codes "record,lines,interface,pgn,frames,first_stamp,first_utc,last_stamp,last_utc,back,announced,whole,addresses,least,mean,most,class,group,standard,remote,fd,error,odd,line,text\r\n"
+    codes "record,lines,interface,pgn,frames,first_stamp,first_utc,last_stamp,last_utc,back,announced,whole,addresses,least,mean,most,since_stamp,since_utc,class,group,standard,remote,fd,error,odd,line,text\r\n"
 
 abbrev pub names_in : Format → List ℕ
 names_in Line = []
@@ -162,7 +167,8 @@ group_row table pgn group = record no_row {
   addresses = number_cell group.addresses;
   least = apart (λ s. s.least) group.spread;
   mean = apart (λ s. s.sum / s.count) group.spread;
-  most = apart (λ s. s.most) group.spread;
+  most = apart (λ s. s.longest.length) group.spread;
+  since = option_map (λ s. s.longest.since) group.spread;
   class = plain (word (class_of table pgn));
   name = or_nothing text (group_named table pgn);
 }

@@ -34,6 +34,6 @@ impl Arrivals {
     {
         self.count = self.count.saturating_add(1);
         self.senders.add(frame.id.source());
-        self.distances.add(frame.stamp.micros());
+        self.distances.add(frame.stamp);
     }
 }

@@ -4,6 +4,7 @@ ghost use Rattle.std.specs.List.{flat_map};
 ghost use Rattle.arrayvec.specs.ArrayVec.{array_vec_len};
 ghost use Rattle.j39_io.specs.Puts.{Puts};
 ghost use Rattle.j39_io.specs.Turn.{turn};
+ghost use Rattle.j39_frame.specs.Stamp.{stamp_micros};
 ghost use Rattle.j39_reports.specs.SurveyModels.{interface_record, others_record, row_shown, shown_record, spread_record};
 ghost use Rattle.j39_reports.specs.SurveyText as rows;
 ghost use Rattle.j39_reports.specs.SurveyText.{apart, byte_text, count_row, elsewhere_row, interface_row, others_row, row_head, row_in, shown_text, survey_columns};
@@ -40,6 +41,7 @@ pub(crate) struct SurveyRow<'a> {
     pub least: Cell<'a>,
     pub mean: Cell<'a>,
     pub most: Cell<'a>,
+    pub since: Option<Stamp>,
     pub class: Cell<'a>,
     pub name: Cell<'a>,
     pub standard: Cell<'a>,
@@ -67,6 +69,7 @@ pub(crate) const NO_ROW: SurveyRow<'static> = SurveyRow {
     least: Cell::Nothing,
     mean: Cell::Nothing,
     most: Cell::Nothing,
+    since: None,
     class: Cell::Nothing,
     name: Cell::Nothing,
     standard: Cell::Nothing,
@@ -91,7 +94,7 @@ impl<'a> SurveyRow<'a> {
     }
 
     /// Its columns.
-    fn columns(self) -> [Column<'a>; 24]
+    fn columns(self) -> [Column<'a>; 26]
         ensures { map column_of result ≡ survey_columns (row_shown self.entry) }
     {
         [
@@ -118,6 +121,12 @@ impl<'a> SurveyRow<'a> {
             Column::All(b"least", Place::IfAny(b" least "), self.least),
             Column::All(b"mean", Place::IfAny(b" mean "), self.mean),
             Column::All(b"most", Place::IfAny(b" most "), self.most),
+            Column::All(
+                b"since_stamp",
+                Place::IfAny(b" since "),
+                Cell::seconds(self.since),
+            ),
+            Column::BesideLines(b"since_utc", Cell::utc(self.since)),
             Column::All(b"class", SPACE, self.class),
             Column::All(b"group", SPACE, self.name),
             Column::All(b"standard", Place::IfAny(b" standard "), self.standard),
@@ -198,15 +207,25 @@ pub(crate) fn others_row(others: &Others) -> SurveyRow<'static>
 pub(crate) fn spread_cells(spread: &Option<Spread>) -> (Cell<'static>, Cell<'static>, Cell<'static>)
     ensures least { cell_of result.0 ≡ apart (λ s. s.least) (option_map spread_record spread.now) }
     ensures mean { cell_of result.1 ≡ apart (λ s. s.sum / s.count) (option_map spread_record spread.now) }
-    ensures most { cell_of result.2 ≡ apart (λ s. s.most) (option_map spread_record spread.now) }
+    ensures most { cell_of result.2 ≡ apart (λ s. s.longest.length) (option_map spread_record spread.now) }
 {
     match spread {
         None => (Cell::Aside(b"-"), Cell::Aside(b"-"), Cell::Aside(b"-")),
         Some(spread) => {
             let least = Cell::Is(Plain::Micros(spread.least));
             let mean = Cell::Is(Plain::Micros(spread.mean()));
-            (least, mean, Cell::Is(Plain::Micros(spread.most)))
+            (least, mean, Cell::Is(Plain::Micros(spread.longest.length)))
         }
+    }
+}
+
+/// Since when a group was silent for longest.
+pub(crate) fn silent_since(spread: &Option<Spread>) -> Option<Stamp>
+    ensures { option_map stamp_micros result ≡ option_map (λ s. s.longest.since) (option_map spread_record spread.now) }
+{
+    match spread {
+        None => None,
+        Some(spread) => Some(spread.longest.since),
     }
 }
 

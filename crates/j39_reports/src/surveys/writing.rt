@@ -20,7 +20,7 @@ use crate::surveys::log_survey::Survey;
 use crate::surveys::others::Others;
 use crate::surveys::survey_row::{
     NO_ROW, SurveyRow, count_row, elsewhere_row, interface_row, others_row, shown_text,
-    spread_cells,
+    silent_since, spread_cells,
 };
 use crate::surveys::unread::{UnreadLine, UnreadLines};
 use j39_frame::Pgn;
@@ -32,7 +32,7 @@ use j39_rows::{Cell, Plain, put_parts};
 
 /// The names of the columns.
 const NAMES: &[u8] =
-    b"record,lines,interface,pgn,frames,first_stamp,first_utc,last_stamp,last_utc,back,announced,whole,addresses,least,mean,most,class,group,standard,remote,fd,error,odd,line,text\r\n";
+    b"record,lines,interface,pgn,frames,first_stamp,first_utc,last_stamp,last_utc,back,announced,whole,addresses,least,mean,most,since_stamp,since_utc,class,group,standard,remote,fd,error,odd,line,text\r\n";
 
 /// What is said of plain output of `candump`.
 const PRINTED: &[u8] = b"this is plain candump output, not candump -L";
@@ -242,7 +242,8 @@ fn put_line<W: Sink>(
 fn group_row<'r>(groups: &'r Groups<'_>, pgn: Pgn, group: &GroupCount) -> SurveyRow<'r>
     ensures { (c : Came) → HasCounted group.now c → row_shown result ≡ group_row groups.now (pgn_raw pgn) (group_of c) }
 {
-    let (least, mean, most) = spread_cells(&group.arrivals.distances.spread);
+    let spread = &group.arrivals.distances.spread;
+    let (least, mean, most) = spread_cells(spread);
     SurveyRow {
         kind: b"group",
         pgn: Cell::number(u64::from(pgn.raw())),
@@ -253,6 +254,7 @@ fn group_row<'r>(groups: &'r Groups<'_>, pgn: Pgn, group: &GroupCount) -> Survey
         least,
         mean,
         most,
+        since: silent_since(spread),
         class: Cell::Is(Plain::Word(class_of(groups, pgn))),
         name: Cell::optional(group_named(groups, pgn)),
         ..NO_ROW

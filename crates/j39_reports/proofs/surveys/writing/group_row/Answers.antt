@@ -1,5 +1,5 @@
 -- Each cell is that of what came of the group.
-use Rattle.j39_reports.proofs.Common.{◌∙◌, ◌/◌, ap, codes, text}
+use Rattle.j39_reports.proofs.Common.{◌∙◌, ◌/◌, ap, codes, option_map, text}
 use Rattle.j39_reports.specs.GroupCounts.{group_of}
 use Rattle.j39_reports.specs.SurveyText.{apart, no_row}
 use Rattle.j39_rows.specs.Row.{number_cell, or_nothing, plain, word}
@@ -16,7 +16,8 @@ returns c = λ came h i. record no_row {
   addresses = (c.number-5.ensures ∙ ap number_cell h.arrived.senders_are.count_is) i;
   least = (c.spread_cells.ensures.least ∙ ap (apart (λ s. s.least)) h.arrived.distances_are.spread_is) i;
   mean = (c.spread_cells.ensures.mean ∙ ap (apart (λ s. s.sum / s.count)) h.arrived.distances_are.spread_is) i;
-  most = (c.spread_cells.ensures.most ∙ ap (apart (λ s. s.most)) h.arrived.distances_are.spread_is) i;
+  most = (c.spread_cells.ensures.most ∙ ap (apart (λ s. s.longest.length)) h.arrived.distances_are.spread_is) i;
+  since = (c.silent_since.ensures ∙ ap (option_map (λ s. s.longest.since)) h.arrived.distances_are.spread_is) i;
   class = plain (word (c.class_of.ensures i));
   name = (c.optional.ensures ∙ ap (or_nothing text) c.group_named.ensures) i;
 }
