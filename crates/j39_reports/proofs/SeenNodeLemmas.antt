@@ -13,7 +13,7 @@ use Rattle.j39_listen.specs.AccountCalls.{Begins, Closes, MakesOne, StopsAtEnd}
 use Rattle.j39_reports.specs.ByAddress.{lines_of, shown_from}
 use Rattle.j39_reports.specs.NodesSoFar.{all_below}
 use Rattle.j39_listen.specs.Output.{Output}
-use Rattle.j39_reports.specs.SeenNodes.{MakesSeenNodesIn, Presence, ShowsPresence, is_seen_node, seen_in}
+use Rattle.j39_reports.specs.SeenNodes.{MakesSeenNodesIn, Presence, ShowsPresence, is_seen_node, last_stamp, seen_in, silent_for}
 use Rattle.j39_reports.specs.SeenSoFar.{HasSeen, HasSeenAll, from_in, presence, presence_in, seen_at, seen_lines}
 use Rattle.j39_listen.specs.declared.filter.Sender.{Sender}
 use Rattle.j39_listen.specs.declared.format.Format.{Format}
@@ -33,12 +33,17 @@ pub seen_nodes_one : (form : Format) (from : Option (List Sender)) → MakesOne 
 seen_nodes_one form from = one_text ShowsPresence (seen_in form) (shown_from is_seen_node from) shows_one
 
 -- what was seen is who is there
-shows : (F : List FrameRecord) (a : ℕ) (seen : Seen) (o : Option ℕ) → HasSeen F a seen → IsHolderAfter (claims_of F) a o → ShowsPresence F a o (presence a seen o)
-shows F a seen (Some name) has holds = λ i. record { address = a; name = Some name; claimed = has.claimed name holds i; heard = has.heard i } ∷ []
-shows F a seen None has holds = by seen.talks refl
+shows : (F : List FrameRecord) (now : Option ℕ) (a : ℕ) (seen : Seen) (o : Option ℕ) → now ≡ last_stamp (λ f. true) F → HasSeen F a seen
+    → IsHolderAfter (claims_of F) a o → ShowsPresence F a o (presence now a seen o)
+shows F now a seen (Some name) last has holds =
+    λ i. record { address = a; name = Some name; claimed = has.claimed name holds i; heard = has.heard i; silent = silent_for (last i) (has.heard i) } ∷ []
+shows F now a seen None last has holds = by seen.talks refl
   where
-    by : (b : Bool) → seen.talks ≡ b → ShowsPresence F a None (if b then record { address = a; name = None; claimed = None; heard = option_map stamp_micros seen.heard } ∷ [] else [])
-    by true so = inl (has.talks so, λ i. record { address = a; name = None; claimed = None; heard = has.heard i } ∷ [])
+    here : Option ℕ → Option ℕ → Presence
+    here by_now heard = record { address = a; name = None; claimed = None; heard = heard; silent = silent_for by_now heard }
+
+    by : (b : Bool) → seen.talks ≡ b → ShowsPresence F a None (if b then here now (option_map stamp_micros seen.heard) ∷ [] else [])
+    by true so = inl (has.talks so, λ i. here (last i) (has.heard i) ∷ [])
     by false not_so = inr (has.silent not_so, refl)
 
 asked : SeenList → List Presence
@@ -55,7 +60,7 @@ makes_asked form from list = λ bus F before has. (
   (
     all_below (presence_in list) 254,
     shown_is (ShowsPresence F) F (presence_in list) (holder_in list.claims) 254 (omega arith) has.knows
-        (λ a below. shows F a (seen_at list a) (holder_in list.claims a) (has.sees a below) (has.knows a)),
+        (λ a below. shows F (option_map stamp_micros list.last) a (seen_at list a) (holder_in list.claims a) has.last_is (has.sees a below) (has.knows a)),
     (λ i. lines_of (seen_in (has.form_is i)) (shown_from is_seen_node (has.from_is i) (all_below (presence_in list) 254))),
   ),
 )

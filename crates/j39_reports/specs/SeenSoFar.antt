@@ -8,7 +8,7 @@ use Rattle.j39_address.specs.Holder.{IsHolderAfter}
 use Rattle.j39_frame.specs.Frame.{FrameRecord}
 use Rattle.j39_frame.specs.Stamp.{stamp_micros}
 use Rattle.j39_reports.specs.ByAddress.{shown_from}
-use Rattle.j39_reports.specs.SeenNodes.{Presence, Talks, is_claim, is_from, is_seen_node, last_stamp, seen_in}
+use Rattle.j39_reports.specs.SeenNodes.{Presence, Talks, is_claim, is_from, is_seen_node, last_stamp, seen_in, silent_for}
 use Rattle.j39_listen.specs.Output.{Output, nothing}
 use Rattle.j39_listen.specs.declared.filter.Sender.{Sender}
 use Rattle.j39_listen.specs.declared.format.Format.{Format}
@@ -39,25 +39,33 @@ pub record HasSeenAll (form : Format) (from : Option (List Sender)) (list : Seen
     : Type 0 where
   pub knows : Knows list.claims F
   pub sees : (a : ℕ) → a < 254 → HasSeen F a (seen_at list a)
+  pub last_is : option_map stamp_micros list.last ≡ last_stamp (λ f. true) F
   pub form_is : list.form ≡ form
   pub from_is : from_in list ≡ from
   pub nothing : output ≡ nothing
 
--- who is at an address, as it was seen
-abbrev pub presence : ℕ → Seen → Option ℕ → List Presence
-presence a seen (Some name) = record {
+-- who is at an address, as it was seen by now
+abbrev pub presence : Option ℕ → ℕ → Seen → Option ℕ → List Presence
+presence now a seen (Some name) = record {
   address = a;
   name = Some name;
   claimed = option_map stamp_micros seen.claimed;
   heard = option_map stamp_micros seen.heard;
+  silent = silent_for now (option_map stamp_micros seen.heard);
 } ∷ []
-presence a seen None =
+presence now a seen None =
     if seen.talks
-    then record { address = a; name = None; claimed = None; heard = option_map stamp_micros seen.heard } ∷ []
+    then record {
+      address = a;
+      name = None;
+      claimed = None;
+      heard = option_map stamp_micros seen.heard;
+      silent = silent_for now (option_map stamp_micros seen.heard);
+    } ∷ []
     else []
 
 abbrev pub presence_in : SeenList → ℕ → List Presence
-presence_in list a = presence a (seen_at list a) (holder_in list.claims a)
+presence_in list a = presence (option_map stamp_micros list.last) a (seen_at list a) (holder_in list.claims a)
 
 -- the line of an address, if who is there is asked for
 abbrev pub seen_lines : SeenList → ℕ → List (List ℕ)
@@ -70,6 +78,7 @@ presence_of node = record {
   name = option_map name_raw node.name;
   claimed = option_map stamp_micros node.claimed;
   heard = option_map stamp_micros node.heard;
+  silent = node.silent;
 }
 
 abbrev pub nodes_shown : Option Node → List Presence

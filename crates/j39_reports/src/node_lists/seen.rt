@@ -4,14 +4,16 @@ ghost use Rattle.j39_address.specs.Name.{name_raw};
 ghost use Rattle.j39_io.specs.Puts.{Puts};
 ghost use Rattle.j39_io.specs.Turn.{turn};
 ghost use Rattle.j39_frame.specs.Frame.{FrameRecord};
+ghost use Rattle.j39_frame.specs.Stamp.{stamp_micros};
 ghost use Rattle.j39_address.specs.Claim.{claims_of};
 ghost use Rattle.j39_address.specs.Holder.{IsHolderAfter};
 ghost use Rattle.j39_frame.specs.Identifier.{source_of};
 ghost use Rattle.j39_address.specs.Claims.{Knows};
-ghost use Rattle.j39_rows.specs.Models.{column_of};
+ghost use Rattle.j39_rows.specs.Models.{cell_of, column_of};
+ghost use Rattle.j39_rows.specs.Row.{micros_cell, or_nothing};
 ghost use Rattle.j39_listen.specs.Headed.{begins_flushed};
 ghost use Rattle.j39_listen.specs.Output.{nothing};
-ghost use Rattle.j39_reports.specs.SeenNodes.{MakesSeenNodes, function_of, maker_of, seen_columns, seen_in};
+ghost use Rattle.j39_reports.specs.SeenNodes.{MakesSeenNodes, function_of, maker_of, seen_columns, seen_in, silent_for};
 ghost use Rattle.j39_reports.specs.SeenSoFar.{HasSeen, HasSeenAll, nodes_shown, presence, presence_in, presence_of, seen_at};
 ghost use Rattle.std.specs.Option.{option_map};
 ghost use Rattle.j39_listen.specs.Asking.{AsksNowhere};
@@ -29,12 +31,13 @@ use j39_listen::{
 };
 use j39_log::Bus;
 use j39_names::{function_name, maker_name};
-use j39_rows::{Cell, Column, put_row};
+use j39_rows::{Cell, Column, Place, Plain, put_row};
 
 /// Writes, after the whole log, a line for each address that is held, or from which a frame came since it was held last,
-/// rising: the address, the NAME that holds it, when it claimed it last, and when a frame last came from there; or a record of
-/// comma-separated values (RFC 4180), or an object of JSON (RFC 8259), which have the moments in UTC too, and what the function and
-/// the maker that the NAME names are called, where that is known. With senders, of these alone: an address, or the one
+/// rising: the address, the NAME that holds it, when it claimed it last, when a frame last came from there, and how long before the
+/// last frame of all, if that is five seconds or more (own); or a record of comma-separated values (RFC 4180), or an object of JSON
+/// (RFC 8259), which have the moments in UTC too, and what the function and the maker that the NAME names are called, where that is
+/// known. With senders, of these alone: an address, or the one
 /// that a NAME holds. The names of the columns of records are written before the log is read. The log has at most `limit`
 /// bytes; without a bus it is that of the first frame in it. It takes no memory; no message counts.
 pub fn nodes_seen<R: Source, W: Sink>(
@@ -66,7 +69,22 @@ pub fn nodes_seen<R: Source, W: Sink>(
 
 /// The names of the columns of such records.
 const COLUMNS: &[u8] =
-    b"address,name,claimed,claimed_utc,heard,heard_utc,function,manufacturer\r\n";
+    b"address,name,claimed,claimed_utc,heard,heard_utc,silent,function,manufacturer\r\n";
+
+/// The least silence that is told, in microseconds (own).
+const LONG_SILENCE: u64 = 5_000_000;
+
+/// How long nothing was heard by now, where that is told.
+fn silent_for(now: Option<Stamp>, heard: Option<Stamp>) -> Option<u64>
+    ensures { result ≡ silent_for (option_map stamp_micros now) (option_map stamp_micros heard) }
+{
+    let silent = now?.micros().saturating_sub(heard?.micros());
+    if silent < LONG_SILENCE {
+        None
+    } else {
+        Some(silent)
+    }
+}
 
 /// What was seen of an address so far.
 #[derive(Clone, Copy)]
@@ -106,20 +124,20 @@ impl Seen {
         }
     }
 
-    /// Who talks at the address, which nobody holds.
-    fn unheld(self, address: u8) -> Option<Node>
-        ensures { presence address self None ≡ nodes_shown result }
+    /// Who is at the address by now, which this NAME holds, or nobody.
+    fn shown(self, now: Option<Stamp>, address: u8, name: Option<Name>) -> Option<Node>
+        ensures { presence (option_map stamp_micros now) address self (option_map name_raw name) ≡ nodes_shown result }
     {
-        if self.talks {
-            Some(Node {
-                address,
-                name: None,
-                claimed: None,
-                heard: self.heard,
-            })
-        } else {
-            None
+        if name.is_none() && !self.talks {
+            return None;
         }
+        Some(Node {
+            address,
+            name,
+            claimed: if name.is_some() { self.claimed } else { None },
+            heard: self.heard,
+            silent: silent_for(now, self.heard),
+        })
     }
 }
 
@@ -130,6 +148,7 @@ struct Node {
     name: Option<Name>,
     claimed: Option<Stamp>,
     heard: Option<Stamp>,
+    silent: Option<u64>,
 }
 
 /// The stamp of the last claim by the holder, where this NAME claims now, and the last one before came then.
@@ -148,11 +167,12 @@ fn last_claim(
     }
 }
 
-/// The claims of the frames so far, what was seen of each address, and how they are to be written.
+/// The claims of the frames so far, what was seen of each address, the last stamp, and how they are to be written.
 #[derive(Drop)]
 pub(crate) struct SeenList<'f> {
     claims: Claims,
     seen: [Seen; NULL_ADDRESS as usize],
+    last: Option<Stamp>,
     form: Format,
     from: Option<&'f [Sender]>,
 }
@@ -170,6 +190,7 @@ impl<'f> SeenList<'f> {
         SeenList {
             claims: Claims::new(),
             seen: [unseen; NULL_ADDRESS as usize],
+            last: None,
             form,
             from,
         }
@@ -180,16 +201,7 @@ impl<'f> SeenList<'f> {
         requires { address < 254 }
         ensures { presence_in self.now address ≡ nodes_shown result }
     {
-        let seen = self.seen[usize::from(address)];
-        match self.claims.holder(address) {
-            Some(name) => Some(Node {
-                address,
-                name: Some(name),
-                claimed: seen.claimed,
-                heard: seen.heard,
-            }),
-            None => seen.unheld(address),
-        }
+        self.seen[usize::from(address)].shown(self.last, address, self.claims.holder(address))
     }
 
     /// Sees a frame, behind the claims up to it.
@@ -248,6 +260,7 @@ impl<'f> Account for SeenList<'f> {
     fn feed<W: Sink>(&mut self, _: &Bus, frame: &Frame, _: &mut W) -> Result<(), LineFault> {
         self.claims.note(frame);
         self.see(frame);
+        self.last = Some(frame.stamp);
         Ok(())
     }
 
@@ -277,8 +290,18 @@ fn maker_of(name: Option<Name>) -> Option<&'static [u8]>
     maker_name(name?.manufacturer())
 }
 
+/// A time in seconds, or nothing.
+fn time_cell(micros: Option<u64>) -> Cell<'static>
+    ensures { cell_of result ≡ or_nothing micros_cell micros }
+{
+    match micros {
+        Some(micros) => Cell::Is(Plain::Micros(micros)),
+        None => Cell::Nothing,
+    }
+}
+
 /// What the row of a node has behind its address.
-fn seen_columns(node: Node) -> [Column<'static>; 7]
+fn seen_columns(node: Node) -> [Column<'static>; 8]
     ensures { map column_of result ≡ seen_columns (presence_of node) }
 {
     [
@@ -287,6 +310,7 @@ fn seen_columns(node: Node) -> [Column<'static>; 7]
         Column::BesideLines(b"claimed_utc", Cell::utc(node.claimed)),
         Column::All(b"heard", DASH, Cell::seconds(node.heard)),
         Column::BesideLines(b"heard_utc", Cell::utc(node.heard)),
+        Column::All(b"silent", Place::IfAny(b" silent "), time_cell(node.silent)),
         Column::BesideLines(b"function", Cell::optional(function_of(node.name))),
         Column::BesideLines(b"manufacturer", Cell::optional(maker_of(node.name))),
     ]

@@ -1,6 +1,8 @@
 use Rattle.std.proofs.Common.{refl}
+use Rattle.j39_reports.specs.SeenNodes.{last_stamp}
 use Rattle.j39_reports.proofs.SeenLemmas.{seen_none_at}
 use Rattle.j39_reports.proofs.node_lists.seen.SeenList.new.Goals as goal
 
 pub returns : goal.returns
-returns c = record { knows = c.new.ensures; sees = seen_none_at; form_is = refl; from_is = refl; nothing = refl }
+unfolding last_stamp
+returns c = record { knows = c.new.ensures; sees = seen_none_at; last_is = refl; form_is = refl; from_is = refl; nothing = refl }
