@@ -11,7 +11,7 @@ use Rattle.std.proofs.lemmas.Option.{get_or_from_slice_get, slice_get_within}
 use Rattle.j39_groups.specs.Parts.{parts_of}
 use Rattle.j39_groups.specs.Ranges.{is_valid, top_byte}
 use Rattle.j39_groups.specs.Readings.{bits_meaning, by_top_byte, filled_text_meaning, group_rows, number_meaning, raw_bits, raw_number, readings_at, readings_in, readings_of, signed_value, switch_meaning, text_meaning, values_at}
-use Rattle.j39_groups.specs.Row.{FieldRecord, number_field, bits_field, signed_field, switch_field, text_field, texts_field, RowRecord}
+use Rattle.j39_groups.specs.Row.{FieldRecord, number_field, bits_field, full_field, switch_field, text_field, texts_field, RowRecord}
 use Rattle.j39_groups.specs.Table.{the_table}
 use Rattle.j39_groups.specs.Value.{SlotRecord, ReadingRecord, ValueRecord, number, on, off, error, reserved, indicator, text}
 use Rattle.j39_c.specs.Units.{has_short_unit}
@@ -19,7 +19,7 @@ use Rattle.j39_c.specs.Units.{has_short_unit}
 abbrev has_short_scale : FieldRecord → Bool
 has_short_scale (number_field first last slot) = nat_le (length slot.unit) 7
 has_short_scale (bits_field byte low count slot) = nat_le (length slot.unit) 7
-has_short_scale (signed_field byte low count slot) = nat_le (length slot.unit) 7
+has_short_scale (full_field byte low count is_signed slot) = nat_le (length slot.unit) 7
 has_short_scale (switch_field byte low high) = true
 has_short_scale (text_field part) = true
 has_short_scale (texts_field byte count) = true
@@ -115,7 +115,7 @@ field_is_short bytes (number_field first last slot) short =
     top_is_short (top_byte (last - (first - 1)) raw) (number (pos raw *ℤ slot.step +ℤ slot.offset) slot) short)
 field_is_short bytes (bits_field byte low count slot) short =
     and_then_short (bits_meaning count slot) (raw_bits byte low count bytes) (λ raw. bits_are_short count slot raw short)
-field_is_short bytes (signed_field byte low count slot) short =
+field_is_short bytes (full_field byte low count is_signed slot) short =
     map_short (signed_value count slot) (raw_bits byte low count bytes) (λ raw. short)
 field_is_short bytes (switch_field byte low high) short =
     and_then_short (λ b. switch_meaning (b / 2 ^ (low - 1) % 4)) (slice_get bytes (byte - 1)) (λ b. switch_is_short (b / 2 ^ (low - 1) % 4))

@@ -1,6 +1,6 @@
 -- Numbers of several bytes.
-use Rattle.std.proofs.Common.{◌≡◌, ◌<◌, ◌≤◌, ◌+◌, ◌-◌, ◌*◌, ◌^◌, ℕ, ℤ, zero, suc, Bool, true, false, List, length, take, drop, refl, sym, ap, arith, inl, inr, ◌∙◌, get_or-take, get_or-drop}
-use Rattle.std.specs.Prelude.{Some, None, ◌+ℤ◌, ◌-ℤ◌, ◌*ℤ◌, pos, if◌then◌else◌, nat_le, nat_lt, slice_index, slice_range, unwrap_or}
+use Rattle.std.proofs.Common.{◌≡◌, ◌<◌, ◌≤◌, ◌+◌, ◌-◌, ◌*◌, ◌^◌, ℕ, ℤ, Option, zero, suc, Bool, true, false, List, length, take, drop, refl, sym, ap, arith, inl, inr, ◌∙◌, get_or-take, get_or-drop}
+use Rattle.std.specs.Prelude.{IfSome, Some, None, ◌+ℤ◌, ◌-ℤ◌, ◌*ℤ◌, pos, if◌then◌else◌, nat_le, nat_lt, slice_index, slice_range, unwrap_or}
 use Rattle.std.proofs.Math.Nat.{le-mul_of_pos_right, mod-lt, mul_comm, mul-le-mul_left}
 use Rattle.std.proofs.Math.IntN.{neg_ℤ, neg_ℤ-+ℤ, negsuc-*ℤ-pos, pos-+ℤ-pos, +ℤ_assoc, +ℤ_comm, +ℤ_idl, +ℤ_invr}
 use Rattle.std.proofs.lemmas.Bool.{cases_Bool, le-leb, ltb-true, ltb-false}
@@ -62,6 +62,10 @@ unfolding raw_bits
 bits_below byte low count bytes raw is =
     let value = some_then (nat_le (last_byte byte low count) (length bytes)) _ raw is in
     rw value (mod-lt _ (pow_pos count))
+
+pub bits_narrow : (byte low count : ℕ) (bytes : List ℕ) (raw : Option ℕ) → raw ≡ raw_bits byte low count bytes → IfSome raw (λ n. n < 2 ^ count)
+bits_narrow byte low count bytes None is = tt
+bits_narrow byte low count bytes (Some raw) is = bits_below byte low count bytes raw is
 
 -- no value of a raw number below a size is past that of the greatest one
 pub within_largest : (step raw size offset : ℕ) → step * (size - 1) + offset < 2 ^ 63 → raw < size → step * raw + offset < 2 ^ 63

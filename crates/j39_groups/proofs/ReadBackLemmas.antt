@@ -5,7 +5,7 @@ use Rattle.std.specs.List.{Contains}
 use Rattle.std.specs.Option.{option_and_then, option_to_list}
 use Rattle.std.proofs.lemmas.Bool.{eq-eqb}
 use Rattle.j39_groups.specs.Value.{number, ReadingRecord}
-use Rattle.j39_groups.specs.Row.{FieldRecord, number_field, bits_field, signed_field, switch_field, text_field, texts_field}
+use Rattle.j39_groups.specs.Row.{FieldRecord, number_field, bits_field, full_field, switch_field, text_field, texts_field}
 use Rattle.j39_groups.specs.Table.{the_table}
 use Rattle.j39_groups.specs.Readings.{by_top_byte, number_meaning, values_at, readings_at, readings_in, readings_of}
 use Rattle.j39_groups.specs.Slots.{SizedSlotRecord, slot_in, slot_at, sized_slot_of_spn, slot_of_spn, IsRawIn, IsRawOf, HoldsIn, Holds}
@@ -28,7 +28,7 @@ has_number (number_field first last slot) bytes raw held = (
       ∙ valid_meaning (record { count = last - (first - 1); slot = slot }) value raw is),
 )
 has_number (bits_field byte low count slot) bytes raw held = absurd held
-has_number (signed_field byte low count slot) bytes raw held = absurd held
+has_number (full_field byte low count is_signed slot) bytes raw held = absurd held
 has_number (switch_field byte low high) bytes raw held = absurd held
 has_number (text_field part) bytes raw held = absurd held
 has_number (texts_field byte count) bytes raw held = absurd held

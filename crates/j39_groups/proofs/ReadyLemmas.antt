@@ -7,7 +7,7 @@ use Rattle.std.proofs.lemmas.Bool.{and_parts, false≢true, leb-true, le-leb, lt
 use Rattle.std.specs.Str.{bytes_eq}
 use Rattle.std.proofs.lemmas.Slice.Eq.{bytes_eq-Decides}
 use Rattle.j39_groups.specs.declared.field.Field.{Field}
-use Rattle.j39_groups.specs.declared.field.Field.TheVariants.{Number, Bits, Signed, Switch, Text, Texts}
+use Rattle.j39_groups.specs.declared.field.Field.TheVariants.{Number, Bits, Full, Switch, Text, Texts}
 use Rattle.j39_groups.specs.declared.slot.Slot.{Slot}
 use Rattle.j39_groups.specs.declared.short_text.ShortText.{ShortText}
 use Rattle.j39_groups.specs.declared.prepared.Ending.{Ending}
@@ -129,7 +129,7 @@ seen_value view P (Some x) (Some v) is h = let same : view x ≡ v = ap (head_of
 pub ready_short : (end : Ending) (field : Field) → is_ready end field ≡ true → IsShort field
 ready_short end (Number first last scale) h = tt
 ready_short end (Bits byte low count scale) h = tt
-ready_short end (Signed byte low count scale) h = absurd (false≢true h)
+ready_short end (Full byte low count is_signed scale) h = absurd (false≢true h)
 ready_short end (Switch byte low high) h = tt
 ready_short end (Text part) h = absurd (false≢true h)
 ready_short end (Texts byte count) h = absurd (false≢true h)
@@ -143,7 +143,7 @@ ready_ends end (Number first last scale) bytes result h is =
     seen_value (short_value (scale_record scale)) (HasEnd end) result _ is (ends_number end _ (scale_record scale) _ (scale_end_is end scale h))
 ready_ends end (Bits byte low count scale) bytes result h is =
     seen_value (short_value (scale_record scale)) (HasEnd end) result _ is (ends_bits end count (scale_record scale) _ (scale_end_is end scale h))
-ready_ends end (Signed byte low count scale) bytes result h is = absurd (false≢true h)
+ready_ends end (Full byte low count is_signed scale) bytes result h is = absurd (false≢true h)
 ready_ends end (Switch byte low high) bytes result h is =
     seen_value (short_value (field_slot (Switch byte low high))) (HasEnd end) result _ is (ends_switch end (λ b. b / 2 ^ (low - 1) % 4) _)
 ready_ends end (Text part) bytes result h is = absurd (false≢true h)
@@ -180,7 +180,7 @@ field_sound (Number first last scale) h =
     let c = and_parts _ _ b.1 in
     record { starts = ltb-true _ _ b.0; ordered = leb-true _ _ c.0; narrow = ltb-true _ _ c.1; fits = ltb-true _ _ a.1 }
 field_sound (Bits byte low count scale) h = bits_sound byte low count scale h
-field_sound (Signed byte low count scale) h = bits_sound byte low count scale h
+field_sound (Full byte low count is_signed scale) h = bits_sound byte low count scale h
 field_sound (Switch byte low high) h =
     let a = and_parts _ _ h in
     let b = and_parts _ _ a.1 in
@@ -193,7 +193,7 @@ field_sound (Texts byte count) h = let a = and_parts _ _ h in record { byte_star
 pub most_few : (field : Field) → is_sound field ≡ true → most_values field ≤ 31
 most_few (Number first last scale) h = omega arith
 most_few (Bits byte low count scale) h = omega arith
-most_few (Signed byte low count scale) h = omega arith
+most_few (Full byte low count is_signed scale) h = omega arith
 most_few (Switch byte low high) h = omega arith
 most_few (Text part) h = omega arith
 most_few (Texts byte count) h = leb-true _ _ (and_parts _ _ h).1

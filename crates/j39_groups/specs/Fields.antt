@@ -1,7 +1,7 @@
 -- Where a parameter may stand in a payload.
 use Rattle.std.specs.Prelude.{◌≡◌, ◌==◌, ◌&&◌, ◌+◌, ◌-◌, ◌*◌, ◌^◌, ◌<◌, ◌≤◌, ⊤, ℕ, Bool, nat_lt, nat_le, unsigned_abs}
 use Rattle.j39_groups.specs.declared.field.Field.{Field}
-use Rattle.j39_groups.specs.declared.field.Field.TheVariants.{Number, Bits, Signed, Switch, Text, Texts}
+use Rattle.j39_groups.specs.declared.field.Field.TheVariants.{Number, Bits, Full, Switch, Text, Texts}
 use Rattle.j39_groups.specs.declared.slot.Slot.{Slot}
 
 -- the largest magnitude that a value of a raw number of so many bits can have
@@ -40,7 +40,7 @@ pub record IsSoundParts (byte count : ℕ) : Type 0 where
 abbrev pub IsSound : Field → Type 0
 IsSound (Number first last scale) = IsSoundBytes first last scale
 IsSound (Bits byte low count scale) = IsSoundBits byte low count scale
-IsSound (Signed byte low count scale) = IsSoundBits byte low count scale
+IsSound (Full byte low count is_signed scale) = IsSoundBits byte low count scale
 IsSound (Switch byte low high) = IsSoundPair byte low high
 IsSound (Text part) = IsSoundPart part
 IsSound (Texts byte count) = IsSoundParts byte count
@@ -53,7 +53,7 @@ is_sound (Number first last scale) =
 is_sound (Bits byte low count scale) =
     nat_lt 0 byte && (nat_lt 0 low && (nat_le low 8 && (nat_lt 0 count && nat_le count 32)))
     && nat_lt (largest count scale) (2 ^ 63)
-is_sound (Signed byte low count scale) =
+is_sound (Full byte low count is_signed scale) =
     nat_lt 0 byte && (nat_lt 0 low && (nat_le low 8 && (nat_lt 0 count && nat_le count 32)))
     && nat_lt (largest count scale) (2 ^ 63)
 is_sound (Switch byte low high) = nat_lt 0 byte && (nat_lt 0 low && (high == low + 1 && nat_le high 8))
@@ -64,16 +64,16 @@ is_sound (Texts byte count) = nat_lt 0 byte && nat_le count 31
 abbrev pub HasOneValue : Field → Type 0
 HasOneValue (Number first last scale) = ⊤
 HasOneValue (Bits byte low count scale) = ⊤
-HasOneValue (Signed byte low count scale) = ⊤
+HasOneValue (Full byte low count is_signed scale) = ⊤
 HasOneValue (Switch byte low high) = ⊤
 HasOneValue (Text part) = ⊤
 HasOneValue (Texts byte count) = ⊥
 
--- a number that is not signed, or a switch
+-- a number that has words, or a switch
 abbrev pub IsShort : Field → Type 0
 IsShort (Number first last scale) = ⊤
 IsShort (Bits byte low count scale) = ⊤
-IsShort (Signed byte low count scale) = ⊥
+IsShort (Full byte low count is_signed scale) = ⊥
 IsShort (Switch byte low high) = ⊤
 IsShort (Text part) = ⊥
 IsShort (Texts byte count) = ⊥

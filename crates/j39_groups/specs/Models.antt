@@ -1,7 +1,7 @@
 -- What contracts see of the code's types.
 use Rattle.std.specs.Prelude.{List, [], pos}
 use Rattle.j39_groups.specs.declared.field.Field.{Field}
-use Rattle.j39_groups.specs.declared.field.Field.TheVariants.{Number as NumberField, Bits, Signed, Switch, Text as TextField, Texts}
+use Rattle.j39_groups.specs.declared.field.Field.TheVariants.{Number as NumberField, Bits, Full, Switch, Text as TextField, Texts}
 use Rattle.j39_groups.specs.declared.listed.LentRows.{LentRows}
 use Rattle.j39_groups.specs.declared.listed.Listed.{Listed}
 use Rattle.j39_groups.specs.declared.listed.Listed.TheVariants.{Lent, Kept}
@@ -12,7 +12,7 @@ use Rattle.j39_groups.specs.declared.short.Short.TheVariants.{Number as ShortNum
 use Rattle.j39_groups.specs.declared.value.Reading.{Reading}
 use Rattle.j39_groups.specs.declared.value.Value.{Value}
 use Rattle.j39_groups.specs.declared.value.Value.TheVariants.{Number, On, Off, Error, Reserved, Indicator, Text}
-use Rattle.j39_groups.specs.Row.{FieldRecord, number_field, bits_field, signed_field, switch_field, text_field, texts_field, RowRecord}
+use Rattle.j39_groups.specs.Row.{FieldRecord, number_field, bits_field, full_field, switch_field, text_field, texts_field, RowRecord}
 use Rattle.j39_groups.specs.Value.{SlotRecord, ValueRecord, number, on, off, error, reserved, indicator, text, ReadingRecord}
 use Rattle.j39_memory.specs.Items.{items_of}
 use Rattle.j39_memory.specs.declared.list.List.{List as RowList}
@@ -50,7 +50,7 @@ reading_of reading = record { spn = reading.spn; value = value_of reading.value 
 abbrev pub field_record : Field → FieldRecord
 field_record (NumberField first last scale) = number_field first last (scale_record scale)
 field_record (Bits byte low count scale) = bits_field byte low count (scale_record scale)
-field_record (Signed byte low count scale) = signed_field byte low count (scale_record scale)
+field_record (Full byte low count is_signed scale) = full_field byte low count is_signed (scale_record scale)
 field_record (Switch byte low high) = switch_field byte low high
 field_record (TextField part) = text_field part
 field_record (Texts byte count) = texts_field byte count
@@ -63,7 +63,7 @@ no_slot = record { step = pos 0; offset = pos 0; places = 0; unit = [] }
 abbrev pub field_slot : Field → SlotRecord
 field_slot (NumberField first last scale) = scale_record scale
 field_slot (Bits byte low count scale) = scale_record scale
-field_slot (Signed byte low count scale) = scale_record scale
+field_slot (Full byte low count is_signed scale) = scale_record scale
 field_slot (Switch byte low high) = no_slot
 field_slot (TextField part) = no_slot
 field_slot (Texts byte count) = no_slot

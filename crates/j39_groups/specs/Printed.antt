@@ -1,8 +1,8 @@
 -- The table of parameters as it is printed (own): a line for each, in the table's order.
-use Rattle.std.specs.Prelude.{◌==◌, ◌&&◌, ◌+◌, ◌-◌, ◌/◌, ◌%◌, ◌++◌, ◌∷◌, ℕ, List, [], if◌then◌else◌, codes, decimal}
+use Rattle.std.specs.Prelude.{◌==◌, ◌&&◌, ◌+◌, ◌-◌, ◌/◌, ◌%◌, ◌++◌, ◌∷◌, ℕ, Bool, List, [], if◌then◌else◌, codes, decimal}
 use Rattle.std.specs.List.{flat_map}
 use Rattle.j39_io.specs.Chars.{newline}
-use Rattle.j39_groups.specs.Row.{FieldRecord, number_field, bits_field, signed_field, switch_field, text_field, texts_field, RowRecord}
+use Rattle.j39_groups.specs.Row.{FieldRecord, number_field, bits_field, full_field, switch_field, text_field, texts_field, RowRecord}
 use Rattle.j39_groups.specs.Value.{SlotRecord}
 use Rattle.j39_groups.specs.ValueText.{scaled_text}
 
@@ -25,11 +25,15 @@ abbrev pub bytes_or_bits_text : ℕ → ℕ → ℕ → List ℕ
 bytes_or_bits_text byte low count =
     if low == 1 && count % 8 == 0 then range_text byte (byte + count / 8 - 1) else bits_text byte low (bits_end low count)
 
--- the bytes as 4-5, or one as 4; bits of a byte as 4.1-2; `s` behind a signed number; a part between the bytes `*` as *1; the bytes from one on as 2-
+-- behind the place of a number whose raw numbers are all valid: `s` where it is signed, else `u`
+abbrev pub mark : Bool → ℕ
+mark is_signed = if is_signed then 115 else 117
+
+-- the bytes as 4-5, or one as 4; bits of a byte as 4.1-2; a part between the bytes `*` as *1; the bytes from one on as 2-
 abbrev pub place_text : FieldRecord → List ℕ
 place_text (number_field first last slot) = range_text first last
 place_text (bits_field byte low count slot) = bits_text byte low (bits_end low count)
-place_text (signed_field byte low count slot) = bytes_or_bits_text byte low count ++ codes "s"
+place_text (full_field byte low count is_signed slot) = bytes_or_bits_text byte low count ++ mark is_signed ∷ []
 place_text (switch_field byte low high) = decimal byte ++ codes "." ++ range_text low high
 place_text (text_field part) = codes "*" ++ decimal part
 place_text (texts_field byte count) = decimal byte ++ codes "-"
@@ -45,7 +49,7 @@ slot_text slot = scale_columns (scaled_text slot.places slot.step) (scaled_text 
 abbrev pub scale_text : FieldRecord → List ℕ
 scale_text (number_field first last slot) = slot_text slot
 scale_text (bits_field byte low count slot) = slot_text slot
-scale_text (signed_field byte low count slot) = slot_text slot
+scale_text (full_field byte low count is_signed slot) = slot_text slot
 scale_text (switch_field byte low high) = codes "- - -"
 scale_text (text_field part) = codes "- - -"
 scale_text (texts_field byte count) = codes "- - -"

@@ -4,7 +4,7 @@ use Rattle.std.specs.Option.{option_and_then, option_map, option_to_list}
 use Rattle.std.specs.List.{filter_map, flat_map, list_any, list_all}
 use Rattle.byteorder.specs.Endian.{little_number}
 use Rattle.j39_groups.specs.Value.{SlotRecord, ValueRecord, number, on, off, error, reserved, indicator, text, ReadingRecord}
-use Rattle.j39_groups.specs.Row.{FieldRecord, number_field, bits_field, signed_field, switch_field, text_field, texts_field, RowRecord}
+use Rattle.j39_groups.specs.Row.{FieldRecord, number_field, bits_field, full_field, switch_field, text_field, texts_field, RowRecord}
 use Rattle.j39_groups.specs.Table.{the_table}
 use Rattle.j39_groups.specs.Parts.{parts_of}
 use Rattle.j39_groups.specs.Ranges.{top_byte, is_valid}
@@ -52,9 +52,13 @@ bits_meaning count slot raw =
 abbrev pub signed_number : ℕ → ℕ → ℤ
 signed_number count raw = if nat_le (2 ^ (count - 1)) raw then pos raw -ℤ pos (2 ^ count) else pos raw
 
+-- that, or the raw number as it is
+abbrev pub full_number : ℕ → Bool → ℕ → ℤ
+full_number count is_signed raw = if is_signed then signed_number count raw else pos raw
+
 -- each is valid (own)
-abbrev pub signed_value : ℕ → SlotRecord → ℕ → ValueRecord
-signed_value count slot raw = number (signed_number count raw *ℤ slot.step +ℤ slot.offset) slot
+abbrev pub full_value : ℕ → Bool → SlotRecord → ℕ → ValueRecord
+full_value count is_signed slot raw = number (full_number count is_signed raw *ℤ slot.step +ℤ slot.offset) slot
 
 -- two bits: off, on, error, not available
 unfoldable pub switch_meaning : ℕ → Option ValueRecord
@@ -75,8 +79,8 @@ values_at bytes (number_field first last slot) =
     option_to_list (option_and_then (number_meaning (last - (first - 1)) slot) (raw_number first last bytes))
 values_at bytes (bits_field byte low count slot) =
     option_to_list (option_and_then (bits_meaning count slot) (raw_bits byte low count bytes))
-values_at bytes (signed_field byte low count slot) =
-    option_to_list (option_map (signed_value count slot) (raw_bits byte low count bytes))
+values_at bytes (full_field byte low count is_signed slot) =
+    option_to_list (option_map (full_value count is_signed slot) (raw_bits byte low count bytes))
 values_at bytes (switch_field byte low high) =
     option_to_list (option_and_then (λ b. switch_meaning (b / 2 ^ (low - 1) % 4)) (slice_get bytes (byte - 1)))
 values_at bytes (text_field part) = option_to_list

@@ -4,7 +4,7 @@ use Rattle.std.specs.Fmt.{digits_onto}
 use Rattle.std.specs.Str.{bytes_eq}
 use Rattle.j39_io.specs.Chars.{newline, space}
 use Rattle.j39_groups.specs.declared.field.Field.{Field}
-use Rattle.j39_groups.specs.declared.field.Field.TheVariants.{Number, Bits, Signed, Switch, Text, Texts}
+use Rattle.j39_groups.specs.declared.field.Field.TheVariants.{Number, Bits, Full, Switch, Text, Texts}
 use Rattle.j39_groups.specs.declared.prepared.Ending.{Ending}
 use Rattle.j39_groups.specs.declared.prepared.Prepared.{Prepared}
 use Rattle.j39_groups.specs.declared.slot.Slot.{Slot}
@@ -33,11 +33,11 @@ is_scale_end end scale =
     is_short_end end && (end.places == scale.places
     && bytes_eq (short_text end.text) (space ∷ (scale.unit.now ++ (newline ∷ []))))
 
--- what stands behind a number is prepared, and no value is signed or a text of the sender's
+-- what stands behind a number is prepared, and no value is of a number in full or a text of the sender's
 abbrev pub is_ready : Ending → Field → Bool
 is_ready end (Number first last scale) = is_scale_end end scale
 is_ready end (Bits byte low count scale) = is_scale_end end scale
-is_ready end (Signed byte low count scale) = false
+is_ready end (Full byte low count is_signed scale) = false
 is_ready end (Switch byte low high) = is_short_end end
 is_ready end (Text part) = false
 is_ready end (Texts byte count) = false

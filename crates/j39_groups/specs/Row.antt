@@ -1,6 +1,6 @@
 -- What a row of the table of parameters says (J1939-71).
 use Prim.Native.String.{String}
-use Rattle.std.specs.Prelude.{ℕ, ℤ, List, pos, codes}
+use Rattle.std.specs.Prelude.{Bool, ℕ, ℤ, List, pos, codes}
 use Rattle.j39_groups.specs.Value.{SlotRecord}
 
 -- where a parameter stands in the payload; bytes, bits and parts count from 1
@@ -9,8 +9,8 @@ pub data FieldRecord : Type 0 where
   number_field : ℕ → ℕ → SlotRecord → FieldRecord
   -- a number in so many bits from the bit low of a byte on, the low bit first, and its slot
   bits_field : ℕ → ℕ → ℕ → SlotRecord → FieldRecord
-  -- the same in two's complement (own)
-  signed_field : ℕ → ℕ → ℕ → SlotRecord → FieldRecord
+  -- the same where each raw number is valid, in two's complement or unsigned (own)
+  full_field : ℕ → ℕ → ℕ → Bool → SlotRecord → FieldRecord
   -- the bits low and high of a byte
   switch_field : ℕ → ℕ → ℕ → FieldRecord
   -- one of the parts of the payload between the bytes `*`

@@ -3,7 +3,7 @@ use Rattle.std.specs.Prelude.{◌≡◌, ◌<◌, ◌≤◌, ◌==◌, ◌&&◌,
 use Rattle.std.specs.List.{list_all, list_any, sum_by}
 use Rattle.j39_groups.specs.declared.by_number.SizedScale.{SizedScale}
 use Rattle.j39_groups.specs.declared.field.Field.{Field}
-use Rattle.j39_groups.specs.declared.field.Field.TheVariants.{Number, Bits, Signed, Switch, Text, Texts}
+use Rattle.j39_groups.specs.declared.field.Field.TheVariants.{Number, Bits, Full, Switch, Text, Texts}
 use Rattle.j39_groups.specs.declared.row.Row.{Row}
 use Rattle.j39_groups.specs.declared.slot.Slot.{Slot}
 use Rattle.j39_groups.specs.Fields.{is_sound}
@@ -39,7 +39,7 @@ pub record IsSoundCount (count : ℕ) (scale : Slot) : Type 0 where
 abbrev pub is_rising : Field → Bool
 is_rising (Number first last scale) = nat_lt 0 scale.step
 is_rising (Bits byte low count scale) = true
-is_rising (Signed byte low count scale) = true
+is_rising (Full byte low count is_signed scale) = true
 is_rising (Switch byte low high) = true
 is_rising (Text part) = true
 is_rising (Texts byte count) = true
@@ -48,7 +48,7 @@ is_rising (Texts byte count) = true
 abbrev pub most_values : Field → ℕ
 most_values (Number first last scale) = 1
 most_values (Bits byte low count scale) = 1
-most_values (Signed byte low count scale) = 1
+most_values (Full byte low count is_signed scale) = 1
 most_values (Switch byte low high) = 1
 most_values (Text part) = 1
 most_values (Texts byte count) = count

@@ -2,7 +2,7 @@
 use Rattle.std.specs.Prelude.{◌==◌, ◌&&◌, ◌++◌, ◌∷◌, [], ℕ, Bool, false, List, Option, None, Some, if◌then◌else◌, length, map, nat_le}
 use Rattle.std.specs.List.{filter_map, flat_map}
 use Rattle.j39_groups.specs.Readings.{group_rows, last_byte, readings_at, values_at}
-use Rattle.j39_groups.specs.Row.{FieldRecord, number_field, bits_field, signed_field, switch_field, text_field, texts_field, RowRecord}
+use Rattle.j39_groups.specs.Row.{FieldRecord, number_field, bits_field, full_field, switch_field, text_field, texts_field, RowRecord}
 use Rattle.j39_groups.specs.Value.{ReadingRecord}
 
 -- a reading, or the parameter (SPN) whose number is not available
@@ -14,7 +14,7 @@ pub data SightingRecord : Type 0 where
 unfoldable pub holds_number : List ℕ → FieldRecord → Bool
 holds_number bytes (number_field first last slot) = nat_le last (length bytes)
 holds_number bytes (bits_field byte low count slot) = nat_le (last_byte byte low count) (length bytes)
-holds_number bytes (signed_field byte low count slot) = nat_le (last_byte byte low count) (length bytes)
+holds_number bytes (full_field byte low count is_signed slot) = nat_le (last_byte byte low count) (length bytes)
 holds_number bytes (switch_field byte low high) = nat_le byte (length bytes)
 holds_number bytes (text_field part) = false
 holds_number bytes (texts_field byte count) = false

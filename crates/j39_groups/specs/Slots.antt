@@ -3,7 +3,7 @@ use Rattle.std.specs.Prelude.{◌≡◌, ◌-◌, ◌==◌, ◌+ℤ◌, ◌*ℤ�
 use Rattle.std.specs.Option.{option_map}
 use Rattle.std.specs.List.{filter_map, Contains}
 use Rattle.j39_groups.specs.Value.{SlotRecord}
-use Rattle.j39_groups.specs.Row.{FieldRecord, number_field, bits_field, signed_field, switch_field, text_field, texts_field, RowRecord}
+use Rattle.j39_groups.specs.Row.{FieldRecord, number_field, bits_field, full_field, switch_field, text_field, texts_field, RowRecord}
 use Rattle.j39_groups.specs.Table.{the_table}
 use Rattle.j39_groups.specs.Ranges.{top_byte, is_valid}
 use Rattle.j39_groups.specs.Readings.{raw_number}
@@ -16,7 +16,7 @@ pub record SizedSlotRecord : Type 0 where
 abbrev pub slot_in : FieldRecord → Option SizedSlotRecord
 slot_in (number_field first last slot) = Some (record { count = last - (first - 1); slot = slot })
 slot_in (bits_field byte low count slot) = None
-slot_in (signed_field byte low count slot) = None
+slot_in (full_field byte low count is_signed slot) = None
 slot_in (switch_field byte low high) = None
 slot_in (text_field part) = None
 slot_in (texts_field byte count) = None
@@ -48,7 +48,7 @@ IsRawOf spn value raw = IsSomeAnd (sized_slot_of_spn spn) (λ sized. IsRawIn siz
 abbrev pub HoldsIn : FieldRecord → List ℕ → ℕ → Type 0
 HoldsIn (number_field first last slot) bytes raw = raw_number first last bytes ≡ Some raw
 HoldsIn (bits_field byte low count slot) bytes raw = ⊥
-HoldsIn (signed_field byte low count slot) bytes raw = ⊥
+HoldsIn (full_field byte low count is_signed slot) bytes raw = ⊥
 HoldsIn (switch_field byte low high) bytes raw = ⊥
 HoldsIn (text_field part) bytes raw = ⊥
 HoldsIn (texts_field byte count) bytes raw = ⊥

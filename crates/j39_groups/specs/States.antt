@@ -5,7 +5,7 @@ use Rattle.std.specs.List.{filter_map, slice_split, starts_with}
 use Rattle.std.specs.Option.{option_and_then}
 use Rattle.j39_io.specs.Chars.{space}
 use Rattle.j39_io.specs.Records.{comma}
-use Rattle.j39_groups.specs.Row.{FieldRecord, number_field, bits_field, signed_field, switch_field, text_field, texts_field, RowRecord}
+use Rattle.j39_groups.specs.Row.{FieldRecord, number_field, bits_field, full_field, switch_field, text_field, texts_field, RowRecord}
 use Rattle.j39_groups.specs.Value.{SlotRecord, ValueRecord, number, on, off, error, reserved, indicator, text}
 
 -- ---- in the text of a name
@@ -54,7 +54,7 @@ unfoldable pub error_in : FieldRecord → Option ℕ
 error_in (number_field first last slot) = if first == last then Some 0xFE else None
 error_in (bits_field byte low count slot) =
     if count == 2 then Some 2 else (if count == 8 then Some 0xFE else None)
-error_in (signed_field byte low count slot) = None
+error_in (full_field byte low count is_signed slot) = None
 error_in (switch_field byte low high) = Some 2
 error_in (text_field part) = None
 error_in (texts_field byte count) = None
@@ -63,7 +63,7 @@ error_in (texts_field byte count) = None
 unfoldable pub indicator_in : FieldRecord → Option ℕ
 indicator_in (number_field first last slot) = if first == last then Some 0xFB else None
 indicator_in (bits_field byte low count slot) = if count == 8 then Some 0xFB else None
-indicator_in (signed_field byte low count slot) = None
+indicator_in (full_field byte low count is_signed slot) = None
 indicator_in (switch_field byte low high) = None
 indicator_in (text_field part) = None
 indicator_in (texts_field byte count) = None

@@ -84,7 +84,7 @@ fn scale_in<'t>(row: &Row<'t>, spn: u32) -> Option<SizedScale<'t>>
             scale,
         }),
         Field::Bits { .. } => None,
-        Field::Signed { .. } => None,
+        Field::Full { .. } => None,
         Field::Switch { .. } => None,
         Field::Text { .. } => None,
         Field::Texts { .. } => None,

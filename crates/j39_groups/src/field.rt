@@ -36,12 +36,13 @@ pub enum Field<'t> {
         byte: u8,
         count: u8,
     },
-    /// A number in bits as of `Bits`, in two's complement; each is valid (own). It stands last since it is rare: what tells the
-    /// others apart is as quick as without it.
-    Signed {
+    /// A number in bits as of `Bits`, each of whose raw numbers is valid, in two's complement or unsigned (own). It stands last since
+    /// it is rare: what tells the others apart is as quick as without it.
+    Full {
         byte: u8,
         low: u8,
         count: u8,
+        is_signed: bool,
         scale: Slot<'t>,
     },
 }
@@ -61,11 +62,12 @@ impl<'t> Field<'t> {
                 count,
                 scale,
             } => { are_bits(byte, low, count) && scale.fits(count) }
-            Field::Signed {
+            Field::Full {
                 byte,
                 low,
                 count,
                 scale,
+                ..
             } => { are_bits(byte, low, count) && scale.fits(count) }
             Field::Switch { byte, low, high } => is_pair(byte, low, high),
             Field::Text { part } => 0 < part,

@@ -24,7 +24,7 @@ pub(crate) struct Prepared {
     pub end: Ending,
 }
 
-/// What the line of a row takes; `None` where that is too long, or a value is a text or a signed number.
+/// What the line of a row takes; `None` where that is too long, or a value is a text or of a number in full.
 pub(crate) fn prepare(pgn: u32, spn: u32, field: Field<'_>) -> Option<Prepared>
     ensures { is_prepared result pgn spn field.entry ≡ true }
 {
@@ -51,14 +51,14 @@ fn label_of(pgn: u32, spn: u32) -> Option<ShortText>
     })
 }
 
-/// What stands behind the numbers of a field, where it is short and none of its values is a text or a signed number.
+/// What stands behind the numbers of a field, where it is short and none of its values is a text or of a number in full.
 fn end_of(field: Field<'_>) -> Option<Ending>
     ensures { is_end result field.entry ≡ true }
 {
     match field {
         Field::Number { scale, .. } => scale_end(scale),
         Field::Bits { scale, .. } => scale_end(scale),
-        Field::Signed { .. } => None,
+        Field::Full { .. } => None,
         Field::Switch { .. } => Some(Ending {
             text: ShortText::EMPTY,
             places: 0,

@@ -1,12 +1,12 @@
 //! A table of parameters, as it is printed (own).
-ghost use Rattle.std.specs.Prelude.{◌≡◌, ◌+◌, ◌*◌, ◌≤◌, ◌<◌, ◌^◌, ◌++◌, codes, decimal, true};
+ghost use Rattle.std.specs.Prelude.{◌≡◌, ◌+◌, ◌*◌, ◌≤◌, ◌<◌, ◌^◌, ◌++◌, ◌∷◌, [], codes, decimal, true};
 ghost use Rattle.std.specs.List.{flat_map, list_all};
 ghost use Rattle.arrayvec.specs.ArrayVec.{array_vec_len};
 ghost use Rattle.j39_io.specs.Puts.{Puts};
 ghost use Rattle.j39_io.specs.Turn.{turn};
 ghost use Rattle.j39_groups.specs.Fields.{IsSound};
 ghost use Rattle.j39_groups.specs.Models.{field_record, row_record, scale_record};
-ghost use Rattle.j39_groups.specs.Printed.{bits_end, bits_text, bytes_or_bits_text, line_of_columns, place_text, range_text, row_text, scale_columns, scale_text, slot_text};
+ghost use Rattle.j39_groups.specs.Printed.{bits_end, bits_text, bytes_or_bits_text, line_of_columns, mark, place_text, range_text, row_text, scale_columns, scale_text, slot_text};
 ghost use Rattle.j39_groups.specs.Rows.{is_row};
 
 use crate::field::Field;
@@ -133,12 +133,13 @@ fn place_of(field: Field<'_>) -> ArrayVec<u8, 32>
             count,
             ..
         } => bits_place(byte, low, count),
-        Field::Signed {
+        Field::Full {
             byte,
             low,
             count,
+            is_signed,
             ..
-        } => signed_place(byte, low, count),
+        } => full_place(byte, low, count, is_signed),
         Field::Switch { byte, low, high } => switch_place(byte, low, high),
         Field::Text { part } => part_place(part),
         Field::Texts { byte, .. } => parts_place(byte),
@@ -225,17 +226,17 @@ fn bits_place(byte: u8, low: u8, count: u8) -> ArrayVec<u8, 32>
     text
 }
 
-/// Bits with `s` behind, by bytes where they are whole ones.
-fn signed_place(byte: u8, low: u8, count: u8) -> ArrayVec<u8, 32>
+/// Bits with `s` or `u` behind, by bytes where they are whole ones.
+fn full_place(byte: u8, low: u8, count: u8, is_signed: bool) -> ArrayVec<u8, 32>
     requires byte { 0 < byte }
     requires starts { 0 < low }
     requires ends { low ≤ 8 }
     requires some { 0 < count }
     requires narrow { count ≤ 32 }
-    ensures { result.items ≡ bytes_or_bits_text byte low count ++ codes "s" }
+    ensures { result.items ≡ bytes_or_bits_text byte low count ++ mark is_signed ∷ [] }
 {
     let mut text = bytes_or_bits_place(byte, low, count);
-    text.push(b's');
+    text.push(if is_signed { b's' } else { b'u' });
     text
 }
 
@@ -273,7 +274,7 @@ fn scale_of(field: Field<'_>) -> ScaleTexts<'_>
     match field {
         Field::Number { scale, .. } => scale_texts(scale),
         Field::Bits { scale, .. } => scale_texts(scale),
-        Field::Signed { scale, .. } => scale_texts(scale),
+        Field::Full { scale, .. } => scale_texts(scale),
         Field::Switch { .. } => dashes(),
         Field::Text { .. } => dashes(),
         Field::Texts { .. } => dashes(),

@@ -63,7 +63,7 @@ pub(crate) fn push_readings<'t, 'v>(
         Field::Texts { byte, count } => push_texts(found, row.spn, bytes_from(bytes, byte), count),
         Field::Number { .. } => push_value(found, row.spn, value_in(bytes, row.field)),
         Field::Bits { .. } => push_value(found, row.spn, value_in(bytes, row.field)),
-        Field::Signed { .. } => push_value(found, row.spn, value_in(bytes, row.field)),
+        Field::Full { .. } => push_value(found, row.spn, value_in(bytes, row.field)),
         Field::Switch { .. } => push_value(found, row.spn, value_in(bytes, row.field)),
         Field::Text { .. } => push_value(found, row.spn, value_in(bytes, row.field)),
     }
@@ -152,7 +152,7 @@ fn pick_of_row<'t, 'v>(
         Field::Texts { byte, count } => pick_text(row.spn, bytes_from(bytes, byte), count, left),
         Field::Number { .. } => pick_value(row.spn, value_in(bytes, row.field), left),
         Field::Bits { .. } => pick_value(row.spn, value_in(bytes, row.field), left),
-        Field::Signed { .. } => pick_value(row.spn, value_in(bytes, row.field), left),
+        Field::Full { .. } => pick_value(row.spn, value_in(bytes, row.field), left),
         Field::Switch { .. } => pick_value(row.spn, value_in(bytes, row.field), left),
         Field::Text { .. } => pick_value(row.spn, value_in(bytes, row.field), left),
     }

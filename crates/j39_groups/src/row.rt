@@ -18,7 +18,7 @@ pub struct Row<'t> {
     pub(crate) pgn: u32,
     /// The parameter's number (SPN).
     pub(crate) spn: u32,
-    /// What its line takes beside the value. `None` where it is written part by part: of a text, a signed number, a long unit, more than
+    /// What its line takes beside the value. `None` where it is written part by part: of a text, a number in full, a long unit, more than
     /// fifteen places, or a number (SPN) of more than six digits.
     pub(crate) prepared: Option<Prepared>,
     /// Where it stands in the payload.

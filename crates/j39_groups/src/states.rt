@@ -148,7 +148,7 @@ impl Field<'_> {
         match self {
             Field::Number { first, last, .. } => one_if(first == last, 0xFE),
             Field::Bits { count, .. } => error_of_bits(count),
-            Field::Signed { .. } => None,
+            Field::Full { .. } => None,
             Field::Switch { .. } => Some(2),
             Field::Text { .. } => None,
             Field::Texts { .. } => None,
@@ -163,7 +163,7 @@ impl Field<'_> {
         match self {
             Field::Number { first, last, .. } => one_if(first == last, 0xFB),
             Field::Bits { count, .. } => one_if(count == 8, 0xFB),
-            Field::Signed { .. } => None,
+            Field::Full { .. } => None,
             Field::Switch { .. } => None,
             Field::Text { .. } => None,
             Field::Texts { .. } => None,

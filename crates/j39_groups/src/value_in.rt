@@ -1,11 +1,11 @@
 //! The values in one field of a payload (J1939-71).
-ghost use Rattle.std.specs.Prelude.{◌≡◌, ◌+◌, ◌-◌, ◌*◌, ◌/◌, ◌%◌, ◌^◌, ◌<◌, ◌≤◌, ◌==◌, slice_get, drop, false, unsigned_abs};
+ghost use Rattle.std.specs.Prelude.{◌≡◌, ◌+◌, ◌-◌, ◌*◌, ◌/◌, ◌%◌, ◌^◌, ◌<◌, ◌≤◌, ◌==◌, slice_get, drop, false, unsigned_abs, IfSome};
 ghost use Rattle.std.specs.List.{list_all};
 ghost use Rattle.std.specs.Option.{option_map, option_and_then, option_to_list};
 ghost use Rattle.j39_groups.specs.Fields.{HasOneValue, IsShort, IsSound, IsSoundBits, IsSoundBytes, largest};
 ghost use Rattle.j39_groups.specs.Models.{field_record, field_slot, no_slot, scale_record, short_value, value_of};
 ghost use Rattle.j39_groups.specs.Parts.{parts_of};
-ghost use Rattle.j39_groups.specs.Readings.{bits_meaning, by_top_byte, filled_text_meaning, number_meaning, raw_bits, raw_number, signed_value, switch_meaning, text_meaning, values_at};
+ghost use Rattle.j39_groups.specs.Readings.{bits_meaning, by_top_byte, filled_text_meaning, full_value, number_meaning, raw_bits, raw_number, switch_meaning, text_meaning, values_at};
 ghost use Rattle.j39_groups.specs.Sightings.{holds_number};
 ghost use Rattle.j39_groups.specs.Value.{SlotRecord, ValueRecord};
 ghost use Rattle.j39_groups.specs.Ranges.{is_valid};
@@ -27,12 +27,16 @@ pub(crate) fn value_in<'t, 'v>(bytes: &'v [u8], field: Field<'t>) -> Option<Valu
     match field {
         Field::Number { scale, .. } => with(short_in(bytes, &field), scale),
         Field::Bits { scale, .. } => with(short_in(bytes, &field), scale),
-        Field::Signed {
+        Field::Full {
             byte,
             low,
             count,
+            is_signed,
             scale,
-        } => with(signed_of(bytes, byte, low, count, &scale), scale),
+        } => {
+            let raw = raw_bits(bytes, byte, low, count);
+            with(full_of(raw, count, is_signed, &scale), scale)
+        }
         Field::Switch { .. } => with(short_in(bytes, &field), Slot::NONE),
         Field::Text { part } => text_at(bytes, part),
         Field::Texts { .. } => None,
@@ -49,7 +53,7 @@ fn with<'t, 'v>(short: Option<Short>, scale: Slot<'t>) -> Option<Value<'t, 'v>>
     }
 }
 
-/// The number or the switch in a field; `None` for signed numbers, which are rare, and texts.
+/// The number or the switch in a field; `None` for numbers in full, which are rare, and texts.
 #[inline(always)]
 #[tactic(auto, unfolding(crate::specs::Readings::values_at))]
 pub(crate) fn short_in(bytes: &[u8], field: &Field<'_>) -> Option<Short>
@@ -65,7 +69,7 @@ pub(crate) fn short_in(bytes: &[u8], field: &Field<'_>) -> Option<Short>
             count,
             scale,
         } => bits_of(bytes, *byte, *low, *count, scale),
-        Field::Signed { .. } => None,
+        Field::Full { .. } => None,
         Field::Switch { byte, low, .. } => switch_at(bytes, *byte, *low),
         Field::Text { .. } => None,
         Field::Texts { .. } => None,
@@ -86,7 +90,7 @@ pub(crate) fn holds_number(bytes: &[u8], field: &Field<'_>) -> bool
             count,
             ..
         } => raw_bits(bytes, *byte, *low, *count).is_some(),
-        Field::Signed {
+        Field::Full {
             byte,
             low,
             count,
@@ -180,15 +184,23 @@ fn bits_meaning(raw: u32, count: u8, scale: &Slot<'_>) -> Option<Short>
     Some(Short::Number(scale.value(raw)))
 }
 
-/// The number in two's complement.
+/// The number whose raw numbers are all valid.
 #[inline(never)]
-fn signed_of(bytes: &[u8], byte: u8, low: u8, count: u8, scale: &Slot<'_>) -> Option<Short>
-    requires { IsSoundBits byte low count scale.now }
+fn full_of(raw: Option<u32>, count: u8, is_signed: bool, scale: &Slot<'_>) -> Option<Short>
+    requires some { 0 < count }
+    requires few { count ≤ 32 }
+    requires narrow { IfSome raw (λ raw. raw < 2 ^ count) }
+    requires fits { largest count scale.now < 2 ^ 63 }
     ensures { option_map (short_value (scale_record scale.now)) result
-        ≡ option_map (signed_value count (scale_record scale.now)) (raw_bits byte low count bytes.now) }
+        ≡ option_map (full_value count is_signed (scale_record scale.now)) raw }
 {
-    let raw = raw_bits(bytes, byte, low, count)?;
-    Some(Short::Number(scale.signed_value(raw, count)))
+    let raw = raw?;
+    let number = if is_signed {
+        scale.signed_value(raw, count)
+    } else {
+        scale.value(raw)
+    };
+    Some(Short::Number(number))
 }
 
 /// The switch in the two bits from `low` on; `None` where the payload does not reach them or it is

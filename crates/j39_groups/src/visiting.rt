@@ -262,7 +262,7 @@ fn texts_of(field: Field<'_>) -> Option<(u8, u8)>
     match field {
         Field::Number { .. } => None,
         Field::Bits { .. } => None,
-        Field::Signed { .. } => None,
+        Field::Full { .. } => None,
         Field::Switch { .. } => None,
         Field::Text { .. } => None,
         Field::Texts { byte, count } => Some((byte, count)),

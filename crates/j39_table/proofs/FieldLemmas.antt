@@ -5,7 +5,7 @@ use Rattle.std.specs.Int.{is_negative}
 use Rattle.std.proofs.lemmas.Bool.{false≢true}
 use Rattle.std.proofs.lemmas.Grind.{common_steps}
 use Rattle.j39_groups.specs.Printed.{bits_end, place_text, range_text}
-use Rattle.j39_groups.specs.Row.{FieldRecord, number_field, bits_field, signed_field, switch_field, text_field, texts_field}
+use Rattle.j39_groups.specs.Row.{FieldRecord, number_field, bits_field, full_field, switch_field, text_field, texts_field}
 use Rattle.j39_groups.specs.Value.{SlotRecord}
 use Rattle.j39_groups.specs.ValueText.{magnitude_text, scaled_text}
 use Rattle.j39_table.proofs.ColumnLemmas.{magnitude_unsigned}
@@ -17,14 +17,14 @@ use Rattle.j39_table.specs.Positions.{IsGoodBits, IsGoodPlace, text_of_place}
 use Rattle.j39_table.specs.Rows.{IsGoodField, IsGoodScale, field_columns, no_scale, scale_columns, slot_columns}
 use Rattle.j39_table.specs.declared.fault.RowFault.{RowFault}
 use Rattle.j39_table.specs.declared.position.Position.{Position}
-use Rattle.j39_table.specs.declared.position.Position.TheVariants.{Bytes, Bits, Signed, Part, Texts}
+use Rattle.j39_table.specs.declared.position.Position.TheVariants.{Bytes, Bits, Full, Part, Texts}
 
 -- ---- where a field stands
 
 pub place_of-good : (field : FieldRecord) → IsGoodField field → IsGoodPlace (place_of field)
 place_of-good (number_field first last slot) good = good.0
 place_of-good (bits_field byte low count slot) good = good.0
-place_of-good (signed_field byte low count slot) good = good.0
+place_of-good (full_field byte low count is_signed slot) good = good.0
 place_of-good (switch_field byte low high) good =
     let starts = good.byte_starts in let ends = good.byte_ends in let from = good.starts in let two = good.two in let to = good.ends in
     record {
@@ -41,7 +41,7 @@ place_of-good (texts_field byte count) good = (good.0, good.1)
 pub place_of-text : (field : FieldRecord) → IsGoodField field → place_text field ≡ text_of_place (place_of field)
 place_of-text (number_field first last slot) good = refl
 place_of-text (bits_field byte low count slot) good = refl
-place_of-text (signed_field byte low count slot) good = refl
+place_of-text (full_field byte low count is_signed slot) good = refl
 place_of-text (switch_field byte low high) good =
     let two = good.two in let to = good.ends in
     let inside : (bits_end low 2 / 8 == 0) ≡ true = eq-eqb (bits_end low 2 / 8) 0 (omega (arith, two, to)) in
@@ -88,7 +88,7 @@ bytes_only first last (number_field f l slot) good is =
     made slot (subst (λ a. IsGoodScale (8 * (last - a + 1)) slot) one (subst (λ b. IsGoodScale (8 * (b - f + 1)) slot) two good.1))
     (ap (λ a. number_field a l slot) one ∙ ap (λ b. number_field first b slot) two)
 bytes_only first last (bits_field b low c slot) good is = absurd (cc)
-bytes_only first last (signed_field b low c slot) good is = absurd (cc)
+bytes_only first last (full_field b low c sign slot) good is = absurd (cc)
 bytes_only first last (switch_field b low high) good is = absurd (cc)
 bytes_only first last (text_field part) good is = absurd (cc)
 bytes_only first last (texts_field b c) good is = absurd (cc)
@@ -100,22 +100,23 @@ bits_only byte low count (bits_field b w c slot) good is =
     let one : b ≡ byte = cc in let two : w ≡ low = cc in let three : c ≡ count = cc in
     made slot (subst (λ n. IsGoodScale n slot) three good.1)
     (ap (λ n. bits_field n w c slot) one ∙ ap (λ n. bits_field byte n c slot) two ∙ ap (λ n. bits_field byte low n slot) three)
-bits_only byte low count (signed_field b w c slot) good is = absurd (cc)
+bits_only byte low count (full_field b w c sign slot) good is = absurd (cc)
 bits_only byte low count (switch_field b w high) good is = dashed refl
 bits_only byte low count (text_field part) good is = absurd (cc)
 bits_only byte low count (texts_field b c) good is = absurd (cc)
 
-signed_only : (byte low count : ℕ) (field : FieldRecord) → IsGoodField field → place_of field ≡ Signed byte low count
-    → Made count (signed_field byte low count) field
-signed_only byte low count (number_field f l slot) good is = absurd (cc)
-signed_only byte low count (bits_field b w c slot) good is = absurd (cc)
-signed_only byte low count (signed_field b w c slot) good is =
-    let one : b ≡ byte = cc in let two : w ≡ low = cc in let three : c ≡ count = cc in
+full_only : (byte low count : ℕ) (is_signed : Bool) (field : FieldRecord) → IsGoodField field → place_of field ≡ Full byte low count is_signed
+    → Made count (full_field byte low count is_signed) field
+full_only byte low count is_signed (number_field f l slot) good is = absurd (cc)
+full_only byte low count is_signed (bits_field b w c slot) good is = absurd (cc)
+full_only byte low count is_signed (full_field b w c sign slot) good is =
+    let one : b ≡ byte = cc in let two : w ≡ low = cc in let three : c ≡ count = cc in let four : sign ≡ is_signed = cc in
     made slot (subst (λ n. IsGoodScale n slot) three good.1)
-    (ap (λ n. signed_field n w c slot) one ∙ ap (λ n. signed_field byte n c slot) two ∙ ap (λ n. signed_field byte low n slot) three)
-signed_only byte low count (switch_field b w high) good is = absurd (cc)
-signed_only byte low count (text_field part) good is = absurd (cc)
-signed_only byte low count (texts_field b c) good is = absurd (cc)
+    (ap (λ n. full_field n w c sign slot) one ∙ ap (λ n. full_field byte n c sign slot) two ∙ ap (λ n. full_field byte low n sign slot) three
+    ∙ ap (λ s. full_field byte low count s slot) four)
+full_only byte low count is_signed (switch_field b w high) good is = absurd (cc)
+full_only byte low count is_signed (text_field part) good is = absurd (cc)
+full_only byte low count is_signed (texts_field b c) good is = absurd (cc)
 
 pub makes_number : (place : Position) (first last : ℕ) → place ≡ Bytes first last → IsGoodPlace place → IsAlone place
     → Makes place (8 * (last - first + 1)) (number_field first last)
@@ -135,13 +136,13 @@ makes_bits place byte low count is good alone = record {
   only = λ field its same. bits_only byte low count field its (alone field its same ∙ is);
 }
 
-pub makes_signed : (place : Position) (byte low count : ℕ) → place ≡ Signed byte low count → IsGoodPlace place → IsAlone place
-    → Makes place count (signed_field byte low count)
-makes_signed place byte low count is good alone = record {
+pub makes_full : (place : Position) (byte low count : ℕ) (is_signed : Bool) → place ≡ Full byte low count is_signed → IsGoodPlace place → IsAlone place
+    → Makes place count (full_field byte low count is_signed)
+makes_full place byte low count is_signed is good alone = record {
   place_is = λ slot. sym (ap text_of_place is);
   scale_is = λ slot. refl;
   good = λ slot scale. (subst IsGoodPlace is good, scale);
-  only = λ field its same. signed_only byte low count field its (alone field its same ∙ is);
+  only = λ field its same. full_only byte low count is_signed field its (alone field its same ∙ is);
 }
 
 made_wrong : (bits : ℕ) (make : SlotRecord → FieldRecord) (place : Position) (field : FieldRecord) (s o u : List ℕ) (k : ℕ) → Makes place bits make
@@ -215,7 +216,7 @@ dash_first : (field : FieldRecord) (k : ℕ) (xs : List (List ℕ)) → IsGoodFi
     → IsUnscaled field
 dash_first (number_field first last slot) k xs good e = absurd (step_no_dash (8 * (last - first + 1)) slot (omega arith) good.1 (first_of _ _ _ _ e))
 dash_first (bits_field byte low count slot) k xs good e = absurd (step_no_dash count slot good.0.some good.1 (first_of _ _ _ _ e))
-dash_first (signed_field byte low count slot) k xs good e = absurd (step_no_dash count slot good.0.some good.1 (first_of _ _ _ _ e))
+dash_first (full_field byte low count is_signed slot) k xs good e = absurd (step_no_dash count slot good.0.some good.1 (first_of _ _ _ _ e))
 dash_first (switch_field byte low high) k xs good e =
     let two = good.two in let to = good.ends in
     let below : nat_lt low 8 ≡ true = (let lt : low < 8 = omega (arith, two, to) in grind (arith, common_steps)) in
@@ -251,7 +252,7 @@ switch_found byte low count field false e good is = absurd (cc)
 unscaled_found : (place : Position) (field : FieldRecord) → IsGoodPlace place → unscaled_of place ≡ Some field → IsUnscaledOf place field
 unscaled_found (Bytes first last) field good is = absurd (cc)
 unscaled_found (Bits byte low count) field good is = switch_found byte low count field (count == 2 && nat_lt low 8) refl good is
-unscaled_found (Signed byte low count) field good is = absurd (cc)
+unscaled_found (Full byte low count is_signed) field good is = absurd (cc)
 unscaled_found (Part part) field good is =
     let same : text_field part ≡ field = cc in
     record { good = subst IsGoodField same good; place_is = ap place_text (sym same); dashes = ap scale_columns (sym same) }
@@ -275,7 +276,7 @@ stands (Bytes first last) good =
     let narrow = good.narrow in let ordered = good.ordered in
     record { field = number_field first last x_slot; good = (good, unit_scale (8 * (last - first + 1)) (omega (arith, narrow, ordered))); place_is = refl }
 stands (Bits byte low count) good = record { field = bits_field byte low count x_slot; good = (good, unit_scale count good.narrow); place_is = refl }
-stands (Signed byte low count) good = record { field = signed_field byte low count x_slot; good = (good, unit_scale count good.narrow); place_is = refl }
+stands (Full byte low count is_signed) good = record { field = full_field byte low count is_signed x_slot; good = (good, unit_scale count good.narrow); place_is = refl }
 stands (Part part) good = record { field = text_field part; good = good; place_is = refl }
 stands (Texts byte) good = record { field = texts_field byte 31; good = (good.0, good.1, refl); place_is = refl }
 
@@ -342,7 +343,7 @@ good_unscaled place field o u good alone is offset unit =
 part_dashes : (part : ℕ) (field : FieldRecord) → place_of field ≡ Part part → scale_columns field ≡ no_scale
 part_dashes part (number_field f l slot) is = absurd (cc)
 part_dashes part (bits_field b w c slot) is = absurd (cc)
-part_dashes part (signed_field b w c slot) is = absurd (cc)
+part_dashes part (full_field b w c sign slot) is = absurd (cc)
 part_dashes part (switch_field b w h) is = refl
 part_dashes part (text_field p) is = refl
 part_dashes part (texts_field b c) is = refl
@@ -350,7 +351,7 @@ part_dashes part (texts_field b c) is = refl
 texts_dashes : (byte : ℕ) (field : FieldRecord) → place_of field ≡ Texts byte → scale_columns field ≡ no_scale
 texts_dashes byte (number_field f l slot) is = absurd (cc)
 texts_dashes byte (bits_field b w c slot) is = absurd (cc)
-texts_dashes byte (signed_field b w c slot) is = absurd (cc)
+texts_dashes byte (full_field b w c sign slot) is = absurd (cc)
 texts_dashes byte (switch_field b w h) is = refl
 texts_dashes byte (text_field p) is = refl
 texts_dashes byte (texts_field b c) is = refl

@@ -1,6 +1,6 @@
 -- the columns of a line, from the smallest up
 pub mod PlaceLemmas
-pub mod SignLemmas
+pub mod MarkLemmas
 pub mod ColumnLemmas
 pub mod ScaleLemmas
 pub mod FieldLemmas

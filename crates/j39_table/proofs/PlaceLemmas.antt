@@ -6,9 +6,9 @@ use Rattle.std.specs.Str.Parse.{AllDigits, digits_value}
 use Rattle.std.proofs.lemmas.Bool.{cond_both, eqb-true, false≢true}
 use Rattle.std.proofs.lemmas.Fmt.{decimal_is_IsNumeral, decimal_nonempty, length-decimal-le}
 use Rattle.j39_table.proofs.ColumnLemmas.{drop_front, take_front}
-use Rattle.j39_groups.specs.Printed.{bits_end, bits_text, bytes_or_bits_text, range_text}
+use Rattle.j39_groups.specs.Printed.{bits_end, bits_text, bytes_or_bits_text, mark, range_text}
 use Rattle.j39_table.specs.declared.position.Position.{Position}
-use Rattle.j39_table.specs.declared.position.Position.TheVariants.{Bytes, Bits, Signed, Part, Texts}
+use Rattle.j39_table.specs.declared.position.Position.TheVariants.{Bytes, Bits, Full, Part, Texts}
 use Rattle.j39_table.specs.Positions.{IsAfterDigits, IsGoodPlace, end_text, is_digit, text_of_place}
 
 digit_is : (c : ℕ) → digit_value c < 10 → is_digit c ≡ true
@@ -113,10 +113,10 @@ star_place (Bytes first last) text good is star =
 star_place (Bits byte low count) text good is star =
     let narrow : byte ≤ 255 = (let e = good.byte_ends in omega (arith, e)) in
     absurd (Starts-no_star text (bits_text byte low (bits_end low count)) (Starts-bits byte low (bits_end low count) narrow) is star)
-star_place (Signed byte low count) text good is star =
+star_place (Full byte low count is_signed) text good is star =
     let narrow : byte ≤ 255 = (let e = good.byte_ends in omega (arith, e)) in
-    absurd (Starts-no_star text (bytes_or_bits_text byte low count ++ codes "s")
-    (Starts-append (bytes_or_bits_text byte low count) (codes "s") (Starts-bytes_or_bits byte low count narrow)) is star)
+    absurd (Starts-no_star text (bytes_or_bits_text byte low count ++ mark is_signed ∷ [])
+    (Starts-append (bytes_or_bits_text byte low count) (mark is_signed ∷ []) (Starts-bytes_or_bits byte low count narrow)) is star)
 star_place (Part part) text good is star = record { part = part; few = good.1; place_is = refl; digits = tail_is text (decimal part) 42 is }
 star_place (Texts byte) text good is star =
     absurd (Starts-no_star text (decimal byte ++ codes "-") (Starts-append (decimal byte) (codes "-") (Starts-decimal byte good.1)) is star)

@@ -14,8 +14,8 @@ use Rattle.std.proofs.lemmas.Fmt.{decimal_is_IsNumeral}
 use Rattle.std.proofs.lemmas.Grind.{common_steps}
 use Rattle.j39_io.proofs.PrintingLemmas.{AllDigits-last_digits}
 use Rattle.j39_io.specs.Chars.{is_not_space, is_space}
-use Rattle.j39_groups.specs.Printed.{bits_end, bits_text, bytes_or_bits_text, place_text, range_text, row_text, scale_text}
-use Rattle.j39_groups.specs.Row.{FieldRecord, number_field, bits_field, signed_field, switch_field, text_field, texts_field, RowRecord}
+use Rattle.j39_groups.specs.Printed.{bits_end, bits_text, bytes_or_bits_text, mark, place_text, range_text, row_text, scale_text}
+use Rattle.j39_groups.specs.Row.{FieldRecord, number_field, bits_field, full_field, switch_field, text_field, texts_field, RowRecord}
 use Rattle.j39_groups.specs.Value.{SlotRecord}
 use Rattle.j39_groups.specs.ValueText.{magnitude_text, places_text, scaled_text}
 use Rattle.j39_table.proofs.ColumnLemmas.{drop_front, prefix_of, take_front}
@@ -103,9 +103,10 @@ Plain-place (number_field first last slot) good =
 Plain-place (bits_field byte low count slot) good =
     let ends = good.0.byte_ends in let bit = good.0.ends in let narrow = good.0.narrow in
     Plain-bits byte low (low + count - 2) (omega (arith, ends)) bit (omega (arith, bit, narrow))
-Plain-place (signed_field byte low count slot) good =
+Plain-place (full_field byte low count is_signed slot) good =
     let ends = good.0.byte_ends in let bit = good.0.ends in let narrow = good.0.narrow in
-    Plain-append (bytes_or_bits_text byte low count) (codes "s") (Plain-bytes_or_bits byte low count (omega (arith, ends)) bit narrow) (omega arith, tt)
+    let letter : 32 < mark is_signed = cond_both is_signed 115 117 (λ b. 32 < b) (λ e. omega arith) (λ e. omega arith) in
+    Plain-append (bytes_or_bits_text byte low count) (mark is_signed ∷ []) (Plain-bytes_or_bits byte low count (omega (arith, ends)) bit narrow) (letter, tt)
 Plain-place (switch_field byte low high) good =
     let ends = good.byte_ends in let two = good.two in let to = good.ends in
     Plain-append _ (range_text low high) (Plain-append (decimal byte) (codes ".") (Plain-decimal byte (omega (arith, ends))) (omega arith, tt))
@@ -217,9 +218,9 @@ printed_columns a b c name (bits_field byte low count slot) pa pb pc good named 
     ap line_columns (flat a b c (place_text (bits_field byte low count slot)) (scaled_text slot.places slot.step) (scaled_text slot.places slot.offset) slot.unit name)
     ∙ seven a b c _ _ _ _ name pa pb pc (Plain-place (bits_field byte low count slot) good) (Plain-step count slot good.0.some good.1)
     (Plain-offset count slot good.1) (Plain-word slot.unit good.1.unit) named
-printed_columns a b c name (signed_field byte low count slot) pa pb pc good named =
-    ap line_columns (flat a b c (place_text (signed_field byte low count slot)) (scaled_text slot.places slot.step) (scaled_text slot.places slot.offset) slot.unit name)
-    ∙ seven a b c _ _ _ _ name pa pb pc (Plain-place (signed_field byte low count slot) good) (Plain-step count slot good.0.some good.1)
+printed_columns a b c name (full_field byte low count is_signed slot) pa pb pc good named =
+    ap line_columns (flat a b c (place_text (full_field byte low count is_signed slot)) (scaled_text slot.places slot.step) (scaled_text slot.places slot.offset) slot.unit name)
+    ∙ seven a b c _ _ _ _ name pa pb pc (Plain-place (full_field byte low count is_signed slot) good) (Plain-step count slot good.0.some good.1)
     (Plain-offset count slot good.1) (Plain-word slot.unit good.1.unit) named
 printed_columns a b c name (switch_field byte low high) pa pb pc good named =
     ap line_columns (flat a b c (place_text (switch_field byte low high)) (codes "-") (codes "-") (codes "-") name)
@@ -282,7 +283,7 @@ Printable-dashes = (omega arith, (omega arith, (omega arith, (omega arith, (omeg
 Printable-scale : (field : FieldRecord) → IsGoodField field → Printable (scale_text field)
 Printable-scale (number_field first last slot) good = Printable-slot (8 * (last - first + 1)) slot (omega arith) good.1
 Printable-scale (bits_field byte low count slot) good = Printable-slot count slot good.0.some good.1
-Printable-scale (signed_field byte low count slot) good = Printable-slot count slot good.0.some good.1
+Printable-scale (full_field byte low count is_signed slot) good = Printable-slot count slot good.0.some good.1
 Printable-scale (switch_field byte low high) good = Printable-dashes
 Printable-scale (text_field part) good = Printable-dashes
 Printable-scale (texts_field byte count) good = Printable-dashes

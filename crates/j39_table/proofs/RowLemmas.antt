@@ -5,8 +5,8 @@ use Rattle.std.proofs.lemmas.List.{take-append-le}
 use Rattle.j39_groups.specs.Fields.{is_sound}
 use Rattle.j39_groups.specs.Models.{field_record}
 use Rattle.j39_groups.specs.declared.field.Field.{Field}
-use Rattle.j39_groups.specs.declared.field.Field.TheVariants.{Number, Bits, Signed, Switch, Text, Texts}
-use Rattle.j39_groups.specs.Row.{FieldRecord, number_field, bits_field, signed_field, switch_field, text_field, texts_field, RowRecord}
+use Rattle.j39_groups.specs.declared.field.Field.TheVariants.{Number, Bits, Full, Switch, Text, Texts}
+use Rattle.j39_groups.specs.Row.{FieldRecord, number_field, bits_field, full_field, switch_field, text_field, texts_field, RowRecord}
 use Rattle.j39_groups.specs.States.{called, name_len, states_part}
 use Rattle.j39_groups.proofs.StateLemmas.{called_called, no_part}
 use Rattle.j39_table.proofs.ScaleLemmas.{first_of, second_of, third_of, x_word}
@@ -24,7 +24,7 @@ use Rattle.j39_table.specs.declared.fault.RowFault.{RowFault}
 four : (field : FieldRecord) → length (field_columns field) ≡ 4
 four (number_field first last slot) = refl
 four (bits_field byte low count slot) = refl
-four (signed_field byte low count slot) = refl
+four (full_field byte low count is_signed slot) = refl
 four (switch_field byte low high) = refl
 four (text_field part) = refl
 four (texts_field byte count) = refl
@@ -32,7 +32,7 @@ four (texts_field byte count) = refl
 drop_four : (field : FieldRecord) (xs : List (List ℕ)) → drop 4 (field_columns field ++ xs) ≡ xs
 drop_four (number_field first last slot) xs = refl
 drop_four (bits_field byte low count slot) xs = refl
-drop_four (signed_field byte low count slot) xs = refl
+drop_four (full_field byte low count is_signed slot) xs = refl
 drop_four (switch_field byte low high) xs = refl
 drop_four (text_field part) xs = refl
 drop_four (texts_field byte count) xs = refl
@@ -40,7 +40,7 @@ drop_four (texts_field byte count) xs = refl
 take_four : (field : FieldRecord) (xs : List (List ℕ)) → take 4 (field_columns field ++ xs) ≡ field_columns field
 take_four (number_field first last slot) xs = refl
 take_four (bits_field byte low count slot) xs = refl
-take_four (signed_field byte low count slot) xs = refl
+take_four (full_field byte low count is_signed slot) xs = refl
 take_four (switch_field byte low high) xs = refl
 take_four (text_field part) xs = refl
 take_four (texts_field byte count) xs = refl
@@ -48,7 +48,7 @@ take_four (texts_field byte count) xs = refl
 take_five : (field : FieldRecord) (name states : List ℕ) → take 5 (field_columns field ++ (name ∷ states ∷ [])) ≡ field_columns field ++ (name ∷ [])
 take_five (number_field first last slot) name states = refl
 take_five (bits_field byte low count slot) name states = refl
-take_five (signed_field byte low count slot) name states = refl
+take_five (full_field byte low count is_signed slot) name states = refl
 take_five (switch_field byte low high) name states = refl
 take_five (text_field part) name states = refl
 take_five (texts_field byte count) name states = refl
@@ -57,7 +57,7 @@ take_six : (field : FieldRecord) (name states : List ℕ)
     → take 6 (field_columns field ++ (name ∷ states ∷ [])) ≡ field_columns field ++ (name ∷ states ∷ [])
 take_six (number_field first last slot) name states = refl
 take_six (bits_field byte low count slot) name states = refl
-take_six (signed_field byte low count slot) name states = refl
+take_six (full_field byte low count is_signed slot) name states = refl
 take_six (switch_field byte low high) name states = refl
 take_six (text_field part) name states = refl
 take_six (texts_field byte count) name states = refl
@@ -259,7 +259,7 @@ sound_field (Number first last scale) good =
     let place = good.0 in let step = good.1.step_is in let fits = good.1.fits in grind (arith, common_steps)
 sound_field (Bits byte low count scale) good =
     let place = good.0 in let step = good.1.step_is in let fits = good.1.fits in grind (arith, common_steps)
-sound_field (Signed byte low count scale) good =
+sound_field (Full byte low count is_signed scale) good =
     let place = good.0 in let step = good.1.step_is in let fits = good.1.fits in grind (arith, common_steps)
 sound_field (Switch byte low high) good = grind (arith, common_steps)
 sound_field (Text part) good = grind (arith, common_steps)

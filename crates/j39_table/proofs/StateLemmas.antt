@@ -1,5 +1,5 @@
 -- The names of states: their numbers, and what stands between the commas.
-use Rattle.std.proofs.lemmas.Bool.{cases_Bool}
+use Rattle.std.proofs.lemmas.Bool.{cases_Bool, cond_both}
 use Rattle.std.proofs.Common.{◌≡◌, ◌<◌, ◌≤◌, ◌+◌, ◌-◌, ◌*◌, ◌^◌, ◌%◌, ◌∙◌, ◌++◌, ◌==◌, inl, inr, ℕ, suc, List, [], ◌∷◌, Some, length, take, drop, drop-cons, get_or, refl, sym, ap, subst, arith, decimal, append_assoc}
 use Rattle.std.specs.Prelude.{IsSomeAnd, None, Option, count_by, nat_le, nat_lt}
 use Rattle.std.specs.Option.{SomeIff}
@@ -10,13 +10,13 @@ use Rattle.std.specs.Str.Parse.{AllDigits, digits_value}
 use Rattle.std.specs.List.{prefix_len}
 use Rattle.std.proofs.lemmas.List.{drop_all}
 use Rattle.std.proofs.Math.Pow.{pow_mono}
-use Rattle.j39_groups.specs.Row.{FieldRecord, number_field, bits_field, signed_field, switch_field, text_field, texts_field}
+use Rattle.j39_groups.specs.Row.{FieldRecord, number_field, bits_field, full_field, switch_field, text_field, texts_field}
 use Rattle.j39_groups.specs.States.{state_words, states_in}
 use Rattle.j39_groups.proofs.StateLemmas.{words_front}
 use Rattle.j39_table.proofs.PlaceLemmas.{Leads, leads}
 use Rattle.j39_table.specs.Positions.{is_digit}
 use Rattle.j39_table.specs.Rows.{IsGoodField}
-use Rattle.j39_table.specs.States.{AreGoodStates, AreStates, IsState, bits_limit, states_limit}
+use Rattle.j39_table.specs.States.{AreGoodStates, AreStates, IsState, bits_limit, bits_up, states_limit}
 
 -- ---- the number of a state
 
@@ -100,8 +100,10 @@ pub limit_fits : (field : FieldRecord) → IsGoodField field → states_limit fi
 limit_fits (number_field first last slot) good =
     let narrow = good.0.narrow in let small = pow_mono {i = 8 * (last - first)} {j = 24} (omega (arith, narrow)) in omega (arith, small)
 limit_fits (bits_field byte low count slot) good = bits_fit count good.0.narrow
-limit_fits (signed_field byte low count slot) good =
-    let narrow = good.0.narrow in pow_mono {i = count - 1} {j = 32} (omega (arith, narrow))
+limit_fits (full_field byte low count is_signed slot) good =
+    let narrow = good.0.narrow in
+    let few : bits_up count is_signed ≤ 32 = cond_both is_signed (count - 1) count (λ n. n ≤ 32) (λ e. omega (arith, narrow)) (λ e. narrow) in
+    pow_mono {i = bits_up count is_signed} {j = 32} few
 limit_fits (switch_field byte low high) good = omega arith
 limit_fits (text_field part) good = omega arith
 limit_fits (texts_field byte count) good = omega arith

@@ -4,20 +4,20 @@ use Rattle.j39_groups.specs.Printed.{place_text}
 use Rattle.j39_groups.specs.Models.{field_record, scale_record}
 use Rattle.j39_groups.specs.declared.field.Field.{Field}
 use Rattle.j39_groups.specs.declared.slot.Slot.{Slot}
-use Rattle.j39_groups.specs.Row.{FieldRecord, number_field, bits_field, signed_field, switch_field, text_field, texts_field}
+use Rattle.j39_groups.specs.Row.{FieldRecord, number_field, bits_field, full_field, switch_field, text_field, texts_field}
 use Rattle.j39_table.specs.Agreement.{AreColumnsOf, IsWrongAfter}
 use Rattle.j39_table.specs.Faults.{column_of}
 use Rattle.j39_table.specs.Positions.{text_of_place}
 use Rattle.j39_table.specs.Rows.{IsGoodField, IsGoodScale, field_columns, slot_columns}
 use Rattle.j39_table.specs.declared.fault.RowFault.{RowFault}
 use Rattle.j39_table.specs.declared.position.Position.{Position}
-use Rattle.j39_table.specs.declared.position.Position.TheVariants.{Bytes, Bits, Signed, Part, Texts}
+use Rattle.j39_table.specs.declared.position.Position.TheVariants.{Bytes, Bits, Full, Part, Texts}
 
 -- where a field stands
 abbrev pub place_of : FieldRecord → Position
 place_of (number_field first last slot) = Bytes first last
 place_of (bits_field byte low count slot) = Bits byte low count
-place_of (signed_field byte low count slot) = Signed byte low count
+place_of (full_field byte low count is_signed slot) = Full byte low count is_signed
 place_of (switch_field byte low high) = Bits byte low 2
 place_of (text_field part) = Part part
 place_of (texts_field byte count) = Texts byte
@@ -26,7 +26,7 @@ place_of (texts_field byte count) = Texts byte
 abbrev pub unscaled_of : Position → Option FieldRecord
 unscaled_of (Bytes first last) = None
 unscaled_of (Bits byte low count) = if count == 2 && nat_lt low 8 then Some (switch_field byte low (low + 1)) else None
-unscaled_of (Signed byte low count) = None
+unscaled_of (Full byte low count is_signed) = None
 unscaled_of (Part part) = Some (text_field part)
 unscaled_of (Texts byte) = Some (texts_field byte 31)
 

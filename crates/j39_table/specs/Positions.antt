@@ -1,14 +1,14 @@
 -- Where a parameter stands, as a line says it.
 use Rattle.std.specs.Prelude.{◌≡◌, ◌==◌, ◌+◌, ◌-◌, ◌/◌, ◌%◌, ◌<◌, ◌≤◌, ◌++◌, ◌∷◌, ⊤, ℕ, List, [], Bool, false, if◌then◌else◌, codes, decimal}
 use Rattle.std.specs.Prelude.{◌&&◌, nat_le}
-use Rattle.j39_groups.specs.Printed.{bits_end, bits_text, bytes_or_bits_text, range_text}
+use Rattle.j39_groups.specs.Printed.{bits_end, bits_text, bytes_or_bits_text, mark, range_text}
 use Rattle.j39_table.specs.declared.position.Position.{Position}
-use Rattle.j39_table.specs.declared.position.Position.TheVariants.{Bytes, Bits, Signed, Part, Texts}
+use Rattle.j39_table.specs.declared.position.Position.TheVariants.{Bytes, Bits, Full, Part, Texts}
 
 abbrev pub text_of_place : Position → List ℕ
 text_of_place (Bytes first last) = range_text first last
 text_of_place (Bits byte low count) = bits_text byte low (bits_end low count)
-text_of_place (Signed byte low count) = bytes_or_bits_text byte low count ++ codes "s"
+text_of_place (Full byte low count is_signed) = bytes_or_bits_text byte low count ++ mark is_signed ∷ []
 text_of_place (Part part) = codes "*" ++ decimal part
 text_of_place (Texts byte) = decimal byte ++ codes "-"
 
@@ -32,22 +32,22 @@ pub record IsGoodBits (byte low count : ℕ) : Type 0 where
 abbrev pub IsGoodPlace : Position → Type 0
 IsGoodPlace (Bytes first last) = IsGoodBytes first last
 IsGoodPlace (Bits byte low count) = IsGoodBits byte low count
-IsGoodPlace (Signed byte low count) = IsGoodBits byte low count
+IsGoodPlace (Full byte low count is_signed) = IsGoodBits byte low count
 IsGoodPlace (Part part) = (0 < part) × (part ≤ 255)
 IsGoodPlace (Texts byte) = (0 < byte) × (byte ≤ 255)
 
--- ---- the same without a sign
+-- ---- the same without a mark
 
-abbrev pub IsUnsignedPlace : Position → Type 0
-IsUnsignedPlace (Bytes first last) = ⊤
-IsUnsignedPlace (Bits byte low count) = ⊤
-IsUnsignedPlace (Signed byte low count) = ⊥
-IsUnsignedPlace (Part part) = ⊤
-IsUnsignedPlace (Texts byte) = ⊤
+abbrev pub IsPlainPlace : Position → Type 0
+IsPlainPlace (Bytes first last) = ⊤
+IsPlainPlace (Bits byte low count) = ⊤
+IsPlainPlace (Full byte low count is_signed) = ⊥
+IsPlainPlace (Part part) = ⊤
+IsPlainPlace (Texts byte) = ⊤
 
--- the place that a signed number's text says but for its last byte
-abbrev pub without_sign : ℕ → ℕ → ℕ → Position
-without_sign byte low count =
+-- the place that such a number's text says but for its last byte
+abbrev pub without_mark : ℕ → ℕ → ℕ → Position
+without_mark byte low count =
     if low == 1 && count % 8 == 0 then Bytes byte (byte + count / 8 - 1) else Bits byte low count
 
 -- ---- the same text cut behind its first number

@@ -2,7 +2,7 @@
 use Rattle.std.specs.Prelude.{◌≡◌, ◌+◌, ◌-◌, ◌*◌, ◌^◌, ◌<◌, ◌≤◌, ◌++◌, ◌∷◌, ℕ, List, [], true, false, codes, decimal, pos, unsigned_abs}
 use Rattle.j39_groups.specs.Printed.{place_text}
 use Rattle.j39_groups.specs.Readings.{is_heard_group, is_network_group}
-use Rattle.j39_groups.specs.Row.{FieldRecord, number_field, bits_field, signed_field, switch_field, text_field, texts_field, RowRecord}
+use Rattle.j39_groups.specs.Row.{FieldRecord, number_field, bits_field, full_field, switch_field, text_field, texts_field, RowRecord}
 use Rattle.j39_groups.specs.States.{called, states_part}
 use Rattle.j39_groups.specs.Value.{SlotRecord}
 use Rattle.j39_groups.specs.ValueText.{scaled_text}
@@ -37,7 +37,7 @@ pub record IsGoodSwitch (byte low high : ℕ) : Type 0 where
 abbrev pub IsGoodField : FieldRecord → Type 0
 IsGoodField (number_field first last slot) = IsGoodBytes first last × IsGoodScale (8 * (last - first + 1)) slot
 IsGoodField (bits_field byte low count slot) = IsGoodBits byte low count × IsGoodScale count slot
-IsGoodField (signed_field byte low count slot) = IsGoodBits byte low count × IsGoodScale count slot
+IsGoodField (full_field byte low count is_signed slot) = IsGoodBits byte low count × IsGoodScale count slot
 IsGoodField (switch_field byte low high) = IsGoodSwitch byte low high
 IsGoodField (text_field part) = (0 < part) × (part ≤ 255)
 IsGoodField (texts_field byte count) = (0 < byte) × (byte ≤ 255) × (count ≡ 31)
@@ -62,7 +62,7 @@ no_scale = codes "-" ∷ codes "-" ∷ codes "-" ∷ []
 abbrev pub scale_columns : FieldRecord → List (List ℕ)
 scale_columns (number_field first last slot) = slot_columns slot
 scale_columns (bits_field byte low count slot) = slot_columns slot
-scale_columns (signed_field byte low count slot) = slot_columns slot
+scale_columns (full_field byte low count is_signed slot) = slot_columns slot
 scale_columns (switch_field byte low high) = no_scale
 scale_columns (text_field part) = no_scale
 scale_columns (texts_field byte count) = no_scale

@@ -1,6 +1,6 @@
 -- The names of states behind a parameter's name: ` = 0 off, 1 on`.
-use Rattle.std.specs.Prelude.{◌≡◌, ◌==◌, ◌+◌, ◌-◌, ◌*◌, ◌^◌, ◌%◌, ◌<◌, ◌≤◌, ◌∷◌, ⊤, ℕ, List, [], Some, if◌then◌else◌, length}
-use Rattle.j39_groups.specs.Row.{FieldRecord, number_field, bits_field, signed_field, switch_field, text_field, texts_field}
+use Rattle.std.specs.Prelude.{◌≡◌, ◌==◌, ◌+◌, ◌-◌, ◌*◌, ◌^◌, ◌%◌, ◌<◌, ◌≤◌, ◌∷◌, ⊤, ℕ, Bool, List, [], Some, if◌then◌else◌, length}
+use Rattle.j39_groups.specs.Row.{FieldRecord, number_field, bits_field, full_field, switch_field, text_field, texts_field}
 use Rattle.j39_groups.specs.States.{state_words, states_in}
 use Rattle.j39_table.specs.Words.{IsName}
 
@@ -8,11 +8,15 @@ use Rattle.j39_table.specs.Words.{IsName}
 abbrev pub bits_limit : ℕ → ℕ
 bits_limit count = if count % 8 == 0 then 0xFF * 2 ^ (count - 8) else (if count == 1 then 2 else 2 ^ count - 1)
 
+-- how many bits of a number say how far it is from 0
+abbrev pub bits_up : ℕ → Bool → ℕ
+bits_up count is_signed = if is_signed then count - 1 else count
+
 -- the raw numbers of a field that are ever told are below this, of a signed one those that are not negative; a text has none
 abbrev pub states_limit : FieldRecord → ℕ
 states_limit (number_field first last slot) = 0xFF * 2 ^ (8 * (last - first))
 states_limit (bits_field byte low count slot) = bits_limit count
-states_limit (signed_field byte low count slot) = 2 ^ (count - 1)
+states_limit (full_field byte low count is_signed slot) = 2 ^ bits_up count is_signed
 states_limit (switch_field byte low high) = 3
 states_limit (text_field part) = 0
 states_limit (texts_field byte count) = 0

@@ -59,7 +59,7 @@ fn unscaled<'t>(place: Position) -> Option<Field<'t>>
     match place {
         Position::Bytes { .. } => None,
         Position::Bits { byte, low, count } => switch_of(byte, low, count),
-        Position::Signed { .. } => None,
+        Position::Full { .. } => None,
         Position::Part { part } => Some(Field::Text { part }),
         Position::Texts { byte } => Some(Field::Texts { byte, count: 31 }),
     }
@@ -109,11 +109,17 @@ fn scaled_field<'t>(
             }),
             Err(fault) => Err(fault),
         },
-        Position::Signed { byte, low, count } => match scale_in(count, step, offset, unit) {
-            Ok(scale) => Ok(Field::Signed {
+        Position::Full {
+            byte,
+            low,
+            count,
+            is_signed,
+        } => match scale_in(count, step, offset, unit) {
+            Ok(scale) => Ok(Field::Full {
                 byte,
                 low,
                 count,
+                is_signed,
                 scale,
             }),
             Err(fault) => Err(fault),

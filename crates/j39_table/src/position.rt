@@ -4,7 +4,7 @@ ghost use Rattle.std.specs.List.{prefix_len};
 ghost use Rattle.arrayvec.specs.ArrayVec.{array_vec_len};
 ghost use Rattle.j39_groups.specs.Printed.{bits_end, bits_text, bytes_or_bits_text};
 ghost use Rattle.j39_table.specs.declared.position.Position.{Position};
-ghost use Rattle.j39_table.specs.Positions.{IsAfterDigits, IsGoodBits, IsGoodPlace, IsUnsignedPlace, behind_first_byte, behind_low_bit, end_text, is_digit, text_of_place, without_sign};
+ghost use Rattle.j39_table.specs.Positions.{IsAfterDigits, IsGoodBits, IsGoodPlace, IsPlainPlace, behind_first_byte, behind_low_bit, end_text, is_digit, text_of_place, without_mark};
 
 use arrayvec::ArrayVec;
 use j39_groups::{push_decimal, push_range};
@@ -14,15 +14,31 @@ use j39_io::{number, printing};
 #[derive(Clone, Copy, Debug, PartialEq, Eq)]
 pub(crate) enum Position {
     /// The bytes `first` to `last`.
-    Bytes { first: u8, last: u8 },
+    Bytes {
+        first: u8,
+        last: u8,
+    },
     /// `count` bits from the bit `low` of a byte on.
-    Bits { byte: u8, low: u8, count: u8 },
-    /// The same in two's complement.
-    Signed { byte: u8, low: u8, count: u8 },
+    Bits {
+        byte: u8,
+        low: u8,
+        count: u8,
+    },
+    /// The same where each raw number is a value, in two's complement or unsigned.
+    Full {
+        byte: u8,
+        low: u8,
+        count: u8,
+        is_signed: bool,
+    },
     /// One of the parts of the payload between the bytes `*`.
-    Part { part: u8 },
+    Part {
+        part: u8,
+    },
     /// The parts of the bytes from `byte` on.
-    Texts { byte: u8 },
+    Texts {
+        byte: u8,
+    },
 }
 
 /// The place that a text says, as it is printed.
@@ -46,7 +62,12 @@ fn is_good(place: Position) -> bool
     match place {
         Position::Bytes { first, last } => 0 < first && first <= last && last - first < 4,
         Position::Bits { byte, low, count } => is_good_bits(byte, low, count),
-        Position::Signed { byte, low, count } => is_good_bits(byte, low, count),
+        Position::Full {
+            byte,
+            low,
+            count,
+            ..
+        } => is_good_bits(byte, low, count),
         Position::Part { part } => 0 < part,
         Position::Texts { byte } => 0 < byte,
     }
@@ -72,9 +93,14 @@ fn place_text(place: Position) -> ArrayVec<u8, 32>
     match place {
         Position::Bytes { first, last } => push_range(&mut text, first, last),
         Position::Bits { byte, low, count } => push_bits(&mut text, byte, low, low + count - 2),
-        Position::Signed { byte, low, count } => {
+        Position::Full {
+            byte,
+            low,
+            count,
+            is_signed,
+        } => {
             push_bytes_or_bits(&mut text, byte, low, count);
-            text.push(b's');
+            text.push(if is_signed { b's' } else { b'u' });
         }
         Position::Part { part } => {
             text.push(b'*');
@@ -127,52 +153,60 @@ fn likely_place(text: &[u8]) -> Option<Position>
     ensures { (place : Position) → IsGoodPlace place → text.now ≡ text_of_place place → result ≡ Some place }
 {
     match text {
-        [front @ .., b's'] => signed_place(front),
-        _ => unsigned_place(text),
+        [front @ .., b's'] => full_place(front, true),
+        [front @ .., b'u'] => full_place(front, false),
+        _ => plain_place(text),
     }
 }
 
-/// The same of a text whose last byte says that the number is signed.
-fn signed_place(front: &[u8]) -> Option<Position>
+/// The same of a text whose last byte says that each raw number is a value.
+fn full_place(front: &[u8], is_signed: bool) -> Option<Position>
     ensures { (byte low count : ℕ) → IsGoodBits byte low count → front.now ≡ bytes_or_bits_text byte low count
-        → result ≡ Some (Position.Signed byte low count) }
+        → result ≡ Some (Position.Full byte low count is_signed) }
 {
-    let place = unsigned_place(front)?;
-    with_sign(place)
+    let place = plain_place(front)?;
+    in_full(place, is_signed)
 }
 
-/// The signed number in these bytes or bits.
-fn with_sign(place: Position) -> Option<Position>
-    ensures { (byte low count : ℕ) → IsGoodBits byte low count → place ≡ without_sign byte low count
-        → result ≡ Some (Position.Signed byte low count) }
+/// The number in these bytes or bits each of whose raw numbers is a value.
+fn in_full(place: Position, is_signed: bool) -> Option<Position>
+    ensures { (byte low count : ℕ) → IsGoodBits byte low count → place ≡ without_mark byte low count
+        → result ≡ Some (Position.Full byte low count is_signed) }
 {
     match place {
-        Position::Bytes { first, last } => signed_bytes(first, last),
-        Position::Bits { byte, low, count } => Some(Position::Signed { byte, low, count }),
-        Position::Signed { .. } => None,
+        Position::Bytes { first, last } => full_bytes(first, last, is_signed),
+        Position::Bits { byte, low, count } => Some(Position::Full {
+            byte,
+            low,
+            count,
+            is_signed,
+        }),
+        Position::Full { .. } => None,
         Position::Part { .. } => None,
         Position::Texts { .. } => None,
     }
 }
 
-/// The signed number in the bytes `first` to `last`, where they are four at most.
-fn signed_bytes(first: u8, last: u8) -> Option<Position>
-    ensures { first ≤ last → last < first + 4 → result ≡ Some (Position.Signed first 1 (8 * (last - first + 1))) }
+/// The same in the bytes `first` to `last`, where they are four at most.
+fn full_bytes(first: u8, last: u8, is_signed: bool) -> Option<Position>
+    ensures { first ≤ last → last < first + 4
+        → result ≡ Some (Position.Full first 1 (8 * (last - first + 1)) is_signed) }
 {
     let more = last.checked_sub(first)?;
     if more > 3 {
         return None;
     }
-    Some(Position::Signed {
+    Some(Position::Full {
         byte: first,
         low: 1,
         count: 8 * (more + 1),
+        is_signed,
     })
 }
 
-/// The same of a text that says no signed number.
-fn unsigned_place(text: &[u8]) -> Option<Position>
-    ensures { (place : Position) → IsGoodPlace place → IsUnsignedPlace place → text.now ≡ text_of_place place
+/// The same of a text without such a mark.
+fn plain_place(text: &[u8]) -> Option<Position>
+    ensures { (place : Position) → IsGoodPlace place → IsPlainPlace place → text.now ≡ text_of_place place
         → result ≡ Some place }
 {
     match text {

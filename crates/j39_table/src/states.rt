@@ -21,7 +21,11 @@ pub(crate) fn states_limit(field: Field<'_>) -> u64
     match field {
         Field::Number { first, last, .. } => 0xFF * power_of_two(8 * (last - first)),
         Field::Bits { count, .. } => bits_limit(count),
-        Field::Signed { count, .. } => power_of_two(count - 1),
+        Field::Full {
+            count,
+            is_signed,
+            ..
+        } => power_of_two(if is_signed { count - 1 } else { count }),
         Field::Switch { .. } => 3,
         Field::Text { .. } => 0,
         Field::Texts { .. } => 0,

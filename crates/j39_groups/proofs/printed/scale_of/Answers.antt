@@ -15,7 +15,7 @@ scale_texts-requires-in-Bits c =
     let sound : IsSoundBits c.in-Bits.byte c.in-Bits.low c.in-Bits.count c.in-Bits.scale = rw c.in-Bits.is at c.requires in
     step_fits c.in-Bits.scale.step c.in-Bits.count (unsigned_abs c.in-Bits.scale.offset) sound.some sound.fits
 
-pub scale_texts-requires-in-Signed : goal.scale_texts-requires-in-Signed
-scale_texts-requires-in-Signed c =
-    let sound : IsSoundBits c.in-Signed.byte c.in-Signed.low c.in-Signed.count c.in-Signed.scale = rw c.in-Signed.is at c.requires in
-    step_fits c.in-Signed.scale.step c.in-Signed.count (unsigned_abs c.in-Signed.scale.offset) sound.some sound.fits
+pub scale_texts-requires-in-Full : goal.scale_texts-requires-in-Full
+scale_texts-requires-in-Full c =
+    let sound : IsSoundBits c.in-Full.byte c.in-Full.low c.in-Full.count c.in-Full.scale = rw c.in-Full.is at c.requires in
+    step_fits c.in-Full.scale.step c.in-Full.count (unsigned_abs c.in-Full.scale.offset) sound.some sound.fits

@@ -1,6 +1,6 @@
 -- The first wrong column of a scale, behind the place.
 use Rattle.std.proofs.Common.{arith, refl}
-use Rattle.j39_table.proofs.FieldLemmas.{makes_bits, makes_number, makes_signed, no_scale_of_part, no_scale_of_texts, wrong_scale}
+use Rattle.j39_table.proofs.FieldLemmas.{makes_bits, makes_full, makes_number, no_scale_of_part, no_scale_of_texts, wrong_scale}
 use Rattle.j39_table.proofs.field.scaled_field.Goals as goal
 
 pub returns-in-Err : goal.returns-in-Err
@@ -18,7 +18,7 @@ returns-in-Err-scale_in c =
 pub returns-in-Err-scale_in-2 : goal.returns-in-Err-scale_in-2
 returns-in-Err-scale_in-2 c =
     let fault = c.in-Err-scale_in-2.ensures in
-    let makes = makes_signed c.args.place c.in-Signed.byte c.in-Signed.low c.in-Signed.count c.in-Signed.is c.requires.good c.requires.alone in
+    let makes = makes_full c.args.place c.in-Full.byte c.in-Full.low c.in-Full.count c.in-Full.is_signed c.in-Full.is c.requires.good c.requires.alone in
     wrong_scale c.args.place _ _ c.args.step.now c.args.offset.now c.args.unit.now c.in-Err-scale_in-2.fault makes c.requires.number fault
 
 pub returns-in-Part : goal.returns-in-Part

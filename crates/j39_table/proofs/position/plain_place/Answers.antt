@@ -1,7 +1,7 @@
 -- Only a part's place begins with `*`.
 use Rattle.std.proofs.Common.{◌≡◌, ◌∙◌, Some, get_or, ap, sym, arith}
 use Rattle.j39_table.proofs.PlaceLemmas.{star_place}
-use Rattle.j39_table.proofs.position.unsigned_place.Goals as goal
+use Rattle.j39_table.proofs.position.plain_place.Goals as goal
 
 pub returns-in-42 : goal.returns-in-42
 returns-in-42 c = λ place good plain is.
