@@ -10,7 +10,7 @@ use Rattle.std.proofs.lemmas.List.Sums.{AllPass-from_list_all}
 use Rattle.std.proofs.lemmas.Option.{get_or_from_slice_get, slice_get_within}
 use Rattle.j39_groups.specs.Parts.{parts_of}
 use Rattle.j39_groups.specs.Ranges.{is_valid, top_byte}
-use Rattle.j39_groups.specs.Readings.{bits_meaning, by_top_byte, filled_text_meaning, group_rows, number_meaning, raw_bits, raw_number, readings_at, readings_in, readings_of, signed_value, switch_meaning, text_meaning, values_at}
+use Rattle.j39_groups.specs.Readings.{bits_meaning, by_top_byte, filled_text_meaning, full_value, group_rows, number_meaning, raw_bits, raw_number, readings_at, readings_in, readings_of, switch_meaning, text_meaning, values_at}
 use Rattle.j39_groups.specs.Row.{FieldRecord, number_field, bits_field, full_field, switch_field, text_field, texts_field, RowRecord}
 use Rattle.j39_groups.specs.Table.{the_table}
 use Rattle.j39_groups.specs.Value.{SlotRecord, ReadingRecord, ValueRecord, number, on, off, error, reserved, indicator, text}
@@ -116,7 +116,7 @@ field_is_short bytes (number_field first last slot) short =
 field_is_short bytes (bits_field byte low count slot) short =
     and_then_short (bits_meaning count slot) (raw_bits byte low count bytes) (λ raw. bits_are_short count slot raw short)
 field_is_short bytes (full_field byte low count is_signed slot) short =
-    map_short (signed_value count slot) (raw_bits byte low count bytes) (λ raw. short)
+    map_short (full_value count is_signed slot) (raw_bits byte low count bytes) (λ raw. short)
 field_is_short bytes (switch_field byte low high) short =
     and_then_short (λ b. switch_meaning (b / 2 ^ (low - 1) % 4)) (slice_get bytes (byte - 1)) (λ b. switch_is_short (b / 2 ^ (low - 1) % 4))
 field_is_short bytes (text_field part) short =
