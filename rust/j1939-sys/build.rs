@@ -4,17 +4,19 @@ use std::env;
 use std::fs;
 use std::path::Path;
 
-/// Where the header is, from this file's folder.
-const HEADER: &str = "../../c/j1939.h";
+/// Where the header may be, from this file's folder: beside it, or where the project has it.
+const HEADERS: [&str; 2] = ["j1939.h", "../../c/j1939.h"];
 
 fn main() {
-    println!("cargo:rerun-if-changed={HEADER}");
     println!("cargo:rerun-if-env-changed=J1939_LIB_DIR");
     if let Ok(folder) = env::var("J1939_LIB_DIR") {
         println!("cargo:rustc-link-search=native={folder}");
     }
     println!("cargo:rustc-link-lib=static=j1939");
-    let header = fs::read_to_string(HEADER).expect("c/j1939.h of this project");
+    let path = HEADERS.into_iter().find(|path| Path::new(path).exists());
+    let path = path.expect("j1939.h beside this file, or in the project");
+    println!("cargo:rerun-if-changed={path}");
+    let header = fs::read_to_string(path).expect("the header can be read");
     let made = Path::new(&env::var("OUT_DIR").expect("cargo's folder")).join("j1939.rs");
     fs::write(made, header.split("\n\n").map(item).collect::<String>())
         .expect("cargo's folder takes a file");
