@@ -1,7 +1,9 @@
 //! The report of a log as records of comma-separated values (RFC 4180).
 
 mod begin;
+mod prepared_record;
 mod quick_record;
+mod record_sides;
 mod records;
 mod run;
 

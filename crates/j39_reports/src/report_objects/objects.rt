@@ -7,6 +7,7 @@ ghost use Rattle.j39_address.specs.Name.{name_raw};
 ghost use Rattle.j39_frame.specs.Pgn.{pgn_raw};
 ghost use Rattle.j39_frame.specs.Stamp.{stamp_micros};
 ghost use Rattle.j39_groups.specs.Models.{value_of};
+ghost use Rattle.j39_groups.specs.Names.{name_in, state_in};
 ghost use Rattle.j39_listen.specs.HeardModel.{hearing_of};
 ghost use Rattle.j39_reports.specs.EntryObject.{group_member, opening_text, parameter_members, value_json, value_members};
 ghost use Rattle.j39_reports.specs.MessageObjects.{opened};
@@ -14,10 +15,13 @@ ghost use Rattle.j39_reports.specs.Json.{bytes_member, string_or_null};
 ghost use Rattle.j39_rows.specs.Json.{string_text};
 
 use crate::json::put_string_or_null;
+use crate::report_objects::object_sides::ObjectSides;
 use crate::report_objects::opening::{HEAD, Opening, group_before, moment_before, sender_before};
+use crate::report_objects::prepared_object::prepared_before;
 use crate::report_objects::quick_object::{OBJECT, object_before, unit_in};
 use crate::report_records::digits_before;
 use crate::second::Second;
+use crate::sides::{KnownSides, Missed};
 use arrayvec::ArrayVec;
 use j39_groups::{Groups, ReadingVisitor, Value, push_decimal};
 use j39_io::backwards::bytes_before;
@@ -28,37 +32,39 @@ use j39_rows::{put_bytes_under, put_string};
 
 /// The objects of a message so far.
 #[derive(Drop)]
-pub(crate) struct Objects<'g, 't, 'b> {
-    groups: &'g Groups<'t>,
+pub(crate) struct Objects<'k, 'g, 't, 'b> {
+    known: &'k KnownSides<'g, 't, ObjectSides>,
     opening: Opening,
     group: Option<&'g [u8]>,
     pgn: u32,
     lines: u64,
+    missed: Option<Missed<'t>>,
     block: &'b mut [u8; OBJECT],
 }
 
-impl<'g, 't, 'b> Objects<'g, 't, 'b> {
+impl<'k, 'g, 't, 'b> Objects<'k, 'g, 't, 'b> {
     ghost use Rattle.j39_reports.specs.MessageObjects.{IsOpened};
 
     /// None so far.
     #[inline(always)]
     fn new(
-        groups: &'g Groups<'t>,
+        known: &'k KnownSides<'g, 't, ObjectSides>,
         heard: &Heard<'_>,
         second: &mut Second,
         block: &'b mut [u8; OBJECT],
-    ) -> Objects<'g, 't, 'b>
-        ensures opened { IsOpened groups.entry.now (hearing_of heard.now) result }
+    ) -> Objects<'k, 'g, 't, 'b>
+        ensures opened { IsOpened known.entry.now.groups.now (hearing_of heard.now) result }
         ensures none { result.lines ≡ 0 }
     {
         let pgn = heard.message.pgn;
-        let group = groups.group_name(pgn);
+        let group = known.groups.group_name(pgn);
         Objects {
-            groups,
+            known,
             opening: opening_of(heard, group, second),
             group,
             pgn: pgn.raw(),
             lines: 0,
+            missed: None,
             block,
         }
     }
@@ -66,44 +72,50 @@ impl<'g, 't, 'b> Objects<'g, 't, 'b> {
 
 /// The form of objects: one for each entry.
 #[derive(Drop)]
-pub(crate) struct ObjectForm {
+pub(crate) struct ObjectForm<'g, 't> {
     second: Second,
+    known: KnownSides<'g, 't, ObjectSides>,
     block: [u8; OBJECT],
 }
 
-impl ObjectForm {
-    /// At the second 0.
-    pub fn new() -> ObjectForm
-        ensures { result.second.value ≡ 0 }
+impl<'g, 't> ObjectForm<'g, 't> {
+    /// By a table of parameters, at the second 0.
+    pub fn new(groups: &'g Groups<'t>) -> ObjectForm<'g, 't>
+        ensures groups { result.known.groups ≡ groups.entry }
+        ensures second { result.second.value ≡ 0 }
     {
         ObjectForm {
             second: Second::new(0),
+            known: KnownSides::new(groups),
             block: [0; OBJECT],
         }
     }
 }
 
-impl EntryForm for ObjectForm {
+impl<'g, 't> EntryForm for ObjectForm<'g, 't> {
     ghost use Rattle.j39_reports.specs.EntryObject.{entry_object};
 
     ghost text_by = { entry_object };
 
+    ghost table_of = { λ form. form.known.groups.now };
+
     #[inline(always)]
-    fn put_heard<W: Sink>(
-        &mut self,
-        heard: &Heard<'_>,
-        groups: &Groups<'_>,
-        sink: &mut W,
-    ) -> Result<u64, DeviceFault> {
-        let mut objects = Objects::new(groups, heard, &mut self.second, &mut self.block);
+    fn put_heard<W: Sink>(&mut self, heard: &Heard<'_>, sink: &mut W) -> Result<u64, DeviceFault> {
+        let groups = self.known.groups;
+        let mut objects = Objects::new(&self.known, heard, &mut self.second, &mut self.block);
         match groups.visit(heard.message.pgn, heard.message.payload, &mut objects, sink) {
-            Ok(()) => Ok(objects.lines),
+            Ok(()) => {
+                let lines = objects.lines;
+                let missed = objects.missed;
+                self.known.learn_missed(heard.message.pgn, missed);
+                Ok(lines)
+            }
             Err(DeviceFault) => Err(DeviceFault),
         }
     }
 }
 
-impl<'g, 't, 'b, W: Sink> ReadingVisitor<'t, W> for Objects<'g, 't, 'b> {
+impl<'k, 'g, 't, 'b, W: Sink> ReadingVisitor<'t, W> for Objects<'k, 'g, 't, 'b> {
     ghost use Rattle.std.specs.Prelude.{◌++◌, ◌∷◌, []};
     ghost use Rattle.j39_groups.specs.Sightings.{told_in};
     ghost use Rattle.j39_reports.specs.EntryObject.{entry_object};
@@ -121,17 +133,17 @@ impl<'g, 't, 'b, W: Sink> ReadingVisitor<'t, W> for Objects<'g, 't, 'b> {
         (record { bytes = W.written sink; has_failed = W.has_failed sink }) };
 
     fn visit(&mut self, spn: u32, value: Value<'t, '_>, sink: &mut W) -> Result<(), DeviceFault> {
-        let (parameter, state) = self.groups.called_in(self.pgn, spn, value);
-        put_object(
+        let missed = put_entry(
             self.block,
             &self.opening,
             self.group,
+            self.known,
+            self.pgn,
             spn,
-            parameter,
             value,
-            state,
             sink,
         )?;
+        self.missed = missed.or(self.missed);
         self.lines = self.lines.saturating_add(1);
         Ok(())
     }
@@ -160,6 +172,57 @@ fn opening_of(heard: &Heard<'_>, group: Option<&[u8]>, second: &mut Second) -> O
         from,
         has_group: quick.is_some(),
     }
+}
+
+/// Writes the object of a reading, and answers whose sides weren't known. What stands in `block` afterwards is not known.
+#[inline(always)]
+fn put_entry<'t, W: Sink>(
+    block: &mut [u8; OBJECT],
+    opening: &Opening,
+    group: Option<&[u8]>,
+    known: &KnownSides<'_, 't, ObjectSides>,
+    pgn: u32,
+    spn: u32,
+    value: Value<'t, '_>,
+    sink: &mut W,
+) -> Result<Option<Missed<'t>>, DeviceFault>
+    ensures { Puts (opened opening.now (option_map (λ text. text.now) group.entry)
+        ++ (parameter_members spn (name_in known.now.groups.now pgn spn)
+        ++ value_members (value_of value.entry) (state_in known.now.groups.now pgn spn (value_of value.entry))))
+        result (turn W.written W.has_failed sink.old sink.new) }
+{
+    match prepared_before(block, opening, known, pgn, spn, value) {
+        Some(start) => {
+            put_all(sink, &block[start..])?;
+            Ok(None)
+        }
+        None => {
+            put_unknown(block, opening, group, known.groups, pgn, spn, value, sink)?;
+            let unit = value.unit();
+            Ok(Some(Missed { spn, unit }))
+        }
+    }
+}
+
+/// Writes the object of a reading whose sides aren't known.
+#[inline(never)]
+fn put_unknown<W: Sink>(
+    block: &mut [u8; OBJECT],
+    opening: &Opening,
+    group: Option<&[u8]>,
+    groups: &Groups<'_>,
+    pgn: u32,
+    spn: u32,
+    value: Value<'_, '_>,
+    sink: &mut W,
+) -> Result<(), DeviceFault>
+    ensures { Puts (opened opening.now (option_map (λ text. text.now) group.entry)
+        ++ (parameter_members spn (name_in groups.now pgn spn)
+        ++ value_members (value_of value.entry) (state_in groups.now pgn spn (value_of value.entry))))
+        result (turn W.written W.has_failed sink.old sink.new) }
+{
+    let (parameter, state) = groups.called_in(pgn, spn, value);
+    put_object(block, opening, group, spn, parameter, value, state, sink)
 }
 
 /// Writes the object of a reading, in one piece where it is short. What stands in `block` afterwards is not known.
