@@ -6,6 +6,6 @@ use Rattle.j39_reports.specs.declared.report_objects.objects.Objects.{Objects}
 
 -- what is written of a reading is the object of its entry
 pub object_is : (groups : List RowRecord) (h : Hearing) (objects : Objects) → IsOpened groups h objects → (spn : ℕ) (value : ValueRecord)
-    → opened objects.opening (option_map (λ name. name.now) objects.group) ++ (parameter_members spn (name_in objects.known.now.groups.now objects.pgn spn)
+    → opened objects.opening.now (option_map (λ name. name.now) objects.group) ++ (parameter_members spn (name_in objects.known.now.groups.now objects.pgn spn)
     ++ value_members value (state_in objects.known.now.groups.now objects.pgn spn value)) ≡ entry_object groups (entry_of h (record { spn = spn; value = value }))
 object_is groups h objects is spn value = rw (is.opening_is, is.by, is.pgn_is) refl

@@ -7,6 +7,6 @@ mod record_sides;
 mod records;
 mod run;
 
-pub(crate) use begin::digits_before;
+pub(crate) use begin::{digits_before, is_whole};
 pub(crate) use quick_record::{bits_of, scaled_before};
 pub use run::report_csv;

@@ -118,6 +118,14 @@ pub(crate) struct Missed<'t> {
     pub unit: &'t [u8],
 }
 
+/// Keeps which parameter was missed last, if this one was.
+#[inline(always)]
+pub(crate) fn note<'t>(last: &mut Option<Missed<'t>>, missed: Option<Missed<'t>>) {
+    if missed.is_some() {
+        *last = missed;
+    }
+}
+
 /// A table, and the sides of the parameters that came first.
 #[derive(Drop)]
 pub(crate) struct KnownSides<'g, 't, F: SideForm> {

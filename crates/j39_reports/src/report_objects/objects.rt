@@ -19,9 +19,9 @@ use crate::report_objects::object_sides::ObjectSides;
 use crate::report_objects::opening::{HEAD, Opening, group_before, moment_before, sender_before};
 use crate::report_objects::prepared_object::prepared_before;
 use crate::report_objects::quick_object::{OBJECT, object_before, unit_in};
-use crate::report_records::digits_before;
+use crate::report_records::{digits_before, is_whole};
 use crate::second::Second;
-use crate::sides::{KnownSides, Missed};
+use crate::sides::{KnownSides, Missed, note};
 use arrayvec::ArrayVec;
 use j39_groups::{Groups, ReadingVisitor, Value, push_decimal};
 use j39_io::backwards::bytes_before;
@@ -34,7 +34,7 @@ use j39_rows::{put_bytes_under, put_string};
 #[derive(Drop)]
 pub(crate) struct Objects<'k, 'g, 't, 'b> {
     known: &'k KnownSides<'g, 't, ObjectSides>,
-    opening: Opening,
+    opening: &'b mut Opening,
     group: Option<&'g [u8]>,
     pgn: u32,
     lines: u64,
@@ -51,6 +51,7 @@ impl<'k, 'g, 't, 'b> Objects<'k, 'g, 't, 'b> {
         known: &'k KnownSides<'g, 't, ObjectSides>,
         heard: &Heard<'_>,
         second: &mut Second,
+        opening: &'b mut Opening,
         block: &'b mut [u8; OBJECT],
     ) -> Objects<'k, 'g, 't, 'b>
         ensures opened { IsOpened known.entry.now.groups.now (hearing_of heard.now) result }
@@ -58,9 +59,10 @@ impl<'k, 'g, 't, 'b> Objects<'k, 'g, 't, 'b> {
     {
         let pgn = heard.message.pgn;
         let group = known.groups.group_name(pgn);
+        open_with(opening, heard, group, second);
         Objects {
             known,
-            opening: opening_of(heard, group, second),
+            opening,
             group,
             pgn: pgn.raw(),
             lines: 0,
@@ -75,6 +77,7 @@ impl<'k, 'g, 't, 'b> Objects<'k, 'g, 't, 'b> {
 pub(crate) struct ObjectForm<'g, 't> {
     second: Second,
     known: KnownSides<'g, 't, ObjectSides>,
+    opening: Opening,
     block: [u8; OBJECT],
 }
 
@@ -87,6 +90,7 @@ impl<'g, 't> ObjectForm<'g, 't> {
         ObjectForm {
             second: Second::new(0),
             known: KnownSides::new(groups),
+            opening: Opening::new(),
             block: [0; OBJECT],
         }
     }
@@ -102,7 +106,13 @@ impl<'g, 't> EntryForm for ObjectForm<'g, 't> {
     #[inline(always)]
     fn put_heard<W: Sink>(&mut self, heard: &Heard<'_>, sink: &mut W) -> Result<u64, DeviceFault> {
         let groups = self.known.groups;
-        let mut objects = Objects::new(&self.known, heard, &mut self.second, &mut self.block);
+        let mut objects = Objects::new(
+            &self.known,
+            heard,
+            &mut self.second,
+            &mut self.opening,
+            &mut self.block,
+        );
         match groups.visit(heard.message.pgn, heard.message.payload, &mut objects, sink) {
             Ok(()) => {
                 let lines = objects.lines;
@@ -135,7 +145,7 @@ impl<'k, 'g, 't, 'b, W: Sink> ReadingVisitor<'t, W> for Objects<'k, 'g, 't, 'b> 
     fn visit(&mut self, spn: u32, value: Value<'t, '_>, sink: &mut W) -> Result<(), DeviceFault> {
         let missed = put_entry(
             self.block,
-            &self.opening,
+            self.opening,
             self.group,
             self.known,
             self.pgn,
@@ -143,7 +153,7 @@ impl<'k, 'g, 't, 'b, W: Sink> ReadingVisitor<'t, W> for Objects<'k, 'g, 't, 'b> 
             value,
             sink,
         )?;
-        self.missed = missed.or(self.missed);
+        note(&mut self.missed, missed);
         self.lines = self.lines.saturating_add(1);
         Ok(())
     }
@@ -156,22 +166,23 @@ impl<'k, 'g, 't, 'b, W: Sink> ReadingVisitor<'t, W> for Objects<'k, 'g, 't, 'b> 
 
 /// What the objects of a message begin with, of a group that is called so.
 #[inline(always)]
-fn opening_of(heard: &Heard<'_>, group: Option<&[u8]>, second: &mut Second) -> Opening
-    ensures { opened result (option_map (λ name. name.now) group.entry) ≡ opening_text (stamp_micros heard.now.message.stamp)
+fn open_with(opening: &mut Opening, heard: &Heard<'_>, group: Option<&[u8]>, second: &mut Second)
+    ensures { opened opening.new (option_map (λ name. name.now) group.entry) ≡ opening_text (stamp_micros heard.now.message.stamp)
         heard.now.message.source heard.now.destination (option_map name_raw heard.now.name)
         (pgn_raw heard.now.message.pgn) ++ group_member (option_map (λ name. name.now) group.entry) }
 {
-    let mut head = [0; HEAD];
-    let quick = group_before(&mut head, group);
-    let number = digits_before(&mut head, quick.unwrap_or(HEAD), heard.message.pgn.raw());
-    let key = bytes_before(&mut head, number, *b",\"pgn\":");
-    let sender = sender_before(&mut head, key, heard);
-    let from = moment_before(&mut head, sender, second, heard.message.stamp);
-    Opening {
-        head,
-        from,
-        has_group: quick.is_some(),
-    }
+    let quick = group_before(&mut opening.head, group);
+    is_whole(&opening.head);
+    let number = digits_before(
+        &mut opening.head,
+        quick.unwrap_or(HEAD),
+        heard.message.pgn.raw(),
+    );
+    let key = bytes_before(&mut opening.head, number, *b",\"pgn\":");
+    let sender = sender_before(&mut opening.head, key, heard);
+    opening.from = moment_before(&mut opening.head, sender, second, heard.message.stamp);
+    is_whole(&opening.head);
+    opening.has_group = quick.is_some();
 }
 
 /// Writes the object of a reading, and answers whose sides weren't known. What stands in `block` afterwards is not known.

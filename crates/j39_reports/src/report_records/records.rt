@@ -14,12 +14,12 @@ ghost use Rattle.j39_reports.specs.Columns.{last_field};
 ghost use Rattle.j39_reports.specs.EntryText.{begin_text, group_called, named_fields, parameter_called, state_called, value_fields};
 ghost use Rattle.j39_reports.specs.MessageRecords.{begun_fields};
 
-use crate::report_records::begin::{Begin, HEAD, begin_before, group_before};
+use crate::report_records::begin::{Begin, HEAD, begin_before, group_before, is_whole};
 use crate::report_records::prepared_record::prepared_before;
 use crate::report_records::quick_record::{RECORD, record_before};
 use crate::report_records::record_sides::RecordSides;
 use crate::second::Second;
-use crate::sides::{KnownSides, Missed};
+use crate::sides::{KnownSides, Missed, note};
 use arrayvec::ArrayVec;
 use j39_frame::Pgn;
 use j39_groups::{Groups, ReadingVisitor, Value, push_decimal};
@@ -30,7 +30,7 @@ use j39_listen::{EntryForm, Heard};
 #[derive(Drop)]
 pub(crate) struct Records<'k, 'g, 't, 'b> {
     known: &'k KnownSides<'g, 't, RecordSides>,
-    begin: Begin,
+    begin: &'b mut Begin,
     group: &'g [u8],
     pgn: u32,
     lines: u64,
@@ -47,6 +47,7 @@ impl<'k, 'g, 't, 'b> Records<'k, 'g, 't, 'b> {
         known: &'k KnownSides<'g, 't, RecordSides>,
         heard: &Heard<'_>,
         second: &mut Second,
+        begin: &'b mut Begin,
         block: &'b mut [u8; RECORD],
     ) -> Records<'k, 'g, 't, 'b>
         ensures begun { IsBegun known.entry.now.groups.now (hearing_of heard.now) result }
@@ -54,9 +55,10 @@ impl<'k, 'g, 't, 'b> Records<'k, 'g, 't, 'b> {
     {
         let pgn = heard.message.pgn;
         let group = group_of(known.groups, pgn);
+        begin_with(begin, heard, group, second);
         Records {
             known,
-            begin: begin_of(heard, group, second),
+            begin,
             group,
             pgn: pgn.raw(),
             lines: 0,
@@ -71,6 +73,7 @@ impl<'k, 'g, 't, 'b> Records<'k, 'g, 't, 'b> {
 pub(crate) struct RecordForm<'g, 't> {
     second: Second,
     known: KnownSides<'g, 't, RecordSides>,
+    begin: Begin,
     block: [u8; RECORD],
 }
 
@@ -83,6 +86,7 @@ impl<'g, 't> RecordForm<'g, 't> {
         RecordForm {
             second: Second::new(0),
             known: KnownSides::new(groups),
+            begin: Begin::new(),
             block: [0; RECORD],
         }
     }
@@ -98,7 +102,13 @@ impl<'g, 't> EntryForm for RecordForm<'g, 't> {
     #[inline(always)]
     fn put_heard<W: Sink>(&mut self, heard: &Heard<'_>, sink: &mut W) -> Result<u64, DeviceFault> {
         let groups = self.known.groups;
-        let mut records = Records::new(&self.known, heard, &mut self.second, &mut self.block);
+        let mut records = Records::new(
+            &self.known,
+            heard,
+            &mut self.second,
+            &mut self.begin,
+            &mut self.block,
+        );
         match groups.visit(heard.message.pgn, heard.message.payload, &mut records, sink) {
             Ok(()) => {
                 let lines = records.lines;
@@ -130,16 +140,9 @@ impl<'k, 'g, 't, 'b, W: Sink> ReadingVisitor<'t, W> for Records<'k, 'g, 't, 'b> 
 
     fn visit(&mut self, spn: u32, value: Value<'t, '_>, sink: &mut W) -> Result<(), DeviceFault> {
         let missed = put_entry(
-            self.block,
-            &self.begin,
-            self.group,
-            self.known,
-            self.pgn,
-            spn,
-            value,
-            sink,
+            self.block, self.begin, self.group, self.known, self.pgn, spn, value, sink,
         )?;
-        self.missed = missed.or(self.missed);
+        note(&mut self.missed, missed);
         self.lines = self.lines.saturating_add(1);
         Ok(())
     }
@@ -150,21 +153,18 @@ impl<'k, 'g, 't, 'b, W: Sink> ReadingVisitor<'t, W> for Records<'k, 'g, 't, 'b> 
     }
 }
 
-/// What the records of a message begin with: the moment, the address, the NAME and the PGN, and what the group is called,
+/// Writes what the records of a message begin with: the moment, the address, the NAME and the PGN, and what the group is called,
 /// where that is short and stands as it is.
 #[inline(always)]
-fn begin_of(heard: &Heard<'_>, group: &[u8], second: &mut Second) -> Begin
-    ensures { begun_fields result group.now ≡ begin_text (stamp_micros heard.now.message.stamp) heard.now.message.source
+fn begin_with(begin: &mut Begin, heard: &Heard<'_>, group: &[u8], second: &mut Second)
+    ensures { begun_fields begin.new group.now ≡ begin_text (stamp_micros heard.now.message.stamp) heard.now.message.source
         heard.now.destination (option_map name_raw heard.now.name) (pgn_raw heard.now.message.pgn) ++ later_text group.now }
 {
-    let mut head = [0; HEAD];
-    let quick = group_before(&mut head, group);
-    let from = begin_before(&mut head, quick.unwrap_or(HEAD), heard, second);
-    Begin {
-        head,
-        from,
-        has_group: quick.is_some(),
-    }
+    let quick = group_before(&mut begin.head, group);
+    is_whole(&begin.head);
+    begin.from = begin_before(&mut begin.head, quick.unwrap_or(HEAD), heard, second);
+    is_whole(&begin.head);
+    begin.has_group = quick.is_some();
 }
 
 /// Writes the record of a reading, and answers whose sides weren't known. What stands in `block` afterwards is not known.
