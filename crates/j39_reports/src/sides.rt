@@ -111,14 +111,14 @@ impl Sides {
     }
 }
 
-/// A parameter whose sides weren't known, and the unit of its value.
+/// A parameter whose sides can be learned, and the unit of its value.
 #[derive(Clone, Copy)]
 pub(crate) struct Missed<'t> {
     pub spn: u32,
     pub unit: &'t [u8],
 }
 
-/// Keeps which parameter was missed last, if this one was.
+/// Keeps what was missed last.
 #[inline(always)]
 pub(crate) fn note<'t>(last: &mut Option<Missed<'t>>, missed: Option<Missed<'t>>) {
     if missed.is_some() {
@@ -157,26 +157,37 @@ impl<'g, 't, F: SideForm> KnownSides<'g, 't, F> {
         sides_at(&self.known, pgn, spn)
     }
 
-    /// Remembers the sides of a parameter that was missed, if any was.
-    #[inline(always)]
-    pub fn learn_missed(&mut self, pgn: Pgn, missed: Option<Missed<'t>>)
-        ensures { self.new.groups ≡ self.old.groups }
-    {
-        if let Some(Missed { spn, unit }) = missed {
-            self.learn(pgn.raw(), spn, unit);
+    /// What can be learned of a parameter of a group: nothing where another holds its place, or it has no sides, or they are of
+    /// this unit.
+    pub fn missed(&self, pgn: u32, spn: u32, unit: &'t [u8]) -> Option<Missed<'t>> {
+        let held = self.known[place_of(pgn, spn)];
+        let is_open = match self.of(pgn, spn) {
+            Some(sides) => unit != &sides.unit[sides.unit_from..],
+            None => held.pgn == u32::MAX,
+        };
+        if is_open {
+            Some(Missed { spn, unit })
+        } else {
+            None
         }
     }
 
-    /// Remembers the sides of a parameter of a group for values of this unit, unless another holds its place, or it has none.
-    #[inline(never)]
-    fn learn(&mut self, pgn: u32, spn: u32, unit: &'t [u8])
+    /// Learns what was missed in a group, if anything was.
+    #[inline(always)]
+    pub fn learn(&mut self, pgn: Pgn, missed: Option<Missed<'t>>)
         ensures { self.new.groups ≡ self.old.groups }
     {
-        let place = place_of(pgn, spn);
-        let held = self.known[place];
-        if held.pgn == u32::MAX || held.is_ready && held.pgn == pgn && held.spn == spn {
-            self.known[place] = Sides::of_or_none::<F>(self.groups, pgn, spn, unit);
+        if let Some(Missed { spn, unit }) = missed {
+            self.remember(pgn.raw(), spn, unit);
         }
+    }
+
+    /// Remembers the sides of a parameter of a group for values of this unit.
+    #[inline(never)]
+    fn remember(&mut self, pgn: u32, spn: u32, unit: &[u8])
+        ensures { self.new.groups ≡ self.old.groups }
+    {
+        self.known[place_of(pgn, spn)] = Sides::of_or_none::<F>(self.groups, pgn, spn, unit);
     }
 }
 

@@ -117,7 +117,7 @@ impl<'g, 't> EntryForm for ObjectForm<'g, 't> {
             Ok(()) => {
                 let lines = objects.lines;
                 let missed = objects.missed;
-                self.known.learn_missed(heard.message.pgn, missed);
+                self.known.learn(heard.message.pgn, missed);
                 Ok(lines)
             }
             Err(DeviceFault) => Err(DeviceFault),
@@ -185,7 +185,7 @@ fn open_with(opening: &mut Opening, heard: &Heard<'_>, group: Option<&[u8]>, sec
     opening.has_group = quick.is_some();
 }
 
-/// Writes the object of a reading, and answers whose sides weren't known. What stands in `block` afterwards is not known.
+/// Writes the object of a reading, and answers what can be learned of its parameter. What stands in `block` afterwards is not known.
 #[inline(always)]
 fn put_entry<'t, W: Sink>(
     block: &mut [u8; OBJECT],
@@ -210,7 +210,7 @@ fn put_entry<'t, W: Sink>(
         None => {
             put_unknown(block, opening, group, known.groups, pgn, spn, value, sink)?;
             let unit = value.unit();
-            Ok(Some(Missed { spn, unit }))
+            Ok(known.missed(pgn, spn, unit))
         }
     }
 }

@@ -113,7 +113,7 @@ impl<'g, 't> EntryForm for RecordForm<'g, 't> {
             Ok(()) => {
                 let lines = records.lines;
                 let missed = records.missed;
-                self.known.learn_missed(heard.message.pgn, missed);
+                self.known.learn(heard.message.pgn, missed);
                 Ok(lines)
             }
             Err(DeviceFault) => Err(DeviceFault),
@@ -167,7 +167,7 @@ fn begin_with(begin: &mut Begin, heard: &Heard<'_>, group: &[u8], second: &mut S
     begin.has_group = quick.is_some();
 }
 
-/// Writes the record of a reading, and answers whose sides weren't known. What stands in `block` afterwards is not known.
+/// Writes the record of a reading, and answers what can be learned of its parameter. What stands in `block` afterwards is not known.
 #[inline(always)]
 fn put_entry<'t, W: Sink>(
     block: &mut [u8; RECORD],
@@ -191,7 +191,7 @@ fn put_entry<'t, W: Sink>(
         None => {
             put_unknown(block, begin, group, known.groups, pgn, spn, value, sink)?;
             let unit = value.unit();
-            Ok(Some(Missed { spn, unit }))
+            Ok(known.missed(pgn, spn, unit))
         }
     }
 }
