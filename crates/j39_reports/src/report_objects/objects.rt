@@ -142,6 +142,7 @@ impl<'k, 'g, 't, 'b, W: Sink> ReadingVisitor<'t, W> for Objects<'k, 'g, 't, 'b> 
     ghost has_stopped = { λ subject before at objects sink. HasStopped entry_object subject (told_in (before ++ at ∷ []))
         (record { bytes = W.written sink; has_failed = W.has_failed sink }) };
 
+    #[inline(always)]
     fn visit(&mut self, spn: u32, value: Value<'t, '_>, sink: &mut W) -> Result<(), DeviceFault> {
         let missed = put_entry(
             self.block,

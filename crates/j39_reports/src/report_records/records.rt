@@ -138,6 +138,7 @@ impl<'k, 'g, 't, 'b, W: Sink> ReadingVisitor<'t, W> for Records<'k, 'g, 't, 'b> 
     ghost has_stopped = { λ subject before at records sink. HasStopped entry_record subject (told_in (before ++ at ∷ []))
         (record { bytes = W.written sink; has_failed = W.has_failed sink }) };
 
+    #[inline(always)]
     fn visit(&mut self, spn: u32, value: Value<'t, '_>, sink: &mut W) -> Result<(), DeviceFault> {
         let missed = put_entry(
             self.block, self.begin, self.group, self.known, self.pgn, spn, value, sink,
