@@ -1,5 +1,5 @@
 //! A table of parameters, as its callers see it.
-ghost use Rattle.std.specs.Prelude.{◌≡◌, ◌==◌, ◌<◌, ◌≤◌, IfOk, IsOk, OnErr, OnOk, drop, length, map, true};
+ghost use Rattle.std.specs.Prelude.{◌≡◌, ◌==◌, ◌<◌, ◌≤◌, IfOk, IfSome, IsOk, None, OnErr, OnOk, Some, drop, length, map, true};
 ghost use Rattle.std.specs.List.{flat_map, list_all};
 ghost use Rattle.std.specs.List.Sorted.{IsNonDecreasingBy};
 ghost use Rattle.std.specs.Option.{option_copied, option_map};
@@ -17,6 +17,7 @@ ghost use Rattle.j39_groups.specs.Rows.{StandTogether, is_row};
 ghost use Rattle.j39_groups.specs.Runs.{AreRuns};
 ghost use Rattle.j39_groups.specs.Sightings.{sightings_in};
 ghost use Rattle.j39_groups.specs.Table.{the_table};
+ghost use Rattle.j39_groups.specs.Value.{ValueRecord};
 ghost use Rattle.j39_groups.specs.Visits.{Stops, Takes};
 
 use crate::group_lines::put_rows;
@@ -28,7 +29,7 @@ use crate::row::Row;
 use crate::rows::Rows;
 use crate::rows_before::{HEAD, LINES};
 use crate::runs::{Run, has_group, run_of, runs_of};
-use crate::states::{called, called_by, state_by};
+use crate::states::{called, called_alone, called_by, state_by};
 use crate::table::built_in_rows;
 use crate::value::Value;
 use crate::visiting::{ReadingVisitor, visit_rows};
@@ -215,6 +216,17 @@ impl<'t> Groups<'t> {
             }
             None => (None, None),
         }
+    }
+
+    /// What a parameter of a group is called, where the first row of the table that lists it names no states: then no state of
+    /// it has a name.
+    pub fn name_alone_in(&self, pgn: u32, spn: u32) -> Option<&[u8]>
+        ensures name { IfSome result (λ name. name_in self.now pgn spn ≡ Some name.now) }
+        ensures alone { IfSome result (λ name. (value : ValueRecord) → state_in self.now pgn spn value ≡ None) }
+    {
+        let row = row_in_group(self.rows_for(pgn), pgn, spn)?;
+        let name = called_alone(row)?;
+        Some(name)
     }
 
     /// What the state of a value of a parameter is called: by the first row of the table that lists the parameter in the

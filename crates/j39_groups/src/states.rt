@@ -1,9 +1,10 @@
 //! The names of a parameter's states, behind its name in a row (own).
-ghost use Rattle.std.specs.Prelude.{◌≡◌, ◌≤◌, ◌==◌, None, Some, if◌then◌else◌, length, slice_get};
+ghost use Rattle.std.specs.Prelude.{◌≡◌, ◌≤◌, ◌==◌, IfSome, None, Some, if◌then◌else◌, length, slice_get};
 ghost use Rattle.std.specs.List.{filter_map, slice_split};
 ghost use Rattle.std.specs.Option.{option_map};
 ghost use Rattle.j39_io.specs.Records.{comma};
 ghost use Rattle.j39_groups.specs.Models.{field_record, row_record, scale_record, value_of};
+ghost use Rattle.j39_groups.specs.Value.{ValueRecord};
 ghost use Rattle.j39_groups.specs.States.{called, error_in, indicator_in, name_len, raw_behind, state_by, state_front, state_named, state_words, states_part, steps_up};
 
 use crate::field::Field;
@@ -198,6 +199,15 @@ pub(crate) fn called_by<'r>(row: &'r Row<'_>, value: Value<'_, '_>) -> (&'r [u8]
         return (called, None);
     }
     (called, state_by(row, value))
+}
+
+/// What the parameter of a row is called, where the row names no states.
+pub(crate) fn called_alone<'r>(row: &'r Row<'_>) -> Option<&'r [u8]>
+    ensures called { IfSome result (λ name. called (row_record row.now).name ≡ name.now) }
+    ensures alone { IfSome result (λ name. (value : ValueRecord) → state_by value (row_record row.now) ≡ None) }
+{
+    let (called, part) = split_states(row.name);
+    if part.is_empty() { Some(called) } else { None }
 }
 
 /// What the state of a value is called, by a row.

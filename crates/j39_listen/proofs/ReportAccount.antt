@@ -29,6 +29,15 @@ use Rattle.j39_listen.proofs.Unique.{heard_below_unique, heard_first}
 pub same_made : (a b : Made) → a.messages ≡ b.messages → a.lines ≡ b.lines → a ≡ b
 same_made a b m l = λ i. record { messages = m i; lines = l i }
 
+-- what is met at a frame by a table, and where it stops, are those by the same table
+module _ (form : Form) {which : FilterRecord} {F : List FrameRecord} {f : FrameRecord} {old new : Option (List ℕ)} {a b : List RowRecord} (same : a ≡ b) where
+  pub meets_by : {l' : Listener} {made : Made} → MeetsFrame form (record { rows = a; which = which }) l' F f made old new
+      → MeetsFrame form (record { rows = b; which = which }) l' F f made old new
+  meets_by {l'} {made} meets = subst (λ (rows : List RowRecord). MeetsFrame form (record { rows = rows; which = which }) l' F f made old new) same meets
+
+  pub stops_by : StopsFrame form (record { rows = a; which = which }) F f old new → StopsFrame form (record { rows = b; which = which }) F f old new
+  stops_by stops = subst (λ (rows : List RowRecord). StopsFrame form (record { rows = rows; which = which }) F f old new) same stops
+
 module _ (form : Form) (subject : Subject) where
   abbrev groups : List RowRecord
   groups = subject.rows
@@ -101,15 +110,15 @@ module _ (form : Form) (subject : Subject) where
   }
 
   -- a frame goes to the report
-  pub report_meets : {E : Type 0} (r r' : Report E) → r'.roles.groups ≡ r.roles.groups → (f : FrameRecord)
+  pub report_meets : {E : Type 0} (table : E → List RowRecord) (r r' : Report E) → r'.roles.groups ≡ r.roles.groups → table r'.form ≡ table r.form → (f : FrameRecord)
       → ((asked : FilterRecord) (F : List FrameRecord) → Chooses asked r.chooser F → Chooses asked r'.chooser (F ++ f ∷ [])) → (made : Made) (old new : Option (List ℕ))
-      → ((asked : FilterRecord) (F : List FrameRecord) → Hears r.listener F → Chooses asked r'.chooser (F ++ f ∷ [])
+      → ((asked : FilterRecord) (F : List FrameRecord) → table r.form ≡ r.roles.groups.now → Hears r.listener F → Chooses asked r'.chooser (F ++ f ∷ [])
       → MeetsFrame form (record { rows = r.roles.groups.now; which = asked }) r'.listener F f made old new)
-      → r'.made ≡ made_sum r.made made → Meets (HasReported form subject) r r' (f ∷ []) old new
-  report_meets r r' kept f notes made old new meets sum = λ F before has.
+      → r'.made ≡ made_sum r.made made → Meets (HasReported form table subject) r r' (f ∷ []) old new
+  report_meets table r r' kept form_kept f notes made old new meets sum = λ F before has.
       let chooses = notes which F has.chooses in
       let m : MeetsFrame form subject r'.listener F f made old new =
-      subst (λ (table : List RowRecord). MeetsFrame form (record { rows = table; which = which }) r'.listener F f made old new) has.by (meets which F has.hears chooses) in
+      subst (λ (table : List RowRecord). MeetsFrame form (record { rows = table; which = which }) r'.listener F f made old new) has.by (meets which F (has.form_by ∙ sym has.by) has.hears chooses) in
       let more = or_none m.heard in
       let first = first_stamp (F ++ f ∷ []) in
       let before_is : before ≡ of first has.heard = has.output_is ∙ same_first F (f ∷ []) has.heard has.are_heard in
@@ -117,6 +126,7 @@ module _ (form : Form) (subject : Subject) where
         after = of first (has.heard ++ more);
         met = record {
           by = ap (λ (x : Bor (List RowRecord)). x.now) kept ∙ has.by;
+          form_by = form_kept ∙ has.form_by;
           chooses = chooses;
           heard = has.heard ++ more;
           are_heard = heard_more (is_reported_in groups) F f has.heard m.heard has.are_heard m.heard_at;
@@ -143,15 +153,15 @@ module _ (form : Form) (subject : Subject) where
             ∙ ap (λ t. t ++ (of at split.0).text) (sym (ap (λ (o : Output). o.text) (is ∙ same_first F G first are))),
       )
 
-  pub report_begins : (E : Type 0) → Begins {A = Report E} (λ bus. HasReported form subject) (MakesFilteredIn form groups which)
-  report_begins E = λ bus r F G before all has made.
+  pub report_begins : (E : Type 0) (table : E → List RowRecord) → Begins {A = Report E} (λ bus. HasReported form table subject) (MakesFilteredIn form groups which)
+  report_begins E table = λ bus r F G before all has made.
       let t = texts bus F G has.heard before all has.are_heard has.output_is made in
       ((of (first_stamp (F ++ G)) t.0).text, t.1)
 
   -- all that is made of the frames is made as they are met
-  pub reported_makes : {E : Type 0} (bus : List ℕ) (r : Report E) (F : List FrameRecord) (output : Output) → HasReported form subject r F output
+  pub reported_makes : {E : Type 0} (table : E → List RowRecord) (bus : List ℕ) (r : Report E) (F : List FrameRecord) (output : Output) → HasReported form table subject r F output
       → MakesFilteredIn form groups which bus F output
-  reported_makes bus r F output has = (has.heard, has.are_heard, has.output_is)
+  reported_makes table bus r F output has = (has.heard, has.are_heard, has.output_is)
 
   pub report_one : MakesOne (MakesFilteredIn form groups which)
   report_one = λ bus F x y (hs, are_x, is_x) (ks, are_y, is_y).
@@ -160,13 +170,13 @@ module _ (form : Form) (subject : Subject) where
       ∙ sym (ap (λ (o : Output). o.text) is_y)
 
   -- a fault of the writer at a frame
-  pub report_stops : {E : Type 0} (r : Report E) (f : FrameRecord)
+  pub report_stops : {E : Type 0} (table : E → List RowRecord) (r : Report E) (f : FrameRecord)
       (old new : Option (List ℕ))
-      → ((F : List FrameRecord) → Hears r.listener F → Chooses which r.chooser F → StopsFrame form (record { rows = r.roles.groups.now; which = which }) F f old new)
-      → (bus : List ℕ) → Stops (HasReported form subject) (MakesFilteredIn form groups which bus) r (f ∷ []) old new
-  report_stops r f old new stops bus = λ F G before all has made.
+      → ((F : List FrameRecord) → table r.form ≡ r.roles.groups.now → Hears r.listener F → Chooses which r.chooser F → StopsFrame form (record { rows = r.roles.groups.now; which = which }) F f old new)
+      → (bus : List ℕ) → Stops (HasReported form table subject) (MakesFilteredIn form groups which bus) r (f ∷ []) old new
+  report_stops table r f old new stops bus = λ F G before all has made.
       let m : StopsFrame form subject F f old new =
-      subst (λ (table : List RowRecord). StopsFrame form (record { rows = table; which = which }) F f old new) has.by (stops F has.hears has.chooses) in
+      subst (λ (table : List RowRecord). StopsFrame form (record { rows = table; which = which }) F f old new) has.by (stops F (has.form_by ∙ sym has.by) has.hears has.chooses) in
       let more = or_none m.heard in
       let H = F ++ f ∷ [] in
       let t = texts bus H G (has.heard ++ more) (of (first_stamp H) (has.heard ++ more)) all
@@ -184,11 +194,11 @@ module _ (form : Form) (subject : Subject) where
       }
 
   -- a frame at which nothing is heard, and that leaves the report as it is
-  pub report_passes : {E : Type 0} (r : Report E) (f : FrameRecord) (held : Option (List ℕ)) → ((asked : FilterRecord) (F : List FrameRecord) → Chooses asked r.chooser F → Chooses asked r.chooser (F ++ f ∷ []))
+  pub report_passes : {E : Type 0} (table : E → List RowRecord) (r : Report E) (f : FrameRecord) (held : Option (List ℕ)) → ((asked : FilterRecord) (F : List FrameRecord) → Chooses asked r.chooser F → Chooses asked r.chooser (F ++ f ∷ []))
       → ((asked : FilterRecord) (F : List FrameRecord) → Hears r.listener F → MeetsFrame form (record { rows = r.roles.groups.now; which = asked }) r.listener F f (made_by None) held held)
-      → Meets (HasReported form subject) r r (f ∷ []) held held
-  report_passes r f held notes meets = λ F before has.
+      → Meets (HasReported form table subject) r r (f ∷ []) held held
+  report_passes table r f held notes meets = λ F before has.
       let same : r.made ≡ made_sum r.made (made_by None) =
       has.made_is ∙ same_made _ _ (capped-sum before.messages 0 before.messages (omega arith)) (capped-sum before.lines 0 before.lines (omega arith))
       ∙ ap (λ (x : Made). made_sum x (made_by None)) (sym has.made_is) in
-      report_meets r r refl f notes (made_by None) held held (λ asked G hears chosen. meets asked G hears) same F before has
+      report_meets table r r refl refl f notes (made_by None) held held (λ asked G same_table hears chosen. meets asked G hears) same F before has

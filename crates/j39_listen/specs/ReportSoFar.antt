@@ -36,9 +36,10 @@ abbrev pub Makes : Form → Subject → Making
 Makes form subject = MakesFilteredIn form subject.rows subject.which
 
 -- the report of F in this form was made, and its listener was fed F
-pub record HasReported {E : Type 0} (form : Form) (subject : Subject) (report : Report E)
+pub record HasReported {E : Type 0} (form : Form) (table : E → List RowRecord) (subject : Subject) (report : Report E)
     (F : List FrameRecord) (output : Output) : Type 0 where
   pub by : report.roles.groups.now ≡ subject.rows
+  pub form_by : table report.form ≡ subject.rows
   pub chooses : Chooses subject.which report.chooser F
   pub heard : List Hearing
   pub are_heard : AreHeard subject.rows F heard

@@ -1,11 +1,11 @@
 //! The report of what is heard on a bus, kept to the entries that a filter takes, as an account of its frames.
-ghost use Rattle.std.specs.Prelude.{◌≡◌, ◌∷◌, ◌++◌, [], List, IfOk, OnOk, Err, if◌then◌else◌, length};
+ghost use Rattle.std.specs.Prelude.{◌≡◌, ◌∷◌, ◌++◌, [], List, IfOk, OnOk, Err, false, if◌then◌else◌, length, true};
 ghost use Rattle.std.specs.List.{flat_map};
 ghost use Rattle.j39_io.specs.Puts.{Puts};
 ghost use Rattle.j39_io.specs.Turn.{turn};
 ghost use Rattle.j39_frame.specs.Frame.{FrameRecord};
 ghost use Rattle.j39_frame.specs.Identifier.{pgn_of};
-ghost use Rattle.j39_groups.specs.Readings.{is_reported_in};
+ghost use Rattle.j39_groups.specs.Readings.{is_network_group, is_reported_in};
 ghost use Rattle.j39_listen.specs.AccountCalls.{LeavesWriter};
 ghost use Rattle.j39_listen.specs.Asking.{AsksForBoxes};
 ghost use Rattle.j39_listen.specs.Chooses.{Chooses, which_of};
@@ -41,14 +41,15 @@ pub struct Report<'g, 't, E> {
 }
 
 impl<'g, 't, E: EntryForm> Report<'g, 't, E> {
-    /// The report of no frames; where no filter is given, it is kept whole.
+    /// The report of no frames, in a form by the same table; where no filter is given, it is kept whole.
     pub fn new(
         alloc: Global,
         groups: &'g Groups<'t>,
         filter: Option<Filter<'g>>,
         form: E,
     ) -> Report<'g, 't, E>
-        ensures { HasReported E.text_by (record { rows = groups.entry.now; which = which_of filter.entry }) result []
+        requires { E.table_of form ≡ groups.now }
+        ensures { HasReported E.text_by E.table_of (record { rows = groups.entry.now; which = which_of filter.entry }) result []
             (filtered_of E.text_by groups.entry.now (which_of filter.entry) 0 []) }
     {
         Report {
@@ -67,7 +68,7 @@ impl<'g, 't, E: EntryForm> Account for Report<'g, 't, E> {
 
     ghost Subject = { Subject };
 
-    ghost has_met = { λ subject bus. HasReported E.text_by subject };
+    ghost has_met = { λ subject bus. HasReported E.text_by E.table_of subject };
 
     ghost makes = { λ subject. Makes E.text_by subject };
 
@@ -82,7 +83,6 @@ impl<'g, 't, E: EntryForm> Account for Report<'g, 't, E> {
     #[inline(always)]
     fn feed<W: Sink>(&mut self, _: &Bus, frame: &Frame, sink: &mut W) -> Result<(), LineFault> {
         self.chooser.note(frame);
-        let groups = self.roles.groups;
         let role = self.roles.of(frame.id);
         if !role.is_heard {
             self.made = self.made.and(NOTHING);
@@ -93,7 +93,6 @@ impl<'g, 't, E: EntryForm> Account for Report<'g, 't, E> {
             role.is_single,
             frame,
             &self.chooser,
-            groups,
             &mut self.form,
             &mut self.made,
             sink,
@@ -124,20 +123,22 @@ fn put_frame<E: EntryForm, W: Sink>(
     is_single: bool,
     frame: &Frame,
     chooser: &Chooser<'_>,
-    groups: &Groups<'_>,
     form: &mut E,
     made: &mut Made,
     sink: &mut W,
 ) -> Result<(), LineFault>
-    requires { is_single ≡ is_reported_in groups.now (pgn_of frame.now.id) }
-    ensures met { OnOk result ((more : Made) × (made.new ≡ made_sum made.old more)
-        × ((which : FilterRecord) (F : List FrameRecord) → Hears listener.old F → Chooses which chooser.now (F ++ frame.now ∷ [])
-        → MeetsFrame E.text_by (record { rows = groups.now; which = which }) listener.new F frame.now more
-        (W.written sink.old) (W.written sink.new))) }
-    ensures writer { LeavesWriter result (turn W.written W.has_failed sink.old sink.new) }
-    ensures stops { result ≡ Err line_fault.Write → (which : FilterRecord) (F : List FrameRecord) → Hears listener.old F
+    requires { is_single ≡ true → is_network_group (pgn_of frame.now.id) ≡ false }
+    ensures met { OnOk result ((more : Made) × (made.new ≡ made_sum made.old more) × ((which : FilterRecord) (F : List FrameRecord)
+        → is_single ≡ is_reported_in (E.table_of form.old) (pgn_of frame.now.id) → Hears listener.old F
         → Chooses which chooser.now (F ++ frame.now ∷ [])
-        → StopsFrame E.text_by (record { rows = groups.now; which = which }) F frame.now (W.written sink.old) (W.written sink.new) }
+        → MeetsFrame E.text_by (record { rows = E.table_of form.old; which = which }) listener.new F frame.now more
+        (W.written sink.old) (W.written sink.new))) }
+    ensures table { OnOk result (E.table_of form.new ≡ E.table_of form.old) }
+    ensures writer { LeavesWriter result (turn W.written W.has_failed sink.old sink.new) }
+    ensures stops { result ≡ Err line_fault.Write → (which : FilterRecord) (F : List FrameRecord)
+        → is_single ≡ is_reported_in (E.table_of form.old) (pgn_of frame.now.id) → Hears listener.old F
+        → Chooses which chooser.now (F ++ frame.now ∷ [])
+        → StopsFrame E.text_by (record { rows = E.table_of form.old; which = which }) F frame.now (W.written sink.old) (W.written sink.new) }
     ensures asked { result ≡ Err line_fault.Memory → (F : List FrameRecord) → Hears listener.old F
         → AsksForBoxes F frame.now }
     ensures refused { result ≡ Err line_fault.Memory → (listener.new ≡ listener.old) × (made.new ≡ made.old) }
@@ -150,7 +151,7 @@ fn put_frame<E: EntryForm, W: Sink>(
         }
         Ok(Some(heard)) => {
             let is_taken = chooser.takes(&heard);
-            match put_taken(is_taken, &heard, groups, form, sink) {
+            match put_taken(is_taken, &heard, form, sink) {
                 Ok(lines) => {
                     *made = made.and(Made { messages: 1, lines });
                     Ok(())
@@ -166,16 +167,16 @@ fn put_frame<E: EntryForm, W: Sink>(
 fn put_taken<E: EntryForm, W: Sink>(
     is_taken: bool,
     heard: &Heard<'_>,
-    groups: &Groups<'_>,
     form: &mut E,
     sink: &mut W,
 ) -> Result<u64, DeviceFault>
-    ensures lines { IfOk result (λ n. n ≡ capped (length (if is_taken then entries_of groups.now (hearing_of heard.now) else []))) }
-    ensures puts { Puts (flat_map (E.text_by groups.now) (if is_taken then entries_of groups.now (hearing_of heard.now) else []))
+    ensures lines { IfOk result (λ n. n ≡ capped (length (if is_taken then entries_of (E.table_of form.old) (hearing_of heard.now) else []))) }
+    ensures puts { Puts (flat_map (E.text_by (E.table_of form.old)) (if is_taken then entries_of (E.table_of form.old) (hearing_of heard.now) else []))
         result (turn W.written W.has_failed sink.old sink.new) }
+    ensures table { E.table_of form.new ≡ E.table_of form.old }
 {
     if is_taken {
-        form.put_heard(heard, groups, sink)
+        form.put_heard(heard, sink)
     } else {
         Ok(0)
     }

@@ -115,7 +115,7 @@ pub fn run_filtered<R: Source, W: Sink>(
     ensures kept_up { result ≡ Err Read → WritesWholeLines (MakesFiltered groups.now (which_of filter.entry)) bus
         (R.remaining source.old) (R.remaining source.new) (W.written sink.old) (W.written sink.new) }
 {
-    let pen = Pen::new();
+    let pen = Pen::new(groups);
     let report = Report::new(alloc, groups, filter, pen);
     run_over(report, source, sink, bus, limit)
 }

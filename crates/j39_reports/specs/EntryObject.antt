@@ -50,11 +50,13 @@ unfoldable pub unit_in : ValueRecord → Option (List ℕ)
 unit_in (number n slot) = Some slot.unit
 unit_in value = None
 
--- the value, its unit, what the table calls its state, and the end of the line
+-- behind a value its unit, what the table calls its state, and the end of the line
+abbrev pub behind_members : Option (List ℕ) → Option (List ℕ) → List ℕ
+behind_members unit state = codes ",\"unit\":" ++ string_or_null unit ++ codes ",\"state\":" ++ string_or_null state ++ codes "}\n"
+
+-- the value, and these
 unfoldable pub value_members : ValueRecord → Option (List ℕ) → List ℕ
-value_members value state =
-    codes ",\"value\":" ++ value_json value ++ codes ",\"unit\":" ++ string_or_null (unit_in value)
-    ++ codes ",\"state\":" ++ string_or_null state ++ codes "}\n"
+value_members value state = codes ",\"value\":" ++ value_json value ++ behind_members (unit_in value) state
 
 abbrev pub entry_object : List RowRecord → Entry → List ℕ
 entry_object groups e =

@@ -69,3 +69,4 @@ pub mod SurveyRun
 pub mod SurveyModels
 pub mod CameSoFar
 pub mod SurveySoFar
+pub mod SidesSoFar

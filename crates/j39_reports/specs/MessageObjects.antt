@@ -17,8 +17,8 @@ opened o group = if o.has_group then drop o.from o.head else drop o.from o.head 
 
 -- the objects are those of this message by this table
 pub record IsOpened (groups : List RowRecord) (h : Hearing) (objects : Objects) : Type 0 where
-  pub by : objects.groups.now ≡ groups
-  pub opening_is : opened objects.opening (option_map (λ name. name.now) objects.group)
+  pub by : objects.known.now.groups.now ≡ groups
+  pub opening_is : opened objects.opening.now (option_map (λ name. name.now) objects.group)
       ≡ opening_text h.stamp h.message.source h.destination h.name h.message.pgn ++ group_member (group_name_in groups h.message.pgn)
   pub pgn_is : objects.pgn ≡ h.message.pgn
 

@@ -17,8 +17,8 @@ begun_fields begin group =
 
 -- the records are those of this message by this table
 pub record IsBegun (groups : List RowRecord) (h : Hearing) (records : Records) : Type 0 where
-  pub by : records.groups.now ≡ groups
-  pub begin_is : begun_fields records.begin records.group.now
+  pub by : records.known.now.groups.now ≡ groups
+  pub begin_is : begun_fields records.begin.now records.group.now
       ≡ begin_text h.stamp h.message.source h.destination h.name h.message.pgn ++ later_text (group_called groups h.message.pgn)
   pub pgn_is : records.pgn ≡ h.message.pgn
 

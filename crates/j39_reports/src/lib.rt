@@ -8,6 +8,7 @@ pub mod node_lists;
 mod report_objects;
 mod report_records;
 mod second;
+mod sides;
 pub mod summaries;
 pub mod surveys;
 mod watching;

@@ -1,7 +1,9 @@
 //! The report of a log as objects of JSON, one a line (RFC 8259).
 
+mod object_sides;
 mod objects;
 mod opening;
+mod prepared_object;
 mod quick_object;
 mod run;
 

@@ -1,10 +1,12 @@
 //! The report of a log as records of comma-separated values (RFC 4180).
 
 mod begin;
+mod prepared_record;
 mod quick_record;
+mod record_sides;
 mod records;
 mod run;
 
-pub(crate) use begin::digits_before;
+pub(crate) use begin::{digits_before, is_whole};
 pub(crate) use quick_record::{bits_of, scaled_before};
 pub use run::report_csv;

@@ -7,6 +7,7 @@ ghost use Rattle.j39_address.specs.Name.{name_raw};
 ghost use Rattle.j39_frame.specs.Pgn.{pgn_raw};
 ghost use Rattle.j39_frame.specs.Stamp.{stamp_micros};
 ghost use Rattle.j39_groups.specs.Models.{value_of};
+ghost use Rattle.j39_groups.specs.Names.{name_in, state_in};
 ghost use Rattle.j39_listen.specs.HeardModel.{hearing_of};
 ghost use Rattle.j39_reports.specs.EntryObject.{group_member, opening_text, parameter_members, value_json, value_members};
 ghost use Rattle.j39_reports.specs.MessageObjects.{opened};
@@ -14,10 +15,13 @@ ghost use Rattle.j39_reports.specs.Json.{bytes_member, string_or_null};
 ghost use Rattle.j39_rows.specs.Json.{string_text};
 
 use crate::json::put_string_or_null;
+use crate::report_objects::object_sides::ObjectSides;
 use crate::report_objects::opening::{HEAD, Opening, group_before, moment_before, sender_before};
+use crate::report_objects::prepared_object::prepared_before;
 use crate::report_objects::quick_object::{OBJECT, object_before, unit_in};
-use crate::report_records::digits_before;
+use crate::report_records::{digits_before, is_whole};
 use crate::second::Second;
+use crate::sides::{KnownSides, Missed, note};
 use arrayvec::ArrayVec;
 use j39_groups::{Groups, ReadingVisitor, Value, push_decimal};
 use j39_io::backwards::bytes_before;
@@ -28,37 +32,41 @@ use j39_rows::{put_bytes_under, put_string};
 
 /// The objects of a message so far.
 #[derive(Drop)]
-pub(crate) struct Objects<'g, 't, 'b> {
-    groups: &'g Groups<'t>,
-    opening: Opening,
+pub(crate) struct Objects<'k, 'g, 't, 'b> {
+    known: &'k KnownSides<'g, 't, ObjectSides>,
+    opening: &'b mut Opening,
     group: Option<&'g [u8]>,
     pgn: u32,
     lines: u64,
+    missed: Option<Missed<'t>>,
     block: &'b mut [u8; OBJECT],
 }
 
-impl<'g, 't, 'b> Objects<'g, 't, 'b> {
+impl<'k, 'g, 't, 'b> Objects<'k, 'g, 't, 'b> {
     ghost use Rattle.j39_reports.specs.MessageObjects.{IsOpened};
 
     /// None so far.
     #[inline(always)]
     fn new(
-        groups: &'g Groups<'t>,
+        known: &'k KnownSides<'g, 't, ObjectSides>,
         heard: &Heard<'_>,
         second: &mut Second,
+        opening: &'b mut Opening,
         block: &'b mut [u8; OBJECT],
-    ) -> Objects<'g, 't, 'b>
-        ensures opened { IsOpened groups.entry.now (hearing_of heard.now) result }
+    ) -> Objects<'k, 'g, 't, 'b>
+        ensures opened { IsOpened known.entry.now.groups.now (hearing_of heard.now) result }
         ensures none { result.lines ≡ 0 }
     {
         let pgn = heard.message.pgn;
-        let group = groups.group_name(pgn);
+        let group = known.groups.group_name(pgn);
+        open_with(opening, heard, group, second);
         Objects {
-            groups,
-            opening: opening_of(heard, group, second),
+            known,
+            opening,
             group,
             pgn: pgn.raw(),
             lines: 0,
+            missed: None,
             block,
         }
     }
@@ -66,44 +74,58 @@ impl<'g, 't, 'b> Objects<'g, 't, 'b> {
 
 /// The form of objects: one for each entry.
 #[derive(Drop)]
-pub(crate) struct ObjectForm {
+pub(crate) struct ObjectForm<'g, 't> {
     second: Second,
+    known: KnownSides<'g, 't, ObjectSides>,
+    opening: Opening,
     block: [u8; OBJECT],
 }
 
-impl ObjectForm {
-    /// At the second 0.
-    pub fn new() -> ObjectForm
-        ensures { result.second.value ≡ 0 }
+impl<'g, 't> ObjectForm<'g, 't> {
+    /// By a table of parameters, at the second 0.
+    pub fn new(groups: &'g Groups<'t>) -> ObjectForm<'g, 't>
+        ensures groups { result.known.groups ≡ groups.entry }
+        ensures second { result.second.value ≡ 0 }
     {
         ObjectForm {
             second: Second::new(0),
+            known: KnownSides::new(groups),
+            opening: Opening::new(),
             block: [0; OBJECT],
         }
     }
 }
 
-impl EntryForm for ObjectForm {
+impl<'g, 't> EntryForm for ObjectForm<'g, 't> {
     ghost use Rattle.j39_reports.specs.EntryObject.{entry_object};
 
     ghost text_by = { entry_object };
 
+    ghost table_of = { λ form. form.known.groups.now };
+
     #[inline(always)]
-    fn put_heard<W: Sink>(
-        &mut self,
-        heard: &Heard<'_>,
-        groups: &Groups<'_>,
-        sink: &mut W,
-    ) -> Result<u64, DeviceFault> {
-        let mut objects = Objects::new(groups, heard, &mut self.second, &mut self.block);
+    fn put_heard<W: Sink>(&mut self, heard: &Heard<'_>, sink: &mut W) -> Result<u64, DeviceFault> {
+        let groups = self.known.groups;
+        let mut objects = Objects::new(
+            &self.known,
+            heard,
+            &mut self.second,
+            &mut self.opening,
+            &mut self.block,
+        );
         match groups.visit(heard.message.pgn, heard.message.payload, &mut objects, sink) {
-            Ok(()) => Ok(objects.lines),
+            Ok(()) => {
+                let lines = objects.lines;
+                let missed = objects.missed;
+                self.known.learn(heard.message.pgn, missed);
+                Ok(lines)
+            }
             Err(DeviceFault) => Err(DeviceFault),
         }
     }
 }
 
-impl<'g, 't, 'b, W: Sink> ReadingVisitor<'t, W> for Objects<'g, 't, 'b> {
+impl<'k, 'g, 't, 'b, W: Sink> ReadingVisitor<'t, W> for Objects<'k, 'g, 't, 'b> {
     ghost use Rattle.std.specs.Prelude.{◌++◌, ◌∷◌, []};
     ghost use Rattle.j39_groups.specs.Sightings.{told_in};
     ghost use Rattle.j39_reports.specs.EntryObject.{entry_object};
@@ -120,18 +142,19 @@ impl<'g, 't, 'b, W: Sink> ReadingVisitor<'t, W> for Objects<'g, 't, 'b> {
     ghost has_stopped = { λ subject before at objects sink. HasStopped entry_object subject (told_in (before ++ at ∷ []))
         (record { bytes = W.written sink; has_failed = W.has_failed sink }) };
 
+    #[inline(always)]
     fn visit(&mut self, spn: u32, value: Value<'t, '_>, sink: &mut W) -> Result<(), DeviceFault> {
-        let (parameter, state) = self.groups.called_in(self.pgn, spn, value);
-        put_object(
+        let missed = put_entry(
             self.block,
-            &self.opening,
+            self.opening,
             self.group,
+            self.known,
+            self.pgn,
             spn,
-            parameter,
             value,
-            state,
             sink,
         )?;
+        note(&mut self.missed, missed);
         self.lines = self.lines.saturating_add(1);
         Ok(())
     }
@@ -144,22 +167,74 @@ impl<'g, 't, 'b, W: Sink> ReadingVisitor<'t, W> for Objects<'g, 't, 'b> {
 
 /// What the objects of a message begin with, of a group that is called so.
 #[inline(always)]
-fn opening_of(heard: &Heard<'_>, group: Option<&[u8]>, second: &mut Second) -> Opening
-    ensures { opened result (option_map (λ name. name.now) group.entry) ≡ opening_text (stamp_micros heard.now.message.stamp)
+fn open_with(opening: &mut Opening, heard: &Heard<'_>, group: Option<&[u8]>, second: &mut Second)
+    ensures { opened opening.new (option_map (λ name. name.now) group.entry) ≡ opening_text (stamp_micros heard.now.message.stamp)
         heard.now.message.source heard.now.destination (option_map name_raw heard.now.name)
         (pgn_raw heard.now.message.pgn) ++ group_member (option_map (λ name. name.now) group.entry) }
 {
-    let mut head = [0; HEAD];
-    let quick = group_before(&mut head, group);
-    let number = digits_before(&mut head, quick.unwrap_or(HEAD), heard.message.pgn.raw());
-    let key = bytes_before(&mut head, number, *b",\"pgn\":");
-    let sender = sender_before(&mut head, key, heard);
-    let from = moment_before(&mut head, sender, second, heard.message.stamp);
-    Opening {
-        head,
-        from,
-        has_group: quick.is_some(),
+    let quick = group_before(&mut opening.head, group);
+    is_whole(&opening.head);
+    let number = digits_before(
+        &mut opening.head,
+        quick.unwrap_or(HEAD),
+        heard.message.pgn.raw(),
+    );
+    let key = bytes_before(&mut opening.head, number, *b",\"pgn\":");
+    let sender = sender_before(&mut opening.head, key, heard);
+    opening.from = moment_before(&mut opening.head, sender, second, heard.message.stamp);
+    is_whole(&opening.head);
+    opening.has_group = quick.is_some();
+}
+
+/// Writes the object of a reading, and answers what can be learned of its parameter. What stands in `block` afterwards is not known.
+#[inline(always)]
+fn put_entry<'t, W: Sink>(
+    block: &mut [u8; OBJECT],
+    opening: &Opening,
+    group: Option<&[u8]>,
+    known: &KnownSides<'_, 't, ObjectSides>,
+    pgn: u32,
+    spn: u32,
+    value: Value<'t, '_>,
+    sink: &mut W,
+) -> Result<Option<Missed<'t>>, DeviceFault>
+    ensures { Puts (opened opening.now (option_map (λ text. text.now) group.entry)
+        ++ (parameter_members spn (name_in known.now.groups.now pgn spn)
+        ++ value_members (value_of value.entry) (state_in known.now.groups.now pgn spn (value_of value.entry))))
+        result (turn W.written W.has_failed sink.old sink.new) }
+{
+    match prepared_before(block, opening, known, pgn, spn, value) {
+        Some(start) => {
+            put_all(sink, &block[start..])?;
+            Ok(None)
+        }
+        None => {
+            put_unknown(block, opening, group, known.groups, pgn, spn, value, sink)?;
+            let unit = value.unit();
+            Ok(known.missed(pgn, spn, unit))
+        }
     }
+}
+
+/// Writes the object of a reading whose sides aren't known.
+#[inline(never)]
+fn put_unknown<W: Sink>(
+    block: &mut [u8; OBJECT],
+    opening: &Opening,
+    group: Option<&[u8]>,
+    groups: &Groups<'_>,
+    pgn: u32,
+    spn: u32,
+    value: Value<'_, '_>,
+    sink: &mut W,
+) -> Result<(), DeviceFault>
+    ensures { Puts (opened opening.now (option_map (λ text. text.now) group.entry)
+        ++ (parameter_members spn (name_in groups.now pgn spn)
+        ++ value_members (value_of value.entry) (state_in groups.now pgn spn (value_of value.entry))))
+        result (turn W.written W.has_failed sink.old sink.new) }
+{
+    let (parameter, state) = groups.called_in(pgn, spn, value);
+    put_object(block, opening, group, spn, parameter, value, state, sink)
 }
 
 /// Writes the object of a reading, in one piece where it is short. What stands in `block` afterwards is not known.

@@ -31,6 +31,15 @@ pub(crate) struct Opening {
 }
 
 impl Opening {
+    /// With nothing.
+    pub fn new() -> Opening {
+        Opening {
+            head: [0; HEAD],
+            from: HEAD,
+            has_group: false,
+        }
+    }
+
     /// The bytes.
     pub fn bytes(&self) -> &[u8]
         ensures { result.now ≡ drop self.now.from self.now.head }

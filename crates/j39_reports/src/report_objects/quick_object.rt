@@ -81,7 +81,7 @@ fn value_before(
 /// Writes a value: a number, or a word as a string.
 #[inline(always)]
 #[tactic(auto, unfolding(crate::specs::EntryObject::value_json))]
-fn json_before(out: &mut [u8], end: usize, value: Value<'_, '_>) -> Option<usize>
+pub(crate) fn json_before(out: &mut [u8], end: usize, value: Value<'_, '_>) -> Option<usize>
     requires room { 38 ≤ end }
     requires within { end ≤ length out.old }
     ensures written { IfSome result (λ start. WritesBefore out.old out.new end start (value_json (value_of value.entry))) }

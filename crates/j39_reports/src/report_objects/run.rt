@@ -44,7 +44,7 @@ pub fn report_json<R: Source, W: Sink>(
     ensures kept_up { result ≡ Err Read → WritesWholeLines (MakesObjects groups.now (which_of filter.entry)) bus
         (R.remaining source.old) (R.remaining source.new) (W.written sink.old) (W.written sink.new) }
 {
-    let form = ObjectForm::new();
+    let form = ObjectForm::new(groups);
     let report = Report::new(alloc, groups, filter, form);
     run_over(report, source, sink, bus, limit)
 }

@@ -31,6 +31,23 @@ pub(crate) struct Begin {
     pub ghost inside: { from ≤ 96 },
 }
 
+impl Begin {
+    /// With nothing.
+    pub fn new() -> Begin {
+        Begin {
+            head: [0; HEAD],
+            from: HEAD,
+            has_group: false,
+        }
+    }
+}
+
+/// Says that a block has all its bytes.
+#[inline(always)]
+pub(crate) fn is_whole<const N: usize>(block: &[u8; N])
+    ensures { length block.now ≡ N }
+{}
+
 /// Writes a comma and what a group is called at the end of a block, where that is short and stands as it is.
 #[inline(always)]
 pub(crate) fn group_before(out: &mut [u8; HEAD], group: &[u8]) -> Option<usize>

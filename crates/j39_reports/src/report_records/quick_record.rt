@@ -114,7 +114,7 @@ pub(crate) fn bits_of(block: &[u8; 8], byte: u8) -> u64
 /// Writes a value without its unit.
 #[inline(always)]
 #[tactic(auto, unfolding(j39_groups::specs::ValueText::value_field, j39_groups::specs::ValueText::bare_text, j39_groups::specs::ValueText::value_text))]
-fn bare_before(out: &mut [u8], end: usize, value: Value<'_, '_>) -> Option<usize>
+pub(crate) fn bare_before(out: &mut [u8], end: usize, value: Value<'_, '_>) -> Option<usize>
     requires room { 38 ≤ end }
     requires within { end ≤ length out.old }
     ensures written { IfSome result (λ start. WritesBefore out.old out.new end start

@@ -14,9 +14,12 @@ ghost use Rattle.j39_reports.specs.Columns.{last_field};
 ghost use Rattle.j39_reports.specs.EntryText.{begin_text, group_called, named_fields, parameter_called, state_called, value_fields};
 ghost use Rattle.j39_reports.specs.MessageRecords.{begun_fields};
 
-use crate::report_records::begin::{Begin, HEAD, begin_before, group_before};
+use crate::report_records::begin::{Begin, HEAD, begin_before, group_before, is_whole};
+use crate::report_records::prepared_record::prepared_before;
 use crate::report_records::quick_record::{RECORD, record_before};
+use crate::report_records::record_sides::RecordSides;
 use crate::second::Second;
+use crate::sides::{KnownSides, Missed, note};
 use arrayvec::ArrayVec;
 use j39_frame::Pgn;
 use j39_groups::{Groups, ReadingVisitor, Value, push_decimal};
@@ -25,75 +28,100 @@ use j39_listen::{EntryForm, Heard};
 
 /// The records of a message so far.
 #[derive(Drop)]
-pub(crate) struct Records<'g, 't> {
-    groups: &'g Groups<'t>,
-    begin: Begin,
+pub(crate) struct Records<'k, 'g, 't, 'b> {
+    known: &'k KnownSides<'g, 't, RecordSides>,
+    begin: &'b mut Begin,
     group: &'g [u8],
     pgn: u32,
     lines: u64,
-    block: [u8; RECORD],
+    missed: Option<Missed<'t>>,
+    block: &'b mut [u8; RECORD],
 }
 
-impl<'g, 't> Records<'g, 't> {
+impl<'k, 'g, 't, 'b> Records<'k, 'g, 't, 'b> {
     ghost use Rattle.j39_reports.specs.MessageRecords.{IsBegun};
 
     /// None so far.
     #[inline(always)]
-    fn new(groups: &'g Groups<'t>, heard: &Heard<'_>, second: &mut Second) -> Records<'g, 't>
-        ensures begun { IsBegun groups.entry.now (hearing_of heard.now) result }
+    fn new(
+        known: &'k KnownSides<'g, 't, RecordSides>,
+        heard: &Heard<'_>,
+        second: &mut Second,
+        begin: &'b mut Begin,
+        block: &'b mut [u8; RECORD],
+    ) -> Records<'k, 'g, 't, 'b>
+        ensures begun { IsBegun known.entry.now.groups.now (hearing_of heard.now) result }
         ensures none { result.lines ≡ 0 }
     {
         let pgn = heard.message.pgn;
-        let group = group_of(groups, pgn);
+        let group = group_of(known.groups, pgn);
+        begin_with(begin, heard, group, second);
         Records {
-            groups,
-            begin: begin_of(heard, group, second),
+            known,
+            begin,
             group,
             pgn: pgn.raw(),
             lines: 0,
-            block: [0; RECORD],
+            missed: None,
+            block,
         }
     }
 }
 
 /// The form of records: one for each entry.
 #[derive(Drop)]
-pub(crate) struct RecordForm {
+pub(crate) struct RecordForm<'g, 't> {
     second: Second,
+    known: KnownSides<'g, 't, RecordSides>,
+    begin: Begin,
+    block: [u8; RECORD],
 }
 
-impl RecordForm {
-    /// At the second 0.
-    pub fn new() -> RecordForm
-        ensures { result.second.value ≡ 0 }
+impl<'g, 't> RecordForm<'g, 't> {
+    /// By a table of parameters, at the second 0.
+    pub fn new(groups: &'g Groups<'t>) -> RecordForm<'g, 't>
+        ensures groups { result.known.groups ≡ groups.entry }
+        ensures second { result.second.value ≡ 0 }
     {
         RecordForm {
             second: Second::new(0),
+            known: KnownSides::new(groups),
+            begin: Begin::new(),
+            block: [0; RECORD],
         }
     }
 }
 
-impl EntryForm for RecordForm {
+impl<'g, 't> EntryForm for RecordForm<'g, 't> {
     ghost use Rattle.j39_reports.specs.EntryText.{entry_record};
 
     ghost text_by = { entry_record };
 
+    ghost table_of = { λ form. form.known.groups.now };
+
     #[inline(always)]
-    fn put_heard<W: Sink>(
-        &mut self,
-        heard: &Heard<'_>,
-        groups: &Groups<'_>,
-        sink: &mut W,
-    ) -> Result<u64, DeviceFault> {
-        let mut records = Records::new(groups, heard, &mut self.second);
+    fn put_heard<W: Sink>(&mut self, heard: &Heard<'_>, sink: &mut W) -> Result<u64, DeviceFault> {
+        let groups = self.known.groups;
+        let mut records = Records::new(
+            &self.known,
+            heard,
+            &mut self.second,
+            &mut self.begin,
+            &mut self.block,
+        );
         match groups.visit(heard.message.pgn, heard.message.payload, &mut records, sink) {
-            Ok(()) => Ok(records.lines),
+            Ok(()) => {
+                let lines = records.lines;
+                let missed = records.missed;
+                self.known.learn(heard.message.pgn, missed);
+                Ok(lines)
+            }
             Err(DeviceFault) => Err(DeviceFault),
         }
     }
 }
 
-impl<'g, 't, W: Sink> ReadingVisitor<'t, W> for Records<'g, 't> {
+impl<'k, 'g, 't, 'b, W: Sink> ReadingVisitor<'t, W> for Records<'k, 'g, 't, 'b> {
     ghost use Rattle.std.specs.Prelude.{◌++◌, ◌∷◌, []};
     ghost use Rattle.j39_groups.specs.Sightings.{told_in};
     ghost use Rattle.j39_reports.specs.EntryText.{entry_record};
@@ -110,18 +138,12 @@ impl<'g, 't, W: Sink> ReadingVisitor<'t, W> for Records<'g, 't> {
     ghost has_stopped = { λ subject before at records sink. HasStopped entry_record subject (told_in (before ++ at ∷ []))
         (record { bytes = W.written sink; has_failed = W.has_failed sink }) };
 
+    #[inline(always)]
     fn visit(&mut self, spn: u32, value: Value<'t, '_>, sink: &mut W) -> Result<(), DeviceFault> {
-        let Called { parameter, state } = called_in(self.groups, self.pgn, spn, value);
-        put_record(
-            &mut self.block,
-            &self.begin,
-            self.group,
-            spn,
-            parameter,
-            value,
-            state,
-            sink,
+        let missed = put_entry(
+            self.block, self.begin, self.group, self.known, self.pgn, spn, value, sink,
         )?;
+        note(&mut self.missed, missed);
         self.lines = self.lines.saturating_add(1);
         Ok(())
     }
@@ -132,21 +154,67 @@ impl<'g, 't, W: Sink> ReadingVisitor<'t, W> for Records<'g, 't> {
     }
 }
 
-/// What the records of a message begin with: the moment, the address, the NAME and the PGN, and what the group is called,
+/// Writes what the records of a message begin with: the moment, the address, the NAME and the PGN, and what the group is called,
 /// where that is short and stands as it is.
 #[inline(always)]
-fn begin_of(heard: &Heard<'_>, group: &[u8], second: &mut Second) -> Begin
-    ensures { begun_fields result group.now ≡ begin_text (stamp_micros heard.now.message.stamp) heard.now.message.source
+fn begin_with(begin: &mut Begin, heard: &Heard<'_>, group: &[u8], second: &mut Second)
+    ensures { begun_fields begin.new group.now ≡ begin_text (stamp_micros heard.now.message.stamp) heard.now.message.source
         heard.now.destination (option_map name_raw heard.now.name) (pgn_raw heard.now.message.pgn) ++ later_text group.now }
 {
-    let mut head = [0; HEAD];
-    let quick = group_before(&mut head, group);
-    let from = begin_before(&mut head, quick.unwrap_or(HEAD), heard, second);
-    Begin {
-        head,
-        from,
-        has_group: quick.is_some(),
+    let quick = group_before(&mut begin.head, group);
+    is_whole(&begin.head);
+    begin.from = begin_before(&mut begin.head, quick.unwrap_or(HEAD), heard, second);
+    is_whole(&begin.head);
+    begin.has_group = quick.is_some();
+}
+
+/// Writes the record of a reading, and answers what can be learned of its parameter. What stands in `block` afterwards is not known.
+#[inline(always)]
+fn put_entry<'t, W: Sink>(
+    block: &mut [u8; RECORD],
+    begin: &Begin,
+    group: &[u8],
+    known: &KnownSides<'_, 't, RecordSides>,
+    pgn: u32,
+    spn: u32,
+    value: Value<'t, '_>,
+    sink: &mut W,
+) -> Result<Option<Missed<'t>>, DeviceFault>
+    ensures { Puts (named_fields (begun_fields begin.now group.now) spn (parameter_called known.now.groups.now pgn spn)
+        ++ value_fields (value_of value.entry) (state_called known.now.groups.now pgn spn (value_of value.entry)))
+        result (turn W.written W.has_failed sink.old sink.new) }
+{
+    match prepared_before(block, begin, known, pgn, spn, value) {
+        Some(start) => {
+            put_all(sink, &block[start..])?;
+            Ok(None)
+        }
+        None => {
+            put_unknown(block, begin, group, known.groups, pgn, spn, value, sink)?;
+            let unit = value.unit();
+            Ok(known.missed(pgn, spn, unit))
+        }
     }
+}
+
+/// Writes the record of a reading whose sides aren't known.
+#[inline(never)]
+fn put_unknown<W: Sink>(
+    block: &mut [u8; RECORD],
+    begin: &Begin,
+    group: &[u8],
+    groups: &Groups<'_>,
+    pgn: u32,
+    spn: u32,
+    value: Value<'_, '_>,
+    sink: &mut W,
+) -> Result<(), DeviceFault>
+    ensures { Puts (named_fields (begun_fields begin.now group.now) spn (parameter_called groups.now pgn spn)
+        ++ value_fields (value_of value.entry) (state_called groups.now pgn spn (value_of value.entry)))
+        result (turn W.written W.has_failed sink.old sink.new) }
+{
+    let Called { parameter, state } = called_in(groups, pgn, spn, value);
+    put_record(block, begin, group, spn, parameter, value, state, sink)
 }
 
 /// Writes the record of a reading, in one piece where it is short. What stands in `block` afterwards is not known.

@@ -49,7 +49,7 @@ pub fn report_csv<R: Source, W: Sink>(
     ensures kept_up { result ≡ Err Read → WritesWholeLines (Headed header_text (MakesRecords groups.now (which_of filter.entry)))
         bus (R.remaining source.old) (R.remaining source.new) (W.written sink.old) (W.written sink.new) }
 {
-    let form = RecordForm::new();
+    let form = RecordForm::new(groups);
     let report = Report::new(alloc, groups, filter, form);
     run_headed(HEADER, report, source, sink, bus, limit)
 }

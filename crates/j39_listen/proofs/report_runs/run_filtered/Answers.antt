@@ -7,6 +7,7 @@ use Rattle.j39_listen.specs.Output.{Making}
 use Rattle.j39_listen.specs.Ran.{Ran}
 use Rattle.j39_listen.specs.Report.{entry_text}
 use Rattle.j39_listen.specs.ReportSoFar.{HasReported, Subject}
+use Rattle.j39_listen.specs.declared.report_lines.Pen.{Pen}
 use Rattle.j39_listen.proofs.FilterLemmas.{unfiltered}
 use Rattle.j39_listen.proofs.KeepingUp.{whole_lines}
 use Rattle.j39_listen.proofs.PieceLemmas.{if_ok}
@@ -35,6 +36,6 @@ returns-clause-asked g c = if_ok c.run_over.result _ _
 pub returns-clause-kept_up : goal.returns-clause-kept_up
 returns-clause-kept_up g c = λ read.
     let subject : Subject = record { rows = c.args.groups.now; which = which_of c.args.filter } in
-    whole_lines (λ bus. HasReported (λ groups. entry_text) subject) (MakesFiltered c.args.groups.now (which_of c.args.filter)) (reported_makes (λ groups. entry_text) subject)
+    whole_lines (λ bus. HasReported (λ groups. entry_text) (λ (pen : Pen). pen.groups.now) subject) (MakesFiltered c.args.groups.now (which_of c.args.filter)) (reported_makes (λ groups. entry_text) subject (λ (pen : Pen). pen.groups.now))
     c.args.bus _ _ _ _
     (c.run_over.ensures.kept_up read subject (filtered_of (λ groups. entry_text) c.args.groups.now (which_of c.args.filter) 0 []) (λ name. c.new-report.ensures) refl)

@@ -1,20 +1,22 @@
 -- A frame of a group that is heard, or of another.
-use Rattle.std.proofs.Common.{◌≡◌, ◌||◌, ◌∙◌, ap, false, sym}
+use Rattle.std.proofs.Common.{List, ◌≡◌, ◌||◌, ◌∙◌, ap, false, sym}
 use Rattle.std.specs.Prelude.{Err, None}
 use Rattle.std.proofs.lemmas.Bool.{not-true, or_parts}
 use Rattle.j39_frame.specs.Frame.{FrameRecord}
 use Rattle.j39_frame.specs.Identifier.{pgn_of}
 use Rattle.j39_groups.specs.Readings.{is_network_group, is_reported_in}
+use Rattle.j39_groups.specs.Row.{RowRecord}
 use Rattle.j39_listen.specs.ReportSoFar.{made_by}
 use Rattle.j39_listen.specs.declared.report.Report.{Report}
 use Rattle.j39_listen.proofs.ListenerLemmas.{hears_single, outside_claims, silent_outside}
 use Rattle.j39_listen.proofs.PieceLemmas.{same_fault}
-use Rattle.j39_listen.proofs.ReportAccount.{meets_silent, report_meets, report_stops}
-use Rattle.j39_listen.proofs.Reported.{reported_leaves}
+use Rattle.j39_listen.proofs.ReportAccount.{meets_by, meets_silent, report_meets, report_stops, stops_by}
+use Rattle.j39_listen.proofs.Reported.{reported_free, reported_leaves}
 use Rattle.j39_listen.proofs.report.ReportAccount.feed.Goals as goal
 
 pub put_frame-requires : goal.put_frame-requires
-put_frame-requires g c = c.of-role.ensures.role.single ∙ ap (λ (x : FrameRecord). is_reported_in c.args.self.now.roles.groups.now (pgn_of x.id)) c.frame.view_is
+put_frame-requires g c = λ single. reported_free c.args.self.now.roles.groups.now _ (sym (c.of-role.ensures.role.single
+    ∙ ap (λ (x : FrameRecord). is_reported_in c.args.self.now.roles.groups.now (pgn_of x.id)) c.frame.view_is) ∙ single)
 
 pub returns-then-not-role-clause-met : goal.returns-then-not-role-clause-met
 returns-then-not-role-clause-met g c =
@@ -29,7 +31,7 @@ returns-then-not-role-clause-met g c =
     ) in
     let other : is_reported_in groups (pgn_of frame.id) ≡ false = neither.0 in
     let free : is_network_group (pgn_of frame.id) ≡ false = neither.1 in
-    λ subject. report_meets g.E.EntryForm.text_by subject self report c.of-role.ensures.table frame c.note.ensures (made_by None) _ _ (λ which F h chosen.
+    λ subject. report_meets g.E.EntryForm.text_by subject g.E.EntryForm.table_of self report c.of-role.ensures.table (λ i. g.E.EntryForm.table_of self.form) frame c.note.ensures (made_by None) _ _ (λ which F same h chosen.
     meets_silent g.E.EntryForm.text_by (record { rows = groups; which = which }) self.listener F frame _
     (silent_outside (is_reported_in groups) (reported_leaves groups) self.listener F frame free other h)
     (hears_single self.listener F frame free (outside_claims frame free) h)) c.and-self.ensures
@@ -38,14 +40,19 @@ pub returns-in-Ok-clause-met : goal.returns-in-Ok-clause-met
 returns-in-Ok-clause-met g c =
     let self = c.args.self.now in
     let met = c.in-Ok.ensures.met in
+    let single = c.of-role.ensures.role.single ∙ ap (λ (x : FrameRecord). is_reported_in self.roles.groups.now (pgn_of x.id)) c.frame.view_is in
     let report : Report g.row.E.Denot =
     record { roles = c.of-role.new.self; chooser = c.note.new.self; listener = c.put_frame.new.listener; made = c.put_frame.new.made; form = c.put_frame.new.form } in
-    λ subject. report_meets g.E.EntryForm.text_by subject self report c.of-role.ensures.table c.args.frame.now c.note.ensures met.0 _ _ (λ which F h chosen. met.2 which F h chosen) met.1
+    λ subject. report_meets g.E.EntryForm.text_by subject g.E.EntryForm.table_of self report c.of-role.ensures.table c.in-Ok.ensures.table c.args.frame.now c.note.ensures met.0 _ _
+    (λ which F same h chosen. meets_by g.E.EntryForm.text_by same
+    (met.2 which F (single ∙ ap (λ (rows : List RowRecord). is_reported_in rows (pgn_of c.args.frame.now.id)) (sym same)) h chosen)) met.1
 
 pub returns-in-Err-clause-stops : goal.returns-in-Err-clause-stops
 returns-in-Err-clause-stops g c = λ fails subject.
-    report_stops g.E.EntryForm.text_by subject c.args.self.now c.args.frame.now _ _
-    (λ F h chosen. c.in-Err.ensures.stops (ap Err (same_fault _ _ fails)) subject.which F h (c.note.ensures subject.which F chosen)) c.args.arg2.now
+    let single = c.of-role.ensures.role.single ∙ ap (λ (x : FrameRecord). is_reported_in c.args.self.now.roles.groups.now (pgn_of x.id)) c.frame.view_is in
+    report_stops g.E.EntryForm.text_by subject g.E.EntryForm.table_of c.args.self.now c.args.frame.now _ _
+    (λ F same h chosen. stops_by g.E.EntryForm.text_by same
+    (c.in-Err.ensures.stops (ap Err (same_fault _ _ fails)) subject.which F (single ∙ ap (λ (rows : List RowRecord). is_reported_in rows (pgn_of c.args.frame.now.id)) (sym same)) h (c.note.ensures subject.which F chosen))) c.args.arg2.now
 
 pub returns-in-Err-clause-asked : goal.returns-in-Err-clause-asked
 returns-in-Err-clause-asked g c = λ fails subject F output met. c.in-Err.ensures.asked (ap Err (same_fault _ _ fails)) F met.hears

@@ -1,5 +1,5 @@
 -- A message of active codes is taken.
-use Rattle.j39_reports.proofs.Common.{◌≡◌, ◌++◌, ◌∙◌, List, ap, length, rules, subst, sym, true, cond-true, Hearing, hearing_of, in_time}
+use Rattle.j39_reports.proofs.Common.{◌≡◌, ◌++◌, ◌∙◌, List, ap, rules, subst, sym, true, cond-true, Hearing, hearing_of, in_time}
 use Rattle.j39_reports.specs.CurrentSoFar.{AreKept}
 use Rattle.j39_reports.specs.FaultsNow.{is_active_message}
 use Rattle.j39_reports.proofs.CurrentLemmas.{kept_more}

@@ -1,10 +1,10 @@
 -- The members one after another.
 use Rattle.j39_reports.proofs.Common.{List, ℕ, ◌≡◌, ◌∙◌, ◌++◌, Option, ap, append_assoc, codes, refl, option_map, value_of, ValueRecord, puts_as, puts_first, puts_then}
-use Rattle.j39_reports.specs.EntryObject.{unit_in, value_json, value_members}
+use Rattle.j39_reports.specs.EntryObject.{behind_members, unit_in, value_json, value_members}
 use Rattle.j39_reports.specs.Json.{string_or_null}
 use Rattle.j39_reports.proofs.report_objects.objects.put_value_members.Goals as goal
 
-regroup : (a b c json unit state end : List ℕ) → (a ++ json) ++ ((b ++ unit) ++ ((c ++ state) ++ end)) ≡ a ++ json ++ b ++ unit ++ c ++ state ++ end
+regroup : (a b c json unit state end : List ℕ) → (a ++ json) ++ ((b ++ unit) ++ ((c ++ state) ++ end)) ≡ a ++ json ++ (b ++ unit ++ c ++ state ++ end)
 regroup a b c json unit state end = simp append_assoc refl
 
 all : (value : ValueRecord) (unit state : Option (List ℕ)) → unit ≡ unit_in value
@@ -12,7 +12,7 @@ all : (value : ValueRecord) (unit state : Option (List ℕ)) → unit ≡ unit_i
 unfolding value_members
 all value unit state is =
     regroup (codes ",\"value\":") (codes ",\"unit\":") (codes ",\"state\":") (value_json value) (string_or_null unit) (string_or_null state) (codes "}\n")
-    ∙ ap (λ u. codes ",\"value\":" ++ value_json value ++ codes ",\"unit\":" ++ string_or_null u ++ codes ",\"state\":" ++ string_or_null state ++ codes "}\n") is
+    ∙ ap (λ u. codes ",\"value\":" ++ value_json value ++ behind_members u state) is
 
 pub returns-in_err-put_value : goal.returns-in_err-put_value
 returns-in_err-put_value g c =

@@ -1,5 +1,5 @@
 -- What was written is a front of the survey of what was read, which at a fault of the writer is the whole log.
-use Rattle.j39_reports.proofs.Common.{◌≡◌, ◌∙◌, ℕ, List, Option, ap, ap₂, subst, sym, AppendsFront, Appends, IfSome_then, RowRecord, frames_of, Hearing}
+use Rattle.j39_reports.proofs.Common.{◌≡◌, ◌∙◌, ℕ, List, Option, ap₂, subst, sym, AppendsFront, Appends, IfSome_then, RowRecord, frames_of, Hearing}
 use Rattle.j39_listen.specs.declared.format.Format.{Format}
 use Rattle.j39_reports.specs.GroupCounts.{ArePutTogether}
 use Rattle.j39_reports.specs.LogLines.{AreLogLines, LogLine, spelled_in}

@@ -8,23 +8,23 @@ use Rattle.j39_reports.proofs.report_objects.objects.ObjectFormEntryForm.put_hea
 pub returns-in-Ok-clause-lines : goal.returns-in-Ok-clause-lines
 returns-in-Ok-clause-lines g c =
     let h = hearing_of c.args.heard.now in
-    let readings = readings_in c.args.groups.now h.message.pgn h.message.bytes in
-    let begun : Begun = record { groups = c.args.groups.now; hearing = h; writer = _ } in
+    let readings = readings_in c.args.self.now.known.groups.now h.message.pgn h.message.bytes in
+    let begun : Begun = record { groups = c.args.self.now.known.groups.now; hearing = h; writer = _ } in
     (c.in-Ok.ensures.taken begun [] (record { is_opened = c.new-objects.ensures.opened; have = none_yet entry_object begun _ c.new-objects.ensures.none })).have.lines_are
-    ∙ ap (λ rs. capped (length rs)) (told_are c.args.groups.now h.message.pgn h.message.bytes)
+    ∙ ap (λ rs. capped (length rs)) (told_are c.args.self.now.known.groups.now h.message.pgn h.message.bytes)
     ∙ ap capped (sym (length-map readings (entry_of h)))
 
 pub returns-in-Ok-clause-puts : goal.returns-in-Ok-clause-puts
 returns-in-Ok-clause-puts g c =
     let h = hearing_of c.args.heard.now in
-    let begun : Begun = record { groups = c.args.groups.now; hearing = h; writer = _ } in
-    rw (← told_are c.args.groups.now h.message.pgn h.message.bytes) (puts_done _ _ _ _
+    let begun : Begun = record { groups = c.args.self.now.known.groups.now; hearing = h; writer = _ } in
+    rw (← told_are c.args.self.now.known.groups.now h.message.pgn h.message.bytes) (puts_done _ _ _ _
     (c.in-Ok.ensures.taken begun [] (record { is_opened = c.new-objects.ensures.opened; have = none_yet entry_object begun _ c.new-objects.ensures.none })).have.written)
 
 pub returns-in-Err-clause-puts : goal.returns-in-Err-clause-puts
 returns-in-Err-clause-puts g c =
     let h = hearing_of c.args.heard.now in
-    let begun : Begun = record { groups = c.args.groups.now; hearing = h; writer = _ } in
+    let begun : Begun = record { groups = c.args.self.now.known.groups.now; hearing = h; writer = _ } in
     let w = c.in-Err.ensures.stopped begun [] (record { is_opened = c.new-objects.ensures.opened; have = none_yet entry_object begun _ c.new-objects.ensures.none }) in
-    rw (← told_are c.args.groups.now h.message.pgn h.message.bytes) (puts_failed _ _ _ _ refl
+    rw (← told_are c.args.self.now.known.groups.now h.message.pgn h.message.bytes) (puts_failed _ _ _ _ refl
     (stops_among entry_object begun w.taken w.at w.rest _ _ w.sightings_are w.stopped))

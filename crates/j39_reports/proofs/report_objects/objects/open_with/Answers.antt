@@ -1,7 +1,7 @@
 -- The group stands in the block, or not.
 use Rattle.j39_reports.proofs.Common.{List, ℕ, Option, Some, None, ◌≡◌, ◌≤◌, ◌++◌, ap, append_assoc, arith, codes, decimal, drop, length, refl, subst, IfSome, is_some, unwrap_or, if◌then◌else◌, option_map, name_raw, pgn_raw, stamp_micros, WritesBefore, before_end, before_then}
 use Rattle.j39_reports.specs.EntryObject.{group_member, moment_members, opening_text, sender_members}
-use Rattle.j39_reports.proofs.report_objects.objects.opening_of.Goals as goal
+use Rattle.j39_reports.proofs.report_objects.objects.open_with.Goals as goal
 
 regroup : (moment sender key number : List ℕ) → moment ++ (sender ++ (key ++ number)) ≡ moment ++ sender ++ key ++ number
 regroup moment sender key number = simp append_assoc refl
@@ -24,9 +24,9 @@ returns c =
     let name = option_map name_raw heard.name in
     let text = opening_text (stamp_micros heard.message.stamp) heard.message.source heard.destination name (pgn_raw heard.message.pgn) in
     let quick = c.group_before-quick in
-    let from = c.moment_before-from in
-    rw c.is_some.ensures (begun quick.result _ quick.new.out from.new.out from.result text (group_member (option_map (λ called. called.now) c.args.group)) (omega arith)
-    (omega (arith, quick.array_long)) quick.ensures.written
+    let from = c.moment_before-opening in
+    rw c.is_some-opening.ensures (begun quick.result _ quick.new.out from.new.out from.result text (group_member (option_map (λ called. called.now) c.args.group))
+    (let whole = c.args.opening.now.whole in omega (arith, whole)) (let whole = c.is_whole.ensures in omega (arith, whole)) quick.ensures.written
     (subst (λ end. WritesBefore quick.new.out from.new.out end from.result text) c.unwrap_or.ensures
     (subst (WritesBefore quick.new.out from.new.out _ from.result) (parts (stamp_micros heard.message.stamp) heard.message.source _ (pgn_raw heard.message.pgn) heard.destination name c.raw.ensures.value)
     (before_then _ _ _ _ _ _ _ _ (before_then _ _ _ _ _ _ _ _ (before_then _ _ _ _ _ _ _ _

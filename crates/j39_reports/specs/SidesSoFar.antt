@@ -1,0 +1,20 @@
+-- What is remembered of the sides of values.
+use Rattle.std.specs.Prelude.{◌≡◌, ◌<◌, ◌≤◌, ℕ, List, Option, None, drop, slice_index_or, true}
+use Rattle.j39_groups.specs.Names.{name_in, state_in}
+use Rattle.j39_groups.specs.Row.{RowRecord}
+use Rattle.j39_groups.specs.Value.{ValueRecord}
+use Rattle.j39_reports.specs.declared.sides.Sides.{Sides}
+
+-- these are the sides of the values of their parameter by this table, none of whose states has a name
+pub record Suits (before : ℕ → Option (List ℕ) → List ℕ) (behind : List ℕ → List ℕ) (groups : List RowRecord) (sides : Sides)
+    : Type 0 where
+  pub before_inside : sides.before_from ≤ 96
+  pub behind_inside : sides.behind_from ≤ 96
+  pub unit_inside : sides.unit_from ≤ 16
+  pub before_is : drop sides.before_from sides.before ≡ before sides.spn (name_in groups sides.pgn sides.spn)
+  pub behind_is : drop sides.behind_from sides.behind ≡ behind (drop sides.unit_from sides.unit)
+  pub stateless : (value : ValueRecord) → state_in groups sides.pgn sides.spn value ≡ None
+
+abbrev pub AreKnown : (ℕ → Option (List ℕ) → List ℕ) → (List ℕ → List ℕ) → List RowRecord → List Sides → Type 0
+AreKnown before behind groups all = (place : ℕ) (d : Sides) → place < 256 → (slice_index_or all place d).is_ready ≡ true
+    → Suits before behind groups (slice_index_or all place d)

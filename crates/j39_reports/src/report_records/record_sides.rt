@@ -1,0 +1,33 @@
+//! What a record has on both sides of a value.
+use crate::report_records::begin::digits_before;
+use crate::report_records::quick_record::field_before;
+use crate::sides::{SIDE, SideForm};
+use j39_io::backwards::{byte_before, bytes_before};
+
+/// What a record has on both sides of a value: before it the number of the parameter and what it is called, behind it the unit,
+/// and the end of the line.
+#[derive(Drop)]
+pub(crate) struct RecordSides;
+
+impl SideForm for RecordSides {
+    ghost use Rattle.std.specs.Prelude.{◌++◌, ◌∷◌, [], decimal, unwrap_or};
+    ghost use Rattle.j39_io.specs.Records.{comma, later_text};
+    ghost use Rattle.j39_reports.specs.Columns.{last_field};
+
+    ghost before = { λ spn name. (comma ∷ decimal spn) ++ later_text (unwrap_or name []) ++ (comma ∷ []) };
+
+    ghost behind = { λ unit. later_text unit ++ last_field [] };
+
+    fn write_before(out: &mut [u8; SIDE], spn: u32, name: &[u8]) -> Option<usize> {
+        let gap = byte_before(out, SIDE, b',');
+        let called = field_before(out, gap, name)?;
+        let number = digits_before(out, called, spn);
+        Some(byte_before(out, number, b','))
+    }
+
+    fn write_behind(out: &mut [u8; SIDE], unit: &[u8]) -> Option<usize> {
+        let end = bytes_before(out, SIDE, *b",\r\n");
+        let start = field_before(out, end, unit)?;
+        Some(start)
+    }
+}

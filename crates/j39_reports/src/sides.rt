@@ -1,0 +1,216 @@
+//! What stands on both sides of the values of a parameter, remembered: most values are of a few parameters.
+ghost use Rattle.std.specs.Prelude.{◌≡◌, ◌<◌, ◌≤◌, ℕ, List, Option, IfSome, Some, false, slice_index_or, true};
+ghost use Rattle.std.proofs.Props.{props};
+ghost use Rattle.j39_io.specs.Backwards.{WritesBefore};
+ghost use Rattle.j39_reports.specs.SidesSoFar.{AreKnown, Suits};
+
+use j39_frame::Pgn;
+use j39_groups::Groups;
+use j39_io::backwards::slice_before;
+use std::marker::PhantomData;
+
+/// The bytes of a block that a side fits in.
+pub(crate) const SIDE: usize = 96;
+
+/// The most bytes of a unit that sides are remembered for.
+const UNIT: usize = 16;
+
+/// How many parameters are remembered.
+const PLACES: usize = 256;
+
+/// What a form has on both sides of a value.
+pub(crate) trait SideForm {
+    // Before it, behind what each entry of a message begins with: of a parameter (SPN) and what it is called.
+    ghost before: { ℕ → Option (List ℕ) → List ℕ };
+
+    // Behind it, of a unit, where its state has no name.
+    ghost behind: { List ℕ → List ℕ };
+
+    /// Writes what stands before a value at the end of a block. `None`, and nothing of use is written, where that is long, or
+    /// the name doesn't stand as it is.
+    fn write_before(out: &mut [u8; SIDE], spn: u32, name: &[u8]) -> Option<usize>
+        ensures written { IfSome result (λ start. WritesBefore out.old out.new 96 start (before spn (Some name.now))) }
+        ensures within { IfSome result (λ start. start ≤ 96) };
+
+    /// Writes what stands behind a value at the end of a block, and answers as `write_before`.
+    fn write_behind(out: &mut [u8; SIDE], unit: &[u8]) -> Option<usize>
+        ensures written { IfSome result (λ start. WritesBefore out.old out.new 96 start (behind unit.now)) }
+        ensures within { IfSome result (λ start. start ≤ 96) };
+}
+
+/// What stands on both sides of the values of a parameter of a group: the bytes of blocks from a place on.
+#[derive(Clone, Copy)]
+pub(crate) struct Sides {
+    pgn: u32,
+    spn: u32,
+    /// Whether it is here.
+    is_ready: bool,
+    pub before: [u8; SIDE],
+    pub before_from: usize,
+    /// The unit that the second is of.
+    pub unit: [u8; UNIT],
+    pub unit_from: usize,
+    pub behind: [u8; SIDE],
+    pub behind_from: usize,
+}
+
+impl Sides {
+    /// Those of a parameter that has them not.
+    fn none(pgn: u32, spn: u32) -> Sides
+        ensures { result.is_ready ≡ false }
+    {
+        Sides {
+            pgn,
+            spn,
+            is_ready: false,
+            before: [0; SIDE],
+            before_from: SIDE,
+            unit: [0; UNIT],
+            unit_from: UNIT,
+            behind: [0; SIDE],
+            behind_from: SIDE,
+        }
+    }
+
+    /// Those of a parameter of a group, for values of this unit; `None` where they are long, or don't stand as they are, or the
+    /// parameter's row names states.
+    fn of<F: SideForm>(groups: &Groups<'_>, pgn: u32, spn: u32, unit: &[u8]) -> Option<Sides>
+        ensures { IfSome result (λ sides. Suits F.before F.behind groups.now sides) }
+    {
+        if unit.len() > UNIT {
+            return None;
+        }
+        let name = groups.name_alone_in(pgn, spn)?;
+        let mut before = [0; SIDE];
+        let before_from = F::write_before(&mut before, spn, name)?;
+        let mut behind = [0; SIDE];
+        let behind_from = F::write_behind(&mut behind, unit)?;
+        let mut own_unit = [0; UNIT];
+        let unit_from = slice_before(&mut own_unit, UNIT, unit);
+        Some(Sides {
+            pgn,
+            spn,
+            is_ready: true,
+            before,
+            before_from,
+            unit: own_unit,
+            unit_from,
+            behind,
+            behind_from,
+        })
+    }
+
+    /// The same, or none.
+    fn of_or_none<F: SideForm>(groups: &Groups<'_>, pgn: u32, spn: u32, unit: &[u8]) -> Sides
+        ensures { result.is_ready ≡ true → Suits F.before F.behind groups.now result }
+    {
+        match Sides::of::<F>(groups, pgn, spn, unit) {
+            Some(sides) => sides,
+            None => Sides::none(pgn, spn),
+        }
+    }
+}
+
+/// A parameter whose sides can be learned, and the unit of its value.
+#[derive(Clone, Copy)]
+pub(crate) struct Missed<'t> {
+    pub spn: u32,
+    pub unit: &'t [u8],
+}
+
+/// Keeps what was missed last.
+#[inline(always)]
+pub(crate) fn note<'t>(last: &mut Option<Missed<'t>>, missed: Option<Missed<'t>>) {
+    if missed.is_some() {
+        *last = missed;
+    }
+}
+
+/// A table, and the sides of the parameters that came first.
+#[derive(Drop)]
+pub(crate) struct KnownSides<'g, 't, F: SideForm> {
+    pub groups: &'g Groups<'t>,
+    known: [Sides; PLACES],
+    form: PhantomData<F>,
+    ghost sound: { AreKnown F.before F.behind groups.now known } by { Prim.hlevel props },
+}
+
+impl<'g, 't, F: SideForm> KnownSides<'g, 't, F> {
+    /// With nothing remembered.
+    pub fn new(groups: &'g Groups<'t>) -> KnownSides<'g, 't, F>
+        ensures { result.groups ≡ groups.entry }
+    {
+        KnownSides {
+            groups,
+            known: [Sides::none(u32::MAX, 0); PLACES],
+            form: PhantomData,
+        }
+    }
+
+    /// The sides of a parameter of a group, where they are remembered.
+    #[inline(always)]
+    pub fn of(&self, pgn: u32, spn: u32) -> Option<&Sides>
+        ensures suits { IfSome result (λ sides. Suits F.before F.behind self.now.groups.now sides.now) }
+        ensures pgn { IfSome result (λ sides. sides.now.pgn ≡ pgn) }
+        ensures spn { IfSome result (λ sides. sides.now.spn ≡ spn) }
+    {
+        sides_at(&self.known, pgn, spn)
+    }
+
+    /// What can be learned of a parameter of a group: nothing where another holds its place, or it has no sides, or they are of
+    /// this unit.
+    pub fn missed(&self, pgn: u32, spn: u32, unit: &'t [u8]) -> Option<Missed<'t>> {
+        let held = self.known[place_of(pgn, spn)];
+        let is_open = match self.of(pgn, spn) {
+            Some(sides) => unit != &sides.unit[sides.unit_from..],
+            None => held.pgn == u32::MAX,
+        };
+        if is_open {
+            Some(Missed { spn, unit })
+        } else {
+            None
+        }
+    }
+
+    /// Learns what was missed in a group, if anything was.
+    #[inline(always)]
+    pub fn learn(&mut self, pgn: Pgn, missed: Option<Missed<'t>>)
+        ensures { self.new.groups ≡ self.old.groups }
+    {
+        if let Some(Missed { spn, unit }) = missed {
+            self.remember(pgn.raw(), spn, unit);
+        }
+    }
+
+    /// Remembers the sides of a parameter of a group for values of this unit.
+    #[inline(never)]
+    fn remember(&mut self, pgn: u32, spn: u32, unit: &[u8])
+        ensures { self.new.groups ≡ self.old.groups }
+    {
+        self.known[place_of(pgn, spn)] = Sides::of_or_none::<F>(self.groups, pgn, spn, unit);
+    }
+}
+
+/// The sides of a parameter of a group, of those that are here.
+#[inline(always)]
+fn sides_at(known: &[Sides; PLACES], pgn: u32, spn: u32) -> Option<&Sides>
+    ensures among { IfSome result (λ sides. (place : ℕ) × (place < 256) × (slice_index_or known.now place sides.now ≡ sides.now)) }
+    ensures ready { IfSome result (λ sides. sides.now.is_ready ≡ true) }
+    ensures pgn { IfSome result (λ sides. sides.now.pgn ≡ pgn) }
+    ensures spn { IfSome result (λ sides. sides.now.spn ≡ spn) }
+{
+    let sides = &known[place_of(pgn, spn)];
+    if sides.is_ready && sides.spn == spn && sides.pgn == pgn {
+        Some(sides)
+    } else {
+        None
+    }
+}
+
+/// Where a parameter of a group is remembered.
+#[inline(always)]
+fn place_of(pgn: u32, spn: u32) -> usize
+    ensures { result < 256 }
+{
+    ((spn ^ pgn).wrapping_mul(0x9E37_79B1) >> 24) as usize
+}
