@@ -1,6 +1,6 @@
 -- What every answered history says of broadcasts.
 use Rattle.j39_node.proofs.Common.{[], ◌++◌, ◌-◌, ◌<◌, ◌||◌, ◌∙◌, ◌∷◌, ◌≡◌, ◌≤◌, address_after, answer_to_broadcast, ap, AreAnswered, arith, At, Bool, Broadcast, broadcast_end, broadcast_from, broadcasts, Call, Done, Ending, false, first_frames, frame_of, FrameRecord, is_lost, is_open, is_packet, length, List, ltb-true, Message, MessageRecord, nat_lt, None, Ok, open_broadcast, Option, packets, packets_of, pause, refl, slice_get, Some, step, subst, suc, sym, TakeBroadcastEnded, TakeFrame, told_broadcasts, true, Who, Withdrawn, ℕ, ltb-false}
-use Rattle.j39_node.proofs.QueueLemmas.{length_one_more}
+use Rattle.j39_node.proofs.QueueLemmas.{length_one_more, get_last}
 use Rattle.j39_node.proofs.SoundLemmas.{FrameCase, PacketCase, frame_case, packet_case, packet_taken, packets_is}
 use Rattle.j39_node.proofs.SoundLemmas.FrameCase.{packs}
 use Rattle.j39_node.proofs.AnswerCases.{broadcast_accepts}
@@ -55,10 +55,6 @@ stands_open w told all taken (Some x) h e = let a = h.token in let b = h.count i
 pub opened_by : (w : Who) (told : ℕ) (all : List MessageRecord) (taken : List Message) (o : Option (ℕ × MessageRecord)) (x : ℕ × MessageRecord)
     → Laned w told all taken o → o ≡ Some x → Opened w told all taken x
 opened_by w told all taken o x h e = subst (Laned w told all taken) e h
-
-pub get_last : {T : Type 0} (xs : List T) (x : T) → slice_get (xs ++ x ∷ []) (length xs) ≡ Some x
-get_last [] x = refl
-get_last (y ∷ xs) x = get_last xs x
 
 grows : (w : Who) (told : ℕ) (all : List MessageRecord) (xs : List Message) (m : Message) (o : Option (ℕ × MessageRecord)) (left : ℕ)
     → PacketCase o (length xs) left m → Laned w told all xs o → Laned w told all (xs ++ m ∷ []) o

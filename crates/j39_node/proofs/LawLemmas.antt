@@ -1,5 +1,5 @@
 -- The laws.
-use Rattle.j39_node.proofs.Common.{Address, AddressLost, AnotherAtAddress, AreAnswered, Asked, At, Bool, Busy, Call, Claim, Claimed, Controller, Done, Draft, Ending, FrameRecord, HasDouble, Hear, Is, IsFront, IsTrue, List, Lost, Message, MessagesMissed, Move, Nack, NameDoubled, News, None, NoneTold, NotClaimed, Option, Renew, Reply, Some, TakeEnded, TakeFrame, TakeNews, Tick, Who, Withdraw, Withdrawn, [], accepted, acknowledged, acknowledgment, acknowledgment_group, address_after, address_claimed_group, age, and-false, and_from, and_parts, answers_another, ap, append-nil, arith, asked, at_in, begins, by, called, calls, calls_for_claim, claim_address, claim_due, claim_from, claim_goes, claim_of, content, delayed, destination_of, double, doubled_news, drop, due, end_of, eq-eqb, eqb-true, false, first, frames, fresh, gives_way, global_address, got, handed, held_at, holds, if◌then◌else◌, inl, inr, is_acknowledgment, is_alike, is_another, is_apart, is_blank, is_claim, is_double, is_for_program, is_held, is_larger, is_lost, is_move, is_none, is_own_group, is_refusal_due, is_reply, is_served, is_session, is_smaller, is_some, is_subscribed, is_there, is_transfer, kept, later, le-leb, le-ltb, left, length, length-append, long_by, lost_news, lt-ltb, ltb-false, ltb-true, marks, may_claim, may_go, message_from, message_of, missed, missed_news, moment, more, nat_eq, nat_le, nat_lt, news_of, next_acknowledgment, next_due, next_frame, next_long, next_other, next_packet, next_transfer, next_withdrawn, not, not_both, null_address, older, open_broadcast, option_map, option_or, or_parts, other, owes_claim, packets, passed, passed_in, patience, pause, pgn_of, reached, ready, reception, refl, refusal_waits, request_group, requests, rest, slice_get, slice_get-map, slice_get_within, source_of, stamp_at, stamped, status_after, status_of, step, still, suc, sym, takes_other, told, true, turns, two, unclaimed, waits, waits_already, with_refusal, with_request, yields, zero, ℕ, ◌&&◌, ◌*◌, ◌++◌, ◌+◌, ◌-◌, ◌<◌, ◌||◌, ◌↔◌, ◌∙◌, ◌∷◌, ◌≡◌, ◌≢◌, ◌≤◌, ◌⊎◌}
+use Rattle.j39_node.proofs.Common.{Address, AddressLost, AnotherAtAddress, AreAnswered, Asked, At, Bool, Busy, Call, Claim, Claimed, Controller, Done, Draft, Ending, FrameRecord, HasDouble, Hear, Is, IsFront, IsTrue, List, Lost, Message, MessagesMissed, Move, Nack, NameDoubled, News, None, NoneTold, NotClaimed, Option, Renew, Reply, Some, TakeEnded, TakeFrame, TakeNews, Tick, Who, Withdraw, Withdrawn, [], accepted, acknowledged, acknowledgment, acknowledgment_group, address_after, address_claimed_group, age, and-false, and_from, and_parts, answers_another, ap, append-nil, arith, asked, at_in, begins, by, called, calls, calls_for_claim, claim_address, claim_due, claim_from, claim_goes, claim_of, content, delayed, destination_of, double, doubled_news, drop, due, end_of, eq-eqb, eqb-true, false, first, frames, fresh, gives_way, global_address, got, handed, held_at, holds, if◌then◌else◌, inl, inr, is_acknowledgment, is_alike, is_another, is_apart, is_blank, is_claim, is_double, is_for_program, is_held, is_larger, is_lost, is_move, is_none, is_own_group, is_refusal_due, is_reply, is_served, is_session, is_smaller, is_some, is_subscribed, is_there, is_transfer, kept, later, le-leb, le-ltb, left, length, length-append, long_by, lost_news, lt-ltb, ltb-false, ltb-true, marks, may_claim, may_go, message_from, message_of, missed, missed_news, moment, more, nat_eq, nat_le, nat_lt, news_of, next_acknowledgment, next_due, next_frame, next_long, next_other, next_packet, next_transfer, next_withdrawn, not, not_both, null_address, older, open_broadcast, option_map, option_or, or_parts, other, owes_claim, packets, passed, passed_in, patience, pause, pgn_of, reached, ready, reception, refl, refusal_waits, request_group, requests, rest, slice_get, slice_get-map, slice_get_within, source_of, stamp_at, stamped, status_after, status_of, step, still, suc, sym, takes_other, told, true, turns, two, unclaimed, waits, waits_already, with_refusal, with_request, yields, zero, ℕ, ◌&&◌, ◌*◌, ◌++◌, ◌+◌, ◌-◌, ◌<◌, ◌||◌, ◌↔◌, ◌∙◌, ◌∷◌, ◌≡◌, ◌≢◌, ◌≤◌, ◌⊎◌, or_cases, or_left, or_right, none-some, cond_both}
 use Rattle.j39_node.proofs.PromptLaws.{answered_from, stays_lost}
 use Rattle.j39_node.specs.History.{heard, Again}
 use Rattle.j39_node.specs.Reception.{is_waiting}
@@ -7,12 +7,11 @@ use Rattle.j39_address.specs.declared.status.Status.TheVariants as status
 use Rattle.j39_node.proofs.ReceptionLemmas.{replied_get, tidy}
 use Rattle.j39_node.proofs.DueLemmas.{both_none, from_long, quiet_long, then_long}
 use Rattle.j39_node.proofs.QueueLemmas.{length_one_more}
-use Rattle.j39_node.proofs.SoundLemmas.{apart_is, is_moved, IsTurn, acknowledgment_single, claim_single, no_transfer, none_there, packet_session, packet_there, single_taken, turned, Rest, none_at, none_next, none_other, other_none, claim_is, given_way, none_acknowledged, none_due_goes, none_gives, EndCase, FrameCase, Sound, claim_taken, due_get, due_taken, end_case, frame_by, frame_case, held_older, lost_older, own_of, packet_case, packet_taken, sound, transfer_taken, lost_unclaimed, holding_not_lost, renew_case, WithdrawCase, withdraw_case}
+use Rattle.j39_node.proofs.SoundLemmas.{apart_is, is_moved, IsTurn, acknowledgment_single, claim_single, no_transfer, none_there, packet_session, packet_there, single_taken, turned, Rest, none_at, none_next, none_other, other_none, claim_is, given_way, none_acknowledged, none_due_goes, none_gives, FrameCase, Sound, claim_taken, due_get, due_taken, frame_by, frame_case, held_older, lost_older, own_of, packet_case, packet_taken, sound, transfer_taken, lost_unclaimed, holding_not_lost, renew_case, WithdrawCase, withdraw_case, past_end, Told, told_case, stamped_by, claims_or_held}
 use Rattle.j39_node.proofs.KnownLemmas.{fresh_one, not_refused}
 use Rattle.j39_node.proofs.LaneLemmas.{laned, opened_by}
 use Rattle.j39_node.proofs.CallLemmas.{due_by}
 use Rattle.j39_node.proofs.SoundLemmas.FrameCase.{claims, acknowledges, replies, sends, packs, transfers}
-use Rattle.j39_node.proofs.SoundLemmas.EndCase.{done, withdrawn}
 use Rattle.j39_node.proofs.RenewLemmas.{none_past}
 use Rattle.j39_node.proofs.KindLemmas.{kind_by, claims_it, acknowledges_it}
 
@@ -22,15 +21,7 @@ frame : (w : Who) (H : List Call) (c : Controller) (now : ℕ) (f : FrameRecord)
 frame w H c now f is = frame_case w H now f is.answered.1
 
 pub moments : (w : Who) (H : List Call) (c : Controller) (now : ℕ) (f : FrameRecord) → Is w (At now (TakeFrame (Some f)) ∷ H) c → f.stamp ≡ now
-moments w H c now f is = go (frame w H c now f is)
-  where
-    go : FrameCase w H now f → f.stamp ≡ now
-    go (claims o e) = ap (λ (x : ℕ × Message). x.0) e
-    go (acknowledges m o h g e way) = ap (λ (y : ℕ × Message). y.0) e
-    go (replies m o h k g e) = ap (λ (y : ℕ × Message). y.0) e
-    go (sends x o h k g e) = ap (λ (y : ℕ × Message). y.0) e
-    go (packs m o h k g e) = ap (λ (y : ℕ × Message). y.0) e
-    go (transfers m o h k g e) = ap (λ (y : ℕ × Message). y.0) e
+moments w H c now f is = ap (λ (x : ℕ × Message). x.0) (stamped_by (frame w H c now f is)).1
 
 pub sources : (w : Who) (H : List Call) (c : Controller) (now : ℕ) (f : FrameRecord) → Is w (At now (TakeFrame (Some f)) ∷ H) c
     → (message_of f ≡ claim_from w (claim_address w (address_after w H)))
@@ -56,36 +47,8 @@ sources w H c now f is = go (frame w H c now f is)
 
 -- ---- accounted once
 
-pub record Told (w : Who) (H : List Call) (k : ℕ) (e : Ending) : Type 0 where
-  pub message : Message
-  pub at : slice_get (accepted w H) (length (told H)) ≡ Some (k, message)
-  pub done : e ≡ Done ↔ ((length (told H) < reached H) × (is_blank (k, message) ≡ false))
-  pub withdrawn : e ≡ Withdrawn → (is_lost (address_after w H) ≡ true) ⊎ ((length (told H) < reached H) × (is_blank (k, message) ≡ true))
-
 pub told_is : (w : Who) (H : List Call) (c : Controller) (k : ℕ) (e : Ending) → Is w (TakeEnded (Some (k, e)) ∷ H) c → Told w H k e
-told_is w H c k e is = go (end_case w H (k, e) is.answered.1)
-  where
-    go : EndCase w H (k, e) → Told w H k e
-    go (done m l g i) = by (is_blank (k, m)) refl
-      where
-        by : (b : Bool) → is_blank (k, m) ≡ b → Told w H k e
-        by true z =
-            let y : e ≡ Withdrawn = i ∙ ap (λ (b : Bool). (let x : Ending = (if b then Withdrawn else Done) in x)) z in
-            record {
-              message = m;
-              at = g;
-              done = (λ x. absurd (cc), λ x. absurd (let v : true ≡ false = sym z ∙ x.1 in cc));
-              withdrawn = λ x. inr (ltb-true _ _ l, z);
-            }
-        by false z =
-            let y : e ≡ Done = i ∙ ap (λ (b : Bool). (let x : Ending = (if b then Withdrawn else Done) in x)) z in
-            record { message = m; at = g; done = (λ x. (ltb-true _ _ l, z), λ x. y); withdrawn = λ x. absurd (cc) }
-    go (withdrawn m l a g i) = record {
-      message = m;
-      at = g;
-      done = (λ z. absurd (cc), λ z. absurd (let y = lt-ltb _ _ z.0 in let x : false ≡ true = sym l ∙ y in cc));
-      withdrawn = λ z. inl a;
-    }
+told_is w H c k e is = told_case w H k e is.answered.1
 
 pub in_turn : (w : Who) (H : List Call) (c : Controller) (k : ℕ) (e : Ending) → Is w (TakeEnded (Some (k, e)) ∷ H) c → (k ≡ length (told H)) × (k < length (accepted w H))
 in_turn w H c k e is =
@@ -95,14 +58,8 @@ in_turn w H c k e is =
 
 none_ended : (b l : Bool) (o : Option (ℕ × Message)) → None ≡ end_of b l o → (o ≡ None) ⊎ ((b ≡ false) × (l ≡ false))
 none_ended b l None e = inl refl
-none_ended true l (Some x) e = absurd (grind (arith, e))
-none_ended false true (Some x) e = absurd (cc)
 none_ended false false (Some x) e = inr (refl, refl)
-
-pub past_end : {T : Type 0} (L : List T) (n : ℕ) → slice_get L n ≡ None → length L ≤ n
-past_end [] n e = omega arith
-past_end (x ∷ L) zero e = absurd (cc)
-past_end (x ∷ L) (suc n) e = let h = past_end L n e in omega (arith, h)
+none_ended b l (Some x) e = absurd (grind (arith, e))
 
 pub sent_within : (w : Who) (H : List Call) → Sound w H → reached H ≤ length (accepted w H)
 sent_within w H s = s.passed
@@ -229,23 +186,12 @@ missed_full w H when f n = go (is_for_program w (holds w H when) f) (nat_lt (len
 
 owed : (w : Who) (H : List Call) (now : ℕ) (f : FrameRecord) → FrameCase w H now f → claim_goes w H now ≡ true
     → message_of f ≡ claim_from w (claim_address w (address_after w H))
-owed w H now f (claims o e) p = ap content e
-owed w H now f (acknowledges m o h g e way) p = absurd (not_both _ o p)
-owed w H now f (replies m o h k g e) p = absurd (not_both _ o p)
-owed w H now f (sends x o h k g e) p = absurd (not_both _ o p)
-owed w H now f (packs m o h k g e) p = absurd (not_both _ o p)
-owed w H now f (transfers m o h k g e) p = absurd (not_both _ o p)
-
-or_true : (a b : Bool) → a ≡ true → (a || b) ≡ true
-or_true a b e = ap (λ (c : Bool). c || b) e
-
-pub or_right : (a b : Bool) → b ≡ true → (a || b) ≡ true
-or_right a b e = grind (arith, e)
+owed w H now f c p = elim (claims_or_held c) [ inl x ↦ ap content x.1 | inr y ↦ absurd (not_both _ y.0 p) ]
 
 -- what is owed stays owed until a frame is taken
 pub still_owed : (w : Who) (later H : List Call) → frames later ≡ [] → owes_claim w H ≡ true → owes_claim w (later ++ H) ≡ true
 still_owed w [] H e o = o
-still_owed w (At when (Hear f) ∷ later) H e o = or_true _ _ (still_owed w later H e o)
+still_owed w (At when (Hear f) ∷ later) H e o = or_left _ _ (still_owed w later H e o)
 still_owed w (At now (TakeFrame (Some f)) ∷ later) H e o = absurd (let a = ap length e in let b = length_one_more (frames later) f in omega (arith, a, b))
 still_owed w (At now Again ∷ later) H e o = refl
 still_owed w (call ∷ later) H e o = still_owed w later H e o
@@ -255,12 +201,8 @@ owed_due w H now o l = λ i. o i && (not (l i) || nat_eq (delayed w H - step H n
 
 -- where a frame is taken, a claim that is owed may go
 taken_due : (w : Who) (H : List Call) (now : ℕ) (f : FrameRecord) → FrameCase w H now f → owes_claim w H ≡ true → claim_due w H now ≡ true
-taken_due w H now f (claims g e) o = (and_parts (claim_due w H now) (not (gives_way w H now)) g).0
-taken_due w H now f (acknowledges m g h k e way) o = owed_due w H now o (holding_not_lost w H now h)
-taken_due w H now f (replies m g h k i e) o = owed_due w H now o (holding_not_lost w H now h)
-taken_due w H now f (sends x g h k i e) o = owed_due w H now o (holding_not_lost w H now h)
-taken_due w H now f (packs m g h k i e) o = owed_due w H now o (holding_not_lost w H now h)
-taken_due w H now f (transfers m g h k i e) o = owed_due w H now o (holding_not_lost w H now h)
+taken_due w H now f c o =
+    elim (claims_or_held c) [ inl x ↦ (and_parts (claim_due w H now) (not (gives_way w H now)) x.0).0 | inr y ↦ owed_due w H now o (holding_not_lost w H now y.1) ]
 
 -- it goes now, or gives way
 pub claimed_or_not : (w : Who) (H : List Call) (c : Controller) (now : ℕ) (g : FrameRecord) → Is w (At now (TakeFrame (Some g)) ∷ H) c → owes_claim w H ≡ true
@@ -437,11 +379,8 @@ others_due w H now held one e = go one
     go (inr (inr l)) = l (ap (λ o. long_by o (next_transfer w H now)) n.0.packet ∙ n.1)
 
 no_claim_left : (w : Who) (H : List Call) (now : ℕ) → claim_goes w H now ≡ true → (let none : Option (ℕ × Message) = None in none) ≡ next_frame w H now → ⊥
-no_claim_left w H now o e = go (claim_goes w H now) o e
-  where
-    go : (b : Bool) → b ≡ true → (let none : Option (ℕ × Message) = None in none) ≡ frame_by b (holds w H now) (next_acknowledgment w H now) (other w H now) (claim_from w (claim_address w (address_after w H))) now → ⊥
-    go true p f = absurd (cc)
-    go false p f = absurd (cc)
+no_claim_left w H now o e = none-some (now, claim_from w (claim_address w (address_after w H))) (e
+    ∙ ap (λ (b : Bool). frame_by b (holds w H now) (next_acknowledgment w H now) (other w H now) (claim_from w (claim_address w (address_after w H))) now) o)
 
 due_by_then : (w : Who) (H : List Call) (now : ℕ) → owes_claim w H ≡ true → (IsTrue (is_lost (address_after w H)) → delayed w H ≤ step H now)
     → claim_due w H now ≡ true
@@ -494,7 +433,7 @@ cannot_claim_waits w H later c when now f (Some g) is none away stood l = absurd
     K = later ++ G
 
     called : calls w H when f ≡ true
-    called = or_true (calls_for_claim w (is_lost (address_after w H)) f) _ (or_true ((is_smaller w (claim_of f) || is_larger w (claim_of f)) && not (is_lost (address_after w H))) _
+    called = or_left (calls_for_claim w (is_lost (address_after w H)) f) _ (or_left ((is_smaller w (claim_of f) || is_larger w (claim_of f)) && not (is_lost (address_after w H))) _
         (λ i. (away i || is_larger w (claim_of f)) && not (stood i)))
 
     lost_then : is_lost (address_after w G) ≡ true
@@ -517,12 +456,7 @@ cannot_claim_waits w H later c when now f (Some g) is none away stood l = absurd
     away_from h = not_both _ (holding_not_lost w K now h) (still_lost w later G lost_then)
 
     go : FrameCase w K now g → ⊥
-    go (claims o e) = not_both _ undue (and_parts (claim_due w K now) (not (gives_way w K now)) o).0
-    go (acknowledges m o h k e way) = away_from h
-    go (replies m o h k i e) = away_from h
-    go (sends x o h k i e) = away_from h
-    go (packs m o h k i e) = away_from h
-    go (transfers m o h k i e) = away_from h
+    go c = elim (claims_or_held c) [ inl x ↦ not_both _ undue (and_parts (claim_due w K now) (not (gives_way w K now)) x.0).0 | inr y ↦ away_from y.1 ]
 
 -- claimed anew, it isn't held till a claim is taken
 abbrev unheld : Address → Bool
@@ -531,20 +465,16 @@ unheld (Claimed e) = false
 unheld Lost = true
 
 unheld_so : (a : Address) → unheld (unclaimed a) ≡ true
-unheld_so NotClaimed = refl
-unheld_so (Claimed e) = refl
 unheld_so Lost = refl
+unheld_so other = refl
 
 unheld_on : (b : Bool) (s : ℕ) (a : Address) → unheld a ≡ true → unheld (if b then Lost else older s a) ≡ true
-unheld_on true s a e = refl
-unheld_on false s NotClaimed e = refl
 unheld_on false s (Claimed n) e = absurd (cc)
-unheld_on false s Lost e = refl
+unheld_on b s a e = refl
 
 never_held : (s : ℕ) (a : Address) → unheld a ≡ true → is_held (older s a) ≡ false
-never_held s NotClaimed e = refl
 never_held s (Claimed n) e = absurd (cc)
-never_held s Lost e = refl
+never_held s a e = refl
 
 still_unheld : (w : Who) (later H : List Call) → frames later ≡ [] → unheld (address_after w H) ≡ true → unheld (address_after w (later ++ H)) ≡ true
 still_unheld w [] H e o = o
@@ -556,21 +486,13 @@ still_unheld w (call ∷ later) H e o = let z = unheld_on false (step (later ++ 
 pub anew_claims : (w : Who) (H later : List Call) (c : Controller) (when now : ℕ) (g : FrameRecord)
     → Is w (At now (TakeFrame (Some g)) ∷ later ++ At when Again ∷ H) c → frames later ≡ []
     → message_of g ≡ claim_from w (claim_address w (address_after w (later ++ At when Again ∷ H)))
-anew_claims w H later c when now g is none = go (frame w K c now g is)
+anew_claims w H later c when now g is none = elim (claims_or_held (frame w K c now g is)) [ inl x ↦ ap content x.1 | inr y ↦ absurd (away_from y.1) ]
   where
     K : List Call
     K = later ++ At when Again ∷ H
 
     away_from : holds w K now ≡ true → ⊥
     away_from h = not_both _ (never_held (step K now) (address_after w K) (still_unheld w later (At when Again ∷ H) none (unheld_so _))) h
-
-    go : FrameCase w K now g → message_of g ≡ claim_from w (claim_address w (address_after w K))
-    go (claims o e) = ap content e
-    go (acknowledges m o h k e way) = absurd (away_from h)
-    go (replies m o h k i e) = absurd (away_from h)
-    go (sends x o h k i e) = absurd (away_from h)
-    go (packs m o h k i e) = absurd (away_from h)
-    go (transfers m o h k i e) = absurd (away_from h)
 
 pub claims_at_once : (w : Who) (H : List Call) (c : Controller) (now : ℕ) (answer : Option FrameRecord) → Is w (At now (TakeFrame answer) ∷ H) c
     → IsTrue (owes_claim w H) → (IsTrue (is_lost (address_after w H)) → delayed w H ≤ step H now) → answer ≢ None
@@ -588,27 +510,21 @@ claims_only w H c now f is z = go (frame w H c now f is)
 -- ---- who
 
 pub held_now : (a : Address) (e : ℕ) → is_held (older (e - e) a) ≡ is_held a
-held_now NotClaimed e = refl
 held_now (Claimed n) e = ap (nat_le 250000) (omega arith)
-held_now Lost e = refl
+held_now a e = refl
 
 pub holding_is : (w : Who) (x : Address) (a : ℕ) → (status_of w x ≡ status.Holding a ↔ ((a ≡ w.address) × (is_held x ≡ true)))
-holding_is w NotClaimed a = (λ e. absurd (cc), λ z. absurd (let y = z.1 in cc))
-holding_is w Lost a = (λ e. absurd (cc), λ z. absurd (let y = z.1 in cc))
 holding_is w (Claimed n) a = go (nat_le 250000 n)
   where
     go : (b : Bool) → ((if b then status.Holding w.address else status.Claiming w.address) ≡ status.Holding a ↔ ((a ≡ w.address) × (b ≡ true)))
     go true = (λ e. ((let z : a ≡ w.address = cc in z), refl), λ z. ap status.Holding (sym z.0))
     go false = (λ e. absurd (cc), λ z. absurd (let y = z.1 in cc))
+holding_is w x a = (λ e. absurd (cc), λ z. absurd (let y = z.1 in cc))
 
 cannot_is : (w : Who) (x : Address) → (status_of w x ≡ status.Cannot ↔ (is_lost x ≡ true))
 cannot_is w NotClaimed = (λ e. absurd (cc), λ z. absurd (cc))
 cannot_is w Lost = (λ e. refl, λ z. refl)
-cannot_is w (Claimed n) = go (nat_le 250000 n)
-  where
-    go : (b : Bool) → ((if b then status.Holding w.address else status.Claiming w.address) ≡ status.Cannot ↔ (false ≡ true))
-    go true = (λ e. absurd (cc), λ z. absurd (cc))
-    go false = (λ e. absurd (cc), λ z. absurd (cc))
+cannot_is w (Claimed n) = cond_both (nat_le 250000 n) _ _ (λ s. (s ≡ status.Cannot ↔ (false ≡ true))) (λ b. (λ e. absurd (cc), λ z. absurd (cc))) (λ b. (λ e. absurd (cc), λ z. absurd (cc)))
 
 pub cannot : (w : Who) (H : List Call) → (status_after w H ≡ status.Cannot ↔ IsTrue (is_lost (address_after w H)))
 cannot w H = cannot_is w (address_after w H)
@@ -710,8 +626,6 @@ not_due w H now true l m q e =
 
 not_held_yet : (w : Who) (H : List Call) (now : ℕ) (a : Address) → moment H ≤ now → now < 10000000000000000
     → ((t : ℕ) → held_at a (moment H) ≡ Some t → now < t) → is_held a ≡ false → is_held (older (now - moment H) a) ≡ false
-not_held_yet w H now NotClaimed l m q e = refl
-not_held_yet w H now Lost l m q e = refl
 not_held_yet w H now (Claimed n) l m q e = go (nat_lt (moment H + (250000 - n)) 10000000000000000) refl
   where
     small : nat_lt n 250000 ≡ true
@@ -732,6 +646,7 @@ not_held_yet w H now (Claimed n) l m q e = go (nat_lt (moment H + (250000 - n)) 
       where
         far : (k : ℕ) → nat_lt k 10000000000000000 ≡ false → 10000000000000000 ≤ k
         far k g = grind arith
+not_held_yet w H now a l m q e = refl
 
 none_by : (h : Bool) (x y : Option Message) (m : Message) (now : ℕ) → (h ≡ false) ⊎ ((x ≡ None) × (y ≡ None)) → frame_by false h x y m now ≡ None
 none_by false x y m now e = refl
@@ -739,14 +654,12 @@ none_by true x y m now (inl e) = absurd (cc)
 none_by true x y m now (inr e) = ap (λ z. frame_by false true z y m now) e.0 ∙ ap (λ z. frame_by false true None z m now) e.1
 
 lost_unheld : (a : Address) → is_lost a ≡ true → unheld a ≡ true
-lost_unheld NotClaimed e = refl
 lost_unheld (Claimed n) e = absurd (cc)
-lost_unheld Lost e = refl
+lost_unheld a e = refl
 
 lost_not_held : (a : Address) → is_lost a ≡ true → is_held a ≡ false
-lost_not_held NotClaimed e = refl
 lost_not_held (Claimed n) e = absurd (cc)
-lost_not_held Lost e = refl
+lost_not_held a e = refl
 
 -- what next_due tells where no frame can be taken at the moment of the last call
 due_later : (w : Who) (H : List Call) (l : Bool) → (may_claim w H (delayed w H) || (is_held (address_after w H) && is_waiting w H)) ≡ false
@@ -829,22 +742,19 @@ pub ticks : (w : Who) (H : List Call) (now later : ℕ) → moment H ≤ now →
 ticks w H now later l m = go (address_after w H)
   where
     go : (a : Address) → is_held (older (later - now) (older (now - moment H) a)) ≡ is_held (older (later - moment H) a)
-    go NotClaimed = refl
     go (Claimed n) = ap (nat_le 250000) (omega (arith, l, m))
-    go Lost = refl
+    go a = refl
 
 there : {T : Type 0} (L : List T) (n : ℕ) → slice_get L n ≡ None → nat_lt n (length L) ≡ false
 there L n e = le-ltb n (length L) (past_end L n e)
 
 held_at_later : (a : Address) (m : ℕ) → held_at a m ≡ Some m → ⊥
-held_at_later NotClaimed m e = absurd (cc)
-held_at_later Lost m e = absurd (cc)
 held_at_later (Claimed n) m e = go (nat_lt n 250000) (nat_lt (m + (250000 - n)) 10000000000000000) refl e
   where
     go : (b c : Bool) → nat_lt n 250000 ≡ b → (if b then (if c then Some (m + (250000 - n)) else None) else None) ≡ Some m → ⊥
-    go false c f g = absurd (cc)
-    go true false f g = absurd (cc)
     go true true f g = let x : m + (250000 - n) ≡ m = cc in let y = ltb-true n 250000 f in absurd (omega (arith, x, y))
+    go b c f g = absurd (cc)
+held_at_later a m e = absurd (cc)
 
 -- one is taken where the claim is owed, one waits, or one of packets is due
 none_taken : (w : Who) (H : List Call) (c : Controller) (now : ℕ) → Is w (At now (TakeFrame None) ∷ H) c
@@ -918,11 +828,8 @@ news_case false false None true n e = inr (inr (inr ((let z : n ≡ MessagesMiss
 news_case false false None false n e = absurd (cc)
 
 pub no_news : (a b : Bool) (d : Option ℕ) (c : Bool) → None ≡ news_of a b d c → (a ≡ false) × (b ≡ false) × (d ≡ None) × (c ≡ false)
-no_news true b d c e = absurd (cc)
-no_news false true d c e = absurd (cc)
-no_news false false (Some a) c e = absurd (cc)
-no_news false false None true e = absurd (cc)
 no_news false false None false e = (refl, refl, refl, refl)
+no_news a b d c e = absurd (cc)
 
 -- another of its NAME
 
@@ -950,17 +857,13 @@ double_claimed w (At now (Hear f) ∷ H) a e = go (double_claimed w H a) (claim_
 double_claimed w (TakeNews (Some (NameDoubled b)) ∷ H) a e = absurd (cc)
 double_claimed w (call ∷ H) a e = double_later w a H call (double_claimed w H a e)
 
-pub either : (a b : Bool) → (a || b) ≡ true → (a ≡ true) ⊎ (b ≡ true)
-either true b e = inl refl
-either false b e = inr e
-
 is_driven : (b c : Bool) (s : ℕ) (a : Address) → (b && c) ≡ true → is_lost (if b then Lost else older s a) ≡ true
 is_driven true c s a e = refl
 is_driven false c s a e = absurd (cc)
 
 pub lost_is_lost : (w : Who) (H : List Call) → IsTrue (lost_news w H) → IsTrue (is_lost (address_after w H))
 lost_is_lost w [] e = absurd (cc)
-lost_is_lost w (At when (Hear f) ∷ H) e = elim (either (lost_news w H) (is_smaller w (claim_of f) && not (is_lost (address_after w H))) e) [
+lost_is_lost w (At when (Hear f) ∷ H) e = elim (or_cases (lost_news w H) (is_smaller w (claim_of f) && not (is_lost (address_after w H))) e) [
   | inl z ↦ stays_lost w H (At when (Hear f)) (lost_is_lost w H z)
   | inr z ↦ is_driven (is_smaller w (claim_of f)) _ (step H when) (address_after w H) z
 ]
@@ -978,7 +881,7 @@ one_missed false m e = absurd (cc)
 pub some_missed : (w : Who) (H : List Call) → IsTrue (missed_news w H) → 0 < missed w H
 some_missed w [] e = absurd (cc)
 some_missed w (At when (Hear f) ∷ H) e =
-    elim (either (missed_news w H) (is_for_program w (holds w H when) f && not (nat_lt (length (kept w H) - length (got H)) 16)) e) [
+    elim (or_cases (missed_news w H) (is_for_program w (holds w H when) f && not (nat_lt (length (kept w H) - length (got H)) 16)) e) [
       | inl z ↦ still_missed (is_for_program w (holds w H when) f && not (nat_lt (length (kept w H) - length (got H)) 16)) (missed w H) (some_missed w H z)
       | inr z ↦ one_missed _ (missed w H) z
     ]

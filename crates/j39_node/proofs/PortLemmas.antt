@@ -1,5 +1,5 @@
 -- The open transfer of an answered history goes from the address to another's.
-use Rattle.j39_node.proofs.Common.{[], if◌then◌else◌, ◌<◌, ◌||◌, ◌∙◌, ◌∷◌, ◌≡◌, ◌⊎◌, aborted, address_after, answer_to_transfer, ap, AreAnswered, arith, At, Bool, both, Call, can_broadcast, Claims, clock_at, Failed, false, FrameRecord, gives_up, group_with, Hear, hears, hears_if, holder, holder_in, IfSome, inl, inr, is_lost, is_move, is_replaced, is_running, is_some, is_spent, Knows, List, listens, ltb-true, Message, min, nat_eq, nat_lt, new_sender, None, Ok, open_transfer, Option, option_map, Packet, PortRecord, refl, Resting, Running, said_between, says, send_step, SenderRecord, SendEvent, sends, sends_if, Signal, signal_by, Some, subst, sym, TakeFrame, TakeTransferEnded, told_claims, Transfer, transfer_by, transport_control_group, transport_data_group, true, Who, ℕ}
+use Rattle.j39_node.proofs.Common.{[], if◌then◌else◌, ◌<◌, ◌||◌, ◌∙◌, ◌∷◌, ◌≡◌, ◌⊎◌, aborted, address_after, answer_to_transfer, ap, AreAnswered, arith, At, Bool, both, Call, can_broadcast, Claims, clock_at, Failed, false, FrameRecord, gives_up, group_with, Hear, hears, hears_if, holder, holder_in, IfSome, inl, inr, is_lost, is_move, is_replaced, is_running, is_some, is_spent, Knows, List, listens, ltb-true, Message, min, nat_eq, nat_lt, new_sender, None, Ok, open_transfer, Option, option_map, Packet, PortRecord, refl, Resting, Running, said_between, says, send_step, SenderRecord, SendEvent, sends, sends_if, Signal, signal_by, Some, subst, sym, TakeFrame, TakeTransferEnded, told_claims, Transfer, transfer_by, transport_control_group, transport_data_group, true, Who, ℕ, cond_both}
 use Rattle.j39_transport.specs.Sending.{Heard, Tick}
 use Rattle.j39_transport.specs.Sending as sending
 use Rattle.j39_transport.proofs.SenderLemmas.{ticked, hears_signal}
@@ -34,27 +34,20 @@ Same new old = (new.message ≡ old.message) × (new.destination ≡ old.destina
 
 pub gives_up_same : (s : SenderRecord) (reason : ℕ) → Same (aborted reason s) s
 unfolding aborted
-gives_up_same s reason = go (is_running s.state)
-  where
-    go : (b : Bool) → Same (if b then record s { state = Failed reason } else s) s
-    go true = (refl, refl)
-    go false = (refl, refl)
+gives_up_same s reason = cond_both (is_running s.state) _ _ (λ (r : SenderRecord). Same r s) (λ z. (refl, refl)) (λ z. (refl, refl))
+
+-- a frame that is heard leaves it, or makes it gone, or its sender listens
+pub hears_cases : (P : Running → Type 0) (lost replaced : Bool) (f : FrameRecord) (now : ℕ) (t : Running) → P t → (replaced ≡ true → P (record t { gone = true }))
+    → ((t.gone || is_spent t) ≡ false → P (listens f now t)) → P (hears lost replaced f now t)
+hears_cases P true replaced f now t left gone heard = left
+hears_cases P false true f now t left gone heard = gone refl
+hears_cases P false false f now t left gone heard = cond_both (t.gone || is_spent t) t (listens f now t) P (λ z. left) heard
 
 pub hears_same : (lost replaced : Bool) (f : FrameRecord) (now : ℕ) (t : Running) → Same (hears lost replaced f now t).sender t.sender
-hears_same true replaced f now t = (refl, refl)
-hears_same false true f now t = (refl, refl)
-hears_same false false f now t = go (t.gone || is_spent t)
-  where
-    go : (b : Bool) → Same (if b then t else listens f now t).sender t.sender
-    go true = (refl, refl)
-    go false = keeps t.sender (Heard f) now
+hears_same lost replaced f now t = hears_cases (λ (u : Running). Same u.sender t.sender) lost replaced f now t (refl, refl) (λ z. (refl, refl)) (λ z. keeps t.sender (Heard f) now)
 
 pub sends_same : (now : ℕ) (t : Running) → Same (sends now t).sender t.sender
-sends_same now t = go (gives_up t)
-  where
-    go : (b : Bool) → Same (if b then aborted 5 t.sender else (send_step t.sender Tick now).after) t.sender
-    go true = gives_up_same t.sender 5
-    go false = keeps t.sender Tick now
+sends_same now t = cond_both (gives_up t) _ _ (λ (r : SenderRecord). Same r t.sender) (λ z. gives_up_same t.sender 5) (λ z. keeps t.sender Tick now)
 
 between_same : (w : Who) (new old : Running) → Same new.sender old.sender → Between w old → Between w new
 between_same w new old k h = record {

@@ -1,6 +1,5 @@
 -- A message that waits is renewed.
-use Rattle.j39_node.proofs.Common.{[], if◌then◌else◌, ◌&&◌, ◌++◌, ◌+◌, ◌-◌, ◌<◌, ◌∙◌, ◌∷◌, ◌≡◌, ◌≢◌, ◌≤◌, ◌⊎◌, and_parts, ap, arith, Bool, drop, false, inl, inr, is_alike, latest, length, length-set, length-take-le, List, map, Message, nat_eq, nat_le, None, not, Option, option_map, Outgoing, posted, refill, refl, request_group, slice_get, slice_index_or, slice_set, Some, suc, sym, take, take-append_seam, take-suc, true, zero, ℕ, leb-true, le-leb}
-use Rattle.j39_node.proofs.QueueLemmas.{length_map, map_append}
+use Rattle.j39_node.proofs.Common.{[], if◌then◌else◌, ◌&&◌, ◌++◌, ◌+◌, ◌-◌, ◌<◌, ◌∙◌, ◌∷◌, ◌≡◌, ◌≢◌, ◌≤◌, ◌⊎◌, and_parts, ap, arith, Bool, drop, false, inl, inr, is_alike, latest, length, length-set, length-take-le, List, map, Message, nat_eq, nat_le, None, not, Option, option_map, Outgoing, posted, refill, refl, request_group, slice_get, slice_index_or, slice_set, Some, suc, sym, take, take-append_seam, take-suc, true, zero, ℕ, leb-true, le-leb, map-append, length-map}
 
 -- the last that is alike, one more
 pub latest_more : (m : Message) (n i : ℕ) (xs : List (ℕ × Message)) (x : ℕ × Message) (o : Option ℕ)
@@ -15,13 +14,13 @@ pub latest_on : (m : Message) (n : ℕ) (xs : List Outgoing) (i place : ℕ) (x 
     → place ≡ i → found ≡ latest m n 0 (map posted (take i xs)) None → alike ≡ is_alike m (posted x).1 → now ≡ (if nat_le n place && alike then Some place else found)
     → now ≡ latest m n 0 (map posted (take (i + 1) xs)) None
 latest_on m n xs i place x found now alike e l p f a g =
-    let k : length (map posted (take i xs)) ≡ i = length_map posted (take i xs) ∙ length-take-le i xs (omega (arith, l)) in
+    let k : length (map posted (take i xs)) ≡ i = length-map (take i xs) posted ∙ length-take-le i xs (omega (arith, l)) in
     let y : take (i + 1) xs ≡ take i xs ++ x ∷ [] =
     ap (λ (n : ℕ). take n xs) (let z : i + 1 ≡ suc i = omega arith in z) ∙ (take-suc xs i x l ∙ ap (λ (u : Outgoing). take i xs ++ u ∷ []) (sym e)) in
     g ∙ ((λ t. if nat_le n ((p ∙ sym k) t) && a t then Some ((p ∙ sym k) t) else f t)
     ∙ (ap (λ (k : ℕ). if nat_le n k && is_alike m (posted x).1 then Some k else latest m n 0 (map posted (take i xs)) None) (let z : length (map posted (take i xs)) ≡ 0 + length (map posted (take i xs)) = omega arith in z)
     ∙ (sym (latest_more m n 0 (map posted (take i xs)) (posted x) None)
-    ∙ ap (λ zs. latest m n 0 zs None) (sym (map_append posted (take i xs) x) ∙ ap (map posted) (sym y)))))
+    ∙ ap (λ zs. latest m n 0 zs None) (sym (map-append posted (take i xs) (x ∷ [])) ∙ ap (map posted) (sym y)))))
 
 -- where it is: not before the nth, and alike
 pub record IsLatest (m : Message) (n i k : ℕ) (xs : List (ℕ × Message)) : Type 0 where

@@ -4,11 +4,10 @@ use Rattle.j39_node.specs.declared.turn.Turn.TheVariants.{Packet}
 use Rattle.j39_node.proofs.EndSteps.{times_more}
 use Rattle.j39_node.proofs.WithdrawLemmas.{past_more}
 use Rattle.j39_node.proofs.LaneLaws.{overdue_goes_by, taken_packet_of}
-use Rattle.j39_node.proofs.LawLemmas.{past_end}
 use Rattle.j39_node.proofs.MessageLaws.{accepts_more, told_next, more_sent}
 use Rattle.j39_node.proofs.PromptLaws.{answered_from, begins_timely, due_by, ended_or_lost, ends_so, Fate, IsOver, later_on, not_yet, Pace, pause_most, Runs, Stands, stands, takes, Timely}
 use Rattle.j39_node.proofs.PromptLaws.Fate.{over, gone, runs}
-use Rattle.j39_node.proofs.SoundLemmas.{FrameCase, IsTurn, frame_case, frame_there, held_older, none_next, none_other, packets_is, pause_is, some_at, turned, reached_is, none_at}
+use Rattle.j39_node.proofs.SoundLemmas.{FrameCase, IsTurn, frame_case, frame_there, held_older, none_next, none_other, packets_is, pause_is, some_at, turned, reached_is, none_at, past_end}
 use Rattle.j39_node.proofs.SoundLemmas.FrameCase.{claims, acknowledges, replies, sends, packs, transfers}
 use Rattle.j39_node.proofs.AnswerCases.{broadcast_accepts}
 use Rattle.j39_node.proofs.KindLemmas.{replies_it, packs_it, Kind, kind_by, kind_is, claims_it, acknowledges_it, steers_it, of_session_it}

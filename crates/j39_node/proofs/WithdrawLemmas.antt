@@ -1,6 +1,6 @@
 -- Messages that were withdrawn are passed over.
-use Rattle.j39_node.proofs.Common.{[], if◌then◌else◌, ◌++◌, ◌+◌, ◌<◌, ◌∙◌, ◌∷◌, ◌≡◌, ◌≤◌, ap, arith, Bool, drop, false, is_blank, length, List, ltb-true, map, Message, nat_lt, Option, Outgoing, past, posted, refl, slice_get, slice_get_within, slice_index_or, slice_set, Some, suc, sym, take, true, unblanked, zero, ℕ}
-use Rattle.j39_node.proofs.QueueLemmas.{get_map, length_map, read}
+use Rattle.j39_node.proofs.Common.{[], if◌then◌else◌, ◌++◌, ◌+◌, ◌<◌, ◌∙◌, ◌∷◌, ◌≡◌, ◌≤◌, ap, arith, Bool, drop, false, is_blank, length, List, ltb-true, map, Message, nat_lt, Option, Outgoing, past, posted, refl, slice_get, slice_get_within, slice_index_or, slice_set, Some, suc, sym, take, true, unblanked, zero, ℕ, length-map}
+use Rattle.j39_node.proofs.QueueLemmas.{get_map, read}
 
 -- no fewer are passed, none that isn't there, and the one that is reached isn't one of them
 pub past_more : (bs : List Bool) (n : ℕ) → n ≤ past bs n
@@ -94,7 +94,7 @@ mark_of xs i x b e l g =
 pub none_past : (xs : List Outgoing) (i : ℕ) → length xs ≤ i → slice_get (map is_blank (map posted xs)) i ≡ Some true → ⊥
 none_past xs i l e =
     let a = slice_get_within (map is_blank (map posted xs)) i true e in
-    let b = length_map is_blank (map posted xs) in let d = length_map posted xs in absurd (omega (arith, a, b, d, l))
+    let b = length-map (map posted xs) is_blank in let d = length-map xs posted in absurd (omega (arith, a, b, d, l))
 
 -- ---- what of the messages that are passed wasn't withdrawn
 

@@ -1,6 +1,6 @@
-use Rattle.j39_node.proofs.SoundLemmas.{sound}
+use Rattle.j39_node.proofs.SoundLemmas.{sound, past_end}
 use Rattle.j39_node.proofs.KnownLemmas.{served_not}
-use Rattle.j39_node.proofs.LawLemmas.{counts, counts_one, has_room, off, past_end, refusal_case, refused_it, request_case, unrefused, whole, with_it, has_none}
+use Rattle.j39_node.proofs.LawLemmas.{counts, counts_one, has_room, off, refusal_case, refused_it, request_case, unrefused, whole, with_it, has_none}
 use Rattle.j39_node.proofs.Common.{Asked, Bool, Busy, None, Option, Some, [], acknowledged, acknowledgment, and_from, ap, drop, due, eq-eqb, false, false_from_ne_true, fresh, handed, if◌then◌else◌, inl, inr, is_served, length, nat_eq, nat_lt, not, refl, refusal_waits, requests, sym, true, waits_already, with_refusal, with_request, ◌&&◌, ◌++◌, ◌-◌, ◌∙◌, ◌∷◌, ◌≡◌}
 use Rattle.j39_node.proofs.laws.requests.Goals as goal
 

@@ -1,5 +1,5 @@
-use Rattle.j39_node.proofs.Common.{◌∙◌, acknowledged, ap, due, eq-eqb, length, nat_eq, refl, refusal_by, stamp_micros, sym, View, ℕ, map, acknowledgment, request_by, ◌∷◌, [], ◌++◌}
-use Rattle.j39_node.proofs.QueueLemmas.{length_rest, map_append, drop_append}
+use Rattle.j39_node.proofs.Common.{◌∙◌, acknowledged, ap, due, eq-eqb, length, nat_eq, refl, refusal_by, stamp_micros, sym, View, ℕ, map, acknowledgment, request_by, ◌∷◌, [], ◌++◌, map-append, drop-append-le}
+use Rattle.j39_node.proofs.QueueLemmas.{length_rest}
 use Rattle.j39_node.proofs.CallLemmas.{passed_is, holds_is, follows}
 use Rattle.j39_node.proofs.controller.Controller.acknowledge.Goals as goal
 use Rattle.j39_node.proofs.AnswerCases.{answer_is}
@@ -16,7 +16,7 @@ returns c = λ w H h.
     ∙ (sym c.is_full.ensures.value ∙ c.if-is_full.false)))) refl
     (λ i. record (h.shown i) {
       hold = p i;
-      acknowledgments = (ap (map (refusal_by w)) c.push.ensures.items ∙ (map_append (refusal_by w) c.args.self.now.desk.due.items _
+      acknowledgments = (ap (map (refusal_by w)) c.push.ensures.items ∙ (map-append (refusal_by w) c.args.self.now.desk.due.items _
           ∙ ((λ i. (h.shown i).acknowledgments ++ c.new.ensures w i ∷ [])
-          ∙ sym (drop_append (length (acknowledged H)) (due w H) (acknowledgment w c.args.answer (request_by c.args.request)) (front_length (acknowledged H) (due w H) (sound w H h.answered).desk.1))))) i;
+          ∙ sym (drop-append-le (length (acknowledged H)) (due w H) (acknowledgment w c.args.answer (request_by c.args.request) ∷ []) (front_length (acknowledged H) (due w H) (sound w H h.answered).desk.1))))) i;
     })
