@@ -1,5 +1,5 @@
 -- That every transfer ends.
-use Rattle.j39_node.proofs.Common.{Abort, AreAnswered, At, Bool, Call, Controller, FrameRecord, Gone, Hear, Idle, Is, IsAnswered, IsPaced, IsPrompt, List, Message, MessageRecord, None, NoneTold, Ok, Option, Running, SendState, SenderRecord, Sending, Signal, Some, TakeFrame, TakeTransferEnded, Transfer, TransferEnding, Waiting, Who, [], aborted, address_after, after, age, all_transfers, and_parts, answer_to_transfer, ap, arith, begun, broadcast_from, broken_off, by, can_broadcast, claims_anew, clears, clock_at, cond_both, counts_for, destination_of, due, ending_by, eq-eqb, false, first, gives_up, granted_by, hears, hears_if, holder, holds, idle, if◌then◌else◌, inl, inr, is_acknowledgment, is_claim, is_engaged, is_held, is_idle, is_lost, is_move, is_replaced, is_resting, is_running, is_sendable, is_session, is_some, is_spent, is_transfer, later, leb-true, length, listens, lost, moment, nat_eq, nat_le, nat_lt, new_sender, next_transfer, next_transfer_ended, not, not_both, open_transfer, option_map, or_parts, packets_of, passed_in, refl, running, says, send_step, sends, sends_if, signal_by, step, subst, suc, sym, tells_transfer, ticks_in, timer_t3, told, transfer_by, transfer_end, true, waited_in, ℕ, ◌&&◌, ◌*◌, ◌++◌, ◌+◌, ◌/◌, ◌<◌, ◌||◌, ◌∙◌, ◌∷◌, ◌≡◌, ◌≤◌, ◌⊎◌, same_Some, none-some}
+use Rattle.j39_node.proofs.Common.{Abort, AreAnswered, At, Bool, Call, Controller, FrameRecord, Gone, Hear, Idle, Is, IsAnswered, IsPaced, IsPrompt, List, Message, MessageRecord, None, NoneTold, Ok, Option, Running, SendState, SenderRecord, Sending, Signal, Some, TakeFrame, TakeTransferEnded, Transfer, TransferEnding, Waiting, Who, [], aborted, address_after, after, age, all_transfers, and_parts, answer_to_transfer, ap, arith, begun, broadcast_from, broken_off, by, can_broadcast, claims_anew, clears, clock_at, cond_both, counts_for, destination_of, due, ending_by, eq-eqb, false, first, gives_up, granted_by, hears, hears_if, holder, holds, idle, if◌then◌else◌, inl, inr, is_acknowledgment, is_claim, is_engaged, is_held, is_idle, is_lost, is_move, is_replaced, is_resting, is_running, is_sendable, is_session, is_some, is_spent, is_transfer, later, leb-true, length, listens, lost, moment, nat_eq, nat_le, nat_lt, new_sender, next_transfer, next_transfer_ended, not, not_both, open_transfer, option_map, or_parts, packets_of, passed_in, refl, running, says, send_step, sends, sends_if, signal_by, step, subst, suc, sym, tells_transfer, ticks_in, timer_t3, told, transfer_by, transfer_end, true, waited_in, ℕ, ◌&&◌, ◌*◌, ◌++◌, ◌+◌, ◌/◌, ◌<◌, ◌||◌, ◌∙◌, ◌∷◌, ◌≡◌, ◌≤◌, ◌⊎◌, same_Some, none-some, mul-add}
 use Rattle.j39_transport.specs.Sending.{Tick}
 use Rattle.j39_node.specs.declared.kinds.TransferEnding.TheVariants.{Done, Withdrawn, Failed}
 use Rattle.j39_node.specs.Transfers.{said_to}
@@ -13,7 +13,7 @@ use Rattle.j39_node.proofs.PortLemmas.{hears_cases, hears_same, sends_same}
 use Rattle.j39_node.proofs.PromptLaws.{answered_from, ended_or_lost, Fate, later_on, takes, waited_last, waited_more}
 use Rattle.j39_node.proofs.PromptLaws.Fate.{runs}
 use Rattle.j39_node.proofs.SoundLemmas.{FrameCase, frame_case, held_not_lost, held_older, none_next, plain_session}
-use Rattle.j39_node.proofs.SteadySteps.{Account, account_holds, account_passes, account_rests, dist}
+use Rattle.j39_node.proofs.SteadySteps.{Account, account_holds, account_passes, account_rests}
 use Rattle.j39_node.proofs.TransferLaws.{BudgetedIf, budgeted, Tells, tells}
 use Rattle.j39_node.proofs.AnswerCases.{transfer_accepts}
 
@@ -399,7 +399,7 @@ module _ (w : Who) (B : List Call) (g most to : ℕ) where
         (0, (refl, account_passes g n n 0 base waited (waited_in later B) 0 0 0 0 (step (later ++ B) now) false (omega arith) h.1));
     goes = λ now f later n m base waited streak plain counts p l h. (refl, account_passes g n m 0 base waited (waited_in later B) 0 0 0 0 (step (later ++ B) now) false l h.1);
     waits = λ now f later n m base waited streak plain counts p l h. (refl, account_holds g n m 0 base waited (waited_in later B) 0 0 0 0 (step (later ++ B) now) false l p h.1);
-    older = λ later n base waited streak age s l a p h. (let x = h.1.all_most in let b = times_more n most g l in let d = dist most timer_t3 g in omega (arith, a, x, b, d, p));
+    older = λ later n base waited streak age s l a p h. (let x = h.1.all_most in let b = times_more n most g l in let d = mul-add most timer_t3 g in omega (arith, a, x, b, d, p));
     less = λ call later. omega arith;
   }
 

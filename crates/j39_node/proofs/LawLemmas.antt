@@ -1,5 +1,5 @@
 -- The laws.
-use Rattle.j39_node.proofs.Common.{Address, AddressLost, AnotherAtAddress, AreAnswered, Asked, At, Bool, Busy, Call, Claim, Claimed, Controller, Done, Draft, Ending, FrameRecord, HasDouble, Hear, Is, IsFront, IsTrue, List, Lost, Message, MessagesMissed, Move, Nack, NameDoubled, News, None, NoneTold, NotClaimed, Option, Renew, Reply, Some, TakeEnded, TakeFrame, TakeNews, Tick, Who, Withdraw, Withdrawn, [], accepted, acknowledged, acknowledgment, acknowledgment_group, address_after, address_claimed_group, age, and-false, and_from, and_parts, answers_another, ap, append-nil, arith, asked, at_in, begins, by, called, calls, calls_for_claim, claim_address, claim_due, claim_from, claim_goes, claim_of, content, delayed, destination_of, double, doubled_news, drop, due, end_of, eq-eqb, eqb-true, false, first, frames, fresh, gives_way, global_address, got, handed, held_at, holds, if◌then◌else◌, inl, inr, is_acknowledgment, is_alike, is_another, is_apart, is_blank, is_claim, is_double, is_for_program, is_held, is_larger, is_lost, is_move, is_none, is_own_group, is_refusal_due, is_reply, is_served, is_session, is_smaller, is_some, is_subscribed, is_there, is_transfer, kept, later, le-leb, le-ltb, left, length, length-append, long_by, lost_news, lt-ltb, ltb-false, ltb-true, marks, may_claim, may_go, message_from, message_of, missed, missed_news, moment, more, nat_eq, nat_le, nat_lt, news_of, next_acknowledgment, next_due, next_frame, next_long, next_other, next_packet, next_transfer, next_withdrawn, not, not_both, null_address, older, open_broadcast, option_map, option_or, or_parts, other, owes_claim, packets, passed, passed_in, patience, pause, pgn_of, reached, ready, reception, refl, refusal_waits, request_group, requests, rest, slice_get, slice_get-map, slice_get_within, source_of, stamp_at, stamped, status_after, status_of, step, still, suc, sym, takes_other, told, true, turns, two, unclaimed, waits, waits_already, with_refusal, with_request, yields, zero, ℕ, ◌&&◌, ◌*◌, ◌++◌, ◌+◌, ◌-◌, ◌<◌, ◌||◌, ◌↔◌, ◌∙◌, ◌∷◌, ◌≡◌, ◌≢◌, ◌≤◌, ◌⊎◌, or_cases, or_left, or_right, none-some, cond_both}
+use Rattle.j39_node.proofs.Common.{Address, AddressLost, AnotherAtAddress, AreAnswered, Asked, At, Bool, Busy, Call, Claim, Claimed, Controller, Done, Draft, Ending, FrameRecord, HasDouble, Hear, Is, IsFront, IsTrue, List, Lost, Message, MessagesMissed, Move, Nack, NameDoubled, News, None, NoneTold, NotClaimed, Option, Renew, Reply, Some, TakeEnded, TakeFrame, TakeNews, Tick, Who, Withdraw, Withdrawn, [], accepted, acknowledged, acknowledgment, acknowledgment_group, address_after, address_claimed_group, age, and-false, and_from, and_parts, answers_another, ap, append-nil, arith, asked, at_in, begins, by, called, calls, calls_for_claim, claim_address, claim_due, claim_from, claim_goes, claim_of, content, delayed, destination_of, double, doubled_news, drop, due, end_of, eq-eqb, eqb-true, false, first, frames, fresh, gives_way, global_address, got, handed, held_at, holds, if◌then◌else◌, inl, inr, is_acknowledgment, is_alike, is_another, is_apart, is_blank, is_claim, is_double, is_for_program, is_held, is_larger, is_lost, is_move, is_none, is_own_group, is_refusal_due, is_reply, is_served, is_session, is_smaller, is_some, is_subscribed, is_there, is_transfer, kept, later, le-leb, le-ltb, left, length, length-append, long_by, lost_news, lt-ltb, ltb-false, ltb-true, marks, may_claim, may_go, message_from, message_of, missed, missed_news, moment, more, nat_eq, nat_le, nat_lt, news_of, next_acknowledgment, next_due, next_frame, next_long, next_other, next_packet, next_transfer, next_withdrawn, not, not_both, null_address, older, open_broadcast, option_map, option_or, or_parts, other, owes_claim, packets, passed, passed_in, patience, pause, pgn_of, reached, ready, reception, refl, refusal_waits, request_group, requests, rest, slice_get, slice_get-map, slice_get_within, source_of, stamp_at, stamped, status_after, status_of, step, still, suc, sym, takes_other, told, true, turns, two, unclaimed, waits, waits_already, with_refusal, with_request, yields, zero, ℕ, ◌&&◌, ◌*◌, ◌++◌, ◌+◌, ◌-◌, ◌<◌, ◌||◌, ◌↔◌, ◌∙◌, ◌∷◌, ◌≡◌, ◌≢◌, ◌≤◌, ◌⊎◌, or_cases, or_left, or_right, none-some, cond_both, ne_eqb, leb-false}
 use Rattle.j39_node.proofs.PromptLaws.{answered_from, stays_lost}
 use Rattle.j39_node.specs.History.{heard, Again}
 use Rattle.j39_node.specs.Reception.{is_waiting}
@@ -173,12 +173,9 @@ not_subscribed w H when f e = (
 pub missed_full : (w : Who) (H : List Call) (when : ℕ) (f : FrameRecord) → missed w (At when (Hear f) ∷ H) ≢ missed w H → length (got H) + 16 ≤ length (kept w H)
 missed_full w H when f n = go (is_for_program w (holds w H when) f) (nat_lt (length (kept w H) - length (got H)) 16) refl n
   where
-    not_lt : (k g : ℕ) → nat_lt (k - g) 16 ≡ false → g + 16 ≤ k
-    not_lt k g e = grind arith
-
     go : (b r : Bool) → nat_lt (length (kept w H) - length (got H)) 16 ≡ r → ((if b && not r then suc (missed w H) else missed w H) ≡ missed w H → ⊥)
         → length (got H) + 16 ≤ length (kept w H)
-    go true false e k = not_lt _ _ e
+    go true false e k = let l = ltb-false _ _ e in omega (arith, l)
     go true true e k = absurd (k refl)
     go false r e k = absurd (k refl)
 
@@ -386,12 +383,9 @@ due_by_then : (w : Who) (H : List Call) (now : ℕ) → owes_claim w H ≡ true 
     → claim_due w H now ≡ true
 due_by_then w H now o ripe = go (is_lost (address_after w H)) refl
   where
-    none_left : (d s : ℕ) → d ≤ s → nat_eq (d - s) 0 ≡ true
-    none_left d s l = grind (arith, l)
-
     go : (b : Bool) → is_lost (address_after w H) ≡ b → claim_due w H now ≡ true
     go false l = owed_due w H now o l
-    go true l = λ i. o i && (not (l i) || none_left (delayed w H) (step H now) (ripe l) i)
+    go true l = λ i. o i && (not (l i) || eq-eqb (delayed w H - step H now) 0 (let r = ripe l in omega (arith, r)) i)
 
 pub most_delayed : (w : Who) (H : List Call) → delayed w H ≤ w.delay * 600
 most_delayed w [] = omega arith
@@ -445,11 +439,8 @@ cannot_claim_waits w H later c when now f (Some g) is none away stood l = absurd
     left : w.delay * 600 ≤ delayed w K + passed_in later G
     left = still_delayed w later G none lost_then (or_right (owes_claim w H) _ called) (let b = begins in omega (arith, b))
 
-    not_yet : (d s : ℕ) → s < d → nat_eq (d - s) 0 ≡ false
-    not_yet d s k = grind (arith, k)
-
     undue : claim_due w K now ≡ false
-    undue = (λ i. owes_claim w K && (not (still_lost w later G lost_then i) || not_yet (delayed w K) (step K now) (let a = left in omega (arith, a, l)) i))
+    undue = (λ i. owes_claim w K && (not (still_lost w later G lost_then i) || ne_eqb (delayed w K - step K now) 0 (λ z. let a = left in omega (arith, a, l, z)) i))
         ∙ and-false (owes_claim w K)
 
     away_from : holds w K now ≡ true → ⊥
@@ -629,10 +620,7 @@ not_held_yet : (w : Who) (H : List Call) (now : ℕ) (a : Address) → moment H 
 not_held_yet w H now (Claimed n) l m q e = go (nat_lt (moment H + (250000 - n)) 10000000000000000) refl
   where
     small : nat_lt n 250000 ≡ true
-    small = flip n e
-      where
-        flip : (k : ℕ) → nat_le 250000 k ≡ false → nat_lt k 250000 ≡ true
-        flip k f = grind arith
+    small = lt-ltb n 250000 (leb-false 250000 n e)
 
     short : (k d s x : ℕ) → nat_lt k 250000 ≡ true → x < d → d ≡ s + (250000 - k) → s ≤ x → nat_le 250000 (k + (x - s)) ≡ false
     short k d s x f g i j = grind arith
@@ -642,10 +630,7 @@ not_held_yet w H now (Claimed n) l m q e = go (nat_lt (moment H + (250000 - n)) 
         let z = q (moment H + (250000 - n)) (ap (λ (b : Bool). if b then stamp_at (moment H + (250000 - n)) else None) small
         ∙ ap (λ (b : Bool). if b then Some (moment H + (250000 - n)) else None) f) in
         short n _ (moment H) now small z refl l
-    go false f = short n (moment H + (250000 - n)) (moment H) now small (let y = far _ f in omega (arith, y, m)) refl l
-      where
-        far : (k : ℕ) → nat_lt k 10000000000000000 ≡ false → 10000000000000000 ≤ k
-        far k g = grind arith
+    go false f = short n (moment H + (250000 - n)) (moment H) now small (let y = ltb-false _ _ f in omega (arith, y, m)) refl l
 not_held_yet w H now a l m q e = refl
 
 none_by : (h : Bool) (x y : Option Message) (m : Message) (now : ℕ) → (h ≡ false) ⊎ ((x ≡ None) × (y ≡ None)) → frame_by false h x y m now ≡ None
@@ -673,12 +658,9 @@ still_waits : (w : Who) (H : List Call) (now n : ℕ) → moment H ≤ now → n
 unfolding Quiet
 still_waits w H now n l m q e = go (nat_lt (moment H + n) 10000000000000000) refl
   where
-    far : (k : ℕ) → nat_lt k 10000000000000000 ≡ false → 10000000000000000 ≤ k
-    far k g = grind arith
-
     go : (b : Bool) → nat_lt (moment H + n) 10000000000000000 ≡ b → step H now < n
     go true f = let y = q (moment H + n) (e ∙ ap (λ (b : Bool). if b then Some (moment H + n) else None) f) in omega (arith, y, l)
-    go false f = let y = far _ f in omega (arith, y, m, l)
+    go false f = let y = ltb-false _ _ f in omega (arith, y, m, l)
 
 nothing_taken : (w : Who) (H : List Call) (now : ℕ) → moment H ≤ now → now < 10000000000000000 → Quiet w H now → next_frame w H now ≡ None
 unfolding Quiet
@@ -698,16 +680,13 @@ nothing_taken w H now l m q =
     may_now : owes_claim w H ≡ true → is_lost (address_after w H) ≡ false → ⊥
     may_now a b = not_both _ o.0 (λ i. a i && (not (b i) || nat_eq (delayed w H) 0))
 
-    some_left : (d s : ℕ) → s < d → nat_eq (d - s) 0 ≡ false
-    some_left d s k = grind (arith, k)
-
     unclaimed_now : (a b : Bool) → owes_claim w H ≡ a → is_lost (address_after w H) ≡ b → claim_due w H now ≡ false
     unclaimed_now false b i j = ap (λ (x : Bool). x && (not (is_lost (address_after w H)) || nat_eq (delayed w H - step H now) 0)) i
     unclaimed_now true false i j = absurd (may_now i j)
     unclaimed_now true true i j =
         let k = still_waits w H now (delayed w H) l m q (due_later w H false n (lost_not_held (address_after w H) j)
         ∙ ap (λ (x : Bool). if x then stamp_at (moment H + delayed w H) else held_at (address_after w H) (moment H)) i) in
-        λ t. i t && (not (j t) || some_left (delayed w H) (step H now) k t)
+        λ t. i t && (not (j t) || ne_eqb (delayed w H - step H now) 0 (λ z. omega (arith, z, k)) t)
 
     not_yet : (a b : Bool) → owes_claim w H ≡ a → is_lost (address_after w H) ≡ b → is_held (address_after w H) ≡ false → holds w H now ≡ false
     not_yet a true i j z = never_held (step H now) (address_after w H) (lost_unheld (address_after w H) j)

@@ -1,5 +1,5 @@
 -- The open transfer of an answered history goes from the address to another's.
-use Rattle.j39_node.proofs.Common.{[], if◌then◌else◌, ◌<◌, ◌||◌, ◌∙◌, ◌∷◌, ◌≡◌, ◌⊎◌, aborted, address_after, answer_to_transfer, ap, AreAnswered, arith, At, Bool, both, Call, can_broadcast, Claims, clock_at, Failed, false, FrameRecord, gives_up, group_with, Hear, hears, hears_if, holder, holder_in, IfSome, inl, inr, is_lost, is_move, is_replaced, is_running, is_some, is_spent, Knows, List, listens, ltb-true, Message, min, nat_eq, nat_lt, new_sender, None, Ok, open_transfer, Option, option_map, Packet, PortRecord, refl, Resting, Running, said_between, says, send_step, SenderRecord, SendEvent, sends, sends_if, Signal, signal_by, Some, subst, sym, TakeFrame, TakeTransferEnded, told_claims, Transfer, transfer_by, transport_control_group, transport_data_group, true, Who, ℕ, cond_both}
+use Rattle.j39_node.proofs.Common.{[], if◌then◌else◌, ◌<◌, ◌||◌, ◌∙◌, ◌∷◌, ◌≡◌, ◌⊎◌, aborted, address_after, answer_to_transfer, ap, AreAnswered, arith, At, Bool, both, Call, can_broadcast, Claims, clock_at, Failed, false, FrameRecord, gives_up, group_with, Hear, hears, hears_if, holder, holder_in, IfSome, inl, inr, is_lost, is_move, is_replaced, is_running, is_some, is_spent, Knows, List, listens, ltb-true, Message, min, nat_eq, nat_lt, new_sender, None, Ok, open_transfer, Option, option_map, Packet, PortRecord, refl, Resting, Running, said_between, says, send_step, SenderRecord, SendEvent, sends, sends_if, Signal, signal_by, Some, subst, sym, TakeFrame, TakeTransferEnded, told_claims, Transfer, transfer_by, transport_control_group, transport_data_group, true, Who, ℕ, cond_both, ne_eqb}
 use Rattle.j39_transport.specs.Sending.{Heard, Tick}
 use Rattle.j39_transport.specs.Sending as sending
 use Rattle.j39_transport.proofs.SenderLemmas.{ticked, hears_signal}
@@ -65,9 +65,6 @@ ported_sends w false now o h = h
 ported_sends w true now None h = h
 ported_sends w true now (Some t) h = between_same w _ t (sends_same now t) h
 
-not_all : (n : ℕ) → n < 254 → nat_eq n 255 ≡ false
-not_all n e = grind arith
-
 ported_opens : (w : Who) (H : List Call) (now group to k : ℕ) (bytes : List ℕ) → Ok k ≡ answer_to_transfer w H now group to bytes
     → Ported w (open_transfer w (At now (Transfer group to bytes (Ok k)) ∷ H))
 unfolding new_sender
@@ -107,7 +104,7 @@ said_case w (Some t) now m h e = go (signal_by t now) e
         record {
           source = ap (λ (y : Message). y.source) (sym z) ∙ h.source;
           group = elim (either_group a) [ inl p ↦ inl (ap (λ (y : Message). y.group) (sym z) ∙ p) | inr p ↦ inr (ap (λ (y : Message). y.group) (sym z) ∙ p) ];
-          directed = ap (λ (y : Message). is_some y.destination 255) (sym z) ∙ not_all t.sender.destination h.directed;
+          directed = ap (λ (y : Message). is_some y.destination 255) (sym z) ∙ ne_eqb t.sender.destination 255 (λ z. let l = h.directed in omega (arith, l, z));
         }
 
 -- ---- who holds an address

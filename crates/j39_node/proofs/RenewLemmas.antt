@@ -1,5 +1,5 @@
 -- A message that waits is renewed.
-use Rattle.j39_node.proofs.Common.{[], if◌then◌else◌, ◌&&◌, ◌++◌, ◌+◌, ◌-◌, ◌<◌, ◌∙◌, ◌∷◌, ◌≡◌, ◌≢◌, ◌≤◌, ◌⊎◌, and_parts, ap, arith, Bool, drop, false, inl, inr, is_alike, latest, length, length-set, length-take-le, List, map, Message, nat_eq, nat_le, None, not, Option, option_map, Outgoing, posted, refill, refl, request_group, slice_get, slice_index_or, slice_set, Some, suc, sym, take, take-append_seam, take-suc, true, zero, ℕ, leb-true, le-leb, map-append, length-map}
+use Rattle.j39_node.proofs.Common.{[], if◌then◌else◌, ◌&&◌, ◌++◌, ◌+◌, ◌-◌, ◌<◌, ◌∙◌, ◌∷◌, ◌≡◌, ◌≢◌, ◌≤◌, ◌⊎◌, and_parts, ap, arith, Bool, drop, false, inl, inr, is_alike, latest, length, length-set, length-take-le, List, map, Message, nat_eq, nat_le, None, not, Option, option_map, Outgoing, posted, refill, refl, request_group, slice_get, slice_index_or, slice_set, Some, suc, sym, take, take-append_seam, take-suc, true, zero, ℕ, leb-true, le-leb, map-append, length-map, lt-leb}
 
 -- the last that is alike, one more
 pub latest_more : (m : Message) (n i : ℕ) (xs : List (ℕ × Message)) (x : ℕ × Message) (o : Option ℕ)
@@ -109,13 +109,10 @@ latest_rest m zero n xs l = same (latest m n 0 xs None) ∙ ap (λ (k : ℕ). op
 latest_rest m (suc t) zero xs l = absurd (omega (arith, l))
 latest_rest m (suc t) (suc n) [] l = refl
 latest_rest m (suc t) (suc n) (x ∷ xs) l =
-    ap (λ (b : Bool). latest m (suc n) 1 xs (if b && is_alike m x.1 then Some 0 else None)) (not_yet n)
+    ap (λ (b : Bool). latest m (suc n) 1 xs (if b && is_alike m x.1 then Some 0 else None)) (lt-leb (suc n) 0 (omega arith))
     ∙ (shifted m n 0 xs None ∙ (ap (option_map suc) (latest_rest m t n xs (omega (arith, l)))
     ∙ (twice (latest m (n - t) 0 (drop t xs) None) ∙ ap (λ (k : ℕ). option_map (λ j. j + suc t) (latest m k 0 (drop t xs) None)) (let z : n - t ≡ suc n - suc t = omega arith in z))))
   where
-    not_yet : (n : ℕ) → nat_le (suc n) 0 ≡ false
-    not_yet n = grind arith
-
     twice : (o : Option ℕ) → option_map suc (option_map (λ k. k + t) o) ≡ option_map (λ k. k + suc t) o
     twice None = refl
     twice (Some k) = ap Some (omega arith)

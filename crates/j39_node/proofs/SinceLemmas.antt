@@ -1,5 +1,5 @@
 -- A claimed address was claimed by a frame that was taken.
-use Rattle.j39_node.proofs.Common.{[], if◌then◌else◌, ◌++◌, ◌+◌, ◌-◌, ◌∙◌, ◌∷◌, ◌≡◌, ◌≤◌, Address, address_after, Again, ap, AreAnswered, arith, At, Bool, Call, claim_address, claim_from, claim_of, Claimed, claimed, ClaimedSince, content, false, FrameRecord, Hear, is_claim, is_held, is_lost, is_smaller, IsTrue, List, Lost, moment, nat_le, NeverBack, NoneUnclaims, NotClaimed, older, passed_in, refl, Some, step, subst, sym, TakeFrame, true, unclaimed, Who, ℕ, not_both}
+use Rattle.j39_node.proofs.Common.{[], if◌then◌else◌, ◌++◌, ◌+◌, ◌-◌, ◌∙◌, ◌∷◌, ◌≡◌, ◌≤◌, Address, address_after, Again, ap, AreAnswered, arith, At, Bool, Call, claim_address, claim_from, claim_of, Claimed, claimed, ClaimedSince, content, false, FrameRecord, Hear, is_claim, is_held, is_lost, is_smaller, IsTrue, List, Lost, moment, nat_le, NeverBack, NoneUnclaims, NotClaimed, older, passed_in, refl, Some, step, subst, sym, TakeFrame, true, unclaimed, Who, ℕ, not_both, leb-true, le-leb}
 use Rattle.j39_node.specs.Since.{unclaims}
 use Rattle.j39_node.proofs.SoundLemmas.{FrameCase, frame_case}
 use Rattle.j39_node.proofs.SoundLemmas.FrameCase.{claims}
@@ -27,9 +27,8 @@ record Before (s d : ℕ) (a : Address) : Type 0 where
   pub is : d ≡ elapsed + s
 
 before : (s d : ℕ) (a : Address) → older s a ≡ Claimed d → Before s d a
-before s d NotClaimed e = absurd (cc)
-before s d Lost e = absurd (cc)
 before s d (Claimed n) e = record { elapsed = n; was = refl; is = (let z : n + s ≡ d = cc in sym z) }
+before s d a e = absurd (cc)
 
 not_driven : (b : Bool) (s d : ℕ) (a : Address) → (if b then Lost else older s a) ≡ Claimed d → (b ≡ false) × (older s a ≡ Claimed d)
 not_driven true s d a e = absurd (cc)
@@ -43,15 +42,13 @@ passes w H call d h f e =
     one_later w H call b.elapsed d (h b.elapsed b.was) f b.is
 
 not_claimed : (a : Address) (d : ℕ) → unclaimed a ≡ Claimed d → ⊥
-not_claimed NotClaimed d e = absurd (cc)
-not_claimed (Claimed n) d e = absurd (cc)
 not_claimed Lost d e = absurd (cc)
+not_claimed a d e = absurd (cc)
 
 -- where no time passes it is as old as before
 same_age : (m : ℕ) (a : Address) → older (m - m) a ≡ a
-same_age m NotClaimed = refl
 same_age m (Claimed n) = ap Claimed (omega arith)
-same_age m Lost = refl
+same_age m a = refl
 
 -- the first claim
 begins : (w : Who) (H : List Call) (now : ℕ) (f : FrameRecord) → AreAnswered w H → FrameCase w H now f → is_claim f ≡ true → address_after w H ≡ NotClaimed
@@ -92,12 +89,8 @@ claimed_since w (call ∷ H) d right e =
     passes w H call d (λ k i. claimed_since w H k right.0 i) refl (let z = same_age (moment H) (address_after w H) in cc)
 
 pub held_cases : (s : ℕ) (a : Address) → is_held (older s a) ≡ true → (e : ℕ) × (a ≡ Claimed e) × (250000 ≤ e + s)
-held_cases s NotClaimed h = absurd (cc)
-held_cases s Lost h = absurd (cc)
-held_cases s (Claimed n) h = (n, refl, le_is (n + s) h)
-  where
-    le_is : (k : ℕ) → nat_le 250000 k ≡ true → 250000 ≤ k
-    le_is k g = grind arith
+held_cases s (Claimed n) h = (n, refl, leb-true 250000 (n + s) h)
+held_cases s a h = absurd (cc)
 
 -- ---- an address that is claimed is held in time
 
@@ -139,10 +132,7 @@ stands_since w (call ∷ later) E at f k d =
 
 pub in_time : (s p : ℕ) (a : Address) → Stands a p → (IsTrue (is_lost a) → ⊥) → 250000 ≤ p + s → is_held (older s a) ≡ true
 in_time s p a (gone e) n l = absurd (n (ap is_lost e))
-in_time s p a (stands e g m) n l = ap (λ (x : Address). is_held (older s x)) g ∙ enough (e + s) (omega (arith, l, m))
-  where
-    enough : (k : ℕ) → 250000 ≤ k → nat_le 250000 k ≡ true
-    enough k h = grind arith
+in_time s p a (stands e g m) n l = ap (λ (x : Address). is_held (older s x)) g ∙ le-leb 250000 (e + s) (omega (arith, l, m))
 
 -- ---- time
 

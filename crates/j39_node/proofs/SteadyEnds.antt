@@ -7,7 +7,7 @@ use Rattle.j39_node.proofs.PromptLaws.{answered_from, takes}
 use Rattle.j39_node.proofs.ReceptionLemmas.{no_reply}
 use Rattle.j39_node.proofs.SoundLemmas.{FrameCase, is_directed, no_transfer, none_other, packet_session, turned}
 use Rattle.j39_node.proofs.SoundLemmas.FrameCase.{claims, acknowledges, replies, sends as sends_one, packs, transfers}
-use Rattle.j39_node.proofs.SteadyLaws.{few_turns, one, since_most, steers, there_by, turns_then}
+use Rattle.j39_node.proofs.SteadyLaws.{few_turns, one, since_most, steers, there_by, turns_then, one_most}
 use Rattle.j39_node.proofs.SteadySteps.{Account, account_goes, account_holds, account_passes, account_rests, account_steers, no_older}
 use Rattle.j39_node.proofs.AnswerCases.{transfer_accepts}
 
@@ -74,9 +74,7 @@ kind_of w to H now f right (replies m o h n g e) away = go (is_some (destination
         by true z = absurd (apart (last (ready w H now).message (ready w H now).packet (ready w H now).transfer z))
           where
             last : (p q s : Bool) → (p || (q || s)) ≡ false → s ≡ false
-            last true q s i = absurd (cc)
-            last false true s i = absurd (cc)
-            last false false s i = i
+            last p q s i = grind (arith, i)
 
     go : (d : Bool) → is_some (destination_of f.id) to ≡ d → Kind w to H now f (DueTo w to H now)
     go true x = counted (turns_then H now f false a) (counts_is to f false true true a t x)
@@ -93,10 +91,6 @@ kind_of w to H now f right (transfers m o h n g e) away = absurd (not_both _ awa
 
 abbrev limit : ℕ → ℕ → ℕ → ℕ
 limit g most o = most * (timer_t3 + 3 * g) + (o + 1) * (6 * g)
-
-one_most : (y : Bool) → one y ≤ 1
-one_most true = omega arith
-one_most false = omega arith
 
 module _ (w : Who) (B : List Call) (g most to : ℕ) where
   record Paid (later : List Call) (n base waited streak : ℕ) : Type 0 where

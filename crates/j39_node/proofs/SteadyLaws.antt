@@ -1,5 +1,5 @@
 -- A driver that takes one frame at least in each g: how long a frame of a broadcast and a message wait, whoever asks.
-use Rattle.j39_node.proofs.Common.{AreAnswered, At, Bool, Broadcast, Call, Controller, Ending, FrameRecord, Is, IsAnswered, IsPrompt, IsSteady, IsTrue, List, Message, MessageRecord, Move, None, NoneTold, Ok, Option, Ready, Reply, Single, Some, StaysFirst, TakeFrame, Who, [], accepted, acknowledgment, add-mul, address_after, and_from, and_parts, ap, arith, broadcast_from, by, claims_anew, counted, eq-eqb, false, gives_way, has_packets, holds, if◌then◌else◌, inl, inr, is_acknowledgment, is_claim, is_held, is_left, is_lost, is_overdue, is_packet, is_reply, is_there, is_turn, kept, later, leb-false, leb-true, left, length, less, lt-ltb, ltb-false, ltb-true, marks, moment, more, nat_eq, nat_le, nat_lt, next_broadcast_ended, next_ended, next_other, not, not-true, not_both, open_broadcast, or_parts, other, others, packets, packets_of, packets_taken, passed, passed_in, pause, quiet, reached, ready, reception, refl, rest, silent, since_take, slice_get, step, subst, suc, suc-mul, sym, takes_reply, tells_broadcast, told, true, turn_of, turns, waited_in, yields, zero, ℕ, ◌&&◌, ◌*◌, ◌++◌, ◌+◌, ◌-◌, ◌<◌, ◌||◌, ◌∙◌, ◌∷◌, ◌≡◌, ◌≤◌, ◌⊎◌}
+use Rattle.j39_node.proofs.Common.{AreAnswered, At, Bool, Broadcast, Call, Controller, Ending, FrameRecord, Is, IsAnswered, IsPrompt, IsSteady, IsTrue, List, Message, MessageRecord, Move, None, NoneTold, Ok, Option, Ready, Reply, Single, Some, StaysFirst, TakeFrame, Who, [], accepted, acknowledgment, add-mul, address_after, and_from, and_parts, ap, arith, broadcast_from, by, claims_anew, counted, eq-eqb, false, gives_way, has_packets, holds, if◌then◌else◌, inl, inr, is_acknowledgment, is_claim, is_held, is_left, is_lost, is_overdue, is_packet, is_reply, is_there, is_turn, kept, later, leb-false, leb-true, left, length, less, lt-ltb, ltb-false, ltb-true, marks, moment, more, nat_eq, nat_le, nat_lt, next_broadcast_ended, next_ended, next_other, not, not-true, not_both, open_broadcast, or_parts, other, others, packets, packets_of, packets_taken, passed, passed_in, pause, quiet, reached, ready, reception, refl, rest, silent, since_take, slice_get, step, subst, suc, suc-mul, sym, takes_reply, tells_broadcast, told, true, turn_of, turns, waited_in, yields, zero, ℕ, ◌&&◌, ◌*◌, ◌++◌, ◌+◌, ◌-◌, ◌<◌, ◌||◌, ◌∙◌, ◌∷◌, ◌≡◌, ◌≤◌, ◌⊎◌, mul-add}
 use Rattle.j39_node.specs.declared.turn.Turn.TheVariants.{Packet}
 use Rattle.j39_node.proofs.EndSteps.{times_more}
 use Rattle.j39_node.proofs.WithdrawLemmas.{past_more}
@@ -37,14 +37,12 @@ turn_time g (suc zero) = g
 turn_time g (suc (suc t)) = g + g
 
 pub turn_most : (g t : ℕ) → turn_time g t ≤ g + g
-turn_most g zero = omega arith
-turn_most g (suc zero) = omega arith
 turn_most g (suc (suc t)) = omega arith
+turn_most g t = omega arith
 
 pub turn_more : (g t : ℕ) → t < 2 → turn_time g (suc t) ≡ turn_time g t + g
-turn_more g zero l = omega arith
-turn_more g (suc zero) l = refl
 turn_more g (suc (suc t)) l = absurd (omega (arith, l))
+turn_more g t l = omega arith
 
 pub turns_then : (H : List Call) (now : ℕ) (f : FrameRecord) (b : Bool) → (is_claim f || is_acknowledgment f) ≡ b
     → turns (At now (TakeFrame (Some f)) ∷ H) ≡ (if b then suc (turns H) else 0)
@@ -226,7 +224,7 @@ abbrev pub one : Bool → ℕ
 one true = 1
 one false = 0
 
-one_most : (y : Bool) → one y ≤ 1
+pub one_most : (y : Bool) → one y ≤ 1
 one_most true = omega arith
 one_most false = omega arith
 
@@ -253,12 +251,9 @@ most_others g n others l =
     let u : 2 * n + 2 ≡ (n + 1) + (n + 1) = omega arith in
     let v = ap (λ (x : ℕ). x * (3 * g)) u in
     let z = add-mul (n + 1) (n + 1) (3 * g) in
-    let t = twice (n + 1) (3 * g) (6 * g) (omega arith) in
-    omega (arith, a, b, d, v, z, t)
-  where
-    twice : (n x y : ℕ) → y ≡ x + x → n * y ≡ n * x + n * x
-    twice zero x y e = omega arith
-    twice (suc n) x y e = let h = twice n x y e in let a = suc-mul n x in let b = suc-mul n y in omega (arith, h, a, b, e)
+    let t = mul-add (n + 1) (3 * g) (3 * g) in
+    let k = ap (λ (x : ℕ). (n + 1) * x) (let e : 3 * g + 3 * g ≡ 6 * g = omega arith in e) in
+    omega (arith, a, b, d, v, z, t, k)
 
 module _ (w : Who) (B : List Call) (g k : ℕ) where
   record Waits (later : List Call) : Type 0 where

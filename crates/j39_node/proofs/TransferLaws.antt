@@ -1,5 +1,5 @@
 -- The laws of transfers.
-use Rattle.j39_node.proofs.Common.{Abort, Aborts, Acknowledges, Acknowledgment, AreAnswered, At, Bool, BroadcastAnnounce, Call, ClearToSend, Controller, FrameRecord, Gone, Happened, Hear, Idle, Is, IsMove, IsTrue, List, Message, MessageRecord, None, Ok, Option, Packet, Refused, Replaces, RequestToSend, Result, Running, SendState, SenderRecord, Sending, Signal, Some, TakeFrame, TakeTransferEnded, Transfer, TransferEnding, Waiting, Who, [], abort_move, aborted, acked, address_after, after, all_transfers, ap, arith, both, broken_off, by, can_transfer, cleared, clears, clears_by, clock_at, cond_both, ending_by, eq-eqb, eqb-true, false, first, gives_up, granted_after, granted_by, hears, hears_if, holder, holds, idle, if◌then◌else◌, inl, inr, is_clear, is_engaged, is_idle, is_lost, is_move, is_replaced, is_resting, is_running, is_spent, is_waiting, later, left, length, listens, long_by, lost, ltb-true, max, may_name, message_of, min, moves, nat_eq, nat_lt, new_sender, next_packet, next_transfer, not, not_both, nothing, open_transfer, option_map, or_parts, other, packet_data, packets, packets_of, refl, request_of, rested, said_between, says, send_step, sends, sends_if, signal_by, silent, slice_get, spent_after, still, subst, sym, takes_clear, ticks_in, told, told_transfers, transfer_end, transport_control_group, transport_data_group, true, waiting, ℕ, ◌&&◌, ◌++◌, ◌+◌, ◌-◌, ◌<◌, ◌==◌, ◌||◌, ◌∙◌, ◌∷◌, ◌≡◌, ◌≤◌, ◌⊎◌, same_Some, none-some, some_pair_parts}
+use Rattle.j39_node.proofs.Common.{Abort, Aborts, Acknowledges, Acknowledgment, AreAnswered, At, Bool, BroadcastAnnounce, Call, ClearToSend, Controller, FrameRecord, Gone, Happened, Hear, Idle, Is, IsMove, IsTrue, List, Message, MessageRecord, None, Ok, Option, Packet, Refused, Replaces, RequestToSend, Result, Running, SendState, SenderRecord, Sending, Signal, Some, TakeFrame, TakeTransferEnded, Transfer, TransferEnding, Waiting, Who, [], abort_move, aborted, acked, address_after, after, all_transfers, ap, arith, both, broken_off, by, can_transfer, cleared, clears, clears_by, clock_at, cond_both, ending_by, eq-eqb, eqb-true, false, first, gives_up, granted_after, granted_by, hears, hears_if, holder, holds, idle, if◌then◌else◌, inl, inr, is_clear, is_engaged, is_idle, is_lost, is_move, is_replaced, is_resting, is_running, is_spent, is_waiting, later, left, length, listens, long_by, lost, ltb-true, max, may_name, message_of, min, moves, nat_eq, nat_lt, new_sender, next_packet, next_transfer, not, not_both, nothing, open_transfer, option_map, or_parts, other, packet_data, packets, packets_of, refl, request_of, rested, said_between, says, send_step, sends, sends_if, signal_by, silent, slice_get, spent_after, still, subst, sym, takes_clear, ticks_in, told, told_transfers, transfer_end, transport_control_group, transport_data_group, true, waiting, ℕ, ◌&&◌, ◌++◌, ◌+◌, ◌-◌, ◌<◌, ◌==◌, ◌||◌, ◌∙◌, ◌∷◌, ◌≡◌, ◌≤◌, ◌⊎◌, same_Some, none-some, some_pair_parts, ltb-false}
 use Rattle.j39_transport.specs.Sending.{Heard, Tick}
 use Rattle.j39_node.specs.declared.kinds.TransferEnding.TheVariants.{Done, Withdrawn, Failed}
 use Rattle.j39_node.specs.Transfers.{is_over, said_to}
@@ -15,6 +15,7 @@ use Rattle.j39_node.proofs.MoveSteps.SignalCase.{requests, packs, times_out}
 use Rattle.j39_node.proofs.MoveLemmas.{Arises, LastIf, Sent, last_one, last_open, moved_open, sent_case, traced, hears_token}
 use Rattle.j39_node.proofs.StrangerLaws.{own_source as from_own}
 use Rattle.j39_node.proofs.MoveSteps.HeardCase.{same, done, fails, holds as holding, clears as is_cleared}
+use Rattle.j39_node.proofs.QueueLemmas.{mapped_none}
 
 -- ---- what transfer answers
 
@@ -124,9 +125,6 @@ granted_within s a = go _ _ (heard_case s a 0)
     go o r (is_cleared limit next last i n) = n.most
     go o r other = tt
 
-not_more : (k : ℕ) → nat_lt 64 k ≡ false → k ≤ 64
-not_more k e = grind arith
-
 budget_listens : (t : Running) (n k : ℕ) (o : Option ℕ) → Within k o → n ≤ t.granted + t.spent → t.granted ≤ k → t.spent ≤ 64 → t.spent ≤ n
     → ((if is_clear o then n + 1 else n) ≤ granted_after o t.granted + spent_after o t.granted t.spent)
     × (granted_after o t.granted ≤ k) × (spent_after o t.granted t.spent ≤ 65) × (spent_after o t.granted t.spent ≤ (if is_clear o then n + 1 else n))
@@ -151,7 +149,7 @@ budget_hears false false f now t n h = go (t.gone || is_spent t) refl
     go true e = h
     go false e =
         let x = budget_listens t n (packets_of t.sender.message) (granted_by t.sender (said_to t.sender f)) (granted_within t.sender (said_to t.sender f)) h.count h.granted
-        (not_more t.spent (or_parts t.gone (is_spent t) e).1) h.heard in
+        (ltb-false 64 t.spent (or_parts t.gone (is_spent t) e).1) h.heard in
         record { count = x.0; granted = subst (λ (k : ℕ). granted_after (granted_by t.sender (said_to t.sender f)) t.granted ≤ k) (sym same) x.1; spent = x.2; heard = x.3 }
 
 budget_hears_if : (lost : Bool) (replaced : ℕ → Bool) (f : FrameRecord) (now : ℕ) (o : Option Running) (n : ℕ) → BudgetedIf o n
@@ -194,9 +192,6 @@ not_five t xs a (times_out n e) k =
     let y = same_Some 3 5 (ap (λ (m : Message). slice_get m.bytes 1) z) in
     absurd (omega (arith, y))
 
-many : (k : ℕ) → nat_lt 64 k ≡ true → 65 ≤ k
-many k e = grind arith
-
 pub patient : (w : Who) (H : List Call) (c : Controller) (now : ℕ) (f : FrameRecord) (t : Running) → Is w (At now (TakeFrame (Some f)) ∷ H) c → IsTrue (is_move w H f)
     → open_transfer w H ≡ Some t → message_of f ≡ abort_move t.sender.destination t.sender.message 5 → (65 ≤ t.spent) × (65 ≤ clears w H)
 patient w H c now f t is p e five = go (gives_up t) refl
@@ -209,10 +204,10 @@ patient w H c now f t is p e five = go (gives_up t) refl
 
     go : (b : Bool) → gives_up t ≡ b → (65 ≤ t.spent) × (65 ≤ clears w H)
     go true g =
-        let a = many t.spent (both (is_spent t) (is_running t.sender.state) g).0 in
+        let a = ltb-true 64 t.spent (both (is_spent t) (is_running t.sender.state) g).0 in
         let h : Budgeted t (clears w H) = subst (λ (o : Option Running). BudgetedIf o (clears w H)) e (budgeted w H) in
         let b = h.heard in
-        (a, omega (arith, a, b))
+        (omega (arith, a), omega (arith, a, b))
     go false g = absurd (not_five t (moves w H) s.signal
         (signal_case t.sender (clock_at H now) (moves w H) s.signal (moved_open w H t is.answered.0 e)
         (ticking t (clock_at H now) s.signal g (ap (λ (u : Running). signal_by u (clock_at H now)) (sym same) ∙ s.said)))
@@ -521,10 +516,6 @@ pub all_told : (w : Who) (H : List Call) (c : Controller) → Is w (TakeTransfer
     ⊎ ((t : Running) × (open_transfer w H ≡ Some t) × (is_over t ≡ false) × (IsTrue (is_lost (address_after w H)) → ⊥))
 all_told w H c is = go (open_transfer w H) refl (last_one w H is.answered.0) is.answered.1
   where
-    nothing : (k : ℕ) (x : Option TransferEnding) → (let none : Option (ℕ × TransferEnding) = None in none) ≡ option_map (λ y. (k, y)) x → None ≡ x
-    nothing k None e = refl
-    nothing k (Some y) e = absurd (cc)
-
     go : (o : Option Running) → open_transfer w H ≡ o → LastIf (length (told_transfers H)) (all_transfers w H) o
         → (let none : Option (ℕ × TransferEnding) = None in none) ≡ transfer_end o (is_lost (address_after w H))
         → (length (told_transfers H) ≡ length (all_transfers w H))
@@ -532,5 +523,5 @@ all_told w H c is = go (open_transfer w H) refl (last_one w H is.answered.0) is.
     go None p h e = inl h
     go (Some t) p h e =
         let lost = is_lost (address_after w H) in
-        let z = subst (Tells t.sender.state t.gone lost) (sym (nothing t.token _ e)) (tells t.sender.state t.gone lost) in
+        let z = subst (Tells t.sender.state t.gone lost) (mapped_none (λ y. (t.token, y)) _ (sym e)) (tells t.sender.state t.gone lost) in
         inr (t, p, (λ i. z.0 i || not (z.2 i)), not_both _ z.1)
