@@ -392,8 +392,8 @@ pub timed_out_means : (w : Who) (H : List Call) (c : Controller) (k : ℕ) (q : 
 timed_out_means w H c k q is o = go (out_of w H c k TimedOut q is o)
   where
     go : Outcome w H q TimedOut → RanOut w H q
-    go (by_word l h) = absurd (cc)
     go (by_time z h) = h
+    go (by_word l h) = absurd (cc)
     go (by_loss z h) = absurd (cc)
 
 pub withdrawn_means : (w : Who) (H : List Call) (c : Controller) (k : ℕ) → Is w (TakeAskEnded (Some (k, Withdrawn)) ∷ H) c → IsTrue (is_lost (address_after w H))

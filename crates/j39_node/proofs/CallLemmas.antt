@@ -13,8 +13,8 @@ use Rattle.j39_node.specs.declared.hold.Standing.TheVariants as standing
 use Rattle.j39_node.proofs.AskLemmas.{asking_is, ask_more, takes, token_of, ask_withdrawn}
 use Rattle.j39_node.proofs.ReceptionLemmas.{leaves_is, tidy, calls_is, leaves_still}
 use Rattle.j39_node.proofs.HearingLemmas.{broken_news, claimed_on, claimed_says, hearing_same, missed_one, news_same}
-use Rattle.j39_node.proofs.QueueLemmas.{length_one_more, length_rest, First, get_at, get_map, get_of_drop, rest_at}
-use Rattle.j39_node.proofs.SoundLemmas.{IsTurn, frame_there, overdue_due, packet_there, some_at, turn_is, sound, frame_by, held_not_lost, holding_not_lost, lost_older, Sound, withdraw_case, acknowledged_is_due}
+use Rattle.j39_node.proofs.QueueLemmas.{length_one_more, length_rest, First, get_at, get_map, get_of_drop, rest_at, mapped_none}
+use Rattle.j39_node.proofs.SoundLemmas.{IsTurn, frame_there, overdue_due, packet_there, some_at, turn_is, sound, frame_by, held_not_lost, holding_not_lost, lost_older, Sound, withdraw_case, acknowledged_is_due, not_there, apart_there}
 use Rattle.j39_node.proofs.FrameLemmas.{at_now}
 use Rattle.j39_node.proofs.PortLemmas.{clock_is, is_port}
 use Rattle.j39_node.proofs.RenewLemmas.{latest_rest, latest_is, set_rest}
@@ -828,8 +828,7 @@ packet_goes c k now e f = go (packet_by (lane_of (who_of nothing c.own) c.lane).
     due (inr t) = t.0
 
     go : (o : Option Message) → (let none : Option (ℕ × Message) = None in none) ≡ option_map (at_now now) o → is_there o ≡ true → ⊥
-    go None g i = absurd (cc)
-    go (Some m) g i = absurd (cc)
+    go o g i = not_there o i (mapped_none (at_now now) o (sym g))
 
 pub move_goes : (c : Controller) (k : Hold) (now : ℕ) → turn_of k.yields (ready_in c k) ≡ Some Move
     → (let none : Option (ℕ × Message) = None in none) ≡ option_map (at_now now) (transfer_by (port_of c.transfers).current (clock k.age)) → ⊥
@@ -837,8 +836,7 @@ move_goes c k now e f = go (transfer_by (port_of c.transfers).current (clock k.a
   where
     go : (o : Option Message) → (let none : Option (ℕ × Message) = None in none) ≡ option_map (at_now now) o
         → is_apart o (slice_get (incoming_of c.incoming).reception.replies 0) ≡ true → ⊥
-    go None g i = absurd (cc)
-    go (Some m) g i = absurd (cc)
+    go o g i = apart_there o _ i (mapped_none (at_now now) o (sym g))
 
 -- ---- broadcasts
 

@@ -110,22 +110,18 @@ some_signal t a n s l m e f = go t.gone (gives_up t) e f
     over k g = elim m [ inl z ↦ omega (arith, g, z) | inr z ↦ omega (arith, g, l, z) ]
 
     by : (u : SendState) → sends_in u t.sender.since (clock a) ≡ Some n → (ticks_in u (clock (a + s)) t.sender).says ≡ None → ⊥
-    by Idle h k = absurd (cc)
     by (Waiting limit) h k =
         let z : t.sender.since + limit + 1 - clock a ≡ n = cc in
         let b = lt-ltb (t.sender.since + limit) (clock (a + s)) (over (t.sender.since + limit) z) in
         let y : Some (Abort timeout t.sender.message.pgn) ≡ None =
         sym (ap (λ (b : Bool). (if b then (let r : SendResult = record { after = record t.sender { state = Failed timeout }; says = Some (Abort timeout t.sender.message.pgn) } in r) else silent t.sender).says) b) ∙ k in
         absurd (cc)
-    by (Sending next last) h k = absurd (cc)
-    by Done h k = absurd (cc)
-    by (Failed reason) h k = absurd (cc)
+    by u h k = absurd (cc)
 
     go : (b c : Bool) → (if b then None else if c then Some 0 else sends_in t.sender.state t.sender.since (clock a)) ≡ Some n
         → (if b then None else if c then Some (Abort 5 t.sender.message.pgn) else (send_step t.sender Tick (clock (a + s))).says) ≡ None → ⊥
-    go true c h k = absurd (cc)
-    go false true h k = absurd (cc)
     go false false h k = by t.sender.state h k
+    go b c h k = absurd (cc)
 
 some_transfer : (o : Option Running) (a n s : ℕ) → n ≤ s → (n ≡ 0) ⊎ (a + n < 10000000000000000) → transfer_in o (clock a) ≡ Some n → transfer_by o (clock (a + s)) ≡ None → ⊥
 some_transfer None a n s l m e f = absurd (cc)

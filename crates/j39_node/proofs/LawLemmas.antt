@@ -1,5 +1,5 @@
 -- The laws.
-use Rattle.j39_node.proofs.Common.{Address, AddressLost, AnotherAtAddress, AreAnswered, Asked, At, Bool, Busy, Call, Claim, Claimed, Controller, Done, Draft, Ending, FrameRecord, HasDouble, Hear, Is, IsFront, IsTrue, List, Lost, Message, MessagesMissed, Move, Nack, NameDoubled, News, None, NoneTold, NotClaimed, Option, Renew, Reply, Some, TakeEnded, TakeFrame, TakeNews, Tick, Who, Withdraw, Withdrawn, [], accepted, acknowledged, acknowledgment, acknowledgment_group, address_after, address_claimed_group, age, and-false, and_from, and_parts, answers_another, ap, append-nil, arith, asked, at_in, begins, by, called, calls, calls_for_claim, claim_address, claim_due, claim_from, claim_goes, claim_of, content, delayed, destination_of, double, doubled_news, drop, due, end_of, eq-eqb, eqb-true, false, first, frames, fresh, gives_way, global_address, got, handed, held_at, holds, if◌then◌else◌, inl, inr, is_acknowledgment, is_alike, is_another, is_apart, is_blank, is_claim, is_double, is_for_program, is_held, is_larger, is_lost, is_move, is_none, is_own_group, is_refusal_due, is_reply, is_served, is_session, is_smaller, is_some, is_subscribed, is_there, is_transfer, kept, later, le-leb, le-ltb, left, length, length-append, long_by, lost_news, lt-ltb, ltb-false, ltb-true, marks, may_claim, may_go, message_from, message_of, missed, missed_news, moment, more, nat_eq, nat_le, nat_lt, news_of, next_acknowledgment, next_due, next_frame, next_long, next_other, next_packet, next_transfer, next_withdrawn, not, not_both, null_address, older, open_broadcast, option_map, option_or, or_parts, other, owes_claim, packets, passed, passed_in, patience, pause, pgn_of, reached, ready, reception, refl, refusal_waits, request_group, requests, rest, slice_get, slice_get-map, slice_get_within, source_of, stamp_at, stamped, status_after, status_of, step, still, suc, sym, takes_other, told, true, turns, two, unclaimed, waits, waits_already, with_refusal, with_request, yields, zero, ℕ, ◌&&◌, ◌*◌, ◌++◌, ◌+◌, ◌-◌, ◌<◌, ◌||◌, ◌↔◌, ◌∙◌, ◌∷◌, ◌≡◌, ◌≢◌, ◌≤◌, ◌⊎◌, or_cases, or_left, or_right, none-some, cond_both, ne_eqb, leb-false}
+use Rattle.j39_node.proofs.Common.{Address, AddressLost, AnotherAtAddress, AreAnswered, Asked, At, Bool, Busy, Call, Claim, Claimed, Controller, Done, Draft, Ending, FrameRecord, HasDouble, Hear, Is, IsFront, IsTrue, List, Lost, Message, MessagesMissed, Move, Nack, NameDoubled, News, None, NoneTold, NotClaimed, Option, Renew, Reply, Some, TakeEnded, TakeFrame, TakeNews, Tick, Who, Withdraw, Withdrawn, [], accepted, acknowledged, acknowledgment, acknowledgment_group, address_after, address_claimed_group, age, and-false, and_from, and_parts, answers_another, ap, append-nil, arith, asked, at_in, begins, by, called, calls, calls_for_claim, claim_address, claim_due, claim_from, claim_goes, claim_of, content, delayed, destination_of, double, doubled_news, drop, due, end_of, eq-eqb, eqb-true, false, first, frames, fresh, gives_way, global_address, got, handed, held_at, holds, if◌then◌else◌, inl, inr, is_acknowledgment, is_alike, is_another, is_apart, is_blank, is_claim, is_double, is_for_program, is_held, is_larger, is_lost, is_move, is_none, is_own_group, is_refusal_due, is_reply, is_served, is_session, is_smaller, is_some, is_subscribed, is_there, is_transfer, kept, later, le-leb, le-ltb, left, length, length-append, long_by, lost_news, lt-ltb, ltb-false, ltb-true, marks, may_claim, may_go, message_from, message_of, missed, missed_news, moment, more, nat_eq, nat_le, nat_lt, news_of, next_acknowledgment, next_due, next_frame, next_long, next_other, next_packet, next_transfer, next_withdrawn, not, not_both, null_address, older, open_broadcast, option_map, option_or, or_parts, other, owes_claim, packets, passed, passed_in, patience, pause, pgn_of, reached, ready, reception, refl, refusal_waits, request_group, requests, rest, slice_get, slice_get-map, slice_get_within, source_of, stamp_at, stamped, status_after, status_of, step, still, suc, sym, takes_other, told, true, turns, two, unclaimed, waits, waits_already, with_refusal, with_request, yields, zero, ℕ, ◌&&◌, ◌*◌, ◌++◌, ◌+◌, ◌-◌, ◌<◌, ◌||◌, ◌↔◌, ◌∙◌, ◌∷◌, ◌≡◌, ◌≢◌, ◌≤◌, ◌⊎◌, or_cases, or_left, or_right, none-some, cond_both, ne_eqb, leb-false, subst}
 use Rattle.j39_node.proofs.PromptLaws.{answered_from, stays_lost}
 use Rattle.j39_node.specs.History.{heard, Again}
 use Rattle.j39_node.specs.Reception.{is_waiting}
@@ -389,11 +389,9 @@ due_by_then w H now o ripe = go (is_lost (address_after w H)) refl
 
 pub most_delayed : (w : Who) (H : List Call) → delayed w H ≤ w.delay * 600
 most_delayed w [] = omega arith
-most_delayed w (At now (Hear f) ∷ H) = go (calls w H now f && not (is_lost (address_after w H) && owes_claim w H)) (most_delayed w H)
-  where
-    go : (b : Bool) → delayed w H ≤ w.delay * 600 → (if b then w.delay * 600 else delayed w H - step H now) ≤ w.delay * 600
-    go true z = omega arith
-    go false z = omega (arith, z)
+most_delayed w (At now (Hear f) ∷ H) =
+    let l = most_delayed w H in
+    cond_both (calls w H now f && not (is_lost (address_after w H) && owes_claim w H)) _ _ (λ n. n ≤ w.delay * 600) (λ z. omega arith) (λ z. omega (arith, l))
 most_delayed w (At now Again ∷ H) = omega arith
 most_delayed w (call ∷ H) = let z = most_delayed w H in omega (arith, z)
 
@@ -836,33 +834,22 @@ double_claimed w (At now (Hear f) ∷ H) a e = go (double_claimed w H a) (claim_
 double_claimed w (TakeNews (Some (NameDoubled b)) ∷ H) a e = absurd (cc)
 double_claimed w (call ∷ H) a e = double_later w a H call (double_claimed w H a e)
 
-is_driven : (b c : Bool) (s : ℕ) (a : Address) → (b && c) ≡ true → is_lost (if b then Lost else older s a) ≡ true
-is_driven true c s a e = refl
-is_driven false c s a e = absurd (cc)
-
 pub lost_is_lost : (w : Who) (H : List Call) → IsTrue (lost_news w H) → IsTrue (is_lost (address_after w H))
 lost_is_lost w [] e = absurd (cc)
 lost_is_lost w (At when (Hear f) ∷ H) e = elim (or_cases (lost_news w H) (is_smaller w (claim_of f) && not (is_lost (address_after w H))) e) [
   | inl z ↦ stays_lost w H (At when (Hear f)) (lost_is_lost w H z)
-  | inr z ↦ is_driven (is_smaller w (claim_of f)) _ (step H when) (address_after w H) z
+  | inr z ↦ ap (λ (b : Bool). is_lost (if b then Lost else older (step H when) (address_after w H))) (and_parts (is_smaller w (claim_of f)) _ z).0
 ]
 lost_is_lost w (TakeNews (Some AddressLost) ∷ H) e = absurd (cc)
 lost_is_lost w (call ∷ H) e = stays_lost w H call (lost_is_lost w H e)
-
-still_missed : (b : Bool) (m : ℕ) → 0 < m → 0 < (if b then suc m else m)
-still_missed true m l = omega (arith, l)
-still_missed false m l = l
-
-one_missed : (b : Bool) (m : ℕ) → b ≡ true → 0 < (if b then suc m else m)
-one_missed true m e = omega arith
-one_missed false m e = absurd (cc)
 
 pub some_missed : (w : Who) (H : List Call) → IsTrue (missed_news w H) → 0 < missed w H
 some_missed w [] e = absurd (cc)
 some_missed w (At when (Hear f) ∷ H) e =
     elim (or_cases (missed_news w H) (is_for_program w (holds w H when) f && not (nat_lt (length (kept w H) - length (got H)) 16)) e) [
-      | inl z ↦ still_missed (is_for_program w (holds w H when) f && not (nat_lt (length (kept w H) - length (got H)) 16)) (missed w H) (some_missed w H z)
-      | inr z ↦ one_missed _ (missed w H) z
+      | inl z ↦ let l = some_missed w H z in
+          cond_both (is_for_program w (holds w H when) f && not (nat_lt (length (kept w H) - length (got H)) 16)) _ _ (λ n. 0 < n) (λ z. omega arith) (λ z. l)
+      | inr z ↦ subst (λ (b : Bool). 0 < (if b then suc (missed w H) else missed w H)) (sym z) (omega arith)
     ]
 some_missed w (TakeNews (Some MessagesMissed) ∷ H) e = absurd (cc)
 some_missed w (call ∷ H) e = some_missed w H e

@@ -83,8 +83,7 @@ done_ticked s now = go s.state
     go Idle = λ e. absurd (cc)
     go (Waiting limit) = cond_both (nat_lt (s.since + limit) now) _ _ (λ (r : SendResult). r.after.state ≡ Done → s.state ≡ Done) (λ t e. absurd (cc)) (λ t e. e)
     go (Sending next last) = cond_both (next == last) _ _ (λ (x : SendState). x ≡ Done → s.state ≡ Done) (λ t e. absurd (cc)) (λ t e. absurd (cc))
-    go Done = λ e. e
-    go (Failed reason) = λ e. e
+    go u = λ e. e
 
 pub done_given_up : (s : SenderRecord) (reason : ℕ) → (aborted reason s).state ≡ Done → s.state ≡ Done
 unfolding aborted
@@ -115,8 +114,7 @@ failed_ticked s now reason = go s.state
         (λ (r : SendResult). r.after.state ≡ Failed reason → (s.state ≡ Failed reason) ⊎ (r.says ≡ Some (Abort reason s.message.pgn)))
         (λ t e. (let z : timeout ≡ reason = cc in inr (λ i. Some (Abort (z i) s.message.pgn)))) (λ t e. inl e)
     go (Sending next last) = λ e. absurd (cond_both (next == last) (Waiting 1250000) (Sending (next + 1) last) (λ (x : SendState). x ≡ Failed reason → ⊥) (λ t k. absurd (cc)) (λ t k. absurd (cc)) e)
-    go Done = λ e. inl e
-    go (Failed given) = λ e. inl e
+    go u = λ e. inl e
 
 pub failed_given_up : (s : SenderRecord) (given reason : ℕ) → (aborted given s).state ≡ Failed reason → (s.state ≡ Failed reason) ⊎ (given ≡ reason)
 unfolding aborted
@@ -127,10 +125,8 @@ failed_given_up s given reason = cond_both (is_running s.state) _ _ (λ (r : Sen
 
 abbrev pub StateFits : ℕ → ℕ → List Message → SendState → Type 0
 StateFits n h xs Idle = xs ≡ []
-StateFits n h xs (Waiting limit) = xs ≢ []
 StateFits n h xs (Sending next last) = (xs ≢ []) × (1 ≤ next) × (next ≤ last) × (last ≤ n) × (next ≤ h + 1)
-StateFits n h xs Done = xs ≢ []
-StateFits n h xs (Failed reason) = xs ≢ []
+StateFits n h xs u = xs ≢ []
 
 -- its packets up to the highest were taken
 pub record Moved (s : SenderRecord) (xs : List Message) : Type 0 where
@@ -138,11 +134,9 @@ pub record Moved (s : SenderRecord) (xs : List Message) : Type 0 where
   pub taken : (i : ℕ) → 1 ≤ i → i ≤ s.highest → IsAmong xs (packet_move s.destination s.message i)
 
 pub running_some : (n h : ℕ) (xs : List Message) (u : SendState) → StateFits n h xs u → is_running u ≡ true → xs ≢ []
-running_some n h xs Idle f e = absurd (cc)
 running_some n h xs (Waiting limit) f e = f
 running_some n h xs (Sending next last) f e = f.0
-running_some n h xs Done f e = absurd (cc)
-running_some n h xs (Failed reason) f e = absurd (cc)
+running_some n h xs u f e = absurd (cc)
 
 waits_runs : (u : SendState) → is_waiting u ≡ true → is_running u ≡ true
 waits_runs u e = ap is_running (waiting_is u e).1
@@ -199,8 +193,7 @@ moved_ticked s now xs a h = go s.state h.state
           (λ t. (let k = f.2 in let n = eqb-false next last t in let b = f.3 in (some_more xs (says s a), omega arith, less next last k n, b, omega arith)));
       taken = packet next f.4 (let z : Packet next (packet_data s.message.bytes next) ≡ a = cc in z);
     }
-    go Done f = λ e. absurd (cc)
-    go (Failed reason) f = λ e. absurd (cc)
+    go u f = λ e. absurd (cc)
 
 pub moved_given_up : (s : SenderRecord) (reason : ℕ) (xs : List Message) (x : Message) → is_running s.state ≡ true → Moved s xs
     → Moved (aborted reason s) (xs ++ x ∷ [])
@@ -227,5 +220,4 @@ signal_case s now xs a h = go s.state h.state
     go (Sending next last) f = λ e.
         let b = f.2 in let d = f.3 in
         packs next f.0 f.1 (omega (arith, b, d)) (let z : Packet next (packet_data s.message.bytes next) ≡ a = cc in sym z)
-    go Done f = λ e. absurd (cc)
-    go (Failed reason) f = λ e. absurd (cc)
+    go u f = λ e. absurd (cc)

@@ -42,10 +42,8 @@ place_none None p q e = refl
 place_none (Some x) p q e = absurd (let z : false ≡ true = sym (q x) ∙ e in cc)
 
 no_news : (a b : Bool) (d : Option ℕ) (c : Bool) → not (a || (b || (is_some d || c))) ≡ true → news_of a b d c ≡ None
-no_news a b None c e = grind (arith, e)
-no_news true b (Some n) c e = absurd (cc)
-no_news false true (Some n) c e = absurd (cc)
-no_news false false (Some n) c e = absurd (cc)
+no_news false false None false e = refl
+no_news a b d c e = absurd (cc)
 
 none_waits : {T : Type 0} (n : ℕ) (xs : List T) → n ≡ length xs → nat_eq n 0 ≡ true → xs ≡ []
 none_waits n [] e g = refl
@@ -115,11 +113,8 @@ none_untold u e = go u.lost u.another u.doubled u.missed refl refl refl refl e
 
     go : (a b : Bool) (d : Option ℕ) (c : Bool) → u.lost ≡ a → u.another ≡ b → u.doubled ≡ d → u.missed ≡ c → not (a || (b || (is_some d || c))) ≡ true
         → u ≡ untold false false None false
-    go true b d c i j m k e = absurd (cc)
-    go false true d c i j m k e = absurd (cc)
-    go false false (Some n) c i j m k e = absurd (cc)
-    go false false None true i j m k e = absurd (cc)
     go false false None false i j m k e = λ l. untold (i l) (j l) (m l) (k l)
+    go a b d c i j m k e = absurd (cc)
 
 brought_on : (m r : ℕ) → r ≡ m + r - (m - 0)
 brought_on m r = omega arith

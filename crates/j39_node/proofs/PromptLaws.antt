@@ -1,45 +1,26 @@
 -- A driver's pace: what was accepted goes on, is over, or its address is lost. Broadcasts first.
-use Rattle.j39_node.proofs.Common.{Address, Again, AreAnswered, At, Bool, Broadcast, Call, Claimed, Controller, Done, Ending, FrameRecord, Hear, Is, IsAnswered, IsPaced, IsPrompt, List, Lost, MessageRecord, None, NoneTold, NotClaimed, Ok, Option, Some, TakeBroadcastEnded, TakeFrame, Who, Withdrawn, [], add-mul, address_after, after, answer_to_broadcast, ap, arith, broadcast_end, broadcast_from, broadcasts, by, claim_of, claimed, claims_anew, ending_of, false, frame_of, gap, goes, idle, if◌then◌else◌, inl, inr, is_claim, is_held, is_lost, is_open, is_packet, is_smaller, later, leb-false, leb-true, left, length, lost, message_of, moment, more, nat_eq, nat_le, nat_lt, next_broadcast_ended, not_both, older, open_broadcast, packet_by, packets, packets_of, packets_taken, passed, passed_in, pause, refl, rest, step, subst, suc, suc-mul, sym, tells_broadcast, true, waited_in, ℕ, ◌&&◌, ◌*◌, ◌++◌, ◌+◌, ◌-◌, ◌<◌, ◌||◌, ◌∙◌, ◌∷◌, ◌≡◌, ◌≤◌, ◌⊎◌}
+use Rattle.j39_node.proofs.Common.{Address, Again, AreAnswered, At, Bool, Broadcast, Call, Claimed, Controller, Done, Ending, FrameRecord, Hear, Is, IsAnswered, IsPaced, IsPrompt, List, Lost, MessageRecord, None, NoneTold, NotClaimed, Ok, Option, Some, TakeBroadcastEnded, TakeFrame, Who, Withdrawn, [], add-mul, address_after, after, answer_to_broadcast, ap, arith, broadcast_end, broadcast_from, broadcasts, by, claim_of, claimed, claims_anew, ending_of, false, frame_of, gap, goes, idle, if◌then◌else◌, inl, inr, is_claim, is_held, is_lost, is_open, is_packet, is_smaller, later, leb-false, leb-true, left, length, lost, message_of, moment, more, nat_eq, nat_le, nat_lt, next_broadcast_ended, not_both, older, open_broadcast, packet_by, packets, packets_of, packets_taken, passed, passed_in, pause, refl, rest, step, subst, suc, suc-mul, sym, tells_broadcast, true, waited_in, ℕ, ◌&&◌, ◌*◌, ◌++◌, ◌+◌, ◌-◌, ◌<◌, ◌||◌, ◌∙◌, ◌∷◌, ◌≡◌, ◌≤◌, ◌⊎◌, cond_both, ltb-false}
 use Rattle.j39_node.proofs.QueueLemmas.{length_one_more}
-use Rattle.j39_node.proofs.SoundLemmas.{none_next, held_older, lost_claimed, lost_older, lost_unclaimed, packets_is, pause_is}
+use Rattle.j39_node.proofs.SoundLemmas.{none_next, held_older, lost_claimed, lost_older, lost_unclaimed, packets_is, pause_is, address_cases}
 use Rattle.j39_node.proofs.AnswerCases.{broadcast_accepts}
 
 -- ---- an address that was held is held or lost, and one that was lost is lost
 
 held_claimed : (a : Address) → is_held a ≡ true → is_held (claimed a) ≡ true
-held_claimed NotClaimed e = absurd (cc)
 held_claimed (Claimed n) e = e
-held_claimed Lost e = absurd (cc)
+held_claimed a e = absurd (cc)
 
 keeps : (w : Who) (H : List Call) (call : Call) → claims_anew call ≡ false → is_held (address_after w H) ≡ true
     → (is_lost (address_after w (call ∷ H)) ≡ true) ⊎ (is_held (address_after w (call ∷ H)) ≡ true)
-keeps w H (At when (Hear f)) n e = go (is_smaller w (claim_of f))
-  where
-    go : (b : Bool) → (is_lost (if b then Lost else older (step H when) (address_after w H)) ≡ true)
-        ⊎ (is_held (if b then Lost else older (step H when) (address_after w H)) ≡ true)
-    go true = inl refl
-    go false = inr (held_older (step H when) (address_after w H) e)
-keeps w H (At now (TakeFrame (Some f))) n e = inr (go (is_claim f))
-  where
-    go : (b : Bool) → is_held (if b then claimed (older (step H now) (address_after w H)) else older (step H now) (address_after w H)) ≡ true
-    go true = held_claimed (older (step H now) (address_after w H)) (held_older (step H now) (address_after w H) e)
-    go false = held_older (step H now) (address_after w H) e
-keeps w H (At now Again) n e = absurd (let z : true ≡ false = n in cc)
-keeps w H call n e = inr (let z = held_older (step H (moment (call ∷ H))) (address_after w H) e in cc)
+keeps w H call n e =
+    let a = older (step H (moment (call ∷ H))) (address_after w H) in
+    let h = held_older (step H (moment (call ∷ H))) (address_after w H) e in
+    address_cases w H call (λ a. (is_lost a ≡ true) ⊎ (is_held a ≡ true)) (inr h) (inl refl) (inr (held_claimed a h)) (λ z. absurd (not_both _ n z))
 
 pub stays_lost : (w : Who) (H : List Call) (call : Call) → is_lost (address_after w H) ≡ true → is_lost (address_after w (call ∷ H)) ≡ true
-stays_lost w H (At when (Hear f)) e = go (is_smaller w (claim_of f))
-  where
-    go : (b : Bool) → is_lost (if b then Lost else older (step H when) (address_after w H)) ≡ true
-    go true = refl
-    go false = lost_older (step H when) (address_after w H) ∙ e
-stays_lost w H (At now (TakeFrame (Some f))) e = go (is_claim f)
-  where
-    go : (b : Bool) → is_lost (if b then claimed (older (step H now) (address_after w H)) else older (step H now) (address_after w H)) ≡ true
-    go true = lost_claimed (older (step H now) (address_after w H)) ∙ (lost_older (step H now) (address_after w H) ∙ e)
-    go false = lost_older (step H now) (address_after w H) ∙ e
-stays_lost w H (At now Again) e = lost_unclaimed (older (step H now) (address_after w H)) ∙ (lost_older (step H now) (address_after w H) ∙ e)
-stays_lost w H call e = let z = lost_older (step H (moment (call ∷ H))) (address_after w H) in cc
+stays_lost w H call e =
+    let l = lost_older (step H (moment (call ∷ H))) (address_after w H) ∙ e in
+    address_cases w H call (λ a. is_lost a ≡ true) l refl (lost_claimed _ ∙ l) (λ z. lost_unclaimed _ ∙ l)
 
 -- it is over, its address is lost, or it goes on from an address that is held
 pub data Fate (a : Address) (Over Runs : Type 0) : Type 0 where
@@ -136,10 +117,7 @@ no_packet k m i left e = go (nat_le left 100000) (nat_le i (packets_of m)) refl 
 ends_by : (k : ℕ) (m : MessageRecord) (i : ℕ) (b lost : Bool) → nat_lt (packets_of m) i ≡ b → (packets_of m < i) ⊎ (lost ≡ true) → (e : Ending) × (ending_of b lost k ≡ Some (k, e))
 ends_by k m i true lost z h = (Done, refl)
 ends_by k m i false true z h = (Withdrawn, refl)
-ends_by k m i false false z (inl l) = absurd (not_past _ _ z l)
-  where
-    not_past : (a b : ℕ) → nat_lt a b ≡ false → a < b → ⊥
-    not_past a b y l = absurd (let x : b ≤ a = grind arith in omega (arith, x, l))
+ends_by k m i false false z (inl l) = absurd (let x = ltb-false _ _ z in omega (arith, x, l))
 ends_by k m i false false z (inr l) = absurd (let y : false ≡ true = l in cc)
 
 -- its frames are late by the slack of the driver's pace; of the gap behind each so much counts as spare
@@ -241,11 +219,7 @@ module _ (w : Who) (B : List Call) (since : List Call → List Call → ℕ) (sl
 -- never is more left than this
 pub pause_most : (H : List Call) → pause H ≤ 150000
 pause_most [] = omega arith
-pause_most (At now (TakeFrame (Some f)) ∷ H) = go (is_packet f) (pause_most H)
-  where
-    go : (b : Bool) → pause H ≤ 150000 → (if b then 150000 else pause H - step H now) ≤ 150000
-    go true l = omega arith
-    go false l = omega (arith, l)
+pause_most (At now (TakeFrame (Some f)) ∷ H) = let l = pause_most H in cond_both (is_packet f) _ _ (λ n. n ≤ 150000) (λ z. omega arith) (λ z. omega (arith, l))
 pause_most (At now (Broadcast group bytes (Ok k)) ∷ H) = let l = pause_most H in omega (arith, l)
 pause_most (call ∷ H) = let l = pause_most H in omega (arith, l)
 

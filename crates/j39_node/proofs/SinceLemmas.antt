@@ -1,7 +1,7 @@
 -- A claimed address was claimed by a frame that was taken.
 use Rattle.j39_node.proofs.Common.{[], if◌then◌else◌, ◌++◌, ◌+◌, ◌-◌, ◌∙◌, ◌∷◌, ◌≡◌, ◌≤◌, Address, address_after, Again, ap, AreAnswered, arith, At, Bool, Call, claim_address, claim_from, claim_of, Claimed, claimed, ClaimedSince, content, false, FrameRecord, Hear, is_claim, is_held, is_lost, is_smaller, IsTrue, List, Lost, moment, nat_le, NeverBack, NoneUnclaims, NotClaimed, older, passed_in, refl, Some, step, subst, sym, TakeFrame, true, unclaimed, Who, ℕ, not_both, leb-true, le-leb}
 use Rattle.j39_node.specs.Since.{unclaims}
-use Rattle.j39_node.proofs.SoundLemmas.{FrameCase, frame_case}
+use Rattle.j39_node.proofs.SoundLemmas.{FrameCase, frame_case, same_age}
 use Rattle.j39_node.proofs.SoundLemmas.FrameCase.{claims}
 use Rattle.j39_node.proofs.KindLemmas.{claims_it}
 
@@ -44,11 +44,6 @@ passes w H call d h f e =
 not_claimed : (a : Address) (d : ℕ) → unclaimed a ≡ Claimed d → ⊥
 not_claimed Lost d e = absurd (cc)
 not_claimed a d e = absurd (cc)
-
--- where no time passes it is as old as before
-same_age : (m : ℕ) (a : Address) → older (m - m) a ≡ a
-same_age m (Claimed n) = ap Claimed (omega arith)
-same_age m a = refl
 
 -- the first claim
 begins : (w : Who) (H : List Call) (now : ℕ) (f : FrameRecord) → AreAnswered w H → FrameCase w H now f → is_claim f ≡ true → address_after w H ≡ NotClaimed

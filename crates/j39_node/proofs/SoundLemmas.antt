@@ -1,5 +1,5 @@
 -- What every answered history says of what was accepted, sent and told.
-use Rattle.j39_node.proofs.Common.{Acknowledge, Address, Again, Answer, AreAnswered, Ask, Asked, At, Bool, Busy, Call, Claimed, Done, Draft, Ending, FrameRecord, Hear, IsAnswered, IsFront, IsTrue, List, Lost, Message, MessageRecord, Move, Nack, None, NotClaimed, Ok, Option, Question, Ready, Renew, Reply, Send, Single, Some, TakeAskEnded, TakeEnded, TakeFrame, TakeReceived, TakeRequest, Turn, Who, Withdraw, Withdrawn, [], accepted, acknowledged, acknowledgment, acknowledgment_group, address_after, address_claimed_group, and-false, and-true, and_from, and_parts, answer_to_ask, ap, append_assoc, arith, asked, blank, by, bytes_eq-Decides, can_ask, can_send, claim_address, claim_due, claim_from, claim_goes, claim_of, claimed, clock_at, content, control_of, destination_of, drop, due, end_of, eq-eqb, eqb-true, false, found, frame_of, fresh, gives_way, got, handed, has_packets, holds, if◌then◌else◌, inl, inr, is_acknowledgment, is_apart, is_blank, is_claim, is_held, is_left, is_lost, is_move, is_own_group, is_packet, is_refusal_due, is_same, is_sendable, is_served, is_session, is_smaller, is_some, is_that, is_there, is_transfer, is_turn, kept, latest, leb-true, left, length, length-append, length-set, lost, ltb-false, ltb-true, map, map-set, marks, max, may_go, message_from, message_of, moment, more, nat_eq, nat_le, nat_lt, next_acknowledgment, next_ended, next_frame, next_other, next_packet, next_renewed, next_transfer, next_turn, next_withdrawn, not, not-true, of, older, open_ask, open_broadcast, open_transfer, option_map, or_parts, other, packet_by, packets, packets_of, past, pause, pgn_of, question, reached, ready, reception, refl, request_for, request_group, requests, sent, slice_get, slice_get-map, slice_get_past, slice_get_within, slice_set, source_of, stamped, step, subst, suc, sym, take, take-append-le, take-set-le, told, transport_control_group, transport_data_group, true, turn_frame, turn_of, turns, unblanked, unclaimed, with_refusal, with_request, yields, zero, ℕ, ◌&&◌, ◌++◌, ◌+◌, ◌-◌, ◌<◌, ◌==◌, ◌||◌, ◌∙◌, ◌∷◌, ◌≡◌, ◌≤◌, ◌⊎◌, cases_Bool, or_from, map-append, none-some, some_pair_parts, length-map, false_from_ne_true, not_both, ending_of, ◌↔◌, cond_both, ne_eqb}
+use Rattle.j39_node.proofs.Common.{Acknowledge, Address, Again, Answer, AreAnswered, Ask, Asked, At, Bool, Busy, Call, Claimed, Done, Draft, Ending, FrameRecord, Hear, IsAnswered, IsFront, IsTrue, List, Lost, Message, MessageRecord, Move, Nack, None, NotClaimed, Ok, Option, Question, Ready, Renew, Reply, Send, Single, Some, TakeAskEnded, TakeEnded, TakeFrame, TakeReceived, TakeRequest, Turn, Who, Withdraw, Withdrawn, [], accepted, acknowledged, acknowledgment, acknowledgment_group, address_after, address_claimed_group, and-false, and-true, and_from, and_parts, answer_to_ask, ap, append_assoc, arith, asked, blank, by, bytes_eq-Decides, can_ask, can_send, claim_address, claim_due, claim_from, claim_goes, claim_of, claimed, clock_at, content, control_of, destination_of, drop, due, end_of, eq-eqb, eqb-true, false, found, frame_of, fresh, gives_way, got, handed, has_packets, holds, if◌then◌else◌, inl, inr, is_acknowledgment, is_apart, is_blank, is_claim, is_held, is_left, is_lost, is_move, is_own_group, is_packet, is_refusal_due, is_same, is_sendable, is_served, is_session, is_smaller, is_some, is_that, is_there, is_transfer, is_turn, kept, latest, leb-true, left, length, length-append, length-set, lost, ltb-false, ltb-true, map, map-set, marks, max, may_go, message_from, message_of, moment, more, nat_eq, nat_le, nat_lt, next_acknowledgment, next_ended, next_frame, next_other, next_packet, next_renewed, next_transfer, next_turn, next_withdrawn, not, not-true, of, older, open_ask, open_broadcast, open_transfer, option_map, or_parts, other, packet_by, packets, packets_of, past, pause, pgn_of, question, reached, ready, reception, refl, request_for, request_group, requests, sent, slice_get, slice_get-map, slice_get_past, slice_get_within, slice_set, source_of, stamped, step, subst, suc, sym, take, take-append-le, take-set-le, told, transport_control_group, transport_data_group, true, turn_frame, turn_of, turns, unblanked, unclaimed, with_refusal, with_request, yields, zero, ℕ, ◌&&◌, ◌++◌, ◌+◌, ◌-◌, ◌<◌, ◌==◌, ◌||◌, ◌∙◌, ◌∷◌, ◌≡◌, ◌≤◌, ◌⊎◌, cases_Bool, or_from, map-append, none-some, some_pair_parts, length-map, false_from_ne_true, not_both, ending_of, ◌↔◌, cond_both, ne_eqb, cond_some, claims_anew}
 use Rattle.j39_node.specs.declared.turn.Turn.TheVariants.{Packet}
 use Rattle.j39_node.proofs.WithdrawLemmas.{get_front, stops_append, past_more, next_false, past_stops, past_within, set_same, unblanked_more, unblanked_past, unpassed}
 use Rattle.j39_node.proofs.ReceptionLemmas.{IsReply, replied_get, tidy}
@@ -32,6 +32,21 @@ held_not_lost other e = absurd (cc)
 
 pub holding_not_lost : (w : Who) (H : List Call) (now : ℕ) → holds w H now ≡ true → is_lost (address_after w H) ≡ false
 holding_not_lost w H now e = sym (lost_older (step H now) (address_after w H)) ∙ held_not_lost _ e
+
+-- where no time passes it is as old as before
+pub same_age : (m : ℕ) (a : Address) → older (m - m) a ≡ a
+same_age m (Claimed n) = ap Claimed (omega arith)
+same_age m a = refl
+
+-- a call leaves it as old as it then is, or claims it, or loses it, or begins to claim it anew
+pub address_cases : (w : Who) (H : List Call) (call : Call) (P : Address → Type 0) → P (older (step H (moment (call ∷ H))) (address_after w H)) → P Lost
+    → P (claimed (older (step H (moment (call ∷ H))) (address_after w H)))
+    → (claims_anew call ≡ true → P (unclaimed (older (step H (moment (call ∷ H))) (address_after w H)))) → P (address_after w (call ∷ H))
+address_cases w H (At when (Hear f)) P left lost claims anew = cond_both (is_smaller w (claim_of f)) _ _ P (λ z. lost) (λ z. left)
+address_cases w H (At now (TakeFrame (Some f))) P left lost claims anew = cond_both (is_claim f) _ _ P (λ z. claims) (λ z. left)
+address_cases w H (At now Again) P left lost claims anew = anew refl
+address_cases w H (At now act) P left lost claims anew = left
+address_cases w H call P left lost claims anew = subst P (same_age (moment H) (address_after w H)) left
 
 -- ---- which frame was taken
 
@@ -69,15 +84,11 @@ frame_case w H now f e = go (claim_goes w H now) (holds w H now) (next_acknowled
         → next_acknowledgment w H now ≡ None → next_turn w H now ≡ t → slice_get (reception w H).replies 0 ≡ r
         → slice_get (accepted w H) (reached H) ≡ o → next_packet w H now ≡ y → next_transfer w H now ≡ z
         → Some (stamped f) ≡ option_map (λ m. (now, m)) (turn_frame t r o y z) → FrameCase w H now f
-    by None r o y z p q n t a b c d i = absurd (cc)
-    by (Some Reply) None o y z p q n t a b c d i = absurd (cc)
     by (Some Reply) (Some m) o y z p q n t a b c d i = replies m p q (n, t) a (let u : stamped f ≡ (now, m) = cc in u)
-    by (Some Single) r None y z p q n t a b c d i = absurd (cc)
     by (Some Single) r (Some x) y z p q n t a b c d i = sends x p q (n, t) b (let u : stamped f ≡ (now, x.1) = cc in u)
-    by (Some Packet) r o None z p q n t a b c d i = absurd (cc)
     by (Some Packet) r o (Some m) z p q n t a b c d i = packs m p q (n, t) c (let u : stamped f ≡ (now, m) = cc in u)
-    by (Some Move) r o y None p q n t a b c d i = absurd (cc)
     by (Some Move) r o y (Some m) p q n t a b c d i = transfers m p q (n, t) d (let u : stamped f ≡ (now, m) = cc in u)
+    by turn r o y z p q n t a b c d i = absurd (cc)
 
     go : (b h : Bool) (a : Option Message) → claim_goes w H now ≡ b → holds w H now ≡ h → next_acknowledgment w H now ≡ a
         → Some (stamped f) ≡ frame_by b h a (other w H now) (claim_from w (claim_address w (address_after w H))) now → FrameCase w H now f
@@ -176,7 +187,7 @@ pub not_there : (o : Option Message) → is_there o ≡ true → o ≡ None → 
 not_there o e f = not_both _ (ap is_there f) e
 
 -- a frame of the open transfer that is due, and apart from the first reply
-apart_there : (o a : Option Message) → is_apart o a ≡ true → o ≡ None → ⊥
+pub apart_there : (o a : Option Message) → is_apart o a ≡ true → o ≡ None → ⊥
 apart_there o a e f = not_both _ (ap (λ (p : Option Message). is_apart p a) f) e
 
 apart_none : (o a : Option Message) → a ≡ None → is_apart o a ≡ false → o ≡ None
@@ -260,10 +271,9 @@ given_way w H now g = go (holds w H now) (other w H now) refl refl (and_parts (n
 
     go : (h : Bool) (o : Option Message) → holds w H now ≡ h → other w H now ≡ o → is_there (if h then o else None) ≡ true
         → (m : Message) × ((if h then o else None) ≡ Some m) × (next_frame w H now ≡ Some (now, m))
-    go false o p q t = absurd (cc)
-    go true None p q t = absurd (cc)
     go true (Some m) p q t =
         (m, refl, is true true (Some m) g p q ∙ ap (λ (b : Bool). frame_by b true None (Some m) claim now) (and-false (claim_due w H now)))
+    go h o p q t = absurd (cc)
 
 -- where not-true frame goes nothing gives way: a claim that is owed goes, and an acknowledgment that is due
 pub none_gives : (w : Who) (H : List Call) (now : ℕ) → (let none : Option (ℕ × Message) = None in none) ≡ next_frame w H now → gives_way w H now ≡ false
@@ -312,12 +322,10 @@ pub record PacketCase (o : Option (ℕ × MessageRecord)) (i left : ℕ) (m : Me
 
 pub packet_case : (o : Option (ℕ × MessageRecord)) (i left : ℕ) (m : Message) → packet_by o i left ≡ Some m → PacketCase o i left m
 packet_case None i left m e = absurd (cc)
-packet_case (Some x) i left m e = go (nat_le left 100000) (nat_le i (packets_of x.1)) refl refl e
-  where
-    go : (a b : Bool) → nat_le left 100000 ≡ a → nat_le i (packets_of x.1) ≡ b → (if a && b then Some (frame_of x.1 i) else None) ≡ Some m → PacketCase (Some x) i left m
-    go true true p q r = record { token = x.0; message = x.1; is = refl; over = leb-true _ _ p; within = leb-true _ _ q; frame = (let z : frame_of x.1 i ≡ m = cc in sym z) }
-    go true false p q r = absurd (cc)
-    go false b p q r = absurd (cc)
+packet_case (Some x) i left m e =
+    let z = cond_some (nat_le left 100000 && nat_le i (packets_of x.1)) (frame_of x.1 i) m e in
+    let y = and_parts (nat_le left 100000) (nat_le i (packets_of x.1)) z.0 in
+    record { token = x.0; message = x.1; is = refl; over = leb-true _ _ y.0; within = leb-true _ _ y.1; frame = sym z.1 }
 
 -- a group of sessions is neither that of claims nor that of acknowledgments
 abbrev OfSession : ℕ → Type 0

@@ -25,12 +25,9 @@ before_each now (Some m) (Some n) q =
 
 time_fits : (H : List Call) → time_heard H ≤ 9999999999999999
 time_fits [] = omega arith
-time_fits (call ∷ H) = go call (time_fits H)
-  where
-    go : (call : Call) → time_heard H ≤ 9999999999999999 → time_heard (call ∷ H) ≤ 9999999999999999
-    go (At now (Hear f)) h = omega arith
-    go (At now Tick) h = omega arith
-    go call h = h
+time_fits (At now (Hear f) ∷ H) = omega arith
+time_fits (At now Tick ∷ H) = omega arith
+time_fits (call ∷ H) = time_fits H
 
 -- what comes in a session goes on to come, or ends
 session_left : (r : ReceiverRecord) (now : ℕ) → (in_session (recv_step r Ticks now true).after.session ≡ in_session r.session) ⊎ (in_session (recv_step r Ticks now true).after.session ≡ None)
@@ -110,9 +107,7 @@ request_ends w H c now t answer e l is = go (open_ask H) (ended w H) (comes w H 
       where
         by : (a b c : Bool) → is_taken q H ≡ a → comes w H (time_heard H) ≡ b → (if a && not b then (if c then Some (moment H + wait H) else None) else None) ≡ Some t → Goal
         by true false true u v y = over q i j v u (let m : moment H + wait H ≡ t = cc in m)
-        by true false false u v y = absurd (cc)
-        by true true c u v y = absurd (cc)
-        by false b c u v y = absurd (cc)
+        by a b c u v y = absurd (cc)
 
 -- ---- before it none is
 
