@@ -6,8 +6,7 @@ use Rattle.j39_node.proofs.WithdrawLemmas.{get_front, unpassed}
 use Rattle.j39_node.proofs.AnswerCases.{ask_accepts}
 use Rattle.j39_node.proofs.AnswerCases as cases
 use Rattle.j39_node.proofs.QueueLemmas.{get_append, length_one_more, get_last, mapped_none}
-use Rattle.j39_node.proofs.SoundLemmas.{sound, grows_on, passes_request, request_stays}
-use Rattle.j39_node.proofs.PromptLaws.{stays_lost}
+use Rattle.j39_node.proofs.SoundLemmas.{sound, grows_on, passes_request, request_stays, stays_lost}
 use Rattle.j39_node.proofs.LawLemmas.{full_from, full_parts, sent_within}
 
 -- ---- which is open

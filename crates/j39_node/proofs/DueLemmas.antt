@@ -1,8 +1,9 @@
 -- When a frame of packets is due.
-use Rattle.j39_node.proofs.Common.{if◌then◌else◌, ◌&&◌, ◌+◌, ◌-◌, ◌<◌, ◌∙◌, ◌≡◌, ◌≤◌, ◌⊎◌, Abort, age, ap, arith, at_in, Bool, Call, clock, Failed, false, frame_of, gives_up, has_packets, Idle, inl, inr, is_left, length, List, long_by, lt-ltb, ltb-false, ltb-true, Message, MessageRecord, min, moment, nat_le, nat_lt, next_long, next_packet, next_transfer, None, open_broadcast, open_transfer, Option, option_map, packet_by, packets, packets_in, packets_of, pause, refl, Running, running_in, says, send_step, Sending, SendResult, sends_in, sends_packet, SendState, Signal, signal_by, silent, Some, sooner, step, sym, ticks_in, timeout, transfer_by, transfer_in, true, Waiting, Who, ℕ, le-ltb, le-leb, lt-leb, not_both, same_Some, cases_lt, cond_some}
+use Rattle.j39_node.proofs.Common.{if◌then◌else◌, ◌&&◌, ◌+◌, ◌-◌, ◌<◌, ◌∙◌, ◌≡◌, ◌≤◌, ◌⊎◌, Abort, age, ap, arith, at_in, Bool, Call, clock, Failed, false, frame_of, gives_up, has_packets, Idle, inl, inr, is_left, length, List, long_by, lt-ltb, ltb-false, ltb-true, Message, MessageRecord, min, moment, nat_le, nat_lt, next_long, next_packet, next_transfer, None, open_broadcast, open_transfer, Option, option_map, packet_by, packets, packets_in, packets_of, pause, refl, Running, running_in, says, send_step, Sending, SendResult, sends_in, sends_packet, SendState, Signal, signal_by, silent, Some, sooner, step, sym, ticks_in, timeout, transfer_by, transfer_in, true, Waiting, Who, ℕ, le-ltb, le-leb, lt-leb, not_both, same_Some, cases_lt, cond_some, and_from}
 use Rattle.j39_transport.specs.Sending.{Done, Tick}
 use Rattle.j39_node.specs.Transfers.{packet_in}
 use Rattle.j39_node.proofs.QueueLemmas.{mapped_none}
+use Rattle.j39_node.proofs.SoundLemmas.{none_there, packet_there, not_there}
 
 -- ---- a frame isn't due yet
 
@@ -18,13 +19,11 @@ sooner_second p None = (p, refl, omega arith)
 sooner_second p (Some m) = (min m p, refl, omega arith)
 
 no_packet : (o : Option (ℕ × MessageRecord)) (i p s : ℕ) → ((n : ℕ) → packet_in (is_left o i) p ≡ Some n → s < n) → packet_by o i (p - s) ≡ None
-no_packet None i p s h = refl
-no_packet (Some x) i p s h = go (nat_le (p - s) 100000) (nat_le i (packets_of x.1)) refl refl
+no_packet o i p s h = none_there _ (packet_there o i (p - s) ∙ go (is_left o i) refl)
   where
-    go : (a b : Bool) → nat_le (p - s) 100000 ≡ a → nat_le i (packets_of x.1) ≡ b → (if a && b then Some (frame_of x.1 i) else None) ≡ None
-    go true true e f = absurd (not_both _ (not_yet p s (h (p - 100000) (ap (λ (b : Bool). packet_in b p) f))) e)
-    go true false e f = refl
-    go false b e f = refl
+    go : (b : Bool) → is_left o i ≡ b → (b && nat_le (p - s) 100000) ≡ false
+    go true e = not_yet p s (h (p - 100000) (ap (λ (b : Bool). packet_in b p) e))
+    go false e = refl
 
 late : (a s k : ℕ) → s < k + 1 - min a 9999999999999999 → min (a + s) 9999999999999999 ≤ k
 late a s k l = omega (arith, l)
@@ -91,16 +90,11 @@ either_sooner (Some k) (Some m) n e =
     elim (cases_lt k m) [ inl l ↦ inl (ap (λ (x : ℕ). Some x) (omega (arith, l, least))) | inr l ↦ inr (ap (λ (x : ℕ). Some x) (omega (arith, l, least))) ]
 
 some_packet : (o : Option (ℕ × MessageRecord)) (i p n s : ℕ) → n ≤ s → packet_in (is_left o i) p ≡ Some n → packet_by o i (p - s) ≡ None → ⊥
-some_packet None i p n s l e f = absurd (cc)
-some_packet (Some x) i p n s l e f = go (nat_le i (packets_of x.1)) refl e
+some_packet o i p n s l e f = not_there _ (packet_there o i (p - s) ∙ go (is_left o i) refl e) f
   where
-    go : (b : Bool) → nat_le i (packets_of x.1) ≡ b → packet_in b p ≡ Some n → ⊥
+    go : (b : Bool) → is_left o i ≡ b → packet_in b p ≡ Some n → (is_left o i && nat_le (p - s) 100000) ≡ true
+    go true g k = let z = same_Some (p - 100000) n k in and_from _ _ g (le-leb (p - s) 100000 (omega (arith, z, l)))
     go false g k = absurd (cc)
-    go true g k =
-        let z : p - 100000 ≡ n = cc in
-        let a : nat_le (p - s) 100000 ≡ true = le-leb (p - s) 100000 (omega (arith, z, l)) in
-        let y : Some (frame_of x.1 i) ≡ None = sym (ap (λ (c : Bool). if c && nat_le i (packets_of x.1) then Some (frame_of x.1 i) else None) a
-        ∙ ap (λ (c : Bool). if c then Some (frame_of x.1 i) else None) g) ∙ f in absurd (cc)
 
 some_signal : (t : Running) (a n s : ℕ) → n ≤ s → (n ≡ 0) ⊎ (a + n < 10000000000000000) → running_in t (clock a) ≡ Some n → signal_by t (clock (a + s)) ≡ None → ⊥
 unfolding send_step ticks_in sends_packet

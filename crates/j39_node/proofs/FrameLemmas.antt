@@ -1,5 +1,5 @@
 -- Frames that are made, and the lane of broadcasts.
-use Rattle.j39_node.proofs.Common.{if◌then◌else◌, ◌&&◌, ◌<◌, ◌==◌, ◌↔◌, ◌∙◌, ◌≡◌, ◌≤◌, ap, arith, as_broadcast, Bool, broadcast_end, carried, cut_frame, Done, Ending, false, frame_of, FrameRecord, IfSome, is_left, IsSome, length, List, lt-ltb, Message, MessageRecord, nat_le, nat_lt, None, Option, option_map, packet_by, packets_of, refl, Some, stamped, subst, sym, ToSend, transport_control_group, transport_data_group, true, Withdrawn, ℕ, le-leb, lt-leb}
+use Rattle.j39_node.proofs.Common.{if◌then◌else◌, ◌&&◌, ◌<◌, ◌==◌, ◌↔◌, ◌∙◌, ◌≡◌, ◌≤◌, ap, arith, as_broadcast, Bool, broadcast_end, carried, cut_frame, Done, Ending, false, frame_of, FrameRecord, IfSome, is_left, IsSome, length, List, lt-ltb, Message, MessageRecord, nat_le, nat_lt, None, Option, option_map, packet_by, packets_of, refl, Some, stamped, subst, sym, ToSend, transport_control_group, transport_data_group, true, Withdrawn, ℕ, le-leb, lt-leb, ending_of}
 
 -- the frame that is made is one of this message
 pub made : (r : Option FrameRecord) (now id : ℕ) (bytes : List ℕ) (m : Message) → (IsSome r ↔ (length bytes ≤ 8))
@@ -14,29 +14,9 @@ lt_false i n l = grind arith
 pub left_is : (o : Option (ℕ × MessageRecord)) (x : ℕ × MessageRecord) (i n : ℕ) → o ≡ Some x → n ≡ packets_of x.1 → nat_le i n ≡ is_left o i
 left_is o x i n e f = ap (nat_le i) f ∙ sym (ap (λ y. is_left y i) e)
 
-pub ended_done : (o : Option (ℕ × MessageRecord)) (x : ℕ × MessageRecord) (i n : ℕ) (lost : Bool) → o ≡ Some x → n ≡ packets_of x.1 → n < i
-    → Some (x.0, Done) ≡ broadcast_end o i lost
-ended_done o x i n lost e f l = sym (ap (λ y. broadcast_end y i lost) e ∙ by (nat_lt (packets_of x.1) i) (lt-ltb _ _ (omega (arith, f, l))))
-  where
-    by : (b : Bool) → b ≡ true → Rattle.j39_node.specs.Is.ending_of b lost x.0 ≡ Some (x.0, Done)
-    by true g = refl
-    by false g = absurd (cc)
-
-pub ended_withdrawn : (o : Option (ℕ × MessageRecord)) (x : ℕ × MessageRecord) (i n : ℕ) (lost : Bool) → o ≡ Some x → n ≡ packets_of x.1 → i ≤ n → lost ≡ true
-    → Some (x.0, Withdrawn) ≡ broadcast_end o i lost
-ended_withdrawn o x i n lost e f l g = sym (ap (λ y. broadcast_end y i lost) e ∙ by (nat_lt (packets_of x.1) i) lost (lt_false _ _ (omega (arith, f, l))) g)
-  where
-    by : (b c : Bool) → b ≡ false → c ≡ true → Rattle.j39_node.specs.Is.ending_of b c x.0 ≡ Some (x.0, Withdrawn)
-    by false true h k = refl
-    by b c h k = absurd (cc)
-
-pub ended_none : (o : Option (ℕ × MessageRecord)) (x : ℕ × MessageRecord) (i n : ℕ) (lost : Bool) → o ≡ Some x → n ≡ packets_of x.1 → i ≤ n → lost ≡ false
-    → (let none : Option (ℕ × Ending) = None in none) ≡ broadcast_end o i lost
-ended_none o x i n lost e f l g = sym (ap (λ y. broadcast_end y i lost) e ∙ by (nat_lt (packets_of x.1) i) lost (lt_false _ _ (omega (arith, f, l))) g)
-  where
-    by : (b c : Bool) → b ≡ false → c ≡ false → Rattle.j39_node.specs.Is.ending_of b c x.0 ≡ None
-    by false false h k = refl
-    by b c h k = absurd (cc)
+pub ended_is : (o : Option (ℕ × MessageRecord)) (x : ℕ × MessageRecord) (i n : ℕ) (lost b l : Bool) → o ≡ Some x → n ≡ packets_of x.1 → nat_lt n i ≡ b → lost ≡ l
+    → ending_of b l x.0 ≡ broadcast_end o i lost
+ended_is o x i n lost b l e f g h = sym (ap (λ y. broadcast_end y i lost) e ∙ λ t. ending_of ((ap (λ (k : ℕ). nat_lt k i) (sym f) ∙ g) t) (h t) x.0)
 
 abbrev pub at_now : ℕ → Message → ℕ × Message
 at_now now m = (now, m)

@@ -4,7 +4,7 @@ use Rattle.j39_node.specs.declared.turn.Turn.TheVariants.{Packet}
 use Rattle.j39_node.proofs.QueueLemmas.{length_one_more}
 use Rattle.j39_node.proofs.SoundLemmas.{address_is, packet_taken, IsTurn, none_next, packet_there, turned, FrameCase, frame_case, packet_case, sound, claim_taken, claim_single, due_get, due_taken, no_packet, pause_is, no_packet}
 use Rattle.j39_node.proofs.SoundLemmas.FrameCase.{claims, acknowledges, replies, sends, packs, transfers}
-use Rattle.j39_node.proofs.LaneLemmas.{LaneEnd, lane_end, Opened, Laned, laned, closed, stands_open, opened_by}
+use Rattle.j39_node.proofs.LaneLemmas.{LaneEnd, lane_end, Opened, Laned, laned, closed, stands_open, opened_by, ended_one}
 use Rattle.j39_node.proofs.LaneLemmas.LaneEnd.{complete, broken}
 use Rattle.j39_node.proofs.KindLemmas.{packs_it}
 
@@ -175,16 +175,10 @@ ended w H c x is = lane_end (open_broadcast w H) (length (packets H)) (is_lost (
 
 pub in_turn : (w : Who) (H : List Call) (c : Controller) (k : ℕ) (e : Ending) → Is w (TakeBroadcastEnded (Some (k, e)) ∷ H) c
     → (k ≡ length (told_broadcasts H)) × (k < length (broadcasts w H))
-in_turn w H c k e is = go (ended w H c (k, e) is)
-  where
-    by : (m : MessageRecord) → open_broadcast w H ≡ Some (k, m) → (k ≡ length (told_broadcasts H)) × (k < length (broadcasts w H))
-    by m f =
-        let o = opened_by w _ _ _ (open_broadcast w H) (k, m) (laned w H is.answered.0) f in
-        (o.token, (let a = o.count in omega (arith, a)))
-
-    go : LaneEnd (open_broadcast w H) (length (packets H)) (is_lost (address_after w H)) (k, e) → (k ≡ length (told_broadcasts H)) × (k < length (broadcasts w H))
-    go (complete m f l d) = by m f
-    go (broken m f l a d) = by m f
+in_turn w H c k e is =
+    let x = ended_one (ended w H c (k, e) is) in
+    let o = opened_by w _ _ _ (open_broadcast w H) (k, x.0) (laned w H is.answered.0) x.1 in
+    (o.token, (let a = o.count in omega (arith, a)))
 
 length_frames : (m : MessageRecord) (n : ℕ) → length (first_frames m n) ≡ n
 length_frames m zero = refl

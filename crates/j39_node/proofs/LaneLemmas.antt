@@ -12,6 +12,10 @@ pub data LaneEnd (o : Option (ℕ × MessageRecord)) (i : ℕ) (lost : Bool) (x 
   complete : (m : MessageRecord) → o ≡ Some (x.0, m) → packets_of m < i → x.1 ≡ Done → LaneEnd o i lost x
   broken : (m : MessageRecord) → o ≡ Some (x.0, m) → i ≤ packets_of m → lost ≡ true → x.1 ≡ Withdrawn → LaneEnd o i lost x
 
+pub ended_one : {o : Option (ℕ × MessageRecord)} {i : ℕ} {lost : Bool} {x : ℕ × Ending} → LaneEnd o i lost x → (m : MessageRecord) × (o ≡ Some (x.0, m))
+ended_one (complete m f l d) = (m, f)
+ended_one (broken m f l a d) = (m, f)
+
 pub lane_end : (o : Option (ℕ × MessageRecord)) (i : ℕ) (lost : Bool) (x : ℕ × Ending) → Some x ≡ broadcast_end o i lost → LaneEnd o i lost x
 lane_end None i lost x e = absurd (cc)
 lane_end (Some y) i lost x e = go (nat_lt (packets_of y.1) i) lost refl refl e
@@ -110,11 +114,9 @@ lane_opens w H now group k bytes e h =
 lane_closes : (w : Who) (H : List Call) (x : ℕ × Ending) → LaneEnd (open_broadcast w H) (length (packets H)) (is_lost (address_after w H)) x
     → Laned w (length (told_broadcasts H)) (broadcasts w H) (packets H) (open_broadcast w H)
     → length (told_broadcasts H ++ x ∷ []) ≡ length (broadcasts w H)
-lane_closes w H x (complete m e l d) h =
-    let o = opened_by w _ _ _ (open_broadcast w H) (x.0, m) h e in
-    let a = o.token in let b = o.count in let n = length_one_more (told_broadcasts H) x in omega (arith, a, b, n)
-lane_closes w H x (broken m e l a d) h =
-    let o = opened_by w _ _ _ (open_broadcast w H) (x.0, m) h e in
+lane_closes w H x c h =
+    let e = ended_one c in
+    let o = opened_by w _ _ _ (open_broadcast w H) (x.0, e.0) h e.1 in
     let a = o.token in let b = o.count in let n = length_one_more (told_broadcasts H) x in omega (arith, a, b, n)
 
 pub laned : (w : Who) (H : List Call) → AreAnswered w H → Laned w (length (told_broadcasts H)) (broadcasts w H) (packets H) (open_broadcast w H)

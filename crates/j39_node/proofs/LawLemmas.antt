@@ -1,13 +1,13 @@
 -- The laws.
 use Rattle.j39_node.proofs.Common.{Address, AddressLost, AnotherAtAddress, AreAnswered, Asked, At, Bool, Busy, Call, Claim, Claimed, Controller, Done, Draft, Ending, FrameRecord, HasDouble, Hear, Is, IsFront, IsTrue, List, Lost, Message, MessagesMissed, Move, Nack, NameDoubled, News, None, NoneTold, NotClaimed, Option, Renew, Reply, Some, TakeEnded, TakeFrame, TakeNews, Tick, Who, Withdraw, Withdrawn, [], accepted, acknowledged, acknowledgment, acknowledgment_group, address_after, address_claimed_group, age, and-false, and_from, and_parts, answers_another, ap, append-nil, arith, asked, at_in, begins, by, called, calls, calls_for_claim, claim_address, claim_due, claim_from, claim_goes, claim_of, content, delayed, destination_of, double, doubled_news, drop, due, end_of, eq-eqb, eqb-true, false, first, frames, fresh, gives_way, global_address, got, handed, held_at, holds, if◌then◌else◌, inl, inr, is_acknowledgment, is_alike, is_another, is_apart, is_blank, is_claim, is_double, is_for_program, is_held, is_larger, is_lost, is_move, is_none, is_own_group, is_refusal_due, is_reply, is_served, is_session, is_smaller, is_some, is_subscribed, is_there, is_transfer, kept, later, le-leb, le-ltb, left, length, length-append, long_by, lost_news, lt-ltb, ltb-false, ltb-true, marks, may_claim, may_go, message_from, message_of, missed, missed_news, moment, more, nat_eq, nat_le, nat_lt, news_of, next_acknowledgment, next_due, next_frame, next_long, next_other, next_packet, next_transfer, next_withdrawn, not, not_both, null_address, older, open_broadcast, option_map, option_or, or_parts, other, owes_claim, packets, passed, passed_in, patience, pause, pgn_of, reached, ready, reception, refl, refusal_waits, request_group, requests, rest, slice_get, slice_get-map, slice_get_within, source_of, stamp_at, stamped, status_after, status_of, step, still, suc, sym, takes_other, told, true, turns, two, unclaimed, waits, waits_already, with_refusal, with_request, yields, zero, ℕ, ◌&&◌, ◌*◌, ◌++◌, ◌+◌, ◌-◌, ◌<◌, ◌||◌, ◌↔◌, ◌∙◌, ◌∷◌, ◌≡◌, ◌≢◌, ◌≤◌, ◌⊎◌, or_cases, or_left, or_right, none-some, cond_both, ne_eqb, leb-false, subst}
-use Rattle.j39_node.proofs.PromptLaws.{answered_from, stays_lost}
+use Rattle.j39_node.proofs.PromptLaws.{answered_from}
 use Rattle.j39_node.specs.History.{heard, Again}
 use Rattle.j39_node.specs.Reception.{is_waiting}
 use Rattle.j39_address.specs.declared.status.Status.TheVariants as status
 use Rattle.j39_node.proofs.ReceptionLemmas.{replied_get, tidy}
 use Rattle.j39_node.proofs.DueLemmas.{both_none, from_long, quiet_long, then_long}
 use Rattle.j39_node.proofs.QueueLemmas.{length_one_more}
-use Rattle.j39_node.proofs.SoundLemmas.{apart_is, is_moved, IsTurn, acknowledgment_single, claim_single, no_transfer, none_there, packet_session, packet_there, single_taken, turned, Rest, none_at, none_next, none_other, other_none, claim_is, given_way, none_acknowledged, none_due_goes, none_gives, FrameCase, Sound, claim_taken, due_get, due_taken, frame_by, frame_case, held_older, lost_older, own_of, packet_case, packet_taken, sound, transfer_taken, lost_unclaimed, holding_not_lost, renew_case, WithdrawCase, withdraw_case, past_end, Told, told_case, stamped_by, claims_or_held}
+use Rattle.j39_node.proofs.SoundLemmas.{apart_is, is_moved, IsTurn, acknowledgment_single, claim_single, no_transfer, none_there, packet_session, packet_there, own_taken, turned, Rest, none_at, none_next, none_other, other_none, claim_is, given_way, none_acknowledged, none_due_goes, none_gives, FrameCase, Sound, claim_taken, due_get, due_taken, frame_by, frame_case, held_older, lost_older, own_of, packet_case, packet_taken, sound, transfer_taken, lost_unclaimed, holding_not_lost, renew_case, WithdrawCase, withdraw_case, past_end, Told, told_case, stamped_by, claims_or_held, stays_lost}
 use Rattle.j39_node.proofs.KnownLemmas.{fresh_one, not_refused}
 use Rattle.j39_node.proofs.LaneLemmas.{laned, opened_by}
 use Rattle.j39_node.proofs.CallLemmas.{due_by}
@@ -123,19 +123,14 @@ withdrawn_is w H c k answer is = (λ z. to (withdraw_case w H k (sym z ∙ is.an
 -- ---- what send answers
 
 pub full_parts : (a t : ℕ) → (nat_eq (a - t) 16 || nat_eq a 18446744073709551615) ≡ true → (a ≡ t + 16) ⊎ (a ≡ 18446744073709551615)
-full_parts a t e = go (nat_eq (a - t) 16) refl e
-  where
-    go : (b : Bool) → nat_eq (a - t) 16 ≡ b → (b || nat_eq a 18446744073709551615) ≡ true → (a ≡ t + 16) ⊎ (a ≡ 18446744073709551615)
-    go true f g = inl (let z = eqb-true (a - t) 16 f in omega (arith, z))
-    go false f g = inr (eqb-true a 18446744073709551615 g)
+full_parts a t e = elim (or_cases (nat_eq (a - t) 16) _ e) [
+  | inl f ↦ inl (let z = eqb-true (a - t) 16 f in omega (arith, z))
+  | inr f ↦ inr (eqb-true a 18446744073709551615 f)
+]
 
 pub full_from : (a t : ℕ) → (a ≡ t + 16) ⊎ (a ≡ 18446744073709551615) → (nat_eq (a - t) 16 || nat_eq a 18446744073709551615) ≡ true
-full_from a t (inl e) = ap (λ (b : Bool). b || nat_eq a 18446744073709551615) (eq-eqb (a - t) 16 (omega (arith, e)))
-full_from a t (inr e) = go (nat_eq (a - t) 16) (eq-eqb a 18446744073709551615 e)
-  where
-    go : (b : Bool) → nat_eq a 18446744073709551615 ≡ true → (b || nat_eq a 18446744073709551615) ≡ true
-    go true f = refl
-    go false f = f
+full_from a t (inl e) = or_left _ (nat_eq a 18446744073709551615) (eq-eqb (a - t) 16 (omega (arith, e)))
+full_from a t (inr e) = or_right (nat_eq (a - t) 16) _ (eq-eqb a 18446744073709551615 e)
 
 -- ---- received
 
@@ -353,7 +348,7 @@ behind_a_reply w H later c last first f i is t none due_one = go (frame_case w G
     go (claims o e) = inl (no_transfer i (claim_single i (claim_taken i last w _ e)))
     go (acknowledges m o h g e way) = inl (no_transfer i (due_taken w i last m e (due_get w (due w G) (length (acknowledged G)) m (sound w G is.answered.0).desk.0 g)).2)
     go (replies m o h n g e) = absurd (yield (turned w G last (Some Reply) n.1))
-    go (sends x o h n g e) = inl (no_transfer i (single_taken w i last x e (own_of w G x is.answered.0 g)))
+    go (sends x o h n g e) = inl (no_transfer i (own_taken w i last x e (own_of w G x is.answered.0 g)).2)
     go (packs m o h n g e) = inl (packet_session i (packet_taken i last m (open_broadcast w G) (length (packets G)) (pause G - step G last) e g).2).1
     go (transfers m o h n g e) = inr (is_moved w G i (transfer_taken w G last i m is.answered.0 e g).transfer
         (apart_is w G last i m g (ap (λ (y : ℕ × Message). y.1) e) (turned w G last (Some Move) n.1).1))
@@ -524,15 +519,15 @@ cannot w H = cannot_is w (address_after w H)
 abbrev pub counts : Who → List Call → ℕ → FrameRecord → Option Asked
 counts w H when f = fresh w (drop (length (handed H)) (requests w H)) (asked w (holds w H when) f)
 
-pub request_case : (w : Who) (H : List Call) (when : ℕ) (f : FrameRecord) (o : Option Asked) → counts w H when f ≡ o
-    → requests w (At when (Hear f) ∷ H) ≡ with_request w (nat_lt (length (requests w H) - length (handed H)) 16) o (requests w H)
-request_case w H when f o e = ap (λ x. with_request w (nat_lt (length (requests w H) - length (handed H)) 16) x (requests w H)) e
-
-pub refusal_case : (w : Who) (H : List Call) (when : ℕ) (f : FrameRecord) (o : Option Asked) → counts w H when f ≡ o
-    → due w (At when (Hear f) ∷ H) ≡ with_refusal w (nat_lt (length (requests w H) - length (handed H)) 16)
-    (nat_lt (length (due w H) - length (acknowledged H)) 16 && not (is_refusal_due w (drop (length (acknowledged H)) (due w H)) o)) o (due w H)
-refusal_case w H when f o e = ap (λ x. with_refusal w (nat_lt (length (requests w H) - length (handed H)) 16)
-    (nat_lt (length (due w H) - length (acknowledged H)) 16 && not (is_refusal_due w (drop (length (acknowledged H)) (due w H)) x)) x (due w H)) e
+pub asked_case : (w : Who) (H : List Call) (when : ℕ) (f : FrameRecord) (o : Option Asked) → counts w H when f ≡ o
+    → (requests w (At when (Hear f) ∷ H) ≡ with_request w (nat_lt (length (requests w H) - length (handed H)) 16) o (requests w H))
+    × (due w (At when (Hear f) ∷ H) ≡ with_refusal w (nat_lt (length (requests w H) - length (handed H)) 16)
+    (nat_lt (length (due w H) - length (acknowledged H)) 16 && not (is_refusal_due w (drop (length (acknowledged H)) (due w H)) o)) o (due w H))
+asked_case w H when f o e = (
+  ap (λ x. with_request w (nat_lt (length (requests w H) - length (handed H)) 16) x (requests w H)) e,
+  ap (λ x. with_refusal w (nat_lt (length (requests w H) - length (handed H)) 16)
+      (nat_lt (length (due w H) - length (acknowledged H)) 16 && not (is_refusal_due w (drop (length (acknowledged H)) (due w H)) x)) x (due w H)) e,
+)
 
 pub counts_one : (w : Who) (H : List Call) (when : ℕ) (f : FrameRecord) (r : Asked) → asked w (holds w H when) f ≡ Some r
     → (is_served w r.group ≡ false) ⊎ (waits_already w H r ≡ false) → counts w H when f ≡ Some r
@@ -544,14 +539,17 @@ has_room a b l = lt-ltb _ _ (omega (arith, l))
 pub has_none : (a b : ℕ) → b + 16 ≤ a → nat_lt (a - b) 16 ≡ false
 has_none a b l = grind arith
 
-pub with_it : (w : Who) (r : Asked) (L : List Asked) (s room : Bool) → is_served w r.group ≡ s → with_request w room (Some r) L ≡ (if s && room then L ++ r ∷ [] else L)
-with_it w r L s room e = ap (λ (x : Bool). if x && room then L ++ r ∷ [] else L) e
-
-pub refused_it : (w : Who) (r : Asked) (A : List Message) (s room place at : Bool) → is_served w r.group ≡ s → nat_eq r.destination w.address ≡ at
-    → with_refusal w room place (Some r) A ≡ (if (at && place) && not (s && room) then A ++ acknowledgment w (if s then Busy else Nack) r ∷ [] else A)
-refused_it w r A s room place at e g =
-    ap (λ (x : Bool). if (x && place) && not (is_served w r.group && room) then A ++ acknowledgment w (if is_served w r.group then Busy else Nack) r ∷ [] else A) g
-    ∙ ap (λ (x : Bool). if (at && place) && not (x && room) then A ++ acknowledgment w (if x then Busy else Nack) r ∷ [] else A) e
+-- what one adds, by whether its group is served, there is room, it came to the address, and its refusal has a place
+pub asked_adds : (w : Who) (H : List Call) (when : ℕ) (f : FrameRecord) (r : Asked) (s room at place : Bool) → counts w H when f ≡ Some r → is_served w r.group ≡ s
+    → nat_lt (length (requests w H) - length (handed H)) 16 ≡ room → nat_eq r.destination w.address ≡ at
+    → (nat_lt (length (due w H) - length (acknowledged H)) 16 && not (refusal_waits w H r)) ≡ place
+    → (requests w (At when (Hear f) ∷ H) ≡ (if s && room then requests w H ++ r ∷ [] else requests w H))
+    × (due w (At when (Hear f) ∷ H) ≡ (if (at && place) && not (s && room) then due w H ++ acknowledgment w (if s then Busy else Nack) r ∷ [] else due w H))
+asked_adds w H when f r s room at place k e g a p =
+    let x = asked_case w H when f (Some r) k in (
+      x.0 ∙ λ i. if e i && g i then requests w H ++ r ∷ [] else requests w H,
+      x.1 ∙ λ i. if (a i && p i) && not (e i && g i) then due w H ++ acknowledgment w (if e i then Busy else Nack) r ∷ [] else due w H,
+    )
 
 pub off : (b c : Bool) → (b && not (true && true)) ≡ false
 off b c = grind arith
@@ -563,9 +561,9 @@ pub unrefused : (w : Who) (H : List Call) (when : ℕ) (f : FrameRecord) (r : As
 unrefused w H when f r e n = go (is_served w r.group && waits_already w H r) refl
   where
     go : (b : Bool) → (is_served w r.group && waits_already w H r) ≡ b → due w (At when (Hear f) ∷ H) ≡ due w H
-    go true g = refusal_case w H when f None (ap (fresh w (drop (length (handed H)) (requests w H))) e ∙ ap (λ (b : Bool). (let o : Option Asked = if b then None else Some r in o)) g)
+    go true g = (asked_case w H when f None (ap (fresh w (drop (length (handed H)) (requests w H))) e ∙ ap (λ (b : Bool). (let o : Option Asked = if b then None else Some r in o)) g)).1
     go false g =
-        refusal_case w H when f (Some r) (ap (fresh w (drop (length (handed H)) (requests w H))) e ∙ ap (λ (b : Bool). (let o : Option Asked = if b then None else Some r in o)) g)
+        (asked_case w H when f (Some r) (ap (fresh w (drop (length (handed H)) (requests w H))) e ∙ ap (λ (b : Bool). (let o : Option Asked = if b then None else Some r in o)) g)).1
         ∙ not_refused w (nat_lt (length (requests w H) - length (handed H)) 16) _ r (due w H) n
 
 -- ---- acknowledgments

@@ -13,17 +13,20 @@ pub mapped_none : {T U : Type 0} (v : T → U) (o : Option T) → option_map v o
 mapped_none v None e = refl
 mapped_none v (Some x) e = absurd (cc)
 
-pub get_of_drop : {T : Type 0} (L : List T) (n : ℕ) (x : T) (xs : List T) → x ∷ xs ≡ drop n L → slice_get L n ≡ Some x
-get_of_drop [] zero x xs e = absurd (cc)
-get_of_drop [] (suc n) x xs e = absurd (cc)
-get_of_drop (y ∷ L) zero x xs e = let z : x ≡ y = cc in ap Some (sym z)
-get_of_drop (y ∷ L) (suc n) x xs e = get_of_drop L n x xs e
-
 pub drop_more : {T : Type 0} (L : List T) (n : ℕ) (x : T) (xs : List T) → x ∷ xs ≡ drop n L → xs ≡ drop (suc n) L
 drop_more [] zero x xs e = absurd (cc)
 drop_more [] (suc n) x xs e = absurd (cc)
 drop_more (y ∷ L) zero x xs e = cc
 drop_more (y ∷ L) (suc n) x xs e = drop_more L n x xs e
+
+pub get_at : {T : Type 0} (L : List T) (n k m : ℕ) → m ≡ n + k → slice_get (drop n L) k ≡ slice_get L m
+get_at L zero k m e = ap (slice_get L) (let z : k ≡ m = omega (arith, e) in z)
+get_at [] (suc n) k m e = refl
+get_at (y ∷ L) (suc n) k zero e = absurd (omega (arith, e))
+get_at (y ∷ L) (suc n) k (suc m) e = get_at L n k m (omega (arith, e))
+
+pub get_of_drop : {T : Type 0} (L : List T) (n : ℕ) (x : T) (xs : List T) → x ∷ xs ≡ drop n L → slice_get L n ≡ Some x
+get_of_drop L n x xs e = sym (get_at L n 0 n (omega arith)) ∙ ap (λ M. slice_get M 0) (sym e)
 
 -- what is taken first
 pub record First {T : Type 0} {U : Type 0} (v : T → U) (ys : List T) (x : T) (n : ℕ) (L : List U) : Type 0 where
@@ -35,12 +38,6 @@ pub first : {T : Type 0} {U : Type 0} (v : T → U) (xs ys : List T) (x : T) (n 
 first v xs ys x n L e l f g =
     let a = ap (map v) (sym (front xs ys x l f g)) ∙ e in
     record { is = get_of_drop L n (v x) (map v ys) a; rest = drop_more L n (v x) (map v ys) a }
-
-pub get_at : {T : Type 0} (L : List T) (n k m : ℕ) → m ≡ n + k → slice_get (drop n L) k ≡ slice_get L m
-get_at L zero k m e = ap (slice_get L) (let z : k ≡ m = omega (arith, e) in z)
-get_at [] (suc n) k m e = refl
-get_at (y ∷ L) (suc n) k zero e = absurd (omega (arith, e))
-get_at (y ∷ L) (suc n) k (suc m) e = get_at L n k m (omega (arith, e))
 
 pub get_map : {T : Type 0} {U : Type 0} (v : T → U) (xs : List T) (k : ℕ) (x : T) → slice_get xs k ≡ Some x → slice_get (map v xs) k ≡ Some (v x)
 get_map v xs k x e = slice_get-map v xs k ∙ ap (option_map v) e

@@ -48,6 +48,11 @@ address_cases w H (At now Again) P left lost claims anew = anew refl
 address_cases w H (At now act) P left lost claims anew = left
 address_cases w H call P left lost claims anew = subst P (same_age (moment H) (address_after w H)) left
 
+pub stays_lost : (w : Who) (H : List Call) (call : Call) → is_lost (address_after w H) ≡ true → is_lost (address_after w (call ∷ H)) ≡ true
+stays_lost w H call e =
+    let l = lost_older (step H (moment (call ∷ H))) (address_after w H) ∙ e in
+    address_cases w H call (λ a. is_lost a ≡ true) l refl (lost_claimed _ ∙ l) (λ z. lost_unclaimed _ ∙ l)
+
 -- ---- which frame was taken
 
 -- an acknowledgment that goes is due
@@ -522,12 +527,12 @@ pub many_marks : (w : Who) (H : List Call) → Sound w H → length (marks H) �
 many_marks w H h = ap length h.marked ∙ length-map (accepted w H) is_blank
 
 -- a call that accepts, sends and tells nothing
-rests : (w : Who) (H G : List Call) → accepted w G ≡ accepted w H → marks G ≡ marks H → (sent G ≡ sent H) × (reached G ≡ reached H) → told G ≡ told H
-    → (is_lost (address_after w G) ≡ false → is_lost (address_after w H) ≡ false) → IsFront (got G) (kept w G) → Desked w G → Sound w H → Sound w G
-rests w H G e m f g l r d h = record {
+rests : (w : Who) (H : List Call) (call : Call) → accepted w (call ∷ H) ≡ accepted w H → marks (call ∷ H) ≡ marks H → (sent (call ∷ H) ≡ sent H) × (reached (call ∷ H) ≡ reached H)
+    → told (call ∷ H) ≡ told H → IsFront (got (call ∷ H)) (kept w (call ∷ H)) → Desked w (call ∷ H) → Sound w H → Sound w (call ∷ H)
+rests w H call e m f g r d h = record {
   posts = subst (λ (x : List (ℕ × Message) × List Bool × ℕ × List Message). Posts w x.0 x.1 x.2 x.3) (λ i. (sym e i, sym m i, sym f.1 i, sym f.0 i)) h.posts;
   within = (let a = h.within in let b = ap length e in let c = ap length g in omega (arith, a, b, c));
-  in_turn = λ i. (let a = h.in_turn (l i) in let b = f.1 in let c = ap length g in omega (arith, a, b, c));
+  in_turn = λ l. (let a = h.in_turn (false_from_ne_true _ (λ z. not_both _ l (stays_lost w H call z))) in let b = f.1 in let c = ap length g in omega (arith, a, b, c));
   reads = r;
   desk = d;
 }
@@ -591,23 +596,19 @@ told_case w H k e = go (nat_lt (length (told H)) (reached H)) (is_lost (address_
 
 -- ---- the induction
 
-lost_if : (w : Who) (b : Bool) (s : ℕ) (a : Address) → is_lost (if b then Lost else older s a) ≡ false → is_lost a ≡ false
-lost_if w true s a e = absurd (cc)
-lost_if w false s a e = sym (lost_older s a) ∙ e
-
 -- what a frame taken is: a claim, an acknowledgment, a message
 pub claim_taken : (f : FrameRecord) (now : ℕ) (w : Who) (a : ℕ) → stamped f ≡ (now, claim_from w a) → is_claim f ≡ true
 claim_taken f now w a e = let z = ap (λ (x : ℕ × Message). x.1.group) e in eq-eqb _ _ z
 
-pub message_taken : (w : Who) (f : FrameRecord) (now : ℕ) (x : ℕ × Message) → stamped f ≡ (now, x.1) → IsOwn w x.1 → is_claim f ≡ false
-message_taken w f now x e own = let z = ap (λ (y : ℕ × Message). y.1.group) e in ap (λ (g : ℕ). nat_eq g address_claimed_group) z ∙ own.group
-
-pub plain_taken : (w : Who) (f : FrameRecord) (now : ℕ) (x : ℕ × Message) → stamped f ≡ (now, x.1) → IsOwn w x.1 → is_acknowledgment f ≡ false
-plain_taken w f now x e own = let z = ap (λ (y : ℕ × Message). y.1.group) e in ap (λ (g : ℕ). nat_eq g acknowledgment_group) z ∙ own.plain
-
-pub single_taken : (w : Who) (f : FrameRecord) (now : ℕ) (x : ℕ × Message) → stamped f ≡ (now, x.1) → IsOwn w x.1 → is_session f ≡ false
-single_taken w f now x e own =
-    let z = ap (λ (y : ℕ × Message). y.1.group) e in ap (λ (g : ℕ). nat_eq g transport_control_group || nat_eq g transport_data_group) z ∙ own.single
+-- a message's is none of these, nor of a session
+pub own_taken : (w : Who) (f : FrameRecord) (now : ℕ) (x : ℕ × Message) → stamped f ≡ (now, x.1) → IsOwn w x.1
+    → (is_claim f ≡ false) × (is_acknowledgment f ≡ false) × (is_session f ≡ false)
+own_taken w f now x e own =
+    let z = ap (λ (y : ℕ × Message). y.1.group) e in (
+      ap (λ (g : ℕ). nat_eq g address_claimed_group) z ∙ own.group,
+      ap (λ (g : ℕ). nat_eq g acknowledgment_group) z ∙ own.plain,
+      ap (λ (g : ℕ). nat_eq g transport_control_group || nat_eq g transport_data_group) z ∙ own.single,
+    )
 
 pub claim_single : (f : FrameRecord) → is_claim f ≡ true → is_session f ≡ false
 claim_single f e = ap (λ (g : ℕ). nat_eq g transport_control_group || nat_eq g transport_data_group) (eqb-true (pgn_of f.id) address_claimed_group e)
@@ -635,9 +636,7 @@ due_taken w f now m e is =
 
 pub sent_is : (H : List Call) (now : ℕ) (f : FrameRecord) (a b p : Bool) → is_claim f ≡ a → is_acknowledgment f ≡ b → is_session f ≡ p
     → sent (At now (TakeFrame (Some f)) ∷ H) ≡ (if a || (b || p) then sent H else sent H ++ message_of f ∷ [])
-sent_is H now f a b p e g i = ap (λ (x : Bool). if x || (is_acknowledgment f || is_session f) then sent H else sent H ++ message_of f ∷ []) e
-    ∙ (ap (λ (y : Bool). if a || (y || is_session f) then sent H else sent H ++ message_of f ∷ []) g
-    ∙ ap (λ (y : Bool). if a || (b || y) then sent H else sent H ++ message_of f ∷ []) i)
+sent_is H now f a b p e g i = λ j. if e j || (g j || i j) then sent H else sent H ++ message_of f ∷ []
 
 pub reached_is : (H : List Call) (now : ℕ) (f : FrameRecord) (a b p : Bool) → is_claim f ≡ a → is_acknowledgment f ≡ b → is_session f ≡ p
     → reached (At now (TakeFrame (Some f)) ∷ H) ≡ (if a || (b || p) then reached H else past (marks H) (suc (reached H)))
@@ -653,33 +652,19 @@ pause_is H now f p e = ap (λ (y : Bool). if y then 150000 else pause H - step H
 
 pub acknowledged_is : (H : List Call) (now : ℕ) (f : FrameRecord) (a b : Bool) → is_claim f ≡ a → is_acknowledgment f ≡ b
     → acknowledged (At now (TakeFrame (Some f)) ∷ H) ≡ (if a || not b then acknowledged H else acknowledged H ++ message_of f ∷ [])
-acknowledged_is H now f a b e g = ap (λ (x : Bool). if x || not (is_acknowledgment f) then acknowledged H else acknowledged H ++ message_of f ∷ []) e
-    ∙ ap (λ (y : Bool). if a || not y then acknowledged H else acknowledged H ++ message_of f ∷ []) g
+acknowledged_is H now f a b e g = λ i. if e i || not (g i) then acknowledged H else acknowledged H ++ message_of f ∷ []
 
 pub address_is : (w : Who) (H : List Call) (now : ℕ) (f : FrameRecord) (a : Bool) → is_claim f ≡ a
     → address_after w (At now (TakeFrame (Some f)) ∷ H) ≡ (if a then claimed (older (step H now) (address_after w H)) else older (step H now) (address_after w H))
 address_is w H now f a e = ap (λ (b : Bool). if b then claimed (older (step H now) (address_after w H)) else older (step H now) (address_after w H)) e
 
-sound_claim : (w : Who) (H : List Call) (now : ℕ) (f : FrameRecord) → is_claim f ≡ true → Sound w H → Sound w (At now (TakeFrame (Some f)) ∷ H)
-sound_claim w H now f e h = rests w H _ refl refl (sent_is H now f true _ _ e refl refl, reached_is H now f true _ _ e refl refl) refl
-    (λ l. sym (lost_older (step H now) (address_after w H)) ∙ (sym (lost_claimed _) ∙ (sym (ap is_lost (address_is w H now f true e)) ∙ l))) h.reads
-    (h.desk.0, subst (λ xs. IsFront xs (due w H)) (sym (acknowledged_is H now f true _ e refl)) h.desk.1, h.desk.2) h
-
-sound_acknowledge : (w : Who) (H : List Call) (now : ℕ) (f : FrameRecord) (m : Message) → is_claim f ≡ false → is_acknowledgment f ≡ true
-    → slice_get (due w H) (length (acknowledged H)) ≡ Some m → stamped f ≡ (now, m) → Sound w H → Sound w (At now (TakeFrame (Some f)) ∷ H)
-sound_acknowledge w H now f m e k g i h = rests w H _ refl refl (sent_is H now f false true _ e k refl, reached_is H now f false true _ e k refl) refl
-    (λ l. sym (lost_older (step H now) (address_after w H)) ∙ (sym (ap is_lost (address_is w H now f false e)) ∙ l)) h.reads (
-      h.desk.0,
-      subst (λ xs. IsFront xs (due w H)) (sym (acknowledged_is H now f false true e k ∙ ap (λ (y : ℕ × Message). acknowledged H ++ y.1 ∷ []) i))
-          (front_longer (acknowledged H) (due w H) m h.desk.1 g),
-      h.desk.2,
-    ) h
-
-sound_packet : (w : Who) (H : List Call) (now : ℕ) (f : FrameRecord) → (is_claim f ≡ false) × (is_acknowledgment f ≡ false) × (is_session f ≡ true)
-    → Sound w H → Sound w (At now (TakeFrame (Some f)) ∷ H)
-sound_packet w H now f k h = rests w H _ refl refl (sent_is H now f false false true k.0 k.1 k.2, reached_is H now f false false true k.0 k.1 k.2) refl
-    (λ l. sym (lost_older (step H now) (address_after w H)) ∙ (sym (ap is_lost (address_is w H now f false k.0)) ∙ l)) h.reads
-    (h.desk.0, subst (λ xs. IsFront xs (due w H)) (sym (acknowledged_is H now f false false k.0 k.1)) h.desk.1, h.desk.2) h
+-- beside messages
+sound_beside : (w : Who) (H : List Call) (now : ℕ) (f : FrameRecord) (a b p : Bool) → is_claim f ≡ a → is_acknowledgment f ≡ b → is_session f ≡ p → (a || (b || p)) ≡ true
+    → IsFront (if a || not b then acknowledged H else acknowledged H ++ message_of f ∷ []) (due w H) → Sound w H → Sound w (At now (TakeFrame (Some f)) ∷ H)
+sound_beside w H now f a b p e k n q front h = rests w H (At now (TakeFrame (Some f))) refl refl
+    (sent_is H now f a b p e k n ∙ ap (λ (x : Bool). if x then sent H else sent H ++ message_of f ∷ []) q,
+    reached_is H now f a b p e k n ∙ ap (λ (x : Bool). if x then reached H else past (marks H) (suc (reached H))) q) refl h.reads
+    (h.desk.0, subst (λ xs. IsFront xs (due w H)) (sym (acknowledged_is H now f a b e k)) front, h.desk.2) h
 
 sound_send : (w : Who) (H : List Call) (now : ℕ) (f : FrameRecord) (x : ℕ × Message) → is_claim f ≡ false → is_acknowledgment f ≡ false → is_session f ≡ false → holds w H now ≡ true
     → slice_get (accepted w H) (reached H) ≡ Some x → stamped f ≡ (now, x.1) → Sound w H → Sound w (At now (TakeFrame (Some f)) ∷ H)
@@ -708,21 +693,21 @@ sound_send w H now f x e k n held g i h =
     }
 
 sound_frame : (w : Who) (H : List Call) (now : ℕ) (f : FrameRecord) → AreAnswered w H → FrameCase w H now f → Sound w H → Sound w (At now (TakeFrame (Some f)) ∷ H)
-sound_frame w H now f right (claims owes e) h = sound_claim w H now f (claim_taken f now w _ e) h
+sound_frame w H now f right (claims owes e) h = sound_beside w H now f true _ _ (claim_taken f now w _ e) refl refl refl h.desk.1 h
 sound_frame w H now f right (acknowledges m owes held g e way) h =
     let k = due_taken w f now m e (due_get w (due w H) (length (acknowledged H)) m h.desk.0 g) in
-    sound_acknowledge w H now f m k.0 k.1 g e h
+    sound_beside w H now f false true _ k.0 k.1 k.2 refl
+    (subst (λ (y : Message). IsFront (acknowledged H ++ y ∷ []) (due w H)) (sym (ap content e)) (front_longer (acknowledged H) (due w H) m h.desk.1 g)) h
 sound_frame w H now f right (replies m owes held none g e) h =
     let k = reply_taken w.address f now m e (replied_get w.address (reception w H).replies 0 m (tidy w H).replies g) in
-    sound_packet w H now f (k.0, k.1, k.2) h
+    sound_beside w H now f false false true k.0 k.1 k.2 refl h.desk.1 h
 sound_frame w H now f right (sends x owes held none g e) h =
-    let own = next_own w H x h g in
-    sound_send w H now f x (message_taken w f now x e own) (plain_taken w f now x e own) (single_taken w f now x e own) held g e h
+    let own = own_taken w f now x e (next_own w H x h g) in sound_send w H now f x own.0 own.1 own.2 held g e h
 sound_frame w H now f right (packs m owes held none g e) h =
     let is = packet_taken f now m (open_broadcast w H) (length (packets H)) (pause H - step H now) e g in
-    sound_packet w H now f (is.0, is.1, (packet_session f is.2).0) h
+    sound_beside w H now f false false true is.0 is.1 (packet_session f is.2).0 refl h.desk.1 h
 sound_frame w H now f right (transfers m owes held none g e) h =
-    let is = transfer_taken w H now f m right e g in sound_packet w H now f (is.claim, is.plain, is.session) h
+    let is = transfer_taken w H now f m right e g in sound_beside w H now f false false true is.claim is.plain is.session refl h.desk.1 h
 
 sound_accept : (w : Who) (H : List Call) (now k : ℕ) (d : Draft) → can_send w d ≡ true → k ≡ length (accepted w H) → Sound w H → Sound w (At now (Send d (Ok k)) ∷ H)
 sound_accept w H now k d e g h = record {
@@ -877,22 +862,21 @@ sound_withdrawn w H k c h =
     }
 
 sound_more : (w : Who) (H : List Call) (call : Call) → AreAnswered w H → IsAnswered w H call → Sound w H → Sound w (call ∷ H)
-sound_more w H (At when (Hear f)) right e h = rests w H _ refl refl (refl, refl) refl (lost_if w (is_smaller w (claim_of f)) (step H when) (address_after w H))
-    (kept_grows _ (kept w H) (f.stamp, message_of f) (got H) h.reads)
-    (heard_desk w H when f h.desk) h
+sound_more w H (At when (Hear f)) right e h =
+    rests w H (At when (Hear f)) refl refl (refl, refl) refl (kept_grows _ (kept w H) (f.stamp, message_of f) (got H) h.reads) (heard_desk w H when f h.desk) h
 sound_more w H (At now (TakeFrame (Some f))) right e h = sound_frame w H now f right (frame_case w H now f e) h
 sound_more w H (At now (Send d (Ok k))) right e h = let x = send_accepts w H now k d e in sound_accept w H now k d x.1 x.3 h
 sound_more w H (At now (Ask group to (Ok k))) right e h = let x = ask_accepts w H now group to k e in sound_ask w H now k group to x.1 x.3 h
 sound_more w H (TakeEnded (Some x)) right e h = sound_ended w H x (told_case w H x.0 x.1 e) h
-sound_more w H (TakeReceived (Some x)) right e h = rests w H _ refl refl (refl, refl) refl (λ l. l)
-    (front_longer (got H) (kept w H) x h.reads (sym e)) h.desk h
-sound_more w H (TakeRequest (Some r)) right e h = rests w H _ refl refl (refl, refl) refl (λ l. l) h.reads (h.desk.0, h.desk.1, front_longer (handed H) (requests w H) r h.desk.2 (sym e)) h
-sound_more w H (At now (Acknowledge r answer (Ok x))) right e h = rests w H _ refl refl (refl, refl) refl (λ l. sym (lost_older (step H now) (address_after w H)) ∙ l) h.reads
+sound_more w H (TakeReceived (Some x)) right e h =
+    rests w H (TakeReceived (Some x)) refl refl (refl, refl) refl (front_longer (got H) (kept w H) x h.reads (sym e)) h.desk h
+sound_more w H (TakeRequest (Some r)) right e h =
+    rests w H (TakeRequest (Some r)) refl refl (refl, refl) refl h.reads (h.desk.0, h.desk.1, front_longer (handed H) (requests w H) r h.desk.2 (sym e)) h
+sound_more w H (At now (Acknowledge r answer (Ok x))) right e h = rests w H (At now (Acknowledge r answer (Ok x))) refl refl (refl, refl) refl h.reads
     (due_append w (due w H) answer r h.desk.0, front_append (acknowledged H) (due w H) (acknowledgment w answer r) h.desk.1, h.desk.2) h
 sound_more w H (Withdraw k true) right e h = sound_withdrawn w H k (withdraw_case w H k e) h
 sound_more w H (Renew d (Some k)) right e h = sound_renewed w H d k (renew_case w H d k e) h
-sound_more w H (At now Again) right e h = rests w H _ refl refl (refl, refl) refl (λ l. sym (lost_older (step H now) (address_after w H)) ∙ (sym (lost_unclaimed _) ∙ l)) h.reads h.desk h
-sound_more w H call right e h = rests w H (call ∷ H) refl refl (refl, refl) refl (λ l. let z = lost_older (step H (moment (call ∷ H))) (address_after w H) in cc) h.reads h.desk h
+sound_more w H call right e h = rests w H call refl refl (refl, refl) refl h.reads h.desk h
 
 pub sound : (w : Who) (H : List Call) → AreAnswered w H → Sound w H
 sound w [] e = record {

@@ -1,5 +1,5 @@
 -- The laws of transfers.
-use Rattle.j39_node.proofs.Common.{Abort, Aborts, Acknowledges, Acknowledgment, AreAnswered, At, Bool, BroadcastAnnounce, Call, ClearToSend, Controller, FrameRecord, Gone, Happened, Hear, Idle, Is, IsMove, IsTrue, List, Message, MessageRecord, None, Ok, Option, Packet, Refused, Replaces, RequestToSend, Result, Running, SendState, SenderRecord, Sending, Signal, Some, TakeFrame, TakeTransferEnded, Transfer, TransferEnding, Waiting, Who, [], abort_move, aborted, acked, address_after, after, all_transfers, ap, arith, both, broken_off, by, can_transfer, cleared, clears, clears_by, clock_at, cond_both, ending_by, eq-eqb, eqb-true, false, first, gives_up, granted_after, granted_by, hears, hears_if, holder, holds, idle, if◌then◌else◌, inl, inr, is_clear, is_engaged, is_idle, is_lost, is_move, is_replaced, is_resting, is_running, is_spent, is_waiting, later, left, length, listens, long_by, lost, ltb-true, max, may_name, message_of, min, moves, nat_eq, nat_lt, new_sender, next_packet, next_transfer, not, not_both, nothing, open_transfer, option_map, or_parts, other, packet_data, packets, packets_of, refl, request_of, rested, said_between, says, send_step, sends, sends_if, signal_by, silent, slice_get, spent_after, still, subst, sym, takes_clear, ticks_in, told, told_transfers, transfer_end, transport_control_group, transport_data_group, true, waiting, ℕ, ◌&&◌, ◌++◌, ◌+◌, ◌-◌, ◌<◌, ◌==◌, ◌||◌, ◌∙◌, ◌∷◌, ◌≡◌, ◌≤◌, ◌⊎◌, same_Some, none-some, some_pair_parts, ltb-false}
+use Rattle.j39_node.proofs.Common.{Abort, Aborts, Acknowledges, Acknowledgment, AreAnswered, At, Bool, BroadcastAnnounce, Call, ClearToSend, Controller, FrameRecord, Gone, Happened, Hear, Idle, Is, IsMove, IsTrue, List, Message, MessageRecord, None, Ok, Option, Packet, Refused, Replaces, RequestToSend, Result, Running, SendState, SenderRecord, Sending, Signal, Some, TakeFrame, TakeTransferEnded, Transfer, TransferEnding, Waiting, Who, [], abort_move, aborted, acked, address_after, after, all_transfers, ap, arith, both, broken_off, by, can_transfer, cleared, clears, clears_by, clock_at, cond_both, ending_by, eq-eqb, eqb-true, false, first, gives_up, granted_after, granted_by, hears, hears_if, holder, holds, idle, if◌then◌else◌, inl, inr, is_clear, is_engaged, is_idle, is_lost, is_move, is_replaced, is_resting, is_running, is_spent, is_waiting, later, left, length, listens, long_by, lost, ltb-true, max, may_name, message_of, min, moves, nat_eq, nat_lt, new_sender, next_packet, next_transfer, not, not_both, nothing, open_transfer, option_map, or_parts, other, packet_data, packets, packets_of, refl, request_of, rested, said_between, says, send_step, sends, sends_if, signal_by, silent, slice_get, spent_after, still, subst, sym, takes_clear, ticks_in, told, told_transfers, transfer_end, transport_control_group, transport_data_group, true, waiting, ℕ, ◌&&◌, ◌++◌, ◌+◌, ◌-◌, ◌<◌, ◌==◌, ◌||◌, ◌∙◌, ◌∷◌, ◌≡◌, ◌≤◌, ◌⊎◌, same_Some, none-some, some_pair_parts, ltb-false, or_cases}
 use Rattle.j39_transport.specs.Sending.{Heard, Tick}
 use Rattle.j39_node.specs.declared.kinds.TransferEnding.TheVariants.{Done, Withdrawn, Failed}
 use Rattle.j39_node.specs.Transfers.{is_over, said_to}
@@ -22,11 +22,7 @@ use Rattle.j39_node.proofs.QueueLemmas.{mapped_none}
 pub engaged_limit : (o : Option Running) (told : ℕ) (all : List (ℕ × MessageRecord)) (r : Bool) → LastIf told all o → (is_engaged o (length all) || r) ≡ true
     → (length all ≡ told + 1) ⊎ ((length all ≡ 18446744073709551615) ⊎ IsTrue r)
 engaged_limit (Some t) told all r h e = inl (let a = h.token in let b = h.count in omega (arith, a, b))
-engaged_limit None told all r h e = inr (go (nat_eq (length all) 18446744073709551615) refl e)
-  where
-    go : (b : Bool) → nat_eq (length all) 18446744073709551615 ≡ b → (b || r) ≡ true → (length all ≡ 18446744073709551615) ⊎ IsTrue r
-    go true i z = inl (eqb-true _ _ i)
-    go false i z = inr z
+engaged_limit None told all r h e = inr (elim (or_cases (nat_eq (length all) 18446744073709551615) r e) [ inl z ↦ inl (eqb-true _ _ z) | inr z ↦ inr z ])
 
 pub free_limit : (o : Option Running) (told : ℕ) (all : List (ℕ × MessageRecord)) (r : Bool) → LastIf told all o → (is_engaged o (length all) || r) ≡ false
     → ((length all ≡ told + 1) ⊎ ((length all ≡ 18446744073709551615) ⊎ IsTrue r)) → ⊥

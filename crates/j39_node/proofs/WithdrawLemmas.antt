@@ -54,13 +54,7 @@ pub unpassed : (bs : List Bool) (n i : ℕ) → slice_get bs i ≡ Some false �
 unpassed bs n i e = same i n (past bs n) (past_more bs n) (unpassed_by bs n i e)
   where
     same : (i n m : ℕ) → n ≤ m → (i < m → i < n) → nat_lt i m ≡ nat_lt i n
-    same i n m l h = go (nat_lt i m) (nat_lt i n) refl refl
-      where
-        go : (a b : Bool) → nat_lt i m ≡ a → nat_lt i n ≡ b → a ≡ b
-        go true true x y = refl
-        go false false x y = refl
-        go true false x y = let z = h (ltb-true i m x) in absurd (grind (arith, y, z))
-        go false true x y = absurd (grind (arith, x, y, l))
+    same i n m l h = grind (arith, l, h)
 
 pub next_false : (bs : List Bool) (n : ℕ) (b : Bool) → past bs n ≡ n → slice_get bs n ≡ Some b → b ≡ false
 next_false [] n b e g = absurd (cc)
