@@ -5,7 +5,7 @@ use Rattle.j39_node.specs.Asking.{is_reply, is_taken, said_by}
 use Rattle.j39_node.proofs.WithdrawLemmas.{get_front, unpassed}
 use Rattle.j39_node.proofs.AnswerCases.{ask_accepts}
 use Rattle.j39_node.proofs.AnswerCases as cases
-use Rattle.j39_node.proofs.QueueLemmas.{get_append, length_one_more, get_last, mapped_none}
+use Rattle.j39_node.proofs.QueueLemmas.{get_append, length_one_more, get_last, mapped_none, mapped_some}
 use Rattle.j39_node.proofs.SoundLemmas.{sound, grows_on, passes_request, request_stays, stays_lost}
 use Rattle.j39_node.proofs.LawLemmas.{full_from, full_parts, sent_within}
 
@@ -306,15 +306,11 @@ told_is w H c k e is = go (open_ask H) (ended w H) refl refl is.answered.1
     out q (Some x) o p z = outcome w H is.answered.0 q e o (p ∙ z)
     out q None o p z = silently w H q e _ _ _ _ z (λ t l d y. by_time y (ran_out w H q is.answered.0 o t l d)) (λ l y. by_loss y l)
 
-    by : (q : Question) (o : Option AskEnding) (x : ℕ × AskEnding) → Some x ≡ option_map (λ (y : AskEnding). (q.token, y)) o → (q.token ≡ x.0) × (o ≡ Some x.1)
-    by q None x z = absurd (cc)
-    by q (Some y) x z = let u : x ≡ (q.token, y) = cc in (sym (ap (λ (v : ℕ × AskEnding). v.0) u), sym (ap (λ (v : ℕ × AskEnding). Some v.1) u))
-
     go : (o : Option Question) (h : Option AskEnding) → open_ask H ≡ o → ended w H ≡ h → Some (k, e) ≡ ask_end o (reached H) h (wait H) (comes w H (time_heard H)) (is_lost (address_after w H)) → Told w H k e
     go None h o p z = absurd (cc)
     go (Some q) h o p z =
-        let b = by q (first h (silent_end (is_taken q H) (wait H) (comes w H (time_heard H)) (is_lost (address_after w H)))) (k, e) z in
-        record { question = q; current = o; token = b.0; out = out q h o p b.1 }
+        let b = mapped_some (λ (y : AskEnding). (q.token, y)) (first h (silent_end (is_taken q H) (wait H) (comes w H (time_heard H)) (is_lost (address_after w H)))) (k, e) (sym z) in
+        record { question = q; current = o; token = ap (λ (v : ℕ × AskEnding). v.0) b.2; out = out q h o p (b.1 ∙ ap (λ (v : ℕ × AskEnding). Some v.1) b.2) }
 
 -- ---- what ask answers
 

@@ -7,10 +7,11 @@ pub use Rattle.std.proofs.Math.Seq.{take-append_seam, take-suc}
 pub use Rattle.std.proofs.lemmas.Bool.{and_from, and_parts, and_parts as both, cases_Bool, cases_eq, cases_lt, cond_both, eqb-false, leb-false, leb-true, lt-leb, ne_eqb, or_cases, or_from, or_left, or_parts, or_right, not-true, not-false, false_from_ne_true}
 pub use Rattle.std.proofs.lemmas.Grind.{flat_map-append}
 pub use Rattle.std.proofs.lemmas.List.{drop-append-le, drop-map, length-drop, length-map, length-set, length-take-le, map-append, map-set, take_all, take-append-drop, take-append-le, take-set-le}
+pub use Rattle.std.proofs.lemmas.List.Elements.{All-nil, All-push, All-set}
 pub use Rattle.std.proofs.lemmas.List.Folds.{list_any_at, list_any_more}
-pub use Rattle.std.proofs.lemmas.Option.{cond_some, none-some, same_Some, slice_get-map, slice_get_past, slice_get_read, slice_get_within, some_pair_parts}
+pub use Rattle.std.proofs.lemmas.Option.{cond_some, get_or_from_slice_get, none-some, same_Some, slice_get-map, slice_get_past, slice_get_read, slice_get_within, some_pair_parts}
 pub use Rattle.std.proofs.lemmas.Slice.Eq.{bytes_eq-Decides}
-pub use Rattle.std.specs.List.{list_any, refill, slice_get}
+pub use Rattle.std.specs.List.{All, list_any, refill, slice_get}
 pub use Rattle.std.specs.Option.{is_some as has_some, IsSomeAnd, option_map, option_or}
 pub use Rattle.std.specs.Str.{bytes_eq}
 pub use Rattle.byteorder.specs.Endian.{little_bytes}

@@ -1,8 +1,9 @@
 -- What kind a frame is that is taken.
 use Rattle.j39_node.proofs.SoundLemmas.FrameCase.{claims, acknowledges, replies, sends, packs, transfers}
 use Rattle.j39_node.proofs.Common.{◌≡◌, ◌-◌, ◌&&◌, ◌||◌, ap, Bool, eqb-true, false, length, List, nat_eq, Some, true, ℕ, FrameRecord, pgn_of, address_claimed_group, acknowledged, acknowledgment_group, Call, due, is_acknowledgment, is_claim, is_packet, is_session, Message, open_broadcast, packets, pause, step, Who, AreAnswered, is_move, is_reply, reception, Move}
-use Rattle.j39_node.proofs.SoundLemmas.{FrameCase, is_moved, reply_no_move, no_move, is_directed, no_packet, no_transfer, packet_session, claim_single, claim_taken, due_taken, due_get, reply_taken, own_taken, own_of, packet_taken, transfer_taken, apart_is, reply_is, turned, sound}
+use Rattle.j39_node.proofs.SoundLemmas.{FrameCase, is_moved, reply_no_move, no_move, is_directed, no_packet, no_transfer, packet_session, claim_single, claim_taken, due_taken, IsDue, reply_taken, own_taken, own_of, packet_taken, transfer_taken, apart_is, reply_is, turned, sound}
 use Rattle.j39_node.proofs.ReceptionLemmas.{no_reply, replied_get, tidy}
+use Rattle.j39_node.proofs.QueueLemmas.{all_at}
 
 -- a claim, an acknowledgment, one of a session, of a broadcast, the first reply, one of the open transfer
 pub record Kind : Type 0 where
@@ -48,7 +49,7 @@ kind_is w H now f right (claims o e) =
     let i = claim_taken f now w _ e in
     kind_single w H f true false i (ap (λ (g : ℕ). nat_eq g acknowledgment_group) (eqb-true (pgn_of f.id) address_claimed_group i)) (claim_single f i)
 kind_is w H now f right (acknowledges m o h g e way) =
-    let r = due_taken w f now m e (due_get w (due w H) (length (acknowledged H)) m (sound w H right).desk.0 g) in kind_single w H f false true r.0 r.1 r.2
+    let r = due_taken w f now m e (all_at (IsDue w) (due w H) (length (acknowledged H)) m (sound w H right).desk.0 g) in kind_single w H f false true r.0 r.1 r.2
 kind_is w H now f right (replies m o h n g e) =
     let r = reply_taken w.address f now m e (replied_get w.address (reception w H).replies 0 m (tidy w H).replies g) in
     let that = ap (λ (y : ℕ × Message). y.1) e in

@@ -1,8 +1,8 @@
 -- The laws of broadcasts.
 use Rattle.j39_node.proofs.Common.{[], if◌then◌else◌, ◌&&◌, ◌++◌, ◌+◌, ◌-◌, ◌<◌, ◌↔◌, ◌∙◌, ◌∷◌, ◌≡◌, ◌≤◌, ◌⊎◌, accepted, acknowledged, address_after, all_frames, and_from, ap, AreAnswered, arith, At, Bool, Broadcast, broadcast_end, broadcasts, Call, Controller, Done, due, Ending, eq-eqb, eqb-true, false, first_frames, frame_of, FrameRecord, has_packets, holds, inl, inr, Is, is_acknowledgment, is_busy, is_claim, is_held, is_left, is_lost, is_open, is_overdue, is_packet, is_there, IsTrue, length, List, long_by, Message, message_of, MessageRecord, moment, Move, nat_le, nat_lt, next_acknowledgment, next_frame, next_long, next_packet, next_transfer, None, Ok, open_broadcast, Option, packet_by, packets, packets_of, PacketSince, passed_in, pause, reached, ready, refl, Reply, Single, slice_get, Some, step, suc, sym, TakeBroadcastEnded, TakeFrame, told_broadcasts, true, Who, Withdrawn, yields, zero, ℕ, not_both, or_parts, or_cases, leb-false, false_from_ne_true, le-leb, ltb-false}
 use Rattle.j39_node.specs.declared.turn.Turn.TheVariants.{Packet}
-use Rattle.j39_node.proofs.QueueLemmas.{length_one_more}
-use Rattle.j39_node.proofs.SoundLemmas.{address_is, packet_taken, IsTurn, none_next, packet_there, turned, FrameCase, frame_case, packet_case, sound, claim_taken, claim_single, due_get, due_taken, no_packet, pause_is, no_packet}
+use Rattle.j39_node.proofs.QueueLemmas.{length_one_more, all_at}
+use Rattle.j39_node.proofs.SoundLemmas.{address_is, packet_taken, IsTurn, none_next, packet_there, turned, FrameCase, frame_case, packet_case, sound, claim_taken, claim_single, IsDue, due_taken, no_packet, pause_is, no_packet}
 use Rattle.j39_node.proofs.SoundLemmas.FrameCase.{claims, acknowledges, replies, sends, packs, transfers}
 use Rattle.j39_node.proofs.LaneLemmas.{LaneEnd, lane_end, Opened, Laned, laned, closed, stands_open, opened_by, ended_one}
 use Rattle.j39_node.proofs.LaneLemmas.LaneEnd.{complete, broken}
@@ -41,7 +41,7 @@ pub record Packed (w : Who) (H : List Call) (now : ℕ) (f : FrameRecord) : Type
   pub none_waits : IsTrue (is_overdue w H now) ⊎ (nat_lt (reached H) (length (accepted w H)) ≡ false)
   pub over : pause H - step H now ≤ 100000
 
-packed_by : (w : Who) (H : List Call) (now : ℕ) (f : FrameRecord) → AreAnswered w H → is_packet f ≡ true → FrameCase w H now f → Packed w H now f
+pub packed_by : (w : Who) (H : List Call) (now : ℕ) (f : FrameRecord) → AreAnswered w H → is_packet f ≡ true → FrameCase w H now f → Packed w H now f
 packed_by w H now f right p = go
   where
     go : FrameCase w H now f → Packed w H now f
@@ -67,30 +67,16 @@ packed_by w H now f right p = go
 pub packed : (w : Who) (H : List Call) (c : Controller) (now : ℕ) (f : FrameRecord) → Is w (At now (TakeFrame (Some f)) ∷ H) c → is_packet f ≡ true → Packed w H now f
 packed w H c now f is p = packed_by w H now f is.answered.0 p (frame_case w H now f is.answered.1)
 
--- a frame of a broadcast that is taken, and that the address is held then
-pub record TakenPacket (w : Who) (H : List Call) (now : ℕ) (f : FrameRecord) : Type 0 where
-  pub token : ℕ
-  pub message : MessageRecord
-  pub current : open_broadcast w H ≡ Some (token, message)
-  pub held : is_held (address_after w (At now (TakeFrame (Some f)) ∷ H)) ≡ true
-  pub over : pause H - step H now ≤ 100000
-
-pub taken_packet_of : (w : Who) (H : List Call) (now : ℕ) (f : FrameRecord) → AreAnswered w H → FrameCase w H now f → is_packet f ≡ true → TakenPacket w H now f
-taken_packet_of w H now f right case p =
-    let x = packed_by w H now f right p case in record {
-      token = x.token;
-      message = x.message;
-      current = x.current;
-      held = ap is_held (address_is w H now f false (false_from_ne_true _ (λ e. not_both _ (no_packet f (claim_single f e)) p))) ∙ x.held;
-      over = x.over;
-    }
+-- the address is held then
+pub held_then : (w : Who) (H : List Call) (now : ℕ) (f : FrameRecord) → Packed w H now f → is_packet f ≡ true → is_held (address_after w (At now (TakeFrame (Some f)) ∷ H)) ≡ true
+held_then w H now f x p = ap is_held (address_is w H now f false (false_from_ne_true _ (λ e. not_both _ (no_packet f (claim_single f e)) p))) ∙ x.held
 
 -- one that is overdue goes before all but claims and acknowledgments
 pub overdue_goes_by : (w : Who) (H : List Call) (now : ℕ) (f : FrameRecord) → AreAnswered w H → FrameCase w H now f → is_overdue w H now ≡ true
     → is_claim f ≡ false → is_acknowledgment f ≡ false → is_packet f ≡ true
 overdue_goes_by w H now f right (claims o e) late k a = absurd (not_both _ k (claim_taken f now w _ e))
 overdue_goes_by w H now f right (acknowledges m o h g e way) late k a =
-    absurd (not_both _ a (due_taken w f now m e (due_get w (due w H) (length (acknowledged H)) m (sound w H right).desk.0 g)).1)
+    absurd (not_both _ a (due_taken w f now m e (all_at (IsDue w) (due w H) (length (acknowledged H)) m (sound w H right).desk.0 g)).1)
 overdue_goes_by w H now f right (replies m o h n g e) late k a = absurd (not_both _ (turned w H now (Some Reply) n.1).1 late)
 overdue_goes_by w H now f right (sends x o h n g e) late k a = absurd (not_both _ (turned w H now (Some Single) n.1).1 late)
 overdue_goes_by w H now f right (packs m o h n g e) late k a = (packet_taken f now m (open_broadcast w H) (length (packets H)) (pause H - step H now) e g).2

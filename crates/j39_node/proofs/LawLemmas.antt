@@ -6,8 +6,8 @@ use Rattle.j39_node.specs.Reception.{is_waiting}
 use Rattle.j39_address.specs.declared.status.Status.TheVariants as status
 use Rattle.j39_node.proofs.ReceptionLemmas.{replied_get, tidy}
 use Rattle.j39_node.proofs.DueLemmas.{both_none, from_long, quiet_long, then_long}
-use Rattle.j39_node.proofs.QueueLemmas.{length_one_more}
-use Rattle.j39_node.proofs.SoundLemmas.{apart_is, is_moved, IsTurn, acknowledgment_single, claim_single, no_transfer, none_there, packet_session, packet_there, own_taken, turned, Rest, none_at, none_next, none_other, other_none, claim_is, given_way, none_acknowledged, none_due_goes, none_gives, FrameCase, Sound, claim_taken, due_get, due_taken, frame_by, frame_case, held_older, lost_older, own_of, packet_case, packet_taken, sound, transfer_taken, lost_unclaimed, holding_not_lost, renew_case, WithdrawCase, withdraw_case, past_end, Told, told_case, stamped_by, claims_or_held, stays_lost}
+use Rattle.j39_node.proofs.QueueLemmas.{length_one_more, all_at}
+use Rattle.j39_node.proofs.SoundLemmas.{apart_is, is_moved, IsTurn, acknowledgment_single, claim_single, no_transfer, none_there, packet_session, packet_there, own_taken, turned, Rest, none_at, none_next, none_other, other_none, claim_is, given_way, none_acknowledged, none_due_goes, none_gives, FrameCase, Sound, claim_taken, IsDue, due_taken, frame_by, frame_case, held_older, lost_older, own_of, packet_case, packet_taken, sound, transfer_taken, lost_unclaimed, holding_not_lost, renew_case, WithdrawCase, withdraw_case, past_end, Told, told_case, stamped_by, claims_or_held, stays_lost}
 use Rattle.j39_node.proofs.KnownLemmas.{fresh_one, not_refused}
 use Rattle.j39_node.proofs.LaneLemmas.{laned, opened_by}
 use Rattle.j39_node.proofs.CallLemmas.{due_by}
@@ -35,7 +35,7 @@ sources w H c now f is = go (frame w H c now f is)
         ⊎ (IsTrue (holds w H now) × (source_of f.id ≡ w.address) × (pgn_of f.id ≢ address_claimed_group))
     go (claims o e) = inl (ap content e)
     go (acknowledges m o h g e way) =
-        inr (h, ap (λ (y : ℕ × Message). y.1.source) e ∙ (due_get w (due w H) (length (acknowledged H)) m (sound w H is.answered.0).desk.0 g).source, no_claim (acknowledges m o h g e way) refl)
+        inr (h, ap (λ (y : ℕ × Message). y.1.source) e ∙ (all_at (IsDue w) (due w H) (length (acknowledged H)) m (sound w H is.answered.0).desk.0 g).source, no_claim (acknowledges m o h g e way) refl)
     go (replies m o h k g e) =
         inr (h, ap (λ (y : ℕ × Message). y.1.source) e ∙ (replied_get w.address (reception w H).replies 0 m (tidy w H).replies g).source, no_claim (replies m o h k g e) refl)
     go (sends x o h k g e) = inr (h, ap (λ (y : ℕ × Message). y.1.source) e ∙ (own_of w H x is.answered.0 g).source, no_claim (sends x o h k g e) refl)
@@ -346,7 +346,7 @@ behind_a_reply w H later c last first f i is t none due_one = go (frame_case w G
 
     go : FrameCase w G last i → (is_transfer i ≡ false) ⊎ IsTrue (is_move w G i)
     go (claims o e) = inl (no_transfer i (claim_single i (claim_taken i last w _ e)))
-    go (acknowledges m o h g e way) = inl (no_transfer i (due_taken w i last m e (due_get w (due w G) (length (acknowledged G)) m (sound w G is.answered.0).desk.0 g)).2)
+    go (acknowledges m o h g e way) = inl (no_transfer i (due_taken w i last m e (all_at (IsDue w) (due w G) (length (acknowledged G)) m (sound w G is.answered.0).desk.0 g)).2)
     go (replies m o h n g e) = absurd (yield (turned w G last (Some Reply) n.1))
     go (sends x o h n g e) = inl (no_transfer i (own_taken w i last x e (own_of w G x is.answered.0 g)).2)
     go (packs m o h n g e) = inl (packet_session i (packet_taken i last m (open_broadcast w G) (length (packets G)) (pause G - step G last) e g).2).1
@@ -582,7 +582,7 @@ acknowledged_first w H c now f is n m = go (frame w H c now f is)
     go : FrameCase w H now f → IsTrue (gives_way w H now) ⊎ (acknowledged H ≡ due w H)
     go (claims o e) = absurd (n (eqb-true _ _ (claim_taken f now w _ e)))
     go (acknowledges x o h g e way) =
-        absurd (m (ap (λ (y : ℕ × Message). y.1.group) e ∙ (due_get w (due w H) (length (acknowledged H)) x (sound w H is.answered.0).desk.0 g).group))
+        absurd (m (ap (λ (y : ℕ × Message). y.1.group) e ∙ (all_at (IsDue w) (due w H) (length (acknowledged H)) x (sound w H is.answered.0).desk.0 g).group))
     go (replies m o h k g e) = all_acknowledged w H now is.answered.0 k.0
     go (sends x o h k g e) = all_acknowledged w H now is.answered.0 k.0
     go (packs x o h k g e) = all_acknowledged w H now is.answered.0 k.0

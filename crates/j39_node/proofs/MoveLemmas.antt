@@ -5,7 +5,7 @@ use Rattle.j39_node.specs.Moves.{begins}
 use Rattle.j39_node.proofs.QueueLemmas.{length_one_more, get_last}
 use Rattle.j39_node.proofs.SoundLemmas.{nothing_else, turned, FrameCase, frame_case}
 use Rattle.j39_node.proofs.SoundLemmas.FrameCase.{transfers}
-use Rattle.j39_node.proofs.PortLemmas.{hears_same, sends_same, hears_cases}
+use Rattle.j39_node.proofs.PortLemmas.{hears_same, sends_same, hears_cases, transfer_says}
 use Rattle.j39_node.proofs.MoveSteps.{Moved, moved_given_up, moved_heard, moved_ticked}
 use Rattle.j39_node.proofs.AnswerCases.{transfer_accepts}
 use Rattle.j39_node.proofs.KindLemmas.{moves_it}
@@ -23,30 +23,21 @@ pub record Sent (w : Who) (H : List Call) (now : ℕ) (f : FrameRecord) : Type 0
   pub none_waits : slice_get (accepted w H) (reached H) ≡ None
   pub no_packet : next_packet w H now ≡ None
 
-said_by : (w : Who) (H : List Call) (now : ℕ) (f : FrameRecord) (m : Message) (o : Option Running) → open_transfer w H ≡ o → transfer_by o (clock_at H now) ≡ Some m
-    → message_of f ≡ m → holds w H now ≡ true → next_acknowledgment w H now ≡ None → slice_get (accepted w H) (reached H) ≡ None
-    → next_packet w H now ≡ None → Sent w H now f
-said_by w H now f m None e g k a b c d = absurd (cc)
-said_by w H now f m (Some t) e g k a b c d = go (signal_by t (clock_at H now)) refl g
-  where
-    go : (x : Option Signal) → signal_by t (clock_at H now) ≡ x → option_map (says t.sender) x ≡ Some m → Sent w H now f
-    go None p q = absurd (cc)
-    go (Some y) p q = record {
-      running = t;
-      is = e;
-      signal = y;
-      said = p;
-      frame = k ∙ (let z : says t.sender y ≡ m = cc in sym z);
-      held = a;
-      none_due = b;
-      none_waits = c;
-      no_packet = d;
-    }
-
 pub sent_case : (w : Who) (H : List Call) (now : ℕ) (f : FrameRecord) → AreAnswered w H → FrameCase w H now f → is_move w H f ≡ true → Sent w H now f
 sent_case w H now f right (transfers m o k n g e) p =
     let r = nothing_else w H now (turned w H now (Some Move) n.1).0 in
-    said_by w H now f m (open_transfer w H) refl g (ap (λ (y : ℕ × Message). y.1) e) k n.0 r.0 r.1
+    let x = transfer_says (open_transfer w H) (clock_at H now) m g in
+    record {
+      running = x.0;
+      is = x.1;
+      signal = x.2.0;
+      said = x.2.1;
+      frame = ap (λ (y : ℕ × Message). y.1) e ∙ sym x.2.2;
+      held = k;
+      none_due = n.0;
+      none_waits = r.0;
+      no_packet = r.1;
+    }
 sent_case w H now f right case p = absurd (not_both _ (moves_it w H now f right case) p)
 
 -- ---- what was taken of the open transfer

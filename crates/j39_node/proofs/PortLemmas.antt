@@ -5,6 +5,7 @@ use Rattle.j39_transport.specs.Sending as sending
 use Rattle.j39_transport.proofs.SenderLemmas.{ticked, hears_signal}
 use Rattle.j39_node.proofs.ReceptionLemmas.{table_is}
 use Rattle.j39_node.proofs.AnswerCases.{transfer_accepts}
+use Rattle.j39_node.proofs.QueueLemmas.{mapped_some}
 
 -- ---- a step keeps message and destination
 
@@ -93,19 +94,21 @@ either_group : (a : Signal) → (group_with a ≡ transport_control_group) ⊎ (
 either_group (Packet number part) = inr refl
 either_group other = inl refl
 
+pub transfer_says : (o : Option Running) (now : ℕ) (m : Message) → transfer_by o now ≡ Some m
+    → (t : Running) × (o ≡ Some t) × ((a : Signal) × (signal_by t now ≡ Some a) × (says t.sender a ≡ m))
+transfer_says None now m e = absurd (cc)
+transfer_says (Some t) now m e = (t, refl, mapped_some (says t.sender) (signal_by t now) m e)
+
 pub said_case : (w : Who) (o : Option Running) (now : ℕ) (m : Message) → Ported w o → transfer_by o now ≡ Some m → SaidCase w m
-said_case w None now m h e = absurd (cc)
-said_case w (Some t) now m h e = go (signal_by t now) e
-  where
-    go : (o : Option Signal) → option_map (says t.sender) o ≡ Some m → SaidCase w m
-    go None i = absurd (cc)
-    go (Some a) i =
-        let z : says t.sender a ≡ m = cc in
-        record {
-          source = ap (λ (y : Message). y.source) (sym z) ∙ h.source;
-          group = elim (either_group a) [ inl p ↦ inl (ap (λ (y : Message). y.group) (sym z) ∙ p) | inr p ↦ inr (ap (λ (y : Message). y.group) (sym z) ∙ p) ];
-          directed = ap (λ (y : Message). is_some y.destination 255) (sym z) ∙ ne_eqb t.sender.destination 255 (λ z. let l = h.directed in omega (arith, l, z));
-        }
+said_case w o now m h e =
+    let x = transfer_says o now m e in
+    let b = subst (Ported w) x.1 h in
+    let z = x.2.2 in
+    record {
+      source = ap (λ (y : Message). y.source) (sym z) ∙ b.source;
+      group = subst (λ (g : ℕ). (g ≡ transport_control_group) ⊎ (g ≡ transport_data_group)) (ap (λ (y : Message). y.group) z) (either_group x.2.0);
+      directed = ap (λ (y : Message). is_some y.destination 255) (sym z) ∙ ne_eqb x.0.sender.destination 255 (λ z. let l = b.directed in omega (arith, l, z));
+    }
 
 -- ---- who holds an address
 

@@ -1,5 +1,5 @@
 -- Lists from which the first is taken, and to which one is added at the end.
-use Rattle.j39_node.proofs.Common.{[], ◌++◌, ◌+◌, ◌-◌, ◌<◌, ◌==◌, ◌||◌, ◌∙◌, ◌∷◌, ◌≡◌, ◌≤◌, ◌⊎◌, ap, arith, Bool, drop, false, get_or, inl, inr, length, length-append, length-drop, List, list_any, list_any_at, list_any_more, map, None, refl, remove, slice_get, slice_get_past, slice_index_or, Some, suc, sym, take, true, zero, ℕ, slice_get_read, take_all, option_map, slice_get-map, length-map, Option}
+use Rattle.j39_node.proofs.Common.{[], ◌++◌, ◌+◌, ◌-◌, ◌<◌, ◌==◌, ◌||◌, ◌∙◌, ◌∷◌, ◌≡◌, ◌≤◌, ◌⊎◌, ap, arith, Bool, drop, false, get_or, inl, inr, length, length-append, length-drop, List, list_any, list_any_at, list_any_more, map, None, refl, remove, slice_get, slice_get_past, slice_index_or, Some, suc, sym, take, true, zero, ℕ, slice_get_read, take_all, option_map, slice_get-map, length-map, Option, same_Some, All, subst, get_or_from_slice_get, slice_get_within}
 
 pub not_empty : {T : Type 0} (xs : List T) (b : Bool) → b ≡ (length xs == 0) → b ≡ false → 0 < length xs
 not_empty [] b e f = absurd (let z : true ≡ false = sym e ∙ f in cc)
@@ -8,6 +8,10 @@ not_empty (x ∷ xs) b e f = omega arith
 pub front : {T : Type 0} (xs ys : List T) (x : T) → 0 < length xs → x ≡ slice_index_or xs 0 x → ys ≡ remove xs 0 → xs ≡ x ∷ ys
 front [] ys x l e f = absurd (omega (arith, l))
 front (z ∷ zs) ys x l e f = let a : x ≡ z = e in let b : ys ≡ zs = f in cc
+
+pub mapped_some : {T U : Type 0} (v : T → U) (o : Option T) (y : U) → option_map v o ≡ Some y → (x : T) × (o ≡ Some x) × (v x ≡ y)
+mapped_some v None y e = absurd (cc)
+mapped_some v (Some x) y e = (x, refl, same_Some (v x) y e)
 
 pub mapped_none : {T U : Type 0} (v : T → U) (o : Option T) → option_map v o ≡ None → o ≡ None
 mapped_none v None e = refl
@@ -27,6 +31,10 @@ get_at (y ∷ L) (suc n) k (suc m) e = get_at L n k m (omega (arith, e))
 
 pub get_of_drop : {T : Type 0} (L : List T) (n : ℕ) (x : T) (xs : List T) → x ∷ xs ≡ drop n L → slice_get L n ≡ Some x
 get_of_drop L n x xs e = sym (get_at L n 0 n (omega arith)) ∙ ap (λ M. slice_get M 0) (sym e)
+
+-- what is so of all of them is so of each
+pub all_at : {T : Type 0} (P : T → Type 0) (xs : List T) (i : ℕ) (x : T) → All P xs → slice_get xs i ≡ Some x → P x
+all_at P xs i x h e = subst P (get_or_from_slice_get xs i x x e) (h i x (slice_get_within xs i x e))
 
 -- what is taken first
 pub record First {T : Type 0} {U : Type 0} (v : T → U) (ys : List T) (x : T) (n : ℕ) (L : List U) : Type 0 where

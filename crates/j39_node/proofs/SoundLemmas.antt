@@ -1,11 +1,11 @@
 -- What every answered history says of what was accepted, sent and told.
-use Rattle.j39_node.proofs.Common.{Acknowledge, Address, Again, Answer, AreAnswered, Ask, Asked, At, Bool, Busy, Call, Claimed, Done, Draft, Ending, FrameRecord, Hear, IsAnswered, IsFront, IsTrue, List, Lost, Message, MessageRecord, Move, Nack, None, NotClaimed, Ok, Option, Question, Ready, Renew, Reply, Send, Single, Some, TakeAskEnded, TakeEnded, TakeFrame, TakeReceived, TakeRequest, Turn, Who, Withdraw, Withdrawn, [], accepted, acknowledged, acknowledgment, acknowledgment_group, address_after, address_claimed_group, and-false, and-true, and_from, and_parts, answer_to_ask, ap, append_assoc, arith, asked, blank, by, bytes_eq-Decides, can_ask, can_send, claim_address, claim_due, claim_from, claim_goes, claim_of, claimed, clock_at, content, control_of, destination_of, drop, due, end_of, eq-eqb, eqb-true, false, found, frame_of, fresh, gives_way, got, handed, has_packets, holds, if◌then◌else◌, inl, inr, is_acknowledgment, is_apart, is_blank, is_claim, is_held, is_left, is_lost, is_move, is_own_group, is_packet, is_refusal_due, is_same, is_sendable, is_served, is_session, is_smaller, is_some, is_that, is_there, is_transfer, is_turn, kept, latest, leb-true, left, length, length-append, length-set, lost, ltb-false, ltb-true, map, map-set, marks, max, may_go, message_from, message_of, moment, more, nat_eq, nat_le, nat_lt, next_acknowledgment, next_ended, next_frame, next_other, next_packet, next_renewed, next_transfer, next_turn, next_withdrawn, not, not-true, of, older, open_ask, open_broadcast, open_transfer, option_map, or_parts, other, packet_by, packets, packets_of, past, pause, pgn_of, question, reached, ready, reception, refl, request_for, request_group, requests, sent, slice_get, slice_get-map, slice_get_past, slice_get_within, slice_set, source_of, stamped, step, subst, suc, sym, take, take-append-le, take-set-le, told, transport_control_group, transport_data_group, true, turn_frame, turn_of, turns, unblanked, unclaimed, with_refusal, with_request, yields, zero, ℕ, ◌&&◌, ◌++◌, ◌+◌, ◌-◌, ◌<◌, ◌==◌, ◌||◌, ◌∙◌, ◌∷◌, ◌≡◌, ◌≤◌, ◌⊎◌, cases_Bool, or_from, map-append, none-some, some_pair_parts, length-map, false_from_ne_true, not_both, ending_of, ◌↔◌, cond_both, ne_eqb, cond_some, claims_anew}
+use Rattle.j39_node.proofs.Common.{Acknowledge, Address, Again, Answer, AreAnswered, Ask, Asked, At, Bool, Busy, Call, Claimed, Done, Draft, Ending, FrameRecord, Hear, IsAnswered, IsFront, IsTrue, List, Lost, Message, MessageRecord, Move, Nack, None, NotClaimed, Ok, Option, Question, Ready, Renew, Reply, Send, Single, Some, TakeAskEnded, TakeEnded, TakeFrame, TakeReceived, TakeRequest, Turn, Who, Withdraw, Withdrawn, [], accepted, acknowledged, acknowledgment, acknowledgment_group, address_after, address_claimed_group, and-false, and-true, and_from, and_parts, answer_to_ask, ap, append_assoc, arith, asked, blank, by, bytes_eq-Decides, can_ask, can_send, claim_address, claim_due, claim_from, claim_goes, claim_of, claimed, clock_at, content, control_of, destination_of, drop, due, end_of, eq-eqb, eqb-true, false, found, frame_of, fresh, gives_way, got, handed, has_packets, holds, if◌then◌else◌, inl, inr, is_acknowledgment, is_apart, is_blank, is_claim, is_held, is_left, is_lost, is_move, is_own_group, is_packet, is_refusal_due, is_same, is_sendable, is_served, is_session, is_smaller, is_some, is_that, is_there, is_transfer, is_turn, kept, latest, leb-true, left, length, length-append, length-set, lost, ltb-false, ltb-true, map, map-set, marks, max, may_go, message_from, message_of, moment, more, nat_eq, nat_le, nat_lt, next_acknowledgment, next_ended, next_frame, next_other, next_packet, next_renewed, next_transfer, next_turn, next_withdrawn, not, not-true, of, older, open_ask, open_broadcast, open_transfer, option_map, or_parts, other, packet_by, packets, packets_of, past, pause, pgn_of, question, reached, ready, reception, refl, request_for, request_group, requests, sent, slice_get, slice_get-map, slice_get_past, slice_get_within, slice_set, source_of, stamped, step, subst, suc, sym, take, take-append-le, take-set-le, told, transport_control_group, transport_data_group, true, turn_frame, turn_of, turns, unblanked, unclaimed, with_refusal, with_request, yields, zero, ℕ, ◌&&◌, ◌++◌, ◌+◌, ◌-◌, ◌<◌, ◌==◌, ◌||◌, ◌∙◌, ◌∷◌, ◌≡◌, ◌≤◌, ◌⊎◌, cases_Bool, or_from, map-append, none-some, some_pair_parts, length-map, false_from_ne_true, not_both, ending_of, ◌↔◌, cond_both, ne_eqb, cond_some, claims_anew, All, All-nil, All-push, All-set}
 use Rattle.j39_node.specs.declared.turn.Turn.TheVariants.{Packet}
 use Rattle.j39_node.proofs.WithdrawLemmas.{get_front, stops_append, past_more, next_false, past_stops, past_within, set_same, unblanked_more, unblanked_past, unpassed}
 use Rattle.j39_node.proofs.ReceptionLemmas.{IsReply, replied_get, tidy}
 use Rattle.j39_node.proofs.AnswerCases.{ask_accepts, send_accepts, sendable}
 use Rattle.j39_node.proofs.PortLemmas.{ported, SaidCase, said_case}
-use Rattle.j39_node.proofs.QueueLemmas.{get_append, length_one_more, get_last}
+use Rattle.j39_node.proofs.QueueLemmas.{get_append, length_one_more, get_last, all_at}
 use Rattle.j39_node.proofs.RenewLemmas.{IsLatest, latest_is, set_get, set_other, no_request}
 
 -- ---- the address
@@ -440,18 +440,8 @@ pub record IsOwn (w : Who) (m : Message) : Type 0 where
   pub plain : nat_eq m.group acknowledgment_group ≡ false
   pub single : (nat_eq m.group transport_control_group || nat_eq m.group transport_data_group) ≡ false
 
-abbrev pub AllOwn : Who → List (ℕ × Message) → Type 0
-AllOwn w [] = Unit {0}
-AllOwn w (x ∷ xs) = (is_blank x ≡ false → IsOwn w x.1) × AllOwn w xs
-
-pub own_append : (w : Who) (xs : List (ℕ × Message)) (x : ℕ × Message) → AllOwn w xs → IsOwn w x.1 → AllOwn w (xs ++ x ∷ [])
-own_append w [] x h e = (λ z. e, tt)
-own_append w (y ∷ ys) x h e = (h.0, own_append w ys x h.1 e)
-
-own_get : (w : Who) (xs : List (ℕ × Message)) (n : ℕ) (x : ℕ × Message) → AllOwn w xs → slice_get xs n ≡ Some x → is_blank x ≡ false → IsOwn w x.1
-own_get w [] n x h e b = absurd (cc)
-own_get w (y ∷ ys) zero x h e b = let z : y ≡ x = cc in subst (λ (u : ℕ × Message). is_blank u ≡ false → IsOwn w u.1) z h.0 b
-own_get w (y ∷ ys) (suc n) x h e b = own_get w ys n x h.1 e b
+abbrev pub Stays : Who → ℕ × Message → Type 0
+Stays w x = is_blank x ≡ false → IsOwn w x.1
 
 -- ---- all that is due is an acknowledgment
 
@@ -459,18 +449,8 @@ pub record IsDue (w : Who) (m : Message) : Type 0 where
   pub source : m.source ≡ w.address
   pub group : m.group ≡ acknowledgment_group
 
-abbrev pub AllDue : Who → List Message → Type 0
-AllDue w [] = Unit {0}
-AllDue w (x ∷ xs) = IsDue w x × AllDue w xs
-
-due_append : (w : Who) (xs : List Message) (answer : Answer) (r : Asked) → AllDue w xs → AllDue w (xs ++ acknowledgment w answer r ∷ [])
-due_append w [] answer r h = (record { source = refl; group = refl }, tt)
-due_append w (y ∷ ys) answer r h = (h.0, due_append w ys answer r h.1)
-
-pub due_get : (w : Who) (xs : List Message) (n : ℕ) (x : Message) → AllDue w xs → slice_get xs n ≡ Some x → IsDue w x
-due_get w [] n x h e = absurd (cc)
-due_get w (y ∷ ys) zero x h e = let z : y ≡ x = cc in subst (IsDue w) z h.0
-due_get w (y ∷ ys) (suc n) x h e = due_get w ys n x h.1 e
+due_append : (w : Who) (xs : List Message) (answer : Answer) (r : Asked) → All (IsDue w) xs → All (IsDue w) (xs ++ acknowledgment w answer r ∷ [])
+due_append w xs answer r h = All-push (IsDue w) xs (acknowledgment w answer r) h (record { source = refl; group = refl })
 
 -- ---- a list that another begins with
 
@@ -489,11 +469,11 @@ front_longer (u ∷ xs) (y ∷ ys) x (zs, e) g =
 -- ---- what is so after any answered history
 
 abbrev pub Desked : Who → List Call → Type 0
-Desked w H = AllDue w (due w H) × IsFront (acknowledged H) (due w H) × IsFront (handed H) (requests w H)
+Desked w H = All (IsDue w) (due w H) × IsFront (acknowledged H) (due w H) × IsFront (handed H) (requests w H)
 
 -- of what was accepted, each with a mark whether it was withdrawn, so many were passed, and these were sent
 pub record Posts (w : Who) (all : List (ℕ × Message)) (blanks : List Bool) (n : ℕ) (out : List Message) : Type 0 where
-  pub own : AllOwn w all
+  pub own : All (Stays w) all
   pub marked : blanks ≡ map is_blank all
   pub next : past blanks n ≡ n
   pub passed : n ≤ length all
@@ -521,7 +501,7 @@ next_stays w H x h e =
     (ap (λ bs. slice_get bs (reached H)) h.marked ∙ (slice_get-map is_blank (accepted w H) (reached H) ∙ ap (option_map is_blank) e))
 
 next_own : (w : Who) (H : List Call) (x : ℕ × Message) → Sound w H → slice_get (accepted w H) (reached H) ≡ Some x → IsOwn w x.1
-next_own w H x h e = own_get w (accepted w H) (reached H) x h.own e (next_stays w H x h e)
+next_own w H x h e = all_at (Stays w) (accepted w H) (reached H) x h.own e (next_stays w H x h e)
 
 pub many_marks : (w : Who) (H : List Call) → Sound w H → length (marks H) ≡ length (accepted w H)
 many_marks w H h = ap length h.marked ∙ length-map (accepted w H) is_blank
@@ -695,7 +675,7 @@ sound_send w H now f x e k n held g i h =
 sound_frame : (w : Who) (H : List Call) (now : ℕ) (f : FrameRecord) → AreAnswered w H → FrameCase w H now f → Sound w H → Sound w (At now (TakeFrame (Some f)) ∷ H)
 sound_frame w H now f right (claims owes e) h = sound_beside w H now f true _ _ (claim_taken f now w _ e) refl refl refl h.desk.1 h
 sound_frame w H now f right (acknowledges m owes held g e way) h =
-    let k = due_taken w f now m e (due_get w (due w H) (length (acknowledged H)) m h.desk.0 g) in
+    let k = due_taken w f now m e (all_at (IsDue w) (due w H) (length (acknowledged H)) m h.desk.0 g) in
     sound_beside w H now f false true _ k.0 k.1 k.2 refl
     (subst (λ (y : Message). IsFront (acknowledged H ++ y ∷ []) (due w H)) (sym (ap content e)) (front_longer (acknowledged H) (due w H) m h.desk.1 g)) h
 sound_frame w H now f right (replies m owes held none g e) h =
@@ -712,7 +692,7 @@ sound_frame w H now f right (transfers m owes held none g e) h =
 sound_accept : (w : Who) (H : List Call) (now k : ℕ) (d : Draft) → can_send w d ≡ true → k ≡ length (accepted w H) → Sound w H → Sound w (At now (Send d (Ok k)) ∷ H)
 sound_accept w H now k d e g h = record {
   posts = record {
-    own = own_append w (accepted w H) (k, message_from w d) h.own (is_own w d e);
+    own = All-push (Stays w) (accepted w H) (k, message_from w d) h.own (λ z. is_own w d e);
     marked = ap (λ bs. bs ++ false ∷ []) h.marked
         ∙ (ap (λ (b : Bool). map is_blank (accepted w H) ++ b ∷ []) (sym (is_own w d e).group) ∙ sym (map-append is_blank (accepted w H) ((k, message_from w d) ∷ [])));
     next = stops_append (marks H) (reached H) (let a = many_marks w H h in let b = h.passed in omega (arith, a, b)) h.next;
@@ -749,10 +729,10 @@ kept_grows false xs x ys h = h
 
 -- ---- requests
 
-refusal_due : (w : Who) (room place : Bool) (o : Option Asked) (xs : List Message) → AllDue w xs → AllDue w (with_refusal w room place o xs)
+refusal_due : (w : Who) (room place : Bool) (o : Option Asked) (xs : List Message) → All (IsDue w) xs → All (IsDue w) (with_refusal w room place o xs)
 refusal_due w room place None xs h = h
 refusal_due w room place (Some r) xs h =
-    cond_both ((nat_eq r.destination w.address && place) && not (is_served w r.group && room)) _ _ (AllDue w) (λ e. due_append w xs _ r h) (λ e. h)
+    cond_both ((nat_eq r.destination w.address && place) && not (is_served w r.group && room)) _ _ (All (IsDue w)) (λ e. due_append w xs _ r h) (λ e. h)
 
 refusal_front : (w : Who) (room place : Bool) (o : Option Asked) (xs ys : List Message) → IsFront ys xs → IsFront ys (with_refusal w room place o xs)
 refusal_front w room place None xs ys h = h
@@ -784,11 +764,6 @@ renew_case w H d k = cond_both (can_send w d) _ _ (λ (o : Option ℕ). Some k �
     (λ c i. record { can = c; is = sym i; at = elim (latest_is (message_from w d) (max (reached H) (length (told H))) 0 k (accepted w H) None (sym i)) [ inl z ↦ absurd (cc) | inr z ↦ z ] })
     (λ c i. absurd (cc))
 
-own_set : (w : Who) (xs : List (ℕ × Message)) (k : ℕ) (x : ℕ × Message) → AllOwn w xs → (is_blank x ≡ false → IsOwn w x.1) → AllOwn w (slice_set xs k x)
-own_set w [] k x h e = h
-own_set w (y ∷ xs) zero x h e = (e, h.1)
-own_set w (y ∷ xs) (suc k) x h e = (h.0, own_set w xs k x h.1 e)
-
 set_numbered : (xs : List (ℕ × Message)) (k : ℕ) (m : Message) → ((i : ℕ) (x : ℕ × Message) → slice_get xs i ≡ Some x → x.0 ≡ i)
     → (i : ℕ) (x : ℕ × Message) → slice_get (slice_set xs k (k, m)) i ≡ Some x → x.0 ≡ i
 set_numbered xs k m h i x e = elim (set_get xs k i (k, m) x e) [ inl z ↦ ap (λ (y : ℕ × Message). y.0) (sym z.1) ∙ sym z.0 | inr z ↦ h i x z ]
@@ -796,7 +771,7 @@ set_numbered xs k m h i x e = elim (set_get xs k i (k, m) x e) [ inl z ↦ ap (�
 sound_renewed : (w : Who) (H : List Call) (d : Draft) (k : ℕ) → RenewCase w H d k → Sound w H → Sound w (Renew d (Some k) ∷ H)
 sound_renewed w H d k c h = record {
   posts = record {
-    own = own_set w (accepted w H) k (k, message_from w d) h.own (λ z. is_own w d c.can);
+    own = All-set (Stays w) (accepted w H) k (k, message_from w d) (λ z. is_own w d c.can) h.own;
     marked = h.marked ∙ sym (map-set is_blank (accepted w H) k (k, message_from w d)
         ∙ (ap (slice_set (map is_blank (accepted w H)) k) plain ∙ set_same (map is_blank (accepted w H)) k false (slice_get-map is_blank (accepted w H) k ∙ there)));
     next = h.next;
@@ -847,7 +822,7 @@ sound_withdrawn w H k c h =
     let long : length bs ≡ length L = length-set (marks H) k true ∙ many_marks w H h in
     record {
       posts = record {
-        own = own_set w L k (k, blank) h.own (λ z. absurd (let y : true ≡ false = z in cc));
+        own = All-set (Stays w) L k (k, blank) (λ z. absurd (let y : true ≡ false = z in cc)) h.own;
         marked = marked;
         next = past_stops bs (reached H);
         passed = (let a = past_within bs (reached H) (let b = h.passed in omega (arith, b, long)) in let b = length-set L k (k, blank) in omega (arith, a, b, long));
@@ -880,11 +855,11 @@ sound_more w H call right e h = rests w H call refl refl (refl, refl) refl h.rea
 
 pub sound : (w : Who) (H : List Call) → AreAnswered w H → Sound w H
 sound w [] e = record {
-  posts = record { own = tt; marked = refl; next = refl; passed = omega arith; in_order = refl; numbered = λ i x e. absurd (cc) };
+  posts = record { own = All-nil (Stays w); marked = refl; next = refl; passed = omega arith; in_order = refl; numbered = λ i x e. absurd (cc) };
   within = omega arith;
   in_turn = λ l. omega arith;
   reads = ([], refl);
-  desk = (tt, ([], refl), ([], refl));
+  desk = (All-nil (IsDue w), ([], refl), ([], refl));
 }
 sound w (call ∷ H) e = sound_more w H call e.0 e.1 (sound w H e.0)
 

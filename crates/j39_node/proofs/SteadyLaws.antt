@@ -3,7 +3,7 @@ use Rattle.j39_node.proofs.Common.{AreAnswered, At, Bool, Broadcast, Call, Contr
 use Rattle.j39_node.specs.declared.turn.Turn.TheVariants.{Packet}
 use Rattle.j39_node.proofs.EndSteps.{times_more}
 use Rattle.j39_node.proofs.WithdrawLemmas.{past_more}
-use Rattle.j39_node.proofs.LaneLaws.{overdue_goes_by, taken_packet_of}
+use Rattle.j39_node.proofs.LaneLaws.{overdue_goes_by, held_then, packed_by}
 use Rattle.j39_node.proofs.MessageLaws.{accepts_more, told_next, more_sent}
 use Rattle.j39_node.proofs.PromptLaws.{answered_from, begins_timely, due_by, ended_or_lost, ends_so, Fate, IsOver, later_on, not_yet, Pace, pause_most, Runs, Stands, stands, takes, Timely}
 use Rattle.j39_node.proofs.PromptLaws.Fate.{over, gone, runs}
@@ -182,10 +182,10 @@ pub apart : (w : Who) (later earlier : List Call) (call : Call) (c : Controller)
 apart w later earlier call c g now f is i some none quiet kept steady =
     let B = At now (TakeFrame (Some f)) ∷ earlier in
     let right = answered_from w later B is.answered.0 in
-    let p = taken_packet_of w earlier now f right.0 (frame_case w earlier now f right.1) i in
+    let p = packed_by w earlier now f right.0 i (frame_case w earlier now f right.1) in
     let count = length (packets B) in
     soon_enough w B g p.token count p.message call later
-    (casts w B g p.token count p.message later is.answered.0 none steady.0 (first w B g p.token count p.message p.held p.current refl))
+    (casts w B g p.token count p.message later is.answered.0 none steady.0 (first w B g p.token count p.message (held_then w earlier now f p i) p.current refl))
     quiet (sym (ap (λ (o : Option (ℕ × MessageRecord)). is_left o count) p.current) ∙ some) kept steady.1.0
 
 pub ends : (w : Who) (later earlier : List Call) (c : Controller) (g now group k : ℕ) (bytes : List ℕ)
@@ -211,7 +211,7 @@ few_so : (w : Who) (later B : List Call) → AreAnswered w (later ++ B) → 5000
 few_so w [] B right = omega arith
 few_so w (At now (TakeFrame (Some f)) ∷ later) B right =
     few_or (is_packet f) (pause (later ++ B)) (passed_in later B) (step (later ++ B) now) (packets_taken later) (few_so w later B right.0)
-    (λ i. (taken_packet_of w (later ++ B) now f right.0 (frame_case w (later ++ B) now f right.1) i).over)
+    (λ i. (packed_by w (later ++ B) now f right.0 i (frame_case w (later ++ B) now f right.1)).over)
 few_so w (At now (Broadcast group bytes (Ok k)) ∷ later) B right = let h = few_so w later B right.0 in omega (arith, h)
 few_so w (call ∷ later) B right = let h = few_so w later B right.0 in omega (arith, h)
 

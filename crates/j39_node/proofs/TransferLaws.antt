@@ -15,7 +15,7 @@ use Rattle.j39_node.proofs.MoveSteps.SignalCase.{requests, packs, times_out}
 use Rattle.j39_node.proofs.MoveLemmas.{Arises, LastIf, Sent, last_one, last_open, moved_open, sent_case, traced, hears_token}
 use Rattle.j39_node.proofs.StrangerLaws.{own_source as from_own}
 use Rattle.j39_node.proofs.MoveSteps.HeardCase.{same, done, fails, holds as holding, clears as is_cleared}
-use Rattle.j39_node.proofs.QueueLemmas.{mapped_none}
+use Rattle.j39_node.proofs.QueueLemmas.{mapped_none, mapped_some}
 
 -- ---- what transfer answers
 
@@ -237,14 +237,9 @@ pub record Ended (w : Who) (H : List Call) (k : ℕ) (e : TransferEnding) : Type
 ended_by : (w : Who) (H : List Call) (k : ℕ) (e : TransferEnding) (o : Option Running) → open_transfer w H ≡ o → Some (k, e) ≡ transfer_end o (is_lost (address_after w H))
     → Ended w H k e
 ended_by w H k e None p q = absurd (cc)
-ended_by w H k e (Some t) p q = go (ending_by t.sender.state t.gone (is_lost (address_after w H))) refl q
-  where
-    go : (x : Option TransferEnding) → ending_by t.sender.state t.gone (is_lost (address_after w H)) ≡ x
-        → (let o : Option (ℕ × TransferEnding) = Some (k, e) in o) ≡ (let o : Option (ℕ × TransferEnding) = option_map (λ y. (t.token, y)) x in o) → Ended w H k e
-    go None a b = absurd (cc)
-    go (Some y) a b =
-        let z = some_pair_parts k t.token e y b in
-        record { running = t; is = p; token = sym z.0; ending = ap (λ (u : TransferEnding). Some u) z.1 ∙ sym a }
+ended_by w H k e (Some t) p q =
+    let x = mapped_some (λ y. (t.token, y)) (ending_by t.sender.state t.gone (is_lost (address_after w H))) (k, e) (sym q) in
+    record { running = t; is = p; token = ap (λ (u : ℕ × TransferEnding). u.0) x.2; ending = ap (λ (u : ℕ × TransferEnding). Some u.1) (sym x.2) ∙ sym x.1 }
 
 pub ended : (w : Who) (H : List Call) (c : Controller) (k : ℕ) (e : TransferEnding) → Is w (TakeTransferEnded (Some (k, e)) ∷ H) c → Ended w H k e
 ended w H c k e is = ended_by w H k e (open_transfer w H) refl is.answered.1
