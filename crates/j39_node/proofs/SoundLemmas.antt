@@ -641,9 +641,10 @@ address_is w H now f a e = ap (λ (b : Bool). if b then claimed (older (step H n
 -- beside messages
 sound_beside : (w : Who) (H : List Call) (now : ℕ) (f : FrameRecord) (a b p : Bool) → is_claim f ≡ a → is_acknowledgment f ≡ b → is_session f ≡ p → (a || (b || p)) ≡ true
     → IsFront (if a || not b then acknowledged H else acknowledged H ++ message_of f ∷ []) (due w H) → Sound w H → Sound w (At now (TakeFrame (Some f)) ∷ H)
-sound_beside w H now f a b p e k n q front h = rests w H (At now (TakeFrame (Some f))) refl refl
-    (sent_is H now f a b p e k n ∙ ap (λ (x : Bool). if x then sent H else sent H ++ message_of f ∷ []) q,
-    reached_is H now f a b p e k n ∙ ap (λ (x : Bool). if x then reached H else past (marks H) (suc (reached H))) q) refl h.reads
+sound_beside w H now f a b p e k n q front h = rests w H (At now (TakeFrame (Some f))) refl refl (
+  sent_is H now f a b p e k n ∙ ap (λ (x : Bool). if x then sent H else sent H ++ message_of f ∷ []) q,
+  reached_is H now f a b p e k n ∙ ap (λ (x : Bool). if x then reached H else past (marks H) (suc (reached H))) q,
+) refl h.reads
     (h.desk.0, subst (λ xs. IsFront xs (due w H)) (sym (acknowledged_is H now f a b e k)) front, h.desk.2) h
 
 sound_send : (w : Who) (H : List Call) (now : ℕ) (f : FrameRecord) (x : ℕ × Message) → is_claim f ≡ false → is_acknowledgment f ≡ false → is_session f ≡ false → holds w H now ≡ true
