@@ -1,5 +1,5 @@
 -- The laws of requests.
-use Rattle.j39_node.proofs.Common.{Ack, Acknowledged, Answer, Answered, AreAnswered, Ask, AskEnding, AskedSince, At, Bool, Busy, Call, Controller, Denied, FrameRecord, Hear, HeardFirst, Is, IsAnswered, IsTrue, List, Nack, None, NoneEnds, Ok, Option, Question, RanOut, Refused, Result, Some, TakeAskEnded, TakeFrame, TimedOut, Who, Withdraw, [], accepted, address_after, and_parts, answer_to_ask, ap, arith, ask_end, asked, asks, by, can_ask, comes, end_at, ended, ends, eqb-true, false, first, fresh, has_token, hears, holds, if◌then◌else◌, inl, inr, is_acknowledgment, is_answer, is_asking, is_claim, is_full, is_lost, is_message, is_request, is_session, kept, later, left, length, less, lost, made, marks, message_from, moment, nat_eq, nat_lt, not, not-true, not_both, open_ask, option_map, passed, passed_in, past, question, reached, reaches, refl, request_for, says, says_to, seeks, silent, silent_end, slice_get, slice_set, step, subst, suc, sym, takes, time_heard, told, told_asks, true, wait, waiting, ℕ, ◌&&◌, ◌++◌, ◌+◌, ◌-◌, ◌<◌, ◌||◌, ◌∙◌, ◌∷◌, ◌≡◌, ◌≤◌, ◌⊎◌, IfSome, le-ltb, lt-ltb, ne_eqb, same_Some, and-false, eqb-false, or_parts}
+use Rattle.j39_node.proofs.Common.{Ack, Acknowledged, Answer, Answered, AreAnswered, Ask, AskEnding, AskedSince, At, Bool, Busy, Call, Controller, Denied, FrameRecord, Hear, HeardFirst, Is, IsAnswered, IsTrue, List, Nack, None, NoneEnds, Ok, Option, Question, RanOut, Refused, Result, Some, TakeAskEnded, TakeFrame, TimedOut, Who, Withdraw, [], accepted, address_after, and_parts, answer_to_ask, ap, arith, ask_end, asked, asks, by, can_ask, comes, end_at, ended, ends, eqb-true, false, first, fresh, has_token, hears, holds, if◌then◌else◌, inl, inr, is_acknowledgment, is_answer, is_asking, is_claim, is_full, is_lost, is_message, is_request, is_session, kept, later, left, length, less, lost, made, marks, message_from, moment, nat_eq, nat_lt, not, not-true, not_both, open_ask, option_map, passed, passed_in, past, question, reached, reaches, refl, request_for, says, says_to, seeks, silent, silent_end, slice_get, slice_set, step, subst, suc, sym, takes, time_heard, told, told_asks, true, wait, waiting, ℕ, ◌&&◌, ◌++◌, ◌+◌, ◌-◌, ◌<◌, ◌||◌, ◌∙◌, ◌∷◌, ◌≡◌, ◌≤◌, ◌⊎◌, IfSome, le-ltb, lt-ltb, ne_eqb, same_Some, and-false, eqb-false, or_parts, cases_Bool}
 use Rattle.j39_node.specs.declared.kinds.AskEnding.TheVariants.{Withdrawn}
 use Rattle.j39_node.specs.Asking.{is_reply, is_taken, said_by}
 use Rattle.j39_node.proofs.WithdrawLemmas.{get_front, unpassed}
@@ -487,15 +487,11 @@ all_told w H c is = go (open_ask H) refl (listed w H is.answered.0) is.answered.
         ⊎ ((q : Question) × (open_ask H ≡ Some q) × Pending w H q × (IsTrue (is_lost (address_after w H)) → ⊥))
 
     waiting : (q : Question) → open_ask H ≡ Some q → (is_taken q H ≡ true → (0 < wait H) ⊎ (comes w H (time_heard H) ≡ true)) → Pending w H q
-    waiting q o l = by (is_taken q H) refl
+    waiting q o l = elim (cases_Bool (is_taken q H)) [ inl t ↦ since t (l t) | inr t ↦ inl t ]
       where
         since : (t : is_taken q H ≡ true) → (0 < wait H) ⊎ (comes w H (time_heard H) ≡ true) → Pending w H q
         since t (inl d) = let a = waits w H is.answered.0 q o t in let b = a.2 in inr (inl (a.0, a.1, omega (arith, b, d)))
         since t (inr d) = inr (inr d)
-
-        by : (b : Bool) → is_taken q H ≡ b → Pending w H q
-        by false t = inl t
-        by true t = since t (l t)
 
     silent : (q : Question) (h : Option AskEnding) → (let none : Option (ℕ × AskEnding) = None in none) ≡ ask_end (Some q) (reached H) h (wait H) (comes w H (time_heard H)) (is_lost (address_after w H))
         → silent_end (is_taken q H) (wait H) (comes w H (time_heard H)) (is_lost (address_after w H)) ≡ None

@@ -1,5 +1,5 @@
 -- That every transfer ends.
-use Rattle.j39_node.proofs.Common.{Abort, AreAnswered, At, Bool, Call, Controller, FrameRecord, Gone, Hear, Idle, Is, IsAnswered, IsPaced, IsPrompt, List, Message, MessageRecord, None, NoneTold, Ok, Option, Running, SendState, SenderRecord, Sending, Signal, Some, TakeFrame, TakeTransferEnded, Transfer, TransferEnding, Waiting, Who, [], aborted, address_after, after, age, all_transfers, and_parts, answer_to_transfer, ap, arith, begun, broadcast_from, broken_off, by, can_broadcast, claims_anew, clears, clock_at, cond_both, counts_for, destination_of, due, ending_by, eq-eqb, false, first, gives_up, granted_by, hears, hears_if, holder, holds, idle, if◌then◌else◌, inl, inr, is_acknowledgment, is_claim, is_engaged, is_held, is_idle, is_lost, is_move, is_replaced, is_resting, is_running, is_sendable, is_session, is_some, is_spent, is_transfer, later, leb-true, length, listens, lost, moment, nat_eq, nat_le, nat_lt, new_sender, next_transfer, next_transfer_ended, not, not_both, open_transfer, option_map, or_parts, packets_of, passed_in, refl, running, says, send_step, sends, sends_if, signal_by, step, subst, suc, sym, tells_transfer, ticks_in, timer_t3, told, transfer_by, transfer_end, true, waited_in, ℕ, ◌&&◌, ◌*◌, ◌++◌, ◌+◌, ◌/◌, ◌<◌, ◌||◌, ◌∙◌, ◌∷◌, ◌≡◌, ◌≤◌, ◌⊎◌, same_Some, none-some, mul-add}
+use Rattle.j39_node.proofs.Common.{Abort, AreAnswered, At, Bool, Call, Controller, FrameRecord, Gone, Hear, Idle, Is, IsAnswered, IsPaced, IsPrompt, List, Message, MessageRecord, None, NoneTold, Ok, Option, Running, SendState, SenderRecord, Sending, Signal, Some, TakeFrame, TakeTransferEnded, Transfer, TransferEnding, Waiting, Who, [], aborted, address_after, after, age, all_transfers, and_parts, answer_to_transfer, ap, arith, begun, broadcast_from, broken_off, by, can_broadcast, claims_anew, clears, clock_at, cond_both, counts_for, destination_of, due, ending_by, eq-eqb, false, first, gives_up, granted_by, hears, hears_if, holder, holds, idle, if◌then◌else◌, inl, inr, is_acknowledgment, is_claim, is_engaged, is_held, is_idle, is_lost, is_move, is_replaced, is_resting, is_running, is_sendable, is_session, is_some, is_spent, is_transfer, later, leb-true, length, listens, lost, moment, nat_eq, nat_le, nat_lt, new_sender, next_transfer, next_transfer_ended, not, not_both, open_transfer, option_map, or_parts, packets_of, passed_in, refl, running, says, send_step, sends, sends_if, signal_by, step, subst, suc, sym, tells_transfer, ticks_in, timer_t3, told, transfer_by, transfer_end, true, waited_in, ℕ, ◌&&◌, ◌*◌, ◌++◌, ◌+◌, ◌/◌, ◌<◌, ◌||◌, ◌∙◌, ◌∷◌, ◌≡◌, ◌≤◌, ◌⊎◌, same_Some, none-some, mul-add, cases_Bool}
 use Rattle.j39_transport.specs.Sending.{Tick}
 use Rattle.j39_node.specs.declared.kinds.TransferEnding.TheVariants.{Done, Withdrawn, Failed}
 use Rattle.j39_node.specs.Transfers.{said_to}
@@ -99,27 +99,20 @@ pub counts_is : (to : ℕ) (f : FrameRecord) (a b d : Bool) → (is_claim f || i
     → counts_for to f ≡ (not a && not (b && not d))
 counts_is to f a b d x y z = λ i. not (x i) && not (y i && not (z i))
 
--- what a signal says of its sender
+-- what a signal says of its sender, where it isn't gone
+here : (t : Running) (now : ℕ) → t.gone ≡ false → signal_by t now ≡ (if gives_up t then Some (Abort 5 t.sender.message.pgn) else (send_step t.sender Tick now).says)
+here t now n = ap (λ (b : Bool). if b then (let o : Option Signal = None in o) else if gives_up t then Some (Abort 5 t.sender.message.pgn) else (send_step t.sender Tick now).says) n
+
 no_signal : (t : Running) (now : ℕ) → t.gone ≡ false → signal_by t now ≡ None → (gives_up t ≡ false) × ((ticks_in t.sender.state now t.sender).says ≡ None)
 unfolding send_step
-no_signal t now n e = go (gives_up t) refl (ap (λ (b : Bool). if b then (let o : Option Signal = None in o) else if gives_up t then Some (Abort 5 t.sender.message.pgn)
-    else (send_step t.sender Tick now).says) (sym n) ∙ e)
-  where
-    go : (b : Bool) → gives_up t ≡ b → (if b then Some (Abort 5 t.sender.message.pgn) else (send_step t.sender Tick now).says) ≡ None
-        → (gives_up t ≡ false) × ((ticks_in t.sender.state now t.sender).says ≡ None)
-    go true i y = absurd (cc)
-    go false i y = (i, y)
+no_signal t now n e = cond_both (gives_up t) _ _ (λ (o : Option Signal). o ≡ None → (gives_up t ≡ false) × ((ticks_in t.sender.state now t.sender).says ≡ None))
+    (λ i y. absurd (cc)) (λ i y. (i, y)) (sym (here t now n) ∙ e)
 
 a_signal : (t : Running) (now : ℕ) (x : Signal) → t.gone ≡ false → signal_by t now ≡ Some x
     → ((ticks_in t.sender.state now t.sender).says ≡ None → ⊥) ⊎ (nat_lt 64 t.spent ≡ true)
 unfolding send_step
-a_signal t now x n e = go (gives_up t) refl (ap (λ (b : Bool). if b then (let o : Option Signal = None in o) else if gives_up t then Some (Abort 5 t.sender.message.pgn)
-    else (send_step t.sender Tick now).says) (sym n) ∙ e)
-  where
-    go : (b : Bool) → gives_up t ≡ b → (if b then Some (Abort 5 t.sender.message.pgn) else (send_step t.sender Tick now).says) ≡ Some x
-        → ((ticks_in t.sender.state now t.sender).says ≡ None → ⊥) ⊎ (nat_lt 64 t.spent ≡ true)
-    go true i y = inr (and_parts (is_spent t) (is_running t.sender.state) i).0
-    go false i y = inl (λ z. (let k : None ≡ Some x = sym z ∙ y in absurd (cc)))
+a_signal t now x n e = cond_both (gives_up t) _ _ (λ (o : Option Signal). o ≡ Some x → ((ticks_in t.sender.state now t.sender).says ≡ None → ⊥) ⊎ (nat_lt 64 t.spent ≡ true))
+    (λ i y. inr (and_parts (is_spent t) (is_running t.sender.state) i).0) (λ i y. inl (λ z. none-some x (sym z ∙ y))) (sym (here t now n) ∙ e)
 
 -- ---- the course of a transfer
 
@@ -161,11 +154,7 @@ module _ (w : Who) (B : List Call) (g k to : ℕ) (m : MessageRecord) (since : L
 
   -- it goes on, or is over
   alive : (t : Running) → Over t ⊎ ((is_idle t.sender.state || is_running t.sender.state) ≡ true)
-  alive t = go (is_idle t.sender.state || is_running t.sender.state) refl
-    where
-      go : (u : Bool) → (is_idle t.sender.state || is_running t.sender.state) ≡ u → Over t ⊎ ((is_idle t.sender.state || is_running t.sender.state) ≡ true)
-      go true e = inr e
-      go false e = inl (inr e)
+  alive t = elim (cases_Bool (is_idle t.sender.state || is_running t.sender.state)) [ inl e ↦ inr e | inr e ↦ inl (inr e) ]
 
   old_at_most : (later : List Call) (h : Stands later) (s : ℕ) → Runs later h.running → (is_idle h.running.sender.state || is_running h.running.sender.state) ≡ true
       → since later B + s ≤ g → age (later ++ B) + s ≤ limit later

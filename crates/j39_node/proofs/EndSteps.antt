@@ -1,5 +1,5 @@
 -- How long a transfer waits, step by step of its sender.
-use Rattle.j39_node.proofs.Common.{Abort, Acknowledgment, Bool, ClearToSend, Failed, Idle, None, Option, SendResult, SendState, SenderRecord, Sending, Signal, Some, Waiting, aborted, add-mul, after, age, ap, arith, by, cleared, cond_both, false, granted_after, granted_by, if◌then◌else◌, inl, inr, is_idle, is_running, is_waiting, length, ltb-false, ltb-true, max, may_name, min, more, nat_lt, not, other, packets, packets_of, refl, says, sends_packet, spent_after, subst, suc, suc-mul, sym, ticks_in, timeout, timer_t3, timer_t4, true, waits, zero, ℕ, ◌&&◌, ◌*◌, ◌+◌, ◌-◌, ◌<◌, ◌==◌, ◌||◌, ◌∙◌, ◌≡◌, ◌≤◌, ◌⊎◌, mul-le-mul_right, not_both}
+use Rattle.j39_node.proofs.Common.{Abort, Acknowledgment, Bool, ClearToSend, Failed, Idle, None, Option, SendResult, SendState, SenderRecord, Sending, Signal, Some, Waiting, aborted, add-mul, after, age, ap, arith, by, cleared, cond_both, false, granted_after, granted_by, if◌then◌else◌, inl, inr, is_idle, is_running, is_waiting, length, ltb-false, ltb-true, max, may_name, min, more, nat_lt, not, other, packets, packets_of, refl, says, sends_packet, spent_after, subst, suc, suc-mul, sym, ticks_in, timeout, timer_t3, timer_t4, true, waits, zero, ℕ, ◌&&◌, ◌*◌, ◌+◌, ◌-◌, ◌<◌, ◌==◌, ◌||◌, ◌∙◌, ◌≡◌, ◌≤◌, ◌⊎◌, mul-le-mul_right, not_both, true_from_ne_false}
 use Rattle.j39_transport.specs.Sending.{Done, acknowledged, hears}
 use Rattle.j39_node.proofs.MoveSteps.{HeardCase}
 use Rattle.j39_node.proofs.MoveSteps.HeardCase.{same, done, fails, holds, clears}
@@ -87,11 +87,8 @@ most granted spent age base waited streak k s h r a b = go (nat_lt 64 spent) ref
 
 -- a clear more
 pub counts : (granted spent last : ℕ) → suc (granted + spent) ≤ granted_after (Some last) granted + spent_after (Some last) granted spent
-counts granted spent last = go (nat_lt granted last) refl
-  where
-    go : (b : Bool) → nat_lt granted last ≡ b → suc (granted + spent) ≤ max granted last + (if b then spent else spent + 1)
-    go true e = let y = ltb-true _ _ e in omega (arith, y)
-    go false e = omega arith
+counts granted spent last =
+    cond_both (nat_lt granted last) _ _ (λ n. suc (granted + spent) ≤ max granted last + n) (λ e. let y = ltb-true _ _ e in omega (arith, y)) (λ e. omega arith)
 
 -- what became of it: its rank is higher where what it waited is counted with its clears
 pub data Listened (granted spent age base waited streak more : ℕ) (s r : SenderRecord) (granted_then spent_then : ℕ) : Type 0 where
@@ -242,15 +239,12 @@ unfolding ticks_in
 due_late granted spent age base waited streak t streak_then s h d =
     let p = passes granted spent age base waited streak t s h in record { phase = p.phase; gives_up = p.gives_up; due = λ z. go s.state refl d }
   where
-    more : (a b : ℕ) (r : SendResult) → nat_lt a b ≡ false → (if nat_lt a b then r else (let x : SendResult = record { after = s; says = None } in x)).says ≡ None
-    more a b r e = ap (λ (c : Bool). (if c then r else (let x : SendResult = record { after = s; says = None } in x)).says) e
-
-    out : (limit : ℕ) (b : Bool) → nat_lt (s.since + limit) (age + t) ≡ b → ((ticks_in (Waiting limit) (age + t) s).says ≡ None → ⊥) → s.since + limit < age + t
-    out limit true e n = Rattle.std.proofs.Common.ltb-true _ _ e
-    out limit false e n = absurd (n (more (s.since + limit) (age + t) _ e))
+    out : (limit : ℕ) → ((ticks_in (Waiting limit) (age + t) s).says ≡ None → ⊥) → s.since + limit < age + t
+    out limit n = ltb-true _ _ (true_from_ne_false _ (λ e. n (ap (λ (c : Bool). (if c then (let x : SendResult = record { after = record s { state = Failed timeout }; says = Some (Abort timeout s.message.pgn) } in x)
+        else (let x : SendResult = record { after = s; says = None } in x)).says) e)))
 
     go : (u : SendState) → s.state ≡ u → ((ticks_in s.state (age + t) s).says ≡ None → ⊥) ⊎ (nat_lt 64 spent ≡ true) → IsDue spent (age + t) s.since s.state
     go (Waiting limit) e (inl n) = subst (IsDue spent (age + t) s.since) (sym e)
-        (inl (out limit (nat_lt (s.since + limit) (age + t)) refl (λ z. n (ap (λ (u : SendState). (ticks_in u (age + t) s).says) e ∙ z))))
+        (inl (out limit (λ z. n (ap (λ (u : SendState). (ticks_in u (age + t) s).says) e ∙ z))))
     go (Waiting limit) e (inr a) = subst (IsDue spent (age + t) s.since) (sym e) (inr a)
     go other e n = subst (IsDue spent (age + t) s.since) (sym e) tt

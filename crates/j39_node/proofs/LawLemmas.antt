@@ -1,5 +1,5 @@
 -- The laws.
-use Rattle.j39_node.proofs.Common.{Address, AddressLost, AnotherAtAddress, AreAnswered, Asked, At, Bool, Busy, Call, Claim, Claimed, Controller, Done, Draft, Ending, FrameRecord, HasDouble, Hear, Is, IsFront, IsTrue, List, Lost, Message, MessagesMissed, Move, Nack, NameDoubled, News, None, NoneTold, NotClaimed, Option, Renew, Reply, Some, TakeEnded, TakeFrame, TakeNews, Tick, Who, Withdraw, Withdrawn, [], accepted, acknowledged, acknowledgment, acknowledgment_group, address_after, address_claimed_group, age, and-false, and_from, and_parts, answers_another, ap, append-nil, arith, asked, at_in, begins, by, called, calls, calls_for_claim, claim_address, claim_due, claim_from, claim_goes, claim_of, content, delayed, destination_of, double, doubled_news, drop, due, end_of, eq-eqb, eqb-true, false, first, frames, fresh, gives_way, global_address, got, handed, held_at, holds, if◌then◌else◌, inl, inr, is_acknowledgment, is_alike, is_another, is_apart, is_blank, is_claim, is_double, is_for_program, is_held, is_larger, is_lost, is_move, is_none, is_own_group, is_refusal_due, is_reply, is_served, is_session, is_smaller, is_some, is_subscribed, is_there, is_transfer, kept, later, le-leb, le-ltb, left, length, length-append, long_by, lost_news, lt-ltb, ltb-false, ltb-true, marks, may_claim, may_go, message_from, message_of, missed, missed_news, moment, more, nat_eq, nat_le, nat_lt, news_of, next_acknowledgment, next_due, next_frame, next_long, next_other, next_packet, next_transfer, next_withdrawn, not, not_both, null_address, older, open_broadcast, option_map, option_or, or_parts, other, owes_claim, packets, passed, passed_in, patience, pause, pgn_of, reached, ready, reception, refl, refusal_waits, request_group, requests, rest, slice_get, slice_get-map, slice_get_within, source_of, stamp_at, stamped, status_after, status_of, step, still, suc, sym, takes_other, told, true, turns, two, unclaimed, waits, waits_already, with_refusal, with_request, yields, zero, ℕ, ◌&&◌, ◌*◌, ◌++◌, ◌+◌, ◌-◌, ◌<◌, ◌||◌, ◌↔◌, ◌∙◌, ◌∷◌, ◌≡◌, ◌≢◌, ◌≤◌, ◌⊎◌, or_cases, or_left, or_right, none-some, cond_both, ne_eqb, leb-false, subst}
+use Rattle.j39_node.proofs.Common.{Address, AddressLost, AnotherAtAddress, AreAnswered, Asked, At, Bool, Busy, Call, Claim, Claimed, Controller, Done, Draft, Ending, FrameRecord, HasDouble, Hear, Is, IsFront, IsTrue, List, Lost, Message, MessagesMissed, Move, Nack, NameDoubled, News, None, NoneTold, NotClaimed, Option, Renew, Reply, Some, TakeEnded, TakeFrame, TakeNews, Tick, Who, Withdraw, Withdrawn, [], accepted, acknowledged, acknowledgment, acknowledgment_group, address_after, address_claimed_group, age, and-false, and_from, and_parts, answers_another, ap, append-nil, arith, asked, at_in, begins, by, called, calls, calls_for_claim, claim_address, claim_due, claim_from, claim_goes, claim_of, content, delayed, destination_of, double, doubled_news, drop, due, end_of, eq-eqb, eqb-true, false, first, frames, fresh, gives_way, global_address, got, handed, held_at, holds, if◌then◌else◌, inl, inr, is_acknowledgment, is_alike, is_another, is_apart, is_blank, is_claim, is_double, is_for_program, is_held, is_larger, is_lost, is_move, is_none, is_own_group, is_refusal_due, is_reply, is_served, is_session, is_smaller, is_some, is_subscribed, is_there, is_transfer, kept, later, le-leb, le-ltb, left, length, length-append, long_by, lost_news, lt-ltb, ltb-false, ltb-true, marks, may_claim, may_go, message_from, message_of, missed, missed_news, moment, more, nat_eq, nat_le, nat_lt, news_of, next_acknowledgment, next_due, next_frame, next_long, next_other, next_packet, next_transfer, next_withdrawn, not, not_both, null_address, older, open_broadcast, option_map, option_or, or_parts, other, owes_claim, packets, passed, passed_in, patience, pause, pgn_of, reached, ready, reception, refl, refusal_waits, request_group, requests, rest, slice_get, slice_get-map, slice_get_within, source_of, stamp_at, stamped, status_after, status_of, step, still, suc, sym, takes_other, told, true, turns, two, unclaimed, waits, waits_already, with_refusal, with_request, yields, zero, ℕ, ◌&&◌, ◌*◌, ◌++◌, ◌+◌, ◌-◌, ◌<◌, ◌||◌, ◌↔◌, ◌∙◌, ◌∷◌, ◌≡◌, ◌≢◌, ◌≤◌, ◌⊎◌, or_cases, or_left, or_right, none-some, cond_both, ne_eqb, leb-false, subst, cases_Bool, cases_lt}
 use Rattle.j39_node.proofs.PromptLaws.{answered_from}
 use Rattle.j39_node.specs.History.{heard, Again}
 use Rattle.j39_node.specs.Reception.{is_waiting}
@@ -199,14 +199,9 @@ taken_due w H now f c o =
 -- it goes now, or gives way
 pub claimed_or_not : (w : Who) (H : List Call) (c : Controller) (now : ℕ) (g : FrameRecord) → Is w (At now (TakeFrame (Some g)) ∷ H) c → owes_claim w H ≡ true
     → IsTrue (gives_way w H now) ⊎ (message_of g ≡ claim_from w (claim_address w (address_after w H)))
-claimed_or_not w H c now g is o = go (gives_way w H now) refl
-  where
-    due_now : claim_due w H now ≡ true
-    due_now = taken_due w H now g (frame w H c now g is) o
-
-    go : (b : Bool) → gives_way w H now ≡ b → IsTrue (gives_way w H now) ⊎ (message_of g ≡ claim_from w (claim_address w (address_after w H)))
-    go true e = inl e
-    go false e = inr (owed w H now g (frame w H c now g is) (claim_is w H now e ∙ due_now))
+claimed_or_not w H c now g is o =
+    let f = frame w H c now g is in
+    elim (cases_Bool (gives_way w H now)) [ inl e ↦ inl e | inr e ↦ inr (owed w H now g f (claim_is w H now e ∙ taken_due w H now g f o)) ]
 
 -- no frame is taken between
 same_turns : (later H : List Call) → frames later ≡ [] → turns (later ++ H) ≡ turns H
@@ -376,11 +371,10 @@ no_claim_left w H now o e = none-some (now, claim_from w (claim_address w (addre
 
 due_by_then : (w : Who) (H : List Call) (now : ℕ) → owes_claim w H ≡ true → (IsTrue (is_lost (address_after w H)) → delayed w H ≤ step H now)
     → claim_due w H now ≡ true
-due_by_then w H now o ripe = go (is_lost (address_after w H)) refl
-  where
-    go : (b : Bool) → is_lost (address_after w H) ≡ b → claim_due w H now ≡ true
-    go false l = owed_due w H now o l
-    go true l = λ i. o i && (not (l i) || eq-eqb (delayed w H - step H now) 0 (let r = ripe l in omega (arith, r)) i)
+due_by_then w H now o ripe = elim (cases_Bool (is_lost (address_after w H))) [
+  | inl l ↦ λ i. o i && (not (l i) || eq-eqb (delayed w H - step H now) 0 (let r = ripe l in omega (arith, r)) i)
+  | inr l ↦ owed_due w H now o l
+]
 
 pub most_delayed : (w : Who) (H : List Call) → delayed w H ≤ w.delay * 600
 most_delayed w [] = omega arith
@@ -599,6 +593,13 @@ newest w H c d k j m is l e =
 
 -- ---- quiet till due
 
+-- what is before a moment that a stamp can tell is before it
+pub before_stamp : (now m : ℕ) → now < 10000000000000000 → ((t : ℕ) → stamp_at m ≡ Some t → now < t) → now < m
+before_stamp now m l q = elim (cases_lt m 10000000000000000) [
+  | inl f ↦ q m (ap (λ (b : Bool). if b then Some m else None) (lt-ltb m 10000000000000000 f))
+  | inr f ↦ omega (arith, f, l)
+]
+
 -- where no address is held, nothing was accepted or is due that could be taken
 Quiet : Who → List Call → ℕ → Type 0
 Quiet w H now = (t : ℕ) → next_due w H ≡ Some t → now < t
@@ -613,20 +614,14 @@ not_due w H now true l m q e =
 
 not_held_yet : (w : Who) (H : List Call) (now : ℕ) (a : Address) → moment H ≤ now → now < 10000000000000000
     → ((t : ℕ) → held_at a (moment H) ≡ Some t → now < t) → is_held a ≡ false → is_held (older (now - moment H) a) ≡ false
-not_held_yet w H now (Claimed n) l m q e = go (nat_lt (moment H + (250000 - n)) 10000000000000000) refl
+not_held_yet w H now (Claimed n) l m q e =
+    short n _ (moment H) now small (before_stamp now (moment H + (250000 - n)) m (λ t f. q t (ap (λ (b : Bool). if b then stamp_at (moment H + (250000 - n)) else None) small ∙ f))) refl l
   where
     small : nat_lt n 250000 ≡ true
     small = lt-ltb n 250000 (leb-false 250000 n e)
 
     short : (k d s x : ℕ) → nat_lt k 250000 ≡ true → x < d → d ≡ s + (250000 - k) → s ≤ x → nat_le 250000 (k + (x - s)) ≡ false
     short k d s x f g i j = grind arith
-
-    go : (b : Bool) → nat_lt (moment H + (250000 - n)) 10000000000000000 ≡ b → nat_le 250000 (n + (now - moment H)) ≡ false
-    go true f =
-        let z = q (moment H + (250000 - n)) (ap (λ (b : Bool). if b then stamp_at (moment H + (250000 - n)) else None) small
-        ∙ ap (λ (b : Bool). if b then Some (moment H + (250000 - n)) else None) f) in
-        short n _ (moment H) now small z refl l
-    go false f = short n (moment H + (250000 - n)) (moment H) now small (let y = ltb-false _ _ f in omega (arith, y, m)) refl l
 not_held_yet w H now a l m q e = refl
 
 none_by : (h : Bool) (x y : Option Message) (m : Message) (now : ℕ) → (h ≡ false) ⊎ ((x ≡ None) × (y ≡ None)) → frame_by false h x y m now ≡ None
@@ -652,11 +647,7 @@ due_later w H l e f =
 still_waits : (w : Who) (H : List Call) (now n : ℕ) → moment H ≤ now → now < 10000000000000000 → Quiet w H now
     → next_due w H ≡ stamp_at (moment H + n) → step H now < n
 unfolding Quiet
-still_waits w H now n l m q e = go (nat_lt (moment H + n) 10000000000000000) refl
-  where
-    go : (b : Bool) → nat_lt (moment H + n) 10000000000000000 ≡ b → step H now < n
-    go true f = let y = q (moment H + n) (e ∙ ap (λ (b : Bool). if b then Some (moment H + n) else None) f) in omega (arith, y, l)
-    go false f = let y = ltb-false _ _ f in omega (arith, y, m, l)
+still_waits w H now n l m q e = let y = before_stamp now (moment H + n) m (λ t f. q t (e ∙ f)) in omega (arith, y, l)
 
 nothing_taken : (w : Who) (H : List Call) (now : ℕ) → moment H ≤ now → now < 10000000000000000 → Quiet w H now → next_frame w H now ≡ None
 unfolding Quiet

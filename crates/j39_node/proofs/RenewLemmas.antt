@@ -1,5 +1,5 @@
 -- A message that waits is renewed.
-use Rattle.j39_node.proofs.Common.{[], if◌then◌else◌, ◌&&◌, ◌++◌, ◌+◌, ◌-◌, ◌<◌, ◌∙◌, ◌∷◌, ◌≡◌, ◌≢◌, ◌≤◌, ◌⊎◌, and_parts, ap, arith, Bool, drop, false, inl, inr, is_alike, latest, length, length-set, length-take-le, List, map, Message, nat_eq, nat_le, None, not, Option, option_map, Outgoing, posted, refill, refl, request_group, slice_get, slice_index_or, slice_set, Some, suc, sym, take, take-append_seam, take-suc, true, zero, ℕ, leb-true, le-leb, map-append, length-map, lt-leb}
+use Rattle.j39_node.proofs.Common.{[], if◌then◌else◌, ◌&&◌, ◌++◌, ◌+◌, ◌-◌, ◌<◌, ◌∙◌, ◌∷◌, ◌≡◌, ◌≢◌, ◌≤◌, ◌⊎◌, and_parts, ap, arith, Bool, drop, false, inl, inr, is_alike, latest, length, length-set, length-take-le, List, map, Message, nat_eq, nat_le, None, not, Option, option_map, Outgoing, posted, refill, refl, request_group, slice_get, slice_index_or, slice_set, Some, suc, sym, take, take-append_seam, take-suc, true, zero, ℕ, leb-true, le-leb, map-append, length-map, lt-leb, false_from_ne_true}
 
 -- the last that is alike, one more
 pub latest_more : (m : Message) (n i : ℕ) (xs : List (ℕ × Message)) (x : ℕ × Message) (o : Option ℕ)
@@ -79,11 +79,8 @@ latest_past m n i (suc j) (x ∷ xs) o y e l a =
 
 pub none_past : (m : Message) (n j : ℕ) (xs : List (ℕ × Message)) (o : Option ℕ) (y : ℕ × Message) → latest m n 0 xs None ≡ o → slice_get xs j ≡ Some y → n ≤ j
     → ((k : ℕ) → o ≡ Some k → k < j) → is_alike m y.1 ≡ false
-none_past m n j xs o y f e l past = go (is_alike m y.1) refl
-  where
-    go : (b : Bool) → is_alike m y.1 ≡ b → b ≡ false
-    go false a = refl
-    go true a = let r = latest_past m n 0 j xs None y e (omega (arith, l)) a in let q = past r.0 (sym f ∙ r.1) in let p = r.2 in absurd (omega (arith, q, p))
+none_past m n j xs o y f e l past = false_from_ne_true _
+    (λ a. let r = latest_past m n 0 j xs None y e (omega (arith, l)) a in let q = past r.0 (sym f ∙ r.1) in let p = r.2 in absurd (omega (arith, q, p)))
 
 -- of what is left after t of them it is t places before
 shifted : (m : Message) (n i : ℕ) (xs : List (ℕ × Message)) (o : Option ℕ) → latest m (suc n) (suc i) xs (option_map suc o) ≡ option_map suc (latest m n i xs o)

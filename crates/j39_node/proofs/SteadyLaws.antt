@@ -1,5 +1,5 @@
 -- A driver that takes one frame at least in each g: how long a frame of a broadcast and a message wait, whoever asks.
-use Rattle.j39_node.proofs.Common.{AreAnswered, At, Bool, Broadcast, Call, Controller, Ending, FrameRecord, Is, IsAnswered, IsPrompt, IsSteady, IsTrue, List, Message, MessageRecord, Move, None, NoneTold, Ok, Option, Ready, Reply, Single, Some, StaysFirst, TakeFrame, Who, [], accepted, acknowledgment, add-mul, address_after, and_from, and_parts, ap, arith, broadcast_from, by, claims_anew, counted, eq-eqb, false, gives_way, has_packets, holds, if◌then◌else◌, inl, inr, is_acknowledgment, is_claim, is_held, is_left, is_lost, is_overdue, is_packet, is_reply, is_there, is_turn, kept, later, leb-false, leb-true, left, length, less, lt-ltb, ltb-false, ltb-true, marks, moment, more, nat_eq, nat_le, nat_lt, next_broadcast_ended, next_ended, next_other, not, not-true, not_both, open_broadcast, or_parts, other, others, packets, packets_of, packets_taken, passed, passed_in, pause, quiet, reached, ready, reception, refl, rest, silent, since_take, slice_get, step, subst, suc, suc-mul, sym, takes_reply, tells_broadcast, told, true, turn_of, turns, waited_in, yields, zero, ℕ, ◌&&◌, ◌*◌, ◌++◌, ◌+◌, ◌-◌, ◌<◌, ◌||◌, ◌∙◌, ◌∷◌, ◌≡◌, ◌≤◌, ◌⊎◌, mul-add}
+use Rattle.j39_node.proofs.Common.{AreAnswered, At, Bool, Broadcast, Call, Controller, Ending, FrameRecord, Is, IsAnswered, IsPrompt, IsSteady, IsTrue, List, Message, MessageRecord, Move, None, NoneTold, Ok, Option, Ready, Reply, Single, Some, StaysFirst, TakeFrame, Who, [], accepted, acknowledgment, add-mul, address_after, and_from, and_parts, ap, arith, broadcast_from, by, claims_anew, counted, eq-eqb, false, gives_way, has_packets, holds, if◌then◌else◌, inl, inr, is_acknowledgment, is_claim, is_held, is_left, is_lost, is_overdue, is_packet, is_reply, is_there, is_turn, kept, later, leb-false, leb-true, left, length, less, lt-ltb, ltb-false, ltb-true, marks, moment, more, nat_eq, nat_le, nat_lt, next_broadcast_ended, next_ended, next_other, not, not-true, not_both, open_broadcast, or_parts, other, others, packets, packets_of, packets_taken, passed, passed_in, pause, quiet, reached, ready, reception, refl, rest, silent, since_take, slice_get, step, subst, suc, suc-mul, sym, takes_reply, tells_broadcast, told, true, turn_of, turns, waited_in, yields, zero, ℕ, ◌&&◌, ◌*◌, ◌++◌, ◌+◌, ◌-◌, ◌<◌, ◌||◌, ◌∙◌, ◌∷◌, ◌≡◌, ◌≤◌, ◌⊎◌, mul-add, cases_lt}
 use Rattle.j39_node.specs.declared.turn.Turn.TheVariants.{Packet}
 use Rattle.j39_node.proofs.EndSteps.{times_more}
 use Rattle.j39_node.proofs.WithdrawLemmas.{past_more}
@@ -345,13 +345,11 @@ module _ (w : Who) (B : List Call) (g k : ℕ) where
   one_later (At now (TakeFrame (Some f))) later right a p h = record {
     among = h.among;
     course = later_on w (later ++ B) (At now (TakeFrame (Some f))) refl (λ l. (let e = more_sent (later ++ B) (At now (TakeFrame (Some f))) in omega (arith, e, l)))
-        (λ e z x. by (nat_lt k (reached (later ++ B))) refl e x) h.course;
+        (λ e z x. elim (cases_lt k (reached (later ++ B))) [
+          | inl l ↦ inl (let y = more_sent (later ++ B) (At now (TakeFrame (Some f))) in omega (arith, l, y))
+          | inr l ↦ inr (takes_next now f later right (frame_case w (later ++ B) now f a) p.0 (let y = h.among in omega (arith, l, y)) e x)
+        ]) h.course;
   }
-    where
-      by : (b : Bool) → nat_lt k (reached (later ++ B)) ≡ b → is_held (address_after w (later ++ B)) ≡ true → Waits later
-          → (k < reached (At now (TakeFrame (Some f)) ∷ later ++ B)) ⊎ Waits (At now (TakeFrame (Some f)) ∷ later)
-      by true z e x = inl (let l = ltb-true _ _ z in let y = more_sent (later ++ B) (At now (TakeFrame (Some f))) in omega (arith, l, y))
-      by false z e x = inr (takes_next now f later right (frame_case w (later ++ B) now f a) p.0 (let l = ltb-false _ _ z in let y = h.among in omega (arith, l, y)) e x)
   one_later (At now (TakeFrame None)) later right a p h = record {
     among = h.among;
     course = later_on w (later ++ B) (At now (TakeFrame None)) refl (λ l. l)
@@ -378,12 +376,10 @@ module _ (w : Who) (B : List Call) (g k : ℕ) where
 
   goes_so : (later : List Call) → Among later → (k - reached B + packets_taken later + 1) * (6 * g) < passed_in later B → since_take later B ≤ g
       → (k < reached (later ++ B)) ⊎ (is_lost (address_after w (later ++ B)) ≡ true)
-  goes_so later h l p = ended_or_lost h.course (λ x. by (nat_lt k (reached (later ++ B))) refl x)
+  goes_so later h l p = ended_or_lost h.course (λ x. elim (cases_lt k (reached (later ++ B))) [ inl z ↦ z | inr y ↦ late x y ])
     where
-      by : (b : Bool) → nat_lt k (reached (later ++ B)) ≡ b → Waits later → k < reached (later ++ B)
-      by true z x = ltb-true _ _ z
-      by false z x =
-          let y = ltb-false _ _ z in
+      late : Waits later → reached (later ++ B) ≤ k → k < reached (later ++ B)
+      late x y =
           let c = x.behind in
           let f = x.counted.few in let o = one_most (yields w (later ++ B)) in
           let a = x.counted.late in let b = turn_most g (turns (later ++ B)) in

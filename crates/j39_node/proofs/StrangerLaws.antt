@@ -203,11 +203,8 @@ without_twice a (x ∷ xs) = go (goes_to a x) refl (without_twice a xs)
 
 to_others_stay : (own a : ℕ) (s : Option ToSend) (xs : List Message) → without a (replied own a s xs) ≡ without a xs
 to_others_stay own a None xs = refl
-to_others_stay own a (Some x) xs = go (nat_lt (length (without a xs)) 16)
-  where
-    go : (b : Bool) → without a (if b then without a xs ++ reply_from own a x.bytes ∷ [] else without a xs) ≡ without a xs
-    go true = without_one a (without a xs) (reply_from own a x.bytes) (eq-eqb a a refl) ∙ without_twice a xs
-    go false = without_twice a xs
+to_others_stay own a (Some x) xs = cond_both (nat_lt (length (without a xs)) 16) _ _ (λ ys. without a ys ≡ without a xs)
+    (λ z. without_one a (without a xs) (reply_from own a x.bytes) (eq-eqb a a refl) ∙ without_twice a xs) (λ z. without_twice a xs)
 
 pub replies_stay : (w : Who) (H : List Call) (when : ℕ) (f : FrameRecord) → claim_of f ≡ None
     → without (source_of f.id) (reception w (At when (Hear f) ∷ H)).replies ≡ without (source_of f.id) (reception w H).replies

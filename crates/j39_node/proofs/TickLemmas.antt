@@ -9,6 +9,7 @@ use Rattle.j39_node.proofs.AskLaws.{over_told}
 use Rattle.j39_node.proofs.HearingLaws.{tick_keeps}
 use Rattle.j39_node.proofs.ReceptionLaws.{tick_waits}
 use Rattle.j39_node.proofs.SoundLemmas.{lost_older}
+use Rattle.j39_node.proofs.LawLemmas.{before_stamp}
 
 -- a moment before the sooner of two is before each
 before_each : (now : ℕ) (one other : Option ℕ) → ((t : ℕ) → sooner one other ≡ Some t → now < t)
@@ -149,11 +150,7 @@ none_ends w H now l m q =
     same : (a d : Bool) → ((t : ℕ) → out_at (a && not d) (moment H) (wait H) ≡ Some t → now < t) → silent a (nat_eq (wait H - (now - moment H)) 0) d ≡ silent a (nat_eq (wait H) 0) d
     same false d k = refl
     same true true k = ap (λ (b : Bool). if b then Some TimedOut else if lost then Some Withdrawn else None) (and-false (nat_eq (wait H - (now - moment H)) 0) ∙ sym (and-false (nat_eq (wait H) 0)))
-    same true false k = ap (λ (b : Bool). silent true b false) (not_yet (moment H) (wait H) now (by (nat_lt (moment H + wait H) 10000000000000000) refl))
-      where
-        by : (c : Bool) → nat_lt (moment H + wait H) 10000000000000000 ≡ c → now < moment H + wait H
-        by true g = k (moment H + wait H) (ap (λ (b : Bool). if b then Some (moment H + wait H) else None) g)
-        by false g = let z = ltb-false _ _ g in omega (arith, z, m)
+    same true false k = ap (λ (b : Bool). silent true b false) (not_yet (moment H) (wait H) now (before_stamp now (moment H + wait H) m k))
 
     go : (o : Option Question) (h : Option AskEnding) (d : Bool) → ((t : ℕ) → out_at (is_waiting o (reached H) h d) (moment H) (wait H) ≡ Some t → now < t)
         → ask_end o (reached H) h (wait H - (now - moment H)) d lost ≡ ask_end o (reached H) h (wait H) d lost
