@@ -1,5 +1,5 @@
 -- A call more.
-use Rattle.j39_node.proofs.KindLemmas.{Kind, kind, kind_is, single, of_session}
+use Rattle.j39_node.proofs.KindLemmas.{Kind, kind, kind_by, kind_is, single}
 use Rattle.j39_node.proofs.SoundLemmas.FrameCase.{claims as claims_first, acknowledges, replies, sends, packs, transfers}
 use Rattle.j39_node.proofs.Common.{Address, AreAnswered, AskRecord, Asked, At, Bool, Busy, Call, Claimed, Claims, Controller, Done, Draft, Due, Ending, FrameRecord, Hear, Hold, IfSome, Incoming, IncomingRecord, Is, IsAnswered, IsApart, IsOthers, Knows, List, Lost, Message, Move, Nack, None, NotClaimed, Option, Outgoing, Question, Ready, Renew, Renews, Reply, Said, Single, Some, TakeEnded, TakeFrame, Turn, Untold, View, Who, Withdraw, Withdrawn, [], accepted, acknowledged, acknowledgment, address_after, after, age, all_transfers, ap, arith, asked_by, asking_of, asks, asks_claims, asks_with, at_in, blank, by, called, calls, can_claim, can_send, claim_address, claim_due, claim_from, claim_goes, claim_of, claimed, claims, clock, clock_at, comes, content, control_of, counted, delayed, drop, drop-map, due, end_of, ended, ending_of, eqb-true, false, first, gives_way, got, has_packets, has_token, heard_at, heard_by, hearing, hearing_after, hearing_of, held_at, hold_acknowledged, hold_after, hold_asked, hold_claimed, hold_spoken, hold_went, holder, holder_in, holds, holds_back, if◌then◌else◌, in_session, incoming_after, incoming_of, inl, inr, is_apart, is_asking, is_blank, is_busy, is_claim, is_coming, is_engaged, is_for_program, is_full, is_held, is_left, is_lost, is_open, is_resting, is_served, is_smaller, is_there, is_turn, kept, known, lane_after, lane_of, latest, le-ltb, leaves, leb-true, led, left, left_at, length, length-append, length-drop, length-set, less, listening, lost, lt-ltb, ltb-false, ltb-true, map, marks, max, may_claim, may_go, message_from, message_of, min, missed, missed_news, moment, more, move, nat_eq, nat_le, nat_lt, news_after, next_acknowledgment, next_due, next_frame, next_packet, next_renewed, next_transfer, next_transfer_ended, next_turn, next_withdrawn, not, nothing, offered, older, open_ask, open_broadcast, open_transfer, option_map, other, owes_claim, packet_by, packets, packets_in, passed, past, pause, paused, place_of, port_after, port_of, posted, question, reached, ready_in, reception, refl, refusal_by, rest, resting, resting_by, said_by, senders, sends_if, shown, slice_get, slice_get_past, slice_get_within, slice_set, sooner, source_of, stamp_at, stamped, standing_of, stands, step, subst, suc, sym, taken_by, those_over, time_heard, told, told_claims, transfer_by, transfer_end, transfer_in, true, turn_frame, turn_of, turns, unclaimed, unclaims, unheard_news, view, wait, waiting, who_of, whole, with_called, with_reception, with_refusal, with_replies, with_request, yields, ℕ, ◌&&◌, ◌++◌, ◌+◌, ◌-◌, ◌<◌, ◌||◌, ◌∙◌, ◌∷◌, ◌≡◌, ◌≤◌, map-append, length-map, drop-append-le, cond_some}
 use Rattle.j39_node.specs.Boxes.{in_box}
@@ -14,7 +14,7 @@ use Rattle.j39_node.proofs.AskLemmas.{asking_is, ask_more, takes, token_of, ask_
 use Rattle.j39_node.proofs.ReceptionLemmas.{leaves_is, tidy, calls_is, leaves_still}
 use Rattle.j39_node.proofs.HearingLemmas.{broken_news, claimed_on, claimed_says, hearing_same, missed_one, news_same}
 use Rattle.j39_node.proofs.QueueLemmas.{length_one_more, length_rest, First, get_at, get_map, get_of_drop, rest_at, mapped_none}
-use Rattle.j39_node.proofs.SoundLemmas.{IsTurn, frame_there, overdue_due, packet_there, some_at, turn_is, sound, frame_by, held_not_lost, holding_not_lost, lost_older, Sound, withdraw_case, acknowledged_is_due, not_there, apart_there}
+use Rattle.j39_node.proofs.SoundLemmas.{FrameCase, case_goes, next_is, IsTurn, frame_there, overdue_due, packet_there, some_at, turn_is, sound, frame_by, held_not_lost, holding_not_lost, lost_older, Sound, withdraw_case, acknowledged_is_due, not_there, apart_there, other_is}
 use Rattle.j39_node.proofs.FrameLemmas.{at_now}
 use Rattle.j39_node.proofs.PortLemmas.{clock_is, is_port}
 use Rattle.j39_node.proofs.RenewLemmas.{latest_rest, latest_is, set_rest}
@@ -45,6 +45,11 @@ passed_is w H now old new e f =
 
 pub holds_is : (w : Who) (H : List Call) (now : ℕ) (h : Hold) (b : Bool) → Passed w H now h → b ≡ stands h.standing → b ≡ holds w H now
 holds_is w H now h b p e = e ∙ (ap stands (ap (λ (k : Hold). k.standing) p) ∙ stands_is (older (step H now) (address_after w H)))
+
+-- led to this moment, and whether the address is held then
+pub led_so : (w : Who) (H : List Call) (now : ℕ) (c : Controller) (new : Hold) (b : Bool) → Is w H c → new ≡ passed now c.hold → b ≡ stands new.standing
+    → Passed w H now new × (b ≡ holds w H now)
+led_so w H now c new b h e f = let p = passed_is w H now c.hold new (ap (λ (v : View). v.hold) h.shown) e in (p, holds_is w H now new b p f)
 
 -- ---- a call by which nobody else holds an address
 
@@ -91,13 +96,14 @@ framed w H now f k =
     }
 
 -- one that is no claim leaves what is heard
-frames : {w : Who} {H : List Call} {old new : Controller} {now : ℕ} {f : FrameRecord} (k : Kind) → Is w H old → new.holders ≡ old.holders
-    → Some (stamped f) ≡ next_frame w H now → kind w H f ≡ k → k.claim ≡ false
-    → view w new ≡ record (framed w H now f k) { news = news_after w H; hearing = hearing_after w H } → Is w (At now (TakeFrame (Some f)) ∷ H) new
-frames {w} {H} {old} {new} {now} {f} k h e answer is n v =
+frames : {w : Who} {H : List Call} {old new : Controller} {now : ℕ} {f : FrameRecord} (c : FrameCase w H now f) → Is w H old → new.holders ≡ old.holders
+    → (kind_by c).claim ≡ false → view w new ≡ record (framed w H now f (kind_by c)) { news = news_after w H; hearing = hearing_after w H }
+    → Is w (At now (TakeFrame (Some f)) ∷ H) new
+frames {w} {H} {old} {new} {now} {f} c h e n v =
+    let is = kind_is w H now f h.answered c in
     let unclaimed : is_claim f ≡ false = ap (λ (k : Kind). k.claim) is ∙ n in
-    follows h e answer (ap (λ (b : Bool). if b then told_claims w H ++ f ∷ [] else told_claims w H) unclaimed)
-    (v ∙ ((λ i. record (framed w H now f k) { news = news_same w H now f unclaimed i; hearing = hearing_same w H now f unclaimed i })
+    follows h e (case_goes c) (ap (λ (b : Bool). if b then told_claims w H ++ f ∷ [] else told_claims w H) unclaimed)
+    (v ∙ ((λ i. record (framed w H now f (kind_by c)) { news = news_same w H now f unclaimed i; hearing = hearing_same w H now f unclaimed i })
     ∙ sym (ap (framed w H now f) is)))
 
 -- ---- what is received in packets
@@ -226,16 +232,6 @@ pub one_acknowledged : (w : Who) (H : List Call) (now : ℕ) (gives b : Bool) (m
 one_acknowledged w H now true b m g e i = absurd (cc)
 one_acknowledged w H now false b m g e i = ap (λ (b : Bool). if b then None else slice_get (due w H) (length (acknowledged H))) (sym g) ∙ i
 
-next_is : (w : Who) (H : List Call) (now : ℕ) (a o : Option Message) → claim_goes w H now ≡ false → holds w H now ≡ true
-    → next_acknowledgment w H now ≡ a → other w H now ≡ o → next_frame w H now ≡ option_map (λ m. (now, m)) (control_of a o)
-next_is w H now a o e f g k = λ i. frame_by (e i) (f i) (g i) (k i) (claim_from w (claim_address w (address_after w H))) now
-
--- the frame of whose turn it is
-other_is : (w : Who) (H : List Call) (now : ℕ) (t : Option Turn) → next_turn w H now ≡ t
-    → other w H now ≡ turn_frame t (slice_get (reception w H).replies 0) (slice_get (accepted w H) (reached H)) (next_packet w H now) (next_transfer w H now)
-other_is w H now t e =
-    ap (λ (t : Option Turn). turn_frame t (slice_get (reception w H).replies 0) (slice_get (accepted w H) (reached H)) (next_packet w H now) (next_transfer w H now)) e
-
 -- the next that isn't withdrawn, of those that aren't told
 past_queued : (w : Who) (G : List Call) (items : List Outgoing) (t n : ℕ) → Sound w G → map posted items ≡ drop t (accepted w G)
     → past (map is_blank (map posted items)) n + t ≡ past (marks G) (n + t)
@@ -262,10 +258,7 @@ taken w H old new now (Some f) x mid h o turn g m e d request calls c1 c2 a1 a2 
     let asks : calls ≡ asks_claims f = c2 ∙ ap (λ (y : ℕ × Message). asks_with y.1 60928) (sym k) in
     let is : request ≡ has_token (open_ask H) (reached H) =
     a2 ∙ ((λ i. has_token (option_map (λ (y : AskRecord). y.question) (h.shown i).asking) (number i)) ∙ ap (λ o. has_token o (reached H)) (token_of (open_ask H) (reached H) (ended w H))) in
-    frames (single false false) h (ap (λ c. c.holders) e)
-    (ap Some k ∙ sym (next_is w H now None (Some (posted x).1) o.owes o.held o.none
-    (other_is w H now (Some Single) (sym (turn_next w H old now mid h o.passed o.held) ∙ turn) ∙ ap (option_map content) i)))
-    (kind_is w H now f h.answered (sends (posted x) o.owes o.held (o.none, sym (turn_next w H old now mid h o.passed o.held) ∙ turn) i k)) refl
+    frames (sends (posted x) o.owes o.held (o.none, sym (turn_next w H old now mid h o.passed o.held) ∙ turn) i k) h (ap (λ c. c.holders) e) refl
     (ap (view w) e ∙ λ i. record (h.shown i) {
       hold = (a3 ∙ λ i. hold_asked (is i) (o.passed i)) i;
       taken = (let a = (ap (λ (v : View). v.taken) h.shown) in let b = past_queued w H old.outgoing.items (length (told H)) (suc old.taken) s (ap (λ (v : View). v.outgoing) h.shown) in
@@ -295,10 +288,7 @@ taken_packet w H old new now f mid h o turn m e e0 e1 more =
     go None q i = absurd (cc)
     go (Some y) q i =
         let k : stamped f ≡ (now, y) = cc in
-        let next = sym (turn_next w H old now mid h o.passed o.held) ∙ turn in
-        frames (of_session true false false) h (ap (λ c. c.holders) e)
-        (i ∙ sym (next_is w H now None (Some y) o.owes o.held o.none (other_is w H now (Some Packet) next ∙ q)))
-        (kind_is w H now f h.answered (packs y o.owes o.held (o.none, next) q k)) refl
+        frames (packs y o.owes o.held (o.none, sym (turn_next w H old now mid h o.passed o.held) ∙ turn) q k) h (ap (λ c. c.holders) e) refl
         (ap (view w) e ∙ λ i. record (h.shown i) {
           hold = (e0 ∙ ap paused o.passed) i;
           lane = (ap (lane_of w) e1 ∙ λ i. record (h.shown i).lane {
@@ -319,10 +309,7 @@ taken_transfer w H old new now f mid h o turn u e e0 e1 e2 e3 =
     go None q i = absurd (cc)
     go (Some y) q i =
         let k : stamped f ≡ (now, y) = cc in
-        let next = sym (turn_next w H old now mid h o.passed o.held) ∙ turn in
-        frames (of_session false false true) h (ap (λ c. c.holders) e)
-        (i ∙ sym (next_is w H now None (Some y) o.owes o.held o.none (other_is w H now (Some Move) next ∙ q)))
-        (kind_is w H now f h.answered (transfers y o.owes o.held (o.none, next) q k)) refl
+        frames (transfers y o.owes o.held (o.none, sym (turn_next w H old now mid h o.passed o.held) ∙ turn) q k) h (ap (λ c. c.holders) e) refl
         (ap (view w) e ∙ λ i. record (h.shown i) {
           hold = (e3 ∙ ap hold_went o.passed) i;
           port = is_port _ _
@@ -339,8 +326,7 @@ taken_due w H old new now (Some f) x mid h p owes held next first m e e0 =
     let s = sound w H h.answered in
     let k : stamped f ≡ (now, refusal_by w x) = cc in
     let due_now = acknowledged_is_due w H now (refusal_by w x) next in
-    frames (single false true) h (ap (λ c. c.holders) e) (ap Some k ∙ sym (next_is w H now (Some (refusal_by w x)) _ owes held next refl))
-    (kind_is w H now f h.answered (acknowledges (refusal_by w x) owes held due_now.0 k due_now.1)) refl
+    frames (acknowledges (refusal_by w x) owes held due_now.0 k due_now.1) h (ap (λ c. c.holders) e) refl
     (ap (view w) e ∙ λ i. record (h.shown i) {
       hold = (e0 ∙ (ap hold_acknowledged p ∙ λ i. record (led w H now) { turns = turns_more (turns H) i })) i;
       acknowledgments = (first.rest ∙ ap (λ (n : ℕ). drop n (due w H)) (sym (length_one_more (acknowledged H) (message_of f)))) i;
@@ -356,11 +342,7 @@ taken_reply w H old new now (Some f) x mid h o turn first m e e0 e1 =
     let own : old.incoming.receiver.state.own ≡ w.address = ap (λ (v : View). v.incoming.own) h.shown in
     let k : stamped f ≡ (now, said_by w.address x) = cc in
     let at : slice_get (reception w H).replies 0 ≡ Some (said_by w.address x) = first.is ∙ ap (λ (a : ℕ). Some (said_by a x)) own in
-    let next = sym (turn_next w H old now mid h o.passed o.held) ∙ turn in
-    frames (of_session false true false) h (ap (λ c. c.holders) e)
-    (ap Some k ∙ sym (next_is w H now None (Some (said_by w.address x)) o.owes o.held o.none
-    (other_is w H now (Some Reply) next ∙ at)))
-    (kind_is w H now f h.answered (replies (said_by w.address x) o.owes o.held (o.none, next) at k)) refl
+    frames (replies (said_by w.address x) o.owes o.held (o.none, sym (turn_next w H old now mid h o.passed o.held) ∙ turn) at k) h (ap (λ c. c.holders) e) refl
     (ap (view w) e ∙ λ i. record (h.shown i) {
       hold = (e1 ∙ ap hold_spoken o.passed) i;
       incoming = (ap incoming_of e0 ∙ λ i. with_replies (first.rest i) (h.shown i).incoming) i;
@@ -765,10 +747,7 @@ claims_more w H old new now f mid a h p owes e0 m at knows drops broken t t1 t2 
         broadcast_senders = (ap (λ v. map (λ b. (in_box b).name) v.items) t4 ∙ ap (λ (v : View). v.broadcast_senders) h.shown) i;
         incoming = (drops ∙ incoming_claimed w H old now f new.holders h kind_now knows_now) i;
       }) ∙ ap (λ (k : Kind). record (framed w H now f k) { incoming = incoming_after w (At now (TakeFrame (Some f)) ∷ H) }) (sym kind_now));
-      answered = (
-        h.answered,
-        ap Some j ∙ sym (ap (λ (b : Bool). frame_by b (holds w H now) (next_acknowledgment w H now) (other w H now) (claim_from w (claim_address w (address_after w H))) now) owes),
-      );
+      answered = (h.answered, case_goes {w = w} {H = H} {now = now} {f = f} (claims_first owes j));
       holders = knows_now;
     }
 

@@ -811,15 +811,11 @@ double_claimed w (At now (Hear f) ∷ H) a e = go (double_claimed w H a) (claim_
   where
     go : (doubled_news w H ≡ Some a → HasDouble w a H) → (o : Option Claim) → claim_of f ≡ o → option_or (double w o) (doubled_news w H) ≡ Some a
         → HasDouble w a (At now (Hear f) ∷ H)
-    go before None k i = double_later w a H (At now (Hear f)) (before i)
-    go before (Some c) k i = same before (nat_eq c.name w.name) refl i
-      where
-        same : (doubled_news w H ≡ Some a → HasDouble w a H) → (b : Bool) → nat_eq c.name w.name ≡ b
-            → option_or (if b then Some c.address else None) (doubled_news w H) ≡ Some a → HasDouble w a (At now (Hear f) ∷ H)
-        same before true m i =
-            let n = eqb-true c.name w.name m in let s : c.address ≡ a = cc in
-            record { later = []; at = now; claim = f; earlier = H; is = refl; of_it = k ∙ λ t. Some (record { name = n t; address = s t }) }
-        same before false m i = double_later w a H (At now (Hear f)) (before i)
+    go before None k = λ i. double_later w a H (At now (Hear f)) (before i)
+    go before (Some c) k = cond_both (nat_eq c.name w.name) _ _ (λ (o : Option ℕ). option_or o (doubled_news w H) ≡ Some a → HasDouble w a (At now (Hear f) ∷ H))
+        (λ m i. (let n = eqb-true c.name w.name m in let s : c.address ≡ a = cc in
+        record { later = []; at = now; claim = f; earlier = H; is = refl; of_it = k ∙ λ t. Some (record { name = n t; address = s t }) }))
+        (λ m i. double_later w a H (At now (Hear f)) (before i))
 double_claimed w (TakeNews (Some (NameDoubled b)) ∷ H) a e = absurd (cc)
 double_claimed w (call ∷ H) a e = double_later w a H call (double_claimed w H a e)
 

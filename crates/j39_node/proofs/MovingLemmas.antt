@@ -51,53 +51,28 @@ none_waits n (x ∷ xs) e g = absurd (let z = eqb-true n 0 g in omega (arith, e,
 
 -- ---- all of them
 
-module _ (w : Who) (H : List Call) (c : Controller) (h : Is w H c) where
-  messages : length c.outgoing.items ≡ length (accepted w H) - length (told H)
-  messages = length_rest posted c.outgoing.items (length (told H)) (accepted w H) (ap (λ (v : View). v.outgoing) h.shown)
-
-  unread : length c.inbox.unread.items ≡ length (kept w H) - length (got H)
-  unread = length_rest received_by c.inbox.unread.items (length (got H)) (kept w H) (ap (λ (v : View). v.unread) h.shown)
-
-  asked : length c.desk.waiting.items ≡ length (requests w H) - length (handed H)
-  asked = length_rest request_by c.desk.waiting.items (length (handed H)) (requests w H) (ap (λ (v : View). v.requests) h.shown)
-
-  broadcast : (lane_of w c.lane).current ≡ open_broadcast w H
-  broadcast = ap (λ (v : View). v.lane.current) h.shown
-
-  transfer : (port_of c.transfers).current ≡ open_transfer w H
-  transfer = ap (λ (v : View). v.port.current) h.shown
-
-  waits : (incoming_of c.incoming).reception.waits ≡ (reception w H).waits
-  waits = ap (λ (v : View). v.incoming.reception.waits) h.shown
-
-  heard : length c.hearing.whole.items ≡ length (waiting w H)
-  heard = sym (length-map c.hearing.whole.items (λ b. message_by (in_box b))) ∙ ap (λ (v : View). length v.hearing.listening.waits) h.shown
-
-  untold : not (c.news.lost || (c.news.another || (is_some c.news.doubled || c.news.missed))) ≡ true → next_news w H ≡ None
-  untold e = no_news _ _ _ _ (sym (ap (λ (v : View). not (v.news.lost || (v.news.another || (is_some v.news.doubled || v.news.missed)))) h.shown) ∙ e)
-
-  pub settles : (has_told c && has_given c) ≡ true → IsSettled w H
-  settles e =
-      let s = sound w H h.answered in
-      let p = and_parts _ _ e in
-      let t = and_parts _ _ p.0 in
-      let t2 = and_parts _ _ t.1 in
-      let t3 = and_parts _ _ t2.1 in
-      let g = and_parts _ _ p.1 in
-      let g2 = and_parts _ _ g.1 in
-      let g3 = and_parts _ _ g2.1 in
-      let g4 = and_parts _ _ g3.1 in
-      record {
-        messages = empty_is _ _ _ messages s.within t.0;
-        broadcast = sym broadcast ∙ none_is _ _ t2.0;
-        transfer = sym transfer ∙ none_is _ _ t3.0;
-        request = asked_none _ _ _ (sym (ap (λ (v : View). v.asking) h.shown) ∙ none_is _ _ t3.1);
-        received = empty_is _ _ _ unread (read w H s) g.0;
-        requests_taken = empty_is _ _ _ asked (front_length _ _ s.desk.2) g2.0;
-        received_transfer = sym waits ∙ place_none _ has_place (λ x. refl) g3.0;
-        received_broadcast = none_waits _ _ heard g4.0;
-        news = untold g4.1;
-      }
+pub settles : (w : Who) (H : List Call) (c : Controller) → Is w H c → (has_told c && has_given c) ≡ true → IsSettled w H
+settles w H c h e =
+    let s = sound w H h.answered in
+    let p = and_parts _ _ e in
+    let t = and_parts _ _ p.0 in
+    let t2 = and_parts _ _ t.1 in
+    let t3 = and_parts _ _ t2.1 in
+    let g = and_parts _ _ p.1 in
+    let g2 = and_parts _ _ g.1 in
+    let g3 = and_parts _ _ g2.1 in
+    let g4 = and_parts _ _ g3.1 in
+    record {
+      messages = empty_is _ _ _ (length_rest posted c.outgoing.items (length (told H)) (accepted w H) (ap (λ (v : View). v.outgoing) h.shown)) s.within t.0;
+      broadcast = sym (ap (λ (v : View). v.lane.current) h.shown) ∙ none_is _ _ t2.0;
+      transfer = sym (ap (λ (v : View). v.port.current) h.shown) ∙ none_is _ _ t3.0;
+      request = asked_none _ _ _ (sym (ap (λ (v : View). v.asking) h.shown) ∙ none_is _ _ t3.1);
+      received = empty_is _ _ _ (length_rest received_by c.inbox.unread.items (length (got H)) (kept w H) (ap (λ (v : View). v.unread) h.shown)) (read w H s) g.0;
+      requests_taken = empty_is _ _ _ (length_rest request_by c.desk.waiting.items (length (handed H)) (requests w H) (ap (λ (v : View). v.requests) h.shown)) (front_length _ _ s.desk.2) g2.0;
+      received_transfer = sym (ap (λ (v : View). v.incoming.reception.waits) h.shown) ∙ place_none _ has_place (λ x. refl) g3.0;
+      received_broadcast = none_waits _ _ (sym (length-map c.hearing.whole.items (λ b. message_by (in_box b))) ∙ ap (λ (v : View). length v.hearing.listening.waits) h.shown) g4.0;
+      news = no_news _ _ _ _ (sym (ap (λ (v : View). not (v.news.lost || (v.news.another || (is_some v.news.doubled || v.news.missed)))) h.shown) ∙ g4.1);
+    }
 
 -- ---- it begins anew
 

@@ -290,6 +290,26 @@ claim_is w H now g = ap (λ (b : Bool). claim_due w H now && not b) g ∙ and-tr
 pub due_is : (w : Who) (H : List Call) (now : ℕ) → gives_way w H now ≡ false → next_acknowledgment w H now ≡ slice_get (due w H) (length (acknowledged H))
 due_is w H now g = ap (λ (b : Bool). if b then None else slice_get (due w H) (length (acknowledged H))) g
 
+pub next_is : (w : Who) (H : List Call) (now : ℕ) (a o : Option Message) → claim_goes w H now ≡ false → holds w H now ≡ true
+    → next_acknowledgment w H now ≡ a → other w H now ≡ o → next_frame w H now ≡ option_map (λ m. (now, m)) (control_of a o)
+next_is w H now a o e f g k = λ i. frame_by (e i) (f i) (g i) (k i) (claim_from w (claim_address w (address_after w H))) now
+
+-- the frame of whose turn it is
+pub other_is : (w : Who) (H : List Call) (now : ℕ) (t : Option Turn) → next_turn w H now ≡ t
+    → other w H now ≡ turn_frame t (slice_get (reception w H).replies 0) (slice_get (accepted w H) (reached H)) (next_packet w H now) (next_transfer w H now)
+other_is w H now t e =
+    ap (λ (t : Option Turn). turn_frame t (slice_get (reception w H).replies 0) (slice_get (accepted w H) (reached H)) (next_packet w H now) (next_transfer w H now)) e
+
+-- what a frame is that is taken is what goes next
+pub case_goes : {w : Who} {H : List Call} {now : ℕ} {f : FrameRecord} → FrameCase w H now f → Some (stamped f) ≡ next_frame w H now
+case_goes {w} {H} {now} (claims o e) =
+    ap Some e ∙ sym (ap (λ (b : Bool). frame_by b (holds w H now) (next_acknowledgment w H now) (other w H now) (claim_from w (claim_address w (address_after w H))) now) o)
+case_goes {w} {H} {now} (acknowledges m o h g e way) = ap Some e ∙ sym (next_is w H now (Some m) _ o h (due_is w H now way ∙ g) refl)
+case_goes {w} {H} {now} (replies m o h n g e) = ap Some e ∙ sym (next_is w H now None (Some m) o h n.0 (other_is w H now (Some Reply) n.1 ∙ g))
+case_goes {w} {H} {now} (sends x o h n g e) = ap Some e ∙ sym (next_is w H now None (Some x.1) o h n.0 (other_is w H now (Some Single) n.1 ∙ ap (option_map content) g))
+case_goes {w} {H} {now} (packs m o h n g e) = ap Some e ∙ sym (next_is w H now None (Some m) o h n.0 (other_is w H now (Some Packet) n.1 ∙ g))
+case_goes {w} {H} {now} (transfers m o h n g e) = ap Some e ∙ sym (next_is w H now None (Some m) o h n.0 (other_is w H now (Some Move) n.1 ∙ g))
+
 pub none_acknowledged : (w : Who) (H : List Call) (now : ℕ) → next_acknowledgment w H now ≡ None
     → IsTrue (gives_way w H now) ⊎ (slice_get (due w H) (length (acknowledged H)) ≡ None)
 none_acknowledged w H now e = elim (cases_Bool (gives_way w H now)) [ inl g ↦ inl g | inr g ↦ inr (sym (due_is w H now g) ∙ e) ]

@@ -175,18 +175,10 @@ budgeted w (call ∷ H) = budgeted w H
 
 -- it gives up only where more than 64 clears to send granted nothing higher
 not_five : (t : Running) (xs : List Message) (a : Signal) → SignalCase t.sender xs a → says t.sender a ≡ abort_move t.sender.destination t.sender.message 5 → ⊥
-not_five t xs a (requests n e) k =
-    let z : says t.sender (request_of t.sender.message) ≡ abort_move t.sender.destination t.sender.message 5 = sym (ap (says t.sender) e) ∙ k in
-    let y = same_Some 16 255 (ap (λ (m : Message). slice_get m.bytes 0) z) in
-    absurd (omega (arith, y))
+not_five t xs a (requests n e) k = let y = same_Some 16 255 (ap (λ (m : Message). slice_get m.bytes 0) (sym (ap (says t.sender) e) ∙ k)) in absurd (omega (arith, y))
 not_five t xs a (packs i n l m e) k =
-    let z : says t.sender (Packet i (packet_data t.sender.message.bytes i)) ≡ abort_move t.sender.destination t.sender.message 5 = sym (ap (says t.sender) e) ∙ k in
-    let y : transport_data_group ≡ transport_control_group = ap (λ (m : Message). m.group) z in
-    absurd (omega (arith, y))
-not_five t xs a (times_out n e) k =
-    let z : abort_move t.sender.destination t.sender.message 3 ≡ abort_move t.sender.destination t.sender.message 5 = sym (ap (says t.sender) e) ∙ k in
-    let y = same_Some 3 5 (ap (λ (m : Message). slice_get m.bytes 1) z) in
-    absurd (omega (arith, y))
+    let y : transport_data_group ≡ transport_control_group = ap (λ (m : Message). m.group) (sym (ap (says t.sender) e) ∙ k) in absurd (omega (arith, y))
+not_five t xs a (times_out n e) k = let y = same_Some 3 5 (ap (λ (m : Message). slice_get m.bytes 1) (sym (ap (says t.sender) e) ∙ k)) in absurd (omega (arith, y))
 
 pub patient : (w : Who) (H : List Call) (c : Controller) (now : ℕ) (f : FrameRecord) (t : Running) → Is w (At now (TakeFrame (Some f)) ∷ H) c → IsTrue (is_move w H f)
     → open_transfer w H ≡ Some t → message_of f ≡ abort_move t.sender.destination t.sender.message 5 → (65 ≤ t.spent) × (65 ≤ clears w H)
