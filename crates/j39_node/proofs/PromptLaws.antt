@@ -1,5 +1,5 @@
 -- A driver's pace: what was accepted goes on, is over, or its address is lost. Broadcasts first.
-use Rattle.j39_node.proofs.Common.{Address, Again, AreAnswered, At, Bool, Broadcast, Call, Claimed, Controller, Done, Ending, FrameRecord, Hear, Is, IsAnswered, IsPaced, IsPrompt, List, Lost, MessageRecord, None, NoneTold, NotClaimed, Ok, Option, Some, TakeBroadcastEnded, TakeFrame, Who, Withdrawn, [], add-mul, address_after, after, answer_to_broadcast, ap, arith, broadcast_end, broadcast_from, broadcasts, by, claim_of, claimed, claims_anew, ending_of, false, frame_of, gap, goes, idle, if◌then◌else◌, inl, inr, is_claim, is_held, is_lost, is_open, is_packet, is_smaller, later, leb-false, leb-true, left, length, lost, message_of, moment, more, nat_eq, nat_le, nat_lt, next_broadcast_ended, not_both, older, open_broadcast, packet_by, packets, packets_of, packets_taken, passed, passed_in, pause, refl, rest, step, subst, suc, suc-mul, sym, tells_broadcast, true, waited_in, ℕ, ◌&&◌, ◌*◌, ◌++◌, ◌+◌, ◌-◌, ◌<◌, ◌||◌, ◌∙◌, ◌∷◌, ◌≡◌, ◌≤◌, ◌⊎◌, cond_both, ltb-false}
+use Rattle.j39_node.proofs.Common.{Address, Again, AreAnswered, At, Bool, Broadcast, Call, Claimed, Controller, Done, Ending, FrameRecord, Hear, Is, IsAnswered, IsPaced, IsPrompt, List, Lost, Message, MessageRecord, None, NoneTold, NotClaimed, Ok, Option, Some, TakeBroadcastEnded, TakeFrame, Who, Withdrawn, [], add-mul, address_after, after, answer_to_broadcast, ap, arith, broadcast_end, broadcast_from, broadcasts, by, claim_of, claimed, claims_anew, ending_of, false, frame_of, gap, goes, idle, if◌then◌else◌, inl, inr, is_claim, is_held, is_lost, is_open, is_packet, is_smaller, later, leb-false, leb-true, left, length, lost, message_of, moment, more, nat_eq, nat_le, nat_lt, next_broadcast_ended, not_both, older, open_broadcast, packet_by, packets, packets_of, packets_taken, passed, passed_in, pause, refl, rest, step, subst, suc, suc-mul, sym, tells_broadcast, true, waited_in, ℕ, ◌&&◌, ◌*◌, ◌++◌, ◌+◌, ◌-◌, ◌<◌, ◌||◌, ◌∙◌, ◌∷◌, ◌≡◌, ◌≤◌, ◌⊎◌, cond_both, ltb-false}
 use Rattle.j39_node.proofs.QueueLemmas.{length_one_more}
 use Rattle.j39_node.proofs.SoundLemmas.{stays_lost, none_next, held_older, lost_claimed, lost_older, lost_unclaimed, packets_is, pause_is, address_cases}
 use Rattle.j39_node.proofs.AnswerCases.{broadcast_accepts}
@@ -93,9 +93,19 @@ pub not_yet : (most each count passed left slack s rest after : ℕ) → rest �
 not_yet most each count passed left slack s rest after e l h =
     let a = h.soon (omega (arith, e, l)) in record { soon = λ z. omega (arith, a, e, l); late = omega (arith, a, e, l) }
 
-packs_one : (most each count passed left slack s after : ℕ) → slack + s ≤ each → Timely most each count passed left slack → Timely most each (suc count) (passed + s) most after
-packs_one most each count passed left slack s after p h =
-    let a = h.late in let e = due_more most each count in record { soon = λ z. omega (arith, a, e, p); late = omega (arith, a, e, p) }
+packs_one : (most each count passed left slack s rest after : ℕ) → rest ≡ most → slack + s ≤ each → Timely most each count passed left slack
+    → Timely most each (suc count) (passed + s) rest after
+packs_one most each count passed left slack s rest after z p h =
+    let a = h.late in let e = due_more most each count in record { soon = λ y. omega (arith, a, e, p, z); late = omega (arith, a, e, p) }
+
+-- behind a frame that is one of a broadcast, or isn't
+pub timely_then : (most each spare l : ℕ) (later B : List Call) (now : ℕ) (f : FrameRecord) (b : Bool) → is_packet f ≡ b
+    → Timely most each (if b then suc (packets_taken later) else packets_taken later) (passed_in later B + step (later ++ B) now)
+    ((if b then 150000 else pause (later ++ B) - step (later ++ B) now) - spare) l
+    → Timely most each (packets_taken (At now (TakeFrame (Some f)) ∷ later)) (passed_in later B + step (later ++ B) now) (pause (At now (TakeFrame (Some f)) ∷ later ++ B) - spare) l
+timely_then most each spare l later B now f b i t =
+    subst (λ (c : Bool). Timely most each (if c then suc (packets_taken later) else packets_taken later) (passed_in later B + step (later ++ B) now)
+    ((if c then 150000 else pause (later ++ B) - step (later ++ B) now) - spare) l) (sym i) t
 
 -- ---- the course of a broadcast, of which c0 frames were taken before
 
@@ -137,31 +147,27 @@ module _ (w : Who) (B : List Call) (since : List Call → List Call → ℕ) (sl
     pub last : 150000 - spare ≡ most
     pub within : spare ≤ 100000
 
-  counts : (now : ℕ) (f : FrameRecord) (later : List Call) (b : Bool) → is_packet f ≡ b
-      → (length (packets (At now (TakeFrame (Some f)) ∷ later ++ B)) ≡ (if b then suc (length (packets (later ++ B))) else length (packets (later ++ B))))
-      × (packets_taken (At now (TakeFrame (Some f)) ∷ later) ≡ (if b then suc (packets_taken later) else packets_taken later))
-  counts now f later true i =
-      (ap length (packets_is (later ++ B) now f true i) ∙ length_one_more (packets (later ++ B)) (message_of f), ap (λ (b : Bool). if b then suc (packets_taken later) else packets_taken later) i)
-  counts now f later false i = (ap length (packets_is (later ++ B) now f false i), ap (λ (b : Bool). if b then suc (packets_taken later) else packets_taken later) i)
-
   takes_one : Pace → (now : ℕ) (f : FrameRecord) (later : List Call) → AreAnswered w (later ++ B) → IsAnswered w (later ++ B) (At now (TakeFrame (Some f)))
-      → since later B + step (later ++ B) now ≤ g → Stands later → (b : Bool) → is_packet f ≡ b → Stands (At now (TakeFrame (Some f)) ∷ later)
-  takes_one x now f later right a p h true i = record {
+      → since later B + step (later ++ B) now ≤ g → Stands later → Stands (At now (TakeFrame (Some f)) ∷ later)
+  takes_one x now f later right a p h = record {
     broadcast = h.broadcast;
-    count = (let n = counts now f later true i in let q = n.0 in let r = n.1 in let c = h.count in omega (arith, q, r, c));
-    course = later_on w (later ++ B) (At now (TakeFrame (Some f))) refl (λ l. (let q = (counts now f later true i).0 in omega (arith, l, q)))
-        (λ e z t. inr (subst (λ (n : ℕ). Timely most each n (passed_in later B + step (later ++ B) now) (pause (At now (TakeFrame (Some f)) ∷ later ++ B) - spare) (slack (At now (TakeFrame (Some f)) ∷ later)))
-        (sym (counts now f later true i).1)
-        (subst (λ (n : ℕ). Timely most each (suc (packets_taken later)) (passed_in later B + step (later ++ B) now) n (slack (At now (TakeFrame (Some f)) ∷ later)))
-        (sym (ap (λ (n : ℕ). n - spare) (pause_is (later ++ B) now f true i) ∙ x.last))
-        (packs_one most each _ _ _ _ (step (later ++ B) now) _ (x.quick later (step (later ++ B) now) p) t)))) h.course;
+    count = counts (is_packet f);
+    course = later_on w (later ++ B) (At now (TakeFrame (Some f))) refl
+        (λ l. cond_both (is_packet f) (packets (later ++ B) ++ message_of f ∷ []) (packets (later ++ B)) (λ (L : List Message). packets_of m < length L) (λ z. omega (arith, l, one_more)) (λ z. l))
+        (λ e z t. takes (is_packet f) refl e t) h.course;
   }
-  takes_one x now f later right a p h false i = record {
-    broadcast = h.broadcast;
-    count = (let n = counts now f later false i in let q = n.0 in let r = n.1 in let c = h.count in omega (arith, q, r, c));
-    course = later_on w (later ++ B) (At now (TakeFrame (Some f))) refl (λ l. (let q = (counts now f later false i).0 in omega (arith, l, q)))
-        (λ e z t. x.beside now f later right a p i e h t) h.course;
-  }
+    where
+      one_more : length (packets (later ++ B) ++ message_of f ∷ []) ≡ suc (length (packets (later ++ B)))
+      one_more = length_one_more (packets (later ++ B)) (message_of f)
+
+      counts : (b : Bool) → length (if b then packets (later ++ B) ++ message_of f ∷ [] else packets (later ++ B)) ≡ c0 + (if b then suc (packets_taken later) else packets_taken later)
+      counts true = let c = h.count in omega (arith, c, one_more)
+      counts false = h.count
+
+      takes : (b : Bool) → is_packet f ≡ b → is_held (address_after w (later ++ B)) ≡ true → Runs later
+          → IsOver (At now (TakeFrame (Some f)) ∷ later) ⊎ Runs (At now (TakeFrame (Some f)) ∷ later)
+      takes true i e t = inr (timely_then most each spare _ later B now f true i (packs_one most each _ _ _ _ (step (later ++ B) now) _ _ x.last (x.quick later (step (later ++ B) now) p) t))
+      takes false i e t = x.beside now f later right a p i e h t
 
   -- no other is accepted
   none_begins : (later : List Call) (now group j : ℕ) (bytes : List ℕ) → open_broadcast w (later ++ B) ≡ Some (k, m) → Ok j ≡ answer_to_broadcast w (later ++ B) now group bytes → ⊥
@@ -170,7 +176,7 @@ module _ (w : Who) (B : List Call) (since : List Call → List Call → ℕ) (sl
 
   one_more : Pace → (call : Call) (later : List Call) → AreAnswered w (later ++ B) → IsAnswered w (later ++ B) call → tells_broadcast call ≡ false
       → (since later B + step (later ++ B) (moment (call ∷ later ++ B)) ≤ g) × (claims_anew call ≡ false) → Stands later → Stands (call ∷ later)
-  one_more x (At now (TakeFrame (Some f))) later right a n p h = takes_one x now f later right a p.0 h (is_packet f) refl
+  one_more x (At now (TakeFrame (Some f))) later right a n p h = takes_one x now f later right a p.0 h
   one_more x (At now (TakeFrame None)) later right a n p h = record {
     broadcast = h.broadcast;
     count = h.count;
@@ -235,20 +241,10 @@ module _ (w : Who) (B : List Call) (g k : ℕ) (m : MessageRecord) where
   prompt = record {
     idle = λ call later e. waited_more call later B e;
     quick = λ later s p. p;
-    beside = λ now f later right a p i e h t. inr (beside now f later i t);
+    beside = λ now f later right a p i e h t. inr (timely_then gap g 100000 _ later B now f false i (passes gap g _ _ _ _ (step (later ++ B) now) _ (omega arith) t));
     last = refl;
     within = omega arith;
   }
-    where
-      R : List Call → Type 0
-      R = Runs w B waited_in (λ later. waited_in later B) g gap g 100000 k 0 m
-
-      beside : (now : ℕ) (f : FrameRecord) (later : List Call) → is_packet f ≡ false → R later → R (At now (TakeFrame (Some f)) ∷ later)
-      beside now f later i t =
-          subst (λ (n : ℕ). Timely gap g n (passed_in later B + step (later ++ B) now) (pause (At now (TakeFrame (Some f)) ∷ later ++ B) - 100000) (waited_in later B + step (later ++ B) now))
-          (sym (ap (λ (b : Bool). if b then suc (packets_taken later) else packets_taken later) i))
-          (subst (λ (n : ℕ). Timely gap g (packets_taken later) (passed_in later B + step (later ++ B) now) (n - 100000) (waited_in later B + step (later ++ B) now))
-          (sym (pause_is (later ++ B) now f false i)) (passes gap g _ _ _ _ (step (later ++ B) now) _ (omega arith) t))
 
 pub broadcast_ends : (w : Who) (later earlier : List Call) (c : Controller) (g now group k : ℕ) (bytes : List ℕ)
     → Is w (later ++ At now (Broadcast group bytes (Ok k)) ∷ earlier) c → NoneTold tells_broadcast later
