@@ -1,5 +1,5 @@
 -- When a frame of packets is due.
-use Rattle.j39_node.proofs.Common.{if◌then◌else◌, ◌&&◌, ◌+◌, ◌-◌, ◌<◌, ◌∙◌, ◌≡◌, ◌≤◌, ◌⊎◌, Abort, age, ap, arith, at_in, Bool, Call, clock, Failed, false, frame_of, gives_up, has_packets, Idle, inl, inr, is_left, length, List, long_by, lt-ltb, ltb-false, ltb-true, Message, MessageRecord, min, moment, nat_le, nat_lt, next_long, next_packet, next_transfer, None, open_broadcast, open_transfer, Option, option_map, packet_by, packets, packets_in, packets_of, pause, refl, Running, running_in, says, send_step, Sending, SendResult, sends_in, sends_packet, SendState, Signal, signal_by, silent, Some, sooner, step, sym, ticks_in, timeout, transfer_by, transfer_in, true, Waiting, Who, ℕ, le-ltb, le-leb, lt-leb, not_both, same_Some, cases_lt, cond_some, and_from}
+use Rattle.j39_node.proofs.Common.{if◌then◌else◌, ◌&&◌, ◌+◌, ◌-◌, ◌<◌, ◌∙◌, ◌≡◌, ◌≤◌, ◌⊎◌, Abort, age, ap, arith, at_in, Bool, Call, clock, Failed, false, gives_up, has_packets, Idle, inl, inr, is_left, length, List, long_by, lt-ltb, Message, MessageRecord, min, moment, nat_le, nat_lt, next_long, next_packet, next_transfer, None, open_broadcast, open_transfer, Option, option_map, packet_by, packets, packets_in, pause, refl, Running, running_in, says, send_step, Sending, SendResult, sends_in, sends_packet, SendState, signal_by, silent, Some, sooner, step, sym, ticks_in, timeout, transfer_by, transfer_in, true, Waiting, Who, ℕ, le-ltb, le-leb, lt-leb, same_Some, cases_lt, cond_some, and_from}
 use Rattle.j39_transport.specs.Sending.{Done, Tick}
 use Rattle.j39_node.specs.Transfers.{packet_in}
 use Rattle.j39_node.proofs.QueueLemmas.{mapped_none}

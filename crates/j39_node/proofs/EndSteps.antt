@@ -1,6 +1,5 @@
 -- How long a transfer waits, step by step of its sender.
-use Rattle.j39_node.proofs.Common.{Abort, Acknowledgment, Bool, ClearToSend, Failed, Idle, None, Option, SendResult, SendState, SenderRecord, Sending, Signal, Some, Waiting, aborted, add-mul, after, age, ap, arith, by, cleared, cond_both, false, granted_after, granted_by, if◌then◌else◌, inl, inr, is_idle, is_running, is_waiting, length, ltb-false, ltb-true, max, may_name, min, more, nat_lt, not, other, packets, packets_of, refl, says, sends_packet, spent_after, subst, suc, suc-mul, sym, ticks_in, timeout, timer_t3, timer_t4, true, waits, zero, ℕ, ◌&&◌, ◌*◌, ◌+◌, ◌-◌, ◌<◌, ◌==◌, ◌||◌, ◌∙◌, ◌≡◌, ◌≤◌, ◌⊎◌, mul-le-mul_right, not_both, true_from_ne_false}
-use Rattle.j39_transport.specs.Sending.{Done, acknowledged, hears}
+use Rattle.j39_node.proofs.Common.{Abort, Bool, Failed, Idle, None, Option, SendResult, SendState, SenderRecord, Sending, Signal, Some, Waiting, age, ap, arith, cond_both, false, granted_after, if◌then◌else◌, inl, inr, is_idle, is_running, is_waiting, ltb-false, ltb-true, max, nat_lt, not, other, refl, says, sends_packet, spent_after, subst, suc, suc-mul, sym, ticks_in, timeout, timer_t3, timer_t4, true, waits, zero, ℕ, ◌&&◌, ◌*◌, ◌+◌, ◌<◌, ◌==◌, ◌||◌, ◌∙◌, ◌≡◌, ◌≤◌, ◌⊎◌, mul-le-mul_right, not_both, true_from_ne_false}
 use Rattle.j39_node.proofs.MoveSteps.{HeardCase}
 use Rattle.j39_node.proofs.MoveSteps.HeardCase.{same, done, fails, holds, clears}
 

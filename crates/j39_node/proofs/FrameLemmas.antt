@@ -1,5 +1,5 @@
 -- Frames that are made, and the lane of broadcasts.
-use Rattle.j39_node.proofs.Common.{if◌then◌else◌, ◌&&◌, ◌<◌, ◌==◌, ◌↔◌, ◌∙◌, ◌≡◌, ◌≤◌, ap, arith, as_broadcast, Bool, broadcast_end, carried, cut_frame, Done, Ending, false, frame_of, FrameRecord, IfSome, is_left, IsSome, length, List, lt-ltb, Message, MessageRecord, nat_le, nat_lt, None, Option, option_map, packet_by, packets_of, refl, Some, stamped, subst, sym, ToSend, transport_control_group, transport_data_group, true, Withdrawn, ℕ, le-leb, lt-leb, ending_of}
+use Rattle.j39_node.proofs.Common.{if◌then◌else◌, ◌&&◌, ◌<◌, ◌==◌, ◌↔◌, ◌∙◌, ◌≡◌, ◌≤◌, ap, arith, as_broadcast, Bool, broadcast_end, carried, cut_frame, false, frame_of, FrameRecord, IfSome, is_left, IsSome, length, List, Message, MessageRecord, nat_le, nat_lt, None, Option, option_map, packet_by, packets_of, refl, Some, stamped, subst, sym, ToSend, transport_control_group, transport_data_group, true, ℕ, le-leb, lt-leb, ending_of}
 
 -- the frame that is made is one of this message
 pub made : (r : Option FrameRecord) (now id : ℕ) (bytes : List ℕ) (m : Message) → (IsSome r ↔ (length bytes ≤ 8))

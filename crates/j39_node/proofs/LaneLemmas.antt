@@ -1,5 +1,5 @@
 -- What every answered history says of broadcasts.
-use Rattle.j39_node.proofs.Common.{[], ◌++◌, ◌-◌, ◌<◌, ◌||◌, ◌∙◌, ◌∷◌, ◌≡◌, ◌≤◌, address_after, answer_to_broadcast, ap, AreAnswered, arith, At, Bool, Broadcast, broadcast_end, broadcast_from, broadcasts, Call, Done, Ending, false, first_frames, frame_of, FrameRecord, is_lost, is_open, is_packet, length, List, ltb-true, Message, MessageRecord, nat_lt, None, Ok, open_broadcast, Option, packets, packets_of, pause, refl, slice_get, Some, step, subst, suc, sym, TakeBroadcastEnded, TakeFrame, told_broadcasts, true, Who, Withdrawn, ℕ, ltb-false, or_parts}
+use Rattle.j39_node.proofs.Common.{[], ◌++◌, ◌-◌, ◌<◌, ◌∙◌, ◌∷◌, ◌≡◌, ◌≤◌, address_after, answer_to_broadcast, ap, AreAnswered, arith, At, Bool, Broadcast, broadcast_end, broadcast_from, broadcasts, Call, Done, Ending, false, first_frames, frame_of, FrameRecord, is_lost, is_open, is_packet, length, List, ltb-true, Message, MessageRecord, nat_lt, None, Ok, open_broadcast, Option, packets, packets_of, pause, refl, slice_get, Some, step, subst, suc, sym, TakeBroadcastEnded, TakeFrame, told_broadcasts, true, Who, Withdrawn, ℕ, ltb-false, or_parts}
 use Rattle.j39_node.proofs.QueueLemmas.{length_one_more, get_last}
 use Rattle.j39_node.proofs.SoundLemmas.{FrameCase, PacketCase, frame_case, packet_case, packet_taken, packets_is}
 use Rattle.j39_node.proofs.SoundLemmas.FrameCase.{packs}

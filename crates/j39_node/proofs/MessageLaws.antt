@@ -1,5 +1,5 @@
 -- That every message of one frame ends.
-use Rattle.j39_node.proofs.Common.{AreAnswered, Ask, At, Bool, Call, Controller, Done, Draft, Ending, Is, IsAnswered, IsPrompt, List, Message, None, Ok, Option, Renew, Send, Some, TakeFrame, Who, Withdraw, Withdrawn, [], accepted, address_after, ap, arith, blank, claims_anew, end_of, ending_of, false, holds, if◌then◌else◌, inl, inr, is_acknowledgment, is_blank, is_claim, is_held, is_lost, is_session, later, length, length-set, lost, lt-ltb, marks, message_from, moment, nat_lt, next_ended, next_frame, not, passed_in, past, reached, refl, request_for, rest, slice_get, slice_set, step, suc, told, true, waited_in, zero, ℕ, ◌++◌, ◌+◌, ◌<◌, ◌||◌, ◌∙◌, ◌∷◌, ◌≡◌, ◌≤◌, ◌⊎◌, cond_both, not_both}
+use Rattle.j39_node.proofs.Common.{AreAnswered, Ask, At, Bool, Call, Controller, Done, Draft, Ending, Is, IsAnswered, IsPrompt, List, Message, None, Ok, Option, Renew, Send, Some, TakeFrame, Who, Withdraw, Withdrawn, [], accepted, address_after, ap, arith, blank, claims_anew, end_of, ending_of, false, inl, inr, is_acknowledgment, is_blank, is_claim, is_held, is_lost, is_session, later, length, length-set, lost, lt-ltb, marks, message_from, moment, nat_lt, next_ended, not, passed_in, reached, refl, request_for, slice_get, slice_set, step, suc, told, true, waited_in, zero, ℕ, ◌++◌, ◌+◌, ◌<◌, ◌||◌, ◌∙◌, ◌∷◌, ◌≡◌, ◌≤◌, ◌⊎◌, cond_both, not_both}
 use Rattle.j39_node.proofs.PromptLaws.{answered_from, ended_or_lost, Fate, later_on, waited_last}
 use Rattle.j39_node.proofs.PromptLaws.Fate.{runs}
 use Rattle.j39_node.proofs.QueueLemmas.{length_one_more}

@@ -1,5 +1,5 @@
 -- What every answered history says of transfers.
-use Rattle.j39_node.proofs.Common.{[], if◌then◌else◌, ◌&&◌, ◌++◌, ◌||◌, ◌∙◌, ◌∷◌, ◌≡◌, ◌⊎◌, Abort, aborted, accepted, address_after, all_transfers, ap, AreAnswered, arith, At, begun, Bool, broadcast_from, Call, clock_at, cond_both, false, FrameRecord, gives_up, Happened, Hear, hears, hears_if, holder, holds, inl, inr, is_engaged, is_lost, is_move, is_replaced, is_resting, is_running, is_spent, length, List, listens, Message, message_of, MessageRecord, Move, moves, new_sender, next_acknowledgment, next_packet, None, Ok, open_transfer, Option, option_map, or_parts, reached, refl, Running, says, send_step, sends, sends_if, Signal, signal_by, slice_get, Some, subst, suc, sym, TakeFrame, TakeTransferEnded, told_transfers, Transfer, transfer_by, transfer_end, TransferEnding, true, Who, ℕ, answer_to_transfer, not_both, and_parts}
+use Rattle.j39_node.proofs.Common.{[], if◌then◌else◌, ◌++◌, ◌∙◌, ◌∷◌, ◌≡◌, ◌⊎◌, Abort, aborted, accepted, address_after, all_transfers, ap, AreAnswered, arith, At, begun, Bool, broadcast_from, Call, clock_at, cond_both, false, FrameRecord, gives_up, Happened, Hear, hears, hears_if, holder, holds, inl, inr, is_engaged, is_lost, is_move, is_replaced, is_resting, is_running, is_spent, length, List, Message, message_of, MessageRecord, Move, moves, new_sender, next_acknowledgment, next_packet, None, Ok, open_transfer, Option, or_parts, reached, refl, Running, says, send_step, sends, sends_if, Signal, signal_by, slice_get, Some, subst, suc, sym, TakeFrame, TakeTransferEnded, told_transfers, Transfer, transfer_end, TransferEnding, true, Who, ℕ, answer_to_transfer, not_both, and_parts}
 use Rattle.j39_transport.specs.Sending.{Tick}
 use Rattle.j39_node.specs.Moves.{begins}
 use Rattle.j39_node.proofs.QueueLemmas.{length_one_more, get_last}

@@ -1,5 +1,5 @@
 -- What a step makes of a sender of transfers.
-use Rattle.j39_node.proofs.Common.{[], ◌&&◌, ◌++◌, ◌+◌, ◌<◌, ◌==◌, ◌∙◌, ◌∷◌, ◌≡◌, ◌≢◌, ◌≤◌, ◌⊎◌, Abort, aborted, Acknowledgment, ap, arith, Bool, BroadcastAnnounce, cases_eq, cases_lt, cleared, ClearToSend, cond_both, eqb-false, eqb-true, Failed, false, FrameRecord, Idle, inl, inr, is_running, is_waiting, IsAmong, length, List, max, may_name, Message, move, nat_le, nat_lt, None, Option, Packet, packet_data, packet_move, packets_of, refl, request_of, RequestToSend, said_between, says, send_step, SenderRecord, Sending, SendResult, sends_packet, SendState, Signal, slice_get, Some, suc, sym, ticks_in, timeout, true, Waiting, zero, ℕ, leb-true, waits, granted_by, min, timer_t4, ◌-◌, if◌then◌else◌}
+use Rattle.j39_node.proofs.Common.{[], ◌&&◌, ◌++◌, ◌+◌, ◌<◌, ◌==◌, ◌∙◌, ◌∷◌, ◌≡◌, ◌≢◌, ◌≤◌, ◌⊎◌, Abort, aborted, Acknowledgment, ap, arith, Bool, cases_eq, cases_lt, cleared, ClearToSend, cond_both, eqb-false, eqb-true, Failed, false, FrameRecord, Idle, inl, inr, is_running, is_waiting, IsAmong, length, List, max, may_name, Message, move, nat_lt, None, Option, Packet, packet_data, packet_move, packets_of, refl, request_of, said_between, says, send_step, SenderRecord, Sending, SendResult, sends_packet, SendState, Signal, Some, sym, ticks_in, timeout, true, Waiting, ℕ, leb-true, waits, granted_by, min, timer_t4, ◌-◌, if◌then◌else◌}
 use Rattle.j39_transport.specs.Sending.{Done, Heard, Tick, acknowledged, hears}
 use Rattle.j39_node.proofs.QueueLemmas.{get_last}
 use Rattle.j39_node.proofs.WithdrawLemmas.{get_front}

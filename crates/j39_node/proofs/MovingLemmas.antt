@@ -1,5 +1,5 @@
 -- When a controller may move, by what it has; and what it is then.
-use Rattle.j39_node.proofs.Common.{AskEnding, Bool, Call, Claim, Claims, Controller, HasMoved, HearingRecord, IncomingRecord, Is, IsHolderAfter, IsLeastFree, IsSettled, Knows, List, None, NoneFree, Option, PortRecord, Question, Some, Untold, View, Who, [], accepted, and_parts, ap, arith, asked_by, asking_of, called, clock, due, eqb-true, false, got, handed, has_given, has_place, has_told, hearing, hearing_of, hold_after, hold_moved, holder_in, incoming_of, kept, lane_of, later, length, length-map, listening, lost, map, message_by, missed, moment, moved, name_raw, nat_eq, news_of, next_news, no_reception, not, open_broadcast, open_transfer, option_map, port_of, posted, received_by, reception, recv_step, refl, refusal_by, request_by, requests, rest, resting, sender_by, senders, shown, subst, sym, takes_tick, ticked, time_heard, told, told_claims, transfer_sender, transfers, true, waiting, whole, ℕ, ◌&&◌, ◌+◌, ◌-◌, ◌<◌, ◌||◌, ◌∙◌, ◌∷◌, ◌≡◌, ◌≢◌, ◌≤◌}
+use Rattle.j39_node.proofs.Common.{AskEnding, Bool, Call, Claim, Claims, Controller, HasMoved, HearingRecord, IncomingRecord, Is, IsHolderAfter, IsLeastFree, IsSettled, Knows, List, None, NoneFree, Option, PortRecord, Question, Some, Untold, View, Who, [], accepted, and_parts, ap, arith, asked_by, asking_of, eqb-true, false, got, handed, has_given, has_place, has_told, hearing_of, hold_after, hold_moved, holder_in, incoming_of, kept, lane_of, later, length, length-map, map, message_by, moment, moved, name_raw, nat_eq, news_of, no_reception, not, option_map, port_of, posted, received_by, recv_step, refl, refusal_by, request_by, requests, rest, sender_by, subst, sym, takes_tick, ticked, time_heard, told, told_claims, true, ℕ, ◌&&◌, ◌+◌, ◌-◌, ◌<◌, ◌||◌, ◌∙◌, ◌∷◌, ◌≡◌, ◌≢◌, ◌≤◌}
 use Rattle.j39_node.specs.Boxes.{in_box}
 use Rattle.std.specs.Option.{is_some}
 use Rattle.j39_node.specs.Moving.{begun}

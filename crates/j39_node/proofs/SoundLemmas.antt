@@ -1,10 +1,10 @@
 -- What every answered history says of what was accepted, sent and told.
-use Rattle.j39_node.proofs.Common.{Acknowledge, Address, Again, Answer, AreAnswered, Ask, Asked, At, Bool, Busy, Call, Claimed, Done, Draft, Ending, FrameRecord, Hear, IsAnswered, IsFront, IsTrue, List, Lost, Message, MessageRecord, Move, Nack, None, NotClaimed, Ok, Option, Question, Ready, Renew, Reply, Send, Single, Some, TakeAskEnded, TakeEnded, TakeFrame, TakeReceived, TakeRequest, Turn, Who, Withdraw, Withdrawn, [], accepted, acknowledged, acknowledgment, acknowledgment_group, address_after, address_claimed_group, and-false, and-true, and_from, and_parts, answer_to_ask, ap, append_assoc, arith, asked, blank, by, bytes_eq-Decides, can_ask, can_send, claim_address, claim_due, claim_from, claim_goes, claim_of, claimed, clock_at, content, control_of, destination_of, drop, due, end_of, eq-eqb, eqb-true, false, found, frame_of, fresh, gives_way, got, handed, has_packets, holds, if◌then◌else◌, inl, inr, is_acknowledgment, is_apart, is_blank, is_claim, is_held, is_left, is_lost, is_move, is_own_group, is_packet, is_refusal_due, is_same, is_sendable, is_served, is_session, is_smaller, is_some, is_that, is_there, is_transfer, is_turn, kept, latest, leb-true, left, length, length-append, length-set, lost, ltb-false, ltb-true, map, map-set, marks, max, may_go, message_from, message_of, moment, more, nat_eq, nat_le, nat_lt, next_acknowledgment, next_ended, next_frame, next_other, next_packet, next_renewed, next_transfer, next_turn, next_withdrawn, not, not-true, of, older, open_ask, open_broadcast, open_transfer, option_map, or_parts, other, packet_by, packets, packets_of, past, pause, pgn_of, question, reached, ready, reception, refl, request_for, request_group, requests, sent, slice_get, slice_get-map, slice_get_past, slice_get_within, slice_set, source_of, stamped, step, subst, suc, sym, take, take-append-le, take-set-le, told, transport_control_group, transport_data_group, true, turn_frame, turn_of, turns, unblanked, unclaimed, with_refusal, with_request, yields, zero, ℕ, ◌&&◌, ◌++◌, ◌+◌, ◌-◌, ◌<◌, ◌==◌, ◌||◌, ◌∙◌, ◌∷◌, ◌≡◌, ◌≤◌, ◌⊎◌, cases_Bool, or_from, map-append, none-some, some_pair_parts, length-map, false_from_ne_true, not_both, ending_of, ◌↔◌, cond_both, ne_eqb, cond_some, claims_anew, All, All-nil, All-push, All-set}
+use Rattle.j39_node.proofs.Common.{Acknowledge, Address, Again, Answer, AreAnswered, Ask, Asked, At, Bool, Call, Claimed, Done, Draft, Ending, FrameRecord, Hear, IsAnswered, IsFront, IsTrue, List, Lost, Message, MessageRecord, Move, None, Ok, Option, Question, Ready, Renew, Reply, Send, Single, Some, TakeAskEnded, TakeEnded, TakeFrame, TakeReceived, TakeRequest, Turn, Who, Withdraw, Withdrawn, [], accepted, acknowledged, acknowledgment, acknowledgment_group, address_after, address_claimed_group, and-false, and-true, and_parts, answer_to_ask, ap, append_assoc, arith, asked, blank, bytes_eq-Decides, can_ask, can_send, claim_address, claim_due, claim_from, claim_goes, claim_of, claimed, clock_at, content, control_of, destination_of, drop, due, end_of, eq-eqb, eqb-true, false, frame_of, fresh, gives_way, got, handed, has_packets, holds, if◌then◌else◌, inl, inr, is_acknowledgment, is_apart, is_blank, is_claim, is_held, is_left, is_lost, is_move, is_own_group, is_packet, is_refusal_due, is_same, is_sendable, is_served, is_session, is_smaller, is_some, is_that, is_there, is_transfer, is_turn, kept, latest, leb-true, left, length, length-append, length-set, lost, ltb-false, ltb-true, map, map-set, marks, max, may_go, message_from, message_of, moment, nat_eq, nat_le, nat_lt, next_acknowledgment, next_ended, next_frame, next_other, next_packet, next_renewed, next_transfer, next_turn, next_withdrawn, not, not-true, older, open_ask, open_broadcast, open_transfer, option_map, or_parts, other, packet_by, packets, packets_of, past, pause, pgn_of, question, reached, ready, reception, refl, request_for, request_group, requests, sent, slice_get, slice_get-map, slice_get_past, slice_get_within, slice_set, source_of, stamped, step, subst, suc, sym, take, take-append-le, take-set-le, told, transport_control_group, transport_data_group, true, turn_frame, turn_of, turns, unblanked, unclaimed, with_refusal, with_request, yields, zero, ℕ, ◌&&◌, ◌++◌, ◌-◌, ◌<◌, ◌==◌, ◌||◌, ◌∙◌, ◌∷◌, ◌≡◌, ◌≤◌, ◌⊎◌, cases_Bool, or_from, map-append, none-some, some_pair_parts, length-map, false_from_ne_true, not_both, ending_of, ◌↔◌, cond_both, ne_eqb, cond_some, claims_anew, All, All-nil, All-push, All-set}
 use Rattle.j39_node.specs.declared.turn.Turn.TheVariants.{Packet}
 use Rattle.j39_node.proofs.WithdrawLemmas.{get_front, stops_append, past_more, next_false, past_stops, past_within, set_same, unblanked_more, unblanked_past, unpassed}
 use Rattle.j39_node.proofs.ReceptionLemmas.{IsReply, replied_get, tidy}
 use Rattle.j39_node.proofs.AnswerCases.{ask_accepts, send_accepts, sendable}
-use Rattle.j39_node.proofs.PortLemmas.{ported, SaidCase, said_case}
+use Rattle.j39_node.proofs.PortLemmas.{ported, said_case}
 use Rattle.j39_node.proofs.QueueLemmas.{get_append, length_one_more, get_last, all_at}
 use Rattle.j39_node.proofs.RenewLemmas.{IsLatest, latest_is, set_get, set_other, no_request}
 

@@ -1,5 +1,5 @@
 -- How long a transfer waits for a driver that takes one frame at least, by what each take costs.
-use Rattle.j39_node.proofs.Common.{Bool, age, ap, arith, false, others, suc, suc-mul, timer_t3, true, zero, ℕ, ◌*◌, ◌+◌, ◌<◌, ◌≡◌, ◌≤◌, mul-add}
+use Rattle.j39_node.proofs.Common.{Bool, age, ap, arith, others, suc, suc-mul, timer_t3, ℕ, ◌*◌, ◌+◌, ◌<◌, ◌≡◌, ◌≤◌, mul-add}
 use Rattle.j39_node.proofs.EndSteps.{times_more}
 use Rattle.j39_node.proofs.SteadyLaws.{most_others, one, turn_most, turn_more, turn_time, one_most}
 

@@ -1,5 +1,5 @@
 -- Messages that were withdrawn are passed over.
-use Rattle.j39_node.proofs.Common.{[], if◌then◌else◌, ◌++◌, ◌+◌, ◌<◌, ◌∙◌, ◌∷◌, ◌≡◌, ◌≤◌, ap, arith, Bool, drop, false, is_blank, length, List, ltb-true, map, Message, nat_lt, Option, Outgoing, past, posted, refl, slice_get, slice_get_within, slice_index_or, slice_set, Some, suc, sym, take, true, unblanked, zero, ℕ, length-map}
+use Rattle.j39_node.proofs.Common.{[], if◌then◌else◌, ◌++◌, ◌+◌, ◌<◌, ◌∙◌, ◌∷◌, ◌≡◌, ◌≤◌, ap, arith, Bool, drop, false, is_blank, length, List, map, Message, nat_lt, Option, Outgoing, past, posted, refl, slice_get, slice_get_within, slice_index_or, slice_set, Some, suc, sym, take, true, unblanked, zero, ℕ, length-map}
 use Rattle.j39_node.proofs.QueueLemmas.{get_map, read}
 
 -- no fewer are passed, none that isn't there, and the one that is reached isn't one of them

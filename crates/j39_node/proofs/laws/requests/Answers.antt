@@ -1,7 +1,7 @@
 use Rattle.j39_node.proofs.SoundLemmas.{sound, past_end}
 use Rattle.j39_node.proofs.KnownLemmas.{served_not}
 use Rattle.j39_node.proofs.LawLemmas.{asked_adds, asked_case, counts, counts_one, has_room, off, unrefused, whole, has_none}
-use Rattle.j39_node.proofs.Common.{Asked, Bool, Busy, None, Option, Some, [], acknowledged, acknowledgment, and_from, ap, drop, due, eq-eqb, false, false_from_ne_true, fresh, handed, if◌then◌else◌, inl, inr, is_served, length, nat_eq, nat_lt, not, refl, refusal_waits, requests, sym, true, waits_already, with_refusal, with_request, ◌&&◌, ◌++◌, ◌-◌, ◌∙◌, ◌∷◌, ◌≡◌}
+use Rattle.j39_node.proofs.Common.{Asked, Bool, Busy, None, Option, Some, [], acknowledged, acknowledgment, and_from, ap, drop, due, eq-eqb, false, false_from_ne_true, fresh, handed, if◌then◌else◌, inl, inr, is_served, length, nat_eq, nat_lt, not, refl, refusal_waits, requests, sym, true, waits_already, ◌&&◌, ◌++◌, ◌-◌, ◌∙◌, ◌∷◌, ◌≡◌}
 use Rattle.j39_node.proofs.laws.requests.Goals as goal
 
 pub returns : goal.returns
