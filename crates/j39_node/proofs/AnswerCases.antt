@@ -13,9 +13,7 @@ Accepts a b f x k = (a ≡ true) × (b ≡ true) × (f ≡ false) × (k ≡ x)
 
 pub accepts : {T : Type 0} (a b f : Bool) (x k : T) → Ok k ≡ answer_by a b f x → Accepts a b f x k
 accepts true true false x k e = (refl, refl, refl, (let z : k ≡ x = cc in z))
-accepts true true true x k e = absurd (cc)
-accepts true false f x k e = absurd (cc)
-accepts false b f x k e = absurd (cc)
+accepts a b f x k e = absurd (cc)
 
 pub send_accepts : (w : Who) (H : List Call) (now k : ℕ) (d : Draft) → Ok k ≡ answer_to_send w H now d → Accepts (holds w H now) (can_send w d) (is_full w H) (length (accepted w H)) k
 send_accepts w H now k d e = accepts (holds w H now) (can_send w d) (is_full w H) (length (accepted w H)) k e
@@ -44,17 +42,16 @@ is_accepted true false f x answer e p q r = absurd (let z : false ≡ true = q i
 is_accepted false b f x answer e p q r = absurd (let z : false ≡ true = p in cc)
 
 pub refused_address : {T : Type 0} (a b f : Bool) (x : T) (answer : Result T Refused) → answer ≡ answer_by a b f x → (answer ≡ Err NoAddress ↔ (IsTrue a → ⊥))
-refused_address true true true x answer e = (λ z. absurd (cc), λ z. absurd (z refl))
-refused_address true true false x answer e = (λ z. absurd (cc), λ z. absurd (z refl))
-refused_address true false f x answer e = (λ z. absurd (cc), λ z. absurd (z refl))
 refused_address false b f x answer e = (λ z y. absurd (let u : false ≡ true = y in cc), λ z. e)
+refused_address true true true x answer e = (λ z. absurd (cc), λ z. absurd (z refl))
+refused_address a b f x answer e = (λ z. absurd (cc), λ z. absurd (z refl))
 
 pub refused_value : {T : Type 0} (a b f : Bool) (x : T) (answer : Result T Refused) → answer ≡ answer_by a b f x
     → (answer ≡ Err BadValue ↔ (IsTrue a × (IsTrue b → ⊥)))
-refused_value true true true x answer e = (λ z. absurd (cc), λ z. absurd (z.1 refl))
-refused_value true true false x answer e = (λ z. absurd (cc), λ z. absurd (z.1 refl))
 refused_value true false f x answer e = (λ z. (refl, λ y. absurd (let u : false ≡ true = y in cc)), λ z. e)
 refused_value false b f x answer e = (λ z. absurd (cc), λ z. absurd (let u : false ≡ true = z.0 in cc))
+refused_value true true true x answer e = (λ z. absurd (cc), λ z. absurd (z.1 refl))
+refused_value a b f x answer e = (λ z. absurd (cc), λ z. absurd (z.1 refl))
 
 -- there is no room where this is so
 pub refused_full : {T : Type 0} {P : Type 0} (a b f : Bool) (x : T) (answer : Result T Refused) → answer ≡ answer_by a b f x → (f ≡ true → P) → (f ≡ false → P → ⊥)
@@ -70,5 +67,4 @@ sendable w group to e = go (is_sendable group || nat_eq group 60928) (nat_eq to 
   where
     go : (a b : Bool) → (a && b) ≡ true → (b && true) ≡ true
     go true true f = refl
-    go true false f = absurd (cc)
-    go false b f = absurd (cc)
+    go a b f = absurd (cc)

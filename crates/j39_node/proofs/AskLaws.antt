@@ -1,15 +1,13 @@
 -- The laws of requests.
-use Rattle.j39_node.proofs.Common.{Ack, Acknowledged, Answer, Answered, AreAnswered, Ask, AskEnding, AskedSince, At, Bool, Busy, Call, Controller, Denied, FrameRecord, Hear, HeardFirst, Is, IsAnswered, IsTrue, List, Nack, None, NoneEnds, Ok, Option, Question, RanOut, Refused, Result, Some, TakeAskEnded, TakeFrame, TimedOut, Who, Withdraw, [], accepted, address_after, and_parts, answer_to_ask, ap, arith, ask_end, asked, asks, by, can_ask, comes, end_at, ended, ends, eqb-true, false, first, fresh, has_token, hears, holds, if◌then◌else◌, inl, inr, is_acknowledgment, is_answer, is_asking, is_claim, is_full, is_lost, is_message, is_request, is_session, kept, later, left, length, less, lost, made, marks, message_from, moment, nat_eq, nat_lt, not, not-true, not_both, open_ask, option_map, passed, passed_in, past, question, reached, reaches, refl, request_for, says, says_to, seeks, silent, silent_end, slice_get, slice_set, step, subst, suc, sym, takes, time_heard, told, told_asks, true, wait, waiting, ℕ, ◌&&◌, ◌++◌, ◌+◌, ◌-◌, ◌<◌, ◌||◌, ◌∙◌, ◌∷◌, ◌≡◌, ◌≤◌, ◌⊎◌}
+use Rattle.j39_node.proofs.Common.{Ack, Acknowledged, Answered, AreAnswered, Ask, AskEnding, AskedSince, At, Bool, Busy, Call, Controller, Denied, FrameRecord, Hear, HeardFirst, Is, IsAnswered, IsTrue, List, Nack, None, NoneEnds, Ok, Option, Question, RanOut, Refused, Result, Some, TakeAskEnded, TakeFrame, TimedOut, Who, Withdraw, [], accepted, address_after, and_parts, answer_to_ask, ap, arith, ask_end, asks, can_ask, comes, end_at, ended, ends, eqb-true, false, first, has_token, holds, if◌then◌else◌, inl, inr, is_acknowledgment, is_answer, is_asking, is_claim, is_full, is_lost, is_message, is_request, is_session, kept, later, left, length, lost, made, marks, message_from, moment, nat_eq, nat_lt, not, not-true, not_both, open_ask, option_map, passed_in, past, question, reached, reaches, refl, request_for, says, says_to, seeks, silent, silent_end, slice_get, slice_set, step, subst, suc, sym, time_heard, told, told_asks, true, wait, ℕ, ◌&&◌, ◌++◌, ◌+◌, ◌-◌, ◌<◌, ◌||◌, ◌∙◌, ◌∷◌, ◌≡◌, ◌⊎◌, IfSome, le-ltb, lt-ltb, ne_eqb, same_Some, and-false, eqb-false, or_parts, cases_Bool}
 use Rattle.j39_node.specs.declared.kinds.AskEnding.TheVariants.{Withdrawn}
 use Rattle.j39_node.specs.Asking.{is_reply, is_taken, said_by}
 use Rattle.j39_node.proofs.WithdrawLemmas.{get_front, unpassed}
 use Rattle.j39_node.proofs.AnswerCases.{ask_accepts}
 use Rattle.j39_node.proofs.AnswerCases as cases
-use Rattle.j39_node.proofs.QueueLemmas.{get_append, length_one_more}
-use Rattle.j39_node.proofs.SoundLemmas.{sound, grows_on, passes_request, request_stays}
-use Rattle.j39_node.proofs.LaneLemmas.{get_last}
-use Rattle.j39_node.proofs.PromptLaws.{stays_lost}
-use Rattle.j39_node.proofs.LawLemmas.{full_from, full_parts, sent_within}
+use Rattle.j39_node.proofs.QueueLemmas.{get_append, length_one_more, get_last, mapped_none, mapped_some}
+use Rattle.j39_node.proofs.SoundLemmas.{sound, grows_on, passes_request, request_stays, stays_lost}
+use Rattle.j39_node.proofs.LawLemmas.{full_from, full_parts}
 
 -- ---- which is open
 
@@ -18,9 +16,8 @@ Listed n qs None = length qs ≡ n
 Listed n qs (Some q) = (slice_get qs n ≡ Some q) × (length qs ≡ suc n)
 
 none_open : (b : Bool) (o : Option Question) → (b || is_asking o) ≡ false → o ≡ None
-none_open true o e = absurd (cc)
 none_open false None e = refl
-none_open false (Some q) e = absurd (cc)
+none_open b o e = absurd (cc)
 
 pub opens : (w : Who) (H : List Call) (now group to k : ℕ) → Ok k ≡ answer_to_ask w H now group to → (can_ask w group to ≡ true) × (open_ask H ≡ None) × (k ≡ length (accepted w H))
 opens w H now group to k e = let x = ask_accepts w H now group to k e in (x.1, none_open (is_full w H) (open_ask H) x.2, x.3)
@@ -113,12 +110,9 @@ pub waits : (w : Who) (H : List Call) → AreAnswered w H → (q : Question) →
 waits w [] e q o t = absurd (cc)
 waits w (call ∷ H) e q o t = go call e.1 (λ i k. waits w H e.0 q i k) o t
   where
-    late : (k n : ℕ) → n ≤ k → nat_lt k n ≡ true → ⊥
-    late k n l g = grind arith
-
     fresh : (now group to k : ℕ) → k ≡ length (accepted w H) → question k group to ≡ q → is_taken q H ≡ true → Waits (At now (Ask group to (Ok k)) ∷ H) q
-    fresh now group to k z p g = absurd (late q.token (reached H)
-        (let a = sent_within w H (sound w H e.0) in let b = ap (λ (y : Question). y.token) p in omega (arith, a, b, z)) g)
+    fresh now group to k z p g = absurd (not_both _ (le-ltb q.token (reached H)
+        (let a = (sound w H e.0).passed in let b = ap (λ (y : Question). y.token) p in omega (arith, a, b, z))) g)
 
     takes : (now : ℕ) (f : FrameRecord) (b : Bool) → (open_ask H ≡ Some q → is_taken q H ≡ true → Waits H q) → is_request H f ≡ b → open_ask H ≡ Some q → is_taken q (At now (TakeFrame (Some f)) ∷ H) ≡ true
         → Waits (At now (TakeFrame (Some f)) ∷ H) q
@@ -146,33 +140,26 @@ is_word TimedOut = false
 is_word Withdrawn = false
 
 -- what a frame says is a word
-said_word : (o : Option ℕ) (e : AskEnding) → said_by o ≡ Some e → is_word e ≡ true
-said_word None e g = absurd (cc)
-said_word (Some c) e g = go (nat_eq c 0) (nat_eq c 1) (nat_eq c 2) (nat_eq c 3) g
+said_word : (o : Option ℕ) → IfSome (said_by o) (λ e. is_word e ≡ true)
+said_word None = tt
+said_word (Some c) = go (nat_eq c 0) (nat_eq c 1) (nat_eq c 2) (nat_eq c 3)
   where
-    word : (a : Answer) → Some (Acknowledged a) ≡ Some e → is_word e ≡ true
-    word a z = let y : Acknowledged a ≡ e = cc in sym (ap is_word y)
-
-    go : (p q r s : Bool) → (if p then Some (Acknowledged Ack) else if q then Some (Acknowledged Nack) else if r then Some (Acknowledged Denied) else if s then Some (Acknowledged Busy) else None) ≡ Some e
-        → is_word e ≡ true
-    go true q r s z = word Ack z
-    go false true r s z = word Nack z
-    go false false true s z = word Denied z
-    go false false false true z = word Busy z
-    go false false false false z = absurd (cc)
+    go : (p q r s : Bool) → IfSome (if p then Some (Acknowledged Ack) else if q then Some (Acknowledged Nack) else if r then Some (Acknowledged Denied) else if s then Some (Acknowledged Busy) else None) (λ e. is_word e ≡ true)
+    go true q r s = refl
+    go false true r s = refl
+    go false false true s = refl
+    go false false false true = refl
+    go false false false false = tt
 
 says_word : (w : Who) (q : Question) (f : FrameRecord) (m : Option (ℕ × ℕ)) (e : AskEnding) → says_to w q f m ≡ Some e → is_word e ≡ true
-says_word w q f m e g = go (seeks q m) (reaches w f) (is_answer q f) (is_reply w q f) g
+says_word w q f m e g = subst (λ (o : Option AskEnding). IfSome o (λ e. is_word e ≡ true)) g (go (seeks q m) (reaches w f) (is_answer q f) (is_reply w q f))
   where
-    answered : Some Answered ≡ Some e → is_word e ≡ true
-    answered z = let y : Answered ≡ e = cc in sym (ap is_word y)
-
-    go : (d a b c : Bool) → (if d then Some Answered else if a then (if b then Some Answered else if c then said_by (slice_get f.bytes 0) else None) else None) ≡ Some e → is_word e ≡ true
-    go true a b c z = answered z
-    go false false b c z = absurd (cc)
-    go false true true c z = answered z
-    go false true false true z = said_word (slice_get f.bytes 0) e z
-    go false true false false z = absurd (cc)
+    go : (d a b c : Bool) → IfSome (if d then Some Answered else if a then (if b then Some Answered else if c then said_by (slice_get f.bytes 0) else None) else None) (λ e. is_word e ≡ true)
+    go true a b c = refl
+    go false false b c = tt
+    go false true true c = refl
+    go false true false true = said_word (slice_get f.bytes 0)
+    go false true false false = tt
 
 -- how it ended, and what was before
 pub data Outcome (w : Who) (H : List Call) (q : Question) (e : AskEnding) : Type 0 where
@@ -212,30 +199,22 @@ silently w H q e taken left coming lost z time loss = go taken (nat_eq left 0) c
   where
     go : (a b d c : Bool) → taken ≡ a → nat_eq left 0 ≡ b → coming ≡ d → lost ≡ c → (if a && (b && not d) then Some TimedOut else if c then Some Withdrawn else None) ≡ Some e
         → Outcome w H q e
-    go true true false c p r v s z = time p (eqb-true left 0 r) v (let y : TimedOut ≡ e = cc in sym y)
-    go true true true true p r v s z = loss s (let y : Withdrawn ≡ e = cc in sym y)
-    go true true true false p r v s z = absurd (cc)
-    go true false d true p r v s z = loss s (let y : Withdrawn ≡ e = cc in sym y)
-    go true false d false p r v s z = absurd (cc)
-    go false b d true p r v s z = loss s (let y : Withdrawn ≡ e = cc in sym y)
-    go false b d false p r v s z = absurd (cc)
+    go true true false c p r v s z = time p (eqb-true left 0 r) v (sym (same_Some TimedOut e z))
+    go true true true true p r v s z = loss s (sym (same_Some Withdrawn e z))
+    go true false d true p r v s z = loss s (sym (same_Some Withdrawn e z))
+    go false b d true p r v s z = loss s (sym (same_Some Withdrawn e z))
+    go a b d false p r v s z = absurd (cc)
 
 not_over : (taken : Bool) (left : ℕ) (coming lost : Bool) → silent_end taken left coming lost ≡ None
     → (lost ≡ false) × (taken ≡ true → (0 < left) ⊎ (coming ≡ true))
 not_over taken left coming lost z = go taken (nat_eq left 0) coming lost refl refl refl refl z
   where
-    some : (n : ℕ) → nat_eq n 0 ≡ false → 0 < n
-    some n e = grind arith
-
     go : (a b d c : Bool) → taken ≡ a → nat_eq left 0 ≡ b → coming ≡ d → lost ≡ c → (if a && (b && not d) then Some TimedOut else if c then Some Withdrawn else None) ≡ None
         → (lost ≡ false) × (taken ≡ true → (0 < left) ⊎ (coming ≡ true))
-    go true true false c p r v s z = absurd (cc)
-    go true true true true p r v s z = absurd (cc)
     go true true true false p r v s z = (s, λ t. inr v)
-    go true false d true p r v s z = absurd (cc)
-    go true false d false p r v s z = (s, λ t. inl (some left r))
-    go false b d true p r v s z = absurd (cc)
-    go false b d false p r v s z = (s, λ t. absurd (let y : false ≡ true = sym p ∙ t in cc))
+    go true false d false p r v s z = (s, λ t. inl (let n = eqb-false left 0 r in omega (arith, n)))
+    go false b d false p r v s z = (s, λ t. absurd (not_both _ p t))
+    go a b d c p r v s z = absurd (cc)
 
 -- a frame ends it
 ends_by : (w : Who) (H : List Call) (when : ℕ) (f : FrameRecord) (q : Question) (e : AskEnding) → AreAnswered w H → open_ask H ≡ Some q → ended w H ≡ None
@@ -327,15 +306,11 @@ told_is w H c k e is = go (open_ask H) (ended w H) refl refl is.answered.1
     out q (Some x) o p z = outcome w H is.answered.0 q e o (p ∙ z)
     out q None o p z = silently w H q e _ _ _ _ z (λ t l d y. by_time y (ran_out w H q is.answered.0 o t l d)) (λ l y. by_loss y l)
 
-    by : (q : Question) (o : Option AskEnding) (x : ℕ × AskEnding) → Some x ≡ option_map (λ (y : AskEnding). (q.token, y)) o → (q.token ≡ x.0) × (o ≡ Some x.1)
-    by q None x z = absurd (cc)
-    by q (Some y) x z = let u : x ≡ (q.token, y) = cc in (sym (ap (λ (v : ℕ × AskEnding). v.0) u), sym (ap (λ (v : ℕ × AskEnding). Some v.1) u))
-
     go : (o : Option Question) (h : Option AskEnding) → open_ask H ≡ o → ended w H ≡ h → Some (k, e) ≡ ask_end o (reached H) h (wait H) (comes w H (time_heard H)) (is_lost (address_after w H)) → Told w H k e
     go None h o p z = absurd (cc)
     go (Some q) h o p z =
-        let b = by q (first h (silent_end (is_taken q H) (wait H) (comes w H (time_heard H)) (is_lost (address_after w H)))) (k, e) z in
-        record { question = q; current = o; token = b.0; out = out q h o p b.1 }
+        let b = mapped_some (λ (y : AskEnding). (q.token, y)) (first h (silent_end (is_taken q H) (wait H) (comes w H (time_heard H)) (is_lost (address_after w H)))) (k, e) (sym z) in
+        record { question = q; current = o; token = ap (λ (v : ℕ × AskEnding). v.0) b.2; out = out q h o p (b.1 ∙ ap (λ (v : ℕ × AskEnding). Some v.1) b.2) }
 
 -- ---- what ask answers
 
@@ -358,11 +333,7 @@ from_limit w H right e (inl z) = go (open_ask H) (none_open (is_full w H) (open_
     go : (o : Option Question) → o ≡ None → Listed (length (told_asks H)) (asks H) o → ⊥
     go None p h = omega (arith, z, h)
     go (Some q) p h = absurd (cc)
-from_limit w H right e (inr z) = go (is_full w H) e (full_from (length (accepted w H)) (length (told H)) z)
-  where
-    go : (b : Bool) → (b || is_asking (open_ask H)) ≡ false → b ≡ true → ⊥
-    go true f g = absurd (cc)
-    go false f g = absurd (cc)
+from_limit w H right e (inr z) = not_both _ (or_parts (is_full w H) _ e).0 (full_from (length (accepted w H)) (length (told H)) z)
 
 pub is_accepted : (w : Who) (H : List Call) (c : Controller) (now group to : ℕ) (answer : Result ℕ Refused) → Is w (At now (Ask group to answer) ∷ H) c
     → IsTrue (holds w H now) → IsTrue (can_ask w group to) → length (asks H) ≡ length (told_asks H) → length (accepted w H) < length (told H) + 16
@@ -382,16 +353,11 @@ pub taken_once : (w : Who) (H : List Call) (c : Controller) (now : ℕ) (f : Fra
 taken_once w H c now f q is o r =
     let b = and_parts (is_message f) (has_token (open_ask H) (reached H)) r in
     let z = eqb-true q.token (reached H) (sym (ap (λ (x : Option Question). has_token x (reached H)) o) ∙ b.1) in (
-      not_less q.token (reached H) z,
-      taken_then w H now f q false is.answered o (not-true (is_claim f || (is_acknowledgment f || is_session f)) b.0) ∙ less q.token (reached H) z,
+      le-ltb q.token (reached H) (omega (arith, z)),
+      taken_then w H now f q false is.answered o (not-true (is_claim f || (is_acknowledgment f || is_session f)) b.0)
+          ∙ lt-ltb q.token (suc (reached H)) (omega (arith, z)),
       sym z,
     )
-  where
-    not_less : (k n : ℕ) → k ≡ n → nat_lt k n ≡ false
-    not_less k n e = grind arith
-
-    less : (k n : ℕ) → k ≡ n → nat_lt k (suc n) ≡ true
-    less k n e = grind arith
 
 -- ---- what is told
 
@@ -407,25 +373,22 @@ in_turn w H c k e is =
     go (Some q) p h = h.0 ∙ p
 
 -- ends of each kind
-same_open : (H : List Call) (p q : Question) → open_ask H ≡ Some p → open_ask H ≡ Some q → p ≡ q
-same_open H p q e f = let z : Some p ≡ Some q = sym e ∙ f in cc
-
 pub out_of : (w : Who) (H : List Call) (c : Controller) (k : ℕ) (e : AskEnding) (q : Question) → Is w (TakeAskEnded (Some (k, e)) ∷ H) c → open_ask H ≡ Some q → Outcome w H q e
 out_of w H c k e q is o =
-    let t = told_is w H c k e is in subst (λ (p : Question). Outcome w H p e) (same_open H t.question q t.current o) t.out
+    let t = told_is w H c k e is in subst (λ (p : Question). Outcome w H p e) (same_Some t.question q (sym t.current ∙ o)) t.out
 
 pub word_of : (w : Who) (H : List Call) (q : Question) (e : AskEnding) → is_word e ≡ true → Outcome w H q e → HeardFirst w H q e
 word_of w H q e k (by_word l h) = h
-word_of w H q e k (by_time z h) = absurd (let y : false ≡ true = sym (ap is_word z) ∙ k in cc)
-word_of w H q e k (by_loss z h) = absurd (let y : false ≡ true = sym (ap is_word z) ∙ k in cc)
+word_of w H q e k (by_time z h) = absurd (not_both _ (ap is_word z) k)
+word_of w H q e k (by_loss z h) = absurd (not_both _ (ap is_word z) k)
 
 pub timed_out_means : (w : Who) (H : List Call) (c : Controller) (k : ℕ) (q : Question) → Is w (TakeAskEnded (Some (k, TimedOut)) ∷ H) c → open_ask H ≡ Some q
     → RanOut w H q
 timed_out_means w H c k q is o = go (out_of w H c k TimedOut q is o)
   where
     go : Outcome w H q TimedOut → RanOut w H q
-    go (by_word l h) = absurd (cc)
     go (by_time z h) = h
+    go (by_word l h) = absurd (cc)
     go (by_loss z h) = absurd (cc)
 
 pub withdrawn_means : (w : Who) (H : List Call) (c : Controller) (k : ℕ) → Is w (TakeAskEnded (Some (k, Withdrawn)) ∷ H) c → IsTrue (is_lost (address_after w H))
@@ -455,15 +418,8 @@ stays w (call ∷ later) H q e n o z = go call n.0 (stays w later H q e n.1 o z)
     go call x h = h
 
 not_silent : (left : ℕ) (coming : Bool) → (0 < left) ⊎ IsTrue coming → silent_end true left coming false ≡ None
-not_silent left coming (inl l) = ap (λ (b : Bool). if b && not coming then Some TimedOut else None) (some left l)
-  where
-    some : (n : ℕ) → 0 < n → nat_eq n 0 ≡ false
-    some n g = grind arith
-not_silent left coming (inr c) = ap (λ (b : Bool). if nat_eq left 0 && not b then Some TimedOut else None) c ∙ never (nat_eq left 0)
-  where
-    never : (b : Bool) → (let none : Option AskEnding = None in if b && false then Some TimedOut else none) ≡ None
-    never true = refl
-    never false = refl
+not_silent left coming (inl l) = ap (λ (b : Bool). if b && not coming then Some TimedOut else None) (ne_eqb left 0 (λ z. omega (arith, z, l)))
+not_silent left coming (inr c) = (λ i. if nat_eq left 0 && not (c i) then Some TimedOut else None) ∙ ap (λ (b : Bool). if b then Some TimedOut else None) (and-false (nat_eq left 0))
 
 pub first_stands : (w : Who) (H later : List Call) (c : Controller) (when : ℕ) (f : FrameRecord) (q : Question) (e : AskEnding) (answer : Option (ℕ × AskEnding))
     → Is w (TakeAskEnded answer ∷ later ++ At when (Hear f) ∷ H) c → NoneEnds later → open_ask H ≡ Some q → IsTrue (is_taken q H) → ended w H ≡ None
@@ -531,24 +487,16 @@ all_told w H c is = go (open_ask H) refl (listed w H is.answered.0) is.answered.
         ⊎ ((q : Question) × (open_ask H ≡ Some q) × Pending w H q × (IsTrue (is_lost (address_after w H)) → ⊥))
 
     waiting : (q : Question) → open_ask H ≡ Some q → (is_taken q H ≡ true → (0 < wait H) ⊎ (comes w H (time_heard H) ≡ true)) → Pending w H q
-    waiting q o l = by (is_taken q H) refl
+    waiting q o l = elim (cases_Bool (is_taken q H)) [ inl t ↦ since t (l t) | inr t ↦ inl t ]
       where
         since : (t : is_taken q H ≡ true) → (0 < wait H) ⊎ (comes w H (time_heard H) ≡ true) → Pending w H q
         since t (inl d) = let a = waits w H is.answered.0 q o t in let b = a.2 in inr (inl (a.0, a.1, omega (arith, b, d)))
         since t (inr d) = inr (inr d)
 
-        by : (b : Bool) → is_taken q H ≡ b → Pending w H q
-        by false t = inl t
-        by true t = since t (l t)
-
     silent : (q : Question) (h : Option AskEnding) → (let none : Option (ℕ × AskEnding) = None in none) ≡ ask_end (Some q) (reached H) h (wait H) (comes w H (time_heard H)) (is_lost (address_after w H))
         → silent_end (is_taken q H) (wait H) (comes w H (time_heard H)) (is_lost (address_after w H)) ≡ None
     silent q (Some x) z = absurd (cc)
-    silent q None z = by (silent_end (is_taken q H) (wait H) (comes w H (time_heard H)) (is_lost (address_after w H))) z
-      where
-        by : (o : Option AskEnding) → (let none : Option (ℕ × AskEnding) = None in none) ≡ option_map (λ (y : AskEnding). (q.token, y)) o → o ≡ None
-        by None g = refl
-        by (Some y) g = absurd (cc)
+    silent q None z = mapped_none _ (silent_end (is_taken q H) (wait H) (comes w H (time_heard H)) (is_lost (address_after w H))) (sym z)
 
     go : (o : Option Question) → open_ask H ≡ o → Listed (length (told_asks H)) (asks H) o
         → (let none : Option (ℕ × AskEnding) = None in none) ≡ ask_end o (reached H) (ended w H) (wait H) (comes w H (time_heard H)) (is_lost (address_after w H)) → Goal

@@ -1,7 +1,7 @@
 -- A call more.
-use Rattle.j39_node.proofs.KindLemmas.{Kind, kind, kind_is, single, of_session}
+use Rattle.j39_node.proofs.KindLemmas.{Kind, kind, kind_by, kind_is, single}
 use Rattle.j39_node.proofs.SoundLemmas.FrameCase.{claims as claims_first, acknowledges, replies, sends, packs, transfers}
-use Rattle.j39_node.proofs.Common.{Address, AreAnswered, AskRecord, Asked, At, Bool, Busy, Call, Claimed, Claims, Controller, Done, Draft, Due, Ending, FrameRecord, Hear, Hold, IfSome, Incoming, IncomingRecord, Is, IsAnswered, IsApart, IsOthers, Knows, List, Lost, Message, Move, Nack, None, NotClaimed, Option, Outgoing, Question, Ready, Renew, Renews, Reply, Said, Single, Some, TakeEnded, TakeFrame, Turn, Untold, View, Who, Withdraw, Withdrawn, [], accepted, acknowledged, acknowledgment, address_after, after, age, all_transfers, ap, arith, asked_by, asking_of, asks, asks_claims, asks_with, at_in, blank, by, called, calls, can_claim, can_send, claim_address, claim_due, claim_from, claim_goes, claim_of, claimed, claims, clock, clock_at, comes, content, control_of, counted, delayed, drop, drop-map, due, end_of, ended, ending_of, eqb-true, false, first, gives_way, got, has_packets, has_token, heard_at, heard_by, hearing, hearing_after, hearing_of, held_at, hold_acknowledged, hold_after, hold_asked, hold_claimed, hold_spoken, hold_went, holder, holder_in, holds, holds_back, if◌then◌else◌, in_session, incoming_after, incoming_of, inl, inr, is_apart, is_asking, is_blank, is_busy, is_claim, is_coming, is_engaged, is_for_program, is_full, is_held, is_left, is_lost, is_open, is_resting, is_served, is_smaller, is_there, is_turn, kept, known, lane_after, lane_of, latest, le-ltb, leaves, leb-true, led, left, left_at, length, length-append, length-drop, length-set, less, listening, lost, lt-ltb, ltb-false, ltb-true, map, marks, max, may_claim, may_go, message_from, message_of, min, missed, missed_news, moment, more, move, nat_eq, nat_le, nat_lt, news_after, next_acknowledgment, next_due, next_frame, next_packet, next_renewed, next_transfer, next_transfer_ended, next_turn, next_withdrawn, not, nothing, offered, older, open_ask, open_broadcast, open_transfer, option_map, other, owes_claim, packet_by, packets, packets_in, passed, past, pause, paused, place_of, port_after, port_of, posted, question, reached, ready_in, reception, refl, refusal_by, rest, resting, resting_by, said_by, senders, sends_if, shown, slice_get, slice_get_past, slice_get_within, slice_set, sooner, source_of, stamp_at, stamped, standing_of, stands, step, subst, suc, sym, taken_by, those_over, time_heard, told, told_claims, transfer_by, transfer_end, transfer_in, true, turn_frame, turn_of, turns, unclaimed, unclaims, unheard_news, view, wait, waiting, who_of, whole, with_called, with_reception, with_refusal, with_replies, with_request, yields, ℕ, ◌&&◌, ◌++◌, ◌+◌, ◌-◌, ◌<◌, ◌||◌, ◌∙◌, ◌∷◌, ◌≡◌, ◌≤◌}
+use Rattle.j39_node.proofs.Common.{Address, AreAnswered, AskRecord, Asked, At, Bool, Call, Claimed, Claims, Controller, Done, Draft, Due, Ending, FrameRecord, Hear, Hold, IfSome, Incoming, IncomingRecord, Is, IsAnswered, IsApart, IsOthers, Knows, List, Lost, Message, Move, None, Option, Outgoing, Question, Ready, Renew, Renews, Reply, Said, Single, Some, TakeEnded, TakeFrame, Untold, View, Who, Withdraw, Withdrawn, [], accepted, acknowledged, address_after, after, age, all_transfers, ap, arith, asked_by, asking_of, asks_claims, asks_with, at_in, blank, called, calls, can_claim, can_send, claim_address, claim_due, claim_from, claim_goes, claim_of, claimed, claims, clock, clock_at, comes, counted, delayed, drop, drop-map, due, end_of, ended, ending_of, false, first, gives_way, got, has_packets, has_token, heard_at, heard_by, hearing_after, hearing_of, held_at, hold_acknowledged, hold_after, hold_asked, hold_claimed, hold_spoken, hold_went, holder, holder_in, holds, holds_back, if◌then◌else◌, in_session, incoming_after, incoming_of, inl, inr, is_apart, is_asking, is_blank, is_busy, is_claim, is_coming, is_engaged, is_for_program, is_full, is_held, is_left, is_lost, is_open, is_resting, is_served, is_smaller, is_there, is_turn, kept, known, lane_after, lane_of, latest, le-ltb, leaves, leb-true, led, left, left_at, length, length-drop, length-set, less, listening, lost, lt-ltb, ltb-false, ltb-true, map, marks, max, may_claim, may_go, message_from, message_of, min, missed_news, moment, more, nat_eq, nat_le, nat_lt, news_after, next_acknowledgment, next_due, next_frame, next_packet, next_renewed, next_transfer, next_transfer_ended, next_turn, next_withdrawn, not, nothing, offered, older, open_ask, open_broadcast, open_transfer, option_map, other, owes_claim, packet_by, packets, packets_in, passed, past, pause, paused, place_of, port_after, port_of, posted, reached, ready_in, reception, refl, refusal_by, resting, resting_by, said_by, senders, sends_if, slice_get, slice_get_past, slice_get_within, slice_set, sooner, source_of, stamp_at, stamped, standing_of, stands, step, subst, suc, sym, taken_by, those_over, time_heard, told, told_claims, transfer_by, transfer_end, transfer_in, true, turn_frame, turn_of, turns, unclaimed, unclaims, unheard_news, view, wait, who_of, with_called, with_reception, with_refusal, with_replies, with_request, yields, ℕ, ◌&&◌, ◌++◌, ◌+◌, ◌-◌, ◌<◌, ◌||◌, ◌∙◌, ◌∷◌, ◌≡◌, ◌≤◌, map-append, length-map, drop-append-le, cond_some}
 use Rattle.j39_node.specs.Boxes.{in_box}
 use Rattle.j39_node.specs.Is.{leaving}
 use Rattle.j39_node.specs.Reception.{is_waiting}
@@ -13,8 +13,8 @@ use Rattle.j39_node.specs.declared.hold.Standing.TheVariants as standing
 use Rattle.j39_node.proofs.AskLemmas.{asking_is, ask_more, takes, token_of, ask_withdrawn}
 use Rattle.j39_node.proofs.ReceptionLemmas.{leaves_is, tidy, calls_is, leaves_still}
 use Rattle.j39_node.proofs.HearingLemmas.{broken_news, claimed_on, claimed_says, hearing_same, missed_one, news_same}
-use Rattle.j39_node.proofs.QueueLemmas.{length_one_more, length_map, map_append, length_rest, in_rest, not_in_rest, First, drop_append, get_at, get_map, get_of_drop}
-use Rattle.j39_node.proofs.SoundLemmas.{IsTurn, frame_there, overdue_due, packet_there, some_at, turn_is, sound, frame_by, held_not_lost, holding_not_lost, lost_older, Sound, withdraw_case, acknowledged_is_due}
+use Rattle.j39_node.proofs.QueueLemmas.{length_one_more, length_rest, First, get_at, get_map, get_of_drop, rest_at, mapped_none}
+use Rattle.j39_node.proofs.SoundLemmas.{FrameCase, case_goes, next_is, IsTurn, frame_there, overdue_due, packet_there, some_at, turn_is, sound, frame_by, held_not_lost, holding_not_lost, lost_older, Sound, withdraw_case, acknowledged_is_due, not_there, apart_there, other_is}
 use Rattle.j39_node.proofs.FrameLemmas.{at_now}
 use Rattle.j39_node.proofs.PortLemmas.{clock_is, is_port}
 use Rattle.j39_node.proofs.RenewLemmas.{latest_rest, latest_is, set_rest}
@@ -22,22 +22,16 @@ use Rattle.j39_node.proofs.RenewLemmas.{latest_rest, latest_is, set_rest}
 -- ---- the hold
 
 less_is : (s : ℕ) (a : Address) → less s (standing_of a) ≡ standing_of (older s a)
-less_is s NotClaimed = refl
 less_is s (Claimed e) = ap standing.Claimed (omega arith)
-less_is s Lost = refl
+less_is s a = refl
 
 pub stands_is : (a : Address) → stands (standing_of a) ≡ is_held a
-stands_is NotClaimed = refl
-stands_is (Claimed e) = left e
-  where
-    left : (n : ℕ) → nat_eq (250000 - n) 0 ≡ nat_le 250000 n
-    left n = grind arith
-stands_is Lost = refl
+stands_is (Claimed e) = grind arith
+stands_is a = refl
 
 pub lost_is : (a : Address) → lost (standing_of a) ≡ is_lost a
-lost_is NotClaimed = refl
-lost_is (Claimed e) = refl
 lost_is Lost = refl
+lost_is a = refl
 
 abbrev pub Passed : Who → List Call → ℕ → Hold → Type 0
 Passed w H now k = k ≡ led w H now
@@ -51,6 +45,11 @@ passed_is w H now old new e f =
 
 pub holds_is : (w : Who) (H : List Call) (now : ℕ) (h : Hold) (b : Bool) → Passed w H now h → b ≡ stands h.standing → b ≡ holds w H now
 holds_is w H now h b p e = e ∙ (ap stands (ap (λ (k : Hold). k.standing) p) ∙ stands_is (older (step H now) (address_after w H)))
+
+-- led to this moment, and whether the address is held then
+pub led_so : (w : Who) (H : List Call) (now : ℕ) (c : Controller) (new : Hold) (b : Bool) → Is w H c → new ≡ passed now c.hold → b ≡ stands new.standing
+    → Passed w H now new × (b ≡ holds w H now)
+led_so w H now c new b h e f = let p = passed_is w H now c.hold new (ap (λ (v : View). v.hold) h.shown) e in (p, holds_is w H now new b p f)
 
 -- ---- a call by which nobody else holds an address
 
@@ -97,13 +96,14 @@ framed w H now f k =
     }
 
 -- one that is no claim leaves what is heard
-frames : {w : Who} {H : List Call} {old new : Controller} {now : ℕ} {f : FrameRecord} (k : Kind) → Is w H old → new.holders ≡ old.holders
-    → Some (stamped f) ≡ next_frame w H now → kind w H f ≡ k → k.claim ≡ false
-    → view w new ≡ record (framed w H now f k) { news = news_after w H; hearing = hearing_after w H } → Is w (At now (TakeFrame (Some f)) ∷ H) new
-frames {w} {H} {old} {new} {now} {f} k h e answer is n v =
+frames : {w : Who} {H : List Call} {old new : Controller} {now : ℕ} {f : FrameRecord} (c : FrameCase w H now f) → Is w H old → new.holders ≡ old.holders
+    → (kind_by c).claim ≡ false → view w new ≡ record (framed w H now f (kind_by c)) { news = news_after w H; hearing = hearing_after w H }
+    → Is w (At now (TakeFrame (Some f)) ∷ H) new
+frames {w} {H} {old} {new} {now} {f} c h e n v =
+    let is = kind_is w H now f h.answered c in
     let unclaimed : is_claim f ≡ false = ap (λ (k : Kind). k.claim) is ∙ n in
-    follows h e answer (ap (λ (b : Bool). if b then told_claims w H ++ f ∷ [] else told_claims w H) unclaimed)
-    (v ∙ ((λ i. record (framed w H now f k) { news = news_same w H now f unclaimed i; hearing = hearing_same w H now f unclaimed i })
+    follows h e (case_goes c) (ap (λ (b : Bool). if b then told_claims w H ++ f ∷ [] else told_claims w H) unclaimed)
+    (v ∙ ((λ i. record (framed w H now f (kind_by c)) { news = news_same w H now f unclaimed i; hearing = hearing_same w H now f unclaimed i })
     ∙ sym (ap (framed w H now f) is)))
 
 -- ---- what is received in packets
@@ -112,7 +112,7 @@ pub replies_is : (w : Who) (H : List Call) (c : Controller) → Is w H c → map
 replies_is w H c h = ap (λ (v : View). v.incoming.reception.replies) h.shown
 
 replies_length : (w : Who) (H : List Call) (c : Controller) → Is w H c → length c.incoming.replies.items ≡ length (reception w H).replies
-replies_length w H c h = sym (length_map (said_by c.incoming.receiver.state.own) c.incoming.replies.items) ∙ ap length (replies_is w H c h)
+replies_length w H c h = sym (length-map c.incoming.replies.items (said_by c.incoming.receiver.state.own)) ∙ ap length (replies_is w H c h)
 
 told_is : (w : Who) (H : List Call) (now : ℕ) (f : FrameRecord) → is_claim f ≡ true → told_claims w (At now (TakeFrame (Some f)) ∷ H) ≡ told_claims w H ++ f ∷ []
 told_is w H now f e = ap (λ (b : Bool). if b then told_claims w H ++ f ∷ [] else told_claims w H) e
@@ -167,25 +167,11 @@ turns_more n = omega arith
 -- the next reply or message
 pub message_next : (w : Who) (H : List Call) (c : Controller) → Is w H c → is_lost (address_after w H) ≡ false
     → option_map posted (slice_get c.outgoing.items c.taken) ≡ slice_get (accepted w H) (reached H)
-message_next w H c h l = next (slice_get c.outgoing.items c.taken) refl ((sound w H h.answered).in_turn l)
-  where
-    next : (o : Option Outgoing) → slice_get c.outgoing.items c.taken ≡ o → length (told H) ≤ reached H
-        → option_map posted o ≡ slice_get (accepted w H) (reached H)
-    next None e t = sym (not_in_rest posted c.outgoing.items (accepted w H) (length (told H)) (reached H) c.taken (ap (λ (v : View). v.outgoing) h.shown) (ap (λ (v : View). v.taken) h.shown) t e)
-    next (Some y) e t = sym (in_rest posted c.outgoing.items y (accepted w H) (length (told H)) (reached H) c.taken (ap (λ (v : View). v.outgoing) h.shown) (ap (λ (v : View). v.taken) h.shown) t e)
+message_next w H c h l =
+    rest_at posted c.outgoing.items (accepted w H) (length (told H)) (reached H) c.taken (ap (λ (v : View). v.outgoing) h.shown) (ap (λ (v : View). v.taken) h.shown) ((sound w H h.answered).in_turn l)
 
 two_turns : (t n : ℕ) → t ≡ min n 2 → nat_le 2 t ≡ nat_le 2 n
-two_turns t n e = go (nat_le 2 n) refl
-  where
-    less : (t n : ℕ) → t ≡ min n 2 → nat_le 2 n ≡ true → nat_le 2 t ≡ true
-    less t n e f = grind (arith, e)
-
-    not_less : (t n : ℕ) → t ≡ min n 2 → nat_le 2 n ≡ false → nat_le 2 t ≡ false
-    not_less t n e f = grind (arith, e)
-
-    go : (b : Bool) → nat_le 2 n ≡ b → nat_le 2 t ≡ nat_le 2 n
-    go true f = less t n e f ∙ sym f
-    go false f = not_less t n e f ∙ sym f
+two_turns t n e = grind (arith, e)
 
 lt_less : (a t s : ℕ) → t ≤ s → nat_lt (s - t) (a - t) ≡ nat_lt s a
 lt_less a t s l = grind arith
@@ -236,30 +222,15 @@ none_acknowledged w H c now false h g e =
     ap (λ (b : Bool). if b then None else slice_get (due w H) (length (acknowledged H))) (sym g) ∙ none_due w H c h (none (length c.desk.due.items) e)
   where
     none : (n : ℕ) → not (nat_eq n 0) ≡ false → n ≡ 0
-    none n e = go (nat_eq n 0) refl e
-      where
-        go : (b : Bool) → nat_eq n 0 ≡ b → not b ≡ false → n ≡ 0
-        go true i f = eqb-true n 0 i
-        go false i f = absurd (cc)
+    none n e = grind (arith, e)
 
 pub due_there : (gives : Bool) (n : ℕ) → (not gives && not (nat_eq n 0)) ≡ true → 0 < n
-due_there true n e = absurd (cc)
-due_there false n e = grind (arith, e)
+due_there gives n e = grind (arith, e)
 
 pub one_acknowledged : (w : Who) (H : List Call) (now : ℕ) (gives b : Bool) (m : Message) → gives ≡ gives_way w H now → (not gives && b) ≡ true
     → slice_get (due w H) (length (acknowledged H)) ≡ Some m → next_acknowledgment w H now ≡ Some m
 one_acknowledged w H now true b m g e i = absurd (cc)
 one_acknowledged w H now false b m g e i = ap (λ (b : Bool). if b then None else slice_get (due w H) (length (acknowledged H))) (sym g) ∙ i
-
-next_is : (w : Who) (H : List Call) (now : ℕ) (a o : Option Message) → claim_goes w H now ≡ false → holds w H now ≡ true
-    → next_acknowledgment w H now ≡ a → other w H now ≡ o → next_frame w H now ≡ option_map (λ m. (now, m)) (control_of a o)
-next_is w H now a o e f g k = λ i. frame_by (e i) (f i) (g i) (k i) (claim_from w (claim_address w (address_after w H))) now
-
--- the frame of whose turn it is
-other_is : (w : Who) (H : List Call) (now : ℕ) (t : Option Turn) → next_turn w H now ≡ t
-    → other w H now ≡ turn_frame t (slice_get (reception w H).replies 0) (slice_get (accepted w H) (reached H)) (next_packet w H now) (next_transfer w H now)
-other_is w H now t e =
-    ap (λ (t : Option Turn). turn_frame t (slice_get (reception w H).replies 0) (slice_get (accepted w H) (reached H)) (next_packet w H now) (next_transfer w H now)) e
 
 -- the next that isn't withdrawn, of those that aren't told
 past_queued : (w : Who) (G : List Call) (items : List Outgoing) (t n : ℕ) → Sound w G → map posted items ≡ drop t (accepted w G)
@@ -281,16 +252,13 @@ taken w H old new now None x mid h o turn g m e d request calls c1 c2 a1 a2 a3 =
 taken w H old new now (Some f) x mid h o turn g m e d request calls c1 c2 a1 a2 a3 =
     let s = sound w H h.answered in
     let t = s.in_turn (holding_not_lost w H now o.held) in
-    let i = in_rest posted old.outgoing.items x (accepted w H) (length (told H)) (reached H) old.taken (ap (λ (v : View). v.outgoing) h.shown) (ap (λ (v : View). v.taken) h.shown) t g in
+    let i = sym (message_next w H old h (holding_not_lost w H now o.held)) ∙ ap (option_map posted) g in
     let k : stamped f ≡ (now, (posted x).1) = cc in
     let number = s.numbered (reached H) (posted x) i in
     let asks : calls ≡ asks_claims f = c2 ∙ ap (λ (y : ℕ × Message). asks_with y.1 60928) (sym k) in
     let is : request ≡ has_token (open_ask H) (reached H) =
     a2 ∙ ((λ i. has_token (option_map (λ (y : AskRecord). y.question) (h.shown i).asking) (number i)) ∙ ap (λ o. has_token o (reached H)) (token_of (open_ask H) (reached H) (ended w H))) in
-    frames (single false false) h (ap (λ c. c.holders) e)
-    (ap Some k ∙ sym (next_is w H now None (Some (posted x).1) o.owes o.held o.none
-    (other_is w H now (Some Single) (sym (turn_next w H old now mid h o.passed o.held) ∙ turn) ∙ ap (option_map content) i)))
-    (kind_is w H now f h.answered (sends (posted x) o.owes o.held (o.none, sym (turn_next w H old now mid h o.passed o.held) ∙ turn) i k)) refl
+    frames (sends (posted x) o.owes o.held (o.none, sym (turn_next w H old now mid h o.passed o.held) ∙ turn) i k) h (ap (λ c. c.holders) e) refl
     (ap (view w) e ∙ λ i. record (h.shown i) {
       hold = (a3 ∙ λ i. hold_asked (is i) (o.passed i)) i;
       taken = (let a = (ap (λ (v : View). v.taken) h.shown) in let b = past_queued w H old.outgoing.items (length (told H)) (suc old.taken) s (ap (λ (v : View). v.outgoing) h.shown) in
@@ -320,10 +288,7 @@ taken_packet w H old new now f mid h o turn m e e0 e1 more =
     go None q i = absurd (cc)
     go (Some y) q i =
         let k : stamped f ≡ (now, y) = cc in
-        let next = sym (turn_next w H old now mid h o.passed o.held) ∙ turn in
-        frames (of_session true false false) h (ap (λ c. c.holders) e)
-        (i ∙ sym (next_is w H now None (Some y) o.owes o.held o.none (other_is w H now (Some Packet) next ∙ q)))
-        (kind_is w H now f h.answered (packs y o.owes o.held (o.none, next) q k)) refl
+        frames (packs y o.owes o.held (o.none, sym (turn_next w H old now mid h o.passed o.held) ∙ turn) q k) h (ap (λ c. c.holders) e) refl
         (ap (view w) e ∙ λ i. record (h.shown i) {
           hold = (e0 ∙ ap paused o.passed) i;
           lane = (ap (lane_of w) e1 ∙ λ i. record (h.shown i).lane {
@@ -344,10 +309,7 @@ taken_transfer w H old new now f mid h o turn u e e0 e1 e2 e3 =
     go None q i = absurd (cc)
     go (Some y) q i =
         let k : stamped f ≡ (now, y) = cc in
-        let next = sym (turn_next w H old now mid h o.passed o.held) ∙ turn in
-        frames (of_session false false true) h (ap (λ c. c.holders) e)
-        (i ∙ sym (next_is w H now None (Some y) o.owes o.held o.none (other_is w H now (Some Move) next ∙ q)))
-        (kind_is w H now f h.answered (transfers y o.owes o.held (o.none, next) q k)) refl
+        frames (transfers y o.owes o.held (o.none, sym (turn_next w H old now mid h o.passed o.held) ∙ turn) q k) h (ap (λ c. c.holders) e) refl
         (ap (view w) e ∙ λ i. record (h.shown i) {
           hold = (e3 ∙ ap hold_went o.passed) i;
           port = is_port _ _
@@ -364,8 +326,7 @@ taken_due w H old new now (Some f) x mid h p owes held next first m e e0 =
     let s = sound w H h.answered in
     let k : stamped f ≡ (now, refusal_by w x) = cc in
     let due_now = acknowledged_is_due w H now (refusal_by w x) next in
-    frames (single false true) h (ap (λ c. c.holders) e) (ap Some k ∙ sym (next_is w H now (Some (refusal_by w x)) _ owes held next refl))
-    (kind_is w H now f h.answered (acknowledges (refusal_by w x) owes held due_now.0 k due_now.1)) refl
+    frames (acknowledges (refusal_by w x) owes held due_now.0 k due_now.1) h (ap (λ c. c.holders) e) refl
     (ap (view w) e ∙ λ i. record (h.shown i) {
       hold = (e0 ∙ (ap hold_acknowledged p ∙ λ i. record (led w H now) { turns = turns_more (turns H) i })) i;
       acknowledgments = (first.rest ∙ ap (λ (n : ℕ). drop n (due w H)) (sym (length_one_more (acknowledged H) (message_of f)))) i;
@@ -381,11 +342,7 @@ taken_reply w H old new now (Some f) x mid h o turn first m e e0 e1 =
     let own : old.incoming.receiver.state.own ≡ w.address = ap (λ (v : View). v.incoming.own) h.shown in
     let k : stamped f ≡ (now, said_by w.address x) = cc in
     let at : slice_get (reception w H).replies 0 ≡ Some (said_by w.address x) = first.is ∙ ap (λ (a : ℕ). Some (said_by a x)) own in
-    let next = sym (turn_next w H old now mid h o.passed o.held) ∙ turn in
-    frames (of_session false true false) h (ap (λ c. c.holders) e)
-    (ap Some k ∙ sym (next_is w H now None (Some (said_by w.address x)) o.owes o.held o.none
-    (other_is w H now (Some Reply) next ∙ at)))
-    (kind_is w H now f h.answered (replies (said_by w.address x) o.owes o.held (o.none, next) at k)) refl
+    frames (replies (said_by w.address x) o.owes o.held (o.none, sym (turn_next w H old now mid h o.passed o.held) ∙ turn) at k) h (ap (λ c. c.holders) e) refl
     (ap (view w) e ∙ λ i. record (h.shown i) {
       hold = (e1 ∙ ap hold_spoken o.passed) i;
       incoming = (ap incoming_of e0 ∙ λ i. with_replies (first.rest i) (h.shown i).incoming) i;
@@ -442,7 +399,7 @@ full_is w H old h =
 pub posted_more : (w : Who) (H : List Call) (c : Controller) → Is w H c → (x : Outgoing) (m : Message) → posted x ≡ (c.next_token, m) → {items : List Outgoing} → items ≡ c.outgoing.items ++ x ∷ []
     → map posted items ≡ drop (length (told H)) (accepted w H ++ (c.next_token, m) ∷ [])
 posted_more w H c h x m is e =
-    ap (map posted) e ∙ (map_append posted c.outgoing.items x ∙ ((λ i. (h.shown i).outgoing ++ is i ∷ []) ∙ sym (drop_append (length (told H)) (accepted w H) (c.next_token, m) (sound w H h.answered).within)))
+    ap (map posted) e ∙ (map-append posted c.outgoing.items (x ∷ []) ∙ ((λ i. (h.shown i).outgoing ++ is i ∷ []) ∙ sym (drop-append-le (length (told H)) (accepted w H) ((c.next_token, m) ∷ []) (sound w H h.answered).within)))
 
 -- ---- a frame is heard
 
@@ -450,23 +407,21 @@ pub heard_standing : (b : Bool) (s : ℕ) (a : Address) → (if b then standing.
 heard_standing true s a = refl
 heard_standing false s a = refl
 
+-- one more, or none
+rest_grows : {T : Type 0} (b : Bool) (L xs : List T) (n : ℕ) (x : T) → n ≤ length L → xs ≡ drop n L → (if b then xs ++ x ∷ [] else xs) ≡ drop n (if b then L ++ x ∷ [] else L)
+rest_grows true L xs n x l e = ap (λ ys. ys ++ x ∷ []) e ∙ sym (drop-append-le n L (x ∷ []) l)
+rest_grows false L xs n x l e = e
+
 pub kept_rest : {T : Type 0} (wanted : Bool) (K unread : List T) (n : ℕ) (x : T) → n ≤ length K → unread ≡ drop n K
     → offered wanted x unread ≡ drop n (if wanted && nat_lt (length K - n) 16 then K ++ x ∷ [] else K)
 kept_rest wanted K unread n x l e =
     ap (offered wanted x) e
-    ∙ (ap (λ (k : ℕ). if wanted && nat_lt k 16 then drop n K ++ x ∷ [] else drop n K) (length-drop n K) ∙ go (wanted && nat_lt (length K - n) 16))
-  where
-    go : (b : Bool) → (if b then drop n K ++ x ∷ [] else drop n K) ≡ drop n (if b then K ++ x ∷ [] else K)
-    go true = sym (drop_append n K x l)
-    go false = refl
+    ∙ (ap (λ (k : ℕ). if wanted && nat_lt k 16 then drop n K ++ x ∷ [] else drop n K) (length-drop n K) ∙ rest_grows (wanted && nat_lt (length K - n) 16) K (drop n K) n x l refl)
 
 -- the NAMEs beside them
 one_more : {T : Type 0} {U : Type 0} (b : Bool) (xs : List T) (ys : List U) (x : T) (y : U) → length xs ≡ length ys
     → length (if b then xs ++ x ∷ [] else xs) ≡ length (if b then ys ++ y ∷ [] else ys)
-one_more true xs ys x y e =
-    let a = length-append xs (x ∷ []) in
-    let b = length-append ys (y ∷ []) in
-    omega (arith, a, b, e)
+one_more true xs ys x y e = let a = length_one_more xs x in let b = length_one_more ys y in omega (arith, a, b, e)
 one_more false xs ys x y e = e
 
 pub senders_length : (w : Who) (H : List Call) → length (senders w H) ≡ length (kept w H)
@@ -496,20 +451,12 @@ missed_rest wanted K unread n m c e f =
 pub request_rest : (w : Who) (room : Bool) (o : Option Asked) (L xs : List Asked) (n : ℕ) → n ≤ length L → xs ≡ drop n L
     → with_request w room o xs ≡ drop n (with_request w room o L)
 request_rest w room None L xs n l e = e
-request_rest w room (Some r) L xs n l e = go (is_served w r.group && room)
-  where
-    go : (b : Bool) → (if b then xs ++ r ∷ [] else xs) ≡ drop n (if b then L ++ r ∷ [] else L)
-    go true = ap (λ ys. ys ++ r ∷ []) e ∙ sym (drop_append n L r l)
-    go false = e
+request_rest w room (Some r) L xs n l e = rest_grows (is_served w r.group && room) L xs n r l e
 
 pub refusal_rest : (w : Who) (room place : Bool) (o : Option Asked) (L xs : List Message) (n : ℕ) → n ≤ length L → xs ≡ drop n L
     → with_refusal w room place o xs ≡ drop n (with_refusal w room place o L)
 refusal_rest w room place None L xs n l e = e
-refusal_rest w room place (Some r) L xs n l e = go ((nat_eq r.destination w.address && place) && not (is_served w r.group && room)) (acknowledgment w (if is_served w r.group then Busy else Nack) r)
-  where
-    go : (b : Bool) (m : Message) → (if b then xs ++ m ∷ [] else xs) ≡ drop n (if b then L ++ m ∷ [] else L)
-    go true m = ap (λ ys. ys ++ m ∷ []) e ∙ sym (drop_append n L m l)
-    go false m = e
+refusal_rest w room place (Some r) L xs n l e = rest_grows ((nat_eq r.destination w.address && place) && not (is_served w r.group && room)) L xs n _ l e
 
 pub news_heard : (u v : Untold) (l a b m n o : Bool) → v ≡ record { lost = l; another = u.another || a; doubled = u.doubled; missed = u.missed || (m || o) } → a ≡ b → m ≡ n
     → v ≡ record { lost = l; another = u.another || b; doubled = u.doubled; missed = u.missed || (n || o) }
@@ -567,7 +514,7 @@ renews w H old new d x t place None h can e f g n u =
     absurd (elim (latest_is (posted x).1 old.taken 0 place (map posted old.outgoing.items) None (sym f)) [
       | inl z ↦ (let y : None ≡ Some place = z in absurd (cc))
       | inr z ↦ (let a = slice_get_within (map posted old.outgoing.items) (place - 0) z.entry z.is in
-          let b = length_map posted old.outgoing.items in let l = n refl in omega (arith, a, b, l))
+          let b = length-map old.outgoing.items posted in let l = n refl in omega (arith, a, b, l))
     ])
 renews w H old new d x t place (Some k) h can e f g n u =
     let L = accepted w H in
@@ -650,7 +597,8 @@ pub withdraws : (w : Who) (H : List Call) (old new : Controller) (k place : ℕ)
     → IfSome r (λ token. Renews old.outgoing.items place (posted x) token new.outgoing.items) → (r ≡ None → length old.outgoing.items ≤ place)
     → new.taken ≡ past (map is_blank (map posted new.outgoing.items)) old.taken
     → new ≡ record old { outgoing = new.outgoing; taken = new.taken } → Is w (Withdraw k true ∷ H) new
-withdraws w H old new k place x r h l blanked e f g p u = go r f g (by (next_withdrawn w H k) refl (e ∙ place_is w H old k h away))
+withdraws w H old new k place x r h l blanked e f g p u =
+    let q = cond_some (next_withdrawn w H k) (k - length (told H)) place (sym (e ∙ place_is w H old k h away)) in go r f g (q.0, sym q.1)
   where
     L : List (ℕ × Message)
     L = accepted w H
@@ -664,16 +612,12 @@ withdraws w H old new k place x r h l blanked e f g p u = go r f g (by (next_wit
     s : Sound w H
     s = sound w H h.answered
 
-    by : (b : Bool) → next_withdrawn w H k ≡ b → Some place ≡ (if b then Some (k - T) else None) → (next_withdrawn w H k ≡ true) × (place ≡ k - T)
-    by true i j = (i, (let z : place ≡ k - T = cc in z))
-    by false i j = absurd (cc)
-
     go : (r : Option ℕ) → IfSome r (λ token. Renews old.outgoing.items place (posted x) token new.outgoing.items) → (r ≡ None → length old.outgoing.items ≤ place)
         → (next_withdrawn w H k ≡ true) × (place ≡ k - T) → Is w (Withdraw k true ∷ H) new
     go None f g q =
         let c = withdraw_case w H k (sym q.0) in
         let a = slice_get_within L k c.entry c.is in
-        let b = length_map posted old.outgoing.items in let d = ap length (ap (λ (v : View). v.outgoing) h.shown) in let i = length-drop T L in
+        let b = length-map old.outgoing.items posted in let d = ap length (ap (λ (v : View). v.outgoing) h.shown) in let i = length-drop T L in
         let m = g refl in let n = q.1 in let t = s.in_turn away in let v = c.from in absurd (omega (arith, a, b, d, i, m, n, t, v))
     go (Some token) f g q =
         let G = Withdraw k true ∷ H in
@@ -701,13 +645,8 @@ withdraws w H old new k place x r h l blanked e f g p u = go r f g (by (next_wit
 
 -- the address is to be claimed anew
 pub unclaims_after : (a : Address) → unclaims (standing_of a) ≡ standing_of (unclaimed a)
-unclaims_after NotClaimed = refl
-unclaims_after (Claimed e) = refl
 unclaims_after Lost = refl
-
--- ---- requests
-
--- ---- a call that only lets time pass
+unclaims_after a = refl
 
 -- ---- when something is due
 
@@ -738,13 +677,9 @@ frame_due w H c h =
     ∙ (ap (λ (b : Bool). (owes_claim w H && (not b || nat_eq (delayed w H) 0)) || (is_held (address_after w H) && (nat_lt c.taken (length c.outgoing.items) || (nat_lt 0 (length c.desk.due.items) || nat_lt 0 (length c.incoming.replies.items))))) (lost_is (address_after w H))
     ∙ ap (λ (b : Bool). may_claim w H (delayed w H) || b) (held_and (is_held (address_after w H)) _ _ (waits_is w H c h))))
 
-lt_left : (e : ℕ) → nat_lt 0 (250000 - e) ≡ nat_lt e 250000
-lt_left e = grind arith
-
 pub held_at_is : (a : Address) (m : ℕ) → left_at (standing_of a) m ≡ held_at a m
-held_at_is NotClaimed m = refl
-held_at_is (Claimed e) m = ap (λ (b : Bool). if b then stamp_at (m + (250000 - e)) else None) (lt_left e)
-held_at_is Lost m = refl
+held_at_is (Claimed e) m = ap (λ (b : Bool). if b then stamp_at (m + (250000 - e)) else None) (lt_some 250000 e)
+held_at_is a m = refl
 
 -- in how long a frame of packets can be taken
 pub packets_due : (w : Who) (H : List Call) (c : Controller) → Is w H c
@@ -771,9 +706,8 @@ due_is w H b l e f = ap (λ (x : Bool). due_by w H x l) e ∙ ap (due_by w H (ma
 -- ---- a claim is taken
 
 claims_after : (a : Address) → claims (standing_of a) ≡ standing_of (claimed a)
-claims_after NotClaimed = refl
-claims_after (Claimed e) = refl
 claims_after Lost = refl
+claims_after a = refl
 
 claim_told : (w : Who) (H : List Call) (c : Controller) (a : ℕ) → Is w H c → a ≡ (if lost c.hold.standing then 254 else c.own.address)
     → claim_from (who_of w.brought c.own) a ≡ claim_from w (claim_address w (address_after w H))
@@ -783,9 +717,8 @@ claim_told w H c a h e =
     ∙ (ap (λ (n : ℕ). if lost (standing_of (address_after w H)) then 254 else n) (ap (λ (u : View). u.who.address) h.shown) ∙ told_address (address_after w H))))
   where
     told_address : (x : Address) → (if lost (standing_of x) then 254 else w.address) ≡ claim_address w x
-    told_address NotClaimed = refl
-    told_address (Claimed n) = refl
     told_address Lost = refl
+    told_address x = refl
 
 pub claims_more : (w : Who) (H : List Call) (old new : Controller) (now : ℕ) (f : FrameRecord) (mid : Hold) (a : ℕ) → Is w H old → Passed w H now mid
     → claim_goes w H now ≡ true → new.hold ≡ hold_claimed mid
@@ -814,10 +747,7 @@ claims_more w H old new now f mid a h p owes e0 m at knows drops broken t t1 t2 
         broadcast_senders = (ap (λ v. map (λ b. (in_box b).name) v.items) t4 ∙ ap (λ (v : View). v.broadcast_senders) h.shown) i;
         incoming = (drops ∙ incoming_claimed w H old now f new.holders h kind_now knows_now) i;
       }) ∙ ap (λ (k : Kind). record (framed w H now f k) { incoming = incoming_after w (At now (TakeFrame (Some f)) ∷ H) }) (sym kind_now));
-      answered = (
-        h.answered,
-        ap Some j ∙ sym (ap (λ (b : Bool). frame_by b (holds w H now) (next_acknowledgment w H now) (other w H now) (claim_from w (claim_address w (address_after w H))) now) owes),
-      );
+      answered = (h.answered, case_goes {w = w} {H = H} {now = now} {f = f} (claims_first owes j));
       holders = knows_now;
     }
 
@@ -847,11 +777,8 @@ first_acknowledged w H c now true o h g e =
     ap (λ (b : Bool). if b then None else slice_get (due w H) (length (acknowledged H))) (sym g) ∙ sym (ap (option_map (refusal_by w)) e)
 first_acknowledged w H c now false o h g e =
     ap (λ (b : Bool). if b then None else slice_get (due w H) (length (acknowledged H))) (sym g)
-    ∙ (sym (due_next (slice_get c.desk.due.items 0) refl) ∙ sym (ap (option_map (refusal_by w)) e))
-  where
-    due_next : (o : Option Due) → slice_get c.desk.due.items 0 ≡ o → option_map (refusal_by w) o ≡ slice_get (due w H) (length (acknowledged H))
-    due_next None e = sym (not_in_rest (refusal_by w) c.desk.due.items (due w H) (length (acknowledged H)) (length (acknowledged H)) 0 (ap (λ (v : View). v.acknowledgments) h.shown) (omega arith) (omega arith) e)
-    due_next (Some x) e = sym (in_rest (refusal_by w) c.desk.due.items x (due w H) (length (acknowledged H)) (length (acknowledged H)) 0 (ap (λ (v : View). v.acknowledgments) h.shown) (omega arith) (omega arith) e)
+    ∙ (sym (rest_at (refusal_by w) c.desk.due.items (due w H) (length (acknowledged H)) (length (acknowledged H)) 0 (ap (λ (v : View). v.acknowledgments) h.shown) (omega arith) (omega arith))
+    ∙ sym (ap (option_map (refusal_by w)) e))
 
 pub peeks_other : (w : Who) (H : List Call) (c : Controller) (now : ℕ) (k : Hold) (r : Option FrameRecord) → Is w H c → IsOthers w H now k
     → option_map stamped r ≡ option_map (at_now now) (turn_frame (turn_of k.yields (ready_in c k)) (slice_get (incoming_of c.incoming).reception.replies 0)
@@ -880,8 +807,7 @@ packet_goes c k now e f = go (packet_by (lane_of (who_of nothing c.own) c.lane).
     due (inr t) = t.0
 
     go : (o : Option Message) → (let none : Option (ℕ × Message) = None in none) ≡ option_map (at_now now) o → is_there o ≡ true → ⊥
-    go None g i = absurd (cc)
-    go (Some m) g i = absurd (cc)
+    go o g i = not_there o i (mapped_none (at_now now) o (sym g))
 
 pub move_goes : (c : Controller) (k : Hold) (now : ℕ) → turn_of k.yields (ready_in c k) ≡ Some Move
     → (let none : Option (ℕ × Message) = None in none) ≡ option_map (at_now now) (transfer_by (port_of c.transfers).current (clock k.age)) → ⊥
@@ -889,8 +815,7 @@ move_goes c k now e f = go (transfer_by (port_of c.transfers).current (clock k.a
   where
     go : (o : Option Message) → (let none : Option (ℕ × Message) = None in none) ≡ option_map (at_now now) o
         → is_apart o (slice_get (incoming_of c.incoming).reception.replies 0) ≡ true → ⊥
-    go None g i = absurd (cc)
-    go (Some m) g i = absurd (cc)
+    go o g i = apart_there o _ i (mapped_none (at_now now) o (sym g))
 
 -- ---- broadcasts
 

@@ -2,15 +2,16 @@
 pub use Rattle.j39_node.proofs.Tests.{not_both, not_true}
 pub use Rattle.std.proofs.Math.Bool.{and-false, or-true, or-false, and-true}
 pub use Rattle.std.proofs.Common.{[], if◌then◌else◌, ◌%◌, ◌&&◌, ◌*◌, ◌++◌, ◌+◌, ◌-◌, ◌/◌, ◌<◌, ◌==◌, ◌||◌, ◌↔◌, ◌∙◌, ◌∷◌, ◌≡◌, ◌≢◌, ◌≤◌, ◌⊎◌, ap, append-nil, append_assoc, arith, Bool, drop, eq-eqb, eqb-true, Err, false, filter, get_or, IfSome, inl, inr, IsSome, IsTrue, length, length-append, List, lt-ltb, ltb-false, ltb-true, map, max, min, nat_eq, nat_le, nat_lt, None, not, Ok, Option, refl, remove, Result, rules, slice_index, slice_index_or, slice_set, Some, subst, suc, sym, take, true, zero, ℕ, leb-true, leb-false, le-ltb, le-leb}
-pub use Rattle.std.proofs.Math.Nat.{add-mul, suc-mul}
+pub use Rattle.std.proofs.Math.Nat.{add-mul, mul-add, mul-le-mul_right, suc-mul}
 pub use Rattle.std.proofs.Math.Seq.{take-append_seam, take-suc}
-pub use Rattle.std.proofs.lemmas.Bool.{and_from, and_parts, and_parts as both, cases_eq, cases_lt, cond_both, eqb-false, leb-false, leb-true, lt-leb, or_parts, not-true, not-false, false_from_ne_true}
+pub use Rattle.std.proofs.lemmas.Bool.{and_from, and_parts, and_parts as both, cases_Bool, cases_eq, cases_lt, cond_both, eqb-false, leb-false, leb-true, lt-leb, ne_eqb, or_cases, or_from, or_left, or_parts, or_right, not-true, not-false, false_from_ne_true, true_from_ne_false}
 pub use Rattle.std.proofs.lemmas.Grind.{flat_map-append}
-pub use Rattle.std.proofs.lemmas.List.{drop-map, length-drop, length-map, length-set, length-take-le, map-set, take-append-drop, take-append-le, take-set-le}
+pub use Rattle.std.proofs.lemmas.List.{drop-append-le, drop-map, length-drop, length-map, length-set, length-take-le, map-append, map-set, take_all, take-append-drop, take-append-le, take-set-le}
+pub use Rattle.std.proofs.lemmas.List.Elements.{All-nil, All-push, All-set}
 pub use Rattle.std.proofs.lemmas.List.Folds.{list_any_at, list_any_more}
-pub use Rattle.std.proofs.lemmas.Option.{slice_get-map, slice_get_past, slice_get_within}
+pub use Rattle.std.proofs.lemmas.Option.{cond_some, get_or_from_slice_get, none-some, same_Some, slice_get-map, slice_get_past, slice_get_read, slice_get_within, some_pair_parts}
 pub use Rattle.std.proofs.lemmas.Slice.Eq.{bytes_eq-Decides}
-pub use Rattle.std.specs.List.{list_any, refill, slice_get}
+pub use Rattle.std.specs.List.{All, list_any, refill, slice_get}
 pub use Rattle.std.specs.Option.{is_some as has_some, IsSomeAnd, option_map, option_or}
 pub use Rattle.std.specs.Str.{bytes_eq}
 pub use Rattle.byteorder.specs.Endian.{little_bytes}

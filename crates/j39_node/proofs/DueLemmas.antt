@@ -1,15 +1,14 @@
 -- When a frame of packets is due.
-use Rattle.j39_node.proofs.Common.{if◌then◌else◌, ◌&&◌, ◌+◌, ◌-◌, ◌<◌, ◌∙◌, ◌≡◌, ◌≤◌, ◌⊎◌, Abort, age, ap, arith, at_in, Bool, Call, clock, Failed, false, frame_of, gives_up, has_packets, Idle, inl, inr, is_left, length, List, long_by, lt-ltb, ltb-false, ltb-true, Message, MessageRecord, min, moment, nat_le, nat_lt, next_long, next_packet, next_transfer, None, open_broadcast, open_transfer, Option, option_map, packet_by, packets, packets_in, packets_of, pause, refl, Running, running_in, says, send_step, Sending, SendResult, sends_in, sends_packet, SendState, Signal, signal_by, silent, Some, sooner, step, sym, ticks_in, timeout, transfer_by, transfer_in, true, Waiting, Who, ℕ, le-ltb, le-leb}
+use Rattle.j39_node.proofs.Common.{if◌then◌else◌, ◌&&◌, ◌+◌, ◌-◌, ◌<◌, ◌∙◌, ◌≡◌, ◌≤◌, ◌⊎◌, Abort, age, ap, arith, at_in, Bool, Call, clock, Failed, false, gives_up, has_packets, Idle, inl, inr, is_left, length, List, long_by, lt-ltb, Message, MessageRecord, min, moment, nat_le, nat_lt, next_long, next_packet, next_transfer, None, open_broadcast, open_transfer, Option, option_map, packet_by, packets, packets_in, pause, refl, Running, running_in, says, send_step, Sending, SendResult, sends_in, sends_packet, SendState, signal_by, silent, Some, sooner, step, sym, ticks_in, timeout, transfer_by, transfer_in, true, Waiting, Who, ℕ, le-ltb, le-leb, lt-leb, same_Some, cases_lt, cond_some, and_from}
 use Rattle.j39_transport.specs.Sending.{Done, Tick}
 use Rattle.j39_node.specs.Transfers.{packet_in}
+use Rattle.j39_node.proofs.QueueLemmas.{mapped_none}
+use Rattle.j39_node.proofs.SoundLemmas.{none_there, packet_there, not_there}
 
 -- ---- a frame isn't due yet
 
 not_yet : (p s : ℕ) → s < p - 100000 → nat_le (p - s) 100000 ≡ false
-not_yet p s l = more (p - s) (omega (arith, l))
-  where
-    more : (k : ℕ) → 100000 < k → nat_le k 100000 ≡ false
-    more k l = grind (arith, l)
+not_yet p s l = lt-leb (p - s) 100000 (omega (arith, l))
 
 sooner_first : (p : ℕ) (o : Option ℕ) → (n : ℕ) × (sooner (Some p) o ≡ Some n) × (n ≤ p)
 sooner_first p None = (p, refl, omega arith)
@@ -20,15 +19,11 @@ sooner_second p None = (p, refl, omega arith)
 sooner_second p (Some m) = (min m p, refl, omega arith)
 
 no_packet : (o : Option (ℕ × MessageRecord)) (i p s : ℕ) → ((n : ℕ) → packet_in (is_left o i) p ≡ Some n → s < n) → packet_by o i (p - s) ≡ None
-no_packet None i p s h = refl
-no_packet (Some x) i p s h = go (nat_le (p - s) 100000) (nat_le i (packets_of x.1)) refl refl
+no_packet o i p s h = none_there _ (packet_there o i (p - s) ∙ go (is_left o i) refl)
   where
-    go : (a b : Bool) → nat_le (p - s) 100000 ≡ a → nat_le i (packets_of x.1) ≡ b → (if a && b then Some (frame_of x.1 i) else None) ≡ None
-    go false b e f = refl
-    go true false e f = refl
-    go true true e f =
-        let l = h (p - 100000) (ap (λ (b : Bool). packet_in b p) f) in
-        absurd (let z : true ≡ false = sym e ∙ not_yet p s l in cc)
+    go : (b : Bool) → is_left o i ≡ b → (b && nat_le (p - s) 100000) ≡ false
+    go true e = not_yet p s (h (p - 100000) (ap (λ (b : Bool). packet_in b p) e))
+    go false e = refl
 
 late : (a s k : ℕ) → s < k + 1 - min a 9999999999999999 → min (a + s) 9999999999999999 ≤ k
 late a s k l = omega (arith, l)
@@ -85,35 +80,21 @@ quiet_long w H now h =
 
 at_then : (m t : ℕ) (o : Option ℕ) → at_in m o ≡ Some t → (n : ℕ) × (o ≡ Some n) × (m + n ≡ t)
 at_then m t None e = absurd (cc)
-at_then m t (Some n) e = go (nat_lt (m + n) 10000000000000000) e
-  where
-    go : (b : Bool) → (if b then Some (m + n) else None) ≡ Some t → (k : ℕ) × (Some n ≡ Some k) × (m + k ≡ t)
-    go true f = (n, refl, (let z : m + n ≡ t = cc in z))
-    go false f = absurd (cc)
+at_then m t (Some n) e = (n, refl, (cond_some (nat_lt (m + n) 10000000000000000) (m + n) t e).1)
 
 either_sooner : (a b : Option ℕ) (n : ℕ) → sooner a b ≡ Some n → (a ≡ Some n) ⊎ (b ≡ Some n)
 either_sooner None b n e = inr e
 either_sooner (Some k) None n e = inl e
-either_sooner (Some k) (Some m) n e = go (nat_lt k m) refl
-  where
-    least : min k m ≡ n
-    least = cc
-
-    go : (b : Bool) → nat_lt k m ≡ b → (Some k ≡ Some n) ⊎ (Some m ≡ Some n)
-    go true f = inl (ap (λ (x : ℕ). Some x) (let y = ltb-true k m f in omega (arith, y, least)))
-    go false f = inr (ap (λ (x : ℕ). Some x) (let y = ltb-false k m f in omega (arith, y, least)))
+either_sooner (Some k) (Some m) n e =
+    let least : min k m ≡ n = same_Some (min k m) n e in
+    elim (cases_lt k m) [ inl l ↦ inl (ap (λ (x : ℕ). Some x) (omega (arith, l, least))) | inr l ↦ inr (ap (λ (x : ℕ). Some x) (omega (arith, l, least))) ]
 
 some_packet : (o : Option (ℕ × MessageRecord)) (i p n s : ℕ) → n ≤ s → packet_in (is_left o i) p ≡ Some n → packet_by o i (p - s) ≡ None → ⊥
-some_packet None i p n s l e f = absurd (cc)
-some_packet (Some x) i p n s l e f = go (nat_le i (packets_of x.1)) refl e
+some_packet o i p n s l e f = not_there _ (packet_there o i (p - s) ∙ go (is_left o i) refl e) f
   where
-    go : (b : Bool) → nat_le i (packets_of x.1) ≡ b → packet_in b p ≡ Some n → ⊥
+    go : (b : Bool) → is_left o i ≡ b → packet_in b p ≡ Some n → (is_left o i && nat_le (p - s) 100000) ≡ true
+    go true g k = let z = same_Some (p - 100000) n k in and_from _ _ g (le-leb (p - s) 100000 (omega (arith, z, l)))
     go false g k = absurd (cc)
-    go true g k =
-        let z : p - 100000 ≡ n = cc in
-        let a : nat_le (p - s) 100000 ≡ true = le-leb (p - s) 100000 (omega (arith, z, l)) in
-        let y : Some (frame_of x.1 i) ≡ None = sym (ap (λ (c : Bool). if c && nat_le i (packets_of x.1) then Some (frame_of x.1 i) else None) a
-        ∙ ap (λ (c : Bool). if c then Some (frame_of x.1 i) else None) g) ∙ f in absurd (cc)
 
 some_signal : (t : Running) (a n s : ℕ) → n ≤ s → (n ≡ 0) ⊎ (a + n < 10000000000000000) → running_in t (clock a) ≡ Some n → signal_by t (clock (a + s)) ≡ None → ⊥
 unfolding send_step ticks_in sends_packet
@@ -123,30 +104,22 @@ some_signal t a n s l m e f = go t.gone (gives_up t) e f
     over k g = elim m [ inl z ↦ omega (arith, g, z) | inr z ↦ omega (arith, g, l, z) ]
 
     by : (u : SendState) → sends_in u t.sender.since (clock a) ≡ Some n → (ticks_in u (clock (a + s)) t.sender).says ≡ None → ⊥
-    by Idle h k = absurd (cc)
     by (Waiting limit) h k =
         let z : t.sender.since + limit + 1 - clock a ≡ n = cc in
         let b = lt-ltb (t.sender.since + limit) (clock (a + s)) (over (t.sender.since + limit) z) in
         let y : Some (Abort timeout t.sender.message.pgn) ≡ None =
         sym (ap (λ (b : Bool). (if b then (let r : SendResult = record { after = record t.sender { state = Failed timeout }; says = Some (Abort timeout t.sender.message.pgn) } in r) else silent t.sender).says) b) ∙ k in
         absurd (cc)
-    by (Sending next last) h k = absurd (cc)
-    by Done h k = absurd (cc)
-    by (Failed reason) h k = absurd (cc)
+    by u h k = absurd (cc)
 
     go : (b c : Bool) → (if b then None else if c then Some 0 else sends_in t.sender.state t.sender.since (clock a)) ≡ Some n
         → (if b then None else if c then Some (Abort 5 t.sender.message.pgn) else (send_step t.sender Tick (clock (a + s))).says) ≡ None → ⊥
-    go true c h k = absurd (cc)
-    go false true h k = absurd (cc)
     go false false h k = by t.sender.state h k
+    go b c h k = absurd (cc)
 
 some_transfer : (o : Option Running) (a n s : ℕ) → n ≤ s → (n ≡ 0) ⊎ (a + n < 10000000000000000) → transfer_in o (clock a) ≡ Some n → transfer_by o (clock (a + s)) ≡ None → ⊥
 some_transfer None a n s l m e f = absurd (cc)
-some_transfer (Some t) a n s l m e f = some_signal t a n s l m e (none_said (signal_by t (clock (a + s))) f)
-  where
-    none_said : (o : Option Signal) → option_map (says t.sender) o ≡ None → o ≡ None
-    none_said None g = refl
-    none_said (Some x) g = absurd (cc)
+some_transfer (Some t) a n s l m e f = some_signal t a n s l m e (mapped_none (says t.sender) (signal_by t (clock (a + s))) f)
 
 pub both_none : (a b : Option Message) → long_by a b ≡ None → (a ≡ None) × (b ≡ None)
 both_none None b e = (refl, e)

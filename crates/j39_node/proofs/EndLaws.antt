@@ -1,19 +1,19 @@
 -- That every transfer ends.
-use Rattle.j39_node.proofs.Common.{Abort, AreAnswered, At, Bool, Call, Controller, FrameRecord, Gone, Hear, Idle, Is, IsAnswered, IsPaced, IsPrompt, List, Message, MessageRecord, None, NoneTold, Ok, Option, Running, SendState, SenderRecord, Sending, Signal, Some, TakeFrame, TakeTransferEnded, Transfer, TransferEnding, Waiting, Who, [], aborted, address_after, after, age, all_transfers, and_parts, answer_to_transfer, ap, arith, begun, broadcast_from, broken_off, by, can_broadcast, claims_anew, clears, clock_at, cond_both, counts_for, destination_of, due, ending_by, eq-eqb, false, first, gives_up, granted_by, hears, hears_if, holder, holds, idle, if◌then◌else◌, inl, inr, is_acknowledgment, is_claim, is_engaged, is_held, is_idle, is_lost, is_move, is_replaced, is_resting, is_running, is_sendable, is_session, is_some, is_spent, is_transfer, later, leb-true, length, listens, lost, moment, nat_eq, nat_le, nat_lt, new_sender, next_transfer, next_transfer_ended, not, not_both, open_transfer, option_map, or_parts, packets_of, passed_in, refl, running, says, send_step, sends, sends_if, signal_by, step, subst, suc, sym, tells_transfer, ticks_in, timer_t3, told, transfer_by, transfer_end, true, waited_in, ℕ, ◌&&◌, ◌*◌, ◌++◌, ◌+◌, ◌/◌, ◌<◌, ◌||◌, ◌∙◌, ◌∷◌, ◌≡◌, ◌≤◌, ◌⊎◌}
+use Rattle.j39_node.proofs.Common.{Abort, AreAnswered, At, Bool, Call, Controller, FrameRecord, Hear, Is, IsAnswered, IsPaced, IsPrompt, List, Message, MessageRecord, None, NoneTold, Ok, Option, Running, SendState, SenderRecord, Signal, Some, TakeFrame, TakeTransferEnded, Transfer, TransferEnding, Who, [], aborted, address_after, age, all_transfers, and_parts, answer_to_transfer, ap, arith, begun, broadcast_from, can_broadcast, claims_anew, clears, clock_at, cond_both, counts_for, destination_of, due, ending_by, eq-eqb, false, first, gives_up, granted_by, hears, hears_if, holder, holds, if◌then◌else◌, inl, inr, is_acknowledgment, is_claim, is_engaged, is_held, is_idle, is_lost, is_move, is_replaced, is_resting, is_running, is_sendable, is_session, is_some, is_spent, is_transfer, later, leb-true, length, listens, lost, moment, nat_eq, nat_le, nat_lt, new_sender, next_transfer, next_transfer_ended, not, not_both, open_transfer, option_map, or_parts, packets_of, passed_in, refl, says, send_step, sends, sends_if, signal_by, step, subst, suc, sym, tells_transfer, ticks_in, timer_t3, transfer_by, transfer_end, true, waited_in, ℕ, ◌&&◌, ◌*◌, ◌++◌, ◌+◌, ◌/◌, ◌<◌, ◌||◌, ◌∙◌, ◌∷◌, ◌≡◌, ◌≤◌, ◌⊎◌, same_Some, none-some, mul-add, cases_Bool}
 use Rattle.j39_transport.specs.Sending.{Tick}
-use Rattle.j39_node.specs.declared.kinds.TransferEnding.TheVariants.{Done, Withdrawn, Failed}
 use Rattle.j39_node.specs.Transfers.{said_to}
 use Rattle.j39_transport.specs.Sending as sending
-use Rattle.j39_node.proofs.EndSteps.{HeardCase, IsEnded, Late, Listened, due_late, heard_case, heard_late, most, none_late, passes, rank_of, ticked_late, times_more}
-use Rattle.j39_node.proofs.EndSteps.HeardCase.{same, ends, holds as holding, clears as is_cleared}
+use Rattle.j39_node.proofs.EndSteps.{IsEnded, Late, Listened, due_late, heard_late, most, none_late, passes, rank_of, ticked_late, times_more}
+use Rattle.j39_node.proofs.MoveSteps.{HeardCase, heard_case}
+use Rattle.j39_node.proofs.MoveSteps.HeardCase.{same, done, fails, holds as holding, clears as is_cleared}
 use Rattle.j39_node.proofs.EndSteps.Listened.{over as ends_so, kept, held as holds_on}
 use Rattle.j39_node.proofs.MoveLemmas.{hears_token, sent_case}
-use Rattle.j39_node.proofs.PortLemmas.{hears_same, sends_same}
+use Rattle.j39_node.proofs.PortLemmas.{hears_cases, hears_same, sends_same}
 use Rattle.j39_node.proofs.PromptLaws.{answered_from, ended_or_lost, Fate, later_on, takes, waited_last, waited_more}
 use Rattle.j39_node.proofs.PromptLaws.Fate.{runs}
 use Rattle.j39_node.proofs.SoundLemmas.{FrameCase, frame_case, held_not_lost, held_older, none_next, plain_session}
-use Rattle.j39_node.proofs.SteadySteps.{Account, account_holds, account_passes, account_rests, dist}
-use Rattle.j39_node.proofs.TransferLaws.{BudgetedIf, budgeted}
+use Rattle.j39_node.proofs.SteadySteps.{Account, account_holds, account_passes, account_rests}
+use Rattle.j39_node.proofs.TransferLaws.{BudgetedIf, budgeted, Tells, tells}
 use Rattle.j39_node.proofs.AnswerCases.{transfer_accepts}
 
 -- ---- what is over stays over
@@ -21,67 +21,48 @@ use Rattle.j39_node.proofs.AnswerCases.{transfer_accepts}
 abbrev pub Over : Running → Type 0
 Over t = (t.gone ≡ true) ⊎ IsEnded t.sender
 
-ended_heard : (s : SenderRecord) (o : Option ℕ) (r : SenderRecord) (now : ℕ) → HeardCase s now o r → IsEnded s → IsEnded r
-ended_heard s o r now (same a b) e = subst IsEnded (sym b) e
-ended_heard s o r now (ends z) e = z
-ended_heard s o r now (holding limit i a b) e =
-    absurd (let z : true ≡ false = sym (ap (λ (u : SendState). is_idle u || is_running u) i) ∙ e in cc)
-ended_heard s o r now (is_cleared limit next last i a b) e =
-    absurd (let z : true ≡ false = sym (ap (λ (u : SendState). is_idle u || is_running u) i) ∙ e in cc)
+ended_heard : (s : SenderRecord) (a : Option Signal) (o : Option ℕ) (r : SenderRecord) (now : ℕ) → HeardCase s a now o r → IsEnded s → IsEnded r
+ended_heard s a o r now same e = e
+ended_heard s a o r now (done w x) e = refl
+ended_heard s a o r now (fails reason w i) e = refl
+ended_heard s a o r now (holding limit i) e = absurd (not_both _ e (ap (λ (u : SendState). is_idle u || is_running u) i))
+ended_heard s a o r now (is_cleared limit next last i n) e = absurd (not_both _ e (ap (λ (u : SendState). is_idle u || is_running u) i))
 
 ended_ticked : (s : SenderRecord) (now : ℕ) → IsEnded s → IsEnded (ticks_in s.state now s).after
 unfolding ticks_in
 ended_ticked s now e = go s.state refl
   where
     go : (u : SendState) → s.state ≡ u → IsEnded (ticks_in u now s).after
-    go sending.Idle i = absurd (let z : true ≡ false = sym (ap (λ (v : SendState). is_idle v || is_running v) i) ∙ e in cc)
-    go (sending.Waiting limit) i = absurd (let z : true ≡ false = sym (ap (λ (v : SendState). is_idle v || is_running v) i) ∙ e in cc)
-    go (sending.Sending next last) i = absurd (let z : true ≡ false = sym (ap (λ (v : SendState). is_idle v || is_running v) i) ∙ e in cc)
     go sending.Done i = e
     go (sending.Failed reason) i = e
+    go u i = absurd (not_both _ e (ap (λ (v : SendState). is_idle v || is_running v) i))
 
 pub ended_aborted : (s : SenderRecord) (reason : ℕ) → is_running s.state ≡ true → IsEnded (aborted reason s)
 unfolding aborted
-ended_aborted s reason e = cond_both (is_running s.state) _ _ IsEnded (λ z. refl) (λ z. absurd (let y : true ≡ false = sym e ∙ z in cc))
-
-pub running_of : (t : Running) → gives_up t ≡ true → is_running t.sender.state ≡ true
-running_of t = go (is_spent t) (is_running t.sender.state)
-  where
-    go : (a b : Bool) → (a && b) ≡ true → b ≡ true
-    go true b e = e
-    go false b e = absurd (let z : false ≡ true = e in cc)
+ended_aborted s reason e = cond_both (is_running s.state) _ _ IsEnded (λ z. refl) (λ z. absurd (not_both _ z e))
 
 pub over_hears : (lost replaced : Bool) (f : FrameRecord) (now : ℕ) (t : Running) → Over t → Over (hears lost replaced f now t)
 unfolding send_step
-over_hears true replaced f now t h = h
-over_hears false true f now t h = inl refl
-over_hears false false f now t h = cond_both (t.gone || is_spent t) t (listens f now t) Over (λ z. h) (λ z. go h)
+over_hears lost replaced f now t h = hears_cases Over lost replaced f now t h (λ z. inl refl) (λ z. go h)
   where
     go : Over t → Over (listens f now t)
     go (inl e) = inl e
-    go (inr e) = inr (ended_heard t.sender _ _ now (heard_case t.sender (said_to t.sender f) now) e)
+    go (inr e) = inr (ended_heard t.sender _ _ _ now (heard_case t.sender (said_to t.sender f) now) e)
 
 pub over_sends : (now : ℕ) (t : Running) → Over t → Over (sends now t)
 unfolding send_step
 over_sends now t (inl e) = inl e
 over_sends now t (inr e) = inr (cond_both (gives_up t) (aborted 5 t.sender) (send_step t.sender Tick now).after IsEnded
-    (λ z. ended_aborted t.sender 5 (running_of t z)) (λ z. ended_ticked t.sender now e))
+    (λ z. ended_aborted t.sender 5 (and_parts (is_spent t) (is_running t.sender.state) z).1) (λ z. ended_ticked t.sender now e))
 
 -- then its end would be told
-open_one : (gone lost : Bool) → (gone ≡ true) ⊎ ((true ≡ false) ⊎ (lost ≡ true)) → (e : TransferEnding) × (broken_off gone lost ≡ Some e)
-open_one true b h = (Gone, refl)
-open_one false true h = (Withdrawn, refl)
-open_one false false (inl a) = absurd (let z : false ≡ true = a in cc)
-open_one false false (inr (inl a)) = absurd (cc)
-open_one false false (inr (inr a)) = absurd (let z : false ≡ true = a in cc)
-
-pub tells : (u : SendState) (gone lost : Bool) → (gone ≡ true) ⊎ (((is_idle u || is_running u) ≡ false) ⊎ (lost ≡ true))
+is_told : (u : SendState) (gone lost : Bool) → (gone ≡ true) ⊎ (((is_idle u || is_running u) ≡ false) ⊎ (lost ≡ true))
     → (e : TransferEnding) × (ending_by u gone lost ≡ Some e)
-tells sending.Done gone lost h = (Done, refl)
-tells (sending.Failed reason) gone lost h = (Failed reason, refl)
-tells sending.Idle gone lost h = open_one gone lost h
-tells (sending.Waiting limit) gone lost h = open_one gone lost h
-tells (sending.Sending next last) gone lost h = open_one gone lost h
+is_told u gone lost h = go (ending_by u gone lost) (tells u gone lost) refl
+  where
+    go : (o : Option TransferEnding) → Tells u gone lost o → ending_by u gone lost ≡ o → (e : TransferEnding) × (ending_by u gone lost ≡ Some e)
+    go (Some e) x i = (e, i)
+    go None x i = absurd (elim h [ inl a ↦ not_both _ x.0 a | inr y ↦ elim y [ inl a ↦ not_both _ a x.2 | inr a ↦ not_both _ x.1 a ] ])
 
 -- ---- a driver's pace
 
@@ -117,31 +98,20 @@ pub counts_is : (to : ℕ) (f : FrameRecord) (a b d : Bool) → (is_claim f || i
     → counts_for to f ≡ (not a && not (b && not d))
 counts_is to f a b d x y z = λ i. not (x i) && not (y i && not (z i))
 
--- what a signal says of its sender
+-- what a signal says of its sender, where it isn't gone
+here : (t : Running) (now : ℕ) → t.gone ≡ false → signal_by t now ≡ (if gives_up t then Some (Abort 5 t.sender.message.pgn) else (send_step t.sender Tick now).says)
+here t now n = ap (λ (b : Bool). if b then (let o : Option Signal = None in o) else if gives_up t then Some (Abort 5 t.sender.message.pgn) else (send_step t.sender Tick now).says) n
+
 no_signal : (t : Running) (now : ℕ) → t.gone ≡ false → signal_by t now ≡ None → (gives_up t ≡ false) × ((ticks_in t.sender.state now t.sender).says ≡ None)
 unfolding send_step
-no_signal t now n e = go (gives_up t) refl (ap (λ (b : Bool). if b then (let o : Option Signal = None in o) else if gives_up t then Some (Abort 5 t.sender.message.pgn)
-    else (send_step t.sender Tick now).says) (sym n) ∙ e)
-  where
-    go : (b : Bool) → gives_up t ≡ b → (if b then Some (Abort 5 t.sender.message.pgn) else (send_step t.sender Tick now).says) ≡ None
-        → (gives_up t ≡ false) × ((ticks_in t.sender.state now t.sender).says ≡ None)
-    go true i y = absurd (cc)
-    go false i y = (i, y)
+no_signal t now n e = cond_both (gives_up t) _ _ (λ (o : Option Signal). o ≡ None → (gives_up t ≡ false) × ((ticks_in t.sender.state now t.sender).says ≡ None))
+    (λ i y. absurd (cc)) (λ i y. (i, y)) (sym (here t now n) ∙ e)
 
 a_signal : (t : Running) (now : ℕ) (x : Signal) → t.gone ≡ false → signal_by t now ≡ Some x
     → ((ticks_in t.sender.state now t.sender).says ≡ None → ⊥) ⊎ (nat_lt 64 t.spent ≡ true)
 unfolding send_step
-a_signal t now x n e = go (gives_up t) refl (ap (λ (b : Bool). if b then (let o : Option Signal = None in o) else if gives_up t then Some (Abort 5 t.sender.message.pgn)
-    else (send_step t.sender Tick now).says) (sym n) ∙ e)
-  where
-    spent : (a b : Bool) → (a && b) ≡ true → a ≡ true
-    spent true b i = refl
-    spent false b i = absurd (cc)
-
-    go : (b : Bool) → gives_up t ≡ b → (if b then Some (Abort 5 t.sender.message.pgn) else (send_step t.sender Tick now).says) ≡ Some x
-        → ((ticks_in t.sender.state now t.sender).says ≡ None → ⊥) ⊎ (nat_lt 64 t.spent ≡ true)
-    go true i y = inr (spent (is_spent t) (is_running t.sender.state) i)
-    go false i y = inl (λ z. (let k : None ≡ Some x = sym z ∙ y in absurd (cc)))
+a_signal t now x n e = cond_both (gives_up t) _ _ (λ (o : Option Signal). o ≡ Some x → ((ticks_in t.sender.state now t.sender).says ≡ None → ⊥) ⊎ (nat_lt 64 t.spent ≡ true))
+    (λ i y. inr (and_parts (is_spent t) (is_running t.sender.state) i).0) (λ i y. inl (λ z. none-some x (sym z ∙ y))) (sym (here t now n) ∙ e)
 
 -- ---- the course of a transfer
 
@@ -154,6 +124,11 @@ module _ (w : Who) (B : List Call) (g k to : ℕ) (m : MessageRecord) (since : L
     streak : ℕ
     late : Late t.granted t.spent (age (later ++ B)) base waited streak t.sender
     paid : Paid later (rank_of t.granted t.spent t.sender) base waited streak
+
+  -- by these counts
+  runs_by : (later : List Call) (t : Running) (base waited streak : ℕ) → t.gone ≡ false → Late t.granted t.spent (age (later ++ B)) base waited streak t.sender
+      → Paid later (rank_of t.granted t.spent t.sender) base waited streak → Runs later t
+  runs_by later t base waited streak here late paid = record { here = here; base = base; waited = waited; streak = streak; late = late; paid = paid }
 
   pub record Stands (later : List Call) : Type 0 where
     pub running : Running
@@ -173,23 +148,12 @@ module _ (w : Who) (B : List Call) (g k to : ℕ) (m : MessageRecord) (since : L
     message = refl;
     destination = refl;
     aged = a;
-    course = runs e (record {
-      here = refl;
-      base = 0;
-      waited = 0;
-      streak = 0;
-      late = record { phase = λ z. omega (arith, a); gives_up = λ z. omega (arith, a); due = λ z. tt };
-      paid = p;
-    });
+    course = runs e (runs_by [] (begun k m to) 0 0 0 refl (record { phase = λ z. omega (arith, a); gives_up = λ z. omega (arith, a); due = λ z. tt }) p);
   }
 
   -- it goes on, or is over
   alive : (t : Running) → Over t ⊎ ((is_idle t.sender.state || is_running t.sender.state) ≡ true)
-  alive t = go (is_idle t.sender.state || is_running t.sender.state) refl
-    where
-      go : (u : Bool) → (is_idle t.sender.state || is_running t.sender.state) ≡ u → Over t ⊎ ((is_idle t.sender.state || is_running t.sender.state) ≡ true)
-      go true e = inr e
-      go false e = inl (inr e)
+  alive t = elim (cases_Bool (is_idle t.sender.state || is_running t.sender.state)) [ inl e ↦ inr e | inr e ↦ inl (inr e) ]
 
   old_at_most : (later : List Call) (h : Stands later) (s : ℕ) → Runs later h.running → (is_idle h.running.sender.state || is_running h.running.sender.state) ≡ true
       → since later B + s ≤ g → age (later ++ B) + s ≤ limit later
@@ -208,15 +172,10 @@ module _ (w : Who) (B : List Call) (g k to : ℕ) (m : MessageRecord) (since : L
   -- time passes for it
   rests_on : (call : Call) (later : List Call) (t : Running) → takes call ≡ false → age (call ∷ later ++ B) ≡ age (later ++ B) + step (later ++ B) (moment (call ∷ later ++ B))
       → Runs later t → Runs (call ∷ later) t
-  rests_on call later t n a r = record {
-    here = r.here;
-    base = r.base;
-    waited = r.waited + step (later ++ B) (moment (call ∷ later ++ B));
-    streak = r.streak;
-    late = subst (λ (x : ℕ). Late t.granted t.spent x r.base (r.waited + step (later ++ B) (moment (call ∷ later ++ B))) r.streak t.sender) (sym a)
-        (passes t.granted t.spent (age (later ++ B)) r.base r.waited r.streak (step (later ++ B) (moment (call ∷ later ++ B))) t.sender r.late);
-    paid = pace.passes call later _ _ r.base r.waited r.streak n (omega arith) r.paid;
-  }
+  rests_on call later t n a r = runs_by (call ∷ later) t r.base (r.waited + step (later ++ B) (moment (call ∷ later ++ B))) r.streak r.here
+      (subst (λ (x : ℕ). Late t.granted t.spent x r.base (r.waited + step (later ++ B) (moment (call ∷ later ++ B))) r.streak t.sender) (sym a)
+      (passes t.granted t.spent (age (later ++ B)) r.base r.waited r.streak (step (later ++ B) (moment (call ∷ later ++ B))) t.sender r.late))
+      (pace.passes call later _ _ r.base r.waited r.streak n (omega arith) r.paid)
 
   -- a frame is heard
   heard_so : (later : List Call) (when : ℕ) (f : FrameRecord) (h : Stands later) (lost replaced : Bool) → lost ≡ false → limit later < 9000000000000000
@@ -232,7 +191,7 @@ module _ (w : Who) (B : List Call) (g k to : ℕ) (m : MessageRecord) (since : L
         (cond_both (h.running.gone || is_spent h.running) h.running (listens f now h.running) (λ (t : Running). Over t ⊎ Runs (At when (Hear f) ∷ later) t)
         (λ i. inr (rests_on (At when (Hear f)) later h.running refl refl r))
         (λ i. listened (heard_late h.running.granted h.running.spent (age (later ++ B)) r.base r.waited r.streak (step (later ++ B) when) h.running.sender
-        (listens f now h.running).sender (granted_by h.running.sender (said_to h.running.sender f))
+        (said_to h.running.sender f) (listens f now h.running).sender (granted_by h.running.sender (said_to h.running.sender f))
         (heard_case h.running.sender (said_to h.running.sender f) now) (or_parts h.running.gone (is_spent h.running) i).1 r.late)))
   ]
     where
@@ -242,22 +201,10 @@ module _ (w : Who) (B : List Call) (g k to : ℕ) (m : MessageRecord) (since : L
       listened : Listened h.running.granted h.running.spent (age (later ++ B)) r.base r.waited r.streak (step (later ++ B) when) h.running.sender (listens f now h.running).sender
           (listens f now h.running).granted (listens f now h.running).spent → Over (listens f now h.running) ⊎ Runs (At when (Hear f) ∷ later) (listens f now h.running)
       listened (ends_so x) = inl (inr x)
-      listened (kept i x) = inr (record {
-        here = r.here;
-        base = r.base;
-        waited = r.waited + step (later ++ B) when;
-        streak = r.streak;
-        late = x;
-        paid = pace.passes (At when (Hear f)) later _ _ r.base r.waited r.streak refl i r.paid;
-      })
-      listened (holds_on i x) = inr (record {
-        here = r.here;
-        base = r.base + (r.waited + step (later ++ B) when);
-        waited = 0;
-        streak = 0;
-        late = x;
-        paid = pace.holds when f later _ _ r.base r.waited r.streak i p r.paid;
-      })
+      listened (kept i x) = inr (runs_by (At when (Hear f) ∷ later) (listens f now h.running) r.base (r.waited + step (later ++ B) when) r.streak r.here x
+          (pace.passes (At when (Hear f)) later _ _ r.base r.waited r.streak refl i r.paid))
+      listened (holds_on i x) = inr (runs_by (At when (Hear f) ∷ later) (listens f now h.running) (r.base + (r.waited + step (later ++ B) when)) 0 0 r.here x
+          (pace.holds when f later _ _ r.base r.waited r.streak i p r.paid))
 
   -- something of it is due
   due_now : (later : List Call) (now : ℕ) (h : Stands later) (x : Signal) → is_held (address_after w (later ++ B)) ≡ true
@@ -291,27 +238,15 @@ module _ (w : Who) (B : List Call) (g k to : ℕ) (m : MessageRecord) (since : L
       idle : (gives_up h.running ≡ false) × ((ticks_in h.running.sender.state time h.running.sender).says ≡ None) → Over h.running ⊎ Runs (call ∷ later) h.running
       idle q = elim (none_late h.running.granted h.running.spent (age (later ++ B)) r.base r.waited r.streak (step (later ++ B) now) h.running.sender r.late q.1 q.0) [
         | inl y ↦ inl (inr y)
-        | inr y ↦ inr (record {
-          here = r.here;
-          base = r.base;
-          waited = 0;
-          streak = 0;
-          late = subst (λ (x : ℕ). Late h.running.granted h.running.spent x r.base 0 0 h.running.sender) (sym a) y.0;
-          paid = rests (subst (Paid later (rank_of h.running.granted h.running.spent h.running.sender) r.base r.waited) y.1 r.paid);
-        })
+        | inr y ↦ inr (runs_by (call ∷ later) h.running r.base 0 0 r.here (subst (λ (x : ℕ). Late h.running.granted h.running.spent x r.base 0 0 h.running.sender) (sym a) y.0)
+            (rests (subst (Paid later (rank_of h.running.granted h.running.spent h.running.sender) r.base r.waited) y.1 r.paid)))
       ]
 
       waits : (x : (i : ℕ) × Paid (call ∷ later) (rank_of h.running.granted h.running.spent h.running.sender) r.base (r.waited + step (later ++ B) now) i)
           → ((ticks_in h.running.sender.state time h.running.sender).says ≡ None → ⊥) ⊎ (nat_lt 64 h.running.spent ≡ true) → Over h.running ⊎ Runs (call ∷ later) h.running
-      waits x q = inr (record {
-        here = r.here;
-        base = r.base;
-        waited = r.waited + step (later ++ B) now;
-        streak = x.0;
-        late = subst (λ (y : ℕ). Late h.running.granted h.running.spent y r.base (r.waited + step (later ++ B) now) x.0 h.running.sender) (sym a)
-            (due_late h.running.granted h.running.spent (age (later ++ B)) r.base r.waited r.streak (step (later ++ B) now) x.0 h.running.sender r.late q);
-        paid = x.1;
-      })
+      waits x q = inr (runs_by (call ∷ later) h.running r.base (r.waited + step (later ++ B) now) x.0 r.here
+          (subst (λ (y : ℕ). Late h.running.granted h.running.spent y r.base (r.waited + step (later ++ B) now) x.0 h.running.sender) (sym a)
+          (due_late h.running.granted h.running.spent (age (later ++ B)) r.base r.waited r.streak (step (later ++ B) now) x.0 h.running.sender r.late q)) x.1)
 
       by : (is_idle h.running.sender.state || is_running h.running.sender.state) ≡ true → (o : Option Signal) → signal_by h.running time ≡ o → Over h.running ⊎ Runs (call ∷ later) h.running
       by z None i = idle (no_signal h.running time r.here i)
@@ -327,65 +262,52 @@ module _ (w : Who) (B : List Call) (g k to : ℕ) (m : MessageRecord) (since : L
     | inr z ↦ subst (λ (x : ℕ). Over (sends x h.running) ⊎ Runs (At now (TakeFrame (Some f)) ∷ later) (sends x h.running)) (sym (clock_goes later h now short r z p))
         (cond_both (gives_up h.running) (aborted 5 h.running.sender) (send_step h.running.sender Tick (age (later ++ B) + step (later ++ B) now)).after
         (λ (s : SenderRecord). Over (record h.running { sender = s }) ⊎ Runs (At now (TakeFrame (Some f)) ∷ later) (record h.running { sender = s }))
-        (λ i. inl (inr (ended_aborted h.running.sender 5 (running_of h.running i))))
+        (λ i. inl (inr (ended_aborted h.running.sender 5 (and_parts (is_spent h.running) (is_running h.running.sender.state) i).1)))
         (λ i. taken _ (ticked_late h.running.granted h.running.spent (age (later ++ B)) r.base r.waited r.streak (step (later ++ B) now) h.running.sender r.late)))
   ]
     where
       taken : (s : SenderRecord) → Listened h.running.granted h.running.spent (age (later ++ B)) r.base r.waited 0 (step (later ++ B) now) h.running.sender s h.running.granted h.running.spent
           → Over (record h.running { sender = s }) ⊎ Runs (At now (TakeFrame (Some f)) ∷ later) (record h.running { sender = s })
       taken s (ends_so x) = inl (inr x)
-      taken s (kept i x) = inr (record {
-        here = r.here;
-        base = r.base;
-        waited = r.waited + step (later ++ B) now;
-        streak = 0;
-        late = x;
-        paid = pace.goes now f later _ _ r.base r.waited r.streak plain counts p i r.paid;
-      })
-      taken s (holds_on i x) = inr (record {
-        here = r.here;
-        base = r.base + (r.waited + step (later ++ B) now);
-        waited = 0;
-        streak = 0;
-        late = x;
-        paid = pace.waits now f later _ _ r.base r.waited r.streak plain counts p i r.paid;
-      })
+      taken s (kept i x) = inr (runs_by (At now (TakeFrame (Some f)) ∷ later) (record h.running { sender = s }) r.base (r.waited + step (later ++ B) now) 0 r.here x
+          (pace.goes now f later _ _ r.base r.waited r.streak plain counts p i r.paid))
+      taken s (holds_on i x) = inr (runs_by (At now (TakeFrame (Some f)) ∷ later) (record h.running { sender = s }) (r.base + (r.waited + step (later ++ B) now)) 0 0 r.here x
+          (pace.waits now f later _ _ r.base r.waited r.streak plain counts p i r.paid))
+
+  -- the same transfer, a call later
+  goes_on : (call : Call) (later : List Call) (h : Stands later) (t : Running) → open_transfer w (call ∷ later ++ B) ≡ Some t → t.token ≡ h.running.token
+      → (t.sender.message ≡ h.running.sender.message) × (t.sender.destination ≡ h.running.sender.destination)
+      → age (call ∷ later ++ B) ≡ age (later ++ B) + step (later ++ B) (moment (call ∷ later ++ B))
+      → Fate (address_after w (call ∷ later ++ B)) (Over t) (Runs (call ∷ later) t) → Stands (call ∷ later)
+  goes_on call later h t is token alike aged course = record {
+    running = t;
+    is = is;
+    token = token ∙ h.token;
+    message = alike.0 ∙ h.message;
+    destination = alike.1 ∙ h.destination;
+    aged = aged ∙ ap (λ (n : ℕ). n + step (later ++ B) (moment (call ∷ later ++ B))) h.aged;
+    course = course;
+  }
 
   takes_one : (now : ℕ) (f : FrameRecord) (later : List Call) → AreAnswered w (later ++ B) → IsAnswered w (later ++ B) (At now (TakeFrame (Some f)))
       → since later B + step (later ++ B) now ≤ g → limit later < 9000000000000000 → Stands later → (b : Bool) → is_move w (later ++ B) f ≡ b
       → Stands (At now (TakeFrame (Some f)) ∷ later)
-  takes_one now f later right answer p short h false i = record {
-    running = h.running;
-    is = ap (λ (b : Bool). sends_if b (clock_at (later ++ B) now) (open_transfer w (later ++ B))) i ∙ h.is;
-    token = h.token;
-    message = h.message;
-    destination = h.destination;
-    aged = ap (λ (n : ℕ). n + step (later ++ B) now) h.aged;
-    course = later_on w (later ++ B) (At now (TakeFrame (Some f))) refl (λ y. y)
-        (λ e z r. found_so (At now (TakeFrame (Some f))) later now h short p e refl r
-        (pace.beside now f later _ r.base r.waited right (frame_case w (later ++ B) now f answer) i)
-        (λ d. pace.before now f later _ r.base r.waited r.streak right (frame_case w (later ++ B) now f answer) i d p r.paid)) h.course;
-  }
+  takes_one now f later right answer p short h false i =
+      goes_on (At now (TakeFrame (Some f))) later h h.running (ap (λ (b : Bool). sends_if b (clock_at (later ++ B) now) (open_transfer w (later ++ B))) i ∙ h.is) refl (refl, refl) refl
+      (later_on w (later ++ B) (At now (TakeFrame (Some f))) refl (λ y. y)
+      (λ e z r. found_so (At now (TakeFrame (Some f))) later now h short p e refl r
+      (pace.beside now f later _ r.base r.waited right (frame_case w (later ++ B) now f answer) i)
+      (λ d. pace.before now f later _ r.base r.waited r.streak right (frame_case w (later ++ B) now f answer) i d p r.paid)) h.course)
   takes_one now f later right answer p short h true i =
       let t = (and_parts (is_transfer f) _ i).0 in
       let s = sent_case w (later ++ B) now f right (frame_case w (later ++ B) now f answer) i in
-      let same = sends_same (clock_at (later ++ B) now) h.running in
-      record {
-        running = sends (clock_at (later ++ B) now) h.running;
-        is = ap (λ (b : Bool). sends_if b (clock_at (later ++ B) now) (open_transfer w (later ++ B))) i
-            ∙ ap (sends_if true (clock_at (later ++ B) now)) h.is;
-        token = h.token;
-        message = same.0 ∙ h.message;
-        destination = same.1 ∙ h.destination;
-        aged = ap (λ (n : ℕ). n + step (later ++ B) now) h.aged;
-        course = later_on w (later ++ B) (At now (TakeFrame (Some f))) refl (over_sends (clock_at (later ++ B) now) h.running)
-            (λ e z r. own_so later now f h (plain_session f (and_parts (is_session f) _ t).0) (counts_is to f false true true (plain_session f (and_parts (is_session f) _ t).0) t
-            (ap (λ (y : Message). is_some y.destination to) s.frame ∙ eq-eqb _ to
-            (ap (λ (r : Running). r.sender.destination) (one_running s.running h.running (sym s.is ∙ h.is)) ∙ h.destination))) short p r) h.course;
-      }
-    where
-      one_running : (t x : Running) → Some t ≡ Some x → t ≡ x
-      one_running t x e = cc
+      goes_on (At now (TakeFrame (Some f))) later h (sends (clock_at (later ++ B) now) h.running)
+      (ap (λ (b : Bool). sends_if b (clock_at (later ++ B) now) (open_transfer w (later ++ B))) i ∙ ap (sends_if true (clock_at (later ++ B) now)) h.is)
+      refl (sends_same (clock_at (later ++ B) now) h.running) refl
+      (later_on w (later ++ B) (At now (TakeFrame (Some f))) refl (over_sends (clock_at (later ++ B) now) h.running)
+      (λ e z r. own_so later now f h (plain_session f (and_parts (is_session f) _ t).0) (counts_is to f false true true (plain_session f (and_parts (is_session f) _ t).0) t
+      (ap (λ (y : Message). is_some y.destination to) s.frame ∙ eq-eqb _ to
+      (ap (λ (r : Running). r.sender.destination) (same_Some s.running h.running (sym s.is ∙ h.is)) ∙ h.destination))) short p r) h.course)
 
   -- no other is accepted
   none_begins : (later : List Call) (now group to j : ℕ) (bytes : List ℕ) → Stands later → Ok j ≡ answer_to_transfer w (later ++ B) now group to bytes → ⊥
@@ -398,41 +320,20 @@ module _ (w : Who) (B : List Call) (g k to : ℕ) (m : MessageRecord) (since : L
       let G = later ++ B in
       let l = is_lost (address_after w (At when (Hear f) ∷ G)) in
       let r : ℕ → Bool = λ a. is_replaced (holder w G a) (holder w (At when (Hear f) ∷ G) a) in
-      let same = hears_same l (r h.running.sender.destination) f (clock_at G when) h.running in
-      record {
-        running = hears l (r h.running.sender.destination) f (clock_at G when) h.running;
-        is = ap (hears_if l r f (clock_at G when)) h.is;
-        token = hears_token l (r h.running.sender.destination) f (clock_at G when) h.running ∙ h.token;
-        message = same.0 ∙ h.message;
-        destination = same.1 ∙ h.destination;
-        aged = ap (λ (n : ℕ). n + step G when) h.aged;
-        course = later_on w G (At when (Hear f)) refl (over_hears l (r h.running.sender.destination) f (clock_at G when) h.running)
-            (λ e z x. heard_so later when f h l (r h.running.sender.destination) (held_not_lost (address_after w (At when (Hear f) ∷ G)) z) short p.0 x) h.course;
-      }
+      goes_on (At when (Hear f)) later h (hears l (r h.running.sender.destination) f (clock_at G when) h.running) (ap (hears_if l r f (clock_at G when)) h.is)
+      (hears_token l (r h.running.sender.destination) f (clock_at G when) h.running) (hears_same l (r h.running.sender.destination) f (clock_at G when) h.running) refl
+      (later_on w G (At when (Hear f)) refl (over_hears l (r h.running.sender.destination) f (clock_at G when) h.running)
+      (λ e z x. heard_so later when f h l (r h.running.sender.destination) (held_not_lost (address_after w (At when (Hear f) ∷ G)) z) short p.0 x) h.course)
   one_more (At now (TakeFrame (Some f))) later right a n p short h = takes_one now f later right a p.0 short h (is_move w (later ++ B) f) refl
-  one_more (At now (TakeFrame None)) later right a n p short h = record {
-    running = h.running;
-    is = h.is;
-    token = h.token;
-    message = h.message;
-    destination = h.destination;
-    aged = ap (λ (n : ℕ). n + step (later ++ B) now) h.aged;
-    course = later_on w (later ++ B) (At now (TakeFrame None)) refl (λ y. y)
-        (λ e z r. found_so (At now (TakeFrame None)) later now h short p.0 e refl r (pace.rests now later _ r.base r.waited)
-        (λ d. absurd (let q = (none_next w (later ++ B) now (held_older (step (later ++ B) now) (address_after w (later ++ B)) e) a).transfer in
-        let y : None ≡ Some d.1.0 = sym q ∙ d.1.1 in cc))) h.course;
-  }
+  one_more (At now (TakeFrame None)) later right a n p short h =
+      goes_on (At now (TakeFrame None)) later h h.running h.is refl (refl, refl) refl (later_on w (later ++ B) (At now (TakeFrame None)) refl (λ y. y)
+      (λ e z r. found_so (At now (TakeFrame None)) later now h short p.0 e refl r (pace.rests now later _ r.base r.waited)
+      (λ d. absurd (none-some d.1.0 (sym (none_next w (later ++ B) now (held_older (step (later ++ B) now) (address_after w (later ++ B)) e) a).transfer ∙ d.1.1)))) h.course)
   one_more (At now (Transfer group at bytes (Ok j))) later right a n p short h = absurd (none_begins later now group at j bytes h a)
   one_more (TakeTransferEnded (Some x)) later right a n p short h = absurd (let z : true ≡ false = n in cc)
-  one_more call later right a n p short h = record {
-    running = h.running;
-    is = h.is;
-    token = h.token;
-    message = h.message;
-    destination = h.destination;
-    aged = (let e : age (call ∷ later ++ B) ≡ age (later ++ B) + step (later ++ B) (moment (call ∷ later ++ B)) = omega arith in e) ∙ ap (λ (n : ℕ). n + step (later ++ B) (moment (call ∷ later ++ B))) h.aged;
-    course = later_on w (later ++ B) call p.1 (λ y. y) (λ e z r. inr (rests_on call later h.running refl (omega arith) r)) h.course;
-  }
+  one_more call later right a n p short h =
+      goes_on call later h h.running h.is refl (refl, refl) (omega arith)
+      (later_on w (later ++ B) call p.1 (λ y. y) (λ e z r. inr (rests_on call later h.running refl (omega arith) r)) h.course)
 
   stands : (later : List Call) → AreAnswered w (later ++ B) → NoneTold tells_transfer later → IsPaced since g later B → limit later < 9000000000000000 → Stands [] → Stands later
   stands [] a n p short h = h
@@ -446,7 +347,7 @@ module _ (w : Who) (B : List Call) (g k to : ℕ) (m : MessageRecord) (since : L
     where
       told : Stands later → (e : TransferEnding) × (next_transfer_ended w (later ++ B) ≡ Some (k, e))
       told h =
-          let x = tells h.running.sender.state h.running.gone (is_lost (address_after w (later ++ B))) (go (ended_or_lost h.course (λ r. elim (alive h.running) [
+          let x = is_told h.running.sender.state h.running.gone (is_lost (address_after w (later ++ B))) (go (ended_or_lost h.course (λ r. elim (alive h.running) [
             | inl z ↦ z
             | inr z ↦ absurd (let y = old_at_most later h 0 r z (omega (arith, p)) in let b = h.aged in omega (arith, y, b, l))
           ]))) in (
@@ -486,7 +387,7 @@ module _ (w : Who) (B : List Call) (g most to : ℕ) where
         (0, (refl, account_passes g n n 0 base waited (waited_in later B) 0 0 0 0 (step (later ++ B) now) false (omega arith) h.1));
     goes = λ now f later n m base waited streak plain counts p l h. (refl, account_passes g n m 0 base waited (waited_in later B) 0 0 0 0 (step (later ++ B) now) false l h.1);
     waits = λ now f later n m base waited streak plain counts p l h. (refl, account_holds g n m 0 base waited (waited_in later B) 0 0 0 0 (step (later ++ B) now) false l p h.1);
-    older = λ later n base waited streak age s l a p h. (let x = h.1.all_most in let b = times_more n most g l in let d = dist most timer_t3 g in omega (arith, a, x, b, d, p));
+    older = λ later n base waited streak age s l a p h. (let x = h.1.all_most in let b = times_more n most g l in let d = mul-add most timer_t3 g in omega (arith, a, x, b, d, p));
     less = λ call later. omega arith;
   }
 

@@ -1,14 +1,13 @@
 -- How long a transfer waits, step by step of its sender.
-use Rattle.j39_node.proofs.Common.{Abort, Acknowledgment, Bool, ClearToSend, Failed, Idle, None, Option, SendResult, SendState, SenderRecord, Sending, Signal, Some, Waiting, aborted, add-mul, after, age, ap, arith, by, cleared, cond_both, false, granted_after, granted_by, if◌then◌else◌, inl, inr, is_idle, is_running, is_waiting, length, ltb-false, ltb-true, max, may_name, min, more, nat_lt, not, other, packets, packets_of, refl, says, sends_packet, spent_after, subst, suc, suc-mul, sym, ticks_in, timeout, timer_t3, timer_t4, true, waits, zero, ℕ, ◌&&◌, ◌*◌, ◌+◌, ◌-◌, ◌<◌, ◌==◌, ◌||◌, ◌∙◌, ◌≡◌, ◌≤◌, ◌⊎◌}
-use Rattle.j39_transport.specs.Sending.{Done, acknowledged, hears}
+use Rattle.j39_node.proofs.Common.{Abort, Bool, Failed, Idle, None, Option, SendResult, SendState, SenderRecord, Sending, Signal, Some, Waiting, age, ap, arith, cond_both, false, granted_after, if◌then◌else◌, inl, inr, is_idle, is_running, is_waiting, ltb-false, ltb-true, max, nat_lt, not, other, refl, says, sends_packet, spent_after, subst, suc, suc-mul, sym, ticks_in, timeout, timer_t3, timer_t4, true, waits, zero, ℕ, ◌&&◌, ◌*◌, ◌+◌, ◌<◌, ◌==◌, ◌||◌, ◌∙◌, ◌≡◌, ◌≤◌, ◌⊎◌, mul-le-mul_right, not_both, true_from_ne_false}
+use Rattle.j39_node.proofs.MoveSteps.{HeardCase}
+use Rattle.j39_node.proofs.MoveSteps.HeardCase.{same, done, fails, holds, clears}
 
 abbrev pub IsEnded : SenderRecord → Type 0
 IsEnded s = (is_idle s.state || is_running s.state) ≡ false
 
 pub times_more : (n k x : ℕ) → n ≤ k → n * x ≤ k * x
-times_more n k x l =
-    let e : k ≡ n + (k - n) = omega (arith, l) in
-    let a = ap (λ (i : ℕ). i * x) e in let b = add-mul n (k - n) x in omega (arith, a, b)
+times_more n k x l = mul-le-mul_right x l
 
 -- ---- how old it is at most
 
@@ -18,16 +17,12 @@ abbrev pub InTime : ℕ → ℕ → ℕ → ℕ → ℕ → SendState → Type 0
 InTime n age base waited since Idle = age ≤ base + waited
 InTime n age base waited since (Waiting limit) = (since + limit ≤ suc n * timer_t3 + base) × (age ≤ since + limit + waited)
 InTime n age base waited since (Sending next last) = age ≤ n * timer_t3 + base + waited
-InTime n age base waited since Done = Unit {0}
-InTime n age base waited since (Failed reason) = Unit {0}
+InTime n age base waited since other = Unit {0}
 
 -- a frame of it is due
 abbrev pub IsDue : ℕ → ℕ → ℕ → SendState → Type 0
 IsDue spent age since (Waiting limit) = (since + limit < age) ⊎ (nat_lt 64 spent ≡ true)
-IsDue spent age since Idle = Unit {0}
-IsDue spent age since (Sending next last) = Unit {0}
-IsDue spent age since Done = Unit {0}
-IsDue spent age since (Failed reason) = Unit {0}
+IsDue spent age since other = Unit {0}
 
 -- so many clears, and with the one that it waits for, unless it gives up
 abbrev pub rank : ℕ → Bool → Bool → ℕ
@@ -37,14 +32,11 @@ abbrev pub rank_of : ℕ → ℕ → SenderRecord → ℕ
 rank_of granted spent s = rank (granted + spent) (is_waiting s.state) (nat_lt 64 spent)
 
 rank_least : (n : ℕ) (a b : Bool) → (n ≤ rank n a b) × (rank n a b ≤ suc n)
-rank_least n true true = (omega arith, omega arith)
 rank_least n true false = (omega arith, omega arith)
-rank_least n false b = (omega arith, omega arith)
+rank_least n a b = (omega arith, omega arith)
 
 rank_spent : (n : ℕ) (a b : Bool) → b ≡ true → rank n a b ≡ n
-rank_spent n true true e = refl
-rank_spent n false true e = refl
-rank_spent n a false e = absurd (cc)
+rank_spent n a b e = grind (arith, e)
 
 pub record Late (granted spent age base waited streak : ℕ) (s : SenderRecord) : Type 0 where
   pub phase : nat_lt 64 spent ≡ false → InTime (granted + spent) age base waited s.since s.state
@@ -55,16 +47,12 @@ phase_passes : (n age base waited since t : ℕ) (u : SendState) → InTime n ag
 phase_passes n age base waited since t Idle h = omega (arith, h)
 phase_passes n age base waited since t (Waiting limit) h = (h.0, (let a = h.1 in omega (arith, a)))
 phase_passes n age base waited since t (Sending next last) h = omega (arith, h)
-phase_passes n age base waited since t Done h = tt
-phase_passes n age base waited since t (Failed reason) h = tt
+phase_passes n age base waited since t other h = tt
 
 due_passes : (spent age since t : ℕ) (u : SendState) → IsDue spent age since u → IsDue spent (age + t) since u
 due_passes spent age since t (Waiting limit) (inl a) = inl (omega (arith, a))
 due_passes spent age since t (Waiting limit) (inr a) = inr a
-due_passes spent age since t Idle h = tt
-due_passes spent age since t (Sending next last) h = tt
-due_passes spent age since t Done h = tt
-due_passes spent age since t (Failed reason) h = tt
+due_passes spent age since t other h = tt
 
 pub passes : (granted spent age base waited streak t : ℕ) (s : SenderRecord) → Late granted spent age base waited streak s
     → Late granted spent (age + t) base (waited + t) streak s
@@ -73,9 +61,6 @@ passes granted spent age base waited streak t s h = record {
   gives_up = λ z. (let a = h.gives_up z in omega (arith, a));
   due = λ z. due_passes spent age s.since t s.state (h.due z);
 }
-
-both_ways : (n : ℕ) → nat_lt 64 n ≡ true → nat_lt 64 n ≡ false → ⊥
-both_ways n e f = (let z : true ≡ false = sym e ∙ f in absurd (cc))
 
 -- never older than this, and never of a higher rank
 pub most : (granted spent age base waited streak k : ℕ) (s : SenderRecord) → Late granted spent age base waited streak s
@@ -87,8 +72,7 @@ most granted spent age base waited streak k s h r a b = go (nat_lt 64 spent) ref
     by Idle l e p = omega (arith, p)
     by (Waiting limit) l e p = let x = p.0 in let y = p.1 in let d = times_more (suc (granted + spent)) (k + 65) timer_t3 l in omega (arith, x, y, d)
     by (Sending next last) l e p = let d = times_more (granted + spent) (k + 65) timer_t3 (omega (arith, l)) in omega (arith, p, d)
-    by Done l e p = absurd (let z : false ≡ true = e in cc)
-    by (Failed reason) l e p = absurd (let z : false ≡ true = e in cc)
+    by other l e p = absurd (let z : false ≡ true = e in cc)
 
     go : (c : Bool) → nat_lt 64 spent ≡ c → (age ≤ (k + 65) * timer_t3 + base + waited) × (rank_of granted spent s ≤ k + 65)
     go true e =
@@ -100,44 +84,10 @@ most granted spent age base waited streak k s h r a b = go (nat_lt 64 spent) ref
 
 -- ---- what is heard
 
-pub data HeardCase (s : SenderRecord) (now : ℕ) (o : Option ℕ) (r : SenderRecord) : Type 0 where
-  same : o ≡ None → r ≡ s → HeardCase s now o r
-  ends : IsEnded r → HeardCase s now o r
-  holds : (limit : ℕ) → s.state ≡ Waiting limit → o ≡ Some 0 → r ≡ waits timer_t4 now s → HeardCase s now o r
-  clears : (limit next last : ℕ) → s.state ≡ Waiting limit → o ≡ Some last → r ≡ record s { state = Sending next last } → HeardCase s now o r
-
-waiting_is : (u : SendState) → is_waiting u ≡ true → (limit : ℕ) × (u ≡ Waiting limit)
-waiting_is (Waiting limit) e = (limit, refl)
-waiting_is other e = absurd (let z : false ≡ true = e in cc)
-
-pub heard_case : (s : SenderRecord) (o : Option Signal) (now : ℕ) → HeardCase s now (granted_by s o) (hears o now s)
-unfolding hears cleared acknowledged aborted
-heard_case s (Some (ClearToSend count p pgn)) now = go (pgn == s.message.pgn) (is_waiting s.state) (count == 0) (may_name s p) refl
-  where
-    go : (a w z n : Bool) → is_waiting s.state ≡ w
-        → HeardCase s now (if w && a then (if z then Some 0 else if n then Some (min (p + count - 1) (packets_of s.message)) else None) else None)
-        (if a then (if w then (if z then waits timer_t4 now s
-        else if n then record s { state = Sending p (min (p + count - 1) (packets_of s.message)) } else s) else s) else s)
-    go true true true n e = let x = waiting_is s.state e in holds x.0 x.1 refl refl
-    go true true false true e = let x = waiting_is s.state e in clears x.0 p (min (p + count - 1) (packets_of s.message)) x.1 refl refl
-    go true true false false e = same refl refl
-    go true false z n e = same refl refl
-    go false true z n e = same refl refl
-    go false false z n e = same refl refl
-heard_case s (Some (Acknowledgment size packets pgn)) now = cond_both (pgn == s.message.pgn) _ _ (HeardCase s now None)
-    (λ t. cond_both (is_waiting s.state && size == length s.message.bytes && packets == packets_of s.message && s.highest == packets_of s.message) _ _
-    (HeardCase s now None) (λ u. ends refl) (λ u. same refl refl)) (λ t. same refl refl)
-heard_case s (Some (Abort reason pgn)) now = cond_both (pgn == s.message.pgn) _ _ (HeardCase s now None)
-    (λ t. cond_both (is_running s.state) _ _ (HeardCase s now None) (λ u. ends refl) (λ u. same refl refl)) (λ t. same refl refl)
-heard_case s other now = same refl refl
-
 -- a clear more
 pub counts : (granted spent last : ℕ) → suc (granted + spent) ≤ granted_after (Some last) granted + spent_after (Some last) granted spent
-counts granted spent last = go (nat_lt granted last) refl
-  where
-    go : (b : Bool) → nat_lt granted last ≡ b → suc (granted + spent) ≤ max granted last + (if b then spent else spent + 1)
-    go true e = let y = ltb-true _ _ e in omega (arith, y)
-    go false e = omega arith
+counts granted spent last =
+    cond_both (nat_lt granted last) _ _ (λ n. suc (granted + spent) ≤ max granted last + n) (λ e. let y = ltb-true _ _ e in omega (arith, y)) (λ e. omega arith)
 
 -- what became of it: its rank is higher where what it waited is counted with its clears
 pub data Listened (granted spent age base waited streak more : ℕ) (s r : SenderRecord) (granted_then spent_then : ℕ) : Type 0 where
@@ -156,15 +106,12 @@ cleared_by granted spent age base waited streak t last limit s e few h =
     let d = times_more (suc (granted + spent)) (granted_after (Some last) granted + spent_after (Some last) granted spent) timer_t3 (counts granted spent last) in
     omega (arith, a, b, d)
 
-pub heard_late : (granted spent age base waited streak t : ℕ) (s r : SenderRecord) (o : Option ℕ) → HeardCase s (age + t) o r → nat_lt 64 spent ≡ false
+pub heard_late : (granted spent age base waited streak t : ℕ) (s : SenderRecord) (a : Option Signal) (r : SenderRecord) (o : Option ℕ) → HeardCase s a (age + t) o r → nat_lt 64 spent ≡ false
     → Late granted spent age base waited streak s → Listened granted spent age base waited streak t s r (granted_after o granted) (spent_after o granted spent)
-heard_late granted spent age base waited streak t s r o (same a b) few h =
-    subst (λ (x : Option ℕ). Listened granted spent age base waited streak t s r (granted_after x granted) (spent_after x granted spent)) (sym a)
-    (subst (λ (y : SenderRecord). Listened granted spent age base waited streak t s y granted spent) (sym b) (kept (omega arith) (passes granted spent age base waited streak t s h)))
-heard_late granted spent age base waited streak t s r o (ends e) few h = over e
-heard_late granted spent age base waited streak t s r o (holds limit i a b) few h =
-    subst (λ (x : Option ℕ). Listened granted spent age base waited streak t s r (granted_after x granted) (spent_after x granted spent)) (sym a)
-    (subst (λ (y : SenderRecord). Listened granted spent age base waited streak t s y g2 s2) (sym b) (go (nat_lt 64 s2) refl))
+heard_late granted spent age base waited streak t s a r o same few h = kept (omega arith) (passes granted spent age base waited streak t s h)
+heard_late granted spent age base waited streak t s a r o (done w x) few h = over refl
+heard_late granted spent age base waited streak t s a r o (fails reason w i) few h = over refl
+heard_late granted spent age base waited streak t s a r o (holds limit i) few h = go (nat_lt 64 s2) refl
   where
     g2 : ℕ
     g2 = granted_after (Some 0) granted
@@ -180,17 +127,14 @@ heard_late granted spent age base waited streak t s r o (holds limit i a b) few 
 
     go : (v : Bool) → nat_lt 64 s2 ≡ v → Listened granted spent age base waited streak t s (waits timer_t4 (age + t) s) g2 s2
     go true e = kept (let y = (rank_least (g2 + s2) true (nat_lt 64 s2)).0 in omega (arith, more, y))
-        (record { phase = λ z. absurd (both_ways s2 e z); gives_up = λ z. c; due = λ z. inr e })
+        (record { phase = λ z. absurd (not_both _ z e); gives_up = λ z. c; due = λ z. inr e })
     go false e = held (let y = ap (λ (b : Bool). rank (g2 + s2) true b) e in omega (arith, more, y))
         (record { phase = λ z. (let m = suc-mul (g2 + s2) timer_t3 in (omega (arith, c, m), omega arith)); gives_up = λ z. omega (arith, c); due = λ z. absurd (omega (arith, z)) })
-heard_late granted spent age base waited streak t s r o (clears limit next last i a b) few h =
+heard_late granted spent age base waited streak t s a r o (clears limit next last i n) few h =
     let c = cleared_by granted spent age base waited streak t last limit s i few h in
-    let n = granted_after (Some last) granted + spent_after (Some last) granted spent in
-    subst (λ (x : Option ℕ). Listened granted spent age base waited streak t s r (granted_after x granted) (spent_after x granted spent)) (sym a)
-    (subst (λ (y : SenderRecord). Listened granted spent age base waited streak t s y (granted_after (Some last) granted) (spent_after (Some last) granted spent)) (sym b)
-    (kept (let x = (rank_least (granted + spent) (is_waiting s.state) (nat_lt 64 spent)).1 in let y = counts granted spent last in
-    let z = (rank_least n false (nat_lt 64 (spent_after (Some last) granted spent))).0 in omega (arith, x, y, z))
-    (record { phase = λ z. c; gives_up = λ z. c; due = λ z. tt })))
+    kept (let x = (rank_least (granted + spent) (is_waiting s.state) (nat_lt 64 spent)).1 in let y = counts granted spent last in
+    let z = (rank_least (granted_after (Some last) granted + spent_after (Some last) granted spent) false (nat_lt 64 (spent_after (Some last) granted spent))).0 in omega (arith, x, y, z))
+    (record { phase = λ z. c; gives_up = λ z. c; due = λ z. tt })
 
 -- ---- what is taken
 
@@ -212,12 +156,12 @@ ticked_late granted spent age base waited streak t s h = go s.state refl
 
         by : (b : Bool) → nat_lt 64 spent ≡ b → Listened granted spent age base waited 0 t s r granted spent
         by true z = kept (let y = (rank_least (granted + spent) (is_waiting r.state) (nat_lt 64 spent)).0 in omega (arith, old, y))
-            (record { phase = λ v. absurd (both_ways spent z v); gives_up = spent_so; due = λ v. absurd (omega (arith, v)) })
+            (record { phase = λ v. absurd (not_both _ v z); gives_up = spent_so; due = λ v. absurd (omega (arith, v)) })
         by false z = held (let y : rank_of granted spent r ≡ suc (granted + spent) = (λ i. rank (granted + spent) (is_waiting (e i)) (z i)) in omega (arith, old, y))
             (record {
               phase = λ v. (let a = q z in let m = suc-mul (granted + spent) timer_t3 in
                   subst (InTime (granted + spent) (age + t) (base + (waited + t)) 0 r.since) (sym e) (omega (arith, a, m, f), omega (arith, f)));
-              gives_up = λ v. absurd (both_ways spent v z);
+              gives_up = λ v. absurd (not_both _ z v);
               due = λ v. absurd (omega (arith, v));
             })
 
@@ -244,8 +188,7 @@ ticked_late granted spent age base waited streak t s h = go s.state refl
               gives_up = spent_so;
               due = λ v. absurd (omega (arith, v));
             })
-    go Done e = over (ap (λ (u : SendState). is_idle u || is_running u) e)
-    go (Failed reason) e = over (ap (λ (u : SendState). is_idle u || is_running u) e)
+    go other e = over (ap (λ (u : SendState). is_idle u || is_running u) e)
 
 timed : (s : SenderRecord) (limit now : ℕ) (b : Bool) → nat_lt (s.since + limit) now ≡ b
     → (if b then (let r : SendResult = record { after = record s { state = Failed timeout }; says = Some (Abort timeout s.message.pgn) } in r)
@@ -261,8 +204,7 @@ unfolding ticks_in sends_packet
 none_late granted spent age base waited streak t s h says up = go s.state refl says
   where
     not_spent : (b c : Bool) → c ≡ true → (b && c) ≡ false → b ≡ false
-    not_spent true c i k = absurd (let z : true ≡ false = sym i ∙ k in cc)
-    not_spent false c i k = refl
+    not_spent b c i k = grind (arith, i, k)
 
     never : (limit : ℕ) (n : ℕ) → n ≡ streak → s.state ≡ Waiting limit → nat_lt 64 spent ≡ false → age + t ≤ s.since + limit → n ≡ 0
     never limit zero i e few l = refl
@@ -270,7 +212,7 @@ none_late granted spent age base waited streak t s h says up = go s.state refl s
       where
         by : IsDue spent age s.since (Waiting limit) → ⊥
         by (inl a) = omega (arith, a, l)
-        by (inr a) = both_ways spent a few
+        by (inr a) = not_both _ few a
 
     go : (u : SendState) → s.state ≡ u → (ticks_in u (age + t) s).says ≡ None → IsEnded s ⊎ (Late granted spent (age + t) base 0 0 s × (streak ≡ 0))
     go Idle e z = absurd (cc)
@@ -281,14 +223,13 @@ none_late granted spent age base waited streak t s h says up = go s.state refl s
         inr (
           record {
             phase = λ v. subst (InTime (granted + spent) (age + t) base 0 s.since) (sym e) (q.0, omega (arith, l));
-            gives_up = λ y. absurd (both_ways spent y few);
+            gives_up = λ y. absurd (not_both _ few y);
             due = λ y. absurd (omega (arith, y));
           },
           never limit streak refl e few l,
         )
     go (Sending next last) e z = absurd (cc)
-    go Done e z = inl (ap (λ (u : SendState). is_idle u || is_running u) e)
-    go (Failed reason) e z = inl (ap (λ (u : SendState). is_idle u || is_running u) e)
+    go other e z = inl (ap (λ (u : SendState). is_idle u || is_running u) e)
 
 -- a frame of it is due, and another goes
 pub due_late : (granted spent age base waited streak t streak_then : ℕ) (s : SenderRecord) → Late granted spent age base waited streak s
@@ -297,18 +238,12 @@ unfolding ticks_in
 due_late granted spent age base waited streak t streak_then s h d =
     let p = passes granted spent age base waited streak t s h in record { phase = p.phase; gives_up = p.gives_up; due = λ z. go s.state refl d }
   where
-    more : (a b : ℕ) (r : SendResult) → nat_lt a b ≡ false → (if nat_lt a b then r else (let x : SendResult = record { after = s; says = None } in x)).says ≡ None
-    more a b r e = ap (λ (c : Bool). (if c then r else (let x : SendResult = record { after = s; says = None } in x)).says) e
-
-    out : (limit : ℕ) (b : Bool) → nat_lt (s.since + limit) (age + t) ≡ b → ((ticks_in (Waiting limit) (age + t) s).says ≡ None → ⊥) → s.since + limit < age + t
-    out limit true e n = Rattle.std.proofs.Common.ltb-true _ _ e
-    out limit false e n = absurd (n (more (s.since + limit) (age + t) _ e))
+    out : (limit : ℕ) → ((ticks_in (Waiting limit) (age + t) s).says ≡ None → ⊥) → s.since + limit < age + t
+    out limit n = ltb-true _ _ (true_from_ne_false _ (λ e. n (ap (λ (c : Bool). (if c then (let x : SendResult = record { after = record s { state = Failed timeout }; says = Some (Abort timeout s.message.pgn) } in x)
+        else (let x : SendResult = record { after = s; says = None } in x)).says) e)))
 
     go : (u : SendState) → s.state ≡ u → ((ticks_in s.state (age + t) s).says ≡ None → ⊥) ⊎ (nat_lt 64 spent ≡ true) → IsDue spent (age + t) s.since s.state
     go (Waiting limit) e (inl n) = subst (IsDue spent (age + t) s.since) (sym e)
-        (inl (out limit (nat_lt (s.since + limit) (age + t)) refl (λ z. n (ap (λ (u : SendState). (ticks_in u (age + t) s).says) e ∙ z))))
+        (inl (out limit (λ z. n (ap (λ (u : SendState). (ticks_in u (age + t) s).says) e ∙ z))))
     go (Waiting limit) e (inr a) = subst (IsDue spent (age + t) s.since) (sym e) (inr a)
-    go Idle e n = subst (IsDue spent (age + t) s.since) (sym e) tt
-    go (Sending next last) e n = subst (IsDue spent (age + t) s.since) (sym e) tt
-    go Done e n = subst (IsDue spent (age + t) s.since) (sym e) tt
-    go (Failed reason) e n = subst (IsDue spent (age + t) s.since) (sym e) tt
+    go other e n = subst (IsDue spent (age + t) s.since) (sym e) tt

@@ -1,5 +1,5 @@
 -- Frames that are made, and the lane of broadcasts.
-use Rattle.j39_node.proofs.Common.{if◌then◌else◌, ◌&&◌, ◌<◌, ◌==◌, ◌↔◌, ◌∙◌, ◌≡◌, ◌≤◌, ap, arith, as_broadcast, Bool, broadcast_end, carried, cut_frame, Done, Ending, false, frame_of, FrameRecord, IfSome, is_left, IsSome, length, List, lt-ltb, Message, MessageRecord, nat_le, nat_lt, None, Option, option_map, packet_by, packets_of, refl, Some, stamped, subst, sym, ToSend, transport_control_group, transport_data_group, true, Withdrawn, ℕ, le-leb}
+use Rattle.j39_node.proofs.Common.{if◌then◌else◌, ◌&&◌, ◌<◌, ◌==◌, ◌↔◌, ◌∙◌, ◌≡◌, ◌≤◌, ap, arith, as_broadcast, Bool, broadcast_end, carried, cut_frame, false, frame_of, FrameRecord, IfSome, is_left, IsSome, length, List, Message, MessageRecord, nat_le, nat_lt, None, Option, option_map, packet_by, packets_of, refl, Some, stamped, subst, sym, ToSend, transport_control_group, transport_data_group, true, ℕ, le-leb, lt-leb, ending_of}
 
 -- the frame that is made is one of this message
 pub made : (r : Option FrameRecord) (now id : ℕ) (bytes : List ℕ) (m : Message) → (IsSome r ↔ (length bytes ≤ 8))
@@ -8,40 +8,15 @@ pub made : (r : Option FrameRecord) (now id : ℕ) (bytes : List ℕ) (m : Messa
 made None now id bytes m known is l e = absurd (let z : false ≡ true = known.1 l in cc)
 made (Some f) now id bytes m known is l e = ap (λ g. Some (stamped g)) is ∙ ap (λ (x : Message). Some (now, x)) e
 
-le_false : (i n : ℕ) → n < i → nat_le i n ≡ false
-le_false i n l = grind arith
-
 pub lt_false : (i n : ℕ) → i ≤ n → nat_lt n i ≡ false
 lt_false i n l = grind arith
 
 pub left_is : (o : Option (ℕ × MessageRecord)) (x : ℕ × MessageRecord) (i n : ℕ) → o ≡ Some x → n ≡ packets_of x.1 → nat_le i n ≡ is_left o i
 left_is o x i n e f = ap (nat_le i) f ∙ sym (ap (λ y. is_left y i) e)
 
-pub ended_done : (o : Option (ℕ × MessageRecord)) (x : ℕ × MessageRecord) (i n : ℕ) (lost : Bool) → o ≡ Some x → n ≡ packets_of x.1 → n < i
-    → Some (x.0, Done) ≡ broadcast_end o i lost
-ended_done o x i n lost e f l = sym (ap (λ y. broadcast_end y i lost) e ∙ by (nat_lt (packets_of x.1) i) (lt-ltb _ _ (omega (arith, f, l))))
-  where
-    by : (b : Bool) → b ≡ true → Rattle.j39_node.specs.Is.ending_of b lost x.0 ≡ Some (x.0, Done)
-    by true g = refl
-    by false g = absurd (cc)
-
-pub ended_withdrawn : (o : Option (ℕ × MessageRecord)) (x : ℕ × MessageRecord) (i n : ℕ) (lost : Bool) → o ≡ Some x → n ≡ packets_of x.1 → i ≤ n → lost ≡ true
-    → Some (x.0, Withdrawn) ≡ broadcast_end o i lost
-ended_withdrawn o x i n lost e f l g = sym (ap (λ y. broadcast_end y i lost) e ∙ by (nat_lt (packets_of x.1) i) lost (lt_false _ _ (omega (arith, f, l))) g)
-  where
-    by : (b c : Bool) → b ≡ false → c ≡ true → Rattle.j39_node.specs.Is.ending_of b c x.0 ≡ Some (x.0, Withdrawn)
-    by true c h k = absurd (cc)
-    by false true h k = refl
-    by false false h k = absurd (cc)
-
-pub ended_none : (o : Option (ℕ × MessageRecord)) (x : ℕ × MessageRecord) (i n : ℕ) (lost : Bool) → o ≡ Some x → n ≡ packets_of x.1 → i ≤ n → lost ≡ false
-    → (let none : Option (ℕ × Ending) = None in none) ≡ broadcast_end o i lost
-ended_none o x i n lost e f l g = sym (ap (λ y. broadcast_end y i lost) e ∙ by (nat_lt (packets_of x.1) i) lost (lt_false _ _ (omega (arith, f, l))) g)
-  where
-    by : (b c : Bool) → b ≡ false → c ≡ false → Rattle.j39_node.specs.Is.ending_of b c x.0 ≡ None
-    by true c h k = absurd (cc)
-    by false true h k = absurd (cc)
-    by false false h k = refl
+pub ended_is : (o : Option (ℕ × MessageRecord)) (x : ℕ × MessageRecord) (i n : ℕ) (lost b l : Bool) → o ≡ Some x → n ≡ packets_of x.1 → nat_lt n i ≡ b → lost ≡ l
+    → ending_of b l x.0 ≡ broadcast_end o i lost
+ended_is o x i n lost b l e f g h = sym (ap (λ y. broadcast_end y i lost) e ∙ λ t. ending_of ((ap (λ (k : ℕ). nat_lt k i) (sym f) ∙ g) t) (h t) x.0)
 
 abbrev pub at_now : ℕ → Message → ℕ × Message
 at_now now m = (now, m)
@@ -55,7 +30,7 @@ pub packet_past : (o : Option (ℕ × MessageRecord)) (x : ℕ × MessageRecord)
     → (let none : Option (ℕ × Message) = None in none) ≡ option_map (at_now now) (packet_by o i left)
 packet_past o x i n left now e f l g =
     sym (ap (λ y. option_map (at_now now) (packet_by y i left)) e
-    ∙ ap (option_map (at_now now)) (packet_if x i left false (le-leb _ _ g) (le_false _ _ (omega (arith, f, l)))))
+    ∙ ap (option_map (at_now now)) (packet_if x i left false (le-leb _ _ g) (lt-leb _ _ (omega (arith, f, l)))))
 
 abbrev pub framed : ℕ → ℕ → List ℕ → Message
 framed source i bytes = record {

@@ -1,8 +1,9 @@
 -- What kind a frame is that is taken.
 use Rattle.j39_node.proofs.SoundLemmas.FrameCase.{claims, acknowledges, replies, sends, packs, transfers}
 use Rattle.j39_node.proofs.Common.{◌≡◌, ◌-◌, ◌&&◌, ◌||◌, ap, Bool, eqb-true, false, length, List, nat_eq, Some, true, ℕ, FrameRecord, pgn_of, address_claimed_group, acknowledged, acknowledgment_group, Call, due, is_acknowledgment, is_claim, is_packet, is_session, Message, open_broadcast, packets, pause, step, Who, AreAnswered, is_move, is_reply, reception, Move}
-use Rattle.j39_node.proofs.SoundLemmas.{FrameCase, is_moved, reply_no_move, no_move, is_directed, no_packet, no_transfer, packet_session, claim_single, claim_taken, due_taken, due_get, reply_taken, message_taken, plain_taken, single_taken, own_of, packet_taken, transfer_taken, apart_is, reply_is, turned, sound}
+use Rattle.j39_node.proofs.SoundLemmas.{FrameCase, is_moved, reply_no_move, no_move, is_directed, no_packet, no_transfer, packet_session, claim_single, claim_taken, due_taken, IsDue, reply_taken, own_taken, own_of, packet_taken, transfer_taken, apart_is, reply_is, turned, sound}
 use Rattle.j39_node.proofs.ReceptionLemmas.{no_reply, replied_get, tidy}
+use Rattle.j39_node.proofs.QueueLemmas.{all_at}
 
 -- a claim, an acknowledgment, one of a session, of a broadcast, the first reply, one of the open transfer
 pub record Kind : Type 0 where
@@ -48,14 +49,13 @@ kind_is w H now f right (claims o e) =
     let i = claim_taken f now w _ e in
     kind_single w H f true false i (ap (λ (g : ℕ). nat_eq g acknowledgment_group) (eqb-true (pgn_of f.id) address_claimed_group i)) (claim_single f i)
 kind_is w H now f right (acknowledges m o h g e way) =
-    let r = due_taken w f now m e (due_get w (due w H) (length (acknowledged H)) m (sound w H right).desk.0 g) in kind_single w H f false true r.0 r.1 r.2
+    let r = due_taken w f now m e (all_at (IsDue w) (due w H) (length (acknowledged H)) m (sound w H right).desk.0 g) in kind_single w H f false true r.0 r.1 r.2
 kind_is w H now f right (replies m o h n g e) =
     let r = reply_taken w.address f now m e (replied_get w.address (reception w H).replies 0 m (tidy w H).replies g) in
     let that = ap (λ (y : ℕ × Message). y.1) e in
     λ i. record { claim = r.0 i; acknowledgment = r.1 i; session = r.2 i; packet = r.3 i; reply = is_directed f r.2 r.3 i && reply_is w H f m g that i; move = reply_no_move w H f m g that i }
 kind_is w H now f right (sends x o h n g e) =
-    let own = own_of w H x right g in
-    kind_single w H f false false (message_taken w f now x e own) (plain_taken w f now x e own) (single_taken w f now x e own)
+    let own = own_taken w f now x e (own_of w H x right g) in kind_single w H f false false own.0 own.1 own.2
 kind_is w H now f right (packs m o h n g e) =
     let r = packet_taken f now m (open_broadcast w H) (length (packets H)) (pause H - step H now) e g in
     let t = packet_session f r.2 in

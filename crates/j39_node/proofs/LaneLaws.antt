@@ -1,12 +1,11 @@
 -- The laws of broadcasts.
-use Rattle.j39_node.proofs.Common.{[], if◌then◌else◌, ◌&&◌, ◌++◌, ◌+◌, ◌-◌, ◌<◌, ◌↔◌, ◌∙◌, ◌∷◌, ◌≡◌, ◌≤◌, ◌⊎◌, accepted, acknowledged, address_after, all_frames, and_from, ap, AreAnswered, arith, At, Bool, Broadcast, broadcast_end, broadcasts, Call, Controller, Done, due, Ending, eq-eqb, eqb-true, false, first_frames, frame_of, FrameRecord, has_packets, holds, inl, inr, Is, is_acknowledgment, is_busy, is_claim, is_held, is_left, is_lost, is_open, is_overdue, is_packet, is_there, IsTrue, length, List, long_by, Message, message_of, MessageRecord, moment, Move, nat_le, nat_lt, next_acknowledgment, next_frame, next_long, next_packet, next_transfer, None, Ok, open_broadcast, Option, packet_by, packets, packets_of, PacketSince, passed_in, pause, reached, ready, refl, Reply, Single, slice_get, Some, step, suc, sym, TakeBroadcastEnded, TakeFrame, told_broadcasts, true, Who, Withdrawn, yields, zero, ℕ, not_both, or_parts}
+use Rattle.j39_node.proofs.Common.{[], if◌then◌else◌, ◌++◌, ◌+◌, ◌-◌, ◌<◌, ◌↔◌, ◌∙◌, ◌∷◌, ◌≡◌, ◌≤◌, ◌⊎◌, accepted, acknowledged, address_after, all_frames, and_from, ap, AreAnswered, arith, At, Bool, Broadcast, broadcast_end, broadcasts, Call, Controller, Done, due, Ending, eq-eqb, eqb-true, false, first_frames, frame_of, FrameRecord, has_packets, holds, inl, inr, Is, is_acknowledgment, is_busy, is_claim, is_held, is_left, is_lost, is_open, is_overdue, is_packet, is_there, IsTrue, length, List, long_by, Message, message_of, MessageRecord, moment, Move, nat_le, nat_lt, next_acknowledgment, next_frame, next_long, next_packet, next_transfer, None, Ok, open_broadcast, Option, packet_by, packets, packets_of, PacketSince, passed_in, pause, reached, ready, refl, Reply, Single, slice_get, Some, step, suc, sym, TakeBroadcastEnded, TakeFrame, told_broadcasts, true, Who, Withdrawn, yields, zero, ℕ, not_both, or_parts, or_cases, leb-false, false_from_ne_true, le-leb, ltb-false}
 use Rattle.j39_node.specs.declared.turn.Turn.TheVariants.{Packet}
-use Rattle.j39_node.proofs.QueueLemmas.{length_one_more}
-use Rattle.j39_node.proofs.SoundLemmas.{address_is, packet_taken, IsTurn, none_next, packet_there, turned, FrameCase, frame_case, packet_case, sound, claim_taken, claim_single, due_get, due_taken, no_packet, pause_is, no_packet}
+use Rattle.j39_node.proofs.QueueLemmas.{length_one_more, all_at}
+use Rattle.j39_node.proofs.SoundLemmas.{address_is, packet_taken, IsTurn, none_next, packet_there, turned, FrameCase, frame_case, packet_case, sound, claim_taken, claim_single, IsDue, due_taken, no_packet, pause_is, no_packet}
 use Rattle.j39_node.proofs.SoundLemmas.FrameCase.{claims, acknowledges, replies, sends, packs, transfers}
-use Rattle.j39_node.proofs.LaneLemmas.{LaneEnd, lane_end, Opened, Laned, laned, closed, stands_open, opened_by}
+use Rattle.j39_node.proofs.LaneLemmas.{LaneEnd, lane_end, Opened, Laned, laned, closed, stands_open, opened_by, ended_one}
 use Rattle.j39_node.proofs.LaneLemmas.LaneEnd.{complete, broken}
-use Rattle.j39_node.proofs.LawLemmas.{either}
 use Rattle.j39_node.proofs.KindLemmas.{packs_it}
 
 -- ---- what broadcast answers
@@ -16,7 +15,7 @@ abbrev AtLimit : Who → List Call → Type 0
 AtLimit w H = (length (broadcasts w H) ≡ length (told_broadcasts H) + 1) ⊎ (length (broadcasts w H) ≡ 18446744073709551615)
 
 pub limit : (w : Who) (H : List Call) → AreAnswered w H → is_busy w H ≡ true → AtLimit w H
-limit w H right e = elim (either (is_open (open_broadcast w H)) _ e) [
+limit w H right e = elim (or_cases (is_open (open_broadcast w H)) _ e) [
   | inl a ↦ inl (let z = stands_open w (length (told_broadcasts H)) (broadcasts w H) (packets H) (open_broadcast w H) (laned w H right) a in omega (arith, z))
   | inr b ↦ inr (eqb-true _ _ b)
 ]
@@ -42,7 +41,7 @@ pub record Packed (w : Who) (H : List Call) (now : ℕ) (f : FrameRecord) : Type
   pub none_waits : IsTrue (is_overdue w H now) ⊎ (nat_lt (reached H) (length (accepted w H)) ≡ false)
   pub over : pause H - step H now ≤ 100000
 
-packed_by : (w : Who) (H : List Call) (now : ℕ) (f : FrameRecord) → AreAnswered w H → is_packet f ≡ true → FrameCase w H now f → Packed w H now f
+pub packed_by : (w : Who) (H : List Call) (now : ℕ) (f : FrameRecord) → AreAnswered w H → is_packet f ≡ true → FrameCase w H now f → Packed w H now f
 packed_by w H now f right p = go
   where
     go : FrameCase w H now f → Packed w H now f
@@ -68,34 +67,16 @@ packed_by w H now f right p = go
 pub packed : (w : Who) (H : List Call) (c : Controller) (now : ℕ) (f : FrameRecord) → Is w (At now (TakeFrame (Some f)) ∷ H) c → is_packet f ≡ true → Packed w H now f
 packed w H c now f is p = packed_by w H now f is.answered.0 p (frame_case w H now f is.answered.1)
 
--- a frame of a broadcast that is taken, and that the address is held then
-pub record TakenPacket (w : Who) (H : List Call) (now : ℕ) (f : FrameRecord) : Type 0 where
-  pub token : ℕ
-  pub message : MessageRecord
-  pub current : open_broadcast w H ≡ Some (token, message)
-  pub held : is_held (address_after w (At now (TakeFrame (Some f)) ∷ H)) ≡ true
-  pub over : pause H - step H now ≤ 100000
-
-pub taken_packet_of : (w : Who) (H : List Call) (now : ℕ) (f : FrameRecord) → AreAnswered w H → FrameCase w H now f → is_packet f ≡ true → TakenPacket w H now f
-taken_packet_of w H now f right case p =
-    let x = packed_by w H now f right p case in record {
-      token = x.token;
-      message = x.message;
-      current = x.current;
-      held = ap is_held (address_is w H now f false (off (is_claim f) refl)) ∙ x.held;
-      over = x.over;
-    }
-  where
-    off : (b : Bool) → is_claim f ≡ b → b ≡ false
-    off true e = absurd (not_both _ (no_packet f (claim_single f e)) p)
-    off false e = refl
+-- the address is held then
+pub held_then : (w : Who) (H : List Call) (now : ℕ) (f : FrameRecord) → Packed w H now f → is_packet f ≡ true → is_held (address_after w (At now (TakeFrame (Some f)) ∷ H)) ≡ true
+held_then w H now f x p = ap is_held (address_is w H now f false (false_from_ne_true _ (λ e. not_both _ (no_packet f (claim_single f e)) p))) ∙ x.held
 
 -- one that is overdue goes before all but claims and acknowledgments
 pub overdue_goes_by : (w : Who) (H : List Call) (now : ℕ) (f : FrameRecord) → AreAnswered w H → FrameCase w H now f → is_overdue w H now ≡ true
     → is_claim f ≡ false → is_acknowledgment f ≡ false → is_packet f ≡ true
 overdue_goes_by w H now f right (claims o e) late k a = absurd (not_both _ k (claim_taken f now w _ e))
 overdue_goes_by w H now f right (acknowledges m o h g e way) late k a =
-    absurd (not_both _ a (due_taken w f now m e (due_get w (due w H) (length (acknowledged H)) m (sound w H right).desk.0 g)).1)
+    absurd (not_both _ a (due_taken w f now m e (all_at (IsDue w) (due w H) (length (acknowledged H)) m (sound w H right).desk.0 g)).1)
 overdue_goes_by w H now f right (replies m o h n g e) late k a = absurd (not_both _ (turned w H now (Some Reply) n.1).1 late)
 overdue_goes_by w H now f right (sends x o h n g e) late k a = absurd (not_both _ (turned w H now (Some Single) n.1).1 late)
 overdue_goes_by w H now f right (packs m o h n g e) late k a = (packet_taken f now m (open_broadcast w H) (length (packets H)) (pause H - step H now) e g).2
@@ -120,15 +101,11 @@ pub spaced : (w : Who) (H later : List Call) (c : Controller) (now at : ℕ) (f 
 spaced w H later c now at f g is p q =
     let x = packed w (later ++ At at (TakeFrame (Some f)) ∷ H) c now g is q in
     let o = x.over in
-    let l = pauses later (At at (TakeFrame (Some f)) ∷ H) (begins (is_packet f) p) in
-    over_all (pause (later ++ At at (TakeFrame (Some f)) ∷ H)) (passed_in later (At at (TakeFrame (Some f)) ∷ H)) (step (later ++ At at (TakeFrame (Some f)) ∷ H) now) l o
+    let l = pauses later (At at (TakeFrame (Some f)) ∷ H) begins in
+    omega (arith, l, o)
   where
-    begins : (b : Bool) → b ≡ true → 150000 ≤ (if b then 150000 else pause H - step H at)
-    begins true e = omega arith
-    begins false e = absurd (cc)
-
-    over_all : (p d s : ℕ) → 150000 ≤ p + d → p - s ≤ 100000 → 50000 ≤ d + s
-    over_all p d s a b = omega (arith, a, b)
+    begins : 150000 ≤ pause (At at (TakeFrame (Some f)) ∷ H)
+    begins = let z = pause_is H at f true p in omega (arith, z)
 
 -- ---- since when a pause lasts
 
@@ -169,22 +146,12 @@ began (call ∷ H) = lets_pass H call (began H) (λ l. omega arith)
 
 -- a frame that is left waits for the pause alone
 no_frame : (o : Option (ℕ × MessageRecord)) (i left : ℕ) → is_left o i ≡ true → packet_by o i left ≡ None → 100000 < left
-no_frame o i left e f = go (nat_le left 100000) refl (sym (packet_there o i left) ∙ ap is_there f)
-  where
-    past : (k : ℕ) → nat_le k 100000 ≡ false → 100000 < k
-    past k z = grind arith
-
-    go : (b : Bool) → nat_le left 100000 ≡ b → (is_left o i && nat_le left 100000) ≡ false → 100000 < left
-    go true z y = absurd (let x : true ≡ false = sym (and_from (is_left o i) (nat_le left 100000) e z) ∙ y in cc)
-    go false z y = past left z
+no_frame o i left e f =
+    leb-false left 100000 (false_from_ne_true _ (λ z. not_both _ (sym (packet_there o i left) ∙ ap is_there f) (and_from (is_left o i) (nat_le left 100000) e z)))
 
 -- where no frame is taken from an address that is held, none of packets is next
 pub none_long : (w : Who) (H : List Call) (now : ℕ) → holds w H now ≡ true → (let none : Option (ℕ × Message) = None in none) ≡ next_frame w H now → next_long w H now ≡ None
 none_long w H now held e = let n = none_next w H now held e in ap (λ o. long_by o (next_transfer w H now)) n.rest.packet ∙ n.transfer
-
-pausing : (w : Who) (H : List Call) (c : Controller) (now : ℕ) → Is w (At now (TakeFrame None) ∷ H) c → IsTrue (holds w H now)
-    → IsTrue (has_packets w H) → 100000 < pause H - step H now
-pausing w H c now is held some = no_frame (open_broadcast w H) (length (packets H)) (pause H - step H now) some (none_next w H now held is.answered.1).rest.packet
 
 -- ---- how they end
 
@@ -194,16 +161,10 @@ ended w H c x is = lane_end (open_broadcast w H) (length (packets H)) (is_lost (
 
 pub in_turn : (w : Who) (H : List Call) (c : Controller) (k : ℕ) (e : Ending) → Is w (TakeBroadcastEnded (Some (k, e)) ∷ H) c
     → (k ≡ length (told_broadcasts H)) × (k < length (broadcasts w H))
-in_turn w H c k e is = go (ended w H c (k, e) is)
-  where
-    by : (m : MessageRecord) → open_broadcast w H ≡ Some (k, m) → (k ≡ length (told_broadcasts H)) × (k < length (broadcasts w H))
-    by m f =
-        let o = opened_by w _ _ _ (open_broadcast w H) (k, m) (laned w H is.answered.0) f in
-        (o.token, (let a = o.count in omega (arith, a)))
-
-    go : LaneEnd (open_broadcast w H) (length (packets H)) (is_lost (address_after w H)) (k, e) → (k ≡ length (told_broadcasts H)) × (k < length (broadcasts w H))
-    go (complete m f l d) = by m f
-    go (broken m f l a d) = by m f
+in_turn w H c k e is =
+    let x = ended_one (ended w H c (k, e) is) in
+    let o = opened_by w _ _ _ (open_broadcast w H) (k, x.0) (laned w H is.answered.0) x.1 in
+    (o.token, (let a = o.count in omega (arith, a)))
 
 length_frames : (m : MessageRecord) (n : ℕ) → length (first_frames m n) ≡ n
 length_frames m zero = refl
@@ -248,12 +209,8 @@ all_told w H c is = go (open_broadcast w H) (laned w H is.answered.0) is.answere
   where
     by : (b l : Bool) (i n k : ℕ) → Rattle.std.proofs.Common.nat_lt n i ≡ b → (let none : Option (ℕ × Ending) = None in none) ≡ Rattle.j39_node.specs.Is.ending_of b l k
         → (nat_le i n ≡ true) × (l ≡ false)
-    by true l i n k e f = absurd (cc)
-    by false true i n k e f = absurd (cc)
-    by false false i n k e f = (flip i n e, refl)
-      where
-        flip : (i n : ℕ) → Rattle.std.proofs.Common.nat_lt n i ≡ false → nat_le i n ≡ true
-        flip i n g = grind arith
+    by false false i n k e f = (le-leb i n (ltb-false n i e), refl)
+    by b l i n k e f = absurd (cc)
 
     go : (o : Option (ℕ × MessageRecord)) → Laned w (length (told_broadcasts H)) (broadcasts w H) (packets H) o
         → (let none : Option (ℕ × Ending) = None in none) ≡ broadcast_end o (length (packets H)) (is_lost (address_after w H))
@@ -272,8 +229,4 @@ packet_waits w H now some none =
 
 pub waits : (w : Who) (H : List Call) (c : Controller) (now : ℕ) → Is w (At now (TakeFrame None) ∷ H) c → IsTrue (holds w H now)
     → IsTrue (has_packets w H) → (e : ℕ) × PacketSince H e × (e + step H now < 50000)
-waits w H c now is held some =
-    let l = pausing w H c now is held some in
-    let r = began H (omega (arith, l)) in
-    let b = r.2 in
-    (r.0, r.1, omega (arith, l, b))
+waits w H c now is held some = packet_waits w H now some (none_next w H now held is.answered.1).rest.packet

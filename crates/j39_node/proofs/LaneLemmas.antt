@@ -1,18 +1,20 @@
 -- What every answered history says of broadcasts.
-use Rattle.j39_node.proofs.Common.{[], ◌++◌, ◌-◌, ◌<◌, ◌||◌, ◌∙◌, ◌∷◌, ◌≡◌, ◌≤◌, address_after, answer_to_broadcast, ap, AreAnswered, arith, At, Bool, Broadcast, broadcast_end, broadcast_from, broadcasts, Call, Done, Ending, false, first_frames, frame_of, FrameRecord, is_lost, is_open, is_packet, length, List, ltb-true, Message, MessageRecord, nat_lt, None, Ok, open_broadcast, Option, packets, packets_of, pause, refl, slice_get, Some, step, subst, suc, sym, TakeBroadcastEnded, TakeFrame, told_broadcasts, true, Who, Withdrawn, ℕ, ltb-false}
-use Rattle.j39_node.proofs.QueueLemmas.{length_one_more}
+use Rattle.j39_node.proofs.Common.{[], ◌++◌, ◌-◌, ◌<◌, ◌∙◌, ◌∷◌, ◌≡◌, ◌≤◌, address_after, answer_to_broadcast, ap, AreAnswered, arith, At, Bool, Broadcast, broadcast_end, broadcast_from, broadcasts, Call, Done, Ending, false, first_frames, frame_of, FrameRecord, is_lost, is_open, is_packet, length, List, ltb-true, Message, MessageRecord, nat_lt, None, Ok, open_broadcast, Option, packets, packets_of, pause, refl, slice_get, Some, step, subst, suc, sym, TakeBroadcastEnded, TakeFrame, told_broadcasts, true, Who, Withdrawn, ℕ, ltb-false, or_parts}
+use Rattle.j39_node.proofs.QueueLemmas.{length_one_more, get_last}
 use Rattle.j39_node.proofs.SoundLemmas.{FrameCase, PacketCase, frame_case, packet_case, packet_taken, packets_is}
 use Rattle.j39_node.proofs.SoundLemmas.FrameCase.{packs}
 use Rattle.j39_node.proofs.AnswerCases.{broadcast_accepts}
 use Rattle.j39_node.proofs.KindLemmas.{packs_it}
-
--- ---- what broadcast answers
 
 -- ---- how a broadcast ended
 
 pub data LaneEnd (o : Option (ℕ × MessageRecord)) (i : ℕ) (lost : Bool) (x : ℕ × Ending) : Type 0 where
   complete : (m : MessageRecord) → o ≡ Some (x.0, m) → packets_of m < i → x.1 ≡ Done → LaneEnd o i lost x
   broken : (m : MessageRecord) → o ≡ Some (x.0, m) → i ≤ packets_of m → lost ≡ true → x.1 ≡ Withdrawn → LaneEnd o i lost x
+
+pub ended_one : {o : Option (ℕ × MessageRecord)} {i : ℕ} {lost : Bool} {x : ℕ × Ending} → LaneEnd o i lost x → (m : MessageRecord) × (o ≡ Some (x.0, m))
+ended_one (complete m f l d) = (m, f)
+ended_one (broken m f l a d) = (m, f)
 
 pub lane_end : (o : Option (ℕ × MessageRecord)) (i : ℕ) (lost : Bool) (x : ℕ × Ending) → Some x ≡ broadcast_end o i lost → LaneEnd o i lost x
 lane_end None i lost x e = absurd (cc)
@@ -56,10 +58,6 @@ pub opened_by : (w : Who) (told : ℕ) (all : List MessageRecord) (taken : List 
     → Laned w told all taken o → o ≡ Some x → Opened w told all taken x
 opened_by w told all taken o x h e = subst (Laned w told all taken) e h
 
-pub get_last : {T : Type 0} (xs : List T) (x : T) → slice_get (xs ++ x ∷ []) (length xs) ≡ Some x
-get_last [] x = refl
-get_last (y ∷ xs) x = get_last xs x
-
 grows : (w : Who) (told : ℕ) (all : List MessageRecord) (xs : List Message) (m : Message) (o : Option (ℕ × MessageRecord)) (left : ℕ)
     → PacketCase o (length xs) left m → Laned w told all xs o → Laned w told all (xs ++ m ∷ []) o
 grows w told all xs m None left p h = absurd (let z = p.is in cc)
@@ -95,9 +93,6 @@ lane_frame w H now f right case h = go case
         (packet_case (open_broadcast w H) (length (packets H)) (pause H - step H now) m g) h)
     go case = same (packs_it w H now f right case)
 
-not_either : (a b : Bool) → (a || b) ≡ false → a ≡ false
-not_either a b e = grind (arith, e)
-
 -- a broadcast is accepted
 lane_opens : (w : Who) (H : List Call) (now group k : ℕ) (bytes : List ℕ) → Ok k ≡ answer_to_broadcast w H now group bytes
     → Laned w (length (told_broadcasts H)) (broadcasts w H) (packets H) (open_broadcast w H)
@@ -105,7 +100,7 @@ lane_opens : (w : Who) (H : List Call) (now group k : ℕ) (bytes : List ℕ) �
 lane_opens w H now group k bytes e h =
     let x = broadcast_accepts w H now group k bytes e in
     let n = x.3 in
-    let t = closed w (length (told_broadcasts H)) (broadcasts w H) (packets H) (open_broadcast w H) h (not_either _ _ x.2) in
+    let t = closed w (length (told_broadcasts H)) (broadcasts w H) (packets H) (open_broadcast w H) h (or_parts _ _ x.2).0 in
     record {
       token = n ∙ sym t;
       last = ap (slice_get (broadcasts w H ++ broadcast_from w group bytes ∷ [])) n ∙ get_last (broadcasts w H) (broadcast_from w group bytes);
@@ -119,11 +114,9 @@ lane_opens w H now group k bytes e h =
 lane_closes : (w : Who) (H : List Call) (x : ℕ × Ending) → LaneEnd (open_broadcast w H) (length (packets H)) (is_lost (address_after w H)) x
     → Laned w (length (told_broadcasts H)) (broadcasts w H) (packets H) (open_broadcast w H)
     → length (told_broadcasts H ++ x ∷ []) ≡ length (broadcasts w H)
-lane_closes w H x (complete m e l d) h =
-    let o = opened_by w _ _ _ (open_broadcast w H) (x.0, m) h e in
-    let a = o.token in let b = o.count in let n = length_one_more (told_broadcasts H) x in omega (arith, a, b, n)
-lane_closes w H x (broken m e l a d) h =
-    let o = opened_by w _ _ _ (open_broadcast w H) (x.0, m) h e in
+lane_closes w H x c h =
+    let e = ended_one c in
+    let o = opened_by w _ _ _ (open_broadcast w H) (x.0, e.0) h e.1 in
     let a = o.token in let b = o.count in let n = length_one_more (told_broadcasts H) x in omega (arith, a, b, n)
 
 pub laned : (w : Who) (H : List Call) → AreAnswered w H → Laned w (length (told_broadcasts H)) (broadcasts w H) (packets H) (open_broadcast w H)

@@ -1,18 +1,17 @@
 -- The laws.
-use Rattle.j39_node.proofs.Common.{Address, AddressLost, AnotherAtAddress, AreAnswered, Asked, At, Bool, Busy, Call, Claim, Claimed, Controller, Done, Draft, Ending, FrameRecord, HasDouble, Hear, Is, IsFront, IsTrue, List, Lost, Message, MessagesMissed, Move, Nack, NameDoubled, News, None, NoneTold, NotClaimed, Option, Renew, Reply, Some, TakeEnded, TakeFrame, TakeNews, Tick, Who, Withdraw, Withdrawn, [], accepted, acknowledged, acknowledgment, acknowledgment_group, address_after, address_claimed_group, age, and-false, and_from, and_parts, answers_another, ap, append-nil, arith, asked, at_in, begins, by, called, calls, calls_for_claim, claim_address, claim_due, claim_from, claim_goes, claim_of, content, delayed, destination_of, double, doubled_news, drop, due, end_of, eq-eqb, eqb-true, false, first, frames, fresh, gives_way, global_address, got, handed, held_at, holds, if◌then◌else◌, inl, inr, is_acknowledgment, is_alike, is_another, is_apart, is_blank, is_claim, is_double, is_for_program, is_held, is_larger, is_lost, is_move, is_none, is_own_group, is_refusal_due, is_reply, is_served, is_session, is_smaller, is_some, is_subscribed, is_there, is_transfer, kept, later, le-leb, le-ltb, left, length, length-append, long_by, lost_news, lt-ltb, ltb-false, ltb-true, marks, may_claim, may_go, message_from, message_of, missed, missed_news, moment, more, nat_eq, nat_le, nat_lt, news_of, next_acknowledgment, next_due, next_frame, next_long, next_other, next_packet, next_transfer, next_withdrawn, not, not_both, null_address, older, open_broadcast, option_map, option_or, or_parts, other, owes_claim, packets, passed, passed_in, patience, pause, pgn_of, reached, ready, reception, refl, refusal_waits, request_group, requests, rest, slice_get, slice_get-map, slice_get_within, source_of, stamp_at, stamped, status_after, status_of, step, still, suc, sym, takes_other, told, true, turns, two, unclaimed, waits, waits_already, with_refusal, with_request, yields, zero, ℕ, ◌&&◌, ◌*◌, ◌++◌, ◌+◌, ◌-◌, ◌<◌, ◌||◌, ◌↔◌, ◌∙◌, ◌∷◌, ◌≡◌, ◌≢◌, ◌≤◌, ◌⊎◌}
-use Rattle.j39_node.proofs.PromptLaws.{answered_from, stays_lost}
+use Rattle.j39_node.proofs.Common.{Address, AddressLost, AnotherAtAddress, AreAnswered, Asked, At, Bool, Busy, Call, Claim, Claimed, Controller, Draft, Ending, FrameRecord, HasDouble, Hear, Is, IsFront, IsTrue, List, Lost, Message, MessagesMissed, Move, Nack, NameDoubled, News, None, NoneTold, NotClaimed, Option, Renew, Reply, Some, TakeEnded, TakeFrame, TakeNews, Tick, Who, Withdraw, [], accepted, acknowledged, acknowledgment, acknowledgment_group, address_after, address_claimed_group, age, and-false, and_from, and_parts, answers_another, ap, append-nil, arith, asked, at_in, called, calls, calls_for_claim, claim_address, claim_due, claim_from, claim_goes, claim_of, content, delayed, destination_of, double, doubled_news, drop, due, end_of, eq-eqb, eqb-true, false, first, frames, fresh, gives_way, global_address, got, handed, held_at, holds, if◌then◌else◌, inl, inr, is_acknowledgment, is_alike, is_another, is_apart, is_blank, is_claim, is_double, is_for_program, is_held, is_larger, is_lost, is_move, is_none, is_own_group, is_refusal_due, is_reply, is_served, is_session, is_smaller, is_some, is_subscribed, is_there, is_transfer, kept, later, le-leb, le-ltb, length, length-append, long_by, lost_news, lt-ltb, ltb-false, ltb-true, marks, may_claim, may_go, message_from, message_of, missed, missed_news, moment, nat_eq, nat_le, nat_lt, news_of, next_acknowledgment, next_due, next_frame, next_long, next_other, next_packet, next_transfer, next_withdrawn, not, not_both, null_address, older, open_broadcast, option_map, option_or, or_parts, other, owes_claim, packets, passed_in, patience, pause, pgn_of, reached, ready, reception, refl, refusal_waits, request_group, requests, slice_get, slice_get-map, slice_get_within, source_of, stamp_at, stamped, status_after, status_of, step, suc, sym, takes_other, told, true, turns, unclaimed, waits_already, with_refusal, with_request, yields, ℕ, ◌&&◌, ◌*◌, ◌++◌, ◌+◌, ◌-◌, ◌<◌, ◌||◌, ◌↔◌, ◌∙◌, ◌∷◌, ◌≡◌, ◌≢◌, ◌≤◌, ◌⊎◌, or_cases, or_left, or_right, none-some, cond_both, ne_eqb, leb-false, subst, cases_Bool, cases_lt}
+use Rattle.j39_node.proofs.PromptLaws.{answered_from}
 use Rattle.j39_node.specs.History.{heard, Again}
 use Rattle.j39_node.specs.Reception.{is_waiting}
 use Rattle.j39_address.specs.declared.status.Status.TheVariants as status
 use Rattle.j39_node.proofs.ReceptionLemmas.{replied_get, tidy}
 use Rattle.j39_node.proofs.DueLemmas.{both_none, from_long, quiet_long, then_long}
-use Rattle.j39_node.proofs.QueueLemmas.{length_one_more}
-use Rattle.j39_node.proofs.SoundLemmas.{apart_is, is_moved, IsTurn, acknowledgment_single, claim_single, no_transfer, none_there, packet_session, packet_there, single_taken, turned, Rest, none_at, none_next, none_other, other_none, claim_is, given_way, none_acknowledged, none_due_goes, none_gives, EndCase, FrameCase, Sound, claim_taken, due_get, due_taken, end_case, frame_by, frame_case, held_older, lost_older, own_of, packet_case, packet_taken, sound, transfer_taken, lost_unclaimed, holding_not_lost, renew_case, WithdrawCase, withdraw_case}
+use Rattle.j39_node.proofs.QueueLemmas.{length_one_more, all_at}
+use Rattle.j39_node.proofs.SoundLemmas.{apart_is, is_moved, IsTurn, acknowledgment_single, claim_single, no_transfer, none_there, packet_session, packet_there, own_taken, turned, Rest, none_at, none_next, none_other, other_none, claim_is, given_way, none_acknowledged, none_due_goes, none_gives, FrameCase, Sound, claim_taken, IsDue, due_taken, frame_by, frame_case, held_older, own_of, packet_case, packet_taken, sound, transfer_taken, holding_not_lost, renew_case, WithdrawCase, withdraw_case, past_end, Told, told_case, stamped_by, claims_or_held, stays_lost}
 use Rattle.j39_node.proofs.KnownLemmas.{fresh_one, not_refused}
 use Rattle.j39_node.proofs.LaneLemmas.{laned, opened_by}
 use Rattle.j39_node.proofs.CallLemmas.{due_by}
 use Rattle.j39_node.proofs.SoundLemmas.FrameCase.{claims, acknowledges, replies, sends, packs, transfers}
-use Rattle.j39_node.proofs.SoundLemmas.EndCase.{done, withdrawn}
 use Rattle.j39_node.proofs.RenewLemmas.{none_past}
 use Rattle.j39_node.proofs.KindLemmas.{kind_by, claims_it, acknowledges_it}
 
@@ -22,15 +21,7 @@ frame : (w : Who) (H : List Call) (c : Controller) (now : ℕ) (f : FrameRecord)
 frame w H c now f is = frame_case w H now f is.answered.1
 
 pub moments : (w : Who) (H : List Call) (c : Controller) (now : ℕ) (f : FrameRecord) → Is w (At now (TakeFrame (Some f)) ∷ H) c → f.stamp ≡ now
-moments w H c now f is = go (frame w H c now f is)
-  where
-    go : FrameCase w H now f → f.stamp ≡ now
-    go (claims o e) = ap (λ (x : ℕ × Message). x.0) e
-    go (acknowledges m o h g e way) = ap (λ (y : ℕ × Message). y.0) e
-    go (replies m o h k g e) = ap (λ (y : ℕ × Message). y.0) e
-    go (sends x o h k g e) = ap (λ (y : ℕ × Message). y.0) e
-    go (packs m o h k g e) = ap (λ (y : ℕ × Message). y.0) e
-    go (transfers m o h k g e) = ap (λ (y : ℕ × Message). y.0) e
+moments w H c now f is = ap (λ (x : ℕ × Message). x.0) (stamped_by (frame w H c now f is)).1
 
 pub sources : (w : Who) (H : List Call) (c : Controller) (now : ℕ) (f : FrameRecord) → Is w (At now (TakeFrame (Some f)) ∷ H) c
     → (message_of f ≡ claim_from w (claim_address w (address_after w H)))
@@ -44,7 +35,7 @@ sources w H c now f is = go (frame w H c now f is)
         ⊎ (IsTrue (holds w H now) × (source_of f.id ≡ w.address) × (pgn_of f.id ≢ address_claimed_group))
     go (claims o e) = inl (ap content e)
     go (acknowledges m o h g e way) =
-        inr (h, ap (λ (y : ℕ × Message). y.1.source) e ∙ (due_get w (due w H) (length (acknowledged H)) m (sound w H is.answered.0).desk.0 g).source, no_claim (acknowledges m o h g e way) refl)
+        inr (h, ap (λ (y : ℕ × Message). y.1.source) e ∙ (all_at (IsDue w) (due w H) (length (acknowledged H)) m (sound w H is.answered.0).desk.0 g).source, no_claim (acknowledges m o h g e way) refl)
     go (replies m o h k g e) =
         inr (h, ap (λ (y : ℕ × Message). y.1.source) e ∙ (replied_get w.address (reception w H).replies 0 m (tidy w H).replies g).source, no_claim (replies m o h k g e) refl)
     go (sends x o h k g e) = inr (h, ap (λ (y : ℕ × Message). y.1.source) e ∙ (own_of w H x is.answered.0 g).source, no_claim (sends x o h k g e) refl)
@@ -56,36 +47,8 @@ sources w H c now f is = go (frame w H c now f is)
 
 -- ---- accounted once
 
-pub record Told (w : Who) (H : List Call) (k : ℕ) (e : Ending) : Type 0 where
-  pub message : Message
-  pub at : slice_get (accepted w H) (length (told H)) ≡ Some (k, message)
-  pub done : e ≡ Done ↔ ((length (told H) < reached H) × (is_blank (k, message) ≡ false))
-  pub withdrawn : e ≡ Withdrawn → (is_lost (address_after w H) ≡ true) ⊎ ((length (told H) < reached H) × (is_blank (k, message) ≡ true))
-
 pub told_is : (w : Who) (H : List Call) (c : Controller) (k : ℕ) (e : Ending) → Is w (TakeEnded (Some (k, e)) ∷ H) c → Told w H k e
-told_is w H c k e is = go (end_case w H (k, e) is.answered.1)
-  where
-    go : EndCase w H (k, e) → Told w H k e
-    go (done m l g i) = by (is_blank (k, m)) refl
-      where
-        by : (b : Bool) → is_blank (k, m) ≡ b → Told w H k e
-        by true z =
-            let y : e ≡ Withdrawn = i ∙ ap (λ (b : Bool). (let x : Ending = (if b then Withdrawn else Done) in x)) z in
-            record {
-              message = m;
-              at = g;
-              done = (λ x. absurd (cc), λ x. absurd (let v : true ≡ false = sym z ∙ x.1 in cc));
-              withdrawn = λ x. inr (ltb-true _ _ l, z);
-            }
-        by false z =
-            let y : e ≡ Done = i ∙ ap (λ (b : Bool). (let x : Ending = (if b then Withdrawn else Done) in x)) z in
-            record { message = m; at = g; done = (λ x. (ltb-true _ _ l, z), λ x. y); withdrawn = λ x. absurd (cc) }
-    go (withdrawn m l a g i) = record {
-      message = m;
-      at = g;
-      done = (λ z. absurd (cc), λ z. absurd (let y = lt-ltb _ _ z.0 in let x : false ≡ true = sym l ∙ y in cc));
-      withdrawn = λ z. inl a;
-    }
+told_is w H c k e is = told_case w H k e is.answered.1
 
 pub in_turn : (w : Who) (H : List Call) (c : Controller) (k : ℕ) (e : Ending) → Is w (TakeEnded (Some (k, e)) ∷ H) c → (k ≡ length (told H)) × (k < length (accepted w H))
 in_turn w H c k e is =
@@ -95,14 +58,8 @@ in_turn w H c k e is =
 
 none_ended : (b l : Bool) (o : Option (ℕ × Message)) → None ≡ end_of b l o → (o ≡ None) ⊎ ((b ≡ false) × (l ≡ false))
 none_ended b l None e = inl refl
-none_ended true l (Some x) e = absurd (grind (arith, e))
-none_ended false true (Some x) e = absurd (cc)
 none_ended false false (Some x) e = inr (refl, refl)
-
-pub past_end : {T : Type 0} (L : List T) (n : ℕ) → slice_get L n ≡ None → length L ≤ n
-past_end [] n e = omega arith
-past_end (x ∷ L) zero e = absurd (cc)
-past_end (x ∷ L) (suc n) e = let h = past_end L n e in omega (arith, h)
+none_ended b l (Some x) e = absurd (grind (arith, e))
 
 pub sent_within : (w : Who) (H : List Call) → Sound w H → reached H ≤ length (accepted w H)
 sent_within w H s = s.passed
@@ -166,19 +123,14 @@ withdrawn_is w H c k answer is = (λ z. to (withdraw_case w H k (sym z ∙ is.an
 -- ---- what send answers
 
 pub full_parts : (a t : ℕ) → (nat_eq (a - t) 16 || nat_eq a 18446744073709551615) ≡ true → (a ≡ t + 16) ⊎ (a ≡ 18446744073709551615)
-full_parts a t e = go (nat_eq (a - t) 16) refl e
-  where
-    go : (b : Bool) → nat_eq (a - t) 16 ≡ b → (b || nat_eq a 18446744073709551615) ≡ true → (a ≡ t + 16) ⊎ (a ≡ 18446744073709551615)
-    go true f g = inl (let z = eqb-true (a - t) 16 f in omega (arith, z))
-    go false f g = inr (eqb-true a 18446744073709551615 g)
+full_parts a t e = elim (or_cases (nat_eq (a - t) 16) _ e) [
+  | inl f ↦ inl (let z = eqb-true (a - t) 16 f in omega (arith, z))
+  | inr f ↦ inr (eqb-true a 18446744073709551615 f)
+]
 
 pub full_from : (a t : ℕ) → (a ≡ t + 16) ⊎ (a ≡ 18446744073709551615) → (nat_eq (a - t) 16 || nat_eq a 18446744073709551615) ≡ true
-full_from a t (inl e) = ap (λ (b : Bool). b || nat_eq a 18446744073709551615) (eq-eqb (a - t) 16 (omega (arith, e)))
-full_from a t (inr e) = go (nat_eq (a - t) 16) (eq-eqb a 18446744073709551615 e)
-  where
-    go : (b : Bool) → nat_eq a 18446744073709551615 ≡ true → (b || nat_eq a 18446744073709551615) ≡ true
-    go true f = refl
-    go false f = f
+full_from a t (inl e) = or_left _ (nat_eq a 18446744073709551615) (eq-eqb (a - t) 16 (omega (arith, e)))
+full_from a t (inr e) = or_right (nat_eq (a - t) 16) _ (eq-eqb a 18446744073709551615 e)
 
 -- ---- received
 
@@ -216,12 +168,9 @@ not_subscribed w H when f e = (
 pub missed_full : (w : Who) (H : List Call) (when : ℕ) (f : FrameRecord) → missed w (At when (Hear f) ∷ H) ≢ missed w H → length (got H) + 16 ≤ length (kept w H)
 missed_full w H when f n = go (is_for_program w (holds w H when) f) (nat_lt (length (kept w H) - length (got H)) 16) refl n
   where
-    not_lt : (k g : ℕ) → nat_lt (k - g) 16 ≡ false → g + 16 ≤ k
-    not_lt k g e = grind arith
-
     go : (b r : Bool) → nat_lt (length (kept w H) - length (got H)) 16 ≡ r → ((if b && not r then suc (missed w H) else missed w H) ≡ missed w H → ⊥)
         → length (got H) + 16 ≤ length (kept w H)
-    go true false e k = not_lt _ _ e
+    go true false e k = let l = ltb-false _ _ e in omega (arith, l)
     go true true e k = absurd (k refl)
     go false r e k = absurd (k refl)
 
@@ -229,23 +178,12 @@ missed_full w H when f n = go (is_for_program w (holds w H when) f) (nat_lt (len
 
 owed : (w : Who) (H : List Call) (now : ℕ) (f : FrameRecord) → FrameCase w H now f → claim_goes w H now ≡ true
     → message_of f ≡ claim_from w (claim_address w (address_after w H))
-owed w H now f (claims o e) p = ap content e
-owed w H now f (acknowledges m o h g e way) p = absurd (not_both _ o p)
-owed w H now f (replies m o h k g e) p = absurd (not_both _ o p)
-owed w H now f (sends x o h k g e) p = absurd (not_both _ o p)
-owed w H now f (packs m o h k g e) p = absurd (not_both _ o p)
-owed w H now f (transfers m o h k g e) p = absurd (not_both _ o p)
-
-or_true : (a b : Bool) → a ≡ true → (a || b) ≡ true
-or_true a b e = ap (λ (c : Bool). c || b) e
-
-pub or_right : (a b : Bool) → b ≡ true → (a || b) ≡ true
-or_right a b e = grind (arith, e)
+owed w H now f c p = elim (claims_or_held c) [ inl x ↦ ap content x.1 | inr y ↦ absurd (not_both _ y.0 p) ]
 
 -- what is owed stays owed until a frame is taken
 pub still_owed : (w : Who) (later H : List Call) → frames later ≡ [] → owes_claim w H ≡ true → owes_claim w (later ++ H) ≡ true
 still_owed w [] H e o = o
-still_owed w (At when (Hear f) ∷ later) H e o = or_true _ _ (still_owed w later H e o)
+still_owed w (At when (Hear f) ∷ later) H e o = or_left _ _ (still_owed w later H e o)
 still_owed w (At now (TakeFrame (Some f)) ∷ later) H e o = absurd (let a = ap length e in let b = length_one_more (frames later) f in omega (arith, a, b))
 still_owed w (At now Again ∷ later) H e o = refl
 still_owed w (call ∷ later) H e o = still_owed w later H e o
@@ -255,24 +193,15 @@ owed_due w H now o l = λ i. o i && (not (l i) || nat_eq (delayed w H - step H n
 
 -- where a frame is taken, a claim that is owed may go
 taken_due : (w : Who) (H : List Call) (now : ℕ) (f : FrameRecord) → FrameCase w H now f → owes_claim w H ≡ true → claim_due w H now ≡ true
-taken_due w H now f (claims g e) o = (and_parts (claim_due w H now) (not (gives_way w H now)) g).0
-taken_due w H now f (acknowledges m g h k e way) o = owed_due w H now o (holding_not_lost w H now h)
-taken_due w H now f (replies m g h k i e) o = owed_due w H now o (holding_not_lost w H now h)
-taken_due w H now f (sends x g h k i e) o = owed_due w H now o (holding_not_lost w H now h)
-taken_due w H now f (packs m g h k i e) o = owed_due w H now o (holding_not_lost w H now h)
-taken_due w H now f (transfers m g h k i e) o = owed_due w H now o (holding_not_lost w H now h)
+taken_due w H now f c o =
+    elim (claims_or_held c) [ inl x ↦ (and_parts (claim_due w H now) (not (gives_way w H now)) x.0).0 | inr y ↦ owed_due w H now o (holding_not_lost w H now y.1) ]
 
 -- it goes now, or gives way
 pub claimed_or_not : (w : Who) (H : List Call) (c : Controller) (now : ℕ) (g : FrameRecord) → Is w (At now (TakeFrame (Some g)) ∷ H) c → owes_claim w H ≡ true
     → IsTrue (gives_way w H now) ⊎ (message_of g ≡ claim_from w (claim_address w (address_after w H)))
-claimed_or_not w H c now g is o = go (gives_way w H now) refl
-  where
-    due_now : claim_due w H now ≡ true
-    due_now = taken_due w H now g (frame w H c now g is) o
-
-    go : (b : Bool) → gives_way w H now ≡ b → IsTrue (gives_way w H now) ⊎ (message_of g ≡ claim_from w (claim_address w (address_after w H)))
-    go true e = inl e
-    go false e = inr (owed w H now g (frame w H c now g is) (claim_is w H now e ∙ due_now))
+claimed_or_not w H c now g is o =
+    let f = frame w H c now g is in
+    elim (cases_Bool (gives_way w H now)) [ inl e ↦ inl e | inr e ↦ inr (owed w H now g f (claim_is w H now e ∙ taken_due w H now g f o)) ]
 
 -- no frame is taken between
 same_turns : (later H : List Call) → frames later ≡ [] → turns (later ++ H) ≡ turns H
@@ -412,9 +341,9 @@ behind_a_reply w H later c last first f i is t none due_one = go (frame_case w G
 
     go : FrameCase w G last i → (is_transfer i ≡ false) ⊎ IsTrue (is_move w G i)
     go (claims o e) = inl (no_transfer i (claim_single i (claim_taken i last w _ e)))
-    go (acknowledges m o h g e way) = inl (no_transfer i (due_taken w i last m e (due_get w (due w G) (length (acknowledged G)) m (sound w G is.answered.0).desk.0 g)).2)
+    go (acknowledges m o h g e way) = inl (no_transfer i (due_taken w i last m e (all_at (IsDue w) (due w G) (length (acknowledged G)) m (sound w G is.answered.0).desk.0 g)).2)
     go (replies m o h n g e) = absurd (yield (turned w G last (Some Reply) n.1))
-    go (sends x o h n g e) = inl (no_transfer i (single_taken w i last x e (own_of w G x is.answered.0 g)))
+    go (sends x o h n g e) = inl (no_transfer i (own_taken w i last x e (own_of w G x is.answered.0 g)).2)
     go (packs m o h n g e) = inl (packet_session i (packet_taken i last m (open_broadcast w G) (length (packets G)) (pause G - step G last) e g).2).1
     go (transfers m o h n g e) = inr (is_moved w G i (transfer_taken w G last i m is.answered.0 e g).transfer
         (apart_is w G last i m g (ap (λ (y : ℕ × Message). y.1) e) (turned w G last (Some Move) n.1).1))
@@ -437,30 +366,21 @@ others_due w H now held one e = go one
     go (inr (inr l)) = l (ap (λ o. long_by o (next_transfer w H now)) n.0.packet ∙ n.1)
 
 no_claim_left : (w : Who) (H : List Call) (now : ℕ) → claim_goes w H now ≡ true → (let none : Option (ℕ × Message) = None in none) ≡ next_frame w H now → ⊥
-no_claim_left w H now o e = go (claim_goes w H now) o e
-  where
-    go : (b : Bool) → b ≡ true → (let none : Option (ℕ × Message) = None in none) ≡ frame_by b (holds w H now) (next_acknowledgment w H now) (other w H now) (claim_from w (claim_address w (address_after w H))) now → ⊥
-    go true p f = absurd (cc)
-    go false p f = absurd (cc)
+no_claim_left w H now o e = none-some (now, claim_from w (claim_address w (address_after w H))) (e
+    ∙ ap (λ (b : Bool). frame_by b (holds w H now) (next_acknowledgment w H now) (other w H now) (claim_from w (claim_address w (address_after w H))) now) o)
 
 due_by_then : (w : Who) (H : List Call) (now : ℕ) → owes_claim w H ≡ true → (IsTrue (is_lost (address_after w H)) → delayed w H ≤ step H now)
     → claim_due w H now ≡ true
-due_by_then w H now o ripe = go (is_lost (address_after w H)) refl
-  where
-    none_left : (d s : ℕ) → d ≤ s → nat_eq (d - s) 0 ≡ true
-    none_left d s l = grind (arith, l)
-
-    go : (b : Bool) → is_lost (address_after w H) ≡ b → claim_due w H now ≡ true
-    go false l = owed_due w H now o l
-    go true l = λ i. o i && (not (l i) || none_left (delayed w H) (step H now) (ripe l) i)
+due_by_then w H now o ripe = elim (cases_Bool (is_lost (address_after w H))) [
+  | inl l ↦ λ i. o i && (not (l i) || eq-eqb (delayed w H - step H now) 0 (let r = ripe l in omega (arith, r)) i)
+  | inr l ↦ owed_due w H now o l
+]
 
 pub most_delayed : (w : Who) (H : List Call) → delayed w H ≤ w.delay * 600
 most_delayed w [] = omega arith
-most_delayed w (At now (Hear f) ∷ H) = go (calls w H now f && not (is_lost (address_after w H) && owes_claim w H)) (most_delayed w H)
-  where
-    go : (b : Bool) → delayed w H ≤ w.delay * 600 → (if b then w.delay * 600 else delayed w H - step H now) ≤ w.delay * 600
-    go true z = omega arith
-    go false z = omega (arith, z)
+most_delayed w (At now (Hear f) ∷ H) =
+    let l = most_delayed w H in
+    cond_both (calls w H now f && not (is_lost (address_after w H) && owes_claim w H)) _ _ (λ n. n ≤ w.delay * 600) (λ z. omega arith) (λ z. omega (arith, l))
 most_delayed w (At now Again ∷ H) = omega arith
 most_delayed w (call ∷ H) = let z = most_delayed w H in omega (arith, z)
 
@@ -494,7 +414,7 @@ cannot_claim_waits w H later c when now f (Some g) is none away stood l = absurd
     K = later ++ G
 
     called : calls w H when f ≡ true
-    called = or_true (calls_for_claim w (is_lost (address_after w H)) f) _ (or_true ((is_smaller w (claim_of f) || is_larger w (claim_of f)) && not (is_lost (address_after w H))) _
+    called = or_left (calls_for_claim w (is_lost (address_after w H)) f) _ (or_left ((is_smaller w (claim_of f) || is_larger w (claim_of f)) && not (is_lost (address_after w H))) _
         (λ i. (away i || is_larger w (claim_of f)) && not (stood i)))
 
     lost_then : is_lost (address_after w G) ≡ true
@@ -506,23 +426,15 @@ cannot_claim_waits w H later c when now f (Some g) is none away stood l = absurd
     left : w.delay * 600 ≤ delayed w K + passed_in later G
     left = still_delayed w later G none lost_then (or_right (owes_claim w H) _ called) (let b = begins in omega (arith, b))
 
-    not_yet : (d s : ℕ) → s < d → nat_eq (d - s) 0 ≡ false
-    not_yet d s k = grind (arith, k)
-
     undue : claim_due w K now ≡ false
-    undue = (λ i. owes_claim w K && (not (still_lost w later G lost_then i) || not_yet (delayed w K) (step K now) (let a = left in omega (arith, a, l)) i))
+    undue = (λ i. owes_claim w K && (not (still_lost w later G lost_then i) || ne_eqb (delayed w K - step K now) 0 (λ z. let a = left in omega (arith, a, l, z)) i))
         ∙ and-false (owes_claim w K)
 
     away_from : holds w K now ≡ true → ⊥
     away_from h = not_both _ (holding_not_lost w K now h) (still_lost w later G lost_then)
 
     go : FrameCase w K now g → ⊥
-    go (claims o e) = not_both _ undue (and_parts (claim_due w K now) (not (gives_way w K now)) o).0
-    go (acknowledges m o h k e way) = away_from h
-    go (replies m o h k i e) = away_from h
-    go (sends x o h k i e) = away_from h
-    go (packs m o h k i e) = away_from h
-    go (transfers m o h k i e) = away_from h
+    go c = elim (claims_or_held c) [ inl x ↦ not_both _ undue (and_parts (claim_due w K now) (not (gives_way w K now)) x.0).0 | inr y ↦ away_from y.1 ]
 
 -- claimed anew, it isn't held till a claim is taken
 abbrev unheld : Address → Bool
@@ -531,20 +443,16 @@ unheld (Claimed e) = false
 unheld Lost = true
 
 unheld_so : (a : Address) → unheld (unclaimed a) ≡ true
-unheld_so NotClaimed = refl
-unheld_so (Claimed e) = refl
 unheld_so Lost = refl
+unheld_so other = refl
 
 unheld_on : (b : Bool) (s : ℕ) (a : Address) → unheld a ≡ true → unheld (if b then Lost else older s a) ≡ true
-unheld_on true s a e = refl
-unheld_on false s NotClaimed e = refl
 unheld_on false s (Claimed n) e = absurd (cc)
-unheld_on false s Lost e = refl
+unheld_on b s a e = refl
 
 never_held : (s : ℕ) (a : Address) → unheld a ≡ true → is_held (older s a) ≡ false
-never_held s NotClaimed e = refl
 never_held s (Claimed n) e = absurd (cc)
-never_held s Lost e = refl
+never_held s a e = refl
 
 still_unheld : (w : Who) (later H : List Call) → frames later ≡ [] → unheld (address_after w H) ≡ true → unheld (address_after w (later ++ H)) ≡ true
 still_unheld w [] H e o = o
@@ -556,21 +464,13 @@ still_unheld w (call ∷ later) H e o = let z = unheld_on false (step (later ++ 
 pub anew_claims : (w : Who) (H later : List Call) (c : Controller) (when now : ℕ) (g : FrameRecord)
     → Is w (At now (TakeFrame (Some g)) ∷ later ++ At when Again ∷ H) c → frames later ≡ []
     → message_of g ≡ claim_from w (claim_address w (address_after w (later ++ At when Again ∷ H)))
-anew_claims w H later c when now g is none = go (frame w K c now g is)
+anew_claims w H later c when now g is none = elim (claims_or_held (frame w K c now g is)) [ inl x ↦ ap content x.1 | inr y ↦ absurd (away_from y.1) ]
   where
     K : List Call
     K = later ++ At when Again ∷ H
 
     away_from : holds w K now ≡ true → ⊥
     away_from h = not_both _ (never_held (step K now) (address_after w K) (still_unheld w later (At when Again ∷ H) none (unheld_so _))) h
-
-    go : FrameCase w K now g → message_of g ≡ claim_from w (claim_address w (address_after w K))
-    go (claims o e) = ap content e
-    go (acknowledges m o h k e way) = absurd (away_from h)
-    go (replies m o h k i e) = absurd (away_from h)
-    go (sends x o h k i e) = absurd (away_from h)
-    go (packs m o h k i e) = absurd (away_from h)
-    go (transfers m o h k i e) = absurd (away_from h)
 
 pub claims_at_once : (w : Who) (H : List Call) (c : Controller) (now : ℕ) (answer : Option FrameRecord) → Is w (At now (TakeFrame answer) ∷ H) c
     → IsTrue (owes_claim w H) → (IsTrue (is_lost (address_after w H)) → delayed w H ≤ step H now) → answer ≢ None
@@ -588,27 +488,21 @@ claims_only w H c now f is z = go (frame w H c now f is)
 -- ---- who
 
 pub held_now : (a : Address) (e : ℕ) → is_held (older (e - e) a) ≡ is_held a
-held_now NotClaimed e = refl
 held_now (Claimed n) e = ap (nat_le 250000) (omega arith)
-held_now Lost e = refl
+held_now a e = refl
 
 pub holding_is : (w : Who) (x : Address) (a : ℕ) → (status_of w x ≡ status.Holding a ↔ ((a ≡ w.address) × (is_held x ≡ true)))
-holding_is w NotClaimed a = (λ e. absurd (cc), λ z. absurd (let y = z.1 in cc))
-holding_is w Lost a = (λ e. absurd (cc), λ z. absurd (let y = z.1 in cc))
 holding_is w (Claimed n) a = go (nat_le 250000 n)
   where
     go : (b : Bool) → ((if b then status.Holding w.address else status.Claiming w.address) ≡ status.Holding a ↔ ((a ≡ w.address) × (b ≡ true)))
     go true = (λ e. ((let z : a ≡ w.address = cc in z), refl), λ z. ap status.Holding (sym z.0))
     go false = (λ e. absurd (cc), λ z. absurd (let y = z.1 in cc))
+holding_is w x a = (λ e. absurd (cc), λ z. absurd (let y = z.1 in cc))
 
 cannot_is : (w : Who) (x : Address) → (status_of w x ≡ status.Cannot ↔ (is_lost x ≡ true))
 cannot_is w NotClaimed = (λ e. absurd (cc), λ z. absurd (cc))
 cannot_is w Lost = (λ e. refl, λ z. refl)
-cannot_is w (Claimed n) = go (nat_le 250000 n)
-  where
-    go : (b : Bool) → ((if b then status.Holding w.address else status.Claiming w.address) ≡ status.Cannot ↔ (false ≡ true))
-    go true = (λ e. absurd (cc), λ z. absurd (cc))
-    go false = (λ e. absurd (cc), λ z. absurd (cc))
+cannot_is w (Claimed n) = cond_both (nat_le 250000 n) _ _ (λ s. (s ≡ status.Cannot ↔ (false ≡ true))) (λ b. (λ e. absurd (cc), λ z. absurd (cc))) (λ b. (λ e. absurd (cc), λ z. absurd (cc)))
 
 pub cannot : (w : Who) (H : List Call) → (status_after w H ≡ status.Cannot ↔ IsTrue (is_lost (address_after w H)))
 cannot w H = cannot_is w (address_after w H)
@@ -619,15 +513,15 @@ cannot w H = cannot_is w (address_after w H)
 abbrev pub counts : Who → List Call → ℕ → FrameRecord → Option Asked
 counts w H when f = fresh w (drop (length (handed H)) (requests w H)) (asked w (holds w H when) f)
 
-pub request_case : (w : Who) (H : List Call) (when : ℕ) (f : FrameRecord) (o : Option Asked) → counts w H when f ≡ o
-    → requests w (At when (Hear f) ∷ H) ≡ with_request w (nat_lt (length (requests w H) - length (handed H)) 16) o (requests w H)
-request_case w H when f o e = ap (λ x. with_request w (nat_lt (length (requests w H) - length (handed H)) 16) x (requests w H)) e
-
-pub refusal_case : (w : Who) (H : List Call) (when : ℕ) (f : FrameRecord) (o : Option Asked) → counts w H when f ≡ o
-    → due w (At when (Hear f) ∷ H) ≡ with_refusal w (nat_lt (length (requests w H) - length (handed H)) 16)
-    (nat_lt (length (due w H) - length (acknowledged H)) 16 && not (is_refusal_due w (drop (length (acknowledged H)) (due w H)) o)) o (due w H)
-refusal_case w H when f o e = ap (λ x. with_refusal w (nat_lt (length (requests w H) - length (handed H)) 16)
-    (nat_lt (length (due w H) - length (acknowledged H)) 16 && not (is_refusal_due w (drop (length (acknowledged H)) (due w H)) x)) x (due w H)) e
+pub asked_case : (w : Who) (H : List Call) (when : ℕ) (f : FrameRecord) (o : Option Asked) → counts w H when f ≡ o
+    → (requests w (At when (Hear f) ∷ H) ≡ with_request w (nat_lt (length (requests w H) - length (handed H)) 16) o (requests w H))
+    × (due w (At when (Hear f) ∷ H) ≡ with_refusal w (nat_lt (length (requests w H) - length (handed H)) 16)
+    (nat_lt (length (due w H) - length (acknowledged H)) 16 && not (is_refusal_due w (drop (length (acknowledged H)) (due w H)) o)) o (due w H))
+asked_case w H when f o e = (
+  ap (λ x. with_request w (nat_lt (length (requests w H) - length (handed H)) 16) x (requests w H)) e,
+  ap (λ x. with_refusal w (nat_lt (length (requests w H) - length (handed H)) 16)
+      (nat_lt (length (due w H) - length (acknowledged H)) 16 && not (is_refusal_due w (drop (length (acknowledged H)) (due w H)) x)) x (due w H)) e,
+)
 
 pub counts_one : (w : Who) (H : List Call) (when : ℕ) (f : FrameRecord) (r : Asked) → asked w (holds w H when) f ≡ Some r
     → (is_served w r.group ≡ false) ⊎ (waits_already w H r ≡ false) → counts w H when f ≡ Some r
@@ -639,14 +533,17 @@ has_room a b l = lt-ltb _ _ (omega (arith, l))
 pub has_none : (a b : ℕ) → b + 16 ≤ a → nat_lt (a - b) 16 ≡ false
 has_none a b l = grind arith
 
-pub with_it : (w : Who) (r : Asked) (L : List Asked) (s room : Bool) → is_served w r.group ≡ s → with_request w room (Some r) L ≡ (if s && room then L ++ r ∷ [] else L)
-with_it w r L s room e = ap (λ (x : Bool). if x && room then L ++ r ∷ [] else L) e
-
-pub refused_it : (w : Who) (r : Asked) (A : List Message) (s room place at : Bool) → is_served w r.group ≡ s → nat_eq r.destination w.address ≡ at
-    → with_refusal w room place (Some r) A ≡ (if (at && place) && not (s && room) then A ++ acknowledgment w (if s then Busy else Nack) r ∷ [] else A)
-refused_it w r A s room place at e g =
-    ap (λ (x : Bool). if (x && place) && not (is_served w r.group && room) then A ++ acknowledgment w (if is_served w r.group then Busy else Nack) r ∷ [] else A) g
-    ∙ ap (λ (x : Bool). if (at && place) && not (x && room) then A ++ acknowledgment w (if x then Busy else Nack) r ∷ [] else A) e
+-- what one adds, by whether its group is served, there is room, it came to the address, and its refusal has a place
+pub asked_adds : (w : Who) (H : List Call) (when : ℕ) (f : FrameRecord) (r : Asked) (s room at place : Bool) → counts w H when f ≡ Some r → is_served w r.group ≡ s
+    → nat_lt (length (requests w H) - length (handed H)) 16 ≡ room → nat_eq r.destination w.address ≡ at
+    → (nat_lt (length (due w H) - length (acknowledged H)) 16 && not (refusal_waits w H r)) ≡ place
+    → (requests w (At when (Hear f) ∷ H) ≡ (if s && room then requests w H ++ r ∷ [] else requests w H))
+    × (due w (At when (Hear f) ∷ H) ≡ (if (at && place) && not (s && room) then due w H ++ acknowledgment w (if s then Busy else Nack) r ∷ [] else due w H))
+asked_adds w H when f r s room at place k e g a p =
+    let x = asked_case w H when f (Some r) k in (
+      x.0 ∙ λ i. if e i && g i then requests w H ++ r ∷ [] else requests w H,
+      x.1 ∙ λ i. if (a i && p i) && not (e i && g i) then due w H ++ acknowledgment w (if e i then Busy else Nack) r ∷ [] else due w H,
+    )
 
 pub off : (b c : Bool) → (b && not (true && true)) ≡ false
 off b c = grind arith
@@ -658,9 +555,9 @@ pub unrefused : (w : Who) (H : List Call) (when : ℕ) (f : FrameRecord) (r : As
 unrefused w H when f r e n = go (is_served w r.group && waits_already w H r) refl
   where
     go : (b : Bool) → (is_served w r.group && waits_already w H r) ≡ b → due w (At when (Hear f) ∷ H) ≡ due w H
-    go true g = refusal_case w H when f None (ap (fresh w (drop (length (handed H)) (requests w H))) e ∙ ap (λ (b : Bool). (let o : Option Asked = if b then None else Some r in o)) g)
+    go true g = (asked_case w H when f None (ap (fresh w (drop (length (handed H)) (requests w H))) e ∙ ap (λ (b : Bool). (let o : Option Asked = if b then None else Some r in o)) g)).1
     go false g =
-        refusal_case w H when f (Some r) (ap (fresh w (drop (length (handed H)) (requests w H))) e ∙ ap (λ (b : Bool). (let o : Option Asked = if b then None else Some r in o)) g)
+        (asked_case w H when f (Some r) (ap (fresh w (drop (length (handed H)) (requests w H))) e ∙ ap (λ (b : Bool). (let o : Option Asked = if b then None else Some r in o)) g)).1
         ∙ not_refused w (nat_lt (length (requests w H) - length (handed H)) 16) _ r (due w H) n
 
 -- ---- acknowledgments
@@ -679,7 +576,7 @@ acknowledged_first w H c now f is n m = go (frame w H c now f is)
     go : FrameCase w H now f → IsTrue (gives_way w H now) ⊎ (acknowledged H ≡ due w H)
     go (claims o e) = absurd (n (eqb-true _ _ (claim_taken f now w _ e)))
     go (acknowledges x o h g e way) =
-        absurd (m (ap (λ (y : ℕ × Message). y.1.group) e ∙ (due_get w (due w H) (length (acknowledged H)) x (sound w H is.answered.0).desk.0 g).group))
+        absurd (m (ap (λ (y : ℕ × Message). y.1.group) e ∙ (all_at (IsDue w) (due w H) (length (acknowledged H)) x (sound w H is.answered.0).desk.0 g).group))
     go (replies m o h k g e) = all_acknowledged w H now is.answered.0 k.0
     go (sends x o h k g e) = all_acknowledged w H now is.answered.0 k.0
     go (packs x o h k g e) = all_acknowledged w H now is.answered.0 k.0
@@ -696,6 +593,13 @@ newest w H c d k j m is l e =
 
 -- ---- quiet till due
 
+-- what is before a moment that a stamp can tell is before it
+pub before_stamp : (now m : ℕ) → now < 10000000000000000 → ((t : ℕ) → stamp_at m ≡ Some t → now < t) → now < m
+before_stamp now m l q = elim (cases_lt m 10000000000000000) [
+  | inl f ↦ q m (ap (λ (b : Bool). if b then Some m else None) (lt-ltb m 10000000000000000 f))
+  | inr f ↦ omega (arith, f, l)
+]
+
 -- where no address is held, nothing was accepted or is due that could be taken
 Quiet : Who → List Call → ℕ → Type 0
 Quiet w H now = (t : ℕ) → next_due w H ≡ Some t → now < t
@@ -710,28 +614,15 @@ not_due w H now true l m q e =
 
 not_held_yet : (w : Who) (H : List Call) (now : ℕ) (a : Address) → moment H ≤ now → now < 10000000000000000
     → ((t : ℕ) → held_at a (moment H) ≡ Some t → now < t) → is_held a ≡ false → is_held (older (now - moment H) a) ≡ false
-not_held_yet w H now NotClaimed l m q e = refl
-not_held_yet w H now Lost l m q e = refl
-not_held_yet w H now (Claimed n) l m q e = go (nat_lt (moment H + (250000 - n)) 10000000000000000) refl
+not_held_yet w H now (Claimed n) l m q e =
+    short n _ (moment H) now small (before_stamp now (moment H + (250000 - n)) m (λ t f. q t (ap (λ (b : Bool). if b then stamp_at (moment H + (250000 - n)) else None) small ∙ f))) refl l
   where
     small : nat_lt n 250000 ≡ true
-    small = flip n e
-      where
-        flip : (k : ℕ) → nat_le 250000 k ≡ false → nat_lt k 250000 ≡ true
-        flip k f = grind arith
+    small = lt-ltb n 250000 (leb-false 250000 n e)
 
     short : (k d s x : ℕ) → nat_lt k 250000 ≡ true → x < d → d ≡ s + (250000 - k) → s ≤ x → nat_le 250000 (k + (x - s)) ≡ false
     short k d s x f g i j = grind arith
-
-    go : (b : Bool) → nat_lt (moment H + (250000 - n)) 10000000000000000 ≡ b → nat_le 250000 (n + (now - moment H)) ≡ false
-    go true f =
-        let z = q (moment H + (250000 - n)) (ap (λ (b : Bool). if b then stamp_at (moment H + (250000 - n)) else None) small
-        ∙ ap (λ (b : Bool). if b then Some (moment H + (250000 - n)) else None) f) in
-        short n _ (moment H) now small z refl l
-    go false f = short n (moment H + (250000 - n)) (moment H) now small (let y = far _ f in omega (arith, y, m)) refl l
-      where
-        far : (k : ℕ) → nat_lt k 10000000000000000 ≡ false → 10000000000000000 ≤ k
-        far k g = grind arith
+not_held_yet w H now a l m q e = refl
 
 none_by : (h : Bool) (x y : Option Message) (m : Message) (now : ℕ) → (h ≡ false) ⊎ ((x ≡ None) × (y ≡ None)) → frame_by false h x y m now ≡ None
 none_by false x y m now e = refl
@@ -739,14 +630,12 @@ none_by true x y m now (inl e) = absurd (cc)
 none_by true x y m now (inr e) = ap (λ z. frame_by false true z y m now) e.0 ∙ ap (λ z. frame_by false true None z m now) e.1
 
 lost_unheld : (a : Address) → is_lost a ≡ true → unheld a ≡ true
-lost_unheld NotClaimed e = refl
 lost_unheld (Claimed n) e = absurd (cc)
-lost_unheld Lost e = refl
+lost_unheld a e = refl
 
 lost_not_held : (a : Address) → is_lost a ≡ true → is_held a ≡ false
-lost_not_held NotClaimed e = refl
 lost_not_held (Claimed n) e = absurd (cc)
-lost_not_held Lost e = refl
+lost_not_held a e = refl
 
 -- what next_due tells where no frame can be taken at the moment of the last call
 due_later : (w : Who) (H : List Call) (l : Bool) → (may_claim w H (delayed w H) || (is_held (address_after w H) && is_waiting w H)) ≡ false
@@ -758,14 +647,7 @@ due_later w H l e f =
 still_waits : (w : Who) (H : List Call) (now n : ℕ) → moment H ≤ now → now < 10000000000000000 → Quiet w H now
     → next_due w H ≡ stamp_at (moment H + n) → step H now < n
 unfolding Quiet
-still_waits w H now n l m q e = go (nat_lt (moment H + n) 10000000000000000) refl
-  where
-    far : (k : ℕ) → nat_lt k 10000000000000000 ≡ false → 10000000000000000 ≤ k
-    far k g = grind arith
-
-    go : (b : Bool) → nat_lt (moment H + n) 10000000000000000 ≡ b → step H now < n
-    go true f = let y = q (moment H + n) (e ∙ ap (λ (b : Bool). if b then Some (moment H + n) else None) f) in omega (arith, y, l)
-    go false f = let y = far _ f in omega (arith, y, m, l)
+still_waits w H now n l m q e = let y = before_stamp now (moment H + n) m (λ t f. q t (e ∙ f)) in omega (arith, y, l)
 
 nothing_taken : (w : Who) (H : List Call) (now : ℕ) → moment H ≤ now → now < 10000000000000000 → Quiet w H now → next_frame w H now ≡ None
 unfolding Quiet
@@ -785,16 +667,13 @@ nothing_taken w H now l m q =
     may_now : owes_claim w H ≡ true → is_lost (address_after w H) ≡ false → ⊥
     may_now a b = not_both _ o.0 (λ i. a i && (not (b i) || nat_eq (delayed w H) 0))
 
-    some_left : (d s : ℕ) → s < d → nat_eq (d - s) 0 ≡ false
-    some_left d s k = grind (arith, k)
-
     unclaimed_now : (a b : Bool) → owes_claim w H ≡ a → is_lost (address_after w H) ≡ b → claim_due w H now ≡ false
     unclaimed_now false b i j = ap (λ (x : Bool). x && (not (is_lost (address_after w H)) || nat_eq (delayed w H - step H now) 0)) i
     unclaimed_now true false i j = absurd (may_now i j)
     unclaimed_now true true i j =
         let k = still_waits w H now (delayed w H) l m q (due_later w H false n (lost_not_held (address_after w H) j)
         ∙ ap (λ (x : Bool). if x then stamp_at (moment H + delayed w H) else held_at (address_after w H) (moment H)) i) in
-        λ t. i t && (not (j t) || some_left (delayed w H) (step H now) k t)
+        λ t. i t && (not (j t) || ne_eqb (delayed w H - step H now) 0 (λ z. omega (arith, z, k)) t)
 
     not_yet : (a b : Bool) → owes_claim w H ≡ a → is_lost (address_after w H) ≡ b → is_held (address_after w H) ≡ false → holds w H now ≡ false
     not_yet a true i j z = never_held (step H now) (address_after w H) (lost_unheld (address_after w H) j)
@@ -829,22 +708,19 @@ pub ticks : (w : Who) (H : List Call) (now later : ℕ) → moment H ≤ now →
 ticks w H now later l m = go (address_after w H)
   where
     go : (a : Address) → is_held (older (later - now) (older (now - moment H) a)) ≡ is_held (older (later - moment H) a)
-    go NotClaimed = refl
     go (Claimed n) = ap (nat_le 250000) (omega (arith, l, m))
-    go Lost = refl
+    go a = refl
 
 there : {T : Type 0} (L : List T) (n : ℕ) → slice_get L n ≡ None → nat_lt n (length L) ≡ false
 there L n e = le-ltb n (length L) (past_end L n e)
 
 held_at_later : (a : Address) (m : ℕ) → held_at a m ≡ Some m → ⊥
-held_at_later NotClaimed m e = absurd (cc)
-held_at_later Lost m e = absurd (cc)
 held_at_later (Claimed n) m e = go (nat_lt n 250000) (nat_lt (m + (250000 - n)) 10000000000000000) refl e
   where
     go : (b c : Bool) → nat_lt n 250000 ≡ b → (if b then (if c then Some (m + (250000 - n)) else None) else None) ≡ Some m → ⊥
-    go false c f g = absurd (cc)
-    go true false f g = absurd (cc)
     go true true f g = let x : m + (250000 - n) ≡ m = cc in let y = ltb-true n 250000 f in absurd (omega (arith, x, y))
+    go b c f g = absurd (cc)
+held_at_later a m e = absurd (cc)
 
 -- one is taken where the claim is owed, one waits, or one of packets is due
 none_taken : (w : Who) (H : List Call) (c : Controller) (now : ℕ) → Is w (At now (TakeFrame None) ∷ H) c
@@ -918,11 +794,8 @@ news_case false false None true n e = inr (inr (inr ((let z : n ≡ MessagesMiss
 news_case false false None false n e = absurd (cc)
 
 pub no_news : (a b : Bool) (d : Option ℕ) (c : Bool) → None ≡ news_of a b d c → (a ≡ false) × (b ≡ false) × (d ≡ None) × (c ≡ false)
-no_news true b d c e = absurd (cc)
-no_news false true d c e = absurd (cc)
-no_news false false (Some a) c e = absurd (cc)
-no_news false false None true e = absurd (cc)
 no_news false false None false e = (refl, refl, refl, refl)
+no_news a b d c e = absurd (cc)
 
 -- another of its NAME
 
@@ -938,49 +811,30 @@ double_claimed w (At now (Hear f) ∷ H) a e = go (double_claimed w H a) (claim_
   where
     go : (doubled_news w H ≡ Some a → HasDouble w a H) → (o : Option Claim) → claim_of f ≡ o → option_or (double w o) (doubled_news w H) ≡ Some a
         → HasDouble w a (At now (Hear f) ∷ H)
-    go before None k i = double_later w a H (At now (Hear f)) (before i)
-    go before (Some c) k i = same before (nat_eq c.name w.name) refl i
-      where
-        same : (doubled_news w H ≡ Some a → HasDouble w a H) → (b : Bool) → nat_eq c.name w.name ≡ b
-            → option_or (if b then Some c.address else None) (doubled_news w H) ≡ Some a → HasDouble w a (At now (Hear f) ∷ H)
-        same before true m i =
-            let n = eqb-true c.name w.name m in let s : c.address ≡ a = cc in
-            record { later = []; at = now; claim = f; earlier = H; is = refl; of_it = k ∙ λ t. Some (record { name = n t; address = s t }) }
-        same before false m i = double_later w a H (At now (Hear f)) (before i)
+    go before None k = λ i. double_later w a H (At now (Hear f)) (before i)
+    go before (Some c) k = cond_both (nat_eq c.name w.name) _ _ (λ (o : Option ℕ). option_or o (doubled_news w H) ≡ Some a → HasDouble w a (At now (Hear f) ∷ H))
+        (λ m i. (let n = eqb-true c.name w.name m in let s : c.address ≡ a = cc in
+        record { later = []; at = now; claim = f; earlier = H; is = refl; of_it = k ∙ λ t. Some (record { name = n t; address = s t }) }))
+        (λ m i. double_later w a H (At now (Hear f)) (before i))
 double_claimed w (TakeNews (Some (NameDoubled b)) ∷ H) a e = absurd (cc)
 double_claimed w (call ∷ H) a e = double_later w a H call (double_claimed w H a e)
 
-pub either : (a b : Bool) → (a || b) ≡ true → (a ≡ true) ⊎ (b ≡ true)
-either true b e = inl refl
-either false b e = inr e
-
-is_driven : (b c : Bool) (s : ℕ) (a : Address) → (b && c) ≡ true → is_lost (if b then Lost else older s a) ≡ true
-is_driven true c s a e = refl
-is_driven false c s a e = absurd (cc)
-
 pub lost_is_lost : (w : Who) (H : List Call) → IsTrue (lost_news w H) → IsTrue (is_lost (address_after w H))
 lost_is_lost w [] e = absurd (cc)
-lost_is_lost w (At when (Hear f) ∷ H) e = elim (either (lost_news w H) (is_smaller w (claim_of f) && not (is_lost (address_after w H))) e) [
+lost_is_lost w (At when (Hear f) ∷ H) e = elim (or_cases (lost_news w H) (is_smaller w (claim_of f) && not (is_lost (address_after w H))) e) [
   | inl z ↦ stays_lost w H (At when (Hear f)) (lost_is_lost w H z)
-  | inr z ↦ is_driven (is_smaller w (claim_of f)) _ (step H when) (address_after w H) z
+  | inr z ↦ ap (λ (b : Bool). is_lost (if b then Lost else older (step H when) (address_after w H))) (and_parts (is_smaller w (claim_of f)) _ z).0
 ]
 lost_is_lost w (TakeNews (Some AddressLost) ∷ H) e = absurd (cc)
 lost_is_lost w (call ∷ H) e = stays_lost w H call (lost_is_lost w H e)
 
-still_missed : (b : Bool) (m : ℕ) → 0 < m → 0 < (if b then suc m else m)
-still_missed true m l = omega (arith, l)
-still_missed false m l = l
-
-one_missed : (b : Bool) (m : ℕ) → b ≡ true → 0 < (if b then suc m else m)
-one_missed true m e = omega arith
-one_missed false m e = absurd (cc)
-
 pub some_missed : (w : Who) (H : List Call) → IsTrue (missed_news w H) → 0 < missed w H
 some_missed w [] e = absurd (cc)
 some_missed w (At when (Hear f) ∷ H) e =
-    elim (either (missed_news w H) (is_for_program w (holds w H when) f && not (nat_lt (length (kept w H) - length (got H)) 16)) e) [
-      | inl z ↦ still_missed (is_for_program w (holds w H when) f && not (nat_lt (length (kept w H) - length (got H)) 16)) (missed w H) (some_missed w H z)
-      | inr z ↦ one_missed _ (missed w H) z
+    elim (or_cases (missed_news w H) (is_for_program w (holds w H when) f && not (nat_lt (length (kept w H) - length (got H)) 16)) e) [
+      | inl z ↦ let l = some_missed w H z in
+          cond_both (is_for_program w (holds w H when) f && not (nat_lt (length (kept w H) - length (got H)) 16)) _ _ (λ n. 0 < n) (λ z. omega arith) (λ z. l)
+      | inr z ↦ subst (λ (b : Bool). 0 < (if b then suc (missed w H) else missed w H)) (sym z) (omega arith)
     ]
 some_missed w (TakeNews (Some MessagesMissed) ∷ H) e = absurd (cc)
 some_missed w (call ∷ H) e = some_missed w H e

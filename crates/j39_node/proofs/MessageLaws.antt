@@ -1,24 +1,15 @@
 -- That every message of one frame ends.
-use Rattle.j39_node.proofs.Common.{AreAnswered, Ask, At, Bool, Call, Controller, Done, Draft, Ending, Is, IsAnswered, IsPrompt, List, Message, None, Ok, Option, Renew, Send, Some, TakeFrame, Who, Withdraw, Withdrawn, [], accepted, address_after, ap, arith, blank, claims_anew, end_of, ending_of, false, holds, if◌then◌else◌, inl, inr, is_acknowledgment, is_blank, is_claim, is_held, is_lost, is_session, later, length, length-set, lost, lt-ltb, marks, message_from, moment, nat_lt, next_ended, next_frame, not, passed_in, past, reached, refl, request_for, rest, slice_get, slice_set, step, suc, told, true, waited_in, zero, ℕ, ◌++◌, ◌+◌, ◌<◌, ◌||◌, ◌∙◌, ◌∷◌, ◌≡◌, ◌≤◌, ◌⊎◌}
-use Rattle.j39_node.proofs.LawLemmas.{past_end}
+use Rattle.j39_node.proofs.Common.{AreAnswered, Ask, At, Bool, Call, Controller, Done, Draft, Ending, Is, IsAnswered, IsPrompt, List, Message, None, Ok, Option, Renew, Send, Some, TakeFrame, Who, Withdraw, Withdrawn, [], accepted, address_after, ap, arith, blank, claims_anew, end_of, ending_of, false, inl, inr, is_acknowledgment, is_blank, is_claim, is_held, is_lost, is_session, later, length, length-set, lost, lt-ltb, marks, message_from, moment, nat_lt, next_ended, not, passed_in, reached, refl, request_for, slice_get, slice_set, step, suc, told, true, waited_in, zero, ℕ, ◌++◌, ◌+◌, ◌<◌, ◌||◌, ◌∙◌, ◌∷◌, ◌≡◌, ◌≤◌, ◌⊎◌, cond_both, not_both}
 use Rattle.j39_node.proofs.PromptLaws.{answered_from, ended_or_lost, Fate, later_on, waited_last}
 use Rattle.j39_node.proofs.PromptLaws.Fate.{runs}
 use Rattle.j39_node.proofs.QueueLemmas.{length_one_more}
-use Rattle.j39_node.proofs.SoundLemmas.{held_older, none_next, sound}
+use Rattle.j39_node.proofs.SoundLemmas.{held_older, none_next, sound, past_end}
 use Rattle.j39_node.proofs.WithdrawLemmas.{past_more}
 use Rattle.j39_node.proofs.AnswerCases.{send_accepts, ask_accepts}
 
--- where no frame is taken from an address that is held, no message waits
-none_waits : (w : Who) (H : List Call) (now : ℕ) → holds w H now ≡ true → (let none : Option (ℕ × Message) = None in none) ≡ next_frame w H now
-    → slice_get (accepted w H) (reached H) ≡ None
-none_waits w H now held e = (none_next w H now held e).rest.message
-
 pub more_sent : (H : List Call) (call : Call) → reached H ≤ reached (call ∷ H)
-more_sent H (At now (TakeFrame (Some f))) = go (is_claim f || (is_acknowledgment f || is_session f))
-  where
-    go : (b : Bool) → reached H ≤ (if b then reached H else past (marks H) (suc (reached H)))
-    go true = omega arith
-    go false = let e = past_more (marks H) (suc (reached H)) in omega (arith, e)
+more_sent H (At now (TakeFrame (Some f))) =
+    cond_both (is_claim f || (is_acknowledgment f || is_session f)) _ _ (λ n. reached H ≤ n) (λ z. omega arith) (λ z. let e = past_more (marks H) (suc (reached H)) in omega (arith, e))
 more_sent H (Withdraw k true) = past_more (slice_set (marks H) k true) (reached H)
 more_sent H call = omega arith
 
@@ -40,7 +31,7 @@ module _ (w : Who) (B : List Call) (g k : ℕ) where
     among = h.among;
     course = later_on w (later ++ B) (At now (TakeFrame None)) refl (λ l. l)
         (λ e z p. inl (let l = past_end (accepted w (later ++ B)) (reached (later ++ B))
-        (none_waits w (later ++ B) now (held_older (step (later ++ B) now) (address_after w (later ++ B)) e) a) in
+        (none_next w (later ++ B) now (held_older (step (later ++ B) now) (address_after w (later ++ B)) e) a).rest.message in
         let b = h.among in omega (arith, l, b))) h.course;
   }
   one_more call later a n h = record {
@@ -66,8 +57,7 @@ tells true lost x h = go (is_blank x)
     go true = (Withdrawn, refl)
     go false = (Done, refl)
 tells false true x h = (Withdrawn, refl)
-tells false false x (inl e) = absurd (let z : false ≡ true = e in cc)
-tells false false x (inr e) = absurd (let z : false ≡ true = e in cc)
+tells false false x h = absurd (elim h [ inl e ↦ not_both false refl e | inr e ↦ not_both false refl e ])
 
 pub told_next : (w : Who) (H : List Call) (k : ℕ) → AreAnswered w H → k < length (accepted w H) → length (told H) ≤ k
     → (k < reached H) ⊎ (is_lost (address_after w H) ≡ true) → (e : Ending) × (next_ended w H ≡ Some (length (told H), e))

@@ -1,13 +1,12 @@
 -- What every answered history says of transfers.
-use Rattle.j39_node.proofs.Common.{[], if◌then◌else◌, ◌&&◌, ◌++◌, ◌||◌, ◌∙◌, ◌∷◌, ◌≡◌, ◌⊎◌, Abort, aborted, accepted, address_after, all_transfers, ap, AreAnswered, arith, At, begun, Bool, broadcast_from, Call, clock_at, cond_both, false, FrameRecord, gives_up, Happened, Hear, hears, hears_if, holder, holds, inl, inr, is_engaged, is_lost, is_move, is_replaced, is_resting, is_running, is_spent, length, List, listens, Message, message_of, MessageRecord, Move, moves, new_sender, next_acknowledgment, next_packet, None, Ok, open_transfer, Option, option_map, or_parts, reached, refl, Running, says, send_step, sends, sends_if, Signal, signal_by, slice_get, Some, subst, suc, sym, TakeFrame, TakeTransferEnded, told_transfers, Transfer, transfer_by, transfer_end, TransferEnding, true, Who, ℕ, answer_to_transfer, not_both}
+use Rattle.j39_node.proofs.Common.{[], if◌then◌else◌, ◌++◌, ◌∙◌, ◌∷◌, ◌≡◌, ◌⊎◌, Abort, aborted, accepted, address_after, all_transfers, ap, AreAnswered, arith, At, begun, Bool, broadcast_from, Call, clock_at, cond_both, false, FrameRecord, gives_up, Happened, Hear, hears, hears_if, holder, holds, inl, inr, is_engaged, is_lost, is_move, is_replaced, is_resting, is_running, is_spent, length, List, Message, message_of, MessageRecord, Move, moves, new_sender, next_acknowledgment, next_packet, None, Ok, open_transfer, Option, or_parts, reached, refl, Running, says, send_step, sends, sends_if, Signal, signal_by, slice_get, Some, subst, suc, sym, TakeFrame, TakeTransferEnded, told_transfers, Transfer, transfer_end, TransferEnding, true, Who, ℕ, answer_to_transfer, not_both, and_parts}
 use Rattle.j39_transport.specs.Sending.{Tick}
 use Rattle.j39_node.specs.Moves.{begins}
-use Rattle.j39_node.proofs.QueueLemmas.{length_one_more}
+use Rattle.j39_node.proofs.QueueLemmas.{length_one_more, get_last}
 use Rattle.j39_node.proofs.SoundLemmas.{nothing_else, turned, FrameCase, frame_case}
 use Rattle.j39_node.proofs.SoundLemmas.FrameCase.{transfers}
-use Rattle.j39_node.proofs.PortLemmas.{hears_same, sends_same}
+use Rattle.j39_node.proofs.PortLemmas.{hears_same, sends_same, hears_cases, transfer_says}
 use Rattle.j39_node.proofs.MoveSteps.{Moved, moved_given_up, moved_heard, moved_ticked}
-use Rattle.j39_node.proofs.LaneLemmas.{get_last}
 use Rattle.j39_node.proofs.AnswerCases.{transfer_accepts}
 use Rattle.j39_node.proofs.KindLemmas.{moves_it}
 
@@ -24,30 +23,21 @@ pub record Sent (w : Who) (H : List Call) (now : ℕ) (f : FrameRecord) : Type 0
   pub none_waits : slice_get (accepted w H) (reached H) ≡ None
   pub no_packet : next_packet w H now ≡ None
 
-said_by : (w : Who) (H : List Call) (now : ℕ) (f : FrameRecord) (m : Message) (o : Option Running) → open_transfer w H ≡ o → transfer_by o (clock_at H now) ≡ Some m
-    → message_of f ≡ m → holds w H now ≡ true → next_acknowledgment w H now ≡ None → slice_get (accepted w H) (reached H) ≡ None
-    → next_packet w H now ≡ None → Sent w H now f
-said_by w H now f m None e g k a b c d = absurd (cc)
-said_by w H now f m (Some t) e g k a b c d = go (signal_by t (clock_at H now)) refl g
-  where
-    go : (x : Option Signal) → signal_by t (clock_at H now) ≡ x → option_map (says t.sender) x ≡ Some m → Sent w H now f
-    go None p q = absurd (cc)
-    go (Some y) p q = record {
-      running = t;
-      is = e;
-      signal = y;
-      said = p;
-      frame = k ∙ (let z : says t.sender y ≡ m = cc in sym z);
-      held = a;
-      none_due = b;
-      none_waits = c;
-      no_packet = d;
-    }
-
 pub sent_case : (w : Who) (H : List Call) (now : ℕ) (f : FrameRecord) → AreAnswered w H → FrameCase w H now f → is_move w H f ≡ true → Sent w H now f
 sent_case w H now f right (transfers m o k n g e) p =
     let r = nothing_else w H now (turned w H now (Some Move) n.1).0 in
-    said_by w H now f m (open_transfer w H) refl g (ap (λ (y : ℕ × Message). y.1) e) k n.0 r.0 r.1
+    let x = transfer_says (open_transfer w H) (clock_at H now) m g in
+    record {
+      running = x.0;
+      is = x.1;
+      signal = x.2.0;
+      said = x.2.1;
+      frame = ap (λ (y : ℕ × Message). y.1) e ∙ sym x.2.2;
+      held = k;
+      none_due = n.0;
+      none_waits = r.0;
+      no_packet = r.1;
+    }
 sent_case w H now f right case p = absurd (not_both _ (moves_it w H now f right case) p)
 
 -- ---- what was taken of the open transfer
@@ -59,12 +49,8 @@ MovedIf (Some t) xs = Moved t.sender xs
 moved_hears : (lost : Bool) (replaced : ℕ → Bool) (f : FrameRecord) (now : ℕ) (o : Option Running) (xs : List Message) → MovedIf o xs
     → MovedIf (hears_if lost replaced f now o) xs
 moved_hears lost replaced f now None xs h = h
-moved_hears lost replaced f now (Some t) xs h = go lost (replaced t.sender.destination)
-  where
-    go : (a b : Bool) → Moved (hears a b f now t).sender xs
-    go true b = h
-    go false true = h
-    go false false = cond_both (t.gone || is_spent t) t (listens f now t) (λ (u : Running). Moved u.sender xs) (λ z. h) (λ z. moved_heard t.sender f now xs h)
+moved_hears lost replaced f now (Some t) xs h =
+    hears_cases (λ (u : Running). Moved u.sender xs) lost (replaced t.sender.destination) f now t h (λ z. h) (λ z. moved_heard t.sender f now xs h)
 
 signal_parts : (t : Running) (now : ℕ) (xs : List Message) (a : Signal) → Moved t.sender xs → signal_by t now ≡ Some a
     → Moved (sends now t).sender (xs ++ says t.sender a ∷ [])
@@ -72,12 +58,9 @@ signal_parts t now xs a h = cond_both t.gone None _ (λ (o : Option Signal). o �
     (λ z e. absurd (cc))
     (λ z. go (gives_up t) refl)
   where
-    running : (x y : Bool) → (x && y) ≡ true → y ≡ true
-    running x y e = grind (arith, e)
-
     go : (b : Bool) → gives_up t ≡ b → (if b then Some (Abort 5 t.sender.message.pgn) else (send_step t.sender Tick now).says) ≡ Some a
         → Moved (if b then aborted 5 t.sender else (send_step t.sender Tick now).after) (xs ++ says t.sender a ∷ [])
-    go true k e = moved_given_up t.sender 5 xs (says t.sender a) (running (is_spent t) (is_running t.sender.state) k) h
+    go true k e = moved_given_up t.sender 5 xs (says t.sender a) (and_parts (is_spent t) (is_running t.sender.state) k).1 h
     go false k e = moved_ticked t.sender now xs a h e
 
 moved_frame : (w : Who) (H : List Call) (now : ℕ) (f : FrameRecord) → AreAnswered w H → FrameCase w H now f → MovedIf (open_transfer w H) (moves w H)
@@ -127,9 +110,7 @@ last_same told all new old e s h = record {
 }
 
 pub hears_token : (lost replaced : Bool) (f : FrameRecord) (now : ℕ) (t : Running) → (hears lost replaced f now t).token ≡ t.token
-hears_token true replaced f now t = refl
-hears_token false true f now t = refl
-hears_token false false f now t = cond_both (t.gone || is_spent t) t (listens f now t) (λ (u : Running). u.token ≡ t.token) (λ z. refl) (λ z. refl)
+hears_token lost replaced f now t = hears_cases (λ (u : Running). u.token ≡ t.token) lost replaced f now t refl (λ z. refl) (λ z. refl)
 
 last_hears : (told : ℕ) (all : List (ℕ × MessageRecord)) (lost : Bool) (replaced : ℕ → Bool) (f : FrameRecord) (now : ℕ) (o : Option Running)
     → LastIf told all o → LastIf told all (hears_if lost replaced f now o)

@@ -1,6 +1,8 @@
 -- What a step makes of a sender of transfers.
-use Rattle.j39_node.proofs.Common.{[], ◌&&◌, ◌++◌, ◌+◌, ◌<◌, ◌==◌, ◌∙◌, ◌∷◌, ◌≡◌, ◌≢◌, ◌≤◌, ◌⊎◌, Abort, aborted, Acknowledgment, ap, arith, Bool, BroadcastAnnounce, cases_eq, cases_lt, cleared, ClearToSend, cond_both, eqb-false, eqb-true, Failed, false, FrameRecord, Idle, inl, inr, is_running, is_waiting, IsAmong, length, List, max, may_name, Message, move, nat_le, nat_lt, None, Option, Packet, packet_data, packet_move, packets_of, refl, request_of, RequestToSend, said_between, says, send_step, SenderRecord, Sending, SendResult, sends_packet, SendState, Signal, slice_get, Some, suc, sym, ticks_in, timeout, true, Waiting, zero, ℕ, leb-true}
+use Rattle.j39_node.proofs.Common.{[], ◌&&◌, ◌++◌, ◌+◌, ◌<◌, ◌==◌, ◌∙◌, ◌∷◌, ◌≡◌, ◌≢◌, ◌≤◌, ◌⊎◌, Abort, aborted, Acknowledgment, ap, arith, Bool, cases_eq, cases_lt, cleared, ClearToSend, cond_both, eqb-false, eqb-true, Failed, false, FrameRecord, Idle, inl, inr, is_running, is_waiting, IsAmong, length, List, max, may_name, Message, move, nat_lt, None, Option, Packet, packet_data, packet_move, packets_of, refl, request_of, said_between, says, send_step, SenderRecord, Sending, SendResult, sends_packet, SendState, Signal, Some, sym, ticks_in, timeout, true, Waiting, ℕ, leb-true, waits, granted_by, min, timer_t4, ◌-◌, if◌then◌else◌}
 use Rattle.j39_transport.specs.Sending.{Done, Heard, Tick, acknowledged, hears}
+use Rattle.j39_node.proofs.QueueLemmas.{get_last}
+use Rattle.j39_node.proofs.WithdrawLemmas.{get_front}
 
 -- ---- when it is done
 
@@ -8,49 +10,70 @@ pub record Acks (s : SenderRecord) (o : Option Signal) : Type 0 where
   pub says : o ≡ Some (Acknowledgment (length s.message.bytes) (packets_of s.message) s.message.pgn)
   pub last : s.highest ≡ packets_of s.message
 
-four : (a b c d : Bool) → (a && b && c && d) ≡ true → (a ≡ true) × (b ≡ true) × (c ≡ true) × (d ≡ true)
-four true true true true e = (refl, refl, refl, refl)
-four true true true false e = absurd (cc)
-four true true false d e = absurd (cc)
-four true false c d e = absurd (cc)
-four false b c d e = absurd (cc)
+-- a clear to send may name packets from next to last
+pub record Names (s : SenderRecord) (next last : ℕ) : Type 0 where
+  pub some : 1 ≤ next
+  pub order : next ≤ last
+  pub most : last ≤ packets_of s.message
+  pub known : next ≤ s.highest + 1
 
-abbrev DoneBy : SenderRecord → Option Signal → SenderRecord → Type 0
-DoneBy s o r = r.state ≡ Done → (s.state ≡ Done) ⊎ Acks s o
+-- what it is granted by a signal, and what becomes of it: nothing changes, it is acknowledged, aborted, held, or cleared
+pub data HeardCase (s : SenderRecord) (a : Option Signal) (now : ℕ) : Option ℕ → SenderRecord → Type 0 where
+  same : HeardCase s a now None s
+  done : is_waiting s.state ≡ true → Acks s a → HeardCase s a now None (record s { state = Done })
+  fails : (reason : ℕ) → is_running s.state ≡ true → a ≡ Some (Abort reason s.message.pgn) → HeardCase s a now None (record s { state = Failed reason })
+  holds : (limit : ℕ) → s.state ≡ Waiting limit → HeardCase s a now (Some 0) (waits timer_t4 now s)
+  clears : (limit next last : ℕ) → s.state ≡ Waiting limit → Names s next last → HeardCase s a now (Some last) (record s { state = Sending next last })
 
-done_hears : (s : SenderRecord) (o : Option Signal) (now : ℕ) → DoneBy s o (hears o now s)
+waiting_is : (u : SendState) → is_waiting u ≡ true → (limit : ℕ) × (u ≡ Waiting limit)
+waiting_is (Waiting limit) e = (limit, refl)
+waiting_is other e = absurd (let z : false ≡ true = e in cc)
+
+pub heard_case : (s : SenderRecord) (a : Option Signal) (now : ℕ) → HeardCase s a now (granted_by s a) (hears a now s)
 unfolding hears cleared acknowledged aborted
-done_hears s None now = λ e. inl e
-done_hears s (Some (BroadcastAnnounce size packets pgn)) now = λ e. inl e
-done_hears s (Some (RequestToSend size packets most pgn)) now = λ e. inl e
-done_hears s (Some (Packet k part)) now = λ e. inl e
-done_hears s (Some (ClearToSend count p pgn)) now =
-    cond_both (pgn == s.message.pgn) _ _ (DoneBy s (Some (ClearToSend count p pgn)))
-    (λ t. cond_both (is_waiting s.state) _ _ (DoneBy s (Some (ClearToSend count p pgn)))
-    (λ u. cond_both (count == 0) _ _ (DoneBy s (Some (ClearToSend count p pgn))) (λ v e. absurd (cc))
-    (λ v. cond_both (may_name s p) _ _ (DoneBy s (Some (ClearToSend count p pgn))) (λ x e. absurd (cc)) (λ x e. inl e)))
-    (λ u e. inl e))
-    (λ t e. inl e)
-done_hears s (Some (Acknowledgment size packets pgn)) now =
-    cond_both (pgn == s.message.pgn) _ _ (DoneBy s (Some (Acknowledgment size packets pgn)))
+heard_case s (Some (ClearToSend count p pgn)) now = go (pgn == s.message.pgn) (is_waiting s.state) (count == 0) (may_name s p) refl refl refl
+  where
+    last : ℕ
+    last = min (p + count - 1) (packets_of s.message)
+
+    named : (count == 0) ≡ false → may_name s p ≡ true → Names s p last
+    named z e =
+        let a = leb-true 1 p (grind (arith, e)) in
+        let b = leb-true p (packets_of s.message) (grind (arith, e)) in
+        let d = eqb-false count 0 z in
+        record { some = a; order = omega (arith, b, d); most = omega arith; known = leb-true p (s.highest + 1) (grind (arith, e)) }
+
+    go : (a w z n : Bool) → is_waiting s.state ≡ w → (count == 0) ≡ z → may_name s p ≡ n
+        → HeardCase s (Some (ClearToSend count p pgn)) now (if w && a then (if z then Some 0 else if n then Some last else None) else None)
+        (if a then (if w then (if z then waits timer_t4 now s else if n then record s { state = Sending p last } else s) else s) else s)
+    go true true true n e i k = let x = waiting_is s.state e in holds x.0 x.1
+    go true true false true e i k = let x = waiting_is s.state e in clears x.0 p last x.1 (named i k)
+    go true true false false e i k = same
+    go true false z n e i k = same
+    go false true z n e i k = same
+    go false false z n e i k = same
+heard_case s (Some (Acknowledgment size packets pgn)) now = cond_both (pgn == s.message.pgn) _ _ (HeardCase s (Some (Acknowledgment size packets pgn)) now None)
     (λ t. cond_both (is_waiting s.state && size == length s.message.bytes && packets == packets_of s.message && s.highest == packets_of s.message) _ _
-    (DoneBy s (Some (Acknowledgment size packets pgn)))
-    (λ u e. (let z = four (is_waiting s.state) (size == length s.message.bytes) (packets == packets_of s.message) (s.highest == packets_of s.message) u in
-    inr (record {
-      says = λ i. Some (Acknowledgment (eqb-true size (length s.message.bytes) z.1 i) (eqb-true packets (packets_of s.message) z.2 i) (eqb-true pgn s.message.pgn t i));
-      last = eqb-true s.highest (packets_of s.message) z.3;
-    })))
-    (λ u e. inl e))
-    (λ t e. inl e)
-done_hears s (Some (Abort reason pgn)) now =
-    cond_both (pgn == s.message.pgn) _ _ (DoneBy s (Some (Abort reason pgn)))
-    (λ t. cond_both (is_running s.state) _ _ (DoneBy s (Some (Abort reason pgn))) (λ u e. absurd (cc)) (λ u e. inl e))
-    (λ t e. inl e)
+    (HeardCase s (Some (Acknowledgment size packets pgn)) now None)
+    (λ u. done (grind (arith, u)) (record {
+      says = λ i. Some (Acknowledgment (eqb-true size (length s.message.bytes) (grind (arith, u)) i) (eqb-true packets (packets_of s.message) (grind (arith, u)) i) (eqb-true pgn s.message.pgn t i));
+      last = eqb-true s.highest (packets_of s.message) (grind (arith, u));
+    })) (λ u. same)) (λ t. same)
+heard_case s (Some (Abort reason pgn)) now = cond_both (pgn == s.message.pgn) _ _ (HeardCase s (Some (Abort reason pgn)) now None)
+    (λ t. cond_both (is_running s.state) _ _ (HeardCase s (Some (Abort reason pgn)) now None)
+    (λ u. fails reason u (λ i. Some (Abort reason (eqb-true pgn s.message.pgn t i)))) (λ u. same)) (λ t. same)
+heard_case s other now = same
 
 pub done_heard : (s : SenderRecord) (f : FrameRecord) (now : ℕ) → (send_step s (Heard f) now).after.state ≡ Done
     → (s.state ≡ Done) ⊎ Acks s (said_between s.destination s.message.source f)
 unfolding send_step
-done_heard s f now = done_hears s (said_between s.destination s.message.source f) now
+done_heard s f now = go _ _ (heard_case s (said_between s.destination s.message.source f) now)
+  where
+    go : (o : Option ℕ) (r : SenderRecord) → HeardCase s (said_between s.destination s.message.source f) now o r → r.state ≡ Done
+        → (s.state ≡ Done) ⊎ Acks s (said_between s.destination s.message.source f)
+    go o r same e = inl e
+    go o r (done w x) e = inr x
+    go o r other e = absurd (cc)
 
 pub done_ticked : (s : SenderRecord) (now : ℕ) → (send_step s Tick now).after.state ≡ Done → s.state ≡ Done
 unfolding send_step ticks_in sends_packet
@@ -60,8 +83,7 @@ done_ticked s now = go s.state
     go Idle = λ e. absurd (cc)
     go (Waiting limit) = cond_both (nat_lt (s.since + limit) now) _ _ (λ (r : SendResult). r.after.state ≡ Done → s.state ≡ Done) (λ t e. absurd (cc)) (λ t e. e)
     go (Sending next last) = cond_both (next == last) _ _ (λ (x : SendState). x ≡ Done → s.state ≡ Done) (λ t e. absurd (cc)) (λ t e. absurd (cc))
-    go Done = λ e. e
-    go (Failed reason) = λ e. e
+    go u = λ e. e
 
 pub done_given_up : (s : SenderRecord) (reason : ℕ) → (aborted reason s).state ≡ Done → s.state ≡ Done
 unfolding aborted
@@ -69,37 +91,16 @@ done_given_up s reason = cond_both (is_running s.state) _ _ (λ (r : SenderRecor
 
 -- ---- when it failed
 
-abbrev FailedBy : SenderRecord → Option Signal → ℕ → SenderRecord → Type 0
-FailedBy s o reason r = r.state ≡ Failed reason → (s.state ≡ Failed reason) ⊎ (o ≡ Some (Abort reason s.message.pgn))
-
-failed_hears : (s : SenderRecord) (o : Option Signal) (now reason : ℕ) → FailedBy s o reason (hears o now s)
-unfolding hears cleared acknowledged aborted
-failed_hears s None now reason = λ e. inl e
-failed_hears s (Some (BroadcastAnnounce size packets pgn)) now reason = λ e. inl e
-failed_hears s (Some (RequestToSend size packets most pgn)) now reason = λ e. inl e
-failed_hears s (Some (Packet k part)) now reason = λ e. inl e
-failed_hears s (Some (ClearToSend count p pgn)) now reason =
-    cond_both (pgn == s.message.pgn) _ _ (FailedBy s (Some (ClearToSend count p pgn)) reason)
-    (λ t. cond_both (is_waiting s.state) _ _ (FailedBy s (Some (ClearToSend count p pgn)) reason)
-    (λ u. cond_both (count == 0) _ _ (FailedBy s (Some (ClearToSend count p pgn)) reason) (λ v e. absurd (cc))
-    (λ v. cond_both (may_name s p) _ _ (FailedBy s (Some (ClearToSend count p pgn)) reason) (λ x e. absurd (cc)) (λ x e. inl e)))
-    (λ u e. inl e))
-    (λ t e. inl e)
-failed_hears s (Some (Acknowledgment size packets pgn)) now reason =
-    cond_both (pgn == s.message.pgn) _ _ (FailedBy s (Some (Acknowledgment size packets pgn)) reason)
-    (λ t. cond_both (is_waiting s.state && size == length s.message.bytes && packets == packets_of s.message && s.highest == packets_of s.message) _ _
-    (FailedBy s (Some (Acknowledgment size packets pgn)) reason) (λ u e. absurd (cc)) (λ u e. inl e))
-    (λ t e. inl e)
-failed_hears s (Some (Abort given pgn)) now reason =
-    cond_both (pgn == s.message.pgn) _ _ (FailedBy s (Some (Abort given pgn)) reason)
-    (λ t. cond_both (is_running s.state) _ _ (FailedBy s (Some (Abort given pgn)) reason)
-    (λ u e. (let z : given ≡ reason = cc in inr (λ i. Some (Abort (z i) (eqb-true pgn s.message.pgn t i))))) (λ u e. inl e))
-    (λ t e. inl e)
-
 pub failed_heard : (s : SenderRecord) (f : FrameRecord) (now reason : ℕ) → (send_step s (Heard f) now).after.state ≡ Failed reason
     → (s.state ≡ Failed reason) ⊎ (said_between s.destination s.message.source f ≡ Some (Abort reason s.message.pgn))
 unfolding send_step
-failed_heard s f now reason = failed_hears s (said_between s.destination s.message.source f) now reason
+failed_heard s f now reason = go _ _ (heard_case s (said_between s.destination s.message.source f) now)
+  where
+    go : (o : Option ℕ) (r : SenderRecord) → HeardCase s (said_between s.destination s.message.source f) now o r → r.state ≡ Failed reason
+        → (s.state ≡ Failed reason) ⊎ (said_between s.destination s.message.source f ≡ Some (Abort reason s.message.pgn))
+    go o r same e = inl e
+    go o r (fails given w i) e = let z : given ≡ reason = cc in inr (i ∙ ap (λ (n : ℕ). Some (Abort n s.message.pgn)) z)
+    go o r other e = absurd (cc)
 
 pub failed_ticked : (s : SenderRecord) (now reason : ℕ) → (send_step s Tick now).after.state ≡ Failed reason
     → (s.state ≡ Failed reason) ⊎ ((send_step s Tick now).says ≡ Some (Abort reason s.message.pgn))
@@ -113,8 +114,7 @@ failed_ticked s now reason = go s.state
         (λ (r : SendResult). r.after.state ≡ Failed reason → (s.state ≡ Failed reason) ⊎ (r.says ≡ Some (Abort reason s.message.pgn)))
         (λ t e. (let z : timeout ≡ reason = cc in inr (λ i. Some (Abort (z i) s.message.pgn)))) (λ t e. inl e)
     go (Sending next last) = λ e. absurd (cond_both (next == last) (Waiting 1250000) (Sending (next + 1) last) (λ (x : SendState). x ≡ Failed reason → ⊥) (λ t k. absurd (cc)) (λ t k. absurd (cc)) e)
-    go Done = λ e. inl e
-    go (Failed given) = λ e. inl e
+    go u = λ e. inl e
 
 pub failed_given_up : (s : SenderRecord) (given reason : ℕ) → (aborted given s).state ≡ Failed reason → (s.state ≡ Failed reason) ⊎ (given ≡ reason)
 unfolding aborted
@@ -125,88 +125,42 @@ failed_given_up s given reason = cond_both (is_running s.state) _ _ (λ (r : Sen
 
 abbrev pub StateFits : ℕ → ℕ → List Message → SendState → Type 0
 StateFits n h xs Idle = xs ≡ []
-StateFits n h xs (Waiting limit) = xs ≢ []
 StateFits n h xs (Sending next last) = (xs ≢ []) × (1 ≤ next) × (next ≤ last) × (last ≤ n) × (next ≤ h + 1)
-StateFits n h xs Done = xs ≢ []
-StateFits n h xs (Failed reason) = xs ≢ []
+StateFits n h xs u = xs ≢ []
 
 -- its packets up to the highest were taken
 pub record Moved (s : SenderRecord) (xs : List Message) : Type 0 where
   pub state : StateFits (packets_of s.message) s.highest xs s.state
   pub taken : (i : ℕ) → 1 ≤ i → i ≤ s.highest → IsAmong xs (packet_move s.destination s.message i)
 
-waiting_some : (n h : ℕ) (xs : List Message) (u : SendState) → StateFits n h xs u → is_waiting u ≡ true → xs ≢ []
-waiting_some n h xs (Waiting limit) f e = f
-waiting_some n h xs other f e = absurd (cc)
-
 pub running_some : (n h : ℕ) (xs : List Message) (u : SendState) → StateFits n h xs u → is_running u ≡ true → xs ≢ []
-running_some n h xs Idle f e = absurd (cc)
 running_some n h xs (Waiting limit) f e = f
 running_some n h xs (Sending next last) f e = f.0
-running_some n h xs Done f e = absurd (cc)
-running_some n h xs (Failed reason) f e = absurd (cc)
+running_some n h xs u f e = absurd (cc)
 
-three : (a b c : Bool) → (a && b && c) ≡ true → (a ≡ true) × (b ≡ true) × (c ≡ true)
-three true true true e = (refl, refl, refl)
-three true true false e = absurd (cc)
-three true false c e = absurd (cc)
-three false b c e = absurd (cc)
-
-not_zero : (n : ℕ) → (n == 0) ≡ false → 1 ≤ n
-not_zero zero e = absurd (cc)
-not_zero (suc n) e = omega arith
-
-moved_hears : (s : SenderRecord) (o : Option Signal) (now : ℕ) (xs : List Message) → Moved s xs → Moved (hears o now s) xs
-unfolding hears cleared acknowledged aborted
-moved_hears s None now xs h = h
-moved_hears s (Some (BroadcastAnnounce size packets pgn)) now xs h = h
-moved_hears s (Some (RequestToSend size packets most pgn)) now xs h = h
-moved_hears s (Some (Packet k part)) now xs h = h
-moved_hears s (Some (ClearToSend count p pgn)) now xs h =
-    cond_both (pgn == s.message.pgn) _ _ (λ r. Moved r xs)
-    (λ t. cond_both (is_waiting s.state) _ _ (λ r. Moved r xs)
-    (λ u. cond_both (count == 0) _ _ (λ r. Moved r xs) (λ v. record { state = waiting_some _ _ xs s.state h.state u; taken = h.taken })
-    (λ v. cond_both (may_name s p) _ _ (λ r. Moved r xs)
-    (λ x. (let z = three (nat_le 1 p) (nat_le p (packets_of s.message)) (nat_le p (s.highest + 1)) x in
-    let a = leb-true _ _ z.0 in let b = leb-true _ _ z.1 in let c = leb-true _ _ z.2 in let d = not_zero count v in
-    record {
-      state = (waiting_some _ _ xs s.state h.state u, a, omega (arith, b, d), omega arith, c);
-      taken = h.taken;
-    }))
-    (λ x. h)))
-    (λ u. h))
-    (λ t. h)
-moved_hears s (Some (Acknowledgment size packets pgn)) now xs h =
-    cond_both (pgn == s.message.pgn) _ _ (λ r. Moved r xs)
-    (λ t. cond_both (is_waiting s.state && size == length s.message.bytes && packets == packets_of s.message && s.highest == packets_of s.message) _ _ (λ r. Moved r xs)
-    (λ u. (let z = four (is_waiting s.state) (size == length s.message.bytes) (packets == packets_of s.message) (s.highest == packets_of s.message) u in
-    record { state = waiting_some _ _ xs s.state h.state z.0; taken = h.taken }))
-    (λ u. h))
-    (λ t. h)
-moved_hears s (Some (Abort reason pgn)) now xs h =
-    cond_both (pgn == s.message.pgn) _ _ (λ r. Moved r xs)
-    (λ t. cond_both (is_running s.state) _ _ (λ r. Moved r xs) (λ u. record { state = running_some _ _ xs s.state h.state u; taken = h.taken }) (λ u. h))
-    (λ t. h)
+waits_runs : (u : SendState) → is_waiting u ≡ true → is_running u ≡ true
+waits_runs u e = ap is_running (waiting_is u e).1
 
 pub moved_heard : (s : SenderRecord) (f : FrameRecord) (now : ℕ) (xs : List Message) → Moved s xs → Moved (send_step s (Heard f) now).after xs
 unfolding send_step
-moved_heard s f now xs h = moved_hears s (said_between s.destination s.message.source f) now xs h
+moved_heard s f now xs h = go _ _ (heard_case s (said_between s.destination s.message.source f) now)
+  where
+    go : (o : Option ℕ) (r : SenderRecord) → HeardCase s (said_between s.destination s.message.source f) now o r → Moved r xs
+    go o r same = h
+    go o r (done w x) = record { state = running_some _ _ xs s.state h.state (waits_runs s.state w); taken = h.taken }
+    go o r (fails reason w i) = record { state = running_some _ _ xs s.state h.state w; taken = h.taken }
+    go o r (holds limit i) = record { state = running_some _ _ xs s.state h.state (ap is_running i); taken = h.taken }
+    go o r (clears limit next last i n) = record {
+      state = (running_some _ _ xs s.state h.state (ap is_running i), n.some, n.order, n.most, n.known);
+      taken = h.taken;
+    }
 
 some_more : (xs : List Message) (x : Message) → xs ++ x ∷ [] ≢ []
 some_more [] x e = absurd (cc)
 some_more (y ∷ xs) x e = absurd (cc)
 
-keeps_place : (xs : List Message) (y x : Message) (k : ℕ) → slice_get xs k ≡ Some x → slice_get (xs ++ y ∷ []) k ≡ Some x
-keeps_place [] y x k e = absurd (cc)
-keeps_place (z ∷ xs) y x zero e = e
-keeps_place (z ∷ xs) y x (suc k) e = keeps_place xs y x k e
-
-last_place : (xs : List Message) (x : Message) → slice_get (xs ++ x ∷ []) (length xs) ≡ Some x
-last_place [] x = refl
-last_place (y ∷ xs) x = last_place xs x
-
 keeps_among : (xs : List Message) (y x : Message) → IsAmong xs x → IsAmong (xs ++ y ∷ []) x
-keeps_among xs y x (k, e) = (k, keeps_place xs y x k e)
+keeps_among xs y x (k, e) = (k, get_front xs (y ∷ []) k x e)
 
 -- one more frame of it was taken
 pub moved_ticked : (s : SenderRecord) (now : ℕ) (xs : List Message) (a : Signal) → Moved s xs → (send_step s Tick now).says ≡ Some a
@@ -223,7 +177,7 @@ moved_ticked s now xs a h = go s.state h.state
       | inl w ↦ kept i l (omega (arith, w))
       | inr w ↦
           let z : next ≡ i = omega (arith, b, l, m, w) in
-          (length xs, last_place xs (says s a) ∙ (ap (λ (y : Signal). Some (move s.destination s.message y)) (sym e) ∙ ap (λ (k : ℕ). Some (packet_move s.destination s.message k)) z))
+          (length xs, get_last xs (says s a) ∙ (ap (λ (y : Signal). Some (move s.destination s.message y)) (sym e) ∙ ap (λ (k : ℕ). Some (packet_move s.destination s.message k)) z))
     ]
 
     less : (k n : ℕ) → k ≤ n → k ≢ n → k + 1 ≤ n
@@ -239,8 +193,7 @@ moved_ticked s now xs a h = go s.state h.state
           (λ t. (let k = f.2 in let n = eqb-false next last t in let b = f.3 in (some_more xs (says s a), omega arith, less next last k n, b, omega arith)));
       taken = packet next f.4 (let z : Packet next (packet_data s.message.bytes next) ≡ a = cc in z);
     }
-    go Done f = λ e. absurd (cc)
-    go (Failed reason) f = λ e. absurd (cc)
+    go u f = λ e. absurd (cc)
 
 pub moved_given_up : (s : SenderRecord) (reason : ℕ) (xs : List Message) (x : Message) → is_running s.state ≡ true → Moved s xs
     → Moved (aborted reason s) (xs ++ x ∷ [])
@@ -267,5 +220,4 @@ signal_case s now xs a h = go s.state h.state
     go (Sending next last) f = λ e.
         let b = f.2 in let d = f.3 in
         packs next f.0 f.1 (omega (arith, b, d)) (let z : Packet next (packet_data s.message.bytes next) ≡ a = cc in sym z)
-    go Done f = λ e. absurd (cc)
-    go (Failed reason) f = λ e. absurd (cc)
+    go u f = λ e. absurd (cc)

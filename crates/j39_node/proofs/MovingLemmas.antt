@@ -1,5 +1,5 @@
 -- When a controller may move, by what it has; and what it is then.
-use Rattle.j39_node.proofs.Common.{AskEnding, Bool, Call, Claim, Claims, Controller, HasMoved, HearingRecord, IncomingRecord, Is, IsHolderAfter, IsLeastFree, IsSettled, Knows, List, None, NoneFree, Option, PortRecord, Question, Some, Untold, View, Who, [], accepted, and_parts, ap, arith, asked_by, asking_of, called, clock, due, eqb-true, false, got, handed, has_given, has_place, has_told, hearing, hearing_of, hold_after, hold_moved, holder_in, incoming_of, kept, lane_of, later, length, length-map, listening, lost, map, message_by, missed, moment, moved, name_raw, nat_eq, news_of, next_news, no_reception, not, open_broadcast, open_transfer, option_map, port_of, posted, received_by, reception, recv_step, refl, refusal_by, request_by, requests, rest, resting, sender_by, senders, shown, subst, sym, takes_tick, ticked, time_heard, told, told_claims, transfer_sender, transfers, true, waiting, whole, ℕ, ◌&&◌, ◌+◌, ◌-◌, ◌<◌, ◌||◌, ◌∙◌, ◌∷◌, ◌≡◌, ◌≢◌, ◌≤◌}
+use Rattle.j39_node.proofs.Common.{AskEnding, Bool, Call, Claim, Claims, Controller, HasMoved, HearingRecord, IncomingRecord, Is, IsHolderAfter, IsLeastFree, IsSettled, Knows, List, None, NoneFree, Option, PortRecord, Question, Some, Untold, View, Who, [], accepted, and_parts, ap, arith, asked_by, asking_of, eqb-true, false, got, handed, has_given, has_place, has_told, hearing_of, hold_after, hold_moved, holder_in, incoming_of, kept, lane_of, later, length, length-map, map, message_by, moment, moved, name_raw, nat_eq, news_of, no_reception, not, option_map, port_of, posted, received_by, recv_step, refl, refusal_by, request_by, requests, rest, sender_by, subst, sym, takes_tick, ticked, time_heard, told, told_claims, true, ℕ, ◌&&◌, ◌+◌, ◌-◌, ◌<◌, ◌||◌, ◌∙◌, ◌∷◌, ◌≡◌, ◌≢◌, ◌≤◌}
 use Rattle.j39_node.specs.Boxes.{in_box}
 use Rattle.std.specs.Option.{is_some}
 use Rattle.j39_node.specs.Moving.{begun}
@@ -42,10 +42,8 @@ place_none None p q e = refl
 place_none (Some x) p q e = absurd (let z : false ≡ true = sym (q x) ∙ e in cc)
 
 no_news : (a b : Bool) (d : Option ℕ) (c : Bool) → not (a || (b || (is_some d || c))) ≡ true → news_of a b d c ≡ None
-no_news a b None c e = grind (arith, e)
-no_news true b (Some n) c e = absurd (cc)
-no_news false true (Some n) c e = absurd (cc)
-no_news false false (Some n) c e = absurd (cc)
+no_news false false None false e = refl
+no_news a b d c e = absurd (cc)
 
 none_waits : {T : Type 0} (n : ℕ) (xs : List T) → n ≡ length xs → nat_eq n 0 ≡ true → xs ≡ []
 none_waits n [] e g = refl
@@ -53,53 +51,28 @@ none_waits n (x ∷ xs) e g = absurd (let z = eqb-true n 0 g in omega (arith, e,
 
 -- ---- all of them
 
-module _ (w : Who) (H : List Call) (c : Controller) (h : Is w H c) where
-  messages : length c.outgoing.items ≡ length (accepted w H) - length (told H)
-  messages = length_rest posted c.outgoing.items (length (told H)) (accepted w H) (ap (λ (v : View). v.outgoing) h.shown)
-
-  unread : length c.inbox.unread.items ≡ length (kept w H) - length (got H)
-  unread = length_rest received_by c.inbox.unread.items (length (got H)) (kept w H) (ap (λ (v : View). v.unread) h.shown)
-
-  asked : length c.desk.waiting.items ≡ length (requests w H) - length (handed H)
-  asked = length_rest request_by c.desk.waiting.items (length (handed H)) (requests w H) (ap (λ (v : View). v.requests) h.shown)
-
-  broadcast : (lane_of w c.lane).current ≡ open_broadcast w H
-  broadcast = ap (λ (v : View). v.lane.current) h.shown
-
-  transfer : (port_of c.transfers).current ≡ open_transfer w H
-  transfer = ap (λ (v : View). v.port.current) h.shown
-
-  waits : (incoming_of c.incoming).reception.waits ≡ (reception w H).waits
-  waits = ap (λ (v : View). v.incoming.reception.waits) h.shown
-
-  heard : length c.hearing.whole.items ≡ length (waiting w H)
-  heard = sym (length-map c.hearing.whole.items (λ b. message_by (in_box b))) ∙ ap (λ (v : View). length v.hearing.listening.waits) h.shown
-
-  untold : not (c.news.lost || (c.news.another || (is_some c.news.doubled || c.news.missed))) ≡ true → next_news w H ≡ None
-  untold e = no_news _ _ _ _ (sym (ap (λ (v : View). not (v.news.lost || (v.news.another || (is_some v.news.doubled || v.news.missed)))) h.shown) ∙ e)
-
-  pub settles : (has_told c && has_given c) ≡ true → IsSettled w H
-  settles e =
-      let s = sound w H h.answered in
-      let p = and_parts _ _ e in
-      let t = and_parts _ _ p.0 in
-      let t2 = and_parts _ _ t.1 in
-      let t3 = and_parts _ _ t2.1 in
-      let g = and_parts _ _ p.1 in
-      let g2 = and_parts _ _ g.1 in
-      let g3 = and_parts _ _ g2.1 in
-      let g4 = and_parts _ _ g3.1 in
-      record {
-        messages = empty_is _ _ _ messages s.within t.0;
-        broadcast = sym broadcast ∙ none_is _ _ t2.0;
-        transfer = sym transfer ∙ none_is _ _ t3.0;
-        request = asked_none _ _ _ (sym (ap (λ (v : View). v.asking) h.shown) ∙ none_is _ _ t3.1);
-        received = empty_is _ _ _ unread (read w H s) g.0;
-        requests_taken = empty_is _ _ _ asked (front_length _ _ s.desk.2) g2.0;
-        received_transfer = sym waits ∙ place_none _ has_place (λ x. refl) g3.0;
-        received_broadcast = none_waits _ _ heard g4.0;
-        news = untold g4.1;
-      }
+pub settles : (w : Who) (H : List Call) (c : Controller) → Is w H c → (has_told c && has_given c) ≡ true → IsSettled w H
+settles w H c h e =
+    let s = sound w H h.answered in
+    let p = and_parts _ _ e in
+    let t = and_parts _ _ p.0 in
+    let t2 = and_parts _ _ t.1 in
+    let t3 = and_parts _ _ t2.1 in
+    let g = and_parts _ _ p.1 in
+    let g2 = and_parts _ _ g.1 in
+    let g3 = and_parts _ _ g2.1 in
+    let g4 = and_parts _ _ g3.1 in
+    record {
+      messages = empty_is _ _ _ (length_rest posted c.outgoing.items (length (told H)) (accepted w H) (ap (λ (v : View). v.outgoing) h.shown)) s.within t.0;
+      broadcast = sym (ap (λ (v : View). v.lane.current) h.shown) ∙ none_is _ _ t2.0;
+      transfer = sym (ap (λ (v : View). v.port.current) h.shown) ∙ none_is _ _ t3.0;
+      request = asked_none _ _ _ (sym (ap (λ (v : View). v.asking) h.shown) ∙ none_is _ _ t3.1);
+      received = empty_is _ _ _ (length_rest received_by c.inbox.unread.items (length (got H)) (kept w H) (ap (λ (v : View). v.unread) h.shown)) (read w H s) g.0;
+      requests_taken = empty_is _ _ _ (length_rest request_by c.desk.waiting.items (length (handed H)) (requests w H) (ap (λ (v : View). v.requests) h.shown)) (front_length _ _ s.desk.2) g2.0;
+      received_transfer = sym (ap (λ (v : View). v.incoming.reception.waits) h.shown) ∙ place_none _ has_place (λ x. refl) g3.0;
+      received_broadcast = none_waits _ _ (sym (length-map c.hearing.whole.items (λ b. message_by (in_box b))) ∙ ap (λ (v : View). length v.hearing.listening.waits) h.shown) g4.0;
+      news = no_news _ _ _ _ (sym (ap (λ (v : View). not (v.news.lost || (v.news.another || (is_some v.news.doubled || v.news.missed)))) h.shown) ∙ g4.1);
+    }
 
 -- ---- it begins anew
 
@@ -115,11 +88,8 @@ none_untold u e = go u.lost u.another u.doubled u.missed refl refl refl refl e
 
     go : (a b : Bool) (d : Option ℕ) (c : Bool) → u.lost ≡ a → u.another ≡ b → u.doubled ≡ d → u.missed ≡ c → not (a || (b || (is_some d || c))) ≡ true
         → u ≡ untold false false None false
-    go true b d c i j m k e = absurd (cc)
-    go false true d c i j m k e = absurd (cc)
-    go false false (Some n) c i j m k e = absurd (cc)
-    go false false None true i j m k e = absurd (cc)
     go false false None false i j m k e = λ l. untold (i l) (j l) (m l) (k l)
+    go a b d c i j m k e = absurd (cc)
 
 brought_on : (m r : ℕ) → r ≡ m + r - (m - 0)
 brought_on m r = omega arith

@@ -1,5 +1,5 @@
 -- Packets, as their frames say them.
-use Rattle.j39_node.proofs.Common.{[], if◌then◌else◌, ◌&&◌, ◌==◌, ◌≡◌, ap, arith, Bool, broadcast_in, control_in, Directed, false, FrameRecord, Heard, key_between, length, nat_lt, None, not, number_in, Option, packed_in, packet_in, pgn_of, ps_of, ReceiverRecord, ReceptionRecord, recv_step, refl, request_in, result_of, said_between, said_to, shown, since_by, slice_index, Some, source_of, strays, takes_signal, transport_data_group, true, ℕ}
+use Rattle.j39_node.proofs.Common.{[], if◌then◌else◌, ◌&&◌, ◌==◌, ◌≡◌, ap, arith, Bool, broadcast_in, control_in, Directed, FrameRecord, Heard, key_between, length, nat_lt, None, not, number_in, Option, packed_in, packet_in, pgn_of, ps_of, ReceiverRecord, ReceptionRecord, recv_step, refl, request_in, result_of, said_between, said_to, shown, since_by, slice_index, Some, source_of, strays, takes_signal, transport_data_group, ℕ, cond_both}
 use Rattle.j39_transport.specs.Signals.{said_by}
 use Rattle.j39_transport.specs.Frames as frames
 
@@ -10,11 +10,7 @@ hushed own stamp id = grind arith
 
 -- what is shown is the frame, or says nothing
 pub shown_both : (own : ℕ) (o : Option ReceptionRecord) (f : FrameRecord) (P : FrameRecord → Type 0) → P (record { stamp = f.stamp; id = f.id; bytes = [] }) → P f → P (shown own o f)
-shown_both own o f P h k = go (strays (packet_in own f o) o)
-  where
-    go : (b : Bool) → P (record { stamp = f.stamp; id = f.id; bytes = if b then [] else f.bytes })
-    go true = h
-    go false = k
+shown_both own o f P h k = cond_both (strays (packet_in own f o) o) _ _ (λ bytes. P (record { stamp = f.stamp; id = f.id; bytes = bytes })) (λ z. h) (λ z. k)
 
 pub shown_none : (own : ℕ) (o : Option ReceptionRecord) (f : FrameRecord) → said_to own f ≡ None → said_to own (shown own o f) ≡ None
 shown_none own o f e = shown_both own o f (λ (g : FrameRecord). said_to own g ≡ None) (hushed own f.stamp f.id) e

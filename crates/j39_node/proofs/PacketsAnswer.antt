@@ -62,8 +62,7 @@ seeks_from q source group e = go (nat_eq group q.group) (nat_eq q.to 255) (nat_e
         → (group ≡ q.group) × ((q.to ≡ 255) ⊎ (source ≡ q.to))
     go true true c i j k z = (eqb-true _ _ i, inl (eqb-true _ _ j))
     go true false true i j k z = (eqb-true _ _ i, inr (eqb-true _ _ k))
-    go true false false i j k z = absurd (cc)
-    go false b c i j k z = absurd (cc)
+    go a b c i j k z = absurd (cc)
 
 abbrev InSession : Who → List Call → Question → Type 0
 InSession w H q =

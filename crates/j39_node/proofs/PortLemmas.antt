@@ -1,10 +1,11 @@
 -- The open transfer of an answered history goes from the address to another's.
-use Rattle.j39_node.proofs.Common.{[], if◌then◌else◌, ◌<◌, ◌||◌, ◌∙◌, ◌∷◌, ◌≡◌, ◌⊎◌, aborted, address_after, answer_to_transfer, ap, AreAnswered, arith, At, Bool, both, Call, can_broadcast, Claims, clock_at, Failed, false, FrameRecord, gives_up, group_with, Hear, hears, hears_if, holder, holder_in, IfSome, inl, inr, is_lost, is_move, is_replaced, is_running, is_some, is_spent, Knows, List, listens, ltb-true, Message, min, nat_eq, nat_lt, new_sender, None, Ok, open_transfer, Option, option_map, Packet, PortRecord, refl, Resting, Running, said_between, says, send_step, SenderRecord, SendEvent, sends, sends_if, Signal, signal_by, Some, subst, sym, TakeFrame, TakeTransferEnded, told_claims, Transfer, transfer_by, transport_control_group, transport_data_group, true, Who, ℕ}
+use Rattle.j39_node.proofs.Common.{[], ◌<◌, ◌||◌, ◌∙◌, ◌∷◌, ◌≡◌, ◌⊎◌, aborted, address_after, answer_to_transfer, ap, AreAnswered, arith, At, Bool, both, Call, can_broadcast, Claims, clock_at, false, FrameRecord, gives_up, group_with, Hear, hears, hears_if, holder, holder_in, IfSome, inl, inr, is_lost, is_move, is_replaced, is_running, is_some, is_spent, Knows, List, listens, ltb-true, Message, min, nat_lt, new_sender, None, Ok, open_transfer, Option, Packet, PortRecord, refl, Resting, Running, said_between, says, send_step, SenderRecord, SendEvent, sends, sends_if, Signal, signal_by, Some, subst, sym, TakeFrame, TakeTransferEnded, told_claims, Transfer, transfer_by, transport_control_group, transport_data_group, true, Who, ℕ, cond_both, ne_eqb}
 use Rattle.j39_transport.specs.Sending.{Heard, Tick}
 use Rattle.j39_transport.specs.Sending as sending
 use Rattle.j39_transport.proofs.SenderLemmas.{ticked, hears_signal}
 use Rattle.j39_node.proofs.ReceptionLemmas.{table_is}
 use Rattle.j39_node.proofs.AnswerCases.{transfer_accepts}
+use Rattle.j39_node.proofs.QueueLemmas.{mapped_some}
 
 -- ---- a step keeps message and destination
 
@@ -34,27 +35,20 @@ Same new old = (new.message ≡ old.message) × (new.destination ≡ old.destina
 
 pub gives_up_same : (s : SenderRecord) (reason : ℕ) → Same (aborted reason s) s
 unfolding aborted
-gives_up_same s reason = go (is_running s.state)
-  where
-    go : (b : Bool) → Same (if b then record s { state = Failed reason } else s) s
-    go true = (refl, refl)
-    go false = (refl, refl)
+gives_up_same s reason = cond_both (is_running s.state) _ _ (λ (r : SenderRecord). Same r s) (λ z. (refl, refl)) (λ z. (refl, refl))
+
+-- a frame that is heard leaves it, or makes it gone, or its sender listens
+pub hears_cases : (P : Running → Type 0) (lost replaced : Bool) (f : FrameRecord) (now : ℕ) (t : Running) → P t → (replaced ≡ true → P (record t { gone = true }))
+    → ((t.gone || is_spent t) ≡ false → P (listens f now t)) → P (hears lost replaced f now t)
+hears_cases P true replaced f now t left gone heard = left
+hears_cases P false true f now t left gone heard = gone refl
+hears_cases P false false f now t left gone heard = cond_both (t.gone || is_spent t) t (listens f now t) P (λ z. left) heard
 
 pub hears_same : (lost replaced : Bool) (f : FrameRecord) (now : ℕ) (t : Running) → Same (hears lost replaced f now t).sender t.sender
-hears_same true replaced f now t = (refl, refl)
-hears_same false true f now t = (refl, refl)
-hears_same false false f now t = go (t.gone || is_spent t)
-  where
-    go : (b : Bool) → Same (if b then t else listens f now t).sender t.sender
-    go true = (refl, refl)
-    go false = keeps t.sender (Heard f) now
+hears_same lost replaced f now t = hears_cases (λ (u : Running). Same u.sender t.sender) lost replaced f now t (refl, refl) (λ z. (refl, refl)) (λ z. keeps t.sender (Heard f) now)
 
 pub sends_same : (now : ℕ) (t : Running) → Same (sends now t).sender t.sender
-sends_same now t = go (gives_up t)
-  where
-    go : (b : Bool) → Same (if b then aborted 5 t.sender else (send_step t.sender Tick now).after) t.sender
-    go true = gives_up_same t.sender 5
-    go false = keeps t.sender Tick now
+sends_same now t = cond_both (gives_up t) _ _ (λ (r : SenderRecord). Same r t.sender) (λ z. gives_up_same t.sender 5) (λ z. keeps t.sender Tick now)
 
 between_same : (w : Who) (new old : Running) → Same new.sender old.sender → Between w old → Between w new
 between_same w new old k h = record {
@@ -71,9 +65,6 @@ ported_sends : (w : Who) (b : Bool) (now : ℕ) (o : Option Running) → Ported 
 ported_sends w false now o h = h
 ported_sends w true now None h = h
 ported_sends w true now (Some t) h = between_same w _ t (sends_same now t) h
-
-not_all : (n : ℕ) → n < 254 → nat_eq n 255 ≡ false
-not_all n e = grind arith
 
 ported_opens : (w : Who) (H : List Call) (now group to k : ℕ) (bytes : List ℕ) → Ok k ≡ answer_to_transfer w H now group to bytes
     → Ported w (open_transfer w (At now (Transfer group to bytes (Ok k)) ∷ H))
@@ -103,19 +94,21 @@ either_group : (a : Signal) → (group_with a ≡ transport_control_group) ⊎ (
 either_group (Packet number part) = inr refl
 either_group other = inl refl
 
+pub transfer_says : (o : Option Running) (now : ℕ) (m : Message) → transfer_by o now ≡ Some m
+    → (t : Running) × (o ≡ Some t) × ((a : Signal) × (signal_by t now ≡ Some a) × (says t.sender a ≡ m))
+transfer_says None now m e = absurd (cc)
+transfer_says (Some t) now m e = (t, refl, mapped_some (says t.sender) (signal_by t now) m e)
+
 pub said_case : (w : Who) (o : Option Running) (now : ℕ) (m : Message) → Ported w o → transfer_by o now ≡ Some m → SaidCase w m
-said_case w None now m h e = absurd (cc)
-said_case w (Some t) now m h e = go (signal_by t now) e
-  where
-    go : (o : Option Signal) → option_map (says t.sender) o ≡ Some m → SaidCase w m
-    go None i = absurd (cc)
-    go (Some a) i =
-        let z : says t.sender a ≡ m = cc in
-        record {
-          source = ap (λ (y : Message). y.source) (sym z) ∙ h.source;
-          group = elim (either_group a) [ inl p ↦ inl (ap (λ (y : Message). y.group) (sym z) ∙ p) | inr p ↦ inr (ap (λ (y : Message). y.group) (sym z) ∙ p) ];
-          directed = ap (λ (y : Message). is_some y.destination 255) (sym z) ∙ not_all t.sender.destination h.directed;
-        }
+said_case w o now m h e =
+    let x = transfer_says o now m e in
+    let b = subst (Ported w) x.1 h in
+    let z = x.2.2 in
+    record {
+      source = ap (λ (y : Message). y.source) (sym z) ∙ b.source;
+      group = subst (λ (g : ℕ). (g ≡ transport_control_group) ⊎ (g ≡ transport_data_group)) (ap (λ (y : Message). y.group) z) (either_group x.2.0);
+      directed = ap (λ (y : Message). is_some y.destination 255) (sym z) ∙ ne_eqb x.0.sender.destination 255 (λ z. let l = b.directed in omega (arith, l, z));
+    }
 
 -- ---- who holds an address
 

@@ -1,45 +1,21 @@
 -- A driver's pace: what was accepted goes on, is over, or its address is lost. Broadcasts first.
-use Rattle.j39_node.proofs.Common.{Address, Again, AreAnswered, At, Bool, Broadcast, Call, Claimed, Controller, Done, Ending, FrameRecord, Hear, Is, IsAnswered, IsPaced, IsPrompt, List, Lost, MessageRecord, None, NoneTold, NotClaimed, Ok, Option, Some, TakeBroadcastEnded, TakeFrame, Who, Withdrawn, [], add-mul, address_after, after, answer_to_broadcast, ap, arith, broadcast_end, broadcast_from, broadcasts, by, claim_of, claimed, claims_anew, ending_of, false, frame_of, gap, goes, idle, if◌then◌else◌, inl, inr, is_claim, is_held, is_lost, is_open, is_packet, is_smaller, later, leb-false, leb-true, left, length, lost, message_of, moment, more, nat_eq, nat_le, nat_lt, next_broadcast_ended, not_both, older, open_broadcast, packet_by, packets, packets_of, packets_taken, passed, passed_in, pause, refl, rest, step, subst, suc, suc-mul, sym, tells_broadcast, true, waited_in, ℕ, ◌&&◌, ◌*◌, ◌++◌, ◌+◌, ◌-◌, ◌<◌, ◌||◌, ◌∙◌, ◌∷◌, ◌≡◌, ◌≤◌, ◌⊎◌}
+use Rattle.j39_node.proofs.Common.{Address, AreAnswered, At, Bool, Broadcast, Call, Claimed, Controller, Done, Ending, FrameRecord, Is, IsAnswered, IsPaced, IsPrompt, List, Message, MessageRecord, None, NoneTold, Ok, Option, Some, TakeBroadcastEnded, TakeFrame, Who, Withdrawn, [], add-mul, address_after, after, answer_to_broadcast, ap, arith, broadcast_end, broadcast_from, broadcasts, claimed, claims_anew, ending_of, false, frame_of, gap, goes, if◌then◌else◌, inl, inr, is_held, is_lost, is_open, is_packet, later, leb-false, leb-true, left, length, lost, message_of, moment, more, nat_eq, nat_le, nat_lt, next_broadcast_ended, not_both, older, open_broadcast, packet_by, packets, packets_of, packets_taken, passed, passed_in, pause, refl, rest, step, subst, suc, suc-mul, sym, tells_broadcast, true, waited_in, ℕ, ◌&&◌, ◌*◌, ◌++◌, ◌+◌, ◌-◌, ◌<◌, ◌||◌, ◌∙◌, ◌∷◌, ◌≡◌, ◌≤◌, ◌⊎◌, cond_both, ltb-false}
 use Rattle.j39_node.proofs.QueueLemmas.{length_one_more}
-use Rattle.j39_node.proofs.SoundLemmas.{none_next, held_older, lost_claimed, lost_older, lost_unclaimed, packets_is, pause_is}
+use Rattle.j39_node.proofs.SoundLemmas.{stays_lost, none_next, held_older, address_cases}
 use Rattle.j39_node.proofs.AnswerCases.{broadcast_accepts}
 
 -- ---- an address that was held is held or lost, and one that was lost is lost
 
 held_claimed : (a : Address) → is_held a ≡ true → is_held (claimed a) ≡ true
-held_claimed NotClaimed e = absurd (cc)
 held_claimed (Claimed n) e = e
-held_claimed Lost e = absurd (cc)
+held_claimed a e = absurd (cc)
 
 keeps : (w : Who) (H : List Call) (call : Call) → claims_anew call ≡ false → is_held (address_after w H) ≡ true
     → (is_lost (address_after w (call ∷ H)) ≡ true) ⊎ (is_held (address_after w (call ∷ H)) ≡ true)
-keeps w H (At when (Hear f)) n e = go (is_smaller w (claim_of f))
-  where
-    go : (b : Bool) → (is_lost (if b then Lost else older (step H when) (address_after w H)) ≡ true)
-        ⊎ (is_held (if b then Lost else older (step H when) (address_after w H)) ≡ true)
-    go true = inl refl
-    go false = inr (held_older (step H when) (address_after w H) e)
-keeps w H (At now (TakeFrame (Some f))) n e = inr (go (is_claim f))
-  where
-    go : (b : Bool) → is_held (if b then claimed (older (step H now) (address_after w H)) else older (step H now) (address_after w H)) ≡ true
-    go true = held_claimed (older (step H now) (address_after w H)) (held_older (step H now) (address_after w H) e)
-    go false = held_older (step H now) (address_after w H) e
-keeps w H (At now Again) n e = absurd (let z : true ≡ false = n in cc)
-keeps w H call n e = inr (let z = held_older (step H (moment (call ∷ H))) (address_after w H) e in cc)
-
-pub stays_lost : (w : Who) (H : List Call) (call : Call) → is_lost (address_after w H) ≡ true → is_lost (address_after w (call ∷ H)) ≡ true
-stays_lost w H (At when (Hear f)) e = go (is_smaller w (claim_of f))
-  where
-    go : (b : Bool) → is_lost (if b then Lost else older (step H when) (address_after w H)) ≡ true
-    go true = refl
-    go false = lost_older (step H when) (address_after w H) ∙ e
-stays_lost w H (At now (TakeFrame (Some f))) e = go (is_claim f)
-  where
-    go : (b : Bool) → is_lost (if b then claimed (older (step H now) (address_after w H)) else older (step H now) (address_after w H)) ≡ true
-    go true = lost_claimed (older (step H now) (address_after w H)) ∙ (lost_older (step H now) (address_after w H) ∙ e)
-    go false = lost_older (step H now) (address_after w H) ∙ e
-stays_lost w H (At now Again) e = lost_unclaimed (older (step H now) (address_after w H)) ∙ (lost_older (step H now) (address_after w H) ∙ e)
-stays_lost w H call e = let z = lost_older (step H (moment (call ∷ H))) (address_after w H) in cc
+keeps w H call n e =
+    let a = older (step H (moment (call ∷ H))) (address_after w H) in
+    let h = held_older (step H (moment (call ∷ H))) (address_after w H) e in
+    address_cases w H call (λ a. (is_lost a ≡ true) ⊎ (is_held a ≡ true)) (inr h) (inl refl) (inr (held_claimed a h)) (λ z. absurd (not_both _ n z))
 
 -- it is over, its address is lost, or it goes on from an address that is held
 pub data Fate (a : Address) (Over Runs : Type 0) : Type 0 where
@@ -117,9 +93,19 @@ pub not_yet : (most each count passed left slack s rest after : ℕ) → rest �
 not_yet most each count passed left slack s rest after e l h =
     let a = h.soon (omega (arith, e, l)) in record { soon = λ z. omega (arith, a, e, l); late = omega (arith, a, e, l) }
 
-packs_one : (most each count passed left slack s after : ℕ) → slack + s ≤ each → Timely most each count passed left slack → Timely most each (suc count) (passed + s) most after
-packs_one most each count passed left slack s after p h =
-    let a = h.late in let e = due_more most each count in record { soon = λ z. omega (arith, a, e, p); late = omega (arith, a, e, p) }
+packs_one : (most each count passed left slack s rest after : ℕ) → rest ≡ most → slack + s ≤ each → Timely most each count passed left slack
+    → Timely most each (suc count) (passed + s) rest after
+packs_one most each count passed left slack s rest after z p h =
+    let a = h.late in let e = due_more most each count in record { soon = λ y. omega (arith, a, e, p, z); late = omega (arith, a, e, p) }
+
+-- behind a frame that is one of a broadcast, or isn't
+pub timely_then : (most each spare l : ℕ) (later B : List Call) (now : ℕ) (f : FrameRecord) (b : Bool) → is_packet f ≡ b
+    → Timely most each (if b then suc (packets_taken later) else packets_taken later) (passed_in later B + step (later ++ B) now)
+    ((if b then 150000 else pause (later ++ B) - step (later ++ B) now) - spare) l
+    → Timely most each (packets_taken (At now (TakeFrame (Some f)) ∷ later)) (passed_in later B + step (later ++ B) now) (pause (At now (TakeFrame (Some f)) ∷ later ++ B) - spare) l
+timely_then most each spare l later B now f b i t =
+    subst (λ (c : Bool). Timely most each (if c then suc (packets_taken later) else packets_taken later) (passed_in later B + step (later ++ B) now)
+    ((if c then 150000 else pause (later ++ B) - step (later ++ B) now) - spare) l) (sym i) t
 
 -- ---- the course of a broadcast, of which c0 frames were taken before
 
@@ -136,10 +122,7 @@ no_packet k m i left e = go (nat_le left 100000) (nat_le i (packets_of m)) refl 
 ends_by : (k : ℕ) (m : MessageRecord) (i : ℕ) (b lost : Bool) → nat_lt (packets_of m) i ≡ b → (packets_of m < i) ⊎ (lost ≡ true) → (e : Ending) × (ending_of b lost k ≡ Some (k, e))
 ends_by k m i true lost z h = (Done, refl)
 ends_by k m i false true z h = (Withdrawn, refl)
-ends_by k m i false false z (inl l) = absurd (not_past _ _ z l)
-  where
-    not_past : (a b : ℕ) → nat_lt a b ≡ false → a < b → ⊥
-    not_past a b y l = absurd (let x : b ≤ a = grind arith in omega (arith, x, l))
+ends_by k m i false false z (inl l) = absurd (let x = ltb-false _ _ z in omega (arith, x, l))
 ends_by k m i false false z (inr l) = absurd (let y : false ≡ true = l in cc)
 
 -- its frames are late by the slack of the driver's pace; of the gap behind each so much counts as spare
@@ -164,31 +147,27 @@ module _ (w : Who) (B : List Call) (since : List Call → List Call → ℕ) (sl
     pub last : 150000 - spare ≡ most
     pub within : spare ≤ 100000
 
-  counts : (now : ℕ) (f : FrameRecord) (later : List Call) (b : Bool) → is_packet f ≡ b
-      → (length (packets (At now (TakeFrame (Some f)) ∷ later ++ B)) ≡ (if b then suc (length (packets (later ++ B))) else length (packets (later ++ B))))
-      × (packets_taken (At now (TakeFrame (Some f)) ∷ later) ≡ (if b then suc (packets_taken later) else packets_taken later))
-  counts now f later true i =
-      (ap length (packets_is (later ++ B) now f true i) ∙ length_one_more (packets (later ++ B)) (message_of f), ap (λ (b : Bool). if b then suc (packets_taken later) else packets_taken later) i)
-  counts now f later false i = (ap length (packets_is (later ++ B) now f false i), ap (λ (b : Bool). if b then suc (packets_taken later) else packets_taken later) i)
-
   takes_one : Pace → (now : ℕ) (f : FrameRecord) (later : List Call) → AreAnswered w (later ++ B) → IsAnswered w (later ++ B) (At now (TakeFrame (Some f)))
-      → since later B + step (later ++ B) now ≤ g → Stands later → (b : Bool) → is_packet f ≡ b → Stands (At now (TakeFrame (Some f)) ∷ later)
-  takes_one x now f later right a p h true i = record {
+      → since later B + step (later ++ B) now ≤ g → Stands later → Stands (At now (TakeFrame (Some f)) ∷ later)
+  takes_one x now f later right a p h = record {
     broadcast = h.broadcast;
-    count = (let n = counts now f later true i in let q = n.0 in let r = n.1 in let c = h.count in omega (arith, q, r, c));
-    course = later_on w (later ++ B) (At now (TakeFrame (Some f))) refl (λ l. (let q = (counts now f later true i).0 in omega (arith, l, q)))
-        (λ e z t. inr (subst (λ (n : ℕ). Timely most each n (passed_in later B + step (later ++ B) now) (pause (At now (TakeFrame (Some f)) ∷ later ++ B) - spare) (slack (At now (TakeFrame (Some f)) ∷ later)))
-        (sym (counts now f later true i).1)
-        (subst (λ (n : ℕ). Timely most each (suc (packets_taken later)) (passed_in later B + step (later ++ B) now) n (slack (At now (TakeFrame (Some f)) ∷ later)))
-        (sym (ap (λ (n : ℕ). n - spare) (pause_is (later ++ B) now f true i) ∙ x.last))
-        (packs_one most each _ _ _ _ (step (later ++ B) now) _ (x.quick later (step (later ++ B) now) p) t)))) h.course;
+    count = counts (is_packet f);
+    course = later_on w (later ++ B) (At now (TakeFrame (Some f))) refl
+        (λ l. cond_both (is_packet f) (packets (later ++ B) ++ message_of f ∷ []) (packets (later ++ B)) (λ (L : List Message). packets_of m < length L) (λ z. omega (arith, l, one_more)) (λ z. l))
+        (λ e z t. takes (is_packet f) refl e t) h.course;
   }
-  takes_one x now f later right a p h false i = record {
-    broadcast = h.broadcast;
-    count = (let n = counts now f later false i in let q = n.0 in let r = n.1 in let c = h.count in omega (arith, q, r, c));
-    course = later_on w (later ++ B) (At now (TakeFrame (Some f))) refl (λ l. (let q = (counts now f later false i).0 in omega (arith, l, q)))
-        (λ e z t. x.beside now f later right a p i e h t) h.course;
-  }
+    where
+      one_more : length (packets (later ++ B) ++ message_of f ∷ []) ≡ suc (length (packets (later ++ B)))
+      one_more = length_one_more (packets (later ++ B)) (message_of f)
+
+      counts : (b : Bool) → length (if b then packets (later ++ B) ++ message_of f ∷ [] else packets (later ++ B)) ≡ c0 + (if b then suc (packets_taken later) else packets_taken later)
+      counts true = let c = h.count in omega (arith, c, one_more)
+      counts false = h.count
+
+      takes : (b : Bool) → is_packet f ≡ b → is_held (address_after w (later ++ B)) ≡ true → Runs later
+          → IsOver (At now (TakeFrame (Some f)) ∷ later) ⊎ Runs (At now (TakeFrame (Some f)) ∷ later)
+      takes true i e t = inr (timely_then most each spare _ later B now f true i (packs_one most each _ _ _ _ (step (later ++ B) now) _ _ x.last (x.quick later (step (later ++ B) now) p) t))
+      takes false i e t = x.beside now f later right a p i e h t
 
   -- no other is accepted
   none_begins : (later : List Call) (now group j : ℕ) (bytes : List ℕ) → open_broadcast w (later ++ B) ≡ Some (k, m) → Ok j ≡ answer_to_broadcast w (later ++ B) now group bytes → ⊥
@@ -197,7 +176,7 @@ module _ (w : Who) (B : List Call) (since : List Call → List Call → ℕ) (sl
 
   one_more : Pace → (call : Call) (later : List Call) → AreAnswered w (later ++ B) → IsAnswered w (later ++ B) call → tells_broadcast call ≡ false
       → (since later B + step (later ++ B) (moment (call ∷ later ++ B)) ≤ g) × (claims_anew call ≡ false) → Stands later → Stands (call ∷ later)
-  one_more x (At now (TakeFrame (Some f))) later right a n p h = takes_one x now f later right a p.0 h (is_packet f) refl
+  one_more x (At now (TakeFrame (Some f))) later right a n p h = takes_one x now f later right a p.0 h
   one_more x (At now (TakeFrame None)) later right a n p h = record {
     broadcast = h.broadcast;
     count = h.count;
@@ -241,11 +220,7 @@ module _ (w : Who) (B : List Call) (since : List Call → List Call → ℕ) (sl
 -- never is more left than this
 pub pause_most : (H : List Call) → pause H ≤ 150000
 pause_most [] = omega arith
-pause_most (At now (TakeFrame (Some f)) ∷ H) = go (is_packet f) (pause_most H)
-  where
-    go : (b : Bool) → pause H ≤ 150000 → (if b then 150000 else pause H - step H now) ≤ 150000
-    go true l = omega arith
-    go false l = omega (arith, l)
+pause_most (At now (TakeFrame (Some f)) ∷ H) = let l = pause_most H in cond_both (is_packet f) _ _ (λ n. n ≤ 150000) (λ z. omega arith) (λ z. omega (arith, l))
 pause_most (At now (Broadcast group bytes (Ok k)) ∷ H) = let l = pause_most H in omega (arith, l)
 pause_most (call ∷ H) = let l = pause_most H in omega (arith, l)
 
@@ -266,20 +241,10 @@ module _ (w : Who) (B : List Call) (g k : ℕ) (m : MessageRecord) where
   prompt = record {
     idle = λ call later e. waited_more call later B e;
     quick = λ later s p. p;
-    beside = λ now f later right a p i e h t. inr (beside now f later i t);
+    beside = λ now f later right a p i e h t. inr (timely_then gap g 100000 _ later B now f false i (passes gap g _ _ _ _ (step (later ++ B) now) _ (omega arith) t));
     last = refl;
     within = omega arith;
   }
-    where
-      R : List Call → Type 0
-      R = Runs w B waited_in (λ later. waited_in later B) g gap g 100000 k 0 m
-
-      beside : (now : ℕ) (f : FrameRecord) (later : List Call) → is_packet f ≡ false → R later → R (At now (TakeFrame (Some f)) ∷ later)
-      beside now f later i t =
-          subst (λ (n : ℕ). Timely gap g n (passed_in later B + step (later ++ B) now) (pause (At now (TakeFrame (Some f)) ∷ later ++ B) - 100000) (waited_in later B + step (later ++ B) now))
-          (sym (ap (λ (b : Bool). if b then suc (packets_taken later) else packets_taken later) i))
-          (subst (λ (n : ℕ). Timely gap g (packets_taken later) (passed_in later B + step (later ++ B) now) (n - 100000) (waited_in later B + step (later ++ B) now))
-          (sym (pause_is (later ++ B) now f false i)) (passes gap g _ _ _ _ (step (later ++ B) now) _ (omega arith) t))
 
 pub broadcast_ends : (w : Who) (later earlier : List Call) (c : Controller) (g now group k : ℕ) (bytes : List ℕ)
     → Is w (later ++ At now (Broadcast group bytes (Ok k)) ∷ earlier) c → NoneTold tells_broadcast later

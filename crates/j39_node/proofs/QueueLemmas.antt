@@ -1,5 +1,5 @@
 -- Lists from which the first is taken, and to which one is added at the end.
-use Rattle.j39_node.proofs.Common.{[], ◌++◌, ◌+◌, ◌-◌, ◌<◌, ◌==◌, ◌||◌, ◌∙◌, ◌∷◌, ◌≡◌, ◌≤◌, ◌⊎◌, ap, arith, Bool, drop, false, get_or, inl, inr, length, length-append, length-drop, List, list_any, list_any_at, list_any_more, map, None, refl, remove, slice_get, slice_get_past, slice_index_or, Some, suc, sym, take, true, zero, ℕ}
+use Rattle.j39_node.proofs.Common.{[], ◌++◌, ◌+◌, ◌-◌, ◌<◌, ◌==◌, ◌||◌, ◌∙◌, ◌∷◌, ◌≡◌, ◌≤◌, ◌⊎◌, ap, arith, Bool, drop, false, get_or, inl, inr, length, length-append, length-drop, List, list_any, list_any_at, list_any_more, map, None, refl, remove, slice_get, slice_get_past, slice_index_or, Some, suc, sym, take, true, zero, ℕ, slice_get_read, take_all, option_map, slice_get-map, length-map, Option, same_Some, All, subst, get_or_from_slice_get, slice_get_within}
 
 pub not_empty : {T : Type 0} (xs : List T) (b : Bool) → b ≡ (length xs == 0) → b ≡ false → 0 < length xs
 not_empty [] b e f = absurd (let z : true ≡ false = sym e ∙ f in cc)
@@ -9,17 +9,32 @@ pub front : {T : Type 0} (xs ys : List T) (x : T) → 0 < length xs → x ≡ sl
 front [] ys x l e f = absurd (omega (arith, l))
 front (z ∷ zs) ys x l e f = let a : x ≡ z = e in let b : ys ≡ zs = f in cc
 
-pub get_of_drop : {T : Type 0} (L : List T) (n : ℕ) (x : T) (xs : List T) → x ∷ xs ≡ drop n L → slice_get L n ≡ Some x
-get_of_drop [] zero x xs e = absurd (cc)
-get_of_drop [] (suc n) x xs e = absurd (cc)
-get_of_drop (y ∷ L) zero x xs e = let z : x ≡ y = cc in ap Some (sym z)
-get_of_drop (y ∷ L) (suc n) x xs e = get_of_drop L n x xs e
+pub mapped_some : {T U : Type 0} (v : T → U) (o : Option T) (y : U) → option_map v o ≡ Some y → (x : T) × (o ≡ Some x) × (v x ≡ y)
+mapped_some v None y e = absurd (cc)
+mapped_some v (Some x) y e = (x, refl, same_Some (v x) y e)
+
+pub mapped_none : {T U : Type 0} (v : T → U) (o : Option T) → option_map v o ≡ None → o ≡ None
+mapped_none v None e = refl
+mapped_none v (Some x) e = absurd (cc)
 
 pub drop_more : {T : Type 0} (L : List T) (n : ℕ) (x : T) (xs : List T) → x ∷ xs ≡ drop n L → xs ≡ drop (suc n) L
 drop_more [] zero x xs e = absurd (cc)
 drop_more [] (suc n) x xs e = absurd (cc)
 drop_more (y ∷ L) zero x xs e = cc
 drop_more (y ∷ L) (suc n) x xs e = drop_more L n x xs e
+
+pub get_at : {T : Type 0} (L : List T) (n k m : ℕ) → m ≡ n + k → slice_get (drop n L) k ≡ slice_get L m
+get_at L zero k m e = ap (slice_get L) (let z : k ≡ m = omega (arith, e) in z)
+get_at [] (suc n) k m e = refl
+get_at (y ∷ L) (suc n) k zero e = absurd (omega (arith, e))
+get_at (y ∷ L) (suc n) k (suc m) e = get_at L n k m (omega (arith, e))
+
+pub get_of_drop : {T : Type 0} (L : List T) (n : ℕ) (x : T) (xs : List T) → x ∷ xs ≡ drop n L → slice_get L n ≡ Some x
+get_of_drop L n x xs e = sym (get_at L n 0 n (omega arith)) ∙ ap (λ M. slice_get M 0) (sym e)
+
+-- what is so of all of them is so of each
+pub all_at : {T : Type 0} (P : T → Type 0) (xs : List T) (i : ℕ) (x : T) → All P xs → slice_get xs i ≡ Some x → P x
+all_at P xs i x h e = subst P (get_or_from_slice_get xs i x x e) (h i x (slice_get_within xs i x e))
 
 -- what is taken first
 pub record First {T : Type 0} {U : Type 0} (v : T → U) (ys : List T) (x : T) (n : ℕ) (L : List U) : Type 0 where
@@ -32,62 +47,29 @@ first v xs ys x n L e l f g =
     let a = ap (map v) (sym (front xs ys x l f g)) ∙ e in
     record { is = get_of_drop L n (v x) (map v ys) a; rest = drop_more L n (v x) (map v ys) a }
 
-pub get_at : {T : Type 0} (L : List T) (n k m : ℕ) → m ≡ n + k → slice_get (drop n L) k ≡ slice_get L m
-get_at L zero k m e = ap (slice_get L) (let z : k ≡ m = omega (arith, e) in z)
-get_at [] (suc n) k m e = refl
-get_at (y ∷ L) (suc n) k zero e = absurd (omega (arith, e))
-get_at (y ∷ L) (suc n) k (suc m) e = get_at L n k m (omega (arith, e))
-
 pub get_map : {T : Type 0} {U : Type 0} (v : T → U) (xs : List T) (k : ℕ) (x : T) → slice_get xs k ≡ Some x → slice_get (map v xs) k ≡ Some (v x)
-get_map v [] k x e = absurd (cc)
-get_map v (y ∷ xs) zero x e = let z : y ≡ x = cc in ap (λ u. Some (v u)) z
-get_map v (y ∷ xs) (suc k) x e = get_map v xs k x e
+get_map v xs k x e = slice_get-map v xs k ∙ ap (option_map v) e
 
-pub get_map_none : {T : Type 0} {U : Type 0} (v : T → U) (xs : List T) (k : ℕ) → slice_get xs k ≡ None → slice_get (map v xs) k ≡ None
-get_map_none v [] k e = refl
-get_map_none v (y ∷ xs) zero e = absurd (cc)
-get_map_none v (y ∷ xs) (suc k) e = get_map_none v xs k e
-
--- the one that is at place s of L, in what is left after t of them
-pub in_rest : {T : Type 0} {U : Type 0} (v : T → U) (xs : List T) (x : T) (L : List U) (t s k : ℕ) → map v xs ≡ drop t L → k ≡ s - t → t ≤ s
-    → slice_get xs k ≡ Some x → slice_get L s ≡ Some (v x)
-in_rest v xs x L t s k e f l g =
-    sym (get_at L t k s (omega (arith, f, l))) ∙ (ap (λ M. slice_get M k) (sym e) ∙ get_map v xs k x g)
-
-pub not_in_rest : {T : Type 0} {U : Type 0} (v : T → U) (xs : List T) (L : List U) (t s k : ℕ) → map v xs ≡ drop t L → k ≡ s - t → t ≤ s
-    → slice_get xs k ≡ None → slice_get L s ≡ None
-not_in_rest v xs L t s k e f l g =
-    sym (get_at L t k s (omega (arith, f, l))) ∙ (ap (λ M. slice_get M k) (sym e) ∙ get_map_none v xs k g)
-
-pub drop_append : {T : Type 0} (n : ℕ) (L : List T) (x : T) → n ≤ length L → drop n (L ++ x ∷ []) ≡ drop n L ++ x ∷ []
-drop_append zero L x l = refl
-drop_append (suc n) [] x l = absurd (omega (arith, l))
-drop_append (suc n) (y ∷ L) x l = drop_append n L x (omega (arith, l))
-
-pub map_append : {T : Type 0} {U : Type 0} (v : T → U) (xs : List T) (x : T) → map v (xs ++ x ∷ []) ≡ map v xs ++ v x ∷ []
-map_append v [] x = refl
-map_append v (y ∷ xs) x = ap (λ M. v y ∷ M) (map_append v xs x)
-
-pub length_map : {T : Type 0} {U : Type 0} (v : T → U) (xs : List T) → length (map v xs) ≡ length xs
-length_map v [] = refl
-length_map v (x ∷ xs) = ap suc (length_map v xs)
+-- what is at place s of L, in what is left after t of them
+pub rest_at : {T : Type 0} {U : Type 0} (v : T → U) (xs : List T) (L : List U) (t s k : ℕ) → map v xs ≡ drop t L → k ≡ s - t → t ≤ s
+    → option_map v (slice_get xs k) ≡ slice_get L s
+rest_at v xs L t s k e f l = sym (slice_get-map v xs k) ∙ (ap (λ M. slice_get M k) e ∙ get_at L t k s (omega (arith, f, l)))
 
 pub length_rest : {T : Type 0} {U : Type 0} (v : T → U) (xs : List T) (n : ℕ) (L : List U) → map v xs ≡ drop n L → length xs ≡ length L - n
-length_rest v xs n L e = sym (length_map v xs) ∙ (ap length e ∙ length-drop n L)
+length_rest v xs n L e = sym (length-map xs v) ∙ (ap length e ∙ length-drop n L)
 
 pub length_one_more : {T : Type 0} (L : List T) (x : T) → length (L ++ x ∷ []) ≡ suc (length L)
 length_one_more L x = let h = length-append L (x ∷ []) in omega (arith, h)
 
-get_index : {T : Type 0} (xs : List T) (i : ℕ) (x : T) → i < length xs → x ≡ slice_index_or xs i x → slice_get xs i ≡ Some x
-get_index [] i x l e = absurd (omega (arith, l))
-get_index (y ∷ xs) zero x l e = ap Some (sym e)
-get_index (y ∷ xs) (suc i) x l e = get_index xs i x (omega (arith, l)) e
-
 pub read : {T : Type 0} (xs ys : List T) (i : ℕ) (x : T) → xs ≡ ys → i < length xs → x ≡ slice_index_or xs i x → slice_get ys i ≡ Some x
-read xs ys i x e l f = ap (λ zs. slice_get zs i) (sym e) ∙ get_index xs i x l f
+read xs ys i x e l f = ap (λ zs. slice_get zs i) (sym e) ∙ slice_get_read xs (length xs) i x refl l f
 
 pub read_none : {T : Type 0} (xs ys : List T) (i : ℕ) → xs ≡ ys → length xs ≤ i → slice_get ys i ≡ None
 read_none xs ys i e l = ap (λ zs. slice_get zs i) (sym e) ∙ slice_get_past xs i l
+
+pub get_last : {T : Type 0} (xs : List T) (x : T) → slice_get (xs ++ x ∷ []) (length xs) ≡ Some x
+get_last [] x = refl
+get_last (y ∷ xs) x = get_last xs x
 
 pub get_append : {T : Type 0} (L : List T) (y : T) (i : ℕ) (x : T) → slice_get (L ++ y ∷ []) i ≡ Some x → (slice_get L i ≡ Some x) ⊎ ((i ≡ length L) × (y ≡ x))
 get_append [] y zero x e = inr (refl, (let z : y ≡ x = cc in z))
@@ -105,10 +87,7 @@ any_map v p [] = refl
 any_map v p (x ∷ xs) = ap (λ (b : Bool). p (v x) || b) (any_map v p xs)
 
 pub take_past : {T : Type 0} (xs : List T) (i : ℕ) → length xs ≤ i → take i xs ≡ xs
-take_past [] zero l = refl
-take_past [] (suc i) l = refl
-take_past (x ∷ xs) zero l = absurd (omega (arith, l))
-take_past (x ∷ xs) (suc i) l = ap (λ ys. x ∷ ys) (take_past xs i (omega (arith, l)))
+take_past xs i l = take_all i xs l
 
 pub any_found : {T : Type 0} {U : Type 0} (v : T → U) (p : U → Bool) (xs ys : List T) (i : ℕ) (x : T) → xs ≡ ys → i < length xs
     → x ≡ get_or xs i x → p (v x) ≡ true → true ≡ list_any p (map v ys)

@@ -1,6 +1,5 @@
 -- A message that waits is renewed.
-use Rattle.j39_node.proofs.Common.{[], if◌then◌else◌, ◌&&◌, ◌++◌, ◌+◌, ◌-◌, ◌<◌, ◌∙◌, ◌∷◌, ◌≡◌, ◌≢◌, ◌≤◌, ◌⊎◌, and_parts, ap, arith, Bool, drop, false, inl, inr, is_alike, latest, length, length-set, length-take-le, List, map, Message, nat_eq, nat_le, None, not, Option, option_map, Outgoing, posted, refill, refl, request_group, slice_get, slice_index_or, slice_set, Some, suc, sym, take, take-append_seam, take-suc, true, zero, ℕ, leb-true, le-leb}
-use Rattle.j39_node.proofs.QueueLemmas.{length_map, map_append}
+use Rattle.j39_node.proofs.Common.{[], if◌then◌else◌, ◌&&◌, ◌++◌, ◌+◌, ◌-◌, ◌<◌, ◌∙◌, ◌∷◌, ◌≡◌, ◌≢◌, ◌≤◌, ◌⊎◌, and_parts, ap, arith, Bool, drop, false, inl, inr, is_alike, latest, length, length-set, length-take-le, List, map, Message, nat_eq, nat_le, None, not, Option, option_map, Outgoing, posted, refill, refl, request_group, slice_get, slice_index_or, slice_set, Some, suc, sym, take, take-append_seam, take-suc, true, zero, ℕ, leb-true, le-leb, map-append, length-map, lt-leb, false_from_ne_true}
 
 -- the last that is alike, one more
 pub latest_more : (m : Message) (n i : ℕ) (xs : List (ℕ × Message)) (x : ℕ × Message) (o : Option ℕ)
@@ -15,13 +14,13 @@ pub latest_on : (m : Message) (n : ℕ) (xs : List Outgoing) (i place : ℕ) (x 
     → place ≡ i → found ≡ latest m n 0 (map posted (take i xs)) None → alike ≡ is_alike m (posted x).1 → now ≡ (if nat_le n place && alike then Some place else found)
     → now ≡ latest m n 0 (map posted (take (i + 1) xs)) None
 latest_on m n xs i place x found now alike e l p f a g =
-    let k : length (map posted (take i xs)) ≡ i = length_map posted (take i xs) ∙ length-take-le i xs (omega (arith, l)) in
+    let k : length (map posted (take i xs)) ≡ i = length-map (take i xs) posted ∙ length-take-le i xs (omega (arith, l)) in
     let y : take (i + 1) xs ≡ take i xs ++ x ∷ [] =
     ap (λ (n : ℕ). take n xs) (let z : i + 1 ≡ suc i = omega arith in z) ∙ (take-suc xs i x l ∙ ap (λ (u : Outgoing). take i xs ++ u ∷ []) (sym e)) in
     g ∙ ((λ t. if nat_le n ((p ∙ sym k) t) && a t then Some ((p ∙ sym k) t) else f t)
     ∙ (ap (λ (k : ℕ). if nat_le n k && is_alike m (posted x).1 then Some k else latest m n 0 (map posted (take i xs)) None) (let z : length (map posted (take i xs)) ≡ 0 + length (map posted (take i xs)) = omega arith in z)
     ∙ (sym (latest_more m n 0 (map posted (take i xs)) (posted x) None)
-    ∙ ap (λ zs. latest m n 0 zs None) (sym (map_append posted (take i xs) x) ∙ ap (map posted) (sym y)))))
+    ∙ ap (λ zs. latest m n 0 zs None) (sym (map-append posted (take i xs) (x ∷ [])) ∙ ap (map posted) (sym y)))))
 
 -- where it is: not before the nth, and alike
 pub record IsLatest (m : Message) (n i k : ℕ) (xs : List (ℕ × Message)) : Type 0 where
@@ -80,11 +79,8 @@ latest_past m n i (suc j) (x ∷ xs) o y e l a =
 
 pub none_past : (m : Message) (n j : ℕ) (xs : List (ℕ × Message)) (o : Option ℕ) (y : ℕ × Message) → latest m n 0 xs None ≡ o → slice_get xs j ≡ Some y → n ≤ j
     → ((k : ℕ) → o ≡ Some k → k < j) → is_alike m y.1 ≡ false
-none_past m n j xs o y f e l past = go (is_alike m y.1) refl
-  where
-    go : (b : Bool) → is_alike m y.1 ≡ b → b ≡ false
-    go false a = refl
-    go true a = let r = latest_past m n 0 j xs None y e (omega (arith, l)) a in let q = past r.0 (sym f ∙ r.1) in let p = r.2 in absurd (omega (arith, q, p))
+none_past m n j xs o y f e l past = false_from_ne_true _
+    (λ a. let r = latest_past m n 0 j xs None y e (omega (arith, l)) a in let q = past r.0 (sym f ∙ r.1) in let p = r.2 in absurd (omega (arith, q, p)))
 
 -- of what is left after t of them it is t places before
 shifted : (m : Message) (n i : ℕ) (xs : List (ℕ × Message)) (o : Option ℕ) → latest m (suc n) (suc i) xs (option_map suc o) ≡ option_map suc (latest m n i xs o)
@@ -110,13 +106,10 @@ latest_rest m zero n xs l = same (latest m n 0 xs None) ∙ ap (λ (k : ℕ). op
 latest_rest m (suc t) zero xs l = absurd (omega (arith, l))
 latest_rest m (suc t) (suc n) [] l = refl
 latest_rest m (suc t) (suc n) (x ∷ xs) l =
-    ap (λ (b : Bool). latest m (suc n) 1 xs (if b && is_alike m x.1 then Some 0 else None)) (not_yet n)
+    ap (λ (b : Bool). latest m (suc n) 1 xs (if b && is_alike m x.1 then Some 0 else None)) (lt-leb (suc n) 0 (omega arith))
     ∙ (shifted m n 0 xs None ∙ (ap (option_map suc) (latest_rest m t n xs (omega (arith, l)))
     ∙ (twice (latest m (n - t) 0 (drop t xs) None) ∙ ap (λ (k : ℕ). option_map (λ j. j + suc t) (latest m k 0 (drop t xs) None)) (let z : n - t ≡ suc n - suc t = omega arith in z))))
   where
-    not_yet : (n : ℕ) → nat_le (suc n) 0 ≡ false
-    not_yet n = grind arith
-
     twice : (o : Option ℕ) → option_map suc (option_map (λ k. k + t) o) ≡ option_map (λ k. k + suc t) o
     twice None = refl
     twice (Some k) = ap Some (omega arith)

@@ -26,9 +26,8 @@ delivered_source own f now found (Some x) m e = go (nat_eq (source_of f.id) x.me
     go false i = absurd (let z : None ≡ Some m = sym (other_whole own f now found x i) ∙ e in cc)
 
 whole_source : (own : ℕ) (lost held : Bool) (f : FrameRecord) (now : ℕ) (r : Reception) (m : MessageRecord) → whole_by own lost held f now r ≡ Some m → m.source ≡ source_of f.id
-whole_source own true held f now r m e = absurd (cc)
-whole_source own false false f now r m e = absurd (cc)
 whole_source own false true f now r m e = delivered_source own (shown own r.session f) now (has_place r.waits) r.session m e
+whole_source own lost held f now r m e = absurd (cc)
 
 made_source : (w : Who) (H : List Call) (when : ℕ) (f : FrameRecord) (x : ℕ × ℕ) → made w H when f ≡ Some x → x.0 ≡ source_of f.id
 made_source w H when f x e = go (whole w H when f) (made_whole w H when f) refl refl e
@@ -118,7 +117,5 @@ ends w H when f q o none mine by_frame by_tick =
     silence = silent_end taken left_over coming lost_now
 
     once : (a b : Option AskEnding) (t : Bool) → first (first a (first b (if t then None else None))) b ≡ first a b
-    once (Some x) b t = refl
-    once None (Some y) t = refl
     once None None true = refl
-    once None None false = refl
+    once a b t = refl

@@ -1,5 +1,5 @@
 -- When a transfer rests.
-use Rattle.j39_node.proofs.Common.{[], if◌then◌else◌, ◌&&◌, ◌++◌, ◌+◌, ◌-◌, ◌<◌, ◌∙◌, ◌∷◌, ◌≡◌, ◌≤◌, ◌⊎◌, AllRest, and_from, ap, append-nil, arith, Bool, Call, eq-eqb, false, holds_back, inl, inr, is_resting, IsTrue, joined, List, moment, moved, nat_eq, nat_lt, None, NoneRests, open_transfer, Option, PairRests, passed_in, refl, rest, Resting, resting, rests_after, Running, Some, step, TakeTransferEnded, ToldSince, TransferEnding, true, Who, with_pair, ℕ, lt-ltb}
+use Rattle.j39_node.proofs.Common.{[], if◌then◌else◌, ◌&&◌, ◌++◌, ◌+◌, ◌-◌, ◌<◌, ◌∙◌, ◌∷◌, ◌≡◌, ◌≤◌, ◌⊎◌, AllRest, and_from, ap, append-nil, arith, Bool, Call, eq-eqb, false, holds_back, inl, inr, is_resting, IsTrue, joined, List, moment, moved, nat_eq, nat_lt, None, NoneRests, open_transfer, Option, PairRests, passed_in, refl, rest, Resting, resting, rests_after, Running, Some, step, TakeTransferEnded, ToldSince, TransferEnding, true, Who, with_pair, ℕ, lt-ltb, cond_both, ne_eqb}
 use Rattle.j39_node.specs.Moving.{begun}
 
 -- ---- it rests only after such an end, or where it did before its history
@@ -58,33 +58,19 @@ rested w (call ∷ H) l = since_call w call H (rested w H) l
 
 pair_rests : (r : Resting) (group to : ℕ) → holds_back (with_pair r to group) group to ≡ true
 pair_rests NoneRests group to = and_from _ _ (eq-eqb to to refl) (eq-eqb group group refl)
-pair_rests (PairRests a b) group to = go (nat_eq a to && nat_eq b group) refl
-  where
-    go : (c : Bool) → (nat_eq a to && nat_eq b group) ≡ c → holds_back (if c then PairRests a b else AllRest) group to ≡ true
-    go true e = e
-    go false e = refl
+pair_rests (PairRests a b) group to = cond_both (nat_eq a to && nat_eq b group) _ _ (λ (r : Resting). holds_back r group to ≡ true) (λ e. e) (λ e. refl)
 pair_rests AllRest group to = refl
 
 still_rests : (r : Resting) (a b group to : ℕ) → holds_back r group to ≡ true → holds_back (with_pair r a b) group to ≡ true
 still_rests NoneRests a b group to e = absurd (let z : false ≡ true = e in cc)
-still_rests (PairRests x y) a b group to e = go (nat_eq x a && nat_eq y b)
-  where
-    go : (c : Bool) → holds_back (if c then PairRests x y else AllRest) group to ≡ true
-    go true = e
-    go false = refl
+still_rests (PairRests x y) a b group to e = cond_both (nat_eq x a && nat_eq y b) _ _ (λ (r : Resting). holds_back r group to ≡ true) (λ z. e) (λ z. refl)
 still_rests AllRest a b group to e = refl
 
 joins : (left : ℕ) (r : Resting) (o : Option Running) (group to : ℕ) → 0 < left → holds_back r group to ≡ true → holds_back (joined left r o) group to ≡ true
 joins left r None group to l e = e
-joins left r (Some t) group to l e = go (nat_eq left 0) refl
-  where
-    some : (n : ℕ) → nat_eq n 0 ≡ true → 0 < n → ⊥
-    some n z k = absurd (let y : n ≡ 0 = Rattle.std.proofs.Common.eqb-true n 0 z in omega (arith, y, k))
-
-    go : (b : Bool) → nat_eq left 0 ≡ b
-        → holds_back (with_pair (if b then NoneRests else r) t.sender.destination t.sender.message.pgn) group to ≡ true
-    go true z = absurd (some left z l)
-    go false z = still_rests r t.sender.destination t.sender.message.pgn group to e
+joins left r (Some t) group to l e =
+    ap (λ (b : Bool). holds_back (with_pair (if b then NoneRests else r) t.sender.destination t.sender.message.pgn) group to) (ne_eqb left 0 (λ z. omega (arith, z, l)))
+    ∙ still_rests r t.sender.destination t.sender.message.pgn group to e
 
 -- so much is left to rest from the earlier calls on, at most 4 seconds
 module _ (w : Who) (B : List Call) (n group to : ℕ) (most : n ≤ 4000000) where

@@ -1,7 +1,7 @@
 -- A claimed address was claimed by a frame that was taken.
-use Rattle.j39_node.proofs.Common.{[], if◌then◌else◌, ◌++◌, ◌+◌, ◌-◌, ◌∙◌, ◌∷◌, ◌≡◌, ◌≤◌, Address, address_after, Again, ap, AreAnswered, arith, At, Bool, Call, claim_address, claim_from, claim_of, Claimed, claimed, ClaimedSince, content, false, FrameRecord, Hear, is_claim, is_held, is_lost, is_smaller, IsTrue, List, Lost, moment, nat_le, NeverBack, NoneUnclaims, NotClaimed, older, passed_in, refl, Some, step, subst, sym, TakeFrame, true, unclaimed, Who, ℕ, not_both}
+use Rattle.j39_node.proofs.Common.{[], if◌then◌else◌, ◌++◌, ◌+◌, ◌∙◌, ◌∷◌, ◌≡◌, ◌≤◌, Address, address_after, Again, ap, AreAnswered, arith, At, Bool, Call, claim_address, claim_from, claim_of, Claimed, claimed, ClaimedSince, content, false, FrameRecord, Hear, is_claim, is_held, is_lost, is_smaller, IsTrue, List, Lost, moment, NeverBack, NoneUnclaims, NotClaimed, older, passed_in, refl, Some, step, subst, sym, TakeFrame, true, unclaimed, Who, ℕ, not_both, leb-true, le-leb, claims_anew}
 use Rattle.j39_node.specs.Since.{unclaims}
-use Rattle.j39_node.proofs.SoundLemmas.{FrameCase, frame_case}
+use Rattle.j39_node.proofs.SoundLemmas.{FrameCase, frame_case, same_age, address_cases}
 use Rattle.j39_node.proofs.SoundLemmas.FrameCase.{claims}
 use Rattle.j39_node.proofs.KindLemmas.{claims_it}
 
@@ -27,9 +27,8 @@ record Before (s d : ℕ) (a : Address) : Type 0 where
   pub is : d ≡ elapsed + s
 
 before : (s d : ℕ) (a : Address) → older s a ≡ Claimed d → Before s d a
-before s d NotClaimed e = absurd (cc)
-before s d Lost e = absurd (cc)
 before s d (Claimed n) e = record { elapsed = n; was = refl; is = (let z : n + s ≡ d = cc in sym z) }
+before s d a e = absurd (cc)
 
 not_driven : (b : Bool) (s d : ℕ) (a : Address) → (if b then Lost else older s a) ≡ Claimed d → (b ≡ false) × (older s a ≡ Claimed d)
 not_driven true s d a e = absurd (cc)
@@ -43,15 +42,8 @@ passes w H call d h f e =
     one_later w H call b.elapsed d (h b.elapsed b.was) f b.is
 
 not_claimed : (a : Address) (d : ℕ) → unclaimed a ≡ Claimed d → ⊥
-not_claimed NotClaimed d e = absurd (cc)
-not_claimed (Claimed n) d e = absurd (cc)
 not_claimed Lost d e = absurd (cc)
-
--- where no time passes it is as old as before
-same_age : (m : ℕ) (a : Address) → older (m - m) a ≡ a
-same_age m NotClaimed = refl
-same_age m (Claimed n) = ap Claimed (omega arith)
-same_age m Lost = refl
+not_claimed a d e = absurd (cc)
 
 -- the first claim
 begins : (w : Who) (H : List Call) (now : ℕ) (f : FrameRecord) → AreAnswered w H → FrameCase w H now f → is_claim f ≡ true → address_after w H ≡ NotClaimed
@@ -92,12 +84,8 @@ claimed_since w (call ∷ H) d right e =
     passes w H call d (λ k i. claimed_since w H k right.0 i) refl (let z = same_age (moment H) (address_after w H) in cc)
 
 pub held_cases : (s : ℕ) (a : Address) → is_held (older s a) ≡ true → (e : ℕ) × (a ≡ Claimed e) × (250000 ≤ e + s)
-held_cases s NotClaimed h = absurd (cc)
-held_cases s Lost h = absurd (cc)
-held_cases s (Claimed n) h = (n, refl, le_is (n + s) h)
-  where
-    le_is : (k : ℕ) → nat_le 250000 k ≡ true → 250000 ≤ k
-    le_is k g = grind arith
+held_cases s (Claimed n) h = (n, refl, leb-true 250000 (n + s) h)
+held_cases s a h = absurd (cc)
 
 -- ---- an address that is claimed is held in time
 
@@ -110,10 +98,9 @@ ages : (a b : Address) (s p : ℕ) → Stands a p → b ≡ older s a → Stands
 ages a b s p (gone e) f = gone (f ∙ ap (older s) e)
 ages a b s p (stands e g l) f = stands (e + s) (f ∙ ap (older s) g) (omega (arith, l))
 
-claims_again : (b : Bool) (a : Address) (p : ℕ) → Stands a p → Stands (if b then claimed a else a) p
-claims_again false a p h = h
-claims_again true a p (gone e) = gone (ap claimed e)
-claims_again true a p (stands e g l) = stands e (ap claimed g) l
+claims_again : (a : Address) (p : ℕ) → Stands a p → Stands (claimed a) p
+claims_again a p (gone e) = gone (ap claimed e)
+claims_again a p (stands e g l) = stands e (ap claimed g) l
 
 first_claim : (b : Bool) (a : Address) → b ≡ true → Stands (if b then claimed a else a) 0
 first_claim false a e = absurd (cc)
@@ -124,25 +111,20 @@ first_claim true Lost e = gone refl
 pub stands_since : (w : Who) (later E : List Call) (at : ℕ) (f : FrameRecord) → is_claim f ≡ true → NoneUnclaims w later
     → Stands (address_after w (later ++ At at (TakeFrame (Some f)) ∷ E)) (passed_in later (At at (TakeFrame (Some f)) ∷ E))
 stands_since w [] E at f k d = first_claim (is_claim f) (older (step E at) (address_after w E)) k
-stands_since w (At next (Hear g) ∷ later) E at f k d =
-    let H = later ++ At at (TakeFrame (Some f)) ∷ E in
-    ages (address_after w H) _ (step H next) _ (stands_since w later E at f k d.1)
-    (ap (λ (b : Bool). if b then Lost else older (step H next) (address_after w H)) d.0)
-stands_since w (At now (TakeFrame (Some g)) ∷ later) E at f k d =
-    let H = later ++ At at (TakeFrame (Some f)) ∷ E in
-    claims_again (is_claim g) (older (step H now) (address_after w H)) _ (ages (address_after w H) _ (step H now) _ (stands_since w later E at f k d.1) refl)
-stands_since w (At now Again ∷ later) E at f k d = absurd (let z : true ≡ false = d.0 in cc)
 stands_since w (call ∷ later) E at f k d =
     let H = later ++ At at (TakeFrame (Some f)) ∷ E in
-    ages (address_after w H) (address_after w (call ∷ H)) (step H (moment (call ∷ H))) _ (stands_since w later E at f k d.1)
-    (let z = same_age (moment H) (address_after w H) in cc)
+    let a = older (step H (moment (call ∷ H))) (address_after w H) in
+    let p = passed_in (call ∷ later) (At at (TakeFrame (Some f)) ∷ E) in
+    let h = ages (address_after w H) a (step H (moment (call ∷ H))) _ (stands_since w later E at f k d.1) refl in
+    address_cases w H call (λ b. Stands b p) h (gone refl) (claims_again a p h) (λ z. absurd (not_both _ d.0 (anew_unclaims call z)))
+  where
+    anew_unclaims : (call : Call) → claims_anew call ≡ true → unclaims w call ≡ true
+    anew_unclaims (At now Again) e = refl
+    anew_unclaims call e = absurd (cc)
 
 pub in_time : (s p : ℕ) (a : Address) → Stands a p → (IsTrue (is_lost a) → ⊥) → 250000 ≤ p + s → is_held (older s a) ≡ true
 in_time s p a (gone e) n l = absurd (n (ap is_lost e))
-in_time s p a (stands e g m) n l = ap (λ (x : Address). is_held (older s x)) g ∙ enough (e + s) (omega (arith, l, m))
-  where
-    enough : (k : ℕ) → 250000 ≤ k → nat_le 250000 k ≡ true
-    enough k h = grind arith
+in_time s p a (stands e g m) n l = ap (λ (x : Address). is_held (older s x)) g ∙ le-leb 250000 (e + s) (omega (arith, l, m))
 
 -- ---- time
 

@@ -1,57 +1,65 @@
 -- What every answered history says of what was accepted, sent and told.
-use Rattle.j39_node.proofs.Common.{Acknowledge, Address, Again, Answer, AreAnswered, Ask, Asked, At, Bool, Busy, Call, Claimed, Done, Draft, Ending, FrameRecord, Hear, IsAnswered, IsFront, IsTrue, List, Lost, Message, MessageRecord, Move, Nack, None, NotClaimed, Ok, Option, Question, Ready, Renew, Reply, Send, Single, Some, TakeAskEnded, TakeEnded, TakeFrame, TakeReceived, TakeRequest, Turn, Who, Withdraw, Withdrawn, [], accepted, acknowledged, acknowledgment, acknowledgment_group, address_after, address_claimed_group, and-false, and-true, and_from, and_parts, answer_to_ask, ap, append_assoc, arith, asked, blank, by, bytes_eq-Decides, can_ask, can_send, claim_address, claim_due, claim_from, claim_goes, claim_of, claimed, clock_at, content, control_of, destination_of, drop, due, end_of, eq-eqb, eqb-true, false, found, frame_of, fresh, gives_way, got, handed, has_packets, holds, if◌then◌else◌, inl, inr, is_acknowledgment, is_apart, is_blank, is_claim, is_held, is_left, is_lost, is_move, is_own_group, is_packet, is_refusal_due, is_same, is_sendable, is_served, is_session, is_smaller, is_some, is_that, is_there, is_transfer, is_turn, kept, latest, leb-true, left, length, length-append, length-set, lost, ltb-false, ltb-true, map, map-set, marks, max, may_go, message_from, message_of, moment, more, nat_eq, nat_le, nat_lt, next_acknowledgment, next_ended, next_frame, next_other, next_packet, next_renewed, next_transfer, next_turn, next_withdrawn, not, not-true, of, older, open_ask, open_broadcast, open_transfer, option_map, or_parts, other, packet_by, packets, packets_of, past, pause, pgn_of, question, reached, ready, reception, refl, request_for, request_group, requests, sent, slice_get, slice_get-map, slice_get_past, slice_get_within, slice_set, source_of, stamped, step, subst, suc, sym, take, take-append-le, take-set-le, told, transport_control_group, transport_data_group, true, turn_frame, turn_of, turns, unblanked, unclaimed, with_refusal, with_request, yields, zero, ℕ, ◌&&◌, ◌++◌, ◌+◌, ◌-◌, ◌<◌, ◌==◌, ◌||◌, ◌∙◌, ◌∷◌, ◌≡◌, ◌≤◌, ◌⊎◌}
+use Rattle.j39_node.proofs.Common.{Acknowledge, Address, Again, Answer, AreAnswered, Ask, Asked, At, Bool, Call, Claimed, Done, Draft, Ending, FrameRecord, Hear, IsAnswered, IsFront, IsTrue, List, Lost, Message, MessageRecord, Move, None, Ok, Option, Question, Ready, Renew, Reply, Send, Single, Some, TakeAskEnded, TakeEnded, TakeFrame, TakeReceived, TakeRequest, Turn, Who, Withdraw, Withdrawn, [], accepted, acknowledged, acknowledgment, acknowledgment_group, address_after, address_claimed_group, and-false, and-true, and_parts, answer_to_ask, ap, append_assoc, arith, asked, blank, bytes_eq-Decides, can_ask, can_send, claim_address, claim_due, claim_from, claim_goes, claim_of, claimed, clock_at, content, control_of, destination_of, drop, due, end_of, eq-eqb, eqb-true, false, frame_of, fresh, gives_way, got, handed, has_packets, holds, if◌then◌else◌, inl, inr, is_acknowledgment, is_apart, is_blank, is_claim, is_held, is_left, is_lost, is_move, is_own_group, is_packet, is_refusal_due, is_same, is_sendable, is_served, is_session, is_smaller, is_some, is_that, is_there, is_transfer, is_turn, kept, latest, leb-true, left, length, length-append, length-set, lost, ltb-false, ltb-true, map, map-set, marks, max, may_go, message_from, message_of, moment, nat_eq, nat_le, nat_lt, next_acknowledgment, next_ended, next_frame, next_other, next_packet, next_renewed, next_transfer, next_turn, next_withdrawn, not, not-true, older, open_ask, open_broadcast, open_transfer, option_map, or_parts, other, packet_by, packets, packets_of, past, pause, pgn_of, question, reached, ready, reception, refl, request_for, request_group, requests, sent, slice_get, slice_get-map, slice_get_past, slice_get_within, slice_set, source_of, stamped, step, subst, suc, sym, take, take-append-le, take-set-le, told, transport_control_group, transport_data_group, true, turn_frame, turn_of, turns, unblanked, unclaimed, with_refusal, with_request, yields, zero, ℕ, ◌&&◌, ◌++◌, ◌-◌, ◌<◌, ◌==◌, ◌||◌, ◌∙◌, ◌∷◌, ◌≡◌, ◌≤◌, ◌⊎◌, cases_Bool, or_from, map-append, none-some, some_pair_parts, length-map, false_from_ne_true, not_both, ending_of, ◌↔◌, cond_both, ne_eqb, cond_some, claims_anew, All, All-nil, All-push, All-set}
 use Rattle.j39_node.specs.declared.turn.Turn.TheVariants.{Packet}
 use Rattle.j39_node.proofs.WithdrawLemmas.{get_front, stops_append, past_more, next_false, past_stops, past_within, set_same, unblanked_more, unblanked_past, unpassed}
 use Rattle.j39_node.proofs.ReceptionLemmas.{IsReply, replied_get, tidy}
 use Rattle.j39_node.proofs.AnswerCases.{ask_accepts, send_accepts, sendable}
-use Rattle.j39_node.proofs.PortLemmas.{ported, SaidCase, said_case}
-use Rattle.j39_node.proofs.QueueLemmas.{get_append, length_one_more, map_append, length_map}
+use Rattle.j39_node.proofs.PortLemmas.{ported, said_case}
+use Rattle.j39_node.proofs.QueueLemmas.{get_append, length_one_more, get_last, all_at}
 use Rattle.j39_node.proofs.RenewLemmas.{IsLatest, latest_is, set_get, set_other, no_request}
 
 -- ---- the address
 
 pub lost_older : (s : ℕ) (a : Address) → is_lost (older s a) ≡ is_lost a
-lost_older s NotClaimed = refl
-lost_older s (Claimed e) = refl
 lost_older s Lost = refl
+lost_older s other = refl
 
 pub held_older : (s : ℕ) (a : Address) → is_held a ≡ true → is_held (older s a) ≡ true
-held_older s NotClaimed e = absurd (cc)
-held_older s Lost e = absurd (cc)
-held_older s (Claimed n) e = go n s e
-  where
-    go : (m k : ℕ) → nat_le 250000 m ≡ true → nat_le 250000 (m + k) ≡ true
-    go m k z = grind arith
+held_older s (Claimed n) e = grind (arith, e)
+held_older s other e = absurd (cc)
 
 pub lost_claimed : (a : Address) → is_lost (claimed a) ≡ is_lost a
-lost_claimed NotClaimed = refl
-lost_claimed (Claimed e) = refl
 lost_claimed Lost = refl
+lost_claimed other = refl
 
 pub lost_unclaimed : (a : Address) → is_lost (unclaimed a) ≡ is_lost a
-lost_unclaimed NotClaimed = refl
-lost_unclaimed (Claimed e) = refl
 lost_unclaimed Lost = refl
+lost_unclaimed other = refl
 
 pub held_not_lost : (a : Address) → is_held a ≡ true → is_lost a ≡ false
-held_not_lost NotClaimed e = absurd (cc)
 held_not_lost (Claimed n) e = refl
-held_not_lost Lost e = absurd (cc)
+held_not_lost other e = absurd (cc)
 
 pub holding_not_lost : (w : Who) (H : List Call) (now : ℕ) → holds w H now ≡ true → is_lost (address_after w H) ≡ false
 holding_not_lost w H now e = sym (lost_older (step H now) (address_after w H)) ∙ held_not_lost _ e
+
+-- where no time passes it is as old as before
+pub same_age : (m : ℕ) (a : Address) → older (m - m) a ≡ a
+same_age m (Claimed n) = ap Claimed (omega arith)
+same_age m a = refl
+
+-- a call leaves it as old as it then is, or claims it, or loses it, or begins to claim it anew
+pub address_cases : (w : Who) (H : List Call) (call : Call) (P : Address → Type 0) → P (older (step H (moment (call ∷ H))) (address_after w H)) → P Lost
+    → P (claimed (older (step H (moment (call ∷ H))) (address_after w H)))
+    → (claims_anew call ≡ true → P (unclaimed (older (step H (moment (call ∷ H))) (address_after w H)))) → P (address_after w (call ∷ H))
+address_cases w H (At when (Hear f)) P left lost claims anew = cond_both (is_smaller w (claim_of f)) _ _ P (λ z. lost) (λ z. left)
+address_cases w H (At now (TakeFrame (Some f))) P left lost claims anew = cond_both (is_claim f) _ _ P (λ z. claims) (λ z. left)
+address_cases w H (At now Again) P left lost claims anew = anew refl
+address_cases w H (At now act) P left lost claims anew = left
+address_cases w H call P left lost claims anew = subst P (same_age (moment H) (address_after w H)) left
+
+pub stays_lost : (w : Who) (H : List Call) (call : Call) → is_lost (address_after w H) ≡ true → is_lost (address_after w (call ∷ H)) ≡ true
+stays_lost w H call e =
+    let l = lost_older (step H (moment (call ∷ H))) (address_after w H) ∙ e in
+    address_cases w H call (λ a. is_lost a ≡ true) l refl (lost_claimed _ ∙ l) (λ z. lost_unclaimed _ ∙ l)
 
 -- ---- which frame was taken
 
 -- an acknowledgment that goes is due
 pub acknowledged_is_due : (w : Who) (H : List Call) (now : ℕ) (m : Message) → next_acknowledgment w H now ≡ Some m
     → (slice_get (due w H) (length (acknowledged H)) ≡ Some m) × (gives_way w H now ≡ false)
-acknowledged_is_due w H now m e = go (gives_way w H now) refl e
-  where
-    go : (b : Bool) → gives_way w H now ≡ b → (if b then None else slice_get (due w H) (length (acknowledged H))) ≡ Some m
-        → (slice_get (due w H) (length (acknowledged H)) ≡ Some m) × (gives_way w H now ≡ false)
-    go true g e = absurd (cc)
-    go false g e = (e, g)
+acknowledged_is_due w H now m = cond_both (gives_way w H now) _ _
+    (λ (o : Option Message). o ≡ Some m → (slice_get (due w H) (length (acknowledged H)) ≡ Some m) × (gives_way w H now ≡ false)) (λ g e. absurd (cc)) (λ g e. (e, g))
 
 -- not-true acknowledgment goes, and it is the turn of this
 abbrev pub IsNext : Who → List Call → ℕ → Turn → Type 0
@@ -81,15 +89,11 @@ frame_case w H now f e = go (claim_goes w H now) (holds w H now) (next_acknowled
         → next_acknowledgment w H now ≡ None → next_turn w H now ≡ t → slice_get (reception w H).replies 0 ≡ r
         → slice_get (accepted w H) (reached H) ≡ o → next_packet w H now ≡ y → next_transfer w H now ≡ z
         → Some (stamped f) ≡ option_map (λ m. (now, m)) (turn_frame t r o y z) → FrameCase w H now f
-    by None r o y z p q n t a b c d i = absurd (cc)
-    by (Some Reply) None o y z p q n t a b c d i = absurd (cc)
     by (Some Reply) (Some m) o y z p q n t a b c d i = replies m p q (n, t) a (let u : stamped f ≡ (now, m) = cc in u)
-    by (Some Single) r None y z p q n t a b c d i = absurd (cc)
     by (Some Single) r (Some x) y z p q n t a b c d i = sends x p q (n, t) b (let u : stamped f ≡ (now, x.1) = cc in u)
-    by (Some Packet) r o None z p q n t a b c d i = absurd (cc)
     by (Some Packet) r o (Some m) z p q n t a b c d i = packs m p q (n, t) c (let u : stamped f ≡ (now, m) = cc in u)
-    by (Some Move) r o y None p q n t a b c d i = absurd (cc)
     by (Some Move) r o y (Some m) p q n t a b c d i = transfers m p q (n, t) d (let u : stamped f ≡ (now, m) = cc in u)
+    by turn r o y z p q n t a b c d i = absurd (cc)
 
     go : (b h : Bool) (a : Option Message) → claim_goes w H now ≡ b → holds w H now ≡ h → next_acknowledgment w H now ≡ a
         → Some (stamped f) ≡ frame_by b h a (other w H now) (claim_from w (claim_address w (address_after w H))) now → FrameCase w H now f
@@ -100,18 +104,37 @@ frame_case w H now f e = go (claim_goes w H now) (holds w H now) (next_acknowled
         acknowledges m p q due_now.0 (let u : stamped f ≡ (now, m) = cc in u) due_now.1
     go false true None p q n i = by _ _ _ _ _ p q n refl refl refl refl refl i
 
+-- a frame bears the moment at which it is taken
+pub stamped_by : {w : Who} {H : List Call} {now : ℕ} {f : FrameRecord} → FrameCase w H now f → (m : Message) × (stamped f ≡ (now, m))
+stamped_by (claims o e) = (_, e)
+stamped_by (acknowledges m o h g e way) = (m, e)
+stamped_by (sends x o h k g e) = (x.1, e)
+stamped_by (replies m o h k g e) = (m, e)
+stamped_by (packs m o h k g e) = (m, e)
+stamped_by (transfers m o h k g e) = (m, e)
+
+-- it is a claim, or the address is held
+pub claims_or_held : {w : Who} {H : List Call} {now : ℕ} {f : FrameRecord} → FrameCase w H now f
+    → ((claim_goes w H now ≡ true) × (stamped f ≡ (now, claim_from w (claim_address w (address_after w H))))) ⊎ ((claim_goes w H now ≡ false) × (holds w H now ≡ true))
+claims_or_held (claims o e) = inl (o, e)
+claims_or_held (acknowledges m o h g e way) = inr (o, h)
+claims_or_held (replies m o h k g e) = inr (o, h)
+claims_or_held (sends x o h k g e) = inr (o, h)
+claims_or_held (packs m o h k g e) = inr (o, h)
+claims_or_held (transfers m o h k g e) = inr (o, h)
+
 -- ---- whose turn it is
 
 pub none_at : {T : Type 0} (L : List T) (n : ℕ) → nat_lt n (length L) ≡ false → slice_get L n ≡ None
 none_at L n e = slice_get_past L n (ltb-false n (length L) e)
 
+pub past_end : {T : Type 0} (L : List T) (n : ℕ) → slice_get L n ≡ None → length L ≤ n
+past_end [] n e = omega arith
+past_end (x ∷ L) zero e = absurd (cc)
+past_end (x ∷ L) (suc n) e = let h = past_end L n e in omega (arith, h)
+
 pub some_at : {T : Type 0} (L : List T) (n : ℕ) → nat_lt n (length L) ≡ true → slice_get L n ≡ None → ⊥
-some_at L n e = go L n (ltb-true n (length L) e)
-  where
-    go : {T : Type 0} (L : List T) (n : ℕ) → n < length L → slice_get L n ≡ None → ⊥
-    go [] n l f = absurd (omega (arith, l))
-    go (x ∷ L) zero l f = absurd (let z : Some x ≡ None = f in cc)
-    go (x ∷ L) (suc n) l f = go L n (omega (arith, l)) f
+some_at L n e f = absurd (let l = ltb-true n (length L) e in let m = past_end L n f in omega (arith, l, m))
 
 -- what goes before a frame of the open transfer isn't due
 pub record NothingElse (r : Ready) : Type 0 where
@@ -156,32 +179,25 @@ packet_there (Some x) i left = go (nat_le left 100000) (nat_le i (packets_of x.1
     go : (a b : Bool) → is_there (if a && b then Some (frame_of x.1 i) else None) ≡ (b && a)
     go true true = refl
     go true false = refl
-    go false true = refl
-    go false false = refl
+    go false b = sym (and-false b)
 
 pub overdue_due : (b : Bool) (n : ℕ) → (b && nat_eq n 0) ≡ true → (b && nat_le n 100000) ≡ true
-overdue_due b n e = let x = and_parts b (nat_eq n 0) e in let z = eqb-true n 0 x.1 in and_from b (nat_le n 100000) x.0 (least n z)
-  where
-    least : (k : ℕ) → k ≡ 0 → nat_le k 100000 ≡ true
-    least k z = grind (arith, z)
+overdue_due b n e = grind (arith, e)
 
 pub none_there : (o : Option Message) → is_there o ≡ false → o ≡ None
 none_there None e = refl
 none_there (Some m) e = absurd (cc)
 
 pub not_there : (o : Option Message) → is_there o ≡ true → o ≡ None → ⊥
-not_there None e f = absurd (cc)
-not_there (Some m) e f = absurd (cc)
+not_there o e f = not_both _ (ap is_there f) e
 
 -- a frame of the open transfer that is due, and apart from the first reply
-apart_there : (o a : Option Message) → is_apart o a ≡ true → o ≡ None → ⊥
-apart_there None a e f = absurd (cc)
-apart_there (Some m) a e f = absurd (cc)
+pub apart_there : (o a : Option Message) → is_apart o a ≡ true → o ≡ None → ⊥
+apart_there o a e f = not_both _ (ap (λ (p : Option Message). is_apart p a) f) e
 
 apart_none : (o a : Option Message) → a ≡ None → is_apart o a ≡ false → o ≡ None
 apart_none None a f e = refl
-apart_none (Some m) None f e = absurd (cc)
-apart_none (Some m) (Some x) f e = absurd (cc)
+apart_none (Some m) a f e = absurd (not_both _ e (ap (is_apart (Some m)) f))
 
 -- not-true reply, not-true message, and not-true frame of the open broadcast
 pub record Rest (w : Who) (H : List Call) (now : ℕ) : Type 0 where
@@ -260,18 +276,13 @@ given_way w H now g = go (holds w H now) (other w H now) refl refl (and_parts (n
 
     go : (h : Bool) (o : Option Message) → holds w H now ≡ h → other w H now ≡ o → is_there (if h then o else None) ≡ true
         → (m : Message) × ((if h then o else None) ≡ Some m) × (next_frame w H now ≡ Some (now, m))
-    go false o p q t = absurd (cc)
-    go true None p q t = absurd (cc)
     go true (Some m) p q t =
         (m, refl, is true true (Some m) g p q ∙ ap (λ (b : Bool). frame_by b true None (Some m) claim now) (and-false (claim_due w H now)))
+    go h o p q t = absurd (cc)
 
 -- where not-true frame goes nothing gives way: a claim that is owed goes, and an acknowledgment that is due
 pub none_gives : (w : Who) (H : List Call) (now : ℕ) → (let none : Option (ℕ × Message) = None in none) ≡ next_frame w H now → gives_way w H now ≡ false
-none_gives w H now e = go (gives_way w H now) refl
-  where
-    go : (b : Bool) → gives_way w H now ≡ b → b ≡ false
-    go true g = let x = given_way w H now g in absurd (let z : None ≡ Some (now, x.0) = e ∙ x.2 in cc)
-    go false g = refl
+none_gives w H now e = false_from_ne_true _ (λ g. let x = given_way w H now g in none-some (now, x.0) (e ∙ x.2))
 
 pub claim_is : (w : Who) (H : List Call) (now : ℕ) → gives_way w H now ≡ false → claim_goes w H now ≡ claim_due w H now
 claim_is w H now g = ap (λ (b : Bool). claim_due w H now && not b) g ∙ and-true (claim_due w H now)
@@ -279,21 +290,33 @@ claim_is w H now g = ap (λ (b : Bool). claim_due w H now && not b) g ∙ and-tr
 pub due_is : (w : Who) (H : List Call) (now : ℕ) → gives_way w H now ≡ false → next_acknowledgment w H now ≡ slice_get (due w H) (length (acknowledged H))
 due_is w H now g = ap (λ (b : Bool). if b then None else slice_get (due w H) (length (acknowledged H))) g
 
+pub next_is : (w : Who) (H : List Call) (now : ℕ) (a o : Option Message) → claim_goes w H now ≡ false → holds w H now ≡ true
+    → next_acknowledgment w H now ≡ a → other w H now ≡ o → next_frame w H now ≡ option_map (λ m. (now, m)) (control_of a o)
+next_is w H now a o e f g k = λ i. frame_by (e i) (f i) (g i) (k i) (claim_from w (claim_address w (address_after w H))) now
+
+-- the frame of whose turn it is
+pub other_is : (w : Who) (H : List Call) (now : ℕ) (t : Option Turn) → next_turn w H now ≡ t
+    → other w H now ≡ turn_frame t (slice_get (reception w H).replies 0) (slice_get (accepted w H) (reached H)) (next_packet w H now) (next_transfer w H now)
+other_is w H now t e =
+    ap (λ (t : Option Turn). turn_frame t (slice_get (reception w H).replies 0) (slice_get (accepted w H) (reached H)) (next_packet w H now) (next_transfer w H now)) e
+
+-- what a frame is that is taken is what goes next
+pub case_goes : {w : Who} {H : List Call} {now : ℕ} {f : FrameRecord} → FrameCase w H now f → Some (stamped f) ≡ next_frame w H now
+case_goes {w} {H} {now} (claims o e) =
+    ap Some e ∙ sym (ap (λ (b : Bool). frame_by b (holds w H now) (next_acknowledgment w H now) (other w H now) (claim_from w (claim_address w (address_after w H))) now) o)
+case_goes {w} {H} {now} (acknowledges m o h g e way) = ap Some e ∙ sym (next_is w H now (Some m) _ o h (due_is w H now way ∙ g) refl)
+case_goes {w} {H} {now} (replies m o h n g e) = ap Some e ∙ sym (next_is w H now None (Some m) o h n.0 (other_is w H now (Some Reply) n.1 ∙ g))
+case_goes {w} {H} {now} (sends x o h n g e) = ap Some e ∙ sym (next_is w H now None (Some x.1) o h n.0 (other_is w H now (Some Single) n.1 ∙ ap (option_map content) g))
+case_goes {w} {H} {now} (packs m o h n g e) = ap Some e ∙ sym (next_is w H now None (Some m) o h n.0 (other_is w H now (Some Packet) n.1 ∙ g))
+case_goes {w} {H} {now} (transfers m o h n g e) = ap Some e ∙ sym (next_is w H now None (Some m) o h n.0 (other_is w H now (Some Move) n.1 ∙ g))
+
 pub none_acknowledged : (w : Who) (H : List Call) (now : ℕ) → next_acknowledgment w H now ≡ None
     → IsTrue (gives_way w H now) ⊎ (slice_get (due w H) (length (acknowledged H)) ≡ None)
-none_acknowledged w H now e = go (gives_way w H now) refl
-  where
-    go : (b : Bool) → gives_way w H now ≡ b → IsTrue (gives_way w H now) ⊎ (slice_get (due w H) (length (acknowledged H)) ≡ None)
-    go true g = inl g
-    go false g = inr (sym (due_is w H now g) ∙ e)
+none_acknowledged w H now e = elim (cases_Bool (gives_way w H now)) [ inl g ↦ inl g | inr g ↦ inr (sym (due_is w H now g) ∙ e) ]
 
 -- where none is due, none goes
 pub none_due_goes : (w : Who) (H : List Call) (now : ℕ) → slice_get (due w H) (length (acknowledged H)) ≡ None → next_acknowledgment w H now ≡ None
-none_due_goes w H now e = go (gives_way w H now)
-  where
-    go : (b : Bool) → (if b then None else slice_get (due w H) (length (acknowledged H))) ≡ None
-    go true = refl
-    go false = e
+none_due_goes w H now e = cond_both (gives_way w H now) _ _ (λ (o : Option Message). o ≡ None) (λ g. refl) (λ g. e)
 
 -- where not-true frame goes from an address that is held, nothing is due
 pub record NoneDue (w : Who) (H : List Call) (now : ℕ) : Type 0 where
@@ -306,15 +329,12 @@ none_next w H now held e = go (claim_goes w H now) (holds w H now) (next_acknowl
   where
     go : (o h : Bool) (a b : Option Message) → h ≡ true → next_acknowledgment w H now ≡ a → other w H now ≡ b
         → (let none : Option (ℕ × Message) = None in none) ≡ frame_by o h a b (claim_from w (claim_address w (address_after w H))) now → NoneDue w H now
-    go true h a b p q r i = absurd (cc)
-    go false false a b p q r i = absurd (cc)
-    go false true (Some m) b p q r i = absurd (cc)
-    go false true None (Some m) p q r i = absurd (cc)
     go false true None None p q r i = let n = none_other w H now r in record {
       acknowledgment = sym (due_is w H now (none_gives w H now e)) ∙ q;
       rest = n.0;
       transfer = n.1;
     }
+    go o h a b p q r i = absurd (cc)
 
 -- which frame of a broadcast is next
 pub record PacketCase (o : Option (ℕ × MessageRecord)) (i left : ℕ) (m : Message) : Type 0 where
@@ -327,58 +347,43 @@ pub record PacketCase (o : Option (ℕ × MessageRecord)) (i left : ℕ) (m : Me
 
 pub packet_case : (o : Option (ℕ × MessageRecord)) (i left : ℕ) (m : Message) → packet_by o i left ≡ Some m → PacketCase o i left m
 packet_case None i left m e = absurd (cc)
-packet_case (Some x) i left m e = go (nat_le left 100000) (nat_le i (packets_of x.1)) refl refl e
-  where
-    go : (a b : Bool) → nat_le left 100000 ≡ a → nat_le i (packets_of x.1) ≡ b → (if a && b then Some (frame_of x.1 i) else None) ≡ Some m → PacketCase (Some x) i left m
-    go true true p q r = record { token = x.0; message = x.1; is = refl; over = leb-true _ _ p; within = leb-true _ _ q; frame = (let z : frame_of x.1 i ≡ m = cc in sym z) }
-    go true false p q r = absurd (cc)
-    go false b p q r = absurd (cc)
+packet_case (Some x) i left m e =
+    let z = cond_some (nat_le left 100000 && nat_le i (packets_of x.1)) (frame_of x.1 i) m e in
+    let y = and_parts (nat_le left 100000) (nat_le i (packets_of x.1)) z.0 in
+    record { token = x.0; message = x.1; is = refl; over = leb-true _ _ y.0; within = leb-true _ _ y.1; frame = sym z.1 }
+
+-- a group of sessions is neither that of claims nor that of acknowledgments
+abbrev OfSession : ℕ → Type 0
+OfSession g =
+    (nat_eq g address_claimed_group ≡ false) × (nat_eq g acknowledgment_group ≡ false) × ((nat_eq g transport_control_group || nat_eq g transport_data_group) ≡ true)
+
+of_session : (f : FrameRecord) (g : ℕ) → pgn_of f.id ≡ g → (g ≡ transport_control_group) ⊎ (g ≡ transport_data_group) → OfSession (pgn_of f.id)
+of_session f g e k =
+    subst OfSession (sym e) (elim k [ inl i ↦ subst OfSession (sym i) (refl, refl, refl) | inr i ↦ subst OfSession (sym i) (refl, refl, refl) ])
 
 packet_frame : (f : FrameRecord) (now : ℕ) (m : MessageRecord) (i : ℕ) → stamped f ≡ (now, frame_of m i)
     → (is_claim f ≡ false) × (is_acknowledgment f ≡ false) × (is_packet f ≡ true)
-packet_frame f now m i e = go (i == 0) (ap (λ (y : ℕ × Message). y.1.group) e)
+packet_frame f now m i e =
+    let x = of_session f _ (ap (λ (y : ℕ × Message). y.1.group) e) (group (i == 0)) in
+    (x.0, x.1, λ j. x.2 j && ap (λ (y : ℕ × Message). is_some y.1.destination 255) e j)
   where
-    to_all : is_some (destination_of f.id) 255 ≡ true
-    to_all = ap (λ (y : ℕ × Message). is_some y.1.destination 255) e
-
-    go : (b : Bool) → pgn_of f.id ≡ (if b then transport_control_group else transport_data_group)
-        → (is_claim f ≡ false) × (is_acknowledgment f ≡ false) × (is_packet f ≡ true)
-    go true z = (
-      ap (λ (g : ℕ). nat_eq g address_claimed_group) z,
-      ap (λ (g : ℕ). nat_eq g acknowledgment_group) z,
-      ap (λ (g : ℕ). (nat_eq g transport_control_group || nat_eq g transport_data_group) && is_some (destination_of f.id) 255) z ∙ to_all,
-    )
-    go false z = (
-      ap (λ (g : ℕ). nat_eq g address_claimed_group) z,
-      ap (λ (g : ℕ). nat_eq g acknowledgment_group) z,
-      ap (λ (g : ℕ). (nat_eq g transport_control_group || nat_eq g transport_data_group) && is_some (destination_of f.id) 255) z ∙ to_all,
-    )
+    group : (b : Bool) → ((if b then transport_control_group else transport_data_group) ≡ transport_control_group) ⊎ ((if b then transport_control_group else transport_data_group) ≡ transport_data_group)
+    group true = inl refl
+    group false = inr refl
 
 -- a reply is not-true frame of a broadcast
 pub reply_taken : (own : ℕ) (f : FrameRecord) (now : ℕ) (m : Message) → stamped f ≡ (now, m) → IsReply own m
     → (is_claim f ≡ false) × (is_acknowledgment f ≡ false) × (is_session f ≡ true) × (is_packet f ≡ false)
 reply_taken own f now m e is =
-    let z : pgn_of f.id ≡ transport_control_group = ap (λ (y : ℕ × Message). y.1.group) e ∙ is.group in
-    let to : destination_of f.id ≡ Some is.to = ap (λ (y : ℕ × Message). y.1.destination) e ∙ is.destination in
-    let session : is_session f ≡ true = ap (λ (g : ℕ). nat_eq g transport_control_group || nat_eq g transport_data_group) z in (
-      ap (λ (g : ℕ). nat_eq g address_claimed_group) z,
-      ap (λ (g : ℕ). nat_eq g acknowledgment_group) z,
-      session,
-      ap (λ (x : Bool). x && is_some (destination_of f.id) 255) session ∙ (ap (λ o. is_some o 255) to ∙ not_all is.to is.address),
-    )
-  where
-    not_all : (k : ℕ) → k < 254 → nat_eq k 255 ≡ false
-    not_all k l = grind arith
+    let x = of_session f m.group (ap (λ (y : ℕ × Message). y.1.group) e) (inl is.group) in
+    let to : is_some (destination_of f.id) 255 ≡ false =
+    ap (λ (y : ℕ × Message). is_some y.1.destination 255) e ∙ (ap (λ o. is_some o 255) is.destination ∙ ne_eqb is.to 255 (λ z. let l = is.address in omega (arith, l, z))) in
+    (x.0, x.1, x.2, λ j. x.2 j && to j)
 
 -- ---- a frame of a session is one of a broadcast, or of a transfer
 
 pub is_directed : (f : FrameRecord) → is_session f ≡ true → is_packet f ≡ false → is_transfer f ≡ true
-is_directed f e g = go (is_session f) (is_some (destination_of f.id) 255) e g
-  where
-    go : (a b : Bool) → a ≡ true → (a && b) ≡ false → (a && not b) ≡ true
-    go true false p q = refl
-    go true true p q = absurd (cc)
-    go false b p q = absurd (cc)
+is_directed f e g = λ i. e i && not ((sym (ap (λ (b : Bool). b && is_some (destination_of f.id) 255) e) ∙ g) i)
 
 pub no_packet : (f : FrameRecord) → is_session f ≡ false → is_packet f ≡ false
 no_packet f e = ap (λ (b : Bool). b && is_some (destination_of f.id) 255) e
@@ -387,12 +392,8 @@ pub no_transfer : (f : FrameRecord) → is_session f ≡ false → is_transfer f
 no_transfer f e = ap (λ (b : Bool). b && not (is_some (destination_of f.id) 255)) e
 
 pub packet_session : (f : FrameRecord) → is_packet f ≡ true → (is_session f ≡ true) × (is_transfer f ≡ false)
-packet_session f e = go (is_session f) (is_some (destination_of f.id) 255) refl refl e
-  where
-    go : (a b : Bool) → is_session f ≡ a → is_some (destination_of f.id) 255 ≡ b → (a && b) ≡ true → (is_session f ≡ true) × (is_transfer f ≡ false)
-    go true true p q r = (p, ap (λ (x : Bool). is_session f && not x) q ∙ and-false (is_session f))
-    go true false p q r = absurd (cc)
-    go false b p q r = absurd (cc)
+packet_session f e =
+    let x = and_parts (is_session f) (is_some (destination_of f.id) 255) e in (x.0, ap (λ (b : Bool). is_session f && not b) x.1 ∙ and-false (is_session f))
 
 pub no_move : (w : Who) (H : List Call) (f : FrameRecord) → is_transfer f ≡ false → is_move w H f ≡ false
 no_move w H f e = ap (λ (b : Bool). b && not (is_that (message_of f) (slice_get (reception w H).replies 0))) e
@@ -433,33 +434,18 @@ pub record IsOfTransfer (w : Who) (f : FrameRecord) : Type 0 where
 
 pub transfer_taken : (w : Who) (H : List Call) (now : ℕ) (f : FrameRecord) (m : Message) → AreAnswered w H → stamped f ≡ (now, m) → next_transfer w H now ≡ Some m
     → IsOfTransfer w f
-transfer_taken w H now f m right e g = go (said_case w (open_transfer w H) (clock_at H now) m (ported w H right) g)
-  where
-    by : (d : Option ℕ) → destination_of f.id ≡ d → is_some d 255 ≡ false → is_some (destination_of f.id) 255 ≡ false
-    by d p q = ap (λ (x : Option ℕ). is_some x 255) p ∙ q
-
-    of_group : (g : ℕ) → pgn_of f.id ≡ g → (g ≡ transport_control_group) ⊎ (g ≡ transport_data_group) → source_of f.id ≡ w.address → is_some (destination_of f.id) 255 ≡ false
-        → IsOfTransfer w f
-    of_group g p (inl q) k d = let z = p ∙ q in record {
-      claim = ap (λ (g : ℕ). nat_eq g address_claimed_group) z;
-      plain = ap (λ (g : ℕ). nat_eq g acknowledgment_group) z;
-      session = ap (λ (g : ℕ). nat_eq g transport_control_group || nat_eq g transport_data_group) z;
-      packet = ap (λ (g : ℕ). (nat_eq g transport_control_group || nat_eq g transport_data_group) && is_some (destination_of f.id) 255) z ∙ d;
-      transfer = ap (λ (g : ℕ). (nat_eq g transport_control_group || nat_eq g transport_data_group) && not (is_some (destination_of f.id) 255)) z ∙ ap not d;
-      source = k;
+transfer_taken w H now f m right e g =
+    let s = said_case w (open_transfer w H) (clock_at H now) m (ported w H right) g in
+    let x = of_session f m.group (ap (λ (y : ℕ × Message). y.1.group) e) s.group in
+    let to : is_some (destination_of f.id) 255 ≡ false = ap (λ (y : ℕ × Message). is_some y.1.destination 255) e ∙ s.directed in
+    record {
+      claim = x.0;
+      plain = x.1;
+      session = x.2;
+      packet = λ j. x.2 j && to j;
+      transfer = λ j. x.2 j && not (to j);
+      source = ap (λ (y : ℕ × Message). y.1.source) e ∙ s.source;
     }
-    of_group g p (inr q) k d = let z = p ∙ q in record {
-      claim = ap (λ (g : ℕ). nat_eq g address_claimed_group) z;
-      plain = ap (λ (g : ℕ). nat_eq g acknowledgment_group) z;
-      session = ap (λ (g : ℕ). nat_eq g transport_control_group || nat_eq g transport_data_group) z;
-      packet = ap (λ (g : ℕ). (nat_eq g transport_control_group || nat_eq g transport_data_group) && is_some (destination_of f.id) 255) z ∙ d;
-      transfer = ap (λ (g : ℕ). (nat_eq g transport_control_group || nat_eq g transport_data_group) && not (is_some (destination_of f.id) 255)) z ∙ ap not d;
-      source = k;
-    }
-
-    go : SaidCase w m → IsOfTransfer w f
-    go s = of_group m.group (ap (λ (y : ℕ × Message). y.1.group) e) s.group (ap (λ (y : ℕ × Message). y.1.source) e ∙ s.source)
-        (by m.destination (ap (λ (y : ℕ × Message). y.1.destination) e) s.directed)
 
 pub packet_taken : (f : FrameRecord) (now : ℕ) (m : Message) (o : Option (ℕ × MessageRecord)) (i left : ℕ) → stamped f ≡ (now, m) → packet_by o i left ≡ Some m
     → (is_claim f ≡ false) × (is_acknowledgment f ≡ false) × (is_packet f ≡ true)
@@ -474,18 +460,8 @@ pub record IsOwn (w : Who) (m : Message) : Type 0 where
   pub plain : nat_eq m.group acknowledgment_group ≡ false
   pub single : (nat_eq m.group transport_control_group || nat_eq m.group transport_data_group) ≡ false
 
-abbrev pub AllOwn : Who → List (ℕ × Message) → Type 0
-AllOwn w [] = Unit {0}
-AllOwn w (x ∷ xs) = (is_blank x ≡ false → IsOwn w x.1) × AllOwn w xs
-
-pub own_append : (w : Who) (xs : List (ℕ × Message)) (x : ℕ × Message) → AllOwn w xs → IsOwn w x.1 → AllOwn w (xs ++ x ∷ [])
-own_append w [] x h e = (λ z. e, tt)
-own_append w (y ∷ ys) x h e = (h.0, own_append w ys x h.1 e)
-
-own_get : (w : Who) (xs : List (ℕ × Message)) (n : ℕ) (x : ℕ × Message) → AllOwn w xs → slice_get xs n ≡ Some x → is_blank x ≡ false → IsOwn w x.1
-own_get w [] n x h e b = absurd (cc)
-own_get w (y ∷ ys) zero x h e b = let z : y ≡ x = cc in subst (λ (u : ℕ × Message). is_blank u ≡ false → IsOwn w u.1) z h.0 b
-own_get w (y ∷ ys) (suc n) x h e b = own_get w ys n x h.1 e b
+abbrev pub Stays : Who → ℕ × Message → Type 0
+Stays w x = is_blank x ≡ false → IsOwn w x.1
 
 -- ---- all that is due is an acknowledgment
 
@@ -493,18 +469,8 @@ pub record IsDue (w : Who) (m : Message) : Type 0 where
   pub source : m.source ≡ w.address
   pub group : m.group ≡ acknowledgment_group
 
-abbrev pub AllDue : Who → List Message → Type 0
-AllDue w [] = Unit {0}
-AllDue w (x ∷ xs) = IsDue w x × AllDue w xs
-
-due_append : (w : Who) (xs : List Message) (answer : Answer) (r : Asked) → AllDue w xs → AllDue w (xs ++ acknowledgment w answer r ∷ [])
-due_append w [] answer r h = (record { source = refl; group = refl }, tt)
-due_append w (y ∷ ys) answer r h = (h.0, due_append w ys answer r h.1)
-
-pub due_get : (w : Who) (xs : List Message) (n : ℕ) (x : Message) → AllDue w xs → slice_get xs n ≡ Some x → IsDue w x
-due_get w [] n x h e = absurd (cc)
-due_get w (y ∷ ys) zero x h e = let z : y ≡ x = cc in subst (IsDue w) z h.0
-due_get w (y ∷ ys) (suc n) x h e = due_get w ys n x h.1 e
+due_append : (w : Who) (xs : List Message) (answer : Answer) (r : Asked) → All (IsDue w) xs → All (IsDue w) (xs ++ acknowledgment w answer r ∷ [])
+due_append w xs answer r h = All-push (IsDue w) xs (acknowledgment w answer r) h (record { source = refl; group = refl })
 
 -- ---- a list that another begins with
 
@@ -523,19 +489,24 @@ front_longer (u ∷ xs) (y ∷ ys) x (zs, e) g =
 -- ---- what is so after any answered history
 
 abbrev pub Desked : Who → List Call → Type 0
-Desked w H = AllDue w (due w H) × IsFront (acknowledged H) (due w H) × IsFront (handed H) (requests w H)
+Desked w H = All (IsDue w) (due w H) × IsFront (acknowledged H) (due w H) × IsFront (handed H) (requests w H)
+
+-- of what was accepted, each with a mark whether it was withdrawn, so many were passed, and these were sent
+pub record Posts (w : Who) (all : List (ℕ × Message)) (blanks : List Bool) (n : ℕ) (out : List Message) : Type 0 where
+  pub own : All (Stays w) all
+  pub marked : blanks ≡ map is_blank all
+  pub next : past blanks n ≡ n
+  pub passed : n ≤ length all
+  pub in_order : out ≡ map content (unblanked (take n all))
+  pub numbered : (i : ℕ) (x : ℕ × Message) → slice_get all i ≡ Some x → x.0 ≡ i
 
 pub record Sound (w : Who) (H : List Call) : Type 0 where
-  pub own : AllOwn w (accepted w H)
-  pub marked : marks H ≡ map is_blank (accepted w H)
-  pub next : past (marks H) (reached H) ≡ reached H
-  pub passed : reached H ≤ length (accepted w H)
-  pub in_order : sent H ≡ map content (unblanked (take (reached H) (accepted w H)))
+  pub posts : Posts w (accepted w H) (marks H) (reached H) (sent H)
+  pub open posts use *
   pub within : length (told H) ≤ length (accepted w H)
   pub in_turn : is_lost (address_after w H) ≡ false → length (told H) ≤ reached H
   pub reads : IsFront (got H) (kept w H)
   pub desk : Desked w H
-  pub numbered : (i : ℕ) (x : ℕ × Message) → slice_get (accepted w H) i ≡ Some x → x.0 ≡ i
 
 pub front_length : {T : Type 0} (xs ys : List T) → IsFront xs ys → length xs ≤ length ys
 front_length xs ys (zs, e) = let b = ap length e in let c = length-append xs zs in omega (arith, b, c)
@@ -550,89 +521,94 @@ next_stays w H x h e =
     (ap (λ bs. slice_get bs (reached H)) h.marked ∙ (slice_get-map is_blank (accepted w H) (reached H) ∙ ap (option_map is_blank) e))
 
 next_own : (w : Who) (H : List Call) (x : ℕ × Message) → Sound w H → slice_get (accepted w H) (reached H) ≡ Some x → IsOwn w x.1
-next_own w H x h e = own_get w (accepted w H) (reached H) x h.own e (next_stays w H x h e)
+next_own w H x h e = all_at (Stays w) (accepted w H) (reached H) x h.own e (next_stays w H x h e)
 
 pub many_marks : (w : Who) (H : List Call) → Sound w H → length (marks H) ≡ length (accepted w H)
-many_marks w H h = ap length h.marked ∙ length_map is_blank (accepted w H)
+many_marks w H h = ap length h.marked ∙ length-map (accepted w H) is_blank
 
 -- a call that accepts, sends and tells nothing
-rests : (w : Who) (H G : List Call) → accepted w G ≡ accepted w H → marks G ≡ marks H → (sent G ≡ sent H) × (reached G ≡ reached H) → told G ≡ told H
-    → (is_lost (address_after w G) ≡ false → is_lost (address_after w H) ≡ false) → IsFront (got G) (kept w G) → Desked w G → Sound w H → Sound w G
-rests w H G e m f g l r d h = record {
-  own = subst (AllOwn w) (sym e) h.own;
-  marked = m ∙ (h.marked ∙ ap (map is_blank) (sym e));
-  next = (λ i. past (m i) (f.1 i)) ∙ (h.next ∙ sym f.1);
-  passed = (let a = h.passed in let b = f.1 in let c = ap length e in omega (arith, a, b, c));
-  in_order = f.0 ∙ (h.in_order ∙ λ i. map content (unblanked (take (sym f.1 i) (sym e i))));
+rests : (w : Who) (H : List Call) (call : Call) → accepted w (call ∷ H) ≡ accepted w H → marks (call ∷ H) ≡ marks H → (sent (call ∷ H) ≡ sent H) × (reached (call ∷ H) ≡ reached H)
+    → told (call ∷ H) ≡ told H → IsFront (got (call ∷ H)) (kept w (call ∷ H)) → Desked w (call ∷ H) → Sound w H → Sound w (call ∷ H)
+rests w H call e m f g r d h = record {
+  posts = subst (λ (x : List (ℕ × Message) × List Bool × ℕ × List Message). Posts w x.0 x.1 x.2 x.3) (λ i. (sym e i, sym m i, sym f.1 i, sym f.0 i)) h.posts;
   within = (let a = h.within in let b = ap length e in let c = ap length g in omega (arith, a, b, c));
-  in_turn = λ i. (let a = h.in_turn (l i) in let b = f.1 in let c = ap length g in omega (arith, a, b, c));
+  in_turn = λ l. (let a = h.in_turn (false_from_ne_true _ (λ z. not_both _ l (stays_lost w H call z))) in let b = f.1 in let c = ap length g in omega (arith, a, b, c));
   reads = r;
   desk = d;
-  numbered = subst (λ (L : List (ℕ × Message)). (i : ℕ) (x : ℕ × Message) → slice_get L i ≡ Some x → x.0 ≡ i) (sym e) h.numbered;
 }
-
-pub neither : (x y : Bool) → not (x || y) ≡ true → (x ≡ false) × (not y ≡ true)
-neither true y e = absurd (cc)
-neither false y e = (refl, e)
 
 is_own : (w : Who) (d : Draft) → can_send w d ≡ true → IsOwn w (message_from w d)
 is_own w d e =
     let a = and_parts (nat_lt d.priority 8) _ e in
     let b = and_parts (is_sendable d.group) _ a.1 in
     let c = and_parts _ (not (is_own_group d.group || nat_eq d.group acknowledgment_group)) b.0 in
-    let k = neither (is_own_group d.group) _ c.1 in
-    let n = neither (nat_eq d.group transport_control_group) (nat_eq d.group transport_data_group || nat_eq d.group address_claimed_group) (ap not k.0) in
-    let m = neither (nat_eq d.group transport_data_group) _ n.1 in
-    record {
-      source = refl;
-      group = not-true _ m.1;
-      plain = not-true _ k.1;
-      single = ap (λ (x : Bool). x || nat_eq d.group transport_data_group) n.0 ∙ m.0;
-    }
+    let k = or_parts (is_own_group d.group) _ (not-true _ c.1) in
+    let n = or_parts (nat_eq d.group transport_control_group) _ k.0 in
+    let m = or_parts (nat_eq d.group transport_data_group) _ n.1 in
+    record { source = refl; group = m.1; plain = k.1; single = or_from _ _ n.0 m.0 }
 
 -- ---- which token was told
 
-pub data EndCase (w : Who) (H : List Call) (x : ℕ × Ending) : Type 0 where
-  done : (m : Message) → nat_lt (length (told H)) (reached H) ≡ true → slice_get (accepted w H) (length (told H)) ≡ Some (x.0, m)
-      → x.1 ≡ (if is_blank (x.0, m) then Withdrawn else Done) → EndCase w H x
-  withdrawn : (m : Message) → nat_lt (length (told H)) (reached H) ≡ false → is_lost (address_after w H) ≡ true
-      → slice_get (accepted w H) (length (told H)) ≡ Some (x.0, m) → x.1 ≡ Withdrawn → EndCase w H x
+pub record Told (w : Who) (H : List Call) (k : ℕ) (e : Ending) : Type 0 where
+  pub message : Message
+  pub at : slice_get (accepted w H) (length (told H)) ≡ Some (k, message)
+  pub over : (length (told H) < reached H) ⊎ (is_lost (address_after w H) ≡ true)
+  pub done : e ≡ Done ↔ ((length (told H) < reached H) × (is_blank (k, message) ≡ false))
+  pub withdrawn : e ≡ Withdrawn → (is_lost (address_after w H) ≡ true) ⊎ ((length (told H) < reached H) × (is_blank (k, message) ≡ true))
 
-pub end_case : (w : Who) (H : List Call) (x : ℕ × Ending) → Some x ≡ next_ended w H → EndCase w H x
-end_case w H x e = go (nat_lt (length (told H)) (reached H)) (is_lost (address_after w H)) (slice_get (accepted w H) (length (told H))) refl refl refl e
+pub told_case : (w : Who) (H : List Call) (k : ℕ) (e : Ending) → Some (k, e) ≡ next_ended w H → Told w H k e
+told_case w H k e = go (nat_lt (length (told H)) (reached H)) (is_lost (address_after w H)) (slice_get (accepted w H) (length (told H))) refl refl refl
   where
+    at : (y : ℕ × Message) → slice_get (accepted w H) (length (told H)) ≡ Some y → k ≡ y.0 → slice_get (accepted w H) (length (told H)) ≡ Some (k, y.1)
+    at y r z = r ∙ ap (λ (n : ℕ). Some (n, y.1)) (sym z)
+
     go : (b l : Bool) (o : Option (ℕ × Message)) → nat_lt (length (told H)) (reached H) ≡ b → is_lost (address_after w H) ≡ l
-        → slice_get (accepted w H) (length (told H)) ≡ o → Some x ≡ end_of b l o → EndCase w H x
-    go b l None p q r i = absurd (cc)
-    go true l (Some y) p q r i = by (is_blank y) refl
+        → slice_get (accepted w H) (length (told H)) ≡ o → Some (k, e) ≡ end_of b l o → Told w H k e
+    go true l (Some y) p q r i = by (is_blank y) refl i
       where
-        by : (b : Bool) → is_blank y ≡ b → EndCase w H x
-        by b g =
-            let z : x ≡ (y.0, if b then Withdrawn else Done) = grind (arith, i, g) in
-            done y.1 p (r ∙ ap (λ (k : ℕ). Some (k, y.1)) (sym (ap (λ (u : ℕ × Ending). u.0) z)))
-            (ap (λ (u : ℕ × Ending). u.1) z ∙ ap (λ (b : Bool). (let e : Ending = (if b then Withdrawn else Done) in e)) (sym g))
-    go false true (Some y) p q r i = let z : x ≡ (y.0, Withdrawn) = cc in withdrawn y.1 p q (r ∙ ap (λ (k : ℕ). Some (k, y.1)) (sym (ap (λ (u : ℕ × Ending). u.0) z))) (ap (λ (u : ℕ × Ending). u.1) z)
+        before : length (told H) < reached H
+        before = ltb-true _ _ p
+
+        by : (b : Bool) → is_blank y ≡ b → Some (k, e) ≡ ending_of (not b) true y.0 → Told w H k e
+        by true z i = let x = some_pair_parts k y.0 e Withdrawn i in record {
+          message = y.1;
+          at = at y r x.0;
+          over = inl before;
+          done = (λ v. absurd (let u = x.1 in cc), λ v. absurd (not_both _ v.1 z));
+          withdrawn = λ v. inr (before, z);
+        }
+        by false z i = let x = some_pair_parts k y.0 e Done i in record {
+          message = y.1;
+          at = at y r x.0;
+          over = inl before;
+          done = (λ v. (before, z), λ v. x.1);
+          withdrawn = λ v. absurd (let u = x.1 in cc);
+        }
+    go false true (Some y) p q r i = let x = some_pair_parts k y.0 e Withdrawn i in record {
+      message = y.1;
+      at = at y r x.0;
+      over = inr q;
+      done = (λ v. absurd (let u = x.1 in cc), λ v. absurd (let a = v.0 in let b = ltb-false _ _ p in omega (arith, a, b)));
+      withdrawn = λ v. inl q;
+    }
     go false false (Some y) p q r i = absurd (cc)
+    go b l None p q r i = absurd (cc)
 
 -- ---- the induction
-
-lost_if : (w : Who) (b : Bool) (s : ℕ) (a : Address) → is_lost (if b then Lost else older s a) ≡ false → is_lost a ≡ false
-lost_if w true s a e = absurd (cc)
-lost_if w false s a e = sym (lost_older s a) ∙ e
 
 -- what a frame taken is: a claim, an acknowledgment, a message
 pub claim_taken : (f : FrameRecord) (now : ℕ) (w : Who) (a : ℕ) → stamped f ≡ (now, claim_from w a) → is_claim f ≡ true
 claim_taken f now w a e = let z = ap (λ (x : ℕ × Message). x.1.group) e in eq-eqb _ _ z
 
-pub message_taken : (w : Who) (f : FrameRecord) (now : ℕ) (x : ℕ × Message) → stamped f ≡ (now, x.1) → IsOwn w x.1 → is_claim f ≡ false
-message_taken w f now x e own = let z = ap (λ (y : ℕ × Message). y.1.group) e in ap (λ (g : ℕ). nat_eq g address_claimed_group) z ∙ own.group
-
-pub plain_taken : (w : Who) (f : FrameRecord) (now : ℕ) (x : ℕ × Message) → stamped f ≡ (now, x.1) → IsOwn w x.1 → is_acknowledgment f ≡ false
-plain_taken w f now x e own = let z = ap (λ (y : ℕ × Message). y.1.group) e in ap (λ (g : ℕ). nat_eq g acknowledgment_group) z ∙ own.plain
-
-pub single_taken : (w : Who) (f : FrameRecord) (now : ℕ) (x : ℕ × Message) → stamped f ≡ (now, x.1) → IsOwn w x.1 → is_session f ≡ false
-single_taken w f now x e own =
-    let z = ap (λ (y : ℕ × Message). y.1.group) e in ap (λ (g : ℕ). nat_eq g transport_control_group || nat_eq g transport_data_group) z ∙ own.single
+-- a message's is none of these, nor of a session
+pub own_taken : (w : Who) (f : FrameRecord) (now : ℕ) (x : ℕ × Message) → stamped f ≡ (now, x.1) → IsOwn w x.1
+    → (is_claim f ≡ false) × (is_acknowledgment f ≡ false) × (is_session f ≡ false)
+own_taken w f now x e own =
+    let z = ap (λ (y : ℕ × Message). y.1.group) e in (
+      ap (λ (g : ℕ). nat_eq g address_claimed_group) z ∙ own.group,
+      ap (λ (g : ℕ). nat_eq g acknowledgment_group) z ∙ own.plain,
+      ap (λ (g : ℕ). nat_eq g transport_control_group || nat_eq g transport_data_group) z ∙ own.single,
+    )
 
 pub claim_single : (f : FrameRecord) → is_claim f ≡ true → is_session f ≡ false
 claim_single f e = ap (λ (g : ℕ). nat_eq g transport_control_group || nat_eq g transport_data_group) (eqb-true (pgn_of f.id) address_claimed_group e)
@@ -660,9 +636,7 @@ due_taken w f now m e is =
 
 pub sent_is : (H : List Call) (now : ℕ) (f : FrameRecord) (a b p : Bool) → is_claim f ≡ a → is_acknowledgment f ≡ b → is_session f ≡ p
     → sent (At now (TakeFrame (Some f)) ∷ H) ≡ (if a || (b || p) then sent H else sent H ++ message_of f ∷ [])
-sent_is H now f a b p e g i = ap (λ (x : Bool). if x || (is_acknowledgment f || is_session f) then sent H else sent H ++ message_of f ∷ []) e
-    ∙ (ap (λ (y : Bool). if a || (y || is_session f) then sent H else sent H ++ message_of f ∷ []) g
-    ∙ ap (λ (y : Bool). if a || (b || y) then sent H else sent H ++ message_of f ∷ []) i)
+sent_is H now f a b p e g i = λ j. if e j || (g j || i j) then sent H else sent H ++ message_of f ∷ []
 
 pub reached_is : (H : List Call) (now : ℕ) (f : FrameRecord) (a b p : Bool) → is_claim f ≡ a → is_acknowledgment f ≡ b → is_session f ≡ p
     → reached (At now (TakeFrame (Some f)) ∷ H) ≡ (if a || (b || p) then reached H else past (marks H) (suc (reached H)))
@@ -678,33 +652,20 @@ pause_is H now f p e = ap (λ (y : Bool). if y then 150000 else pause H - step H
 
 pub acknowledged_is : (H : List Call) (now : ℕ) (f : FrameRecord) (a b : Bool) → is_claim f ≡ a → is_acknowledgment f ≡ b
     → acknowledged (At now (TakeFrame (Some f)) ∷ H) ≡ (if a || not b then acknowledged H else acknowledged H ++ message_of f ∷ [])
-acknowledged_is H now f a b e g = ap (λ (x : Bool). if x || not (is_acknowledgment f) then acknowledged H else acknowledged H ++ message_of f ∷ []) e
-    ∙ ap (λ (y : Bool). if a || not y then acknowledged H else acknowledged H ++ message_of f ∷ []) g
+acknowledged_is H now f a b e g = λ i. if e i || not (g i) then acknowledged H else acknowledged H ++ message_of f ∷ []
 
 pub address_is : (w : Who) (H : List Call) (now : ℕ) (f : FrameRecord) (a : Bool) → is_claim f ≡ a
     → address_after w (At now (TakeFrame (Some f)) ∷ H) ≡ (if a then claimed (older (step H now) (address_after w H)) else older (step H now) (address_after w H))
 address_is w H now f a e = ap (λ (b : Bool). if b then claimed (older (step H now) (address_after w H)) else older (step H now) (address_after w H)) e
 
-sound_claim : (w : Who) (H : List Call) (now : ℕ) (f : FrameRecord) → is_claim f ≡ true → Sound w H → Sound w (At now (TakeFrame (Some f)) ∷ H)
-sound_claim w H now f e h = rests w H _ refl refl (sent_is H now f true _ _ e refl refl, reached_is H now f true _ _ e refl refl) refl
-    (λ l. sym (lost_older (step H now) (address_after w H)) ∙ (sym (lost_claimed _) ∙ (sym (ap is_lost (address_is w H now f true e)) ∙ l))) h.reads
-    (h.desk.0, subst (λ xs. IsFront xs (due w H)) (sym (acknowledged_is H now f true _ e refl)) h.desk.1, h.desk.2) h
-
-sound_acknowledge : (w : Who) (H : List Call) (now : ℕ) (f : FrameRecord) (m : Message) → is_claim f ≡ false → is_acknowledgment f ≡ true
-    → slice_get (due w H) (length (acknowledged H)) ≡ Some m → stamped f ≡ (now, m) → Sound w H → Sound w (At now (TakeFrame (Some f)) ∷ H)
-sound_acknowledge w H now f m e k g i h = rests w H _ refl refl (sent_is H now f false true _ e k refl, reached_is H now f false true _ e k refl) refl
-    (λ l. sym (lost_older (step H now) (address_after w H)) ∙ (sym (ap is_lost (address_is w H now f false e)) ∙ l)) h.reads (
-      h.desk.0,
-      subst (λ xs. IsFront xs (due w H)) (sym (acknowledged_is H now f false true e k ∙ ap (λ (y : ℕ × Message). acknowledged H ++ y.1 ∷ []) i))
-          (front_longer (acknowledged H) (due w H) m h.desk.1 g),
-      h.desk.2,
-    ) h
-
-sound_packet : (w : Who) (H : List Call) (now : ℕ) (f : FrameRecord) → (is_claim f ≡ false) × (is_acknowledgment f ≡ false) × (is_session f ≡ true)
-    → Sound w H → Sound w (At now (TakeFrame (Some f)) ∷ H)
-sound_packet w H now f k h = rests w H _ refl refl (sent_is H now f false false true k.0 k.1 k.2, reached_is H now f false false true k.0 k.1 k.2) refl
-    (λ l. sym (lost_older (step H now) (address_after w H)) ∙ (sym (ap is_lost (address_is w H now f false k.0)) ∙ l)) h.reads
-    (h.desk.0, subst (λ xs. IsFront xs (due w H)) (sym (acknowledged_is H now f false false k.0 k.1)) h.desk.1, h.desk.2) h
+-- beside messages
+sound_beside : (w : Who) (H : List Call) (now : ℕ) (f : FrameRecord) (a b p : Bool) → is_claim f ≡ a → is_acknowledgment f ≡ b → is_session f ≡ p → (a || (b || p)) ≡ true
+    → IsFront (if a || not b then acknowledged H else acknowledged H ++ message_of f ∷ []) (due w H) → Sound w H → Sound w (At now (TakeFrame (Some f)) ∷ H)
+sound_beside w H now f a b p e k n q front h = rests w H (At now (TakeFrame (Some f))) refl refl (
+  sent_is H now f a b p e k n ∙ ap (λ (x : Bool). if x then sent H else sent H ++ message_of f ∷ []) q,
+  reached_is H now f a b p e k n ∙ ap (λ (x : Bool). if x then reached H else past (marks H) (suc (reached H))) q,
+) refl h.reads
+    (h.desk.0, subst (λ xs. IsFront xs (due w H)) (sym (acknowledged_is H now f a b e k)) front, h.desk.2) h
 
 sound_send : (w : Who) (H : List Call) (now : ℕ) (f : FrameRecord) (x : ℕ × Message) → is_claim f ≡ false → is_acknowledgment f ≡ false → is_session f ≡ false → holds w H now ≡ true
     → slice_get (accepted w H) (reached H) ≡ Some x → stamped f ≡ (now, x.1) → Sound w H → Sound w (At now (TakeFrame (Some f)) ∷ H)
@@ -714,126 +675,93 @@ sound_send w H now f x e k n held g i h =
     sent_is H now f false false false e k n ∙ ap (λ (y : ℕ × Message). sent H ++ y.1 ∷ []) i in
     let on = reached_is H now f false false false e k n in
     record {
-      own = h.own;
-      marked = h.marked;
-      next = ap (past (marks H)) on ∙ (past_stops (marks H) (suc (reached H)) ∙ sym on);
-      passed = (let a = past_within (marks H) (suc (reached H)) (let b = slice_get_within L (reached H) x g in let c = many_marks w H h in omega (arith, b, c)) in
-          let c = many_marks w H h in omega (arith, a, c, on));
-      in_order = more ∙ (ap (λ xs. xs ++ x.1 ∷ []) h.in_order
-          ∙ (sym (map_append content (unblanked (take (reached H) L)) x)
-          ∙ ap (map content) (sym (unblanked_more L (reached H) x g (next_stays w H x h g))
-          ∙ (sym (unblanked_past L (suc (reached H))) ∙ (λ j. unblanked (take (past (sym h.marked j) (suc (reached H))) L)) ∙ ap (λ (m : ℕ). unblanked (take m L)) (sym on)))));
+      posts = record {
+        own = h.own;
+        marked = h.marked;
+        next = ap (past (marks H)) on ∙ (past_stops (marks H) (suc (reached H)) ∙ sym on);
+        passed = (let a = past_within (marks H) (suc (reached H)) (let b = slice_get_within L (reached H) x g in let c = many_marks w H h in omega (arith, b, c)) in
+            let c = many_marks w H h in omega (arith, a, c, on));
+        in_order = more ∙ (ap (λ xs. xs ++ x.1 ∷ []) h.in_order
+            ∙ (sym (map-append content (unblanked (take (reached H) L)) (x ∷ []))
+            ∙ ap (map content) (sym (unblanked_more L (reached H) x g (next_stays w H x h g))
+            ∙ (sym (unblanked_past L (suc (reached H))) ∙ (λ j. unblanked (take (past (sym h.marked j) (suc (reached H))) L)) ∙ ap (λ (m : ℕ). unblanked (take m L)) (sym on)))));
+        numbered = h.numbered;
+      };
       within = h.within;
       in_turn = λ l. (let a = h.in_turn (holding_not_lost w H now held) in let b = past_more (marks H) (suc (reached H)) in omega (arith, a, b, on));
       reads = h.reads;
       desk = (h.desk.0, subst (λ xs. IsFront xs (due w H)) (sym (acknowledged_is H now f false false e k)) h.desk.1, h.desk.2);
-      numbered = h.numbered;
     }
 
 sound_frame : (w : Who) (H : List Call) (now : ℕ) (f : FrameRecord) → AreAnswered w H → FrameCase w H now f → Sound w H → Sound w (At now (TakeFrame (Some f)) ∷ H)
-sound_frame w H now f right (claims owes e) h = sound_claim w H now f (claim_taken f now w _ e) h
+sound_frame w H now f right (claims owes e) h = sound_beside w H now f true _ _ (claim_taken f now w _ e) refl refl refl h.desk.1 h
 sound_frame w H now f right (acknowledges m owes held g e way) h =
-    let k = due_taken w f now m e (due_get w (due w H) (length (acknowledged H)) m h.desk.0 g) in
-    sound_acknowledge w H now f m k.0 k.1 g e h
+    let k = due_taken w f now m e (all_at (IsDue w) (due w H) (length (acknowledged H)) m h.desk.0 g) in
+    sound_beside w H now f false true _ k.0 k.1 k.2 refl
+    (subst (λ (y : Message). IsFront (acknowledged H ++ y ∷ []) (due w H)) (sym (ap content e)) (front_longer (acknowledged H) (due w H) m h.desk.1 g)) h
 sound_frame w H now f right (replies m owes held none g e) h =
     let k = reply_taken w.address f now m e (replied_get w.address (reception w H).replies 0 m (tidy w H).replies g) in
-    sound_packet w H now f (k.0, k.1, k.2) h
+    sound_beside w H now f false false true k.0 k.1 k.2 refl h.desk.1 h
 sound_frame w H now f right (sends x owes held none g e) h =
-    let own = next_own w H x h g in
-    sound_send w H now f x (message_taken w f now x e own) (plain_taken w f now x e own) (single_taken w f now x e own) held g e h
+    let own = own_taken w f now x e (next_own w H x h g) in sound_send w H now f x own.0 own.1 own.2 held g e h
 sound_frame w H now f right (packs m owes held none g e) h =
     let is = packet_taken f now m (open_broadcast w H) (length (packets H)) (pause H - step H now) e g in
-    sound_packet w H now f (is.0, is.1, (packet_session f is.2).0) h
+    sound_beside w H now f false false true is.0 is.1 (packet_session f is.2).0 refl h.desk.1 h
 sound_frame w H now f right (transfers m owes held none g e) h =
-    let is = transfer_taken w H now f m right e g in sound_packet w H now f (is.claim, is.plain, is.session) h
+    let is = transfer_taken w H now f m right e g in sound_beside w H now f false false true is.claim is.plain is.session refl h.desk.1 h
 
 sound_accept : (w : Who) (H : List Call) (now k : ℕ) (d : Draft) → can_send w d ≡ true → k ≡ length (accepted w H) → Sound w H → Sound w (At now (Send d (Ok k)) ∷ H)
 sound_accept w H now k d e g h = record {
-  own = own_append w (accepted w H) (k, message_from w d) h.own (is_own w d e);
-  marked = ap (λ bs. bs ++ false ∷ []) h.marked
-      ∙ (ap (λ (b : Bool). map is_blank (accepted w H) ++ b ∷ []) (sym (is_own w d e).group) ∙ sym (map_append is_blank (accepted w H) (k, message_from w d)));
-  next = stops_append (marks H) (reached H) (let a = many_marks w H h in let b = h.passed in omega (arith, a, b)) h.next;
-  passed = (let a = h.passed in let b = length_one_more (accepted w H) (k, message_from w d) in omega (arith, a, b));
-  in_order = h.in_order ∙ ap (λ xs. map content (unblanked xs)) (sym (take-append-le (reached H) (accepted w H) ((k, message_from w d) ∷ []) h.passed));
+  posts = record {
+    own = All-push (Stays w) (accepted w H) (k, message_from w d) h.own (λ z. is_own w d e);
+    marked = ap (λ bs. bs ++ false ∷ []) h.marked
+        ∙ (ap (λ (b : Bool). map is_blank (accepted w H) ++ b ∷ []) (sym (is_own w d e).group) ∙ sym (map-append is_blank (accepted w H) ((k, message_from w d) ∷ [])));
+    next = stops_append (marks H) (reached H) (let a = many_marks w H h in let b = h.passed in omega (arith, a, b)) h.next;
+    passed = (let a = h.passed in let b = length_one_more (accepted w H) (k, message_from w d) in omega (arith, a, b));
+    in_order = h.in_order ∙ ap (λ xs. map content (unblanked xs)) (sym (take-append-le (reached H) (accepted w H) ((k, message_from w d) ∷ []) h.passed));
+    numbered = λ i x f. elim (get_append (accepted w H) (k, message_from w d) i x f) [
+      | inl old ↦ h.numbered i x old
+      | inr new ↦ sym (ap (λ (y : ℕ × Message). y.0) new.1) ∙ (g ∙ sym new.0)
+    ];
+  };
   within = (let a = h.within in let b = length_one_more (accepted w H) (k, message_from w d) in omega (arith, a, b));
   in_turn = λ l. h.in_turn (sym (lost_older (step H now) (address_after w H)) ∙ l);
   reads = h.reads;
   desk = h.desk;
-  numbered = λ i x f. elim (get_append (accepted w H) (k, message_from w d) i x f) [
-    | inl old ↦ h.numbered i x old
-    | inr new ↦ sym (ap (λ (y : ℕ × Message). y.0) new.1) ∙ (g ∙ sym new.0)
-  ];
 }
 
 sound_ask : (w : Who) (H : List Call) (now k group to : ℕ) → can_ask w group to ≡ true → k ≡ length (accepted w H) → Sound w H → Sound w (At now (Ask group to (Ok k)) ∷ H)
-sound_ask w H now k group to e g h = let s = sound_accept w H now k (request_for group to) (sendable w group to e) g h in record {
-  own = s.own;
-  marked = s.marked;
-  next = s.next;
-  passed = s.passed;
-  in_order = s.in_order;
-  within = s.within;
-  in_turn = s.in_turn;
-  reads = s.reads;
-  desk = s.desk;
-  numbered = s.numbered;
-}
+sound_ask w H now k group to e g h =
+    let s = sound_accept w H now k (request_for group to) (sendable w group to e) g h in
+    record { posts = s.posts; within = s.within; in_turn = s.in_turn; reads = s.reads; desk = s.desk }
 
-sound_ended : (w : Who) (H : List Call) (x : ℕ × Ending) → EndCase w H x → Sound w H → Sound w (TakeEnded (Some x) ∷ H)
-sound_ended w H x (done m l g e) h = record {
-  own = h.own;
-  marked = h.marked;
-  next = h.next;
-  passed = h.passed;
-  in_order = h.in_order;
-  within = (let a = slice_get_within (accepted w H) (length (told H)) (x.0, m) g in let b = length_one_more (told H) x in omega (arith, a, b));
-  in_turn = λ i. (let b = length_one_more (told H) x in let c = ltb-true (length (told H)) (reached H) l in omega (arith, b, c));
+sound_ended : (w : Who) (H : List Call) (x : ℕ × Ending) → Told w H x.0 x.1 → Sound w H → Sound w (TakeEnded (Some x) ∷ H)
+sound_ended w H x t h = record {
+  posts = h.posts;
+  within = (let a = slice_get_within (accepted w H) (length (told H)) (x.0, t.message) t.at in let b = length_one_more (told H) x in omega (arith, a, b));
+  in_turn = λ i. (let b = length_one_more (told H) x in elim t.over [ inl l ↦ omega (arith, b, l) | inr l ↦ absurd (not_both _ i l) ]);
   reads = h.reads;
   desk = h.desk;
-  numbered = h.numbered;
-}
-sound_ended w H x (withdrawn m l lost g e) h = record {
-  own = h.own;
-  marked = h.marked;
-  next = h.next;
-  passed = h.passed;
-  in_order = h.in_order;
-  within = (let a = slice_get_within (accepted w H) (length (told H)) (x.0, m) g in let b = length_one_more (told H) x in omega (arith, a, b));
-  in_turn = λ i. absurd (let z : true ≡ false = sym lost ∙ i in cc);
-  reads = h.reads;
-  desk = h.desk;
-  numbered = h.numbered;
 }
 
-kept_grows : (b : Bool) (xs : List (ℕ × Message)) (x : ℕ × Message) (ys : List (ℕ × Message)) → IsFront ys xs → IsFront ys (if b then xs ++ x ∷ [] else xs)
+kept_grows : {T : Type 0} (b : Bool) (xs : List T) (x : T) (ys : List T) → IsFront ys xs → IsFront ys (if b then xs ++ x ∷ [] else xs)
 kept_grows true xs x ys h = front_append ys xs x h
 kept_grows false xs x ys h = h
 
 -- ---- requests
 
-refusal_due : (w : Who) (room place : Bool) (o : Option Asked) (xs : List Message) → AllDue w xs → AllDue w (with_refusal w room place o xs)
+refusal_due : (w : Who) (room place : Bool) (o : Option Asked) (xs : List Message) → All (IsDue w) xs → All (IsDue w) (with_refusal w room place o xs)
 refusal_due w room place None xs h = h
-refusal_due w room place (Some r) xs h = go ((nat_eq r.destination w.address && place) && not (is_served w r.group && room))
-  where
-    go : (b : Bool) → AllDue w (if b then xs ++ acknowledgment w (if is_served w r.group then Busy else Nack) r ∷ [] else xs)
-    go true = due_append w xs _ r h
-    go false = h
+refusal_due w room place (Some r) xs h =
+    cond_both ((nat_eq r.destination w.address && place) && not (is_served w r.group && room)) _ _ (All (IsDue w)) (λ e. due_append w xs _ r h) (λ e. h)
 
 refusal_front : (w : Who) (room place : Bool) (o : Option Asked) (xs ys : List Message) → IsFront ys xs → IsFront ys (with_refusal w room place o xs)
 refusal_front w room place None xs ys h = h
-refusal_front w room place (Some r) xs ys h = go ((nat_eq r.destination w.address && place) && not (is_served w r.group && room))
-  where
-    go : (b : Bool) → IsFront ys (if b then xs ++ acknowledgment w (if is_served w r.group then Busy else Nack) r ∷ [] else xs)
-    go true = front_append ys xs _ h
-    go false = h
+refusal_front w room place (Some r) xs ys h = kept_grows ((nat_eq r.destination w.address && place) && not (is_served w r.group && room)) xs _ ys h
 
 request_front : (w : Who) (room : Bool) (o : Option Asked) (xs ys : List Asked) → IsFront ys xs → IsFront ys (with_request w room o xs)
 request_front w room None xs ys h = h
-request_front w room (Some r) xs ys h = go (is_served w r.group && room)
-  where
-    go : (b : Bool) → IsFront ys (if b then xs ++ r ∷ [] else xs)
-    go true = front_append ys xs r h
-    go false = h
+request_front w room (Some r) xs ys h = kept_grows (is_served w r.group && room) xs r ys h
 
 heard_desk : (w : Who) (H : List Call) (when : ℕ) (f : FrameRecord) → Desked w H → Desked w (At when (Hear f) ∷ H)
 heard_desk w H when f h =
@@ -853,36 +781,29 @@ pub record RenewCase (w : Who) (H : List Call) (d : Draft) (k : ℕ) : Type 0 wh
   pub at : IsLatest (message_from w d) (max (reached H) (length (told H))) 0 k (accepted w H)
 
 pub renew_case : (w : Who) (H : List Call) (d : Draft) (k : ℕ) → Some k ≡ next_renewed w H d → RenewCase w H d k
-renew_case w H d k e = go (can_send w d) refl e
-  where
-    found : (latest (message_from w d) (max (reached H) (length (told H))) 0 (accepted w H) None ≡ Some k) → IsLatest (message_from w d) (max (reached H) (length (told H))) 0 k (accepted w H)
-    found i = elim (latest_is (message_from w d) (max (reached H) (length (told H))) 0 k (accepted w H) None i) [ inl z ↦ absurd (cc) | inr z ↦ z ]
+renew_case w H d k = cond_both (can_send w d) _ _ (λ (o : Option ℕ). Some k ≡ o → RenewCase w H d k)
+    (λ c i. record { can = c; is = sym i; at = elim (latest_is (message_from w d) (max (reached H) (length (told H))) 0 k (accepted w H) None (sym i)) [ inl z ↦ absurd (cc) | inr z ↦ z ] })
+    (λ c i. absurd (cc))
 
-    go : (b : Bool) → can_send w d ≡ b → Some k ≡ (if b then latest (message_from w d) (max (reached H) (length (told H))) 0 (accepted w H) None else None) → RenewCase w H d k
-    go false c i = absurd (cc)
-    go true c i = record { can = c; is = sym i; at = found (sym i) }
-
-own_set : (w : Who) (xs : List (ℕ × Message)) (k : ℕ) (x : ℕ × Message) → AllOwn w xs → (is_blank x ≡ false → IsOwn w x.1) → AllOwn w (slice_set xs k x)
-own_set w [] k x h e = h
-own_set w (y ∷ xs) zero x h e = (e, h.1)
-own_set w (y ∷ xs) (suc k) x h e = (h.0, own_set w xs k x h.1 e)
+set_numbered : (xs : List (ℕ × Message)) (k : ℕ) (m : Message) → ((i : ℕ) (x : ℕ × Message) → slice_get xs i ≡ Some x → x.0 ≡ i)
+    → (i : ℕ) (x : ℕ × Message) → slice_get (slice_set xs k (k, m)) i ≡ Some x → x.0 ≡ i
+set_numbered xs k m h i x e = elim (set_get xs k i (k, m) x e) [ inl z ↦ ap (λ (y : ℕ × Message). y.0) (sym z.1) ∙ sym z.0 | inr z ↦ h i x z ]
 
 sound_renewed : (w : Who) (H : List Call) (d : Draft) (k : ℕ) → RenewCase w H d k → Sound w H → Sound w (Renew d (Some k) ∷ H)
 sound_renewed w H d k c h = record {
-  own = own_set w (accepted w H) k (k, message_from w d) h.own (λ z. is_own w d c.can);
-  marked = h.marked ∙ sym (map-set is_blank (accepted w H) k (k, message_from w d)
-      ∙ (ap (slice_set (map is_blank (accepted w H)) k) plain ∙ set_same (map is_blank (accepted w H)) k false (slice_get-map is_blank (accepted w H) k ∙ there)));
-  next = h.next;
-  passed = (let a = h.passed in let b = length-set (accepted w H) k (k, message_from w d) in omega (arith, a, b));
-  in_order = h.in_order ∙ ap (λ xs. map content (unblanked xs)) (sym (take-set-le (reached H) (accepted w H) k (k, message_from w d) (let l = c.at.from in omega (arith, l))));
+  posts = record {
+    own = All-set (Stays w) (accepted w H) k (k, message_from w d) (λ z. is_own w d c.can) h.own;
+    marked = h.marked ∙ sym (map-set is_blank (accepted w H) k (k, message_from w d)
+        ∙ (ap (slice_set (map is_blank (accepted w H)) k) plain ∙ set_same (map is_blank (accepted w H)) k false (slice_get-map is_blank (accepted w H) k ∙ there)));
+    next = h.next;
+    passed = (let a = h.passed in let b = length-set (accepted w H) k (k, message_from w d) in omega (arith, a, b));
+    in_order = h.in_order ∙ ap (λ xs. map content (unblanked xs)) (sym (take-set-le (reached H) (accepted w H) k (k, message_from w d) (let l = c.at.from in omega (arith, l))));
+    numbered = set_numbered (accepted w H) k (message_from w d) h.numbered;
+  };
   within = (let a = h.within in let b = length-set (accepted w H) k (k, message_from w d) in omega (arith, a, b));
   in_turn = h.in_turn;
   reads = h.reads;
   desk = h.desk;
-  numbered = λ i x e. elim (set_get (accepted w H) k i (k, message_from w d) x e) [
-    | inl z ↦ ap (λ (y : ℕ × Message). y.0) (sym z.1) ∙ sym z.0
-    | inr z ↦ h.numbered i x z
-  ];
 }
   where
     plain : is_blank (k, message_from w d) ≡ false
@@ -921,42 +842,46 @@ sound_withdrawn w H k c h =
     let marked : bs ≡ map is_blank (slice_set L k (k, blank)) = ap (λ xs. slice_set xs k true) h.marked ∙ sym (map-set is_blank L k (k, blank)) in
     let long : length bs ≡ length L = length-set (marks H) k true ∙ many_marks w H h in
     record {
-      own = own_set w L k (k, blank) h.own (λ z. absurd (let y : true ≡ false = z in cc));
-      marked = marked;
-      next = past_stops bs (reached H);
-      passed = (let a = past_within bs (reached H) (let b = h.passed in omega (arith, b, long)) in let b = length-set L k (k, blank) in omega (arith, a, b, long));
-      in_order = h.in_order ∙ ap (map content) (ap unblanked (sym (take-set-le (reached H) L k (k, blank) c.from))
-          ∙ (sym (unblanked_past (slice_set L k (k, blank)) (reached H)) ∙ λ i. unblanked (take (past (sym marked i) (reached H)) (slice_set L k (k, blank)))));
+      posts = record {
+        own = All-set (Stays w) L k (k, blank) (λ z. absurd (let y : true ≡ false = z in cc)) h.own;
+        marked = marked;
+        next = past_stops bs (reached H);
+        passed = (let a = past_within bs (reached H) (let b = h.passed in omega (arith, b, long)) in let b = length-set L k (k, blank) in omega (arith, a, b, long));
+        in_order = h.in_order ∙ ap (map content) (ap unblanked (sym (take-set-le (reached H) L k (k, blank) c.from))
+            ∙ (sym (unblanked_past (slice_set L k (k, blank)) (reached H)) ∙ λ i. unblanked (take (past (sym marked i) (reached H)) (slice_set L k (k, blank)))));
+        numbered = set_numbered L k blank h.numbered;
+      };
       within = (let a = h.within in let b = length-set L k (k, blank) in omega (arith, a, b));
       in_turn = λ l. (let a = h.in_turn l in let b = past_more bs (reached H) in omega (arith, a, b));
       reads = h.reads;
       desk = h.desk;
-      numbered = λ i x e. elim (set_get L k i (k, blank) x e) [
-        | inl z ↦ ap (λ (y : ℕ × Message). y.0) (sym z.1) ∙ sym z.0
-        | inr z ↦ h.numbered i x z
-      ];
     }
 
 sound_more : (w : Who) (H : List Call) (call : Call) → AreAnswered w H → IsAnswered w H call → Sound w H → Sound w (call ∷ H)
-sound_more w H (At when (Hear f)) right e h = rests w H _ refl refl (refl, refl) refl (lost_if w (is_smaller w (claim_of f)) (step H when) (address_after w H))
-    (kept_grows _ (kept w H) (f.stamp, message_of f) (got H) h.reads)
-    (heard_desk w H when f h.desk) h
+sound_more w H (At when (Hear f)) right e h =
+    rests w H (At when (Hear f)) refl refl (refl, refl) refl (kept_grows _ (kept w H) (f.stamp, message_of f) (got H) h.reads) (heard_desk w H when f h.desk) h
 sound_more w H (At now (TakeFrame (Some f))) right e h = sound_frame w H now f right (frame_case w H now f e) h
 sound_more w H (At now (Send d (Ok k))) right e h = let x = send_accepts w H now k d e in sound_accept w H now k d x.1 x.3 h
 sound_more w H (At now (Ask group to (Ok k))) right e h = let x = ask_accepts w H now group to k e in sound_ask w H now k group to x.1 x.3 h
-sound_more w H (TakeEnded (Some x)) right e h = sound_ended w H x (end_case w H x e) h
-sound_more w H (TakeReceived (Some x)) right e h = rests w H _ refl refl (refl, refl) refl (λ l. l)
-    (front_longer (got H) (kept w H) x h.reads (sym e)) h.desk h
-sound_more w H (TakeRequest (Some r)) right e h = rests w H _ refl refl (refl, refl) refl (λ l. l) h.reads (h.desk.0, h.desk.1, front_longer (handed H) (requests w H) r h.desk.2 (sym e)) h
-sound_more w H (At now (Acknowledge r answer (Ok x))) right e h = rests w H _ refl refl (refl, refl) refl (λ l. sym (lost_older (step H now) (address_after w H)) ∙ l) h.reads
+sound_more w H (TakeEnded (Some x)) right e h = sound_ended w H x (told_case w H x.0 x.1 e) h
+sound_more w H (TakeReceived (Some x)) right e h =
+    rests w H (TakeReceived (Some x)) refl refl (refl, refl) refl (front_longer (got H) (kept w H) x h.reads (sym e)) h.desk h
+sound_more w H (TakeRequest (Some r)) right e h =
+    rests w H (TakeRequest (Some r)) refl refl (refl, refl) refl h.reads (h.desk.0, h.desk.1, front_longer (handed H) (requests w H) r h.desk.2 (sym e)) h
+sound_more w H (At now (Acknowledge r answer (Ok x))) right e h = rests w H (At now (Acknowledge r answer (Ok x))) refl refl (refl, refl) refl h.reads
     (due_append w (due w H) answer r h.desk.0, front_append (acknowledged H) (due w H) (acknowledgment w answer r) h.desk.1, h.desk.2) h
 sound_more w H (Withdraw k true) right e h = sound_withdrawn w H k (withdraw_case w H k e) h
 sound_more w H (Renew d (Some k)) right e h = sound_renewed w H d k (renew_case w H d k e) h
-sound_more w H (At now Again) right e h = rests w H _ refl refl (refl, refl) refl (λ l. sym (lost_older (step H now) (address_after w H)) ∙ (sym (lost_unclaimed _) ∙ l)) h.reads h.desk h
-sound_more w H call right e h = rests w H (call ∷ H) refl refl (refl, refl) refl (λ l. let z = lost_older (step H (moment (call ∷ H))) (address_after w H) in cc) h.reads h.desk h
+sound_more w H call right e h = rests w H call refl refl (refl, refl) refl h.reads h.desk h
 
 pub sound : (w : Who) (H : List Call) → AreAnswered w H → Sound w H
-sound w [] e = record { own = tt; marked = refl; next = refl; passed = omega arith; in_order = refl; within = omega arith; in_turn = λ l. omega arith; reads = ([], refl); desk = (tt, ([], refl), ([], refl)); numbered = λ i x e. absurd (cc) }
+sound w [] e = record {
+  posts = record { own = All-nil (Stays w); marked = refl; next = refl; passed = omega arith; in_order = refl; numbered = λ i x e. absurd (cc) };
+  within = omega arith;
+  in_turn = λ l. omega arith;
+  reads = ([], refl);
+  desk = (All-nil (IsDue w), ([], refl), ([], refl));
+}
 sound w (call ∷ H) e = sound_more w H call e.0 e.1 (sound w H e.0)
 
 -- the message that is next is its own
@@ -998,14 +923,10 @@ RequestAt w H k = (x : ℕ × Message) × (slice_get (accepted w H) k ≡ Some x
 
 request_new : (w : Who) (H : List Call) (now group to k : ℕ) → Ok k ≡ answer_to_ask w H now group to → RequestAt w (At now (Ask group to (Ok k)) ∷ H) k
 request_new w H now group to k e =
-    let z = (ask_accepts w H now group to k e).3 in (x, ap (slice_get (accepted w H ++ x ∷ [])) z ∙ last (accepted w H), refl)
+    let z = (ask_accepts w H now group to k e).3 in (x, ap (slice_get (accepted w H ++ x ∷ [])) z ∙ get_last (accepted w H) x, refl)
   where
     x : ℕ × Message
     x = (k, message_from w (request_for group to))
-
-    last : (L : List (ℕ × Message)) → slice_get (L ++ x ∷ []) (length L) ≡ Some x
-    last [] = refl
-    last (y ∷ L) = last L
 
 request_on : (w : Who) (H : List Call) (q : Question) (call : Call) → (open_ask H ≡ Some q → RequestAt w H q.token) → IsAnswered w H call
     → open_ask (call ∷ H) ≡ Some q → RequestAt w (call ∷ H) q.token

@@ -1,5 +1,5 @@
 -- That every transfer ends, to a driver that takes one frame at least in each g.
-use Rattle.j39_node.proofs.Common.{AreAnswered, At, Bool, Call, Controller, FrameRecord, Is, IsSteady, List, Message, None, NoneTold, Ok, Option, Reply, Some, TakeFrame, Transfer, TransferEnding, Who, account, acknowledgment, age, and_parts, ap, arith, broadcast_from, by, counts_for, destination_of, due, eq-eqb, eqb-true, false, goes, holds, if◌then◌else◌, is_acknowledgment, is_apart, is_claim, is_move, is_reply, is_same, is_some, is_that, is_there, is_transfer, later, moment, more, nat_eq, next_other, next_transfer, next_transfer_ended, not-false, not_both, older, others, packets_of, passed_in, ready, reception, refl, silent, since_take, slice_get, step, subst, suc, sym, taken_for, tells_transfer, timer_t3, true, turns, waits, yields, ℕ, ◌&&◌, ◌*◌, ◌++◌, ◌+◌, ◌<◌, ◌||◌, ◌∙◌, ◌∷◌, ◌≡◌, ◌≤◌}
+use Rattle.j39_node.proofs.Common.{AreAnswered, At, Bool, Call, Controller, FrameRecord, Is, IsSteady, List, Message, None, NoneTold, Ok, Option, Reply, Some, TakeFrame, Transfer, TransferEnding, Who, and_parts, ap, arith, broadcast_from, counts_for, destination_of, due, eq-eqb, eqb-true, false, if◌then◌else◌, is_acknowledgment, is_apart, is_claim, is_move, is_reply, is_same, is_some, is_that, is_there, is_transfer, later, moment, nat_eq, next_other, next_transfer, next_transfer_ended, not-false, not_both, others, packets_of, passed_in, ready, reception, refl, since_take, slice_get, step, subst, suc, sym, taken_for, tells_transfer, timer_t3, true, turns, yields, ℕ, ◌&&◌, ◌*◌, ◌++◌, ◌+◌, ◌<◌, ◌||◌, ◌∙◌, ◌∷◌, ◌≡◌, ◌≤◌, cond_both}
 use Rattle.j39_node.proofs.KindLemmas.{kind_by, moves_it, of_session_it, packs_it, replies_it, steers_it}
 use Rattle.j39_node.proofs.EndLaws.{DueTo, Pace, begins, counts_is, ends_then}
 use Rattle.j39_node.proofs.EndSteps.{times_more}
@@ -7,7 +7,7 @@ use Rattle.j39_node.proofs.PromptLaws.{answered_from, takes}
 use Rattle.j39_node.proofs.ReceptionLemmas.{no_reply}
 use Rattle.j39_node.proofs.SoundLemmas.{FrameCase, is_directed, no_transfer, none_other, packet_session, turned}
 use Rattle.j39_node.proofs.SoundLemmas.FrameCase.{claims, acknowledges, replies, sends as sends_one, packs, transfers}
-use Rattle.j39_node.proofs.SteadyLaws.{few_turns, one, since_most, steers, there_by, turns_then}
+use Rattle.j39_node.proofs.SteadyLaws.{few_turns, one, since_most, steers, there_by, turns_then, one_most}
 use Rattle.j39_node.proofs.SteadySteps.{Account, account_goes, account_holds, account_passes, account_rests, account_steers, no_older}
 use Rattle.j39_node.proofs.AnswerCases.{transfer_accepts}
 
@@ -58,9 +58,8 @@ kind_of w to H now f right (replies m o h n g e) away = go (is_some (destination
         there = ap (λ (y : ℕ × Message). y.1.destination) e
 
         same_to : (p q : Option ℕ) → is_same p q ≡ true → p ≡ Some to → is_some q to ≡ true
-        same_to None q i j = absurd (cc)
-        same_to (Some u) None i j = absurd (cc)
         same_to (Some u) (Some v) i j = let k = eqb-true u v i in let l : u ≡ to = cc in eq-eqb v to (sym k ∙ l)
+        same_to p q i j = absurd (cc)
 
         apart : is_apart (next_transfer w H now) (slice_get (reception w H).replies 0) ≡ false → ⊥
         apart z = not_both _ x (ap (λ (y : Option ℕ). is_some y to) there
@@ -74,9 +73,7 @@ kind_of w to H now f right (replies m o h n g e) away = go (is_some (destination
         by true z = absurd (apart (last (ready w H now).message (ready w H now).packet (ready w H now).transfer z))
           where
             last : (p q s : Bool) → (p || (q || s)) ≡ false → s ≡ false
-            last true q s i = absurd (cc)
-            last false true s i = absurd (cc)
-            last false false s i = i
+            last p q s i = grind (arith, i)
 
     go : (d : Bool) → is_some (destination_of f.id) to ≡ d → Kind w to H now f (DueTo w to H now)
     go true x = counted (turns_then H now f false a) (counts_is to f false true true a t x)
@@ -93,10 +90,6 @@ kind_of w to H now f right (transfers m o h n g e) away = absurd (not_both _ awa
 
 abbrev limit : ℕ → ℕ → ℕ → ℕ
 limit g most o = most * (timer_t3 + 3 * g) + (o + 1) * (6 * g)
-
-one_most : (y : Bool) → one y ≤ 1
-one_most true = omega arith
-one_most false = omega arith
 
 module _ (w : Who) (B : List Call) (g most to : ℕ) where
   record Paid (later : List Call) (n base waited streak : ℕ) : Type 0 where
@@ -180,11 +173,7 @@ module _ (w : Who) (B : List Call) (g most to : ℕ) where
   less call later = let a = more call later in let b = times_more (taken_for to later + 1) (taken_for to (call ∷ later) + 1) (6 * g) (omega (arith, a)) in omega (arith, b)
     where
       more : (call : Call) (later : List Call) → taken_for to later ≤ taken_for to (call ∷ later)
-      more (At now (TakeFrame (Some f))) later = go (counts_for to f)
-        where
-          go : (b : Bool) → taken_for to later ≤ (if b then suc (taken_for to later) else taken_for to later)
-          go true = omega arith
-          go false = omega arith
+      more (At now (TakeFrame (Some f))) later = cond_both (counts_for to f) _ _ (λ n. taken_for to later ≤ n) (λ z. omega arith) (λ z. omega arith)
       more call later = omega arith
 
   steady : Pace w B g most to since_take Paid (λ later. limit g most (taken_for to later))

@@ -1,14 +1,13 @@
 -- A driver that takes one frame at least in each g: how long a frame of a broadcast and a message wait, whoever asks.
-use Rattle.j39_node.proofs.Common.{AreAnswered, At, Bool, Broadcast, Call, Controller, Ending, FrameRecord, Is, IsAnswered, IsPrompt, IsSteady, IsTrue, List, Message, MessageRecord, Move, None, NoneTold, Ok, Option, Ready, Reply, Single, Some, StaysFirst, TakeFrame, Who, [], accepted, acknowledgment, add-mul, address_after, and_from, and_parts, ap, arith, broadcast_from, by, claims_anew, counted, eq-eqb, false, gives_way, has_packets, holds, if◌then◌else◌, inl, inr, is_acknowledgment, is_claim, is_held, is_left, is_lost, is_overdue, is_packet, is_reply, is_there, is_turn, kept, later, leb-false, leb-true, left, length, less, lt-ltb, ltb-false, ltb-true, marks, moment, more, nat_eq, nat_le, nat_lt, next_broadcast_ended, next_ended, next_other, not, not-true, not_both, open_broadcast, or_parts, other, others, packets, packets_of, packets_taken, passed, passed_in, pause, quiet, reached, ready, reception, refl, rest, silent, since_take, slice_get, step, subst, suc, suc-mul, sym, takes_reply, tells_broadcast, told, true, turn_of, turns, waited_in, yields, zero, ℕ, ◌&&◌, ◌*◌, ◌++◌, ◌+◌, ◌-◌, ◌<◌, ◌||◌, ◌∙◌, ◌∷◌, ◌≡◌, ◌≤◌, ◌⊎◌}
+use Rattle.j39_node.proofs.Common.{AreAnswered, At, Bool, Broadcast, Call, Controller, Ending, FrameRecord, Is, IsAnswered, IsPrompt, IsSteady, IsTrue, List, Message, MessageRecord, Move, None, NoneTold, Ok, Option, Ready, Reply, Single, Some, StaysFirst, TakeFrame, Who, [], accepted, add-mul, address_after, and_from, and_parts, ap, arith, broadcast_from, claims_anew, eq-eqb, false, gives_way, has_packets, holds, if◌then◌else◌, inl, inr, is_acknowledgment, is_claim, is_held, is_left, is_lost, is_overdue, is_packet, is_reply, is_there, is_turn, kept, later, leb-false, leb-true, length, lt-ltb, marks, moment, nat_eq, nat_le, next_broadcast_ended, next_ended, next_other, not, not-true, not_both, open_broadcast, or_parts, other, others, packets, packets_of, packets_taken, passed_in, pause, quiet, reached, ready, reception, refl, since_take, slice_get, step, subst, suc, suc-mul, sym, takes_reply, tells_broadcast, told, true, turn_of, turns, waited_in, yields, zero, ℕ, ◌&&◌, ◌*◌, ◌++◌, ◌+◌, ◌-◌, ◌<◌, ◌||◌, ◌∙◌, ◌∷◌, ◌≡◌, ◌≤◌, ◌⊎◌, mul-add, cases_lt}
 use Rattle.j39_node.specs.declared.turn.Turn.TheVariants.{Packet}
 use Rattle.j39_node.proofs.EndSteps.{times_more}
 use Rattle.j39_node.proofs.WithdrawLemmas.{past_more}
-use Rattle.j39_node.proofs.LaneLaws.{overdue_goes_by, taken_packet_of}
-use Rattle.j39_node.proofs.LawLemmas.{past_end}
+use Rattle.j39_node.proofs.LaneLaws.{overdue_goes_by, held_then, packed_by}
 use Rattle.j39_node.proofs.MessageLaws.{accepts_more, told_next, more_sent}
-use Rattle.j39_node.proofs.PromptLaws.{answered_from, begins_timely, due_by, ended_or_lost, ends_so, Fate, IsOver, later_on, not_yet, Pace, pause_most, Runs, Stands, stands, takes, Timely}
+use Rattle.j39_node.proofs.PromptLaws.{answered_from, begins_timely, due_by, ended_or_lost, ends_so, Fate, IsOver, later_on, not_yet, timely_then, Pace, pause_most, Runs, Stands, stands, takes, Timely}
 use Rattle.j39_node.proofs.PromptLaws.Fate.{over, gone, runs}
-use Rattle.j39_node.proofs.SoundLemmas.{FrameCase, IsTurn, frame_case, frame_there, held_older, none_next, none_other, packets_is, pause_is, some_at, turned, reached_is, none_at}
+use Rattle.j39_node.proofs.SoundLemmas.{FrameCase, IsTurn, frame_case, frame_there, held_older, none_next, none_other, packets_is, some_at, turned, reached_is, none_at, past_end}
 use Rattle.j39_node.proofs.SoundLemmas.FrameCase.{claims, acknowledges, replies, sends, packs, transfers}
 use Rattle.j39_node.proofs.AnswerCases.{broadcast_accepts}
 use Rattle.j39_node.proofs.KindLemmas.{replies_it, packs_it, Kind, kind_by, kind_is, claims_it, acknowledges_it, steers_it, of_session_it}
@@ -38,14 +37,12 @@ turn_time g (suc zero) = g
 turn_time g (suc (suc t)) = g + g
 
 pub turn_most : (g t : ℕ) → turn_time g t ≤ g + g
-turn_most g zero = omega arith
-turn_most g (suc zero) = omega arith
 turn_most g (suc (suc t)) = omega arith
+turn_most g t = omega arith
 
 pub turn_more : (g t : ℕ) → t < 2 → turn_time g (suc t) ≡ turn_time g t + g
-turn_more g zero l = omega arith
-turn_more g (suc zero) l = refl
 turn_more g (suc (suc t)) l = absurd (omega (arith, l))
+turn_more g t l = omega arith
 
 pub turns_then : (H : List Call) (now : ℕ) (f : FrameRecord) (b : Bool) → (is_claim f || is_acknowledgment f) ≡ b
     → turns (At now (TakeFrame (Some f)) ∷ H) ≡ (if b then suc (turns H) else 0)
@@ -98,23 +95,15 @@ module _ (w : Who) (B : List Call) (g k c0 : ℕ) (m : MessageRecord) where
       → IsDone (At now (TakeFrame (Some f)) ∷ later) ⊎ Goes (At now (TakeFrame (Some f)) ∷ later)
   beside now f later right a p i e h t = elim (zero_or left) [
     | inl z ↦ by (nat_le (length (packets (later ++ B))) (packets_of m)) refl z
-    | inr l ↦ inr (same _ (not_yet 150000 (3 * g) _ _ _ _ (step (later ++ B) now) left (slack (At now (TakeFrame (Some f)) ∷ later)) (omega arith) l t))
+    | inr l ↦ inr (same _ (not_yet 150000 (3 * g) _ _ _ _ (step (later ++ B) now) (left - 0) (slack (At now (TakeFrame (Some f)) ∷ later)) (omega arith) (omega (arith, l)) t))
   ]
     where
-      G : List Call
-      G = At now (TakeFrame (Some f)) ∷ later ++ B
-
       left : ℕ
       left = pause (later ++ B) - step (later ++ B) now
 
-      same : (l : ℕ) → Timely 150000 (3 * g) (packets_taken later) (passed_in later B + step (later ++ B) now) left l
-          → Timely 150000 (3 * g) (packets_taken (At now (TakeFrame (Some f)) ∷ later)) (passed_in later B + step (later ++ B) now) (pause G - 0) l
-      same l h =
-          let q = pause_is (later ++ B) now f false i in
-          subst (λ (n : ℕ). Timely 150000 (3 * g) n (passed_in later B + step (later ++ B) now) (pause G - 0) l)
-          (sym (ap (λ (b : Bool). if b then suc (packets_taken later) else packets_taken later) i))
-          (subst (λ (n : ℕ). Timely 150000 (3 * g) (packets_taken later) (passed_in later B + step (later ++ B) now) n l)
-          (let z : left ≡ pause G - 0 = omega (arith, q) in z) h)
+      same : (l : ℕ) → Timely 150000 (3 * g) (packets_taken later) (passed_in later B + step (later ++ B) now) (left - 0) l
+          → Timely 150000 (3 * g) (packets_taken (At now (TakeFrame (Some f)) ∷ later)) (passed_in later B + step (later ++ B) now) (pause (At now (TakeFrame (Some f)) ∷ later ++ B) - 0) l
+      same l t = timely_then 150000 (3 * g) 0 l later B now f false i t
 
       zero_or : (n : ℕ) → (n ≡ 0) ⊎ (0 < n)
       zero_or zero = inl refl
@@ -185,10 +174,10 @@ pub apart : (w : Who) (later earlier : List Call) (call : Call) (c : Controller)
 apart w later earlier call c g now f is i some none quiet kept steady =
     let B = At now (TakeFrame (Some f)) ∷ earlier in
     let right = answered_from w later B is.answered.0 in
-    let p = taken_packet_of w earlier now f right.0 (frame_case w earlier now f right.1) i in
+    let p = packed_by w earlier now f right.0 i (frame_case w earlier now f right.1) in
     let count = length (packets B) in
     soon_enough w B g p.token count p.message call later
-    (casts w B g p.token count p.message later is.answered.0 none steady.0 (first w B g p.token count p.message p.held p.current refl))
+    (casts w B g p.token count p.message later is.answered.0 none steady.0 (first w B g p.token count p.message (held_then w earlier now f p i) p.current refl))
     quiet (sym (ap (λ (o : Option (ℕ × MessageRecord)). is_left o count) p.current) ∙ some) kept steady.1.0
 
 pub ends : (w : Who) (later earlier : List Call) (c : Controller) (g now group k : ℕ) (bytes : List ℕ)
@@ -214,7 +203,7 @@ few_so : (w : Who) (later B : List Call) → AreAnswered w (later ++ B) → 5000
 few_so w [] B right = omega arith
 few_so w (At now (TakeFrame (Some f)) ∷ later) B right =
     few_or (is_packet f) (pause (later ++ B)) (passed_in later B) (step (later ++ B) now) (packets_taken later) (few_so w later B right.0)
-    (λ i. (taken_packet_of w (later ++ B) now f right.0 (frame_case w (later ++ B) now f right.1) i).over)
+    (λ i. (packed_by w (later ++ B) now f right.0 i (frame_case w (later ++ B) now f right.1)).over)
 few_so w (At now (Broadcast group bytes (Ok k)) ∷ later) B right = let h = few_so w later B right.0 in omega (arith, h)
 few_so w (call ∷ later) B right = let h = few_so w later B right.0 in omega (arith, h)
 
@@ -227,7 +216,7 @@ abbrev pub one : Bool → ℕ
 one true = 1
 one false = 0
 
-one_most : (y : Bool) → one y ≤ 1
+pub one_most : (y : Bool) → one y ≤ 1
 one_most true = omega arith
 one_most false = omega arith
 
@@ -235,15 +224,6 @@ one_most false = omega arith
 record Counted (g singles casts others passed t waited : ℕ) (y : Bool) : Type 0 where
   pub few : others ≤ 2 * (singles + casts) + one y
   pub late : passed ≤ others * (3 * g) + turn_time g t + waited
-
--- another is taken
-goes : (g singles casts others passed t waited s : ℕ) (y : Bool) (singles_then casts_then : ℕ) (y_then : Bool) → waited + s ≤ g
-    → suc others ≤ 2 * (singles_then + casts_then) + one y_then
-    → Counted g singles casts others passed t waited y → Counted g singles_then casts_then (suc others) (passed + s) 0 0 y_then
-goes g singles casts others passed t waited s y singles_then casts_then y_then p e h = record {
-  few = e;
-  late = (let a = h.late in let b = turn_most g t in let d = suc-mul others (3 * g) in omega (arith, a, b, d, p));
-}
 
 pub most_others : (g n others : ℕ) → others ≤ 2 * n + 1 → others * (3 * g) + 3 * g ≤ (n + 1) * (6 * g)
 most_others g n others l =
@@ -254,12 +234,9 @@ most_others g n others l =
     let u : 2 * n + 2 ≡ (n + 1) + (n + 1) = omega arith in
     let v = ap (λ (x : ℕ). x * (3 * g)) u in
     let z = add-mul (n + 1) (n + 1) (3 * g) in
-    let t = twice (n + 1) (3 * g) (6 * g) (omega arith) in
-    omega (arith, a, b, d, v, z, t)
-  where
-    twice : (n x y : ℕ) → y ≡ x + x → n * y ≡ n * x + n * x
-    twice zero x y e = omega arith
-    twice (suc n) x y e = let h = twice n x y e in let a = suc-mul n x in let b = suc-mul n y in omega (arith, h, a, b, e)
+    let t = mul-add (n + 1) (3 * g) (3 * g) in
+    let k = ap (λ (x : ℕ). (n + 1) * x) (let e : 3 * g + 3 * g ≡ 6 * g = omega arith in e) in
+    omega (arith, a, b, d, v, z, t, k)
 
 module _ (w : Who) (B : List Call) (g k : ℕ) where
   record Waits (later : List Call) : Type 0 where
@@ -277,57 +254,45 @@ module _ (w : Who) (B : List Call) (g k : ℕ) where
       → is_held (address_after w (later ++ B)) ≡ true → Waits later → Waits (At now (TakeFrame (Some f)) ∷ later)
   takes_next now f later right case p l held x = go case
     where
-      n : ℕ
-      n = x.singles
-
-      others : ℕ
-      others = x.others
-
-      count : reached B + x.singles ≤ reached (later ++ B)
-      count = x.behind
-
-      h : Counted g x.singles (packets_taken later) x.others (passed_in later B) (turns (later ++ B)) (since_take later B) (yields w (later ++ B))
-      h = x.counted
-
       H : List Call
       H = later ++ B
 
-      G : List Call
-      G = At now (TakeFrame (Some f)) ∷ later ++ B
-
-      there : is_there (next_other w H now) ≡ true
-      there = message_there w (later ++ B) now (held_holds w (later ++ B) now held) l
-
       -- what is counted then, by what kind it is
-      counted : (c : FrameCase w H now f) (n2 o2 : ℕ) → reached B + n2 ≤ reached G
-          → Counted g n2 (if (kind_by c).packet then suc (packets_taken later) else packets_taken later) o2 (passed_in later B + step H now)
-          (if (kind_by c).claim || (kind_by c).acknowledgment then suc (turns H) else 0) 0 (if (kind_by c).claim || (kind_by c).acknowledgment then yields w H else (kind_by c).reply)
+      counted : (c : FrameCase w H now f) (n o : ℕ) → reached B + n ≤ reached (At now (TakeFrame (Some f)) ∷ H)
+          → o ≤ 2 * (n + (if (kind_by c).packet then suc (packets_taken later) else packets_taken later))
+          + one (if (kind_by c).claim || (kind_by c).acknowledgment then yields w H else (kind_by c).reply)
+          → passed_in later B + step H now ≤ o * (3 * g) + turn_time g (if (kind_by c).claim || (kind_by c).acknowledgment then suc (turns H) else 0)
           → Waits (At now (TakeFrame (Some f)) ∷ later)
-      counted c n2 o2 a x = record {
-        singles = n2;
-        others = o2;
+      counted c n o a few late = record {
+        singles = n;
+        others = o;
         behind = a;
-        counted =
-            (subst (λ (k : Kind). Counted g n2 (if k.packet then suc (packets_taken later) else packets_taken later) o2 (passed_in later B + step H now)
-            (if k.claim || k.acknowledgment then suc (turns H) else 0) 0 (if k.claim || k.acknowledgment then yields w H else k.reply)) (sym (kind_is w H now f right c)) x);
+        counted = record {
+          few = subst (λ (k : Kind). o ≤ 2 * (n + (if k.packet then suc (packets_taken later) else packets_taken later))
+              + one (if k.claim || k.acknowledgment then yields w H else k.reply)) (sym (kind_is w H now f right c)) few;
+          late = (let y = ap (λ (k : Kind). turn_time g (if k.claim || k.acknowledgment then suc (turns H) else 0)) (kind_is w H now f right c) in omega (arith, late, y));
+        };
       }
 
       -- no fewer messages are passed
-      no_fewer : reached B + n ≤ reached G
-      no_fewer = let m = more_sent H (At now (TakeFrame (Some f))) in omega (arith, m, count)
+      no_fewer : reached B + x.singles ≤ reached (At now (TakeFrame (Some f)) ∷ H)
+      no_fewer = let m = more_sent H (At now (TakeFrame (Some f))) in let c = x.behind in omega (arith, m, c)
 
       -- a claim or an acknowledgment
-      steered : (c : FrameCase w H now f) → ((kind_by c).claim || (kind_by c).acknowledgment) ≡ true → Counted g n (packets_taken later) others (passed_in later B + step H now) (suc (turns H)) 0 (yields w H)
+      steered : (c : FrameCase w H now f) → ((kind_by c).claim || (kind_by c).acknowledgment) ≡ true → passed_in later B + step H now ≤ x.others * (3 * g) + turn_time g (suc (turns H))
       steered c e =
-          let t = few_turns w H now f case there (steers w H now f right case) (steers_it w H now f right c ∙ e) in
-          record { few = h.few; late = (let u = h.late in let v = turn_more g (turns H) t in omega (arith, u, v, p)) }
+          let t = few_turns w H now f case (message_there w H now (held_holds w H now held) l) (steers w H now f right case) (steers_it w H now f right c ∙ e) in
+          let u = x.counted.late in let v = turn_more g (turns H) t in omega (arith, u, v, p)
+
+      -- another
+      goes : passed_in later B + step H now ≤ suc x.others * (3 * g) + 0
+      goes = let a = x.counted.late in let b = turn_most g (turns H) in let d = suc-mul x.others (3 * g) in omega (arith, a, b, d, p)
 
       go : FrameCase w H now f → Waits (At now (TakeFrame (Some f)) ∷ later)
-      go (claims o e) = counted (claims o e) n others no_fewer (steered (claims o e) refl)
-      go (acknowledges m o q i e way) = counted (acknowledges m o q i e way) n others no_fewer (steered (acknowledges m o q i e way) refl)
-      go (replies m o q i x e) = counted (replies m o q i x e) n (suc others) no_fewer
-          (goes g n (packets_taken later) others _ _ _ (step H now) (yields w H) n (packets_taken later) true p
-          (let u = h.few in let v = ap one (silent (turned w H now (Some Reply) i.1)) in omega (arith, u, v)) h)
+      go (claims o e) = counted (claims o e) x.singles x.others no_fewer x.counted.few (steered (claims o e) refl)
+      go (acknowledges m o q i e way) = counted (acknowledges m o q i e way) x.singles x.others no_fewer x.counted.few (steered (acknowledges m o q i e way) refl)
+      go (replies m o q i y e) =
+          counted (replies m o q i y e) x.singles (suc x.others) no_fewer (let u = x.counted.few in let v = ap one (silent (turned w H now (Some Reply) i.1)) in omega (arith, u, v)) goes
         where
           silent : IsTurn (yields w H) (ready w H now) (Some Reply) → yields w H ≡ false
           silent t = by (yields w H) (lt-ltb _ _ l) t.2
@@ -335,29 +300,25 @@ module _ (w : Who) (B : List Call) (g k : ℕ) where
               by : (y : Bool) → (ready w H now).message ≡ true → (y && ((ready w H now).message || ((ready w H now).packet || (ready w H now).transfer))) ≡ false → y ≡ false
               by false u v = refl
               by true u v = absurd (let z : true ≡ false = (λ j. sym u j || ((ready w H now).packet || (ready w H now).transfer)) ∙ v in cc)
-      go (sends x o q i y e) =
-          let c : FrameCase w H now f = sends x o q i y e in
+      go (sends z o q i y e) =
+          let c : FrameCase w H now f = sends z o q i y e in
           let u = reached_is H now f false false false (claims_it w H now f right c) (acknowledges_it w H now f right c) (of_session_it w H now f right c) in
-          counted (sends x o q i y e) (suc n) (suc others) (let v = past_more (marks H) (suc (reached H)) in omega (arith, u, v, count))
-          (goes g n (packets_taken later) others _ _ _ (step H now) (yields w H) (suc n) (packets_taken later) false p
-          (let u = h.few in let v = one_most (yields w H) in omega (arith, u, v)) h)
-      go (packs m o q i x e) = counted (packs m o q i x e) n (suc others) no_fewer
-          (goes g n (packets_taken later) others _ _ _ (step H now) (yields w H) n (suc (packets_taken later)) false p
-          (let u = h.few in let v = one_most (yields w H) in omega (arith, u, v)) h)
-      go (transfers m o q i x e) = absurd (not_both _ (turned w H now (Some Move) i.1).0.message (lt-ltb _ _ l))
+          counted (sends z o q i y e) (suc x.singles) (suc x.others) (let v = past_more (marks H) (suc (reached H)) in let b = x.behind in omega (arith, u, v, b))
+          (let u = x.counted.few in let v = one_most (yields w H) in omega (arith, u, v)) goes
+      go (packs m o q i y e) =
+          counted (packs m o q i y e) x.singles (suc x.others) no_fewer (let u = x.counted.few in let v = one_most (yields w H) in omega (arith, u, v)) goes
+      go (transfers m o q i y e) = absurd (not_both _ (turned w H now (Some Move) i.1).0.message (lt-ltb _ _ l))
 
   one_later : (call : Call) (later : List Call) → AreAnswered w (later ++ B) → IsAnswered w (later ++ B) call
       → (since_take later B + step (later ++ B) (moment (call ∷ later ++ B)) ≤ g) × (claims_anew call ≡ false) → Among later → Among (call ∷ later)
   one_later (At now (TakeFrame (Some f))) later right a p h = record {
     among = h.among;
     course = later_on w (later ++ B) (At now (TakeFrame (Some f))) refl (λ l. (let e = more_sent (later ++ B) (At now (TakeFrame (Some f))) in omega (arith, e, l)))
-        (λ e z x. by (nat_lt k (reached (later ++ B))) refl e x) h.course;
+        (λ e z x. elim (cases_lt k (reached (later ++ B))) [
+          | inl l ↦ inl (let y = more_sent (later ++ B) (At now (TakeFrame (Some f))) in omega (arith, l, y))
+          | inr l ↦ inr (takes_next now f later right (frame_case w (later ++ B) now f a) p.0 (let y = h.among in omega (arith, l, y)) e x)
+        ]) h.course;
   }
-    where
-      by : (b : Bool) → nat_lt k (reached (later ++ B)) ≡ b → is_held (address_after w (later ++ B)) ≡ true → Waits later
-          → (k < reached (At now (TakeFrame (Some f)) ∷ later ++ B)) ⊎ Waits (At now (TakeFrame (Some f)) ∷ later)
-      by true z e x = inl (let l = ltb-true _ _ z in let y = more_sent (later ++ B) (At now (TakeFrame (Some f))) in omega (arith, l, y))
-      by false z e x = inr (takes_next now f later right (frame_case w (later ++ B) now f a) p.0 (let l = ltb-false _ _ z in let y = h.among in omega (arith, l, y)) e x)
   one_later (At now (TakeFrame None)) later right a p h = record {
     among = h.among;
     course = later_on w (later ++ B) (At now (TakeFrame None)) refl (λ l. l)
@@ -384,12 +345,10 @@ module _ (w : Who) (B : List Call) (g k : ℕ) where
 
   goes_so : (later : List Call) → Among later → (k - reached B + packets_taken later + 1) * (6 * g) < passed_in later B → since_take later B ≤ g
       → (k < reached (later ++ B)) ⊎ (is_lost (address_after w (later ++ B)) ≡ true)
-  goes_so later h l p = ended_or_lost h.course (λ x. by (nat_lt k (reached (later ++ B))) refl x)
+  goes_so later h l p = ended_or_lost h.course (λ x. elim (cases_lt k (reached (later ++ B))) [ inl z ↦ z | inr y ↦ late x y ])
     where
-      by : (b : Bool) → nat_lt k (reached (later ++ B)) ≡ b → Waits later → k < reached (later ++ B)
-      by true z x = ltb-true _ _ z
-      by false z x =
-          let y = ltb-false _ _ z in
+      late : Waits later → reached (later ++ B) ≤ k → k < reached (later ++ B)
+      late x y =
           let c = x.behind in
           let f = x.counted.few in let o = one_most (yields w (later ++ B)) in
           let a = x.counted.late in let b = turn_most g (turns (later ++ B)) in
@@ -435,20 +394,14 @@ module _ (w : Who) (B : List Call) (g : ℕ) (m : Message) where
       → Before (At now (TakeFrame (Some f)) ∷ later)
   before now f later right case p first untaken held b = go case
     where
-      others : ℕ
-      others = b.others
-
       H : List Call
       H = later ++ B
-
-      G : List Call
-      G = At now (TakeFrame (Some f)) ∷ later ++ B
 
       packs_then : (c : Bool) → is_packet f ≡ c → packets_taken (At now (TakeFrame (Some f)) ∷ later) ≡ (if c then suc (packets_taken later) else packets_taken later)
       packs_then c e = ap (λ (d : Bool). if d then suc (packets_taken later) else packets_taken later) e
 
-      yields_then : (c : Bool) → (is_claim f || is_acknowledgment f) ≡ c → yields w G ≡ (if c then yields w (later ++ B) else false)
-      yields_then c e = λ j. if e j then yields w (later ++ B) else untaken j
+      yields_then : (c : Bool) → (is_claim f || is_acknowledgment f) ≡ c → yields w (At now (TakeFrame (Some f)) ∷ H) ≡ (if c then yields w H else false)
+      yields_then c e = λ j. if e j then yields w H else untaken j
 
       -- a claim or an acknowledgment
       steer : (c : FrameCase w H now f) → ((kind_by c).claim || (kind_by c).acknowledgment) ≡ true → (kind_by c).packet ≡ false → Before (At now (TakeFrame (Some f)) ∷ later)
@@ -463,16 +416,16 @@ module _ (w : Who) (B : List Call) (g : ℕ) (m : Message) where
 
       -- another, by how many frames of broadcasts were taken then
       goes_by : (c : FrameCase w H now f) → ((kind_by c).claim || (kind_by c).acknowledgment) ≡ false
-          → others ≤ (if (kind_by c).packet then suc (packets_taken later) else packets_taken later) → Before (At now (TakeFrame (Some f)) ∷ later)
+          → b.others ≤ (if (kind_by c).packet then suc (packets_taken later) else packets_taken later) → Before (At now (TakeFrame (Some f)) ∷ later)
       goes_by c e l =
           let z = steers_it w H now f right c ∙ e in
           record {
-            others = suc others;
+            others = suc b.others;
             few = (let y = ap one (yields_then false z) in let i = packs_then _ (packs_it w H now f right c) in omega (arith, y, i, l));
-            late = (let a = b.late in let y = ap (turn_time g) (turns_then H now f false z) in let d = turn_most g (turns H) in let k = suc-mul others (3 * g) in omega (arith, a, y, d, k, p));
+            late = (let a = b.late in let y = ap (turn_time g) (turns_then H now f false z) in let d = turn_most g (turns H) in let k = suc-mul b.others (3 * g) in omega (arith, a, y, d, k, p));
           }
 
-      few_then : yields w H ≡ true → others ≤ packets_taken later
+      few_then : yields w H ≡ true → b.others ≤ packets_taken later
       few_then y = let a = b.few in let c = ap one y in omega (arith, a, c)
 
       go : FrameCase w H now f → Before (At now (TakeFrame (Some f)) ∷ later)
@@ -528,8 +481,7 @@ reply_goes w later earlier c g m is held first steady there =
 
 since_less : (later B : List Call) → since_take later B ≤ waited_in later B
 since_less [] B = omega arith
-since_less (At now (TakeFrame None) ∷ later) B = omega arith
-since_less (At now (TakeFrame (Some f)) ∷ later) B = omega arith
+since_less (At now (TakeFrame answer) ∷ later) B = omega arith
 since_less (call ∷ later) B = let h = since_less later B in omega (arith, h)
 
 pub prompt_steady : (g : ℕ) (later earlier : List Call) → IsPrompt g later earlier → IsSteady g later earlier

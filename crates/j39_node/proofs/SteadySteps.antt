@@ -1,7 +1,7 @@
 -- How long a transfer waits for a driver that takes one frame at least, by what each take costs.
-use Rattle.j39_node.proofs.Common.{Bool, age, ap, arith, false, others, suc, suc-mul, timer_t3, true, zero, ℕ, ◌*◌, ◌+◌, ◌<◌, ◌≡◌, ◌≤◌}
+use Rattle.j39_node.proofs.Common.{Bool, age, ap, arith, others, suc, suc-mul, timer_t3, ℕ, ◌*◌, ◌+◌, ◌<◌, ◌≡◌, ◌≤◌, mul-add}
 use Rattle.j39_node.proofs.EndSteps.{times_more}
-use Rattle.j39_node.proofs.SteadyLaws.{most_others, one, turn_most, turn_more, turn_time}
+use Rattle.j39_node.proofs.SteadyLaws.{most_others, one, turn_most, turn_more, turn_time, one_most}
 
 -- ---- what the takes cost
 
@@ -74,22 +74,14 @@ account_goes g n m paid base waited since streak others t o s base_then waited_t
       few = l;
     }
 
-pub dist : (n x y : ℕ) → n * (x + y) ≡ n * x + n * y
-dist zero x y = omega arith
-dist (suc n) x y = let h = dist n x y in let a = suc-mul n (x + y) in let b = suc-mul n x in let c = suc-mul n y in omega (arith, h, a, b, c)
-
 -- so it is no older than this
 pub no_older : (g n k age paid base waited since streak others t o s : ℕ) (y : Bool) → n ≤ k → age ≤ k * timer_t3 + base + waited → since + s ≤ g
     → Account g n paid base waited since streak others t o y → age + s ≤ k * (timer_t3 + 3 * g) + (o + 1) * (6 * g)
 no_older g n k age paid base waited since streak others t o s y l a p h =
     let b = h.all_most in let c = h.paid_most in let d = h.streak_most in let e = turn_most g t in
-    let i = dist n g (2 * g) in let j = dist k timer_t3 (3 * g) in
+    let i = mul-add n g (2 * g) in let j = mul-add k timer_t3 (3 * g) in
     let u : n * (g + 2 * g) ≡ n * (3 * g) = ap (λ (x : ℕ). n * x) (omega arith) in
     let m = times_more n k (3 * g) l in
-    let f = h.few in let v = one_of y in
+    let f = h.few in let v = one_most y in
     let q = most_others g o others (omega (arith, f, v)) in
     omega (arith, a, b, c, d, e, i, j, u, m, q, p)
-  where
-    one_of : (y : Bool) → one y ≤ 1
-    one_of true = omega arith
-    one_of false = omega arith

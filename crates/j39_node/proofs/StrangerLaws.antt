@@ -1,5 +1,5 @@
 -- A frame of a stranger changes nothing of what is sent to others, received from others, or told to have ended.
-use Rattle.j39_node.proofs.Common.{[], if◌then◌else◌, ◌&&◌, ◌*◌, ◌++◌, ◌-◌, ◌==◌, ◌||◌, ◌∙◌, ◌∷◌, ◌≡◌, ◌≢◌, ◌⊎◌, Abort, accepted, acknowledged, Acknowledgment, Address, address_after, and_parts, ap, AreAnswered, arith, Asked, asked_group, asked_with, At, Bool, BroadcastAnnounce, Call, calls_for_claim, Claim, claim_address, claim_from, claim_of, ClearToSend, clock_at, cond_both, control_of, Controller, delayed, destination_of, Directed, drop, due, eq-eqb, eqb-true, false, FrameRecord, fresh, goes_to, granted_after, granted_by, grants, handed, has_packets, has_place, Hear, heard_by, hears_if, held_then, holder, holds, inl, inr, Is, is_another, is_apart, is_claim, is_held, is_larger, is_lost, is_refusal_due, is_replaced, is_smaller, is_some, is_spent, is_there, known, leaves, left, length, List, listens, listens_to, Lost, Message, nat_eq, nat_le, nat_lt, next_frame, next_packet, None, not, of_other, older, open_transfer, Option, option_map, owes_claim, Packet, patience, pause, pgn_of, ps_of, reached, Reaction, Ready, Received, Reception, reception, ReceptionRecord, recv_step, refl, replied, reply_from, requests, RequestToSend, Running, said_between, said_to, send_step, shown, Signal, slice_get, Some, source_of, spent_after, step, subst, sym, TakeFrame, takes_abort, takes_data, takes_request, takes_signal, time_heard, ToSend, transfer_by, transport_control_group, transport_data_group, true, turn_frame, turn_of, turns, Who, whole_by, with_refusal, without, yields, ℕ, and-false, or-false}
+use Rattle.j39_node.proofs.Common.{[], if◌then◌else◌, ◌&&◌, ◌*◌, ◌++◌, ◌-◌, ◌==◌, ◌||◌, ◌∙◌, ◌∷◌, ◌≡◌, ◌≢◌, ◌⊎◌, Abort, accepted, acknowledged, Acknowledgment, Address, address_after, and_parts, ap, AreAnswered, arith, Asked, asked_group, asked_with, At, Bool, BroadcastAnnounce, Call, calls_for_claim, Claim, claim_address, claim_from, claim_of, ClearToSend, clock_at, cond_both, control_of, Controller, delayed, destination_of, Directed, drop, due, eq-eqb, eqb-true, false, FrameRecord, fresh, goes_to, granted_after, granted_by, grants, handed, has_packets, has_place, Hear, heard_by, hears_if, held_then, holder, holds, inl, inr, Is, is_another, is_apart, is_claim, is_held, is_larger, is_lost, is_refusal_due, is_replaced, is_smaller, is_some, is_spent, is_there, known, leaves, left, length, List, listens, listens_to, Lost, Message, nat_eq, nat_le, nat_lt, next_frame, next_packet, None, not, of_other, older, open_transfer, Option, option_map, owes_claim, Packet, patience, pause, pgn_of, ps_of, reached, Reaction, Ready, Received, Reception, reception, ReceptionRecord, recv_step, refl, replied, reply_from, requests, RequestToSend, Running, said_between, said_to, send_step, shown, Signal, slice_get, Some, source_of, spent_after, step, subst, sym, TakeFrame, takes_abort, takes_data, takes_request, takes_signal, time_heard, ToSend, transfer_by, transport_control_group, transport_data_group, true, turn_frame, turn_of, turns, Who, whole_by, with_refusal, without, yields, ℕ, and-false, or-false, ne_eqb}
 use Rattle.j39_transport.specs.Signals.{said_by}
 use Rattle.j39_node.specs.Reception.{says}
 use Rattle.j39_transport.specs.Frames as frames
@@ -115,12 +115,8 @@ frame_stays w H c when f now is e g n m =
         else if held
         then option_map (λ m. (now, m)) (control_of (if gives then None else slice_get acks (length (acknowledged H))) others) else None
 
-    differs : (b : Bool) → nat_eq (source_of f.id) w.address ≡ b → nat_eq (source_of f.id) w.address ≡ false
-    differs true i = absurd (m (eqb-true _ _ i))
-    differs false i = i
-
     not_here : (held : Bool) → is_another w held f ≡ false
-    not_here held = ap (λ (b : Bool). held && (b && not (is_claim f))) (differs (nat_eq (source_of f.id) w.address) refl) ∙ and-false held
+    not_here held = ap (λ (b : Bool). held && (b && not (is_claim f))) (ne_eqb (source_of f.id) w.address m) ∙ and-false held
 
     calls : calls_for_claim w (is_lost (address_after w H)) f ≡ false
     calls = λ i. ((is_smaller w (e i) || is_larger w (e i)) && not (is_lost (address_after w H)))
@@ -207,11 +203,8 @@ without_twice a (x ∷ xs) = go (goes_to a x) refl (without_twice a xs)
 
 to_others_stay : (own a : ℕ) (s : Option ToSend) (xs : List Message) → without a (replied own a s xs) ≡ without a xs
 to_others_stay own a None xs = refl
-to_others_stay own a (Some x) xs = go (nat_lt (length (without a xs)) 16)
-  where
-    go : (b : Bool) → without a (if b then without a xs ++ reply_from own a x.bytes ∷ [] else without a xs) ≡ without a xs
-    go true = without_one a (without a xs) (reply_from own a x.bytes) (eq-eqb a a refl) ∙ without_twice a xs
-    go false = without_twice a xs
+to_others_stay own a (Some x) xs = cond_both (nat_lt (length (without a xs)) 16) _ _ (λ ys. without a ys ≡ without a xs)
+    (λ z. without_one a (without a xs) (reply_from own a x.bytes) (eq-eqb a a refl) ∙ without_twice a xs) (λ z. without_twice a xs)
 
 pub replies_stay : (w : Who) (H : List Call) (when : ℕ) (f : FrameRecord) → claim_of f ≡ None
     → without (source_of f.id) (reception w (At when (Hear f) ∷ H)).replies ≡ without (source_of f.id) (reception w H).replies
@@ -223,7 +216,5 @@ replies_stay w H when f e = go (holds w H when) refl
       where
         idle : (a b c : Bool) → a ≡ false → b ≡ false → c ≡ false
             → (heard_by w.address a b f (time_heard (At when (Hear f) ∷ H)) (left c (reception w H))).replies ≡ (reception w H).replies
-        idle true b c x y z = absurd (cc)
-        idle false true c x y z = absurd (cc)
-        idle false false true x y z = absurd (cc)
         idle false false false x y z = refl
+        idle a b c x y z = absurd (cc)

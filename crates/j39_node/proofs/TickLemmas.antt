@@ -9,6 +9,7 @@ use Rattle.j39_node.proofs.AskLaws.{over_told}
 use Rattle.j39_node.proofs.HearingLaws.{tick_keeps}
 use Rattle.j39_node.proofs.ReceptionLaws.{tick_waits}
 use Rattle.j39_node.proofs.SoundLemmas.{lost_older}
+use Rattle.j39_node.proofs.LawLemmas.{before_stamp}
 
 -- a moment before the sooner of two is before each
 before_each : (now : ℕ) (one other : Option ℕ) → ((t : ℕ) → sooner one other ≡ Some t → now < t)
@@ -25,12 +26,9 @@ before_each now (Some m) (Some n) q =
 
 time_fits : (H : List Call) → time_heard H ≤ 9999999999999999
 time_fits [] = omega arith
-time_fits (call ∷ H) = go call (time_fits H)
-  where
-    go : (call : Call) → time_heard H ≤ 9999999999999999 → time_heard (call ∷ H) ≤ 9999999999999999
-    go (At now (Hear f)) h = omega arith
-    go (At now Tick) h = omega arith
-    go call h = h
+time_fits (At now (Hear f) ∷ H) = omega arith
+time_fits (At now Tick ∷ H) = omega arith
+time_fits (call ∷ H) = time_fits H
 
 -- what comes in a session goes on to come, or ends
 session_left : (r : ReceiverRecord) (now : ℕ) → (in_session (recv_step r Ticks now true).after.session ≡ in_session r.session) ⊎ (in_session (recv_step r Ticks now true).after.session ≡ None)
@@ -110,9 +108,7 @@ request_ends w H c now t answer e l is = go (open_ask H) (ended w H) (comes w H 
       where
         by : (a b c : Bool) → is_taken q H ≡ a → comes w H (time_heard H) ≡ b → (if a && not b then (if c then Some (moment H + wait H) else None) else None) ≡ Some t → Goal
         by true false true u v y = over q i j v u (let m : moment H + wait H ≡ t = cc in m)
-        by true false false u v y = absurd (cc)
-        by true true c u v y = absurd (cc)
-        by false b c u v y = absurd (cc)
+        by a b c u v y = absurd (cc)
 
 -- ---- before it none is
 
@@ -154,11 +150,7 @@ none_ends w H now l m q =
     same : (a d : Bool) → ((t : ℕ) → out_at (a && not d) (moment H) (wait H) ≡ Some t → now < t) → silent a (nat_eq (wait H - (now - moment H)) 0) d ≡ silent a (nat_eq (wait H) 0) d
     same false d k = refl
     same true true k = ap (λ (b : Bool). if b then Some TimedOut else if lost then Some Withdrawn else None) (and-false (nat_eq (wait H - (now - moment H)) 0) ∙ sym (and-false (nat_eq (wait H) 0)))
-    same true false k = ap (λ (b : Bool). silent true b false) (not_yet (moment H) (wait H) now (by (nat_lt (moment H + wait H) 10000000000000000) refl))
-      where
-        by : (c : Bool) → nat_lt (moment H + wait H) 10000000000000000 ≡ c → now < moment H + wait H
-        by true g = k (moment H + wait H) (ap (λ (b : Bool). if b then Some (moment H + wait H) else None) g)
-        by false g = let z = ltb-false _ _ g in omega (arith, z, m)
+    same true false k = ap (λ (b : Bool). silent true b false) (not_yet (moment H) (wait H) now (before_stamp now (moment H + wait H) m k))
 
     go : (o : Option Question) (h : Option AskEnding) (d : Bool) → ((t : ℕ) → out_at (is_waiting o (reached H) h d) (moment H) (wait H) ≡ Some t → now < t)
         → ask_end o (reached H) h (wait H - (now - moment H)) d lost ≡ ask_end o (reached H) h (wait H) d lost

@@ -1,5 +1,5 @@
 -- The laws of transfers.
-use Rattle.j39_node.proofs.Common.{Abort, Aborts, Acknowledges, Acknowledgment, AreAnswered, At, Bool, BroadcastAnnounce, Call, ClearToSend, Controller, FrameRecord, Gone, Happened, Hear, Idle, Is, IsMove, IsTrue, List, Message, MessageRecord, None, Ok, Option, Packet, Refused, Replaces, RequestToSend, Result, Running, SendState, SenderRecord, Sending, Signal, Some, TakeFrame, TakeTransferEnded, Transfer, TransferEnding, Waiting, Who, [], abort_move, aborted, acked, address_after, after, all_transfers, ap, arith, both, broken_off, by, can_transfer, cleared, clears, clears_by, clock_at, cond_both, ending_by, eq-eqb, eqb-true, false, first, gives_up, granted_after, granted_by, hears, hears_if, holder, holds, idle, if◌then◌else◌, inl, inr, is_clear, is_engaged, is_idle, is_lost, is_move, is_replaced, is_resting, is_running, is_spent, is_waiting, later, left, length, listens, long_by, lost, ltb-true, max, may_name, message_of, min, moves, nat_eq, nat_lt, new_sender, next_packet, next_transfer, not, not_both, nothing, open_transfer, option_map, or_parts, other, packet_data, packets, packets_of, refl, request_of, rested, said_between, says, send_step, sends, sends_if, signal_by, silent, slice_get, spent_after, still, subst, sym, takes_clear, ticks_in, told, told_transfers, transfer_end, transport_control_group, transport_data_group, true, waiting, ℕ, ◌&&◌, ◌++◌, ◌+◌, ◌-◌, ◌<◌, ◌==◌, ◌||◌, ◌∙◌, ◌∷◌, ◌≡◌, ◌≤◌, ◌⊎◌}
+use Rattle.j39_node.proofs.Common.{Abort, Aborts, Acknowledges, Acknowledgment, AreAnswered, At, Bool, Call, Controller, FrameRecord, Gone, Happened, Hear, Idle, Is, IsMove, IsTrue, List, Message, MessageRecord, None, Ok, Option, Refused, Replaces, Result, Running, SendState, SenderRecord, Signal, Some, TakeFrame, TakeTransferEnded, Transfer, TransferEnding, Who, [], abort_move, aborted, acked, address_after, all_transfers, ap, arith, both, can_transfer, clears, clears_by, clock_at, cond_both, ending_by, eq-eqb, eqb-true, false, gives_up, granted_after, granted_by, hears, hears_if, holder, holds, if◌then◌else◌, inl, inr, is_clear, is_engaged, is_idle, is_lost, is_move, is_replaced, is_resting, is_running, is_spent, is_waiting, later, left, length, listens, long_by, lost, ltb-true, max, message_of, moves, nat_eq, nat_lt, new_sender, next_packet, next_transfer, not, not_both, open_transfer, option_map, or_parts, other, packets_of, refl, rested, said_between, says, send_step, sends, sends_if, signal_by, slice_get, spent_after, subst, sym, takes_clear, ticks_in, told, told_transfers, transfer_end, transport_control_group, transport_data_group, true, waiting, ℕ, ◌&&◌, ◌++◌, ◌+◌, ◌<◌, ◌||◌, ◌∙◌, ◌∷◌, ◌≡◌, ◌≤◌, ◌⊎◌, same_Some, none-some, ltb-false, or_cases}
 use Rattle.j39_transport.specs.Sending.{Heard, Tick}
 use Rattle.j39_node.specs.declared.kinds.TransferEnding.TheVariants.{Done, Withdrawn, Failed}
 use Rattle.j39_node.specs.Transfers.{is_over, said_to}
@@ -7,24 +7,22 @@ use Rattle.j39_node.specs.Moves.{NoneEnds}
 use Rattle.j39_transport.specs.Sending as sending
 use Rattle.j39_node.proofs.SoundLemmas.{frame_case}
 use Rattle.j39_node.proofs.LaneLaws.{none_long}
-use Rattle.j39_node.proofs.PortLemmas.{hears_same, sends_same}
+use Rattle.j39_node.proofs.PortLemmas.{hears_same, sends_same, hears_cases}
 use Rattle.j39_node.proofs.AnswerCases.{transfer_accepts, waits_for}
 use Rattle.j39_node.proofs.AnswerCases as cases
-use Rattle.j39_node.proofs.MoveSteps.{Moved, SignalCase, signal_case, running_some, done_heard, done_ticked, done_given_up, failed_heard, failed_ticked, failed_given_up}
+use Rattle.j39_node.proofs.MoveSteps.{Moved, SignalCase, signal_case, running_some, done_heard, done_ticked, done_given_up, failed_heard, failed_ticked, failed_given_up, HeardCase, heard_case}
 use Rattle.j39_node.proofs.MoveSteps.SignalCase.{requests, packs, times_out}
-use Rattle.j39_node.proofs.MoveLemmas.{Arises, LastIf, Sent, last_one, last_open, moved_open, sent_case, traced}
+use Rattle.j39_node.proofs.MoveLemmas.{Arises, LastIf, Sent, last_one, last_open, moved_open, sent_case, traced, hears_token}
 use Rattle.j39_node.proofs.StrangerLaws.{own_source as from_own}
+use Rattle.j39_node.proofs.MoveSteps.HeardCase.{same, done, fails, holds as holding, clears as is_cleared}
+use Rattle.j39_node.proofs.QueueLemmas.{mapped_none, mapped_some}
 
 -- ---- what transfer answers
 
 pub engaged_limit : (o : Option Running) (told : ℕ) (all : List (ℕ × MessageRecord)) (r : Bool) → LastIf told all o → (is_engaged o (length all) || r) ≡ true
     → (length all ≡ told + 1) ⊎ ((length all ≡ 18446744073709551615) ⊎ IsTrue r)
 engaged_limit (Some t) told all r h e = inl (let a = h.token in let b = h.count in omega (arith, a, b))
-engaged_limit None told all r h e = inr (go (nat_eq (length all) 18446744073709551615) refl e)
-  where
-    go : (b : Bool) → nat_eq (length all) 18446744073709551615 ≡ b → (b || r) ≡ true → (length all ≡ 18446744073709551615) ⊎ IsTrue r
-    go true i z = inl (eqb-true _ _ i)
-    go false i z = inr z
+engaged_limit None told all r h e = inr (elim (or_cases (nat_eq (length all) 18446744073709551615) r e) [ inl z ↦ inl (eqb-true _ _ z) | inr z ↦ inr z ])
 
 pub free_limit : (o : Option Running) (told : ℕ) (all : List (ℕ × MessageRecord)) (r : Bool) → LastIf told all o → (is_engaged o (length all) || r) ≡ false
     → ((length all ≡ told + 1) ⊎ ((length all ≡ 18446744073709551615) ⊎ IsTrue r)) → ⊥
@@ -115,20 +113,13 @@ abbrev Within : ℕ → Option ℕ → Type 0
 Within n None = Unit {0}
 Within n (Some last) = last ≤ n
 
-granted_within : (s : SenderRecord) (o : Option Signal) → Within (packets_of s.message) (granted_by s o)
-granted_within s None = tt
-granted_within s (Some (BroadcastAnnounce size packets pgn)) = tt
-granted_within s (Some (RequestToSend size packets most pgn)) = tt
-granted_within s (Some (ClearToSend count p pgn)) = cond_both (is_waiting s.state && pgn == s.message.pgn) _ _ (Within (packets_of s.message))
-    (λ t. cond_both (count == 0) _ _ (Within (packets_of s.message)) (λ u. (let z : 0 ≤ packets_of s.message = omega arith in z))
-    (λ u. cond_both (may_name s p) _ _ (Within (packets_of s.message)) (λ v. (let z : min (p + count - 1) (packets_of s.message) ≤ packets_of s.message = omega arith in z)) (λ v. tt)))
-    (λ t. tt)
-granted_within s (Some (Acknowledgment size packets pgn)) = tt
-granted_within s (Some (Abort reason pgn)) = tt
-granted_within s (Some (Packet number part)) = tt
-
-not_more : (k : ℕ) → nat_lt 64 k ≡ false → k ≤ 64
-not_more k e = grind arith
+granted_within : (s : SenderRecord) (a : Option Signal) → Within (packets_of s.message) (granted_by s a)
+granted_within s a = go _ _ (heard_case s a 0)
+  where
+    go : (o : Option ℕ) (r : SenderRecord) → HeardCase s a 0 o r → Within (packets_of s.message) o
+    go o r (holding limit i) = omega arith
+    go o r (is_cleared limit next last i n) = n.most
+    go o r other = tt
 
 budget_listens : (t : Running) (n k : ℕ) (o : Option ℕ) → Within k o → n ≤ t.granted + t.spent → t.granted ≤ k → t.spent ≤ 64 → t.spent ≤ n
     → ((if is_clear o then n + 1 else n) ≤ granted_after o t.granted + spent_after o t.granted t.spent)
@@ -142,7 +133,7 @@ budget_listens t n k (Some last) l a b d h = go (nat_lt t.granted last) refl
 
 budget_hears : (lost replaced : Bool) (f : FrameRecord) (now : ℕ) (t : Running) (n : ℕ) → Budgeted t n
     → Budgeted (hears lost replaced f now t) (if takes_clear lost replaced f t then n + 1 else n)
-budget_hears true replaced f now t n h = record { count = h.count; granted = h.granted; spent = h.spent; heard = h.heard }
+budget_hears true replaced f now t n h = h
 budget_hears false true f now t n h = record { count = h.count; granted = h.granted; spent = h.spent; heard = h.heard }
 budget_hears false false f now t n h = go (t.gone || is_spent t) refl
   where
@@ -154,7 +145,7 @@ budget_hears false false f now t n h = go (t.gone || is_spent t) refl
     go true e = h
     go false e =
         let x = budget_listens t n (packets_of t.sender.message) (granted_by t.sender (said_to t.sender f)) (granted_within t.sender (said_to t.sender f)) h.count h.granted
-        (not_more t.spent (or_parts t.gone (is_spent t) e).1) h.heard in
+        (ltb-false 64 t.spent (or_parts t.gone (is_spent t) e).1) h.heard in
         record { count = x.0; granted = subst (λ (k : ℕ). granted_after (granted_by t.sender (said_to t.sender f)) t.granted ≤ k) (sym same) x.1; spent = x.2; heard = x.3 }
 
 budget_hears_if : (lost : Bool) (replaced : ℕ → Bool) (f : FrameRecord) (now : ℕ) (o : Option Running) (n : ℕ) → BudgetedIf o n
@@ -182,26 +173,12 @@ budgeted w (At now (Transfer group to bytes (Ok k)) ∷ H) = record { count = om
 budgeted w (TakeTransferEnded (Some x) ∷ H) = tt
 budgeted w (call ∷ H) = budgeted w H
 
-one_number : (m n : ℕ) → Some m ≡ Some n → m ≡ n
-one_number m n e = cc
-
 -- it gives up only where more than 64 clears to send granted nothing higher
 not_five : (t : Running) (xs : List Message) (a : Signal) → SignalCase t.sender xs a → says t.sender a ≡ abort_move t.sender.destination t.sender.message 5 → ⊥
-not_five t xs a (requests n e) k =
-    let z : says t.sender (request_of t.sender.message) ≡ abort_move t.sender.destination t.sender.message 5 = sym (ap (says t.sender) e) ∙ k in
-    let y = one_number 16 255 (ap (λ (m : Message). slice_get m.bytes 0) z) in
-    absurd (omega (arith, y))
+not_five t xs a (requests n e) k = let y = same_Some 16 255 (ap (λ (m : Message). slice_get m.bytes 0) (sym (ap (says t.sender) e) ∙ k)) in absurd (omega (arith, y))
 not_five t xs a (packs i n l m e) k =
-    let z : says t.sender (Packet i (packet_data t.sender.message.bytes i)) ≡ abort_move t.sender.destination t.sender.message 5 = sym (ap (says t.sender) e) ∙ k in
-    let y : transport_data_group ≡ transport_control_group = ap (λ (m : Message). m.group) z in
-    absurd (omega (arith, y))
-not_five t xs a (times_out n e) k =
-    let z : abort_move t.sender.destination t.sender.message 3 ≡ abort_move t.sender.destination t.sender.message 5 = sym (ap (says t.sender) e) ∙ k in
-    let y = one_number 3 5 (ap (λ (m : Message). slice_get m.bytes 1) z) in
-    absurd (omega (arith, y))
-
-many : (k : ℕ) → nat_lt 64 k ≡ true → 65 ≤ k
-many k e = grind arith
+    let y : transport_data_group ≡ transport_control_group = ap (λ (m : Message). m.group) (sym (ap (says t.sender) e) ∙ k) in absurd (omega (arith, y))
+not_five t xs a (times_out n e) k = let y = same_Some 3 5 (ap (λ (m : Message). slice_get m.bytes 1) (sym (ap (says t.sender) e) ∙ k)) in absurd (omega (arith, y))
 
 pub patient : (w : Who) (H : List Call) (c : Controller) (now : ℕ) (f : FrameRecord) (t : Running) → Is w (At now (TakeFrame (Some f)) ∷ H) c → IsTrue (is_move w H f)
     → open_transfer w H ≡ Some t → message_of f ≡ abort_move t.sender.destination t.sender.message 5 → (65 ≤ t.spent) × (65 ≤ clears w H)
@@ -215,10 +192,10 @@ patient w H c now f t is p e five = go (gives_up t) refl
 
     go : (b : Bool) → gives_up t ≡ b → (65 ≤ t.spent) × (65 ≤ clears w H)
     go true g =
-        let a = many t.spent (both (is_spent t) (is_running t.sender.state) g).0 in
+        let a = ltb-true 64 t.spent (both (is_spent t) (is_running t.sender.state) g).0 in
         let h : Budgeted t (clears w H) = subst (λ (o : Option Running). BudgetedIf o (clears w H)) e (budgeted w H) in
         let b = h.heard in
-        (a, omega (arith, a, b))
+        (omega (arith, a), omega (arith, a, b))
     go false g = absurd (not_five t (moves w H) s.signal
         (signal_case t.sender (clock_at H now) (moves w H) s.signal (moved_open w H t is.answered.0 e)
         (ticking t (clock_at H now) s.signal g (ap (λ (u : Running). signal_by u (clock_at H now)) (sym same) ∙ s.said)))
@@ -239,9 +216,7 @@ heeds w H when f t e own held here room =
         → (x : Running) × (Some (if a then t else if b then record t { gone = true } else if g then t else listens f (clock_at H when) t) ≡ Some x)
         × (x.sender ≡ (send_step t.sender (Heard f) (clock_at H when)).after)
     heard false false false p q r = (listens f (clock_at H when) t, refl, refl)
-    heard true b g p q r = absurd (cc)
-    heard false true g p q r = absurd (cc)
-    heard false false true p q r = absurd (cc)
+    heard a b g p q r = absurd (cc)
 
 -- ---- how it ended
 
@@ -251,71 +226,35 @@ pub record Ended (w : Who) (H : List Call) (k : ℕ) (e : TransferEnding) : Type
   pub token : running.token ≡ k
   pub ending : Some e ≡ ending_by running.sender.state running.gone (is_lost (address_after w H))
 
-same_pair : (x y : ℕ × TransferEnding) → Some x ≡ Some y → (x.0 ≡ y.0) × (x.1 ≡ y.1)
-same_pair x y e = let z : x ≡ y = cc in (ap (λ (u : ℕ × TransferEnding). u.0) z, ap (λ (u : ℕ × TransferEnding). u.1) z)
-
 ended_by : (w : Who) (H : List Call) (k : ℕ) (e : TransferEnding) (o : Option Running) → open_transfer w H ≡ o → Some (k, e) ≡ transfer_end o (is_lost (address_after w H))
     → Ended w H k e
 ended_by w H k e None p q = absurd (cc)
-ended_by w H k e (Some t) p q = go (ending_by t.sender.state t.gone (is_lost (address_after w H))) refl q
-  where
-    go : (x : Option TransferEnding) → ending_by t.sender.state t.gone (is_lost (address_after w H)) ≡ x
-        → (let o : Option (ℕ × TransferEnding) = Some (k, e) in o) ≡ (let o : Option (ℕ × TransferEnding) = option_map (λ y. (t.token, y)) x in o) → Ended w H k e
-    go None a b = absurd (cc)
-    go (Some y) a b =
-        let z = same_pair (k, e) (t.token, y) b in
-        record { running = t; is = p; token = sym z.0; ending = ap (λ (u : TransferEnding). Some u) z.1 ∙ sym a }
+ended_by w H k e (Some t) p q =
+    let x = mapped_some (λ y. (t.token, y)) (ending_by t.sender.state t.gone (is_lost (address_after w H))) (k, e) (sym q) in
+    record { running = t; is = p; token = ap (λ (u : ℕ × TransferEnding). u.0) x.2; ending = ap (λ (u : ℕ × TransferEnding). Some u.1) (sym x.2) ∙ sym x.1 }
 
 pub ended : (w : Who) (H : List Call) (c : Controller) (k : ℕ) (e : TransferEnding) → Is w (TakeTransferEnded (Some (k, e)) ∷ H) c → Ended w H k e
 ended w H c k e is = ended_by w H k e (open_transfer w H) refl is.answered.1
 
-broken_done : (gone lost : Bool) → Some Done ≡ broken_off gone lost → ⊥
-broken_done true lost e = absurd (cc)
-broken_done false true e = absurd (cc)
-broken_done false false e = absurd (cc)
+-- what an ending says of the state of its sender, of its destination and of the address
+abbrev pub Tells : SendState → Bool → Bool → Option TransferEnding → Type 0
+Tells u gone lost None = (gone ≡ false) × (lost ≡ false) × ((is_idle u || is_running u) ≡ true)
+Tells u gone lost (Some Done) = u ≡ sending.Done
+Tells u gone lost (Some (Failed r)) = u ≡ sending.Failed r
+Tells u gone lost (Some Gone) = gone ≡ true
+Tells u gone lost (Some Withdrawn) = lost ≡ true
 
-broken_failed : (gone lost : Bool) (r : ℕ) → Some (Failed r) ≡ broken_off gone lost → ⊥
-broken_failed true lost r e = absurd (cc)
-broken_failed false true r e = absurd (cc)
-broken_failed false false r e = absurd (cc)
+pub tells : (u : SendState) (gone lost : Bool) → Tells u gone lost (ending_by u gone lost)
+tells sending.Done gone lost = refl
+tells (sending.Failed r) gone lost = refl
+tells u true lost = refl
+tells u false true = refl
+tells u false false = (refl, refl, refl)
 
-state_done : (u : SendState) (gone lost : Bool) → Some Done ≡ ending_by u gone lost → u ≡ sending.Done
-state_done sending.Done gone lost e = refl
-state_done (sending.Failed r) gone lost e = absurd (cc)
-state_done sending.Idle gone lost e = absurd (broken_done gone lost e)
-state_done (sending.Waiting limit) gone lost e = absurd (broken_done gone lost e)
-state_done (sending.Sending next last) gone lost e = absurd (broken_done gone lost e)
-
-state_failed : (u : SendState) (gone lost : Bool) (r : ℕ) → Some (Failed r) ≡ ending_by u gone lost → u ≡ sending.Failed r
-state_failed sending.Done gone lost r e = absurd (cc)
-state_failed (sending.Failed k) gone lost r e = let z : r ≡ k = cc in ap sending.Failed (sym z)
-state_failed sending.Idle gone lost r e = absurd (broken_failed gone lost r e)
-state_failed (sending.Waiting limit) gone lost r e = absurd (broken_failed gone lost r e)
-state_failed (sending.Sending next last) gone lost r e = absurd (broken_failed gone lost r e)
-
-broken_gone : (gone lost : Bool) → Some Gone ≡ broken_off gone lost → gone ≡ true
-broken_gone true lost e = refl
-broken_gone false true e = absurd (cc)
-broken_gone false false e = absurd (cc)
-
-pub state_gone : (u : SendState) (gone lost : Bool) → Some Gone ≡ ending_by u gone lost → gone ≡ true
-state_gone sending.Done gone lost e = absurd (cc)
-state_gone (sending.Failed r) gone lost e = absurd (cc)
-state_gone sending.Idle gone lost e = broken_gone gone lost e
-state_gone (sending.Waiting limit) gone lost e = broken_gone gone lost e
-state_gone (sending.Sending next last) gone lost e = broken_gone gone lost e
-
-broken_lost : (gone lost : Bool) → Some Withdrawn ≡ broken_off gone lost → lost ≡ true
-broken_lost true lost e = absurd (cc)
-broken_lost false true e = refl
-broken_lost false false e = absurd (cc)
-
-pub state_lost : (u : SendState) (gone lost : Bool) → Some Withdrawn ≡ ending_by u gone lost → lost ≡ true
-state_lost sending.Done gone lost e = absurd (cc)
-state_lost (sending.Failed r) gone lost e = absurd (cc)
-state_lost sending.Idle gone lost e = broken_lost gone lost e
-state_lost (sending.Waiting limit) gone lost e = broken_lost gone lost e
-state_lost (sending.Sending next last) gone lost e = broken_lost gone lost e
+-- of the transfer that was told
+pub told_so : {w : Who} {H : List Call} {k : ℕ} {e : TransferEnding} (x : Ended w H k e) → Tells x.running.sender.state x.running.gone (is_lost (address_after w H)) (Some e)
+told_so {w} {H} x =
+    subst (Tells x.running.sender.state x.running.gone (is_lost (address_after w H))) (sym x.ending) (tells x.running.sender.state x.running.gone (is_lost (address_after w H)))
 
 -- ---- since when
 
@@ -328,46 +267,32 @@ unfolding new_sender
 done_arises w = record {
   begins_not = λ token m to q. (let z : sending.Idle ≡ sending.Done = q in absurd (cc));
   by_hearing = λ H when f t right e q.
-      heard H when f t (is_lost (address_after w (At when (Hear f) ∷ H))) (is_replaced (holder w H t.sender.destination) (holder w (At when (Hear f) ∷ H) t.sender.destination)) (clock_at H when) right e q;
+      hears_cases (λ (u : Running). u.sender.state ≡ sending.Done → (t.sender.state ≡ sending.Done) ⊎ Acknowledges w t.sender.destination t.sender.message H (At when (Hear f)))
+      (is_lost (address_after w (At when (Hear f) ∷ H))) (is_replaced (holder w H t.sender.destination) (holder w (At when (Hear f) ∷ H) t.sender.destination)) f (clock_at H when) t
+      (λ q. inl q) (λ z q. inl q)
+      (λ z q. elim (done_heard t.sender f (clock_at H when) q) [
+        | inl x ↦ inl x
+        | inr x ↦ inr (
+          said_own w H t f _ right e x.says,
+          λ i l m. (let n = x.last in (moved_open w H t right e).taken i l (omega (arith, m, n))),
+        )
+      ]) q;
   by_sending = λ H now f t a right e g k q. inl (cond_both (gives_up t) (aborted 5 t.sender) (send_step t.sender Tick (clock_at H now)).after
       (λ (r : SenderRecord). r.state ≡ sending.Done → t.sender.state ≡ sending.Done) (λ z. done_given_up t.sender 5) (λ z. done_ticked t.sender (clock_at H now)) q);
 }
-  where
-    heard : (H : List Call) (when : ℕ) (f : FrameRecord) (t : Running) (lost replaced : Bool) (now : ℕ) → AreAnswered w H → open_transfer w H ≡ Some t
-        → (hears lost replaced f now t).sender.state ≡ sending.Done
-        → (t.sender.state ≡ sending.Done) ⊎ Acknowledges w t.sender.destination t.sender.message H (At when (Hear f))
-    heard H when f t true replaced now right e = λ q. inl q
-    heard H when f t false true now right e = λ q. inl q
-    heard H when f t false false now right e = cond_both (t.gone || is_spent t) t (listens f now t)
-        (λ (u : Running). u.sender.state ≡ sending.Done → (t.sender.state ≡ sending.Done) ⊎ Acknowledges w t.sender.destination t.sender.message H (At when (Hear f)))
-        (λ z q. inl q)
-        (λ z q. elim (done_heard t.sender f now q) [
-          | inl x ↦ inl x
-          | inr x ↦ inr (
-            said_own w H t f _ right e x.says,
-            λ i l m. (let n = x.last in (moved_open w H t right e).taken i l (omega (arith, m, n))),
-          )
-        ])
 
 failed_arises : (w : Who) (r : ℕ) → Arises w (λ t. t.sender.state ≡ sending.Failed r) (Aborts w r)
 unfolding new_sender
 failed_arises w r = record {
   begins_not = λ token m to q. (let z : sending.Idle ≡ sending.Failed r = q in absurd (cc));
   by_hearing = λ H when f t right e q.
-      heard H when f t (is_lost (address_after w (At when (Hear f) ∷ H))) (is_replaced (holder w H t.sender.destination) (holder w (At when (Hear f) ∷ H) t.sender.destination)) (clock_at H when) right e q;
+      hears_cases (λ (u : Running). u.sender.state ≡ sending.Failed r → (t.sender.state ≡ sending.Failed r) ⊎ Aborts w r t.sender.destination t.sender.message H (At when (Hear f)))
+      (is_lost (address_after w (At when (Hear f) ∷ H))) (is_replaced (holder w H t.sender.destination) (holder w (At when (Hear f) ∷ H) t.sender.destination)) f (clock_at H when) t
+      (λ q. inl q) (λ z q. inl q)
+      (λ z q. elim (failed_heard t.sender f (clock_at H when) r q) [ inl x ↦ inl x | inr x ↦ inr (said_own w H t f _ right e x) ]) q;
   by_sending = sending_one;
 }
   where
-    heard : (H : List Call) (when : ℕ) (f : FrameRecord) (t : Running) (lost replaced : Bool) (now : ℕ) → AreAnswered w H → open_transfer w H ≡ Some t
-        → (hears lost replaced f now t).sender.state ≡ sending.Failed r
-        → (t.sender.state ≡ sending.Failed r) ⊎ Aborts w r t.sender.destination t.sender.message H (At when (Hear f))
-    heard H when f t true replaced now right e = λ q. inl q
-    heard H when f t false true now right e = λ q. inl q
-    heard H when f t false false now right e = cond_both (t.gone || is_spent t) t (listens f now t)
-        (λ (u : Running). u.sender.state ≡ sending.Failed r → (t.sender.state ≡ sending.Failed r) ⊎ Aborts w r t.sender.destination t.sender.message H (At when (Hear f)))
-        (λ z q. inl q)
-        (λ z q. elim (failed_heard t.sender f now r q) [ inl x ↦ inl x | inr x ↦ inr (said_own w H t f _ right e x) ])
-
     aborts : (t : Running) (f : FrameRecord) (a : Signal) → message_of f ≡ says t.sender a → a ≡ Abort r t.sender.message.pgn
         → message_of f ≡ abort_move t.sender.destination t.sender.message r
     aborts t f a k z = k ∙ ap (says t.sender) z
@@ -390,17 +315,11 @@ pub gone_arises : (w : Who) → Arises w (λ t. t.gone ≡ true) (λ to m. Repla
 gone_arises w = record {
   begins_not = λ token m to q. absurd (cc);
   by_hearing = λ H when f t right e q.
-      heard H when f t (is_lost (address_after w (At when (Hear f) ∷ H))) (is_replaced (holder w H t.sender.destination) (holder w (At when (Hear f) ∷ H) t.sender.destination)) (clock_at H when) refl q;
+      hears_cases (λ (u : Running). u.gone ≡ true → (t.gone ≡ true) ⊎ Replaces w t.sender.destination H (At when (Hear f)))
+      (is_lost (address_after w (At when (Hear f) ∷ H))) (is_replaced (holder w H t.sender.destination) (holder w (At when (Hear f) ∷ H) t.sender.destination)) f (clock_at H when) t
+      (λ q. inl q) (λ z q. inr z) (λ z q. inl q) q;
   by_sending = λ H now f t a right e g k q. inl q;
 }
-  where
-    heard : (H : List Call) (when : ℕ) (f : FrameRecord) (t : Running) (lost replaced : Bool) (now : ℕ)
-        → is_replaced (holder w H t.sender.destination) (holder w (At when (Hear f) ∷ H) t.sender.destination) ≡ replaced → (hears lost replaced f now t).gone ≡ true
-        → (t.gone ≡ true) ⊎ Replaces w t.sender.destination H (At when (Hear f))
-    heard H when f t true replaced now e = λ q. inl q
-    heard H when f t false true now e = λ q. inr e
-    heard H when f t false false now e = cond_both (t.gone || is_spent t) t (listens f now t)
-        (λ (u : Running). u.gone ≡ true → (t.gone ≡ true) ⊎ Replaces w t.sender.destination H (At when (Hear f))) (λ z q. inl q) (λ z q. inl q)
 
 pub of_token : (w : Who) (H : List Call) (c : Controller) (k : ℕ) (e : TransferEnding) (is : Is w (TakeTransferEnded (Some (k, e)) ∷ H) c) (x : Ended w H k e)
     → slice_get (all_transfers w H) k ≡ Some (x.running.sender.destination, x.running.sender.message)
@@ -413,7 +332,7 @@ done_means w H c k is =
       x.running.sender.destination,
       x.running.sender.message,
       of_token w H c k Done is x,
-      traced w (λ t. t.sender.state ≡ sending.Done) (Acknowledges w) (done_arises w) H x.running is.answered.0 x.is (state_done x.running.sender.state x.running.gone _ x.ending),
+      traced w (λ t. t.sender.state ≡ sending.Done) (Acknowledges w) (done_arises w) H x.running is.answered.0 x.is (told_so x),
     )
 
 pub failed_means : (w : Who) (H : List Call) (c : Controller) (k r : ℕ) → Is w (TakeTransferEnded (Some (k, Failed r)) ∷ H) c
@@ -423,79 +342,79 @@ failed_means w H c k r is =
       x.running.sender.destination,
       x.running.sender.message,
       of_token w H c k (Failed r) is x,
-      traced w (λ t. t.sender.state ≡ sending.Failed r) (Aborts w r) (failed_arises w r) H x.running is.answered.0 x.is (state_failed x.running.sender.state x.running.gone _ r x.ending),
+      traced w (λ t. t.sender.state ≡ sending.Failed r) (Aborts w r) (failed_arises w r) H x.running is.answered.0 x.is (told_so x),
     )
 
--- ---- an acknowledgment makes it done
+-- ---- what stays so of the open transfer till its end is told
 
--- it is done, whatever comes
-record IsDone (token : ℕ) (o : Option Running) : Type 0 where
+-- it is the one of this token
+record Stays (Q : Running → Type 0) (token : ℕ) (o : Option Running) : Type 0 where
   pub running : Running
   pub is : o ≡ Some running
   pub token_is : running.token ≡ token
-  pub done : running.sender.state ≡ sending.Done
+  pub so : Q running
+
+-- so it stays by what is heard, and by frames of its own that are taken
+record Keeps (w : Who) (Q : Running → Type 0) : Type 0 where
+  pub hears : (lost replaced : Bool) (f : FrameRecord) (now : ℕ) (t : Running) → Q t → Q (hears lost replaced f now t)
+  pub sends : (H : List Call) (now : ℕ) (f : FrameRecord) (t : Running) → AreAnswered w (At now (TakeFrame (Some f)) ∷ H) → open_transfer w H ≡ Some t
+      → is_move w H f ≡ true → Q t → Q (sends (clock_at H now) t)
+
+stays : (w : Who) (Q : Running → Type 0) (token : ℕ) → Keeps w Q → (later E : List Call) → AreAnswered w (later ++ E) → NoneEnds later
+    → Stays Q token (open_transfer w E) → Stays Q token (open_transfer w (later ++ E))
+stays w Q token k [] E r n h = h
+stays w Q token k (At when (Hear f) ∷ later) E r n h =
+    let G = later ++ E in
+    let x = stays w Q token k later E r.0 n.1 h in
+    let lost = is_lost (address_after w (At when (Hear f) ∷ G)) in
+    let replaced : ℕ → Bool = λ a. is_replaced (holder w G a) (holder w (At when (Hear f) ∷ G) a) in
+    record {
+      running = hears lost (replaced x.running.sender.destination) f (clock_at G when) x.running;
+      is = ap (hears_if lost replaced f (clock_at G when)) x.is;
+      token_is = hears_token lost (replaced x.running.sender.destination) f (clock_at G when) x.running ∙ x.token_is;
+      so = k.hears lost (replaced x.running.sender.destination) f (clock_at G when) x.running x.so;
+    }
+stays w Q token k (At now (TakeFrame (Some f)) ∷ later) E r n h = go (is_move w (later ++ E) f) refl (stays w Q token k later E r.0 n.1 h)
+  where
+    go : (b : Bool) → is_move w (later ++ E) f ≡ b → Stays Q token (open_transfer w (later ++ E))
+        → Stays Q token (sends_if b (clock_at (later ++ E) now) (open_transfer w (later ++ E)))
+    go false m x = x
+    go true m x = record {
+      running = sends (clock_at (later ++ E) now) x.running;
+      is = ap (sends_if true (clock_at (later ++ E) now)) x.is;
+      token_is = x.token_is;
+      so = k.sends (later ++ E) now f x.running r x.is m x.so;
+    }
+stays w Q token k (At now (Transfer group to bytes (Ok j)) ∷ later) E r n h = absurd (let z = n.0 in cc)
+stays w Q token k (TakeTransferEnded (Some x) ∷ later) E r n h = absurd (let z = n.0 in cc)
+stays w Q token k (call ∷ later) E r n h = stays w Q token k later E r.0 n.1 h
+
+-- ---- an acknowledgment makes it done
+
+abbrev IsDone : Running → Type 0
+IsDone t = t.sender.state ≡ sending.Done
 
 stays_heard : (s : SenderRecord) (f : FrameRecord) (now : ℕ) → s.state ≡ sending.Done → (send_step s (Heard f) now).after.state ≡ sending.Done
-unfolding send_step sending.hears cleared acked aborted
-stays_heard s f now e = go (said_between s.destination s.message.source f)
+unfolding send_step
+stays_heard s f now e = go _ _ (heard_case s (said_between s.destination s.message.source f) now)
   where
-    idle : is_waiting s.state ≡ false
-    idle = ap is_waiting e
-
-    still : is_running s.state ≡ false
-    still = ap is_running e
-
-    not_first : (a b c d : Bool) → a ≡ false → (a && b && c && d) ≡ false
-    not_first a b c d e = grind (arith, e)
-
-    go : (o : Option Signal) → (sending.hears o now s).state ≡ sending.Done
-    go (Some (ClearToSend count p pgn)) = cond_both (pgn == s.message.pgn) _ _ (λ (r : SenderRecord). r.state ≡ sending.Done)
-        (λ t. cond_both (is_waiting s.state) _ _ (λ (r : SenderRecord). r.state ≡ sending.Done) (λ u. absurd (not_both _ idle u)) (λ u. e)) (λ t. e)
-    go (Some (Acknowledgment size packets pgn)) = cond_both (pgn == s.message.pgn) _ _ (λ (r : SenderRecord). r.state ≡ sending.Done)
-        (λ t. cond_both (is_waiting s.state && size == length s.message.bytes && packets == packets_of s.message && s.highest == packets_of s.message) _ _
-        (λ (r : SenderRecord). r.state ≡ sending.Done) (λ u. refl) (λ u. e)) (λ t. e)
-    go (Some (Abort reason pgn)) = cond_both (pgn == s.message.pgn) _ _ (λ (r : SenderRecord). r.state ≡ sending.Done)
-        (λ t. cond_both (is_running s.state) _ _ (λ (r : SenderRecord). r.state ≡ sending.Done) (λ u. absurd (not_both _ still u)) (λ u. e)) (λ t. e)
-    go other = e
+    go : (o : Option ℕ) (r : SenderRecord) → HeardCase s (said_between s.destination s.message.source f) now o r → r.state ≡ sending.Done
+    go o r same = e
+    go o r (done w x) = refl
+    go o r (fails reason w i) = absurd (not_both _ (ap is_running e) w)
+    go o r (holding limit i) = absurd (let z = sym e ∙ i in cc)
+    go o r (is_cleared limit next last i n) = absurd (let z = sym e ∙ i in cc)
 
 stays_ticked : (s : SenderRecord) (now : ℕ) → s.state ≡ sending.Done → (send_step s Tick now).after.state ≡ sending.Done
 unfolding send_step ticks_in
 stays_ticked s now e = ap (λ (u : SendState). (ticks_in u now s).after.state) e ∙ e
 
-done_hears : (token : ℕ) (lost : Bool) (replaced : ℕ → Bool) (f : FrameRecord) (now : ℕ) (o : Option Running) → IsDone token o
-    → IsDone token (hears_if lost replaced f now o)
-done_hears token lost replaced f now o h =
-    subst (λ (x : Option Running). IsDone token (hears_if lost replaced f now x)) (sym h.is) (go lost (replaced h.running.sender.destination))
-  where
-    go : (a b : Bool) → IsDone token (Some (hears a b f now h.running))
-    go true b = record { running = h.running; is = refl; token_is = h.token_is; done = h.done }
-    go false true = record { running = record h.running { gone = true }; is = refl; token_is = h.token_is; done = h.done }
-    go false false = cond_both (h.running.gone || is_spent h.running) h.running (listens f now h.running) (λ (u : Running). IsDone token (Some u))
-        (λ z. record { running = h.running; is = refl; token_is = h.token_is; done = h.done })
-        (λ z. record { running = listens f now h.running; is = refl; token_is = h.token_is; done = stays_heard h.running.sender f now h.done })
-
-done_sends : (token : ℕ) (b : Bool) (now : ℕ) (o : Option Running) → IsDone token o → IsDone token (sends_if b now o)
-done_sends token false now o h = h
-done_sends token true now o h = subst (λ (x : Option Running). IsDone token (sends_if true now x)) (sym h.is) (record {
-  running = sends now h.running;
-  is = refl;
-  token_is = h.token_is;
-  done = cond_both (gives_up h.running) (aborted 5 h.running.sender) (send_step h.running.sender Tick now).after (λ (r : SenderRecord). r.state ≡ sending.Done)
-      (λ z. absurd (not_both _ (ap is_running h.done) (both (is_spent h.running) (is_running h.running.sender.state) z).1))
-      (λ z. stays_ticked h.running.sender now h.done);
-})
-
-stays_done : (w : Who) (token : ℕ) (later E : List Call) → NoneEnds later → IsDone token (open_transfer w E) → IsDone token (open_transfer w (later ++ E))
-stays_done w token [] E n h = h
-stays_done w token (At when (Hear f) ∷ later) E n h =
-    let G = later ++ E in
-    done_hears token (is_lost (address_after w (At when (Hear f) ∷ G))) (λ a. is_replaced (holder w G a) (holder w (At when (Hear f) ∷ G) a)) f (clock_at G when) (open_transfer w G)
-    (stays_done w token later E n.1 h)
-stays_done w token (At now (TakeFrame (Some f)) ∷ later) E n h =
-    done_sends token (is_move w (later ++ E) f) (clock_at (later ++ E) now) (open_transfer w (later ++ E)) (stays_done w token later E n.1 h)
-stays_done w token (At now (Transfer group to bytes (Ok k)) ∷ later) E n h = absurd (let z = n.0 in cc)
-stays_done w token (TakeTransferEnded (Some x) ∷ later) E n h = absurd (let z = n.0 in cc)
-stays_done w token (call ∷ later) E n h = stays_done w token later E n.1 h
+keeps_done : (w : Who) → Keeps w IsDone
+keeps_done w = record {
+  hears = λ lost replaced f now t e. hears_cases IsDone lost replaced f now t e (λ z. e) (λ z. stays_heard t.sender f now e);
+  sends = λ H now f t r o m e. cond_both (gives_up t) (aborted 5 t.sender) (send_step t.sender Tick (clock_at H now)).after (λ (s : SenderRecord). s.state ≡ sending.Done)
+      (λ z. absurd (not_both _ (ap is_running e) (both (is_spent t) (is_running t.sender.state) z).1)) (λ z. stays_ticked t.sender (clock_at H now) e);
+}
 
 acks : (s : SenderRecord) (now : ℕ) (f : FrameRecord) → is_waiting s.state ≡ true → s.highest ≡ packets_of s.message
     → said_to s f ≡ Some (Acknowledgment (length s.message.bytes) (packets_of s.message) s.message.pgn) → (send_step s (Heard f) now).after.state ≡ sending.Done
@@ -517,133 +436,75 @@ pub is_done : (w : Who) (H later : List Call) (c : Controller) (when : ℕ) (f :
     → said_to t.sender f ≡ Some (Acknowledgment (length t.sender.message.bytes) (packets_of t.sender.message) t.sender.message.pgn)
     → answer ≡ Some (t.token, Done)
 is_done w H later c when f t answer is n e waiting highest here room own held says =
-    let d = stays_done w t.token later (At when (Hear f) ∷ H) n first in
+    let d = stays w IsDone t.token (keeps_done w) later (At when (Hear f) ∷ H) is.answered.0 n first in
     is.answered.1 ∙ (ap (λ (o : Option Running). transfer_end o (is_lost (address_after w (later ++ At when (Hear f) ∷ H)))) d.is
-    ∙ (ap (λ (u : SendState). option_map (λ y. (d.running.token, y)) (ending_by u d.running.gone (is_lost (address_after w (later ++ At when (Hear f) ∷ H))))) d.done
+    ∙ (ap (λ (u : SendState). option_map (λ y. (d.running.token, y)) (ending_by u d.running.gone (is_lost (address_after w (later ++ At when (Hear f) ∷ H))))) d.so
     ∙ ap (λ (k : ℕ). (let o : Option (ℕ × TransferEnding) = Some (k, Done) in o)) d.token_is))
   where
     heard : (a b g : Bool) → a ≡ false → b ≡ false → g ≡ false
-        → IsDone t.token (Some (if a then t else if b then record t { gone = true } else if g then t else listens f (clock_at H when) t))
-    heard false false false p q r = record { running = listens f (clock_at H when) t; is = refl; token_is = refl; done = acks t.sender (clock_at H when) f waiting highest says }
-    heard true b g p q r = absurd (cc)
-    heard false true g p q r = absurd (cc)
-    heard false false true p q r = absurd (cc)
+        → Stays IsDone t.token (Some (if a then t else if b then record t { gone = true } else if g then t else listens f (clock_at H when) t))
+    heard false false false p q r = record { running = listens f (clock_at H when) t; is = refl; token_is = refl; so = acks t.sender (clock_at H when) f waiting highest says }
+    heard a b g p q r = absurd (cc)
 
-    first : IsDone t.token (open_transfer w (At when (Hear f) ∷ H))
-    first = subst (λ (o : Option Running). IsDone t.token (hears_if (is_lost (address_after w (At when (Hear f) ∷ H))) (λ a. is_replaced (holder w H a) (holder w (At when (Hear f) ∷ H) a)) f (clock_at H when) o))
+    first : Stays IsDone t.token (open_transfer w (At when (Hear f) ∷ H))
+    first = subst (λ (o : Option Running). Stays IsDone t.token (hears_if (is_lost (address_after w (At when (Hear f) ∷ H))) (λ a. is_replaced (holder w H a) (holder w (At when (Hear f) ∷ H) a)) f (clock_at H when) o))
         (sym e) (heard _ _ _ own held (ap (λ (b : Bool). b || is_spent t) here ∙ room))
 
 -- ---- another holder makes it gone
 
--- it is gone before it was acknowledged or aborted, whatever comes
-record IsGone (token : ℕ) (o : Option Running) : Type 0 where
-  pub running : Running
-  pub is : o ≡ Some running
-  pub token_is : running.token ≡ token
-  pub gone : running.gone ≡ true
-  pub unended : not (is_idle running.sender.state || is_running running.sender.state) ≡ false
+-- it is gone before it was acknowledged or aborted
+record IsGone (t : Running) : Type 0 where
+  pub gone : t.gone ≡ true
+  pub unended : not (is_idle t.sender.state || is_running t.sender.state) ≡ false
 
-gone_hears : (token : ℕ) (lost : Bool) (replaced : ℕ → Bool) (f : FrameRecord) (now : ℕ) (o : Option Running) → IsGone token o
-    → IsGone token (hears_if lost replaced f now o)
-gone_hears token lost replaced f now o h =
-    subst (λ (x : Option Running). IsGone token (hears_if lost replaced f now x)) (sym h.is) (go lost (replaced h.running.sender.destination) h.running.gone h.gone)
-  where
-    go : (a b g : Bool) → g ≡ true
-        → IsGone token (Some (if a then h.running else if b then record h.running { gone = true } else if g || is_spent h.running then h.running else listens f now h.running))
-    go true b g e = record { running = h.running; is = refl; token_is = h.token_is; gone = h.gone; unended = h.unended }
-    go false true g e = record { running = record h.running { gone = true }; is = refl; token_is = h.token_is; gone = refl; unended = h.unended }
-    go false false true e = record { running = h.running; is = refl; token_is = h.token_is; gone = h.gone; unended = h.unended }
-    go false false false e = absurd (cc)
-
--- none of its frames is taken
-gone_sends : (w : Who) (H : List Call) (token now : ℕ) (f : FrameRecord) (b : Bool) → AreAnswered w (At now (TakeFrame (Some f)) ∷ H) → is_move w H f ≡ b
-    → IsGone token (open_transfer w H) → IsGone token (sends_if b (clock_at H now) (open_transfer w H))
-gone_sends w H token now f false right e h = h
-gone_sends w H token now f true right e h = absurd (silent h.running.gone h.gone
-    (ap (λ (t : Running). signal_by t (clock_at H now)) same ∙ s.said))
-  where
-    s : Sent w H now f
-    s = sent_case w H now f right.0 (frame_case w H now f right.1) e
-
-    same : h.running ≡ s.running
-    same = let z : Some h.running ≡ Some s.running = sym h.is ∙ s.is in cc
-
-    silent : (g : Bool) → g ≡ true → (if g then None else if gives_up h.running then Some (Abort 5 h.running.sender.message.pgn)
-        else (send_step h.running.sender Tick (clock_at H now)).says) ≡ Some s.signal → ⊥
-    silent true p q = absurd (cc)
-    silent false p q = absurd (cc)
-
-stays_gone : (w : Who) (token : ℕ) (later E : List Call) → AreAnswered w (later ++ E) → NoneEnds later → IsGone token (open_transfer w E)
-    → IsGone token (open_transfer w (later ++ E))
-stays_gone w token [] E r n h = h
-stays_gone w token (At when (Hear f) ∷ later) E r n h =
-    let G = later ++ E in
-    gone_hears token (is_lost (address_after w (At when (Hear f) ∷ G))) (λ a. is_replaced (holder w G a) (holder w (At when (Hear f) ∷ G) a)) f (clock_at G when) (open_transfer w G)
-    (stays_gone w token later E r.0 n.1 h)
-stays_gone w token (At now (TakeFrame (Some f)) ∷ later) E r n h =
-    gone_sends w (later ++ E) token now f (is_move w (later ++ E) f) r refl (stays_gone w token later E r.0 n.1 h)
-stays_gone w token (At now (Transfer group to bytes (Ok k)) ∷ later) E r n h = absurd (let z = n.0 in cc)
-stays_gone w token (TakeTransferEnded (Some x) ∷ later) E r n h = absurd (let z = n.0 in cc)
-stays_gone w token (call ∷ later) E r n h = stays_gone w token later E r.0 n.1 h
+-- none of its frames is taken then
+keeps_gone : (w : Who) → Keeps w IsGone
+keeps_gone w = record {
+  hears = λ lost replaced f now t h. hears_cases IsGone lost replaced f now t h (λ z. record { gone = refl; unended = h.unended }) (λ z. absurd (not_both _ (or_parts t.gone (is_spent t) z).0 h.gone));
+  sends = λ H now f t r o m h.
+      let s = sent_case w H now f r.0 (frame_case w H now f r.1) m in
+      let same : t ≡ s.running = same_Some t s.running (sym o ∙ s.is) in
+      absurd (none-some s.signal (sym (ap (λ (g : Bool). if g then None else if gives_up t then Some (Abort 5 t.sender.message.pgn) else (send_step t.sender Tick (clock_at H now)).says) h.gone)
+      ∙ (ap (λ (u : Running). signal_by u (clock_at H now)) same ∙ s.said)));
+}
 
 pub is_gone : (w : Who) (H later : List Call) (c : Controller) (when : ℕ) (f : FrameRecord) (t : Running) (answer : Option (ℕ × TransferEnding))
     → Is w (TakeTransferEnded answer ∷ later ++ At when (Hear f) ∷ H) c → NoneEnds later → open_transfer w H ≡ Some t → is_over t ≡ false
     → is_lost (address_after w (At when (Hear f) ∷ H)) ≡ false
     → is_replaced (holder w H t.sender.destination) (holder w (At when (Hear f) ∷ H) t.sender.destination) ≡ true → answer ≡ Some (t.token, Gone)
 is_gone w H later c when f t answer is n e going own left =
-    let d = stays_gone w t.token later (At when (Hear f) ∷ H) is.answered.0 n first in
+    let d = stays w IsGone t.token (keeps_gone w) later (At when (Hear f) ∷ H) is.answered.0 n first in
     is.answered.1 ∙ (ap (λ (o : Option Running). transfer_end o (is_lost (address_after w (later ++ At when (Hear f) ∷ H)))) d.is
-    ∙ (ap (λ (b : Bool). option_map (λ y. (d.running.token, y)) (ending_by d.running.sender.state b (is_lost (address_after w (later ++ At when (Hear f) ∷ H))))) d.gone
-    ∙ (ap (option_map (λ (y : TransferEnding). (d.running.token, y))) (gone d.running.sender.state _ d.unended)
+    ∙ (ap (λ (b : Bool). option_map (λ y. (d.running.token, y)) (ending_by d.running.sender.state b (is_lost (address_after w (later ++ At when (Hear f) ∷ H))))) d.so.gone
+    ∙ (ap (option_map (λ (y : TransferEnding). (d.running.token, y))) (gone d.running.sender.state _ d.so.unended)
     ∙ ap (λ (k : ℕ). (let o : Option (ℕ × TransferEnding) = Some (k, Gone) in o)) d.token_is)))
   where
     gone : (u : SendState) (lost : Bool) → not (is_idle u || is_running u) ≡ false → ending_by u true lost ≡ Some Gone
-    gone sending.Idle lost k = refl
-    gone (sending.Waiting limit) lost k = refl
-    gone (sending.Sending next last) lost k = refl
     gone sending.Done lost k = absurd (cc)
     gone (sending.Failed r) lost k = absurd (cc)
+    gone u lost k = refl
 
-    heard : (a b : Bool) → a ≡ false → b ≡ true → IsGone t.token (Some (hears a b f (clock_at H when) t))
-    heard true b p q = absurd (cc)
-    heard false false p q = absurd (cc)
-    heard false true p q = record { running = record t { gone = true }; is = refl; token_is = refl; gone = refl; unended = (or_parts t.gone _ going).1 }
+    heard : (a b : Bool) → a ≡ false → b ≡ true → Stays IsGone t.token (Some (hears a b f (clock_at H when) t))
+    heard false true p q = record { running = record t { gone = true }; is = refl; token_is = refl; so = record { gone = refl; unended = (or_parts t.gone _ going).1 } }
+    heard a b p q = absurd (cc)
 
-    first : IsGone t.token (open_transfer w (At when (Hear f) ∷ H))
-    first = subst (λ (o : Option Running). IsGone t.token (hears_if (is_lost (address_after w (At when (Hear f) ∷ H))) (λ a. is_replaced (holder w H a) (holder w (At when (Hear f) ∷ H) a)) f (clock_at H when) o))
+    first : Stays IsGone t.token (open_transfer w (At when (Hear f) ∷ H))
+    first = subst (λ (o : Option Running). Stays IsGone t.token (hears_if (is_lost (address_after w (At when (Hear f) ∷ H))) (λ a. is_replaced (holder w H a) (holder w (At when (Hear f) ∷ H) a)) f (clock_at H when) o))
         (sym e) (heard _ _ own left)
 
 -- ---- where none is told
-
-broken_none : (gone lost : Bool) → None ≡ broken_off gone lost → (gone ≡ false) × (lost ≡ false)
-broken_none true lost e = absurd (cc)
-broken_none false true e = absurd (cc)
-broken_none false false e = (refl, refl)
-
-none_over : (t : Running) (lost : Bool) (u : SendState) → t.sender.state ≡ u → None ≡ ending_by u t.gone lost → (is_over t ≡ false) × (lost ≡ false)
-none_over t lost sending.Done k e = absurd (cc)
-none_over t lost (sending.Failed r) k e = absurd (cc)
-none_over t lost sending.Idle k e =
-    let z = broken_none t.gone lost e in (ap (λ (b : Bool). b || not (is_idle t.sender.state || is_running t.sender.state)) z.0 ∙ ap (λ (u : SendState). not (is_idle u || is_running u)) k, z.1)
-none_over t lost (sending.Waiting limit) k e =
-    let z = broken_none t.gone lost e in (ap (λ (b : Bool). b || not (is_idle t.sender.state || is_running t.sender.state)) z.0 ∙ ap (λ (u : SendState). not (is_idle u || is_running u)) k, z.1)
-none_over t lost (sending.Sending next last) k e =
-    let z = broken_none t.gone lost e in (ap (λ (b : Bool). b || not (is_idle t.sender.state || is_running t.sender.state)) z.0 ∙ ap (λ (u : SendState). not (is_idle u || is_running u)) k, z.1)
 
 pub all_told : (w : Who) (H : List Call) (c : Controller) → Is w (TakeTransferEnded None ∷ H) c
     → (length (told_transfers H) ≡ length (all_transfers w H))
     ⊎ ((t : Running) × (open_transfer w H ≡ Some t) × (is_over t ≡ false) × (IsTrue (is_lost (address_after w H)) → ⊥))
 all_told w H c is = go (open_transfer w H) refl (last_one w H is.answered.0) is.answered.1
   where
-    nothing : (k : ℕ) (x : Option TransferEnding) → (let none : Option (ℕ × TransferEnding) = None in none) ≡ option_map (λ y. (k, y)) x → None ≡ x
-    nothing k None e = refl
-    nothing k (Some y) e = absurd (cc)
-
     go : (o : Option Running) → open_transfer w H ≡ o → LastIf (length (told_transfers H)) (all_transfers w H) o
         → (let none : Option (ℕ × TransferEnding) = None in none) ≡ transfer_end o (is_lost (address_after w H))
         → (length (told_transfers H) ≡ length (all_transfers w H))
         ⊎ ((t : Running) × (open_transfer w H ≡ Some t) × (is_over t ≡ false) × (IsTrue (is_lost (address_after w H)) → ⊥))
     go None p h e = inl h
     go (Some t) p h e =
-        let z = none_over t (is_lost (address_after w H)) t.sender.state refl (nothing t.token _ e) in
-        inr (t, p, z.0, not_both _ z.1)
+        let lost = is_lost (address_after w H) in
+        let z = subst (Tells t.sender.state t.gone lost) (mapped_none (λ y. (t.token, y)) _ (sym e)) (tells t.sender.state t.gone lost) in
+        inr (t, p, (λ i. z.0 i || not (z.2 i)), not_both _ z.1)

@@ -1,6 +1,6 @@
 -- Messages that were withdrawn are passed over.
-use Rattle.j39_node.proofs.Common.{[], if◌then◌else◌, ◌++◌, ◌+◌, ◌<◌, ◌∙◌, ◌∷◌, ◌≡◌, ◌≤◌, ap, arith, Bool, drop, false, is_blank, length, List, ltb-true, map, Message, nat_lt, Option, Outgoing, past, posted, refl, slice_get, slice_get_within, slice_index_or, slice_set, Some, suc, sym, take, true, unblanked, zero, ℕ}
-use Rattle.j39_node.proofs.QueueLemmas.{get_map, length_map, read}
+use Rattle.j39_node.proofs.Common.{[], if◌then◌else◌, ◌++◌, ◌+◌, ◌<◌, ◌∙◌, ◌∷◌, ◌≡◌, ◌≤◌, ap, arith, Bool, drop, false, is_blank, length, List, map, Message, nat_lt, Option, Outgoing, past, posted, refl, slice_get, slice_get_within, slice_index_or, slice_set, Some, suc, sym, take, true, unblanked, zero, ℕ, length-map}
+use Rattle.j39_node.proofs.QueueLemmas.{get_map, read}
 
 -- no fewer are passed, none that isn't there, and the one that is reached isn't one of them
 pub past_more : (bs : List Bool) (n : ℕ) → n ≤ past bs n
@@ -54,13 +54,7 @@ pub unpassed : (bs : List Bool) (n i : ℕ) → slice_get bs i ≡ Some false �
 unpassed bs n i e = same i n (past bs n) (past_more bs n) (unpassed_by bs n i e)
   where
     same : (i n m : ℕ) → n ≤ m → (i < m → i < n) → nat_lt i m ≡ nat_lt i n
-    same i n m l h = go (nat_lt i m) (nat_lt i n) refl refl
-      where
-        go : (a b : Bool) → nat_lt i m ≡ a → nat_lt i n ≡ b → a ≡ b
-        go true true x y = refl
-        go false false x y = refl
-        go true false x y = let z = h (ltb-true i m x) in absurd (grind (arith, y, z))
-        go false true x y = absurd (grind (arith, x, y, l))
+    same i n m l h = grind (arith, l, h)
 
 pub next_false : (bs : List Bool) (n : ℕ) (b : Bool) → past bs n ≡ n → slice_get bs n ≡ Some b → b ≡ false
 next_false [] n b e g = absurd (cc)
@@ -94,7 +88,7 @@ mark_of xs i x b e l g =
 pub none_past : (xs : List Outgoing) (i : ℕ) → length xs ≤ i → slice_get (map is_blank (map posted xs)) i ≡ Some true → ⊥
 none_past xs i l e =
     let a = slice_get_within (map is_blank (map posted xs)) i true e in
-    let b = length_map is_blank (map posted xs) in let d = length_map posted xs in absurd (omega (arith, a, b, d, l))
+    let b = length-map (map posted xs) is_blank in let d = length-map xs posted in absurd (omega (arith, a, b, d, l))
 
 -- ---- what of the messages that are passed wasn't withdrawn
 

@@ -147,8 +147,7 @@ claimed Lost = Lost
 
 -- the address that another of who's NAME claims
 abbrev pub double : Who → Option Claim → Option ℕ
-double w None = None
-double w (Some c) = if nat_eq c.name w.name then Some c.address else None
+double w = elim [ None ↦ None | Some c ↦ if nat_eq c.name w.name then Some c.address else None ]
 
 abbrev pub is_double : Who → Option Claim → Bool
 is_double w c = is_there (double w c)
@@ -163,12 +162,10 @@ is_claim f = nat_eq (pgn_of f.id) address_claimed_group
 
 -- a claim of who's address by a smaller NAME, by a larger one
 abbrev pub is_smaller : Who → Option Claim → Bool
-is_smaller w None = false
-is_smaller w (Some c) = nat_eq c.address w.address && nat_lt c.name w.name
+is_smaller w = elim [ None ↦ false | Some c ↦ nat_eq c.address w.address && nat_lt c.name w.name ]
 
 abbrev pub is_larger : Who → Option Claim → Bool
-is_larger w None = false
-is_larger w (Some c) = nat_eq c.address w.address && nat_lt w.name c.name
+is_larger w = elim [ None ↦ false | Some c ↦ nat_eq c.address w.address && nat_lt w.name c.name ]
 
 -- how far the address is
 abbrev pub address_after : Who → List Call → Address
@@ -573,12 +570,13 @@ is_request w held f to group =
     && (nat_eq to global_address || nat_eq to w.address))
 
 abbrev pub asked_with : Who → Bool → FrameRecord → Option ℕ → Option ℕ → Option Asked
-asked_with w held f (Some to) (Some group) =
-    if is_request w held f to group
-    then Some (record { source = source_of f.id; destination = to; group = group })
-    else None
-asked_with w held f None group = None
-asked_with w held f (Some to) None = None
+asked_with w held f d g = elim d [
+  | None ↦ None
+  | Some to ↦ elim g [
+    | None ↦ None
+    | Some group ↦ if is_request w held f to group then Some (record { source = source_of f.id; destination = to; group = group }) else None
+  ]
+]
 
 -- what the frame asks of the controller
 abbrev pub asked : Who → Bool → FrameRecord → Option Asked
@@ -613,13 +611,11 @@ repeats r x = nat_eq x.source r.source && (nat_eq x.destination r.destination &&
 
 -- a request for a served group counts once while it waits for the program
 abbrev pub fresh : Who → List Asked → Option Asked → Option Asked
-fresh w waiting None = None
-fresh w waiting (Some r) = if is_served w r.group && list_any (repeats r) waiting then None else Some r
+fresh w waiting = elim [ None ↦ None | Some r ↦ if is_served w r.group && list_any (repeats r) waiting then None else Some r ]
 
 -- a request for a served group waits, if there is room
 abbrev pub with_request : Who → Bool → Option Asked → List Asked → List Asked
-with_request w room None waiting = waiting
-with_request w room (Some r) waiting = if is_served w r.group && room then waiting ++ r ∷ [] else waiting
+with_request w room o waiting = elim o [ None ↦ waiting | Some r ↦ if is_served w r.group && room then waiting ++ r ∷ [] else waiting ]
 
 -- the requests for the program: those that came while fewer than sixteen waited, and none that repeats one of these
 abbrev pub requests : Who → List Call → List Asked
@@ -641,14 +637,14 @@ abbrev pub refusal : Who → Asked → Message
 refusal w r = acknowledgment w (if is_served w r.group then Busy else Nack) r
 
 abbrev pub with_refusal : Who → Bool → Bool → Option Asked → List Message → List Message
-with_refusal w room place None due = due
-with_refusal w room place (Some r) due =
-    if (nat_eq r.destination w.address && place) && not (is_served w r.group && room) then due ++ refusal w r ∷ [] else due
+with_refusal w room place o due = elim o [
+  | None ↦ due
+  | Some r ↦ if (nat_eq r.destination w.address && place) && not (is_served w r.group && room) then due ++ refusal w r ∷ [] else due
+]
 
 -- this refusal of it is due already
 abbrev pub is_refusal_due : Who → List Message → Option Asked → Bool
-is_refusal_due w waiting None = false
-is_refusal_due w waiting (Some r) = list_any (λ m. bytes_eq m.bytes (refusal w r).bytes) waiting
+is_refusal_due w waiting = elim [ None ↦ false | Some r ↦ list_any (λ m. bytes_eq m.bytes (refusal w r).bytes) waiting ]
 
 -- the acknowledgments that are due, and were: at most sixteen wait, and no refusal twice
 abbrev pub due : Who → List Call → List Message

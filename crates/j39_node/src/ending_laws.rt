@@ -23,6 +23,7 @@ ghost use Rattle.j39_node.specs.Times.{packet_time};
 /// A broadcast of n packets ends: where the driver is prompt by g microseconds since its acceptance, and more than
 /// (n + 1) * (50 ms + g) passed, `take_broadcast_ended` would tell its end, unless it told it before. Nothing else that is
 /// sent or heard lengthens this.
+#[tactic(auto, using(crate::proofs::PromptLaws::broadcast_ends))]
 pub fn broadcast_ends()
     ensures { (w : Who) (later earlier : List Call) (c : Controller) (g now group k : ℕ) (bytes : List ℕ)
         → Is w (later ++ At now (Broadcast group bytes (Ok k)) ∷ earlier) c → NoneTold tells_broadcast later
@@ -34,6 +35,7 @@ pub fn broadcast_ends()
 /// A transfer of n packets ends, whatever its destination answers: where the driver is prompt by g microseconds since its
 /// acceptance (g below a million seconds), and more than (n + 65) * (T3 + g) + g passed, `take_transfer_ended` would tell its
 /// end, unless it told it before. T3 is 1,250 ms; 64 clears to send may grant nothing new.
+#[tactic(auto, using(crate::proofs::EndLaws::transfer_ends))]
 pub fn transfer_ends()
     ensures { (w : Who) (later earlier : List Call) (c : Controller) (g now group to k : ℕ) (bytes : List ℕ)
         → Is w (later ++ At now (Transfer group to bytes (Ok k)) ∷ earlier) c → NoneTold tells_transfer later
@@ -72,6 +74,7 @@ pub fn message_ends()
 /// To a driver that takes one frame at least in each g, two frames of a broadcast are at most 150 ms + 3 g apart, whoever asks and
 /// whatever else is due: as long as the next isn't taken, and at the call that takes it, no more passed. So a broadcast of n packets ends
 /// within (n + 1) * (150 ms + 3 g). In 50 ms one is taken at most.
+#[tactic(auto, using(crate::proofs::SteadyLaws::apart, crate::proofs::SteadyLaws::ends, crate::proofs::SteadyLaws::few))]
 pub fn packets_go()
     ensures apart { (w : Who) (later earlier : List Call) (call : Call) (c : Controller) (g now : ℕ) (f : FrameRecord)
         → Is w (call ∷ later ++ At now (TakeFrame (Some f)) ∷ earlier) c → IsTrue (is_packet f)
@@ -91,6 +94,7 @@ pub fn packets_go()
 /// To such a driver a message that was accepted goes, that of a request too, whoever asks: where q accepted before it wait, its frame is
 /// taken within 6 g * (q + p + 1), unless it is withdrawn or the address is lost; p frames of broadcasts are taken in this time. Then `take_ended` would tell an
 /// end: that of the oldest message that it didn't tell.
+#[tactic(auto, using(crate::proofs::SteadyLaws::message_goes, crate::proofs::SteadyLaws::message_told))]
 pub fn messages_go()
     ensures sent { (w : Who) (later earlier : List Call) (c : Controller) (g k : ℕ) → Is w (later ++ earlier) c
         → IsTrue (is_held (address_after w earlier)) → k < length (accepted w earlier) → IsSteady g later earlier
@@ -105,6 +109,7 @@ pub fn messages_go()
 
 /// To such a driver a reply goes, whatever else is due, packets of its own transfer too: as long as one is the first that waits, and none
 /// is taken, at most 3 g * (p + 2) pass, where p frames of broadcasts are taken meanwhile; or the address is lost.
+#[tactic(auto, using(crate::proofs::SteadyLaws::reply_goes))]
 pub fn replies_go()
     ensures { (w : Who) (later earlier : List Call) (c : Controller) (g : ℕ) (m : Message) → Is w (later ++ earlier) c
         → IsTrue (is_held (address_after w earlier)) → StaysFirst w m later earlier → IsSteady g later earlier
@@ -115,6 +120,7 @@ pub fn replies_go()
 /// To such a driver a transfer of n packets ends, whoever asks: within (n + 65) * (T3 + 3 g) + 6 g * (q + 1), if that is below
 /// 9 * 10^15 microseconds, where q messages, frames of broadcasts and frames of sessions to its destination are taken in this time, its
 /// own too. Messages without end hold it up, and so may its destination by RTS without end.
+#[tactic(auto, using(crate::proofs::SteadyEnds::transfer_goes))]
 pub fn transfers_go()
     ensures { (w : Who) (later earlier : List Call) (c : Controller) (g now group to k : ℕ) (bytes : List ℕ)
         → Is w (later ++ At now (Transfer group to bytes (Ok k)) ∷ earlier) c → NoneTold tells_transfer later
@@ -126,6 +132,7 @@ pub fn transfers_go()
 {}
 
 /// A driver that is prompt by g microseconds takes one frame at least in each g too.
+#[tactic(auto, using(crate::proofs::SteadyLaws::prompt_steady))]
 pub fn prompt_is_steady()
     ensures { (g : ℕ) (later earlier : List Call) → IsPrompt g later earlier → IsSteady g later earlier }
 {}

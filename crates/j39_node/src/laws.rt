@@ -42,6 +42,7 @@ ghost use Rattle.j39_node.specs.Times.{claim_time, gap, patience_time};
 
 /// Each frame that is taken has the moment of its taking, and is the claim of its NAME, or comes from its address, which it
 /// holds at that moment, and is no claim.
+#[tactic(auto, using(crate::proofs::LawLemmas::moments, crate::proofs::LawLemmas::sources))]
 pub fn sources()
     ensures moment { (w : Who) (H : List Call) (c : Controller) (now : ℕ) (f : FrameRecord)
         → Is w (At now (TakeFrame (Some f)) ∷ H) c → f.stamp ≡ now }
@@ -222,6 +223,7 @@ pub fn takes_turns()
 /// No frame is taken before the moment that `next_due` tells, if nothing is heard or handed in till then; and one is taken at the
 /// moment of the last call, if it tells that, and where the address is held from the moment on that it tells. Time that passes
 /// in two steps is the same as in one.
+#[tactic(auto, using(crate::proofs::LawLemmas::quiet, crate::proofs::LawLemmas::due_now, crate::proofs::LawLemmas::due_then))]
 pub fn quiet_till_due()
     ensures quiet { (w : Who) (H : List Call) (c : Controller) (now : ℕ) (answer : Option FrameRecord)
         → Is w (At now (TakeFrame answer) ∷ H) c → moment H ≤ now → now < 10000000000000000

@@ -1,5 +1,5 @@
-use Rattle.j39_node.proofs.LawLemmas.{claimed_or_not, or_right, still_owed}
-use Rattle.j39_node.proofs.Common.{At, Hear, owes_claim, ◌++◌, ◌∷◌}
+use Rattle.j39_node.proofs.LawLemmas.{claimed_or_not, still_owed}
+use Rattle.j39_node.proofs.Common.{At, Hear, owes_claim, ◌++◌, ◌∷◌, or_right}
 use Rattle.j39_node.proofs.LawLemmas as law
 use Rattle.j39_node.proofs.laws.claims.Goals as goal
 

@@ -1,5 +1,5 @@
-use Rattle.j39_node.proofs.LawLemmas.{in_turn, mark_at, past_end, sent_within, told_is}
-use Rattle.j39_node.proofs.SoundLemmas.{front_length, none_next, sound}
+use Rattle.j39_node.proofs.LawLemmas.{in_turn, mark_at, sent_within, told_is}
+use Rattle.j39_node.proofs.SoundLemmas.{front_length, none_next, sound, past_end}
 use Rattle.j39_node.proofs.Common.{Bool, Option, Some, accepted, acknowledged, ap, arith, due, false, inl, inr, is_blank, length, reached, sym, ◌∙◌, ◌≡◌}
 use Rattle.j39_node.proofs.laws.done_means.Goals as goal
 

@@ -1,8 +1,8 @@
-use Rattle.j39_node.proofs.LawLemmas.{all_acknowledged, past_end, sent_within}
+use Rattle.j39_node.proofs.LawLemmas.{all_acknowledged, sent_within}
 use Rattle.j39_node.proofs.LaneLaws.{overdue_goes_by, packed}
 use Rattle.j39_node.proofs.Common.{open_broadcast, accepted, arith, inl, inr, reached}
 use Rattle.j39_node.proofs.LaneLemmas.{laned, opened_by}
-use Rattle.j39_node.proofs.SoundLemmas.{frame_case, none_at, sound}
+use Rattle.j39_node.proofs.SoundLemmas.{frame_case, none_at, sound, past_end}
 use Rattle.j39_node.proofs.LaneLaws as law
 use Rattle.j39_node.proofs.laws.packets_mean.Goals as goal
 

@@ -1,5 +1,5 @@
-use Rattle.j39_node.proofs.SoundLemmas.{sound}
-use Rattle.j39_node.proofs.LawLemmas.{past_end, whole}
+use Rattle.j39_node.proofs.SoundLemmas.{sound, past_end}
+use Rattle.j39_node.proofs.LawLemmas.{whole}
 use Rattle.j39_node.proofs.Common.{got, kept, length, sym}
 use Rattle.j39_node.proofs.LawLemmas as law
 use Rattle.j39_node.proofs.laws.received.Goals as goal

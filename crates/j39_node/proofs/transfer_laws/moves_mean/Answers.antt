@@ -1,6 +1,6 @@
-use Rattle.j39_node.proofs.SoundLemmas.{sound}
+use Rattle.j39_node.proofs.SoundLemmas.{sound, past_end}
 use Rattle.j39_node.proofs.LaneLaws.{packet_waits}
-use Rattle.j39_node.proofs.LawLemmas.{all_acknowledged, past_end, sent_within}
+use Rattle.j39_node.proofs.LawLemmas.{all_acknowledged, sent_within}
 use Rattle.j39_transport.specs.Sending.{Tick}
 use Rattle.j39_node.proofs.TransferLaws.{Budgeted, BudgetedIf, budgeted, given_up, sent_one}
 use Rattle.j39_node.proofs.Common.{Bool, Option, Running, Some, abort_move, aborted, accepted, ap, arith, clears, clock_at, gives_up, if◌then◌else◌, open_transfer, reached, says, send_step, sends, sends_if, subst, sym, true, ◌∙◌, ◌≡◌}

@@ -1,5 +1,5 @@
 use Rattle.j39_node.proofs.MoveLemmas.{last_open, traced}
-use Rattle.j39_node.proofs.TransferLaws.{ended, gone_arises, of_token, state_gone, state_lost}
+use Rattle.j39_node.proofs.TransferLaws.{ended, gone_arises, of_token, told_so}
 use Rattle.j39_node.specs.declared.kinds.TransferEnding.TheVariants.{Withdrawn}
 use Rattle.j39_node.proofs.Common.{Gone, Replaces, arith, true, ◌≡◌}
 use Rattle.j39_node.proofs.ReceptionLemmas.{holders}
@@ -20,10 +20,10 @@ returns c = record {
         x.running.sender.destination,
         x.running.sender.message,
         of_token w H c k Gone is x,
-        traced w (λ t. t.gone ≡ true) (λ to m. Replaces w to) (gone_arises w) H x.running is.answered.0 x.is (state_gone x.running.sender.state x.running.gone _ x.ending),
+        traced w (λ t. t.gone ≡ true) (λ to m. Replaces w to) (gone_arises w) H x.running is.answered.0 x.is (told_so x),
       );
   replaced = law.is_gone;
-  withdrawn = λ w H c k is. let x = ended w H c k Withdrawn is in state_lost x.running.sender.state x.running.gone _ x.ending;
+  withdrawn = λ w H c k is. told_so (ended w H c k Withdrawn is);
   all = law.all_told;
   holder = λ w H a. (holders w H a).is;
 }

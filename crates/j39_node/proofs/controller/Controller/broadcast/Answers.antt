@@ -1,20 +1,19 @@
 use Rattle.j39_node.proofs.Common.{◌∙◌, ap, arith, Ok, pgn_raw, refl, stamp_micros, sym, View, length, broadcasts, not_true, Some, broadcast_from, ◌∷◌, [], ◌++◌, ◌+◌, ◌≡◌}
 use Rattle.j39_node.specs.Hold.{opens}
-use Rattle.j39_node.proofs.CallLemmas.{passed_is, holds_is, busy_is, follows}
+use Rattle.j39_node.proofs.CallLemmas.{led_so, busy_is, follows}
 use Rattle.j39_node.proofs.controller.Controller.broadcast.Goals as goal
 use Rattle.j39_node.proofs.AnswerCases.{answer_is}
 use Rattle.j39_node.proofs.QueueLemmas.{length_one_more}
 
 pub returns-else-is_busy : goal.returns-else-is_busy
 returns-else-is_busy c = λ w H h.
-    let p = passed_is w H (stamp_micros c.args.now) c.args.self.now.hold c.passed-self.result (ap (λ (v : View). v.hold) h.shown) c.passed-self.ensures in
-    let b = sym (holds_is w H (stamp_micros c.args.now) c.passed-self.result c.is_held.result p c.is_held.ensures) ∙ c.if-not-is_held.false in
+    let p = led_so w H (stamp_micros c.args.now) c.args.self.now c.passed-self.result c.is_held.result h c.passed-self.ensures c.is_held.ensures in
     follows h refl
-    (sym (answer_is (length (broadcasts w H)) b (c.in-Some.ensures.known.0 refl)
+    (sym (answer_is (length (broadcasts w H)) (sym p.1 ∙ c.if-not-is_held.false) (c.in-Some.ensures.known.0 refl)
     (sym (busy_is w H c.args.self.now h) ∙ (sym (c.is_busy.ensures.value w) ∙ c.if-is_busy.false))
     ∙ ap Ok (sym (ap (λ (v : View). v.lane.next_token) h.shown)))) refl
     (λ i. record (h.shown i) {
-      hold = (c.opens-self.ensures ∙ ap opens p) i;
+      hold = (c.opens-self.ensures ∙ ap opens p.0) i;
       lane = record {
         current = Some (c.in-Some.ensures.value w i);
         count = 0;
@@ -25,7 +24,6 @@ returns-else-is_busy c = λ w H h.
 
 pub returns-in-None : goal.returns-in-None
 returns-in-None c = λ w H h.
-    let p = passed_is w H (stamp_micros c.args.now) c.args.self.now.hold c.passed-self.result (ap (λ (v : View). v.hold) h.shown) c.passed-self.ensures in
-    let b = sym (holds_is w H (stamp_micros c.args.now) c.passed-self.result c.is_held.result p c.is_held.ensures) ∙ c.if-not-is_held.false in
-    follows h refl (sym (answer_is (length (broadcasts w H)) b
-    (not_true _ c.in-None.ensures.known.1) refl)) refl (λ i. record (h.shown i) { hold = p i })
+    let p = led_so w H (stamp_micros c.args.now) c.args.self.now c.passed-self.result c.is_held.result h c.passed-self.ensures c.is_held.ensures in
+    follows h refl (sym (answer_is (length (broadcasts w H)) (sym p.1 ∙ c.if-not-is_held.false)
+    (not_true _ c.in-None.ensures.known.1) refl)) refl (λ i. record (h.shown i) { hold = p.0 i })

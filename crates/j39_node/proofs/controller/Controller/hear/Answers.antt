@@ -10,7 +10,6 @@ use Rattle.j39_node.proofs.Common.{[], if◌then◌else◌, ◌&&◌, ◌++◌, 
 use Rattle.j39_node.specs.Is.{hearing_it}
 use Rattle.std.specs.Option.{is_some}
 use Rattle.j39_node.proofs.PortLemmas.{peers_are, clock_is, is_port, ported, replaced_is}
-use Rattle.j39_node.proofs.KnownLemmas.{fresh_known, refused_known, asked_known, calls_known, refusal_known, request_known, smaller_known, double_known}
 use Rattle.j39_node.proofs.CallLemmas.{passed_is, news_heard, coming_is, heard_standing, holds_is, incoming_heard, kept_rest, senders_rest, lost_is, missed_rest, refusal_rest, request_rest}
 use Rattle.j39_node.proofs.controller.Controller.hear.Goals as goal
 
@@ -26,23 +25,22 @@ returns c = λ w H h.
     let lost_before : c.is_lost-is_lost.result ≡ is_lost (address_after w H) =
     c.is_lost-is_lost.ensures ∙ (ap lost (ap (λ (k : Hold). k.standing) p) ∙ (lost_is (older (step H t) (address_after w H)) ∙ lost_older (step H t) (address_after w H))) in
     let asks_for : (option_map request_by c.fresh-request.result) ≡ fresh w (drop (length (handed H)) (requests w H)) (asked w (holds w H t) f) =
-    (c.fresh-request.ensures ∙ (fresh_known w.brought c.args.self.now.own (map request_by c.args.self.now.desk.waiting.items) (option_map request_by c.asked-request.result)
-    ∙ ap (fresh (who_of w.brought c.args.self.now.own) (map request_by c.args.self.now.desk.waiting.items)) (c.asked-request.ensures ∙ asked_known w.brought c.args.self.now.own c.is_held-is_held.result f)))
+    (c.fresh-request.ensures ∙ ap (fresh (who_of w.brought c.args.self.now.own) (map request_by c.args.self.now.desk.waiting.items)) c.asked-request.ensures)
     ∙ (ap (λ (u : View). fresh u.who (map request_by c.args.self.now.desk.waiting.items) (asked u.who c.is_held-is_held.result f)) h.shown
     ∙ λ i. fresh w ((h.shown i).requests) (asked w (holds_is w H t c.passed-self.result c.is_held-is_held.result p c.is_held-is_held.ensures i) f)) in
     let room : nat_lt (length c.args.self.now.desk.waiting.items) 16 ≡ nat_lt (length (requests w H) - length (handed H)) 16 =
     ap (λ (n : ℕ). nat_lt n 16) (length_rest request_by c.args.self.now.desk.waiting.items (length (handed H)) (requests w H) (ap (λ (v : View). v.requests) h.shown)) in
     let place : nat_lt (length c.args.self.now.desk.due.items) 16 ≡ nat_lt (length (due w H) - length (acknowledged H)) 16 =
     ap (λ (n : ℕ). nat_lt n 16) (length_rest (refusal_by w) c.args.self.now.desk.due.items (length (acknowledged H)) (due w H) (ap (λ (v : View). v.acknowledgments) h.shown)) in
-    let goes : c.is_driven_away.result ≡ is_smaller w (claim_of f) = (c.is_driven_away.ensures ∙ smaller_known w.brought c.args.self.now.own (claim_of f)) ∙ ap (λ (u : View). is_smaller u.who (claim_of f)) h.shown in
+    let goes : c.is_driven_away.result ≡ is_smaller w (claim_of f) = c.is_driven_away.ensures ∙ ap (λ (u : View). is_smaller u.who (claim_of f)) h.shown in
     let asks : c.calls_for_claim-calls.result ≡ calls_for_claim w (is_lost (address_after w H)) f =
-    (c.calls_for_claim-calls.ensures ∙ calls_known w.brought c.args.self.now.own c.is_lost-is_lost.result f) ∙ (ap (λ (u : View). calls_for_claim u.who c.is_lost-is_lost.result f) h.shown ∙ ap (λ (b : Bool). calls_for_claim w b f) lost_before) in
+    c.calls_for_claim-calls.ensures ∙ (ap (λ (u : View). calls_for_claim u.who c.is_lost-is_lost.result f) h.shown ∙ ap (λ (b : Bool). calls_for_claim w b f) lost_before) in
     let others : c.is_another-another.result ≡ is_another w (holds w H t) f =
     c.is_another-another.ensures ∙ (ap (λ (u : View). is_another u.who c.is_held-is_held.result f) h.shown ∙ ap (λ (b : Bool). is_another w b f) (holds_is w H t c.passed-self.result c.is_held-is_held.result p c.is_held-is_held.ensures)) in
     let knows : Knows c.hear-gone.new.holders (told_claims w (At t (Hear f) ∷ H)) =
     subst (λ (u : View). Knows c.hear-gone.new.holders (if is_double u.who (claim_of f) then told_claims w H else told_claims w H ++ f ∷ [])) h.shown
     (subst (λ (b : Bool). Knows c.hear-gone.new.holders (if b then told_claims w H else told_claims w H ++ f ∷ []))
-    (c.is_some.ensures ∙ ap is_some (c.double-doubled.ensures ∙ double_known w.brought c.args.self.now.own (claim_of f))) (c.hear-gone.ensures.knows (told_claims w H) h.holders)) in
+    (c.is_some.ensures ∙ ap is_some c.double-doubled.ensures) (c.hear-gone.ensures.knows (told_claims w H) h.holders)) in
     let r : ℕ → Bool = λ a. is_replaced (holder w H a) (holder w (At t (Hear f) ∷ H) a) in
     let current : (port_of c.args.self.now.transfers).current ≡ open_transfer w H = ap (λ (v : View). v.port.current) h.shown in
     let hold_now : c.heard-self-2.result ≡ hold_after w (At t (Hear f) ∷ H) =
@@ -105,12 +103,11 @@ returns c = λ w H h.
             ∙ kept_rest (is_for_program w (holds w H t) f) (kept w H) _ (length (got H)) (stamped f) (read w H s) (ap (λ (v : View). v.unread) h.shown))) i;
         senders = (c.offer.ensures.senders ∙ (ap (λ (b : Bool). offered b (option_map name_raw c.holder-sender.result) (map sender_by c.args.self.now.inbox.unread.items)) wants
             ∙ senders_rest w H t f _ _ (read w H s) (ap (λ (v : View). v.senders) h.shown) (c.holder-sender.ensures.value ∙ (ap (holder_in c.args.self.now.holders) (c.source.ensures ∙ ap (λ (g : FrameRecord). source_of g.id) c.frame.view_is) ∙ table_is w c.args.self.now.holders H (source_of f.id) h.holders)))) i;
-        requests = ((c.hear.ensures.waiting ∙ request_known w.brought c.args.self.now.own _ (option_map request_by c.fresh-request.result) _) ∙ ((λ i. with_request (h.shown i).who (room i) (asks_for i) (map request_by c.args.self.now.desk.waiting.items))
+        requests = (c.hear.ensures.waiting ∙ ((λ i. with_request (h.shown i).who (room i) (asks_for i) (map request_by c.args.self.now.desk.waiting.items))
             ∙ request_rest w (nat_lt (length (requests w H) - length (handed H)) 16) (fresh w (drop (length (handed H)) (requests w H)) (asked w (holds w H t) f)) (requests w H)
             (map request_by c.args.self.now.desk.waiting.items) (length (handed H)) (front_length (handed H) (requests w H) s.desk.2) (ap (λ (v : View). v.requests) h.shown))) i;
         acknowledgments = (ap (λ (v : Who). map (refusal_by v) c.hear.new.self.due.items) (sym (ap (λ (v : View). v.who) h.shown))
-            ∙ ((c.hear.ensures.due ∙ (refusal_known w.brought c.args.self.now.own _ _ (option_map request_by c.fresh-request.result) _
-            ∙ ap (λ (b : Bool). with_refusal (who_of w.brought c.args.self.now.own) (nat_lt (length c.args.self.now.desk.waiting.items) 16) (nat_lt (length c.args.self.now.desk.due.items) 16 && not b) (option_map request_by c.fresh-request.result) (map (refusal_by (who_of w.brought c.args.self.now.own)) c.args.self.now.desk.due.items)) (refused_known w.brought c.args.self.now.own (map (refusal_by (who_of w.brought c.args.self.now.own)) c.args.self.now.desk.due.items) (option_map request_by c.fresh-request.result)))) ∙ ((λ i. let v = (h.shown i).who in
+            ∙ (c.hear.ensures.due ∙ ((λ i. let v = (h.shown i).who in
             with_refusal v (room i) (place i && not (is_refusal_due v (map (refusal_by v) c.args.self.now.desk.due.items) (asks_for i))) (asks_for i) (map (refusal_by v) c.args.self.now.desk.due.items))
             ∙ ((λ i. with_refusal w (nat_lt (length (requests w H) - length (handed H)) 16) (nat_lt (length (due w H) - length (acknowledged H)) 16
             && not (is_refusal_due w ((h.shown i).acknowledgments) asked_now)) asked_now (map (refusal_by w) c.args.self.now.desk.due.items))
@@ -121,8 +118,7 @@ returns c = λ w H h.
             ∙ λ i. let u = news_heard c.args.self.now.news _ _ _ _ _ _ _ c.heard-self.ensures c.is_another-another.ensures c.misses-misses.ensures in record {
               lost = (u i).lost;
               another = (u i).another;
-              doubled = option_or ((c.double-doubled.ensures
-                  ∙ double_known w.brought c.args.self.now.own (claim_of f)) i) (u i).doubled;
+              doubled = option_or (c.double-doubled.ensures i) (u i).doubled;
               missed = (u i).missed;
             })) ∙ ((λ i. record {
               lost = (h.shown i).news.lost || (goes i && not (lost_before i));

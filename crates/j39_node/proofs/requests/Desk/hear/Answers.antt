@@ -1,6 +1,5 @@
-use Rattle.j39_node.proofs.Common.{[], ◌&&◌, ◌++◌, ◌∙◌, ◌∷◌, acknowledgment, Answer, ap, eq-eqb, inl, inr, is_refusal_due, length, map, Message, nat_lt, not, nothing, Option, option_map, refusal_by, Request, request_by, Some, sym, who_of, with_refusal}
+use Rattle.j39_node.proofs.Common.{[], ◌&&◌, ◌++◌, ◌∙◌, ◌∷◌, acknowledgment, Answer, ap, eq-eqb, inl, inr, is_refusal_due, length, map, Message, nat_lt, not, nothing, Option, option_map, refusal_by, Request, request_by, Some, sym, who_of, with_refusal, map-append}
 use Rattle.j39_node.proofs.KnownLemmas.{no_room, not_refused, place_by, refused, served_not}
-use Rattle.j39_node.proofs.QueueLemmas.{map_append}
 use Rattle.j39_node.proofs.requests.Desk.hear.Goals as goal
 use Rattle.j39_node.proofs.requests.Desk.hear.Goals.{else-is_served-via-then-is_served+else-not-is_full, else-is_served-via-else-is_served, else-request-own-via-then-request-own+else-has_place, else-request-own-via-else-request-own}
 
@@ -10,7 +9,7 @@ returns-then-has_place-clause-due c =
     let r = request_by c.in-Some.request in
     let A = map (refusal_by W) c.args.self.now.due.items in
     ap (map (refusal_by W)) c.push-then-has_place.ensures.items
-    ∙ (map_append (refusal_by W) c.args.self.now.due.items _
+    ∙ (map-append (refusal_by W) c.args.self.now.due.items _
     ∙ (ap (λ (m : Message). A ++ m ∷ []) (c.new.ensures W ∙ ap (λ (a : Answer). acknowledgment W a r) c.refusal-answer.ensures)
     ∙ (sym (refused W (nat_lt (length c.args.self.now.waiting.items) 16)
     (nat_lt (length c.args.self.now.due.items) 16 && not (is_refusal_due W A (Some r))) r A (eq-eqb _ _ c.if-request-own.true)
