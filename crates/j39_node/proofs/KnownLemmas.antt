@@ -1,5 +1,5 @@
 -- What is refused.
-use Rattle.j39_node.proofs.Common.{[], if◌then◌else◌, ◌&&◌, ◌++◌, ◌==◌, ◌∙◌, ◌∷◌, ◌≡◌, ◌≢◌, ◌≤◌, ◌⊎◌, acknowledgment, Answer, ap, arith, Asked, Bool, Busy, bytes_eq, false, fresh, inl, inr, is_refusal_due, is_served, List, list_any, Message, Nack, nat_eq, nat_lt, None, not, Option, refusal, repeats, Some, sym, true, Who, with_refusal, ℕ, ne_eqb, and-false}
+use Rattle.j39_node.proofs.Common.{[], if◌then◌else◌, ◌&&◌, ◌++◌, ◌==◌, ◌∙◌, ◌∷◌, ◌≡◌, ◌≢◌, ◌≤◌, ◌⊎◌, acknowledgment, Answer, ap, arith, Asked, Bool, Busy, bytes_eq, false, fresh, inl, inr, is_refusal_due, is_served, List, list_any, Message, Nack, nat_eq, nat_lt, None, not, Option, refusal, repeats, Some, sym, true, Who, with_refusal, ℕ, ne_eqb}
 
 pub has_room : (n : ℕ) → n ≤ 16 → false ≡ (n == 16) → nat_lt n 16 ≡ true
 has_room n l e = grind (arith, l, e)
@@ -8,8 +8,7 @@ pub no_room : (n : ℕ) → true ≡ (n == 16) → nat_lt n 16 ≡ false
 no_room n e = grind (arith, e)
 
 pub served_not : (a b : Bool) → (a ≡ false) ⊎ (b ≡ false) → (a && b) ≡ false
-served_not a b (inl e) = ap (λ (x : Bool). x && b) e
-served_not a b (inr e) = ap (λ (x : Bool). a && x) e ∙ and-false a
+served_not a b e = grind (arith, e)
 
 -- whether there is a place for it
 pub place_by : (W : Who) (room place : Bool) (answer : Answer) (r : Asked) (A : List Message) → answer ≡ (if is_served W r.group then Busy else Nack)
