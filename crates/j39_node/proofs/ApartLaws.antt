@@ -1,13 +1,13 @@
 -- What is heard of a source is the same with and without another source's frames.
-use Rattle.j39_node.proofs.Common.{[], if◌then◌else◌, ◌&&◌, ◌++◌, ◌+◌, ◌-◌, ◌||◌, ◌∙◌, ◌∷◌, ◌≡◌, ◌≢◌, announces, ap, append-nil, arith, At, Bool, Call, called, calls_claims, claim_of, claimed_again, eq-eqb, eqb-true, false, found, found_in, FrameRecord, has_room, has_some, Hear, heard_at, hearing, hears_it, holder, is_claim, is_message, IsTrue, is_whole, later, List, listed, Listening, listening, made_in, made_whole, MessageRecord, nat_eq, None, not, of, OpenBroadcast, opens, Option, packed, packs, refl, ReleaseBroadcast, restarts, Some, source_of, stay, staying, subst, sym, TakeFrame, Tick, time_heard, true, waiting, Who, whole_broadcasts, whole_of, ℕ}
+use Rattle.j39_node.proofs.Common.{[], if◌then◌else◌, ◌&&◌, ◌++◌, ◌+◌, ◌-◌, ◌||◌, ◌∙◌, ◌∷◌, ◌≡◌, ◌≢◌, inl, inr, announces, ap, append-nil, arith, At, Bool, Call, called, calls_claims, claim_of, claimed_again, false, found, found_in, FrameRecord, has_room, Hear, heard_at, hearing, hears_it, holder, is_claim, is_message, later, List, listed, listening, made_whole, MessageRecord, nat_eq, None, not, of, OpenBroadcast, opens, Option, packed, packs, refl, ReleaseBroadcast, restarts, Some, source_of, staying, subst, sym, TakeFrame, Tick, time_heard, true, Who, whole_broadcasts, whole_of, ℕ}
 use Rattle.j39_node.specs.Reception.{asks_claims, held_then}
 use Rattle.j39_node.specs.History.{of_other}
 use Rattle.j39_node.specs.Apart.{AreApartBy, FindsBox, both, first, is_quiet, none, second, sent_by, stranger}
 use Rattle.j39_node.specs.Hearing.{is_over}
 use Rattle.std.proofs.lemmas.List.Elements.{filter-append}
-use Rattle.j39_node.proofs.HearingLaws.{others_leave}
+use Rattle.std.proofs.lemmas.Bool.{cases_eq, cond-true}
+use Rattle.j39_node.proofs.HearingLaws.{as_ticked, others_leave}
 use Rattle.j39_node.proofs.HearingLemmas.{kept_by, of_filter, of_its, open_part, stands}
-use Rattle.j39_node.proofs.ListenLemmas.{unequal}
 use Rattle.j39_node.proofs.PacketsAnswer.{made_by_packet}
 
 -- what is heard of a, and all that it hangs on
@@ -19,15 +19,6 @@ record Same (w : Who) (a : ℕ) (H G : List Call) : Type 0 where
   pub hears : hearing w H a ≡ hearing w G a
   pub wholes : sent_by a (whole_broadcasts w H) ≡ sent_by a (whole_broadcasts w G)
 
--- what stays open
-abbrev open_of : Option OpenBroadcast → Option OpenBroadcast
-open_of None = None
-open_of (Some y) = if is_whole y then None else Some y
-
-open_is : (w : Who) (name : Option ℕ) (now : ℕ) (f : FrameRecord) (l : Listening) (o : Option OpenBroadcast) → open_part w.boxes w name now f l o ≡ open_of o
-open_is w name now f l None = refl
-open_is w name now f l (Some y) = refl
-
 -- what f makes of the one of its source, where there is room
 abbrev by_kind : Who → Option ℕ → ℕ → FrameRecord → Option OpenBroadcast → Option OpenBroadcast
 by_kind w name now f o = if announces f then opens w name now f o else if packs f then packed now f o else o
@@ -35,43 +26,17 @@ by_kind w name now f o = if announces f then opens w name now f o else if packs 
 its_kind : (w : Who) (H : List Call) (when : ℕ) (f : FrameRecord) → FindsBox w (source_of f.id) (At when (Hear f)) H
     → hears_it w (holder w (At when (Hear f) ∷ H) (source_of f.id)) (time_heard (At when (Hear f) ∷ H)) f (has_room w.boxes (source_of f.id) (found_in w H when f)) (found w H when f (source_of f.id))
     ≡ by_kind w (holder w (At when (Hear f) ∷ H) (source_of f.id)) (time_heard (At when (Hear f) ∷ H)) f (found w H when f (source_of f.id))
-its_kind w H when f b = go (announces f) refl
+its_kind w H when f b = then_same (announces f) _ _ _ (λ e. cond-true _ _ _ (b refl e))
   where
-    o : Option OpenBroadcast
-    o = found w H when f (source_of f.id)
-
-    name : Option ℕ
-    name = holder w (At when (Hear f) ∷ H) (source_of f.id)
-
-    now : ℕ
-    now = time_heard (At when (Hear f) ∷ H)
-
-    go : (v : Bool) → announces f ≡ v
-        → (if announces f then (if has_room w.boxes (source_of f.id) (found_in w H when f) then opens w name now f o else o) else if packs f then packed now f o else o)
-        ≡ (if announces f then opens w name now f o else if packs f then packed now f o else o)
-    go true e = ap (λ (r : Bool). if announces f then (if r then opens w name now f o else o) else if packs f then packed now f o else o) (b refl e)
-    go false e =
-        (λ i. if e i then (if has_room w.boxes (source_of f.id) (found_in w H when f) then opens w name now f o else o) else if packs f then packed now f o else o)
-        ∙ λ i. if sym e i then opens w name now f o else if packs f then packed now f o else o
+    then_same : (c : Bool) (x y z : Option OpenBroadcast) → (c ≡ true → x ≡ y) → (if c then x else z) ≡ (if c then y else z)
+    then_same true x y z h = h refl
+    then_same false x y z h = refl
 
 its_now : (w : Who) (H : List Call) (when : ℕ) (f : FrameRecord) → FindsBox w (source_of f.id) (At when (Hear f)) H → hearing w (At when (Hear f) ∷ H) (source_of f.id)
-    ≡ (if announces f || packs f then open_of (by_kind w (holder w (At when (Hear f) ∷ H) (source_of f.id)) (time_heard (At when (Hear f) ∷ H)) f (found w H when f (source_of f.id))) else found w H when f (source_of f.id))
-its_now w H when f b = go (announces f || packs f) refl
-  where
-    G : List Call
-    G = At when (Hear f) ∷ H
-
-    name : Option ℕ
-    name = holder w G (source_of f.id)
-
-    o : Option OpenBroadcast
-    o = found w H when f (source_of f.id)
-
-    go : (v : Bool) → (announces f || packs f) ≡ v → hearing w G (source_of f.id) ≡ (if v then open_of (by_kind w name (time_heard G) f o) else o)
-    go true e =
-        of_its w.boxes w name (time_heard G) f (found_in w H when f) e
-        ∙ (open_is w name (time_heard G) f (found_in w H when f) (hears_it w name (time_heard G) f (has_room w.boxes (source_of f.id) (found_in w H when f)) o) ∙ ap open_of (its_kind w H when f b))
-    go false e = ap (λ (v : Bool). of (source_of f.id) (if v then Rattle.j39_node.proofs.Common.with_one (hears_it w name (time_heard G) f (has_room w.boxes (source_of f.id) (found_in w H when f)) o) (Rattle.j39_node.proofs.Common.without_source (source_of f.id) (found_in w H when f)) else found_in w H when f).current) e
+    ≡ (if announces f || packs f then open_part (by_kind w (holder w (At when (Hear f) ∷ H) (source_of f.id)) (time_heard (At when (Hear f) ∷ H)) f (found w H when f (source_of f.id))) else found w H when f (source_of f.id))
+its_now w H when f b =
+    of_its w.boxes w (holder w (At when (Hear f) ∷ H) (source_of f.id)) (time_heard (At when (Hear f) ∷ H)) f (found_in w H when f)
+    ∙ ap (λ (o : Option OpenBroadcast). if announces f || packs f then open_part o else found w H when f (source_of f.id)) (its_kind w H when f b)
 
 module _ (w : Who) (a : ℕ) (H G : List Call) (s : Same w a H G) where
   -- who holds what, and the time, by a frame at this moment
@@ -103,11 +68,7 @@ module _ (w : Who) (a : ℕ) (H G : List Call) (s : Same w a H G) where
 
 -- of a frame of another source nothing is whole of this one
 none_sent : (w : Who) (a : ℕ) (H : List Call) (when : ℕ) (f : FrameRecord) → source_of f.id ≢ a → sent_by a (listed (made_whole w H when f)) ≡ []
-none_sent w a H when f n = go (made_whole w H when f) refl
-  where
-    go : (o : Option (ℕ × MessageRecord)) → made_whole w H when f ≡ o → sent_by a (listed o) ≡ []
-    go None e = refl
-    go (Some p) e = ap (λ (b : Bool). if b then p ∷ [] else []) (unequal a p.1.source (λ z. n (sym (z ∙ (made_by_packet w H when f p e).1))))
+none_sent w a H when f n = let k = λ (p : ℕ × MessageRecord). made_by_packet w H when f p in grind (arith, n, k)
 
 sent_more : (w : Who) (a : ℕ) (H : List Call) (when : ℕ) (f : FrameRecord) → source_of f.id ≢ a → sent_by a (whole_broadcasts w (At when (Hear f) ∷ H)) ≡ sent_by a (whole_broadcasts w H)
 sent_more w a H when f n =
@@ -120,7 +81,7 @@ module _ (w : Who) (H G : List Call) (when : ℕ) (f : FrameRecord) (s : Same w 
   its_heard =
       its_now w H when f b
       ∙ ((λ i. (let o = same_found w (source_of f.id) H G s when f i in
-      if announces f || packs f then open_of (by_kind w (holds_now w (source_of f.id) H G s f when i (source_of f.id)) (later (s.time i) (when - s.at i)) f o) else o))
+      if announces f || packs f then open_part (by_kind w (holds_now w (source_of f.id) H G s f when i (source_of f.id)) (later (s.time i) (when - s.at i)) f o) else o))
       ∙ sym (its_now w G when f d))
 
   its_whole : made_whole w H when f ≡ made_whole w G when f
@@ -137,30 +98,23 @@ module _ (w : Who) (H G : List Call) (when : ℕ) (f : FrameRecord) (s : Same w 
 
 same_heard : (w : Who) (a : ℕ) (H G : List Call) (when : ℕ) (f : FrameRecord) → Same w a H G → FindsBox w a (At when (Hear f)) H → FindsBox w a (At when (Hear f)) G
     → Same w a (At when (Hear f) ∷ H) (At when (Hear f) ∷ G)
-same_heard w a H G when f s b d = go (nat_eq (source_of f.id) a) refl
+same_heard w a H G when f s b d = elim (cases_eq (source_of f.id) a) [
+  | inl e ↦ subst (λ (c : ℕ). Same w c H G → FindsBox w c (At when (Hear f)) H → FindsBox w c (At when (Hear f)) G → Same w c (At when (Hear f) ∷ H) (At when (Hear f) ∷ G)) e
+      (λ s b d. with (source_of f.id) s (its_heard w H G when f s b d) (its_sent w H G when f s b d)) s b d
+  | inr n ↦
+      with a s (others_leave w H when a f n ∙ (same_found w a H G s when f ∙ sym (others_leave w G when a f n))) (sent_more w a H when f n ∙ (s.wholes ∙ sym (sent_more w a G when f n)))
+]
   where
-    with : hearing w (At when (Hear f) ∷ H) a ≡ hearing w (At when (Hear f) ∷ G) a → sent_by a (whole_broadcasts w (At when (Hear f) ∷ H)) ≡ sent_by a (whole_broadcasts w (At when (Hear f) ∷ G))
-        → Same w a (At when (Hear f) ∷ H) (At when (Hear f) ∷ G)
-    with h k = record {
+    with : (c : ℕ) (s : Same w c H G) → hearing w (At when (Hear f) ∷ H) c ≡ hearing w (At when (Hear f) ∷ G) c
+        → sent_by c (whole_broadcasts w (At when (Hear f) ∷ H)) ≡ sent_by c (whole_broadcasts w (At when (Hear f) ∷ G)) → Same w c (At when (Hear f) ∷ H) (At when (Hear f) ∷ G)
+    with c s h k = record {
       at = refl;
       time = λ i. later (s.time i) (when - s.at i);
       calls = λ i. if calls_claims (s.holds i) f (claim_of f) then 1250000 else s.calls i - (when - s.at i);
-      holds = holds_now w a H G s f when;
+      holds = holds_now w c H G s f when;
       hears = h;
       wholes = k;
     }
-
-    own : (c : ℕ) → source_of f.id ≡ c → Same w c H G → FindsBox w c (At when (Hear f)) H → FindsBox w c (At when (Hear f)) G
-        → (hearing w (At when (Hear f) ∷ H) c ≡ hearing w (At when (Hear f) ∷ G) c) × (sent_by c (whole_broadcasts w (At when (Hear f) ∷ H)) ≡ sent_by c (whole_broadcasts w (At when (Hear f) ∷ G)))
-    own c e = subst (λ (c : ℕ). Same w c H G → FindsBox w c (At when (Hear f)) H → FindsBox w c (At when (Hear f)) G
-        → (hearing w (At when (Hear f) ∷ H) c ≡ hearing w (At when (Hear f) ∷ G) c) × (sent_by c (whole_broadcasts w (At when (Hear f) ∷ H)) ≡ sent_by c (whole_broadcasts w (At when (Hear f) ∷ G)))) e
-        (λ s b d. (its_heard w H G when f s b d, its_sent w H G when f s b d))
-
-    go : (v : Bool) → nat_eq (source_of f.id) a ≡ v → Same w a (At when (Hear f) ∷ H) (At when (Hear f) ∷ G)
-    go true e = let k = own a (eqb-true _ _ e) s b d in with k.0 k.1
-    go false e =
-        let n : source_of f.id ≢ a = (λ z. absurd (let q : true ≡ false = sym (eq-eqb _ _ z) ∙ e in cc)) in
-        with (others_leave w H when a f n ∙ (same_found w a H G s when f ∙ sym (others_leave w G when a f n))) (sent_more w a H when f n ∙ (s.wholes ∙ sym (sent_more w a G when f n)))
 
 -- a stranger's frame, and a tick
 same_ticked : (w : Who) (a : ℕ) (H G : List Call) (when : ℕ) (f : FrameRecord) → Same w a H G → source_of f.id ≢ a → claim_of f ≡ None → asks_claims f ≡ false
@@ -171,7 +125,7 @@ same_ticked w a H G when f s n e q = record {
   calls = (λ i. if calls_claims (holder w H) f (e i) then 1250000 else called w H - (when - heard_at H))
       ∙ ((λ i. if q i then 1250000 else called w H - (when - heard_at H)) ∙ λ i. s.calls i - (when - s.at i));
   holds = (λ i b. held_then b (of_other w (e i)) (holder w H b)) ∙ s.holds;
-  hears = Rattle.j39_node.proofs.HearingLaws.as_ticked w H when a f e n ∙ ticked w a H G s when;
+  hears = as_ticked w H when a f e n ∙ ticked w a H G s when;
   wholes = sent_more w a H when f n ∙ s.wholes;
 }
 

@@ -1,5 +1,5 @@
 -- Which frame others exchange makes no difference to any answer, whatever comes later.
-use Rattle.j39_node.proofs.Common.{[], if◌then◌else◌, ◌&&◌, ◌*◌, ◌++◌, ◌+◌, ◌-◌, ◌||◌, ◌↔◌, ◌∙◌, ◌∷◌, ◌≡◌, ◌≢◌, accepted, Acknowledge, acknowledged, acknowledgment, Address, address_after, AddressLost, Again, age, announces, another_news, AnotherAtAddress, ap, AreAnswered, arith, Ask, ask_end, Asked, asked, asked_group, asked_with, AskEnding, asks_claims, At, begun, blank, Bool, Broadcast, broadcast_end, broadcast_from, broadcasts, by, Call, called, calls_claims, calls_for_claim, can_ask, can_broadcast, can_send, can_transfer, claim_address, claim_from, claim_of, claimed, claimed_again, clock, comes, control_of, delayed, destination_of, double, doubled_news, drop, due, end_at, end_of, ended, Ending, Err, false, first, FrameRecord, fresh, got, handed, has_place, has_token, Hear, heard_at, heard_by, hears_if, held_then, holder, holds, holds_back, in_session, is_acknowledgment, is_another, is_apart, is_asking, is_claim, is_coming, is_engaged, is_for_program, is_held, is_left, is_lost, is_message, is_open, is_packet, is_refusal_due, is_replaced, is_reply, is_session, is_smaller, is_that, is_there, is_transfer, IsAnswered, IsAside, joined, kept, later, latest, leaves, left, length, List, Lost, lost_news, made, made_of, marks, max, may_go, Message, message_from, message_of, MessageRecord, MessagesMissed, missed_news, moment, NameDoubled, nat_eq, nat_le, nat_lt, news_of, None, not, of_other, Ok, older, open_ask, open_broadcast, open_transfer, OpenBroadcast, Option, option_map, option_or, owes_claim, packet_by, packets, packs, past, patience, pause, pgn_of, ps_of, Question, question, reached, Ready, Reception, reception, refl, ReleaseBroadcast, released_by, ReleaseTransfer, Renew, request_for, requests, rest, Resting, resting, rests_after, Running, Send, sends_if, silent_end, slice_get, slice_set, Some, source_of, stamped, step, still, subst, suc, sym, TakeAskEnded, TakeBroadcastEnded, TakeEnded, TakeFrame, taken_by, TakeNews, TakeReceived, TakeRequest, TakeTransferEnded, Tick, ticked, time_heard, told, Transfer, transfer_by, transfer_end, transfers, transport_control_group, true, turn_frame, turn_of, turns, unheard_news, wait, Who, whole_by, with_refusal, with_request, Withdraw, yields, ℕ, and-false, or-false, false_from_ne_true, found_in, hears_in, is_any, is_unheard_in, Listening, listening, made_in, over_by, staying, those_over}
+use Rattle.j39_node.proofs.Common.{[], if◌then◌else◌, ◌&&◌, ◌*◌, ◌++◌, ◌+◌, ◌-◌, ◌||◌, ◌↔◌, ◌∙◌, ◌∷◌, ◌≡◌, ◌≢◌, accepted, Acknowledge, acknowledged, acknowledgment, Address, address_after, AddressLost, Again, age, announces, another_news, AnotherAtAddress, ap, AreAnswered, arith, Ask, ask_end, Asked, asked, AskEnding, asks_claims, At, begun, blank, Bool, Broadcast, broadcast_end, broadcast_from, broadcasts, by, Call, called, calls_claims, calls_for_claim, can_ask, can_broadcast, can_send, can_transfer, claim_address, claim_from, claim_of, claimed, claimed_again, clock, comes, control_of, delayed, destination_of, double, doubled_news, drop, due, end_at, end_of, ended, Ending, false, first, FrameRecord, fresh, got, handed, has_place, has_token, Hear, heard_at, heard_by, hears_if, held_then, holder, holds, holds_back, in_session, is_acknowledgment, is_another, is_apart, is_asking, is_claim, is_coming, is_engaged, is_for_program, is_held, is_left, is_lost, is_message, is_open, is_packet, is_refusal_due, is_replaced, is_reply, is_session, is_smaller, is_that, is_there, is_transfer, IsAnswered, IsAside, joined, kept, later, latest, leaves, left, length, List, Lost, lost_news, made, made_of, marks, max, may_go, Message, message_from, message_of, MessageRecord, MessagesMissed, missed_news, moment, NameDoubled, nat_eq, nat_le, nat_lt, news_of, None, not, of_other, Ok, older, open_ask, open_broadcast, open_transfer, OpenBroadcast, Option, option_map, option_or, owes_claim, packet_by, packets, packs, past, patience, pause, pgn_of, ps_of, Question, question, reached, Ready, Reception, reception, refl, ReleaseBroadcast, released_by, ReleaseTransfer, Renew, request_for, requests, rest, Resting, resting, rests_after, Running, Send, sends_if, silent_end, slice_get, slice_set, Some, source_of, stamped, step, still, subst, suc, sym, TakeAskEnded, TakeBroadcastEnded, TakeEnded, TakeFrame, taken_by, TakeNews, TakeReceived, TakeRequest, TakeTransferEnded, Tick, ticked, time_heard, told, Transfer, transfer_by, transfer_end, transfers, transport_control_group, true, turn_frame, turn_of, turns, unheard_news, wait, Who, whole_by, with_refusal, with_request, Withdraw, yields, ℕ, and-false, or-false, false_from_ne_true, found_in, hears_in, is_any, is_unheard_in, Listening, listening, made_in, over_by, staying, those_over}
 use Rattle.j39_transport.specs.Frames as frames
 use Rattle.j39_transport.proofs.FrameFacts.{announcement_facts}
 use Rattle.j39_node.proofs.AnswerCases.{answer_by}
@@ -189,64 +189,50 @@ next w (At now Tick) s = record (passes now s) {
   unheard = (is_any (those_over None s.holder (later s.time (now - s.heard_at)) s.hearing.current) || false) || s.unheard;
   hearing = staying None s.holder (later s.time (now - s.heard_at)) s.hearing;
 }
-next w (At now (TakeFrame None)) s = passes now s
 next w (At now (TakeFrame (Some f))) s = takes_with now f (λ b. if is_claim f then held_then b (claim_of f) (s.holder b) else s.holder b) s
 next w (At now (Send d (Ok k))) s = record (passes now s) { accepted = s.accepted ++ (k, message_from w d) ∷ []; marks = s.marks ++ false ∷ [] }
-next w (At now (Send d (Err r))) s = passes now s
 next w (At now (Ask group to (Ok k))) s = record (passes now s) {
   accepted = s.accepted ++ (k, message_from w (request_for group to)) ∷ [];
   marks = s.marks ++ false ∷ [];
   ask = Some (question k group to);
   ended = None;
 }
-next w (At now (Ask group to (Err r))) s = passes now s
 next w (At now (Acknowledge r a (Ok x))) s = record (passes now s) { due = s.due ++ acknowledgment w a r ∷ [] }
-next w (At now (Acknowledge r a (Err x))) s = passes now s
 next w (At now (Broadcast group bytes (Ok k))) s = record (passes now s) {
   broadcasts = s.broadcasts ++ broadcast_from w group bytes ∷ [];
   broadcast = Some (k, broadcast_from w group bytes);
   packets = [];
   pause = max 100000 (s.pause - (now - s.moment));
 }
-next w (At now (Broadcast group bytes (Err r))) s = passes now s
 next w (At now (Transfer group to bytes (Ok k))) s = record (passes now s) {
   transfers = s.transfers ++ (to, broadcast_from w group bytes) ∷ [];
   transfer = Some (begun k (broadcast_from w group bytes) to);
   age = 0;
 }
-next w (At now (Transfer group to bytes (Err r))) s = passes now s
-next w (Withdraw k false) s = s
 next w (Withdraw k true) s = record s {
   accepted = slice_set s.accepted k (k, blank);
   marks = slice_set s.marks k true;
   reached = past (slice_set s.marks k true) s.reached;
 }
-next w (Renew d None) s = s
 next w (Renew d (Some k)) s = record s { accepted = slice_set s.accepted k (k, message_from w d) }
-next w (TakeEnded None) s = s
 next w (TakeEnded (Some x)) s = record s { told = s.told ++ x ∷ [] }
-next w (TakeReceived None) s = s
 next w (TakeReceived (Some x)) s = record s { got = s.got ++ x ∷ [] }
-next w (TakeRequest None) s = s
 next w (TakeRequest (Some r)) s = record s { handed = s.handed ++ r ∷ [] }
-next w (TakeNews None) s = s
 next w (TakeNews (Some AddressLost)) s = record s { lost = false }
 next w (TakeNews (Some AnotherAtAddress)) s = record s { another = false }
 next w (TakeNews (Some (NameDoubled a))) s = record s { doubled = None }
 next w (TakeNews (Some MessagesMissed)) s = record s { missed = false; unheard = false }
-next w (TakeBroadcastEnded None) s = s
 next w (TakeBroadcastEnded (Some x)) s = record s { broadcast = None }
-next w (TakeTransferEnded None) s = s
 next w (TakeTransferEnded (Some x)) s = record s {
   transfer = None;
   rest = if rests_after x.1 then 4000000 else s.rest;
   resting = if rests_after x.1 then joined s.rest s.resting s.transfer else s.resting;
 }
-next w (TakeAskEnded None) s = s
 next w (TakeAskEnded (Some x)) s = record s { ask = None }
 next w (ReleaseTransfer b) s = record s { reception = released_by b s.reception }
-next w (ReleaseBroadcast false) s = s
 next w (ReleaseBroadcast true) s = record s { hearing = record { current = s.hearing.current; waits = drop 1 s.hearing.waits } }
+next w (At now act) s = passes now s
+next w call s = s
 
 state_is : (w : Who) (call : Call) (H : List Call) → state w (call ∷ H) ≡ next w call (state w H)
 state_is w (At now (TakeFrame None)) H = refl
@@ -392,11 +378,7 @@ module _ (w : Who) (f : FrameRecord) (a : IsAside w f) where
   unwanted held = let g = a.goes in grind (arith, g, all, here)
 
   unasked : (held : Bool) → asked w held f ≡ None
-  unasked held = ap (λ (d : Option ℕ). asked_with w held f d (asked_group f)) a.goes ∙ go (asked_group f)
-    where
-      go : (o : Option ℕ) → asked_with w held f (Some a.to) o ≡ None
-      go None = refl
-      go (Some group) = grind (arith, all, here)
+  unasked held = let g = a.goes in grind (arith, g, all, here)
 
   not_mine : (held : Bool) → is_another w held f ≡ false
   not_mine held = ap (λ (b : Bool). held && (b && not (is_claim f))) (unequal (source_of f.id) w.address a.source) ∙ and-false held
@@ -451,15 +433,7 @@ module _ (w : Who) (f : FrameRecord) (a : IsAside w f) where
           || unheard_by_kind w f w.boxes (found_in w H when f) false unannounced unpacked i) || unheard_news w H
 
       silent : (o : Option Question) (n left : ℕ) (coming lost : Bool) → end_at w o n left coming lost f (made w H when f) ≡ silence_of o n left coming lost
-      silent None n left coming lost = refl
-      silent (Some q) n left coming lost =
-          ap (λ (x : Option AskEnding). first (silent_end (nat_lt q.token n) left coming lost) (if nat_lt q.token n then x else None))
-          (to_another w H when f q a.to a.goes a.not_all a.not_here) ∙ go (silent_end (nat_lt q.token n) left coming lost) (nat_lt q.token n)
-        where
-          go : (x : Option AskEnding) (t : Bool) → first x (if t then None else None) ≡ x
-          go (Some e) t = refl
-          go None true = refl
-          go None false = refl
+      silent o n left coming lost = let k = λ (q : Question). to_another w H when f q a.to a.goes a.not_all a.not_here in grind (arith, k)
 
       coming : Bool
       coming = comes w H (time_heard (At when (Hear f) ∷ H))

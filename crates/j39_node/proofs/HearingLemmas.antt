@@ -1,26 +1,27 @@
 -- Broadcasts in packets that are heard, call by call.
-use Rattle.j39_node.proofs.Common.{[], if◌then◌else◌, ◌&&◌, ◌++◌, ◌+◌, ◌<◌, ◌||◌, ◌∙◌, ◌∷◌, ◌≡◌, ◌≢◌, ◌≤◌, announces, and_parts, ap, AreApart, arith, At, Bool, by, Call, Claims, cond_both, drop, eq-eqb, eqb-true, false, found_in, FrameRecord, get_or, goes, grown, has_room, has_some, Hear, hearing_after, HearingRecord, hears_in, hears_it, holder, holder_in, IfSome, is_any, is_claim, is_ignored, is_same, is_unheard_in, is_whole, IsFit, Knows, length, length-append, length-drop, List, listed, Listening, listening, made_in, made_of, lt-ltb, ltb-true, made_whole, message_by, MessageRecord, min, missed_news, more, nat_eq, nat_lt, news_after, None, not, of, OpenBroadcast, opens, Option, option_map, others, over_by, packed, packs, part_of, pgn_named, refl, ReleaseBroadcast, restarts, since_in, skips, slice_index, Some, source_of, stay, staying, subst, suc, sym, TakeFrame, those_over, Tick, time_heard, told_claims, true, unheard, unheard_by, unheard_news, Untold, Who, whole_of, with_all, with_one, without_source, ℕ, ◌⊎◌, inl, inr, ltb-false, eqb-false}
+use Rattle.j39_node.proofs.Common.{[], if◌then◌else◌, ◌&&◌, ◌*◌, ◌++◌, ◌+◌, ◌<◌, ◌||◌, ◌∙◌, ◌∷◌, ◌≡◌, ◌≢◌, ◌≤◌, ◌⊎◌, announces, and_parts, ap, append-nil, AreApart, AreNumbered, arith, At, Bool, by, Call, chosen, claim_of, Claims, cond_both, drop, eq-eqb, eqb-false, eqb-true, false, flat_map-append, found, found_in, FrameRecord, frames_heard, get_or, goes, grown, has_room, has_some, Hear, hearing_after, HearingRecord, hears_in, hears_it, held_then, holder, holder_in, IfSome, inl, inr, is_any, is_beside, is_claim, is_ignored, is_same, is_some, is_unheard_in, is_wanted, is_whole, IsFit, IsPartOf, Key, known_by, Knows, leb-false, length, length-append, length-drop, List, listed, Listening, listening, made_in, made_of, made_whole, lt-ltb, MessageRecord, min, missed_news, more, nat_eq, nat_lt, news_after, None, not, not-true, of, OpenBroadcast, Option, option_map, option_or, or_parts, others, over_by, packed, packs, part_of, pgn_named, refl, ReleaseBroadcast, restarts, since_in, size_named, slice_index, Some, source_of, stay, staying, still, subst, suc, sym, TakeFrame, those_over, Tick, time_heard, told_claims, true, unheard, unheard_by, unheard_news, Untold, Who, whole_of, with_all, with_one, without_source, ℕ}
 use Rattle.std.specs.List.{All, filter}
+use Rattle.std.proofs.lemmas.Bool.{cases_Bool, ne_eqb}
 use Rattle.std.proofs.lemmas.List.Filters.{length-filter_both}
-use Rattle.std.proofs.lemmas.List.Elements.{All-append, All-cons, All-filter, filter_passes}
-use Rattle.j39_node.specs.Hearing.{begun, goes_on, has_box, is_over, with_sender}
+use Rattle.std.proofs.lemmas.List.Elements.{All-append, All-cons, All-filter, All-nil, All-weaker, filter_passes}
+use Rattle.j39_node.specs.Hearing.{begun, ended, has_box, is_gap, is_over, passed, with_sender}
 use Rattle.j39_node.specs.Is.{hearing_it, leaving}
 use Rattle.j39_transport.proofs.FrameFacts.{announcement_facts}
-use Rattle.j39_node.proofs.ListenLemmas.{all_of, begun_open, none_other}
-use Rattle.j39_node.proofs.ReceptionLemmas.{table_is}
+use Rattle.j39_transport.specs.Carries.{joined}
 use Rattle.j39_transport.specs.Frames.{is_packet}
+use Rattle.j39_node.proofs.ListenLemmas.{all_of}
+use Rattle.j39_node.proofs.ReceptionLemmas.{HeardSince, holders_are, since_now, since_on}
 
 -- ---- of each source one at most
 
+-- the one of a source, of two lists
+of_append : (a : ℕ) (xs ys : List OpenBroadcast) → of a (xs ++ ys) ≡ option_or (of a xs) (of a ys)
+of_append a [] ys = refl
+of_append a (x ∷ xs) ys = let h = of_append a xs ys in grind (arith, h)
+
 none_filtered : (p : OpenBroadcast → Bool) (a : ℕ) (xs : List OpenBroadcast) → of a xs ≡ None → of a (filter p xs) ≡ None
 none_filtered p a [] e = refl
-none_filtered p a (x ∷ xs) e = go (nat_eq a x.source) (p x) refl e (none_filtered p a xs)
-  where
-    go : (b q : Bool) → nat_eq a x.source ≡ b → (if b then Some x else of a xs) ≡ None → (of a xs ≡ None → of a (filter p xs) ≡ None)
-        → of a (if q then x ∷ filter p xs else filter p xs) ≡ None
-    go true q i m h = absurd (cc)
-    go false true i m h = ap (λ (b : Bool). if b then Some x else of a (filter p xs)) i ∙ h m
-    go false false i m h = h m
+none_filtered p a (x ∷ xs) e = let h = none_filtered p a xs in grind (arith, h, e)
 
 pub apart_filter : (p : OpenBroadcast → Bool) (xs : List OpenBroadcast) → AreApart xs → AreApart (filter p xs)
 apart_filter p [] h = tt
@@ -33,86 +34,61 @@ kept_by p (Some x) = if p x then Some x else None
 
 pub of_filter : (p : OpenBroadcast → Bool) (a : ℕ) (xs : List OpenBroadcast) → AreApart xs → of a (filter p xs) ≡ kept_by p (of a xs)
 of_filter p a [] h = refl
-of_filter p a (x ∷ xs) h = go (nat_eq a x.source) (p x) refl refl (of_filter p a xs h.1)
-  where
-    go : (b q : Bool) → nat_eq a x.source ≡ b → p x ≡ q → of a (filter p xs) ≡ kept_by p (of a xs)
-        → of a (if q then x ∷ filter p xs else filter p xs) ≡ kept_by p (if b then Some x else of a xs)
-    go true true i k h2 = ap (λ (b : Bool). if b then Some x else of a (filter p xs)) i ∙ sym (ap (λ (q : Bool). if q then Some x else None) k)
-    go true false i k h2 = none_filtered p a xs (ap (λ (b : ℕ). of b xs) (eqb-true a x.source i) ∙ h.0) ∙ sym (ap (λ (q : Bool). if q then Some x else None) k)
-    go false true i k h2 = ap (λ (b : Bool). if b then Some x else of a (filter p xs)) i ∙ h2
-    go false false i k h2 = h2
+of_filter p a (x ∷ xs) h = let k = of_filter p a xs h.1 in let n = none_filtered p x.source xs h.0 in grind (arith, k, n)
 
-none_of_it : (a : ℕ) (xs : List OpenBroadcast) → of a (others a xs) ≡ None
-none_of_it a [] = refl
-none_of_it a (x ∷ xs) = go (nat_eq a x.source) refl (none_of_it a xs)
-  where
-    go : (b : Bool) → nat_eq a x.source ≡ b → of a (others a xs) ≡ None → of a (if not b then x ∷ others a xs else others a xs) ≡ None
-    go true i h = h
-    go false i h = ap (λ (b : Bool). if b then Some x else of a (others a xs)) i ∙ h
+of_others : (a s : ℕ) (xs : List OpenBroadcast) → of a (others s xs) ≡ (if nat_eq a s then None else of a xs)
+of_others a s [] = grind arith
+of_others a s (x ∷ xs) = let h = of_others a s xs in grind (arith, h)
 
-of_others : (a s : ℕ) (xs : List OpenBroadcast) → s ≢ a → of a (others s xs) ≡ of a xs
-of_others a s [] n = refl
-of_others a s (x ∷ xs) n = go (nat_eq s x.source) (nat_eq a x.source) refl refl (of_others a s xs n)
-  where
-    go : (b d : Bool) → nat_eq s x.source ≡ b → nat_eq a x.source ≡ d → of a (others s xs) ≡ of a xs
-        → of a (if not b then x ∷ others s xs else others s xs) ≡ (if d then Some x else of a xs)
-    go true true i k h = absurd (n (eqb-true s x.source i ∙ sym (eqb-true a x.source k)))
-    go true false i k h = h
-    go false d i k h = ap (λ (b : Bool). if b then Some x else of a (others s xs)) k ∙ ap (λ (o : Option OpenBroadcast). if d then Some x else o) h
-
-of_more : (a : ℕ) (xs : List OpenBroadcast) (y : OpenBroadcast) → of a xs ≡ None → of a (xs ++ y ∷ []) ≡ (if nat_eq a y.source then Some y else None)
-of_more a [] y e = refl
-of_more a (x ∷ xs) y e = go (nat_eq a x.source) e (of_more a xs y)
-  where
-    go : (b : Bool) → (if b then Some x else of a xs) ≡ None → (of a xs ≡ None → of a (xs ++ y ∷ []) ≡ (if nat_eq a y.source then Some y else None))
-        → (if b then Some x else of a (xs ++ y ∷ [])) ≡ (if nat_eq a y.source then Some y else None)
-    go true m h = absurd (cc)
-    go false m h = h m
-
-of_beside : (a : ℕ) (xs : List OpenBroadcast) (y : OpenBroadcast) → nat_eq a y.source ≡ false → of a (xs ++ y ∷ []) ≡ of a xs
-of_beside a [] y e = ap (λ (b : Bool). if b then Some y else None) e
-of_beside a (x ∷ xs) y e = ap (λ (o : Option OpenBroadcast). if nat_eq a x.source then Some x else o) (of_beside a xs y e)
+pub source_at : (a : ℕ) (xs : List OpenBroadcast) (y : OpenBroadcast) → of a xs ≡ Some y → y.source ≡ a
+source_at a [] y e = absurd (cc)
+source_at a (x ∷ xs) y e = let h = source_at a xs y in grind (arith, e, h)
 
 apart_more : (xs : List OpenBroadcast) (y : OpenBroadcast) → AreApart xs → of y.source xs ≡ None → AreApart (xs ++ y ∷ [])
 apart_more [] y h e = (refl, tt)
-apart_more (x ∷ xs) y h e = go (nat_eq y.source x.source) refl e (apart_more xs y h.1)
-  where
-    differs : (b c : ℕ) → nat_eq b c ≡ false → nat_eq c b ≡ false
-    differs b c e = grind (arith, e)
+apart_more (x ∷ xs) y h e = let a = of_append x.source xs (y ∷ []) in let n = h.0 in (grind (arith, a, n, e), apart_more xs y h.1 (grind (arith, e)))
 
-    go : (b : Bool) → nat_eq y.source x.source ≡ b → (if b then Some x else of y.source xs) ≡ None → (of y.source xs ≡ None → AreApart (xs ++ y ∷ [])) → AreApart (x ∷ xs ++ y ∷ [])
-    go true i m k = absurd (cc)
-    go false i m k = (of_beside x.source xs y (differs _ _ i) ∙ h.0, k m)
-
-pub of_source : (a : ℕ) (xs : List OpenBroadcast) → IfSome (of a xs) (λ y. y.source ≡ a)
-of_source a [] = tt
-of_source a (x ∷ xs) = go (nat_eq a x.source) refl (of_source a xs)
-  where
-    go : (b : Bool) → nat_eq a x.source ≡ b → IfSome (of a xs) (λ y. y.source ≡ a) → IfSome (if b then Some x else of a xs) (λ y. y.source ≡ a)
-    go true i h = sym (eqb-true a x.source i)
-    go false i h = h
+-- each is the one of its source
+pub all_own : (xs : List OpenBroadcast) → AreApart xs → All (λ x. of x.source xs ≡ Some x) xs
+all_own [] h = All-nil _
+all_own (x ∷ xs) h =
+    All-cons (λ y. of y.source (x ∷ xs) ≡ Some y) x xs (ap (λ (b : Bool). if b then Some x else of x.source xs) (eq-eqb x.source x.source refl))
+    (All-weaker (λ y. of y.source xs ≡ Some y) (λ y. of y.source (x ∷ xs) ≡ Some y) (λ y e. (let n = h.0 in grind (arith, e, n))) xs (all_own xs h.1))
 
 -- ---- a frame, and the one of its source
 
-pub hears_source : (w : Who) (name : Option ℕ) (now : ℕ) (f : FrameRecord) (room : Bool) (o : Option OpenBroadcast) → IfSome o (λ y. y.source ≡ source_of f.id)
-    → IfSome (hears_it w name now f room o) (λ y. y.source ≡ source_of f.id)
-hears_source w name now f room o h = go (announces f) room (packs f) (is_ignored w (pgn_named f)) o h
-  where
-    P : Option OpenBroadcast → Type 0
-    P o = IfSome o (λ y. y.source ≡ source_of f.id)
+-- it leaves another: of another source it is, or a lower number
+abbrev pub Leaves : FrameRecord → OpenBroadcast → Type 0
+Leaves f x = (source_of f.id ≢ x.source) ⊎ ((announces f ≡ false) × ((packs f ≡ false) ⊎ (slice_index f.bytes 0 ≤ x.count)))
 
-    goes : (y : OpenBroadcast) → y.source ≡ source_of f.id → P (goes_on now f y)
-    goes y k = cond_both (skips f y) None (if nat_eq (slice_index f.bytes 0) (suc y.count) then Some (grown now f y) else Some y) P (λ e. tt)
-        (λ e. cond_both (nat_eq (slice_index f.bytes 0) (suc y.count)) (Some (grown now f y)) (Some y) P (λ e. k) (λ e. k))
+-- it isn't whole
+abbrev pub Open : (OpenBroadcast → Type 0) → OpenBroadcast → Type 0
+Open P x = (is_whole x ≡ false) × P x
 
-    go : (a r b i : Bool) (o : Option OpenBroadcast) → P o
-        → P (if a then (if r then (if i then None else Some (begun name (since_in now o) now f)) else o) else if b then packed now f o else o)
-    go true true b true o h = tt
-    go true true b false o h = refl
-    go true false b i o h = h
-    go false r true i None h = tt
-    go false r true i (Some y) h = goes y h
-    go false r false i o h = h
+-- the one that stays open
+abbrev pub open_part : Option OpenBroadcast → Option OpenBroadcast
+open_part None = None
+open_part (Some y) = if is_whole y then None else Some y
+
+part_at : (a s : ℕ) (o : Option OpenBroadcast) → IfSome o (λ y. y.source ≡ s) → of a (part_of o) ≡ (if nat_eq a s then open_part o else None)
+part_at a s None k = grind arith
+part_at a s (Some y) k = grind (arith, k)
+
+-- one, or none
+abbrev pub one : Bool → ℕ
+one b = more b 0
+
+-- how many there are beside that of a source
+rest_count : (a : ℕ) (xs : List OpenBroadcast) → AreApart xs → length xs ≡ length (others a xs) + one (has_some (of a xs))
+rest_count a [] h = refl
+rest_count a (x ∷ xs) h = let k = rest_count a xs h.1 in let n = h.0 in grind (arith, k, n)
+
+part_count : (o : Option OpenBroadcast) → length (part_of o) + length (listed (whole_of o)) ≡ one (has_some o)
+part_count None = refl
+part_count (Some y) = grind arith
+
+box_free : (m n : ℕ) → m ≤ n → one (nat_lt m n) + m ≤ n
+box_free m n l = grind (arith, l)
 
 module _ (n : ℕ) (w : Who) (name : Option ℕ) (now : ℕ) (f : FrameRecord) (l : Listening) where
   abbrev pub s : ℕ
@@ -121,124 +97,102 @@ module _ (n : ℕ) (w : Who) (name : Option ℕ) (now : ℕ) (f : FrameRecord) (
   abbrev pub result : Option OpenBroadcast
   result = hears_it w name now f (has_room n s l) (of s l.current)
 
-  result_source : IfSome result (λ y. y.source ≡ s)
-  result_source = hears_source w name now f (has_room n s l) (of s l.current) (of_source s l.current)
-
-  -- what holds of all
-  pub all_heard : (P : OpenBroadcast → Type 0) → ((since : ℕ) → announces f ≡ true → is_ignored w (pgn_named f) ≡ false → P (begun name since now f))
-      → ((y : OpenBroadcast) → packs f ≡ true → is_whole y ≡ false → P y → is_whole (grown now f y) ≡ false → P (grown now f y)) → All IsFit l.current → All P l.current → All P (hears_in n w name now f l).current
-  all_heard P begins grows fits h = go (announces f || packs f)
-    where
-      kept : All P (others s l.current)
-      kept = All-filter (λ x. not (nat_eq s x.source)) P l.current h
-
-      with : (o : Option OpenBroadcast) → IfSome o (λ y. is_whole y ≡ false → P y) → All P (others s l.current ++ part_of o)
-      with None k = All-append P (others s l.current) [] kept (λ i d m. absurd (omega (arith, m)))
-      with (Some y) k = All-append P (others s l.current) (part_of (Some y)) kept
-          (cond_both (is_whole y) [] (y ∷ []) (All P) (λ e. λ i d m. absurd (omega (arith, m))) (λ e. All-cons P y [] (k e) (λ i d m. absurd (omega (arith, m)))))
-
-      Q : Option OpenBroadcast → Type 0
-      Q o = IfSome o (λ y. is_whole y ≡ false → P y)
-
-      same : (o : Option OpenBroadcast) → of s l.current ≡ o → Q o
-      same None e = tt
-      same (Some y) e = λ k. all_of P s l.current y h e
-
-      goes : (o : Option OpenBroadcast) → of s l.current ≡ o → packs f ≡ true → Q (packed now f o)
-      goes None e b = tt
-      goes (Some y) e b = cond_both (skips f y) None (if nat_eq (slice_index f.bytes 0) (suc y.count) then Some (grown now f y) else Some y) Q (λ i. tt)
-          (λ i. cond_both (nat_eq (slice_index f.bytes 0) (suc y.count)) (Some (grown now f y)) (Some y) Q (λ j. λ k. grows y b (all_of IsFit s l.current y fits e).2 (all_of P s l.current y h e) k) (λ j. λ k. all_of P s l.current y h e))
-
-      by_kind : (a r b i : Bool) → announces f ≡ a → packs f ≡ b → is_ignored w (pgn_named f) ≡ i
-          → Q (if a then (if r then (if i then None else Some (begun name (since_in now (of s l.current)) now f)) else of s l.current) else if b then packed now f (of s l.current) else of s l.current)
-      by_kind true true b true e g k = tt
-      by_kind true true b false e g k = λ m. begins (since_in now (of s l.current)) e k
-      by_kind true false b i e g k = same (of s l.current) refl
-      by_kind false r true i e g k = goes (of s l.current) refl g
-      by_kind false r false i e g k = same (of s l.current) refl
-
-      go : (b : Bool) → All P (if b then with_one result (without_source s l) else l).current
-      go true = with result (by_kind (announces f) (has_room n s l) (packs f) (is_ignored w (pgn_named f)) refl refl refl)
-      go false = h
-
   -- what becomes of the one of its source
-  pub result_is : (P Q : OpenBroadcast → Type 0) → ((since : ℕ) → since ≡ since_in now (of s l.current) → announces f ≡ true → Q (begun name since now f))
+  pub result_is : (P Q : OpenBroadcast → Type 0)
+      → ((since : ℕ) → since ≡ since_in now (of s l.current) → announces f ≡ true → is_ignored w (pgn_named f) ≡ false → Q (begun name since now f))
       → ((y : OpenBroadcast) → packs f ≡ true → of s l.current ≡ Some y → slice_index f.bytes 0 ≡ suc y.count → P y → Q (grown now f y))
       → ((y : OpenBroadcast) → announces f ≡ false → of s l.current ≡ Some y → (packs f ≡ false) ⊎ (slice_index f.bytes 0 ≤ y.count) → P y → Q y) → All P l.current → IfSome result Q
-  result_is P Q begins grows stays h = by_kind (announces f) (packs f) (of s l.current) (has_box n l) refl refl refl
+  result_is P Q begins grows stays h = let k = λ (y : OpenBroadcast). all_of P s l.current y h in grind (arith, begins, grows, stays, k)
+
+  pub result_source : IfSome result (λ y. y.source ≡ s)
+  result_source =
+      result_is (λ y. Unit {0}) (λ y. y.source ≡ s) (λ since z e i. refl) (λ y p k m h. source_at s l.current y k) (λ y a k m h. source_at s l.current y k) (λ i d m. tt)
+
+  -- what becomes of all
+  pub every : (P Q : OpenBroadcast → Type 0)
+      → ((since : ℕ) → since ≡ since_in now (of s l.current) → announces f ≡ true → is_ignored w (pgn_named f) ≡ false → Q (begun name since now f))
+      → ((y : OpenBroadcast) → packs f ≡ true → of s l.current ≡ Some y → slice_index f.bytes 0 ≡ suc y.count → Open P y → Q (grown now f y))
+      → ((y : OpenBroadcast) → Leaves f y → P y → Q y) → All (Open P) l.current → All (Open Q) (hears_in n w name now f l).current
+  every P Q begins grows stays h = cond_both (announces f || packs f) (with_one result (without_source s l)) l (λ m. All (Open Q) m.current)
+      (λ e. All-append (Open Q) (others s l.current) (part_of result) apart_ones
+      (last result (result_is (Open P) Q begins grows (λ y a k m g. stays y (inr (a, m)) g.1) h)))
+      (λ e. (let k = or_parts _ _ e in All-weaker (Open P) (Open Q) (λ y g. (g.0, stays y (inr (k.0, inl k.1)) g.1)) l.current h))
     where
-      R : Option OpenBroadcast → Type 0
-      R o = IfSome o Q
+      apart_ones : All (Open Q) (others s l.current)
+      apart_ones = λ i d m.
+          let g = All-filter (λ x. not (nat_eq s x.source)) (Open P) l.current h i d m in
+          (g.0, stays _ (inl (eqb-false s _ (not-true _ (filter_passes (λ x. not (nat_eq s x.source)) l.current i d m)))) g.1)
 
-      repeats : (k m : ℕ) → nat_lt (suc m) k ≡ false → nat_eq k (suc m) ≡ false → k ≤ m
-      repeats k m e g = let a = ltb-false _ _ e in let b = eqb-false _ _ g in omega (arith, a, b)
-
-      by_kind : (a b : Bool) (o : Option OpenBroadcast) (r : Bool) → announces f ≡ a → packs f ≡ b → of s l.current ≡ o
-          → R (if a then (if has_some o || r then opens w name now f o else o) else if b then packed now f o else o)
-      by_kind true b None true e g k = cond_both (is_ignored w (pgn_named f)) None (Some (begun name now now f)) R (λ i. tt) (λ i. begins now (sym (ap (since_in now) k)) e)
-      by_kind true b None false e g k = tt
-      by_kind true b (Some y) r e g k = cond_both (is_ignored w (pgn_named f)) None (Some (begun name y.since now f)) R (λ i. tt) (λ i. begins y.since (sym (ap (since_in now) k)) e)
-      by_kind false b None r e g k = cond_both b None None R (λ i. tt) (λ i. tt)
-      by_kind false false (Some y) r e g k = stays y e k (inl g) (all_of P s l.current y h k)
-      by_kind false true (Some y) r e g k = cond_both (skips f y) None (if nat_eq (slice_index f.bytes 0) (suc y.count) then Some (grown now f y) else Some y) R (λ i. tt)
-          (λ i. cond_both (nat_eq (slice_index f.bytes 0) (suc y.count)) (Some (grown now f y)) (Some y) R (λ j. grows y g k (eqb-true _ _ j) (all_of P s l.current y h k))
-          (λ j. stays y e k (inr (repeats _ _ i j)) (all_of P s l.current y h k)))
+      last : (o : Option OpenBroadcast) → IfSome o Q → All (Open Q) (part_of o)
+      last None k = All-nil (Open Q)
+      last (Some y) k = cond_both (is_whole y) [] (y ∷ []) (All (Open Q)) (λ e. All-nil (Open Q)) (λ e. All-cons (Open Q) y [] (e, k) (All-nil (Open Q)))
 
   pub apart_heard : AreApart l.current → AreApart (hears_in n w name now f l).current
-  apart_heard h = go (announces f || packs f)
+  apart_heard h = cond_both (announces f || packs f) (with_one result (without_source s l)) l (λ m. AreApart m.current) (λ e. with result result_source) (λ e. h)
     where
-      kept : AreApart (others s l.current)
-      kept = apart_filter (λ x. not (nat_eq s x.source)) l.current h
+      kept : AreApart (others s l.current ++ [])
+      kept = subst AreApart (sym (append-nil (others s l.current))) (apart_filter (λ x. not (nat_eq s x.source)) l.current h)
 
       with : (o : Option OpenBroadcast) → IfSome o (λ y. y.source ≡ s) → AreApart (others s l.current ++ part_of o)
-      with None k = subst AreApart (sym (Rattle.j39_node.proofs.Common.append-nil (others s l.current))) kept
-      with (Some y) k = cond_both (is_whole y) [] (y ∷ []) (λ ys. AreApart (others s l.current ++ ys)) (λ e. subst AreApart (sym (Rattle.j39_node.proofs.Common.append-nil (others s l.current))) kept)
-          (λ e. apart_more (others s l.current) y kept (ap (λ (a : ℕ). of a (others s l.current)) k ∙ none_of_it s l.current))
+      with None k = kept
+      with (Some y) k = cond_both (is_whole y) [] (y ∷ []) (λ ys. AreApart (others s l.current ++ ys)) (λ e. kept)
+          (λ e. apart_more (others s l.current) y (apart_filter (λ x. not (nat_eq s x.source)) l.current h) (of_others y.source s l.current ∙ ap (λ (b : Bool). if b then None else of y.source l.current) (eq-eqb _ _ k)))
 
-      go : (b : Bool) → AreApart (if b then with_one result (without_source s l) else l).current
-      go true = with result result_source
-      go false = h
+  -- of each source
+  of_each : (a : ℕ) → (announces f || packs f) ≡ true → of a (hears_in n w name now f l).current ≡ (if nat_eq a s then open_part result else of a l.current)
+  of_each a e =
+      ap (λ (b : Bool). of a (if b then with_one result (without_source s l) else l).current) e
+      ∙ (of_append a (others s l.current) (part_of result)
+      ∙ ((λ i. option_or (of_others a s l.current i) (part_at a s result result_source i)) ∙ either (nat_eq a s) (open_part result) (of a l.current)))
+    where
+      either : (b : Bool) (o p : Option OpenBroadcast) → option_or (if b then None else p) (if b then o else None) ≡ (if b then o else p)
+      either b o p = grind arith
 
-  -- of another source
+  -- of another source, and of its own
   pub of_another : (a : ℕ) → s ≢ a → of a (hears_in n w name now f l).current ≡ of a l.current
-  of_another a d = go (announces f || packs f)
-    where
-      unlike : (y : OpenBroadcast) → y.source ≡ s → nat_eq a y.source ≡ false
-      unlike y k = ap (nat_eq a) k ∙ other a s d
-        where
-          other : (b c : ℕ) → c ≢ b → nat_eq b c ≡ false
-          other b c m = grind (arith, m)
+  of_another a d = elim (cases_Bool (announces f || packs f)) [
+    | inl e ↦ of_each a e ∙ ap (λ (b : Bool). if b then open_part result else of a l.current) (ne_eqb a s (λ z. d (sym z)))
+    | inr e ↦ ap (λ (b : Bool). of a (if b then with_one result (without_source s l) else l).current) e
+  ]
 
-      with : (o : Option OpenBroadcast) → IfSome o (λ y. y.source ≡ s) → of a (others s l.current ++ part_of o) ≡ of a (others s l.current)
-      with None k = ap (of a) (Rattle.j39_node.proofs.Common.append-nil (others s l.current))
-      with (Some y) k = cond_both (is_whole y) [] (y ∷ []) (λ ys. of a (others s l.current ++ ys) ≡ of a (others s l.current)) (λ e. ap (of a) (Rattle.j39_node.proofs.Common.append-nil (others s l.current)))
-          (λ e. of_beside a (others s l.current) y (unlike y k))
+  pub of_its : of s (hears_in n w name now f l).current ≡ (if announces f || packs f then open_part result else of s l.current)
+  of_its = elim (cases_Bool (announces f || packs f)) [
+    | inl e ↦ of_each s e ∙ (ap (λ (b : Bool). if b then open_part result else of s l.current) (eq-eqb s s refl) ∙ ap (λ (b : Bool). if b then open_part result else of s l.current) (sym e))
+    | inr e ↦ (λ i. of s (if e i then with_one result (without_source s l) else l).current) ∙ ap (λ (b : Bool). if b then open_part result else of s l.current) (sym e)
+  ]
 
-      go : (b : Bool) → of a (if b then with_one result (without_source s l) else l).current ≡ of a l.current
-      go true = with result result_source ∙ of_others a s l.current d
-      go false = refl
+  -- it is appended to those that wait where it is whole
+  pub waits_made : (hears_in n w name now f l).waits ≡ l.waits ++ listed (made_in n w name now f l)
+  waits_made = grind (arith, append-nil)
 
-  -- of its own
-  abbrev pub open_part : Option OpenBroadcast → Option OpenBroadcast
-  open_part None = None
-  open_part (Some y) = if is_whole y then None else Some y
+  -- by what the frame is
+  counted : (a p i r : Bool) (o : Option OpenBroadcast) → one (a && not i) + one (has_some o)
+      ≡ one (has_some (if a then (if has_some o || r then (if i then None else Some (begun name (since_in now o) now f)) else o) else if p then packed now f o else o))
+      + one (if a then (if has_some o || r then has_some o else not i) else p && is_gap f o)
+  counted a p i r None = grind arith
+  counted a p i r (Some y) = grind arith
 
-  pub of_its : (announces f || packs f) ≡ true → of s (hears_in n w name now f l).current ≡ open_part result
-  of_its e = ap (λ (b : Bool). of s (if b then with_one result (without_source s l) else l).current) e ∙ with result result_source
-    where
-      with : (o : Option OpenBroadcast) → IfSome o (λ y. y.source ≡ s) → of s (others s l.current ++ part_of o) ≡ open_part o
-      with None k = ap (of s) (Rattle.j39_node.proofs.Common.append-nil (others s l.current)) ∙ none_of_it s l.current
-      with (Some y) k = go (is_whole y)
-        where
-          go : (b : Bool) → of s (others s l.current ++ (if b then [] else y ∷ [])) ≡ (if b then None else Some y)
-          go true = ap (of s) (Rattle.j39_node.proofs.Common.append-nil (others s l.current)) ∙ none_of_it s l.current
-          go false = of_more s (others s l.current) y (none_of_it s l.current) ∙ ap (λ (b : Bool). if b then Some y else None) (eq-eqb s y.source (sym k))
+  -- one that is announced, and those that are open, are whole, unheard or open
+  pub heard_counts : AreApart l.current → one (is_wanted w f) + length l.current ≡ length (listed (made_in n w name now f l)) + one (is_unheard_in n w f l) + length (hears_in n w name now f l).current
+  heard_counts h =
+      let c = counted (announces f) (packs f) (is_ignored w (pgn_named f)) (has_box n l) (of s l.current) in
+      let r = rest_count s l.current h in
+      let p = part_count result in
+      let a = length-append (others s l.current) (part_of result) in
+      grind (arith, c, r, p, a)
 
-  pub lengths : (announces f || packs f) ≡ true → length (hears_in n w name now f l).current ≡ length (others s l.current) + length (part_of result)
-  lengths e = ap (λ (b : Bool). length (if b then with_one result (without_source s l) else l).current) e ∙ length-append (others s l.current) (part_of result)
+  -- a box is free for one that is announced and isn't unheard
+  room_for : (a p i r o g : Bool) → one (a && not i) ≤ one (if a then (if o || r then o else not i) else p && g) + one r
+  room_for a p i r o g = grind arith
 
-  pub waits_are : (announces f || packs f) ≡ true → (hears_in n w name now f l).waits ≡ l.waits ++ listed (whole_of result)
-  waits_are e = ap (λ (b : Bool). (if b then with_one result (without_source s l) else l).waits) e
+  pub room_heard : AreApart l.current → length l.current + length l.waits ≤ n → length (hears_in n w name now f l).current + length (hears_in n w name now f l).waits ≤ n
+  room_heard h r =
+      let c = heard_counts h in
+      let m = ap length waits_made ∙ length-append l.waits (listed (made_in n w name now f l)) in
+      let o : one (is_wanted w f) ≤ one (is_unheard_in n w f l) + one (has_box n l) =
+      room_for (announces f) (packs f) (is_ignored w (pgn_named f)) (has_box n l) (has_some (of s l.current)) (is_gap f (of s l.current)) in
+      let b = box_free (length l.current + length l.waits) n r in
+      omega (arith, c, m, o, b)
 
 -- ---- what every history says of them
 
@@ -260,121 +214,187 @@ pub packs_eight : (f : FrameRecord) → packs f ≡ true → length f.bytes ≡ 
 unfolding is_packet goes
 packs_eight f e = eqb-true _ _ (and_parts _ _ (and_parts _ _ e).1).1
 
--- who held its source at its announcement does
-abbrev pub IsNamed : (ℕ → Option ℕ) → OpenBroadcast → Type 0
-IsNamed holder x = x.name ≡ holder x.source
+-- its announcement, and the packets that came
+pub record Came (x : OpenBroadcast) (first : FrameRecord) (packets : List FrameRecord) : Type 0 where
+  pub source : x.source ≡ source_of first.id
+  pub announced : announces first ≡ true
+  pub group : x.group ≡ pgn_named first
+  pub size : x.size ≡ size_named first
+  pub count : length packets ≡ x.count
+  pub numbered : AreNumbered (by x.source) 1 packets
+  pub bytes : joined packets ≡ x.bytes
+  pub few : length x.bytes < x.size + 7
 
-stays_named : (gone : Option ℕ) (holds : ℕ → Option ℕ) (now : ℕ) (x : OpenBroadcast) → not (is_over gone holds now x) ≡ true → IsNamed holds x
-stays_named gone holds now x e = same_is _ _ (grind (arith, e))
+-- they are of what was heard since, and nothing of its source between them but repeats
+abbrev pub Sent : OpenBroadcast → List Call → ℕ → FrameRecord → Type 0
+Sent x later at first = (packets : List FrameRecord) × IsPartOf x.source packets (frames_heard later) × Came x first packets
 
-all_named : (gone : Option ℕ) (holds : ℕ → Option ℕ) (now : ℕ) (xs : List OpenBroadcast) → All (IsNamed holds) (stay gone holds now xs)
-all_named gone holds now xs = λ k d l. stays_named gone holds now (get_or (stay gone holds now xs) k d) (filter_passes (λ x. not (is_over gone holds now x)) xs k d l)
+-- seven bytes of each packet; who held its source at its announcement does; it is for the program; and one sent it
+pub record Stood (w : Who) (H : List Call) (x : OpenBroadcast) : Type 0 where
+  pub sevens : length x.bytes ≡ 7 * x.count
+  pub small : x.size ≤ 1785
+  pub named : x.name ≡ holder w H x.source
+  pub wanted : is_ignored w x.group ≡ false
+  pub sent : HeardSince w H x.source (Sent x)
 
-pub record Stands (w : Who) (holds : ℕ → Option ℕ) (l : Listening) : Type 0 where
-  pub fit : All IsFit l.current
+-- and a call leaves its source's holder
+pub record Kept (w : Who) (call : Call) (H : List Call) (x : OpenBroadcast) : Type 0 where
+  pub stood : Stood w H x
+  pub same : holder w (call ∷ H) x.source ≡ known_by w call H x.source
+  pub named : x.name ≡ holder w (call ∷ H) x.source
+
+pub fit : (w : Who) (call : Call) (H : List Call) (x : OpenBroadcast) → Open (Kept w call H) x → IsFit x
+fit w call H x k = (k.1.stood.sevens, k.1.stood.small, k.0)
+
+pub record Stands (w : Who) (P : OpenBroadcast → Type 0) (l : Listening) : Type 0 where
+  pub all : All (Open P) l.current
   pub apart : AreApart l.current
-  pub named : All (IsNamed holds) l.current
-  pub wanted : All (λ x. is_ignored w x.group ≡ false) l.current
   pub room : length l.current + length l.waits ≤ w.boxes
 
-shorter : (p : OpenBroadcast → Bool) (xs : List OpenBroadcast) → length (filter p xs) ≤ length xs
+stands_as : (w : Who) (P Q : OpenBroadcast → Type 0) (l : Listening) → ((x : OpenBroadcast) → P x → Q x) → Stands w P l → Stands w Q l
+stands_as w P Q l g h = record { all = All-weaker (Open P) (Open Q) (λ x k. (k.0, g x k.1)) l.current h.all; apart = h.apart; room = h.room }
+
+-- one that isn't over has the holder that it had
+here_is : (away : Option ℕ) (holds : ℕ → Option ℕ) (now : ℕ) (x : OpenBroadcast) → not (is_over away holds now x) ≡ true → (is_some away x.source ≡ false) × (x.name ≡ holds x.source)
+here_is away holds now x e = (grind (arith, e), same_is _ _ (grind (arith, e)))
+
+pub shorter : (p : OpenBroadcast → Bool) (xs : List OpenBroadcast) → length (filter p xs) ≤ length xs
 shorter p xs = let d = length-filter_both p (λ y. not (p y)) (λ y. refl) xs in omega (arith, d)
 
-pub stands_still : (w : Who) (before holds : ℕ → Option ℕ) (gone : Option ℕ) (now : ℕ) (l : Listening) → Stands w before l → Stands w holds (staying gone holds now l)
-stands_still w before holds gone now l h = record {
-  fit = All-filter (λ x. not (is_over gone holds now x)) IsFit l.current h.fit;
-  apart = apart_filter (λ x. not (is_over gone holds now x)) l.current h.apart;
-  named = all_named gone holds now l.current;
-  wanted = All-filter (λ x. not (is_over gone holds now x)) (λ x. is_ignored w x.group ≡ false) l.current h.wanted;
-  room = (let a = shorter (λ x. not (is_over gone holds now x)) l.current in let r = h.room in omega (arith, a, r));
+-- those that aren't over by a call are kept
+stands_kept : (w : Who) (call : Call) (H : List Call) (gone : Option ℕ) (now : ℕ) → ((a : ℕ) → known_by w call H a ≡ still gone (holder w H) a) → Stands w (Stood w H) (listening w H)
+    → Stands w (Kept w call H) (staying gone (holder w (call ∷ H)) now (listening w H))
+stands_kept w call H gone now k h = record {
+  all = λ i d m.
+      let g = All-filter p (Open (Stood w H)) (listening w H).current h.all i d m in
+      let x = get_or (stay gone (holder w (call ∷ H)) now (listening w H).current) i d in
+      let e = here_is gone (holder w (call ∷ H)) now x (filter_passes p (listening w H).current i d m) in (
+        g.0,
+        record { stood = g.1; same = sym e.1 ∙ (g.1.named ∙ sym (k x.source ∙ ap (λ (b : Bool). if b then None else holder w H x.source) e.0)); named = e.1 },
+      );
+  apart = apart_filter p (listening w H).current h.apart;
+  room = (let a = shorter p (listening w H).current in let r = h.room in omega (arith, a, r));
+}
+  where
+    p : OpenBroadcast → Bool
+    p x = not (is_over gone (holder w (call ∷ H)) now x)
+
+-- what stays open behind a call: no frame is heard, or one beside its packets
+goes_on_by : (w : Who) (call : Call) (H : List Call) (x : OpenBroadcast)
+    → ((packets : List FrameRecord) (later : List Call) → length packets ≡ x.count → IsPartOf x.source packets (frames_heard later) → IsPartOf x.source packets (frames_heard (call ∷ later)))
+    → Kept w call H x → Stood w (call ∷ H) x
+goes_on_by w call H x beside k = record {
+  sevens = k.stood.sevens;
+  small = k.stood.small;
+  named = k.named;
+  wanted = k.stood.wanted;
+  sent = since_on w H call x.source (Sent x) (Sent x) k.stood.sent k.same (λ later at first s. (s.0, beside s.0 later s.2.count s.1, s.2));
 }
 
--- how many there are of it
-pub of_one : (a : ℕ) (xs : List OpenBroadcast) (x : OpenBroadcast) → AreApart xs → of a xs ≡ Some x → suc (length (others a xs)) ≡ length xs
-of_one a [] x h e = absurd (cc)
-of_one a (y ∷ xs) x h e = go (nat_eq a y.source) refl e (of_one a xs x h.1)
+goes_quiet : (w : Who) (call : Call) (H : List Call) → ((G : List Call) → frames_heard (call ∷ G) ≡ frames_heard G) → (x : OpenBroadcast) → Kept w call H x → Stood w (call ∷ H) x
+goes_quiet w call H quiet x = goes_on_by w call H x (λ packets later c. subst (IsPartOf x.source packets) (sym (quiet later)))
+
+passes_it : (w : Who) (H : List Call) (when : ℕ) (f : FrameRecord) (x : OpenBroadcast) → Leaves f x → Kept w (At when (Hear f)) H x → Stood w (At when (Hear f) ∷ H) x
+passes_it w H when f x b = goes_on_by w (At when (Hear f)) H x (λ packets later c. passed f packets (frames_heard later) (ap (λ (n : ℕ). is_beside x.source n f) c ∙ beside b))
   where
-    go : (b : Bool) → nat_eq a y.source ≡ b → (if b then Some y else of a xs) ≡ Some x → (of a xs ≡ Some x → suc (length (others a xs)) ≡ length xs)
-        → suc (length (if not b then y ∷ others a xs else others a xs)) ≡ suc (length xs)
-    go true i m k = ap (λ ys. suc (length ys)) (none_other a xs (ap (λ (b : ℕ). of b xs) (eqb-true a y.source i) ∙ h.0))
-    go false i m k = ap suc (k m)
+    beside : Leaves f x → is_beside x.source x.count f ≡ true
+    beside h = grind (arith, h)
 
-part_one : (o : Option OpenBroadcast) → length (part_of o) + length (listed (whole_of o)) ≤ 1
-part_one None = omega arith
-part_one (Some y) = cond_by (is_whole y)
-  where
-    cond_by : (b : Bool) → length (if b then [] else y ∷ []) + length (listed (if b then Some (message_by y) else None)) ≤ 1
-    cond_by true = omega arith
-    cond_by false = omega arith
-
-room_heard : (n : ℕ) (w : Who) (name : Option ℕ) (now : ℕ) (f : FrameRecord) (l : Listening) → AreApart l.current → length l.current + length l.waits ≤ n
-    → length (hears_in n w name now f l).current + length (hears_in n w name now f l).waits ≤ n
-room_heard n w name now f l h r = go (announces f || packs f) (announces f) (packs f) (of (source_of f.id) l.current) refl
-  where
-    s : ℕ
-    s = source_of f.id
-
-    count : (o : Option OpenBroadcast) → length (others s l.current) + length (part_of o) + (length l.waits + length (listed (whole_of o))) ≤ n
-        → length (with_one o (without_source s l)).current + length (with_one o (without_source s l)).waits ≤ n
-    count o k = let a = length-append (others s l.current) (part_of o) in let b = length-append l.waits (listed (whole_of o)) in omega (arith, a, b, k)
-
-    few : (o : Option OpenBroadcast) → length (others s l.current) + length l.waits < n → length (with_one o (without_source s l)).current + length (with_one o (without_source s l)).waits ≤ n
-    few o k = count o (let p = part_one o in omega (arith, p, k))
-
-    none : length (with_one None (without_source s l)).current + length (with_one None (without_source s l)).waits ≤ n
-    none = count None (let a = shorter (λ x. not (nat_eq s x.source)) l.current in omega (arith, a, r))
-
-    by_room : (b : Bool) (o : Option OpenBroadcast) → has_box n l ≡ b → length (with_one (if b then o else None) (without_source s l)).current + length (with_one (if b then o else None) (without_source s l)).waits ≤ n
-    by_room true o e = few o (let a = shorter (λ x. not (nat_eq s x.source)) l.current in let k = ltb-true _ _ e in omega (arith, a, k))
-    by_room false o e = none
-
-    go : (b a p : Bool) (o : Option OpenBroadcast) → of s l.current ≡ o
-        → (let m = if b then with_one (if a then (if has_some o || has_box n l then opens w name now f o else o) else if p then packed now f o else o) (without_source s l) else l in
-        length m.current + length m.waits ≤ n)
-    go false a p o e = r
-    go true a p (Some y) e =
-        few (if a then opens w name now f (Some y) else if p then packed now f (Some y) else Some y) (let k = of_one s l.current y h e in omega (arith, k, r))
-    go true true p None e = by_room (has_box n l) (opens w name now f None) refl
-    go true false true None e = none
-    go true false false None e = none
-
-pub stands_heard : (w : Who) (holds : ℕ → Option ℕ) (now : ℕ) (f : FrameRecord) (l : Listening) → Stands w holds l → Stands w holds (hears_in w.boxes w (holds (source_of f.id)) now f l)
-stands_heard w holds now f l h = record {
-  fit =
-      all_heard w.boxes w (holds (source_of f.id)) now f l IsFit
-      (λ since e k. (refl, (announcement_facts (by (source_of f.id)) f e).small, begun_open (holds (source_of f.id)) since now f e))
-      (λ y p o g k. ((let a = length-append y.bytes (drop 1 f.bytes) in let b = drop_one f.bytes (packs_eight f p) in let m = g.0 in omega (arith, a, b, m)), g.1, k)) h.fit h.fit;
-  apart = apart_heard w.boxes w (holds (source_of f.id)) now f l h.apart;
-  named = all_heard w.boxes w (holds (source_of f.id)) now f l (IsNamed holds) (λ since e k. refl) (λ y p o g k. g) h.fit h.named;
-  wanted = all_heard w.boxes w (holds (source_of f.id)) now f l (λ x. is_ignored w x.group ≡ false) (λ since e k. k) (λ y p o g k. g) h.fit h.wanted;
-  room = room_heard w.boxes w (holds (source_of f.id)) now f l h.apart h.room;
+-- one begins
+anew : (w : Who) (H : List Call) (since when : ℕ) (f : FrameRecord) → announces f ≡ true → is_ignored w (pgn_named f) ≡ false
+    → Stood w (At when (Hear f) ∷ H) (begun (holder w (At when (Hear f) ∷ H) (source_of f.id)) since (time_heard (At when (Hear f) ∷ H)) f)
+anew w H since when f e i = record {
+  sevens = refl;
+  small = (announcement_facts (by (source_of f.id)) f e).small;
+  named = refl;
+  wanted = i;
+  sent = since_now w H when f (source_of f.id) (Sent (begun (holder w (At when (Hear f) ∷ H) (source_of f.id)) since (time_heard (At when (Hear f) ∷ H)) f))
+      ([], ended, record { source = refl; announced = e; group = refl; size = refl; count = refl; numbered = tt; bytes = refl; few = omega arith });
 }
 
-pub stands : (w : Who) (H : List Call) → Stands w (holder w H) (listening w H)
-stands w [] = record { fit = λ k d l. absurd (omega (arith, l)); apart = tt; named = λ k d l. absurd (omega (arith, l)); wanted = λ k d l. absurd (omega (arith, l)); room = omega arith }
-stands w (At now (Hear f) ∷ H) = stands_heard w (holder w (At now (Hear f) ∷ H)) (time_heard (At now (Hear f) ∷ H)) f (found_in w H now f) (stands_still w (holder w H) (holder w (At now (Hear f) ∷ H)) (restarts w H now f) (time_heard (At now (Hear f) ∷ H)) (listening w H) (stands w H))
-stands w (At now Tick ∷ H) = stands_still w (holder w H) (holder w H) None (time_heard (At now Tick ∷ H)) (listening w H) (stands w H)
-stands w (At now (TakeFrame (Some f)) ∷ H) = go (is_claim f) (stands w H)
+numbered_more : (k : Key) (n : ℕ) (fs : List FrameRecord) (f : FrameRecord) → AreNumbered k n fs → is_packet k f ≡ true → slice_index f.bytes 0 ≡ n + length fs
+    → AreNumbered k n (fs ++ f ∷ [])
+numbered_more k n [] f h e g = (e, (omega (arith, g)), tt)
+numbered_more k n (x ∷ fs) f h e g = (h.0, h.1, numbered_more k (n + 1) fs f h.2 e (omega (arith, g)))
+
+-- a packet is appended
+appends : (w : Who) (H : List Call) (when now : ℕ) (f : FrameRecord) (x : OpenBroadcast) → packs f ≡ true → source_of f.id ≡ x.source → slice_index f.bytes 0 ≡ suc x.count
+    → Open (Kept w (At when (Hear f)) H) x → Stood w (At when (Hear f) ∷ H) (grown now f x)
+appends w H when now f x p s n k =
+    let a = length-append x.bytes (drop 1 f.bytes) in
+    let b = drop_one f.bytes (packs_eight f p) in
+    let seven = k.1.stood.sevens in
+    let lacks = leb-false _ _ k.0 in
+    record {
+      sevens = omega (arith, a, b, seven);
+      small = k.1.stood.small;
+      named = k.1.named;
+      wanted = k.1.stood.wanted;
+      sent = since_on w H (At when (Hear f)) x.source (Sent x) (Sent (grown now f x)) k.1.stood.sent k.1.same (λ later at first t.
+          (let c = t.2.count in (
+            t.0 ++ f ∷ [],
+            chosen f t.0 (frames_heard later) t.1,
+            record {
+              source = t.2.source;
+              announced = t.2.announced;
+              group = t.2.group;
+              size = t.2.size;
+              count = (let d = length-append t.0 (f ∷ []) in omega (arith, d, c));
+              numbered = numbered_more (by x.source) 1 t.0 f t.2.numbered (subst (λ (a : ℕ). is_packet (by a) f ≡ true) s p) (omega (arith, n, c));
+              bytes = flat_map-append (λ g. drop 1 g.bytes) t.0 (f ∷ []) ∙ ap (λ z. joined t.0 ++ z) (append-nil (drop 1 f.bytes)) ∙ ap (λ z. z ++ drop 1 f.bytes) t.2.bytes;
+              few = omega (arith, a, b, lacks);
+            },
+          )));
+    }
+
+module _ (w : Who) (H : List Call) (when : ℕ) (f : FrameRecord) (h : Stands w (Kept w (At when (Hear f)) H) (found_in w H when f)) where
+  appended : (y : OpenBroadcast) → packs f ≡ true → found w H when f (source_of f.id) ≡ Some y → slice_index f.bytes 0 ≡ suc y.count → Open (Kept w (At when (Hear f)) H) y
+      → Stood w (At when (Hear f) ∷ H) (grown (time_heard (At when (Hear f) ∷ H)) f y)
+  appended y p k = appends w H when (time_heard (At when (Hear f) ∷ H)) f y p (sym (source_at (source_of f.id) (found_in w H when f).current y k))
+
+  -- what the frame makes of the one of its source
+  pub result_stood : IfSome (hears_it w (holder w (At when (Hear f) ∷ H) (source_of f.id)) (time_heard (At when (Hear f) ∷ H)) f (has_room w.boxes (source_of f.id) (found_in w H when f)) (found w H when f (source_of f.id)))
+      (Stood w (At when (Hear f) ∷ H))
+  result_stood =
+      result_is w.boxes w (holder w (At when (Hear f) ∷ H) (source_of f.id)) (time_heard (At when (Hear f) ∷ H)) f (found_in w H when f) (Open (Kept w (At when (Hear f)) H))
+      (Stood w (At when (Hear f) ∷ H)) (λ since z e i. anew w H since when f e i) appended (λ y a k m g. passes_it w H when f y (inr (a, m)) g.1) h.all
+
+  stands_heard : Stands w (Stood w (At when (Hear f) ∷ H)) (listening w (At when (Hear f) ∷ H))
+  stands_heard = record {
+    all = every w.boxes w (holder w (At when (Hear f) ∷ H) (source_of f.id)) (time_heard (At when (Hear f) ∷ H)) f (found_in w H when f) (Kept w (At when (Hear f)) H)
+        (Stood w (At when (Hear f) ∷ H)) (λ since z e i. anew w H since when f e i) appended (passes_it w H when f) h.all;
+    apart = apart_heard w.boxes w (holder w (At when (Hear f) ∷ H) (source_of f.id)) (time_heard (At when (Hear f) ∷ H)) f (found_in w H when f) h.apart;
+    room = room_heard w.boxes w (holder w (At when (Hear f) ∷ H) (source_of f.id)) (time_heard (At when (Hear f) ∷ H)) f (found_in w H when f) h.apart h.room;
+  }
+
+-- what leaves its source's holder and no frame is heard by
+stands_quiet : (w : Who) (call : Call) (H : List Call) (l : Listening) → ((G : List Call) → frames_heard (call ∷ G) ≡ frames_heard G) → ((a : ℕ) → holder w (call ∷ H) a ≡ holder w H a)
+    → ((a : ℕ) → known_by w call H a ≡ holder w H a) → Stands w (Stood w H) l → Stands w (Stood w (call ∷ H)) l
+stands_quiet w call H l quiet same known =
+    stands_as w (Stood w H) (Stood w (call ∷ H)) l (λ x k. goes_quiet w call H quiet x (record { stood = k; same = same x.source ∙ sym (known x.source); named = k.named ∙ sym (same x.source) }))
+
+pub stands : (w : Who) (H : List Call) → Stands w (Stood w H) (listening w H)
+stands w [] = record { all = All-nil (Open (Stood w [])); apart = tt; room = omega arith }
+stands w (At now (Hear f) ∷ H) = stands_heard w H now f (stands_kept w (At now (Hear f)) H (restarts w H now f) (time_heard (At now (Hear f) ∷ H)) (λ a. refl) (stands w H))
+stands w (At now Tick ∷ H) =
+    stands_as w (Kept w (At now Tick) H) (Stood w (At now Tick ∷ H)) (listening w (At now Tick ∷ H)) (goes_quiet w (At now Tick) H (λ G. refl))
+    (stands_kept w (At now Tick) H None (time_heard (At now Tick ∷ H)) (λ a. refl) (stands w H))
+stands w (At now (TakeFrame (Some f)) ∷ H) = go (is_claim f) refl (stands w H)
   where
-    G : List Call
-    G = At now (TakeFrame (Some f)) ∷ H
+    call : Call
+    call = At now (TakeFrame (Some f))
 
-    go : (b : Bool) → Stands w (holder w H) (listening w H)
-        → Stands w (λ a. if b then Rattle.j39_node.proofs.Common.held_then a (Rattle.j39_node.proofs.Common.claim_of f) (holder w H a) else holder w H a)
-        (if b then staying None (λ a. if b then Rattle.j39_node.proofs.Common.held_then a (Rattle.j39_node.proofs.Common.claim_of f) (holder w H a) else holder w H a) (time_heard H) (listening w H) else listening w H)
-    go true h = stands_still w (holder w H) _ None (time_heard H) (listening w H) h
-    go false h = h
-stands w (ReleaseBroadcast true ∷ H) = let h = stands w H in record {
-  fit = h.fit;
-  apart = h.apart;
-  named = h.named;
-  wanted = h.wanted;
-  room = (let r = h.room in let d = length-drop 1 (listening w H).waits in omega (arith, r, d));
-}
-stands w (call ∷ H) = stands w H
+    go : (b : Bool) → is_claim f ≡ b → Stands w (Stood w H) (listening w H)
+        → Stands w (Stood w (call ∷ H)) (if b then staying None (holder w (call ∷ H)) (time_heard H) (listening w H) else listening w H)
+    go true e h = stands_as w (Kept w call H) (Stood w (call ∷ H)) _ (goes_quiet w call H (λ G. refl)) (stands_kept w call H None (time_heard H) (λ a. refl) h)
+    go false e h = stands_quiet w call H (listening w H) (λ G. refl) (λ a. ap (λ (b : Bool). if b then held_then a (claim_of f) (holder w H a) else holder w H a) e) (λ a. refl) h
+stands w (ReleaseBroadcast true ∷ H) =
+    let h = stands_quiet w (ReleaseBroadcast true) H (listening w H) (λ G. refl) (λ a. refl) (λ a. refl) (stands w H) in
+    record { all = h.all; apart = h.apart; room = (let r = h.room in let d = length-drop 1 (listening w H).waits in omega (arith, r, d)) }
+stands w (call ∷ H) = stands_quiet w call H (listening w H) (λ G. refl) (λ a. refl) (λ a. refl) (stands w H)
 
-pub stands_found : (w : Who) (H : List Call) (when : ℕ) (f : FrameRecord) → Stands w (holder w (At when (Hear f) ∷ H)) (found_in w H when f)
-stands_found w H when f = stands_still w (holder w H) (holder w (At when (Hear f) ∷ H)) (restarts w H when f) (time_heard (At when (Hear f) ∷ H)) (listening w H) (stands w H)
+pub stands_found : (w : Who) (H : List Call) (when : ℕ) (f : FrameRecord) → Stands w (Kept w (At when (Hear f)) H) (found_in w H when f)
+stands_found w H when f = stands_kept w (At when (Hear f)) H (restarts w H when f) (time_heard (At when (Hear f) ∷ H)) (λ a. refl) (stands w H)
 
 -- ---- what is counted, and is news
 
@@ -403,13 +423,7 @@ pub leaves_after : (w : Who) (H : List Call) (gone : Option ℕ) (holds : ℕ �
       boxes = w.boxes;
       missed = min (with_all (those_over gone holds now (listening w H).current) (unheard w H)) 18446744073709551615;
     }
-leaves_after w H gone holds now x e =
-    ap (leaving gone holds now) e
-    ∙ λ i. record {
-      listening = staying gone holds now (listening w H);
-      boxes = w.boxes;
-      missed = missed_all (those_over gone holds now (listening w H).current) _ (unheard w H) refl i;
-    }
+leaves_after w H gone holds now x e = let m = missed_all (those_over gone holds now (listening w H).current) _ (unheard w H) refl in grind (arith, e, m)
 
 -- what a tick or its own claim ends is news
 pub broken_news : (b m u : Bool) → (b || (m || u)) ≡ (m || ((b || false) || u))
@@ -419,40 +433,39 @@ broken_news b m u = grind arith
 pub either_news : (e a b c d : Bool) → (e || ((a || b) || (c || d))) ≡ ((a || c) || ((e || d) || b))
 either_news e a b c d = grind arith
 
+-- what a frame that is taken makes of it, by whether it is a claim
+abbrev taken : Who → List Call → ℕ → FrameRecord → Bool → HearingRecord
+taken w H now f b = record {
+  listening = if b then staying None (holder w (At now (TakeFrame (Some f)) ∷ H)) (time_heard H) (listening w H) else listening w H;
+  boxes = w.boxes;
+  missed = min (with_all (if b then those_over None (holder w (At now (TakeFrame (Some f)) ∷ H)) (time_heard H) (listening w H).current else []) (unheard w H)) 18446744073709551615;
+}
+
 pub hearing_same : (w : Who) (H : List Call) (now : ℕ) (f : FrameRecord) → is_claim f ≡ false → hearing_after w H ≡ hearing_after w (At now (TakeFrame (Some f)) ∷ H)
-hearing_same w H now f e =
-    sym (λ i. record {
-      listening = if e i then staying None (holder w (At now (TakeFrame (Some f)) ∷ H)) (time_heard H) (listening w H) else listening w H;
-      boxes = w.boxes;
-      missed = min (with_all (if e i then those_over None (holder w (At now (TakeFrame (Some f)) ∷ H)) (time_heard H) (listening w H).current else []) (unheard w H)) 18446744073709551615;
-    })
+hearing_same w H now f e = sym (ap (taken w H now f) e)
 
 pub news_same : (w : Who) (H : List Call) (now : ℕ) (f : FrameRecord) → is_claim f ≡ false → news_after w H ≡ news_after w (At now (TakeFrame (Some f)) ∷ H)
 news_same w H now f e =
     sym (ap (λ (b : Bool). (let u : Untold = record (news_after w H) { missed = missed_news w H || ((is_any (if b then those_over None (holder w (At now (TakeFrame (Some f)) ∷ H)) (time_heard H) (listening w H).current else []) || false) || unheard_news w H) } in u)) e)
 
-pub holders_are : (w : Who) (H : List Call) (old : Claims) → Knows old (told_claims w H) → holder_in old ≡ holder w H
-holders_are w H old k = λ i a. table_is w old H a k i
+-- by the table, whether any ends
+says_any : (w : Who) (H : List Call) (away : Option ℕ) (holds : ℕ → Option ℕ) (now : ℕ) (table : ℕ → Option ℕ) (t : ℕ) (x : HearingRecord) (b : Bool) → x ≡ hearing_after w H → table ≡ holds → t ≡ now
+    → b ≡ nat_lt 0 (length (those_over away table t x.listening.current)) → b ≡ is_any (those_over away holds now (listening w H).current)
+says_any w H away holds now table t x b e k g h = h ∙ ((λ i. nat_lt 0 (length (those_over away (k i) (g i) (e i).listening.current))) ∙ any_is (those_over away holds now (listening w H).current))
 
 -- its own claim is taken
 pub claimed_on : (w : Who) (H : List Call) (now : ℕ) (f : FrameRecord) (new : Claims) (t : ℕ) (x y : HearingRecord) → is_claim f ≡ true → x ≡ hearing_after w H
     → Knows new (told_claims w (At now (TakeFrame (Some f)) ∷ H)) → t ≡ time_heard H → y ≡ leaving None (holder_in new) t x → y ≡ hearing_after w (At now (TakeFrame (Some f)) ∷ H)
 claimed_on w H now f new t x y n e k g h =
     h ∙ ((λ i. leaving None (holders_are w (At now (TakeFrame (Some f)) ∷ H) new k i) (g i) x)
-    ∙ (leaves_after w H None (holder w (At now (TakeFrame (Some f)) ∷ H)) (time_heard H) x e
-    ∙ sym (λ i. record {
-      listening = if n i then staying None (holder w (At now (TakeFrame (Some f)) ∷ H)) (time_heard H) (listening w H) else listening w H;
-      boxes = w.boxes;
-      missed = min (with_all (if n i then those_over None (holder w (At now (TakeFrame (Some f)) ∷ H)) (time_heard H) (listening w H).current else []) (unheard w H)) 18446744073709551615;
-    })))
+    ∙ (leaves_after w H None (holder w (At now (TakeFrame (Some f)) ∷ H)) (time_heard H) x e ∙ sym (ap (taken w H now f) n)))
 
 pub claimed_says : (w : Who) (H : List Call) (now : ℕ) (f : FrameRecord) (new : Claims) (t : ℕ) (x : HearingRecord) (b : Bool) → is_claim f ≡ true → x ≡ hearing_after w H
     → Knows new (told_claims w (At now (TakeFrame (Some f)) ∷ H)) → t ≡ time_heard H → b ≡ nat_lt 0 (length (those_over None (holder_in new) t x.listening.current))
     → b ≡ is_any (over_by w H (At now (TakeFrame (Some f))))
 claimed_says w H now f new t x b n e k g h =
-    h ∙ ((λ i. nat_lt 0 (length (those_over None (holders_are w (At now (TakeFrame (Some f)) ∷ H) new k i) (g i) (e i).listening.current)))
-    ∙ (any_is (those_over None (holder w (At now (TakeFrame (Some f)) ∷ H)) (time_heard H) (listening w H).current)
-    ∙ sym (ap (λ (c : Bool). is_any (if c then those_over None (holder w (At now (TakeFrame (Some f)) ∷ H)) (time_heard H) (listening w H).current else [])) n)))
+    says_any w H None (holder w (At now (TakeFrame (Some f)) ∷ H)) (time_heard H) (holder_in new) t x b e (holders_are w (At now (TakeFrame (Some f)) ∷ H) new k) g h
+    ∙ sym (ap (λ (c : Bool). is_any (if c then those_over None (holder w (At now (TakeFrame (Some f)) ∷ H)) (time_heard H) (listening w H).current else [])) n)
 
 -- time passes
 pub ticked_on : (w : Who) (H : List Call) (now : ℕ) (old : Claims) (t : ℕ) (x y : HearingRecord) → x ≡ hearing_after w H → Knows old (told_claims w H) → t ≡ time_heard (At now Tick ∷ H)
@@ -461,8 +474,7 @@ ticked_on w H now old t x y e k g h = h ∙ ((λ i. leaving None (holders_are w 
 
 pub ticked_says : (w : Who) (H : List Call) (now : ℕ) (old : Claims) (t : ℕ) (x : HearingRecord) (b : Bool) → x ≡ hearing_after w H → Knows old (told_claims w H) → t ≡ time_heard (At now Tick ∷ H)
     → b ≡ nat_lt 0 (length (those_over None (holder_in old) t x.listening.current)) → b ≡ is_any (over_by w H (At now Tick))
-ticked_says w H now old t x b e k g h =
-    h ∙ ((λ i. nat_lt 0 (length (those_over None (holders_are w H old k i) (g i) (e i).listening.current))) ∙ any_is (over_by w H (At now Tick)))
+ticked_says w H now old t x b e k g h = says_any w H None (holder w H) (time_heard (At now Tick ∷ H)) (holder_in old) t x b e (holders_are w H old k) g h
 
 -- whether one is made whole, told by its source and group
 pub made_sender : (o : Option (ℕ × MessageRecord)) (name : Option ℕ) (names : List (Option ℕ))
@@ -495,13 +507,13 @@ heard_on w H when f new gone t broken u made x m y e k g r b e1 e2 e3 e4 =
     } = e1 ∙ ((λ i. leaving (r i) (h i) (g i) x) ∙ leaves_after w H (restarts w H when f) (holder w G) (time_heard G) x e) in
     let s = stands_found w H when f in
     let apart = subst (λ (n : HearingRecord). AreApart n.listening.current) (sym found) s.apart in
-    let fit = subst (λ (n : HearingRecord). All IsFit n.listening.current) (sym found) s.fit in
+    let fits = subst (λ (n : HearingRecord). All IsFit n.listening.current) (sym found) (All-weaker (Open (Kept w (At when (Hear f)) H)) IsFit (fit w (At when (Hear f)) H) (found_in w H when f).current s.all) in
     record {
       breaks = b ∙ ((λ i. nat_lt 0 (length (those_over (r i) (h i) (g i) (e i).listening.current))) ∙ any_is (over_by w H (At when (Hear f))));
       unheard = e2 ∙ ap (λ (n : HearingRecord). is_unheard_in n.boxes w f n.listening) found;
-      made = e3 apart fit ∙ λ i. made_of (option_map (λ (p : ℕ × MessageRecord). p.1) (made_in (found i).boxes w (h i (source_of f.id)) (g i) f (found i).listening));
+      made = e3 apart fits ∙ λ i. made_of (option_map (λ (p : ℕ × MessageRecord). p.1) (made_in (found i).boxes w (h i (source_of f.id)) (g i) f (found i).listening));
       found = ap (λ (n : HearingRecord). n.listening) found;
-      hearing = e4 apart fit ∙ ((λ i. hearing_it w (h i (source_of f.id)) (g i) f (found i))
+      hearing = e4 apart fits ∙ ((λ i. hearing_it w (h i (source_of f.id)) (g i) f (found i))
           ∙ λ i. record {
             listening = listening w G;
             boxes = w.boxes;

@@ -1,17 +1,15 @@
 -- What a frame is to a controller doesn't depend on what it brought along; and what is refused.
-use Rattle.j39_node.proofs.Common.{[], if◌then◌else◌, ◌&&◌, ◌++◌, ◌==◌, ◌||◌, ◌∙◌, ◌∷◌, ◌≡◌, ◌≢◌, ◌≤◌, ◌⊎◌, acknowledgment, Answer, ap, arith, Asked, asked, asked_group, asked_with, Bool, Brought, Busy, bytes_eq, calls_for_claim, Claim, claim_of, destination_of, double, eqb-true, false, FrameRecord, fresh, inl, inr, is_asked, is_larger, is_refusal_due, is_served, is_smaller, List, list_any, Message, Nack, nat_eq, nat_lt, None, not, nothing, Option, Own, refl, refusal, repeats, Some, sym, true, Who, who_of, with_refusal, with_request, ℕ}
+use Rattle.j39_node.proofs.Common.{[], if◌then◌else◌, ◌&&◌, ◌++◌, ◌==◌, ◌||◌, ◌∙◌, ◌∷◌, ◌≡◌, ◌≢◌, ◌≤◌, ◌⊎◌, acknowledgment, Answer, ap, arith, Asked, asked, Bool, Brought, Busy, bytes_eq, calls_for_claim, Claim, claim_of, double, false, FrameRecord, fresh, inl, inr, is_asked, is_larger, is_refusal_due, is_served, is_smaller, List, list_any, Message, Nack, nat_eq, nat_lt, None, not, nothing, Option, Own, refusal, repeats, Some, sym, true, Who, who_of, with_refusal, with_request, ℕ}
+use Rattle.std.proofs.lemmas.Bool.{ne_eqb}
 
 pub smaller_known : (k : Brought) (own : Own) (o : Option Claim) → is_smaller (who_of nothing own) o ≡ is_smaller (who_of k own) o
-smaller_known k own None = refl
-smaller_known k own (Some c) = refl
+smaller_known k own o = grind arith
 
 larger_known : (k : Brought) (own : Own) (o : Option Claim) → is_larger (who_of nothing own) o ≡ is_larger (who_of k own) o
-larger_known k own None = refl
-larger_known k own (Some c) = refl
+larger_known k own o = grind arith
 
 pub double_known : (k : Brought) (own : Own) (o : Option Claim) → double (who_of nothing own) o ≡ double (who_of k own) o
-double_known k own None = refl
-double_known k own (Some c) = refl
+double_known k own o = grind arith
 
 pub calls_known : (k : Brought) (own : Own) (lost : Bool) (f : FrameRecord)
     → calls_for_claim (who_of nothing own) lost f ≡ calls_for_claim (who_of k own) lost f
@@ -19,47 +17,32 @@ calls_known k own lost f =
     λ i. ((smaller_known k own (claim_of f) i || larger_known k own (claim_of f) i) && not lost) || is_asked (who_of k own) lost f
 
 pub asked_known : (k : Brought) (own : Own) (held : Bool) (f : FrameRecord) → asked (who_of nothing own) held f ≡ asked (who_of k own) held f
-asked_known k own held f = go (destination_of f.id) (asked_group f)
-  where
-    go : (to group : Option Rattle.std.proofs.Common.ℕ) → asked_with (who_of nothing own) held f to group ≡ asked_with (who_of k own) held f to group
-    go None None = refl
-    go None (Some group) = refl
-    go (Some to) None = refl
-    go (Some to) (Some group) = refl
+asked_known k own held f = grind arith
 
 pub request_known : (k : Brought) (own : Own) (room : Bool) (o : Option Asked) (waiting : List Asked)
     → with_request (who_of nothing own) room o waiting ≡ with_request (who_of k own) room o waiting
-request_known k own room None waiting = refl
-request_known k own room (Some r) waiting = refl
+request_known k own room o waiting = grind arith
 
 pub refusal_known : (k : Brought) (own : Own) (room place : Bool) (o : Option Asked) (due : List Message)
     → with_refusal (who_of nothing own) room place o due ≡ with_refusal (who_of k own) room place o due
-refusal_known k own room place None due = refl
-refusal_known k own room place (Some r) due = refl
+refusal_known k own room place o due = grind arith
 
 pub fresh_known : (k : Brought) (own : Own) (waiting : List Asked) (o : Option Asked) → fresh (who_of nothing own) waiting o ≡ fresh (who_of k own) waiting o
-fresh_known k own waiting None = refl
-fresh_known k own waiting (Some r) = refl
+fresh_known k own waiting o = grind arith
 
 pub refused_known : (k : Brought) (own : Own) (due : List Message) (o : Option Asked) → is_refusal_due (who_of nothing own) due o ≡ is_refusal_due (who_of k own) due o
-refused_known k own due None = refl
-refused_known k own due (Some r) = refl
+refused_known k own due o = grind arith
 
 -- ---- what is refused
 
 pub has_room : (n : ℕ) → n ≤ 16 → false ≡ (n == 16) → nat_lt n 16 ≡ true
-has_room n l e = less n l e
-  where
-    less : (n : ℕ) → n ≤ 16 → false ≡ (n == 16) → nat_lt n 16 ≡ true
-    less n l e = grind (arith, l, e)
+has_room n l e = grind (arith, l, e)
 
 pub no_room : (n : ℕ) → true ≡ (n == 16) → nat_lt n 16 ≡ false
 no_room n e = grind (arith, e)
 
 pub served_not : (a b : Bool) → (a ≡ false) ⊎ (b ≡ false) → (a && b) ≡ false
-served_not a b (inl e) = ap (λ (x : Bool). x && b) e
-served_not true b (inr e) = e
-served_not false b (inr e) = refl
+served_not a b e = grind (arith, e)
 
 -- whether there is a place for it
 pub place_by : (W : Who) (room place : Bool) (answer : Answer) (r : Asked) (A : List Message) → answer ≡ (if is_served W r.group then Busy else Nack)
@@ -74,11 +57,7 @@ refused W room place r A d p s = λ i. if (d i && p i) && not (s i) then A ++ re
 pub not_refused : (W : Who) (room place : Bool) (r : Asked) (A : List Message) → (r.destination ≢ W.address) ⊎ (place ≡ false)
     → with_refusal W room place (Some r) A ≡ A
 not_refused W room place r A (inl n) =
-    ap (λ (x : Bool). if (x && place) && not (is_served W r.group && room) then A ++ refusal W r ∷ [] else A) (differs (nat_eq r.destination W.address) refl)
-  where
-    differs : (b : Bool) → nat_eq r.destination W.address ≡ b → nat_eq r.destination W.address ≡ false
-    differs true e = absurd (n (eqb-true _ _ e))
-    differs false e = e
+    ap (λ (x : Bool). if (x && place) && not (is_served W r.group && room) then A ++ refusal W r ∷ [] else A) (ne_eqb _ _ n)
 not_refused W room place r A (inr p) =
     ap (λ (x : Bool). if x && not (is_served W r.group && room) then A ++ refusal W r ∷ [] else A) (served_not (nat_eq r.destination W.address) place (inr p))
 

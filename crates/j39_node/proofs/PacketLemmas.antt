@@ -1,5 +1,5 @@
 -- Packets, as their frames say them.
-use Rattle.j39_node.proofs.Common.{[], if◌then◌else◌, ◌&&◌, ◌==◌, ◌≡◌, ap, arith, Bool, broadcast_in, control_in, Directed, false, FrameRecord, Heard, key_between, length, nat_lt, None, not, number_in, Option, packed_in, packet_in, pgn_of, ps_of, ReceiverRecord, ReceptionRecord, recv_step, refl, request_in, result_of, said_between, said_to, shown, since_by, slice_index, Some, source_of, strays, takes_signal, transport_data_group, true, ℕ}
+use Rattle.j39_node.proofs.Common.{[], if◌then◌else◌, ◌&&◌, ◌==◌, ◌≡◌, ap, arith, Bool, broadcast_in, control_in, Directed, false, FrameRecord, Heard, key_between, length, nat_lt, None, not, number_in, Option, packed_in, packet_in, pgn_of, ps_of, ReceiverRecord, ReceptionRecord, recv_step, request_in, result_of, said_between, said_to, shown, slice_index, Some, source_of, strays, takes_signal, transport_data_group, true, ℕ}
 use Rattle.j39_transport.specs.Signals.{said_by}
 use Rattle.j39_transport.specs.Frames as frames
 
@@ -34,7 +34,3 @@ pub quiet_step : (r : ReceiverRecord) (f : FrameRecord) (now : ℕ) (found : Boo
     → recv_step r (Heard f) now found ≡ record { after = r; sends = None; delivers = None }
 unfolding recv_step takes_signal
 quiet_step r f now found e = ap (λ s. result_of r.own (frames.source_of f.id) (takes_signal (Directed (frames.source_of f.id) r.own) s now found r.session)) e
-
-pub since_same : (o : Option ReceptionRecord) (now since : ℕ) → since_by o o now since ≡ since
-since_same None now since = refl
-since_same (Some x) now since = refl

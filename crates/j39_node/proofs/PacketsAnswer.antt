@@ -1,9 +1,9 @@
 -- A message in packets answers a request by the frame that makes it whole, be it to this address or to all.
-use Rattle.j39_node.proofs.Common.{[], if◌then◌else◌, ◌&&◌, ◌<◌, ◌==◌, ◌||◌, ◌↔◌, ◌∙◌, ◌∷◌, ◌≡◌, ◌⊎◌, and_from, and_parts, Answered, ap, arith, At, Bool, by, Call, comes, destination_of, eq-eqb, eqb-true, false, found, FrameRecord, has_place, Hear, hearing, holder, in_session, inl, inr, is_coming, is_from, is_key, is_late, IsTrue, length, List, made_whole, MessageRecord, nat_eq, None, open_ask, OpenBroadcast, Option, packs, pgn_of, ps_of, Question, receiver_at, Reception, reception, ReceptionRecord, RecvResult, refl, said_to, says_to, seeks, shown, Some, source_of, sym, time_heard, transport_data_group, true, Who, whole_by, ℕ, or-true, comes_by, comes_in, found_in, has_room, IfSome, IsFit, list_any, listening, not, of, subst, AreApart}
+use Rattle.j39_node.proofs.Common.{[], if◌then◌else◌, ◌&&◌, ◌<◌, ◌==◌, ◌||◌, ◌↔◌, ◌∙◌, ◌∷◌, ◌≡◌, ◌⊎◌, and_from, and_parts, Answered, ap, arith, At, Bool, by, Call, comes, destination_of, eq-eqb, eqb-true, false, FrameRecord, has_place, Hear, hearing, holder, in_session, inl, inr, is_coming, is_from, is_key, is_late, IsTrue, length, List, made_whole, MessageRecord, nat_eq, None, open_ask, OpenBroadcast, Option, packs, pgn_of, ps_of, Question, receiver_at, Reception, reception, ReceptionRecord, RecvResult, refl, said_to, says_to, seeks, shown, Some, source_of, sym, time_heard, transport_data_group, true, Who, whole_by, ℕ, or-true, comes_by, comes_in, found_in, IfSome, list_any, listening, not, of, subst, AreApart}
 use Rattle.j39_node.specs.Hearing.{is_whole as is_full}
 use Rattle.j39_transport.specs.Frames as frames
 use Rattle.j39_node.proofs.HearingLaws.{made_is}
-use Rattle.j39_node.proofs.HearingLemmas.{hears_source, of_source, result_is, stands, stands_found}
+use Rattle.j39_node.proofs.HearingLemmas.{Kept, Open, result_is, result_source, stands, stands_found}
 use Rattle.j39_node.proofs.ListenLemmas.{begun_open}
 use Rattle.j39_node.proofs.PacketLemmas.{quiet_step, shown_none}
 use Rattle.j39_node.proofs.ReceptionLaws.{goes_there}
@@ -27,10 +27,10 @@ made_by_packet who H when f p e =
     let G = At when (Hear f) ∷ H in
     let name = holder who G (source_of f.id) in
     let z = made_is who H when f p e in
-    let q = result_is who.boxes who name (time_heard G) f (found_in who H when f) IsFit (λ y. is_full y ≡ true → packs f ≡ true)
-    (λ since z a w. absurd (let k : true ≡ false = sym w ∙ begun_open name since (time_heard G) f a in cc)) (λ y b k m g w. b)
-    (λ y a k m g w. absurd (let n : true ≡ false = sym w ∙ g.2 in cc)) (stands_found who H when f).fit in
-    let s = hears_source who name (time_heard G) f (has_room who.boxes (source_of f.id) (found_in who H when f)) (found who H when f (source_of f.id)) (of_source (source_of f.id) (found_in who H when f).current) in (
+    let q = result_is who.boxes who name (time_heard G) f (found_in who H when f) (Open (Kept who (At when (Hear f)) H)) (λ y. is_full y ≡ true → packs f ≡ true)
+    (λ since z a i w. absurd (let k : true ≡ false = sym w ∙ begun_open name since (time_heard G) f a in cc)) (λ y b k m g w. b)
+    (λ y a k m g w. absurd (let n : true ≡ false = sym w ∙ g.0 in cc)) (stands_found who H when f).all in
+    let s = result_source who.boxes who name (time_heard G) f (found_in who H when f) in (
       subst (λ (o : Option OpenBroadcast). IfSome o (λ y. is_full y ≡ true → packs f ≡ true)) z.1 q z.2,
       ap (λ (m : ℕ × MessageRecord). m.1.source) z.3 ∙ subst (λ (o : Option OpenBroadcast). IfSome o (λ y. y.source ≡ source_of f.id)) z.1 s,
     )

@@ -1,9 +1,51 @@
 -- What every history says of what is received in packets.
-use Rattle.j39_node.proofs.Common.{[], if◌then◌else◌, ◌&&◌, ◌++◌, ◌+◌, ◌-◌, ◌<◌, ◌==◌, ◌∙◌, ◌∷◌, ◌≡◌, ◌≤◌, ◌⊎◌, Abort, Acknowledgment, ap, append-nil, append_assoc, arith, asks_again, At, Bool, BroadcastAnnounce, Call, called, calls_claims, Claim, claim_of, claimed_again, Claims, claims_of, ClearToSend, cond_both, delivers_message, Directed, drop, false, FrameRecord, goes_on, goes_to, granted_at, grants, has_place, Hear, Heard, heard_at, heard_by, held_then, held_through, holder, holder_in, holds, inl, inr, is_claim, is_double, is_over, is_reply, is_same, is_smaller, is_some, is_taken, is_that, is_transfer, IsApart, IsHolderAfter, keeps, known, Knows, leaves, left, length, limit_of, List, ltb-false, ltb-true, Message, message_of, MessageRecord, min, nat_eq, nat_lt, None, not, of_other, Option, Packet, partner_of, quiet, Reaction, receiver_at, ReceiverRecord, Reception, reception, ReceptionRecord, recv_step, RecvResult, refl, released_by, ReleaseTransfer, replied, RequestToSend, result_of, said_between, said_to, SessionRecord, shown, Signal, since_by, slice_get, Some, source_of, step_at, still, subst, suc, sym, TakeFrame, taken_by, takes, takes_abort, takes_data, takes_packet, takes_request, takes_signal, takes_tick, Tick, ticked, ticked_at, Ticks, time_heard, told_claims, ToSend, transport_control_group, true, Who, without, zero, ℕ}
-use Rattle.j39_transport.specs.Reception.{begun, is_from}
+use Rattle.j39_node.proofs.Common.{KeepsHolder, known_by, [], if◌then◌else◌, ◌&&◌, ◌++◌, ◌-◌, ◌<◌, ◌∙◌, ◌∷◌, ◌≡◌, ◌≤◌, ◌⊎◌, Abort, Acknowledgment, ap, append-nil, append_assoc, arith, asks_again, At, Bool, BroadcastAnnounce, Call, called, calls_claims, Claim, claim_of, claimed_again, Claims, claims_of, ClearToSend, cond_both, delivers_message, Directed, drop, false, FrameRecord, goes_on, goes_to, granted_at, grants, has_place, Hear, Heard, heard_at, heard_by, held_then, held_through, holder, holder_in, holds, inl, inr, is_claim, is_double, is_reply, is_smaller, is_taken, is_that, is_transfer, IsApart, IsHolderAfter, keeps, known, Knows, leaves, left, length, List, ltb-false, ltb-true, Message, message_of, MessageRecord, min, nat_eq, nat_lt, None, of_other, Option, Packet, partner_of, Reaction, receiver_at, ReceiverRecord, Reception, reception, ReceptionRecord, recv_step, RecvResult, refl, released_by, ReleaseTransfer, replied, RequestToSend, said_to, shown, Signal, since_by, slice_get, Some, source_of, step_at, still, subst, suc, sym, TakeFrame, taken_by, takes, takes_abort, takes_data, takes_packet, takes_request, takes_signal, takes_tick, Tick, ticked, ticked_at, time_heard, told_claims, ToSend, transport_control_group, true, Who, without, zero, ℕ}
+use Rattle.j39_transport.specs.Reception.{begun}
 use Rattle.j39_address.proofs.HolderLemmas.{held_after, holder_push, none_above, same_holder}
 use Rattle.j39_address.proofs.NotingLemmas.{claims_of-push}
 use Rattle.j39_transport.specs.Frames as frames
+use Rattle.std.proofs.lemmas.Bool.{cases_Bool}
+
+-- ---- since a frame
+
+-- since a frame that was heard one NAME held a, or none, and didn't restart; and this stands of it and of the calls since
+pub record HeardSince (w : Who) (H : List Call) (a : ℕ) (S : List Call → ℕ → FrameRecord → Type 0) : Type 0 where
+  pub later : List Call
+  pub at : ℕ
+  pub first : FrameRecord
+  pub earlier : List Call
+  pub is : H ≡ later ++ At at (Hear first) ∷ earlier
+  pub stands : S later at first
+  pub one : KeepsHolder w a later (At at (Hear first) ∷ earlier)
+
+pub since_now : (w : Who) (H : List Call) (now : ℕ) (f : FrameRecord) (a : ℕ) (S : List Call → ℕ → FrameRecord → Type 0) → S [] now f → HeardSince w (At now (Hear f) ∷ H) a S
+since_now w H now f a S h = record { later = []; at = now; first = f; earlier = H; is = refl; stands = h; one = tt }
+
+-- a call later
+pub since_on : (w : Who) (H : List Call) (call : Call) (a : ℕ) (S T : List Call → ℕ → FrameRecord → Type 0) → HeardSince w H a S → holder w (call ∷ H) a ≡ known_by w call H a
+    → ((later : List Call) (at : ℕ) (first : FrameRecord) → S later at first → T (call ∷ later) at first) → HeardSince w (call ∷ H) a T
+since_on w H call a S T h keeps on = record {
+  later = call ∷ h.later;
+  at = h.at;
+  first = h.first;
+  earlier = h.earlier;
+  is = ap (λ G. call ∷ G) h.is;
+  stands = on h.later h.at h.first h.stands;
+  one = (subst (λ (G : List Call). holder w (call ∷ G) a ≡ known_by w call G a) h.is keeps, h.one);
+}
+
+-- ---- a reception by its cases
+
+-- by a frame that is taken
+pub taken_any : (P : Reception → Type 0) (a b l : Bool) (r : Reception) → (a ≡ true → P (left l r)) → (a ≡ false → P r) → (a ≡ false → P (record r { replies = drop 1 r.replies })) → P (taken_by a b l r)
+taken_any P true b l r h k m = h refl
+taken_any P false false l r h k m = k refl
+taken_any P false true l r h k m = m refl
+
+-- by what is released
+pub released_all : (P : Reception → Type 0) (b : Bool) (r : Reception) → P (record r { waits = if b then None else r.waits }) → P (released_by b r)
+released_all P false r h = h
+released_all P true r h = h
 
 -- ---- what a step of the receiver leaves
 
@@ -33,49 +75,14 @@ pub record Tame (P : ℕ → Type 0) (x : Reaction) : Type 0 where
   pub over : (x.delivers ≡ None) ⊎ (x.session ≡ None)
   pub acks : Acknowledges x.says x.delivers
 
-module _ (P : ℕ → Type 0) where
-  tame_quiet : (o : Option ReceptionRecord) → Fits P o → Tame P (quiet o)
-  tame_quiet o h = record { fits = h; gives = tt; over = inl refl; acks = refl }
+pub tame_signal : (P : ℕ → Type 0) (source own : ℕ) (s : Option Signal) (now : ℕ) (found : Bool) (o : Option ReceptionRecord) → (is_taken source o ≡ false → P source) → Fits P o
+    → Tame P (takes_signal (Directed source own) s now found o)
+unfolding takes_signal takes_data takes_abort takes_request takes_packet begun goes_on delivers_message asks_again grants granted_at
+tame_signal P source own s now found o l h = record { fits = grind (arith, l, h); gives = grind (arith, l, h); over = grind arith; acks = grind arith }
 
-  tame_grants : (now : ℕ) (r : ReceptionRecord) → P r.message.source → Tame P (grants now r)
-  unfolding grants granted_at
-  tame_grants now r l = record { fits = l; gives = tt; over = inl refl; acks = refl }
-
-  tame_asks : (now : ℕ) (r : ReceptionRecord) → P r.message.source → Tame P (asks_again now r)
-  unfolding asks_again
-  tame_asks now r l = cond_both (r.asks == 2) _ _ (Tame P) (λ t. record { fits = tt; gives = tt; over = inl refl; acks = refl })
-      (λ t. tame_grants now (record r { asks = r.asks + 1 }) l)
-
-  tame_goes : (now : ℕ) (r : ReceptionRecord) → P r.message.source → Tame P (goes_on now r)
-  unfolding goes_on delivers_message
-  tame_goes now r l = cond_both (r.message.count == r.message.packets) _ _ (Tame P) (λ t. record { fits = tt; gives = l; over = inr refl; acks = (_, refl, refl) })
-      (λ t. cond_both (r.message.count == r.granted) _ _ (Tame P) (λ u. tame_grants now r l) (λ u. tame_quiet (Some r) l))
-
-  tame_packet : (k : ℕ) (part : List ℕ) (now : ℕ) (r : ReceptionRecord) → P r.message.source → Tame P (takes_packet k part now r)
-  unfolding takes_packet
-  tame_packet k part now r l = cond_both (k == r.message.count + 1) _ _ (Tame P) (λ t. tame_goes now _ l)
-      (λ t. cond_both (k == r.granted) _ _ (Tame P) (λ u. tame_asks now r l) (λ u. tame_quiet _ l))
-
-  tame_request : (x : SessionRecord) (most now : ℕ) (found : Bool) (o : Option ReceptionRecord) → (is_taken x.source o ≡ false → P x.source) → Fits P o
-      → Tame P (takes_request x most now found o)
-  unfolding takes_request begun
-  tame_request x most now found o l h = cond_both (is_taken x.source o) _ _ (Tame P) (λ t. record { fits = h; gives = tt; over = inl refl; acks = refl })
-      (λ t. cond_both found _ _ (Tame P) (λ u. tame_grants now (begun x most) (l t)) (λ u. record { fits = h; gives = tt; over = inl refl; acks = refl }))
-
-  pub tame_signal : (source own : ℕ) (s : Option Signal) (now : ℕ) (found : Bool) (o : Option ReceptionRecord) → (is_taken source o ≡ false → P source) → Fits P o
-      → Tame P (takes_signal (Directed source own) s now found o)
-  unfolding takes_signal takes_data takes_abort
-  tame_signal source own (Some (RequestToSend size packets most pgn)) now found o l h = tame_request _ most now found o l h
-  tame_signal source own (Some (Abort reason pgn)) now found (Some r) l h =
-      cond_both (is_from source r && pgn == r.message.group) _ _ (Tame P) (λ t. tame_quiet None tt) (λ t. tame_quiet (Some r) h)
-  tame_signal source own (Some (Packet k part)) now found (Some r) l h =
-      cond_both (is_from source r) _ _ (Tame P) (λ t. tame_packet k part now r h) (λ t. tame_quiet (Some r) h)
-  tame_signal source own other now found o l h = tame_quiet o h
-
-  pub tame_tick : (now : ℕ) (o : Option ReceptionRecord) → Fits P o → Tame P (takes_tick now o)
-  unfolding takes_tick
-  tame_tick now None h = tame_quiet None tt
-  tame_tick now (Some r) h = cond_both (nat_lt (r.message.last + limit_of r) now) _ _ (Tame P) (λ t. tame_asks now r h) (λ t. tame_quiet (Some r) h)
+pub tame_tick : (P : ℕ → Type 0) (now : ℕ) (o : Option ReceptionRecord) → Fits P o → Tame P (takes_tick now o)
+unfolding takes_tick asks_again grants granted_at
+tame_tick P now o h = record { fits = grind (arith, h); gives = grind arith; over = grind arith; acks = grind arith }
 
 abbrev pub IsBelow : ℕ → Type 0
 IsBelow a = a < 254
@@ -86,32 +93,9 @@ pub record Steps (a : ℕ) (x : RecvResult) : Type 0 where
   pub over : (x.delivers ≡ None) ⊎ (x.after.session ≡ None)
   pub says : (s : ToSend) → x.sends ≡ Some s → a < 254
 
-no_answer : (own a : ℕ) (o : Option ReceptionRecord) (s : ToSend) → (result_of own a (quiet o)).sends ≡ Some s → ⊥
-no_answer own a o s e = absurd (cc)
-
-nothing_heard : (own a now : ℕ) (found : Bool) (o : Option ReceptionRecord) → Fits IsBelow o → Steps a (result_of own a (takes_signal (Directed a own) None now found o))
-unfolding takes_signal
-nothing_heard own a now found o h = record { fits = h; over = inl refl; says = λ s z. absurd (no_answer own a o s z) }
-
 pub heard_step : (r : ReceiverRecord) (f : FrameRecord) (now : ℕ) (found : Bool) → Fits IsBelow r.session → Steps (source_of f.id) (recv_step r (Heard f) now found)
-unfolding recv_step said_to frames.source_of
-heard_step r f now found h = go (nat_lt (source_of f.id) 254) refl
-  where
-    go : (b : Bool) → nat_lt (source_of f.id) 254 ≡ b → Steps (source_of f.id)
-        (result_of r.own (source_of f.id) (takes_signal (Directed (source_of f.id) r.own) (if b then said_between (source_of f.id) r.own f else None) now found r.session))
-    go true e =
-        let l = ltb-true (source_of f.id) 254 e in
-        let t = tame_signal IsBelow (source_of f.id) r.own (said_between (source_of f.id) r.own f) now found r.session (λ z. l) h in
-        record { fits = t.fits; over = t.over; says = λ s z. l }
-    go false e = nothing_heard r.own (source_of f.id) now found r.session h
-
-pub tick_step : (r : ReceiverRecord) (now : ℕ) → Fits IsBelow r.session → Steps (partner_of r.session) (recv_step r Ticks now true)
-unfolding recv_step takes_tick
-tick_step r now h = go r.session h
-  where
-    go : (o : Option ReceptionRecord) → Fits IsBelow o → Steps (partner_of o) (result_of r.own (partner_of o) (takes_tick now o))
-    go None h = record { fits = tt; over = inl refl; says = λ s z. absurd (no_answer r.own 254 None s z) }
-    go (Some x) h = let t = tame_tick IsBelow now (Some x) h in record { fits = t.fits; over = t.over; says = λ s z. h }
+unfolding recv_step said_to frames.source_of takes_signal takes_data takes_abort takes_request takes_packet begun goes_on delivers_message asks_again grants granted_at
+heard_step r f now found h = record { fits = grind (arith, h); over = grind arith; says = λ s z. grind (arith, z) }
 
 -- with no session, and no room, none begins
 pub record Refuses (x : RecvResult) : Type 0 where
@@ -120,13 +104,7 @@ pub record Refuses (x : RecvResult) : Type 0 where
 
 pub refused_step : (r : ReceiverRecord) (f : FrameRecord) (now : ℕ) → r.session ≡ None → Refuses (recv_step r (Heard f) now false)
 unfolding recv_step takes_signal takes_data takes_abort takes_request
-refused_step r f now e =
-    subst (λ o. Refuses (result_of r.own (frames.source_of f.id) (takes_signal (Directed (frames.source_of f.id) r.own) (said_to r.own f) now false o))) (sym e) (go (said_to r.own f))
-  where
-    go : (s : Option Signal) → Refuses (result_of r.own (frames.source_of f.id) (takes_signal (Directed (frames.source_of f.id) r.own) s now false None))
-    go None = record { session = refl; delivers = refl }
-    go (Some (Packet k part)) = record { session = refl; delivers = refl }
-    go other = record { session = refl; delivers = refl }
+refused_step r f now e = record { session = grind (arith, e); delivers = grind (arith, e) }
 
 -- ---- the replies
 
@@ -143,11 +121,7 @@ AllReplies own (m ∷ L) = IsReply own m × AllReplies own L
 
 all_without : (own a : ℕ) (L : List Message) → AllReplies own L → AllReplies own (without a L)
 all_without own a [] h = tt
-all_without own a (m ∷ L) h = go (goes_to a m) (all_without own a L h.1)
-  where
-    go : (b : Bool) → AllReplies own (without a L) → AllReplies own (if b then without a L else m ∷ without a L)
-    go true k = k
-    go false k = (h.0, k)
+all_without own a (m ∷ L) h = let k = all_without own a L h.1 in cond_both (goes_to a m) _ _ (AllReplies own) (λ e. k) (λ e. (h.0, k))
 
 all_more : (own : ℕ) (L : List Message) (m : Message) → AllReplies own L → IsReply own m → AllReplies own (L ++ m ∷ [])
 all_more own [] m h e = (e, tt)
@@ -179,29 +153,16 @@ pub own_after : (r : ReceiverRecord) (f : FrameRecord) (now : ℕ) (found : Bool
 unfolding recv_step
 own_after r f now found = refl
 
-pub own_ticked : (r : ReceiverRecord) (now : ℕ) → (recv_step r Ticks now true).after.own ≡ r.own
-unfolding recv_step
-own_ticked r now = refl
-
 pub tidy_left : (own : ℕ) (b : Bool) (r : Reception) → Tidy own r → Tidy own (left b r)
 tidy_left own false r h = h
 tidy_left own true r h = record { fits = tt; apart = inr refl; replies = all_without own (partner_of r.session) r.replies h.replies }
 
-keeps_none : (stamp : ℕ) (o : Option MessageRecord) (x : Option (ℕ × MessageRecord)) → o ≡ None → x ≡ None → keeps stamp o x ≡ None
-keeps_none stamp None x e f = f
-keeps_none stamp (Some m) x e f = absurd (cc)
-
 apart_taken : (own : ℕ) (f : FrameRecord) (now since : ℕ) (r : Reception) → Tidy own r → IsApart (takes f.stamp since (source_of f.id) (step_at own f now r) r)
-apart_taken own f now since r h = go r.waits refl h.apart
-  where
-    go : (o : Option (ℕ × MessageRecord)) → r.waits ≡ o → (r.waits ≡ None) ⊎ (r.session ≡ None) → IsApart (takes f.stamp since (source_of f.id) (step_at own f now r) r)
-    go None e a = elim (heard_step (receiver_at own r) (shown own r.session f) now (has_place r.waits) h.fits).over [
-      | inl d ↦ inl (keeps_none f.stamp _ r.waits d e)
-      | inr s ↦ inr s
-    ]
-    go (Some x) e (inl a) = absurd (let z : Some x ≡ None = sym e ∙ a in cc)
-    go (Some x) e (inr a) =
-        inr (ap (λ (b : Bool). (recv_step (receiver_at own r) (Heard (shown own r.session f)) now b).after.session) (ap has_place e) ∙ (refused_step (receiver_at own r) (shown own r.session f) now a).session)
+apart_taken own f now since r h =
+    let a = h.apart in
+    let s = (heard_step (receiver_at own r) (shown own r.session f) now (has_place r.waits) h.fits).over in
+    let n = refused_step (receiver_at own r) (shown own r.session f) now in
+    grind (arith, a, s, n)
 
 tidy_heard : (own : ℕ) (lost held : Bool) (f : FrameRecord) (now : ℕ) (r : Reception) → Tidy own r → Tidy own (heard_by own lost held f now r)
 tidy_heard own true held f now r h = record { fits = tt; apart = inr refl; replies = tt }
@@ -215,58 +176,36 @@ tidy_heard own false true f now r h =
           (all_replied own (source_of f.id) (step_at own f now r).sends r.replies s.says h.replies);
     }
 
--- a tick delivers nothing
-tick_quiet : (r : ReceiverRecord) (now : ℕ) → (recv_step r Ticks now true).delivers ≡ None
-unfolding recv_step takes_tick asks_again grants
-tick_quiet r now = go r.session
-  where
-    asks : (x : ReceptionRecord) → (asks_again now x).delivers ≡ None
-    asks x = cond_both (x.asks == 2) _ _ (λ (y : Reaction). y.delivers ≡ None) (λ t. refl) (λ t. refl)
-
-    go : (o : Option ReceptionRecord) → (takes_tick now o).delivers ≡ None
-    go None = refl
-    go (Some x) = cond_both (nat_lt (x.message.last + limit_of x) now) _ _ (λ (y : Reaction). y.delivers ≡ None) (λ t. asks x) (λ t. refl)
-
 -- with no session, a tick begins none
 tick_none : (own now : ℕ) (r : Reception) → r.session ≡ None → (ticked_at own now r).after.session ≡ None
 unfolding recv_step takes_tick
-tick_none own now r e = cond_both (is_over r.since now r.session) _ _ (λ (x : RecvResult). x.after.session ≡ None) (λ t. refl) (λ t. ap (λ o. (takes_tick now o).session) e)
+tick_none own now r e = grind (arith, e)
 
+-- a tick delivers nothing
 pub quiet_at : (own now : ℕ) (r : Reception) → (ticked_at own now r).delivers ≡ None
-quiet_at own now r = cond_both (is_over r.since now r.session) _ _ (λ (x : RecvResult). x.delivers ≡ None) (λ t. refl) (λ t. tick_quiet (receiver_at own r) now)
+unfolding recv_step takes_tick asks_again grants
+quiet_at own now r = grind arith
 
 pub own_at : (own now : ℕ) (r : Reception) → (ticked_at own now r).after.own ≡ own
-own_at own now r = cond_both (is_over r.since now r.session) _ _ (λ (x : RecvResult). x.after.own ≡ own) (λ t. refl) (λ t. own_ticked (receiver_at own r) now)
+unfolding recv_step
+own_at own now r = grind arith
 
 steps_at : (own now : ℕ) (r : Reception) → Fits IsBelow r.session → Steps (partner_of r.session) (ticked_at own now r)
-steps_at own now r h = cond_both (is_over r.since now r.session) _ _ (Steps (partner_of r.session))
-    (λ t. record { fits = tt; over = inl refl; says = λ s z. below r.session t h }) (λ t. tick_step (receiver_at own r) now h)
-  where
-    below : (o : Option ReceptionRecord) → is_over r.since now o ≡ true → Fits IsBelow o → partner_of o < 254
-    below None t h = absurd (cc)
-    below (Some x) t h = h
+unfolding recv_step takes_tick asks_again grants granted_at
+steps_at own now r h = record { fits = grind (arith, h); over = grind arith; says = λ s z. grind (arith, h, z) }
 
 tidy_ticked : (own stamp now : ℕ) (r : Reception) → Tidy own r → Tidy own (ticked own stamp now r)
 tidy_ticked own stamp now r h =
     let s = steps_at own now r h.fits in
+    let quiet = quiet_at own now r in
+    let none = tick_none own now r in
+    let a = h.apart in
     record {
       fits = s.fits;
-      apart = elim h.apart [
-        | inl e ↦ inl (keeps_none stamp _ r.waits (quiet_at own now r) e)
-        | inr e ↦ inr (tick_none own now r e)
-      ];
+      apart = grind (arith, quiet, none, a);
       replies = subst (λ (a : ℕ). AllReplies own (replied a (partner_of r.session) (ticked_at own now r).sends r.replies)) (sym (own_at own now r))
           (all_replied own (partner_of r.session) (ticked_at own now r).sends r.replies s.says h.replies);
     }
-
-tidy_taken : (own : ℕ) (a b l : Bool) (r : Reception) → Tidy own r → Tidy own (taken_by a b l r)
-tidy_taken own true b l r h = tidy_left own l r h
-tidy_taken own false false l r h = h
-tidy_taken own false true l r h = record { fits = h.fits; apart = h.apart; replies = all_dropped own r.replies h.replies }
-
-tidy_released : (own : ℕ) (b : Bool) (r : Reception) → Tidy own r → Tidy own (released_by b r)
-tidy_released own false r h = h
-tidy_released own true r h = record { fits = h.fits; apart = inl refl; replies = h.replies }
 
 pub tidy : (w : Who) (H : List Call) → Tidy w.address (reception w H)
 tidy w [] = record { fits = tt; apart = inl refl; replies = tt }
@@ -274,59 +213,37 @@ tidy w (At when (Hear f) ∷ H) =
     tidy_heard w.address (is_smaller w (claim_of f)) (holds w H when) f (time_heard (At when (Hear f) ∷ H)) _
     (tidy_left w.address (leaves (known w H when f) (holder w (At when (Hear f) ∷ H)) (reception w H).session) (reception w H) (tidy w H))
 tidy w (At now Tick ∷ H) = tidy_ticked w.address now (time_heard (At now Tick ∷ H)) (reception w H) (tidy w H)
-tidy w (At now (TakeFrame (Some f)) ∷ H) = tidy_taken w.address (is_claim f) (is_reply (reception w H).replies f) _ (reception w H) (tidy w H)
-tidy w (ReleaseTransfer answer ∷ H) = tidy_released w.address answer (reception w H) (tidy w H)
+tidy w (At now (TakeFrame (Some f)) ∷ H) =
+    let h = tidy w H in
+    taken_any (Tidy w.address) (is_claim f) (is_reply (reception w H).replies f) _ (reception w H) (λ e. tidy_left w.address _ (reception w H) h) (λ e. h)
+    (λ e. record { fits = h.fits; apart = h.apart; replies = all_dropped w.address (reception w H).replies h.replies })
+tidy w (ReleaseTransfer false ∷ H) = tidy w H
+tidy w (ReleaseTransfer true ∷ H) = let h = tidy w H in record { fits = h.fits; apart = inl refl; replies = h.replies }
 tidy w (call ∷ H) = tidy w H
 
 -- ---- who holds an address
 
 nobody_at : (a : ℕ) (c : Option Claim) (o : Option ℕ) → 254 ≤ a → o ≡ None → held_then a c o ≡ None
-nobody_at a None o l e = e
-nobody_at a (Some c) (Some n) l e = absurd (cc)
-nobody_at a (Some c) None l e = go (nat_eq c.address a) (nat_lt a 254) (far a l)
-  where
-    far : (k : ℕ) → 254 ≤ k → nat_lt k 254 ≡ false
-    far k g = grind arith
-
-    go : (x y : Bool) → y ≡ false → (if x && y then Some c.name else None) ≡ None
-    go true true g = absurd (cc)
-    go true false g = refl
-    go false y g = refl
+nobody_at a c o l e = grind (arith, l, e)
 
 min_is : (n m : ℕ) → (if nat_lt n m then Some n else Some m) ≡ Some (min n m)
-min_is n m = go (nat_lt n m) refl
-  where
-    go : (b : Bool) → nat_lt n m ≡ b → (if b then Some n else Some m) ≡ Some (min n m)
-    go true e = let l = ltb-true n m e in ap (λ (k : ℕ). Some k) (omega (arith, l))
-    go false e = let l = ltb-false n m e in ap (λ (k : ℕ). Some k) (omega (arith, l))
+min_is n m = grind arith
 
 same_claimed : (a : ℕ) (c : Option Claim) (o : Option ℕ) → nat_lt a 254 ≡ true → held_after a c o ≡ held_then a c o
-same_claimed a None None l = refl
-same_claimed a None (Some n) l = refl
-same_claimed a (Some c) None l = ap (λ (b : Bool). if b then Some c.name else None) (both (c.address == a) l)
-  where
-    both : (b : Bool) → nat_lt a 254 ≡ true → b ≡ (b && nat_lt a 254)
-    both true e = sym e
-    both false e = refl
-same_claimed a (Some c) (Some n) l =
-    ap (λ (x : Option ℕ). if c.address == a then x else if n == c.name then None else Some n) (min_is n c.name)
+same_claimed a c o l = grind (arith, min_is, l)
 
 holder_more : (F : List FrameRecord) (f : FrameRecord) (a : ℕ) (o : Option ℕ) → IsHolderAfter (claims_of F) a o
     → IsHolderAfter (claims_of (F ++ f ∷ [])) a (if nat_lt a 254 then held_after a (claim_of f) o else None)
-holder_more F f a o h = go (nat_lt a 254) refl
-  where
-    go : (b : Bool) → nat_lt a 254 ≡ b → IsHolderAfter (claims_of (F ++ f ∷ [])) a (if b then held_after a (claim_of f) o else None)
-    go true e = subst (λ C. IsHolderAfter C a (held_after a (claim_of f) o)) (sym (claims_of-push F f)) (holder_push (claims_of F) (claim_of f) a o (ltb-true _ _ e) h)
-    go false e = none_above (claims_of (F ++ f ∷ [])) (length (claims_of (F ++ f ∷ []))) a (ltb-false _ _ e)
+holder_more F f a o h = cond_both (nat_lt a 254) _ _ (IsHolderAfter (claims_of (F ++ f ∷ [])) a)
+    (λ e. subst (λ C. IsHolderAfter C a (held_after a (claim_of f) o)) (sym (claims_of-push F f)) (holder_push (claims_of F) (claim_of f) a o (ltb-true _ _ e) h))
+    (λ e. none_above (claims_of (F ++ f ∷ [])) (length (claims_of (F ++ f ∷ []))) a (ltb-false _ _ e))
 
 holder_next : (F : List FrameRecord) (f : FrameRecord) (a : ℕ) (o : Option ℕ) → IsHolderAfter (claims_of F) a o → (nat_lt a 254 ≡ false → o ≡ None)
     → IsHolderAfter (claims_of (F ++ f ∷ [])) a (held_then a (claim_of f) o)
-holder_next F f a o h n = go (nat_lt a 254) refl (holder_more F f a o h)
-  where
-    go : (b : Bool) → nat_lt a 254 ≡ b → IsHolderAfter (claims_of (F ++ f ∷ [])) a (if b then held_after a (claim_of f) o else None)
-        → IsHolderAfter (claims_of (F ++ f ∷ [])) a (held_then a (claim_of f) o)
-    go true e k = subst (IsHolderAfter (claims_of (F ++ f ∷ [])) a) (same_claimed a (claim_of f) o e) k
-    go false e k = subst (IsHolderAfter (claims_of (F ++ f ∷ [])) a) (sym (nobody_at a (claim_of f) o (ltb-false _ _ e) (n e))) k
+holder_next F f a o h n = subst (IsHolderAfter (claims_of (F ++ f ∷ [])) a) (elim (cases_Bool (nat_lt a 254)) [
+  | inl e ↦ ap (λ (b : Bool). if b then held_after a (claim_of f) o else None) e ∙ same_claimed a (claim_of f) o e
+  | inr e ↦ ap (λ (b : Bool). if b then held_after a (claim_of f) o else None) e ∙ sym (nobody_at a (claim_of f) o (ltb-false _ _ e) (n e))
+]) (holder_more F f a o h)
 
 pub record HolderOf (F : List FrameRecord) (a : ℕ) (o : Option ℕ) : Type 0 where
   pub is : IsHolderAfter (claims_of F) a o
@@ -364,40 +281,35 @@ holders w (call ∷ H) a = holders w H a
 pub table_is : (w : Who) (table : Claims) (H : List Call) (a : ℕ) → Knows table (told_claims w H) → holder_in table a ≡ holder w H a
 table_is w table H a knows = same_holder (claims_of (told_claims w H)) (length (claims_of (told_claims w H))) a _ _ (knows a) (holders w H a).is
 
+pub holders_are : (w : Who) (H : List Call) (old : Claims) → Knows old (told_claims w H) → holder_in old ≡ holder w H
+holders_are w H old k = λ i a. table_is w old H a k i
+
 -- what is no claim leaves who holds an address, and nobody restarts by it
 pub unclaimed_known : (w : Who) (H : List Call) (when : ℕ) (f : FrameRecord) (a : ℕ) → claim_of f ≡ None → holder w (At when (Hear f) ∷ H) a ≡ known w H when f a
-unclaimed_known w H when f a e =
-    ap (λ (c : Option Claim). held_then a (of_other w c) (holder w H a)) e ∙ ap (λ (c : Option Claim). still (claimed_again (holder w H) (called w H - (when - heard_at H)) c) (holder w H) a) (sym e)
+unclaimed_known w H when f a e = grind (arith, e)
 
 -- by what the table has
 pub again_is : (w : Who) (table : Claims) (H : List Call) (left : ℕ) (c : Option Claim) → Knows table (told_claims w H) → claimed_again (holder_in table) left c ≡ claimed_again (holder w H) left c
-again_is w table H left None knows = refl
-again_is w table H left (Some c) knows = ap (λ (o : Option ℕ). if is_some o c.name && nat_eq left 0 then Some c.address else None) (table_is w table H c.address knows)
+again_is w table H left c knows = ap (λ (holds : ℕ → Option ℕ). claimed_again holds left c) (holders_are w H table knows)
 
 pub calls_is : (w : Who) (table : Claims) (H : List Call) (f : FrameRecord) (c : Option Claim) → Knows table (told_claims w H) → calls_claims (holder_in table) f c ≡ calls_claims (holder w H) f c
-calls_is w table H f None knows = refl
-calls_is w table H f (Some c) knows = ap (λ (o : Option ℕ). not (is_some o c.name)) (table_is w table H c.address knows)
+calls_is w table H f c knows = ap (λ (holds : ℕ → Option ℕ). calls_claims holds f c) (holders_are w H table knows)
 
 pub leaves_still : (w : Who) (old new : Claims) (H : List Call) (when : ℕ) (f : FrameRecord) (o : Option ReceptionRecord) → Knows old (told_claims w H) → Knows new (told_claims w (At when (Hear f) ∷ H))
     → leaves (still (claimed_again (holder_in old) (called w H - (when - heard_at H)) (claim_of f)) (holder_in old)) (holder_in new) o ≡ leaves (known w H when f) (holder w (At when (Hear f) ∷ H)) o
-leaves_still w old new H when f None k l = refl
-leaves_still w old new H when f (Some r) k l =
-    λ i. not (is_same (still (again_is w old H (called w H - (when - heard_at H)) (claim_of f) k i) (λ a. table_is w old H a k i) r.message.source) (table_is w new (At when (Hear f) ∷ H) r.message.source l i))
+leaves_still w old new H when f o k l =
+    λ i. leaves (still (claimed_again (holders_are w H old k i) (called w H - (when - heard_at H)) (claim_of f)) (holders_are w H old k i)) (holders_are w (At when (Hear f) ∷ H) new l i) o
 
 pub leaves_is : (w : Who) (old new : Claims) (H G : List Call) (o : Option ReceptionRecord) → Knows old (told_claims w H) → Knows new (told_claims w G)
     → leaves (holder_in old) (holder_in new) o ≡ leaves (holder w H) (holder w G) o
-leaves_is w old new H G None k l = refl
-leaves_is w old new H G (Some r) k l =
-    λ i. not (is_same (table_is w old H r.message.source k i) (table_is w new G r.message.source l i))
+leaves_is w old new H G o k l = λ i. leaves (holders_are w H old k i) (holders_are w G new l i) o
 
 -- ---- a frame is taken
 
 pub taken_is : (w : Who) (H : List Call) (now : ℕ) (f : FrameRecord) (a b : Bool) → is_claim f ≡ a → is_reply (reception w H).replies f ≡ b
     → reception w (At now (TakeFrame (Some f)) ∷ H)
     ≡ taken_by a b (leaves (holder w H) (holder w (At now (TakeFrame (Some f)) ∷ H)) (reception w H).session) (reception w H)
-taken_is w H now f a b e g =
-    let l = leaves (holder w H) (holder w (At now (TakeFrame (Some f)) ∷ H)) (reception w H).session in
-    ap (λ (x : Bool). taken_by x (is_reply (reception w H).replies f) l (reception w H)) e ∙ ap (λ (y : Bool). taken_by a y l (reception w H)) g
+taken_is w H now f a b e g = λ i. taken_by (e i) (g i) (leaves (holder w H) (holder w (At now (TakeFrame (Some f)) ∷ H)) (reception w H).session) (reception w H)
 
 -- what is of no session to an address is no reply
 pub no_reply : (L : List Message) (f : FrameRecord) → is_transfer f ≡ false → is_reply L f ≡ false

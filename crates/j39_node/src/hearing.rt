@@ -259,17 +259,22 @@ impl Hearing {
         ensures whole { self.new.whole ≡ self.old.whole }
     {
         let before = self.current.len();
-        let mut place = before;
-        while 0 < place {
-            place -= 1;
-            if self.current[place].is_over(gone, holders, time) {
-                let heard = self.current.remove(place);
-                put(&mut self.free, heard);
-            }
+        while let Some(place) = self.over(gone, holders, time) {
+            let heard = self.current.remove(place);
+            put(&mut self.free, heard);
         }
         let over = before - self.current.len();
         self.missed = self.missed.saturating_add(over as u64);
         0 < over
+    }
+
+    /// The place of the first that is over.
+    fn over(&self, gone: Option<u8>, holders: &Claims, time: Stamp) -> Option<usize>
+        ensures { result ≡ position (λ b. is_over gone (holder_in holders.now) (stamp_micros time) (in_box b)) self.now.current.items }
+    {
+        self.current
+            .iter()
+            .position(|heard| heard.is_over(gone, holders, time))
     }
 
     /// The first moment at which a tick ends one.

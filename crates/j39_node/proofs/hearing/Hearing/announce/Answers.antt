@@ -1,4 +1,4 @@
-use Rattle.j39_node.proofs.Common.{◌∙◌, ap, made_of, map, MessageRecord, None, option_map, Option, ℕ}
+use Rattle.j39_node.proofs.Common.{◌∙◌, ap, map}
 use Rattle.j39_node.specs.Boxes.{in_box}
 use Rattle.j39_node.specs.Is.{senders_of}
 use Rattle.j39_node.proofs.ListenLemmas.{no_sender, none_made}

@@ -1,7 +1,6 @@
-use Rattle.j39_node.proofs.Common.{◌+◌, ◌∙◌, ◌≡◌, ap, arith, HearingRecord, length, made_of, map, message_by, MessageRecord, name_raw, of, option_map, Option, others, packed, refl, skips, Some, source_of, stamp_micros, sym, whole_of, with_one, ℕ}
+use Rattle.j39_node.proofs.Common.{◌+◌, ◌∙◌, ◌≡◌, ap, arith, HearingRecord, length, made_of, map, message_by, MessageRecord, name_raw, of, option_map, others, packed, refl, skips, Some, source_of, stamp_micros, sym, whole_of, with_one, ℕ}
 use Rattle.j39_node.specs.Boxes.{broadcast_by, in_box}
 use Rattle.j39_node.specs.Hearing.{IsFit, sender_in, with_sender}
-use Rattle.j39_node.specs.Is.{senders_of}
 use Rattle.j39_node.specs.declared.hearing.Heard.{Heard}
 use Rattle.j39_node.proofs.ListenLemmas.{all_of}
 use Rattle.j39_node.proofs.hearing.Hearing.pack.Goals as goal

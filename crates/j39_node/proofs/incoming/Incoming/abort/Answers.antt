@@ -1,4 +1,4 @@
-use Rattle.j39_node.proofs.Common.{◌∙◌, Abort, ap, group_of, List, sym, written, ℕ}
+use Rattle.j39_node.proofs.Common.{◌∙◌, Abort, ap, group_of, written, ℕ}
 use Rattle.j39_node.proofs.IncomingLemmas.{ended_with}
 use Rattle.j39_node.proofs.incoming.Incoming.abort.Goals as goal
 
