@@ -52,17 +52,17 @@ released who H c answer is = let e = is.answered.1 in (λ z. grind (arith, e, z)
 -- ---- what a frame finds
 
 -- it stays, where it isn't over
-abbrev Stays : Who → List Call → ℕ → FrameRecord → OpenBroadcast → Bool
-Stays who H when f x = not (is_over (restarts who H when f) (holder who (At when (Hear f) ∷ H)) (time_heard (At when (Hear f) ∷ H)) x)
+abbrev is_kept : Who → List Call → ℕ → FrameRecord → OpenBroadcast → Bool
+is_kept who H when f x = not (is_over (restarts who H when f) (holder who (At when (Hear f) ∷ H)) (time_heard (At when (Hear f) ∷ H)) x)
 
-found_of : (who : Who) (H : List Call) (when a : ℕ) (f : FrameRecord) → found who H when f a ≡ kept_by (Stays who H when f) (hearing who H a)
-found_of who H when a f = of_filter (Stays who H when f) a (listening who H).current (stands who H).apart
+found_of : (who : Who) (H : List Call) (when a : ℕ) (f : FrameRecord) → found who H when f a ≡ kept_by (is_kept who H when f) (hearing who H a)
+found_of who H when a f = of_filter (is_kept who H when f) a (listening who H).current (stands who H).apart
 
 kept_is : (p : OpenBroadcast → Bool) (o : Option OpenBroadcast) (x : OpenBroadcast) → kept_by p o ≡ Some x → (o ≡ Some x) × (p x ≡ true)
 kept_is p o x e = (grind (arith, e), grind (arith, e))
 
 pub none_found : (who : Who) (H : List Call) (when a : ℕ) (f : FrameRecord) (x : OpenBroadcast) → found who H when f a ≡ Some x → hearing who H a ≡ Some x
-none_found who H when a f x e = (kept_is (Stays who H when f) (hearing who H a) x (sym (found_of who H when a f) ∙ e)).0
+none_found who H when a f x e = (kept_is (is_kept who H when f) (hearing who H a) x (sym (found_of who H when a f) ∙ e)).0
 
 named : (who : Who) (H : List Call) (a : ℕ) (x : OpenBroadcast) → hearing who H a ≡ Some x → (x.name ≡ holder who H a) × (x.source ≡ a)
 named who H a x e =
@@ -77,9 +77,9 @@ left_is away before after x e h = grind (arith, e, h)
 pub found_means : (who : Who) (H : List Call) (when a : ℕ) (f : FrameRecord) (x : OpenBroadcast) → hearing who H a ≡ Some x
     → (found who H when f a ≡ Some x ↔ ((holder who (At when (Hear f) ∷ H) a ≡ known who H when f a) × (is_late (time_heard (At when (Hear f) ∷ H)) x ≡ false)))
 found_means who H when a f x e = (
-  λ z. (let k = (kept_is (Stays who H when f) (hearing who H a) x (sym (found_of who H when a f) ∙ z)).1 in let l = left in (sym (same_is _ _ (grind (arith, k, l))), grind (arith, k))),
+  λ z. (let k = (kept_is (is_kept who H when f) (hearing who H a) x (sym (found_of who H when a f) ∙ z)).1 in let l = left in (sym (same_is _ _ (grind (arith, k, l))), grind (arith, k))),
   λ z. (let l = left in let s = same_same (known who H when f a) in let same = z.0 in let late = z.1 in
-      found_of who H when a f ∙ (ap (kept_by (Stays who H when f)) e ∙ grind (arith, l, s, same, late))),
+      found_of who H when a f ∙ (ap (kept_by (is_kept who H when f)) e ∙ grind (arith, l, s, same, late))),
 )
   where
     left : is_left (restarts who H when f) (holder who (At when (Hear f) ∷ H)) x ≡ not (is_same (known who H when f a) (holder who (At when (Hear f) ∷ H) a))
