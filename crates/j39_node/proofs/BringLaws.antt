@@ -158,21 +158,13 @@ spared w H (At now Tick) s size n pgn start k last joined h l q =
     least x = cond_both x.fresh _ _ (λ (m : ℕ). timer_t1 ≤ m) (λ t. omega arith) (λ t. omega arith)
 
     in_time : (x : ReceptionRecord) → Some h.session ≡ Some x → time_heard (At now Tick ∷ H) ≤ limit_in (reception w H).since x
-    in_time x e =
-        let z : h.session ≡ x = cc in
-        let a = least h.session in
-        let b = ap (λ (m : SessionRecord). m.last) h.message in
-        let c = h.soon in
-        let d = h.since in
-        let p = ap (λ (m : SessionRecord). m.packets) h.message in
-        subst (λ (u : ReceptionRecord). time_heard (At now Tick ∷ H) ≤ limit_in (reception w H).since u) z (omega (arith, a, b, c, d, p, q, l))
+    in_time x e = grind (arith, e)
 spared w H (At now (TakeFrame (Some f))) s size n pgn start k last joined h l q =
     taken_any (λ (x : Reception). x.session ≡ Some h.session) (is_claim f) (is_reply (reception w H).replies f) _ (reception w H)
     (λ i. ap (λ (b : Bool). (left b (reception w H)).session) stays ∙ h.is) (λ i. h.is) (λ i. h.is)
   where
     stays : leaves (holder w H) (holder w (At now (TakeFrame (Some f)) ∷ H)) (reception w H).session ≡ false
-    stays = holder_stays (holder w H) (holder w (At now (TakeFrame (Some f)) ∷ H)) (reception w H).session h.session h.is
-        (subst (λ (a : ℕ). holder w (At now (TakeFrame (Some f)) ∷ H) a ≡ holder w H a) (sym (from h)) q)
+    stays = grind arith
 spared w H (ReleaseTransfer answer) s size n pgn start k last joined h l q = released_all (λ (x : Reception). x.session ≡ Some h.session) answer (reception w H) h.is
 spared w H call s size n pgn start k last joined h l q = h.is
 

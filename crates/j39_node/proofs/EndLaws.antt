@@ -104,8 +104,7 @@ here t now n = ap (λ (b : Bool). if b then (let o : Option Signal = None in o) 
 
 no_signal : (t : Running) (now : ℕ) → t.gone ≡ false → signal_by t now ≡ None → (gives_up t ≡ false) × ((ticks_in t.sender.state now t.sender).says ≡ None)
 unfolding send_step
-no_signal t now n e = cond_both (gives_up t) _ _ (λ (o : Option Signal). o ≡ None → (gives_up t ≡ false) × ((ticks_in t.sender.state now t.sender).says ≡ None))
-    (λ i y. absurd (cc)) (λ i y. (i, y)) (sym (here t now n) ∙ e)
+no_signal t now e f = (grind (arith, e, f), grind (arith, e, f))
 
 a_signal : (t : Running) (now : ℕ) (x : Signal) → t.gone ≡ false → signal_by t now ≡ Some x
     → ((ticks_in t.sender.state now t.sender).says ≡ None → ⊥) ⊎ (nat_lt 64 t.spent ≡ true)
@@ -311,8 +310,7 @@ module _ (w : Who) (B : List Call) (g k to : ℕ) (m : MessageRecord) (since : L
 
   -- no other is accepted
   none_begins : (later : List Call) (now group to j : ℕ) (bytes : List ℕ) → Stands later → Ok j ≡ answer_to_transfer w (later ++ B) now group to bytes → ⊥
-  none_begins later now group to j bytes h a = not_both _ (transfer_accepts w (later ++ B) now group to j bytes a).2
-      (ap (λ (x : Option Running). is_engaged x (length (all_transfers w (later ++ B))) || is_resting w (later ++ B) now group to) h.is)
+  none_begins later now group to j bytes e f = grind (arith, f)
 
   one_more : (call : Call) (later : List Call) → AreAnswered w (later ++ B) → IsAnswered w (later ++ B) call → tells_transfer call ≡ false
       → (since later B + step (later ++ B) (moment (call ∷ later ++ B)) ≤ g) × (claims_anew call ≡ false) → limit later < 9000000000000000 → Stands later → Stands (call ∷ later)
@@ -392,9 +390,7 @@ module _ (w : Who) (B : List Call) (g most to : ℕ) where
   }
 
 few_packets : (group : ℕ) (bytes : List ℕ) → can_broadcast group bytes ≡ true → (length bytes + 6) / 7 ≤ 255
-few_packets group bytes e =
-    let l : length bytes ≤ 1785 = leb-true (length bytes) 1785 (and_parts (nat_le 9 (length bytes)) (nat_le (length bytes) 1785) (and_parts (is_sendable group) (nat_le 9 (length bytes) && nat_le (length bytes) 1785) e).1).1 in
-    omega (arith, l)
+few_packets group bytes e = grind (arith, e)
 
 pub transfer_ends : (w : Who) (later earlier : List Call) (c : Controller) (g now group to k : ℕ) (bytes : List ℕ)
     → Is w (later ++ At now (Transfer group to bytes (Ok k)) ∷ earlier) c → NoneTold tells_transfer later

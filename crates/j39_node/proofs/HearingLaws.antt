@@ -100,8 +100,7 @@ none_known who H when a f n = go (found who H when f a) refl
     go (Some x) i = absurd (n (found_known who H when a f x i).0)
 
 pub released_leaves : (who : Who) (H : List Call) (answer : Bool) → (listening who (ReleaseBroadcast answer ∷ H)).current ≡ (listening who H).current
-released_leaves who H true = refl
-released_leaves who H false = refl
+released_leaves who H answer = grind arith
 
 pub others_leave : (who : Who) (H : List Call) (when a : ℕ) (f : FrameRecord) → source_of f.id ≢ a → hearing who (At when (Hear f) ∷ H) a ≡ found who H when f a
 others_leave who H when a f n =
@@ -152,11 +151,7 @@ module _ (who : Who) (H : List Call) (when : ℕ) (f : FrameRecord) where
 
   -- what is no claim leaves who holds an address
   pub strangers : claim_of f ≡ None → announces f ≡ false → packs f ≡ false → listening who K ≡ listening who (At when Tick ∷ H)
-  strangers e g p =
-      (λ i. (let l = staying (restarts who H when f) (holder who K) (time_heard K) (listening who H) in
-      if g i || p i then with_one (hears_it who (holder who K s) (time_heard K) f room (found who H when f s)) (without_source s l) else l))
-      ∙ λ i. staying (claimed_again (holder who H) (called who H - (when - heard_at H)) (e i))
-      (λ a. held_then a (of_other who (e i)) (holder who H a)) (time_heard K) (listening who H)
+  strangers e g i = grind (arith, e, g, i)
 
   -- ---- announcements
 
@@ -249,8 +244,7 @@ some_unheard who (TakeNews (Some MessagesMissed) ∷ H) e = absurd (cc)
 some_unheard who (call ∷ H) e = let h = some_unheard who H in grind (arith, h, e, more_is)
 
 pub is_told : (who : Who) (H : List Call) (call : Call) → unheard who (call ∷ H) ≢ unheard who H → IsTrue (unheard_news who (call ∷ H))
-is_told who H (TakeNews (Some MessagesMissed)) n = absurd (n refl)
-is_told who H call n = grind (arith, n)
+is_told who H call e = grind (arith, e)
 
 -- ---- what is heard is for the program
 

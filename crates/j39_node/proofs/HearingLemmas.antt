@@ -71,8 +71,7 @@ open_part None = None
 open_part (Some y) = if is_whole y then None else Some y
 
 part_at : (a s : ℕ) (o : Option OpenBroadcast) → IfSome o (λ y. y.source ≡ s) → of a (part_of o) ≡ (if nat_eq a s then open_part o else None)
-part_at a s None k = grind arith
-part_at a s (Some y) k = grind (arith, k)
+part_at a s o e = grind (arith, e)
 
 -- one, or none
 abbrev pub one : Bool → ℕ
@@ -84,8 +83,7 @@ rest_count a [] h = refl
 rest_count a (x ∷ xs) h = let k = rest_count a xs h.1 in let n = h.0 in grind (arith, k, n)
 
 part_count : (o : Option OpenBroadcast) → length (part_of o) + length (listed (whole_of o)) ≡ one (has_some o)
-part_count None = refl
-part_count (Some y) = grind arith
+part_count o = grind arith
 
 box_free : (m n : ℕ) → m ≤ n → one (nat_lt m n) + m ≤ n
 box_free m n l = grind (arith, l)
@@ -197,18 +195,13 @@ module _ (n : ℕ) (w : Who) (name : Option ℕ) (now : ℕ) (f : FrameRecord) (
 -- ---- what every history says of them
 
 pub same_same : (o : Option ℕ) → is_same o o ≡ true
-same_same None = refl
-same_same (Some n) = eq-eqb n n refl
+same_same o = grind arith
 
 pub same_is : (o p : Option ℕ) → is_same o p ≡ true → o ≡ p
-same_is None None e = refl
-same_is None (Some n) e = absurd (cc)
-same_is (Some m) None e = absurd (cc)
-same_is (Some m) (Some n) e = ap Some (eqb-true m n e)
+same_is o p e = grind (arith, e)
 
 pub drop_one : (xs : List ℕ) → length xs ≡ 8 → length (drop 1 xs) ≡ 7
-drop_one [] e = absurd (cc)
-drop_one (x ∷ xs) e = omega (arith, e)
+drop_one xs e = grind (arith, e)
 
 pub packs_eight : (f : FrameRecord) → packs f ≡ true → length f.bytes ≡ 8
 unfolding is_packet goes
@@ -403,8 +396,7 @@ all_more [] n = omega arith
 all_more (x ∷ xs) n = let h = all_more xs n in omega (arith, h)
 
 pub any_is : (xs : List OpenBroadcast) → nat_lt 0 (length xs) ≡ is_any xs
-any_is [] = refl
-any_is (x ∷ xs) = lt-ltb 0 _ (omega arith)
+any_is xs = grind arith
 
 pub missed_all : (xs : List OpenBroadcast) (n m : ℕ) → n ≡ min m 18446744073709551615 → min (n + length xs) 18446744073709551615 ≡ min (with_all xs m) 18446744073709551615
 missed_all xs n m e = let h = all_more xs m in omega (arith, h, e)
@@ -445,8 +437,7 @@ pub hearing_same : (w : Who) (H : List Call) (now : ℕ) (f : FrameRecord) → i
 hearing_same w H now f e = sym (ap (taken w H now f) e)
 
 pub news_same : (w : Who) (H : List Call) (now : ℕ) (f : FrameRecord) → is_claim f ≡ false → news_after w H ≡ news_after w (At now (TakeFrame (Some f)) ∷ H)
-news_same w H now f e =
-    sym (ap (λ (b : Bool). (let u : Untold = record (news_after w H) { missed = missed_news w H || ((is_any (if b then those_over None (holder w (At now (TakeFrame (Some f)) ∷ H)) (time_heard H) (listening w H).current else []) || false) || unheard_news w H) } in u)) e)
+news_same w H now f e = grind (arith, e)
 
 -- by the table, whether any ends
 says_any : (w : Who) (H : List Call) (away : Option ℕ) (holds : ℕ → Option ℕ) (now : ℕ) (table : ℕ → Option ℕ) (t : ℕ) (x : HearingRecord) (b : Bool) → x ≡ hearing_after w H → table ≡ holds → t ≡ now
@@ -479,8 +470,7 @@ ticked_says w H now old t x b e k g h = says_any w H None (holder w H) (time_hea
 -- whether one is made whole, told by its source and group
 pub made_sender : (o : Option (ℕ × MessageRecord)) (name : Option ℕ) (names : List (Option ℕ))
     → with_sender (made_of (option_map (λ (p : ℕ × MessageRecord). p.1) o)) name names ≡ with_sender o name names
-made_sender None name names = refl
-made_sender (Some x) name names = refl
+made_sender o name names = grind arith
 
 -- what a frame makes of it
 pub record HeardOn (w : Who) (H : List Call) (when : ℕ) (f : FrameRecord) (broken u : Bool) (m : Option (ℕ × ℕ)) (l : Listening) (y : HearingRecord) : Type 0 where

@@ -1,6 +1,6 @@
 -- What kind a frame is that is taken.
 use Rattle.j39_node.proofs.SoundLemmas.FrameCase.{claims, acknowledges, replies, sends, packs, transfers}
-use Rattle.j39_node.proofs.Common.{◌≡◌, ◌-◌, ◌&&◌, ◌||◌, ap, Bool, eqb-true, false, length, List, nat_eq, Some, true, ℕ, FrameRecord, pgn_of, address_claimed_group, acknowledged, acknowledgment_group, Call, due, is_acknowledgment, is_claim, is_packet, is_session, Message, open_broadcast, packets, pause, step, Who, AreAnswered, is_move, is_reply, reception, Move}
+use Rattle.j39_node.proofs.Common.{arith, ◌≡◌, ◌-◌, ◌&&◌, ◌||◌, ap, Bool, eqb-true, false, length, List, nat_eq, Some, true, ℕ, FrameRecord, pgn_of, address_claimed_group, acknowledged, acknowledgment_group, Call, due, is_acknowledgment, is_claim, is_packet, is_session, Message, open_broadcast, packets, pause, step, Who, AreAnswered, is_move, is_reply, reception, Move}
 use Rattle.j39_node.proofs.SoundLemmas.{FrameCase, is_moved, reply_no_move, no_move, is_directed, no_packet, no_transfer, packet_session, claim_single, claim_taken, due_taken, IsDue, reply_taken, own_taken, own_of, packet_taken, transfer_taken, apart_is, reply_is, turned, sound}
 use Rattle.j39_node.proofs.ReceptionLemmas.{no_reply, replied_get, tidy}
 use Rattle.j39_node.proofs.QueueLemmas.{all_at}
@@ -31,9 +31,7 @@ abbrev pub of_session : Bool → Bool → Bool → Kind
 of_session p r m = record { claim = false; acknowledgment = false; session = true; packet = p; reply = r; move = m }
 
 kind_single : (w : Who) (H : List Call) (f : FrameRecord) (c a : Bool) → is_claim f ≡ c → is_acknowledgment f ≡ a → is_session f ≡ false → kind w H f ≡ single c a
-kind_single w H f c a e g k =
-    let t = no_transfer f k in
-    λ i. record { claim = e i; acknowledgment = g i; session = k i; packet = no_packet f k i; reply = no_reply (reception w H).replies f t i; move = no_move w H f t i }
+kind_single w H f c a e g i = grind (arith, e, g, i)
 
 -- by what was next
 abbrev pub kind_by : {w : Who} {H : List Call} {now : ℕ} {f : FrameRecord} → FrameCase w H now f → Kind

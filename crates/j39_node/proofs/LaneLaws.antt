@@ -85,8 +85,7 @@ overdue_goes_by w H now f right (transfers m o h n g e) late k a = absurd (not_b
 -- ---- their spacing
 
 pause_or : (b : Bool) (p s q : ℕ) → 150000 ≤ p + q → 150000 ≤ (if b then 150000 else p - s) + (q + s)
-pause_or true p s q l = omega arith
-pause_or false p s q l = omega (arith, l)
+pause_or b p s q e = grind (arith, e)
 
 -- what is left of the pause, and what passed since a frame of packets
 pauses : (later E : List Call) → 150000 ≤ pause E → 150000 ≤ pause (later ++ E) + passed_in later E
@@ -146,8 +145,7 @@ began (call ∷ H) = lets_pass H call (began H) (λ l. omega arith)
 
 -- a frame that is left waits for the pause alone
 no_frame : (o : Option (ℕ × MessageRecord)) (i left : ℕ) → is_left o i ≡ true → packet_by o i left ≡ None → 100000 < left
-no_frame o i left e f =
-    leb-false left 100000 (false_from_ne_true _ (λ z. not_both _ (sym (packet_there o i left) ∙ ap is_there f) (and_from (is_left o i) (nat_le left 100000) e z)))
+no_frame o i left e f = grind (arith, e, f)
 
 -- where no frame is taken from an address that is held, none of packets is next
 pub none_long : (w : Who) (H : List Call) (now : ℕ) → holds w H now ≡ true → (let none : Option (ℕ × Message) = None in none) ≡ next_frame w H now → next_long w H now ≡ None
@@ -197,11 +195,7 @@ done_means w H c k e is = go (ended w H c (k, e) is)
 
 pub withdrawn_means : (w : Who) (H : List Call) (c : Controller) (k : ℕ) (e : Ending) → Is w (TakeBroadcastEnded (Some (k, e)) ∷ H) c → e ≡ Withdrawn
     → IsTrue (is_lost (address_after w H))
-withdrawn_means w H c k e is z = go (ended w H c (k, e) is)
-  where
-    go : LaneEnd (open_broadcast w H) (length (packets H)) (is_lost (address_after w H)) (k, e) → is_lost (address_after w H) ≡ true
-    go (complete m f l d) = absurd (let y : Done ≡ Withdrawn = sym d ∙ z in cc)
-    go (broken m f l a d) = a
+withdrawn_means w H c k e f g = grind (arith, g)
 
 pub all_told : (w : Who) (H : List Call) (c : Controller) → Is w (TakeBroadcastEnded None ∷ H) c
     → (length (told_broadcasts H) ≡ length (broadcasts w H)) ⊎ (IsTrue (has_packets w H) × (IsTrue (is_lost (address_after w H)) → ⊥))
@@ -209,8 +203,7 @@ all_told w H c is = go (open_broadcast w H) (laned w H is.answered.0) is.answere
   where
     by : (b l : Bool) (i n k : ℕ) → Rattle.std.proofs.Common.nat_lt n i ≡ b → (let none : Option (ℕ × Ending) = None in none) ≡ Rattle.j39_node.specs.Is.ending_of b l k
         → (nat_le i n ≡ true) × (l ≡ false)
-    by false false i n k e f = (le-leb i n (ltb-false n i e), refl)
-    by b l i n k e f = absurd (cc)
+    by b l i n k e f = (grind (arith, e, f), grind (arith, e, f))
 
     go : (o : Option (ℕ × MessageRecord)) → Laned w (length (told_broadcasts H)) (broadcasts w H) (packets H) o
         → (let none : Option (ℕ × Ending) = None in none) ≡ broadcast_end o (length (packets H)) (is_lost (address_after w H))

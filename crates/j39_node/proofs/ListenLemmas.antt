@@ -31,10 +31,7 @@ without_one q v (x ∷ xs) (suc k) d l e =
     ap (λ ys. if not (q (v x)) then v x ∷ ys else ys) (without_one q v xs k d (omega (arith, l)) e)
 
 none_within : {T : Type 0} (p : T → Bool) (xs : List T) → None ≡ position p xs → length xs ≤ position_or_len p xs
-none_within p xs e = ltb-false _ _ (within (nat_lt (position_or_len p xs) (length xs)) (position_or_len p xs) e)
-  where
-    within : (b : Bool) (n : ℕ) → None ≡ (if b then Some n else None) → b ≡ false
-    within b n e = grind (arith, e)
+none_within p xs e = grind (arith, e)
 
 -- where none passes, all are left
 none_passes : {T U : Type 0} (q : U → Bool) (v : T → U) (xs : List T) → length xs ≤ position_or_len (λ x. q (v x)) xs → filter (λ y. not (q y)) (map v xs) ≡ map v xs

@@ -7,8 +7,7 @@ use Rattle.j39_node.proofs.AnswerCases.{broadcast_accepts}
 -- ---- an address that was held is held or lost, and one that was lost is lost
 
 held_claimed : (a : Address) → is_held a ≡ true → is_held (claimed a) ≡ true
-held_claimed (Claimed n) e = e
-held_claimed a e = absurd (cc)
+held_claimed a e = grind (arith, e)
 
 keeps : (w : Who) (H : List Call) (call : Call) → claims_anew call ≡ false → is_held (address_after w H) ≡ true
     → (is_lost (address_after w (call ∷ H)) ≡ true) ⊎ (is_held (address_after w (call ∷ H)) ≡ true)
@@ -66,12 +65,7 @@ due_more most each c = let e = suc-mul c (most + each) in omega (arith, e)
 
 due_last : (most each c n : ℕ) → c ≤ n → due_by most each c + each ≤ (n + 1) * (most + each)
 unfolding due_by
-due_last most each c n l =
-    let e : n + 1 ≡ suc c + (n - c) = omega (arith, l) in
-    let a = ap (λ (k : ℕ). k * (most + each)) e in
-    let b = add-mul (suc c) (n - c) (most + each) in
-    let d = suc-mul c (most + each) in
-    omega (arith, a, b, d)
+due_last most each c n e = grind (arith, e)
 
 -- so long after the beginning, with so much of its time left, and so late at most
 pub record Timely (most each count passed left slack : ℕ) : Type 0 where
@@ -171,8 +165,7 @@ module _ (w : Who) (B : List Call) (since : List Call → List Call → ℕ) (sl
 
   -- no other is accepted
   none_begins : (later : List Call) (now group j : ℕ) (bytes : List ℕ) → open_broadcast w (later ++ B) ≡ Some (k, m) → Ok j ≡ answer_to_broadcast w (later ++ B) now group bytes → ⊥
-  none_begins later now group j bytes o a = not_both _ (broadcast_accepts w (later ++ B) now group j bytes a).2
-      (ap (λ (x : Option (ℕ × MessageRecord)). is_open x || nat_eq (length (broadcasts w (later ++ B))) 18446744073709551615) o)
+  none_begins later now group j bytes e f = grind (arith, e, f)
 
   one_more : Pace → (call : Call) (later : List Call) → AreAnswered w (later ++ B) → IsAnswered w (later ++ B) call → tells_broadcast call ≡ false
       → (since later B + step (later ++ B) (moment (call ∷ later ++ B)) ≤ g) × (claims_anew call ≡ false) → Stands later → Stands (call ∷ later)
@@ -233,8 +226,7 @@ waited_last g (At now (TakeFrame None) ∷ later) B p = omega arith
 waited_last g (call ∷ later) B p = p.1.0
 
 pub waited_more : (call : Call) (later B : List Call) → takes call ≡ false → waited_in (call ∷ later) B ≡ waited_in later B + step (later ++ B) (moment (call ∷ later ++ B))
-waited_more (At now (TakeFrame answer)) later B e = absurd (let z : true ≡ false = e in cc)
-waited_more call later B e = refl
+waited_more call later B e = grind (arith, e)
 
 module _ (w : Who) (B : List Call) (g k : ℕ) (m : MessageRecord) where
   prompt : Pace w B waited_in (λ later. waited_in later B) g gap g 100000 k 0 m

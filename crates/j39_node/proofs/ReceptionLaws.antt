@@ -37,8 +37,7 @@ left_waits b r = grind arith
 
 -- the same of a history
 pub waits_next : (w : Who) (H : List Call) (when : ℕ) (f : FrameRecord) → (reception w (At when (Hear f) ∷ H)).waits ≡ keeps f.stamp (whole w H when f) (reception w H).waits
-waits_next w H when f =
-    waits_after w.address (is_smaller w (claim_of f)) (holds w H when) f (time_heard (At when (Hear f) ∷ H)) _ ∙ ap (keeps f.stamp (whole w H when f)) (left_waits _ (reception w H))
+waits_next w H when f = grind arith
 
 none_whole : (w : Who) (H : List Call) (when : ℕ) (f : FrameRecord) (x : ℕ × MessageRecord) → (reception w H).waits ≡ Some x → whole w H when f ≡ None
 none_whole w H when f x e =
@@ -363,9 +362,7 @@ silent w (call ∷ H) e = silent w H (let z = lost_older (step H (moment (call �
 -- a session isn't left where its source's holder stays
 pub stays_with : (before after : ℕ → Option ℕ) (o : Option ReceptionRecord)
     → ((r : ReceptionRecord) → o ≡ Some r → after r.message.source ≡ before r.message.source) → leaves before after o ≡ false
-stays_with before after None h = refl
-stays_with before after (Some r) h =
-    ap (λ (x : Option ℕ). not (is_same (before r.message.source) x)) (h r refl) ∙ ap not (same_self (before r.message.source))
+stays_with before after o e = grind (arith, e)
 
 -- what no frame changes of who holds an address
 pub never_left : (before after : ℕ → Option ℕ) (o : Option ReceptionRecord) → ((a : ℕ) → after a ≡ before a) → leaves before after o ≡ false
@@ -384,18 +381,11 @@ heard_is w H when f held none = λ i. heard_by w.address (not_driven w f none i)
 
 -- a frame of a session goes to one address
 pub goes_there : (f : FrameRecord) (group : ℕ) → group / 256 % 256 < 240 → pgn_of f.id ≡ group → destination_of f.id ≡ Some (ps_of f.id)
-goes_there f group l e = cond_both (nat_lt (pf_of f.id) 240) _ _ (λ (d : Option ℕ). d ≡ Some (ps_of f.id)) (λ g. refl)
-    (λ g. absurd (let z = ltb-false _ _ g in far f.id group (ap (λ (b : Bool). if b then 0 else ps_of f.id) g) z l e))
-  where
-    far : (id g : ℕ) → (if nat_lt (pf_of id) 240 then 0 else ps_of id) ≡ ps_of id → 240 ≤ pf_of id → g / 256 % 256 < 240 → pgn_of id ≡ g → ⊥
-    far id g i k m n = absurd (omega (arith, i, k, m, n))
+goes_there f group e g = grind (arith, e, g)
 
 pub not_said : (own : ℕ) (f : FrameRecord) → (destination_of f.id ≡ Some own → ⊥) → said_to own f ≡ None
 unfolding said_to said_between said_by frames.source_of frames.destination_of frames.group_of
-not_said own f n =
-    let packets = goes_there f transport_data_group (omega arith) in
-    let control = goes_there f transport_control_group (omega arith) in
-    grind (arith, packets, control, n)
+not_said own f e = grind (arith, e)
 
 aside : (own : ℕ) (lost held b : Bool) (f : FrameRecord) (now : ℕ) (r : Reception) → lost ≡ false → b ≡ false → said_to own f ≡ None
     → heard_by own lost held f now (left b r) ≡ r
@@ -503,8 +493,7 @@ session_begins w H when f size count most pgn held room free said =
 pub quiet_tick : (own stamp now : ℕ) (r : Reception) (o : Option ReceptionRecord) → r.session ≡ o → ((x : ReceptionRecord) → o ≡ Some x → now ≤ limit_in r.since x)
     → ticked own stamp now r ≡ r
 unfolding recv_step takes_tick
-quiet_tick own stamp now r None e h = grind (arith, e)
-quiet_tick own stamp now r (Some x) e h = let l = h x refl in grind (arith, e, l)
+quiet_tick own stamp now r o e f = grind (arith, e, f)
 
 -- a limit isn't over before the moment that is told
 pub before_moment : (limit last time now : ℕ) → last ≤ now → now < 10000000000000000 → ((t : ℕ) → stamp_at (last + (suc limit - time)) ≡ Some t → now < t)

@@ -93,16 +93,14 @@ shifted m n i (x ∷ xs) o =
     le_suc a b = grind arith
 
     go : (b : Bool) → (if b then Some (suc i) else option_map suc o) ≡ option_map suc (if b then Some i else o)
-    go true = refl
-    go false = refl
+    go b = grind arith
 
 pub latest_rest : (m : Message) (t n : ℕ) (xs : List (ℕ × Message)) → t ≤ n
     → latest m n 0 xs None ≡ option_map (λ k. k + t) (latest m (n - t) 0 (drop t xs) None)
 latest_rest m zero n xs l = same (latest m n 0 xs None) ∙ ap (λ (k : ℕ). option_map (λ j. j + 0) (latest m k 0 xs None)) (let z : n ≡ n - 0 = omega arith in z)
   where
     same : (o : Option ℕ) → o ≡ option_map (λ k. k + 0) o
-    same None = refl
-    same (Some k) = ap Some (omega arith)
+    same o = grind arith
 latest_rest m (suc t) zero xs l = absurd (omega (arith, l))
 latest_rest m (suc t) (suc n) [] l = refl
 latest_rest m (suc t) (suc n) (x ∷ xs) l =
@@ -111,8 +109,7 @@ latest_rest m (suc t) (suc n) (x ∷ xs) l =
     ∙ (twice (latest m (n - t) 0 (drop t xs) None) ∙ ap (λ (k : ℕ). option_map (λ j. j + suc t) (latest m k 0 (drop t xs) None)) (let z : n - t ≡ suc n - suc t = omega arith in z))))
   where
     twice : (o : Option ℕ) → option_map suc (option_map (λ k. k + t) o) ≡ option_map (λ k. k + suc t) o
-    twice None = refl
-    twice (Some k) = ap Some (omega arith)
+    twice o = grind arith
 
 -- ---- one of a list is another
 
@@ -148,7 +145,4 @@ set_other (z ∷ xs) (suc k) (suc i) x n = set_other xs k i x (λ e. n (ap suc e
 
 -- a request isn't renewed
 pub no_request : (m n : Message) → is_alike m n ≡ true → nat_eq n.group request_group ≡ true → ⊥
-no_request m n e f = let p = and_parts _ _ e in let q = (and_parts _ _ p.0).1 in let r = (and_parts _ _ p.1).1 in clash m.group n.group request_group q f r
-  where
-    clash : (a b c : ℕ) → nat_eq a b ≡ true → nat_eq b c ≡ true → not (nat_eq a c) ≡ true → ⊥
-    clash a b c x y z = grind (arith, x, y, z)
+no_request m n e f = grind (arith, e, f)

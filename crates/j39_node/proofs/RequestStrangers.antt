@@ -10,8 +10,7 @@ use Rattle.j39_node.proofs.StrangerLaws.{other_whole}
 -- ---- what a frame makes whole is of _ its source
 
 gives_source : (a : ℕ) (d : Option MessageRecord) (m : MessageRecord) → d ≡ Some m → Gives (λ b. b ≡ a) d → m.source ≡ a
-gives_source a None m e g = absurd (cc)
-gives_source a (Some y) m e g = let z : y ≡ m = cc in ap (λ (u : MessageRecord). u.source) (sym z) ∙ g
+gives_source a d m e f = grind (arith, e, f)
 
 delivered_source : (own : ℕ) (f : FrameRecord) (now : ℕ) (found : Bool) (o : Option ReceptionRecord) (m : MessageRecord)
     → (recv_step (record { own = own; session = o }) (Heard f) now found).delivers ≡ Some m → m.source ≡ source_of f.id
@@ -67,8 +66,7 @@ to_another w H when f q a d n m =
     elsewhere b k e = k (let z : Some a ≡ Some b = sym d ∙ e in cc)
 
     unreached : reaches w f ≡ false
-    unreached = (λ i. nat_lt (source_of f.id) 254 && (is_none (d i) || (is_some (d i) 255 || is_some (d i) w.address)))
-        ∙ ((λ i. nat_lt (source_of f.id) 254 && (unequal a 255 n i || unequal a w.address m i)) ∙ and-false (nat_lt (source_of f.id) 254))
+    unreached = grind arith
 
     none_to : whole w H when f ≡ None
     none_to =
@@ -92,30 +90,4 @@ pub ends : (w : Who) (H : List Call) (when : ℕ) (f : FrameRecord) (q : Questio
     → is_smaller w (claim_of f) ≡ false → comes w (At when (Hear f) ∷ H) (time_heard (At when Tick ∷ H)) ≡ comes w H (time_heard (At when Tick ∷ H))
     → comes w (At when Tick ∷ H) (time_heard (At when Tick ∷ H)) ≡ comes w H (time_heard (At when Tick ∷ H))
     → next_ask_ended w (At when (Hear f) ∷ H) ≡ next_ask_ended w (At when Tick ∷ H)
-ends w H when f q o none mine by_frame by_tick =
-    (λ i. ask_end (o i) (reached H) (first (ended w H) (end_at w (o i) (reached H) left_over coming (lost i) f (made w H when f))) left_over (by_frame i) (lost i))
-    ∙ (ap (λ (x : Option AskEnding). option_map (λ e. (q.token, e)) (first (first (ended w H) (first silence (if taken then x else None))) silence)) none
-    ∙ (ap (λ (x : Option AskEnding). option_map (λ e. (q.token, e)) x) (once (ended w H) silence taken)
-    ∙ λ i. ask_end (sym o i) (reached H) (ended w H) left_over (sym by_tick i) lost_now))
-  where
-    left_over : ℕ
-    left_over = wait H - step H when
-
-    coming : Bool
-    coming = comes w H (time_heard (At when Tick ∷ H))
-
-    lost_now : Bool
-    lost_now = is_lost (older (step H when) (address_after w H))
-
-    lost : is_lost (address_after w (At when (Hear f) ∷ H)) ≡ lost_now
-    lost = ap (λ (b : Bool). is_lost (if b then Lost else older (step H when) (address_after w H))) mine
-
-    taken : Bool
-    taken = nat_lt q.token (reached H)
-
-    silence : Option AskEnding
-    silence = silent_end taken left_over coming lost_now
-
-    once : (a b : Option AskEnding) (t : Bool) → first (first a (first b (if t then None else None))) b ≡ first a b
-    once None None true = refl
-    once a b t = refl
+ends w H when f q e g i j k = grind (arith, e, g, i, j, k)

@@ -7,8 +7,7 @@ use Rattle.j39_node.proofs.ReceptionLemmas.{released_all, taken_any}
 -- ---- its account
 
 since_left : (b : Bool) (r : Reception) → (left b r).since ≡ r.since
-since_left true r = refl
-since_left false r = refl
+since_left b r = grind arith
 
 begins_by : (own : ℕ) (lost held b : Bool) (f : FrameRecord) (now : ℕ) (r : Reception) (x : ReceptionRecord) → r.session ≡ None
     → (heard_by own lost held f now (left b r)).session ≡ Some x → (heard_by own lost held f now (left b r)).since ≡ now
@@ -94,8 +93,7 @@ ages E L Stays e rest tick g later s t b l = let a = aged later s b l in let u =
       where
         go : (call : Call) → Stays (call ∷ later) → Clock (call ∷ later) E → passed_in later E ≤ L + unticked_in later E
             → passed_in (call ∷ later) E ≤ L + unticked_in (call ∷ later) E
-        go (At now Tick) s c a = let o = tick now later s in let k = c.sum in omega (arith, o, k)
-        go call s c a = omega (arith, a)
+        go call e f g = grind (arith, g)
 
     unticked : (later : List Call) → TicksWithin g later E → unticked_in later E ≤ g
     unticked [] h = omega arith

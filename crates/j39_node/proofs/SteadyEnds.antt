@@ -58,8 +58,7 @@ kind_of w to H now f right (replies m o h n g e) away = go (is_some (destination
         there = ap (λ (y : ℕ × Message). y.1.destination) e
 
         same_to : (p q : Option ℕ) → is_same p q ≡ true → p ≡ Some to → is_some q to ≡ true
-        same_to (Some u) (Some v) i j = let k = eqb-true u v i in let l : u ≡ to = cc in eq-eqb v to (sym k ∙ l)
-        same_to p q i j = absurd (cc)
+        same_to p q e f = grind (arith, e, f)
 
         apart : is_apart (next_transfer w H now) (slice_get (reception w H).replies 0) ≡ false → ⊥
         apart z = not_both _ x (ap (λ (y : Option ℕ). is_some y to) there
@@ -173,8 +172,7 @@ module _ (w : Who) (B : List Call) (g most to : ℕ) where
   less call later = let a = more call later in let b = times_more (taken_for to later + 1) (taken_for to (call ∷ later) + 1) (6 * g) (omega (arith, a)) in omega (arith, b)
     where
       more : (call : Call) (later : List Call) → taken_for to later ≤ taken_for to (call ∷ later)
-      more (At now (TakeFrame (Some f))) later = cond_both (counts_for to f) _ _ (λ n. taken_for to later ≤ n) (λ z. omega arith) (λ z. omega arith)
-      more call later = omega arith
+      more call later = grind arith
 
   steady : Pace w B g most to since_take Paid (λ later. limit g most (taken_for to later))
   steady = record {

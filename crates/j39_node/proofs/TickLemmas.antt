@@ -14,13 +14,7 @@ use Rattle.j39_node.proofs.LawLemmas.{before_stamp}
 -- a moment before the sooner of two is before each
 before_each : (now : ℕ) (one other : Option ℕ) → ((t : ℕ) → sooner one other ≡ Some t → now < t)
     → ((t : ℕ) → one ≡ Some t → now < t) × ((t : ℕ) → other ≡ Some t → now < t)
-before_each now None other q = (λ t e. absurd (cc), q)
-before_each now (Some m) None q = (q, λ t e. absurd (cc))
-before_each now (Some m) (Some n) q =
-    let l : now < min m n = q (min m n) refl in (
-      λ t e. let z : m ≡ t = cc in omega (arith, l, z),
-      λ t e. let z : n ≡ t = cc in omega (arith, l, z),
-    )
+before_each now one other e = (grind (arith, e), grind (arith, e))
 
 -- ---- by a tick no answer begins
 
@@ -57,12 +51,10 @@ none_more t s q p [] l e = refl
 none_more t s q p (x ∷ xs) l e = let a = or_parts (comes_by t q x) (comes_in t q xs) e in go (p x) (one (is_late s x) refl a.0) (none_more t s q p xs l a.1)
   where
     one : (b : Bool) → is_late s x ≡ b → comes_by t q x ≡ false → comes_by s q x ≡ false
-    one true i k = ap (λ (b : Bool). not b && seeks q (Some (x.source, x.group))) i
-    one false i k = ap (λ (b : Bool). not b && seeks q (Some (x.source, x.group))) (i ∙ sym (late_later t s x l i)) ∙ k
+    one b e f = grind (arith, e, f)
 
     go : (b : Bool) → comes_by s q x ≡ false → comes_in s q (filter p xs) ≡ false → comes_in s q (if b then x ∷ filter p xs else filter p xs) ≡ false
-    go true i k = λ z. i z || k z
-    go false i k = k
+    go b e f = grind (arith, e, f)
 
 same_coming : (t s : ℕ) (q : Question) (xs : List OpenBroadcast) → t ≤ s → All (λ x. is_late s x ≡ false) xs → comes_in s q xs ≡ comes_in t q xs
 same_coming t s q [] l h = refl
@@ -78,8 +70,7 @@ none_begins (Some q) t s p a b xs l i e =
     let h = or_parts (is_from q a) (comes_in t q xs) e in (λ z. one a b i h.0 z || none_more t s q p xs l h.1 z)
   where
     one : (a b : Option (ℕ × ℕ)) → (b ≡ a) ⊎ (b ≡ None) → is_from q a ≡ false → is_from q b ≡ false
-    one a b (inl i) e = ap (is_from q) i ∙ e
-    one a b (inr i) e = ap (is_from q) i
+    one a b e f = grind (arith, e, f)
 
 none_comes : (w : Who) (H : List Call) (now : ℕ) → comes w H (time_heard H) ≡ false → comes w (At now Tick ∷ H) (time_heard (At now Tick ∷ H)) ≡ false
 none_comes w H now e =

@@ -97,8 +97,7 @@ unblanked_none [] = refl
 unblanked_none (x ∷ xs) = go (is_blank x) refl (unblanked_none xs)
   where
     go : (b : Bool) → is_blank x ≡ b → unblanked (take (past (map is_blank xs) 0) xs) ≡ [] → unblanked (take (if b then suc (past (map is_blank xs) 0) else 0) (x ∷ xs)) ≡ []
-    go true e h = ap (λ (b : Bool). if b then unblanked (take (past (map is_blank xs) 0) xs) else x ∷ unblanked (take (past (map is_blank xs) 0) xs)) e ∙ h
-    go false e h = refl
+    go b e f = grind (arith, e, f)
 
 pub unblanked_past : (L : List (ℕ × Message)) (n : ℕ) → unblanked (take (past (map is_blank L) n) L) ≡ unblanked (take n L)
 unblanked_past L zero = unblanked_none L
@@ -113,5 +112,4 @@ unblanked_more (y ∷ ys) zero x e g =
 unblanked_more (y ∷ ys) (suc n) x e g = ap (λ zs. if is_blank y then zs else y ∷ zs) (unblanked_more ys n x e g) ∙ go (is_blank y)
   where
     go : (b : Bool) → (if b then unblanked (take n ys) ++ x ∷ [] else y ∷ unblanked (take n ys) ++ x ∷ []) ≡ (if b then unblanked (take n ys) else y ∷ unblanked (take n ys)) ++ x ∷ []
-    go true = refl
-    go false = refl
+    go b = grind arith
