@@ -1,5 +1,5 @@
 -- What a call answers that accepts something: by whether the address is held, whether it may be sent, and whether there is no room.
-use Rattle.j39_node.proofs.Common.{arith, if◌then◌else◌, ◌&&◌, ◌||◌, ◌↔◌, ◌≡◌, List, Call, Draft, BadValue, Bool, Err, false, Full, IsTrue, NoAddress, not, Ok, refl, Refused, Result, true, Who, ℕ, answer_to_send, answer_to_ask, answer_to_broadcast, is_engaged, answer_to_transfer, can_ask, holds, open_transfer, can_send, is_full, can_broadcast, length, can_transfer, request_for, accepted, is_asking, is_busy, all_transfers, is_sendable, nat_eq, nat_lt, open_ask, broadcasts, is_resting}
+use Rattle.j39_node.proofs.Common.{arith, if◌then◌else◌, ◌||◌, ◌↔◌, ◌≡◌, List, Call, Draft, BadValue, Bool, Err, false, Full, IsTrue, NoAddress, Ok, refl, Refused, Result, true, Who, ℕ, answer_to_send, answer_to_ask, answer_to_broadcast, is_engaged, answer_to_transfer, can_ask, holds, open_transfer, can_send, is_full, can_broadcast, length, can_transfer, request_for, accepted, is_asking, is_busy, all_transfers, open_ask, broadcasts, is_resting}
 
 abbrev pub answer_by : {T : Type 0} → Bool → Bool → Bool → T → Result T Refused
 answer_by a b f x = if a then (if b then (if f then Err Full else Ok x) else Err BadValue) else Err NoAddress

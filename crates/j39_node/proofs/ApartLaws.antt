@@ -5,7 +5,7 @@ use Rattle.j39_node.specs.History.{of_other}
 use Rattle.j39_node.specs.Apart.{AreApartBy, FindsBox, both, first, is_quiet, none, second, sent_by, stranger}
 use Rattle.j39_node.specs.Hearing.{is_over}
 use Rattle.std.proofs.lemmas.List.Elements.{filter-append}
-use Rattle.std.proofs.lemmas.Bool.{cases_eq, cond-true}
+use Rattle.std.proofs.lemmas.Bool.{cases_eq}
 use Rattle.j39_node.proofs.HearingLaws.{as_ticked, others_leave}
 use Rattle.j39_node.proofs.HearingLemmas.{kept_by, of_filter, of_its, open_part, stands}
 use Rattle.j39_node.proofs.PacketsAnswer.{made_by_packet}

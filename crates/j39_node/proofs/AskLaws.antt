@@ -1,11 +1,11 @@
 -- The laws of requests.
-use Rattle.j39_node.proofs.Common.{Ack, Acknowledged, Answered, AreAnswered, Ask, AskEnding, AskedSince, At, Bool, Busy, Call, Controller, Denied, FrameRecord, Hear, HeardFirst, Is, IsAnswered, IsTrue, List, Nack, None, NoneEnds, Ok, Option, Question, RanOut, Refused, Result, Some, TakeAskEnded, TakeFrame, TimedOut, Who, Withdraw, [], accepted, address_after, and_parts, answer_to_ask, ap, arith, ask_end, asks, can_ask, comes, end_at, ended, ends, eqb-true, false, first, has_token, holds, if◌then◌else◌, inl, inr, is_acknowledgment, is_answer, is_asking, is_claim, is_full, is_lost, is_message, is_request, is_session, kept, later, left, length, lost, made, marks, message_from, moment, nat_eq, nat_lt, not, not-true, not_both, open_ask, option_map, passed_in, past, question, reached, reaches, refl, request_for, says, says_to, seeks, silent, silent_end, slice_get, slice_set, step, subst, suc, sym, time_heard, told, told_asks, true, wait, ℕ, ◌&&◌, ◌++◌, ◌+◌, ◌-◌, ◌<◌, ◌||◌, ◌∙◌, ◌∷◌, ◌≡◌, ◌⊎◌, IfSome, le-ltb, lt-ltb, ne_eqb, same_Some, and-false, eqb-false, or_parts, cases_Bool}
+use Rattle.j39_node.proofs.Common.{Acknowledged, Answered, AreAnswered, Ask, AskEnding, AskedSince, At, Bool, Call, Controller, FrameRecord, Hear, HeardFirst, Is, IsAnswered, IsTrue, List, None, NoneEnds, Ok, Option, Question, RanOut, Refused, Result, Some, TakeAskEnded, TakeFrame, TimedOut, Who, Withdraw, [], accepted, address_after, and_parts, answer_to_ask, ap, arith, ask_end, asks, can_ask, comes, end_at, ended, ends, eqb-true, false, first, has_token, holds, if◌then◌else◌, inl, inr, is_acknowledgment, is_answer, is_asking, is_claim, is_full, is_lost, is_message, is_request, is_session, kept, later, left, length, lost, made, marks, message_from, moment, nat_eq, nat_lt, not, not-true, not_both, open_ask, passed_in, past, question, reached, reaches, refl, request_for, says, says_to, seeks, silent, silent_end, slice_get, slice_set, step, subst, suc, sym, time_heard, told, told_asks, true, wait, ℕ, ◌&&◌, ◌++◌, ◌+◌, ◌-◌, ◌<◌, ◌||◌, ◌∙◌, ◌∷◌, ◌≡◌, ◌⊎◌, IfSome, le-ltb, lt-ltb, same_Some, or_parts, cases_Bool}
 use Rattle.j39_node.specs.declared.kinds.AskEnding.TheVariants.{Withdrawn}
 use Rattle.j39_node.specs.Asking.{is_reply, is_taken, said_by}
 use Rattle.j39_node.proofs.WithdrawLemmas.{get_front, unpassed}
 use Rattle.j39_node.proofs.AnswerCases.{ask_accepts}
 use Rattle.j39_node.proofs.AnswerCases as cases
-use Rattle.j39_node.proofs.QueueLemmas.{get_append, length_one_more, get_last, mapped_none, mapped_some}
+use Rattle.j39_node.proofs.QueueLemmas.{get_append, length_one_more, get_last, mapped_some}
 use Rattle.j39_node.proofs.SoundLemmas.{sound, grows_on, passes_request, request_stays, stays_lost}
 use Rattle.j39_node.proofs.LawLemmas.{full_from, full_parts}
 
@@ -137,10 +137,6 @@ is_word Answered = true
 is_word (Acknowledged a) = true
 is_word TimedOut = false
 is_word Withdrawn = false
-
--- what a frame says is a word
-said_word : (o : Option ℕ) → IfSome (said_by o) (λ e. is_word e ≡ true)
-said_word o = grind arith
 
 says_word : (w : Who) (q : Question) (f : FrameRecord) (m : Option (ℕ × ℕ)) (e : AskEnding) → says_to w q f m ≡ Some e → is_word e ≡ true
 says_word w q f m e g = subst (λ (o : Option AskEnding). IfSome o (λ e. is_word e ≡ true)) g (go (seeks q m) (reaches w f) (is_answer q f) (is_reply w q f))

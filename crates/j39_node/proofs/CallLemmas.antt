@@ -1,7 +1,7 @@
 -- A call more.
 use Rattle.j39_node.proofs.KindLemmas.{Kind, kind, kind_by, kind_is, single}
 use Rattle.j39_node.proofs.SoundLemmas.FrameCase.{claims as claims_first, acknowledges, replies, sends, packs, transfers}
-use Rattle.j39_node.proofs.Common.{Address, AreAnswered, AskRecord, Asked, At, Bool, Call, Claimed, Claims, Controller, Done, Draft, Due, Ending, FrameRecord, Hear, Hold, IfSome, Incoming, IncomingRecord, Is, IsAnswered, IsApart, IsOthers, Knows, List, Lost, Message, Move, None, Option, Outgoing, Question, Ready, Renew, Renews, Reply, Said, Single, Some, TakeEnded, TakeFrame, Untold, View, Who, Withdraw, Withdrawn, [], accepted, acknowledged, address_after, after, age, all_transfers, ap, arith, asked_by, asking_of, asks_claims, asks_with, at_in, blank, called, calls, can_claim, can_send, claim_address, claim_due, claim_from, claim_goes, claim_of, claimed, claims, clock, clock_at, comes, counted, delayed, drop, drop-map, due, end_of, ended, ending_of, false, first, gives_way, got, has_packets, has_token, heard_at, heard_by, hearing_after, hearing_of, held_at, hold_acknowledged, hold_after, hold_asked, hold_claimed, hold_spoken, hold_went, holder, holder_in, holds, holds_back, if◌then◌else◌, in_session, incoming_after, incoming_of, inl, inr, is_apart, is_asking, is_blank, is_busy, is_claim, is_coming, is_engaged, is_for_program, is_full, is_held, is_left, is_lost, is_open, is_resting, is_served, is_smaller, is_there, is_turn, kept, known, lane_after, lane_of, latest, le-ltb, leaves, leb-true, led, left, left_at, length, length-drop, length-set, less, listening, lost, lt-ltb, ltb-false, ltb-true, map, marks, max, may_claim, may_go, message_from, message_of, min, missed_news, moment, more, nat_eq, nat_le, nat_lt, news_after, next_acknowledgment, next_due, next_frame, next_packet, next_renewed, next_transfer, next_transfer_ended, next_turn, next_withdrawn, not, nothing, offered, older, open_ask, open_broadcast, open_transfer, option_map, other, owes_claim, packet_by, packets, packets_in, passed, past, pause, paused, place_of, port_after, port_of, posted, reached, ready_in, reception, refl, refusal_by, resting, resting_by, said_by, senders, sends_if, slice_get, slice_get_past, slice_get_within, slice_set, sooner, source_of, stamp_at, stamped, standing_of, stands, step, subst, suc, sym, taken_by, those_over, time_heard, told, told_claims, transfer_by, transfer_end, transfer_in, true, turn_frame, turn_of, turns, unclaimed, unclaims, unheard_news, view, wait, who_of, with_called, with_reception, with_refusal, with_replies, with_request, yields, ℕ, ◌&&◌, ◌++◌, ◌+◌, ◌-◌, ◌<◌, ◌||◌, ◌∙◌, ◌∷◌, ◌≡◌, ◌≤◌, map-append, length-map, drop-append-le, cond_some}
+use Rattle.j39_node.proofs.Common.{Address, AreAnswered, AskRecord, Asked, At, Bool, Call, Claims, Controller, Done, Draft, Due, Ending, FrameRecord, Hear, Hold, IfSome, Incoming, IncomingRecord, Is, IsAnswered, IsApart, IsOthers, Knows, List, Lost, Message, Move, None, Option, Outgoing, Ready, Renew, Renews, Reply, Said, Single, Some, TakeEnded, TakeFrame, Untold, View, Who, Withdraw, Withdrawn, [], accepted, acknowledged, address_after, after, age, all_transfers, ap, arith, asked_by, asking_of, asks_claims, asks_with, at_in, blank, called, calls, can_claim, can_send, claim_address, claim_due, claim_from, claim_goes, claim_of, claimed, claims, clock, clock_at, comes, counted, delayed, drop, drop-map, due, end_of, ended, ending_of, false, first, gives_way, got, has_packets, has_token, heard_at, heard_by, hearing_after, hearing_of, held_at, hold_acknowledged, hold_after, hold_asked, hold_claimed, hold_spoken, hold_went, holder, holder_in, holds, holds_back, if◌then◌else◌, in_session, incoming_after, incoming_of, inl, inr, is_apart, is_asking, is_blank, is_busy, is_claim, is_coming, is_engaged, is_for_program, is_full, is_held, is_left, is_lost, is_open, is_resting, is_served, is_smaller, is_there, is_turn, kept, known, lane_after, lane_of, latest, le-ltb, leaves, leb-true, led, left, left_at, length, length-drop, length-set, less, lost, lt-ltb, ltb-false, ltb-true, map, marks, max, may_claim, may_go, message_from, message_of, min, missed_news, moment, more, nat_eq, nat_le, nat_lt, news_after, next_acknowledgment, next_due, next_frame, next_packet, next_renewed, next_transfer, next_transfer_ended, next_turn, next_withdrawn, not, nothing, offered, older, open_ask, open_transfer, option_map, other, owes_claim, packet_by, packets, packets_in, passed, past, pause, paused, place_of, port_after, port_of, posted, reached, ready_in, reception, refl, refusal_by, resting_by, said_by, senders, sends_if, slice_get, slice_get_past, slice_get_within, slice_set, sooner, source_of, stamp_at, stamped, standing_of, stands, step, subst, suc, sym, taken_by, those_over, time_heard, told, told_claims, transfer_by, transfer_end, transfer_in, true, turn_frame, turn_of, turns, unclaimed, unclaims, unheard_news, view, wait, who_of, with_called, with_reception, with_refusal, with_replies, with_request, yields, ℕ, ◌&&◌, ◌++◌, ◌+◌, ◌-◌, ◌<◌, ◌||◌, ◌∙◌, ◌∷◌, ◌≡◌, ◌≤◌, map-append, length-map, drop-append-le, cond_some}
 use Rattle.j39_node.specs.Boxes.{in_box}
 use Rattle.j39_node.specs.Is.{leaving}
 use Rattle.j39_node.specs.Reception.{is_waiting}
@@ -12,9 +12,9 @@ use Rattle.j39_node.proofs.WithdrawLemmas.{past_rest}
 use Rattle.j39_node.specs.declared.hold.Standing.TheVariants as standing
 use Rattle.j39_node.proofs.AskLemmas.{asking_is, ask_more, takes, token_of, ask_withdrawn}
 use Rattle.j39_node.proofs.ReceptionLemmas.{leaves_is, tidy, calls_is, leaves_still}
-use Rattle.j39_node.proofs.HearingLemmas.{broken_news, claimed_on, claimed_says, hearing_same, missed_one, news_same}
+use Rattle.j39_node.proofs.HearingLemmas.{claimed_on, claimed_says, hearing_same, news_same}
 use Rattle.j39_node.proofs.QueueLemmas.{length_one_more, length_rest, First, get_at, get_map, get_of_drop, rest_at, mapped_none}
-use Rattle.j39_node.proofs.SoundLemmas.{FrameCase, case_goes, next_is, IsTurn, frame_there, overdue_due, packet_there, some_at, turn_is, sound, frame_by, held_not_lost, holding_not_lost, lost_older, Sound, withdraw_case, acknowledged_is_due, not_there, apart_there, other_is}
+use Rattle.j39_node.proofs.SoundLemmas.{FrameCase, case_goes, next_is, IsTurn, frame_there, packet_there, some_at, turn_is, sound, held_not_lost, holding_not_lost, lost_older, Sound, withdraw_case, acknowledged_is_due, not_there, other_is}
 use Rattle.j39_node.proofs.FrameLemmas.{at_now}
 use Rattle.j39_node.proofs.PortLemmas.{clock_is, is_port}
 use Rattle.j39_node.proofs.RenewLemmas.{latest_rest, latest_is, set_rest}

@@ -1,22 +1,13 @@
 -- When a frame of packets is due.
-use Rattle.j39_node.proofs.Common.{if◌then◌else◌, ◌&&◌, ◌+◌, ◌-◌, ◌<◌, ◌∙◌, ◌≡◌, ◌≤◌, ◌⊎◌, Abort, age, ap, arith, at_in, Bool, Call, clock, Failed, false, gives_up, has_packets, Idle, inl, inr, is_left, length, List, long_by, lt-ltb, Message, MessageRecord, min, moment, nat_le, nat_lt, next_long, next_packet, next_transfer, None, open_broadcast, open_transfer, Option, option_map, packet_by, packets, packets_in, pause, refl, Running, running_in, says, send_step, Sending, SendResult, sends_in, sends_packet, SendState, signal_by, silent, Some, sooner, step, sym, ticks_in, timeout, transfer_by, transfer_in, true, Waiting, Who, ℕ, le-ltb, le-leb, lt-leb, same_Some, cases_lt, cond_some, and_from}
+use Rattle.j39_node.proofs.Common.{if◌then◌else◌, ◌+◌, ◌-◌, ◌<◌, ◌∙◌, ◌≡◌, ◌≤◌, ◌⊎◌, Abort, age, ap, arith, at_in, Bool, Call, clock, Failed, false, gives_up, has_packets, Idle, inl, inr, is_left, length, List, long_by, Message, MessageRecord, min, moment, nat_le, nat_lt, next_long, next_packet, next_transfer, None, open_broadcast, open_transfer, Option, option_map, packet_by, packets, packets_in, pause, refl, Running, running_in, says, send_step, Sending, SendResult, sends_in, sends_packet, SendState, signal_by, silent, Some, sooner, step, ticks_in, timeout, transfer_by, transfer_in, true, Waiting, Who, ℕ, le-ltb, lt-leb, same_Some, cases_lt, cond_some}
 use Rattle.j39_transport.specs.Sending.{Done, Tick}
 use Rattle.j39_node.specs.Transfers.{packet_in}
 use Rattle.j39_node.proofs.QueueLemmas.{mapped_none}
-use Rattle.j39_node.proofs.SoundLemmas.{none_there, packet_there, not_there}
 
 -- ---- a frame isn't due yet
 
 not_yet : (p s : ℕ) → s < p - 100000 → nat_le (p - s) 100000 ≡ false
 not_yet p s l = lt-leb (p - s) 100000 (omega (arith, l))
-
-sooner_first : (p : ℕ) (o : Option ℕ) → (n : ℕ) × (sooner (Some p) o ≡ Some n) × (n ≤ p)
-sooner_first p None = (p, refl, omega arith)
-sooner_first p (Some m) = (min p m, refl, omega arith)
-
-sooner_second : (p : ℕ) (o : Option ℕ) → (n : ℕ) × (sooner o (Some p) ≡ Some n) × (n ≤ p)
-sooner_second p None = (p, refl, omega arith)
-sooner_second p (Some m) = (min m p, refl, omega arith)
 
 no_packet : (o : Option (ℕ × MessageRecord)) (i p s : ℕ) → ((n : ℕ) → packet_in (is_left o i) p ≡ Some n → s < n) → packet_by o i (p - s) ≡ None
 no_packet o i p s e = grind (arith, e)

@@ -1,5 +1,5 @@
 -- That every transfer ends.
-use Rattle.j39_node.proofs.Common.{Abort, AreAnswered, At, Bool, Call, Controller, FrameRecord, Hear, Is, IsAnswered, IsPaced, IsPrompt, List, Message, MessageRecord, None, NoneTold, Ok, Option, Running, SendState, SenderRecord, Signal, Some, TakeFrame, TakeTransferEnded, Transfer, TransferEnding, Who, [], aborted, address_after, age, all_transfers, and_parts, answer_to_transfer, ap, arith, begun, broadcast_from, can_broadcast, claims_anew, clears, clock_at, cond_both, counts_for, destination_of, due, ending_by, eq-eqb, false, first, gives_up, granted_by, hears, hears_if, holder, holds, if◌then◌else◌, inl, inr, is_acknowledgment, is_claim, is_engaged, is_held, is_idle, is_lost, is_move, is_replaced, is_resting, is_running, is_sendable, is_session, is_some, is_spent, is_transfer, later, leb-true, length, listens, lost, moment, nat_eq, nat_le, nat_lt, new_sender, next_transfer, next_transfer_ended, not, not_both, open_transfer, option_map, or_parts, packets_of, passed_in, refl, says, send_step, sends, sends_if, signal_by, step, subst, suc, sym, tells_transfer, ticks_in, timer_t3, transfer_by, transfer_end, true, waited_in, ℕ, ◌&&◌, ◌*◌, ◌++◌, ◌+◌, ◌/◌, ◌<◌, ◌||◌, ◌∙◌, ◌∷◌, ◌≡◌, ◌≤◌, ◌⊎◌, same_Some, none-some, mul-add, cases_Bool}
+use Rattle.j39_node.proofs.Common.{Abort, AreAnswered, At, Bool, Call, Controller, FrameRecord, Hear, Is, IsAnswered, IsPaced, IsPrompt, List, Message, MessageRecord, None, NoneTold, Ok, Option, Running, SendState, SenderRecord, Signal, Some, TakeFrame, TakeTransferEnded, Transfer, TransferEnding, Who, [], aborted, address_after, age, and_parts, answer_to_transfer, ap, arith, begun, broadcast_from, can_broadcast, claims_anew, clears, clock_at, cond_both, counts_for, destination_of, due, ending_by, eq-eqb, false, first, gives_up, granted_by, hears, hears_if, holder, holds, if◌then◌else◌, inl, inr, is_acknowledgment, is_claim, is_held, is_idle, is_lost, is_move, is_replaced, is_running, is_session, is_some, is_spent, is_transfer, later, length, listens, lost, moment, nat_eq, nat_lt, new_sender, next_transfer, next_transfer_ended, not, not_both, open_transfer, option_map, or_parts, packets_of, passed_in, refl, says, send_step, sends, sends_if, signal_by, step, subst, suc, sym, tells_transfer, ticks_in, timer_t3, transfer_by, transfer_end, true, waited_in, ℕ, ◌&&◌, ◌*◌, ◌++◌, ◌+◌, ◌/◌, ◌<◌, ◌||◌, ◌∙◌, ◌∷◌, ◌≡◌, ◌≤◌, ◌⊎◌, same_Some, none-some, mul-add, cases_Bool}
 use Rattle.j39_transport.specs.Sending.{Tick}
 use Rattle.j39_node.specs.Transfers.{said_to}
 use Rattle.j39_transport.specs.Sending as sending

@@ -1,5 +1,5 @@
 -- How long a transfer waits, step by step of its sender.
-use Rattle.j39_node.proofs.Common.{Abort, Bool, Failed, Idle, None, Option, SendResult, SendState, SenderRecord, Sending, Signal, Some, Waiting, age, ap, arith, cond_both, false, granted_after, if◌then◌else◌, inl, inr, is_idle, is_running, is_waiting, ltb-false, ltb-true, max, nat_lt, not, other, refl, says, sends_packet, spent_after, subst, suc, suc-mul, sym, ticks_in, timeout, timer_t3, timer_t4, true, waits, zero, ℕ, ◌&&◌, ◌*◌, ◌+◌, ◌<◌, ◌==◌, ◌||◌, ◌∙◌, ◌≡◌, ◌≤◌, ◌⊎◌, mul-le-mul_right, not_both, true_from_ne_false}
+use Rattle.j39_node.proofs.Common.{Abort, Bool, Failed, Idle, None, Option, SendResult, SendState, SenderRecord, Sending, Signal, Some, Waiting, age, ap, arith, cond_both, false, granted_after, if◌then◌else◌, inl, inr, is_idle, is_running, is_waiting, ltb-false, nat_lt, not, other, refl, says, sends_packet, spent_after, subst, suc, suc-mul, sym, ticks_in, timeout, timer_t3, timer_t4, true, waits, ℕ, ◌&&◌, ◌*◌, ◌+◌, ◌<◌, ◌==◌, ◌||◌, ◌∙◌, ◌≡◌, ◌≤◌, ◌⊎◌, mul-le-mul_right, not_both}
 use Rattle.j39_node.proofs.MoveSteps.{HeardCase}
 use Rattle.j39_node.proofs.MoveSteps.HeardCase.{same, done, fails, holds, clears}
 
@@ -33,9 +33,6 @@ rank_of granted spent s = rank (granted + spent) (is_waiting s.state) (nat_lt 64
 
 rank_least : (n : ℕ) (a b : Bool) → (n ≤ rank n a b) × (rank n a b ≤ suc n)
 rank_least n a b = (grind arith, grind arith)
-
-rank_spent : (n : ℕ) (a b : Bool) → b ≡ true → rank n a b ≡ n
-rank_spent n a b e = grind (arith, e)
 
 pub record Late (granted spent age base waited streak : ℕ) (s : SenderRecord) : Type 0 where
   pub phase : nat_lt 64 spent ≡ false → InTime (granted + spent) age base waited s.since s.state

@@ -1,5 +1,5 @@
 -- Frames that are made, and the lane of broadcasts.
-use Rattle.j39_node.proofs.Common.{if◌then◌else◌, ◌&&◌, ◌<◌, ◌==◌, ◌↔◌, ◌∙◌, ◌≡◌, ◌≤◌, ap, arith, as_broadcast, Bool, broadcast_end, carried, cut_frame, false, frame_of, FrameRecord, IfSome, is_left, IsSome, length, List, Message, MessageRecord, nat_le, nat_lt, None, Option, option_map, packet_by, packets_of, refl, Some, stamped, subst, sym, ToSend, transport_control_group, transport_data_group, true, ℕ, le-leb, lt-leb, ending_of}
+use Rattle.j39_node.proofs.Common.{if◌then◌else◌, ◌<◌, ◌==◌, ◌↔◌, ◌∙◌, ◌≡◌, ◌≤◌, ap, arith, as_broadcast, Bool, broadcast_end, carried, cut_frame, false, FrameRecord, IfSome, is_left, IsSome, length, List, Message, MessageRecord, nat_le, nat_lt, None, Option, option_map, packet_by, packets_of, Some, stamped, sym, ToSend, transport_control_group, transport_data_group, ℕ, ending_of}
 
 -- the frame that is made is one of this message
 pub made : (r : Option FrameRecord) (now id : ℕ) (bytes : List ℕ) (m : Message) → (IsSome r ↔ (length bytes ≤ 8))
@@ -19,10 +19,6 @@ ended_is o x i n lost b l e f g h = sym (ap (λ y. broadcast_end y i lost) e ∙
 
 abbrev pub at_now : ℕ → Message → ℕ × Message
 at_now now m = (now, m)
-
-packet_if : (x : ℕ × MessageRecord) (i left : ℕ) (b : Bool) → nat_le left 100000 ≡ true → nat_le i (packets_of x.1) ≡ b
-    → packet_by (Some x) i left ≡ (if b then Some (frame_of x.1 i) else None)
-packet_if x i left b e f = grind (arith, e, f)
 
 pub packet_past : (o : Option (ℕ × MessageRecord)) (x : ℕ × MessageRecord) (i n left now : ℕ) → o ≡ Some x → n ≡ packets_of x.1 → n < i → left ≤ 100000
     → (let none : Option (ℕ × Message) = None in none) ≡ option_map (at_now now) (packet_by o i left)

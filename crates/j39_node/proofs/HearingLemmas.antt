@@ -1,5 +1,5 @@
 -- Broadcasts in packets that are heard, call by call.
-use Rattle.j39_node.proofs.Common.{[], if◌then◌else◌, ◌&&◌, ◌*◌, ◌++◌, ◌+◌, ◌<◌, ◌||◌, ◌∙◌, ◌∷◌, ◌≡◌, ◌≢◌, ◌≤◌, ◌⊎◌, announces, and_parts, ap, append-nil, AreApart, AreNumbered, arith, At, Bool, by, Call, chosen, claim_of, Claims, cond_both, drop, eq-eqb, eqb-false, eqb-true, false, flat_map-append, found, found_in, FrameRecord, frames_heard, get_or, goes, grown, has_room, has_some, Hear, hearing_after, HearingRecord, hears_in, hears_it, held_then, holder, holder_in, IfSome, inl, inr, is_any, is_beside, is_claim, is_ignored, is_same, is_some, is_unheard_in, is_wanted, is_whole, IsFit, IsPartOf, Key, known_by, Knows, leb-false, length, length-append, length-drop, List, listed, Listening, listening, made_in, made_of, made_whole, lt-ltb, MessageRecord, min, missed_news, more, nat_eq, nat_lt, news_after, None, not, not-true, of, OpenBroadcast, Option, option_map, option_or, or_parts, others, over_by, packed, packs, part_of, pgn_named, refl, ReleaseBroadcast, restarts, since_in, size_named, slice_index, Some, source_of, stay, staying, still, subst, suc, sym, TakeFrame, those_over, Tick, time_heard, told_claims, true, unheard, unheard_by, unheard_news, Untold, Who, whole_of, with_all, with_one, without_source, ℕ}
+use Rattle.j39_node.proofs.Common.{[], if◌then◌else◌, ◌&&◌, ◌*◌, ◌++◌, ◌+◌, ◌<◌, ◌||◌, ◌∙◌, ◌∷◌, ◌≡◌, ◌≢◌, ◌≤◌, ◌⊎◌, announces, and_parts, ap, append-nil, AreApart, AreNumbered, arith, At, Bool, by, Call, chosen, claim_of, Claims, cond_both, drop, eq-eqb, eqb-false, eqb-true, false, flat_map-append, found, found_in, FrameRecord, frames_heard, get_or, goes, grown, has_room, has_some, Hear, hearing_after, HearingRecord, hears_in, hears_it, held_then, holder, holder_in, IfSome, inl, inr, is_any, is_beside, is_claim, is_ignored, is_same, is_some, is_unheard_in, is_wanted, is_whole, IsFit, IsPartOf, Key, known_by, Knows, leb-false, length, length-append, length-drop, List, listed, Listening, listening, made_in, made_of, made_whole, MessageRecord, min, more, nat_eq, nat_lt, news_after, None, not, not-true, of, OpenBroadcast, Option, option_map, option_or, or_parts, others, over_by, packed, packs, part_of, pgn_named, refl, ReleaseBroadcast, restarts, since_in, size_named, slice_index, Some, source_of, stay, staying, still, subst, suc, sym, TakeFrame, those_over, Tick, time_heard, told_claims, true, unheard, unheard_by, Who, whole_of, with_all, with_one, without_source, ℕ}
 use Rattle.std.specs.List.{All, filter}
 use Rattle.std.proofs.lemmas.Bool.{cases_Bool, ne_eqb}
 use Rattle.std.proofs.lemmas.List.Filters.{length-filter_both}
@@ -401,9 +401,6 @@ any_is xs = grind arith
 pub missed_all : (xs : List OpenBroadcast) (n m : ℕ) → n ≡ min m 18446744073709551615 → min (n + length xs) 18446744073709551615 ≡ min (with_all xs m) 18446744073709551615
 missed_all xs n m e = let h = all_more xs m in omega (arith, h, e)
 
-pub missed_one : (m : ℕ) → min (min m 18446744073709551615 + 1) 18446744073709551615 ≡ min (suc m) 18446744073709551615
-missed_one m = omega arith
-
 pub missed_more : (b c : Bool) (n m : ℕ) → n ≡ min m 18446744073709551615 → b ≡ c
     → (if b then min (n + 1) 18446744073709551615 else n) ≡ min (more c m) 18446744073709551615
 missed_more b c n m e g = grind (arith, e, g)
@@ -416,10 +413,6 @@ pub leaves_after : (w : Who) (H : List Call) (gone : Option ℕ) (holds : ℕ �
       missed = min (with_all (those_over gone holds now (listening w H).current) (unheard w H)) 18446744073709551615;
     }
 leaves_after w H gone holds now x e = let m = missed_all (those_over gone holds now (listening w H).current) _ (unheard w H) refl in grind (arith, e, m)
-
--- what a tick or its own claim ends is news
-pub broken_news : (b m u : Bool) → (b || (m || u)) ≡ (m || ((b || false) || u))
-broken_news b m u = grind arith
 
 -- news that stands, or is new: of messages of one frame, and of broadcasts
 pub either_news : (e a b c d : Bool) → (e || ((a || b) || (c || d))) ≡ ((a || c) || ((e || d) || b))

@@ -1,5 +1,5 @@
 -- What is received in packets, step by step.
-use Rattle.j39_node.proofs.Common.{Abort, Bool, BoxedReceiver, FrameRecord, Heard, Incoming, IncomingRecord, IsSome, Kept, List, Message, None, Option, ReceiverAnswer, ReceiverRecord, Receives, Reception, ReceptionRecord, RecvEvent, RecvResult, RecvStep, Said, Some, Stamp, ToSend, [], answer_in, answers, ap, arith, clock, false, filter, found, group_of, has_place, heard_by, if◌then◌else◌, incoming_of, is_over, keeps, kept_by, map, nat_eq, new_receiver, not, option_map, packet_in, partner_of, passed, passed_to, recv_step, refl, replied, result_of, said_by, sends, since_by, source_of, stamp_micros, step, step_at, strays, sym, takes, takes_signal, takes_tick, ticked, ticked_at, ticks, true, with_reception, with_replies, without, written, ℕ, ◌↔◌, ◌∙◌, ◌∷◌, ◌≡◌}
+use Rattle.j39_node.proofs.Common.{Abort, Bool, BoxedReceiver, FrameRecord, Heard, Incoming, IncomingRecord, IsSome, Kept, List, None, Option, ReceiverRecord, Receives, ReceptionRecord, RecvEvent, RecvStep, Said, Some, Stamp, ToSend, [], ap, arith, false, filter, found, group_of, heard_by, incoming_of, is_over, kept_by, map, nat_eq, new_receiver, not, option_map, packet_in, partner_of, passed, passed_to, recv_step, refl, replied, said_by, sends, since_by, source_of, stamp_micros, step, strays, takes_signal, takes_tick, ticked, ticks, true, with_reception, with_replies, without, written, ℕ, ◌↔◌, ◌∷◌, ◌≡◌}
 use Rattle.std.specs.Option.{is_some}
 use Rattle.j39_transport.specs.Receiving.{Tick}
 use Rattle.j39_node.proofs.PacketLemmas.{hushed}

@@ -1,5 +1,5 @@
 -- What is refused.
-use Rattle.j39_node.proofs.Common.{[], if◌then◌else◌, ◌&&◌, ◌++◌, ◌==◌, ◌∙◌, ◌∷◌, ◌≡◌, ◌≢◌, ◌≤◌, ◌⊎◌, acknowledgment, Answer, ap, arith, Asked, Bool, Busy, bytes_eq, false, fresh, inl, inr, is_refusal_due, is_served, List, list_any, Message, Nack, nat_eq, nat_lt, None, not, Option, refusal, repeats, Some, sym, true, Who, with_refusal, ℕ, ne_eqb}
+use Rattle.j39_node.proofs.Common.{[], if◌then◌else◌, ◌&&◌, ◌++◌, ◌==◌, ◌∙◌, ◌∷◌, ◌≡◌, ◌≢◌, ◌≤◌, ◌⊎◌, acknowledgment, Answer, ap, arith, Asked, Bool, Busy, bytes_eq, false, fresh, is_refusal_due, is_served, List, list_any, Message, Nack, nat_eq, nat_lt, None, not, Option, refusal, repeats, Some, sym, true, Who, with_refusal, ℕ}
 
 pub has_room : (n : ℕ) → n ≤ 16 → false ≡ (n == 16) → nat_lt n 16 ≡ true
 has_room n l e = grind (arith, l, e)

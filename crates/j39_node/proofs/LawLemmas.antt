@@ -1,5 +1,5 @@
 -- The laws.
-use Rattle.j39_node.proofs.Common.{Address, AddressLost, AnotherAtAddress, AreAnswered, Asked, At, Bool, Busy, Call, Claim, Claimed, Controller, Draft, Ending, FrameRecord, HasDouble, Hear, Is, IsFront, IsTrue, List, Lost, Message, MessagesMissed, Move, Nack, NameDoubled, News, None, NoneTold, NotClaimed, Option, Renew, Reply, Some, TakeEnded, TakeFrame, TakeNews, Tick, Who, Withdraw, [], accepted, acknowledged, acknowledgment, acknowledgment_group, address_after, address_claimed_group, age, and-false, and_from, and_parts, answers_another, ap, append-nil, arith, asked, at_in, called, calls, calls_for_claim, claim_address, claim_due, claim_from, claim_goes, claim_of, content, delayed, destination_of, double, doubled_news, drop, due, end_of, eq-eqb, eqb-true, false, first, frames, fresh, gives_way, global_address, got, handed, held_at, holds, if◌then◌else◌, inl, inr, is_acknowledgment, is_alike, is_another, is_apart, is_blank, is_claim, is_double, is_for_program, is_held, is_larger, is_lost, is_move, is_none, is_own_group, is_refusal_due, is_reply, is_served, is_session, is_smaller, is_some, is_subscribed, is_there, is_transfer, kept, later, le-leb, le-ltb, length, length-append, long_by, lost_news, lt-ltb, ltb-false, ltb-true, marks, may_claim, may_go, message_from, message_of, missed, missed_news, moment, nat_eq, nat_le, nat_lt, news_of, next_acknowledgment, next_due, next_frame, next_long, next_other, next_packet, next_transfer, next_withdrawn, not, not_both, null_address, older, open_broadcast, option_map, option_or, or_parts, other, owes_claim, packets, passed_in, patience, pause, pgn_of, reached, ready, reception, refl, refusal_waits, request_group, requests, slice_get, slice_get-map, slice_get_within, source_of, stamp_at, stamped, status_after, status_of, step, suc, sym, takes_other, told, true, turns, unclaimed, waits_already, with_refusal, with_request, yields, ℕ, ◌&&◌, ◌*◌, ◌++◌, ◌+◌, ◌-◌, ◌<◌, ◌||◌, ◌↔◌, ◌∙◌, ◌∷◌, ◌≡◌, ◌≢◌, ◌≤◌, ◌⊎◌, or_cases, or_left, or_right, none-some, cond_both, ne_eqb, leb-false, subst, cases_Bool, cases_lt}
+use Rattle.j39_node.proofs.Common.{Address, AddressLost, AnotherAtAddress, AreAnswered, Asked, At, Bool, Busy, Call, Claim, Claimed, Controller, Draft, Ending, FrameRecord, HasDouble, Hear, Is, IsFront, IsTrue, List, Lost, Message, MessagesMissed, Move, Nack, NameDoubled, News, None, NoneTold, NotClaimed, Option, Renew, Reply, Some, TakeEnded, TakeFrame, TakeNews, Tick, Who, Withdraw, [], accepted, acknowledged, acknowledgment, acknowledgment_group, address_after, address_claimed_group, age, and-false, and_from, and_parts, answers_another, ap, append-nil, arith, asked, at_in, called, calls, claim_address, claim_due, claim_from, claim_goes, claim_of, content, delayed, double, doubled_news, drop, due, end_of, eq-eqb, eqb-true, false, first, frames, fresh, gives_way, got, handed, held_at, holds, if◌then◌else◌, inl, inr, is_acknowledgment, is_alike, is_another, is_apart, is_blank, is_claim, is_double, is_for_program, is_held, is_lost, is_move, is_refusal_due, is_reply, is_served, is_smaller, is_subscribed, is_there, is_transfer, kept, later, le-leb, le-ltb, length, length-append, long_by, lost_news, lt-ltb, ltb-false, marks, may_claim, may_go, message_from, message_of, missed, missed_news, moment, nat_eq, nat_le, nat_lt, news_of, next_acknowledgment, next_due, next_frame, next_long, next_other, next_packet, next_transfer, next_withdrawn, not, not_both, older, open_broadcast, option_map, option_or, or_parts, other, owes_claim, packets, passed_in, patience, pause, pgn_of, reached, ready, reception, refl, refusal_waits, request_group, requests, slice_get, slice_get-map, slice_get_within, source_of, stamp_at, stamped, status_after, status_of, step, suc, sym, takes_other, told, true, turns, unclaimed, waits_already, with_refusal, with_request, yields, ℕ, ◌&&◌, ◌*◌, ◌++◌, ◌+◌, ◌-◌, ◌<◌, ◌||◌, ◌↔◌, ◌∙◌, ◌∷◌, ◌≡◌, ◌≢◌, ◌≤◌, ◌⊎◌, or_cases, or_left, or_right, cond_both, ne_eqb, leb-false, subst, cases_Bool, cases_lt}
 use Rattle.j39_node.proofs.PromptLaws.{answered_from}
 use Rattle.j39_node.specs.History.{heard, Again}
 use Rattle.j39_node.specs.Reception.{is_waiting}
@@ -7,8 +7,8 @@ use Rattle.j39_address.specs.declared.status.Status.TheVariants as status
 use Rattle.j39_node.proofs.ReceptionLemmas.{replied_get, tidy}
 use Rattle.j39_node.proofs.DueLemmas.{both_none, from_long, quiet_long, then_long}
 use Rattle.j39_node.proofs.QueueLemmas.{length_one_more, all_at}
-use Rattle.j39_node.proofs.SoundLemmas.{apart_is, is_moved, IsTurn, acknowledgment_single, claim_single, no_transfer, none_there, packet_session, packet_there, own_taken, turned, Rest, none_at, none_next, none_other, other_none, claim_is, given_way, none_acknowledged, none_due_goes, none_gives, FrameCase, Sound, claim_taken, IsDue, due_taken, frame_by, frame_case, held_older, own_of, packet_case, packet_taken, sound, transfer_taken, holding_not_lost, renew_case, WithdrawCase, withdraw_case, past_end, Told, told_case, stamped_by, claims_or_held, stays_lost}
-use Rattle.j39_node.proofs.KnownLemmas.{fresh_one, not_refused}
+use Rattle.j39_node.proofs.SoundLemmas.{apart_is, is_moved, IsTurn, claim_single, no_transfer, none_there, packet_session, packet_there, own_taken, turned, Rest, none_at, none_next, none_other, other_none, claim_is, given_way, none_acknowledged, none_due_goes, none_gives, FrameCase, Sound, claim_taken, IsDue, due_taken, frame_by, frame_case, held_older, own_of, packet_case, packet_taken, sound, transfer_taken, holding_not_lost, renew_case, WithdrawCase, withdraw_case, past_end, Told, told_case, stamped_by, claims_or_held, stays_lost}
+use Rattle.j39_node.proofs.KnownLemmas.{fresh_one}
 use Rattle.j39_node.proofs.LaneLemmas.{laned, opened_by}
 use Rattle.j39_node.proofs.CallLemmas.{due_by}
 use Rattle.j39_node.proofs.SoundLemmas.FrameCase.{claims, acknowledges, replies, sends, packs, transfers}
@@ -171,9 +171,6 @@ still_owed w (At when (Hear f) ∷ later) H e o = or_left _ _ (still_owed w late
 still_owed w (At now (TakeFrame (Some f)) ∷ later) H e o = absurd (let a = ap length e in let b = length_one_more (frames later) f in omega (arith, a, b))
 still_owed w (At now Again ∷ later) H e o = refl
 still_owed w (call ∷ later) H e o = still_owed w later H e o
-
-owed_due : (w : Who) (H : List Call) (now : ℕ) → owes_claim w H ≡ true → is_lost (address_after w H) ≡ false → claim_due w H now ≡ true
-owed_due w H now o l = λ i. o i && (not (l i) || nat_eq (delayed w H - step H now) 0)
 
 -- where a frame is taken, a claim that is owed may go
 taken_due : (w : Who) (H : List Call) (now : ℕ) (f : FrameRecord) → FrameCase w H now f → owes_claim w H ≡ true → claim_due w H now ≡ true
@@ -339,10 +336,6 @@ others_due w H now held one e = go one
 
 no_claim_left : (w : Who) (H : List Call) (now : ℕ) → claim_goes w H now ≡ true → (let none : Option (ℕ × Message) = None in none) ≡ next_frame w H now → ⊥
 no_claim_left w H now e f = grind (arith, e, f)
-
-due_by_then : (w : Who) (H : List Call) (now : ℕ) → owes_claim w H ≡ true → (IsTrue (is_lost (address_after w H)) → delayed w H ≤ step H now)
-    → claim_due w H now ≡ true
-due_by_then w H now e f = grind (arith, e, f)
 
 pub most_delayed : (w : Who) (H : List Call) → delayed w H ≤ w.delay * 600
 most_delayed w [] = omega arith
@@ -645,9 +638,6 @@ ticks w H now later e f = grind (arith, e, f)
 
 there : {T : Type 0} (L : List T) (n : ℕ) → slice_get L n ≡ None → nat_lt n (length L) ≡ false
 there L n e = le-ltb n (length L) (past_end L n e)
-
-held_at_later : (a : Address) (m : ℕ) → held_at a m ≡ Some m → ⊥
-held_at_later a m e = grind (arith, e)
 
 -- one is taken where the claim is owed, one waits, or one of packets is due
 none_taken : (w : Who) (H : List Call) (c : Controller) (now : ℕ) → Is w (At now (TakeFrame None) ∷ H) c

@@ -4,7 +4,7 @@ use Rattle.std.proofs.lemmas.List.Elements.{All-head, All-tail}
 use Rattle.std.proofs.lemmas.List.Filters.{length-filter_both}
 use Rattle.std.proofs.lemmas.Option.{slice_get-get_or}
 use Rattle.j39_node.proofs.QueueLemmas.{get_map}
-use Rattle.j39_node.proofs.Common.{cond_both, AreApart, Bool, FrameRecord, HearingRecord, IfSome, List, Listening, MessageRecord, None, OpenBroadcast, Option, Some, Who, [], announces, ap, arith, by, drop, earliest, eqb-true, expires, false, get_or, goes, if◌then◌else◌, is_key, is_unheard_in, is_whole, length, length-map, lt-leb, ltb-false, ltb-true, made_in, made_of, map, min, nat_eq, nat_lt, not, of, option_map, others, packed, packs, refl, remove, since_in, slice_get, sooner, source_of, subst, suc, sym, transport_data_group, true, whole_of, with_one, without_source, zero, ℕ, ◌&&◌, ◌+◌, ◌<◌, ◌∙◌, ◌∷◌, ◌≡◌, ◌≢◌, ◌≤◌}
+use Rattle.j39_node.proofs.Common.{cond_both, AreApart, Bool, FrameRecord, HearingRecord, IfSome, List, Listening, MessageRecord, None, OpenBroadcast, Option, Some, Who, [], announces, ap, arith, by, drop, earliest, eqb-true, expires, false, get_or, goes, if◌then◌else◌, is_key, is_unheard_in, is_whole, length, length-map, lt-leb, ltb-true, made_in, made_of, map, min, nat_eq, nat_lt, not, of, option_map, others, packed, packs, refl, remove, since_in, slice_get, sooner, source_of, subst, suc, sym, transport_data_group, true, whole_of, with_one, without_source, zero, ℕ, ◌&&◌, ◌+◌, ◌<◌, ◌∙◌, ◌∷◌, ◌≡◌, ◌≢◌, ◌≤◌}
 use Rattle.j39_transport.specs.Frames.{is_packet}
 use Rattle.std.specs.List.{All, filter, position, position_or_len}
 use Rattle.j39_node.specs.Hearing.{begun, is_gap, with_sender}

@@ -1,12 +1,11 @@
 -- A message in packets answers a request by the frame that makes it whole, be it to this address or to all.
-use Rattle.j39_node.proofs.Common.{[], if◌then◌else◌, ◌&&◌, ◌<◌, ◌==◌, ◌||◌, ◌↔◌, ◌∙◌, ◌∷◌, ◌≡◌, ◌⊎◌, and_from, and_parts, Answered, ap, arith, At, Bool, by, Call, comes, destination_of, eq-eqb, eqb-true, false, FrameRecord, has_place, Hear, hearing, holder, in_session, inl, inr, is_coming, is_from, is_key, is_late, IsTrue, length, List, made_whole, MessageRecord, nat_eq, None, open_ask, OpenBroadcast, Option, packs, pgn_of, ps_of, Question, receiver_at, Reception, reception, ReceptionRecord, RecvResult, refl, said_to, says_to, seeks, shown, Some, source_of, sym, time_heard, transport_data_group, true, Who, whole_by, ℕ, or-true, comes_by, comes_in, found_in, IfSome, list_any, listening, not, of, subst, AreApart}
+use Rattle.j39_node.proofs.Common.{[], if◌then◌else◌, ◌<◌, ◌||◌, ◌↔◌, ◌∙◌, ◌∷◌, ◌≡◌, ◌⊎◌, and_from, and_parts, Answered, ap, arith, At, Bool, Call, comes, destination_of, eq-eqb, eqb-true, false, FrameRecord, has_place, Hear, hearing, holder, in_session, inl, inr, is_coming, is_from, is_late, IsTrue, List, made_whole, MessageRecord, nat_eq, None, open_ask, OpenBroadcast, Option, packs, Question, receiver_at, Reception, reception, ReceptionRecord, RecvResult, refl, said_to, says_to, seeks, shown, Some, source_of, sym, time_heard, true, Who, whole_by, ℕ, or-true, comes_by, comes_in, found_in, IfSome, list_any, listening, not, of, subst, AreApart}
 use Rattle.j39_node.specs.Hearing.{is_whole as is_full}
 use Rattle.j39_transport.specs.Frames as frames
 use Rattle.j39_node.proofs.HearingLaws.{made_is}
 use Rattle.j39_node.proofs.HearingLemmas.{Kept, Open, result_is, result_source, stands, stands_found}
 use Rattle.j39_node.proofs.ListenLemmas.{begun_open}
 use Rattle.j39_node.proofs.PacketLemmas.{quiet_step, shown_none}
-use Rattle.j39_node.proofs.ReceptionLaws.{goes_there}
 
 -- ---- a message of the group, from whom was asked, answers
 

@@ -1,5 +1,5 @@
 -- The open transfer of an answered history goes from the address to another's.
-use Rattle.j39_node.proofs.Common.{[], ◌<◌, ◌||◌, ◌∙◌, ◌∷◌, ◌≡◌, ◌⊎◌, aborted, address_after, answer_to_transfer, ap, AreAnswered, arith, At, Bool, both, Call, can_broadcast, Claims, clock_at, false, FrameRecord, gives_up, group_with, Hear, hears, hears_if, holder, holder_in, IfSome, inl, inr, is_lost, is_move, is_replaced, is_running, is_some, is_spent, Knows, List, listens, ltb-true, Message, min, nat_lt, new_sender, None, Ok, open_transfer, Option, Packet, PortRecord, refl, Resting, Running, said_between, says, send_step, SenderRecord, SendEvent, sends, sends_if, Signal, signal_by, Some, subst, sym, TakeFrame, TakeTransferEnded, told_claims, Transfer, transfer_by, transport_control_group, transport_data_group, true, Who, ℕ, cond_both, ne_eqb}
+use Rattle.j39_node.proofs.Common.{[], ◌<◌, ◌||◌, ◌∙◌, ◌∷◌, ◌≡◌, ◌⊎◌, aborted, address_after, answer_to_transfer, ap, AreAnswered, arith, At, Bool, both, Call, can_broadcast, Claims, clock_at, false, FrameRecord, gives_up, group_with, Hear, hears, hears_if, holder, holder_in, IfSome, inl, inr, is_lost, is_move, is_replaced, is_running, is_some, is_spent, Knows, List, listens, ltb-true, Message, min, nat_lt, new_sender, None, Ok, open_transfer, Option, Packet, PortRecord, refl, Running, said_between, says, send_step, SenderRecord, SendEvent, sends, sends_if, Signal, signal_by, Some, subst, sym, TakeFrame, TakeTransferEnded, told_claims, Transfer, transfer_by, transport_control_group, transport_data_group, true, Who, ℕ, cond_both, ne_eqb}
 use Rattle.j39_transport.specs.Sending.{Heard, Tick}
 use Rattle.j39_transport.specs.Sending as sending
 use Rattle.j39_transport.proofs.SenderLemmas.{ticked, hears_signal}

@@ -1,5 +1,5 @@
 -- A frame of who wasn't asked, or to another address, says nothing to a request, and ends none.
-use Rattle.j39_node.proofs.Common.{if◌then◌else◌, ◌&&◌, ◌-◌, ◌||◌, ◌∙◌, ◌∷◌, ◌≡◌, ◌≢◌, address_after, Answered, ap, arith, ask_end, AskEnding, At, Bool, Call, claim_of, comes, destination_of, end_at, ended, eqb-true, false, first, FrameRecord, has_place, Hear, Heard, holder, holds, is_acknowledgment, is_answer, is_lost, is_none, is_of, is_smaller, is_some, known, leaves, left, List, Lost, made, made_of, made_whole, MessageRecord, nat_eq, nat_lt, next_ask_ended, None, older, open_ask, Option, option_map, option_or, pgn_of, Question, reached, reaches, Reception, reception, ReceptionRecord, recv_step, refl, says_to, seeks, shown, silent_end, slice_get, Some, source_of, step, sym, Tick, time_heard, true, wait, Who, whole, whole_by, ℕ, and-false}
+use Rattle.j39_node.proofs.Common.{if◌then◌else◌, ◌&&◌, ◌||◌, ◌∙◌, ◌∷◌, ◌≡◌, ◌≢◌, Answered, ap, arith, At, Bool, Call, claim_of, comes, destination_of, eqb-true, false, FrameRecord, has_place, Hear, Heard, holder, holds, is_acknowledgment, is_answer, is_of, is_smaller, known, leaves, left, List, made, made_of, made_whole, MessageRecord, nat_eq, next_ask_ended, None, open_ask, Option, option_map, option_or, pgn_of, Question, reaches, Reception, reception, ReceptionRecord, recv_step, refl, says_to, seeks, shown, slice_get, Some, source_of, sym, Tick, time_heard, true, Who, whole, whole_by, ℕ, and-false}
 use Rattle.j39_node.specs.Asking.{is_reply, said_by}
 use Rattle.j39_node.proofs.ListenLemmas.{unequal}
 use Rattle.j39_node.proofs.PacketsAnswer.{made_by_packet, none_whole, packs_to_all}

@@ -1,5 +1,5 @@
 -- When a transfer rests.
-use Rattle.j39_node.proofs.Common.{[], if◌then◌else◌, ◌&&◌, ◌++◌, ◌+◌, ◌-◌, ◌<◌, ◌∙◌, ◌∷◌, ◌≡◌, ◌≤◌, ◌⊎◌, AllRest, and_from, ap, append-nil, arith, Bool, Call, eq-eqb, false, holds_back, inl, inr, is_resting, IsTrue, joined, List, moment, moved, nat_eq, nat_lt, None, NoneRests, open_transfer, Option, PairRests, passed_in, refl, rest, Resting, resting, rests_after, Running, Some, step, TakeTransferEnded, ToldSince, TransferEnding, true, Who, with_pair, ℕ, lt-ltb, cond_both, ne_eqb}
+use Rattle.j39_node.proofs.Common.{[], if◌then◌else◌, ◌++◌, ◌+◌, ◌-◌, ◌<◌, ◌∙◌, ◌∷◌, ◌≡◌, ◌≤◌, ◌⊎◌, and_from, ap, append-nil, arith, Bool, Call, false, holds_back, inl, inr, is_resting, IsTrue, joined, List, moment, moved, nat_lt, open_transfer, Option, passed_in, refl, rest, Resting, resting, rests_after, Running, Some, step, TakeTransferEnded, ToldSince, TransferEnding, true, Who, ℕ, lt-ltb}
 use Rattle.j39_node.specs.Moving.{begun}
 
 -- ---- it rests only after such an end, or where it did before its history
@@ -55,12 +55,6 @@ rested w [] l = inr (omega arith)
 rested w (call ∷ H) l = since_call w call H (rested w H) l
 
 -- ---- after such an end it rests
-
-pair_rests : (r : Resting) (group to : ℕ) → holds_back (with_pair r to group) group to ≡ true
-pair_rests r group to = grind arith
-
-still_rests : (r : Resting) (a b group to : ℕ) → holds_back r group to ≡ true → holds_back (with_pair r a b) group to ≡ true
-still_rests r a b group to e = grind (arith, e)
 
 joins : (left : ℕ) (r : Resting) (o : Option Running) (group to : ℕ) → 0 < left → holds_back r group to ≡ true → holds_back (joined left r o) group to ≡ true
 joins left r o group to e f = grind (arith, e, f)

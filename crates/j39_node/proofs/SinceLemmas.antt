@@ -1,5 +1,5 @@
 -- A claimed address was claimed by a frame that was taken.
-use Rattle.j39_node.proofs.Common.{[], if◌then◌else◌, ◌++◌, ◌+◌, ◌∙◌, ◌∷◌, ◌≡◌, ◌≤◌, Address, address_after, Again, ap, AreAnswered, arith, At, Bool, Call, claim_address, claim_from, claim_of, Claimed, claimed, ClaimedSince, content, false, FrameRecord, Hear, is_claim, is_held, is_lost, is_smaller, IsTrue, List, Lost, moment, NeverBack, NoneUnclaims, NotClaimed, older, passed_in, refl, Some, step, subst, sym, TakeFrame, true, unclaimed, Who, ℕ, not_both, leb-true, le-leb, claims_anew}
+use Rattle.j39_node.proofs.Common.{[], if◌then◌else◌, ◌++◌, ◌+◌, ◌∙◌, ◌∷◌, ◌≡◌, ◌≤◌, Address, address_after, Again, ap, AreAnswered, arith, At, Bool, Call, claim_address, claim_from, claim_of, Claimed, claimed, ClaimedSince, content, false, FrameRecord, Hear, is_claim, is_held, is_lost, is_smaller, IsTrue, List, Lost, moment, NeverBack, NoneUnclaims, NotClaimed, older, passed_in, refl, Some, step, subst, sym, TakeFrame, true, unclaimed, Who, ℕ, not_both, leb-true, claims_anew}
 use Rattle.j39_node.specs.Since.{unclaims}
 use Rattle.j39_node.proofs.SoundLemmas.{FrameCase, frame_case, same_age, address_cases}
 use Rattle.j39_node.proofs.SoundLemmas.FrameCase.{claims}

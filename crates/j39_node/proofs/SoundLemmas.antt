@@ -1,5 +1,5 @@
 -- What every answered history says of what was accepted, sent and told.
-use Rattle.j39_node.proofs.Common.{Acknowledge, Address, Again, Answer, AreAnswered, Ask, Asked, At, Bool, Call, Claimed, Done, Draft, Ending, FrameRecord, Hear, IsAnswered, IsFront, IsTrue, List, Lost, Message, MessageRecord, Move, None, Ok, Option, Question, Ready, Renew, Reply, Send, Single, Some, TakeAskEnded, TakeEnded, TakeFrame, TakeReceived, TakeRequest, Turn, Who, Withdraw, Withdrawn, [], accepted, acknowledged, acknowledgment, acknowledgment_group, address_after, address_claimed_group, and-false, and-true, and_parts, answer_to_ask, ap, append_assoc, arith, asked, blank, bytes_eq-Decides, can_ask, can_send, claim_address, claim_due, claim_from, claim_goes, claim_of, claimed, clock_at, content, control_of, destination_of, drop, due, end_of, eq-eqb, eqb-true, false, frame_of, fresh, gives_way, got, handed, has_packets, holds, if◌then◌else◌, inl, inr, is_acknowledgment, is_apart, is_blank, is_claim, is_held, is_left, is_lost, is_move, is_own_group, is_packet, is_refusal_due, is_same, is_sendable, is_served, is_session, is_smaller, is_some, is_that, is_there, is_transfer, is_turn, kept, latest, leb-true, left, length, length-append, length-set, lost, ltb-false, ltb-true, map, map-set, marks, max, may_go, message_from, message_of, moment, nat_eq, nat_le, nat_lt, next_acknowledgment, next_ended, next_frame, next_other, next_packet, next_renewed, next_transfer, next_turn, next_withdrawn, not, not-true, older, open_ask, open_broadcast, open_transfer, option_map, or_parts, other, packet_by, packets, packets_of, past, pause, pgn_of, question, reached, ready, reception, refl, request_for, request_group, requests, sent, slice_get, slice_get-map, slice_get_past, slice_get_within, slice_set, source_of, stamped, step, subst, suc, sym, take, take-append-le, take-set-le, told, transport_control_group, transport_data_group, true, turn_frame, turn_of, turns, unblanked, unclaimed, with_refusal, with_request, yields, zero, ℕ, ◌&&◌, ◌++◌, ◌-◌, ◌<◌, ◌==◌, ◌||◌, ◌∙◌, ◌∷◌, ◌≡◌, ◌≤◌, ◌⊎◌, cases_Bool, or_from, map-append, none-some, some_pair_parts, length-map, false_from_ne_true, not_both, ending_of, ◌↔◌, cond_both, ne_eqb, cond_some, claims_anew, All, All-nil, All-push, All-set}
+use Rattle.j39_node.proofs.Common.{Acknowledge, Address, Again, Answer, AreAnswered, Ask, Asked, At, Bool, Call, Done, Draft, Ending, FrameRecord, Hear, IsAnswered, IsFront, IsTrue, List, Lost, Message, MessageRecord, Move, None, Ok, Option, Question, Ready, Renew, Reply, Send, Single, Some, TakeAskEnded, TakeEnded, TakeFrame, TakeReceived, TakeRequest, Turn, Who, Withdraw, Withdrawn, [], accepted, acknowledged, acknowledgment, acknowledgment_group, address_after, address_claimed_group, and-false, and-true, and_parts, answer_to_ask, ap, append_assoc, arith, asked, blank, bytes_eq-Decides, can_ask, can_send, claim_address, claim_due, claim_from, claim_goes, claim_of, claimed, clock_at, content, control_of, destination_of, drop, due, end_of, eq-eqb, eqb-true, false, frame_of, fresh, gives_way, got, handed, has_packets, holds, if◌then◌else◌, inl, inr, is_acknowledgment, is_apart, is_blank, is_claim, is_held, is_left, is_lost, is_move, is_own_group, is_packet, is_refusal_due, is_same, is_sendable, is_served, is_session, is_smaller, is_some, is_that, is_there, is_transfer, is_turn, kept, latest, leb-true, left, length, length-append, length-set, lost, ltb-false, ltb-true, map, map-set, marks, max, may_go, message_from, message_of, moment, nat_eq, nat_le, nat_lt, next_acknowledgment, next_ended, next_frame, next_other, next_packet, next_renewed, next_transfer, next_turn, next_withdrawn, not, not-true, older, open_ask, open_broadcast, open_transfer, option_map, or_parts, other, packet_by, packets, packets_of, past, pause, pgn_of, question, reached, ready, reception, refl, request_for, request_group, requests, sent, slice_get, slice_get-map, slice_get_past, slice_get_within, slice_set, source_of, stamped, step, subst, suc, sym, take, take-append-le, take-set-le, told, transport_control_group, transport_data_group, true, turn_frame, turn_of, turns, unblanked, unclaimed, with_refusal, with_request, yields, zero, ℕ, ◌&&◌, ◌++◌, ◌-◌, ◌<◌, ◌||◌, ◌∙◌, ◌∷◌, ◌≡◌, ◌≤◌, ◌⊎◌, cases_Bool, or_from, map-append, none-some, some_pair_parts, length-map, false_from_ne_true, not_both, ending_of, ◌↔◌, cond_both, cond_some, claims_anew, All, All-nil, All-push, All-set}
 use Rattle.j39_node.specs.declared.turn.Turn.TheVariants.{Packet}
 use Rattle.j39_node.proofs.WithdrawLemmas.{get_front, stops_append, past_more, next_false, past_stops, past_within, set_same, unblanked_more, unblanked_past, unpassed}
 use Rattle.j39_node.proofs.ReceptionLemmas.{IsReply, replied_get, tidy}
@@ -15,9 +15,6 @@ lost_older s a = grind arith
 
 pub held_older : (s : ℕ) (a : Address) → is_held a ≡ true → is_held (older s a) ≡ true
 held_older s a e = grind (arith, e)
-
-pub lost_claimed : (a : Address) → is_lost (claimed a) ≡ is_lost a
-lost_claimed a = grind arith
 
 pub lost_unclaimed : (a : Address) → is_lost (unclaimed a) ≡ is_lost a
 lost_unclaimed a = grind arith
@@ -327,10 +324,6 @@ of_session : (f : FrameRecord) (g : ℕ) → pgn_of f.id ≡ g → (g ≡ transp
 of_session f g e k =
     subst OfSession (sym e) (elim k [ inl i ↦ subst OfSession (sym i) (refl, refl, refl) | inr i ↦ subst OfSession (sym i) (refl, refl, refl) ])
 
-packet_frame : (f : FrameRecord) (now : ℕ) (m : MessageRecord) (i : ℕ) → stamped f ≡ (now, frame_of m i)
-    → (is_claim f ≡ false) × (is_acknowledgment f ≡ false) × (is_packet f ≡ true)
-packet_frame f now m i e = (grind (arith, e), grind (arith, e), grind (arith, e))
-
 -- a reply is not-true frame of a broadcast
 pub reply_taken : (own : ℕ) (f : FrameRecord) (now : ℕ) (m : Message) → stamped f ≡ (now, m) → IsReply own m
     → (is_claim f ≡ false) × (is_acknowledgment f ≡ false) × (is_session f ≡ true) × (is_packet f ≡ false)
@@ -559,9 +552,6 @@ own_taken w f now x e g = (grind (arith, e), grind (arith, e), grind (arith, e))
 
 pub claim_single : (f : FrameRecord) → is_claim f ≡ true → is_session f ≡ false
 claim_single f e = ap (λ (g : ℕ). nat_eq g transport_control_group || nat_eq g transport_data_group) (eqb-true (pgn_of f.id) address_claimed_group e)
-
-pub acknowledgment_single : (f : FrameRecord) → is_acknowledgment f ≡ true → is_session f ≡ false
-acknowledgment_single f e = ap (λ (g : ℕ). nat_eq g transport_control_group || nat_eq g transport_data_group) (eqb-true (pgn_of f.id) acknowledgment_group e)
 
 -- one of a session is neither
 pub plain_session : (f : FrameRecord) → is_session f ≡ true → (is_claim f || is_acknowledgment f) ≡ false

@@ -1,13 +1,12 @@
 -- A driver that takes one frame at least in each g: how long a frame of a broadcast and a message wait, whoever asks.
-use Rattle.j39_node.proofs.Common.{AreAnswered, At, Bool, Broadcast, Call, Controller, Ending, FrameRecord, Is, IsAnswered, IsPrompt, IsSteady, IsTrue, List, Message, MessageRecord, Move, None, NoneTold, Ok, Option, Ready, Reply, Single, Some, StaysFirst, TakeFrame, Who, [], accepted, add-mul, address_after, and_from, and_parts, ap, arith, broadcast_from, claims_anew, eq-eqb, false, gives_way, has_packets, holds, if◌then◌else◌, inl, inr, is_acknowledgment, is_claim, is_held, is_left, is_lost, is_overdue, is_packet, is_reply, is_there, is_turn, kept, later, leb-false, leb-true, length, lt-ltb, marks, moment, nat_eq, nat_le, next_broadcast_ended, next_ended, next_other, not, not-true, not_both, open_broadcast, or_parts, other, others, packets, packets_of, packets_taken, passed_in, pause, quiet, reached, ready, reception, refl, since_take, slice_get, step, subst, suc, suc-mul, sym, takes_reply, tells_broadcast, told, true, turn_of, turns, waited_in, yields, zero, ℕ, ◌&&◌, ◌*◌, ◌++◌, ◌+◌, ◌-◌, ◌<◌, ◌||◌, ◌∙◌, ◌∷◌, ◌≡◌, ◌≤◌, ◌⊎◌, mul-add, cases_lt}
-use Rattle.j39_node.specs.declared.turn.Turn.TheVariants.{Packet}
+use Rattle.j39_node.proofs.Common.{AreAnswered, At, Bool, Broadcast, Call, Controller, Ending, FrameRecord, Is, IsAnswered, IsPrompt, IsSteady, IsTrue, List, Message, MessageRecord, Move, None, NoneTold, Ok, Option, Reply, Single, Some, StaysFirst, TakeFrame, Who, [], accepted, add-mul, address_after, and_from, and_parts, ap, arith, broadcast_from, claims_anew, eq-eqb, false, gives_way, has_packets, holds, if◌then◌else◌, inl, inr, is_acknowledgment, is_claim, is_held, is_left, is_lost, is_overdue, is_packet, is_reply, is_there, kept, later, leb-false, length, lt-ltb, marks, moment, nat_eq, nat_le, next_broadcast_ended, next_ended, next_other, not, not-true, not_both, open_broadcast, or_parts, other, others, packets, packets_of, packets_taken, passed_in, pause, quiet, reached, ready, reception, refl, since_take, slice_get, step, subst, suc, suc-mul, sym, takes_reply, tells_broadcast, told, true, turns, waited_in, yields, zero, ℕ, ◌*◌, ◌++◌, ◌+◌, ◌-◌, ◌<◌, ◌||◌, ◌∙◌, ◌∷◌, ◌≡◌, ◌≤◌, ◌⊎◌, mul-add, cases_lt}
 use Rattle.j39_node.proofs.EndSteps.{times_more}
 use Rattle.j39_node.proofs.WithdrawLemmas.{past_more}
 use Rattle.j39_node.proofs.LaneLaws.{overdue_goes_by, held_then, packed_by}
 use Rattle.j39_node.proofs.MessageLaws.{accepts_more, told_next, more_sent}
 use Rattle.j39_node.proofs.PromptLaws.{answered_from, begins_timely, due_by, ended_or_lost, ends_so, Fate, IsOver, later_on, not_yet, timely_then, Pace, pause_most, Runs, Stands, stands, takes, Timely}
 use Rattle.j39_node.proofs.PromptLaws.Fate.{over, gone, runs}
-use Rattle.j39_node.proofs.SoundLemmas.{FrameCase, IsTurn, frame_case, frame_there, held_older, none_next, none_other, packets_is, some_at, turned, reached_is, none_at, past_end}
+use Rattle.j39_node.proofs.SoundLemmas.{FrameCase, IsTurn, frame_case, held_older, none_next, none_other, packets_is, some_at, turned, reached_is, none_at, past_end}
 use Rattle.j39_node.proofs.SoundLemmas.FrameCase.{claims, acknowledges, replies, sends, packs, transfers}
 use Rattle.j39_node.proofs.AnswerCases.{broadcast_accepts}
 use Rattle.j39_node.proofs.KindLemmas.{replies_it, packs_it, Kind, kind_by, kind_is, claims_it, acknowledges_it, steers_it, of_session_it}

@@ -1,11 +1,11 @@
 -- A frame of a stranger changes nothing of what is sent to others, received from others, or told to have ended.
-use Rattle.j39_node.proofs.Common.{[], if◌then◌else◌, ◌&&◌, ◌*◌, ◌++◌, ◌-◌, ◌==◌, ◌||◌, ◌∙◌, ◌∷◌, ◌≡◌, ◌≢◌, ◌⊎◌, Abort, accepted, acknowledged, Acknowledgment, Address, address_after, and_parts, ap, AreAnswered, arith, Asked, asked_group, asked_with, At, Bool, BroadcastAnnounce, Call, calls_for_claim, Claim, claim_address, claim_from, claim_of, ClearToSend, clock_at, cond_both, control_of, Controller, delayed, destination_of, Directed, drop, due, eq-eqb, eqb-true, false, FrameRecord, fresh, goes_to, granted_after, granted_by, grants, handed, has_packets, has_place, Hear, heard_by, hears_if, held_then, holder, holds, inl, inr, Is, is_another, is_apart, is_claim, is_held, is_larger, is_lost, is_refusal_due, is_replaced, is_smaller, is_some, is_spent, is_there, known, leaves, left, length, List, listens, listens_to, Lost, Message, nat_eq, nat_le, nat_lt, next_frame, next_packet, None, not, of_other, older, open_transfer, Option, option_map, owes_claim, Packet, patience, pause, pgn_of, ps_of, reached, Reaction, Ready, Received, Reception, reception, ReceptionRecord, recv_step, refl, replied, reply_from, requests, RequestToSend, Running, said_between, said_to, send_step, shown, Signal, slice_get, Some, source_of, spent_after, step, subst, sym, TakeFrame, takes_abort, takes_data, takes_request, takes_signal, time_heard, ToSend, transfer_by, transport_control_group, transport_data_group, true, turn_frame, turn_of, turns, Who, whole_by, with_refusal, without, yields, ℕ, and-false, or-false, ne_eqb}
+use Rattle.j39_node.proofs.Common.{[], if◌then◌else◌, ◌&&◌, ◌++◌, ◌-◌, ◌||◌, ◌∙◌, ◌∷◌, ◌≡◌, ◌≢◌, ◌⊎◌, accepted, acknowledged, Address, address_after, ap, AreAnswered, arith, asked_group, At, Bool, Call, calls_for_claim, Claim, claim_address, claim_from, claim_of, clock_at, cond_both, control_of, Controller, delayed, destination_of, Directed, due, eq-eqb, false, FrameRecord, goes_to, grants, has_packets, has_place, Hear, heard_by, hears_if, held_then, holder, holds, inr, Is, is_another, is_apart, is_claim, is_held, is_lost, is_replaced, is_smaller, is_spent, is_there, known, leaves, left, length, List, listens, listens_to, Lost, Message, nat_eq, nat_le, nat_lt, next_frame, next_packet, None, not, of_other, older, open_transfer, Option, option_map, owes_claim, patience, pause, reached, Ready, Received, Reception, reception, ReceptionRecord, recv_step, refl, replied, reply_from, Running, said_between, said_to, send_step, shown, Signal, slice_get, Some, source_of, step, subst, sym, TakeFrame, takes_abort, takes_data, takes_request, takes_signal, time_heard, ToSend, transfer_by, true, turn_frame, turn_of, turns, Who, whole_by, without, yields, ℕ, and-false, or-false, ne_eqb}
 use Rattle.j39_transport.specs.Signals.{said_by}
 use Rattle.j39_node.specs.Reception.{says}
 use Rattle.j39_transport.specs.Frames as frames
 use Rattle.j39_node.proofs.ReceptionLemmas.{unclaimed_known}
 use Rattle.j39_node.proofs.PortLemmas.{Ported, ported}
-use Rattle.j39_node.proofs.ReceptionLaws.{goes_there, none_delivered, not_left_by, says_it, to_others}
+use Rattle.j39_node.proofs.ReceptionLaws.{none_delivered, not_left_by, says_it, to_others}
 
 -- ---- a transfer
 
@@ -67,9 +67,6 @@ open_stays w H when f right e n = go (open_transfer w H) refl
     go (Some t) i =
         transfer_left w H when f t right i (inr n)
         (ap (is_replaced (holder w H t.sender.destination)) (unclaimed w H when f t.sender.destination e) ∙ same_held (holder w H t.sender.destination))
-
-none_asked : (w : Who) (held : Bool) (f : FrameRecord) (d : Option ℕ) → asked_with w held f d None ≡ None
-none_asked w held f d = grind arith
 
 pub frame_stays : (w : Who) (H : List Call) (c : Controller) (when : ℕ) (f : FrameRecord) (now : ℕ) → Is w H c → claim_of f ≡ None → asked_group f ≡ None
     → destination_of f.id ≢ Some w.address → source_of f.id ≢ w.address → next_frame w (At when (Hear f) ∷ H) now ≡ next_frame w (At when (TakeFrame None) ∷ H) now

@@ -1,5 +1,5 @@
 -- The laws of transfers.
-use Rattle.j39_node.proofs.Common.{Abort, Aborts, Acknowledges, Acknowledgment, AreAnswered, At, Bool, Call, Controller, FrameRecord, Gone, Happened, Hear, Idle, Is, IsMove, IsTrue, List, Message, MessageRecord, None, Ok, Option, Refused, Replaces, Result, Running, SendState, SenderRecord, Signal, Some, TakeFrame, TakeTransferEnded, Transfer, TransferEnding, Who, [], abort_move, aborted, acked, address_after, all_transfers, ap, arith, both, can_transfer, clears, clears_by, clock_at, cond_both, ending_by, eq-eqb, eqb-true, false, gives_up, granted_after, granted_by, hears, hears_if, holder, holds, if◌then◌else◌, inl, inr, is_clear, is_engaged, is_idle, is_lost, is_move, is_replaced, is_resting, is_running, is_spent, is_waiting, later, left, length, listens, long_by, lost, ltb-true, max, message_of, moves, nat_eq, nat_lt, new_sender, next_packet, next_transfer, not, not_both, open_transfer, option_map, or_parts, other, packets_of, refl, rested, said_between, says, send_step, sends, sends_if, signal_by, slice_get, spent_after, subst, sym, takes_clear, ticks_in, told, told_transfers, transfer_end, transport_control_group, transport_data_group, true, waiting, ℕ, ◌&&◌, ◌++◌, ◌+◌, ◌<◌, ◌||◌, ◌∙◌, ◌∷◌, ◌≡◌, ◌≤◌, ◌⊎◌, same_Some, none-some, ltb-false, or_cases}
+use Rattle.j39_node.proofs.Common.{Abort, Aborts, Acknowledges, Acknowledgment, AreAnswered, At, Bool, Call, Controller, FrameRecord, Gone, Happened, Hear, Idle, Is, IsMove, IsTrue, List, Message, MessageRecord, None, Ok, Option, Refused, Replaces, Result, Running, SendState, SenderRecord, Signal, Some, TakeFrame, TakeTransferEnded, Transfer, TransferEnding, Who, [], abort_move, aborted, acked, address_after, all_transfers, ap, arith, both, can_transfer, clears, clears_by, clock_at, cond_both, ending_by, eqb-true, false, gives_up, granted_after, granted_by, hears, hears_if, holder, holds, if◌then◌else◌, inl, inr, is_clear, is_engaged, is_idle, is_lost, is_move, is_replaced, is_resting, is_running, is_spent, is_waiting, later, left, length, listens, long_by, lost, ltb-true, message_of, moves, nat_eq, new_sender, next_packet, next_transfer, not, not_both, open_transfer, option_map, or_parts, other, packets_of, refl, rested, said_between, says, send_step, sends, sends_if, signal_by, slice_get, spent_after, subst, sym, takes_clear, ticks_in, told, told_transfers, transfer_end, true, waiting, ℕ, ◌&&◌, ◌++◌, ◌+◌, ◌<◌, ◌||◌, ◌∙◌, ◌∷◌, ◌≡◌, ◌≤◌, ◌⊎◌, same_Some, none-some, ltb-false, or_cases}
 use Rattle.j39_transport.specs.Sending.{Heard, Tick}
 use Rattle.j39_node.specs.declared.kinds.TransferEnding.TheVariants.{Done, Withdrawn, Failed}
 use Rattle.j39_node.specs.Transfers.{is_over, said_to}

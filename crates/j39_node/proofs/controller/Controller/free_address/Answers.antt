@@ -1,4 +1,4 @@
-use Rattle.j39_node.proofs.Common.{◌∙◌, ◌≡◌, arith, Bool, claims_of, false, Name, name_raw, None, not, Option, option_map, refl, Some, sym, told_claims, true}
+use Rattle.j39_node.proofs.Common.{◌∙◌, ◌≡◌, arith, Bool, claims_of, Name, name_raw, None, not, Option, option_map, sym, told_claims, true}
 use Rattle.std.specs.Option.{is_some}
 use Rattle.j39_node.proofs.MovingLemmas.{least_free, none_free}
 use Rattle.j39_node.proofs.controller.Controller.free_address.Goals as goal
