@@ -240,8 +240,7 @@ exact who (call ∷ H) = exact who H
 
 pub some_unheard : (who : Who) (H : List Call) → IsTrue (unheard_news who H) → 0 < unheard who H
 some_unheard who [] e = absurd (cc)
-some_unheard who (TakeNews (Some MessagesMissed) ∷ H) e = absurd (cc)
-some_unheard who (call ∷ H) e = let h = some_unheard who H in grind (arith, h, e, more_is)
+some_unheard who (call ∷ H) e = let h = some_unheard who H in grind (arith, h, e)
 
 pub is_told : (who : Who) (H : List Call) (call : Call) → unheard who (call ∷ H) ≢ unheard who H → IsTrue (unheard_news who (call ∷ H))
 is_told who H call e = grind (arith, e)

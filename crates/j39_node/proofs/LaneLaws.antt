@@ -90,9 +90,7 @@ pause_or b p s q e = grind (arith, e)
 -- what is left of the pause, and what passed since a frame of packets
 pauses : (later E : List Call) → 150000 ≤ pause E → 150000 ≤ pause (later ++ E) + passed_in later E
 pauses [] E l = omega (arith, l)
-pauses (At now (TakeFrame (Some f)) ∷ later) E l = pause_or (is_packet f) (pause (later ++ E)) (step (later ++ E) now) (passed_in later E) (pauses later E l)
-pauses (At now (Broadcast group bytes (Ok k)) ∷ later) E l = let h = pauses later E l in omega (arith, h)
-pauses (call ∷ later) E l = let h = pauses later E l in omega (arith, h)
+pauses (call ∷ later) E e = let h = pauses later E in grind (arith, h, e)
 
 pub spaced : (w : Who) (H later : List Call) (c : Controller) (now at : ℕ) (f g : FrameRecord)
     → Is w (At now (TakeFrame (Some g)) ∷ later ++ At at (TakeFrame (Some f)) ∷ H) c → IsTrue (is_packet f) → IsTrue (is_packet g)

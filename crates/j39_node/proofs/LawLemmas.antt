@@ -272,11 +272,7 @@ takes_turns w H later between c last second first f g i m is none none_between p
 -- behind a reply the next yields, as long as no other frame but claims and acknowledgments is taken
 still_yields : (w : Who) (later H : List Call) → NoneTold takes_other later → yields w H ≡ true → yields w (later ++ H) ≡ true
 still_yields w [] H n e = e
-still_yields w (At now (TakeFrame (Some f)) ∷ later) H n e = go (is_claim f || is_acknowledgment f) n.0 (still_yields w later H n.1 e)
-  where
-    go : (b : Bool) → not b ≡ false → yields w (later ++ H) ≡ true → (if b then yields w (later ++ H) else is_reply (reception w (later ++ H)).replies f) ≡ true
-    go b e g = grind (arith, e, g)
-still_yields w (call ∷ later) H n e = still_yields w later H n.1 e
+still_yields w (call ∷ later) H e f = let h = still_yields w later H in grind (arith, h, e, f)
 
 yields_then : (w : Who) (H : List Call) (now : ℕ) (f : FrameRecord) → is_reply (reception w H).replies f ≡ true → yields w (At now (TakeFrame (Some f)) ∷ H) ≡ true
 yields_then w H now f e = grind (arith, e)
@@ -724,12 +720,7 @@ double_claimed w (call ∷ H) a e = double_later w a H call (double_claimed w H 
 
 pub lost_is_lost : (w : Who) (H : List Call) → IsTrue (lost_news w H) → IsTrue (is_lost (address_after w H))
 lost_is_lost w [] e = absurd (cc)
-lost_is_lost w (At when (Hear f) ∷ H) e = elim (or_cases (lost_news w H) (is_smaller w (claim_of f) && not (is_lost (address_after w H))) e) [
-  | inl z ↦ stays_lost w H (At when (Hear f)) (lost_is_lost w H z)
-  | inr z ↦ ap (λ (b : Bool). is_lost (if b then Lost else older (step H when) (address_after w H))) (and_parts (is_smaller w (claim_of f)) _ z).0
-]
-lost_is_lost w (TakeNews (Some AddressLost) ∷ H) e = absurd (cc)
-lost_is_lost w (call ∷ H) e = stays_lost w H call (lost_is_lost w H e)
+lost_is_lost w (call ∷ H) e = let h = lost_is_lost w H in grind (arith, h, e)
 
 pub some_missed : (w : Who) (H : List Call) → IsTrue (missed_news w H) → 0 < missed w H
 some_missed w [] e = absurd (cc)

@@ -213,9 +213,7 @@ module _ (w : Who) (B : List Call) (since : List Call → List Call → ℕ) (sl
 -- never is more left than this
 pub pause_most : (H : List Call) → pause H ≤ 150000
 pause_most [] = omega arith
-pause_most (At now (TakeFrame (Some f)) ∷ H) = let l = pause_most H in cond_both (is_packet f) _ _ (λ n. n ≤ 150000) (λ z. omega arith) (λ z. omega (arith, l))
-pause_most (At now (Broadcast group bytes (Ok k)) ∷ H) = let l = pause_most H in omega (arith, l)
-pause_most (call ∷ H) = let l = pause_most H in omega (arith, l)
+pause_most (call ∷ H) = let h = pause_most H in grind (arith, h)
 
 -- ---- to a driver that takes all
 

@@ -450,8 +450,7 @@ reply_goes w later earlier c g m is held first steady there =
 
 since_less : (later B : List Call) → since_take later B ≤ waited_in later B
 since_less [] B = omega arith
-since_less (At now (TakeFrame answer) ∷ later) B = omega arith
-since_less (call ∷ later) B = let h = since_less later B in omega (arith, h)
+since_less (call ∷ later) B = let h = since_less later B in grind (arith, h)
 
 pub prompt_steady : (g : ℕ) (later earlier : List Call) → IsPrompt g later earlier → IsSteady g later earlier
 prompt_steady g [] B p = tt

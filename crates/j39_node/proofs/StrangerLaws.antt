@@ -156,11 +156,7 @@ without_one a (x ∷ xs) m e = ap (λ ys. if goes_to a x then ys else x ∷ ys) 
 
 without_twice : (a : ℕ) (xs : List Message) → without a (without a xs) ≡ without a xs
 without_twice a [] = refl
-without_twice a (x ∷ xs) = go (goes_to a x) refl (without_twice a xs)
-  where
-    go : (b : Bool) → goes_to a x ≡ b → without a (without a xs) ≡ without a xs
-        → without a (if b then without a xs else x ∷ without a xs) ≡ (if b then without a xs else x ∷ without a xs)
-    go b e f = grind (arith, e, f)
+without_twice a (x ∷ xs) = let h = without_twice a xs in grind (arith, h)
 
 to_others_stay : (own a : ℕ) (s : Option ToSend) (xs : List Message) → without a (replied own a s xs) ≡ without a xs
 to_others_stay own a None xs = refl

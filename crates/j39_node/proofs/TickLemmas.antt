@@ -20,9 +20,7 @@ before_each now one other e = (grind (arith, e), grind (arith, e))
 
 time_fits : (H : List Call) → time_heard H ≤ 9999999999999999
 time_fits [] = omega arith
-time_fits (At now (Hear f) ∷ H) = omega arith
-time_fits (At now Tick ∷ H) = omega arith
-time_fits (call ∷ H) = time_fits H
+time_fits (call ∷ H) = let h = time_fits H in grind (arith, h)
 
 -- what comes in a session goes on to come, or ends
 session_left : (r : ReceiverRecord) (now : ℕ) → (in_session (recv_step r Ticks now true).after.session ≡ in_session r.session) ⊎ (in_session (recv_step r Ticks now true).after.session ≡ None)
@@ -48,13 +46,7 @@ late_later t s x l e = lt_false _ _ (let a = ltb-false _ _ e in omega (arith, a,
 
 none_more : (t s : ℕ) (q : Question) (p : OpenBroadcast → Bool) (xs : List OpenBroadcast) → t ≤ s → comes_in t q xs ≡ false → comes_in s q (filter p xs) ≡ false
 none_more t s q p [] l e = refl
-none_more t s q p (x ∷ xs) l e = let a = or_parts (comes_by t q x) (comes_in t q xs) e in go (p x) (one (is_late s x) refl a.0) (none_more t s q p xs l a.1)
-  where
-    one : (b : Bool) → is_late s x ≡ b → comes_by t q x ≡ false → comes_by s q x ≡ false
-    one b e f = grind (arith, e, f)
-
-    go : (b : Bool) → comes_by s q x ≡ false → comes_in s q (filter p xs) ≡ false → comes_in s q (if b then x ∷ filter p xs else filter p xs) ≡ false
-    go b e f = grind (arith, e, f)
+none_more t s q p (x ∷ xs) e f = let h = none_more t s q p xs in grind (arith, h, e, f)
 
 same_coming : (t s : ℕ) (q : Question) (xs : List OpenBroadcast) → t ≤ s → All (λ x. is_late s x ≡ false) xs → comes_in s q xs ≡ comes_in t q xs
 same_coming t s q [] l h = refl

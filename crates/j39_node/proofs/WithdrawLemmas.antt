@@ -94,10 +94,7 @@ none_past xs i l e =
 
 unblanked_none : (L : List (ℕ × Message)) → unblanked (take (past (map is_blank L) 0) L) ≡ []
 unblanked_none [] = refl
-unblanked_none (x ∷ xs) = go (is_blank x) refl (unblanked_none xs)
-  where
-    go : (b : Bool) → is_blank x ≡ b → unblanked (take (past (map is_blank xs) 0) xs) ≡ [] → unblanked (take (if b then suc (past (map is_blank xs) 0) else 0) (x ∷ xs)) ≡ []
-    go b e f = grind (arith, e, f)
+unblanked_none (x ∷ L) = let h = unblanked_none L in grind (arith, h)
 
 pub unblanked_past : (L : List (ℕ × Message)) (n : ℕ) → unblanked (take (past (map is_blank L) n) L) ≡ unblanked (take n L)
 unblanked_past L zero = unblanked_none L
