@@ -374,11 +374,7 @@ withdrawn_means w H c k is = let t = told_is w H c k Withdrawn is in go t.questi
 stays : (w : Who) (later H : List Call) (q : Question) (e : AskEnding) → NoneEnds later → open_ask H ≡ Some q → ended w H ≡ Some e
     → (open_ask (later ++ H) ≡ Some q) × (ended w (later ++ H) ≡ Some e)
 stays w [] H q e n o z = (o, z)
-stays w (call ∷ later) H q e n o z = go call n.0 (stays w later H q e n.1 o z)
-  where
-    go : (call : Call) → ends call ≡ false → (open_ask (later ++ H) ≡ Some q) × (ended w (later ++ H) ≡ Some e)
-        → (open_ask (call ∷ later ++ H) ≡ Some q) × (ended w (call ∷ later ++ H) ≡ Some e)
-    go call f g = (grind (arith, f, g), grind (arith, f, g))
+stays w (call ∷ later) H q e n o z = let h = stays w later H q e n.1 o z in (grind (arith, h, o, z), grind (arith, h, o, z))
 
 not_silent : (left : ℕ) (coming : Bool) → (0 < left) ⊎ IsTrue coming → silent_end true left coming false ≡ None
 not_silent left coming e = grind (arith, e)

@@ -159,12 +159,7 @@ spared w H (At now Tick) s size n pgn start k last joined h l q =
 
     in_time : (x : ReceptionRecord) → Some h.session ≡ Some x → time_heard (At now Tick ∷ H) ≤ limit_in (reception w H).since x
     in_time x e = grind (arith, e)
-spared w H (At now (TakeFrame (Some f))) s size n pgn start k last joined h l q =
-    taken_any (λ (x : Reception). x.session ≡ Some h.session) (is_claim f) (is_reply (reception w H).replies f) _ (reception w H)
-    (λ i. ap (λ (b : Bool). (left b (reception w H)).session) stays ∙ h.is) (λ i. h.is) (λ i. h.is)
-  where
-    stays : leaves (holder w H) (holder w (At now (TakeFrame (Some f)) ∷ H)) (reception w H).session ≡ false
-    stays = grind arith
+spared w H (At now (TakeFrame (Some f))) s size n pgn start k last joined h l q = grind (arith, l)
 spared w H (ReleaseTransfer answer) s size n pgn start k last joined h l q = released_all (λ (x : Reception). x.session ≡ Some h.session) answer (reception w H) h.is
 spared w H call s size n pgn start k last joined h l q = h.is
 

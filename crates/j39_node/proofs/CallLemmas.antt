@@ -737,8 +737,7 @@ peeks_due w H c now r x e f g i j = grind (arith, f, g, i, j)
 
 pub first_acknowledged : (w : Who) (H : List Call) (c : Controller) (now : ℕ) (gives : Bool) (o : Option Due) → Is w H c → gives ≡ gives_way w H now
     → o ≡ (if gives then None else slice_get c.desk.due.items 0) → next_acknowledgment w H now ≡ option_map (refusal_by w) o
-first_acknowledged w H c now true o h g e =
-    ap (λ (b : Bool). if b then None else slice_get (due w H) (length (acknowledged H))) (sym g) ∙ sym (ap (option_map (refusal_by w)) e)
+first_acknowledged w H c now true o h g e = grind (arith, g, e)
 first_acknowledged w H c now false o h g e =
     ap (λ (b : Bool). if b then None else slice_get (due w H) (length (acknowledged H))) (sym g)
     ∙ (sym (rest_at (refusal_by w) c.desk.due.items (due w H) (length (acknowledged H)) (length (acknowledged H)) 0 (ap (λ (v : View). v.acknowledgments) h.shown) (omega arith) (omega arith))

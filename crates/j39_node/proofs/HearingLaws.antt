@@ -41,8 +41,7 @@ each_sender who (At when (Hear f) ∷ H) =
     with_each (made_whole who H when f) (sender_in (found who H when f (source_of f.id))) (broadcast_senders who H) (waiting who H) (each_sender who H)
     ∙ ap length (sym (waits_made who.boxes who (holder who G (source_of f.id)) (time_heard G) f (found_in who H when f)))
 each_sender who (At now (TakeFrame (Some f)) ∷ H) = let h = each_sender who H in grind (arith, h)
-each_sender who (ReleaseBroadcast true ∷ H) =
-    let a = length-drop 1 (broadcast_senders who H) in let b = length-drop 1 (waiting who H) in let e = each_sender who H in omega (arith, a, b, e)
+each_sender who (ReleaseBroadcast true ∷ H) = let h = each_sender who H in grind (arith, h)
 each_sender who (call ∷ H) = each_sender who H
 
 pub released : (who : Who) (H : List Call) (c : Controller) (answer : Bool) → Is who (ReleaseBroadcast answer ∷ H) c

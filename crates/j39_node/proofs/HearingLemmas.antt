@@ -51,9 +51,7 @@ apart_more (x ∷ xs) y h e = let a = of_append x.source xs (y ∷ []) in let n 
 -- each is the one of its source
 pub all_own : (xs : List OpenBroadcast) → AreApart xs → All (λ x. of x.source xs ≡ Some x) xs
 all_own [] h = All-nil _
-all_own (x ∷ xs) h =
-    All-cons (λ y. of y.source (x ∷ xs) ≡ Some y) x xs (ap (λ (b : Bool). if b then Some x else of x.source xs) (eq-eqb x.source x.source refl))
-    (All-weaker (λ y. of y.source xs ≡ Some y) (λ y. of y.source (x ∷ xs) ≡ Some y) (λ y e. (let n = h.0 in grind (arith, e, n))) xs (all_own xs h.1))
+all_own (x ∷ xs) h = let k = all_own xs h.1 in grind (arith, k)
 
 -- ---- a frame, and the one of its source
 

@@ -43,9 +43,7 @@ kind_by (packs m o h n g e) = of_session true false false
 kind_by (transfers m o h n g e) = of_session false false true
 
 pub kind_is : (w : Who) (H : List Call) (now : ℕ) (f : FrameRecord) → AreAnswered w H → (c : FrameCase w H now f) → kind w H f ≡ kind_by c
-kind_is w H now f right (claims o e) =
-    let i = claim_taken f now w _ e in
-    kind_single w H f true false i (ap (λ (g : ℕ). nat_eq g acknowledgment_group) (eqb-true (pgn_of f.id) address_claimed_group i)) (claim_single f i)
+kind_is w H now f right (claims o e) = grind arith
 kind_is w H now f right (acknowledges m o h g e way) =
     let r = due_taken w f now m e (all_at (IsDue w) (due w H) (length (acknowledged H)) m (sound w H right).desk.0 g) in kind_single w H f false true r.0 r.1 r.2
 kind_is w H now f right (replies m o h n g e) =
@@ -54,10 +52,7 @@ kind_is w H now f right (replies m o h n g e) =
     λ i. record { claim = r.0 i; acknowledgment = r.1 i; session = r.2 i; packet = r.3 i; reply = is_directed f r.2 r.3 i && reply_is w H f m g that i; move = reply_no_move w H f m g that i }
 kind_is w H now f right (sends x o h n g e) =
     let own = own_taken w f now x e (own_of w H x right g) in kind_single w H f false false own.0 own.1 own.2
-kind_is w H now f right (packs m o h n g e) =
-    let r = packet_taken f now m (open_broadcast w H) (length (packets H)) (pause H - step H now) e g in
-    let t = packet_session f r.2 in
-    λ i. record { claim = r.0 i; acknowledgment = r.1 i; session = t.0 i; packet = r.2 i; reply = no_reply (reception w H).replies f t.1 i; move = no_move w H f t.1 i }
+kind_is w H now f right (packs m o h n g e) = grind arith
 kind_is w H now f right (transfers m o h n g e) =
     let r = transfer_taken w H now f m right e g in
     let apart = apart_is w H now f m g (ap (λ (y : ℕ × Message). y.1) e) (turned w H now (Some Move) n.1).1 in

@@ -239,9 +239,7 @@ answered_once w H later when now f g e l =
 
     patient : (later : List Call) → 5000000 ≤ patience w (later ++ At when (Hear f) ∷ H) + passed_in later (At when (Hear f) ∷ H)
     patient [] = let b = begins in omega (arith, b)
-    patient (At now (Hear g) ∷ later) =
-        more (answers_another w (later ++ At when (Hear f) ∷ H) now g) (patience w (later ++ At when (Hear f) ∷ H)) (step (later ++ At when (Hear f) ∷ H) now)
-        (passed_in later (At when (Hear f) ∷ H)) (patient later)
+    patient (At now (Hear g) ∷ later) = let h = patient later in grind (arith, h)
     patient (call ∷ later) = let h = patient later in omega (arith, h)
 
     never : (b : Bool) (n : ℕ) → 0 < n → (b && nat_eq n 0) ≡ false

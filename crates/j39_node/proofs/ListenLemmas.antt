@@ -27,8 +27,7 @@ pub without_one : {T U : Type 0} (q : U → Bool) (v : T → U) (xs : List T) (k
     → filter (λ y. not (q y)) (map v (remove xs k)) ≡ filter (λ y. not (q y)) (map v xs)
 without_one q v [] k d l e = absurd (omega (arith, l))
 without_one q v (x ∷ xs) zero d l e = sym (ap (λ (b : Bool). if not b then v x ∷ filter (λ y. not (q y)) (map v xs) else filter (λ y. not (q y)) (map v xs)) e)
-without_one q v (x ∷ xs) (suc k) d l e =
-    ap (λ ys. if not (q (v x)) then v x ∷ ys else ys) (without_one q v xs k d (omega (arith, l)) e)
+without_one q v (x ∷ xs) (suc k) d l e = let h = without_one q v xs k d (omega (arith, l)) e in grind (arith, h, l, e)
 
 none_within : {T : Type 0} (p : T → Bool) (xs : List T) → None ≡ position p xs → length xs ≤ position_or_len p xs
 none_within p xs e = grind (arith, e)

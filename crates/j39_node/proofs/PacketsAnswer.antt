@@ -74,10 +74,7 @@ any_open p (x ∷ xs) h e = go (p x) refl e (any_open p xs h.1)
 
 open_any : (p : OpenBroadcast → Bool) (a : ℕ) (xs : List OpenBroadcast) (x : OpenBroadcast) → of a xs ≡ Some x → p x ≡ true → list_any p xs ≡ true
 open_any p a [] x e g = absurd (cc)
-open_any p a (y ∷ xs) x e g = go (nat_eq a y.source) e (open_any p a xs x)
-  where
-    go : (b : Bool) → (if b then Some y else of a xs) ≡ Some x → (of a xs ≡ Some x → p x ≡ true → list_any p xs ≡ true) → (p y || list_any p xs) ≡ true
-    go b e f = grind (arith, e, f)
+open_any p a (y ∷ xs) x e g = let h = open_any p a xs x in grind (arith, h, e, g)
 
 pub comes_means : (w : Who) (H : List Call) (time : ℕ) (q : Question) → open_ask H ≡ Some q → (IsTrue (comes w H time) ↔ (InSession w H q ⊎ InBroadcast w H time q))
 comes_means w H time q o = (
@@ -103,9 +100,7 @@ comes_means w H time q o = (
     split false false i j z = absurd (cc)
 
     from : InSession w H q ⊎ InBroadcast w H time q → IsTrue (comes w H time)
-    from (inl (r, i, g, k)) =
-        (λ z. is_coming time (o z) (in_session (i z)) (listening w H).current)
-        ∙ ap (λ (b : Bool). b || comes_in time q (listening w H).current) (and_from _ _ (eq-eqb _ _ g) (eq-eqb _ _ k))
+    from (inl (r, i, g, k)) = grind arith
     from (inr (x, a, i, l, g, t)) =
         ap (λ (p : Option Question). is_coming time p (in_session (reception w H).session) (listening w H).current) o
         ∙ (ap (λ (b : Bool). is_from q (in_session (reception w H).session) || b)

@@ -71,8 +71,7 @@ in_order w (At now Tick ∷ H) =
     in_order w H ∙ ap (λ x. got_transfers w H ++ listed x)
     (sym (keeps_same now (ticked_at w.address (time_heard (At now Tick ∷ H)) (reception w H)).delivers (reception w H).waits
     (quiet_at w.address (time_heard (At now Tick ∷ H)) (reception w H))))
-in_order w (At now (TakeFrame (Some f)) ∷ H) =
-    in_order w H ∙ ap (λ x. got_transfers w H ++ listed x) (sym (taken_waits (is_claim f) (is_reply (reception w H).replies f) _ (reception w H)))
+in_order w (At now (TakeFrame (Some f)) ∷ H) = let h = in_order w H in grind (arith, h)
 in_order w (ReleaseTransfer true ∷ H) = in_order w H ∙ sym (append-nil (got_transfers w H ++ listed (reception w H).waits))
 in_order w (call ∷ H) = in_order w H
 

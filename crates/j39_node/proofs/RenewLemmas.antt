@@ -5,9 +5,7 @@ use Rattle.j39_node.proofs.Common.{[], if◌then◌else◌, ◌&&◌, ◌++◌, 
 pub latest_more : (m : Message) (n i : ℕ) (xs : List (ℕ × Message)) (x : ℕ × Message) (o : Option ℕ)
     → latest m n i (xs ++ x ∷ []) o ≡ (if nat_le n (i + length xs) && is_alike m x.1 then Some (i + length xs) else latest m n i xs o)
 latest_more m n i [] x o = ap (λ (k : ℕ). if nat_le n k && is_alike m x.1 then Some k else o) (omega arith)
-latest_more m n i (y ∷ xs) x o =
-    latest_more m n (suc i) xs x (if nat_le n i && is_alike m y.1 then Some i else o)
-    ∙ ap (λ (k : ℕ). if nat_le n k && is_alike m x.1 then Some k else latest m n (suc i) xs (if nat_le n i && is_alike m y.1 then Some i else o)) (omega arith)
+latest_more m n i (y ∷ xs) x o = let h = latest_more m n (suc i) xs x (if nat_le n i && is_alike m y.1 then Some i else o) in grind (arith, h)
 
 -- the loop's next
 pub latest_on : (m : Message) (n : ℕ) (xs : List Outgoing) (i place : ℕ) (x : Outgoing) (found now : Option ℕ) (alike : Bool) → x ≡ slice_index_or xs i x → i < length xs
@@ -85,22 +83,11 @@ none_past m n j xs o y f e l past = false_from_ne_true _
 -- of what is left after t of them it is t places before
 shifted : (m : Message) (n i : ℕ) (xs : List (ℕ × Message)) (o : Option ℕ) → latest m (suc n) (suc i) xs (option_map suc o) ≡ option_map suc (latest m n i xs o)
 shifted m n i [] o = refl
-shifted m n i (x ∷ xs) o =
-    ap (λ (b : Bool). latest m (suc n) (suc (suc i)) xs (if b && is_alike m x.1 then Some (suc i) else option_map suc o)) (le_suc n i)
-    ∙ (ap (latest m (suc n) (suc (suc i)) xs) (go (nat_le n i && is_alike m x.1)) ∙ shifted m n (suc i) xs (if nat_le n i && is_alike m x.1 then Some i else o))
-  where
-    le_suc : (a b : ℕ) → nat_le (suc a) (suc b) ≡ nat_le a b
-    le_suc a b = grind arith
-
-    go : (b : Bool) → (if b then Some (suc i) else option_map suc o) ≡ option_map suc (if b then Some i else o)
-    go b = grind arith
+shifted m n i (x ∷ xs) o = let h = shifted m n (suc i) xs (if nat_le n i && is_alike m x.1 then Some i else o) in grind (arith, h)
 
 pub latest_rest : (m : Message) (t n : ℕ) (xs : List (ℕ × Message)) → t ≤ n
     → latest m n 0 xs None ≡ option_map (λ k. k + t) (latest m (n - t) 0 (drop t xs) None)
-latest_rest m zero n xs l = same (latest m n 0 xs None) ∙ ap (λ (k : ℕ). option_map (λ j. j + 0) (latest m k 0 xs None)) (let z : n ≡ n - 0 = omega arith in z)
-  where
-    same : (o : Option ℕ) → o ≡ option_map (λ k. k + 0) o
-    same o = grind arith
+latest_rest m zero n xs l = grind (arith, l)
 latest_rest m (suc t) zero xs l = absurd (omega (arith, l))
 latest_rest m (suc t) (suc n) [] l = refl
 latest_rest m (suc t) (suc n) (x ∷ xs) l =

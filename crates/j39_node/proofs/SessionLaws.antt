@@ -28,8 +28,7 @@ pub runs : (w : Who) (H : List Call) (call : Call) (r s : ReceptionRecord) → (
     → (reception w (call ∷ H)).since ≡ (reception w H).since
 runs w H (At when (Hear f)) r s e g =
     runs_by w.address (is_smaller w (claim_of f)) (holds w H when) _ f (time_heard (At when (Hear f) ∷ H)) (reception w H) r s e (unsaid w H when f) g
-runs w H (At now (TakeFrame (Some f))) r s e g =
-    taken_any (λ (x : Reception). x.since ≡ (reception w H).since) (is_claim f) (is_reply (reception w H).replies f) _ (reception w H) (λ i. since_left _ (reception w H)) (λ i. refl) (λ i. refl)
+runs w H (At now (TakeFrame (Some f))) r s e g = grind (arith, e, g)
 runs w H (ReleaseTransfer answer) r s e g = released_all (λ (x : Reception). x.since ≡ (reception w H).since) answer (reception w H) refl
 runs w H call r s e g = refl
 

@@ -827,12 +827,7 @@ grows_on w H (Withdraw k true) n x right r e = set_other (accepted w H) k n (k, 
     case = withdraw_case w H k right
 
     apart : n ≡ k → ⊥
-    apart z =
-        let i : slice_get (accepted w H) k ≡ Some x = subst (λ (m : ℕ). slice_get (accepted w H) m ≡ Some x) z e in
-        let j = case.is in
-        let y : case.entry ≡ x = cc in
-        let p = case.plain in
-        absurd (let q : false ≡ true = sym p ∙ (ap (λ (u : ℕ × Message). nat_eq u.1.group request_group) y ∙ r) in cc)
+    apart z = grind (arith, z)
 grows_on w H (Renew draft (Some k)) n x right r e = set_other (accepted w H) k n (k, message_from w draft) (λ z. apart (renew_case w H draft k right).at z) ∙ e
   where
     apart : IsLatest (message_from w draft) (max (reached H) (length (told H))) 0 k (accepted w H) → n ≡ k → ⊥
@@ -840,8 +835,7 @@ grows_on w H (Renew draft (Some k)) n x right r e = set_other (accepted w H) k n
         (ap (λ (y : ℕ × Message). nat_eq y.1.group request_group) (let s : at.entry ≡ x = same at z in s) ∙ r)
       where
         same : (at : IsLatest (message_from w draft) (max (reached H) (length (told H))) 0 k (accepted w H)) → n ≡ k → at.entry ≡ x
-        same at z = let a = at.is in let i : slice_get (accepted w H) k ≡ Some x = subst (λ (m : ℕ). slice_get (accepted w H) m ≡ Some x) z e in
-            let j : slice_get (accepted w H) k ≡ Some at.entry = ap (slice_get (accepted w H)) (let y : k ≡ k - 0 = omega arith in y) ∙ a in cc
+        same at z = grind (arith, z)
 grows_on w H call n x right r e = e
 
 -- so does the open one's

@@ -61,11 +61,7 @@ kind_of w to H now f right (replies m o h n g e) away = go (is_some (destination
         same_to p q e f = grind (arith, e, f)
 
         apart : is_apart (next_transfer w H now) (slice_get (reception w H).replies 0) ≡ false → ⊥
-        apart z = not_both _ x (ap (λ (y : Option ℕ). is_some y to) there
-            ∙ same_to d.1.0.destination m.destination (and_parts (is_same d.1.0.destination m.destination) _ (and_parts (nat_eq d.1.0.group m.group) _ that).1).0 d.1.2)
-          where
-            that : is_that d.1.0 (Some m) ≡ true
-            that = not-false _ (sym (λ i. is_apart (d.1.1 i) (g i)) ∙ z)
+        apart z = grind (arith, z)
 
         by : (y : Bool) → (y && ((ready w H now).message || ((ready w H now).packet || (ready w H now).transfer))) ≡ false → y ≡ false
         by false z = refl

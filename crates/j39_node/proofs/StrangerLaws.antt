@@ -62,8 +62,7 @@ pub open_stays : (w : Who) (H : List Call) (when : ℕ) (f : FrameRecord) → Ar
 open_stays w H when f right e n = go (open_transfer w H) refl
   where
     go : (o : Option Running) → open_transfer w H ≡ o → open_transfer w (At when (Hear f) ∷ H) ≡ o
-    go None i =
-        ap (hears_if (is_lost (address_after w (At when (Hear f) ∷ H))) (λ a. is_replaced (holder w H a) (holder w (At when (Hear f) ∷ H) a)) f (clock_at H when)) i
+    go None i = grind (arith, i)
     go (Some t) i =
         transfer_left w H when f t right i (inr n)
         (ap (is_replaced (holder w H t.sender.destination)) (unclaimed w H when f t.sender.destination e) ∙ same_held (holder w H t.sender.destination))
@@ -169,8 +168,4 @@ replies_stay w H when f e = go (holds w H when) refl
   where
     go : (b : Bool) → holds w H when ≡ b → without (source_of f.id) (reception w (At when (Hear f) ∷ H)).replies ≡ without (source_of f.id) (reception w H).replies
     go true h = ap (without (source_of f.id)) (says_it w H when f h e) ∙ to_others_stay w.address (source_of f.id) (says w H when f) (reception w H).replies
-    go false h = ap (without (source_of f.id)) (idle (is_smaller w (claim_of f)) (holds w H when) (leaves (known w H when f) (holder w (At when (Hear f) ∷ H)) (reception w H).session) (ap (is_smaller w) e) h (not_left_by w H when f e))
-      where
-        idle : (a b c : Bool) → a ≡ false → b ≡ false → c ≡ false
-            → (heard_by w.address a b f (time_heard (At when (Hear f) ∷ H)) (left c (reception w H))).replies ≡ (reception w H).replies
-        idle a b c e g i = grind (arith, e, g, i)
+    go false h = grind (arith, h)
