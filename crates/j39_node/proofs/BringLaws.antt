@@ -1,11 +1,11 @@
 -- What is sent to it whole is received.
-use Rattle.j39_node.proofs.Common.{[], ◌*◌, ◌++◌, ◌+◌, ◌<◌, ◌==◌, ◌∙◌, ◌∷◌, ◌≡◌, ◌≢◌, ◌≤◌, ◌⊎◌, ap, arith, At, begins, Bool, Bring, brings, Call, claim_of, cond_both, delivers_message, Directed, eqb-true, false, FrameRecord, goes_on, granted_at, grants, has_place, Hear, Heard, heard_by, holder, holds, inl, inr, is_claim, is_of_sender, is_reply, is_smaller, IsPacket, IsTrue, keeps, known, leaves, left, limit_in, limit_of, List, MessageRecord, None, Option, Packet, Reaction, Reception, reception, ReceptionRecord, recv_step, RecvResult, refl, ReleaseTransfer, RequestToSend, result_of, said_to, SessionRecord, shown, Signal, Some, source_of, Spares, spares, step_at, subst, suc, sym, take, TakeFrame, takes_data, takes_packet, takes_request, takes_signal, Tick, time_heard, timer_t1, true, Who, whole, whole_by, ℕ}
+use Rattle.j39_node.proofs.Common.{[], ◌*◌, ◌++◌, ◌+◌, ◌<◌, ◌==◌, ◌∙◌, ◌∷◌, ◌≡◌, ◌≢◌, ◌≤◌, ◌⊎◌, ap, arith, At, begins, Bool, Bring, brings, Call, claim_of, cond_both, delivers_message, Directed, eqb-true, false, FrameRecord, goes_on, granted_at, grants, has_place, Hear, Heard, heard_by, holder, holds, inl, inr, is_of_sender, is_smaller, IsPacket, IsTrue, keeps, known, leaves, left, limit_in, limit_of, List, MessageRecord, None, Option, Packet, Reaction, Reception, reception, ReceptionRecord, recv_step, RecvResult, refl, ReleaseTransfer, RequestToSend, result_of, said_to, SessionRecord, shown, Signal, Some, source_of, Spares, spares, step_at, subst, suc, sym, take, TakeFrame, takes_data, takes_packet, takes_request, takes_signal, Tick, time_heard, timer_t1, true, Who, whole, whole_by, ℕ}
 use Rattle.j39_transport.specs.Reception.{begun, message_of}
 use Rattle.j39_transport.specs.Session.{grown, opened as opens}
 use Rattle.j39_transport.specs.Frames as frames
 use Rattle.j39_node.proofs.PacketLemmas.{hushed}
 use Rattle.j39_node.proofs.ReceptionLaws.{from_others, heard_is, not_driven, not_left_by, not_lost, opens_at, quiet_tick, said_no_claim, holder_stays}
-use Rattle.j39_node.proofs.ReceptionLemmas.{released_all, taken_any}
+use Rattle.j39_node.proofs.ReceptionLemmas.{released_all}
 use Rattle.j39_node.proofs.SessionLaws as session
 
 -- ---- a packet of the open session

@@ -1,5 +1,5 @@
 -- The laws of broadcasts in packets that are heard.
-use Rattle.j39_node.proofs.Common.{[], if◌then◌else◌, ◌*◌, ◌++◌, ◌+◌, ◌-◌, ◌<◌, ◌||◌, ◌↔◌, ◌∙◌, ◌∷◌, ◌≡◌, ◌≢◌, ◌≤◌, ◌⊎◌, account, announced, announces, ap, append_assoc, AreApart, arith, At, Bool, broadcast_limit, by, Call, called, claim_of, claimed_again, Controller, drop, earliest, expires, false, found, found_in, FrameRecord, got_broadcasts, grown, has_room, has_some, Hear, heard_at, hearing, hearing_tick, hears_it, held_then, holder, IfSome, inl, inr, Is, is_ignored, is_late, is_own_group, is_same, is_subscribed, is_wanted, is_whole, IsHeardOf, IsTrue, known, late_at, leb-true, length, length-append, length-drop, length-take-le, List, listed, listening, ltb-false, made_whole, message_by, MessageRecord, MessagesMissed, min, more, NeverBack, None, not, not_both, of, of_other, OpenBroadcast, opens, Option, or_parts, over_by, packed, packets_for, packs, passed_in, pgn_named, refl, ReleaseBroadcast, restarts, since_in, slice_index, Some, sooner, source_of, stay, StaysHeard, still, subst, suc, sym, take, take-append-drop, TakeFrame, TakeNews, those_over, Tick, TicksWithin, time_heard, true, unheard, unheard_by, unheard_news, waiting, WasBroadcast, Who, whole_broadcasts, whole_of, with_all, ℕ}
+use Rattle.j39_node.proofs.Common.{[], if◌then◌else◌, ◌*◌, ◌++◌, ◌+◌, ◌-◌, ◌<◌, ◌||◌, ◌↔◌, ◌∙◌, ◌∷◌, ◌≡◌, ◌≢◌, ◌≤◌, ◌⊎◌, account, announced, announces, ap, append_assoc, AreApart, arith, At, Bool, broadcast_limit, by, Call, called, claim_of, claimed_again, Controller, drop, earliest, expires, false, found, found_in, FrameRecord, got_broadcasts, grown, has_room, has_some, Hear, heard_at, hearing, hearing_tick, hears_it, held_then, holder, IfSome, inl, inr, Is, is_ignored, is_late, is_own_group, is_same, is_subscribed, is_wanted, is_whole, IsHeardOf, IsTrue, known, late_at, leb-true, length, length-append, length-drop, length-take-le, List, listed, listening, ltb-false, made_whole, message_by, MessageRecord, min, more, NeverBack, None, not, not_both, of, of_other, OpenBroadcast, opens, Option, or_parts, over_by, packed, packets_for, packs, passed_in, pgn_named, refl, ReleaseBroadcast, restarts, since_in, slice_index, Some, sooner, source_of, stay, StaysHeard, still, subst, suc, sym, take, take-append-drop, TakeFrame, those_over, Tick, TicksWithin, time_heard, true, unheard, unheard_by, unheard_news, waiting, WasBroadcast, Who, whole_broadcasts, whole_of, with_all, ℕ}
 use Rattle.std.specs.List.{All, filter}
 use Rattle.std.proofs.lemmas.Bool.{cases_Bool}
 use Rattle.std.proofs.lemmas.List.Elements.{All-head, All-tail}

@@ -1,8 +1,8 @@
 -- What kind a frame is that is taken.
 use Rattle.j39_node.proofs.SoundLemmas.FrameCase.{claims, acknowledges, replies, sends, packs, transfers}
-use Rattle.j39_node.proofs.Common.{arith, ◌≡◌, ◌-◌, ◌&&◌, ◌||◌, ap, Bool, eqb-true, false, length, List, nat_eq, Some, true, ℕ, FrameRecord, pgn_of, address_claimed_group, acknowledged, acknowledgment_group, Call, due, is_acknowledgment, is_claim, is_packet, is_session, Message, open_broadcast, packets, pause, step, Who, AreAnswered, is_move, is_reply, reception, Move}
-use Rattle.j39_node.proofs.SoundLemmas.{FrameCase, is_moved, reply_no_move, no_move, is_directed, packet_session, claim_single, claim_taken, due_taken, IsDue, reply_taken, own_taken, own_of, packet_taken, transfer_taken, apart_is, reply_is, turned, sound}
-use Rattle.j39_node.proofs.ReceptionLemmas.{no_reply, replied_get, tidy}
+use Rattle.j39_node.proofs.Common.{arith, ◌≡◌, ◌&&◌, ◌||◌, ap, Bool, false, length, List, Some, true, ℕ, FrameRecord, acknowledged, Call, due, is_acknowledgment, is_claim, is_packet, is_session, Message, Who, AreAnswered, is_move, is_reply, reception, Move}
+use Rattle.j39_node.proofs.SoundLemmas.{FrameCase, is_moved, reply_no_move, is_directed, due_taken, IsDue, reply_taken, own_taken, own_of, transfer_taken, apart_is, reply_is, turned, sound}
+use Rattle.j39_node.proofs.ReceptionLemmas.{replied_get, tidy}
 use Rattle.j39_node.proofs.QueueLemmas.{all_at}
 
 -- a claim, an acknowledgment, one of a session, of a broadcast, the first reply, one of the open transfer

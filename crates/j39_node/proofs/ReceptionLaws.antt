@@ -1,5 +1,5 @@
 -- The laws of messages that come in packets.
-use Rattle.j39_node.proofs.Common.{[], if◌then◌else◌, ◌%◌, ◌&&◌, ◌++◌, ◌+◌, ◌-◌, ◌/◌, ◌<◌, ◌==◌, ◌||◌, ◌↔◌, ◌∙◌, ◌∷◌, ◌≡◌, ◌≢◌, ◌≤◌, ◌⊎◌, Abort, Acknowledgment, Address, address_after, address_claimed_group, Again, and_parts, answer_in, answers, ap, append-nil, append_assoc, AreReceived, arith, asks_again, At, Bool, bytes_with, Call, CameFromOne, Claim, claim_of, cond_both, Controller, delivered, destination_of, Directed, drop, eqb-true, false, FrameRecord, frames_heard, got_transfers, granted_at, grants, group_of, has_place, has_some, Hear, Heard, heard_at, heard_by, held_then, holder, holds, inl, inr, Is, is_acknowledgment, is_claim, is_held, is_lost, is_move, is_over, is_overdue, is_reply, is_smaller, is_taken, is_transfer, IsApart, IsReceived, IsTrue, keeps, KeepsHolder, known, known_by, later, leaves, left, length, limit_in, limit_of, List, listed, little_bytes, longest, Lost, lt-ltb, ltb-false, made_by, made_of, Message, message_of, MessageRecord, moment, Move, nat_lt, next_acknowledgment, None, older, Option, option_map, Packet, partner_of, pgn_of, ps_of, quiet, Reaction, receiver_at, ReceiverRecord, Reception, reception, ReceptionRecord, recv_step, RecvResult, refl, ReleaseTransfer, replied, reply_from, RequestToSend, result_of, said_between, said_to, says_by, session_tick, shown, Signal, Single, slice_get, Some, source_of, stamp_at, step, step_at, subst, suc, sym, TakeFrame, taken_by, takes_abort, takes_data, takes_request, takes_signal, takes_tick, Tick, tick_at, ticked, ticked_at, Ticks, time_heard, ToSend, true, WereHanded, Who, whole, whole_by, without, written, yields, ℕ, not-false, not_both, Claims, holder_in, Knows, sender_by_made, sender_of, told_claims}
+use Rattle.j39_node.proofs.Common.{[], if◌then◌else◌, ◌%◌, ◌&&◌, ◌++◌, ◌+◌, ◌-◌, ◌/◌, ◌<◌, ◌==◌, ◌||◌, ◌↔◌, ◌∙◌, ◌∷◌, ◌≡◌, ◌≢◌, ◌≤◌, ◌⊎◌, Abort, Acknowledgment, Address, address_after, address_claimed_group, Again, and_parts, answer_in, answers, ap, append-nil, append_assoc, AreReceived, arith, asks_again, At, Bool, bytes_with, Call, CameFromOne, Claim, claim_of, cond_both, Controller, delivered, destination_of, Directed, drop, eqb-true, false, FrameRecord, frames_heard, got_transfers, granted_at, grants, group_of, has_place, has_some, Hear, Heard, heard_at, heard_by, held_then, holder, holds, inl, inr, Is, is_acknowledgment, is_claim, is_held, is_lost, is_move, is_over, is_overdue, is_reply, is_smaller, is_taken, is_transfer, IsApart, IsReceived, IsTrue, keeps, KeepsHolder, known, known_by, later, leaves, left, length, limit_in, limit_of, List, listed, little_bytes, longest, Lost, lt-ltb, ltb-false, made_by, made_of, Message, message_of, MessageRecord, moment, Move, nat_lt, next_acknowledgment, None, older, Option, option_map, Packet, partner_of, pgn_of, ps_of, quiet, Reaction, receiver_at, ReceiverRecord, Reception, reception, ReceptionRecord, recv_step, RecvResult, refl, ReleaseTransfer, replied, reply_from, RequestToSend, result_of, said_between, said_to, says_by, session_tick, shown, Signal, Single, slice_get, Some, source_of, stamp_at, step, step_at, subst, suc, sym, TakeFrame, takes_abort, takes_data, takes_request, takes_signal, takes_tick, Tick, tick_at, ticked, ticked_at, Ticks, time_heard, ToSend, true, WereHanded, Who, whole, whole_by, without, written, yields, ℕ, not-false, not_both, Claims, holder_in, Knows, sender_by_made, sender_of, told_claims}
 use Rattle.j39_transport.specs.Reception.{begun as opens}
 use Rattle.j39_transport.specs.ReceiverStands.{passed, WasHanded}
 use Rattle.j39_transport.specs.Signals.{said_by}
@@ -54,9 +54,6 @@ made_is w H when f = ap (made_by (has_place (reception w H).waits)) (waits_next 
   where
     go : (o : Option MessageRecord) (x : Option (ℕ × MessageRecord)) → ((y : ℕ × MessageRecord) → x ≡ Some y → o ≡ None) → made_by (has_place x) (keeps f.stamp o x) ≡ made_of o
     go o x h = grind (arith, h)
-
-taken_waits : (a b l : Bool) (r : Reception) → (taken_by a b l r).waits ≡ r.waits
-taken_waits a b l r = taken_any (λ (x : Reception). x.waits ≡ r.waits) a b l r (λ e. left_waits l r) (λ e. refl) (λ e. refl)
 
 keeps_same : (stamp : ℕ) (o : Option MessageRecord) (x : Option (ℕ × MessageRecord)) → o ≡ None → keeps stamp o x ≡ x
 keeps_same stamp o x e = grind (arith, e)

@@ -1,13 +1,10 @@
 -- A session ends by itself.
-use Rattle.j39_node.proofs.Common.{subst, ticked, Abort, At, Bool, Call, FrameRecord, Hear, IsOpenOf, List, NeverBack, None, Option, Reception, ReceptionRecord, ReleaseTransfer, Signal, Some, StaysOpen, TakeFrame, Tick, TicksWithin, Who, [], arith, asks_again, claim_of, first, granted_at, grants, has_place, heard_at, heard_by, holder, holds, is_claim, is_reply, is_smaller, known, later, leaves, left, longest, lost, moment, passed_in, reception, recv_step, refl, replied, rest, said_to, takes_tick, ticked_at, time_heard, timer_t2, true, unticked_in, written, ℕ, ◌*◌, ◌++◌, ◌+◌, ◌-◌, ◌<◌, ◌∙◌, ◌∷◌, ◌≡◌, ◌≤◌}
+use Rattle.j39_node.proofs.Common.{subst, ticked, Abort, At, Bool, Call, FrameRecord, Hear, IsOpenOf, List, NeverBack, None, Option, Reception, ReceptionRecord, ReleaseTransfer, Signal, Some, StaysOpen, TakeFrame, Tick, TicksWithin, Who, [], arith, asks_again, claim_of, first, granted_at, grants, has_place, heard_at, heard_by, holder, holds, is_smaller, known, later, leaves, left, longest, lost, moment, passed_in, reception, recv_step, refl, replied, rest, said_to, takes_tick, ticked_at, time_heard, timer_t2, true, unticked_in, written, ℕ, ◌*◌, ◌++◌, ◌+◌, ◌-◌, ◌<◌, ◌∙◌, ◌∷◌, ◌≡◌, ◌≤◌}
 use Rattle.j39_node.proofs.PacketLemmas.{quiet_step}
 use Rattle.j39_node.proofs.ReceptionLaws.{not_left_by, said_no_claim}
-use Rattle.j39_node.proofs.ReceptionLemmas.{released_all, taken_any}
+use Rattle.j39_node.proofs.ReceptionLemmas.{released_all}
 
 -- ---- its account
-
-since_left : (b : Bool) (r : Reception) → (left b r).since ≡ r.since
-since_left b r = grind arith
 
 begins_by : (own : ℕ) (lost held b : Bool) (f : FrameRecord) (now : ℕ) (r : Reception) (x : ReceptionRecord) → r.session ≡ None
     → (heard_by own lost held f now (left b r)).session ≡ Some x → (heard_by own lost held f now (left b r)).since ≡ now

@@ -343,9 +343,6 @@ no_transfer f e = ap (λ (b : Bool). b && not (is_some (destination_of f.id) 255
 pub packet_session : (f : FrameRecord) → is_packet f ≡ true → (is_session f ≡ true) × (is_transfer f ≡ false)
 packet_session f e = (grind (arith, e), grind (arith, e))
 
-pub no_move : (w : Who) (H : List Call) (f : FrameRecord) → is_transfer f ≡ false → is_move w H f ≡ false
-no_move w H f e = ap (λ (b : Bool). b && not (is_that (message_of f) (slice_get (reception w H).replies 0))) e
-
 -- a frame is that which it is
 pub that_same : (m : Message) → is_that m (Some m) ≡ true
 that_same m = λ i. eq-eqb m.group m.group refl i && (same_address m.destination i && (bytes_eq-Decides m.bytes m.bytes).1 refl i)

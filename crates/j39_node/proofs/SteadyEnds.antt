@@ -1,5 +1,5 @@
 -- That every transfer ends, to a driver that takes one frame at least in each g.
-use Rattle.j39_node.proofs.Common.{AreAnswered, At, Bool, Call, Controller, FrameRecord, Is, IsSteady, List, Message, None, NoneTold, Ok, Option, Reply, Some, TakeFrame, Transfer, TransferEnding, Who, and_parts, ap, arith, broadcast_from, counts_for, destination_of, due, false, if◌then◌else◌, is_acknowledgment, is_apart, is_claim, is_move, is_reply, is_same, is_some, is_that, is_there, is_transfer, later, moment, nat_eq, next_other, next_transfer, next_transfer_ended, not-false, not_both, others, packets_of, passed_in, ready, reception, refl, since_take, slice_get, step, subst, suc, sym, taken_for, tells_transfer, timer_t3, true, turns, yields, ℕ, ◌&&◌, ◌*◌, ◌++◌, ◌+◌, ◌<◌, ◌||◌, ◌∙◌, ◌∷◌, ◌≡◌, ◌≤◌}
+use Rattle.j39_node.proofs.Common.{AreAnswered, At, Bool, Call, Controller, FrameRecord, Is, IsSteady, List, Message, None, NoneTold, Ok, Option, Reply, Some, TakeFrame, Transfer, TransferEnding, Who, ap, arith, broadcast_from, counts_for, destination_of, due, false, if◌then◌else◌, is_acknowledgment, is_apart, is_claim, is_move, is_reply, is_same, is_some, is_there, is_transfer, later, moment, next_other, next_transfer, next_transfer_ended, not_both, others, packets_of, passed_in, ready, reception, refl, since_take, slice_get, step, subst, suc, sym, taken_for, tells_transfer, timer_t3, true, turns, yields, ℕ, ◌&&◌, ◌*◌, ◌++◌, ◌+◌, ◌<◌, ◌||◌, ◌∙◌, ◌∷◌, ◌≡◌, ◌≤◌}
 use Rattle.j39_node.proofs.KindLemmas.{kind_by, moves_it, of_session_it, packs_it, replies_it, steers_it}
 use Rattle.j39_node.proofs.EndLaws.{DueTo, Pace, begins, counts_is, ends_then}
 use Rattle.j39_node.proofs.EndSteps.{times_more}

@@ -1,11 +1,11 @@
 -- A frame of a stranger changes nothing of what is sent to others, received from others, or told to have ended.
-use Rattle.j39_node.proofs.Common.{[], if◌then◌else◌, ◌&&◌, ◌++◌, ◌-◌, ◌||◌, ◌∙◌, ◌∷◌, ◌≡◌, ◌≢◌, ◌⊎◌, accepted, acknowledged, Address, address_after, ap, AreAnswered, arith, asked_group, At, Bool, Call, calls_for_claim, Claim, claim_address, claim_from, claim_of, clock_at, cond_both, control_of, Controller, delayed, destination_of, Directed, due, eq-eqb, false, FrameRecord, goes_to, grants, has_packets, has_place, Hear, heard_by, hears_if, held_then, holder, holds, inr, Is, is_another, is_apart, is_claim, is_held, is_lost, is_replaced, is_smaller, is_spent, is_there, known, leaves, left, length, List, listens, listens_to, Lost, Message, nat_eq, nat_le, nat_lt, next_frame, next_packet, None, not, of_other, older, open_transfer, Option, option_map, owes_claim, patience, pause, reached, Ready, Received, Reception, reception, ReceptionRecord, recv_step, refl, replied, reply_from, Running, said_between, said_to, send_step, shown, Signal, slice_get, Some, source_of, step, subst, sym, TakeFrame, takes_abort, takes_data, takes_request, takes_signal, time_heard, ToSend, transfer_by, true, turn_frame, turn_of, turns, Who, whole_by, without, yields, ℕ, and-false, or-false, ne_eqb}
+use Rattle.j39_node.proofs.Common.{[], if◌then◌else◌, ◌&&◌, ◌++◌, ◌-◌, ◌||◌, ◌∙◌, ◌∷◌, ◌≡◌, ◌≢◌, ◌⊎◌, accepted, acknowledged, Address, address_after, ap, AreAnswered, arith, asked_group, At, Bool, Call, calls_for_claim, Claim, claim_address, claim_from, claim_of, clock_at, cond_both, control_of, Controller, delayed, destination_of, Directed, due, eq-eqb, false, FrameRecord, goes_to, grants, has_packets, has_place, Hear, hears_if, held_then, holder, holds, inr, Is, is_another, is_apart, is_claim, is_held, is_lost, is_replaced, is_smaller, is_spent, is_there, left, length, List, listens, listens_to, Lost, Message, nat_eq, nat_le, nat_lt, next_frame, next_packet, None, not, of_other, older, open_transfer, Option, option_map, owes_claim, patience, pause, reached, Ready, Received, Reception, reception, ReceptionRecord, recv_step, refl, replied, reply_from, Running, said_between, said_to, send_step, shown, Signal, slice_get, Some, source_of, step, subst, sym, TakeFrame, takes_abort, takes_data, takes_request, takes_signal, ToSend, transfer_by, true, turn_frame, turn_of, turns, Who, whole_by, without, yields, ℕ, and-false, or-false, ne_eqb}
 use Rattle.j39_transport.specs.Signals.{said_by}
 use Rattle.j39_node.specs.Reception.{says}
 use Rattle.j39_transport.specs.Frames as frames
 use Rattle.j39_node.proofs.ReceptionLemmas.{unclaimed_known}
 use Rattle.j39_node.proofs.PortLemmas.{Ported, ported}
-use Rattle.j39_node.proofs.ReceptionLaws.{none_delivered, not_left_by, says_it, to_others}
+use Rattle.j39_node.proofs.ReceptionLaws.{none_delivered, says_it, to_others}
 
 -- ---- a transfer
 

@@ -1,5 +1,5 @@
 -- When a tick does something.
-use Rattle.j39_node.proofs.Common.{[], if◌then◌else◌, ◌&&◌, ◌+◌, ◌-◌, ◌<◌, ◌==◌, ◌||◌, ◌∙◌, ◌∷◌, ◌≡◌, ◌≤◌, ◌⊎◌, address_after, ap, arith, ask_end, AskEnding, asks_again, At, Bool, Call, comes, cond_both, Controller, ended, false, granted_at, grants, Hear, heard_at, hearing_tick, in_session, inl, inr, Is, is_coming, is_from, is_late, is_lost, is_over, limit_of, List, ltb-false, moment, nat_eq, nat_lt, next_ask_ended, next_tick, None, not, open_ask, OpenBroadcast, Option, option_map, out_at, Question, reached, Reaction, receiver_at, ReceiverRecord, Reception, reception, ReceptionRecord, recv_step, RecvResult, refl, request_tick, seeks, session_tick, Some, sooner, sym, TakeAskEnded, takes_tick, Tick, ticked_at, Ticks, time_heard, TimedOut, true, wait, Who, ℕ, and-false, or_parts, comes_by, comes_in, get_or, holder, Listening, listening, stay, subst}
+use Rattle.j39_node.proofs.Common.{[], if◌then◌else◌, ◌&&◌, ◌+◌, ◌-◌, ◌<◌, ◌==◌, ◌||◌, ◌∙◌, ◌∷◌, ◌≡◌, ◌≤◌, ◌⊎◌, address_after, ap, arith, ask_end, AskEnding, asks_again, At, Bool, Call, comes, cond_both, Controller, ended, false, granted_at, grants, heard_at, hearing_tick, in_session, inl, inr, Is, is_coming, is_from, is_late, is_lost, is_over, limit_of, List, ltb-false, moment, nat_eq, nat_lt, next_ask_ended, next_tick, None, not, open_ask, OpenBroadcast, Option, option_map, out_at, Question, reached, Reaction, receiver_at, ReceiverRecord, Reception, reception, ReceptionRecord, recv_step, RecvResult, refl, request_tick, seeks, session_tick, Some, sooner, sym, TakeAskEnded, takes_tick, Tick, ticked_at, Ticks, time_heard, TimedOut, true, wait, Who, ℕ, and-false, or_parts, comes_in, get_or, holder, Listening, listening, stay, subst}
 use Rattle.std.specs.List.{All, filter}
 use Rattle.std.proofs.lemmas.List.Elements.{All-head, All-tail, filter_passes}
 use Rattle.j39_node.proofs.FrameLemmas.{lt_false}
