@@ -1,4 +1,5 @@
 -- A call more.
+use Rattle.std.proofs.lemmas.Grind.{common_steps}
 use Rattle.j39_node.proofs.KindLemmas.{Kind, kind, kind_by, kind_is, single}
 use Rattle.j39_node.proofs.SoundLemmas.FrameCase.{claims as claims_first, acknowledges, replies, sends, packs, transfers}
 use Rattle.j39_node.proofs.Common.{Address, AreAnswered, AskRecord, Asked, At, Bool, Call, Claims, Controller, Done, Draft, Due, Ending, FrameRecord, Hear, Hold, IfSome, Incoming, IncomingRecord, Is, IsAnswered, IsApart, IsOthers, Knows, List, Lost, Message, Move, None, Option, Outgoing, Ready, Renew, Renews, Reply, Said, Single, Some, TakeEnded, TakeFrame, Untold, View, Who, Withdraw, Withdrawn, [], accepted, acknowledged, address_after, after, age, all_transfers, ap, arith, asked_by, asking_of, asks_claims, asks_with, at_in, blank, called, calls, can_claim, can_send, claim_address, claim_due, claim_from, claim_goes, claim_of, claimed, claims, clock, clock_at, comes, counted, delayed, drop, drop-map, due, end_of, ended, ending_of, false, first, gives_way, got, has_packets, has_token, heard_at, heard_by, hearing_after, hearing_of, held_at, hold_acknowledged, hold_after, hold_asked, hold_claimed, hold_spoken, hold_went, holder, holder_in, holds, holds_back, if◌then◌else◌, in_session, incoming_after, incoming_of, inl, inr, is_apart, is_asking, is_blank, is_busy, is_claim, is_coming, is_engaged, is_for_program, is_full, is_held, is_left, is_lost, is_open, is_resting, is_served, is_smaller, is_there, is_turn, kept, known, lane_after, lane_of, latest, le-ltb, leaves, leb-true, led, left, left_at, length, length-drop, length-set, less, lost, lt-ltb, ltb-false, ltb-true, map, marks, max, may_claim, may_go, message_from, message_of, min, missed_news, moment, more, nat_eq, nat_le, nat_lt, news_after, next_acknowledgment, next_due, next_frame, next_packet, next_renewed, next_transfer, next_transfer_ended, next_turn, next_withdrawn, not, nothing, offered, older, open_ask, open_transfer, option_map, other, owes_claim, packet_by, packets, packets_in, passed, past, pause, paused, place_of, port_after, port_of, posted, reached, ready_in, reception, refl, refusal_by, resting_by, said_by, senders, sends_if, slice_get, slice_get_past, slice_get_within, slice_set, sooner, source_of, stamp_at, stamped, standing_of, stands, step, subst, suc, sym, taken_by, those_over, time_heard, told, told_claims, transfer_by, transfer_end, transfer_in, true, turn_frame, turn_of, turns, unclaimed, unclaims, unheard_news, view, wait, who_of, with_called, with_reception, with_refusal, with_replies, with_request, yields, ℕ, ◌&&◌, ◌++◌, ◌+◌, ◌-◌, ◌<◌, ◌||◌, ◌∙◌, ◌∷◌, ◌≡◌, ◌≤◌, map-append, length-map, drop-append-le, cond_some}
@@ -404,9 +405,7 @@ rest_grows false L xs n x l e = e
 
 pub kept_rest : {T : Type 0} (wanted : Bool) (K unread : List T) (n : ℕ) (x : T) → n ≤ length K → unread ≡ drop n K
     → offered wanted x unread ≡ drop n (if wanted && nat_lt (length K - n) 16 then K ++ x ∷ [] else K)
-kept_rest wanted K unread n x l e =
-    ap (offered wanted x) e
-    ∙ (ap (λ (k : ℕ). if wanted && nat_lt k 16 then drop n K ++ x ∷ [] else drop n K) (length-drop n K) ∙ rest_grows (wanted && nat_lt (length K - n) 16) K (drop n K) n x l refl)
+kept_rest wanted K unread n x e f = grind (arith, common_steps, e, f)
 
 -- the NAMEs beside them
 one_more : {T : Type 0} {U : Type 0} (b : Bool) (xs : List T) (ys : List U) (x : T) (y : U) → length xs ≡ length ys
@@ -430,12 +429,7 @@ senders_rest w H now f unread x l e is =
 
 pub missed_rest : (wanted : Bool) (K unread : List (ℕ × Message)) (n m c : ℕ) → unread ≡ drop n K → c ≡ min m 18446744073709551615
     → counted wanted unread c ≡ min (if wanted && not (nat_lt (length K - n) 16) then suc m else m) 18446744073709551615
-missed_rest wanted K unread n m c e f =
-    ap (λ (k : ℕ). if wanted && not (nat_lt k 16) then min (c + 1) 18446744073709551615 else c) (ap length e ∙ length-drop n K)
-    ∙ go (wanted && not (nat_lt (length K - n) 16))
-  where
-    go : (b : Bool) → (if b then min (c + 1) 18446744073709551615 else c) ≡ min (if b then suc m else m) 18446744073709551615
-    go b = grind arith
+missed_rest wanted K unread n m c e f = grind (arith, common_steps, e, f)
 
 pub request_rest : (w : Who) (room : Bool) (o : Option Asked) (L xs : List Asked) (n : ℕ) → n ≤ length L → xs ≡ drop n L
     → with_request w room o xs ≡ drop n (with_request w room o L)

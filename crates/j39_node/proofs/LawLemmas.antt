@@ -1,4 +1,5 @@
 -- The laws.
+use Rattle.std.proofs.lemmas.Grind.{common_steps}
 use Rattle.j39_node.proofs.Common.{Address, AddressLost, AnotherAtAddress, AreAnswered, Asked, At, Bool, Busy, Call, Claim, Claimed, Controller, Draft, Ending, FrameRecord, HasDouble, Hear, Is, IsFront, IsTrue, List, Lost, Message, MessagesMissed, Move, Nack, NameDoubled, News, None, NoneTold, NotClaimed, Option, Renew, Reply, Some, TakeEnded, TakeFrame, TakeNews, Tick, Who, Withdraw, [], accepted, acknowledged, acknowledgment, acknowledgment_group, address_after, address_claimed_group, age, and-false, and_from, and_parts, answers_another, ap, append-nil, arith, asked, at_in, called, calls, claim_address, claim_due, claim_from, claim_goes, claim_of, content, delayed, double, doubled_news, drop, due, end_of, eq-eqb, eqb-true, false, first, frames, fresh, gives_way, got, handed, held_at, holds, if◌then◌else◌, inl, inr, is_acknowledgment, is_alike, is_another, is_apart, is_blank, is_claim, is_double, is_for_program, is_held, is_lost, is_move, is_refusal_due, is_reply, is_served, is_smaller, is_subscribed, is_there, is_transfer, kept, later, le-leb, le-ltb, length, length-append, long_by, lost_news, lt-ltb, ltb-false, marks, may_claim, may_go, message_from, message_of, missed, missed_news, moment, nat_eq, nat_le, nat_lt, news_of, next_acknowledgment, next_due, next_frame, next_long, next_other, next_packet, next_transfer, next_withdrawn, not, not_both, older, open_broadcast, option_map, option_or, or_parts, other, owes_claim, packets, passed_in, patience, pause, pgn_of, reached, ready, reception, refl, refusal_waits, request_group, requests, slice_get, slice_get-map, slice_get_within, source_of, stamp_at, stamped, status_after, status_of, step, suc, sym, takes_other, told, true, turns, unclaimed, waits_already, with_refusal, with_request, yields, ℕ, ◌&&◌, ◌*◌, ◌++◌, ◌+◌, ◌-◌, ◌<◌, ◌||◌, ◌↔◌, ◌∙◌, ◌∷◌, ◌≡◌, ◌≢◌, ◌≤◌, ◌⊎◌, or_cases, or_left, or_right, cond_both, ne_eqb, leb-false, subst, cases_Bool, cases_lt}
 use Rattle.j39_node.proofs.PromptLaws.{answered_from}
 use Rattle.j39_node.specs.History.{heard, Again}
@@ -142,9 +143,7 @@ whole xs ys (zs, e) l = whole_rest xs ys zs e l
 
 count_one : (b r : Bool) (xs ys : List (ℕ × Message)) (x : ℕ × Message) (m : ℕ) → length ys + m ≡ length xs
     → length (if b && r then ys ++ x ∷ [] else ys) + (if b && not r then suc m else m) ≡ length (if b then xs ++ x ∷ [] else xs)
-count_one true true xs ys x m e = let a = length_one_more xs x in let b = length_one_more ys x in omega (arith, a, b, e)
-count_one true false xs ys x m e = let a = length_one_more xs x in omega (arith, a, e)
-count_one false r xs ys x m e = e
+count_one b r xs ys x m e = grind (arith, common_steps, e)
 
 pub counted : (w : Who) (H : List Call) → length (kept w H) + missed w H ≡ length (heard w H)
 counted w [] = refl

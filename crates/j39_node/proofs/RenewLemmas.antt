@@ -1,4 +1,5 @@
 -- A message that waits is renewed.
+use Rattle.std.proofs.lemmas.Grind.{common_steps}
 use Rattle.j39_node.proofs.Common.{[], if◌then◌else◌, ◌&&◌, ◌++◌, ◌+◌, ◌-◌, ◌<◌, ◌∙◌, ◌∷◌, ◌≡◌, ◌≢◌, ◌≤◌, ◌⊎◌, and_parts, ap, arith, Bool, drop, false, inl, inr, is_alike, latest, length, length-set, length-take-le, List, map, Message, nat_eq, nat_le, None, Option, option_map, Outgoing, posted, refill, refl, request_group, slice_get, slice_index_or, slice_set, Some, suc, sym, take, take-append_seam, take-suc, true, zero, ℕ, leb-true, le-leb, map-append, length-map, lt-leb, false_from_ne_true}
 
 -- the last that is alike, one more
@@ -106,10 +107,7 @@ set_rest (suc t) k [] x = refl
 set_rest (suc t) k (y ∷ xs) x = ap (λ (n : ℕ). drop (suc t) (slice_set (y ∷ xs) n x)) (let z : k + suc t ≡ suc (k + t) = omega arith in z) ∙ set_rest t k xs x
 
 pub refilled : {T : Type 0} (xs ys : List T) (k : ℕ) (x : T) → ys ≡ xs → refill (length xs) xs (slice_set ys k x) ≡ slice_set xs k x
-refilled xs ys k x e =
-    ap (λ zs. refill (length xs) xs (slice_set zs k x)) e
-    ∙ (ap (λ (n : ℕ). take n (slice_set xs k x ++ drop (length (slice_set xs k x)) xs)) (sym (length-set xs k x))
-    ∙ take-append_seam (slice_set xs k x) (drop (length (slice_set xs k x)) xs))
+refilled xs ys k x e = grind (arith, common_steps, e)
 
 pub set_get : {T : Type 0} (xs : List T) (k i : ℕ) (x y : T) → slice_get (slice_set xs k x) i ≡ Some y → ((i ≡ k) × (x ≡ y)) ⊎ (slice_get xs i ≡ Some y)
 set_get [] k i x y e = inr e
