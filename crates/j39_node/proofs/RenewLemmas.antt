@@ -1,6 +1,6 @@
 -- A message that waits is renewed.
 use Rattle.std.proofs.lemmas.Grind.{common_steps}
-use Rattle.j39_node.proofs.Common.{[], if◌then◌else◌, ◌&&◌, ◌++◌, ◌+◌, ◌-◌, ◌<◌, ◌∙◌, ◌∷◌, ◌≡◌, ◌≢◌, ◌≤◌, ◌⊎◌, and_parts, ap, arith, Bool, drop, false, inl, inr, is_alike, latest, length, length-set, length-take-le, List, map, Message, nat_eq, nat_le, None, Option, option_map, Outgoing, posted, refill, refl, request_group, slice_get, slice_index_or, slice_set, Some, suc, sym, take, take-append_seam, take-suc, true, zero, ℕ, leb-true, le-leb, map-append, length-map, lt-leb, false_from_ne_true}
+use Rattle.j39_node.proofs.Common.{[], if◌then◌else◌, ◌&&◌, ◌++◌, ◌+◌, ◌-◌, ◌<◌, ◌∙◌, ◌∷◌, ◌≡◌, ◌≢◌, ◌≤◌, ◌⊎◌, and_parts, ap, arith, Bool, drop, false, inl, inr, is_alike, latest, length, length-take-le, List, map, Message, nat_eq, nat_le, None, Option, option_map, Outgoing, posted, refill, refl, request_group, slice_get, slice_index_or, slice_set, Some, suc, sym, take, take-suc, true, zero, ℕ, leb-true, le-leb, map-append, length-map, lt-leb, false_from_ne_true}
 
 -- the last that is alike, one more
 pub latest_more : (m : Message) (n i : ℕ) (xs : List (ℕ × Message)) (x : ℕ × Message) (o : Option ℕ)
