@@ -1,5 +1,5 @@
 -- What a call answers that accepts something: by whether the address is held, whether it may be sent, and whether there is no room.
-use Rattle.j39_node.proofs.Common.{if◌then◌else◌, ◌&&◌, ◌||◌, ◌↔◌, ◌≡◌, List, Call, Draft, BadValue, Bool, Err, false, Full, IsTrue, NoAddress, not, Ok, refl, Refused, Result, true, Who, ℕ, answer_to_send, answer_to_ask, answer_to_broadcast, is_engaged, answer_to_transfer, can_ask, holds, open_transfer, can_send, is_full, can_broadcast, length, can_transfer, request_for, accepted, is_asking, is_busy, all_transfers, is_sendable, nat_eq, nat_lt, open_ask, broadcasts, is_resting}
+use Rattle.j39_node.proofs.Common.{arith, if◌then◌else◌, ◌||◌, ◌↔◌, ◌≡◌, List, Call, Draft, BadValue, Bool, Err, false, Full, IsTrue, NoAddress, Ok, refl, Refused, Result, true, Who, ℕ, answer_to_send, answer_to_ask, answer_to_broadcast, is_engaged, answer_to_transfer, can_ask, holds, open_transfer, can_send, is_full, can_broadcast, length, can_transfer, request_for, accepted, is_asking, is_busy, all_transfers, open_ask, broadcasts, is_resting}
 
 abbrev pub answer_by : {T : Type 0} → Bool → Bool → Bool → T → Result T Refused
 answer_by a b f x = if a then (if b then (if f then Err Full else Ok x) else Err BadValue) else Err NoAddress
@@ -36,35 +36,20 @@ transfer_accepts w H now group to k bytes e = accepts (holds w H now) (can_trans
 
 -- it is, where nothing stands against it
 pub is_accepted : {T : Type 0} (a b f : Bool) (x : T) (answer : Result T Refused) → answer ≡ answer_by a b f x → IsTrue a → IsTrue b → (f ≡ true → ⊥) → answer ≡ Ok x
-is_accepted true true false x answer e p q r = e
-is_accepted true true true x answer e p q r = absurd (r refl)
-is_accepted true false f x answer e p q r = absurd (let z : false ≡ true = q in cc)
-is_accepted false b f x answer e p q r = absurd (let z : false ≡ true = p in cc)
+is_accepted a b f x answer e g i j = grind (arith, e, g, i, j)
 
 pub refused_address : {T : Type 0} (a b f : Bool) (x : T) (answer : Result T Refused) → answer ≡ answer_by a b f x → (answer ≡ Err NoAddress ↔ (IsTrue a → ⊥))
-refused_address false b f x answer e = (λ z y. absurd (let u : false ≡ true = y in cc), λ z. e)
-refused_address true true true x answer e = (λ z. absurd (cc), λ z. absurd (z refl))
-refused_address a b f x answer e = (λ z. absurd (cc), λ z. absurd (z refl))
+refused_address a b f x answer e = grind (arith, e)
 
 pub refused_value : {T : Type 0} (a b f : Bool) (x : T) (answer : Result T Refused) → answer ≡ answer_by a b f x
     → (answer ≡ Err BadValue ↔ (IsTrue a × (IsTrue b → ⊥)))
-refused_value true false f x answer e = (λ z. (refl, λ y. absurd (let u : false ≡ true = y in cc)), λ z. e)
-refused_value false b f x answer e = (λ z. absurd (cc), λ z. absurd (let u : false ≡ true = z.0 in cc))
-refused_value true true true x answer e = (λ z. absurd (cc), λ z. absurd (z.1 refl))
-refused_value a b f x answer e = (λ z. absurd (cc), λ z. absurd (z.1 refl))
+refused_value a b f x answer e = grind (arith, e)
 
 -- there is no room where this is so
 pub refused_full : {T : Type 0} {P : Type 0} (a b f : Bool) (x : T) (answer : Result T Refused) → answer ≡ answer_by a b f x → (f ≡ true → P) → (f ≡ false → P → ⊥)
     → (answer ≡ Err Full ↔ (IsTrue a × IsTrue b × P))
-refused_full true true true x answer e to from = (λ z. (refl, refl, to refl), λ z. e)
-refused_full true true false x answer e to from = (λ z. absurd (cc), λ z. absurd (from refl z.2))
-refused_full true false f x answer e to from = (λ z. absurd (cc), λ z. absurd (let u : false ≡ true = z.1 in cc))
-refused_full false b f x answer e to from = (λ z. absurd (cc), λ z. absurd (let u : false ≡ true = z.0 in cc))
+refused_full a b f x answer e g i = grind (arith, e, g, i)
 
 -- a request is a message that may be sent
 pub sendable : (w : Who) (group to : ℕ) → can_ask w group to ≡ true → can_send w (request_for group to) ≡ true
-sendable w group to e = go (is_sendable group || nat_eq group 60928) (nat_eq to 255 || (nat_lt to 254 && not (nat_eq to w.address))) e
-  where
-    go : (a b : Bool) → (a && b) ≡ true → (b && true) ≡ true
-    go true true f = refl
-    go a b f = absurd (cc)
+sendable w group to e = grind (arith, e)

@@ -5,7 +5,7 @@ use Rattle.j39_node.specs.History.{of_other}
 use Rattle.j39_node.specs.Apart.{AreApartBy, FindsBox, both, first, is_quiet, none, second, sent_by, stranger}
 use Rattle.j39_node.specs.Hearing.{is_over}
 use Rattle.std.proofs.lemmas.List.Elements.{filter-append}
-use Rattle.std.proofs.lemmas.Bool.{cases_eq, cond-true}
+use Rattle.std.proofs.lemmas.Bool.{cases_eq}
 use Rattle.j39_node.proofs.HearingLaws.{as_ticked, others_leave}
 use Rattle.j39_node.proofs.HearingLemmas.{kept_by, of_filter, of_its, open_part, stands}
 use Rattle.j39_node.proofs.PacketsAnswer.{made_by_packet}
@@ -26,11 +26,7 @@ by_kind w name now f o = if announces f then opens w name now f o else if packs 
 its_kind : (w : Who) (H : List Call) (when : ℕ) (f : FrameRecord) → FindsBox w (source_of f.id) (At when (Hear f)) H
     → hears_it w (holder w (At when (Hear f) ∷ H) (source_of f.id)) (time_heard (At when (Hear f) ∷ H)) f (has_room w.boxes (source_of f.id) (found_in w H when f)) (found w H when f (source_of f.id))
     ≡ by_kind w (holder w (At when (Hear f) ∷ H) (source_of f.id)) (time_heard (At when (Hear f) ∷ H)) f (found w H when f (source_of f.id))
-its_kind w H when f b = then_same (announces f) _ _ _ (λ e. cond-true _ _ _ (b refl e))
-  where
-    then_same : (c : Bool) (x y z : Option OpenBroadcast) → (c ≡ true → x ≡ y) → (if c then x else z) ≡ (if c then y else z)
-    then_same true x y z h = h refl
-    then_same false x y z h = refl
+its_kind w H when f e = grind arith
 
 its_now : (w : Who) (H : List Call) (when : ℕ) (f : FrameRecord) → FindsBox w (source_of f.id) (At when (Hear f)) H → hearing w (At when (Hear f) ∷ H) (source_of f.id)
     ≡ (if announces f || packs f then open_part (by_kind w (holder w (At when (Hear f) ∷ H) (source_of f.id)) (time_heard (At when (Hear f) ∷ H)) f (found w H when f (source_of f.id))) else found w H when f (source_of f.id))

@@ -417,13 +417,10 @@ module _ (w : Who) (f : FrameRecord) (a : IsAside w f) where
       held = holds w H when
 
       owes : owes_claim w (At when (Hear f) ∷ H) ≡ owes_claim w H
-      owes =
-          (λ i. owes_claim w H || (uncalled (is_lost (address_after w H)) i || (not_mine held i && nat_eq (patience w H - step H when) 0))) ∙ or-false (owes_claim w H)
+      owes = grind arith
 
       quiets : called w (At when (Hear f) ∷ H) ≡ called w H - (when - heard_at H)
-      quiets =
-          (λ i. if calls_claims (holder w H) f (a.claims i) then 1250000 else called w H - (when - heard_at H))
-          ∙ ap (λ (b : Bool). if b then 1250000 else called w H - (when - heard_at H)) a.asks
+      quiets = grind arith
 
       lives : address_after w (At when (Hear f) ∷ H) ≡ older (step H when) (address_after w H)
       lives = ap (λ (b : Bool). if b then Lost else older (step H when) (address_after w H)) mine

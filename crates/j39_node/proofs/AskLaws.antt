@@ -1,11 +1,11 @@
 -- The laws of requests.
-use Rattle.j39_node.proofs.Common.{Ack, Acknowledged, Answered, AreAnswered, Ask, AskEnding, AskedSince, At, Bool, Busy, Call, Controller, Denied, FrameRecord, Hear, HeardFirst, Is, IsAnswered, IsTrue, List, Nack, None, NoneEnds, Ok, Option, Question, RanOut, Refused, Result, Some, TakeAskEnded, TakeFrame, TimedOut, Who, Withdraw, [], accepted, address_after, and_parts, answer_to_ask, ap, arith, ask_end, asks, can_ask, comes, end_at, ended, ends, eqb-true, false, first, has_token, holds, if◌then◌else◌, inl, inr, is_acknowledgment, is_answer, is_asking, is_claim, is_full, is_lost, is_message, is_request, is_session, kept, later, left, length, lost, made, marks, message_from, moment, nat_eq, nat_lt, not, not-true, not_both, open_ask, option_map, passed_in, past, question, reached, reaches, refl, request_for, says, says_to, seeks, silent, silent_end, slice_get, slice_set, step, subst, suc, sym, time_heard, told, told_asks, true, wait, ℕ, ◌&&◌, ◌++◌, ◌+◌, ◌-◌, ◌<◌, ◌||◌, ◌∙◌, ◌∷◌, ◌≡◌, ◌⊎◌, IfSome, le-ltb, lt-ltb, ne_eqb, same_Some, and-false, eqb-false, or_parts, cases_Bool}
+use Rattle.j39_node.proofs.Common.{Acknowledged, Answered, AreAnswered, Ask, AskEnding, AskedSince, At, Bool, Call, Controller, FrameRecord, Hear, HeardFirst, Is, IsAnswered, IsTrue, List, None, NoneEnds, Ok, Option, Question, RanOut, Refused, Result, Some, TakeAskEnded, TakeFrame, TimedOut, Who, Withdraw, [], accepted, address_after, and_parts, answer_to_ask, ap, arith, ask_end, asks, can_ask, comes, end_at, ended, eqb-true, false, first, has_token, holds, if◌then◌else◌, inl, inr, is_acknowledgment, is_answer, is_asking, is_claim, is_full, is_lost, is_message, is_request, is_session, kept, later, left, length, lost, made, marks, message_from, moment, nat_eq, nat_lt, not, not-true, not_both, open_ask, passed_in, past, question, reached, reaches, refl, request_for, says, says_to, seeks, silent, silent_end, slice_get, slice_set, step, subst, suc, sym, time_heard, told, told_asks, true, wait, ℕ, ◌&&◌, ◌++◌, ◌+◌, ◌-◌, ◌<◌, ◌||◌, ◌∙◌, ◌∷◌, ◌≡◌, ◌⊎◌, IfSome, le-ltb, lt-ltb, same_Some, or_parts, cases_Bool}
 use Rattle.j39_node.specs.declared.kinds.AskEnding.TheVariants.{Withdrawn}
 use Rattle.j39_node.specs.Asking.{is_reply, is_taken, said_by}
 use Rattle.j39_node.proofs.WithdrawLemmas.{get_front, unpassed}
 use Rattle.j39_node.proofs.AnswerCases.{ask_accepts}
 use Rattle.j39_node.proofs.AnswerCases as cases
-use Rattle.j39_node.proofs.QueueLemmas.{get_append, length_one_more, get_last, mapped_none, mapped_some}
+use Rattle.j39_node.proofs.QueueLemmas.{get_append, length_one_more, get_last, mapped_some}
 use Rattle.j39_node.proofs.SoundLemmas.{sound, grows_on, passes_request, request_stays, stays_lost}
 use Rattle.j39_node.proofs.LawLemmas.{full_from, full_parts}
 
@@ -16,8 +16,7 @@ Listed n qs None = length qs ≡ n
 Listed n qs (Some q) = (slice_get qs n ≡ Some q) × (length qs ≡ suc n)
 
 none_open : (b : Bool) (o : Option Question) → (b || is_asking o) ≡ false → o ≡ None
-none_open false None e = refl
-none_open b o e = absurd (cc)
+none_open b o e = grind (arith, e)
 
 pub opens : (w : Who) (H : List Call) (now group to k : ℕ) → Ok k ≡ answer_to_ask w H now group to → (can_ask w group to ≡ true) × (open_ask H ≡ None) × (k ≡ length (accepted w H))
 opens w H now group to k e = let x = ask_accepts w H now group to k e in (x.1, none_open (is_full w H) (open_ask H) x.2, x.3)
@@ -139,27 +138,11 @@ is_word (Acknowledged a) = true
 is_word TimedOut = false
 is_word Withdrawn = false
 
--- what a frame says is a word
-said_word : (o : Option ℕ) → IfSome (said_by o) (λ e. is_word e ≡ true)
-said_word None = tt
-said_word (Some c) = go (nat_eq c 0) (nat_eq c 1) (nat_eq c 2) (nat_eq c 3)
-  where
-    go : (p q r s : Bool) → IfSome (if p then Some (Acknowledged Ack) else if q then Some (Acknowledged Nack) else if r then Some (Acknowledged Denied) else if s then Some (Acknowledged Busy) else None) (λ e. is_word e ≡ true)
-    go true q r s = refl
-    go false true r s = refl
-    go false false true s = refl
-    go false false false true = refl
-    go false false false false = tt
-
 says_word : (w : Who) (q : Question) (f : FrameRecord) (m : Option (ℕ × ℕ)) (e : AskEnding) → says_to w q f m ≡ Some e → is_word e ≡ true
 says_word w q f m e g = subst (λ (o : Option AskEnding). IfSome o (λ e. is_word e ≡ true)) g (go (seeks q m) (reaches w f) (is_answer q f) (is_reply w q f))
   where
     go : (d a b c : Bool) → IfSome (if d then Some Answered else if a then (if b then Some Answered else if c then said_by (slice_get f.bytes 0) else None) else None) (λ e. is_word e ≡ true)
-    go true a b c = refl
-    go false false b c = tt
-    go false true true c = refl
-    go false true false true = said_word (slice_get f.bytes 0)
-    go false true false false = tt
+    go d a b c = grind arith
 
 -- how it ended, and what was before
 pub data Outcome (w : Who) (H : List Call) (q : Question) (e : AskEnding) : Type 0 where
@@ -207,14 +190,7 @@ silently w H q e taken left coming lost z time loss = go taken (nat_eq left 0) c
 
 not_over : (taken : Bool) (left : ℕ) (coming lost : Bool) → silent_end taken left coming lost ≡ None
     → (lost ≡ false) × (taken ≡ true → (0 < left) ⊎ (coming ≡ true))
-not_over taken left coming lost z = go taken (nat_eq left 0) coming lost refl refl refl refl z
-  where
-    go : (a b d c : Bool) → taken ≡ a → nat_eq left 0 ≡ b → coming ≡ d → lost ≡ c → (if a && (b && not d) then Some TimedOut else if c then Some Withdrawn else None) ≡ None
-        → (lost ≡ false) × (taken ≡ true → (0 < left) ⊎ (coming ≡ true))
-    go true true true false p r v s z = (s, λ t. inr v)
-    go true false d false p r v s z = (s, λ t. inl (let n = eqb-false left 0 r in omega (arith, n)))
-    go false b d false p r v s z = (s, λ t. absurd (not_both _ p t))
-    go a b d c p r v s z = absurd (cc)
+not_over taken left coming lost e = (grind (arith, e), grind (arith, e))
 
 -- a frame ends it
 ends_by : (w : Who) (H : List Call) (when : ℕ) (f : FrameRecord) (q : Question) (e : AskEnding) → AreAnswered w H → open_ask H ≡ Some q → ended w H ≡ None
@@ -331,8 +307,7 @@ pub from_limit : (w : Who) (H : List Call) → AreAnswered w H → (is_full w H 
 from_limit w H right e (inl z) = go (open_ask H) (none_open (is_full w H) (open_ask H) e) (listed w H right)
   where
     go : (o : Option Question) → o ≡ None → Listed (length (told_asks H)) (asks H) o → ⊥
-    go None p h = omega (arith, z, h)
-    go (Some q) p h = absurd (cc)
+    go o e f = grind (arith, e)
 from_limit w H right e (inr z) = not_both _ (or_parts (is_full w H) _ e).0 (full_from (length (accepted w H)) (length (told H)) z)
 
 pub is_accepted : (w : Who) (H : List Call) (c : Controller) (now group to : ℕ) (answer : Result ℕ Refused) → Is w (At now (Ask group to answer) ∷ H) c
@@ -342,9 +317,7 @@ is_accepted w H c now group to answer is held can none room some =
     cases.is_accepted (holds w H now) (can_ask w group to) (is_full w H || is_asking (open_ask H)) (length (accepted w H)) answer is.answered.1 held can (λ f. no (limit w H is.answered.0 f))
   where
     no : AtLimit w H → ⊥
-    no (inl z) = omega (arith, z, none)
-    no (inr (inl z)) = omega (arith, z, room)
-    no (inr (inr z)) = omega (arith, z, some)
+    no e = grind arith
 
 -- ---- its frame
 
@@ -369,8 +342,7 @@ in_turn w H c k e is =
   where
     go : (o : Option Question) → o ≡ Some (told_is w H c k e is).question → Listed (length (told_asks H)) (asks H) o
         → slice_get (asks H) (length (told_asks H)) ≡ Some (told_is w H c k e is).question
-    go None p h = absurd (cc)
-    go (Some q) p h = h.0 ∙ p
+    go o f g = grind (arith, f)
 
 -- ends of each kind
 pub out_of : (w : Who) (H : List Call) (c : Controller) (k : ℕ) (e : AskEnding) (q : Question) → Is w (TakeAskEnded (Some (k, e)) ∷ H) c → open_ask H ≡ Some q → Outcome w H q e
@@ -395,31 +367,17 @@ pub withdrawn_means : (w : Who) (H : List Call) (c : Controller) (k : ℕ) → I
 withdrawn_means w H c k is = let t = told_is w H c k Withdrawn is in go t.question t.out
   where
     go : (q : Question) → Outcome w H q Withdrawn → IsTrue (is_lost (address_after w H))
-    go q (by_word l h) = absurd (cc)
-    go q (by_time z h) = absurd (cc)
-    go q (by_loss z h) = h
+    go q e = grind arith
 
 -- ---- what was heard first stands
 
 stays : (w : Who) (later H : List Call) (q : Question) (e : AskEnding) → NoneEnds later → open_ask H ≡ Some q → ended w H ≡ Some e
     → (open_ask (later ++ H) ≡ Some q) × (ended w (later ++ H) ≡ Some e)
 stays w [] H q e n o z = (o, z)
-stays w (call ∷ later) H q e n o z = go call n.0 (stays w later H q e n.1 o z)
-  where
-    go : (call : Call) → ends call ≡ false → (open_ask (later ++ H) ≡ Some q) × (ended w (later ++ H) ≡ Some e)
-        → (open_ask (call ∷ later ++ H) ≡ Some q) × (ended w (call ∷ later ++ H) ≡ Some e)
-    go (At now (Ask group to (Ok k))) x h = absurd (cc)
-    go (TakeAskEnded (Some y)) x h = absurd (cc)
-    go (At when (Hear f)) x h = (
-      h.0,
-      ap (λ (o : Option AskEnding). first o (end_at w (open_ask (later ++ H)) (reached (later ++ H)) (wait (later ++ H) - step (later ++ H) when)
-          (comes w (later ++ H) (time_heard (At when (Hear f) ∷ later ++ H))) (is_lost (address_after w (At when (Hear f) ∷ later ++ H))) f (made w (later ++ H) when f))) h.1,
-    )
-    go call x h = h
+stays w (call ∷ later) H q e n o z = let h = stays w later H q e n.1 o z in (grind (arith, h, o, z), grind (arith, h, o, z))
 
 not_silent : (left : ℕ) (coming : Bool) → (0 < left) ⊎ IsTrue coming → silent_end true left coming false ≡ None
-not_silent left coming (inl l) = ap (λ (b : Bool). if b && not coming then Some TimedOut else None) (ne_eqb left 0 (λ z. omega (arith, z, l)))
-not_silent left coming (inr c) = (λ i. if nat_eq left 0 && not (c i) then Some TimedOut else None) ∙ ap (λ (b : Bool). if b then Some TimedOut else None) (and-false (nat_eq left 0))
+not_silent left coming e = grind (arith, e)
 
 pub first_stands : (w : Who) (H later : List Call) (c : Controller) (when : ℕ) (f : FrameRecord) (q : Question) (e : AskEnding) (answer : Option (ℕ × AskEnding))
     → Is w (TakeAskEnded answer ∷ later ++ At when (Hear f) ∷ H) c → NoneEnds later → open_ask H ≡ Some q → IsTrue (is_taken q H) → ended w H ≡ None
@@ -445,17 +403,7 @@ first_stands w H later c when f q e answer is n o t none l kept says =
 
 pub over_told : (w : Who) (H : List Call) (q : Question) (h : Option AskEnding) → (h ≡ None) ⊎ (h ≡ Some TimedOut) → open_ask H ≡ Some q → is_taken q H ≡ true
     → wait H ≡ 0 → comes w H (time_heard H) ≡ false → ask_end (open_ask H) (reached H) h (wait H) (comes w H (time_heard H)) (is_lost (address_after w H)) ≡ Some (q.token, TimedOut)
-over_told w H q h g o t l d =
-    (λ i. ask_end (o i) (reached H) h (l i) (d i) (is_lost (address_after w H)))
-    ∙ (ap (λ (b : Bool). of_it (first h (silent_end b 0 false (is_lost (address_after w H))))) t ∙ by h g)
-  where
-    of_it : Option AskEnding → Option (ℕ × AskEnding)
-    of_it = option_map (λ (e : AskEnding). (q.token, e))
-
-    by : (h : Option AskEnding) → (h ≡ None) ⊎ (h ≡ Some TimedOut) → of_it (first h (Some TimedOut)) ≡ of_it (Some TimedOut)
-    by None g = refl
-    by (Some e) (inl g) = absurd (cc)
-    by (Some e) (inr g) = ap of_it g
+over_told w H q h e f g i j = grind (arith, e, f, g, i, j)
 
 pub times_out : (w : Who) (H : List Call) (c : Controller) (q : Question) (answer : Option (ℕ × AskEnding)) → Is w (TakeAskEnded answer ∷ H) c → open_ask H ≡ Some q
     → IsTrue (is_taken q H) → wait H ≡ 0 → comes w H (time_heard H) ≡ false → is_lost (address_after w H) ≡ false → ((e : AskEnding) → HeardFirst w H q e → ⊥)
@@ -495,8 +443,7 @@ all_told w H c is = go (open_ask H) refl (listed w H is.answered.0) is.answered.
 
     silent : (q : Question) (h : Option AskEnding) → (let none : Option (ℕ × AskEnding) = None in none) ≡ ask_end (Some q) (reached H) h (wait H) (comes w H (time_heard H)) (is_lost (address_after w H))
         → silent_end (is_taken q H) (wait H) (comes w H (time_heard H)) (is_lost (address_after w H)) ≡ None
-    silent q (Some x) z = absurd (cc)
-    silent q None z = mapped_none _ (silent_end (is_taken q H) (wait H) (comes w H (time_heard H)) (is_lost (address_after w H))) (sym z)
+    silent q h e = grind (arith, e)
 
     go : (o : Option Question) → open_ask H ≡ o → Listed (length (told_asks H)) (asks H) o
         → (let none : Option (ℕ × AskEnding) = None in none) ≡ ask_end o (reached H) (ended w H) (wait H) (comes w H (time_heard H)) (is_lost (address_after w H)) → Goal

@@ -5,8 +5,7 @@ use Rattle.j39_node.proofs.SoundLemmas.{passes_request, request_stays}
 
 -- a message is taken
 pub token_of : (o : Option Question) (n : ℕ) (e : Option AskEnding) → option_map (λ (x : AskRecord). x.question) (asked_by o n e) ≡ o
-token_of None n e = refl
-token_of (Some q) n e = refl
+token_of o n e = grind arith
 
 lt_more : (t n : ℕ) → (nat_lt t n || nat_eq t n) ≡ nat_lt t (suc n)
 lt_more t n = grind arith
@@ -37,8 +36,7 @@ ask_withdrawn w H k right = go (open_ask H) refl
 -- a frame is heard
 pub ask_heard : (w : Who) (o : Option Question) (n left : ℕ) (e : Option AskEnding) (coming lost : Bool) (f : FrameRecord) (m : Option (ℕ × ℕ))
     → option_map (hears_with w (silence left coming lost (asked_by o n e)) f m) (asked_by o n e) ≡ asked_by o n (first e (end_at w o n left coming lost f m))
-ask_heard w None n left e coming lost f m = refl
-ask_heard w (Some q) n left e coming lost f m = refl
+ask_heard w o n left e coming lost f m = grind arith
 
 -- none is open, or one
 pub asking_is : (o : Option Question) (n : ℕ) (e : Option AskEnding) → is_asking (option_map (λ (x : AskRecord). x.question) (asked_by o n e)) ≡ is_asking o

@@ -1,11 +1,11 @@
 -- What is sent to it whole is received.
-use Rattle.j39_node.proofs.Common.{[], ◌*◌, ◌++◌, ◌+◌, ◌<◌, ◌==◌, ◌∙◌, ◌∷◌, ◌≡◌, ◌≢◌, ◌≤◌, ◌⊎◌, ap, arith, At, begins, Bool, Bring, brings, Call, claim_of, cond_both, delivers_message, Directed, eqb-true, false, FrameRecord, goes_on, granted_at, grants, has_place, Hear, Heard, heard_by, holder, holds, inl, inr, is_claim, is_of_sender, is_reply, is_smaller, IsPacket, IsTrue, keeps, known, leaves, left, limit_in, limit_of, List, MessageRecord, None, Option, Packet, Reaction, Reception, reception, ReceptionRecord, recv_step, RecvResult, refl, ReleaseTransfer, RequestToSend, result_of, said_to, SessionRecord, shown, Signal, Some, source_of, Spares, spares, step_at, subst, suc, sym, take, TakeFrame, takes_data, takes_packet, takes_request, takes_signal, Tick, time_heard, timer_t1, true, Who, whole, whole_by, ℕ}
+use Rattle.j39_node.proofs.Common.{[], ◌*◌, ◌++◌, ◌+◌, ◌<◌, ◌==◌, ◌∙◌, ◌∷◌, ◌≡◌, ◌≢◌, ◌≤◌, ◌⊎◌, ap, arith, At, begins, Bool, Bring, brings, Call, claim_of, cond_both, delivers_message, Directed, eqb-true, false, FrameRecord, goes_on, granted_at, grants, has_place, Hear, Heard, heard_by, holder, holds, inl, inr, is_of_sender, is_smaller, IsPacket, IsTrue, keeps, known, leaves, left, limit_in, limit_of, List, MessageRecord, None, Option, Packet, Reaction, Reception, reception, ReceptionRecord, recv_step, RecvResult, refl, ReleaseTransfer, RequestToSend, result_of, said_to, SessionRecord, shown, Signal, Some, source_of, Spares, spares, step_at, subst, suc, sym, take, TakeFrame, takes_data, takes_packet, takes_request, takes_signal, Tick, time_heard, timer_t1, true, Who, whole, whole_by, ℕ}
 use Rattle.j39_transport.specs.Reception.{begun, message_of}
 use Rattle.j39_transport.specs.Session.{grown, opened as opens}
 use Rattle.j39_transport.specs.Frames as frames
 use Rattle.j39_node.proofs.PacketLemmas.{hushed}
 use Rattle.j39_node.proofs.ReceptionLaws.{from_others, heard_is, not_driven, not_left_by, not_lost, opens_at, quiet_tick, said_no_claim, holder_stays}
-use Rattle.j39_node.proofs.ReceptionLemmas.{released_all, taken_any}
+use Rattle.j39_node.proofs.ReceptionLemmas.{released_all}
 use Rattle.j39_node.proofs.SessionLaws as session
 
 -- ---- a packet of the open session
@@ -158,21 +158,8 @@ spared w H (At now Tick) s size n pgn start k last joined h l q =
     least x = cond_both x.fresh _ _ (λ (m : ℕ). timer_t1 ≤ m) (λ t. omega arith) (λ t. omega arith)
 
     in_time : (x : ReceptionRecord) → Some h.session ≡ Some x → time_heard (At now Tick ∷ H) ≤ limit_in (reception w H).since x
-    in_time x e =
-        let z : h.session ≡ x = cc in
-        let a = least h.session in
-        let b = ap (λ (m : SessionRecord). m.last) h.message in
-        let c = h.soon in
-        let d = h.since in
-        let p = ap (λ (m : SessionRecord). m.packets) h.message in
-        subst (λ (u : ReceptionRecord). time_heard (At now Tick ∷ H) ≤ limit_in (reception w H).since u) z (omega (arith, a, b, c, d, p, q, l))
-spared w H (At now (TakeFrame (Some f))) s size n pgn start k last joined h l q =
-    taken_any (λ (x : Reception). x.session ≡ Some h.session) (is_claim f) (is_reply (reception w H).replies f) _ (reception w H)
-    (λ i. ap (λ (b : Bool). (left b (reception w H)).session) stays ∙ h.is) (λ i. h.is) (λ i. h.is)
-  where
-    stays : leaves (holder w H) (holder w (At now (TakeFrame (Some f)) ∷ H)) (reception w H).session ≡ false
-    stays = holder_stays (holder w H) (holder w (At now (TakeFrame (Some f)) ∷ H)) (reception w H).session h.session h.is
-        (subst (λ (a : ℕ). holder w (At now (TakeFrame (Some f)) ∷ H) a ≡ holder w H a) (sym (from h)) q)
+    in_time x e = grind (arith, e)
+spared w H (At now (TakeFrame (Some f))) s size n pgn start k last joined h l q = grind (arith, l)
 spared w H (ReleaseTransfer answer) s size n pgn start k last joined h l q = released_all (λ (x : Reception). x.session ≡ Some h.session) answer (reception w H) h.is
 spared w H call s size n pgn start k last joined h l q = h.is
 

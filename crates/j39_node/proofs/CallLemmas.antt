@@ -1,7 +1,8 @@
 -- A call more.
+use Rattle.std.proofs.lemmas.Grind.{common_steps}
 use Rattle.j39_node.proofs.KindLemmas.{Kind, kind, kind_by, kind_is, single}
 use Rattle.j39_node.proofs.SoundLemmas.FrameCase.{claims as claims_first, acknowledges, replies, sends, packs, transfers}
-use Rattle.j39_node.proofs.Common.{Address, AreAnswered, AskRecord, Asked, At, Bool, Call, Claimed, Claims, Controller, Done, Draft, Due, Ending, FrameRecord, Hear, Hold, IfSome, Incoming, IncomingRecord, Is, IsAnswered, IsApart, IsOthers, Knows, List, Lost, Message, Move, None, Option, Outgoing, Question, Ready, Renew, Renews, Reply, Said, Single, Some, TakeEnded, TakeFrame, Untold, View, Who, Withdraw, Withdrawn, [], accepted, acknowledged, address_after, after, age, all_transfers, ap, arith, asked_by, asking_of, asks_claims, asks_with, at_in, blank, called, calls, can_claim, can_send, claim_address, claim_due, claim_from, claim_goes, claim_of, claimed, claims, clock, clock_at, comes, counted, delayed, drop, drop-map, due, end_of, ended, ending_of, false, first, gives_way, got, has_packets, has_token, heard_at, heard_by, hearing_after, hearing_of, held_at, hold_acknowledged, hold_after, hold_asked, hold_claimed, hold_spoken, hold_went, holder, holder_in, holds, holds_back, if◌then◌else◌, in_session, incoming_after, incoming_of, inl, inr, is_apart, is_asking, is_blank, is_busy, is_claim, is_coming, is_engaged, is_for_program, is_full, is_held, is_left, is_lost, is_open, is_resting, is_served, is_smaller, is_there, is_turn, kept, known, lane_after, lane_of, latest, le-ltb, leaves, leb-true, led, left, left_at, length, length-drop, length-set, less, listening, lost, lt-ltb, ltb-false, ltb-true, map, marks, max, may_claim, may_go, message_from, message_of, min, missed_news, moment, more, nat_eq, nat_le, nat_lt, news_after, next_acknowledgment, next_due, next_frame, next_packet, next_renewed, next_transfer, next_transfer_ended, next_turn, next_withdrawn, not, nothing, offered, older, open_ask, open_broadcast, open_transfer, option_map, other, owes_claim, packet_by, packets, packets_in, passed, past, pause, paused, place_of, port_after, port_of, posted, reached, ready_in, reception, refl, refusal_by, resting, resting_by, said_by, senders, sends_if, slice_get, slice_get_past, slice_get_within, slice_set, sooner, source_of, stamp_at, stamped, standing_of, stands, step, subst, suc, sym, taken_by, those_over, time_heard, told, told_claims, transfer_by, transfer_end, transfer_in, true, turn_frame, turn_of, turns, unclaimed, unclaims, unheard_news, view, wait, who_of, with_called, with_reception, with_refusal, with_replies, with_request, yields, ℕ, ◌&&◌, ◌++◌, ◌+◌, ◌-◌, ◌<◌, ◌||◌, ◌∙◌, ◌∷◌, ◌≡◌, ◌≤◌, map-append, length-map, drop-append-le, cond_some}
+use Rattle.j39_node.proofs.Common.{Address, AreAnswered, AskRecord, Asked, At, Bool, Call, Claims, Controller, Done, Draft, Due, Ending, FrameRecord, Hear, Hold, IfSome, Incoming, IncomingRecord, Is, IsAnswered, IsApart, IsOthers, Knows, List, Lost, Message, Move, None, Option, Outgoing, Ready, Renew, Renews, Reply, Said, Single, Some, TakeEnded, TakeFrame, Untold, View, Who, Withdraw, Withdrawn, [], accepted, acknowledged, address_after, after, age, all_transfers, ap, arith, asked_by, asking_of, asks_claims, asks_with, at_in, blank, called, calls, can_claim, can_send, claim_address, claim_due, claim_from, claim_goes, claim_of, claimed, claims, clock, clock_at, comes, counted, delayed, drop, drop-map, due, end_of, ended, ending_of, false, first, gives_way, got, has_packets, has_token, heard_at, heard_by, hearing_after, hearing_of, held_at, hold_acknowledged, hold_after, hold_asked, hold_claimed, hold_spoken, hold_went, holder, holder_in, holds, holds_back, if◌then◌else◌, in_session, incoming_after, incoming_of, inl, inr, is_apart, is_asking, is_blank, is_busy, is_claim, is_coming, is_engaged, is_for_program, is_full, is_held, is_left, is_lost, is_open, is_resting, is_served, is_smaller, is_there, is_turn, kept, known, lane_after, lane_of, latest, le-ltb, leaves, leb-true, led, left, left_at, length, length-drop, length-set, less, lost, lt-ltb, ltb-false, ltb-true, map, marks, max, may_claim, may_go, message_from, message_of, min, missed_news, moment, more, nat_eq, nat_le, nat_lt, news_after, next_acknowledgment, next_due, next_frame, next_packet, next_renewed, next_transfer, next_transfer_ended, next_turn, next_withdrawn, not, nothing, offered, older, open_ask, open_transfer, option_map, other, owes_claim, packet_by, packets, packets_in, passed, past, pause, paused, place_of, port_after, port_of, posted, reached, ready_in, reception, refl, refusal_by, resting_by, said_by, senders, sends_if, slice_get, slice_get_past, slice_get_within, slice_set, sooner, source_of, stamp_at, stamped, standing_of, stands, step, subst, suc, sym, taken_by, those_over, time_heard, told, told_claims, transfer_by, transfer_end, transfer_in, true, turn_frame, turn_of, turns, unclaimed, unclaims, unheard_news, view, wait, who_of, with_called, with_reception, with_refusal, with_replies, with_request, yields, ℕ, ◌&&◌, ◌++◌, ◌+◌, ◌-◌, ◌<◌, ◌||◌, ◌∙◌, ◌∷◌, ◌≡◌, ◌≤◌, map-append, length-map, drop-append-le, cond_some}
 use Rattle.j39_node.specs.Boxes.{in_box}
 use Rattle.j39_node.specs.Is.{leaving}
 use Rattle.j39_node.specs.Reception.{is_waiting}
@@ -12,9 +13,9 @@ use Rattle.j39_node.proofs.WithdrawLemmas.{past_rest}
 use Rattle.j39_node.specs.declared.hold.Standing.TheVariants as standing
 use Rattle.j39_node.proofs.AskLemmas.{asking_is, ask_more, takes, token_of, ask_withdrawn}
 use Rattle.j39_node.proofs.ReceptionLemmas.{leaves_is, tidy, calls_is, leaves_still}
-use Rattle.j39_node.proofs.HearingLemmas.{broken_news, claimed_on, claimed_says, hearing_same, missed_one, news_same}
+use Rattle.j39_node.proofs.HearingLemmas.{claimed_on, claimed_says, hearing_same, news_same}
 use Rattle.j39_node.proofs.QueueLemmas.{length_one_more, length_rest, First, get_at, get_map, get_of_drop, rest_at, mapped_none}
-use Rattle.j39_node.proofs.SoundLemmas.{FrameCase, case_goes, next_is, IsTurn, frame_there, overdue_due, packet_there, some_at, turn_is, sound, frame_by, held_not_lost, holding_not_lost, lost_older, Sound, withdraw_case, acknowledged_is_due, not_there, apart_there, other_is}
+use Rattle.j39_node.proofs.SoundLemmas.{FrameCase, case_goes, next_is, IsTurn, frame_there, packet_there, some_at, turn_is, sound, held_not_lost, holding_not_lost, lost_older, Sound, withdraw_case, acknowledged_is_due, not_there, other_is}
 use Rattle.j39_node.proofs.FrameLemmas.{at_now}
 use Rattle.j39_node.proofs.PortLemmas.{clock_is, is_port}
 use Rattle.j39_node.proofs.RenewLemmas.{latest_rest, latest_is, set_rest}
@@ -22,16 +23,13 @@ use Rattle.j39_node.proofs.RenewLemmas.{latest_rest, latest_is, set_rest}
 -- ---- the hold
 
 less_is : (s : ℕ) (a : Address) → less s (standing_of a) ≡ standing_of (older s a)
-less_is s (Claimed e) = ap standing.Claimed (omega arith)
-less_is s a = refl
+less_is s a = grind arith
 
 pub stands_is : (a : Address) → stands (standing_of a) ≡ is_held a
-stands_is (Claimed e) = grind arith
-stands_is a = refl
+stands_is a = grind arith
 
 pub lost_is : (a : Address) → lost (standing_of a) ≡ is_lost a
-lost_is Lost = refl
-lost_is a = refl
+lost_is a = grind arith
 
 abbrev pub Passed : Who → List Call → ℕ → Hold → Type 0
 Passed w H now k = k ≡ led w H now
@@ -62,9 +60,7 @@ follows {w} {H} {old} {new} h k answer t v =
 
 pub packet_next : (w : Who) (H : List Call) (c : Controller) (now left : ℕ) → Is w H c → left ≡ pause H - step H now
     → packet_by (lane_of (who_of w.brought c.own) c.lane).current c.lane.count left ≡ next_packet w H now
-packet_next w H c now left h e =
-    ap (λ (u : View). packet_by (lane_of u.who c.lane).current c.lane.count left) h.shown
-    ∙ (ap (λ (v : View). packet_by v.lane.current v.lane.count left) h.shown ∙ ap (packet_by (open_broadcast w H) (length (packets H))) e)
+packet_next w H c now left e f = grind (arith, f)
 
 -- ---- a frame is taken
 
@@ -148,9 +144,7 @@ incoming_heard w H old when f table new gone held h knows away stays does =
 
 pub transfer_next : (w : Who) (H : List Call) (c : Controller) (now time : ℕ) → Is w H c → time ≡ min (age H + step H now) 18446744073709551615
     → transfer_by (port_of c.transfers).current (clock time) ≡ next_transfer w H now
-transfer_next w H c now time h e =
-    ap (λ (n : ℕ). transfer_by (port_of c.transfers).current n) (ap clock e ∙ clock_is (age H + step H now))
-    ∙ ap (λ (v : View). transfer_by v.port.current (clock_at H now)) h.shown
+transfer_next w H c now time e f = grind (arith, f)
 
 -- ---- a frame is taken
 
@@ -229,8 +223,7 @@ due_there gives n e = grind (arith, e)
 
 pub one_acknowledged : (w : Who) (H : List Call) (now : ℕ) (gives b : Bool) (m : Message) → gives ≡ gives_way w H now → (not gives && b) ≡ true
     → slice_get (due w H) (length (acknowledged H)) ≡ Some m → next_acknowledgment w H now ≡ Some m
-one_acknowledged w H now true b m g e i = absurd (cc)
-one_acknowledged w H now false b m g e i = ap (λ (b : Bool). if b then None else slice_get (due w H) (length (acknowledged H))) (sym g) ∙ i
+one_acknowledged w H now gives b m e f g = grind (arith, e, f, g)
 
 -- the next that isn't withdrawn, of those that aren't told
 past_queued : (w : Who) (G : List Call) (items : List Outgoing) (t n : ℕ) → Sound w G → map posted items ≡ drop t (accepted w G)
@@ -366,8 +359,7 @@ told_done w H old new x e is h f some less u =
     before = lt-ltb _ _ (let a = (ap (λ (v : View). v.taken) h.shown) in omega (arith, a, some))
 
     ending : (b : Bool) → ending_of (not b) true x.token ≡ Some (x.token, if b then Withdrawn else Done)
-    ending true = refl
-    ending false = refl
+    ending b = grind arith
 
 pub told_withdrawn : (w : Who) (H : List Call) (old new : Controller) (x : Outgoing) → Is w H old
     → First posted new.outgoing.items x (length (told H)) (accepted w H) → old.taken ≡ 0 → lost old.hold.standing ≡ true → new.taken ≡ old.taken
@@ -404,8 +396,7 @@ posted_more w H c h x m is e =
 -- ---- a frame is heard
 
 pub heard_standing : (b : Bool) (s : ℕ) (a : Address) → (if b then standing.Lost else standing_of (older s a)) ≡ standing_of (if b then Lost else older s a)
-heard_standing true s a = refl
-heard_standing false s a = refl
+heard_standing b s a = grind arith
 
 -- one more, or none
 rest_grows : {T : Type 0} (b : Bool) (L xs : List T) (n : ℕ) (x : T) → n ≤ length L → xs ≡ drop n L → (if b then xs ++ x ∷ [] else xs) ≡ drop n (if b then L ++ x ∷ [] else L)
@@ -414,9 +405,7 @@ rest_grows false L xs n x l e = e
 
 pub kept_rest : {T : Type 0} (wanted : Bool) (K unread : List T) (n : ℕ) (x : T) → n ≤ length K → unread ≡ drop n K
     → offered wanted x unread ≡ drop n (if wanted && nat_lt (length K - n) 16 then K ++ x ∷ [] else K)
-kept_rest wanted K unread n x l e =
-    ap (offered wanted x) e
-    ∙ (ap (λ (k : ℕ). if wanted && nat_lt k 16 then drop n K ++ x ∷ [] else drop n K) (length-drop n K) ∙ rest_grows (wanted && nat_lt (length K - n) 16) K (drop n K) n x l refl)
+kept_rest wanted K unread n x e f = grind (arith, common_steps, e, f)
 
 -- the NAMEs beside them
 one_more : {T : Type 0} {U : Type 0} (b : Bool) (xs : List T) (ys : List U) (x : T) (y : U) → length xs ≡ length ys
@@ -440,13 +429,7 @@ senders_rest w H now f unread x l e is =
 
 pub missed_rest : (wanted : Bool) (K unread : List (ℕ × Message)) (n m c : ℕ) → unread ≡ drop n K → c ≡ min m 18446744073709551615
     → counted wanted unread c ≡ min (if wanted && not (nat_lt (length K - n) 16) then suc m else m) 18446744073709551615
-missed_rest wanted K unread n m c e f =
-    ap (λ (k : ℕ). if wanted && not (nat_lt k 16) then min (c + 1) 18446744073709551615 else c) (ap length e ∙ length-drop n K)
-    ∙ go (wanted && not (nat_lt (length K - n) 16))
-  where
-    go : (b : Bool) → (if b then min (c + 1) 18446744073709551615 else c) ≡ min (if b then suc m else m) 18446744073709551615
-    go true = ap (λ (k : ℕ). min (k + 1) 18446744073709551615) f ∙ missed_one m
-    go false = f
+missed_rest wanted K unread n m c e f = grind (arith, common_steps, e, f)
 
 pub request_rest : (w : Who) (room : Bool) (o : Option Asked) (L xs : List Asked) (n : ℕ) → n ≤ length L → xs ≡ drop n L
     → with_request w room o xs ≡ drop n (with_request w room o L)
@@ -466,16 +449,12 @@ news_heard u v l a b m n o x f g = x ∙ λ i. record { lost = l; another = u.an
 pub coming_is : (w : Who) (H : List Call) (c : Controller) (t time : ℕ) → Is w H c → t ≡ time
     → is_coming t (option_map (λ (x : AskRecord). x.question) (asking_of c.asking)) (in_session (incoming_of c.incoming).reception.session) (hearing_of c.hearing).listening.current
     ≡ comes w H time
-coming_is w H c t time h e =
-    (λ i. is_coming (e i) (option_map (λ (x : AskRecord). x.question) ((h.shown i).asking)) (in_session (h.shown i).incoming.reception.session) (h.shown i).hearing.listening.current)
-    ∙ ap (λ (o : Option Question). is_coming time o (in_session (reception w H).session) (listening w H).current) (token_of (open_ask H) (reached H) (ended w H))
+coming_is w H c t time e f = grind (arith, f)
 
 -- a broadcast broke off, by a tick or its own claim
 pub is_broken : (w : Who) (H : List Call) (b c : Bool) (u : Untold) → u ≡ news_after w H → b ≡ c
     → record u { missed = b || u.missed } ≡ record (news_after w H) { missed = missed_news w H || ((c || false) || unheard_news w H) }
-is_broken w H b c u e g =
-    (λ i. record (e i) { missed = g i || (e i).missed })
-    ∙ ap (λ (m : Bool). (let v : Untold = record (news_after w H) { missed = m } in v)) (broken_news c (missed_news w H) (unheard_news w H))
+is_broken w H b c u e f = grind (arith, e, f)
 
 -- a message that waits is renewed
 renewed_more : (w : Who) (H : List Call) (old new : Controller) (d : Draft) (r : Option ℕ) → Is w H old → r ≡ next_renewed w H d
@@ -559,8 +538,7 @@ place_is w H c k h away =
     t = s.in_turn away
 
     none_there : (b : Bool) (o : Option (ℕ × Message)) → (b ≡ true → o ≡ None) → (b && may_go o) ≡ false
-    none_there false o z = refl
-    none_there true o z = ap may_go (z refl)
+    none_there b o e = grind (arith, e)
 
     less : (a b d : ℕ) → d ≤ a → d ≤ b → nat_le (a - d) (b - d) ≡ nat_le a b
     less a b d x y = grind (arith, x, y)
@@ -589,8 +567,7 @@ pub none_at_place : (w : Who) (H : List Call) (c : Controller) (k : ℕ) → Is 
 none_at_place w H c k h l e = none_withdrawn w H c k h (sym (go (next_withdrawn w H k) (e ∙ place_is w H c k h (sym (is_away w H c h) ∙ l))))
   where
     go : (b : Bool) → None ≡ (if b then Some (k - length (told H)) else None) → b ≡ false
-    go false i = refl
-    go true i = absurd (cc)
+    go b e = grind (arith, e)
 
 pub withdraws : (w : Who) (H : List Call) (old new : Controller) (k place : ℕ) (x : Outgoing) (r : Option ℕ) → Is w H old → lost old.hold.standing ≡ false
     → posted x ≡ (0, blank) → Some place ≡ place_of old.taken k (map posted old.outgoing.items)
@@ -645,8 +622,7 @@ withdraws w H old new k place x r h l blanked e f g p u =
 
 -- the address is to be claimed anew
 pub unclaims_after : (a : Address) → unclaims (standing_of a) ≡ standing_of (unclaimed a)
-unclaims_after Lost = refl
-unclaims_after a = refl
+unclaims_after a = grind arith
 
 -- ---- when something is due
 
@@ -664,8 +640,7 @@ waits_is w H c h e =
     ∙ ap (λ (n : ℕ). nat_lt (length (acknowledged H)) (length (due w H)) || nat_lt 0 n) (replies_length w H c h))
 
 held_and : (a : Bool) (x y : Bool) → (a ≡ true → x ≡ y) → (a && x) ≡ (a && y)
-held_and true x y f = f refl
-held_and false x y f = refl
+held_and a x y e = grind (arith, e)
 
 pub frame_due : (w : Who) (H : List Call) (c : Controller) → Is w H c
     → (can_claim c.hold || (stands c.hold.standing && (nat_lt c.taken (length c.outgoing.items) || (nat_lt 0 (length c.desk.due.items)
@@ -678,18 +653,13 @@ frame_due w H c h =
     ∙ ap (λ (b : Bool). may_claim w H (delayed w H) || b) (held_and (is_held (address_after w H)) _ _ (waits_is w H c h))))
 
 pub held_at_is : (a : Address) (m : ℕ) → left_at (standing_of a) m ≡ held_at a m
-held_at_is (Claimed e) m = ap (λ (b : Bool). if b then stamp_at (m + (250000 - e)) else None) (lt_some 250000 e)
-held_at_is a m = refl
+held_at_is a m = grind arith
 
 -- in how long a frame of packets can be taken
 pub packets_due : (w : Who) (H : List Call) (c : Controller) → Is w H c
     → sooner (packet_in (is_left (lane_of w c.lane).current c.lane.count) c.hold.pause) (transfer_in (port_of c.transfers).current (clock c.hold.age))
     ≡ packets_in w H
-packets_due w H c h =
-    ap (λ (v : View). sooner (packet_in (is_left v.lane.current v.lane.count) c.hold.pause) (transfer_in (port_of c.transfers).current (clock c.hold.age))) h.shown
-    ∙ (ap (λ (v : View). sooner (packet_in (has_packets w H) v.hold.pause) (transfer_in (port_of c.transfers).current (clock v.hold.age))) h.shown
-    ∙ (ap (λ (n : ℕ). sooner (packet_in (has_packets w H) (pause H)) (transfer_in (port_of c.transfers).current n)) (clock_is (age H))
-    ∙ ap (λ (v : View). sooner (packet_in (has_packets w H) (pause H)) (transfer_in v.port.current (clock (age H)))) h.shown))
+packets_due w H c e = grind arith
 
 pub held_due : (w : Who) (H : List Call) (c : Controller) (b : Bool) → Is w H c → b ≡ stands c.hold.standing → b ≡ is_held (address_after w H)
 held_due w H c b h e = e ∙ (ap (λ (v : View). stands v.hold.standing) h.shown ∙ stands_is (address_after w H))
@@ -706,19 +676,11 @@ due_is w H b l e f = ap (λ (x : Bool). due_by w H x l) e ∙ ap (due_by w H (ma
 -- ---- a claim is taken
 
 claims_after : (a : Address) → claims (standing_of a) ≡ standing_of (claimed a)
-claims_after Lost = refl
-claims_after a = refl
+claims_after a = grind arith
 
 claim_told : (w : Who) (H : List Call) (c : Controller) (a : ℕ) → Is w H c → a ≡ (if lost c.hold.standing then 254 else c.own.address)
     → claim_from (who_of w.brought c.own) a ≡ claim_from w (claim_address w (address_after w H))
-claim_told w H c a h e =
-    ap (λ (u : View). claim_from u.who a) h.shown
-    ∙ ap (claim_from w) (e ∙ (ap (λ (v : View). if lost v.hold.standing then 254 else c.own.address) h.shown
-    ∙ (ap (λ (n : ℕ). if lost (standing_of (address_after w H)) then 254 else n) (ap (λ (u : View). u.who.address) h.shown) ∙ told_address (address_after w H))))
-  where
-    told_address : (x : Address) → (if lost (standing_of x) then 254 else w.address) ≡ claim_address w x
-    told_address Lost = refl
-    told_address x = refl
+claim_told w H c a e f = grind (arith, f)
 
 pub claims_more : (w : Who) (H : List Call) (old new : Controller) (now : ℕ) (f : FrameRecord) (mid : Hold) (a : ℕ) → Is w H old → Passed w H now mid
     → claim_goes w H now ≡ true → new.hold ≡ hold_claimed mid
@@ -756,25 +718,20 @@ claims_more w H old new now f mid a h p owes e0 m at knows drops broken t t1 t2 
 pub peeks_claim : (w : Who) (H : List Call) (c : Controller) (now a : ℕ) (r : Option FrameRecord) → Is w H c → claim_goes w H now ≡ true
     → option_map stamped r ≡ Some (now, claim_from (who_of w.brought c.own) a) → a ≡ (if lost c.hold.standing then 254 else c.own.address)
     → option_map stamped r ≡ next_frame w H now
-peeks_claim w H c now a r h owes m e =
-    m ∙ (ap (λ (x : Message). Some (now, x)) (claim_told w H c a h e)
-    ∙ sym (ap (λ (b : Bool). frame_by b (holds w H now) (next_acknowledgment w H now) (other w H now) (claim_from w (claim_address w (address_after w H))) now) owes))
+peeks_claim w H c now a r e f g i = grind (arith, f, g, i)
 
 pub peeks_none : (w : Who) (H : List Call) (c : Controller) (now : ℕ) → Is w H c → claim_goes w H now ≡ false → holds w H now ≡ false
     → (let none : Option (ℕ × Message) = None in none) ≡ next_frame w H now
-peeks_none w H c now h owes held =
-    sym (λ i. frame_by (owes i) (held i) (next_acknowledgment w H now) (other w H now) (claim_from w (claim_address w (address_after w H))) now)
+peeks_none w H c now e f g = grind (arith, f, g)
 
 pub peeks_due : (w : Who) (H : List Call) (c : Controller) (now : ℕ) (r : Option FrameRecord) (x : Due) → Is w H c → claim_goes w H now ≡ false
     → holds w H now ≡ true → next_acknowledgment w H now ≡ Some (refusal_by w x) → option_map stamped r ≡ Some (now, refusal_by w x)
     → option_map stamped r ≡ next_frame w H now
-peeks_due w H c now r x h owes held g m =
-    m ∙ sym (next_is w H now (Some (refusal_by w x)) _ owes held g refl)
+peeks_due w H c now r x e f g i j = grind (arith, f, g, i, j)
 
 pub first_acknowledged : (w : Who) (H : List Call) (c : Controller) (now : ℕ) (gives : Bool) (o : Option Due) → Is w H c → gives ≡ gives_way w H now
     → o ≡ (if gives then None else slice_get c.desk.due.items 0) → next_acknowledgment w H now ≡ option_map (refusal_by w) o
-first_acknowledged w H c now true o h g e =
-    ap (λ (b : Bool). if b then None else slice_get (due w H) (length (acknowledged H))) (sym g) ∙ sym (ap (option_map (refusal_by w)) e)
+first_acknowledged w H c now true o h g e = grind (arith, g, e)
 first_acknowledged w H c now false o h g e =
     ap (λ (b : Bool). if b then None else slice_get (due w H) (length (acknowledged H))) (sym g)
     ∙ (sym (rest_at (refusal_by w) c.desk.due.items (due w H) (length (acknowledged H)) (length (acknowledged H)) 0 (ap (λ (v : View). v.acknowledgments) h.shown) (omega arith) (omega arith))
@@ -803,19 +760,14 @@ packet_goes c k now e f = go (packet_by (lane_of (who_of nothing c.own) c.lane).
     (packet_there (lane_of (who_of nothing c.own) c.lane).current c.lane.count k.pause ∙ due (subst (IsTurn k.yields (ready_in c k)) e (turn_is k.yields (ready_in c k))))
   where
     due : IsTurn k.yields (ready_in c k) (Some Packet) → (is_left (lane_of (who_of nothing c.own) c.lane).current c.lane.count && nat_le k.pause 100000) ≡ true
-    due (inl o) = overdue_due (is_left (lane_of (who_of nothing c.own) c.lane).current c.lane.count) k.pause o
-    due (inr t) = t.0
+    due e = grind arith
 
     go : (o : Option Message) → (let none : Option (ℕ × Message) = None in none) ≡ option_map (at_now now) o → is_there o ≡ true → ⊥
     go o g i = not_there o i (mapped_none (at_now now) o (sym g))
 
 pub move_goes : (c : Controller) (k : Hold) (now : ℕ) → turn_of k.yields (ready_in c k) ≡ Some Move
     → (let none : Option (ℕ × Message) = None in none) ≡ option_map (at_now now) (transfer_by (port_of c.transfers).current (clock k.age)) → ⊥
-move_goes c k now e f = go (transfer_by (port_of c.transfers).current (clock k.age)) f (subst (IsTurn k.yields (ready_in c k)) e (turn_is k.yields (ready_in c k))).1
-  where
-    go : (o : Option Message) → (let none : Option (ℕ × Message) = None in none) ≡ option_map (at_now now) o
-        → is_apart o (slice_get (incoming_of c.incoming).reception.replies 0) ≡ true → ⊥
-    go o g i = apart_there o _ i (mapped_none (at_now now) o (sym g))
+move_goes c k now e f = grind (arith, e, f)
 
 -- ---- broadcasts
 
@@ -839,12 +791,8 @@ asks_no_more_is w H c h =
 pub engaged_is : (w : Who) (H : List Call) (c : Controller) (now group to : ℕ) (mid : Hold) → Is w H c → Passed w H now mid
     → (is_engaged (port_of c.transfers).current c.transfers.next_token || (nat_lt 0 mid.rest && holds_back (port_of c.transfers).resting group to))
     ≡ (is_engaged (open_transfer w H) (length (all_transfers w H)) || is_resting w H now group to)
-engaged_is w H c now group to mid h p =
-    ap (λ (v : View). is_engaged v.port.current v.port.next_token || (nat_lt 0 mid.rest && holds_back v.port.resting group to)) h.shown
-    ∙ ap (λ (n : ℕ). is_engaged (open_transfer w H) (length (all_transfers w H)) || (nat_lt 0 n && holds_back (resting w H) group to)) (ap (λ (k : Hold). k.rest) p)
+engaged_is w H c now group to mid e f = grind arith
 
 pub transfer_end_is : (w : Who) (H : List Call) (c : Controller) (b : Bool) → Is w H c → b ≡ lost c.hold.standing
     → transfer_end (port_of c.transfers).current b ≡ next_transfer_ended w H
-transfer_end_is w H c b h e =
-    ap (λ (v : View). transfer_end v.port.current b) h.shown
-    ∙ ap (transfer_end (open_transfer w H)) (e ∙ (ap (λ (v : View). lost v.hold.standing) h.shown ∙ lost_is (address_after w H)))
+transfer_end_is w H c b e f = grind (arith, f)

@@ -1,29 +1,16 @@
 -- When a frame of packets is due.
-use Rattle.j39_node.proofs.Common.{if◌then◌else◌, ◌&&◌, ◌+◌, ◌-◌, ◌<◌, ◌∙◌, ◌≡◌, ◌≤◌, ◌⊎◌, Abort, age, ap, arith, at_in, Bool, Call, clock, Failed, false, gives_up, has_packets, Idle, inl, inr, is_left, length, List, long_by, lt-ltb, Message, MessageRecord, min, moment, nat_le, nat_lt, next_long, next_packet, next_transfer, None, open_broadcast, open_transfer, Option, option_map, packet_by, packets, packets_in, pause, refl, Running, running_in, says, send_step, Sending, SendResult, sends_in, sends_packet, SendState, signal_by, silent, Some, sooner, step, sym, ticks_in, timeout, transfer_by, transfer_in, true, Waiting, Who, ℕ, le-ltb, le-leb, lt-leb, same_Some, cases_lt, cond_some, and_from}
+use Rattle.j39_node.proofs.Common.{if◌then◌else◌, ◌+◌, ◌-◌, ◌<◌, ◌∙◌, ◌≡◌, ◌≤◌, ◌⊎◌, Abort, age, ap, arith, at_in, Bool, Call, clock, Failed, false, gives_up, has_packets, Idle, inl, inr, is_left, length, List, long_by, Message, MessageRecord, min, moment, nat_le, nat_lt, next_long, next_packet, next_transfer, None, open_broadcast, open_transfer, Option, option_map, packet_by, packets, packets_in, pause, refl, Running, running_in, says, send_step, Sending, SendResult, sends_in, sends_packet, SendState, signal_by, silent, Some, sooner, step, ticks_in, timeout, transfer_by, transfer_in, true, Waiting, Who, ℕ, le-ltb, lt-leb, same_Some, cases_lt, cond_some}
 use Rattle.j39_transport.specs.Sending.{Done, Tick}
 use Rattle.j39_node.specs.Transfers.{packet_in}
 use Rattle.j39_node.proofs.QueueLemmas.{mapped_none}
-use Rattle.j39_node.proofs.SoundLemmas.{none_there, packet_there, not_there}
 
 -- ---- a frame isn't due yet
 
 not_yet : (p s : ℕ) → s < p - 100000 → nat_le (p - s) 100000 ≡ false
 not_yet p s l = lt-leb (p - s) 100000 (omega (arith, l))
 
-sooner_first : (p : ℕ) (o : Option ℕ) → (n : ℕ) × (sooner (Some p) o ≡ Some n) × (n ≤ p)
-sooner_first p None = (p, refl, omega arith)
-sooner_first p (Some m) = (min p m, refl, omega arith)
-
-sooner_second : (p : ℕ) (o : Option ℕ) → (n : ℕ) × (sooner o (Some p) ≡ Some n) × (n ≤ p)
-sooner_second p None = (p, refl, omega arith)
-sooner_second p (Some m) = (min m p, refl, omega arith)
-
 no_packet : (o : Option (ℕ × MessageRecord)) (i p s : ℕ) → ((n : ℕ) → packet_in (is_left o i) p ≡ Some n → s < n) → packet_by o i (p - s) ≡ None
-no_packet o i p s h = none_there _ (packet_there o i (p - s) ∙ go (is_left o i) refl)
-  where
-    go : (b : Bool) → is_left o i ≡ b → (b && nat_le (p - s) 100000) ≡ false
-    go true e = not_yet p s (h (p - 100000) (ap (λ (b : Bool). packet_in b p) e))
-    go false e = refl
+no_packet o i p s e = grind (arith, e)
 
 late : (a s k : ℕ) → s < k + 1 - min a 9999999999999999 → min (a + s) 9999999999999999 ≤ k
 late a s k l = omega (arith, l)
@@ -33,8 +20,7 @@ unfolding send_step ticks_in
 no_signal t a s h = go t.gone (gives_up t) refl refl
   where
     none_now : (b c : Bool) → t.gone ≡ b → gives_up t ≡ c → (n : ℕ) → (if b then None else if c then Some 0 else sends_in t.sender.state t.sender.since (clock a)) ≡ Some n → s < n
-    none_now b c e f n k = h n (ap (λ (x : Bool). if x then None else if gives_up t then Some 0 else sends_in t.sender.state t.sender.since (clock a)) e
-        ∙ (ap (λ (x : Bool). if b then None else if x then Some 0 else sends_in t.sender.state t.sender.since (clock a)) f ∙ k))
+    none_now b c e f n g = grind (arith, e, f, g)
 
     by : (u : SendState) → t.sender.state ≡ u → ((n : ℕ) → sends_in t.sender.state t.sender.since (clock a) ≡ Some n → s < n)
         → (ticks_in u (clock (a + s)) t.sender).says ≡ None
@@ -65,16 +51,10 @@ quiet_long w H now h =
     ∙ no_transfer (open_transfer w H) (age H) (step H now) second
   where
     first : (n : ℕ) → packet_in (has_packets w H) (pause H) ≡ Some n → step H now < n
-    first n e =
-        let z = sooner_first n (transfer_in (open_transfer w H) (clock (age H))) in
-        let l = h z.0 (ap (λ o. sooner o (transfer_in (open_transfer w H) (clock (age H)))) e ∙ z.1) in
-        let k = z.2 in omega (arith, l, k)
+    first n e = grind (arith, e)
 
     second : (n : ℕ) → transfer_in (open_transfer w H) (clock (age H)) ≡ Some n → step H now < n
-    second n e =
-        let z = sooner_second n (packet_in (has_packets w H) (pause H)) in
-        let l = h z.0 (ap (sooner (packet_in (has_packets w H) (pause H))) e ∙ z.1) in
-        let k = z.2 in omega (arith, l, k)
+    second n e = grind (arith, e)
 
 -- ---- a frame is due
 
@@ -90,40 +70,18 @@ either_sooner (Some k) (Some m) n e =
     elim (cases_lt k m) [ inl l ↦ inl (ap (λ (x : ℕ). Some x) (omega (arith, l, least))) | inr l ↦ inr (ap (λ (x : ℕ). Some x) (omega (arith, l, least))) ]
 
 some_packet : (o : Option (ℕ × MessageRecord)) (i p n s : ℕ) → n ≤ s → packet_in (is_left o i) p ≡ Some n → packet_by o i (p - s) ≡ None → ⊥
-some_packet o i p n s l e f = not_there _ (packet_there o i (p - s) ∙ go (is_left o i) refl e) f
-  where
-    go : (b : Bool) → is_left o i ≡ b → packet_in b p ≡ Some n → (is_left o i && nat_le (p - s) 100000) ≡ true
-    go true g k = let z = same_Some (p - 100000) n k in and_from _ _ g (le-leb (p - s) 100000 (omega (arith, z, l)))
-    go false g k = absurd (cc)
+some_packet o i p n s e f g = grind (arith, e, f, g)
 
 some_signal : (t : Running) (a n s : ℕ) → n ≤ s → (n ≡ 0) ⊎ (a + n < 10000000000000000) → running_in t (clock a) ≡ Some n → signal_by t (clock (a + s)) ≡ None → ⊥
 unfolding send_step ticks_in sends_packet
-some_signal t a n s l m e f = go t.gone (gives_up t) e f
-  where
-    over : (k : ℕ) → k + 1 - min a 9999999999999999 ≡ n → k < min (a + s) 9999999999999999
-    over k g = elim m [ inl z ↦ omega (arith, g, z) | inr z ↦ omega (arith, g, l, z) ]
-
-    by : (u : SendState) → sends_in u t.sender.since (clock a) ≡ Some n → (ticks_in u (clock (a + s)) t.sender).says ≡ None → ⊥
-    by (Waiting limit) h k =
-        let z : t.sender.since + limit + 1 - clock a ≡ n = cc in
-        let b = lt-ltb (t.sender.since + limit) (clock (a + s)) (over (t.sender.since + limit) z) in
-        let y : Some (Abort timeout t.sender.message.pgn) ≡ None =
-        sym (ap (λ (b : Bool). (if b then (let r : SendResult = record { after = record t.sender { state = Failed timeout }; says = Some (Abort timeout t.sender.message.pgn) } in r) else silent t.sender).says) b) ∙ k in
-        absurd (cc)
-    by u h k = absurd (cc)
-
-    go : (b c : Bool) → (if b then None else if c then Some 0 else sends_in t.sender.state t.sender.since (clock a)) ≡ Some n
-        → (if b then None else if c then Some (Abort 5 t.sender.message.pgn) else (send_step t.sender Tick (clock (a + s))).says) ≡ None → ⊥
-    go false false h k = by t.sender.state h k
-    go b c h k = absurd (cc)
+some_signal t a n s e f g i = grind (arith, e, f, g, i)
 
 some_transfer : (o : Option Running) (a n s : ℕ) → n ≤ s → (n ≡ 0) ⊎ (a + n < 10000000000000000) → transfer_in o (clock a) ≡ Some n → transfer_by o (clock (a + s)) ≡ None → ⊥
 some_transfer None a n s l m e f = absurd (cc)
 some_transfer (Some t) a n s l m e f = some_signal t a n s l m e (mapped_none (says t.sender) (signal_by t (clock (a + s))) f)
 
 pub both_none : (a b : Option Message) → long_by a b ≡ None → (a ≡ None) × (b ≡ None)
-both_none None b e = (refl, e)
-both_none (Some m) b e = absurd (cc)
+both_none a b e = (grind (arith, e), grind (arith, e))
 
 some_long : (w : Who) (H : List Call) (now n : ℕ) → n ≤ step H now → (n ≡ 0) ⊎ (age H + n < 10000000000000000) → packets_in w H ≡ Some n → next_long w H now ≡ None → ⊥
 some_long w H now n l m e f = elim (either_sooner _ _ n e) [

@@ -1,5 +1,5 @@
 -- That every transfer ends.
-use Rattle.j39_node.proofs.Common.{Abort, AreAnswered, At, Bool, Call, Controller, FrameRecord, Hear, Is, IsAnswered, IsPaced, IsPrompt, List, Message, MessageRecord, None, NoneTold, Ok, Option, Running, SendState, SenderRecord, Signal, Some, TakeFrame, TakeTransferEnded, Transfer, TransferEnding, Who, [], aborted, address_after, age, all_transfers, and_parts, answer_to_transfer, ap, arith, begun, broadcast_from, can_broadcast, claims_anew, clears, clock_at, cond_both, counts_for, destination_of, due, ending_by, eq-eqb, false, first, gives_up, granted_by, hears, hears_if, holder, holds, if◌then◌else◌, inl, inr, is_acknowledgment, is_claim, is_engaged, is_held, is_idle, is_lost, is_move, is_replaced, is_resting, is_running, is_sendable, is_session, is_some, is_spent, is_transfer, later, leb-true, length, listens, lost, moment, nat_eq, nat_le, nat_lt, new_sender, next_transfer, next_transfer_ended, not, not_both, open_transfer, option_map, or_parts, packets_of, passed_in, refl, says, send_step, sends, sends_if, signal_by, step, subst, suc, sym, tells_transfer, ticks_in, timer_t3, transfer_by, transfer_end, true, waited_in, ℕ, ◌&&◌, ◌*◌, ◌++◌, ◌+◌, ◌/◌, ◌<◌, ◌||◌, ◌∙◌, ◌∷◌, ◌≡◌, ◌≤◌, ◌⊎◌, same_Some, none-some, mul-add, cases_Bool}
+use Rattle.j39_node.proofs.Common.{Abort, AreAnswered, At, Bool, Call, Controller, FrameRecord, Hear, Is, IsAnswered, IsPaced, IsPrompt, List, Message, MessageRecord, None, NoneTold, Ok, Option, Running, SendState, SenderRecord, Signal, Some, TakeFrame, TakeTransferEnded, Transfer, TransferEnding, Who, [], aborted, address_after, age, and_parts, answer_to_transfer, ap, arith, begun, broadcast_from, can_broadcast, claims_anew, clears, clock_at, cond_both, counts_for, destination_of, due, ending_by, eq-eqb, false, first, gives_up, granted_by, hears, hears_if, holder, holds, if◌then◌else◌, inl, inr, is_acknowledgment, is_claim, is_held, is_idle, is_lost, is_move, is_replaced, is_running, is_session, is_some, is_spent, is_transfer, later, length, listens, lost, moment, nat_eq, nat_lt, new_sender, next_transfer, next_transfer_ended, not, not_both, open_transfer, option_map, or_parts, packets_of, passed_in, refl, says, send_step, sends, sends_if, signal_by, step, subst, suc, sym, tells_transfer, ticks_in, timer_t3, transfer_by, transfer_end, true, waited_in, ℕ, ◌&&◌, ◌*◌, ◌++◌, ◌+◌, ◌/◌, ◌<◌, ◌||◌, ◌∙◌, ◌∷◌, ◌≡◌, ◌≤◌, ◌⊎◌, same_Some, none-some, mul-add, cases_Bool}
 use Rattle.j39_transport.specs.Sending.{Tick}
 use Rattle.j39_node.specs.Transfers.{said_to}
 use Rattle.j39_transport.specs.Sending as sending
@@ -104,8 +104,7 @@ here t now n = ap (λ (b : Bool). if b then (let o : Option Signal = None in o) 
 
 no_signal : (t : Running) (now : ℕ) → t.gone ≡ false → signal_by t now ≡ None → (gives_up t ≡ false) × ((ticks_in t.sender.state now t.sender).says ≡ None)
 unfolding send_step
-no_signal t now n e = cond_both (gives_up t) _ _ (λ (o : Option Signal). o ≡ None → (gives_up t ≡ false) × ((ticks_in t.sender.state now t.sender).says ≡ None))
-    (λ i y. absurd (cc)) (λ i y. (i, y)) (sym (here t now n) ∙ e)
+no_signal t now e f = (grind (arith, e, f), grind (arith, e, f))
 
 a_signal : (t : Running) (now : ℕ) (x : Signal) → t.gone ≡ false → signal_by t now ≡ Some x
     → ((ticks_in t.sender.state now t.sender).says ≡ None → ⊥) ⊎ (nat_lt 64 t.spent ≡ true)
@@ -311,8 +310,7 @@ module _ (w : Who) (B : List Call) (g k to : ℕ) (m : MessageRecord) (since : L
 
   -- no other is accepted
   none_begins : (later : List Call) (now group to j : ℕ) (bytes : List ℕ) → Stands later → Ok j ≡ answer_to_transfer w (later ++ B) now group to bytes → ⊥
-  none_begins later now group to j bytes h a = not_both _ (transfer_accepts w (later ++ B) now group to j bytes a).2
-      (ap (λ (x : Option Running). is_engaged x (length (all_transfers w (later ++ B))) || is_resting w (later ++ B) now group to) h.is)
+  none_begins later now group to j bytes e f = grind (arith, f)
 
   one_more : (call : Call) (later : List Call) → AreAnswered w (later ++ B) → IsAnswered w (later ++ B) call → tells_transfer call ≡ false
       → (since later B + step (later ++ B) (moment (call ∷ later ++ B)) ≤ g) × (claims_anew call ≡ false) → limit later < 9000000000000000 → Stands later → Stands (call ∷ later)
@@ -392,9 +390,7 @@ module _ (w : Who) (B : List Call) (g most to : ℕ) where
   }
 
 few_packets : (group : ℕ) (bytes : List ℕ) → can_broadcast group bytes ≡ true → (length bytes + 6) / 7 ≤ 255
-few_packets group bytes e =
-    let l : length bytes ≤ 1785 = leb-true (length bytes) 1785 (and_parts (nat_le 9 (length bytes)) (nat_le (length bytes) 1785) (and_parts (is_sendable group) (nat_le 9 (length bytes) && nat_le (length bytes) 1785) e).1).1 in
-    omega (arith, l)
+few_packets group bytes e = grind (arith, e)
 
 pub transfer_ends : (w : Who) (later earlier : List Call) (c : Controller) (g now group to k : ℕ) (bytes : List ℕ)
     → Is w (later ++ At now (Transfer group to bytes (Ok k)) ∷ earlier) c → NoneTold tells_transfer later

@@ -1,5 +1,5 @@
 -- How long a transfer waits, step by step of its sender.
-use Rattle.j39_node.proofs.Common.{Abort, Bool, Failed, Idle, None, Option, SendResult, SendState, SenderRecord, Sending, Signal, Some, Waiting, age, ap, arith, cond_both, false, granted_after, if◌then◌else◌, inl, inr, is_idle, is_running, is_waiting, ltb-false, ltb-true, max, nat_lt, not, other, refl, says, sends_packet, spent_after, subst, suc, suc-mul, sym, ticks_in, timeout, timer_t3, timer_t4, true, waits, zero, ℕ, ◌&&◌, ◌*◌, ◌+◌, ◌<◌, ◌==◌, ◌||◌, ◌∙◌, ◌≡◌, ◌≤◌, ◌⊎◌, mul-le-mul_right, not_both, true_from_ne_false}
+use Rattle.j39_node.proofs.Common.{Abort, Bool, Failed, Idle, None, Option, SendResult, SendState, SenderRecord, Sending, Signal, Some, Waiting, age, ap, arith, cond_both, false, granted_after, if◌then◌else◌, inl, inr, is_idle, is_running, is_waiting, ltb-false, nat_lt, not, other, refl, says, sends_packet, spent_after, subst, suc, suc-mul, sym, ticks_in, timeout, timer_t3, timer_t4, true, waits, ℕ, ◌&&◌, ◌*◌, ◌+◌, ◌<◌, ◌==◌, ◌||◌, ◌∙◌, ◌≡◌, ◌≤◌, ◌⊎◌, mul-le-mul_right, not_both}
 use Rattle.j39_node.proofs.MoveSteps.{HeardCase}
 use Rattle.j39_node.proofs.MoveSteps.HeardCase.{same, done, fails, holds, clears}
 
@@ -32,11 +32,7 @@ abbrev pub rank_of : ℕ → ℕ → SenderRecord → ℕ
 rank_of granted spent s = rank (granted + spent) (is_waiting s.state) (nat_lt 64 spent)
 
 rank_least : (n : ℕ) (a b : Bool) → (n ≤ rank n a b) × (rank n a b ≤ suc n)
-rank_least n true false = (omega arith, omega arith)
-rank_least n a b = (omega arith, omega arith)
-
-rank_spent : (n : ℕ) (a b : Bool) → b ≡ true → rank n a b ≡ n
-rank_spent n a b e = grind (arith, e)
+rank_least n a b = (grind arith, grind arith)
 
 pub record Late (granted spent age base waited streak : ℕ) (s : SenderRecord) : Type 0 where
   pub phase : nat_lt 64 spent ≡ false → InTime (granted + spent) age base waited s.since s.state
@@ -65,29 +61,13 @@ passes granted spent age base waited streak t s h = record {
 -- never older than this, and never of a higher rank
 pub most : (granted spent age base waited streak k : ℕ) (s : SenderRecord) → Late granted spent age base waited streak s
     → (is_idle s.state || is_running s.state) ≡ true → granted ≤ k → spent ≤ 65 → (age ≤ (k + 65) * timer_t3 + base + waited) × (rank_of granted spent s ≤ k + 65)
-most granted spent age base waited streak k s h r a b = go (nat_lt 64 spent) refl
-  where
-    by : (u : SendState) → suc (granted + spent) ≤ k + 65 → (is_idle u || is_running u) ≡ true → InTime (granted + spent) age base waited s.since u
-        → age ≤ (k + 65) * timer_t3 + base + waited
-    by Idle l e p = omega (arith, p)
-    by (Waiting limit) l e p = let x = p.0 in let y = p.1 in let d = times_more (suc (granted + spent)) (k + 65) timer_t3 l in omega (arith, x, y, d)
-    by (Sending next last) l e p = let d = times_more (granted + spent) (k + 65) timer_t3 (omega (arith, l)) in omega (arith, p, d)
-    by other l e p = absurd (let z : false ≡ true = e in cc)
-
-    go : (c : Bool) → nat_lt 64 spent ≡ c → (age ≤ (k + 65) * timer_t3 + base + waited) × (rank_of granted spent s ≤ k + 65)
-    go true e =
-        let d = times_more (granted + spent) (k + 65) timer_t3 (omega (arith, a, b)) in let z = h.gives_up e in
-        let q = rank_spent (granted + spent) (is_waiting s.state) (nat_lt 64 spent) e in (omega (arith, d, z), omega (arith, q, a, b))
-    go false e =
-        let l = ltb-false _ _ e in let q = (rank_least (granted + spent) (is_waiting s.state) (nat_lt 64 spent)).1 in
-        (by s.state (omega (arith, a, l)) r (h.phase e), omega (arith, q, a, l))
+most granted spent age base waited streak k s e f g i = (grind (arith, f, g, i), grind (arith, f, g, i))
 
 -- ---- what is heard
 
 -- a clear more
 pub counts : (granted spent last : ℕ) → suc (granted + spent) ≤ granted_after (Some last) granted + spent_after (Some last) granted spent
-counts granted spent last =
-    cond_both (nat_lt granted last) _ _ (λ n. suc (granted + spent) ≤ max granted last + n) (λ e. let y = ltb-true _ _ e in omega (arith, y)) (λ e. omega arith)
+counts granted spent last = grind arith
 
 -- what became of it: its rank is higher where what it waited is counted with its clears
 pub data Listened (granted spent age base waited streak more : ℕ) (s r : SenderRecord) (granted_then spent_then : ℕ) : Type 0 where
@@ -100,11 +80,7 @@ pub data Listened (granted spent age base waited streak more : ℕ) (s r : Sende
 cleared_by : (granted spent age base waited streak t last limit : ℕ) (s : SenderRecord) → s.state ≡ Waiting limit → nat_lt 64 spent ≡ false
     → Late granted spent age base waited streak s
     → age + t ≤ (granted_after (Some last) granted + spent_after (Some last) granted spent) * timer_t3 + base + (waited + t)
-cleared_by granted spent age base waited streak t last limit s e few h =
-    let p : InTime (granted + spent) age base waited s.since (Waiting limit) = subst (InTime (granted + spent) age base waited s.since) e (h.phase few) in
-    let a = p.0 in let b = p.1 in
-    let d = times_more (suc (granted + spent)) (granted_after (Some last) granted + spent_after (Some last) granted spent) timer_t3 (counts granted spent last) in
-    omega (arith, a, b, d)
+cleared_by granted spent age base waited streak t last limit s e f g = grind (arith, e, f)
 
 pub heard_late : (granted spent age base waited streak t : ℕ) (s : SenderRecord) (a : Option Signal) (r : SenderRecord) (o : Option ℕ) → HeardCase s a (age + t) o r → nat_lt 64 spent ≡ false
     → Late granted spent age base waited streak s → Listened granted spent age base waited streak t s r (granted_after o granted) (spent_after o granted spent)
@@ -207,12 +183,7 @@ none_late granted spent age base waited streak t s h says up = go s.state refl s
     not_spent b c i k = grind (arith, i, k)
 
     never : (limit : ℕ) (n : ℕ) → n ≡ streak → s.state ≡ Waiting limit → nat_lt 64 spent ≡ false → age + t ≤ s.since + limit → n ≡ 0
-    never limit zero i e few l = refl
-    never limit (suc n) i e few l = absurd (by (subst (IsDue spent age s.since) e (h.due (omega (arith, i)))))
-      where
-        by : IsDue spent age s.since (Waiting limit) → ⊥
-        by (inl a) = omega (arith, a, l)
-        by (inr a) = not_both _ few a
+    never limit n e f g i = grind (arith, e, f, g, i)
 
     go : (u : SendState) → s.state ≡ u → (ticks_in u (age + t) s).says ≡ None → IsEnded s ⊎ (Late granted spent (age + t) base 0 0 s × (streak ≡ 0))
     go Idle e z = absurd (cc)
@@ -239,8 +210,7 @@ due_late granted spent age base waited streak t streak_then s h d =
     let p = passes granted spent age base waited streak t s h in record { phase = p.phase; gives_up = p.gives_up; due = λ z. go s.state refl d }
   where
     out : (limit : ℕ) → ((ticks_in (Waiting limit) (age + t) s).says ≡ None → ⊥) → s.since + limit < age + t
-    out limit n = ltb-true _ _ (true_from_ne_false _ (λ e. n (ap (λ (c : Bool). (if c then (let x : SendResult = record { after = record s { state = Failed timeout }; says = Some (Abort timeout s.message.pgn) } in x)
-        else (let x : SendResult = record { after = s; says = None } in x)).says) e)))
+    out limit e = grind (arith, e)
 
     go : (u : SendState) → s.state ≡ u → ((ticks_in s.state (age + t) s).says ≡ None → ⊥) ⊎ (nat_lt 64 spent ≡ true) → IsDue spent (age + t) s.since s.state
     go (Waiting limit) e (inl n) = subst (IsDue spent (age + t) s.since) (sym e)

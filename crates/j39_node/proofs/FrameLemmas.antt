@@ -1,12 +1,11 @@
 -- Frames that are made, and the lane of broadcasts.
-use Rattle.j39_node.proofs.Common.{if◌then◌else◌, ◌&&◌, ◌<◌, ◌==◌, ◌↔◌, ◌∙◌, ◌≡◌, ◌≤◌, ap, arith, as_broadcast, Bool, broadcast_end, carried, cut_frame, false, frame_of, FrameRecord, IfSome, is_left, IsSome, length, List, Message, MessageRecord, nat_le, nat_lt, None, Option, option_map, packet_by, packets_of, refl, Some, stamped, subst, sym, ToSend, transport_control_group, transport_data_group, true, ℕ, le-leb, lt-leb, ending_of}
+use Rattle.j39_node.proofs.Common.{if◌then◌else◌, ◌<◌, ◌==◌, ◌↔◌, ◌∙◌, ◌≡◌, ◌≤◌, ap, arith, as_broadcast, Bool, broadcast_end, carried, cut_frame, false, FrameRecord, IfSome, is_left, IsSome, length, List, Message, MessageRecord, nat_le, nat_lt, None, Option, option_map, packet_by, packets_of, Some, stamped, sym, ToSend, transport_control_group, transport_data_group, ℕ, ending_of}
 
 -- the frame that is made is one of this message
 pub made : (r : Option FrameRecord) (now id : ℕ) (bytes : List ℕ) (m : Message) → (IsSome r ↔ (length bytes ≤ 8))
     → IfSome r (λ f. f ≡ record { stamp = now; id = id; bytes = bytes }) → length bytes ≤ 8 → carried id bytes ≡ m
     → option_map stamped r ≡ Some (now, m)
-made None now id bytes m known is l e = absurd (let z : false ≡ true = known.1 l in cc)
-made (Some f) now id bytes m known is l e = ap (λ g. Some (stamped g)) is ∙ ap (λ (x : Message). Some (now, x)) e
+made r now id bytes m e g i j = grind (arith, e, g, i, j)
 
 pub lt_false : (i n : ℕ) → i ≤ n → nat_lt n i ≡ false
 lt_false i n l = grind arith
@@ -21,16 +20,9 @@ ended_is o x i n lost b l e f g h = sym (ap (λ y. broadcast_end y i lost) e ∙
 abbrev pub at_now : ℕ → Message → ℕ × Message
 at_now now m = (now, m)
 
-packet_if : (x : ℕ × MessageRecord) (i left : ℕ) (b : Bool) → nat_le left 100000 ≡ true → nat_le i (packets_of x.1) ≡ b
-    → packet_by (Some x) i left ≡ (if b then Some (frame_of x.1 i) else None)
-packet_if x i left b e f = ap (λ (a : Bool). if a && nat_le i (packets_of x.1) then Some (frame_of x.1 i) else None) e
-    ∙ ap (λ (a : Bool). if a then Some (frame_of x.1 i) else None) f
-
 pub packet_past : (o : Option (ℕ × MessageRecord)) (x : ℕ × MessageRecord) (i n left now : ℕ) → o ≡ Some x → n ≡ packets_of x.1 → n < i → left ≤ 100000
     → (let none : Option (ℕ × Message) = None in none) ≡ option_map (at_now now) (packet_by o i left)
-packet_past o x i n left now e f l g =
-    sym (ap (λ y. option_map (at_now now) (packet_by y i left)) e
-    ∙ ap (option_map (at_now now)) (packet_if x i left false (le-leb _ _ g) (lt-leb _ _ (omega (arith, f, l)))))
+packet_past o x i n left now e f g j = grind (arith, e, f, g, j)
 
 abbrev pub framed : ℕ → ℕ → List ℕ → Message
 framed source i bytes = record {
@@ -45,7 +37,4 @@ pub packet_made : (r : Option FrameRecord) (now id i : ℕ) (bytes : List ℕ) (
     → IfSome r (λ f. f ≡ record { stamp = now; id = id; bytes = bytes }) → length bytes ≤ 8 → carried id bytes ≡ framed x.1.source i bytes
     → s ≡ cut_frame (as_broadcast m) m i → s.bytes ≡ bytes → m ≡ x.1 → i ≤ packets_of m
     → option_map stamped r ≡ option_map (at_now now) (packet_by (Some x) i 0)
-packet_made r now id i bytes s x m known is l e f g k n =
-    made r now id bytes (frame_of x.1 i) known is l
-    (e ∙ ap (framed x.1.source i) (sym g ∙ (ap (λ (z : ToSend). z.bytes) f ∙ ap (λ (y : MessageRecord). (cut_frame (as_broadcast y) y i).bytes) k)))
-    ∙ sym (ap (option_map (at_now now)) (packet_if x i 0 true refl (le-leb _ _ (subst (λ (y : MessageRecord). i ≤ packets_of y) k n))))
+packet_made r now id i bytes s x m e g j k l n p q = grind (arith, e, g, j, k, l, n, p, q)

@@ -1,5 +1,5 @@
 -- The laws of broadcasts in packets that are heard.
-use Rattle.j39_node.proofs.Common.{[], if◌then◌else◌, ◌*◌, ◌++◌, ◌+◌, ◌-◌, ◌<◌, ◌||◌, ◌↔◌, ◌∙◌, ◌∷◌, ◌≡◌, ◌≢◌, ◌≤◌, ◌⊎◌, account, announced, announces, ap, append_assoc, AreApart, arith, At, Bool, broadcast_limit, by, Call, called, claim_of, claimed_again, Controller, drop, earliest, expires, false, found, found_in, FrameRecord, got_broadcasts, grown, has_room, has_some, Hear, heard_at, hearing, hearing_tick, hears_it, held_then, holder, IfSome, inl, inr, Is, is_ignored, is_late, is_own_group, is_same, is_subscribed, is_wanted, is_whole, IsHeardOf, IsTrue, known, late_at, leb-true, length, length-append, length-drop, length-take-le, List, listed, listening, ltb-false, made_whole, message_by, MessageRecord, MessagesMissed, min, more, NeverBack, None, not, not_both, of, of_other, OpenBroadcast, opens, Option, or_parts, over_by, packed, packets_for, packs, passed_in, pgn_named, refl, ReleaseBroadcast, restarts, since_in, slice_index, Some, sooner, source_of, stay, staying, StaysHeard, still, subst, suc, sym, take, take-append-drop, TakeFrame, TakeNews, those_over, Tick, TicksWithin, time_heard, true, unheard, unheard_by, unheard_news, waiting, WasBroadcast, Who, whole_broadcasts, whole_of, with_all, with_one, without_source, ℕ}
+use Rattle.j39_node.proofs.Common.{[], if◌then◌else◌, ◌*◌, ◌++◌, ◌+◌, ◌-◌, ◌<◌, ◌||◌, ◌↔◌, ◌∙◌, ◌∷◌, ◌≡◌, ◌≢◌, ◌≤◌, ◌⊎◌, account, announced, announces, ap, append_assoc, AreApart, arith, At, Bool, broadcast_limit, by, Call, called, claim_of, claimed_again, Controller, drop, earliest, expires, false, found, found_in, FrameRecord, got_broadcasts, grown, has_room, has_some, Hear, heard_at, hearing, hearing_tick, hears_it, held_then, holder, IfSome, inl, inr, Is, is_ignored, is_late, is_own_group, is_same, is_subscribed, is_wanted, is_whole, IsHeardOf, IsTrue, known, late_at, leb-true, length, length-append, length-drop, length-take-le, List, listed, listening, ltb-false, made_whole, message_by, MessageRecord, min, more, NeverBack, None, not, not_both, of, of_other, OpenBroadcast, opens, Option, or_parts, over_by, packed, packets_for, packs, passed_in, pgn_named, refl, ReleaseBroadcast, restarts, since_in, slice_index, Some, sooner, source_of, stay, StaysHeard, still, subst, suc, sym, take, take-append-drop, TakeFrame, those_over, Tick, TicksWithin, time_heard, true, unheard, unheard_by, unheard_news, waiting, WasBroadcast, Who, whole_broadcasts, whole_of, with_all, ℕ}
 use Rattle.std.specs.List.{All, filter}
 use Rattle.std.proofs.lemmas.Bool.{cases_Bool}
 use Rattle.std.proofs.lemmas.List.Elements.{All-head, All-tail}
@@ -41,8 +41,7 @@ each_sender who (At when (Hear f) ∷ H) =
     with_each (made_whole who H when f) (sender_in (found who H when f (source_of f.id))) (broadcast_senders who H) (waiting who H) (each_sender who H)
     ∙ ap length (sym (waits_made who.boxes who (holder who G (source_of f.id)) (time_heard G) f (found_in who H when f)))
 each_sender who (At now (TakeFrame (Some f)) ∷ H) = let h = each_sender who H in grind (arith, h)
-each_sender who (ReleaseBroadcast true ∷ H) =
-    let a = length-drop 1 (broadcast_senders who H) in let b = length-drop 1 (waiting who H) in let e = each_sender who H in omega (arith, a, b, e)
+each_sender who (ReleaseBroadcast true ∷ H) = let h = each_sender who H in grind (arith, h)
 each_sender who (call ∷ H) = each_sender who H
 
 pub released : (who : Who) (H : List Call) (c : Controller) (answer : Bool) → Is who (ReleaseBroadcast answer ∷ H) c
@@ -100,8 +99,7 @@ none_known who H when a f n = go (found who H when f a) refl
     go (Some x) i = absurd (n (found_known who H when a f x i).0)
 
 pub released_leaves : (who : Who) (H : List Call) (answer : Bool) → (listening who (ReleaseBroadcast answer ∷ H)).current ≡ (listening who H).current
-released_leaves who H true = refl
-released_leaves who H false = refl
+released_leaves who H answer = grind arith
 
 pub others_leave : (who : Who) (H : List Call) (when a : ℕ) (f : FrameRecord) → source_of f.id ≢ a → hearing who (At when (Hear f) ∷ H) a ≡ found who H when f a
 others_leave who H when a f n =
@@ -152,11 +150,7 @@ module _ (who : Who) (H : List Call) (when : ℕ) (f : FrameRecord) where
 
   -- what is no claim leaves who holds an address
   pub strangers : claim_of f ≡ None → announces f ≡ false → packs f ≡ false → listening who K ≡ listening who (At when Tick ∷ H)
-  strangers e g p =
-      (λ i. (let l = staying (restarts who H when f) (holder who K) (time_heard K) (listening who H) in
-      if g i || p i then with_one (hears_it who (holder who K s) (time_heard K) f room (found who H when f s)) (without_source s l) else l))
-      ∙ λ i. staying (claimed_again (holder who H) (called who H - (when - heard_at H)) (e i))
-      (λ a. held_then a (of_other who (e i)) (holder who H a)) (time_heard K) (listening who H)
+  strangers e g i = grind (arith, e, g, i)
 
   -- ---- announcements
 
@@ -245,12 +239,10 @@ exact who (call ∷ H) = exact who H
 
 pub some_unheard : (who : Who) (H : List Call) → IsTrue (unheard_news who H) → 0 < unheard who H
 some_unheard who [] e = absurd (cc)
-some_unheard who (TakeNews (Some MessagesMissed) ∷ H) e = absurd (cc)
-some_unheard who (call ∷ H) e = let h = some_unheard who H in grind (arith, h, e, more_is)
+some_unheard who (call ∷ H) e = let h = some_unheard who H in grind (arith, h, e)
 
 pub is_told : (who : Who) (H : List Call) (call : Call) → unheard who (call ∷ H) ≢ unheard who H → IsTrue (unheard_news who (call ∷ H))
-is_told who H (TakeNews (Some MessagesMissed)) n = absurd (n refl)
-is_told who H call n = grind (arith, n)
+is_told who H call e = grind (arith, e)
 
 -- ---- what is heard is for the program
 

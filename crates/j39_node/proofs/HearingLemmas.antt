@@ -1,5 +1,5 @@
 -- Broadcasts in packets that are heard, call by call.
-use Rattle.j39_node.proofs.Common.{[], if◌then◌else◌, ◌&&◌, ◌*◌, ◌++◌, ◌+◌, ◌<◌, ◌||◌, ◌∙◌, ◌∷◌, ◌≡◌, ◌≢◌, ◌≤◌, ◌⊎◌, announces, and_parts, ap, append-nil, AreApart, AreNumbered, arith, At, Bool, by, Call, chosen, claim_of, Claims, cond_both, drop, eq-eqb, eqb-false, eqb-true, false, flat_map-append, found, found_in, FrameRecord, frames_heard, get_or, goes, grown, has_room, has_some, Hear, hearing_after, HearingRecord, hears_in, hears_it, held_then, holder, holder_in, IfSome, inl, inr, is_any, is_beside, is_claim, is_ignored, is_same, is_some, is_unheard_in, is_wanted, is_whole, IsFit, IsPartOf, Key, known_by, Knows, leb-false, length, length-append, length-drop, List, listed, Listening, listening, made_in, made_of, made_whole, lt-ltb, MessageRecord, min, missed_news, more, nat_eq, nat_lt, news_after, None, not, not-true, of, OpenBroadcast, Option, option_map, option_or, or_parts, others, over_by, packed, packs, part_of, pgn_named, refl, ReleaseBroadcast, restarts, since_in, size_named, slice_index, Some, source_of, stay, staying, still, subst, suc, sym, TakeFrame, those_over, Tick, time_heard, told_claims, true, unheard, unheard_by, unheard_news, Untold, Who, whole_of, with_all, with_one, without_source, ℕ}
+use Rattle.j39_node.proofs.Common.{[], if◌then◌else◌, ◌&&◌, ◌*◌, ◌++◌, ◌+◌, ◌<◌, ◌||◌, ◌∙◌, ◌∷◌, ◌≡◌, ◌≢◌, ◌≤◌, ◌⊎◌, announces, and_parts, ap, append-nil, AreApart, AreNumbered, arith, At, Bool, by, Call, chosen, claim_of, Claims, cond_both, drop, eq-eqb, eqb-false, eqb-true, false, flat_map-append, found, found_in, FrameRecord, frames_heard, get_or, goes, grown, has_room, has_some, Hear, hearing_after, HearingRecord, hears_in, hears_it, held_then, holder, holder_in, IfSome, inl, inr, is_any, is_beside, is_claim, is_ignored, is_same, is_some, is_unheard_in, is_wanted, is_whole, IsFit, IsPartOf, Key, known_by, Knows, leb-false, length, length-append, length-drop, List, listed, Listening, listening, made_in, made_of, made_whole, MessageRecord, min, more, nat_eq, nat_lt, news_after, None, not, not-true, of, OpenBroadcast, Option, option_map, option_or, or_parts, others, over_by, packed, packs, part_of, pgn_named, refl, ReleaseBroadcast, restarts, since_in, size_named, slice_index, Some, source_of, stay, staying, still, subst, suc, sym, TakeFrame, those_over, Tick, time_heard, told_claims, true, unheard, unheard_by, Who, whole_of, with_all, with_one, without_source, ℕ}
 use Rattle.std.specs.List.{All, filter}
 use Rattle.std.proofs.lemmas.Bool.{cases_Bool, ne_eqb}
 use Rattle.std.proofs.lemmas.List.Filters.{length-filter_both}
@@ -51,9 +51,7 @@ apart_more (x ∷ xs) y h e = let a = of_append x.source xs (y ∷ []) in let n 
 -- each is the one of its source
 pub all_own : (xs : List OpenBroadcast) → AreApart xs → All (λ x. of x.source xs ≡ Some x) xs
 all_own [] h = All-nil _
-all_own (x ∷ xs) h =
-    All-cons (λ y. of y.source (x ∷ xs) ≡ Some y) x xs (ap (λ (b : Bool). if b then Some x else of x.source xs) (eq-eqb x.source x.source refl))
-    (All-weaker (λ y. of y.source xs ≡ Some y) (λ y. of y.source (x ∷ xs) ≡ Some y) (λ y e. (let n = h.0 in grind (arith, e, n))) xs (all_own xs h.1))
+all_own (x ∷ xs) h = let k = all_own xs h.1 in grind (arith, k)
 
 -- ---- a frame, and the one of its source
 
@@ -71,8 +69,7 @@ open_part None = None
 open_part (Some y) = if is_whole y then None else Some y
 
 part_at : (a s : ℕ) (o : Option OpenBroadcast) → IfSome o (λ y. y.source ≡ s) → of a (part_of o) ≡ (if nat_eq a s then open_part o else None)
-part_at a s None k = grind arith
-part_at a s (Some y) k = grind (arith, k)
+part_at a s o e = grind (arith, e)
 
 -- one, or none
 abbrev pub one : Bool → ℕ
@@ -84,8 +81,7 @@ rest_count a [] h = refl
 rest_count a (x ∷ xs) h = let k = rest_count a xs h.1 in let n = h.0 in grind (arith, k, n)
 
 part_count : (o : Option OpenBroadcast) → length (part_of o) + length (listed (whole_of o)) ≡ one (has_some o)
-part_count None = refl
-part_count (Some y) = grind arith
+part_count o = grind arith
 
 box_free : (m n : ℕ) → m ≤ n → one (nat_lt m n) + m ≤ n
 box_free m n l = grind (arith, l)
@@ -197,18 +193,13 @@ module _ (n : ℕ) (w : Who) (name : Option ℕ) (now : ℕ) (f : FrameRecord) (
 -- ---- what every history says of them
 
 pub same_same : (o : Option ℕ) → is_same o o ≡ true
-same_same None = refl
-same_same (Some n) = eq-eqb n n refl
+same_same o = grind arith
 
 pub same_is : (o p : Option ℕ) → is_same o p ≡ true → o ≡ p
-same_is None None e = refl
-same_is None (Some n) e = absurd (cc)
-same_is (Some m) None e = absurd (cc)
-same_is (Some m) (Some n) e = ap Some (eqb-true m n e)
+same_is o p e = grind (arith, e)
 
 pub drop_one : (xs : List ℕ) → length xs ≡ 8 → length (drop 1 xs) ≡ 7
-drop_one [] e = absurd (cc)
-drop_one (x ∷ xs) e = omega (arith, e)
+drop_one xs e = grind (arith, e)
 
 pub packs_eight : (f : FrameRecord) → packs f ≡ true → length f.bytes ≡ 8
 unfolding is_packet goes
@@ -403,14 +394,10 @@ all_more [] n = omega arith
 all_more (x ∷ xs) n = let h = all_more xs n in omega (arith, h)
 
 pub any_is : (xs : List OpenBroadcast) → nat_lt 0 (length xs) ≡ is_any xs
-any_is [] = refl
-any_is (x ∷ xs) = lt-ltb 0 _ (omega arith)
+any_is xs = grind arith
 
 pub missed_all : (xs : List OpenBroadcast) (n m : ℕ) → n ≡ min m 18446744073709551615 → min (n + length xs) 18446744073709551615 ≡ min (with_all xs m) 18446744073709551615
 missed_all xs n m e = let h = all_more xs m in omega (arith, h, e)
-
-pub missed_one : (m : ℕ) → min (min m 18446744073709551615 + 1) 18446744073709551615 ≡ min (suc m) 18446744073709551615
-missed_one m = omega arith
 
 pub missed_more : (b c : Bool) (n m : ℕ) → n ≡ min m 18446744073709551615 → b ≡ c
     → (if b then min (n + 1) 18446744073709551615 else n) ≡ min (more c m) 18446744073709551615
@@ -424,10 +411,6 @@ pub leaves_after : (w : Who) (H : List Call) (gone : Option ℕ) (holds : ℕ �
       missed = min (with_all (those_over gone holds now (listening w H).current) (unheard w H)) 18446744073709551615;
     }
 leaves_after w H gone holds now x e = let m = missed_all (those_over gone holds now (listening w H).current) _ (unheard w H) refl in grind (arith, e, m)
-
--- what a tick or its own claim ends is news
-pub broken_news : (b m u : Bool) → (b || (m || u)) ≡ (m || ((b || false) || u))
-broken_news b m u = grind arith
 
 -- news that stands, or is new: of messages of one frame, and of broadcasts
 pub either_news : (e a b c d : Bool) → (e || ((a || b) || (c || d))) ≡ ((a || c) || ((e || d) || b))
@@ -445,8 +428,7 @@ pub hearing_same : (w : Who) (H : List Call) (now : ℕ) (f : FrameRecord) → i
 hearing_same w H now f e = sym (ap (taken w H now f) e)
 
 pub news_same : (w : Who) (H : List Call) (now : ℕ) (f : FrameRecord) → is_claim f ≡ false → news_after w H ≡ news_after w (At now (TakeFrame (Some f)) ∷ H)
-news_same w H now f e =
-    sym (ap (λ (b : Bool). (let u : Untold = record (news_after w H) { missed = missed_news w H || ((is_any (if b then those_over None (holder w (At now (TakeFrame (Some f)) ∷ H)) (time_heard H) (listening w H).current else []) || false) || unheard_news w H) } in u)) e)
+news_same w H now f e = grind (arith, e)
 
 -- by the table, whether any ends
 says_any : (w : Who) (H : List Call) (away : Option ℕ) (holds : ℕ → Option ℕ) (now : ℕ) (table : ℕ → Option ℕ) (t : ℕ) (x : HearingRecord) (b : Bool) → x ≡ hearing_after w H → table ≡ holds → t ≡ now
@@ -479,8 +461,7 @@ ticked_says w H now old t x b e k g h = says_any w H None (holder w H) (time_hea
 -- whether one is made whole, told by its source and group
 pub made_sender : (o : Option (ℕ × MessageRecord)) (name : Option ℕ) (names : List (Option ℕ))
     → with_sender (made_of (option_map (λ (p : ℕ × MessageRecord). p.1) o)) name names ≡ with_sender o name names
-made_sender None name names = refl
-made_sender (Some x) name names = refl
+made_sender o name names = grind arith
 
 -- what a frame makes of it
 pub record HeardOn (w : Who) (H : List Call) (when : ℕ) (f : FrameRecord) (broken u : Bool) (m : Option (ℕ × ℕ)) (l : Listening) (y : HearingRecord) : Type 0 where

@@ -1,5 +1,5 @@
 -- What is received in packets, step by step.
-use Rattle.j39_node.proofs.Common.{Abort, Bool, BoxedReceiver, FrameRecord, Heard, Incoming, IncomingRecord, IsSome, Kept, List, Message, None, Option, ReceiverAnswer, ReceiverRecord, Receives, Reception, ReceptionRecord, RecvEvent, RecvResult, RecvStep, Said, Some, Stamp, ToSend, [], answer_in, answers, ap, arith, clock, false, filter, found, group_of, has_place, heard_by, if◌then◌else◌, incoming_of, is_over, keeps, kept_by, map, nat_eq, new_receiver, not, option_map, packet_in, partner_of, passed, passed_to, recv_step, refl, replied, result_of, said_by, sends, since_by, source_of, stamp_micros, step, step_at, strays, sym, takes, takes_signal, takes_tick, ticked, ticked_at, ticks, true, with_reception, with_replies, without, written, ℕ, ◌↔◌, ◌∙◌, ◌∷◌, ◌≡◌}
+use Rattle.j39_node.proofs.Common.{Abort, Bool, BoxedReceiver, FrameRecord, Heard, Incoming, IncomingRecord, IsSome, Kept, List, None, Option, ReceiverRecord, Receives, ReceptionRecord, RecvEvent, RecvStep, Said, Some, Stamp, ToSend, [], ap, arith, false, filter, found, group_of, heard_by, incoming_of, is_over, kept_by, map, nat_eq, new_receiver, not, option_map, packet_in, partner_of, passed, passed_to, recv_step, refl, replied, said_by, sends, since_by, source_of, stamp_micros, step, strays, takes_signal, takes_tick, ticked, ticks, true, with_reception, with_replies, without, written, ℕ, ◌↔◌, ◌∷◌, ◌≡◌}
 use Rattle.std.specs.Option.{is_some}
 use Rattle.j39_transport.specs.Receiving.{Tick}
 use Rattle.j39_node.proofs.PacketLemmas.{hushed}
@@ -41,9 +41,7 @@ taken_in old f a receiver place since was_open new sends box none from near h wa
     grind (arith, box, none, from, near, state, waits, says, boxed, time, own, e)
   where
     is_open : (o : Option ReceptionRecord) (b : Bool) → (b ≡ true ↔ IsSome o) → b ≡ is_some o
-    is_open None true h = absurd (let z : false ≡ true = h.0 refl in cc)
-    is_open None false h = refl
-    is_open (Some r) b h = h.1 refl
+    is_open o b e = grind (arith, e)
 
 -- a packet that strays isn't shown
 pub strayed : (old : Incoming) (f : FrameRecord) → strays (packet_in old.receiver.state.own f old.receiver.state.session) old.receiver.state.session ≡ true
@@ -85,10 +83,7 @@ pub aborted : (start mid : Incoming) (now a : ℕ) (new : IncomingRecord) → in
     → new ≡ with_replies (replied mid.receiver.state.own a (Some (written mid.receiver.state.own a (Abort 3 (group_of mid.receiver.state.session)))) (incoming_of mid).reception.replies)
     (with_reception (record { session = None; since = (incoming_of mid).reception.since; waits = (incoming_of mid).reception.waits; replies = (incoming_of mid).reception.replies }) (incoming_of mid))
     → new ≡ ticks now (incoming_of start)
-aborted start mid now a new passed from over e =
-    let to = partner_is mid.receiver.state.session a from in
-    let same = ap (λ (y : IncomingRecord). with_reception (ticked y.own now y.clock y.reception) y) passed in
-    cc
+aborted start mid now a new e f g i = grind (arith, e, f, g, i)
 
 -- and for none
 pub rests_on : (start : Incoming) (mid : Incoming) (now : ℕ) → incoming_of mid ≡ passed_to now (incoming_of start) → mid.receiver.state.session ≡ None

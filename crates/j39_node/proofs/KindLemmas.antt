@@ -1,8 +1,8 @@
 -- What kind a frame is that is taken.
 use Rattle.j39_node.proofs.SoundLemmas.FrameCase.{claims, acknowledges, replies, sends, packs, transfers}
-use Rattle.j39_node.proofs.Common.{◌≡◌, ◌-◌, ◌&&◌, ◌||◌, ap, Bool, eqb-true, false, length, List, nat_eq, Some, true, ℕ, FrameRecord, pgn_of, address_claimed_group, acknowledged, acknowledgment_group, Call, due, is_acknowledgment, is_claim, is_packet, is_session, Message, open_broadcast, packets, pause, step, Who, AreAnswered, is_move, is_reply, reception, Move}
-use Rattle.j39_node.proofs.SoundLemmas.{FrameCase, is_moved, reply_no_move, no_move, is_directed, no_packet, no_transfer, packet_session, claim_single, claim_taken, due_taken, IsDue, reply_taken, own_taken, own_of, packet_taken, transfer_taken, apart_is, reply_is, turned, sound}
-use Rattle.j39_node.proofs.ReceptionLemmas.{no_reply, replied_get, tidy}
+use Rattle.j39_node.proofs.Common.{arith, ◌≡◌, ◌&&◌, ◌||◌, ap, Bool, false, length, List, Some, true, ℕ, FrameRecord, acknowledged, Call, due, is_acknowledgment, is_claim, is_packet, is_session, Message, Who, AreAnswered, is_move, is_reply, reception, Move}
+use Rattle.j39_node.proofs.SoundLemmas.{FrameCase, is_moved, reply_no_move, is_directed, due_taken, IsDue, reply_taken, own_taken, own_of, transfer_taken, apart_is, reply_is, turned, sound}
+use Rattle.j39_node.proofs.ReceptionLemmas.{replied_get, tidy}
 use Rattle.j39_node.proofs.QueueLemmas.{all_at}
 
 -- a claim, an acknowledgment, one of a session, of a broadcast, the first reply, one of the open transfer
@@ -31,9 +31,7 @@ abbrev pub of_session : Bool → Bool → Bool → Kind
 of_session p r m = record { claim = false; acknowledgment = false; session = true; packet = p; reply = r; move = m }
 
 kind_single : (w : Who) (H : List Call) (f : FrameRecord) (c a : Bool) → is_claim f ≡ c → is_acknowledgment f ≡ a → is_session f ≡ false → kind w H f ≡ single c a
-kind_single w H f c a e g k =
-    let t = no_transfer f k in
-    λ i. record { claim = e i; acknowledgment = g i; session = k i; packet = no_packet f k i; reply = no_reply (reception w H).replies f t i; move = no_move w H f t i }
+kind_single w H f c a e g i = grind (arith, e, g, i)
 
 -- by what was next
 abbrev pub kind_by : {w : Who} {H : List Call} {now : ℕ} {f : FrameRecord} → FrameCase w H now f → Kind
@@ -45,9 +43,7 @@ kind_by (packs m o h n g e) = of_session true false false
 kind_by (transfers m o h n g e) = of_session false false true
 
 pub kind_is : (w : Who) (H : List Call) (now : ℕ) (f : FrameRecord) → AreAnswered w H → (c : FrameCase w H now f) → kind w H f ≡ kind_by c
-kind_is w H now f right (claims o e) =
-    let i = claim_taken f now w _ e in
-    kind_single w H f true false i (ap (λ (g : ℕ). nat_eq g acknowledgment_group) (eqb-true (pgn_of f.id) address_claimed_group i)) (claim_single f i)
+kind_is w H now f right (claims o e) = grind arith
 kind_is w H now f right (acknowledges m o h g e way) =
     let r = due_taken w f now m e (all_at (IsDue w) (due w H) (length (acknowledged H)) m (sound w H right).desk.0 g) in kind_single w H f false true r.0 r.1 r.2
 kind_is w H now f right (replies m o h n g e) =
@@ -56,10 +52,7 @@ kind_is w H now f right (replies m o h n g e) =
     λ i. record { claim = r.0 i; acknowledgment = r.1 i; session = r.2 i; packet = r.3 i; reply = is_directed f r.2 r.3 i && reply_is w H f m g that i; move = reply_no_move w H f m g that i }
 kind_is w H now f right (sends x o h n g e) =
     let own = own_taken w f now x e (own_of w H x right g) in kind_single w H f false false own.0 own.1 own.2
-kind_is w H now f right (packs m o h n g e) =
-    let r = packet_taken f now m (open_broadcast w H) (length (packets H)) (pause H - step H now) e g in
-    let t = packet_session f r.2 in
-    λ i. record { claim = r.0 i; acknowledgment = r.1 i; session = t.0 i; packet = r.2 i; reply = no_reply (reception w H).replies f t.1 i; move = no_move w H f t.1 i }
+kind_is w H now f right (packs m o h n g e) = grind arith
 kind_is w H now f right (transfers m o h n g e) =
     let r = transfer_taken w H now f m right e g in
     let apart = apart_is w H now f m g (ap (λ (y : ℕ × Message). y.1) e) (turned w H now (Some Move) n.1).1 in

@@ -1,5 +1,5 @@
 -- What is refused.
-use Rattle.j39_node.proofs.Common.{[], if◌then◌else◌, ◌&&◌, ◌++◌, ◌==◌, ◌∙◌, ◌∷◌, ◌≡◌, ◌≢◌, ◌≤◌, ◌⊎◌, acknowledgment, Answer, ap, arith, Asked, Bool, Busy, bytes_eq, false, fresh, inl, inr, is_refusal_due, is_served, List, list_any, Message, Nack, nat_eq, nat_lt, None, not, Option, refusal, repeats, Some, sym, true, Who, with_refusal, ℕ, ne_eqb}
+use Rattle.j39_node.proofs.Common.{[], if◌then◌else◌, ◌&&◌, ◌++◌, ◌==◌, ◌∙◌, ◌∷◌, ◌≡◌, ◌≢◌, ◌≤◌, ◌⊎◌, acknowledgment, Answer, ap, arith, Asked, Bool, Busy, bytes_eq, false, fresh, is_refusal_due, is_served, List, list_any, Message, Nack, nat_eq, nat_lt, None, not, Option, refusal, repeats, Some, sym, true, Who, with_refusal, ℕ}
 
 pub has_room : (n : ℕ) → n ≤ 16 → false ≡ (n == 16) → nat_lt n 16 ≡ true
 has_room n l e = grind (arith, l, e)
@@ -13,8 +13,7 @@ served_not a b e = grind (arith, e)
 -- whether there is a place for it
 pub place_by : (W : Who) (room place : Bool) (answer : Answer) (r : Asked) (A : List Message) → answer ≡ (if is_served W r.group then Busy else Nack)
     → place ≡ (room && not (list_any (λ (m : Message). bytes_eq m.bytes (acknowledgment W answer r).bytes) A)) → (room && not (is_refusal_due W A (Some r))) ≡ place
-place_by W room place answer r A e f =
-    ap (λ (a : Answer). room && not (list_any (λ (m : Message). bytes_eq m.bytes (acknowledgment W a r).bytes) A)) (sym e) ∙ sym f
+place_by W room place answer r A e f = grind (arith, e, f)
 
 pub refused : (W : Who) (room place : Bool) (r : Asked) (A : List Message) → nat_eq r.destination W.address ≡ true → place ≡ true
     → (is_served W r.group && room) ≡ false → with_refusal W room place (Some r) A ≡ A ++ refusal W r ∷ []
@@ -22,10 +21,7 @@ refused W room place r A d p s = λ i. if (d i && p i) && not (s i) then A ++ re
 
 pub not_refused : (W : Who) (room place : Bool) (r : Asked) (A : List Message) → (r.destination ≢ W.address) ⊎ (place ≡ false)
     → with_refusal W room place (Some r) A ≡ A
-not_refused W room place r A (inl n) =
-    ap (λ (x : Bool). if (x && place) && not (is_served W r.group && room) then A ++ refusal W r ∷ [] else A) (ne_eqb r.destination W.address n)
-not_refused W room place r A (inr p) =
-    ap (λ (x : Bool). if x && not (is_served W r.group && room) then A ++ refusal W r ∷ [] else A) (served_not (nat_eq r.destination W.address) place (inr p))
+not_refused W room place r A e = grind (arith, e)
 
 pub with_room : (a b c : Bool) → a ≡ true → c ≡ b → not c ≡ (a && not b)
 with_room a b c e f = ap not f ∙ sym (ap (λ (x : Bool). x && not b) e)

@@ -1,8 +1,8 @@
 -- The laws of broadcasts.
-use Rattle.j39_node.proofs.Common.{[], if◌then◌else◌, ◌++◌, ◌+◌, ◌-◌, ◌<◌, ◌↔◌, ◌∙◌, ◌∷◌, ◌≡◌, ◌≤◌, ◌⊎◌, accepted, acknowledged, address_after, all_frames, and_from, ap, AreAnswered, arith, At, Bool, Broadcast, broadcast_end, broadcasts, Call, Controller, Done, due, Ending, eq-eqb, eqb-true, false, first_frames, frame_of, FrameRecord, has_packets, holds, inl, inr, Is, is_acknowledgment, is_busy, is_claim, is_held, is_left, is_lost, is_open, is_overdue, is_packet, is_there, IsTrue, length, List, long_by, Message, message_of, MessageRecord, moment, Move, nat_le, nat_lt, next_acknowledgment, next_frame, next_long, next_packet, next_transfer, None, Ok, open_broadcast, Option, packet_by, packets, packets_of, PacketSince, passed_in, pause, reached, ready, refl, Reply, Single, slice_get, Some, step, suc, sym, TakeBroadcastEnded, TakeFrame, told_broadcasts, true, Who, Withdrawn, yields, zero, ℕ, not_both, or_parts, or_cases, leb-false, false_from_ne_true, le-leb, ltb-false}
+use Rattle.j39_node.proofs.Common.{[], ◌++◌, ◌+◌, ◌-◌, ◌<◌, ◌↔◌, ◌∙◌, ◌∷◌, ◌≡◌, ◌≤◌, ◌⊎◌, accepted, acknowledged, address_after, all_frames, ap, AreAnswered, arith, At, Bool, Broadcast, broadcast_end, broadcasts, Call, Controller, Done, due, Ending, eq-eqb, eqb-true, false, first_frames, frame_of, FrameRecord, has_packets, holds, inl, inr, Is, is_acknowledgment, is_busy, is_claim, is_held, is_left, is_lost, is_open, is_overdue, is_packet, IsTrue, length, List, long_by, Message, message_of, MessageRecord, moment, Move, nat_le, nat_lt, next_acknowledgment, next_frame, next_long, next_packet, next_transfer, None, Ok, open_broadcast, Option, packet_by, packets, packets_of, PacketSince, passed_in, pause, reached, ready, refl, Reply, Single, slice_get, Some, step, suc, sym, TakeBroadcastEnded, TakeFrame, told_broadcasts, true, Who, Withdrawn, yields, zero, ℕ, not_both, or_parts, or_cases, false_from_ne_true}
 use Rattle.j39_node.specs.declared.turn.Turn.TheVariants.{Packet}
 use Rattle.j39_node.proofs.QueueLemmas.{length_one_more, all_at}
-use Rattle.j39_node.proofs.SoundLemmas.{address_is, packet_taken, IsTurn, none_next, packet_there, turned, FrameCase, frame_case, packet_case, sound, claim_taken, claim_single, IsDue, due_taken, no_packet, pause_is, no_packet}
+use Rattle.j39_node.proofs.SoundLemmas.{address_is, packet_taken, IsTurn, none_next, turned, FrameCase, frame_case, packet_case, sound, claim_taken, claim_single, IsDue, due_taken, no_packet, pause_is, no_packet}
 use Rattle.j39_node.proofs.SoundLemmas.FrameCase.{claims, acknowledges, replies, sends, packs, transfers}
 use Rattle.j39_node.proofs.LaneLemmas.{LaneEnd, lane_end, Opened, Laned, laned, closed, stands_open, opened_by, ended_one}
 use Rattle.j39_node.proofs.LaneLemmas.LaneEnd.{complete, broken}
@@ -84,16 +84,10 @@ overdue_goes_by w H now f right (transfers m o h n g e) late k a = absurd (not_b
 
 -- ---- their spacing
 
-pause_or : (b : Bool) (p s q : ℕ) → 150000 ≤ p + q → 150000 ≤ (if b then 150000 else p - s) + (q + s)
-pause_or true p s q l = omega arith
-pause_or false p s q l = omega (arith, l)
-
 -- what is left of the pause, and what passed since a frame of packets
 pauses : (later E : List Call) → 150000 ≤ pause E → 150000 ≤ pause (later ++ E) + passed_in later E
 pauses [] E l = omega (arith, l)
-pauses (At now (TakeFrame (Some f)) ∷ later) E l = pause_or (is_packet f) (pause (later ++ E)) (step (later ++ E) now) (passed_in later E) (pauses later E l)
-pauses (At now (Broadcast group bytes (Ok k)) ∷ later) E l = let h = pauses later E l in omega (arith, h)
-pauses (call ∷ later) E l = let h = pauses later E l in omega (arith, h)
+pauses (call ∷ later) E e = let h = pauses later E in grind (arith, h, e)
 
 pub spaced : (w : Who) (H later : List Call) (c : Controller) (now at : ℕ) (f g : FrameRecord)
     → Is w (At now (TakeFrame (Some g)) ∷ later ++ At at (TakeFrame (Some f)) ∷ H) c → IsTrue (is_packet f) → IsTrue (is_packet g)
@@ -146,8 +140,7 @@ began (call ∷ H) = lets_pass H call (began H) (λ l. omega arith)
 
 -- a frame that is left waits for the pause alone
 no_frame : (o : Option (ℕ × MessageRecord)) (i left : ℕ) → is_left o i ≡ true → packet_by o i left ≡ None → 100000 < left
-no_frame o i left e f =
-    leb-false left 100000 (false_from_ne_true _ (λ z. not_both _ (sym (packet_there o i left) ∙ ap is_there f) (and_from (is_left o i) (nat_le left 100000) e z)))
+no_frame o i left e f = grind (arith, e, f)
 
 -- where no frame is taken from an address that is held, none of packets is next
 pub none_long : (w : Who) (H : List Call) (now : ℕ) → holds w H now ≡ true → (let none : Option (ℕ × Message) = None in none) ≡ next_frame w H now → next_long w H now ≡ None
@@ -197,11 +190,7 @@ done_means w H c k e is = go (ended w H c (k, e) is)
 
 pub withdrawn_means : (w : Who) (H : List Call) (c : Controller) (k : ℕ) (e : Ending) → Is w (TakeBroadcastEnded (Some (k, e)) ∷ H) c → e ≡ Withdrawn
     → IsTrue (is_lost (address_after w H))
-withdrawn_means w H c k e is z = go (ended w H c (k, e) is)
-  where
-    go : LaneEnd (open_broadcast w H) (length (packets H)) (is_lost (address_after w H)) (k, e) → is_lost (address_after w H) ≡ true
-    go (complete m f l d) = absurd (let y : Done ≡ Withdrawn = sym d ∙ z in cc)
-    go (broken m f l a d) = a
+withdrawn_means w H c k e f g = grind (arith, g)
 
 pub all_told : (w : Who) (H : List Call) (c : Controller) → Is w (TakeBroadcastEnded None ∷ H) c
     → (length (told_broadcasts H) ≡ length (broadcasts w H)) ⊎ (IsTrue (has_packets w H) × (IsTrue (is_lost (address_after w H)) → ⊥))
@@ -209,8 +198,7 @@ all_told w H c is = go (open_broadcast w H) (laned w H is.answered.0) is.answere
   where
     by : (b l : Bool) (i n k : ℕ) → Rattle.std.proofs.Common.nat_lt n i ≡ b → (let none : Option (ℕ × Ending) = None in none) ≡ Rattle.j39_node.specs.Is.ending_of b l k
         → (nat_le i n ≡ true) × (l ≡ false)
-    by false false i n k e f = (le-leb i n (ltb-false n i e), refl)
-    by b l i n k e f = absurd (cc)
+    by b l i n k e f = (grind (arith, e, f), grind (arith, e, f))
 
     go : (o : Option (ℕ × MessageRecord)) → Laned w (length (told_broadcasts H)) (broadcasts w H) (packets H) o
         → (let none : Option (ℕ × Ending) = None in none) ≡ broadcast_end o (length (packets H)) (is_lost (address_after w H))

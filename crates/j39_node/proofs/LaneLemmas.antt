@@ -46,13 +46,11 @@ Laned w told all taken (Some x) = Opened w told all taken x
 
 pub closed : (w : Who) (told : ℕ) (all : List MessageRecord) (taken : List Message) (o : Option (ℕ × MessageRecord)) → Laned w told all taken o
     → is_open o ≡ false → told ≡ length all
-closed w told all taken None h e = h
-closed w told all taken (Some x) h e = absurd (cc)
+closed w told all taken o e f = grind (arith, f)
 
 pub stands_open : (w : Who) (told : ℕ) (all : List MessageRecord) (taken : List Message) (o : Option (ℕ × MessageRecord)) → Laned w told all taken o
     → is_open o ≡ true → length all ≡ suc told
-stands_open w told all taken None h e = absurd (cc)
-stands_open w told all taken (Some x) h e = let a = h.token in let b = h.count in omega (arith, a, b)
+stands_open w told all taken o e f = grind (arith, f)
 
 pub opened_by : (w : Who) (told : ℕ) (all : List MessageRecord) (taken : List Message) (o : Option (ℕ × MessageRecord)) (x : ℕ × MessageRecord)
     → Laned w told all taken o → o ≡ Some x → Opened w told all taken x

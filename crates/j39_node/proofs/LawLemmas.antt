@@ -1,5 +1,6 @@
 -- The laws.
-use Rattle.j39_node.proofs.Common.{Address, AddressLost, AnotherAtAddress, AreAnswered, Asked, At, Bool, Busy, Call, Claim, Claimed, Controller, Draft, Ending, FrameRecord, HasDouble, Hear, Is, IsFront, IsTrue, List, Lost, Message, MessagesMissed, Move, Nack, NameDoubled, News, None, NoneTold, NotClaimed, Option, Renew, Reply, Some, TakeEnded, TakeFrame, TakeNews, Tick, Who, Withdraw, [], accepted, acknowledged, acknowledgment, acknowledgment_group, address_after, address_claimed_group, age, and-false, and_from, and_parts, answers_another, ap, append-nil, arith, asked, at_in, called, calls, calls_for_claim, claim_address, claim_due, claim_from, claim_goes, claim_of, content, delayed, destination_of, double, doubled_news, drop, due, end_of, eq-eqb, eqb-true, false, first, frames, fresh, gives_way, global_address, got, handed, held_at, holds, if◌then◌else◌, inl, inr, is_acknowledgment, is_alike, is_another, is_apart, is_blank, is_claim, is_double, is_for_program, is_held, is_larger, is_lost, is_move, is_none, is_own_group, is_refusal_due, is_reply, is_served, is_session, is_smaller, is_some, is_subscribed, is_there, is_transfer, kept, later, le-leb, le-ltb, length, length-append, long_by, lost_news, lt-ltb, ltb-false, ltb-true, marks, may_claim, may_go, message_from, message_of, missed, missed_news, moment, nat_eq, nat_le, nat_lt, news_of, next_acknowledgment, next_due, next_frame, next_long, next_other, next_packet, next_transfer, next_withdrawn, not, not_both, null_address, older, open_broadcast, option_map, option_or, or_parts, other, owes_claim, packets, passed_in, patience, pause, pgn_of, reached, ready, reception, refl, refusal_waits, request_group, requests, slice_get, slice_get-map, slice_get_within, source_of, stamp_at, stamped, status_after, status_of, step, suc, sym, takes_other, told, true, turns, unclaimed, waits_already, with_refusal, with_request, yields, ℕ, ◌&&◌, ◌*◌, ◌++◌, ◌+◌, ◌-◌, ◌<◌, ◌||◌, ◌↔◌, ◌∙◌, ◌∷◌, ◌≡◌, ◌≢◌, ◌≤◌, ◌⊎◌, or_cases, or_left, or_right, none-some, cond_both, ne_eqb, leb-false, subst, cases_Bool, cases_lt}
+use Rattle.std.proofs.lemmas.Grind.{common_steps}
+use Rattle.j39_node.proofs.Common.{Address, AddressLost, AnotherAtAddress, AreAnswered, Asked, At, Bool, Busy, Call, Claim, Claimed, Controller, Draft, Ending, FrameRecord, HasDouble, Hear, Is, IsFront, IsTrue, List, Lost, Message, MessagesMissed, Move, Nack, NameDoubled, News, None, NoneTold, NotClaimed, Option, Renew, Reply, Some, TakeEnded, TakeFrame, TakeNews, Tick, Who, Withdraw, [], accepted, acknowledged, acknowledgment, acknowledgment_group, address_after, address_claimed_group, age, and-false, and_from, and_parts, answers_another, ap, append-nil, arith, asked, at_in, called, calls, claim_address, claim_due, claim_from, claim_goes, claim_of, content, delayed, double, doubled_news, drop, due, end_of, eq-eqb, eqb-true, false, first, frames, fresh, gives_way, got, handed, held_at, holds, if◌then◌else◌, inl, inr, is_acknowledgment, is_alike, is_another, is_apart, is_blank, is_claim, is_double, is_for_program, is_held, is_lost, is_move, is_refusal_due, is_reply, is_served, is_smaller, is_subscribed, is_there, is_transfer, kept, later, le-leb, le-ltb, length, length-append, long_by, lost_news, lt-ltb, ltb-false, marks, may_claim, may_go, message_from, message_of, missed, missed_news, moment, nat_eq, nat_le, nat_lt, news_of, next_acknowledgment, next_due, next_frame, next_long, next_other, next_packet, next_transfer, next_withdrawn, not, not_both, older, open_broadcast, option_map, option_or, or_parts, other, owes_claim, packets, passed_in, patience, pause, pgn_of, reached, ready, reception, refl, refusal_waits, request_group, requests, slice_get, slice_get-map, slice_get_within, source_of, stamp_at, stamped, status_after, status_of, step, suc, sym, takes_other, told, true, turns, unclaimed, waits_already, with_refusal, with_request, yields, ℕ, ◌&&◌, ◌*◌, ◌++◌, ◌+◌, ◌-◌, ◌<◌, ◌||◌, ◌↔◌, ◌∙◌, ◌∷◌, ◌≡◌, ◌≢◌, ◌≤◌, ◌⊎◌, or_cases, or_left, or_right, cond_both, ne_eqb, leb-false, subst, cases_Bool, cases_lt}
 use Rattle.j39_node.proofs.PromptLaws.{answered_from}
 use Rattle.j39_node.specs.History.{heard, Again}
 use Rattle.j39_node.specs.Reception.{is_waiting}
@@ -7,8 +8,8 @@ use Rattle.j39_address.specs.declared.status.Status.TheVariants as status
 use Rattle.j39_node.proofs.ReceptionLemmas.{replied_get, tidy}
 use Rattle.j39_node.proofs.DueLemmas.{both_none, from_long, quiet_long, then_long}
 use Rattle.j39_node.proofs.QueueLemmas.{length_one_more, all_at}
-use Rattle.j39_node.proofs.SoundLemmas.{apart_is, is_moved, IsTurn, acknowledgment_single, claim_single, no_transfer, none_there, packet_session, packet_there, own_taken, turned, Rest, none_at, none_next, none_other, other_none, claim_is, given_way, none_acknowledged, none_due_goes, none_gives, FrameCase, Sound, claim_taken, IsDue, due_taken, frame_by, frame_case, held_older, own_of, packet_case, packet_taken, sound, transfer_taken, holding_not_lost, renew_case, WithdrawCase, withdraw_case, past_end, Told, told_case, stamped_by, claims_or_held, stays_lost}
-use Rattle.j39_node.proofs.KnownLemmas.{fresh_one, not_refused}
+use Rattle.j39_node.proofs.SoundLemmas.{apart_is, is_moved, IsTurn, claim_single, no_transfer, none_there, packet_session, packet_there, own_taken, turned, Rest, none_at, none_next, none_other, other_none, claim_is, given_way, none_acknowledged, none_due_goes, none_gives, FrameCase, Sound, claim_taken, IsDue, due_taken, frame_by, frame_case, held_older, own_of, packet_case, packet_taken, sound, transfer_taken, holding_not_lost, renew_case, WithdrawCase, withdraw_case, past_end, Told, told_case, stamped_by, claims_or_held, stays_lost}
+use Rattle.j39_node.proofs.KnownLemmas.{fresh_one}
 use Rattle.j39_node.proofs.LaneLemmas.{laned, opened_by}
 use Rattle.j39_node.proofs.CallLemmas.{due_by}
 use Rattle.j39_node.proofs.SoundLemmas.FrameCase.{claims, acknowledges, replies, sends, packs, transfers}
@@ -129,8 +130,7 @@ full_parts a t e = elim (or_cases (nat_eq (a - t) 16) _ e) [
 ]
 
 pub full_from : (a t : ℕ) → (a ≡ t + 16) ⊎ (a ≡ 18446744073709551615) → (nat_eq (a - t) 16 || nat_eq a 18446744073709551615) ≡ true
-full_from a t (inl e) = or_left _ (nat_eq a 18446744073709551615) (eq-eqb (a - t) 16 (omega (arith, e)))
-full_from a t (inr e) = or_right (nat_eq (a - t) 16) _ (eq-eqb a 18446744073709551615 e)
+full_from a t e = grind (arith, e)
 
 -- ---- received
 
@@ -143,9 +143,7 @@ whole xs ys (zs, e) l = whole_rest xs ys zs e l
 
 count_one : (b r : Bool) (xs ys : List (ℕ × Message)) (x : ℕ × Message) (m : ℕ) → length ys + m ≡ length xs
     → length (if b && r then ys ++ x ∷ [] else ys) + (if b && not r then suc m else m) ≡ length (if b then xs ++ x ∷ [] else xs)
-count_one true true xs ys x m e = let a = length_one_more xs x in let b = length_one_more ys x in omega (arith, a, b, e)
-count_one true false xs ys x m e = let a = length_one_more xs x in omega (arith, a, e)
-count_one false r xs ys x m e = e
+count_one b r xs ys x m e = grind (arith, common_steps, e)
 
 pub counted : (w : Who) (H : List Call) → length (kept w H) + missed w H ≡ length (heard w H)
 counted w [] = refl
@@ -154,25 +152,10 @@ counted w (call ∷ H) = counted w H
 
 pub not_subscribed : (w : Who) (H : List Call) (when : ℕ) (f : FrameRecord) → is_subscribed w (pgn_of f.id) ≡ false
     → (kept w (At when (Hear f) ∷ H) ≡ kept w H) × (missed w (At when (Hear f) ∷ H) ≡ missed w H)
-not_subscribed w H when f e = (
-  ap (λ (b : Bool). if b && nat_lt (length (kept w H) - length (got H)) 16 then kept w H ++ (f.stamp, message_of f) ∷ [] else kept w H) none,
-  ap (λ (b : Bool). if b && not (nat_lt (length (kept w H) - length (got H)) 16) then suc (missed w H) else missed w H) none,
-)
-  where
-    none : is_for_program w (holds w H when) f ≡ false
-    none =
-        ap (λ (s : Bool). nat_lt (source_of f.id) null_address && ((s && not (is_own_group (pgn_of f.id) || nat_eq (pgn_of f.id) request_group))
-        && (is_none (destination_of f.id) || (is_some (destination_of f.id) global_address || (is_some (destination_of f.id) w.address && holds w H when))))) e
-        ∙ and-false (nat_lt (source_of f.id) null_address)
+not_subscribed w H when f e = (grind (arith, e), grind (arith, e))
 
 pub missed_full : (w : Who) (H : List Call) (when : ℕ) (f : FrameRecord) → missed w (At when (Hear f) ∷ H) ≢ missed w H → length (got H) + 16 ≤ length (kept w H)
-missed_full w H when f n = go (is_for_program w (holds w H when) f) (nat_lt (length (kept w H) - length (got H)) 16) refl n
-  where
-    go : (b r : Bool) → nat_lt (length (kept w H) - length (got H)) 16 ≡ r → ((if b && not r then suc (missed w H) else missed w H) ≡ missed w H → ⊥)
-        → length (got H) + 16 ≤ length (kept w H)
-    go true false e k = let l = ltb-false _ _ e in omega (arith, l)
-    go true true e k = absurd (k refl)
-    go false r e k = absurd (k refl)
+missed_full w H when f e = grind (arith, e)
 
 -- ---- claims
 
@@ -188,13 +171,9 @@ still_owed w (At now (TakeFrame (Some f)) ∷ later) H e o = absurd (let a = ap 
 still_owed w (At now Again ∷ later) H e o = refl
 still_owed w (call ∷ later) H e o = still_owed w later H e o
 
-owed_due : (w : Who) (H : List Call) (now : ℕ) → owes_claim w H ≡ true → is_lost (address_after w H) ≡ false → claim_due w H now ≡ true
-owed_due w H now o l = λ i. o i && (not (l i) || nat_eq (delayed w H - step H now) 0)
-
 -- where a frame is taken, a claim that is owed may go
 taken_due : (w : Who) (H : List Call) (now : ℕ) (f : FrameRecord) → FrameCase w H now f → owes_claim w H ≡ true → claim_due w H now ≡ true
-taken_due w H now f c o =
-    elim (claims_or_held c) [ inl x ↦ (and_parts (claim_due w H now) (not (gives_way w H now)) x.0).0 | inr y ↦ owed_due w H now o (holding_not_lost w H now y.1) ]
+taken_due w H now f e g = grind (arith, g)
 
 -- it goes now, or gives way
 pub claimed_or_not : (w : Who) (H : List Call) (c : Controller) (now : ℕ) (g : FrameRecord) → Is w (At now (TakeFrame (Some g)) ∷ H) c → owes_claim w H ≡ true
@@ -255,19 +234,15 @@ answered_once w H later when now f g e l =
     begins = let z = ap (λ (b : Bool). if b then 5000000 else patience w H - step H when) e in omega (arith, z)
 
     more : (b : Bool) (p s q : ℕ) → 5000000 ≤ p + q → 5000000 ≤ (if b then 5000000 else p - s) + (q + s)
-    more true p s q l = omega arith
-    more false p s q l = omega (arith, l)
+    more b p s q e = grind (arith, e)
 
     patient : (later : List Call) → 5000000 ≤ patience w (later ++ At when (Hear f) ∷ H) + passed_in later (At when (Hear f) ∷ H)
     patient [] = let b = begins in omega (arith, b)
-    patient (At now (Hear g) ∷ later) =
-        more (answers_another w (later ++ At when (Hear f) ∷ H) now g) (patience w (later ++ At when (Hear f) ∷ H)) (step (later ++ At when (Hear f) ∷ H) now)
-        (passed_in later (At when (Hear f) ∷ H)) (patient later)
+    patient (At now (Hear g) ∷ later) = let h = patient later in grind (arith, h)
     patient (call ∷ later) = let h = patient later in omega (arith, h)
 
     never : (b : Bool) (n : ℕ) → 0 < n → (b && nat_eq n 0) ≡ false
-    never true n l = grind (arith, l)
-    never false n l = refl
+    never b n e = grind (arith, e)
 
 -- ---- none is silenced
 
@@ -294,23 +269,10 @@ takes_turns w H later between c last second first f g i m is none none_between p
 -- behind a reply the next yields, as long as no other frame but claims and acknowledgments is taken
 still_yields : (w : Who) (later H : List Call) → NoneTold takes_other later → yields w H ≡ true → yields w (later ++ H) ≡ true
 still_yields w [] H n e = e
-still_yields w (At now (TakeFrame (Some f)) ∷ later) H n e = go (is_claim f || is_acknowledgment f) n.0 (still_yields w later H n.1 e)
-  where
-    go : (b : Bool) → not b ≡ false → yields w (later ++ H) ≡ true → (if b then yields w (later ++ H) else is_reply (reception w (later ++ H)).replies f) ≡ true
-    go true i h = h
-    go false i h = absurd (cc)
-still_yields w (call ∷ later) H n e = still_yields w later H n.1 e
+still_yields w (call ∷ later) H e f = let h = still_yields w later H in grind (arith, h, e, f)
 
 yields_then : (w : Who) (H : List Call) (now : ℕ) (f : FrameRecord) → is_reply (reception w H).replies f ≡ true → yields w (At now (TakeFrame (Some f)) ∷ H) ≡ true
-yields_then w H now f t = go (is_claim f) (is_acknowledgment f) refl refl
-  where
-    session : is_session f ≡ true
-    session = (and_parts (is_session f) _ (and_parts (is_transfer f) _ t).0).0
-
-    go : (a b : Bool) → is_claim f ≡ a → is_acknowledgment f ≡ b → (if is_claim f || is_acknowledgment f then yields w H else is_reply (reception w H).replies f) ≡ true
-    go true b p q = absurd (not_both _ (claim_single f p) session)
-    go false true p q = absurd (not_both _ (acknowledgment_single f q) session)
-    go false false p q = (λ i. if p i || q i then yields w H else is_reply (reception w H).replies f) ∙ t
+yields_then w H now f e = grind (arith, e)
 
 -- and behind it what else is due goes before the next reply
 pub behind_a_reply : (w : Who) (H later : List Call) (c : Controller) (last first : ℕ) (f i : FrameRecord)
@@ -366,15 +328,7 @@ others_due w H now held one e = go one
     go (inr (inr l)) = l (ap (λ o. long_by o (next_transfer w H now)) n.0.packet ∙ n.1)
 
 no_claim_left : (w : Who) (H : List Call) (now : ℕ) → claim_goes w H now ≡ true → (let none : Option (ℕ × Message) = None in none) ≡ next_frame w H now → ⊥
-no_claim_left w H now o e = none-some (now, claim_from w (claim_address w (address_after w H))) (e
-    ∙ ap (λ (b : Bool). frame_by b (holds w H now) (next_acknowledgment w H now) (other w H now) (claim_from w (claim_address w (address_after w H))) now) o)
-
-due_by_then : (w : Who) (H : List Call) (now : ℕ) → owes_claim w H ≡ true → (IsTrue (is_lost (address_after w H)) → delayed w H ≤ step H now)
-    → claim_due w H now ≡ true
-due_by_then w H now o ripe = elim (cases_Bool (is_lost (address_after w H))) [
-  | inl l ↦ λ i. o i && (not (l i) || eq-eqb (delayed w H - step H now) 0 (let r = ripe l in omega (arith, r)) i)
-  | inr l ↦ owed_due w H now o l
-]
+no_claim_left w H now e f = grind (arith, e, f)
 
 pub most_delayed : (w : Who) (H : List Call) → delayed w H ≤ w.delay * 600
 most_delayed w [] = omega arith
@@ -414,8 +368,7 @@ cannot_claim_waits w H later c when now f (Some g) is none away stood l = absurd
     K = later ++ G
 
     called : calls w H when f ≡ true
-    called = or_left (calls_for_claim w (is_lost (address_after w H)) f) _ (or_left ((is_smaller w (claim_of f) || is_larger w (claim_of f)) && not (is_lost (address_after w H))) _
-        (λ i. (away i || is_larger w (claim_of f)) && not (stood i)))
+    called = grind arith
 
     lost_then : is_lost (address_after w G) ≡ true
     lost_then = ap (λ (b : Bool). is_lost (if b then Lost else older (step H when) (address_after w H))) away
@@ -443,16 +396,13 @@ unheld (Claimed e) = false
 unheld Lost = true
 
 unheld_so : (a : Address) → unheld (unclaimed a) ≡ true
-unheld_so Lost = refl
-unheld_so other = refl
+unheld_so a = grind arith
 
 unheld_on : (b : Bool) (s : ℕ) (a : Address) → unheld a ≡ true → unheld (if b then Lost else older s a) ≡ true
-unheld_on false s (Claimed n) e = absurd (cc)
-unheld_on b s a e = refl
+unheld_on b s a e = grind (arith, e)
 
 never_held : (s : ℕ) (a : Address) → unheld a ≡ true → is_held (older s a) ≡ false
-never_held s (Claimed n) e = absurd (cc)
-never_held s a e = refl
+never_held s a e = grind (arith, e)
 
 still_unheld : (w : Who) (later H : List Call) → frames later ≡ [] → unheld (address_after w H) ≡ true → unheld (address_after w (later ++ H)) ≡ true
 still_unheld w [] H e o = o
@@ -474,8 +424,7 @@ anew_claims w H later c when now g is none = elim (claims_or_held (frame w K c n
 
 pub claims_at_once : (w : Who) (H : List Call) (c : Controller) (now : ℕ) (answer : Option FrameRecord) → Is w (At now (TakeFrame answer) ∷ H) c
     → IsTrue (owes_claim w H) → (IsTrue (is_lost (address_after w H)) → delayed w H ≤ step H now) → answer ≢ None
-claims_at_once w H c now (Some f) is owes ripe z = absurd (cc)
-claims_at_once w H c now None is owes ripe z = no_claim_left w H now (claim_is w H now (none_gives w H now is.answered.1) ∙ due_by_then w H now owes ripe) is.answered.1
+claims_at_once w H c now answer e f g = grind (arith, f, g)
 
 pub claims_only : (w : Who) (H : List Call) (c : Controller) (now : ℕ) (f : FrameRecord) → Is w (At now (TakeFrame (Some f)) ∷ H) c
     → pgn_of f.id ≡ address_claimed_group → IsTrue (owes_claim w H)
@@ -488,21 +437,13 @@ claims_only w H c now f is z = go (frame w H c now f is)
 -- ---- who
 
 pub held_now : (a : Address) (e : ℕ) → is_held (older (e - e) a) ≡ is_held a
-held_now (Claimed n) e = ap (nat_le 250000) (omega arith)
-held_now a e = refl
+held_now a e = grind arith
 
 pub holding_is : (w : Who) (x : Address) (a : ℕ) → (status_of w x ≡ status.Holding a ↔ ((a ≡ w.address) × (is_held x ≡ true)))
-holding_is w (Claimed n) a = go (nat_le 250000 n)
-  where
-    go : (b : Bool) → ((if b then status.Holding w.address else status.Claiming w.address) ≡ status.Holding a ↔ ((a ≡ w.address) × (b ≡ true)))
-    go true = (λ e. ((let z : a ≡ w.address = cc in z), refl), λ z. ap status.Holding (sym z.0))
-    go false = (λ e. absurd (cc), λ z. absurd (let y = z.1 in cc))
-holding_is w x a = (λ e. absurd (cc), λ z. absurd (let y = z.1 in cc))
+holding_is w x a = grind arith
 
 cannot_is : (w : Who) (x : Address) → (status_of w x ≡ status.Cannot ↔ (is_lost x ≡ true))
-cannot_is w NotClaimed = (λ e. absurd (cc), λ z. absurd (cc))
-cannot_is w Lost = (λ e. refl, λ z. refl)
-cannot_is w (Claimed n) = cond_both (nat_le 250000 n) _ _ (λ s. (s ≡ status.Cannot ↔ (false ≡ true))) (λ b. (λ e. absurd (cc), λ z. absurd (cc))) (λ b. (λ e. absurd (cc), λ z. absurd (cc)))
+cannot_is w x = grind arith
 
 pub cannot : (w : Who) (H : List Call) → (status_after w H ≡ status.Cannot ↔ IsTrue (is_lost (address_after w H)))
 cannot w H = cannot_is w (address_after w H)
@@ -517,11 +458,7 @@ pub asked_case : (w : Who) (H : List Call) (when : ℕ) (f : FrameRecord) (o : O
     → (requests w (At when (Hear f) ∷ H) ≡ with_request w (nat_lt (length (requests w H) - length (handed H)) 16) o (requests w H))
     × (due w (At when (Hear f) ∷ H) ≡ with_refusal w (nat_lt (length (requests w H) - length (handed H)) 16)
     (nat_lt (length (due w H) - length (acknowledged H)) 16 && not (is_refusal_due w (drop (length (acknowledged H)) (due w H)) o)) o (due w H))
-asked_case w H when f o e = (
-  ap (λ x. with_request w (nat_lt (length (requests w H) - length (handed H)) 16) x (requests w H)) e,
-  ap (λ x. with_refusal w (nat_lt (length (requests w H) - length (handed H)) 16)
-      (nat_lt (length (due w H) - length (acknowledged H)) 16 && not (is_refusal_due w (drop (length (acknowledged H)) (due w H)) x)) x (due w H)) e,
-)
+asked_case w H when f o e = (grind (arith, e), grind (arith, e))
 
 pub counts_one : (w : Who) (H : List Call) (when : ℕ) (f : FrameRecord) (r : Asked) → asked w (holds w H when) f ≡ Some r
     → (is_served w r.group ≡ false) ⊎ (waits_already w H r ≡ false) → counts w H when f ≡ Some r
@@ -539,11 +476,7 @@ pub asked_adds : (w : Who) (H : List Call) (when : ℕ) (f : FrameRecord) (r : A
     → (nat_lt (length (due w H) - length (acknowledged H)) 16 && not (refusal_waits w H r)) ≡ place
     → (requests w (At when (Hear f) ∷ H) ≡ (if s && room then requests w H ++ r ∷ [] else requests w H))
     × (due w (At when (Hear f) ∷ H) ≡ (if (at && place) && not (s && room) then due w H ++ acknowledgment w (if s then Busy else Nack) r ∷ [] else due w H))
-asked_adds w H when f r s room at place k e g a p =
-    let x = asked_case w H when f (Some r) k in (
-      x.0 ∙ λ i. if e i && g i then requests w H ++ r ∷ [] else requests w H,
-      x.1 ∙ λ i. if (a i && p i) && not (e i && g i) then due w H ++ acknowledgment w (if e i then Busy else Nack) r ∷ [] else due w H,
-    )
+asked_adds w H when f r s room at place e g i j k = (grind (arith, e, g, i, j, k), grind (arith, e, g, i, j, k))
 
 pub off : (b c : Bool) → (b && not (true && true)) ≡ false
 off b c = grind arith
@@ -552,13 +485,7 @@ off b c = grind arith
 pub unrefused : (w : Who) (H : List Call) (when : ℕ) (f : FrameRecord) (r : Asked) → asked w (holds w H when) f ≡ Some r
     → (r.destination ≢ w.address) ⊎ ((nat_lt (length (due w H) - length (acknowledged H)) 16 && not (refusal_waits w H r)) ≡ false)
     → due w (At when (Hear f) ∷ H) ≡ due w H
-unrefused w H when f r e n = go (is_served w r.group && waits_already w H r) refl
-  where
-    go : (b : Bool) → (is_served w r.group && waits_already w H r) ≡ b → due w (At when (Hear f) ∷ H) ≡ due w H
-    go true g = (asked_case w H when f None (ap (fresh w (drop (length (handed H)) (requests w H))) e ∙ ap (λ (b : Bool). (let o : Option Asked = if b then None else Some r in o)) g)).1
-    go false g =
-        (asked_case w H when f (Some r) (ap (fresh w (drop (length (handed H)) (requests w H))) e ∙ ap (λ (b : Bool). (let o : Option Asked = if b then None else Some r in o)) g)).1
-        ∙ not_refused w (nat_lt (length (requests w H) - length (handed H)) 16) _ r (due w H) n
+unrefused w H when f r e g = grind (arith, e, g)
 
 -- ---- acknowledgments
 
@@ -625,23 +552,18 @@ not_held_yet w H now (Claimed n) l m q e =
 not_held_yet w H now a l m q e = refl
 
 none_by : (h : Bool) (x y : Option Message) (m : Message) (now : ℕ) → (h ≡ false) ⊎ ((x ≡ None) × (y ≡ None)) → frame_by false h x y m now ≡ None
-none_by false x y m now e = refl
-none_by true x y m now (inl e) = absurd (cc)
-none_by true x y m now (inr e) = ap (λ z. frame_by false true z y m now) e.0 ∙ ap (λ z. frame_by false true None z m now) e.1
+none_by h x y m now e = grind (arith, e)
 
 lost_unheld : (a : Address) → is_lost a ≡ true → unheld a ≡ true
-lost_unheld (Claimed n) e = absurd (cc)
-lost_unheld a e = refl
+lost_unheld a e = grind (arith, e)
 
 lost_not_held : (a : Address) → is_lost a ≡ true → is_held a ≡ false
-lost_not_held (Claimed n) e = absurd (cc)
-lost_not_held a e = refl
+lost_not_held a e = grind (arith, e)
 
 -- what next_due tells where no frame can be taken at the moment of the last call
 due_later : (w : Who) (H : List Call) (l : Bool) → (may_claim w H (delayed w H) || (is_held (address_after w H) && is_waiting w H)) ≡ false
     → is_held (address_after w H) ≡ l → next_due w H ≡ due_by w H false l
-due_later w H l e f =
-    ap (λ (b : Bool). due_by w H b (is_held (address_after w H))) e ∙ ap (due_by w H false) f
+due_later w H l e f = grind (arith, e, f)
 
 -- the next frame of packets isn't due yet
 still_waits : (w : Who) (H : List Call) (now n : ℕ) → moment H ≤ now → now < 10000000000000000 → Quiet w H now
@@ -705,22 +627,10 @@ quiet w H c now None is l m q = refl
 quiet w H c now (Some f) is l m q = absurd (let z = is.answered.1 ∙ nothing_taken w H now l m q in cc)
 
 pub ticks : (w : Who) (H : List Call) (now later : ℕ) → moment H ≤ now → now ≤ later → holds w (At now Tick ∷ H) later ≡ holds w H later
-ticks w H now later l m = go (address_after w H)
-  where
-    go : (a : Address) → is_held (older (later - now) (older (now - moment H) a)) ≡ is_held (older (later - moment H) a)
-    go (Claimed n) = ap (nat_le 250000) (omega (arith, l, m))
-    go a = refl
+ticks w H now later e f = grind (arith, e, f)
 
 there : {T : Type 0} (L : List T) (n : ℕ) → slice_get L n ≡ None → nat_lt n (length L) ≡ false
 there L n e = le-ltb n (length L) (past_end L n e)
-
-held_at_later : (a : Address) (m : ℕ) → held_at a m ≡ Some m → ⊥
-held_at_later (Claimed n) m e = go (nat_lt n 250000) (nat_lt (m + (250000 - n)) 10000000000000000) refl e
-  where
-    go : (b c : Bool) → nat_lt n 250000 ≡ b → (if b then (if c then Some (m + (250000 - n)) else None) else None) ≡ Some m → ⊥
-    go true true f g = let x : m + (250000 - n) ≡ m = cc in let y = ltb-true n 250000 f in absurd (omega (arith, x, y))
-    go b c f g = absurd (cc)
-held_at_later a m e = absurd (cc)
 
 -- one is taken where the claim is owed, one waits, or one of packets is due
 none_taken : (w : Who) (H : List Call) (c : Controller) (now : ℕ) → Is w (At now (TakeFrame None) ∷ H) c
@@ -756,20 +666,7 @@ none_taken w H c now is long later = go (may_claim w H (delayed w H)) (is_held (
 
 not_at_once : (w : Who) (H : List Call) → may_claim w H (delayed w H) ≡ false
     → (if owes_claim w H then stamp_at (moment H + delayed w H) else held_at (address_after w H) (moment H)) ≡ Some (moment H) → ⊥
-not_at_once w H p e = go (owes_claim w H) refl
-  where
-    some_left : (b : Bool) (d : ℕ) → (not b || nat_eq d 0) ≡ false → 0 < d
-    some_left b d f = grind (arith, f)
-
-    later : (m d : ℕ) (b : Bool) → 0 < d → (if b then Some (m + d) else None) ≡ Some m → ⊥
-    later m d false l f = absurd (cc)
-    later m d true l f = let x : m + d ≡ m = cc in absurd (omega (arith, x, l))
-
-    go : (b : Bool) → owes_claim w H ≡ b → ⊥
-    go false i = held_at_later (address_after w H) (moment H) (ap (λ (x : Bool). if x then stamp_at (moment H + delayed w H) else held_at (address_after w H) (moment H)) (sym i) ∙ e)
-    go true i =
-        later (moment H) (delayed w H) _ (some_left (is_lost (address_after w H)) (delayed w H) (ap (λ (x : Bool). x && (not (is_lost (address_after w H)) || nat_eq (delayed w H) 0)) (sym i) ∙ p))
-        (ap (λ (x : Bool). if x then stamp_at (moment H + delayed w H) else held_at (address_after w H) (moment H)) (sym i) ∙ e)
+not_at_once w H e f = grind (arith, e, f)
 
 pub due_now : (w : Who) (H : List Call) (c : Controller) (now : ℕ) (answer : Option FrameRecord) → Is w (At now (TakeFrame answer) ∷ H) c
     → next_due w H ≡ Some (moment H) → answer ≢ None
@@ -794,8 +691,7 @@ news_case false false None true n e = inr (inr (inr ((let z : n ≡ MessagesMiss
 news_case false false None false n e = absurd (cc)
 
 pub no_news : (a b : Bool) (d : Option ℕ) (c : Bool) → None ≡ news_of a b d c → (a ≡ false) × (b ≡ false) × (d ≡ None) × (c ≡ false)
-no_news false false None false e = (refl, refl, refl, refl)
-no_news a b d c e = absurd (cc)
+no_news a b d c e = (grind (arith, e), grind (arith, e), grind (arith, e), grind (arith, e))
 
 -- another of its NAME
 
@@ -821,12 +717,7 @@ double_claimed w (call ∷ H) a e = double_later w a H call (double_claimed w H 
 
 pub lost_is_lost : (w : Who) (H : List Call) → IsTrue (lost_news w H) → IsTrue (is_lost (address_after w H))
 lost_is_lost w [] e = absurd (cc)
-lost_is_lost w (At when (Hear f) ∷ H) e = elim (or_cases (lost_news w H) (is_smaller w (claim_of f) && not (is_lost (address_after w H))) e) [
-  | inl z ↦ stays_lost w H (At when (Hear f)) (lost_is_lost w H z)
-  | inr z ↦ ap (λ (b : Bool). is_lost (if b then Lost else older (step H when) (address_after w H))) (and_parts (is_smaller w (claim_of f)) _ z).0
-]
-lost_is_lost w (TakeNews (Some AddressLost) ∷ H) e = absurd (cc)
-lost_is_lost w (call ∷ H) e = stays_lost w H call (lost_is_lost w H e)
+lost_is_lost w (call ∷ H) e = let h = lost_is_lost w H in grind (arith, h, e)
 
 pub some_missed : (w : Who) (H : List Call) → IsTrue (missed_news w H) → 0 < missed w H
 some_missed w [] e = absurd (cc)

@@ -4,7 +4,7 @@ use Rattle.std.proofs.lemmas.List.Elements.{All-head, All-tail}
 use Rattle.std.proofs.lemmas.List.Filters.{length-filter_both}
 use Rattle.std.proofs.lemmas.Option.{slice_get-get_or}
 use Rattle.j39_node.proofs.QueueLemmas.{get_map}
-use Rattle.j39_node.proofs.Common.{cond_both, AreApart, Bool, FrameRecord, HearingRecord, IfSome, List, Listening, MessageRecord, None, OpenBroadcast, Option, Some, Who, [], announces, ap, arith, by, drop, earliest, eqb-true, expires, false, get_or, goes, if◌then◌else◌, is_key, is_unheard_in, is_whole, length, length-map, lt-leb, ltb-false, ltb-true, made_in, made_of, map, min, nat_eq, nat_lt, not, of, option_map, others, packed, packs, refl, remove, since_in, slice_get, sooner, source_of, subst, suc, sym, transport_data_group, true, whole_of, with_one, without_source, zero, ℕ, ◌&&◌, ◌+◌, ◌<◌, ◌∙◌, ◌∷◌, ◌≡◌, ◌≢◌, ◌≤◌}
+use Rattle.j39_node.proofs.Common.{cond_both, AreApart, Bool, FrameRecord, HearingRecord, IfSome, List, Listening, MessageRecord, None, OpenBroadcast, Option, Some, Who, [], announces, ap, arith, by, drop, earliest, eqb-true, expires, false, get_or, goes, if◌then◌else◌, is_key, is_unheard_in, is_whole, length, length-map, lt-leb, ltb-true, made_in, made_of, map, min, nat_eq, nat_lt, not, of, option_map, others, packed, packs, refl, remove, since_in, slice_get, sooner, source_of, subst, suc, sym, transport_data_group, true, whole_of, with_one, without_source, zero, ℕ, ◌&&◌, ◌+◌, ◌<◌, ◌∙◌, ◌∷◌, ◌≡◌, ◌≢◌, ◌≤◌}
 use Rattle.j39_transport.specs.Frames.{is_packet}
 use Rattle.std.specs.List.{All, filter, position, position_or_len}
 use Rattle.j39_node.specs.Hearing.{begun, is_gap, with_sender}
@@ -27,14 +27,10 @@ pub without_one : {T U : Type 0} (q : U → Bool) (v : T → U) (xs : List T) (k
     → filter (λ y. not (q y)) (map v (remove xs k)) ≡ filter (λ y. not (q y)) (map v xs)
 without_one q v [] k d l e = absurd (omega (arith, l))
 without_one q v (x ∷ xs) zero d l e = sym (ap (λ (b : Bool). if not b then v x ∷ filter (λ y. not (q y)) (map v xs) else filter (λ y. not (q y)) (map v xs)) e)
-without_one q v (x ∷ xs) (suc k) d l e =
-    ap (λ ys. if not (q (v x)) then v x ∷ ys else ys) (without_one q v xs k d (omega (arith, l)) e)
+without_one q v (x ∷ xs) (suc k) d l e = let h = without_one q v xs k d (omega (arith, l)) e in grind (arith, h, l, e)
 
 none_within : {T : Type 0} (p : T → Bool) (xs : List T) → None ≡ position p xs → length xs ≤ position_or_len p xs
-none_within p xs e = ltb-false _ _ (within (nat_lt (position_or_len p xs) (length xs)) (position_or_len p xs) e)
-  where
-    within : (b : Bool) (n : ℕ) → None ≡ (if b then Some n else None) → b ≡ false
-    within b n e = grind (arith, e)
+none_within p xs e = grind (arith, e)
 
 -- where none passes, all are left
 none_passes : {T U : Type 0} (q : U → Bool) (v : T → U) (xs : List T) → length xs ≤ position_or_len (λ x. q (v x)) xs → filter (λ y. not (q y)) (map v xs) ≡ map v xs

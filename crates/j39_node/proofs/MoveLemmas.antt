@@ -124,8 +124,7 @@ last_sends told all true now None h = h
 last_sends told all true now (Some t) h = last_same told all (sends now t) t refl (sends_same now t) h
 
 not_engaged : (o : Option Running) (n told : ℕ) (all : List (ℕ × MessageRecord)) → LastIf told all o → is_engaged o n ≡ false → told ≡ length all
-not_engaged None n told all h e = h
-not_engaged (Some t) n told all h e = absurd (cc)
+not_engaged o n told all e f = grind (arith, f)
 
 last_opens : (w : Who) (H : List Call) (now group to k : ℕ) (bytes : List ℕ) → Ok k ≡ answer_to_transfer w H now group to bytes
     → LastIf (length (told_transfers H)) (all_transfers w H) (open_transfer w H)
@@ -143,8 +142,7 @@ last_opens w H now group to k bytes e h =
 
 last_closes : (told : ℕ) (all : List (ℕ × MessageRecord)) (o : Option Running) (lost : Bool) (x : ℕ × TransferEnding) → LastIf told all o
     → Some x ≡ transfer_end o lost → suc told ≡ length all
-last_closes told all None lost x h e = absurd (cc)
-last_closes told all (Some t) lost x h e = let a = h.token in let b = h.count in omega (arith, a, b)
+last_closes told all o lost x e f = grind (arith, f)
 
 pub last_one : (w : Who) (H : List Call) → AreAnswered w H → LastIf (length (told_transfers H)) (all_transfers w H) (open_transfer w H)
 last_one w [] e = refl

@@ -77,13 +77,7 @@ done_heard s f now = go _ _ (heard_case s (said_between s.destination s.message.
 
 pub done_ticked : (s : SenderRecord) (now : ℕ) → (send_step s Tick now).after.state ≡ Done → s.state ≡ Done
 unfolding send_step ticks_in sends_packet
-done_ticked s now = go s.state
-  where
-    go : (u : SendState) → (ticks_in u now s).after.state ≡ Done → s.state ≡ Done
-    go Idle = λ e. absurd (cc)
-    go (Waiting limit) = cond_both (nat_lt (s.since + limit) now) _ _ (λ (r : SendResult). r.after.state ≡ Done → s.state ≡ Done) (λ t e. absurd (cc)) (λ t e. e)
-    go (Sending next last) = cond_both (next == last) _ _ (λ (x : SendState). x ≡ Done → s.state ≡ Done) (λ t e. absurd (cc)) (λ t e. absurd (cc))
-    go u = λ e. e
+done_ticked s now e = grind (arith, e)
 
 pub done_given_up : (s : SenderRecord) (reason : ℕ) → (aborted reason s).state ≡ Done → s.state ≡ Done
 unfolding aborted
@@ -134,9 +128,7 @@ pub record Moved (s : SenderRecord) (xs : List Message) : Type 0 where
   pub taken : (i : ℕ) → 1 ≤ i → i ≤ s.highest → IsAmong xs (packet_move s.destination s.message i)
 
 pub running_some : (n h : ℕ) (xs : List Message) (u : SendState) → StateFits n h xs u → is_running u ≡ true → xs ≢ []
-running_some n h xs (Waiting limit) f e = f
-running_some n h xs (Sending next last) f e = f.0
-running_some n h xs u f e = absurd (cc)
+running_some n h xs u e f = grind (arith, f)
 
 waits_runs : (u : SendState) → is_waiting u ≡ true → is_running u ≡ true
 waits_runs u e = ap is_running (waiting_is u e).1

@@ -30,20 +30,16 @@ empty_is : (a b n : ℕ) → a ≡ b - n → n ≤ b → nat_eq a 0 ≡ true →
 empty_is a b n e l z = let y = eqb-true _ _ z in omega (arith, e, l, y)
 
 none_is : {T : Type 0} {U : Type 0} (v : T → U) (o : Option T) → not (is_some o) ≡ true → option_map v o ≡ None
-none_is v None e = refl
-none_is v (Some x) e = absurd (cc)
+none_is v o e = grind (arith, e)
 
 asked_none : (o : Option Question) (n : ℕ) (e : Option AskEnding) → asked_by o n e ≡ None → o ≡ None
-asked_none None n e h = refl
-asked_none (Some q) n e h = absurd (cc)
+asked_none o n e f = grind (arith, f)
 
 place_none : {T : Type 0} (o : Option T) → (p : Option T → Bool) → ((x : T) → p (Some x) ≡ false) → p o ≡ true → o ≡ None
-place_none None p q e = refl
-place_none (Some x) p q e = absurd (let z : false ≡ true = sym (q x) ∙ e in cc)
+place_none o p e f = grind (arith, e, f)
 
 no_news : (a b : Bool) (d : Option ℕ) (c : Bool) → not (a || (b || (is_some d || c))) ≡ true → news_of a b d c ≡ None
-no_news false false None false e = refl
-no_news a b d c e = absurd (cc)
+no_news a b d c e = grind (arith, e)
 
 none_waits : {T : Type 0} (n : ℕ) (xs : List T) → n ≡ length xs → nat_eq n 0 ≡ true → xs ≡ []
 none_waits n [] e g = refl
@@ -81,15 +77,7 @@ nothing v [] e = refl
 nothing v (x ∷ xs) e = absurd (let z = eqb-true _ _ e in omega (arith, z))
 
 none_untold : (u : Untold) → not (u.lost || (u.another || (is_some u.doubled || u.missed))) ≡ true → u ≡ record { lost = false; another = false; doubled = None; missed = false }
-none_untold u e = go u.lost u.another u.doubled u.missed refl refl refl refl e
-  where
-    untold : Bool → Bool → Option ℕ → Bool → Untold
-    untold a b d c = record { lost = a; another = b; doubled = d; missed = c }
-
-    go : (a b : Bool) (d : Option ℕ) (c : Bool) → u.lost ≡ a → u.another ≡ b → u.doubled ≡ d → u.missed ≡ c → not (a || (b || (is_some d || c))) ≡ true
-        → u ≡ untold false false None false
-    go false false None false i j m k e = λ l. untold (i l) (j l) (m l) (k l)
-    go a b d c i j m k e = absurd (cc)
+none_untold u e = grind (arith, e)
 
 brought_on : (m r : ℕ) → r ≡ m + r - (m - 0)
 brought_on m r = omega arith

@@ -1,5 +1,5 @@
 -- Packets, as their frames say them.
-use Rattle.j39_node.proofs.Common.{Bool, Directed, FrameRecord, Heard, None, Option, ReceiverRecord, ReceptionRecord, Some, [], ap, arith, broadcast_in, cond_both, control_in, false, if◌then◌else◌, key_between, length, nat_lt, not, number_in, packed_in, packet_in, pgn_of, ps_of, recv_step, refl, request_in, result_of, said_between, said_to, shown, since_by, slice_index, source_of, strays, takes_signal, transport_data_group, true, ℕ, ◌&&◌, ◌==◌, ◌≡◌}
+use Rattle.j39_node.proofs.Common.{Bool, Directed, FrameRecord, Heard, None, Option, ReceiverRecord, ReceptionRecord, Some, [], ap, arith, broadcast_in, cond_both, control_in, if◌then◌else◌, key_between, length, nat_lt, not, number_in, packed_in, packet_in, pgn_of, ps_of, recv_step, request_in, result_of, said_between, said_to, shown, slice_index, source_of, strays, takes_signal, transport_data_group, ℕ, ◌&&◌, ◌==◌, ◌≡◌}
 use Rattle.j39_transport.specs.Signals.{said_by}
 use Rattle.j39_transport.specs.Frames as frames
 

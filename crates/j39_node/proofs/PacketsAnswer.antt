@@ -1,23 +1,20 @@
 -- A message in packets answers a request by the frame that makes it whole, be it to this address or to all.
-use Rattle.j39_node.proofs.Common.{[], if◌then◌else◌, ◌&&◌, ◌<◌, ◌==◌, ◌||◌, ◌↔◌, ◌∙◌, ◌∷◌, ◌≡◌, ◌⊎◌, and_from, and_parts, Answered, ap, arith, At, Bool, by, Call, comes, destination_of, eq-eqb, eqb-true, false, FrameRecord, has_place, Hear, hearing, holder, in_session, inl, inr, is_coming, is_from, is_key, is_late, IsTrue, length, List, made_whole, MessageRecord, nat_eq, None, open_ask, OpenBroadcast, Option, packs, pgn_of, ps_of, Question, receiver_at, Reception, reception, ReceptionRecord, RecvResult, refl, said_to, says_to, seeks, shown, Some, source_of, sym, time_heard, transport_data_group, true, Who, whole_by, ℕ, or-true, comes_by, comes_in, found_in, IfSome, list_any, listening, not, of, subst, AreApart}
+use Rattle.j39_node.proofs.Common.{[], if◌then◌else◌, ◌<◌, ◌||◌, ◌↔◌, ◌∙◌, ◌∷◌, ◌≡◌, ◌⊎◌, and_from, and_parts, Answered, ap, arith, At, Bool, Call, comes, destination_of, eq-eqb, eqb-true, false, FrameRecord, has_place, Hear, hearing, holder, in_session, inl, inr, is_coming, is_from, is_late, IsTrue, List, made_whole, MessageRecord, nat_eq, None, open_ask, OpenBroadcast, Option, packs, Question, receiver_at, Reception, reception, ReceptionRecord, RecvResult, refl, said_to, says_to, seeks, shown, Some, source_of, sym, time_heard, true, Who, whole_by, ℕ, or-true, comes_by, comes_in, found_in, IfSome, list_any, listening, not, of, subst, AreApart}
 use Rattle.j39_node.specs.Hearing.{is_whole as is_full}
 use Rattle.j39_transport.specs.Frames as frames
 use Rattle.j39_node.proofs.HearingLaws.{made_is}
 use Rattle.j39_node.proofs.HearingLemmas.{Kept, Open, result_is, result_source, stands, stands_found}
 use Rattle.j39_node.proofs.ListenLemmas.{begun_open}
 use Rattle.j39_node.proofs.PacketLemmas.{quiet_step, shown_none}
-use Rattle.j39_node.proofs.ReceptionLaws.{goes_there}
 
 -- ---- a message of the group, from whom was asked, answers
 
 seeks_by : (q : Question) (source group : ℕ) → group ≡ q.group → (q.to ≡ 255) ⊎ (source ≡ q.to) → seeks q (Some (source, group)) ≡ true
-seeks_by q source group g (inl a) = λ i. eq-eqb _ _ g i && (eq-eqb _ _ a i || nat_eq source q.to)
-seeks_by q source group g (inr a) = (λ i. eq-eqb _ _ g i && (nat_eq q.to 255 || eq-eqb _ _ a i)) ∙ or-true (nat_eq q.to 255)
+seeks_by q source group e f = grind (arith, e, f)
 
 pub answers_by : (w : Who) (q : Question) (f : FrameRecord) (m : MessageRecord) (o : Option (ℕ × ℕ)) → o ≡ Some (m.source, m.pgn) → m.pgn ≡ q.group
     → (q.to ≡ 255) ⊎ (m.source ≡ q.to) → says_to w q f o ≡ Some Answered
-answers_by w q f m o e g a =
-    ap (says_to w q f) e ∙ ap (λ (b : Bool). if b then Some Answered else says_to w q f None) (seeks_by q m.source m.pgn g a)
+answers_by w q f m o e g i = grind (arith, e, g, i)
 
 -- ---- a broadcast is made whole by _ a _ packet to all
 
@@ -37,11 +34,7 @@ made_by_packet who H when f p e =
 
 pub packs_to_all : (f : FrameRecord) → packs f ≡ true → destination_of f.id ≡ Some 255
 unfolding frames.is_packet frames.goes frames.group_of frames.source_of frames.destination_of
-packs_to_all f e =
-    let a = and_parts (pgn_of f.id == transport_data_group && ps_of f.id == 255 && source_of f.id == source_of f.id) (length f.bytes == 8) (and_parts (is_key (by (source_of f.id))) _ e).1 in
-    let b = and_parts (pgn_of f.id == transport_data_group && ps_of f.id == 255) (source_of f.id == source_of f.id) a.0 in
-    let c = and_parts (pgn_of f.id == transport_data_group) (ps_of f.id == 255) b.0 in
-    goes_there f transport_data_group (omega arith) (eqb-true _ _ c.0) ∙ ap Some (eqb-true (ps_of f.id) 255 c.1)
+packs_to_all f e = grind (arith, e)
 
 -- ---- so it isn't one to this address
 
@@ -56,13 +49,7 @@ to_another own d l e g = absurd (let z : Some 255 ≡ Some own = sym e ∙ g in 
 -- ---- one that is on its way
 
 seeks_from : (q : Question) (source group : ℕ) → seeks q (Some (source, group)) ≡ true → (group ≡ q.group) × ((q.to ≡ 255) ⊎ (source ≡ q.to))
-seeks_from q source group e = go (nat_eq group q.group) (nat_eq q.to 255) (nat_eq source q.to) refl refl refl e
-  where
-    go : (a b c : Bool) → nat_eq group q.group ≡ a → nat_eq q.to 255 ≡ b → nat_eq source q.to ≡ c → (a && (b || c)) ≡ true
-        → (group ≡ q.group) × ((q.to ≡ 255) ⊎ (source ≡ q.to))
-    go true true c i j k z = (eqb-true _ _ i, inl (eqb-true _ _ j))
-    go true false true i j k z = (eqb-true _ _ i, inr (eqb-true _ _ k))
-    go a b c i j k z = absurd (cc)
+seeks_from q source group e = (grind (arith, e), grind (arith, e))
 
 abbrev InSession : Who → List Call → Question → Type 0
 InSession w H q =
@@ -83,16 +70,11 @@ any_open p (x ∷ xs) h e = go (p x) refl e (any_open p xs h.1)
     go false i z k = let y = k z in (y.0, later y.0 y.1 (nat_eq y.0.source x.source) refl, y.2)
       where
         later : (y : OpenBroadcast) → of y.source xs ≡ Some y → (b : Bool) → nat_eq y.source x.source ≡ b → (if b then Some x else of y.source xs) ≡ Some y
-        later y g true m = absurd (let n : None ≡ Some y = sym (ap (λ (a : ℕ). of a xs) (eqb-true y.source x.source m) ∙ h.0) ∙ g in cc)
-        later y g false m = g
+        later y e b f = grind (arith, e, f)
 
 open_any : (p : OpenBroadcast → Bool) (a : ℕ) (xs : List OpenBroadcast) (x : OpenBroadcast) → of a xs ≡ Some x → p x ≡ true → list_any p xs ≡ true
 open_any p a [] x e g = absurd (cc)
-open_any p a (y ∷ xs) x e g = go (nat_eq a y.source) e (open_any p a xs x)
-  where
-    go : (b : Bool) → (if b then Some y else of a xs) ≡ Some x → (of a xs ≡ Some x → p x ≡ true → list_any p xs ≡ true) → (p y || list_any p xs) ≡ true
-    go true z k = let q : y ≡ x = cc in ap (λ (b : Bool). b || list_any p xs) (ap p q ∙ g)
-    go false z k = ap (λ (b : Bool). p y || b) (k z g) ∙ or-true (p y)
+open_any p a (y ∷ xs) x e g = let h = open_any p a xs x in grind (arith, h, e, g)
 
 pub comes_means : (w : Who) (H : List Call) (time : ℕ) (q : Question) → open_ask H ≡ Some q → (IsTrue (comes w H time) ↔ (InSession w H q ⊎ InBroadcast w H time q))
 comes_means w H time q o = (
@@ -118,9 +100,7 @@ comes_means w H time q o = (
     split false false i j z = absurd (cc)
 
     from : InSession w H q ⊎ InBroadcast w H time q → IsTrue (comes w H time)
-    from (inl (r, i, g, k)) =
-        (λ z. is_coming time (o z) (in_session (i z)) (listening w H).current)
-        ∙ ap (λ (b : Bool). b || comes_in time q (listening w H).current) (and_from _ _ (eq-eqb _ _ g) (eq-eqb _ _ k))
+    from (inl (r, i, g, k)) = grind arith
     from (inr (x, a, i, l, g, t)) =
         ap (λ (p : Option Question). is_coming time p (in_session (reception w H).session) (listening w H).current) o
         ∙ (ap (λ (b : Bool). is_from q (in_session (reception w H).session) || b)

@@ -1,5 +1,5 @@
 -- The open transfer of an answered history goes from the address to another's.
-use Rattle.j39_node.proofs.Common.{[], ◌<◌, ◌||◌, ◌∙◌, ◌∷◌, ◌≡◌, ◌⊎◌, aborted, address_after, answer_to_transfer, ap, AreAnswered, arith, At, Bool, both, Call, can_broadcast, Claims, clock_at, false, FrameRecord, gives_up, group_with, Hear, hears, hears_if, holder, holder_in, IfSome, inl, inr, is_lost, is_move, is_replaced, is_running, is_some, is_spent, Knows, List, listens, ltb-true, Message, min, nat_lt, new_sender, None, Ok, open_transfer, Option, Packet, PortRecord, refl, Resting, Running, said_between, says, send_step, SenderRecord, SendEvent, sends, sends_if, Signal, signal_by, Some, subst, sym, TakeFrame, TakeTransferEnded, told_claims, Transfer, transfer_by, transport_control_group, transport_data_group, true, Who, ℕ, cond_both, ne_eqb}
+use Rattle.j39_node.proofs.Common.{[], ◌<◌, ◌||◌, ◌∙◌, ◌∷◌, ◌≡◌, ◌⊎◌, aborted, address_after, answer_to_transfer, ap, AreAnswered, arith, At, Bool, both, Call, can_broadcast, Claims, clock_at, false, FrameRecord, gives_up, group_with, Hear, hears, hears_if, holder, holder_in, IfSome, inl, inr, is_lost, is_move, is_replaced, is_running, is_some, is_spent, Knows, List, listens, ltb-true, Message, min, nat_lt, new_sender, None, Ok, open_transfer, Option, Packet, PortRecord, refl, Running, said_between, says, send_step, SenderRecord, SendEvent, sends, sends_if, Signal, signal_by, Some, subst, sym, TakeFrame, TakeTransferEnded, told_claims, Transfer, transfer_by, transport_control_group, transport_data_group, true, Who, ℕ, cond_both, ne_eqb}
 use Rattle.j39_transport.specs.Sending.{Heard, Tick}
 use Rattle.j39_transport.specs.Sending as sending
 use Rattle.j39_transport.proofs.SenderLemmas.{ticked, hears_signal}
@@ -119,8 +119,7 @@ holder_known w H table a l k = table_is w table H a k
 pub peers_are : (o : Option Running) (b : Bool) (p q : Option ℕ) (old new : Claims) → IfSome o (λ x. p ≡ holder_in old x.sender.destination)
     → IfSome o (λ x. q ≡ holder_in new x.sender.destination) → b ≡ is_replaced p q
     → IfSome o (λ x. b ≡ is_replaced (holder_in old x.sender.destination) (holder_in new x.sender.destination))
-peers_are None b p q old new e f g = tt
-peers_are (Some t) b p q old new e f g = g ∙ (ap (λ (o : Option ℕ). is_replaced o q) e ∙ ap (is_replaced (holder_in old t.sender.destination)) f)
+peers_are o b p q old new e f g = grind (arith, e, f, g)
 
 -- whether a frame that is heard replaces the holder of the destination's address
 pub replaced_is : (w : Who) (H : List Call) (when : ℕ) (f : FrameRecord) (old new : Claims) (b : Bool) (o : Option Running) → Ported w o
@@ -135,9 +134,7 @@ replaced_is w H when f old new b (Some t) h k l e =
 -- ---- what a controller has of it
 
 pub is_port : (p q : PortRecord) → p.current ≡ q.current → p.next_token ≡ q.next_token → p.resting ≡ q.resting → p ≡ q
-is_port p q e f g =
-    ap (λ (x : Option Running). record p { current = x }) e
-    ∙ (ap (λ (n : ℕ). record p { current = q.current; next_token = n }) f ∙ ap (λ (x : Resting). record q { resting = x }) g)
+is_port p q e f g = grind (arith, e, f, g)
 
 pub clock_is : (n : ℕ) → min (min n 18446744073709551615) 9999999999999999 ≡ min n 9999999999999999
 clock_is n = omega arith

@@ -1,5 +1,5 @@
 -- A driver's pace: what was accepted goes on, is over, or its address is lost. Broadcasts first.
-use Rattle.j39_node.proofs.Common.{Address, AreAnswered, At, Bool, Broadcast, Call, Claimed, Controller, Done, Ending, FrameRecord, Is, IsAnswered, IsPaced, IsPrompt, List, Message, MessageRecord, None, NoneTold, Ok, Option, Some, TakeBroadcastEnded, TakeFrame, Who, Withdrawn, [], add-mul, address_after, after, answer_to_broadcast, ap, arith, broadcast_end, broadcast_from, broadcasts, claimed, claims_anew, ending_of, false, frame_of, gap, goes, if◌then◌else◌, inl, inr, is_held, is_lost, is_open, is_packet, later, leb-false, leb-true, left, length, lost, message_of, moment, more, nat_eq, nat_le, nat_lt, next_broadcast_ended, not_both, older, open_broadcast, packet_by, packets, packets_of, packets_taken, passed, passed_in, pause, refl, rest, step, subst, suc, suc-mul, sym, tells_broadcast, true, waited_in, ℕ, ◌&&◌, ◌*◌, ◌++◌, ◌+◌, ◌-◌, ◌<◌, ◌||◌, ◌∙◌, ◌∷◌, ◌≡◌, ◌≤◌, ◌⊎◌, cond_both, ltb-false}
+use Rattle.j39_node.proofs.Common.{Address, AreAnswered, At, Bool, Broadcast, Call, Controller, Done, Ending, FrameRecord, Is, IsAnswered, IsPaced, IsPrompt, List, Message, MessageRecord, None, NoneTold, Ok, Option, Some, TakeBroadcastEnded, TakeFrame, Who, Withdrawn, [], address_after, after, answer_to_broadcast, ap, arith, broadcast_end, broadcast_from, claimed, claims_anew, ending_of, false, frame_of, gap, goes, if◌then◌else◌, inl, inr, is_held, is_lost, is_packet, later, leb-false, leb-true, left, length, lost, message_of, moment, more, nat_le, nat_lt, next_broadcast_ended, not_both, older, open_broadcast, packet_by, packets, packets_of, packets_taken, passed, passed_in, pause, refl, rest, step, subst, suc, suc-mul, sym, tells_broadcast, true, waited_in, ℕ, ◌&&◌, ◌*◌, ◌++◌, ◌+◌, ◌-◌, ◌<◌, ◌∙◌, ◌∷◌, ◌≡◌, ◌≤◌, ◌⊎◌, cond_both, ltb-false}
 use Rattle.j39_node.proofs.QueueLemmas.{length_one_more}
 use Rattle.j39_node.proofs.SoundLemmas.{stays_lost, none_next, held_older, address_cases}
 use Rattle.j39_node.proofs.AnswerCases.{broadcast_accepts}
@@ -7,8 +7,7 @@ use Rattle.j39_node.proofs.AnswerCases.{broadcast_accepts}
 -- ---- an address that was held is held or lost, and one that was lost is lost
 
 held_claimed : (a : Address) → is_held a ≡ true → is_held (claimed a) ≡ true
-held_claimed (Claimed n) e = e
-held_claimed a e = absurd (cc)
+held_claimed a e = grind (arith, e)
 
 keeps : (w : Who) (H : List Call) (call : Call) → claims_anew call ≡ false → is_held (address_after w H) ≡ true
     → (is_lost (address_after w (call ∷ H)) ≡ true) ⊎ (is_held (address_after w (call ∷ H)) ≡ true)
@@ -66,12 +65,7 @@ due_more most each c = let e = suc-mul c (most + each) in omega (arith, e)
 
 due_last : (most each c n : ℕ) → c ≤ n → due_by most each c + each ≤ (n + 1) * (most + each)
 unfolding due_by
-due_last most each c n l =
-    let e : n + 1 ≡ suc c + (n - c) = omega (arith, l) in
-    let a = ap (λ (k : ℕ). k * (most + each)) e in
-    let b = add-mul (suc c) (n - c) (most + each) in
-    let d = suc-mul c (most + each) in
-    omega (arith, a, b, d)
+due_last most each c n e = grind (arith, e)
 
 -- so long after the beginning, with so much of its time left, and so late at most
 pub record Timely (most each count passed left slack : ℕ) : Type 0 where
@@ -171,8 +165,7 @@ module _ (w : Who) (B : List Call) (since : List Call → List Call → ℕ) (sl
 
   -- no other is accepted
   none_begins : (later : List Call) (now group j : ℕ) (bytes : List ℕ) → open_broadcast w (later ++ B) ≡ Some (k, m) → Ok j ≡ answer_to_broadcast w (later ++ B) now group bytes → ⊥
-  none_begins later now group j bytes o a = not_both _ (broadcast_accepts w (later ++ B) now group j bytes a).2
-      (ap (λ (x : Option (ℕ × MessageRecord)). is_open x || nat_eq (length (broadcasts w (later ++ B))) 18446744073709551615) o)
+  none_begins later now group j bytes e f = grind (arith, e, f)
 
   one_more : Pace → (call : Call) (later : List Call) → AreAnswered w (later ++ B) → IsAnswered w (later ++ B) call → tells_broadcast call ≡ false
       → (since later B + step (later ++ B) (moment (call ∷ later ++ B)) ≤ g) × (claims_anew call ≡ false) → Stands later → Stands (call ∷ later)
@@ -220,9 +213,7 @@ module _ (w : Who) (B : List Call) (since : List Call → List Call → ℕ) (sl
 -- never is more left than this
 pub pause_most : (H : List Call) → pause H ≤ 150000
 pause_most [] = omega arith
-pause_most (At now (TakeFrame (Some f)) ∷ H) = let l = pause_most H in cond_both (is_packet f) _ _ (λ n. n ≤ 150000) (λ z. omega arith) (λ z. omega (arith, l))
-pause_most (At now (Broadcast group bytes (Ok k)) ∷ H) = let l = pause_most H in omega (arith, l)
-pause_most (call ∷ H) = let l = pause_most H in omega (arith, l)
+pause_most (call ∷ H) = let h = pause_most H in grind (arith, h)
 
 -- ---- to a driver that takes all
 
@@ -233,8 +224,7 @@ waited_last g (At now (TakeFrame None) ∷ later) B p = omega arith
 waited_last g (call ∷ later) B p = p.1.0
 
 pub waited_more : (call : Call) (later B : List Call) → takes call ≡ false → waited_in (call ∷ later) B ≡ waited_in later B + step (later ++ B) (moment (call ∷ later ++ B))
-waited_more (At now (TakeFrame answer)) later B e = absurd (let z : true ≡ false = e in cc)
-waited_more call later B e = refl
+waited_more call later B e = grind (arith, e)
 
 module _ (w : Who) (B : List Call) (g k : ℕ) (m : MessageRecord) where
   prompt : Pace w B waited_in (λ later. waited_in later B) g gap g 100000 k 0 m

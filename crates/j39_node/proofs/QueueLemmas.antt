@@ -2,20 +2,17 @@
 use Rattle.j39_node.proofs.Common.{[], ◌++◌, ◌+◌, ◌-◌, ◌<◌, ◌==◌, ◌||◌, ◌∙◌, ◌∷◌, ◌≡◌, ◌≤◌, ◌⊎◌, ap, arith, Bool, drop, false, get_or, inl, inr, length, length-append, length-drop, List, list_any, list_any_at, list_any_more, map, None, refl, remove, slice_get, slice_get_past, slice_index_or, Some, suc, sym, take, true, zero, ℕ, slice_get_read, take_all, option_map, slice_get-map, length-map, Option, same_Some, All, subst, get_or_from_slice_get, slice_get_within}
 
 pub not_empty : {T : Type 0} (xs : List T) (b : Bool) → b ≡ (length xs == 0) → b ≡ false → 0 < length xs
-not_empty [] b e f = absurd (let z : true ≡ false = sym e ∙ f in cc)
-not_empty (x ∷ xs) b e f = omega arith
+not_empty xs b e f = grind (arith, e, f)
 
 pub front : {T : Type 0} (xs ys : List T) (x : T) → 0 < length xs → x ≡ slice_index_or xs 0 x → ys ≡ remove xs 0 → xs ≡ x ∷ ys
-front [] ys x l e f = absurd (omega (arith, l))
-front (z ∷ zs) ys x l e f = let a : x ≡ z = e in let b : ys ≡ zs = f in cc
+front xs ys x e f g = grind (arith, e, f, g)
 
 pub mapped_some : {T U : Type 0} (v : T → U) (o : Option T) (y : U) → option_map v o ≡ Some y → (x : T) × (o ≡ Some x) × (v x ≡ y)
 mapped_some v None y e = absurd (cc)
 mapped_some v (Some x) y e = (x, refl, same_Some (v x) y e)
 
 pub mapped_none : {T U : Type 0} (v : T → U) (o : Option T) → option_map v o ≡ None → o ≡ None
-mapped_none v None e = refl
-mapped_none v (Some x) e = absurd (cc)
+mapped_none v o e = grind (arith, e)
 
 pub drop_more : {T : Type 0} (L : List T) (n : ℕ) (x : T) (xs : List T) → x ∷ xs ≡ drop n L → xs ≡ drop (suc n) L
 drop_more [] zero x xs e = absurd (cc)

@@ -1,5 +1,5 @@
 -- The laws of messages that come in packets.
-use Rattle.j39_node.proofs.Common.{[], if◌then◌else◌, ◌%◌, ◌&&◌, ◌++◌, ◌+◌, ◌-◌, ◌/◌, ◌<◌, ◌==◌, ◌||◌, ◌↔◌, ◌∙◌, ◌∷◌, ◌≡◌, ◌≢◌, ◌≤◌, ◌⊎◌, Abort, Acknowledgment, Address, address_after, address_claimed_group, Again, and_parts, answer_in, answers, ap, append-nil, append_assoc, AreReceived, arith, asks_again, At, Bool, bytes_with, Call, CameFromOne, Claim, claim_of, cond_both, Controller, delivered, destination_of, Directed, drop, eqb-true, false, FrameRecord, frames_heard, got_transfers, granted_at, grants, group_of, has_place, has_some, Hear, Heard, heard_at, heard_by, held_then, holder, holds, inl, inr, Is, is_acknowledgment, is_claim, is_held, is_lost, is_move, is_over, is_overdue, is_reply, is_same, is_smaller, is_taken, is_transfer, IsApart, IsReceived, IsTrue, keeps, KeepsHolder, known, known_by, later, leaves, left, length, limit_in, limit_of, List, listed, little_bytes, longest, Lost, lt-ltb, ltb-false, made_by, made_of, Message, message_of, MessageRecord, moment, Move, nat_lt, next_acknowledgment, None, not, older, Option, option_map, Packet, partner_of, pf_of, pgn_of, ps_of, quiet, Reaction, receiver_at, ReceiverRecord, Reception, reception, ReceptionRecord, recv_step, RecvResult, refl, ReleaseTransfer, replied, reply_from, RequestToSend, result_of, said_between, said_to, says_by, session_tick, shown, Signal, Single, slice_get, Some, source_of, stamp_at, step, step_at, subst, suc, sym, TakeFrame, taken_by, takes_abort, takes_data, takes_request, takes_signal, takes_tick, Tick, tick_at, ticked, ticked_at, Ticks, time_heard, ToSend, transport_control_group, transport_data_group, true, WereHanded, Who, whole, whole_by, without, written, yields, ℕ, not-false, not_both, Claims, holder_in, Knows, sender_by_made, sender_of, told_claims}
+use Rattle.j39_node.proofs.Common.{[], if◌then◌else◌, ◌%◌, ◌&&◌, ◌++◌, ◌+◌, ◌-◌, ◌/◌, ◌<◌, ◌==◌, ◌||◌, ◌↔◌, ◌∙◌, ◌∷◌, ◌≡◌, ◌≢◌, ◌≤◌, ◌⊎◌, Abort, Acknowledgment, Address, address_after, address_claimed_group, Again, and_parts, answer_in, answers, ap, append-nil, append_assoc, AreReceived, arith, asks_again, At, Bool, bytes_with, Call, CameFromOne, Claim, claim_of, cond_both, Controller, delivered, destination_of, Directed, drop, eqb-true, false, FrameRecord, frames_heard, got_transfers, granted_at, grants, group_of, has_place, has_some, Hear, Heard, heard_at, heard_by, held_then, holder, holds, inl, inr, Is, is_acknowledgment, is_claim, is_held, is_lost, is_move, is_over, is_overdue, is_reply, is_smaller, is_taken, is_transfer, IsApart, IsReceived, IsTrue, keeps, KeepsHolder, known, known_by, later, leaves, left, length, limit_in, limit_of, List, listed, little_bytes, longest, Lost, lt-ltb, ltb-false, made_by, made_of, Message, message_of, MessageRecord, moment, Move, nat_lt, next_acknowledgment, None, older, Option, option_map, Packet, partner_of, pgn_of, ps_of, quiet, Reaction, receiver_at, ReceiverRecord, Reception, reception, ReceptionRecord, recv_step, RecvResult, refl, ReleaseTransfer, replied, reply_from, RequestToSend, result_of, said_between, said_to, says_by, session_tick, shown, Signal, Single, slice_get, Some, source_of, stamp_at, step, step_at, subst, suc, sym, TakeFrame, takes_abort, takes_data, takes_request, takes_signal, takes_tick, Tick, tick_at, ticked, ticked_at, Ticks, time_heard, ToSend, true, WereHanded, Who, whole, whole_by, without, written, yields, ℕ, not-false, not_both, Claims, holder_in, Knows, sender_by_made, sender_of, told_claims}
 use Rattle.j39_transport.specs.Reception.{begun as opens}
 use Rattle.j39_transport.specs.ReceiverStands.{passed, WasHanded}
 use Rattle.j39_transport.specs.Signals.{said_by}
@@ -13,7 +13,7 @@ use Rattle.j39_node.proofs.SoundLemmas.{none_next, turned, FrameCase, frame_case
 use Rattle.j39_node.proofs.PacketLemmas.{hushed, quiet_step, shown_both, shown_none}
 use Rattle.j39_node.proofs.SoundLemmas.FrameCase.{claims, acknowledges, replies, sends, packs, transfers}
 use Rattle.j39_node.proofs.ReceptionLemmas.{HeardSince, released_all, since_now, since_on, taken_any, table_is, Acknowledges, Fits, Gives, own_after, refused_step, replied_get, taken_is, tame_signal, tame_tick, quiet_at, unclaimed_known, tidy, tidy_left, own_at}
-use Rattle.j39_node.proofs.HearingLemmas.{same_is, same_same as same_self}
+use Rattle.j39_node.proofs.HearingLemmas.{same_is}
 use Rattle.j39_node.proofs.KindLemmas.{claims_it, acknowledges_it, replies_it}
 
 -- ---- each once, in order
@@ -37,8 +37,7 @@ left_waits b r = grind arith
 
 -- the same of a history
 pub waits_next : (w : Who) (H : List Call) (when : ℕ) (f : FrameRecord) → (reception w (At when (Hear f) ∷ H)).waits ≡ keeps f.stamp (whole w H when f) (reception w H).waits
-waits_next w H when f =
-    waits_after w.address (is_smaller w (claim_of f)) (holds w H when) f (time_heard (At when (Hear f) ∷ H)) _ ∙ ap (keeps f.stamp (whole w H when f)) (left_waits _ (reception w H))
+waits_next w H when f = grind arith
 
 none_whole : (w : Who) (H : List Call) (when : ℕ) (f : FrameRecord) (x : ℕ × MessageRecord) → (reception w H).waits ≡ Some x → whole w H when f ≡ None
 none_whole w H when f x e =
@@ -56,9 +55,6 @@ made_is w H when f = ap (made_by (has_place (reception w H).waits)) (waits_next 
     go : (o : Option MessageRecord) (x : Option (ℕ × MessageRecord)) → ((y : ℕ × MessageRecord) → x ≡ Some y → o ≡ None) → made_by (has_place x) (keeps f.stamp o x) ≡ made_of o
     go o x h = grind (arith, h)
 
-taken_waits : (a b l : Bool) (r : Reception) → (taken_by a b l r).waits ≡ r.waits
-taken_waits a b l r = taken_any (λ (x : Reception). x.waits ≡ r.waits) a b l r (λ e. left_waits l r) (λ e. refl) (λ e. refl)
-
 keeps_same : (stamp : ℕ) (o : Option MessageRecord) (x : Option (ℕ × MessageRecord)) → o ≡ None → keeps stamp o x ≡ x
 keeps_same stamp o x e = grind (arith, e)
 
@@ -72,8 +68,7 @@ in_order w (At now Tick ∷ H) =
     in_order w H ∙ ap (λ x. got_transfers w H ++ listed x)
     (sym (keeps_same now (ticked_at w.address (time_heard (At now Tick ∷ H)) (reception w H)).delivers (reception w H).waits
     (quiet_at w.address (time_heard (At now Tick ∷ H)) (reception w H))))
-in_order w (At now (TakeFrame (Some f)) ∷ H) =
-    in_order w H ∙ ap (λ x. got_transfers w H ++ listed x) (sym (taken_waits (is_claim f) (is_reply (reception w H).replies f) _ (reception w H)))
+in_order w (At now (TakeFrame (Some f)) ∷ H) = let h = in_order w H in grind (arith, h)
 in_order w (ReleaseTransfer true ∷ H) = in_order w H ∙ sym (append-nil (got_transfers w H ++ listed (reception w H).waits))
 in_order w (call ∷ H) = in_order w H
 
@@ -363,9 +358,7 @@ silent w (call ∷ H) e = silent w H (let z = lost_older (step H (moment (call �
 -- a session isn't left where its source's holder stays
 pub stays_with : (before after : ℕ → Option ℕ) (o : Option ReceptionRecord)
     → ((r : ReceptionRecord) → o ≡ Some r → after r.message.source ≡ before r.message.source) → leaves before after o ≡ false
-stays_with before after None h = refl
-stays_with before after (Some r) h =
-    ap (λ (x : Option ℕ). not (is_same (before r.message.source) x)) (h r refl) ∙ ap not (same_self (before r.message.source))
+stays_with before after o e = grind (arith, e)
 
 -- what no frame changes of who holds an address
 pub never_left : (before after : ℕ → Option ℕ) (o : Option ReceptionRecord) → ((a : ℕ) → after a ≡ before a) → leaves before after o ≡ false
@@ -384,18 +377,11 @@ heard_is w H when f held none = λ i. heard_by w.address (not_driven w f none i)
 
 -- a frame of a session goes to one address
 pub goes_there : (f : FrameRecord) (group : ℕ) → group / 256 % 256 < 240 → pgn_of f.id ≡ group → destination_of f.id ≡ Some (ps_of f.id)
-goes_there f group l e = cond_both (nat_lt (pf_of f.id) 240) _ _ (λ (d : Option ℕ). d ≡ Some (ps_of f.id)) (λ g. refl)
-    (λ g. absurd (let z = ltb-false _ _ g in far f.id group (ap (λ (b : Bool). if b then 0 else ps_of f.id) g) z l e))
-  where
-    far : (id g : ℕ) → (if nat_lt (pf_of id) 240 then 0 else ps_of id) ≡ ps_of id → 240 ≤ pf_of id → g / 256 % 256 < 240 → pgn_of id ≡ g → ⊥
-    far id g i k m n = absurd (omega (arith, i, k, m, n))
+goes_there f group e g = grind (arith, e, g)
 
 pub not_said : (own : ℕ) (f : FrameRecord) → (destination_of f.id ≡ Some own → ⊥) → said_to own f ≡ None
 unfolding said_to said_between said_by frames.source_of frames.destination_of frames.group_of
-not_said own f n =
-    let packets = goes_there f transport_data_group (omega arith) in
-    let control = goes_there f transport_control_group (omega arith) in
-    grind (arith, packets, control, n)
+not_said own f e = grind (arith, e)
 
 aside : (own : ℕ) (lost held b : Bool) (f : FrameRecord) (now : ℕ) (r : Reception) → lost ≡ false → b ≡ false → said_to own f ≡ None
     → heard_by own lost held f now (left b r) ≡ r
@@ -503,8 +489,7 @@ session_begins w H when f size count most pgn held room free said =
 pub quiet_tick : (own stamp now : ℕ) (r : Reception) (o : Option ReceptionRecord) → r.session ≡ o → ((x : ReceptionRecord) → o ≡ Some x → now ≤ limit_in r.since x)
     → ticked own stamp now r ≡ r
 unfolding recv_step takes_tick
-quiet_tick own stamp now r None e h = grind (arith, e)
-quiet_tick own stamp now r (Some x) e h = let l = h x refl in grind (arith, e, l)
+quiet_tick own stamp now r o e f = grind (arith, e, f)
 
 -- a limit isn't over before the moment that is told
 pub before_moment : (limit last time now : ℕ) → last ≤ now → now < 10000000000000000 → ((t : ℕ) → stamp_at (last + (suc limit - time)) ≡ Some t → now < t)

@@ -1,13 +1,12 @@
 -- A message that waits is renewed.
-use Rattle.j39_node.proofs.Common.{[], if◌then◌else◌, ◌&&◌, ◌++◌, ◌+◌, ◌-◌, ◌<◌, ◌∙◌, ◌∷◌, ◌≡◌, ◌≢◌, ◌≤◌, ◌⊎◌, and_parts, ap, arith, Bool, drop, false, inl, inr, is_alike, latest, length, length-set, length-take-le, List, map, Message, nat_eq, nat_le, None, not, Option, option_map, Outgoing, posted, refill, refl, request_group, slice_get, slice_index_or, slice_set, Some, suc, sym, take, take-append_seam, take-suc, true, zero, ℕ, leb-true, le-leb, map-append, length-map, lt-leb, false_from_ne_true}
+use Rattle.std.proofs.lemmas.Grind.{common_steps}
+use Rattle.j39_node.proofs.Common.{[], if◌then◌else◌, ◌&&◌, ◌++◌, ◌+◌, ◌-◌, ◌<◌, ◌∙◌, ◌∷◌, ◌≡◌, ◌≢◌, ◌≤◌, ◌⊎◌, and_parts, ap, arith, Bool, drop, false, inl, inr, is_alike, latest, length, length-take-le, List, map, Message, nat_eq, nat_le, None, Option, option_map, Outgoing, posted, refill, refl, request_group, slice_get, slice_index_or, slice_set, Some, suc, sym, take, take-suc, true, zero, ℕ, leb-true, le-leb, map-append, length-map, lt-leb, false_from_ne_true}
 
 -- the last that is alike, one more
 pub latest_more : (m : Message) (n i : ℕ) (xs : List (ℕ × Message)) (x : ℕ × Message) (o : Option ℕ)
     → latest m n i (xs ++ x ∷ []) o ≡ (if nat_le n (i + length xs) && is_alike m x.1 then Some (i + length xs) else latest m n i xs o)
 latest_more m n i [] x o = ap (λ (k : ℕ). if nat_le n k && is_alike m x.1 then Some k else o) (omega arith)
-latest_more m n i (y ∷ xs) x o =
-    latest_more m n (suc i) xs x (if nat_le n i && is_alike m y.1 then Some i else o)
-    ∙ ap (λ (k : ℕ). if nat_le n k && is_alike m x.1 then Some k else latest m n (suc i) xs (if nat_le n i && is_alike m y.1 then Some i else o)) (omega arith)
+latest_more m n i (y ∷ xs) x o = let h = latest_more m n (suc i) xs x (if nat_le n i && is_alike m y.1 then Some i else o) in grind (arith, h)
 
 -- the loop's next
 pub latest_on : (m : Message) (n : ℕ) (xs : List Outgoing) (i place : ℕ) (x : Outgoing) (found now : Option ℕ) (alike : Bool) → x ≡ slice_index_or xs i x → i < length xs
@@ -85,24 +84,11 @@ none_past m n j xs o y f e l past = false_from_ne_true _
 -- of what is left after t of them it is t places before
 shifted : (m : Message) (n i : ℕ) (xs : List (ℕ × Message)) (o : Option ℕ) → latest m (suc n) (suc i) xs (option_map suc o) ≡ option_map suc (latest m n i xs o)
 shifted m n i [] o = refl
-shifted m n i (x ∷ xs) o =
-    ap (λ (b : Bool). latest m (suc n) (suc (suc i)) xs (if b && is_alike m x.1 then Some (suc i) else option_map suc o)) (le_suc n i)
-    ∙ (ap (latest m (suc n) (suc (suc i)) xs) (go (nat_le n i && is_alike m x.1)) ∙ shifted m n (suc i) xs (if nat_le n i && is_alike m x.1 then Some i else o))
-  where
-    le_suc : (a b : ℕ) → nat_le (suc a) (suc b) ≡ nat_le a b
-    le_suc a b = grind arith
-
-    go : (b : Bool) → (if b then Some (suc i) else option_map suc o) ≡ option_map suc (if b then Some i else o)
-    go true = refl
-    go false = refl
+shifted m n i (x ∷ xs) o = let h = shifted m n (suc i) xs (if nat_le n i && is_alike m x.1 then Some i else o) in grind (arith, h)
 
 pub latest_rest : (m : Message) (t n : ℕ) (xs : List (ℕ × Message)) → t ≤ n
     → latest m n 0 xs None ≡ option_map (λ k. k + t) (latest m (n - t) 0 (drop t xs) None)
-latest_rest m zero n xs l = same (latest m n 0 xs None) ∙ ap (λ (k : ℕ). option_map (λ j. j + 0) (latest m k 0 xs None)) (let z : n ≡ n - 0 = omega arith in z)
-  where
-    same : (o : Option ℕ) → o ≡ option_map (λ k. k + 0) o
-    same None = refl
-    same (Some k) = ap Some (omega arith)
+latest_rest m zero n xs l = grind (arith, l)
 latest_rest m (suc t) zero xs l = absurd (omega (arith, l))
 latest_rest m (suc t) (suc n) [] l = refl
 latest_rest m (suc t) (suc n) (x ∷ xs) l =
@@ -111,8 +97,7 @@ latest_rest m (suc t) (suc n) (x ∷ xs) l =
     ∙ (twice (latest m (n - t) 0 (drop t xs) None) ∙ ap (λ (k : ℕ). option_map (λ j. j + suc t) (latest m k 0 (drop t xs) None)) (let z : n - t ≡ suc n - suc t = omega arith in z))))
   where
     twice : (o : Option ℕ) → option_map suc (option_map (λ k. k + t) o) ≡ option_map (λ k. k + suc t) o
-    twice None = refl
-    twice (Some k) = ap Some (omega arith)
+    twice o = grind arith
 
 -- ---- one of a list is another
 
@@ -122,10 +107,7 @@ set_rest (suc t) k [] x = refl
 set_rest (suc t) k (y ∷ xs) x = ap (λ (n : ℕ). drop (suc t) (slice_set (y ∷ xs) n x)) (let z : k + suc t ≡ suc (k + t) = omega arith in z) ∙ set_rest t k xs x
 
 pub refilled : {T : Type 0} (xs ys : List T) (k : ℕ) (x : T) → ys ≡ xs → refill (length xs) xs (slice_set ys k x) ≡ slice_set xs k x
-refilled xs ys k x e =
-    ap (λ zs. refill (length xs) xs (slice_set zs k x)) e
-    ∙ (ap (λ (n : ℕ). take n (slice_set xs k x ++ drop (length (slice_set xs k x)) xs)) (sym (length-set xs k x))
-    ∙ take-append_seam (slice_set xs k x) (drop (length (slice_set xs k x)) xs))
+refilled xs ys k x e = grind (arith, common_steps, e)
 
 pub set_get : {T : Type 0} (xs : List T) (k i : ℕ) (x y : T) → slice_get (slice_set xs k x) i ≡ Some y → ((i ≡ k) × (x ≡ y)) ⊎ (slice_get xs i ≡ Some y)
 set_get [] k i x y e = inr e
@@ -148,7 +130,4 @@ set_other (z ∷ xs) (suc k) (suc i) x n = set_other xs k i x (λ e. n (ap suc e
 
 -- a request isn't renewed
 pub no_request : (m n : Message) → is_alike m n ≡ true → nat_eq n.group request_group ≡ true → ⊥
-no_request m n e f = let p = and_parts _ _ e in let q = (and_parts _ _ p.0).1 in let r = (and_parts _ _ p.1).1 in clash m.group n.group request_group q f r
-  where
-    clash : (a b c : ℕ) → nat_eq a b ≡ true → nat_eq b c ≡ true → not (nat_eq a c) ≡ true → ⊥
-    clash a b c x y z = grind (arith, x, y, z)
+no_request m n e f = grind (arith, e, f)

@@ -1,5 +1,5 @@
 -- A frame of who wasn't asked, or to another address, says nothing to a request, and ends none.
-use Rattle.j39_node.proofs.Common.{if◌then◌else◌, ◌&&◌, ◌-◌, ◌||◌, ◌∙◌, ◌∷◌, ◌≡◌, ◌≢◌, address_after, Answered, ap, arith, ask_end, AskEnding, At, Bool, Call, claim_of, comes, destination_of, end_at, ended, eqb-true, false, first, FrameRecord, has_place, Hear, Heard, holder, holds, is_acknowledgment, is_answer, is_lost, is_none, is_of, is_smaller, is_some, known, leaves, left, List, Lost, made, made_of, made_whole, MessageRecord, nat_eq, nat_lt, next_ask_ended, None, older, open_ask, Option, option_map, option_or, pgn_of, Question, reached, reaches, Reception, reception, ReceptionRecord, recv_step, refl, says_to, seeks, shown, silent_end, slice_get, Some, source_of, step, sym, Tick, time_heard, true, wait, Who, whole, whole_by, ℕ, and-false}
+use Rattle.j39_node.proofs.Common.{if◌then◌else◌, ◌&&◌, ◌||◌, ◌∙◌, ◌∷◌, ◌≡◌, ◌≢◌, Answered, ap, arith, At, Bool, Call, claim_of, comes, destination_of, eqb-true, false, FrameRecord, has_place, Hear, Heard, holder, holds, is_acknowledgment, is_answer, is_of, is_smaller, known, leaves, left, List, made, made_of, made_whole, MessageRecord, nat_eq, next_ask_ended, None, open_ask, Option, option_map, option_or, pgn_of, Question, reaches, Reception, reception, ReceptionRecord, recv_step, refl, says_to, seeks, shown, slice_get, Some, source_of, sym, Tick, time_heard, true, Who, whole, whole_by, ℕ, and-false}
 use Rattle.j39_node.specs.Asking.{is_reply, said_by}
 use Rattle.j39_node.proofs.ListenLemmas.{unequal}
 use Rattle.j39_node.proofs.PacketsAnswer.{made_by_packet, none_whole, packs_to_all}
@@ -10,8 +10,7 @@ use Rattle.j39_node.proofs.StrangerLaws.{other_whole}
 -- ---- what a frame makes whole is of _ its source
 
 gives_source : (a : ℕ) (d : Option MessageRecord) (m : MessageRecord) → d ≡ Some m → Gives (λ b. b ≡ a) d → m.source ≡ a
-gives_source a None m e g = absurd (cc)
-gives_source a (Some y) m e g = let z : y ≡ m = cc in ap (λ (u : MessageRecord). u.source) (sym z) ∙ g
+gives_source a d m e f = grind (arith, e, f)
 
 delivered_source : (own : ℕ) (f : FrameRecord) (now : ℕ) (found : Bool) (o : Option ReceptionRecord) (m : MessageRecord)
     → (recv_step (record { own = own; session = o }) (Heard f) now found).delivers ≡ Some m → m.source ≡ source_of f.id
@@ -67,8 +66,7 @@ to_another w H when f q a d n m =
     elsewhere b k e = k (let z : Some a ≡ Some b = sym d ∙ e in cc)
 
     unreached : reaches w f ≡ false
-    unreached = (λ i. nat_lt (source_of f.id) 254 && (is_none (d i) || (is_some (d i) 255 || is_some (d i) w.address)))
-        ∙ ((λ i. nat_lt (source_of f.id) 254 && (unequal a 255 n i || unequal a w.address m i)) ∙ and-false (nat_lt (source_of f.id) 254))
+    unreached = grind arith
 
     none_to : whole w H when f ≡ None
     none_to =
@@ -92,30 +90,4 @@ pub ends : (w : Who) (H : List Call) (when : ℕ) (f : FrameRecord) (q : Questio
     → is_smaller w (claim_of f) ≡ false → comes w (At when (Hear f) ∷ H) (time_heard (At when Tick ∷ H)) ≡ comes w H (time_heard (At when Tick ∷ H))
     → comes w (At when Tick ∷ H) (time_heard (At when Tick ∷ H)) ≡ comes w H (time_heard (At when Tick ∷ H))
     → next_ask_ended w (At when (Hear f) ∷ H) ≡ next_ask_ended w (At when Tick ∷ H)
-ends w H when f q o none mine by_frame by_tick =
-    (λ i. ask_end (o i) (reached H) (first (ended w H) (end_at w (o i) (reached H) left_over coming (lost i) f (made w H when f))) left_over (by_frame i) (lost i))
-    ∙ (ap (λ (x : Option AskEnding). option_map (λ e. (q.token, e)) (first (first (ended w H) (first silence (if taken then x else None))) silence)) none
-    ∙ (ap (λ (x : Option AskEnding). option_map (λ e. (q.token, e)) x) (once (ended w H) silence taken)
-    ∙ λ i. ask_end (sym o i) (reached H) (ended w H) left_over (sym by_tick i) lost_now))
-  where
-    left_over : ℕ
-    left_over = wait H - step H when
-
-    coming : Bool
-    coming = comes w H (time_heard (At when Tick ∷ H))
-
-    lost_now : Bool
-    lost_now = is_lost (older (step H when) (address_after w H))
-
-    lost : is_lost (address_after w (At when (Hear f) ∷ H)) ≡ lost_now
-    lost = ap (λ (b : Bool). is_lost (if b then Lost else older (step H when) (address_after w H))) mine
-
-    taken : Bool
-    taken = nat_lt q.token (reached H)
-
-    silence : Option AskEnding
-    silence = silent_end taken left_over coming lost_now
-
-    once : (a b : Option AskEnding) (t : Bool) → first (first a (first b (if t then None else None))) b ≡ first a b
-    once None None true = refl
-    once a b t = refl
+ends w H when f q e g i j k = grind (arith, e, g, i, j, k)

@@ -1,5 +1,5 @@
 -- When a transfer rests.
-use Rattle.j39_node.proofs.Common.{[], if◌then◌else◌, ◌&&◌, ◌++◌, ◌+◌, ◌-◌, ◌<◌, ◌∙◌, ◌∷◌, ◌≡◌, ◌≤◌, ◌⊎◌, AllRest, and_from, ap, append-nil, arith, Bool, Call, eq-eqb, false, holds_back, inl, inr, is_resting, IsTrue, joined, List, moment, moved, nat_eq, nat_lt, None, NoneRests, open_transfer, Option, PairRests, passed_in, refl, rest, Resting, resting, rests_after, Running, Some, step, TakeTransferEnded, ToldSince, TransferEnding, true, Who, with_pair, ℕ, lt-ltb, cond_both, ne_eqb}
+use Rattle.j39_node.proofs.Common.{[], if◌then◌else◌, ◌++◌, ◌+◌, ◌-◌, ◌<◌, ◌∙◌, ◌∷◌, ◌≡◌, ◌≤◌, ◌⊎◌, and_from, ap, append-nil, arith, Bool, Call, false, holds_back, inl, inr, is_resting, IsTrue, joined, List, moment, moved, nat_lt, open_transfer, Option, passed_in, refl, rest, Resting, resting, rests_after, Running, Some, step, TakeTransferEnded, ToldSince, TransferEnding, true, Who, ℕ, lt-ltb}
 use Rattle.j39_node.specs.Moving.{begun}
 
 -- ---- it rests only after such an end, or where it did before its history
@@ -56,21 +56,8 @@ rested w (call ∷ H) l = since_call w call H (rested w H) l
 
 -- ---- after such an end it rests
 
-pair_rests : (r : Resting) (group to : ℕ) → holds_back (with_pair r to group) group to ≡ true
-pair_rests NoneRests group to = and_from _ _ (eq-eqb to to refl) (eq-eqb group group refl)
-pair_rests (PairRests a b) group to = cond_both (nat_eq a to && nat_eq b group) _ _ (λ (r : Resting). holds_back r group to ≡ true) (λ e. e) (λ e. refl)
-pair_rests AllRest group to = refl
-
-still_rests : (r : Resting) (a b group to : ℕ) → holds_back r group to ≡ true → holds_back (with_pair r a b) group to ≡ true
-still_rests NoneRests a b group to e = absurd (let z : false ≡ true = e in cc)
-still_rests (PairRests x y) a b group to e = cond_both (nat_eq x a && nat_eq y b) _ _ (λ (r : Resting). holds_back r group to ≡ true) (λ z. e) (λ z. refl)
-still_rests AllRest a b group to e = refl
-
 joins : (left : ℕ) (r : Resting) (o : Option Running) (group to : ℕ) → 0 < left → holds_back r group to ≡ true → holds_back (joined left r o) group to ≡ true
-joins left r None group to l e = e
-joins left r (Some t) group to l e =
-    ap (λ (b : Bool). holds_back (with_pair (if b then NoneRests else r) t.sender.destination t.sender.message.pgn) group to) (ne_eqb left 0 (λ z. omega (arith, z, l)))
-    ∙ still_rests r t.sender.destination t.sender.message.pgn group to e
+joins left r o group to e f = grind (arith, e, f)
 
 -- so much is left to rest from the earlier calls on, at most 4 seconds
 module _ (w : Who) (B : List Call) (n group to : ℕ) (most : n ≤ 4000000) where
@@ -117,11 +104,7 @@ module _ (w : Who) (earlier : List Call) (group to : ℕ) (x : ℕ × TransferEn
   begins = let z = ap (λ (c : Bool). if c then 4000000 else rest w earlier) r in omega (arith, z)
 
   pairs : holds_back (resting w E) group to ≡ true
-  pairs =
-      ap (λ (c : Bool). holds_back (if c then joined (rest w earlier) (resting w earlier) (open_transfer w earlier) else resting w earlier) group to) r
-      ∙ (ap (λ (y : Option Running). holds_back (joined (rest w earlier) (resting w earlier) y) group to) o
-      ∙ ((λ i. holds_back (with_pair (if nat_eq (rest w earlier) 0 then NoneRests else resting w earlier) (d i) (g i)) group to)
-      ∙ pair_rests (if nat_eq (rest w earlier) 0 then NoneRests else resting w earlier) group to))
+  pairs = grind arith
 
   pub rests_so : (later : List Call) (now : ℕ) → passed_in later E + step (later ++ E) now < 4000000 → IsTrue (is_resting w (later ++ E) now group to)
   rests_so later now l = still w E 4000000 group to (omega arith) later now begins pairs l

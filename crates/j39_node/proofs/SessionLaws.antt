@@ -1,14 +1,10 @@
 -- A session ends by itself.
-use Rattle.j39_node.proofs.Common.{subst, ticked, Abort, At, Bool, Call, FrameRecord, Hear, IsOpenOf, List, NeverBack, None, Option, Reception, ReceptionRecord, ReleaseTransfer, Signal, Some, StaysOpen, TakeFrame, Tick, TicksWithin, Who, [], arith, asks_again, claim_of, false, first, granted_at, grants, has_place, heard_at, heard_by, holder, holds, is_claim, is_reply, is_smaller, known, later, leaves, left, longest, lost, moment, passed_in, reception, recv_step, refl, replied, rest, said_to, takes_tick, ticked_at, time_heard, timer_t2, true, unticked_in, written, ℕ, ◌*◌, ◌++◌, ◌+◌, ◌-◌, ◌<◌, ◌∙◌, ◌∷◌, ◌≡◌, ◌≤◌}
+use Rattle.j39_node.proofs.Common.{subst, ticked, Abort, At, Bool, Call, FrameRecord, Hear, IsOpenOf, List, NeverBack, None, Option, Reception, ReceptionRecord, ReleaseTransfer, Signal, Some, StaysOpen, TakeFrame, Tick, TicksWithin, Who, [], arith, asks_again, claim_of, first, granted_at, grants, has_place, heard_at, heard_by, holder, holds, is_smaller, known, later, leaves, left, longest, lost, moment, passed_in, reception, recv_step, refl, replied, rest, said_to, takes_tick, ticked_at, time_heard, timer_t2, true, unticked_in, written, ℕ, ◌*◌, ◌++◌, ◌+◌, ◌-◌, ◌<◌, ◌∙◌, ◌∷◌, ◌≡◌, ◌≤◌}
 use Rattle.j39_node.proofs.PacketLemmas.{quiet_step}
 use Rattle.j39_node.proofs.ReceptionLaws.{not_left_by, said_no_claim}
-use Rattle.j39_node.proofs.ReceptionLemmas.{released_all, taken_any}
+use Rattle.j39_node.proofs.ReceptionLemmas.{released_all}
 
 -- ---- its account
-
-since_left : (b : Bool) (r : Reception) → (left b r).since ≡ r.since
-since_left true r = refl
-since_left false r = refl
 
 begins_by : (own : ℕ) (lost held b : Bool) (f : FrameRecord) (now : ℕ) (r : Reception) (x : ReceptionRecord) → r.session ≡ None
     → (heard_by own lost held f now (left b r)).session ≡ Some x → (heard_by own lost held f now (left b r)).since ≡ now
@@ -29,8 +25,7 @@ pub runs : (w : Who) (H : List Call) (call : Call) (r s : ReceptionRecord) → (
     → (reception w (call ∷ H)).since ≡ (reception w H).since
 runs w H (At when (Hear f)) r s e g =
     runs_by w.address (is_smaller w (claim_of f)) (holds w H when) _ f (time_heard (At when (Hear f) ∷ H)) (reception w H) r s e (unsaid w H when f) g
-runs w H (At now (TakeFrame (Some f))) r s e g =
-    taken_any (λ (x : Reception). x.since ≡ (reception w H).since) (is_claim f) (is_reply (reception w H).replies f) _ (reception w H) (λ i. since_left _ (reception w H)) (λ i. refl) (λ i. refl)
+runs w H (At now (TakeFrame (Some f))) r s e g = grind (arith, e, g)
 runs w H (ReleaseTransfer answer) r s e g = released_all (λ (x : Reception). x.since ≡ (reception w H).since) answer (reception w H) refl
 runs w H call r s e g = refl
 
@@ -94,8 +89,7 @@ ages E L Stays e rest tick g later s t b l = let a = aged later s b l in let u =
       where
         go : (call : Call) → Stays (call ∷ later) → Clock (call ∷ later) E → passed_in later E ≤ L + unticked_in later E
             → passed_in (call ∷ later) E ≤ L + unticked_in (call ∷ later) E
-        go (At now Tick) s c a = let o = tick now later s in let k = c.sum in omega (arith, o, k)
-        go call s c a = omega (arith, a)
+        go call e f g = grind (arith, g)
 
     unticked : (later : List Call) → TicksWithin g later E → unticked_in later E ≤ g
     unticked [] h = omega arith

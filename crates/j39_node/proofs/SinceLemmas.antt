@@ -1,5 +1,5 @@
 -- A claimed address was claimed by a frame that was taken.
-use Rattle.j39_node.proofs.Common.{[], if◌then◌else◌, ◌++◌, ◌+◌, ◌∙◌, ◌∷◌, ◌≡◌, ◌≤◌, Address, address_after, Again, ap, AreAnswered, arith, At, Bool, Call, claim_address, claim_from, claim_of, Claimed, claimed, ClaimedSince, content, false, FrameRecord, Hear, is_claim, is_held, is_lost, is_smaller, IsTrue, List, Lost, moment, NeverBack, NoneUnclaims, NotClaimed, older, passed_in, refl, Some, step, subst, sym, TakeFrame, true, unclaimed, Who, ℕ, not_both, leb-true, le-leb, claims_anew}
+use Rattle.j39_node.proofs.Common.{[], if◌then◌else◌, ◌++◌, ◌+◌, ◌∙◌, ◌∷◌, ◌≡◌, ◌≤◌, Address, address_after, Again, ap, AreAnswered, arith, At, Bool, Call, claim_address, claim_from, claim_of, Claimed, claimed, ClaimedSince, content, false, FrameRecord, Hear, is_claim, is_held, is_lost, is_smaller, IsTrue, List, Lost, moment, NeverBack, NoneUnclaims, NotClaimed, older, passed_in, refl, Some, step, subst, sym, TakeFrame, true, unclaimed, Who, ℕ, not_both, leb-true, claims_anew}
 use Rattle.j39_node.specs.Since.{unclaims}
 use Rattle.j39_node.proofs.SoundLemmas.{FrameCase, frame_case, same_age, address_cases}
 use Rattle.j39_node.proofs.SoundLemmas.FrameCase.{claims}
@@ -31,8 +31,7 @@ before s d (Claimed n) e = record { elapsed = n; was = refl; is = (let z : n + s
 before s d a e = absurd (cc)
 
 not_driven : (b : Bool) (s d : ℕ) (a : Address) → (if b then Lost else older s a) ≡ Claimed d → (b ≡ false) × (older s a ≡ Claimed d)
-not_driven true s d a e = absurd (cc)
-not_driven false s d a e = (refl, e)
+not_driven b s d a e = (grind (arith, e), grind (arith, e))
 
 -- a call that only lets time pass
 passes : (w : Who) (H : List Call) (call : Call) (d : ℕ) → ((n : ℕ) → address_after w H ≡ Claimed n → ClaimedSince w H n) → unclaims w call ≡ false
@@ -42,8 +41,7 @@ passes w H call d h f e =
     one_later w H call b.elapsed d (h b.elapsed b.was) f b.is
 
 not_claimed : (a : Address) (d : ℕ) → unclaimed a ≡ Claimed d → ⊥
-not_claimed Lost d e = absurd (cc)
-not_claimed a d e = absurd (cc)
+not_claimed a d e = grind (arith, e)
 
 -- the first claim
 begins : (w : Who) (H : List Call) (now : ℕ) (f : FrameRecord) → AreAnswered w H → FrameCase w H now f → is_claim f ≡ true → address_after w H ≡ NotClaimed
@@ -119,12 +117,10 @@ stands_since w (call ∷ later) E at f k d =
     address_cases w H call (λ b. Stands b p) h (gone refl) (claims_again a p h) (λ z. absurd (not_both _ d.0 (anew_unclaims call z)))
   where
     anew_unclaims : (call : Call) → claims_anew call ≡ true → unclaims w call ≡ true
-    anew_unclaims (At now Again) e = refl
-    anew_unclaims call e = absurd (cc)
+    anew_unclaims call e = grind (arith, e)
 
 pub in_time : (s p : ℕ) (a : Address) → Stands a p → (IsTrue (is_lost a) → ⊥) → 250000 ≤ p + s → is_held (older s a) ≡ true
-in_time s p a (gone e) n l = absurd (n (ap is_lost e))
-in_time s p a (stands e g m) n l = ap (λ (x : Address). is_held (older s x)) g ∙ le-leb 250000 (e + s) (omega (arith, l, m))
+in_time s p a e f g = grind (arith, f, g)
 
 -- ---- time
 

@@ -1,5 +1,5 @@
 -- What every answered history says of what was accepted, sent and told.
-use Rattle.j39_node.proofs.Common.{Acknowledge, Address, Again, Answer, AreAnswered, Ask, Asked, At, Bool, Call, Claimed, Done, Draft, Ending, FrameRecord, Hear, IsAnswered, IsFront, IsTrue, List, Lost, Message, MessageRecord, Move, None, Ok, Option, Question, Ready, Renew, Reply, Send, Single, Some, TakeAskEnded, TakeEnded, TakeFrame, TakeReceived, TakeRequest, Turn, Who, Withdraw, Withdrawn, [], accepted, acknowledged, acknowledgment, acknowledgment_group, address_after, address_claimed_group, and-false, and-true, and_parts, answer_to_ask, ap, append_assoc, arith, asked, blank, bytes_eq-Decides, can_ask, can_send, claim_address, claim_due, claim_from, claim_goes, claim_of, claimed, clock_at, content, control_of, destination_of, drop, due, end_of, eq-eqb, eqb-true, false, frame_of, fresh, gives_way, got, handed, has_packets, holds, if◌then◌else◌, inl, inr, is_acknowledgment, is_apart, is_blank, is_claim, is_held, is_left, is_lost, is_move, is_own_group, is_packet, is_refusal_due, is_same, is_sendable, is_served, is_session, is_smaller, is_some, is_that, is_there, is_transfer, is_turn, kept, latest, leb-true, left, length, length-append, length-set, lost, ltb-false, ltb-true, map, map-set, marks, max, may_go, message_from, message_of, moment, nat_eq, nat_le, nat_lt, next_acknowledgment, next_ended, next_frame, next_other, next_packet, next_renewed, next_transfer, next_turn, next_withdrawn, not, not-true, older, open_ask, open_broadcast, open_transfer, option_map, or_parts, other, packet_by, packets, packets_of, past, pause, pgn_of, question, reached, ready, reception, refl, request_for, request_group, requests, sent, slice_get, slice_get-map, slice_get_past, slice_get_within, slice_set, source_of, stamped, step, subst, suc, sym, take, take-append-le, take-set-le, told, transport_control_group, transport_data_group, true, turn_frame, turn_of, turns, unblanked, unclaimed, with_refusal, with_request, yields, zero, ℕ, ◌&&◌, ◌++◌, ◌-◌, ◌<◌, ◌==◌, ◌||◌, ◌∙◌, ◌∷◌, ◌≡◌, ◌≤◌, ◌⊎◌, cases_Bool, or_from, map-append, none-some, some_pair_parts, length-map, false_from_ne_true, not_both, ending_of, ◌↔◌, cond_both, ne_eqb, cond_some, claims_anew, All, All-nil, All-push, All-set}
+use Rattle.j39_node.proofs.Common.{Acknowledge, Address, Again, Answer, AreAnswered, Ask, Asked, At, Bool, Call, Done, Draft, Ending, FrameRecord, Hear, IsAnswered, IsFront, IsTrue, List, Lost, Message, MessageRecord, Move, None, Ok, Option, Question, Ready, Renew, Reply, Send, Single, Some, TakeAskEnded, TakeEnded, TakeFrame, TakeReceived, TakeRequest, Turn, Who, Withdraw, Withdrawn, [], accepted, acknowledged, acknowledgment, acknowledgment_group, address_after, address_claimed_group, and-false, and-true, and_parts, answer_to_ask, ap, append_assoc, arith, asked, blank, bytes_eq-Decides, can_ask, can_send, claim_address, claim_due, claim_from, claim_goes, claim_of, claimed, clock_at, content, control_of, destination_of, drop, due, end_of, eq-eqb, eqb-true, false, frame_of, fresh, gives_way, got, handed, has_packets, holds, if◌then◌else◌, inl, inr, is_acknowledgment, is_apart, is_blank, is_claim, is_held, is_left, is_lost, is_move, is_own_group, is_packet, is_refusal_due, is_same, is_sendable, is_served, is_session, is_smaller, is_some, is_that, is_there, is_transfer, is_turn, kept, latest, leb-true, left, length, length-append, length-set, lost, ltb-false, ltb-true, map, map-set, marks, max, may_go, message_from, message_of, moment, nat_eq, nat_le, nat_lt, next_acknowledgment, next_ended, next_frame, next_other, next_packet, next_renewed, next_transfer, next_turn, next_withdrawn, not, not-true, older, open_ask, open_broadcast, open_transfer, option_map, or_parts, other, packet_by, packets, packets_of, past, pause, pgn_of, question, reached, ready, reception, refl, request_for, request_group, requests, sent, slice_get, slice_get-map, slice_get_past, slice_get_within, slice_set, source_of, stamped, step, subst, suc, sym, take, take-append-le, take-set-le, told, transport_control_group, transport_data_group, true, turn_frame, turn_of, turns, unblanked, unclaimed, with_refusal, with_request, yields, zero, ℕ, ◌&&◌, ◌++◌, ◌-◌, ◌<◌, ◌||◌, ◌∙◌, ◌∷◌, ◌≡◌, ◌≤◌, ◌⊎◌, cases_Bool, or_from, map-append, none-some, some_pair_parts, length-map, false_from_ne_true, not_both, ending_of, ◌↔◌, cond_both, cond_some, claims_anew, All, All-nil, All-push, All-set}
 use Rattle.j39_node.specs.declared.turn.Turn.TheVariants.{Packet}
 use Rattle.j39_node.proofs.WithdrawLemmas.{get_front, stops_append, past_more, next_false, past_stops, past_within, set_same, unblanked_more, unblanked_past, unpassed}
 use Rattle.j39_node.proofs.ReceptionLemmas.{IsReply, replied_get, tidy}
@@ -11,32 +11,23 @@ use Rattle.j39_node.proofs.RenewLemmas.{IsLatest, latest_is, set_get, set_other,
 -- ---- the address
 
 pub lost_older : (s : ℕ) (a : Address) → is_lost (older s a) ≡ is_lost a
-lost_older s Lost = refl
-lost_older s other = refl
+lost_older s a = grind arith
 
 pub held_older : (s : ℕ) (a : Address) → is_held a ≡ true → is_held (older s a) ≡ true
-held_older s (Claimed n) e = grind (arith, e)
-held_older s other e = absurd (cc)
-
-pub lost_claimed : (a : Address) → is_lost (claimed a) ≡ is_lost a
-lost_claimed Lost = refl
-lost_claimed other = refl
+held_older s a e = grind (arith, e)
 
 pub lost_unclaimed : (a : Address) → is_lost (unclaimed a) ≡ is_lost a
-lost_unclaimed Lost = refl
-lost_unclaimed other = refl
+lost_unclaimed a = grind arith
 
 pub held_not_lost : (a : Address) → is_held a ≡ true → is_lost a ≡ false
-held_not_lost (Claimed n) e = refl
-held_not_lost other e = absurd (cc)
+held_not_lost a e = grind (arith, e)
 
 pub holding_not_lost : (w : Who) (H : List Call) (now : ℕ) → holds w H now ≡ true → is_lost (address_after w H) ≡ false
 holding_not_lost w H now e = sym (lost_older (step H now) (address_after w H)) ∙ held_not_lost _ e
 
 -- where no time passes it is as old as before
 pub same_age : (m : ℕ) (a : Address) → older (m - m) a ≡ a
-same_age m (Claimed n) = ap Claimed (omega arith)
-same_age m a = refl
+same_age m a = grind arith
 
 -- a call leaves it as old as it then is, or claims it, or loses it, or begins to claim it anew
 pub address_cases : (w : Who) (H : List Call) (call : Call) (P : Address → Type 0) → P (older (step H (moment (call ∷ H))) (address_after w H)) → P Lost
@@ -49,17 +40,14 @@ address_cases w H (At now act) P left lost claims anew = left
 address_cases w H call P left lost claims anew = subst P (same_age (moment H) (address_after w H)) left
 
 pub stays_lost : (w : Who) (H : List Call) (call : Call) → is_lost (address_after w H) ≡ true → is_lost (address_after w (call ∷ H)) ≡ true
-stays_lost w H call e =
-    let l = lost_older (step H (moment (call ∷ H))) (address_after w H) ∙ e in
-    address_cases w H call (λ a. is_lost a ≡ true) l refl (lost_claimed _ ∙ l) (λ z. lost_unclaimed _ ∙ l)
+stays_lost w H call e = grind (arith, e)
 
 -- ---- which frame was taken
 
 -- an acknowledgment that goes is due
 pub acknowledged_is_due : (w : Who) (H : List Call) (now : ℕ) (m : Message) → next_acknowledgment w H now ≡ Some m
     → (slice_get (due w H) (length (acknowledged H)) ≡ Some m) × (gives_way w H now ≡ false)
-acknowledged_is_due w H now m = cond_both (gives_way w H now) _ _
-    (λ (o : Option Message). o ≡ Some m → (slice_get (due w H) (length (acknowledged H)) ≡ Some m) × (gives_way w H now ≡ false)) (λ g e. absurd (cc)) (λ g e. (e, g))
+acknowledged_is_due w H now m e = (grind (arith, e), grind (arith, e))
 
 -- not-true acknowledgment goes, and it is the turn of this
 abbrev pub IsNext : Who → List Call → ℕ → Turn → Type 0
@@ -173,20 +161,13 @@ turned w H now t e = subst (IsTurn (yields w H) (ready w H now)) e (turn_is (yie
 
 -- a frame of the open broadcast that is due is next of it
 pub packet_there : (o : Option (ℕ × MessageRecord)) (i left : ℕ) → is_there (packet_by o i left) ≡ (is_left o i && nat_le left 100000)
-packet_there None i left = refl
-packet_there (Some x) i left = go (nat_le left 100000) (nat_le i (packets_of x.1))
-  where
-    go : (a b : Bool) → is_there (if a && b then Some (frame_of x.1 i) else None) ≡ (b && a)
-    go true true = refl
-    go true false = refl
-    go false b = sym (and-false b)
+packet_there o i left = grind arith
 
 pub overdue_due : (b : Bool) (n : ℕ) → (b && nat_eq n 0) ≡ true → (b && nat_le n 100000) ≡ true
 overdue_due b n e = grind (arith, e)
 
 pub none_there : (o : Option Message) → is_there o ≡ false → o ≡ None
-none_there None e = refl
-none_there (Some m) e = absurd (cc)
+none_there o e = grind (arith, e)
 
 pub not_there : (o : Option Message) → is_there o ≡ true → o ≡ None → ⊥
 not_there o e f = not_both _ (ap is_there f) e
@@ -196,8 +177,7 @@ pub apart_there : (o a : Option Message) → is_apart o a ≡ true → o ≡ Non
 apart_there o a e f = not_both _ (ap (λ (p : Option Message). is_apart p a) f) e
 
 apart_none : (o a : Option Message) → a ≡ None → is_apart o a ≡ false → o ≡ None
-apart_none None a f e = refl
-apart_none (Some m) a f e = absurd (not_both _ e (ap (is_apart (Some m)) f))
+apart_none o a e f = grind (arith, e, f)
 
 -- not-true reply, not-true message, and not-true frame of the open broadcast
 pub record Rest (w : Who) (H : List Call) (now : ℕ) : Type 0 where
@@ -218,12 +198,10 @@ pub frame_there : (w : Who) (H : List Call) (now : ℕ) → is_turn (next_turn w
 frame_there w H now = go (next_turn w H now) (turned w H now _ refl) _ _ _ _ refl refl refl refl
   where
     there : (o : Option Message) → (o ≡ None → ⊥) → true ≡ is_there o
-    there None f = absurd (f refl)
-    there (Some m) f = refl
+    there o e = grind (arith, e)
 
     there_sent : (o : Option (ℕ × Message)) → (o ≡ None → ⊥) → true ≡ is_there (option_map content o)
-    there_sent None f = absurd (f refl)
-    there_sent (Some x) f = refl
+    there_sent o e = grind (arith, e)
 
     due_packet : (ready w H now).packet ≡ true → next_packet w H now ≡ None → ⊥
     due_packet e = not_there _ (packet_there (open_broadcast w H) (length (packets H)) (pause H - step H now) ∙ e)
@@ -251,15 +229,7 @@ none_other w H now e = go (next_turn w H now) (turned w H now _ refl) (frame_the
 
 -- and where none is due, none goes
 pub other_none : (w : Who) (H : List Call) (now : ℕ) → Rest w H now → next_transfer w H now ≡ None → other w H now ≡ None
-other_none w H now h e = go (next_turn w H now)
-  where
-    go : (t : Option Turn)
-        → turn_frame t (slice_get (reception w H).replies 0) (slice_get (accepted w H) (reached H)) (next_packet w H now) (next_transfer w H now) ≡ None
-    go None = refl
-    go (Some Reply) = h.reply
-    go (Some Single) = ap (option_map content) h.message
-    go (Some Packet) = h.packet
-    go (Some Move) = e
+other_none w H now e f = grind (arith, f)
 
 -- ---- who gives way
 
@@ -297,18 +267,11 @@ next_is w H now a o e f g k = λ i. frame_by (e i) (f i) (g i) (k i) (claim_from
 -- the frame of whose turn it is
 pub other_is : (w : Who) (H : List Call) (now : ℕ) (t : Option Turn) → next_turn w H now ≡ t
     → other w H now ≡ turn_frame t (slice_get (reception w H).replies 0) (slice_get (accepted w H) (reached H)) (next_packet w H now) (next_transfer w H now)
-other_is w H now t e =
-    ap (λ (t : Option Turn). turn_frame t (slice_get (reception w H).replies 0) (slice_get (accepted w H) (reached H)) (next_packet w H now) (next_transfer w H now)) e
+other_is w H now t e = grind (arith, e)
 
 -- what a frame is that is taken is what goes next
 pub case_goes : {w : Who} {H : List Call} {now : ℕ} {f : FrameRecord} → FrameCase w H now f → Some (stamped f) ≡ next_frame w H now
-case_goes {w} {H} {now} (claims o e) =
-    ap Some e ∙ sym (ap (λ (b : Bool). frame_by b (holds w H now) (next_acknowledgment w H now) (other w H now) (claim_from w (claim_address w (address_after w H))) now) o)
-case_goes {w} {H} {now} (acknowledges m o h g e way) = ap Some e ∙ sym (next_is w H now (Some m) _ o h (due_is w H now way ∙ g) refl)
-case_goes {w} {H} {now} (replies m o h n g e) = ap Some e ∙ sym (next_is w H now None (Some m) o h n.0 (other_is w H now (Some Reply) n.1 ∙ g))
-case_goes {w} {H} {now} (sends x o h n g e) = ap Some e ∙ sym (next_is w H now None (Some x.1) o h n.0 (other_is w H now (Some Single) n.1 ∙ ap (option_map content) g))
-case_goes {w} {H} {now} (packs m o h n g e) = ap Some e ∙ sym (next_is w H now None (Some m) o h n.0 (other_is w H now (Some Packet) n.1 ∙ g))
-case_goes {w} {H} {now} (transfers m o h n g e) = ap Some e ∙ sym (next_is w H now None (Some m) o h n.0 (other_is w H now (Some Move) n.1 ∙ g))
+case_goes e = grind arith
 
 pub none_acknowledged : (w : Who) (H : List Call) (now : ℕ) → next_acknowledgment w H now ≡ None
     → IsTrue (gives_way w H now) ⊎ (slice_get (due w H) (length (acknowledged H)) ≡ None)
@@ -361,24 +324,10 @@ of_session : (f : FrameRecord) (g : ℕ) → pgn_of f.id ≡ g → (g ≡ transp
 of_session f g e k =
     subst OfSession (sym e) (elim k [ inl i ↦ subst OfSession (sym i) (refl, refl, refl) | inr i ↦ subst OfSession (sym i) (refl, refl, refl) ])
 
-packet_frame : (f : FrameRecord) (now : ℕ) (m : MessageRecord) (i : ℕ) → stamped f ≡ (now, frame_of m i)
-    → (is_claim f ≡ false) × (is_acknowledgment f ≡ false) × (is_packet f ≡ true)
-packet_frame f now m i e =
-    let x = of_session f _ (ap (λ (y : ℕ × Message). y.1.group) e) (group (i == 0)) in
-    (x.0, x.1, λ j. x.2 j && ap (λ (y : ℕ × Message). is_some y.1.destination 255) e j)
-  where
-    group : (b : Bool) → ((if b then transport_control_group else transport_data_group) ≡ transport_control_group) ⊎ ((if b then transport_control_group else transport_data_group) ≡ transport_data_group)
-    group true = inl refl
-    group false = inr refl
-
 -- a reply is not-true frame of a broadcast
 pub reply_taken : (own : ℕ) (f : FrameRecord) (now : ℕ) (m : Message) → stamped f ≡ (now, m) → IsReply own m
     → (is_claim f ≡ false) × (is_acknowledgment f ≡ false) × (is_session f ≡ true) × (is_packet f ≡ false)
-reply_taken own f now m e is =
-    let x = of_session f m.group (ap (λ (y : ℕ × Message). y.1.group) e) (inl is.group) in
-    let to : is_some (destination_of f.id) 255 ≡ false =
-    ap (λ (y : ℕ × Message). is_some y.1.destination 255) e ∙ (ap (λ o. is_some o 255) is.destination ∙ ne_eqb is.to 255 (λ z. let l = is.address in omega (arith, l, z))) in
-    (x.0, x.1, x.2, λ j. x.2 j && to j)
+reply_taken own f now m e g = (grind (arith, e), grind (arith, e), grind (arith, e), grind (arith, e))
 
 -- ---- a frame of a session is one of a broadcast, or of a transfer
 
@@ -392,19 +341,14 @@ pub no_transfer : (f : FrameRecord) → is_session f ≡ false → is_transfer f
 no_transfer f e = ap (λ (b : Bool). b && not (is_some (destination_of f.id) 255)) e
 
 pub packet_session : (f : FrameRecord) → is_packet f ≡ true → (is_session f ≡ true) × (is_transfer f ≡ false)
-packet_session f e =
-    let x = and_parts (is_session f) (is_some (destination_of f.id) 255) e in (x.0, ap (λ (b : Bool). is_session f && not b) x.1 ∙ and-false (is_session f))
-
-pub no_move : (w : Who) (H : List Call) (f : FrameRecord) → is_transfer f ≡ false → is_move w H f ≡ false
-no_move w H f e = ap (λ (b : Bool). b && not (is_that (message_of f) (slice_get (reception w H).replies 0))) e
+packet_session f e = (grind (arith, e), grind (arith, e))
 
 -- a frame is that which it is
 pub that_same : (m : Message) → is_that m (Some m) ≡ true
 that_same m = λ i. eq-eqb m.group m.group refl i && (same_address m.destination i && (bytes_eq-Decides m.bytes m.bytes).1 refl i)
   where
     same_address : (o : Option ℕ) → is_same o o ≡ true
-    same_address None = refl
-    same_address (Some n) = eq-eqb n n refl
+    same_address o = grind arith
 
 -- the first reply is none of the open transfer
 pub reply_is : (w : Who) (H : List Call) (f : FrameRecord) (m : Message) → slice_get (reception w H).replies 0 ≡ Some m → message_of f ≡ m
@@ -417,8 +361,7 @@ reply_no_move w H f m e i = ap (λ (b : Bool). is_transfer f && not b) (reply_is
 -- one of the open transfer that goes apart from it is not-true reply
 pub apart_is : (w : Who) (H : List Call) (now : ℕ) (f : FrameRecord) (m : Message) → next_transfer w H now ≡ Some m → message_of f ≡ m
     → (ready w H now).transfer ≡ true → is_that (message_of f) (slice_get (reception w H).replies 0) ≡ false
-apart_is w H now f m g e t = ap (λ x. is_that x (slice_get (reception w H).replies 0)) e
-    ∙ not-true _ (sym (ap (λ o. is_apart o (slice_get (reception w H).replies 0)) g) ∙ t)
+apart_is w H now f m e g i = grind (arith, e, g, i)
 
 pub is_moved : (w : Who) (H : List Call) (f : FrameRecord) → is_transfer f ≡ true → is_that (message_of f) (slice_get (reception w H).replies 0) ≡ false → is_move w H f ≡ true
 is_moved w H f e g = λ i. e i && not (g i)
@@ -449,8 +392,7 @@ transfer_taken w H now f m right e g =
 
 pub packet_taken : (f : FrameRecord) (now : ℕ) (m : Message) (o : Option (ℕ × MessageRecord)) (i left : ℕ) → stamped f ≡ (now, m) → packet_by o i left ≡ Some m
     → (is_claim f ≡ false) × (is_acknowledgment f ≡ false) × (is_packet f ≡ true)
-packet_taken f now m o i left e g =
-    let x = packet_case o i left m g in packet_frame f now x.message i (e ∙ ap (λ (y : Message). (let z : ℕ × Message = (now, y) in z)) x.frame)
+packet_taken f now m o i left e g = (grind (arith, e, g), grind (arith, e, g), grind (arith, e, g))
 
 -- ---- all that is accepted is the controller's own, or was withdrawn
 
@@ -603,36 +545,18 @@ claim_taken f now w a e = let z = ap (λ (x : ℕ × Message). x.1.group) e in e
 -- a message's is none of these, nor of a session
 pub own_taken : (w : Who) (f : FrameRecord) (now : ℕ) (x : ℕ × Message) → stamped f ≡ (now, x.1) → IsOwn w x.1
     → (is_claim f ≡ false) × (is_acknowledgment f ≡ false) × (is_session f ≡ false)
-own_taken w f now x e own =
-    let z = ap (λ (y : ℕ × Message). y.1.group) e in (
-      ap (λ (g : ℕ). nat_eq g address_claimed_group) z ∙ own.group,
-      ap (λ (g : ℕ). nat_eq g acknowledgment_group) z ∙ own.plain,
-      ap (λ (g : ℕ). nat_eq g transport_control_group || nat_eq g transport_data_group) z ∙ own.single,
-    )
+own_taken w f now x e g = (grind (arith, e), grind (arith, e), grind (arith, e))
 
 pub claim_single : (f : FrameRecord) → is_claim f ≡ true → is_session f ≡ false
 claim_single f e = ap (λ (g : ℕ). nat_eq g transport_control_group || nat_eq g transport_data_group) (eqb-true (pgn_of f.id) address_claimed_group e)
 
-pub acknowledgment_single : (f : FrameRecord) → is_acknowledgment f ≡ true → is_session f ≡ false
-acknowledgment_single f e = ap (λ (g : ℕ). nat_eq g transport_control_group || nat_eq g transport_data_group) (eqb-true (pgn_of f.id) acknowledgment_group e)
-
 -- one of a session is neither
 pub plain_session : (f : FrameRecord) → is_session f ≡ true → (is_claim f || is_acknowledgment f) ≡ false
-plain_session f s = go (is_claim f) (is_acknowledgment f) refl refl
-  where
-    go : (a b : Bool) → is_claim f ≡ a → is_acknowledgment f ≡ b → (a || b) ≡ false
-    go true b p q = absurd (let z : true ≡ false = sym s ∙ claim_single f p in cc)
-    go false true p q = absurd (let z : true ≡ false = sym s ∙ acknowledgment_single f q in cc)
-    go false false p q = refl
+plain_session f e = grind (arith, e)
 
 pub due_taken : (w : Who) (f : FrameRecord) (now : ℕ) (m : Message) → stamped f ≡ (now, m) → IsDue w m
     → (is_claim f ≡ false) × (is_acknowledgment f ≡ true) × (is_session f ≡ false)
-due_taken w f now m e is =
-    let z : pgn_of f.id ≡ acknowledgment_group = ap (λ (y : ℕ × Message). y.1.group) e ∙ is.group in (
-      ap (λ (g : ℕ). nat_eq g address_claimed_group) z,
-      eq-eqb _ _ z,
-      ap (λ (g : ℕ). nat_eq g transport_control_group || nat_eq g transport_data_group) z,
-    )
+due_taken w f now m e g = (grind (arith, e), grind (arith, e), grind (arith, e))
 
 pub sent_is : (H : List Call) (now : ℕ) (f : FrameRecord) (a b p : Bool) → is_claim f ≡ a → is_acknowledgment f ≡ b → is_session f ≡ p
     → sent (At now (TakeFrame (Some f)) ∷ H) ≡ (if a || (b || p) then sent H else sent H ++ message_of f ∷ [])
@@ -900,12 +824,7 @@ grows_on w H (Withdraw k true) n x right r e = set_other (accepted w H) k n (k, 
     case = withdraw_case w H k right
 
     apart : n ≡ k → ⊥
-    apart z =
-        let i : slice_get (accepted w H) k ≡ Some x = subst (λ (m : ℕ). slice_get (accepted w H) m ≡ Some x) z e in
-        let j = case.is in
-        let y : case.entry ≡ x = cc in
-        let p = case.plain in
-        absurd (let q : false ≡ true = sym p ∙ (ap (λ (u : ℕ × Message). nat_eq u.1.group request_group) y ∙ r) in cc)
+    apart z = grind (arith, z)
 grows_on w H (Renew draft (Some k)) n x right r e = set_other (accepted w H) k n (k, message_from w draft) (λ z. apart (renew_case w H draft k right).at z) ∙ e
   where
     apart : IsLatest (message_from w draft) (max (reached H) (length (told H))) 0 k (accepted w H) → n ≡ k → ⊥
@@ -913,8 +832,7 @@ grows_on w H (Renew draft (Some k)) n x right r e = set_other (accepted w H) k n
         (ap (λ (y : ℕ × Message). nat_eq y.1.group request_group) (let s : at.entry ≡ x = same at z in s) ∙ r)
       where
         same : (at : IsLatest (message_from w draft) (max (reached H) (length (told H))) 0 k (accepted w H)) → n ≡ k → at.entry ≡ x
-        same at z = let a = at.is in let i : slice_get (accepted w H) k ≡ Some x = subst (λ (m : ℕ). slice_get (accepted w H) m ≡ Some x) z e in
-            let j : slice_get (accepted w H) k ≡ Some at.entry = ap (slice_get (accepted w H)) (let y : k ≡ k - 0 = omega arith in y) ∙ a in cc
+        same at z = grind (arith, z)
 grows_on w H call n x right r e = e
 
 -- so does the open one's

@@ -1,5 +1,5 @@
 -- That every transfer ends, to a driver that takes one frame at least in each g.
-use Rattle.j39_node.proofs.Common.{AreAnswered, At, Bool, Call, Controller, FrameRecord, Is, IsSteady, List, Message, None, NoneTold, Ok, Option, Reply, Some, TakeFrame, Transfer, TransferEnding, Who, and_parts, ap, arith, broadcast_from, counts_for, destination_of, due, eq-eqb, eqb-true, false, if◌then◌else◌, is_acknowledgment, is_apart, is_claim, is_move, is_reply, is_same, is_some, is_that, is_there, is_transfer, later, moment, nat_eq, next_other, next_transfer, next_transfer_ended, not-false, not_both, others, packets_of, passed_in, ready, reception, refl, since_take, slice_get, step, subst, suc, sym, taken_for, tells_transfer, timer_t3, true, turns, yields, ℕ, ◌&&◌, ◌*◌, ◌++◌, ◌+◌, ◌<◌, ◌||◌, ◌∙◌, ◌∷◌, ◌≡◌, ◌≤◌, cond_both}
+use Rattle.j39_node.proofs.Common.{AreAnswered, At, Bool, Call, Controller, FrameRecord, Is, IsSteady, List, Message, None, NoneTold, Ok, Option, Reply, Some, TakeFrame, Transfer, TransferEnding, Who, ap, arith, broadcast_from, counts_for, destination_of, due, false, if◌then◌else◌, is_acknowledgment, is_apart, is_claim, is_move, is_reply, is_same, is_some, is_there, is_transfer, later, moment, next_other, next_transfer, next_transfer_ended, not_both, others, packets_of, passed_in, ready, reception, refl, since_take, slice_get, step, subst, suc, sym, taken_for, tells_transfer, timer_t3, true, turns, yields, ℕ, ◌&&◌, ◌*◌, ◌++◌, ◌+◌, ◌<◌, ◌||◌, ◌∙◌, ◌∷◌, ◌≡◌, ◌≤◌}
 use Rattle.j39_node.proofs.KindLemmas.{kind_by, moves_it, of_session_it, packs_it, replies_it, steers_it}
 use Rattle.j39_node.proofs.EndLaws.{DueTo, Pace, begins, counts_is, ends_then}
 use Rattle.j39_node.proofs.EndSteps.{times_more}
@@ -58,15 +58,10 @@ kind_of w to H now f right (replies m o h n g e) away = go (is_some (destination
         there = ap (λ (y : ℕ × Message). y.1.destination) e
 
         same_to : (p q : Option ℕ) → is_same p q ≡ true → p ≡ Some to → is_some q to ≡ true
-        same_to (Some u) (Some v) i j = let k = eqb-true u v i in let l : u ≡ to = cc in eq-eqb v to (sym k ∙ l)
-        same_to p q i j = absurd (cc)
+        same_to p q e f = grind (arith, e, f)
 
         apart : is_apart (next_transfer w H now) (slice_get (reception w H).replies 0) ≡ false → ⊥
-        apart z = not_both _ x (ap (λ (y : Option ℕ). is_some y to) there
-            ∙ same_to d.1.0.destination m.destination (and_parts (is_same d.1.0.destination m.destination) _ (and_parts (nat_eq d.1.0.group m.group) _ that).1).0 d.1.2)
-          where
-            that : is_that d.1.0 (Some m) ≡ true
-            that = not-false _ (sym (λ i. is_apart (d.1.1 i) (g i)) ∙ z)
+        apart z = grind (arith, z)
 
         by : (y : Bool) → (y && ((ready w H now).message || ((ready w H now).packet || (ready w H now).transfer))) ≡ false → y ≡ false
         by false z = refl
@@ -173,8 +168,7 @@ module _ (w : Who) (B : List Call) (g most to : ℕ) where
   less call later = let a = more call later in let b = times_more (taken_for to later + 1) (taken_for to (call ∷ later) + 1) (6 * g) (omega (arith, a)) in omega (arith, b)
     where
       more : (call : Call) (later : List Call) → taken_for to later ≤ taken_for to (call ∷ later)
-      more (At now (TakeFrame (Some f))) later = cond_both (counts_for to f) _ _ (λ n. taken_for to later ≤ n) (λ z. omega arith) (λ z. omega arith)
-      more call later = omega arith
+      more call later = grind arith
 
   steady : Pace w B g most to since_take Paid (λ later. limit g most (taken_for to later))
   steady = record {

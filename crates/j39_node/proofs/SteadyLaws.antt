@@ -1,13 +1,12 @@
 -- A driver that takes one frame at least in each g: how long a frame of a broadcast and a message wait, whoever asks.
-use Rattle.j39_node.proofs.Common.{AreAnswered, At, Bool, Broadcast, Call, Controller, Ending, FrameRecord, Is, IsAnswered, IsPrompt, IsSteady, IsTrue, List, Message, MessageRecord, Move, None, NoneTold, Ok, Option, Ready, Reply, Single, Some, StaysFirst, TakeFrame, Who, [], accepted, add-mul, address_after, and_from, and_parts, ap, arith, broadcast_from, claims_anew, eq-eqb, false, gives_way, has_packets, holds, if◌then◌else◌, inl, inr, is_acknowledgment, is_claim, is_held, is_left, is_lost, is_overdue, is_packet, is_reply, is_there, is_turn, kept, later, leb-false, leb-true, length, lt-ltb, marks, moment, nat_eq, nat_le, next_broadcast_ended, next_ended, next_other, not, not-true, not_both, open_broadcast, or_parts, other, others, packets, packets_of, packets_taken, passed_in, pause, quiet, reached, ready, reception, refl, since_take, slice_get, step, subst, suc, suc-mul, sym, takes_reply, tells_broadcast, told, true, turn_of, turns, waited_in, yields, zero, ℕ, ◌&&◌, ◌*◌, ◌++◌, ◌+◌, ◌-◌, ◌<◌, ◌||◌, ◌∙◌, ◌∷◌, ◌≡◌, ◌≤◌, ◌⊎◌, mul-add, cases_lt}
-use Rattle.j39_node.specs.declared.turn.Turn.TheVariants.{Packet}
+use Rattle.j39_node.proofs.Common.{AreAnswered, At, Bool, Broadcast, Call, Controller, Ending, FrameRecord, Is, IsAnswered, IsPrompt, IsSteady, IsTrue, List, Message, MessageRecord, Move, None, NoneTold, Ok, Option, Reply, Single, Some, StaysFirst, TakeFrame, Who, [], accepted, add-mul, address_after, and_from, and_parts, ap, arith, broadcast_from, claims_anew, eq-eqb, false, gives_way, has_packets, holds, if◌then◌else◌, inl, inr, is_acknowledgment, is_claim, is_held, is_left, is_lost, is_overdue, is_packet, is_reply, is_there, kept, later, leb-false, length, lt-ltb, marks, moment, nat_eq, nat_le, next_broadcast_ended, next_ended, next_other, not, not-true, not_both, open_broadcast, or_parts, other, others, packets, packets_of, packets_taken, passed_in, pause, quiet, reached, ready, reception, refl, since_take, slice_get, step, subst, suc, suc-mul, sym, takes_reply, tells_broadcast, told, true, turns, waited_in, yields, zero, ℕ, ◌*◌, ◌++◌, ◌+◌, ◌-◌, ◌<◌, ◌||◌, ◌∙◌, ◌∷◌, ◌≡◌, ◌≤◌, ◌⊎◌, mul-add, cases_lt}
 use Rattle.j39_node.proofs.EndSteps.{times_more}
 use Rattle.j39_node.proofs.WithdrawLemmas.{past_more}
 use Rattle.j39_node.proofs.LaneLaws.{overdue_goes_by, held_then, packed_by}
 use Rattle.j39_node.proofs.MessageLaws.{accepts_more, told_next, more_sent}
 use Rattle.j39_node.proofs.PromptLaws.{answered_from, begins_timely, due_by, ended_or_lost, ends_so, Fate, IsOver, later_on, not_yet, timely_then, Pace, pause_most, Runs, Stands, stands, takes, Timely}
 use Rattle.j39_node.proofs.PromptLaws.Fate.{over, gone, runs}
-use Rattle.j39_node.proofs.SoundLemmas.{FrameCase, IsTurn, frame_case, frame_there, held_older, none_next, none_other, packets_is, some_at, turned, reached_is, none_at, past_end}
+use Rattle.j39_node.proofs.SoundLemmas.{FrameCase, IsTurn, frame_case, held_older, none_next, none_other, packets_is, some_at, turned, reached_is, none_at, past_end}
 use Rattle.j39_node.proofs.SoundLemmas.FrameCase.{claims, acknowledges, replies, sends, packs, transfers}
 use Rattle.j39_node.proofs.AnswerCases.{broadcast_accepts}
 use Rattle.j39_node.proofs.KindLemmas.{replies_it, packs_it, Kind, kind_by, kind_is, claims_it, acknowledges_it, steers_it, of_session_it}
@@ -17,11 +16,7 @@ use Rattle.j39_node.proofs.KindLemmas.{replies_it, packs_it, Kind, kind_by, kind
 -- a claim or an acknowledgment goes behind fewer than two in a row, where another is due
 pub few_turns : (w : Who) (H : List Call) (now : ℕ) (f : FrameRecord) → FrameCase w H now f → is_there (next_other w H now) ≡ true
     → (gives_way w H now ≡ false) ⊎ ((is_claim f || is_acknowledgment f) ≡ false) → (is_claim f || is_acknowledgment f) ≡ true → turns H < 2
-few_turns w H now f case there (inl g) e = less (turns H) (sym (ap (λ (b : Bool). nat_le 2 (turns H) && b) there) ∙ g)
-  where
-    less : (n : ℕ) → (nat_le 2 n && true) ≡ false → n < 2
-    less n z = grind (arith, z)
-few_turns w H now f case there (inr g) e = absurd (not_both _ g e)
+few_turns w H now f e g i j = grind (arith, g, i, j)
 
 -- a claim or an acknowledgment is taken where it doesn't give way
 pub steers : (w : Who) (H : List Call) (now : ℕ) (f : FrameRecord) → AreAnswered w H → FrameCase w H now f
@@ -37,12 +32,10 @@ turn_time g (suc zero) = g
 turn_time g (suc (suc t)) = g + g
 
 pub turn_most : (g t : ℕ) → turn_time g t ≤ g + g
-turn_most g (suc (suc t)) = omega arith
-turn_most g t = omega arith
+turn_most g t = grind arith
 
 pub turn_more : (g t : ℕ) → t < 2 → turn_time g (suc t) ≡ turn_time g t + g
-turn_more g (suc (suc t)) l = absurd (omega (arith, l))
-turn_more g t l = omega arith
+turn_more g t e = grind (arith, e)
 
 pub turns_then : (H : List Call) (now : ℕ) (f : FrameRecord) (b : Bool) → (is_claim f || is_acknowledgment f) ≡ b
     → turns (At now (TakeFrame (Some f)) ∷ H) ≡ (if b then suc (turns H) else 0)
@@ -53,19 +46,10 @@ held_holds w H now e = held_older (step H now) (address_after w H) e
 
 -- an overdue frame is due, and a message that waits
 overdue_there : (w : Who) (H : List Call) (now : ℕ) → holds w H now ≡ true → is_overdue w H now ≡ true → is_there (next_other w H now) ≡ true
-overdue_there w H now h o =
-    ap (λ (b : Bool). is_there (if b then other w H now else None)) h ∙ (sym (frame_there w H now) ∙ first (ready w H now) o)
-  where
-    first : (r : Ready) → r.overdue ≡ true → is_turn (turn_of (yields w H) r) ≡ true
-    first r e = ap (λ (b : Bool). is_turn (if b then Some Packet else if r.reply && not (yields w H && (r.message || (r.packet || r.transfer))) then Some Reply
-        else if r.message then Some Single else if r.packet then Some Packet else if r.transfer then Some Move else None)) e
+overdue_there w H now e f = grind (arith, e, f)
 
 pub there_by : (w : Who) (H : List Call) (now : ℕ) → holds w H now ≡ true → (other w H now ≡ None → ⊥) → is_there (next_other w H now) ≡ true
-there_by w H now h some = ap (λ (b : Bool). is_there (if b then other w H now else None)) h ∙ go (other w H now) refl
-  where
-    go : (o : Option Message) → other w H now ≡ o → is_there o ≡ true
-    go (Some m) e = refl
-    go None e = absurd (some e)
+there_by w H now e f = grind (arith, e, f)
 
 message_there : (w : Who) (H : List Call) (now : ℕ) → holds w H now ≡ true → reached H < length (accepted w H) → is_there (next_other w H now) ≡ true
 message_there w H now h l = there_by w H now h (λ e. some_at (accepted w H) (reached H) (lt-ltb _ _ l) (none_other w H now e).0.message)
@@ -86,8 +70,7 @@ module _ (w : Who) (B : List Call) (g k c0 : ℕ) (m : MessageRecord) where
   IsDone = IsOver w B since_take slack g 150000 (3 * g) 0 k c0 m
 
   idle : (call : Call) (later : List Call) → takes call ≡ false → slack (call ∷ later) ≡ slack later + step (later ++ B) (moment (call ∷ later ++ B))
-  idle (At now (TakeFrame answer)) later e = absurd (let z : true ≡ false = e in cc)
-  idle call later e = omega arith
+  idle call later e = grind (arith, e)
 
   -- a frame of none is taken
   beside : (now : ℕ) (f : FrameRecord) (later : List Call) → AreAnswered w (later ++ B) → IsAnswered w (later ++ B) (At now (TakeFrame (Some f)))
@@ -151,15 +134,7 @@ module _ (w : Who) (B : List Call) (g k c0 : ℕ) (m : MessageRecord) where
   soon_enough : (call : Call) (later : List Call) → Casts later → packets_taken later ≡ 0 → is_left (Some (k, m)) c0 ≡ true → is_lost (address_after w (later ++ B)) ≡ false
       → since_take later B + step (later ++ B) (moment (call ∷ later ++ B)) ≤ g → passed_in (call ∷ later) B ≤ 150000 + 3 * g
   unfolding due_by
-  soon_enough call later h none some kept p = go h.course
-    where
-      go : Fate (address_after w (later ++ B)) (IsDone later) (Goes later) → passed_in (call ∷ later) B ≤ 150000 + 3 * g
-      go (over l) = absurd (let a = h.count in let b = leb-true c0 (packets_of m) some in omega (arith, a, b, l, none))
-      go (gone e) = absurd (not_both _ kept e)
-      go (runs e t) =
-          let a = t.late in let b = turn_most g (turns (later ++ B)) in
-          let d = ap (λ (n : ℕ). n * (150000 + 3 * g)) none in
-          omega (arith, a, b, d, p)
+  soon_enough call later e f i j l = grind (arith, f, i, j, l)
 
 -- the driver came in time
 pub since_most : (g : ℕ) (later B : List Call) → IsSteady g later B → since_take later B ≤ g
@@ -196,8 +171,7 @@ ends w later earlier c g now group k bytes is none steady l =
 
 few_or : (b : Bool) (p q s n : ℕ) → 50000 * n ≤ q + (p - 100000) → (b ≡ true → p - s ≤ 100000)
     → 50000 * (if b then suc n else n) ≤ q + s + ((if b then 150000 else p - s) - 100000)
-few_or true p q s n l d = let a = d refl in omega (arith, l, a)
-few_or false p q s n l d = omega (arith, l)
+few_or b p q s n e f = grind (arith, e, f)
 
 few_so : (w : Who) (later B : List Call) → AreAnswered w (later ++ B) → 50000 * packets_taken later ≤ passed_in later B + (pause (later ++ B) - 100000)
 few_so w [] B right = omega arith
@@ -217,8 +191,7 @@ one true = 1
 one false = 0
 
 pub one_most : (y : Bool) → one y ≤ 1
-one_most true = omega arith
-one_most false = omega arith
+one_most y = grind arith
 
 -- so many were taken that are neither claims nor acknowledgments, of them so many messages and frames of broadcasts
 record Counted (g singles casts others passed t waited : ℕ) (y : Bool) : Type 0 where
@@ -295,11 +268,7 @@ module _ (w : Who) (B : List Call) (g k : ℕ) where
           counted (replies m o q i y e) x.singles (suc x.others) no_fewer (let u = x.counted.few in let v = ap one (silent (turned w H now (Some Reply) i.1)) in omega (arith, u, v)) goes
         where
           silent : IsTurn (yields w H) (ready w H now) (Some Reply) → yields w H ≡ false
-          silent t = by (yields w H) (lt-ltb _ _ l) t.2
-            where
-              by : (y : Bool) → (ready w H now).message ≡ true → (y && ((ready w H now).message || ((ready w H now).packet || (ready w H now).transfer))) ≡ false → y ≡ false
-              by false u v = refl
-              by true u v = absurd (let z : true ≡ false = (λ j. sym u j || ((ready w H now).packet || (ready w H now).transfer)) ∙ v in cc)
+          silent e = grind arith
       go (sends z o q i y e) =
           let c : FrameCase w H now f = sends z o q i y e in
           let u = reached_is H now f false false false (claims_it w H now f right c) (acknowledges_it w H now f right c) (of_session_it w H now f right c) in
@@ -481,8 +450,7 @@ reply_goes w later earlier c g m is held first steady there =
 
 since_less : (later B : List Call) → since_take later B ≤ waited_in later B
 since_less [] B = omega arith
-since_less (At now (TakeFrame answer) ∷ later) B = omega arith
-since_less (call ∷ later) B = let h = since_less later B in omega (arith, h)
+since_less (call ∷ later) B = let h = since_less later B in grind (arith, h)
 
 pub prompt_steady : (g : ℕ) (later earlier : List Call) → IsPrompt g later earlier → IsSteady g later earlier
 prompt_steady g [] B p = tt

@@ -1,40 +1,22 @@
 -- A frame of a stranger changes nothing of what is sent to others, received from others, or told to have ended.
-use Rattle.j39_node.proofs.Common.{[], if◌then◌else◌, ◌&&◌, ◌*◌, ◌++◌, ◌-◌, ◌==◌, ◌||◌, ◌∙◌, ◌∷◌, ◌≡◌, ◌≢◌, ◌⊎◌, Abort, accepted, acknowledged, Acknowledgment, Address, address_after, and_parts, ap, AreAnswered, arith, Asked, asked_group, asked_with, At, Bool, BroadcastAnnounce, Call, calls_for_claim, Claim, claim_address, claim_from, claim_of, ClearToSend, clock_at, cond_both, control_of, Controller, delayed, destination_of, Directed, drop, due, eq-eqb, eqb-true, false, FrameRecord, fresh, goes_to, granted_after, granted_by, grants, handed, has_packets, has_place, Hear, heard_by, hears_if, held_then, holder, holds, inl, inr, Is, is_another, is_apart, is_claim, is_held, is_larger, is_lost, is_refusal_due, is_replaced, is_smaller, is_some, is_spent, is_there, known, leaves, left, length, List, listens, listens_to, Lost, Message, nat_eq, nat_le, nat_lt, next_frame, next_packet, None, not, of_other, older, open_transfer, Option, option_map, owes_claim, Packet, patience, pause, pgn_of, ps_of, reached, Reaction, Ready, Received, Reception, reception, ReceptionRecord, recv_step, refl, replied, reply_from, requests, RequestToSend, Running, said_between, said_to, send_step, shown, Signal, slice_get, Some, source_of, spent_after, step, subst, sym, TakeFrame, takes_abort, takes_data, takes_request, takes_signal, time_heard, ToSend, transfer_by, transport_control_group, transport_data_group, true, turn_frame, turn_of, turns, Who, whole_by, with_refusal, without, yields, ℕ, and-false, or-false, ne_eqb}
+use Rattle.j39_node.proofs.Common.{[], if◌then◌else◌, ◌&&◌, ◌++◌, ◌-◌, ◌||◌, ◌∙◌, ◌∷◌, ◌≡◌, ◌≢◌, ◌⊎◌, accepted, acknowledged, Address, address_after, ap, AreAnswered, arith, asked_group, At, Bool, Call, calls_for_claim, Claim, claim_address, claim_from, claim_of, clock_at, cond_both, control_of, Controller, delayed, destination_of, Directed, due, eq-eqb, false, FrameRecord, goes_to, grants, has_packets, has_place, Hear, hears_if, held_then, holder, holds, inr, Is, is_another, is_apart, is_claim, is_held, is_lost, is_replaced, is_smaller, is_spent, is_there, left, length, List, listens, listens_to, Lost, Message, nat_eq, nat_le, nat_lt, next_frame, next_packet, None, not, of_other, older, open_transfer, Option, option_map, owes_claim, patience, pause, reached, Ready, Received, Reception, reception, ReceptionRecord, recv_step, refl, replied, reply_from, Running, said_between, said_to, send_step, shown, Signal, slice_get, Some, source_of, step, subst, sym, TakeFrame, takes_abort, takes_data, takes_request, takes_signal, ToSend, transfer_by, true, turn_frame, turn_of, turns, Who, whole_by, without, yields, ℕ, and-false, or-false, ne_eqb}
 use Rattle.j39_transport.specs.Signals.{said_by}
 use Rattle.j39_node.specs.Reception.{says}
 use Rattle.j39_transport.specs.Frames as frames
 use Rattle.j39_node.proofs.ReceptionLemmas.{unclaimed_known}
 use Rattle.j39_node.proofs.PortLemmas.{Ported, ported}
-use Rattle.j39_node.proofs.ReceptionLaws.{goes_there, none_delivered, not_left_by, says_it, to_others}
+use Rattle.j39_node.proofs.ReceptionLaws.{none_delivered, says_it, to_others}
 
 -- ---- a transfer
 
 -- a frame of another, or to another, says nothing to _ its sender
 not_between : (d own : ℕ) (f : FrameRecord) → (source_of f.id ≢ d) ⊎ (destination_of f.id ≢ Some own) → said_between d own f ≡ None
 unfolding said_between said_by frames.source_of frames.destination_of frames.group_of
-not_between d own f (inl n) =
-    cond_both (source_of f.id == d && ps_of f.id == own) _ _ (λ (x : Option Signal). x ≡ None)
-    (λ b. absurd (n (eqb-true (source_of f.id) d (and_parts (source_of f.id == d) (ps_of f.id == own) b).0))) (λ b. refl)
-not_between d own f (inr n) =
-    cond_both (source_of f.id == d && ps_of f.id == own) _ _ (λ (x : Option Signal). x ≡ None)
-    (λ b. let to = eqb-true (ps_of f.id) own (and_parts (source_of f.id == d) (ps_of f.id == own) b).1 in
-    cond_both (pgn_of f.id == transport_data_group && length f.bytes == 8) _ _ (λ (x : Option Signal). x ≡ None)
-    (λ c. absurd (n (goes_there f transport_data_group (omega arith) (eqb-true (pgn_of f.id) transport_data_group (and_parts (pgn_of f.id == transport_data_group) (length f.bytes == 8) c).0) ∙ ap Some to)))
-    (λ c. cond_both (pgn_of f.id == transport_control_group && length f.bytes == 8) _ _ (λ (x : Option Signal). x ≡ None)
-    (λ e. absurd (n (goes_there f transport_control_group (omega arith) (eqb-true (pgn_of f.id) transport_control_group (and_parts (pgn_of f.id == transport_control_group) (length f.bytes == 8) e).0) ∙ ap Some to)))
-    (λ e. refl)))
-    (λ b. refl)
+not_between d own f e = grind (arith, e)
 
 listens_same : (f : FrameRecord) (now : ℕ) (t : Running) → said_between t.sender.destination t.sender.message.source f ≡ None → listens f now t ≡ t
 unfolding send_step listens_to
-listens_same f now t e =
-    λ i. (let x : Running = record {
-      token = t.token;
-      sender = listens_to (e i) now t.sender;
-      granted = granted_after (granted_by t.sender (e i)) t.granted;
-      spent = spent_after (granted_by t.sender (e i)) t.granted t.spent;
-      gone = t.gone;
-    } in x)
+listens_same f now t e = grind (arith, e)
 
 open_same : (w : Who) (lost : Bool) (replaced : ℕ → Bool) (f : FrameRecord) (now : ℕ) (t : Running) → t.sender.message.source ≡ w.address
     → (source_of f.id ≢ t.sender.destination) ⊎ (destination_of f.id ≢ Some w.address) → replaced t.sender.destination ≡ false
@@ -69,8 +51,7 @@ transfer_stays w H c when f t is e other kept = transfer_left w H when f t is.an
 -- ---- the next frame
 
 same_held : (o : Option ℕ) → is_replaced o o ≡ false
-same_held None = refl
-same_held (Some n) = ap not (eq-eqb n n refl)
+same_held o = grind arith
 
 -- what is no claim leaves who holds an address
 unclaimed : (w : Who) (H : List Call) (when : ℕ) (f : FrameRecord) (a : ℕ) → claim_of f ≡ None → holder w (At when (Hear f) ∷ H) a ≡ holder w H a
@@ -81,15 +62,10 @@ pub open_stays : (w : Who) (H : List Call) (when : ℕ) (f : FrameRecord) → Ar
 open_stays w H when f right e n = go (open_transfer w H) refl
   where
     go : (o : Option Running) → open_transfer w H ≡ o → open_transfer w (At when (Hear f) ∷ H) ≡ o
-    go None i =
-        ap (hears_if (is_lost (address_after w (At when (Hear f) ∷ H))) (λ a. is_replaced (holder w H a) (holder w (At when (Hear f) ∷ H) a)) f (clock_at H when)) i
+    go None i = grind (arith, i)
     go (Some t) i =
         transfer_left w H when f t right i (inr n)
         (ap (is_replaced (holder w H t.sender.destination)) (unclaimed w H when f t.sender.destination e) ∙ same_held (holder w H t.sender.destination))
-
-none_asked : (w : Who) (held : Bool) (f : FrameRecord) (d : Option ℕ) → asked_with w held f d None ≡ None
-none_asked w held f None = refl
-none_asked w held f (Some to) = refl
 
 pub frame_stays : (w : Who) (H : List Call) (c : Controller) (when : ℕ) (f : FrameRecord) (now : ℕ) → Is w H c → claim_of f ≡ None → asked_group f ≡ None
     → destination_of f.id ≢ Some w.address → source_of f.id ≢ w.address → next_frame w (At when (Hear f) ∷ H) now ≡ next_frame w (At when (TakeFrame None) ∷ H) now
@@ -119,15 +95,13 @@ frame_stays w H c when f now is e g n m =
     not_here held = ap (λ (b : Bool). held && (b && not (is_claim f))) (ne_eqb (source_of f.id) w.address m) ∙ and-false held
 
     calls : calls_for_claim w (is_lost (address_after w H)) f ≡ false
-    calls = λ i. ((is_smaller w (e i) || is_larger w (e i)) && not (is_lost (address_after w H)))
-        || (is_some (g i) 60928 && (is_some (destination_of f.id) 255 || (is_some (destination_of f.id) w.address && not (is_lost (address_after w H)))))
+    calls = grind arith
 
     owes : owes_claim w (At when (Hear f) ∷ H) ≡ owes_claim w H
     owes = (λ i. owes_claim w H || (calls i || (not_here (holds w H when) i && nat_eq (patience w H - step H when) 0))) ∙ or-false (owes_claim w H)
 
     delays : delayed w (At when (Hear f) ∷ H) ≡ delayed w H - step H when
-    delays = λ i. if (calls i || (not_here (holds w H when) i && nat_eq (patience w H - step H when) 0)) && not (is_lost (address_after w H) && owes_claim w H) then w.delay * 600
-        else delayed w H - step H when
+    delays = grind arith
 
     mine : is_smaller w (claim_of f) ≡ false
     mine = ap (is_smaller w) e
@@ -136,11 +110,7 @@ frame_stays w H c when f now is e g n m =
     lives = ap (λ (b : Bool). if b then Lost else older (step H when) (address_after w H)) mine
 
     owed : due w (At when (Hear f) ∷ H) ≡ due w H
-    owed = ap (λ (o : Option Asked). with_refusal w (nat_lt (length (requests w H) - length (handed H)) 16)
-        (nat_lt (length (due w H) - length (acknowledged H)) 16
-        && not (is_refusal_due w (drop (length (acknowledged H)) (due w H)) (fresh w (drop (length (handed H)) (requests w H)) o)))
-        (fresh w (drop (length (handed H)) (requests w H)) o) (due w H))
-        (ap (asked_with w (holds w H when) f (destination_of f.id)) g ∙ none_asked w (holds w H when) f (destination_of f.id))
+    owed = grind arith
 
     said : (reception w (At when (Hear f) ∷ H)).replies ≡ (reception w H).replies
     said = ap (λ (r : Reception). r.replies) (to_others w H when f mine (λ r z. unclaimed_known w H when f r.message.source e) n)
@@ -154,16 +124,7 @@ frame_stays w H c when f now is e g n m =
 other_quiet : (source own : ℕ) (s : Option Signal) (now : ℕ) (found : Bool) (x : ReceptionRecord) → (source ≡ x.message.source → ⊥)
     → (takes_signal (Directed source own) s now found (Some x)).delivers ≡ None
 unfolding takes_signal takes_data takes_abort takes_request grants
-other_quiet source own None now found x n = refl
-other_quiet source own (Some (BroadcastAnnounce size count pgn)) now found x n = refl
-other_quiet source own (Some (RequestToSend size count most pgn)) now found x n =
-    cond_both (not (source == x.message.source)) _ _ (λ (y : Reaction). y.delivers ≡ None) (λ t. refl) (λ t. cond_both found _ _ (λ (y : Reaction). y.delivers ≡ None) (λ u. refl) (λ u. refl))
-other_quiet source own (Some (ClearToSend count next pgn)) now found x n = refl
-other_quiet source own (Some (Acknowledgment size count pgn)) now found x n = refl
-other_quiet source own (Some (Abort reason pgn)) now found x n =
-    cond_both (source == x.message.source && pgn == x.message.group) _ _ (λ (y : Reaction). y.delivers ≡ None) (λ t. refl) (λ t. refl)
-other_quiet source own (Some (Packet k part)) now found x n =
-    cond_both (source == x.message.source) _ _ (λ (y : Reaction). y.delivers ≡ None) (λ t. absurd (n (eqb-true _ _ t))) (λ t. refl)
+other_quiet source own s now found x e = grind (arith, e)
 
 none_whole : (own : ℕ) (f : FrameRecord) (now : ℕ) (found : Bool) (o : Option ReceptionRecord)
     → ((x : ReceptionRecord) → o ≡ Some x → source_of f.id ≢ x.message.source)
@@ -194,12 +155,7 @@ without_one a (x ∷ xs) m e = ap (λ ys. if goes_to a x then ys else x ∷ ys) 
 
 without_twice : (a : ℕ) (xs : List Message) → without a (without a xs) ≡ without a xs
 without_twice a [] = refl
-without_twice a (x ∷ xs) = go (goes_to a x) refl (without_twice a xs)
-  where
-    go : (b : Bool) → goes_to a x ≡ b → without a (without a xs) ≡ without a xs
-        → without a (if b then without a xs else x ∷ without a xs) ≡ (if b then without a xs else x ∷ without a xs)
-    go true e h = h
-    go false e h = ap (λ (b : Bool). if b then without a (without a xs) else x ∷ without a (without a xs)) e ∙ ap (λ ys. x ∷ ys) h
+without_twice a (x ∷ xs) = let h = without_twice a xs in grind (arith, h)
 
 to_others_stay : (own a : ℕ) (s : Option ToSend) (xs : List Message) → without a (replied own a s xs) ≡ without a xs
 to_others_stay own a None xs = refl
@@ -212,9 +168,4 @@ replies_stay w H when f e = go (holds w H when) refl
   where
     go : (b : Bool) → holds w H when ≡ b → without (source_of f.id) (reception w (At when (Hear f) ∷ H)).replies ≡ without (source_of f.id) (reception w H).replies
     go true h = ap (without (source_of f.id)) (says_it w H when f h e) ∙ to_others_stay w.address (source_of f.id) (says w H when f) (reception w H).replies
-    go false h = ap (without (source_of f.id)) (idle (is_smaller w (claim_of f)) (holds w H when) (leaves (known w H when f) (holder w (At when (Hear f) ∷ H)) (reception w H).session) (ap (is_smaller w) e) h (not_left_by w H when f e))
-      where
-        idle : (a b c : Bool) → a ≡ false → b ≡ false → c ≡ false
-            → (heard_by w.address a b f (time_heard (At when (Hear f) ∷ H)) (left c (reception w H))).replies ≡ (reception w H).replies
-        idle false false false x y z = refl
-        idle a b c x y z = absurd (cc)
+    go false h = grind (arith, h)

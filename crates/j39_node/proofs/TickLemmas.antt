@@ -1,5 +1,5 @@
 -- When a tick does something.
-use Rattle.j39_node.proofs.Common.{[], if◌then◌else◌, ◌&&◌, ◌+◌, ◌-◌, ◌<◌, ◌==◌, ◌||◌, ◌∙◌, ◌∷◌, ◌≡◌, ◌≤◌, ◌⊎◌, address_after, ap, arith, ask_end, AskEnding, asks_again, At, Bool, Call, comes, cond_both, Controller, ended, false, granted_at, grants, Hear, heard_at, hearing_tick, in_session, inl, inr, Is, is_coming, is_from, is_late, is_lost, is_over, limit_of, List, ltb-false, min, moment, nat_eq, nat_lt, next_ask_ended, next_tick, None, not, open_ask, OpenBroadcast, Option, option_map, out_at, Question, reached, Reaction, receiver_at, ReceiverRecord, Reception, reception, ReceptionRecord, recv_step, RecvResult, refl, request_tick, seeks, session_tick, Some, sooner, sym, TakeAskEnded, takes_tick, Tick, ticked_at, Ticks, time_heard, TimedOut, true, wait, Who, ℕ, and-false, or_parts, comes_by, comes_in, get_or, holder, Listening, listening, stay, subst}
+use Rattle.j39_node.proofs.Common.{[], if◌then◌else◌, ◌&&◌, ◌+◌, ◌-◌, ◌<◌, ◌==◌, ◌||◌, ◌∙◌, ◌∷◌, ◌≡◌, ◌≤◌, ◌⊎◌, address_after, ap, arith, ask_end, AskEnding, asks_again, At, Bool, Call, comes, cond_both, Controller, ended, false, granted_at, grants, heard_at, hearing_tick, in_session, inl, inr, Is, is_coming, is_from, is_late, is_lost, is_over, limit_of, List, ltb-false, moment, nat_eq, nat_lt, next_ask_ended, next_tick, None, not, open_ask, OpenBroadcast, Option, option_map, out_at, Question, reached, Reaction, receiver_at, ReceiverRecord, Reception, reception, ReceptionRecord, recv_step, RecvResult, refl, request_tick, seeks, session_tick, Some, sooner, sym, TakeAskEnded, takes_tick, Tick, ticked_at, Ticks, time_heard, TimedOut, true, wait, Who, ℕ, and-false, or_parts, comes_in, get_or, holder, Listening, listening, stay, subst}
 use Rattle.std.specs.List.{All, filter}
 use Rattle.std.proofs.lemmas.List.Elements.{All-head, All-tail, filter_passes}
 use Rattle.j39_node.proofs.FrameLemmas.{lt_false}
@@ -14,21 +14,13 @@ use Rattle.j39_node.proofs.LawLemmas.{before_stamp}
 -- a moment before the sooner of two is before each
 before_each : (now : ℕ) (one other : Option ℕ) → ((t : ℕ) → sooner one other ≡ Some t → now < t)
     → ((t : ℕ) → one ≡ Some t → now < t) × ((t : ℕ) → other ≡ Some t → now < t)
-before_each now None other q = (λ t e. absurd (cc), q)
-before_each now (Some m) None q = (q, λ t e. absurd (cc))
-before_each now (Some m) (Some n) q =
-    let l : now < min m n = q (min m n) refl in (
-      λ t e. let z : m ≡ t = cc in omega (arith, l, z),
-      λ t e. let z : n ≡ t = cc in omega (arith, l, z),
-    )
+before_each now one other e = (grind (arith, e), grind (arith, e))
 
 -- ---- by a tick no answer begins
 
 time_fits : (H : List Call) → time_heard H ≤ 9999999999999999
 time_fits [] = omega arith
-time_fits (At now (Hear f) ∷ H) = omega arith
-time_fits (At now Tick ∷ H) = omega arith
-time_fits (call ∷ H) = time_fits H
+time_fits (call ∷ H) = let h = time_fits H in grind (arith, h)
 
 -- what comes in a session goes on to come, or ends
 session_left : (r : ReceiverRecord) (now : ℕ) → (in_session (recv_step r Ticks now true).after.session ≡ in_session r.session) ⊎ (in_session (recv_step r Ticks now true).after.session ≡ None)
@@ -54,15 +46,7 @@ late_later t s x l e = lt_false _ _ (let a = ltb-false _ _ e in omega (arith, a,
 
 none_more : (t s : ℕ) (q : Question) (p : OpenBroadcast → Bool) (xs : List OpenBroadcast) → t ≤ s → comes_in t q xs ≡ false → comes_in s q (filter p xs) ≡ false
 none_more t s q p [] l e = refl
-none_more t s q p (x ∷ xs) l e = let a = or_parts (comes_by t q x) (comes_in t q xs) e in go (p x) (one (is_late s x) refl a.0) (none_more t s q p xs l a.1)
-  where
-    one : (b : Bool) → is_late s x ≡ b → comes_by t q x ≡ false → comes_by s q x ≡ false
-    one true i k = ap (λ (b : Bool). not b && seeks q (Some (x.source, x.group))) i
-    one false i k = ap (λ (b : Bool). not b && seeks q (Some (x.source, x.group))) (i ∙ sym (late_later t s x l i)) ∙ k
-
-    go : (b : Bool) → comes_by s q x ≡ false → comes_in s q (filter p xs) ≡ false → comes_in s q (if b then x ∷ filter p xs else filter p xs) ≡ false
-    go true i k = λ z. i z || k z
-    go false i k = k
+none_more t s q p (x ∷ xs) e f = let h = none_more t s q p xs in grind (arith, h, e, f)
 
 same_coming : (t s : ℕ) (q : Question) (xs : List OpenBroadcast) → t ≤ s → All (λ x. is_late s x ≡ false) xs → comes_in s q xs ≡ comes_in t q xs
 same_coming t s q [] l h = refl
@@ -78,8 +62,7 @@ none_begins (Some q) t s p a b xs l i e =
     let h = or_parts (is_from q a) (comes_in t q xs) e in (λ z. one a b i h.0 z || none_more t s q p xs l h.1 z)
   where
     one : (a b : Option (ℕ × ℕ)) → (b ≡ a) ⊎ (b ≡ None) → is_from q a ≡ false → is_from q b ≡ false
-    one a b (inl i) e = ap (is_from q) i ∙ e
-    one a b (inr i) e = ap (is_from q) i
+    one a b e f = grind (arith, e, f)
 
 none_comes : (w : Who) (H : List Call) (now : ℕ) → comes w H (time_heard H) ≡ false → comes w (At now Tick ∷ H) (time_heard (At now Tick ∷ H)) ≡ false
 none_comes w H now e =

@@ -1,5 +1,5 @@
 -- The laws of transfers.
-use Rattle.j39_node.proofs.Common.{Abort, Aborts, Acknowledges, Acknowledgment, AreAnswered, At, Bool, Call, Controller, FrameRecord, Gone, Happened, Hear, Idle, Is, IsMove, IsTrue, List, Message, MessageRecord, None, Ok, Option, Refused, Replaces, Result, Running, SendState, SenderRecord, Signal, Some, TakeFrame, TakeTransferEnded, Transfer, TransferEnding, Who, [], abort_move, aborted, acked, address_after, all_transfers, ap, arith, both, can_transfer, clears, clears_by, clock_at, cond_both, ending_by, eq-eqb, eqb-true, false, gives_up, granted_after, granted_by, hears, hears_if, holder, holds, if◌then◌else◌, inl, inr, is_clear, is_engaged, is_idle, is_lost, is_move, is_replaced, is_resting, is_running, is_spent, is_waiting, later, left, length, listens, long_by, lost, ltb-true, max, message_of, moves, nat_eq, nat_lt, new_sender, next_packet, next_transfer, not, not_both, open_transfer, option_map, or_parts, other, packets_of, refl, rested, said_between, says, send_step, sends, sends_if, signal_by, slice_get, spent_after, subst, sym, takes_clear, ticks_in, told, told_transfers, transfer_end, transport_control_group, transport_data_group, true, waiting, ℕ, ◌&&◌, ◌++◌, ◌+◌, ◌<◌, ◌||◌, ◌∙◌, ◌∷◌, ◌≡◌, ◌≤◌, ◌⊎◌, same_Some, none-some, ltb-false, or_cases}
+use Rattle.j39_node.proofs.Common.{Abort, Aborts, Acknowledges, Acknowledgment, AreAnswered, At, Bool, Call, Controller, FrameRecord, Gone, Happened, Hear, Idle, Is, IsMove, IsTrue, List, Message, MessageRecord, None, Ok, Option, Refused, Replaces, Result, Running, SendState, SenderRecord, Signal, Some, TakeFrame, TakeTransferEnded, Transfer, TransferEnding, Who, [], abort_move, aborted, acked, address_after, all_transfers, ap, arith, both, can_transfer, clears, clears_by, clock_at, cond_both, ending_by, eqb-true, false, gives_up, granted_after, granted_by, hears, hears_if, holder, holds, if◌then◌else◌, inl, inr, is_clear, is_engaged, is_idle, is_lost, is_move, is_replaced, is_resting, is_running, is_spent, is_waiting, later, left, length, listens, long_by, lost, ltb-true, message_of, moves, nat_eq, new_sender, next_packet, next_transfer, not, not_both, open_transfer, option_map, or_parts, other, packets_of, refl, rested, said_between, says, send_step, sends, sends_if, signal_by, slice_get, spent_after, subst, sym, takes_clear, ticks_in, told, told_transfers, transfer_end, true, waiting, ℕ, ◌&&◌, ◌++◌, ◌+◌, ◌<◌, ◌||◌, ◌∙◌, ◌∷◌, ◌≡◌, ◌≤◌, ◌⊎◌, same_Some, none-some, ltb-false, or_cases}
 use Rattle.j39_transport.specs.Sending.{Heard, Tick}
 use Rattle.j39_node.specs.declared.kinds.TransferEnding.TheVariants.{Done, Withdrawn, Failed}
 use Rattle.j39_node.specs.Transfers.{is_over, said_to}
@@ -26,10 +26,7 @@ engaged_limit None told all r h e = inr (elim (or_cases (nat_eq (length all) 184
 
 pub free_limit : (o : Option Running) (told : ℕ) (all : List (ℕ × MessageRecord)) (r : Bool) → LastIf told all o → (is_engaged o (length all) || r) ≡ false
     → ((length all ≡ told + 1) ⊎ ((length all ≡ 18446744073709551615) ⊎ IsTrue r)) → ⊥
-free_limit None told all r h e (inl a) = absurd (omega (arith, h, a))
-free_limit None told all r h e (inr (inl a)) = not_both _ (or_parts (nat_eq (length all) 18446744073709551615) r e).0 (eq-eqb _ _ a)
-free_limit None told all r h e (inr (inr a)) = not_both _ (or_parts (nat_eq (length all) 18446744073709551615) r e).1 a
-free_limit (Some t) told all r h e l = absurd (let z : true ≡ false = e in cc)
+free_limit o told all r e f g = grind (arith, f, g)
 
 pub is_accepted : (w : Who) (H : List Call) (c : Controller) (now group to : ℕ) (bytes : List ℕ) (answer : Result ℕ Refused)
     → Is w (At now (Transfer group to bytes answer) ∷ H) c → IsTrue (holds w H now) → IsTrue (can_transfer w group to bytes)
@@ -41,9 +38,7 @@ is_accepted w H c now group to bytes answer is held can room some rested =
   where
     free : (length (all_transfers w H) ≡ length (told_transfers H) + 1)
         ⊎ ((length (all_transfers w H) ≡ 18446744073709551615) ⊎ IsTrue (is_resting w H now group to)) → ⊥
-    free (inl z) = absurd (omega (arith, z, room))
-    free (inr (inl z)) = absurd (omega (arith, z, some))
-    free (inr (inr z)) = not_both _ rested z
+    free e = grind (arith, e)
 
 pub token_is : (w : Who) (H : List Call) (c : Controller) (now group to k : ℕ) (bytes : List ℕ) → Is w (At now (Transfer group to bytes (Ok k)) ∷ H) c
     → k ≡ length (all_transfers w H)
@@ -55,13 +50,10 @@ pub sent_one : (w : Who) (H : List Call) (c : Controller) (now : ℕ) (f : Frame
 sent_one w H c now f is p = sent_case w H now f is.answered.0 (frame_case w H now f is.answered.1) p
 
 pub given_up : (t : Running) (now : ℕ) (a : Signal) → gives_up t ≡ true → signal_by t now ≡ Some a → a ≡ Abort 5 t.sender.message.pgn
-given_up t now a g = cond_both t.gone None _ (λ (o : Option Signal). o ≡ Some a → a ≡ Abort 5 t.sender.message.pgn) (λ z e. absurd (cc))
-    (λ z. cond_both (gives_up t) _ _ (λ (o : Option Signal). o ≡ Some a → a ≡ Abort 5 t.sender.message.pgn)
-    (λ y e. (let x : Abort 5 t.sender.message.pgn ≡ a = cc in sym x)) (λ y e. absurd (not_both _ y g)))
+given_up t now a e f = grind (arith, e, f)
 
 ticking : (t : Running) (now : ℕ) (a : Signal) → gives_up t ≡ false → signal_by t now ≡ Some a → (send_step t.sender Tick now).says ≡ Some a
-ticking t now a g = cond_both t.gone None _ (λ (o : Option Signal). o ≡ Some a → (send_step t.sender Tick now).says ≡ Some a) (λ z e. absurd (cc))
-    (λ z. cond_both (gives_up t) _ _ (λ (o : Option Signal). o ≡ Some a → (send_step t.sender Tick now).says ≡ Some a) (λ y e. absurd (not_both _ g y)) (λ y e. e))
+ticking t now a e f = grind (arith, e, f)
 
 moves_so : (t : Running) (now : ℕ) (xs : List Message) (a : Signal) → Moved t.sender xs → signal_by t now ≡ Some a
     → IsMove t.sender.destination t.sender.message xs (says t.sender a)
@@ -94,8 +86,7 @@ pub waits : (w : Who) (H : List Call) (c : Controller) (now : ℕ) → Is w (At 
 waits w H c now is held = no_long (next_packet w H now) (next_transfer w H now) (none_long w H now held is.answered.1)
   where
     no_long : (a b : Option Message) → long_by a b ≡ None → b ≡ None
-    no_long None b e = e
-    no_long (Some m) b e = absurd (cc)
+    no_long a b e = grind (arith, e)
 
 -- ---- how many clears to send it takes
 
@@ -124,12 +115,7 @@ granted_within s a = go _ _ (heard_case s a 0)
 budget_listens : (t : Running) (n k : ℕ) (o : Option ℕ) → Within k o → n ≤ t.granted + t.spent → t.granted ≤ k → t.spent ≤ 64 → t.spent ≤ n
     → ((if is_clear o then n + 1 else n) ≤ granted_after o t.granted + spent_after o t.granted t.spent)
     × (granted_after o t.granted ≤ k) × (spent_after o t.granted t.spent ≤ 65) × (spent_after o t.granted t.spent ≤ (if is_clear o then n + 1 else n))
-budget_listens t n k None l a b d h = (a, b, omega (arith, d), h)
-budget_listens t n k (Some last) l a b d h = go (nat_lt t.granted last) refl
-  where
-    go : (b : Bool) → nat_lt t.granted last ≡ b → (n + 1 ≤ max t.granted last + (if b then t.spent else t.spent + 1)) × (max t.granted last ≤ k) × ((if b then t.spent else t.spent + 1) ≤ 65) × ((if b then t.spent else t.spent + 1) ≤ n + 1)
-    go true e = let y = ltb-true _ _ e in (omega (arith, y, a), omega (arith, b, l), omega (arith, d), omega (arith, h))
-    go false e = (omega (arith, a), omega (arith, b, l), omega (arith, d), omega (arith, h))
+budget_listens t n k o e f g i j = (grind (arith, f, g, i, j), grind (arith, f, g, i, j), grind (arith, f, g, i, j), grind (arith, f, g, i, j))
 
 budget_hears : (lost replaced : Bool) (f : FrameRecord) (now : ℕ) (t : Running) (n : ℕ) → Budgeted t n
     → Budgeted (hears lost replaced f now t) (if takes_clear lost replaced f t then n + 1 else n)
@@ -175,10 +161,7 @@ budgeted w (call ∷ H) = budgeted w H
 
 -- it gives up only where more than 64 clears to send granted nothing higher
 not_five : (t : Running) (xs : List Message) (a : Signal) → SignalCase t.sender xs a → says t.sender a ≡ abort_move t.sender.destination t.sender.message 5 → ⊥
-not_five t xs a (requests n e) k = let y = same_Some 16 255 (ap (λ (m : Message). slice_get m.bytes 0) (sym (ap (says t.sender) e) ∙ k)) in absurd (omega (arith, y))
-not_five t xs a (packs i n l m e) k =
-    let y : transport_data_group ≡ transport_control_group = ap (λ (m : Message). m.group) (sym (ap (says t.sender) e) ∙ k) in absurd (omega (arith, y))
-not_five t xs a (times_out n e) k = let y = same_Some 3 5 (ap (λ (m : Message). slice_get m.bytes 1) (sym (ap (says t.sender) e) ∙ k)) in absurd (omega (arith, y))
+not_five t xs a e f = grind (arith, f)
 
 pub patient : (w : Who) (H : List Call) (c : Controller) (now : ℕ) (f : FrameRecord) (t : Running) → Is w (At now (TakeFrame (Some f)) ∷ H) c → IsTrue (is_move w H f)
     → open_transfer w H ≡ Some t → message_of f ≡ abort_move t.sender.destination t.sender.message 5 → (65 ≤ t.spent) × (65 ≤ clears w H)
@@ -312,14 +295,7 @@ failed_arises w r = record {
         ])
 
 pub gone_arises : (w : Who) → Arises w (λ t. t.gone ≡ true) (λ to m. Replaces w to)
-gone_arises w = record {
-  begins_not = λ token m to q. absurd (cc);
-  by_hearing = λ H when f t right e q.
-      hears_cases (λ (u : Running). u.gone ≡ true → (t.gone ≡ true) ⊎ Replaces w t.sender.destination H (At when (Hear f)))
-      (is_lost (address_after w (At when (Hear f) ∷ H))) (is_replaced (holder w H t.sender.destination) (holder w (At when (Hear f) ∷ H) t.sender.destination)) f (clock_at H when) t
-      (λ q. inl q) (λ z q. inr z) (λ z q. inl q) q;
-  by_sending = λ H now f t a right e g k q. inl q;
-}
+gone_arises w = grind arith
 
 pub of_token : (w : Who) (H : List Call) (c : Controller) (k : ℕ) (e : TransferEnding) (is : Is w (TakeTransferEnded (Some (k, e)) ∷ H) c) (x : Ended w H k e)
     → slice_get (all_transfers w H) k ≡ Some (x.running.sender.destination, x.running.sender.message)
@@ -419,14 +395,7 @@ keeps_done w = record {
 acks : (s : SenderRecord) (now : ℕ) (f : FrameRecord) → is_waiting s.state ≡ true → s.highest ≡ packets_of s.message
     → said_to s f ≡ Some (Acknowledgment (length s.message.bytes) (packets_of s.message) s.message.pgn) → (send_step s (Heard f) now).after.state ≡ sending.Done
 unfolding send_step sending.hears acked
-acks s now f e g k =
-    ap (λ (o : Option Signal). (sending.hears o now s).state) k
-    ∙ (ap (λ (b : Bool). (if b then acked (length s.message.bytes) (packets_of s.message) s else s).state) (eq-eqb s.message.pgn s.message.pgn refl)
-    ∙ ap (λ (b : Bool). (if b then record s { state = sending.Done } else s).state)
-    (four (is_waiting s.state) _ _ _ e (eq-eqb (length s.message.bytes) (length s.message.bytes) refl) (eq-eqb (packets_of s.message) (packets_of s.message) refl) (eq-eqb s.highest (packets_of s.message) g)))
-  where
-    four : (a b c d : Bool) → a ≡ true → b ≡ true → c ≡ true → d ≡ true → (a && b && c && d) ≡ true
-    four a b c d p q r t = λ i. p i && q i && r i && t i
+acks s now f e g i = grind (arith, e, g, i)
 
 pub is_done : (w : Who) (H later : List Call) (c : Controller) (when : ℕ) (f : FrameRecord) (t : Running) (answer : Option (ℕ × TransferEnding))
     → Is w (TakeTransferEnded answer ∷ later ++ At when (Hear f) ∷ H) c → NoneEnds later → open_transfer w H ≡ Some t
@@ -480,9 +449,7 @@ is_gone w H later c when f t answer is n e going own left =
     ∙ ap (λ (k : ℕ). (let o : Option (ℕ × TransferEnding) = Some (k, Gone) in o)) d.token_is)))
   where
     gone : (u : SendState) (lost : Bool) → not (is_idle u || is_running u) ≡ false → ending_by u true lost ≡ Some Gone
-    gone sending.Done lost k = absurd (cc)
-    gone (sending.Failed r) lost k = absurd (cc)
-    gone u lost k = refl
+    gone u lost e = grind (arith, e)
 
     heard : (a b : Bool) → a ≡ false → b ≡ true → Stays IsGone t.token (Some (hears a b f (clock_at H when) t))
     heard false true p q = record { running = record t { gone = true }; is = refl; token_is = refl; so = record { gone = refl; unended = (or_parts t.gone _ going).1 } }

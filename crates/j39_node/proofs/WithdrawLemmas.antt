@@ -36,10 +36,7 @@ stops_at (b ∷ bs) (suc n) k = ap suc (stops_at bs n k)
 pub past_rest : (bs : List Bool) (t n : ℕ) → past (drop t bs) n + t ≡ past bs (n + t)
 past_rest bs zero n = let y : n ≡ n + 0 = omega arith in (let z : past bs n + 0 ≡ past bs n = omega arith in z) ∙ ap (past bs) y
 past_rest [] (suc t) n = refl
-past_rest (b ∷ bs) (suc t) n =
-    let h = past_rest bs t n in
-    let z : past (b ∷ bs) (n + suc t) ≡ suc (past bs (n + t)) = ap (past (b ∷ bs)) (let y : n + suc t ≡ suc (n + t) = omega arith in y) in
-    omega (arith, h, z)
+past_rest (b ∷ bs) (suc t) n = let h = past_rest bs t n in grind (arith, h)
 
 -- one that isn't withdrawn isn't passed
 unpassed_by : (bs : List Bool) (n i : ℕ) → slice_get bs i ≡ Some false → i < past bs n → i < n
@@ -94,11 +91,7 @@ none_past xs i l e =
 
 unblanked_none : (L : List (ℕ × Message)) → unblanked (take (past (map is_blank L) 0) L) ≡ []
 unblanked_none [] = refl
-unblanked_none (x ∷ xs) = go (is_blank x) refl (unblanked_none xs)
-  where
-    go : (b : Bool) → is_blank x ≡ b → unblanked (take (past (map is_blank xs) 0) xs) ≡ [] → unblanked (take (if b then suc (past (map is_blank xs) 0) else 0) (x ∷ xs)) ≡ []
-    go true e h = ap (λ (b : Bool). if b then unblanked (take (past (map is_blank xs) 0) xs) else x ∷ unblanked (take (past (map is_blank xs) 0) xs)) e ∙ h
-    go false e h = refl
+unblanked_none (x ∷ L) = let h = unblanked_none L in grind (arith, h)
 
 pub unblanked_past : (L : List (ℕ × Message)) (n : ℕ) → unblanked (take (past (map is_blank L) n) L) ≡ unblanked (take n L)
 unblanked_past L zero = unblanked_none L
@@ -108,10 +101,5 @@ unblanked_past (x ∷ xs) (suc n) = ap (λ ys. if is_blank x then ys else x ∷ 
 pub unblanked_more : (L : List (ℕ × Message)) (n : ℕ) (x : ℕ × Message) → slice_get L n ≡ Some x → is_blank x ≡ false
     → unblanked (take (suc n) L) ≡ unblanked (take n L) ++ x ∷ []
 unblanked_more [] n x e g = absurd (cc)
-unblanked_more (y ∷ ys) zero x e g =
-    let z : y ≡ x = cc in ap (λ (u : ℕ × Message). (if is_blank u then [] else u ∷ [])) z ∙ ap (λ (b : Bool). if b then [] else x ∷ []) g
-unblanked_more (y ∷ ys) (suc n) x e g = ap (λ zs. if is_blank y then zs else y ∷ zs) (unblanked_more ys n x e g) ∙ go (is_blank y)
-  where
-    go : (b : Bool) → (if b then unblanked (take n ys) ++ x ∷ [] else y ∷ unblanked (take n ys) ++ x ∷ []) ≡ (if b then unblanked (take n ys) else y ∷ unblanked (take n ys)) ++ x ∷ []
-    go true = refl
-    go false = refl
+unblanked_more (y ∷ ys) zero x e g = grind (arith, e, g)
+unblanked_more (y ∷ ys) (suc n) x e g = let h = unblanked_more ys n x e g in grind (arith, h, e, g)

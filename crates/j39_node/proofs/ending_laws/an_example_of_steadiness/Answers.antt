@@ -4,8 +4,7 @@ use Rattle.j39_node.proofs.ending_laws.an_example_of_steadiness.Goals as goal
 -- takes that answer none, each a second after the one before
 module _ (start : ℕ) (busy B : List Call) (taken : since_take busy B ≡ 0) (at : moment (busy ++ B) ≡ start) where
   taken_so : (n : ℕ) → (since_take (idle start n ++ busy) B ≡ 0) × (moment ((idle start n ++ busy) ++ B) ≡ start + n * 1000000)
-  taken_so zero = (taken, omega (arith, at))
-  taken_so (suc n) = (refl, refl)
+  taken_so n = (grind arith, grind arith)
 
   idle_steady : (n : ℕ) → IsSteady 1000000 busy B → IsSteady 1000000 (idle start n ++ busy) B
   idle_steady zero h = h

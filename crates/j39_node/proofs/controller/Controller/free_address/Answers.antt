@@ -1,12 +1,10 @@
-use Rattle.j39_node.proofs.Common.{◌∙◌, ◌≡◌, arith, Bool, claims_of, false, Name, name_raw, None, not, Option, option_map, refl, Some, sym, told_claims, true}
+use Rattle.j39_node.proofs.Common.{◌∙◌, ◌≡◌, arith, Bool, claims_of, Name, name_raw, None, not, Option, option_map, sym, told_claims, true}
 use Rattle.std.specs.Option.{is_some}
 use Rattle.j39_node.proofs.MovingLemmas.{least_free, none_free}
 use Rattle.j39_node.proofs.controller.Controller.free_address.Goals as goal
 
 unheld : (o : Option Name) (b : Bool) → is_some o ≡ not b → b ≡ true → option_map name_raw o ≡ None
-unheld None b e f = refl
-unheld (Some n) true e f = absurd (cc)
-unheld (Some n) false e f = absurd (cc)
+unheld o b e f = grind (arith, e, f)
 
 pub returns-then-is_none-clause-found : goal.returns-then-is_none-clause-found
 returns-then-is_none-clause-found c = λ w H h.
