@@ -2,7 +2,7 @@
 use Rattle.std.specs.Prelude.{ℕ, List, [], ◌∷◌, ◌++◌, codes, decimal}
 use Rattle.j39_io.specs.Chars.{newline}
 use Rattle.j39_listen.specs.declared.counts.Counts.{Counts}
-use Rattle.j39_reports.specs.declared.fault_news.run.FaultCounts.{FaultCounts}
+use Rattle.j39_fault_reports.specs.declared.fault_news.run.FaultCounts.{FaultCounts}
 
 -- what every run counts
 abbrev pub counts_words : Counts → List ℕ

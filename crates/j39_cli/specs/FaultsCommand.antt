@@ -6,15 +6,15 @@ use Rattle.clap.specs.Words.{App, Text, new_app, with_rule}
 use Rattle.j39_listen.specs.Filter.{FilterRecord}
 use Rattle.j39_listen.specs.Output.{Making}
 use Rattle.j39_listen.specs.declared.running.RunFault.{RunFault}
-use Rattle.j39_reports.specs.Broken.{ToldFaults}
-use Rattle.j39_reports.specs.FaultAsking.{AsksForFaults}
-use Rattle.j39_reports.specs.FaultRun.{MakesFaults}
-use Rattle.j39_reports.specs.FaultsNowRun.{AsksForFaultsNow, MakesFaultsNow}
+use Rattle.j39_fault_reports.specs.Broken.{ToldFaults}
+use Rattle.j39_fault_reports.specs.FaultAsking.{AsksForFaults}
+use Rattle.j39_fault_reports.specs.FaultRun.{MakesFaults}
+use Rattle.j39_fault_reports.specs.FaultsNowRun.{AsksForFaultsNow, MakesFaultsNow}
 use Rattle.j39_groups.specs.Row.{RowRecord}
 use Rattle.j39_listen.specs.Asking.{Wanting}
 use Rattle.j39_faults.specs.declared.conversion.Conversion.{Conversion}
-use Rattle.j39_reports.specs.declared.fault_news.run.FaultCounts.{FaultCounts}
-use Rattle.j39_reports.specs.declared.fault_news.telling.Telling.TheVariants.{News, All, Changes}
+use Rattle.j39_fault_reports.specs.declared.fault_news.run.FaultCounts.{FaultCounts}
+use Rattle.j39_fault_reports.specs.declared.fault_news.telling.Telling.TheVariants.{News, All, Changes}
 use Rattle.j39_cli.specs.Asked.{asked_arguments, asked_checks, filter_in, with_asked}
 use Rattle.j39_cli.specs.declared.asked.Asked.{Asked}
 use Rattle.j39_cli.specs.Conversions.{IsConversionList, conversions_in}

@@ -3,9 +3,9 @@ use Rattle.std.specs.Prelude.{◌≡◌, ◌∷◌, [], ℕ, Bool, false, true, 
 use Rattle.clap.specs.Words.{App, Text, new_app, with_rule}
 use Rattle.j39_listen.specs.Asking.{AsksNowhere}
 use Rattle.j39_listen.specs.Headed.{begins_flushed}
-use Rattle.j39_reports.specs.Nodes.{MakesNodesOf}
+use Rattle.j39_survey.specs.Nodes.{MakesNodesOf}
 use Rattle.j39_listen.specs.Output.{Making}
-use Rattle.j39_reports.specs.SeenNodes.{MakesSeenNodes}
+use Rattle.j39_survey.specs.SeenNodes.{MakesSeenNodes}
 use Rattle.j39_cli.specs.Answer.{bus_check, value_check}
 use Rattle.j39_cli.specs.Asked.{IsSenderList, senders_in}
 use Rattle.j39_cli.specs.Form.{Form, Meaning, flag, option}

@@ -7,7 +7,7 @@ use Rattle.j39_log.specs.Bus.{IsBusName}
 use Rattle.j39_groups.specs.Row.{RowRecord}
 use Rattle.j39_listen.specs.declared.format.Format.{Format}
 use Rattle.j39_listen.specs.declared.running.RunFault.{RunFault}
-use Rattle.j39_reports.specs.SurveyRun.{Surveyed}
+use Rattle.j39_survey.specs.SurveyRun.{Surveyed}
 use Rattle.j39_cli.specs.Answer.{bus_check}
 use Rattle.j39_cli.specs.Form.{Form, Meaning, option}
 use Rattle.j39_cli.specs.LogCommand.{fault_text, forms_check, log_arguments, log_limit, with_forms, with_log, written_by}
@@ -39,7 +39,7 @@ abbrev pub IsSurveyTold : Result (Unit {0}) RunFault → ℕ → Turn → Type 0
 IsSurveyTold (Ok none) status err = (status ≡ 0) × (err.new ≡ err.old)
 IsSurveyTold (Err fault) status err = (status ≡ 1) × Tells err (error_line (fault_text fault) [])
 
--- a survey of the log ended so, as `survey` of `j39_reports` may, and its end is told
+-- a survey of the log ended so, as `survey` of `j39_survey` may, and its end is told
 pub record IsSurvey (form : Format) (bus : Option (List ℕ)) (rows : List RowRecord) (status : ℕ) (log out err : Turn) : Type 0 where
   pub known : (status ≡ 0) ⊎ (status ≡ 1)
   pub result : Result (Unit {0}) RunFault

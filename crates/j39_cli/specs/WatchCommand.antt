@@ -4,9 +4,9 @@ use Rattle.std.specs.Option.{ForSome}
 use Rattle.std.specs.Str.Parse.{digits_value}
 use Rattle.clap.specs.Words.{App, Text, new_app, with_rule}
 use Rattle.j39_log.specs.Bus.{IsBusName}
-use Rattle.j39_reports.specs.NotesSoFar.{size_of}
-use Rattle.j39_reports.specs.Watch.{AsksForWatch, MakesWatch, Size}
-use Rattle.j39_reports.specs.declared.watching.size.ScreenSize.{ScreenSize}
+use Rattle.j39_watch.specs.NotesSoFar.{size_of}
+use Rattle.j39_watch.specs.Watch.{AsksForWatch, MakesWatch, Size}
+use Rattle.j39_watch.specs.declared.size.ScreenSize.{ScreenSize}
 use Rattle.j39_cli.specs.Answer.{bus_check, value_check}
 use Rattle.j39_cli.specs.Form.{Form, Meaning, option, values}
 use Rattle.j39_cli.specs.LogCommand.{runs, with_log}

@@ -8,7 +8,7 @@ ghost use Rattle.j39_cli.specs.LogCommand.{log_limit};
 ghost use Rattle.clap.specs.Words.{first_value, found_of};
 ghost use Rattle.j39_cli.specs.CommandWords.{IsAnswered, command_found};
 ghost use Rattle.j39_cli.specs.FaultsCommand.{IsFaultsBy, asks_by, faults_app, makes_by, told_by, told_check, versions_in};
-ghost use Rattle.j39_reports.specs.Broken.{ToldFaults};
+ghost use Rattle.j39_fault_reports.specs.Broken.{ToldFaults};
 ghost use Rattle.j39_cli.specs.Rules.{IsMade, is_given};
 
 use crate::asked::{asked_value, with_asked};
@@ -26,7 +26,7 @@ use j39_faults::Conversion;
 use j39_groups::Groups;
 use j39_io::{Sink, Source};
 use j39_listen::RunFault;
-use j39_reports::{Choice, FaultCounts, Telling, faults, faults_now};
+use j39_fault_reports::{Choice, FaultCounts, Telling, faults, faults_now};
 use std::alloc::{AllocError, Global};
 
 const ABOUT: &str = "\

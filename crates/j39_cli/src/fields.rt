@@ -6,7 +6,7 @@ ghost use Rattle.j39_cli.specs.Counted.{counts_text, counts_words, fault_counts_
 use arrayvec::ArrayVec;
 use j39_io::printing::{push_bytes, push_number};
 use j39_listen::Counts;
-use j39_reports::FaultCounts;
+use j39_fault_reports::FaultCounts;
 
 /// The line of a run's counts, with its newline.
 pub(crate) fn counts_line(counts: Counts) -> ArrayVec<u8, 168>

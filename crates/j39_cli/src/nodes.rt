@@ -3,7 +3,7 @@ ghost use Rattle.std.specs.Prelude.{◌≡◌, codes};
 ghost use Rattle.j39_io.specs.Turn.{turn};
 ghost use Rattle.clap.specs.Words.{first_value, found_of};
 ghost use Rattle.j39_listen.specs.Asking.{AsksNowhere};
-ghost use Rattle.j39_reports.specs.Nodes.{MakesNodesOf};
+ghost use Rattle.j39_survey.specs.Nodes.{MakesNodesOf};
 ghost use Rattle.j39_listen.specs.Ran.{PassesOn, Ran};
 ghost use Rattle.j39_cli.specs.CommandWords.{IsAnswered, command_found};
 ghost use Rattle.j39_cli.specs.LogCommand.{log_limit};
@@ -20,7 +20,7 @@ use clap::{ArgMatches, Command};
 use j39_io::{Sink, Source};
 use j39_listen::{Counts, Format, RunFault};
 use j39_log::Bus;
-use j39_reports::{nodes_of, nodes_seen};
+use j39_survey::{nodes_of, nodes_seen};
 use std::alloc::{AllocError, Global};
 
 const ABOUT: &str = "\
@@ -138,6 +138,6 @@ fn held<R: Source, W: Sink>(
 {
     match from {
         Some(senders) => nodes_of(senders.as_slice(), source, sink, bus, LOG_LIMIT),
-        None => j39_reports::nodes(source, sink, bus, LOG_LIMIT),
+        None => j39_survey::nodes(source, sink, bus, LOG_LIMIT),
     }
 }

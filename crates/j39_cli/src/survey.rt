@@ -84,7 +84,7 @@ pub(crate) fn perform<R: Source, W: Sink, E: Sink>(
     ensures passed_on { result ≡ 1 → E.has_failed err.new ≡ false → E.is_flushed err.new ≡ true }
 {
     let bus = copy_of(bus);
-    match j39_reports::survey(alloc, format, groups, source, sink, bus, LOG_LIMIT) {
+    match j39_survey::survey(alloc, format, groups, source, sink, bus, LOG_LIMIT) {
         Ok(()) => 0,
         Err(fault) => tell_fault(fault, err),
     }

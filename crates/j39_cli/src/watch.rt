@@ -4,8 +4,8 @@ ghost use Rattle.std.specs.Str.Parse.{digits_value};
 ghost use Rattle.clap.specs.Words.{first_value, found_of};
 ghost use Rattle.j39_io.specs.Turn.{turn};
 ghost use Rattle.j39_listen.specs.Ran.{PassesOn, Ran};
-ghost use Rattle.j39_reports.specs.NotesSoFar.{size_of};
-ghost use Rattle.j39_reports.specs.Watch.{AsksForWatch, MakesWatch};
+ghost use Rattle.j39_watch.specs.NotesSoFar.{size_of};
+ghost use Rattle.j39_watch.specs.Watch.{AsksForWatch, MakesWatch};
 ghost use Rattle.j39_cli.specs.Answer.{IsReadAs, value_check};
 ghost use Rattle.j39_cli.specs.CommandWords.{IsAnswered, command_found};
 ghost use Rattle.j39_cli.specs.LogCommand.{log_limit};
@@ -23,7 +23,7 @@ use j39_groups::Groups;
 use j39_io::{Sink, Source};
 use j39_listen::{Counts, RunFault};
 use j39_log::Bus;
-use j39_reports::ScreenSize;
+use j39_watch::ScreenSize;
 use std::alloc::{AllocError, Global};
 
 const ABOUT: &str = "\
@@ -130,5 +130,5 @@ pub(crate) fn run<R: Source, W: Sink>(
         (turn R.remaining R.has_failed source.old source.new) (turn W.written W.has_failed sink.old sink.new) }
     ensures flushed { PassesOn result (W.is_flushed sink.old) (W.is_flushed sink.new) }
 {
-    j39_reports::watch(alloc, groups, size, source, sink, copy_of(bus), LOG_LIMIT)
+    j39_watch::watch(alloc, groups, size, source, sink, copy_of(bus), LOG_LIMIT)
 }

@@ -21,6 +21,7 @@ pub mod AnswerAccount
 pub mod AnswerExisting
 -- the runs: for the clauses that all runs share
 pub mod LineLemmas
+pub mod CountLemmas
 pub mod RunLemmas
 pub mod StopLemmas
 pub mod PieceLemmas

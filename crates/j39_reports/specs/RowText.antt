@@ -8,7 +8,7 @@ use Rattle.j39_groups.specs.Value.{ValueRecord, number, on, off, error, reserved
 use Rattle.j39_groups.specs.ValueText.{scaled_text}
 use Rattle.j39_listen.specs.Report.{Entry}
 use Rattle.j39_listen.specs.declared.format.Format.{Format}
-use Rattle.j39_reports.specs.FaultRows.{dash, name_column}
+use Rattle.j39_rows.specs.Row.{dash, name_column}
 use Rattle.j39_reports.specs.Summary.{Range, Row, origin_of}
 use Rattle.j39_rows.specs.Row as rows
 use Rattle.j39_rows.specs.Row.{CellRecord, ColumnRecord, HeadRecord, address_cell, address_word, beside_lines, digits, if_any, in_all, in_lines, number_cell, or_nothing, plain, row_text, seconds_cell, sent, utc_cell, word}

@@ -8,5 +8,6 @@ mod records;
 mod run;
 
 pub(crate) use begin::{digits_before, is_whole};
-pub(crate) use quick_record::{bits_of, scaled_before};
+pub(crate) use quick_record::bits_of;
+pub use quick_record::scaled_before;
 pub use run::report_csv;

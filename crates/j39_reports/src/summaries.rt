@@ -2,11 +2,14 @@
 
 mod absences;
 mod account;
-pub(crate) mod guesses;
+mod guesses;
 pub mod laws;
-pub(crate) mod lines;
+mod lines;
 mod rows;
-pub(crate) mod statistics;
-pub(crate) mod stored_value;
+mod statistics;
+mod stored_value;
 
 pub use account::summary;
+pub use guesses::{Guesses, again};
+pub use statistics::Sample;
+pub use stored_value::StoredValue;

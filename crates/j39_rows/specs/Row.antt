@@ -95,6 +95,16 @@ plain_text Line (seconds stamp) = stamp_text stamp
 plain_text Record (seconds stamp) = seconds_text stamp
 plain_text Object (seconds stamp) = seconds_number stamp
 
+-- ---- columns of many rows
+
+-- behind a space, with a dash for nothing
+abbrev pub dash : PlaceRecord
+dash = always (codes " ") (codes "-")
+
+-- a NAME stands behind a space too, and sixteen dashes for none
+abbrev pub name_column : Option ℕ → ColumnRecord
+name_column name = in_all (codes "name") (always (codes " ") (codes "----------------")) (or_nothing name_cell name)
+
 -- ---- in a line
 
 abbrev pub shown_text : CellRecord → List ℕ

@@ -1,8 +1,8 @@
 //! What stands in a row.
 ghost use Rattle.std.specs.Prelude.{◌≡◌, option_map};
 ghost use Rattle.j39_frame.specs.Stamp.{stamp_micros};
-ghost use Rattle.j39_rows.specs.Models.{cell_of};
-ghost use Rattle.j39_rows.specs.Row.{address_cell, name_cell, number_cell, or_nothing, seconds_cell, text, text_or_nothing, utc_cell};
+ghost use Rattle.j39_rows.specs.Models.{cell_of, column_of};
+ghost use Rattle.j39_rows.specs.Row.{address_cell, name_cell, name_column, number_cell, or_nothing, seconds_cell, text, text_or_nothing, utc_cell};
 
 use j39_frame::Stamp;
 
@@ -58,6 +58,22 @@ pub enum Column<'a> {
     InLines(Place<'a>, Cell<'a>),
     /// In records and objects alone.
     BesideLines(&'a [u8], Cell<'a>),
+}
+
+/// Behind a space, with a dash for nothing.
+pub const DASH: Place<'static> = Place::Always(b" ", b"-");
+
+impl Column<'static> {
+    /// A NAME, or sixteen dashes in lines.
+    pub fn name(name: Option<u64>) -> Column<'static>
+        ensures { column_of result ≡ name_column name }
+    {
+        Column::All(
+            b"name",
+            Place::Always(b" ", b"----------------"),
+            Cell::name(name),
+        )
+    }
 }
 
 /// What a row begins with: what its first column is called and what stands there, and columns behind it.

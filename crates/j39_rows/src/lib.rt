@@ -7,7 +7,7 @@ mod parts;
 mod row;
 mod utc;
 
-pub use cell::{Cell, Column, Head, Place, Plain};
+pub use cell::{Cell, Column, DASH, Head, Place, Plain};
 pub use json::{put_bytes_under, put_string};
 pub use parts::put_parts;
 pub use row::put_row;

@@ -18,14 +18,14 @@ use Rattle.j39_listen.specs.declared.running.RunFault.{RunFault}
 use Rattle.j39_listen.specs.declared.running.RunFault.TheVariants.{Memory, Read, Write, TooLong}
 use Rattle.j39_groups.specs.Row.{RowRecord}
 use Rattle.j39_reports.specs.EntryText.{entry_record, header_text}
-use Rattle.j39_reports.specs.SurveyRun.{Asked, WritesSurvey}
-use Rattle.j39_reports.specs.SurveyRun.{WritesFront as WritesSurveyFront}
-use Rattle.j39_reports.specs.SurveyText.{survey_text}
-use Rattle.j39_reports.proofs.SurveyLemmas.{same_survey}
+use Rattle.j39_survey.specs.SurveyRun.{Asked, WritesSurvey}
+use Rattle.j39_survey.specs.SurveyRun.{WritesFront as WritesSurveyFront}
+use Rattle.j39_survey.specs.SurveyText.{survey_text}
+use Rattle.j39_survey.proofs.SurveyLemmas.{same_survey}
 use Rattle.j39_listen.proofs.ReportAccount.{report_one}
-use Rattle.j39_reports.proofs.FaultAccountLemmas.{news_one}
+use Rattle.j39_fault_reports.proofs.FaultAccountLemmas.{news_one}
 use Rattle.j39_reports.proofs.SummaryAccountLemmas.{records_one}
-use Rattle.j39_reports.specs.News.{news}
+use Rattle.j39_fault_reports.specs.News.{news}
 use Rattle.j39_web.specs.SeriesSoFar.{series_form}
 use Rattle.j39_web.proofs.SeriesAccountLemmas.{whole_one}
 use Rattle.j39_web.specs.Text.{IsFullOf, Overflows, SurveyOverflows, no_counts}

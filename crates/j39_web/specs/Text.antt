@@ -8,10 +8,10 @@ use Rattle.j39_listen.specs.Output.{Making, Output}
 use Rattle.j39_listen.specs.Run.{Writes, WritesPublished, run_bus}
 use Rattle.j39_listen.specs.declared.counts.Counts.{Counts}
 use Rattle.j39_listen.specs.Heard.{Hearing}
-use Rattle.j39_reports.specs.GroupCounts.{ArePutTogether}
-use Rattle.j39_reports.specs.LogLines.{AreLogLines, LogLine, spelled_in}
-use Rattle.j39_reports.specs.SurveyRun.{Asked, WritesSurvey}
-use Rattle.j39_reports.specs.SurveyText.{survey_text}
+use Rattle.j39_survey.specs.GroupCounts.{ArePutTogether}
+use Rattle.j39_survey.specs.LogLines.{AreLogLines, LogLine, spelled_in}
+use Rattle.j39_survey.specs.SurveyRun.{Asked, WritesSurvey}
+use Rattle.j39_survey.specs.SurveyText.{survey_text}
 use Rattle.j39_web.specs.declared.texts.LogText.{LogText}
 
 -- what was counted

@@ -7,11 +7,11 @@ use Rattle.j39_listen.specs.Headed.{Headed}
 use Rattle.j39_listen.specs.Output.{Making, MakesReport}
 use Rattle.j39_listen.specs.declared.format.Format.TheVariants.{Line, Record}
 use Rattle.j39_reports.specs.EntryText.{header_text}
-use Rattle.j39_reports.specs.FaultAsking.{AsksForFaults}
-use Rattle.j39_reports.specs.FaultRun.{MakesFaults}
+use Rattle.j39_fault_reports.specs.FaultAsking.{AsksForFaults}
+use Rattle.j39_fault_reports.specs.FaultRun.{MakesFaults}
 use Rattle.j39_reports.specs.ReportRecords.{MakesRecords}
 use Rattle.j39_reports.specs.SummaryRun.{AsksForRows, MakesSummary}
-use Rattle.j39_reports.specs.News.{news}
+use Rattle.j39_fault_reports.specs.News.{news}
 use Rattle.j39_web.specs.Series.{MakesSeries}
 use Rattle.j39_web.specs.declared.writing.Writing.{Writing}
 use Rattle.j39_web.specs.declared.writing.Writing.TheVariants.{Report, Records, Summary, Faults, Series}

@@ -3,13 +3,13 @@
 
 ghost use Rattle.std.specs.Prelude.{◌≡◌, ◌≢◌, ◌<◌, ◌≤◌, ◌↔◌, ◌⊎◌, ◌∷◌, [], None, ⊤, length, take};
 ghost use Rattle.j39_address.specs.Name.{fields_of};
-ghost use Rattle.j39_reports.specs.FaultAsking.{AsksForFaults};
-ghost use Rattle.j39_reports.specs.FaultRun.{MakesFaults};
-ghost use Rattle.j39_reports.specs.News.{news};
+ghost use Rattle.j39_fault_reports.specs.FaultAsking.{AsksForFaults};
+ghost use Rattle.j39_fault_reports.specs.FaultRun.{MakesFaults};
+ghost use Rattle.j39_fault_reports.specs.News.{news};
 ghost use Rattle.j39_groups.specs.Printed.{rows_text};
 ghost use Rattle.j39_listen.specs.Asking.{AsksForBoxes};
 ghost use Rattle.j39_listen.specs.Filter.{no_filter};
-ghost use Rattle.j39_reports.specs.SeenNodes.{MakesSeenNodes};
+ghost use Rattle.j39_survey.specs.SeenNodes.{MakesSeenNodes};
 ghost use Rattle.j39_listen.specs.Output.{MakesReport};
 ghost use Rattle.j39_listen.specs.declared.format.Format.TheVariants.{Line, Record};
 ghost use Rattle.j39_reports.specs.SummaryRun.{AsksForRows, MakesSummary};

@@ -1,7 +1,7 @@
 //! What is made of a log, in the room of a page.
 ghost use Rattle.std.specs.Prelude.{◌≡◌, ◌≢◌, ◌<◌, length, take, IfErr, IfOk, None, OnErr, OnOk, Ok, Err};
 ghost use Rattle.j39_groups.specs.Printed.{rows_text};
-ghost use Rattle.j39_reports.specs.SeenNodes.{MakesSeenNodes};
+ghost use Rattle.j39_survey.specs.SeenNodes.{MakesSeenNodes};
 ghost use Rattle.j39_listen.specs.declared.format.Format.TheVariants.{Line};
 ghost use Rattle.j39_listen.specs.declared.running.RunFault.TheVariants as fault;
 ghost use Rattle.j39_table.specs.FaultWords.{fault_text};
@@ -105,7 +105,7 @@ pub fn nodes(log: &[u8], bus: Option<Bus>, room: &mut [u8]) -> Result<LogText, R
     let mut source = LogBytes::new(log);
     let mut sink = Room::new(room);
     let limit = log.len() as u64;
-    let ran = j39_reports::nodes_seen(Format::Line, None, &mut source, &mut sink, bus, limit);
+    let ran = j39_survey::nodes_seen(Format::Line, None, &mut source, &mut sink, bus, limit);
     told(ran, &sink)
 }
 
@@ -149,7 +149,7 @@ pub fn survey(
     let mut source = LogBytes::new(log);
     let mut sink = Room::new(room);
     let limit = log.len() as u64;
-    let ran = j39_reports::survey(
+    let ran = j39_survey::survey(
         alloc,
         Format::Line,
         groups,

@@ -2,7 +2,7 @@
 ghost use Rattle.std.specs.Prelude.{◌≡◌};
 ghost use Rattle.j39_io.specs.Turn.{turn};
 ghost use Rattle.j39_listen.specs.Ran.{Ran};
-ghost use Rattle.j39_reports.specs.Broken.{counts_in};
+ghost use Rattle.j39_fault_reports.specs.Broken.{counts_in};
 ghost use Rattle.j39_web.specs.Writings.{asks, makes};
 
 use crate::points::SeriesOrigin;
@@ -11,7 +11,8 @@ use j39_groups::Groups;
 use j39_io::{Sink, Source};
 use j39_listen::{Counts, Format, RunFault, run_with};
 use j39_log::Bus;
-use j39_reports::{Choice, FaultCounts, Telling, faults, report_csv, summary};
+use j39_fault_reports::{Choice, FaultCounts, Telling, faults};
+use j39_reports::{report_csv, summary};
 use std::alloc::Global;
 
 /// What is written of a log by a table.

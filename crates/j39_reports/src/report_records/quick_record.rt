@@ -134,7 +134,7 @@ pub(crate) fn bare_before(out: &mut [u8], end: usize, value: Value<'_, '_>) -> O
 
 /// Writes a number in decimal with its places: fifteen at most.
 #[inline(always)]
-pub(crate) fn scaled_before(out: &mut [u8], end: usize, number: i64, places: u8) -> Option<usize>
+pub fn scaled_before(out: &mut [u8], end: usize, number: i64, places: u8) -> Option<usize>
     requires room { 38 ≤ end }
     requires within { end ≤ length out.old }
     ensures written { IfSome result (λ start. WritesBefore out.old out.new end start (scaled_text places number)) }

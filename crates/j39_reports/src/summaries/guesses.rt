@@ -11,13 +11,13 @@ const PLACES: usize = 1024;
 
 /// Where the values of the last origins stand, by address and parameter, as a look-up costs more than a value.
 #[derive(Drop)]
-pub(crate) struct Guesses {
+pub struct Guesses {
     places: [usize; PLACES],
 }
 
 impl Guesses {
     /// Each is the first place.
-    pub(crate) fn new() -> Guesses {
+    pub fn new() -> Guesses {
         Guesses {
             places: [0; PLACES],
         }
@@ -50,7 +50,7 @@ fn guess_at(origin: Origin) -> usize
 /// The same origin, in a place of its own: what a slow call is handed lies in memory, and the origin that is compared on
 /// the quick path need not.
 #[inline(always)]
-pub(crate) fn again(origin: Origin) -> Origin
+pub fn again(origin: Origin) -> Origin
     ensures { result ≡ origin }
 {
     Origin {

@@ -11,7 +11,6 @@ ghost use Rattle.j39_reports.specs.RowModels.{kept_value, range_of_span, row_sho
 ghost use Rattle.j39_rows.specs.Models.{cell_of, column_of, head_of};
 ghost use Rattle.j39_rows.specs.Row.{address_word, or_nothing};
 
-use crate::fault_news::columns::{DASH, name_column};
 use crate::summaries::rows::Rows;
 use crate::summaries::statistics::{NumberRange, Statistics};
 use crate::summaries::stored_value::StoredValue;
@@ -19,7 +18,7 @@ use j39_frame::Origin;
 use j39_groups::Groups;
 use j39_io::{DeviceFault, Sink};
 use j39_listen::Format;
-use j39_rows::{Cell, Column, Head, Place, Plain};
+use j39_rows::{Cell, Column, DASH, Head, Place, Plain};
 
 /// Writes each row, in their order.
 pub(crate) fn put_rows<W: Sink>(
@@ -96,7 +95,7 @@ fn origin_columns(origin: Origin) -> [Column<'static>; 4]
             Place::IfAny(b">"),
             Cell::address(origin.destination),
         ),
-        name_column(origin.name),
+        Column::name(origin.name),
         Column::All(b"pgn", DASH, Cell::number(u64::from(origin.pgn))),
         Column::All(b"spn", DASH, Cell::number(u64::from(origin.spn))),
     ]

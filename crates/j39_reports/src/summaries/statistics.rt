@@ -19,7 +19,7 @@ use std::alloc::{AllocError, Global};
 
 /// A value with its moment.
 #[derive(Drop)]
-pub(crate) struct Sample<'t> {
+pub struct Sample<'t> {
     pub stamp: Stamp,
     pub value: StoredValue<'t>,
 }

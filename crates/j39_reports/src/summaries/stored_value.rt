@@ -14,7 +14,7 @@ use std::alloc::{AllocError, Global};
 
 /// A value as a row keeps it; `'t` is how long the table lives.
 #[derive(Drop)]
-pub(crate) enum StoredValue<'t> {
+pub enum StoredValue<'t> {
     /// A number, in units of the last printed place, and its scale.
     Number(i64, Slot<'t>),
     On,

@@ -1,5 +1,5 @@
 use Rattle.std.proofs.Common.{None, subst}
-use Rattle.j39_reports.specs.SeenNodes.{MakesSeenNodes}
+use Rattle.j39_survey.specs.SeenNodes.{MakesSeenNodes}
 use Rattle.j39_listen.specs.declared.format.Format.TheVariants.{Line}
 use Rattle.j39_web.specs.Text.{Overflows}
 use Rattle.j39_web.proofs.j39_nodes.Goals as goal

@@ -1,6 +1,6 @@
 -- A survey that was written, and a fault that is told.
 use Rattle.j39_cli.proofs.Common.{ℕ, List, Option, refl, inl, inr, subst, turn}
-use Rattle.j39_reports.specs.SurveyRun.{Surveyed}
+use Rattle.j39_survey.specs.SurveyRun.{Surveyed}
 use Rattle.j39_cli.specs.LogCommand.{log_limit}
 use Rattle.j39_cli.proofs.survey.perform.Goals as goal
 

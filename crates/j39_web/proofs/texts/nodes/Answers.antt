@@ -1,7 +1,7 @@
 use Rattle.std.proofs.Common.{None, rules}
-use Rattle.j39_reports.specs.SeenNodes.{MakesSeenNodes}
+use Rattle.j39_survey.specs.SeenNodes.{MakesSeenNodes}
 use Rattle.j39_listen.specs.declared.format.Format.TheVariants.{Line}
-use Rattle.j39_reports.proofs.SeenNodeLemmas.{seen_nodes_one}
+use Rattle.j39_survey.proofs.SeenNodeLemmas.{seen_nodes_one}
 use Rattle.j39_web.proofs.RoomLemmas.{overflows}
 use Rattle.j39_web.proofs.texts.nodes.Goals as goal
 

@@ -1,0 +1,250 @@
+-- What was said last, and what of it is news.
+use Rattle.j39_fault_reports.proofs.Common.{◌≡◌, ◌≢◌, ◌∙◌, ◌<◌, ◌≤◌, ◌==◌, ◌&&◌, not, ℕ, Bool, true, false, List, [], ◌∷◌, ◌++◌, Option, Some, None, ap, append-nil, arith, filter, length, refl, replicate, length-set, inl, inr, slice_set, subst, sym, if◌then◌else◌, take, take_all, cases_Bool, cases_eq, cond-true, cond-false, eq-eqb, ne_eqb, get_or-replicate, length-replicate, get_or-set_other, get_or-set_same, filter-append, last_or, kind_of, Kind, Active, Previous, EmissionPending, EmissionActive, EmissionPrevious, Pending, Permanent, Hearing, is_same_or_none, version_for, Conversion, Version}
+use Rattle.std.proofs.Common.{option_map}
+use Rattle.std.specs.Bool.{⊤}
+use Rattle.j39_faults.specs.FaultGroups.{cleared_in}
+use Rattle.j39_faults.specs.Sameness.{tells_same}
+use Rattle.j39_fault_reports.specs.News.{goes_on, last_from, says_other}
+use Rattle.j39_fault_reports.specs.Remembered.{Remembers, kept, noted, said_at, said_in}
+use Rattle.j39_fault_reports.specs.FaultChanges.{bytes_before}
+use Rattle.j39_fault_reports.specs.LastMessages.{LastMessages, LastRecord, at, differs, said_before}
+use Rattle.j39_fault_reports.specs.declared.fault_news.last_faults.LastFaults.{LastFaults}
+
+-- ---- the last message of a group from an address
+
+last_or-push : (o : Option Hearing) (xs : List Hearing) (x : Hearing) → last_or o (xs ++ x ∷ []) ≡ Some x
+last_or-push o [] x = refl
+last_or-push o (y ∷ xs) x = last_or-push (Some y) xs x
+
+abbrev is_of : ℕ → ℕ → Hearing → Bool
+is_of pgn a h = h.message.pgn == pgn && h.message.source == a
+
+last_from_same : (pgn a : ℕ) (ms : List Hearing) (m : Hearing) → is_of pgn a m ≡ true → last_from pgn a (ms ++ m ∷ []) ≡ Some m
+unfolding last_from
+last_from_same pgn a ms m same =
+    ap (last_or None) (filter-append (is_of pgn a) ms (m ∷ []) ∙ ap (λ xs. filter (is_of pgn a) ms ++ xs) (cond-true _ _ _ same)) ∙ last_or-push None (filter (is_of pgn a) ms) m
+
+last_from_other : (pgn a : ℕ) (ms : List Hearing) (m : Hearing) → is_of pgn a m ≡ false → last_from pgn a (ms ++ m ∷ []) ≡ last_from pgn a ms
+unfolding last_from
+last_from_other pgn a ms m other =
+    ap (last_or None) (filter-append (is_of pgn a) ms (m ∷ []) ∙ ap (λ xs. filter (is_of pgn a) ms ++ xs) (cond-false _ _ _ other) ∙ append-nil (filter (is_of pgn a) ms))
+
+is_of_same : (pgn a : ℕ) (m : Hearing) → m.message.pgn ≡ pgn → m.message.source ≡ a → is_of pgn a m ≡ true
+is_of_same pgn a m p s = ap (λ x. x && m.message.source == a) (eq-eqb m.message.pgn pgn p) ∙ eq-eqb m.message.source a s
+
+is_of_other : (pgn a : ℕ) (m : Hearing) → m.message.pgn ≡ pgn → m.message.source ≢ a → is_of pgn a m ≡ false
+is_of_other pgn a m p s = ap (λ x. x && m.message.source == a) (eq-eqb m.message.pgn pgn p) ∙ ne_eqb m.message.source a s
+
+is_of_else : (pgn a : ℕ) (m : Hearing) → m.message.pgn ≢ pgn → is_of pgn a m ≡ false
+is_of_else pgn a m p = ap (λ x. x && m.message.source == a) (ne_eqb m.message.pgn pgn p)
+
+-- ---- what is kept at the beginning
+
+pub last_from_none : (pgn a : ℕ) → last_from pgn a [] ≡ None
+unfolding last_from
+last_from_none pgn a = refl
+
+none_at : (places : LastMessages) (pgn a : ℕ) → places ≡ replicate 256 None → a < 256 → at places a ≡ option_map said_in (last_from pgn a [])
+none_at places pgn a is l = ap (λ (t : LastMessages). at t a) is ∙ get_or-replicate 256 a None None l ∙ ap (option_map said_in) (sym (last_from_none pgn a))
+
+abbrev none_said : Option LastRecord
+none_said = None
+
+none_some : (m : Hearing) → None ≡ Some m → ⊥
+none_some m e = subst is_none_type e tt
+  where
+    is_none_type : Option Hearing → Type 0
+    is_none_type None = ⊤
+    is_none_type (Some x) = ⊥
+
+pub remembers_none : (l : LastFaults) → l.active ≡ replicate 256 None → l.previous ≡ replicate 256 None → l.emission_pending ≡ replicate 256 None
+    → l.emission_active ≡ replicate 256 None → l.emission_previous ≡ replicate 256 None → l.pending ≡ replicate 256 None
+    → l.permanent ≡ replicate 256 None → Remembers l []
+remembers_none l active previous emission_pending emission_active emission_previous pending permanent = record {
+  places = λ kind. ap length (none_kept kind) ∙ length-replicate 256 none_said;
+  said = λ pgn a kind is k. none_at (kept l kind) pgn a (none_kept kind) k;
+  whole = λ m pgn a e. absurd (none_some m (sym (last_from_none pgn a) ∙ e));
+}
+  where
+    none_kept : (kind : Kind) → kept l kind ≡ replicate 256 None
+    none_kept Active = active
+    none_kept Previous = previous
+    none_kept EmissionPending = emission_pending
+    none_kept EmissionActive = emission_active
+    none_kept EmissionPrevious = emission_previous
+    none_kept Pending = pending
+    none_kept Permanent = permanent
+
+-- ---- the group of a kind
+
+abbrev group_of : Kind → ℕ
+group_of Active = 65226
+group_of Previous = 65227
+group_of EmissionPending = 65231
+group_of EmissionActive = 65236
+group_of EmissionPrevious = 64949
+group_of Pending = 64898
+group_of Permanent = 64896
+
+some_kind : {x y : Kind} → Some x ≡ Some y → x ≡ y
+some_kind e = cc
+
+no_kind : {y : Kind} → None ≡ Some y → ⊥
+no_kind e = cc
+
+-- it is that of the first, or of one behind
+or_behind : (pgn : ℕ) (first kind : Kind) (behind : Option Kind) → (behind ≡ Some kind → pgn ≡ group_of kind)
+    → (if pgn == group_of first then Some first else behind) ≡ Some kind → pgn ≡ group_of kind
+or_behind pgn first kind behind then_is is = elim (cases_eq pgn (group_of first)) [
+  | inl e ↦ e ∙ ap group_of (some_kind (sym (cond-true _ _ _ (eq-eqb pgn (group_of first) e)) ∙ is))
+  | inr n ↦ then_is (sym (cond-false _ _ _ (ne_eqb pgn (group_of first) n)) ∙ is)
+]
+
+group_is : (pgn : ℕ) (kind : Kind) → kind_of pgn ≡ Some kind → pgn ≡ group_of kind
+group_is pgn kind is =
+    or_behind pgn Active kind _ (λ b0. or_behind pgn Previous kind _ (λ b1. or_behind pgn EmissionPending kind _ (λ b2. or_behind pgn EmissionActive kind _ (λ b3. or_behind pgn EmissionPrevious kind _ (λ b4. or_behind pgn Pending kind _ (λ b5. or_behind pgn Permanent kind _ (λ b6. absurd (no_kind b6)) b5) b4) b3) b2) b1) b0) is
+
+-- what is kept for an address is what it said last in these messages
+pub said_is : (l : LastFaults) (ms : List Hearing) (pgn a : ℕ) (kind : Kind) → Remembers l ms → kind_of pgn ≡ Some kind → a < 256
+    → said_at l kind a ≡ option_map said_in (last_from pgn a ms)
+said_is l ms pgn a kind h is k = h.said pgn a kind is k
+
+-- ---- one message more
+
+set_at : (places : LastMessages) (pgn : ℕ) (ms : List Hearing) (m : Hearing) → length places ≡ 256 → m.message.pgn ≡ pgn
+    → ((a : ℕ) → a < 256 → at places a ≡ option_map said_in (last_from pgn a ms))
+    → (a : ℕ) → a < 256 → at (slice_set places m.message.source (Some (said_in m))) a ≡ option_map said_in (last_from pgn a (ms ++ m ∷ []))
+set_at places pgn ms m len is has a l = elim (cases_eq m.message.source a) [
+  | inl e ↦ ap (λ (i : ℕ). at (slice_set places i (Some (said_in m))) a) e ∙ get_or-set_same places a (Some (said_in m)) None (omega arith)
+      ∙ ap (option_map said_in) (sym (last_from_same pgn a ms m (is_of_same pgn a m is e)))
+  | inr n ↦ get_or-set_other places m.message.source a (Some (said_in m)) None (λ e. n (sym e)) ∙ has a l
+      ∙ ap (option_map said_in) (sym (last_from_other pgn a ms m (is_of_other pgn a m is n)))
+]
+
+else_at : (places : LastMessages) (pgn : ℕ) (ms : List Hearing) (m : Hearing) → m.message.pgn ≢ pgn
+    → ((a : ℕ) → a < 256 → at places a ≡ option_map said_in (last_from pgn a ms))
+    → (a : ℕ) → a < 256 → at places a ≡ option_map said_in (last_from pgn a (ms ++ m ∷ []))
+else_at places pgn ms m other has a l = has a l ∙ ap (option_map said_in) (sym (last_from_other pgn a ms m (is_of_else pgn a m other)))
+
+whole_more : (ms : List Hearing) (m : Hearing) → length m.message.bytes ≤ 1785
+    → ((x : Hearing) (pgn a : ℕ) → last_from pgn a ms ≡ Some x → take 1785 x.message.bytes ≡ x.message.bytes)
+    → (x : Hearing) (pgn a : ℕ) → last_from pgn a (ms ++ m ∷ []) ≡ Some x → take 1785 x.message.bytes ≡ x.message.bytes
+whole_more ms m short whole x pgn a e = elim (cases_Bool (is_of pgn a m)) [
+  | inl same ↦ (let is : m ≡ x = some_is (sym (last_from_same pgn a ms m same) ∙ e) in
+      subst (λ (y : Hearing). take 1785 y.message.bytes ≡ y.message.bytes) is (take_all 1785 m.message.bytes short))
+  | inr other ↦ whole x pgn a (sym (last_from_other pgn a ms m other) ∙ e)
+]
+  where
+    some_is : {x y : Hearing} → Some x ≡ Some y → x ≡ y
+    some_is e = cc
+
+-- what was noted of a kind, and of another one
+noted_there : (l : LastFaults) (kind : Kind) (a : ℕ) (s : LastRecord) → kept (noted l kind a s) kind ≡ slice_set (kept l kind) a (Some s)
+noted_there l Active a s = refl
+noted_there l kind a s = refl
+
+noted_else : (l : LastFaults) (kind other : Kind) (a : ℕ) (s : LastRecord) → kind ≢ other → kept (noted l kind a s) other ≡ kept l other
+noted_else l Active Active a s n = absurd (n refl)
+noted_else l Previous Previous a s n = absurd (n refl)
+noted_else l EmissionPending EmissionPending a s n = absurd (n refl)
+noted_else l EmissionActive EmissionActive a s n = absurd (n refl)
+noted_else l EmissionPrevious EmissionPrevious a s n = absurd (n refl)
+noted_else l Pending Pending a s n = absurd (n refl)
+noted_else l Permanent Permanent a s n = absurd (n refl)
+noted_else l kind other a s n = refl
+
+-- as many places
+noted_length : (l : LastFaults) (kind other : Kind) (a : ℕ) (s : LastRecord) → length (kept (noted l kind a s) other) ≡ length (kept l other)
+noted_length l Active Active a s = length-set l.active a (Some s)
+noted_length l Previous Previous a s = length-set l.previous a (Some s)
+noted_length l EmissionPending EmissionPending a s = length-set l.emission_pending a (Some s)
+noted_length l EmissionActive EmissionActive a s = length-set l.emission_active a (Some s)
+noted_length l EmissionPrevious EmissionPrevious a s = length-set l.emission_previous a (Some s)
+noted_length l Pending Pending a s = length-set l.pending a (Some s)
+noted_length l Permanent Permanent a s = length-set l.permanent a (Some s)
+noted_length l kind other a s = refl
+
+same_kind : (pgn : ℕ) (kind other : Kind) → kind_of pgn ≡ Some kind → kind_of pgn ≡ Some other → kind ≡ other
+same_kind pgn kind other is also = some_kind (sym is ∙ also)
+
+module _ (l l' : LastFaults) (ms : List Hearing) (m : Hearing) (kind : Kind) (is : kind_of m.message.pgn ≡ Some kind) (notes : l' ≡ noted l kind m.message.source (said_in m))
+    (h : Remembers l ms) where
+  there : kept l' kind ≡ slice_set (kept l kind) m.message.source (Some (said_in m))
+  there = ap (λ (x : LastFaults). kept x kind) notes ∙ noted_there l kind m.message.source (said_in m)
+
+  -- what is said of a kind behind the message: by its group, or by another one
+  said_then : (pgn a : ℕ) (other : Kind) → kind_of pgn ≡ Some other → a < 256 → said_at l' other a ≡ option_map said_in (last_from pgn a (ms ++ m ∷ []))
+  said_then pgn a other of k = elim (cases_eq m.message.pgn pgn) [
+    | inl e ↦ (let one : kind ≡ other = same_kind m.message.pgn kind other is (ap kind_of e ∙ of) in
+        subst (λ (x : Kind). said_at l' x a ≡ option_map said_in (last_from pgn a (ms ++ m ∷ []))) one
+        (ap (λ (t : LastMessages). at t a) there ∙ set_at (kept l kind) pgn ms m (h.places kind) e (λ b j. h.said pgn b kind (of ∙ ap (λ (x : Kind). Some x) (sym one)) j) a k))
+    | inr n ↦ (let apart : kind ≢ other = (λ one. n (group_is m.message.pgn kind is ∙ ap group_of one ∙ sym (group_is pgn other of))) in
+        ap (λ (t : LastMessages). at t a) (ap (λ (x : LastFaults). kept x other) notes ∙ noted_else l kind other m.message.source (said_in m) apart)
+        ∙ else_at (kept l other) pgn ms m n (λ b j. h.said pgn b other of j) a k)
+  ]
+
+  places_then : (other : Kind) → length (kept l' other) ≡ 256
+  places_then other = ap (λ (x : LastFaults). length (kept x other)) notes ∙ noted_length l kind other m.message.source (said_in m) ∙ h.places other
+
+  pub remembers_more : length m.message.bytes ≤ 1785 → Remembers l' (ms ++ m ∷ [])
+  remembers_more short = record {
+    places = places_then;
+    said = said_then;
+    whole = whole_more ms m short h.whole;
+  }
+
+-- ---- who asks to clear codes says none
+
+pub by_request : (pgn : ℕ) (bytes : List ℕ) (kind : Kind) → cleared_in pgn bytes ≡ Some kind → pgn ≡ 59904
+unfolding cleared_in
+by_request pgn bytes kind is = elim (cases_eq pgn 59904) [
+  | inl e ↦ e
+  | inr n ↦ absurd (no_kind (sym (cond-false _ _ _ (ne_eqb pgn 59904 n)) ∙ is))
+]
+
+pub remembers_asked : (l : LastFaults) (ms : List Hearing) (m : Hearing) (kind : Kind) → cleared_in m.message.pgn m.message.bytes ≡ Some kind → Remembers l ms
+    → length m.message.bytes ≤ 1785 → Remembers l (ms ++ m ∷ [])
+remembers_asked l ms m kind asks h short = record {
+  places = h.places;
+  said = λ pgn a other of k. else_at (kept l other) pgn ms m (apart pgn other of) (λ b j. h.said pgn b other of j) a k;
+  whole = whole_more ms m short h.whole;
+}
+  where
+    apart : (pgn : ℕ) (other : Kind) → kind_of pgn ≡ Some other → m.message.pgn ≢ pgn
+    apart pgn other of = λ e.
+        no_kind (sym (ap kind_of (sym e ∙ by_request m.message.pgn m.message.bytes kind asks)) ∙ of)
+
+-- ---- news
+
+differs_by : (v : Option Version) (o : Option Hearing) (m : Hearing) → ((x : Hearing) → o ≡ Some x → take 1785 x.message.bytes ≡ x.message.bytes)
+    → differs v (option_map said_in o) m.message.bytes m.name ≡ says_other v o m
+differs_by v None m whole = refl
+differs_by v (Some x) m whole = ap (λ bs. not (tells_same v bs m.message.bytes && is_same_or_none x.name m.name)) (whole x refl)
+
+pub news_is : (cs : List Conversion) (l : LastFaults) (ms : List Hearing) (m : Hearing) (kind : Kind) → Remembers l ms → kind_of m.message.pgn ≡ Some kind → m.message.source < 256
+    → differs (version_for cs m.name) (said_at l kind m.message.source) m.message.bytes m.name
+    ≡ says_other (version_for cs m.name) (last_from m.message.pgn m.message.source ms) m
+news_is cs l ms m kind h is k =
+    ap (λ o. differs (version_for cs m.name) o m.message.bytes m.name) (said_is l ms m.message.pgn m.message.source kind h is k)
+    ∙ differs_by (version_for cs m.name) (last_from m.message.pgn m.message.source ms) m (λ x e. h.whole x m.message.pgn m.message.source e)
+
+-- what it said before, if it may be of who speaks now
+before_by : (o : Option Hearing) (name : Option ℕ) → ((x : Hearing) → o ≡ Some x → take 1785 x.message.bytes ≡ x.message.bytes)
+    → said_before (option_map said_in o) name ≡ bytes_before o name
+before_by None name whole = refl
+before_by (Some x) name whole = ap (λ bs. if goes_on x.name name then bs else []) (whole x refl)
+
+pub before_is : (l : LastFaults) (ms : List Hearing) (m : Hearing) (kind : Kind) → Remembers l ms → kind_of m.message.pgn ≡ Some kind → m.message.source < 256
+    → said_before (said_at l kind m.message.source) m.name ≡ bytes_before (last_from m.message.pgn m.message.source ms) m.name
+before_is l ms m kind h is k =
+    ap (λ o. said_before o m.name) (said_is l ms m.message.pgn m.message.source kind h is k)
+    ∙ before_by (last_from m.message.pgn m.message.source ms) m.name (λ x e. h.whole x m.message.pgn m.message.source e)
+
+-- nothing is kept for an address where it said nothing
+pub first_is : (l : LastFaults) (ms : List Hearing) (pgn a : ℕ) (kind : Kind) → Remembers l ms → kind_of pgn ≡ Some kind → a < 256 → said_at l kind a ≡ None
+    → last_from pgn a ms ≡ None
+first_is l ms pgn a kind h is k none = go (last_from pgn a ms) (sym (said_is l ms pgn a kind h is k) ∙ none)
+  where
+    go : (o : Option Hearing) → option_map said_in o ≡ None → o ≡ None
+    go None e = refl
+    go (Some x) e = cc

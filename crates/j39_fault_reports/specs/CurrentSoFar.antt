@@ -1,0 +1,125 @@
+-- The steps of a run that tells which faults are there now: nothing is written before its end.
+use Rattle.std.specs.Prelude.{◌≡◌, ◌++◌, ◌∷◌, [], ◌<◌, ℕ, zero, suc, true, false, List, Option, Some, None, filter, length, map}
+use Rattle.j39_frame.specs.Frame.{FrameRecord}
+use Rattle.j39_faults.specs.LampBits.{lamps_of}
+use Rattle.j39_faults.specs.declared.code.Code.{Code}
+use Rattle.j39_faults.specs.declared.conversion.Conversion.{Conversion}
+use Rattle.j39_listen.specs.Counting.{capped}
+use Rattle.j39_listen.specs.Chooses.{Chooses}
+use Rattle.j39_listen.specs.Filter.{FilterRecord, first_stamp as stamp_of_first, in_time}
+use Rattle.j39_listen.specs.Heard.{AreHeardWith, Hearing, HeardAtWith, or_none}
+use Rattle.j39_listen.specs.Listening.{Hears}
+use Rattle.j39_listen.specs.Output.{Output, nothing}
+use Rattle.j39_listen.specs.declared.format.Format.{Format}
+use Rattle.j39_listen.specs.declared.listener.Listener.{Listener}
+use Rattle.j39_fault_reports.specs.Faults.{Manner, codes_or_none}
+use Rattle.j39_fault_reports.specs.CurrentPlaces.{LastRecord, Places, StandingRecord, at}
+use Rattle.j39_fault_reports.specs.FaultsNow.{Now, active_among, codes_in, first_stamp, is_at, lasts, now_taken, telling, tells}
+use Rattle.j39_fault_reports.specs.FaultsSoFar.{IsBroken, announced_in, manner_of, with_either, with_frame}
+use Rattle.j39_fault_reports.specs.News.{is_fault_group}
+use Rattle.j39_fault_reports.specs.declared.fault_news.announced.Announced.{Announced}
+use Rattle.j39_fault_reports.specs.declared.current_faults.account.FaultsNow.{FaultsNow}
+
+-- ---- what it stands for
+
+abbrev pub standing_of : List Conversion → List Hearing → Hearing → Option Code → StandingRecord
+standing_of conversions ms m code = record {
+  code = code;
+  since = first_stamp m.stamp (telling conversions ms m.message.source m.name code);
+  often = capped (length (telling conversions ms m.message.source m.name code));
+}
+
+-- nobody's last message comes from there
+pub record IsEmptyAt (conversions : List Conversion) (ms : List Hearing) (a : ℕ) : Type 0 where
+  pub none : filter (is_at a) (lasts ms) ≡ []
+  pub untold : (name : Option ℕ) (code : Option Code) → telling conversions ms a name code ≡ []
+
+-- one's does, and this is kept of it
+pub record IsLastAt (conversions : List Conversion) (ms : List Hearing) (a : ℕ) (last : LastRecord) : Type 0 where
+  pub message : Hearing
+  pub alone : filter (is_at a) (lasts ms) ≡ message ∷ []
+  pub here : message.message.source ≡ a
+  pub name_is : last.name ≡ message.name
+  pub stamp_is : last.stamp ≡ message.stamp
+  pub destination_is : last.destination ≡ message.destination
+  pub pgn_is : last.pgn ≡ message.message.pgn
+  pub lamps_are : lamps_of message.message.bytes ≡ Some last.lamps
+  pub standings_are : last.standings ≡ map (standing_of conversions ms message) (codes_or_none (codes_in conversions message))
+  pub untold : (name : Option ℕ) (code : Option Code) → tells conversions a name code message ≡ false
+      → telling conversions ms a name code ≡ []
+  pub told : (name : Option ℕ) (code : Option Code) → tells conversions a name code message ≡ true
+      → (front : List Hearing) × (telling conversions ms a name code ≡ front ++ message ∷ [])
+
+abbrev pub IsKeptAt : List Conversion → List Hearing → ℕ → Option LastRecord → Type 0
+IsKeptAt conversions ms a None = IsEmptyAt conversions ms a
+IsKeptAt conversions ms a (Some last) = IsLastAt conversions ms a last
+
+-- of these messages
+pub record AreKept (conversions : List Conversion) (places : Places) (ms : List Hearing) : Type 0 where
+  pub places_are : length places ≡ 256
+  pub each : (a : ℕ) → a < 256 → IsKeptAt conversions ms a (at places a)
+
+-- ---- what is written of it
+
+abbrev pub now_shown : ℕ → LastRecord → StandingRecord → Now
+now_shown a last s = record {
+  since = s.since;
+  last = last.stamp;
+  often = s.often;
+  address = a;
+  destination = last.destination;
+  name = last.name;
+  pgn = last.pgn;
+  lamps = last.lamps;
+  code = s.code;
+}
+
+abbrev pub nows_shown : ℕ → Option LastRecord → List Now
+nows_shown a None = []
+nows_shown a (Some last) = map (now_shown a last) last.standings
+
+-- at the places below n
+unfoldable pub shown_below : Places → ℕ → List Now
+shown_below places zero = []
+shown_below places (suc n) = shown_below places n ++ nows_shown n (at places n)
+
+-- those that are asked for
+abbrev pub taken_below : FilterRecord → ℕ → Places → ℕ → List Now
+taken_below which first places n = now_taken which first (shown_below places n)
+
+-- ---- one frame more
+
+-- behind the frames F this is heard at the frame f, and between the moments taken to the messages before
+pub record TakesFrame (which : FilterRecord) (conversions : List Conversion) (F : List FrameRecord) (f : FrameRecord) (l' : Listener)
+    (places : Places) (a a' : Announced) (ms : List Hearing) (messages : ℕ) : Type 0 where
+  pub heard : Option Hearing
+  pub heard_at : HeardAtWith is_fault_group (F ++ f ∷ []) (length F) heard
+  pub hears : Hears l' (F ++ f ∷ [])
+  pub announced_is : a' ≡ with_either (with_frame a f) heard
+  pub are_kept : AreKept conversions places (ms ++ in_time which (stamp_of_first (F ++ f ∷ [])) (active_among (or_none heard)))
+  pub messages_are : messages ≡ length (active_among (or_none heard))
+
+-- the table of parameters and those that are asked for, the versions of the conversion, and what is asked for
+pub record NowSubject : Type 0 where
+  pub manner : Manner
+  pub conversions : List Conversion
+  pub which : FilterRecord
+
+-- the faults in F were kept, to be told in this form, by this table
+pub record HasKept (form : Format) (s : NowSubject) (account : FaultsNow) (F : List FrameRecord) (output : Output) : Type 0 where
+  pub form_is : account.writing.form ≡ form
+  pub by : manner_of account.writing ≡ s.manner
+  pub conversions_are : account.conversions.now ≡ s.conversions
+  pub chooses : Chooses s.which account.chooser F
+  pub heard : List Hearing
+  pub are_heard : AreHeardWith is_fault_group F heard
+  pub hears : Hears account.listener F
+  pub are_kept : AreKept s.conversions account.places (in_time s.which (stamp_of_first F) (active_among heard))
+  pub messages_are : account.messages ≡ capped (length (active_among heard))
+  pub announced_is : account.announced ≡ announced_in F heard
+  pub nothing_yet : output ≡ nothing
+
+-- so many messages of codes were broken in the frames whose faults are kept
+abbrev pub KnowsBrokenNow : FaultsNow → ℕ → Type 0
+KnowsBrokenNow account n = (form : Format) (s : NowSubject) (F : List FrameRecord) (output : Output)
+    → HasKept form s account F output → IsBroken F n

@@ -1,0 +1,95 @@
+-- The row of a fault (own).
+use Rattle.std.specs.Prelude.{◌∷◌, ◌++◌, ℕ, List, [], Option, Some, None, codes, if◌then◌else◌, unwrap_or}
+use Rattle.std.specs.List.{flat_map}
+use Rattle.j39_faults.specs.Text.{clear_text, lamps_told, parameter_words, state_text}
+use Rattle.j39_faults.specs.Words.{fmi_words}
+use Rattle.j39_faults.specs.declared.code.Code.{Code}
+use Rattle.j39_faults.specs.declared.code.Parameter.{Parameter}
+use Rattle.j39_faults.specs.declared.code.Parameter.TheVariants.{Known, OneOf}
+use Rattle.j39_faults.specs.declared.kind.Kind.{Kind}
+use Rattle.j39_faults.specs.declared.lamps.Lamps.{Lamps}
+use Rattle.j39_faults.specs.declared.text.State.{State}
+use Rattle.j39_faults.specs.declared.text.State.TheVariants.{Is, Became}
+use Rattle.j39_groups.specs.Row.{RowRecord}
+use Rattle.j39_listen.specs.declared.format.Format.{Format}
+use Rattle.j39_fault_reports.specs.Faults.{Fault, Manner, Saying, clears, name_in, says, says_asked}
+use Rattle.j39_fault_reports.specs.declared.fault_news.telling.Telling.{Telling}
+use Rattle.j39_fault_reports.specs.declared.fault_news.telling.Telling.TheVariants.{Changes}
+use Rattle.j39_rows.specs.Row.{CellRecord, ColumnRecord, HeadRecord, PlaceRecord, address_cell, always, aside, beside_lines, if_any, in_all, name_cell, nothing, number_cell, or_nothing, plain, row_text, seconds, text, text_or_nothing, utc_cell, word}
+
+-- the names of the columns of records, with this one for the state
+abbrev pub columns_with : List ℕ → List ℕ
+columns_with state =
+    codes "stamp,utc,address,destination,name," ++ (state ++ codes ",spn,fmi,count,lamps,parameter,meaning\r\n")
+
+abbrev pub fault_columns : Telling → List ℕ
+fault_columns Changes = columns_with (codes "change")
+fault_columns telling = columns_with (codes "state")
+
+-- what the rows of a message begin with: the moment, the address, the destination and the NAME
+abbrev pub message_columns : ℕ → ℕ → Option ℕ → Option ℕ → List ColumnRecord
+message_columns stamp address destination name =
+    beside_lines (codes "utc") (utc_cell stamp) ∷ in_all (codes "address") dash (address_cell address)
+    ∷ in_all (codes "destination") (if_any (codes ">")) (or_nothing address_cell destination) ∷ name_column name ∷ []
+
+abbrev pub message_head : ℕ → ℕ → Option ℕ → Option ℕ → HeadRecord
+message_head stamp address destination name = record {
+  name = codes "stamp";
+  first = seconds stamp;
+  columns = message_columns stamp address destination name;
+}
+
+-- what is said where there is no code: in a line what stands for the parameter, else what it means
+abbrev pub uncoded : List ℕ → List ℕ → List ℕ → CellRecord → List ℕ → List ColumnRecord
+uncoded name how spn lamps meaning =
+    in_all name dash (plain (word how)) ∷ in_all (codes "spn") dash (aside spn) ∷ in_all (codes "fmi") dash nothing
+    ∷ in_all (codes "count") (if_any (codes " ")) nothing ∷ in_all (codes "lamps") dash lamps
+    ∷ in_all (codes "parameter") (if_any (codes " ")) nothing ∷ beside_lines (codes "meaning") (text meaning) ∷ []
+
+-- the parameter's number, where it is known
+abbrev pub spn_cell : Parameter → CellRecord
+spn_cell (Known spn) = number_cell spn
+spn_cell (OneOf spns) = nothing
+
+-- what is said of a code of a parameter that is called so
+abbrev pub coded : List ℕ → List ℕ → CellRecord → List ℕ → Code → List ColumnRecord
+coded name how lamps parameter code =
+    in_all name dash (plain (word how)) ∷ in_all (codes "spn") dash (spn_cell code.parameter)
+    ∷ in_all (codes "fmi") dash (number_cell code.fmi) ∷ in_all (codes "count") dash (or_nothing number_cell code.count)
+    ∷ in_all (codes "lamps") dash lamps ∷ in_all (codes "parameter") (if_any (codes " ")) (text parameter)
+    ∷ in_all (codes "meaning") (if_any (codes ": ")) (text (fmi_words code.fmi)) ∷ []
+
+-- the state, or what became of a code
+abbrev pub state_name : State → List ℕ
+state_name (Is kind) = codes "state"
+state_name (Became change) = codes "change"
+
+-- by what the table calls the parameter; where it has no name by a word and its number, or its candidates
+abbrev pub said_columns : List RowRecord → State → Lamps → Option Code → List ColumnRecord
+said_columns rows how lamps None =
+    uncoded (state_name how) (state_text how) (codes "none") (text_or_nothing (lamps_told lamps)) (codes "no code")
+said_columns rows how lamps (Some code) =
+    coded (state_name how) (state_text how) (text_or_nothing (lamps_told lamps))
+    (unwrap_or (name_in rows code) (parameter_words code.parameter)) code
+
+-- that the codes of a kind are to be cleared
+abbrev pub clearing_columns : Kind → List ColumnRecord
+clearing_columns kind = uncoded (codes "state") (clear_text kind) (codes "all") nothing (codes "all codes")
+
+abbrev pub saying_columns : List RowRecord → Saying → List ColumnRecord
+saying_columns rows (says how lamps code) = said_columns rows how lamps code
+saying_columns rows (clears kind) = clearing_columns kind
+
+-- what the column of the state is called in its row
+abbrev pub saying_name : Saying → List ℕ
+saying_name (says how lamps code) = state_name how
+saying_name (clears kind) = codes "state"
+
+-- if its code is asked for
+abbrev pub fault_in : Format → Manner → Fault → List ℕ
+fault_in form manner f =
+    if says_asked manner.spns f
+    then row_text form (message_head f.stamp f.address f.destination f.name) (saying_columns manner.rows f.saying) else []
+
+unfoldable pub faults_text : Format → Manner → List Fault → List ℕ
+faults_text form manner faults = flat_map (fault_in form manner) faults

@@ -1,0 +1,78 @@
+-- The text of what the last messages of active codes name, what a run makes of the frames, and where it may want memory.
+use Rattle.std.specs.Prelude.{◌≡◌, ◌⊎◌, ◌++◌, ◌∷◌, [], true, ℕ, List, codes, count_by, filter, if◌then◌else◌, length}
+use Rattle.std.specs.List.{flat_map}
+use Rattle.j39_frame.specs.Frame.{FrameRecord}
+use Rattle.j39_faults.specs.declared.conversion.Conversion.{Conversion}
+use Rattle.j39_faults.specs.declared.kind.Kind.TheVariants.{Active}
+use Rattle.j39_faults.specs.declared.text.State.TheVariants.{Is}
+use Rattle.j39_listen.specs.Asking.{AsksForBoxes, Wanting}
+use Rattle.j39_listen.specs.Filter.{FilterRecord, first_stamp, in_time, is_in_time}
+use Rattle.j39_listen.specs.Headed.{Columned}
+use Rattle.j39_listen.specs.Heard.{AreHeardWith, Hearing, IsHeardWith}
+use Rattle.j39_listen.specs.Output.{Making, Output}
+use Rattle.j39_listen.specs.declared.format.Format.{Format}
+use Rattle.j39_fault_reports.specs.FaultRows.{said_columns}
+use Rattle.j39_rows.specs.Row.{dash, name_column}
+use Rattle.j39_fault_reports.specs.Faults.{Manner, names_asked}
+use Rattle.j39_rows.specs.Row.{HeadRecord, address_cell, beside_lines, in_all, number_cell, row_text, seconds, seconds_cell, utc_cell}
+use Rattle.j39_fault_reports.specs.FaultsNow.{Now, active_among, faults_now, is_active_message, is_at, lasts, now_taken}
+use Rattle.j39_fault_reports.specs.News.{is_fault_group}
+
+-- the names of the columns
+abbrev pub now_columns : List ℕ
+now_columns = codes "first_stamp,first_utc,address,name,last_stamp,last_utc,messages,state,spn,fmi,count,lamps,parameter,meaning\r\n"
+
+-- what its row begins with: since when, the address and the NAME, up to when, and how often
+abbrev pub now_head : Now → HeadRecord
+now_head n = record {
+  name = codes "first_stamp";
+  first = seconds n.since;
+  columns =
+      beside_lines (codes "first_utc") (utc_cell n.since) ∷ in_all (codes "address") dash (address_cell n.address)
+      ∷ name_column n.name ∷ in_all (codes "last_stamp") dash (seconds_cell n.last)
+      ∷ beside_lines (codes "last_utc") (utc_cell n.last) ∷ in_all (codes "messages") dash (number_cell n.often) ∷ [];
+}
+
+-- if its code is asked for
+abbrev pub now_line : Format → Manner → Now → List ℕ
+now_line form manner n =
+    if names_asked manner.spns n.code then row_text form (now_head n) (said_columns manner.rows (Is Active) n.lamps n.code) else []
+
+unfoldable pub now_text : Format → Manner → List Now → List ℕ
+now_text form manner ns = flat_map (now_line form manner) ns
+
+abbrev pub now_lines : Manner → List Now → ℕ
+now_lines manner ns = count_by (λ n. names_asked manner.spns n.code) ns
+
+-- of the messages between the moments what is asked for; each message of active codes counts
+abbrev pub faults_now_of : Format → Manner → List Conversion → FilterRecord → ℕ → List Hearing → Output
+faults_now_of form manner conversions which first ms = record {
+  text = now_text form manner (now_taken which first (faults_now conversions (in_time which first ms)));
+  messages = length ms;
+  lines = now_lines manner (now_taken which first (faults_now conversions (in_time which first ms)));
+}
+
+-- of the frames, whatever their bus is called, in either form
+abbrev pub MakesFaultsNowIn : Format → Manner → List Conversion → FilterRecord → Making
+MakesFaultsNowIn form manner conversions which bus F output =
+    (heard : List Hearing) × AreHeardWith is_fault_group F heard
+    × (output ≡ faults_now_of form manner conversions which (first_stamp F) (active_among heard))
+
+-- a line, a record or an object for each
+abbrev pub MakesFaultsNow : Format → Manner → List Conversion → FilterRecord → Making
+MakesFaultsNow form manner conversions which = Columned now_columns form (MakesFaultsNowIn form manner conversions which)
+
+-- behind the frames F a message of active codes is heard at the frame, between the moments, where none is the last of a
+-- controller at its address
+pub record IsFirstActive (which : FilterRecord) (F : List FrameRecord) (frame : FrameRecord) : Type 0 where
+  pub before : List Hearing
+  pub are_heard : AreHeardWith is_fault_group F before
+  pub message : Hearing
+  pub is_heard : IsHeardWith is_fault_group (F ++ frame ∷ []) (length F) message
+  pub of_active : is_active_message message ≡ true
+  pub now : is_in_time which (first_stamp (F ++ frame ∷ [])) message.stamp ≡ true
+  pub first : filter (is_at message.message.source) (lasts (in_time which (first_stamp (F ++ frame ∷ [])) (active_among before))) ≡ []
+
+-- where a message in packets is announced that needs a box, or one of active codes is the first of its address
+abbrev pub AsksForFaultsNow : FilterRecord → Wanting
+AsksForFaultsNow which F frame = AsksForBoxes F frame ⊎ IsFirstActive which F frame

@@ -1,0 +1,15 @@
+//! Which faults are there now: what the last message of active codes of each controller names (J1939-73).
+
+pub(crate) mod account;
+pub(crate) mod last_active;
+pub mod laws;
+mod lines;
+pub(crate) mod places;
+mod run;
+pub(crate) mod standing;
+
+pub use account::take_heard;
+pub use last_active::LastActive;
+pub use places::{Places, SOURCES};
+pub use run::faults_now;
+pub use standing::Standing;

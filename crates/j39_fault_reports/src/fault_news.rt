@@ -1,0 +1,21 @@
+//! The fault codes in a log, as they become news (J1939-73).
+
+pub(crate) mod account;
+pub(crate) mod announced;
+mod changes;
+pub(crate) mod columns;
+pub(crate) mod form;
+mod last_faults;
+pub(crate) mod last_message;
+mod last_messages;
+pub mod laws;
+pub(crate) mod lines;
+pub(crate) mod names;
+pub(crate) mod run;
+mod since;
+mod telling;
+
+pub use account::is_of_fault_group;
+pub use names::name_in;
+pub use run::{FaultCounts, faults};
+pub use telling::{Choice, Telling};

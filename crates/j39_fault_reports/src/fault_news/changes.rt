@@ -1,0 +1,138 @@
+//! The lines of what became of active codes, from one message of DM1 to the next, or the records.
+ghost use Rattle.std.specs.Prelude.{◌≡◌, ◌≤◌, IfOk, length, option_map};
+ghost use Rattle.j39_io.specs.Puts.{Puts};
+ghost use Rattle.j39_io.specs.Turn.{turn};
+ghost use Rattle.j39_address.specs.Name.{name_raw};
+ghost use Rattle.j39_faults.specs.Conversions.{codes_by};
+ghost use Rattle.j39_frame.specs.Stamp.{stamp_micros};
+ghost use Rattle.j39_listen.specs.HeardModel.{hearing_of};
+ghost use Rattle.j39_fault_reports.specs.FaultChanges.{became, changes_by};
+ghost use Rattle.j39_fault_reports.specs.FaultRows.{faults_text, message_head};
+ghost use Rattle.j39_rows.specs.Models.{head_of};
+ghost use Rattle.j39_fault_reports.specs.FaultsSoFar.{change_by, changed, manner_of};
+ghost use Rattle.j39_fault_reports.specs.Faults.{lines_in};
+
+use crate::fault_news::columns::message_columns;
+use crate::fault_news::form::{Said, Writing};
+use crate::fault_news::lines::{message_head, put_fault};
+use j39_faults::{
+    Change, Code, Lamps, State, Version, change_since, clearing_by, code_by, codes_of,
+};
+use j39_io::{DeviceFault, Sink};
+use j39_listen::Heard;
+use j39_rows::Head;
+
+/// Which of two messages, one behind the other, names a code.
+#[derive(Clone, Copy)]
+pub(crate) enum Side {
+    Later,
+    Earlier,
+}
+
+/// Writes a line for each code that changed from a payload to the message behind it, and answers how many.
+pub(crate) fn put_changes<W: Sink>(
+    heard: &Heard<'_>,
+    writing: Writing<'_, '_>,
+    version: Option<Version>,
+    lamps: Lamps,
+    before: &[u8],
+    sink: &mut W,
+) -> Result<u64, DeviceFault>
+    ensures lines { IfOk result (λ n. n ≡ lines_in (manner_of writing.entry) (changes_by version before.now (hearing_of heard.now) lamps)) }
+    ensures puts { Puts (faults_text writing.entry.form (manner_of writing.entry) (changes_by version before.now (hearing_of heard.now) lamps))
+        result (turn W.written W.has_failed sink.old sink.new) }
+{
+    let columns = message_columns(heard);
+    let head = message_head(heard, &columns);
+    let payload = heard.message.payload;
+    let later = put_changed(
+        heard,
+        head,
+        writing,
+        version,
+        lamps,
+        Side::Later,
+        payload,
+        before,
+        sink,
+    )?;
+    let earlier = put_changed(
+        heard,
+        head,
+        writing,
+        version,
+        lamps,
+        Side::Earlier,
+        before,
+        payload,
+        sink,
+    )?;
+    Ok(later + earlier)
+}
+
+/// Writes a line for each code of a payload that changed, the other message having these, and answers how many.
+fn put_changed<W: Sink>(
+    heard: &Heard<'_>,
+    head: Head<'_>,
+    writing: Writing<'_, '_>,
+    version: Option<Version>,
+    lamps: Lamps,
+    side: Side,
+    payload: &[u8],
+    others: &[u8],
+    sink: &mut W,
+) -> Result<u64, DeviceFault>
+    requires { head_of head ≡ message_head (stamp_micros heard.now.message.stamp) heard.now.message.source
+        heard.now.destination (option_map name_raw heard.now.name) }
+    ensures lines { IfOk result (λ n. n
+        ≡ lines_in (manner_of writing.entry) (changed side (hearing_of heard.now) lamps (codes_by version others.now) (codes_by version payload.now))) }
+    ensures few { IfOk result (λ n. n ≤ length payload.now) }
+    ensures puts { Puts (faults_text writing.entry.form (manner_of writing.entry)
+        (changed side (hearing_of heard.now) lamps (codes_by version others.now) (codes_by version payload.now)))
+        result (turn W.written W.has_failed sink.old sink.new) }
+{
+    let mut lines = 0;
+    for code in codes_of(payload) {
+        let code = code_by(version, code);
+        let change = change_by(side, version, others, code);
+        lines += put_change(heard, head, writing, lamps, code, change, sink)?;
+    }
+    Ok(lines)
+}
+
+/// What became of a code of one of two messages, the other having these.
+fn change_by(side: Side, version: Option<Version>, others: &[u8], code: Code) -> Option<Change>
+    ensures { result ≡ change_by side (codes_by version others.now) code }
+{
+    match side {
+        Side::Later => change_since(version, others, code),
+        Side::Earlier => clearing_by(version, others, code),
+    }
+}
+
+/// Writes a line for a code that changed, and answers how many.
+fn put_change<W: Sink>(
+    heard: &Heard<'_>,
+    head: Head<'_>,
+    writing: Writing<'_, '_>,
+    lamps: Lamps,
+    code: Code,
+    change: Option<Change>,
+    sink: &mut W,
+) -> Result<u64, DeviceFault>
+    requires { head_of head ≡ message_head (stamp_micros heard.now.message.stamp) heard.now.message.source
+        heard.now.destination (option_map name_raw heard.now.name) }
+    ensures lines { IfOk result (λ n. n ≡ lines_in (manner_of writing.entry) (became (hearing_of heard.now) lamps code change)) }
+    ensures puts { Puts (faults_text writing.entry.form (manner_of writing.entry) (became (hearing_of heard.now) lamps code change))
+        result (turn W.written W.has_failed sink.old sink.new) }
+{
+    let Some(change) = change else {
+        return Ok(0);
+    };
+    let said = Said {
+        state: State::Became(change),
+        lamps,
+        code: Some(code),
+    };
+    put_fault(head, writing, said, sink)
+}

@@ -1,0 +1,57 @@
+//! How faults are written.
+ghost use Rattle.std.specs.Prelude.{◌≡◌};
+ghost use Rattle.j39_fault_reports.specs.Faults.{is_number_of, is_parameter_of, names_asked};
+ghost use Rattle.j39_fault_reports.specs.FaultsSoFar.{spns_now};
+
+use j39_faults::{Code, Lamps, Parameter, State};
+use j39_groups::Groups;
+use j39_listen::Format;
+
+/// In which form, by which table of parameters, and of which parameters alone, where some are asked for.
+#[derive(Clone, Copy)]
+pub(crate) struct Writing<'g, 't> {
+    pub form: Format,
+    pub groups: &'g Groups<'t>,
+    pub spns: Option<&'g [u32]>,
+}
+
+/// Whether a code is asked for, or that there is none.
+pub(crate) fn names_asked(spns: Option<&[u32]>, code: Option<Code>) -> bool
+    ensures { result ≡ names_asked (spns_now spns.entry) code }
+{
+    let Some(spns) = spns else {
+        return true;
+    };
+    match code {
+        Some(code) => is_parameter_of(spns, code.parameter),
+        None => false,
+    }
+}
+
+/// Whether one of the numbers that a parameter may have is among these.
+fn is_parameter_of(spns: &[u32], parameter: Parameter) -> bool
+    ensures { result ≡ is_parameter_of spns.now parameter }
+{
+    match parameter {
+        Parameter::Known(spn) => is_number_of(spns, spn),
+        Parameter::OneOf(these) => {
+            is_number_of(spns, these.version_1)
+                || is_number_of(spns, these.version_2)
+                || is_number_of(spns, these.version_3)
+        }
+    }
+}
+
+fn is_number_of(spns: &[u32], spn: u32) -> bool
+    ensures { result ≡ is_number_of spns.now spn }
+{
+    spns.iter().any(|asked| *asked == spn)
+}
+
+/// What is said of a code, or that a message has none.
+#[derive(Clone, Copy)]
+pub(crate) struct Said {
+    pub state: State,
+    pub lamps: Lamps,
+    pub code: Option<Code>,
+}

@@ -1,0 +1,185 @@
+//! The rows of a message of faults.
+ghost use Rattle.std.specs.Prelude.{◌≡◌, IfOk, Some, count_by, map, option_map, unwrap_or};
+ghost use Rattle.std.specs.List.{flat_map};
+ghost use Rattle.j39_io.specs.Puts.{Puts};
+ghost use Rattle.j39_io.specs.Turn.{turn};
+ghost use Rattle.j39_address.specs.Name.{name_raw};
+ghost use Rattle.j39_faults.specs.Conversions.{codes_by};
+ghost use Rattle.j39_faults.specs.declared.text.State.TheVariants.{Is};
+ghost use Rattle.j39_frame.specs.Stamp.{stamp_micros};
+ghost use Rattle.j39_listen.specs.HeardModel.{hearing_of};
+ghost use Rattle.j39_fault_reports.specs.Faults.{faults_by, lines_in, name_in, names_asked};
+ghost use Rattle.j39_fault_reports.specs.FaultRows.{clearing_columns, faults_text, message_columns, message_head, said_columns};
+ghost use Rattle.j39_fault_reports.specs.FaultsSoFar.{line_of, manner_of, spns_now};
+ghost use Rattle.j39_listen.specs.Counting.{one_if};
+ghost use Rattle.j39_rows.specs.Models.{column_of, head_of};
+ghost use Rattle.j39_rows.specs.Row.{row_text};
+
+use crate::fault_news::columns::{coded, message_columns, state_name, uncoded};
+use crate::fault_news::form::{Said, Writing, names_asked};
+use crate::fault_news::names::name_in;
+use j39_faults::{
+    Code, Kind, Lamps, State, Version, clear_word, code_by, codes_of, lamps_told, parameter_words,
+    state_word,
+};
+use j39_groups::Groups;
+use j39_io::{DeviceFault, Sink};
+use j39_listen::{Format, Heard};
+use j39_rows::{Cell, Column, Head, Plain, put_row};
+
+/// Writes a line for each code of a message, by this version of the conversion, or one that says that it has none, and
+/// answers how many.
+pub(crate) fn put_message<W: Sink>(
+    heard: &Heard<'_>,
+    writing: Writing<'_, '_>,
+    version: Option<Version>,
+    kind: Kind,
+    lamps: Lamps,
+    sink: &mut W,
+) -> Result<u64, DeviceFault>
+    ensures lines { IfOk result (λ n. n ≡ lines_in (manner_of writing.entry)
+        (faults_by version (hearing_of heard.now) (Some kind) (Some lamps))) }
+    ensures puts { Puts (faults_text writing.entry.form (manner_of writing.entry)
+        (faults_by version (hearing_of heard.now) (Some kind) (Some lamps)))
+        result (turn W.written W.has_failed sink.old sink.new) }
+{
+    let columns = message_columns(heard);
+    let head = message_head(heard, &columns);
+    let lines = put_codes(
+        head,
+        writing,
+        version,
+        kind,
+        lamps,
+        heard.message.payload,
+        sink,
+    )?;
+    if lines > 0 {
+        return Ok(lines);
+    }
+    let state = State::Is(kind);
+    let code = None;
+    put_fault(head, writing, Said { state, lamps, code }, sink)
+}
+
+/// Writes a line for each code that is asked for, and answers how many.
+fn put_codes<W: Sink>(
+    head: Head<'_>,
+    writing: Writing<'_, '_>,
+    version: Option<Version>,
+    kind: Kind,
+    lamps: Lamps,
+    payload: &[u8],
+    sink: &mut W,
+) -> Result<u64, DeviceFault>
+    ensures lines { IfOk result (λ n. n ≡ count_by (λ code. names_asked (spns_now writing.entry.spns) (Some code)) (codes_by version payload.now)) }
+    ensures puts { Puts (flat_map (λ code. line_of writing.entry.form (head_of head.entry) (manner_of writing.entry) (Is kind) lamps (Some code))
+        (codes_by version payload.now)) result (turn W.written W.has_failed sink.old sink.new) }
+{
+    let mut lines = 0;
+    for code in codes_of(payload) {
+        let state = State::Is(kind);
+        let code = Some(code_by(version, code));
+        lines += put_fault(head, writing, Said { state, lamps, code }, sink)?;
+    }
+    Ok(lines)
+}
+
+/// Writes what is said behind what stands before it, if its code is asked for, and answers how many lines that is.
+pub(crate) fn put_fault<W: Sink>(
+    head: Head<'_>,
+    writing: Writing<'_, '_>,
+    said: Said,
+    sink: &mut W,
+) -> Result<u64, DeviceFault>
+    ensures lines { IfOk result (λ n. n ≡ one_if (names_asked (spns_now writing.entry.spns) said.code)) }
+    ensures puts { Puts (line_of writing.entry.form (head_of head.entry) (manner_of writing.entry) said.state said.lamps said.code)
+        result (turn W.written W.has_failed sink.old sink.new) }
+{
+    if !names_asked(writing.spns, said.code) {
+        return Ok(0);
+    }
+    match put_shown(head, writing, said, sink) {
+        Ok(()) => Ok(1),
+        Err(DeviceFault) => Err(DeviceFault),
+    }
+}
+
+/// Writes what is said.
+fn put_shown<W: Sink>(
+    head: Head<'_>,
+    writing: Writing<'_, '_>,
+    said: Said,
+    sink: &mut W,
+) -> Result<(), DeviceFault>
+    ensures { Puts (row_text writing.entry.form (head_of head.entry) (said_columns writing.entry.groups.now said.state said.lamps said.code))
+        result (turn W.written W.has_failed sink.old sink.new) }
+{
+    let (name, word) = (state_name(said.state), state_word(said.state));
+    let told = lamps_told(said.lamps);
+    let lamps = Cell::text(told.as_slice());
+    match said.code {
+        Some(code) => {
+            let words = parameter_words(code.parameter);
+            let parameter = parameter_of(writing.groups, code, words.as_slice());
+            put_row(
+                writing.form,
+                head,
+                &coded(name, word, lamps, parameter, code),
+                sink,
+            )
+        }
+        None => {
+            let columns = uncoded(name, word, b"none", lamps, b"no code");
+            put_row(writing.form, head, &columns, sink)
+        }
+    }
+}
+
+/// What the table calls the parameter of a code, or else these words.
+fn parameter_of<'r>(groups: &'r Groups<'_>, code: Code, words: &'r [u8]) -> &'r [u8]
+    ensures { result.now ≡ unwrap_or (name_in groups.now code) words.now }
+{
+    match name_in(groups, code) {
+        Some(name) => name,
+        None => words,
+    }
+}
+
+/// Writes that a message asks to clear the codes of a kind.
+pub(crate) fn put_clearing<W: Sink>(
+    heard: &Heard<'_>,
+    form: Format,
+    kind: Kind,
+    sink: &mut W,
+) -> Result<(), DeviceFault>
+    ensures { Puts (row_text form (message_head (stamp_micros heard.now.message.stamp) heard.now.message.source heard.now.destination
+        (option_map name_raw heard.now.name)) (clearing_columns kind))
+        result (turn W.written W.has_failed sink.old sink.new) }
+{
+    let columns = message_columns(heard);
+    let head = message_head(heard, &columns);
+    let word = clear_word(kind);
+    let said = uncoded(
+        b"state",
+        word.as_slice(),
+        b"all",
+        Cell::Nothing,
+        b"all codes",
+    );
+    put_row(form, head, &said, sink)
+}
+
+/// What the rows of a message begin with, of these columns of it.
+pub(crate) fn message_head<'a>(heard: &Heard<'_>, columns: &'a [Column<'a>; 4]) -> Head<'a>
+    requires { map column_of columns.now ≡ message_columns (stamp_micros heard.now.message.stamp) heard.now.message.source
+        heard.now.destination (option_map name_raw heard.now.name) }
+    ensures { head_of result ≡ message_head (stamp_micros heard.now.message.stamp) heard.now.message.source
+        heard.now.destination (option_map name_raw heard.now.name) }
+{
+    Head {
+        name: b"stamp",
+        first: Plain::Seconds(heard.message.stamp),
+        columns,
+    }
+}

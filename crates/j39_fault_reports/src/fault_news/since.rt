@@ -1,0 +1,191 @@
+//! What is told of a message of codes, behind what its address said before.
+ghost use Rattle.std.specs.Prelude.{◌≡◌, ◌≢◌, None, OnOk, Some, Err, option_map, slice_set};
+ghost use Rattle.j39_io.specs.Turn.{turn};
+ghost use Rattle.j39_address.specs.Name.{name_raw};
+ghost use Rattle.j39_listen.specs.HeardModel.{hearing_of};
+ghost use Rattle.j39_listen.specs.declared.account.LineFault.TheVariants as line_fault;
+ghost use Rattle.j39_fault_reports.specs.FaultChanges.{changes_by, is_active};
+ghost use Rattle.j39_fault_reports.specs.Faults.{faults_by};
+ghost use Rattle.j39_fault_reports.specs.FaultsSoFar.{TellsFaults, is_told, manner_of, tells_changes, told_faults, told_since};
+ghost use Rattle.j39_fault_reports.specs.LastMessages.{at, said_before, said_by};
+ghost use Rattle.j39_fault_reports.specs.Remembered.{noted, said_at};
+
+use crate::fault_news::changes::put_changes;
+use crate::fault_news::form::Writing;
+use crate::fault_news::last_faults::LastFaults;
+use crate::fault_news::last_messages::LastMessages;
+use crate::fault_news::lines::put_message;
+use crate::fault_news::telling::Telling;
+use j39_faults::{Kind, Lamps, Version};
+use j39_io::{DeviceFault, Sink};
+use j39_listen::{Heard, LineFault, Made};
+use std::alloc::{AllocError, Global};
+
+/// Tells what is to be told of a message of codes, if it is asked for, notes what it says, and answers its numbers.
+pub(crate) fn put_since<W: Sink>(
+    alloc: Global,
+    heard: &Heard<'_>,
+    writing: Writing<'_, '_>,
+    telling: Telling,
+    is_asked: bool,
+    version: Option<Version>,
+    kind: Kind,
+    lamps: Lamps,
+    last: &mut LastFaults,
+    sink: &mut W,
+) -> Result<Made, LineFault>
+    ensures tells { TellsFaults writing.entry.form (manner_of writing.entry)
+        (told_faults is_asked
+        (told_since telling version (said_at last.old kind heard.now.message.source) (hearing_of heard.now) kind lamps))
+        result (turn W.written W.has_failed sink.old sink.new) }
+    ensures after { OnOk result (last.new ≡ noted last.old kind heard.now.message.source
+        (said_by heard.now.message.payload.now (option_map name_raw heard.now.name))) }
+    ensures first { result ≡ Err line_fault.Memory → said_at last.old kind heard.now.message.source ≡ None }
+{
+    if tells_changes(telling, kind) {
+        let active = &mut last.active;
+        return put_active(
+            alloc, heard, writing, is_asked, version, lamps, active, sink,
+        );
+    }
+    let (source, payload) = (heard.message.source, heard.message.payload);
+    match last.note(alloc, kind, version, source, payload, heard.name) {
+        Err(AllocError) => Err(LineFault::Memory),
+        Ok(is_news) => {
+            let is_told = is_told(telling, is_news);
+            put_told(
+                heard,
+                writing,
+                is_asked && is_told,
+                version,
+                kind,
+                lamps,
+                sink,
+            )
+        }
+    }
+}
+
+/// Whether it is told what became of the codes of a message: of active ones, where changes are told.
+fn tells_changes(telling: Telling, kind: Kind) -> bool
+    ensures { result ≡ tells_changes telling kind }
+{
+    match telling {
+        Telling::News => false,
+        Telling::All => false,
+        Telling::Changes => is_active(kind),
+    }
+}
+
+fn is_active(kind: Kind) -> bool
+    ensures { result ≡ is_active kind }
+{
+    match kind {
+        Kind::Active => true,
+        Kind::Previous
+        | Kind::EmissionPending
+        | Kind::EmissionActive
+        | Kind::EmissionPrevious
+        | Kind::Pending
+        | Kind::Permanent => false,
+    }
+}
+
+/// Whether the codes of a message are told.
+fn is_told(telling: Telling, is_news: bool) -> bool
+    ensures { result ≡ is_told telling is_news }
+{
+    match telling {
+        Telling::News => is_news,
+        Telling::All => true,
+        Telling::Changes => false,
+    }
+}
+
+/// Writes the lines of a message of codes where it is told, and answers its numbers.
+fn put_told<W: Sink>(
+    heard: &Heard<'_>,
+    writing: Writing<'_, '_>,
+    is_told: bool,
+    version: Option<Version>,
+    kind: Kind,
+    lamps: Lamps,
+    sink: &mut W,
+) -> Result<Made, LineFault>
+    ensures tells { TellsFaults writing.entry.form (manner_of writing.entry)
+        (told_faults is_told (faults_by version (hearing_of heard.now) (Some kind) (Some lamps)))
+        result (turn W.written W.has_failed sink.old sink.new) }
+    ensures not_memory { result ≢ Err line_fault.Memory }
+{
+    if !is_told {
+        return Ok(Made {
+            messages: 1,
+            lines: 0,
+        });
+    }
+    match put_message(heard, writing, version, kind, lamps, sink) {
+        Ok(lines) => Ok(Made { messages: 1, lines }),
+        Err(DeviceFault) => Err(LineFault::Write),
+    }
+}
+
+/// Tells what became of active codes, if it is asked for, and notes what the message says. Memory is taken where its
+/// address said nothing before.
+fn put_active<W: Sink>(
+    alloc: Global,
+    heard: &Heard<'_>,
+    writing: Writing<'_, '_>,
+    is_asked: bool,
+    version: Option<Version>,
+    lamps: Lamps,
+    active: &mut LastMessages,
+    sink: &mut W,
+) -> Result<Made, LineFault>
+    ensures tells { TellsFaults writing.entry.form (manner_of writing.entry) (told_faults is_asked (changes_by version
+        (said_before (at active.old heard.now.message.source) (option_map name_raw heard.now.name))
+        (hearing_of heard.now) lamps))
+        result (turn W.written W.has_failed sink.old sink.new) }
+    ensures after { OnOk result (active.new ≡ slice_set active.old heard.now.message.source
+        (Some (said_by heard.now.message.payload.now (option_map name_raw heard.now.name)))) }
+    ensures first { result ≡ Err line_fault.Memory → at active.old heard.now.message.source ≡ None }
+{
+    let (source, payload) = (heard.message.source, heard.message.payload);
+    let Some(mut said) = active.take(source) else {
+        return match active.note(alloc, version, source, payload, heard.name) {
+            Err(AllocError) => Err(LineFault::Memory),
+            Ok(_) => put_made(heard, writing, is_asked, version, lamps, &[], sink),
+        };
+    };
+    let before = said.bytes_for(heard.name);
+    let made = put_made(heard, writing, is_asked, version, lamps, before, sink);
+    said.replace(payload, heard.name);
+    active.put(source, said);
+    made
+}
+
+/// Writes what became of active codes since these bytes were said, if it is asked for, and answers the message's numbers.
+fn put_made<W: Sink>(
+    heard: &Heard<'_>,
+    writing: Writing<'_, '_>,
+    is_asked: bool,
+    version: Option<Version>,
+    lamps: Lamps,
+    before: &[u8],
+    sink: &mut W,
+) -> Result<Made, LineFault>
+    ensures tells { TellsFaults writing.entry.form (manner_of writing.entry)
+        (told_faults is_asked (changes_by version before.now (hearing_of heard.now) lamps))
+        result (turn W.written W.has_failed sink.old sink.new) }
+    ensures not_memory { result ≢ Err line_fault.Memory }
+{
+    if !is_asked {
+        return Ok(Made {
+            messages: 1,
+            lines: 0,
+        });
+    }
+    match put_changes(heard, writing, version, lamps, before, sink) {
+        Ok(lines) => Ok(Made { messages: 1, lines }),
+        Err(DeviceFault) => Err(LineFault::Write),
+    }
+}

@@ -1,5 +1,0 @@
-use Rattle.j39_reports.proofs.NodeLemmas.{nodes_begin, nodes_one}
-use Rattle.j39_reports.proofs.node_lists.held.HeldListAccount.laws.Goals as goal
-
-pub returns : goal.returns
-returns c = record { begins = nodes_begin; one = nodes_one }

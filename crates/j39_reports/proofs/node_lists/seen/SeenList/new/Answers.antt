@@ -1,8 +1,0 @@
-use Rattle.std.proofs.Common.{refl}
-use Rattle.j39_reports.specs.SeenNodes.{last_stamp}
-use Rattle.j39_reports.proofs.SeenLemmas.{seen_none_at}
-use Rattle.j39_reports.proofs.node_lists.seen.SeenList.new.Goals as goal
-
-pub returns : goal.returns
-unfolding last_stamp
-returns c = record { knows = c.new.ensures; sees = seen_none_at; last_is = refl; form_is = refl; from_is = refl; nothing = refl }

@@ -1,9 +1,0 @@
-use Rattle.std.proofs.Common.{ap, refl, map}
-use Rattle.j39_reports.specs.Firsts.{firsts}
-use Rattle.j39_reports.specs.Interfaces.{told_in}
-use Rattle.j39_reports.specs.SurveyModels.{interface_record}
-use Rattle.j39_reports.proofs.surveys.interfaces.Interfaces.new.Goals as goal
-
-pub returns : goal.returns
-unfolding firsts told_in
-returns c = record { told_are = ap (map interface_record) c.new.ensures; untold_is = refl }

@@ -1,7 +1,0 @@
-use Rattle.std.proofs.Common.{refl}
-use Rattle.j39_reports.specs.OtherLines.{others_of}
-use Rattle.j39_reports.proofs.surveys.others.Others.new.Goals as goal
-
-pub returns : goal.returns
-unfolding others_of
-returns c = refl

@@ -1,5 +1,0 @@
-use Rattle.j39_reports.proofs.UnreadLemmas.{long_unprinted}
-use Rattle.j39_reports.proofs.surveys.unread.is_printed_line.Goals as goal
-
-pub returns-in-Long : goal.returns-in-Long
-returns-in-Long c = rw c.in-Long.is (λ line raw. long_unprinted line raw.0)

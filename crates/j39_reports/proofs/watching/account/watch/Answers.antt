@@ -1,7 +1,0 @@
--- The run of the account, from no frames on.
-use Rattle.j39_reports.proofs.Common.{refl, nothing}
-use Rattle.j39_reports.specs.NotesSoFar.{size_of}
-use Rattle.j39_reports.proofs.watching.account.watch.Goals as goal
-
-pub returns-clause-ran : goal.returns-clause-ran
-returns-clause-ran g c = c.run_over.ensures.ran (size_of c.args.size, c.args.groups.now) nothing (λ name. c.new.ensures) refl

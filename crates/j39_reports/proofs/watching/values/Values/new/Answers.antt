@@ -1,6 +1,0 @@
-use Rattle.j39_memory.specs.ByOrigin.{pairs_of}
-use Rattle.j39_reports.proofs.ValueLemmas.{no_values}
-use Rattle.j39_reports.proofs.watching.values.Values.new.Goals as goal
-
-pub returns : goal.returns
-returns c = no_values (pairs_of c.new.result) c.new.ensures

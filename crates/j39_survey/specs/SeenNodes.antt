@@ -1,0 +1,128 @@
+-- Who is at which address after the frames of a bus (J1939-81, 4.2), as it was seen, and its row.
+use Rattle.std.specs.Prelude.{◌≡◌, ◌==◌, ◌&&◌, ◌⊎◌, ◌<◌, ◌≤◌, ◌-◌, ℕ, Bool, true, false, List, [], ◌∷◌, Option, Some, None, codes, filter, if◌then◌else◌, length, nat_lt, option_and_then}
+use Rattle.std.specs.List.{last_or}
+use Rattle.std.specs.Option.{option_map}
+use Rattle.j39_frame.specs.Identifier.{source_of}
+use Rattle.j39_frame.specs.Frame.{FrameRecord}
+use Rattle.j39_address.specs.Claim.{Claim, claim_of, claims_of}
+use Rattle.j39_address.specs.Holder.{Holds}
+use Rattle.j39_address.specs.Name.{fields_of}
+use Rattle.j39_names.specs.Called.{function_called, maker_called}
+use Rattle.j39_survey.specs.ByAddress.{AreShown, lines_of, shown_from}
+use Rattle.j39_listen.specs.Filter.{is_sender}
+use Rattle.j39_listen.specs.Headed.{Columned}
+use Rattle.j39_listen.specs.Heard.{frame_at}
+use Rattle.j39_listen.specs.Output.{Making}
+use Rattle.j39_listen.specs.declared.filter.Sender.{Sender}
+use Rattle.j39_listen.specs.declared.format.Format.{Format}
+use Rattle.j39_rows.specs.Row.{dash, name_column}
+use Rattle.j39_survey.specs.Nodes.{node_head}
+use Rattle.j39_rows.specs.Row.{ColumnRecord, beside_lines, if_any, in_all, micros_cell, or_nothing, row_text, seconds_cell, text, utc_cell}
+
+-- who is at an address: the NAME that holds it and the stamp of its last claim of it, or neither; the stamp of the last frame
+-- from there; and how long ago that is, where it is long
+pub record Presence : Type 0 where
+  pub address : ℕ
+  pub name : Option ℕ
+  pub claimed : Option ℕ
+  pub heard : Option ℕ
+  pub silent : Option ℕ
+
+abbrev pub is_from : ℕ → FrameRecord → Bool
+is_from a f = source_of f.id == a
+
+-- the NAME claims the address
+abbrev pub is_claim : ℕ → ℕ → Option Claim → Bool
+is_claim name a None = false
+is_claim name a (Some c) = c.name == name && c.address == a
+
+-- the stamp of the last of the frames that are so, or none
+unfoldable pub last_stamp : (FrameRecord → Bool) → List FrameRecord → Option ℕ
+last_stamp is F = option_map (λ f. f.stamp) (last_or None (filter is F))
+
+-- the least silence that is told: five seconds (own)
+abbrev pub long_silence : ℕ
+long_silence = 5000000
+
+-- how long nothing was heard by now, where that is told
+abbrev pub silent_for : Option ℕ → Option ℕ → Option ℕ
+silent_for None heard = None
+silent_for (Some now) None = None
+silent_for (Some now) (Some heard) = if nat_lt (now - heard) long_silence then None else Some (now - heard)
+
+-- the same of an address, by the last frame of all
+abbrev pub silent_at : List FrameRecord → ℕ → Option ℕ
+silent_at F a = silent_for (last_stamp (λ f. true) F) (last_stamp (is_from a) F)
+
+-- somebody talks at a without holding it: a frame came from there, and from then on nobody held a (so that it was no claim)
+pub record Talks (F : List FrameRecord) (a : ℕ) : Type 0 where
+  pub at : ℕ
+  pub inside : at < length F
+  pub from : source_of (frame_at F at).id ≡ a
+  pub unheld : (i name : ℕ) → at < i → i ≤ length F → Holds (claims_of F) i name a → ⊥
+
+-- who is at the address after F: the NAME that holds it; where nobody does, who talks there all the same, or nobody
+abbrev pub ShowsPresence : List FrameRecord → ℕ → Option ℕ → List Presence → Type 0
+ShowsPresence F a (Some name) here = here ≡ record {
+  address = a;
+  name = Some name;
+  claimed = last_stamp (λ f. is_claim name a (claim_of f)) F;
+  heard = last_stamp (is_from a) F;
+  silent = silent_at F a;
+} ∷ []
+ShowsPresence F a None here =
+    (Talks F a × (here ≡ record { address = a; name = None; claimed = None; heard = last_stamp (is_from a) F; silent = silent_at F a } ∷ []))
+    ⊎ ((Talks F a → ⊥) × (here ≡ []))
+
+-- who is at all addresses after F
+abbrev pub AreSeenNodes : List FrameRecord → List Presence → Type 0
+AreSeenNodes F nodes = AreShown (ShowsPresence F) F nodes
+
+-- a moment, or a dash in lines
+abbrev pub moment_column : List ℕ → Option ℕ → ColumnRecord
+moment_column name moment = in_all name dash (or_nothing seconds_cell moment)
+
+-- the same in UTC, and what a number is called, if that is known
+abbrev pub utc_column : List ℕ → Option ℕ → ColumnRecord
+utc_column name moment = beside_lines name (or_nothing utc_cell moment)
+
+abbrev pub called_column : List ℕ → Option (List ℕ) → ColumnRecord
+called_column name called = beside_lines name (or_nothing text called)
+
+-- what a NAME's function is called, and who made its controller
+abbrev pub function_of : Option ℕ → Option (List ℕ)
+function_of name = option_and_then (λ n. function_called (fields_of n).function) name
+
+abbrev pub maker_of : Option ℕ → Option (List ℕ)
+maker_of name = option_and_then (λ n. maker_called (fields_of n).manufacturer) name
+
+-- behind the address: the NAME, when it was claimed last, when heard last, and for how long it was silent at the end; beside
+-- lines also what the NAME says
+abbrev pub seen_columns : Presence → List ColumnRecord
+seen_columns node =
+    name_column node.name ∷ moment_column (codes "claimed") node.claimed ∷ utc_column (codes "claimed_utc") node.claimed
+    ∷ moment_column (codes "heard") node.heard ∷ utc_column (codes "heard_utc") node.heard
+    ∷ in_all (codes "silent") (if_any (codes " silent ")) (or_nothing micros_cell node.silent)
+    ∷ called_column (codes "function") (function_of node.name) ∷ called_column (codes "manufacturer") (maker_of node.name) ∷ []
+
+-- its row in each form
+abbrev pub seen_in : Format → Presence → List ℕ
+seen_in form node = row_text form (node_head node.address) (seen_columns node)
+
+-- the names of the columns
+abbrev pub seen_names : List ℕ
+seen_names = codes "address,name,claimed,claimed_utc,heard,heard_utc,silent,function,manufacturer\r\n"
+
+-- it is meant by its address, or by the NAME that holds that
+abbrev pub is_seen_node : Presence → Sender → Bool
+is_seen_node node asked = is_sender node.address node.name asked
+
+-- who is at an address after the frames, whatever their bus is called, and is asked for
+abbrev pub MakesSeenNodesIn : Format → Option (List Sender) → Making
+MakesSeenNodesIn form from bus F output =
+    (nodes : List Presence) × AreSeenNodes F nodes
+    × (output ≡ lines_of (seen_in form) (shown_from is_seen_node from nodes))
+
+-- a line, a record or an object for each
+abbrev pub MakesSeenNodes : Format → Option (List Sender) → Making
+MakesSeenNodes form from = Columned seen_names form (MakesSeenNodesIn form from)

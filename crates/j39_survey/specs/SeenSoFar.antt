@@ -1,0 +1,86 @@
+-- The steps of a list of who is seen at the addresses: nothing is written before its end.
+use Rattle.std.specs.Prelude.{◌≡◌, ◌<◌, ◌∷◌, ℕ, List, [], Option, Some, None, true, false, get_or, if◌then◌else◌, map}
+use Rattle.std.specs.Option.{option_map}
+use Rattle.j39_address.specs.Claim.{claim_of, claims_of}
+use Rattle.j39_address.specs.Claims.{Knows, holder_in}
+use Rattle.j39_address.specs.Name.{name_raw}
+use Rattle.j39_address.specs.Holder.{IsHolderAfter}
+use Rattle.j39_frame.specs.Frame.{FrameRecord}
+use Rattle.j39_frame.specs.Stamp.{stamp_micros}
+use Rattle.j39_survey.specs.ByAddress.{shown_from}
+use Rattle.j39_survey.specs.SeenNodes.{Presence, Talks, is_claim, is_from, is_seen_node, last_stamp, seen_in, silent_for}
+use Rattle.j39_listen.specs.Output.{Output, nothing}
+use Rattle.j39_listen.specs.declared.filter.Sender.{Sender}
+use Rattle.j39_listen.specs.declared.format.Format.{Format}
+use Rattle.j39_survey.specs.declared.node_lists.seen.SeenList.{SeenList}
+use Rattle.j39_survey.specs.declared.node_lists.seen.Node.{Node}
+use Rattle.j39_survey.specs.declared.node_lists.seen.Seen.{Seen}
+
+-- this was seen of the address in F
+pub record HasSeen (F : List FrameRecord) (a : ℕ) (seen : Seen) : Type 0 where
+  pub talks : seen.talks ≡ true → Talks F a
+  pub silent : seen.talks ≡ false → Talks F a → ⊥
+  pub heard : option_map stamp_micros seen.heard ≡ last_stamp (is_from a) F
+  pub claimed : (name : ℕ) → IsHolderAfter (claims_of F) a (Some name)
+      → option_map stamp_micros seen.claimed ≡ last_stamp (λ f. is_claim name a (claim_of f)) F
+
+abbrev pub unseen : Seen
+unseen = record { talks = false; heard = None; claimed = None }
+
+abbrev pub seen_at : SeenList → ℕ → Seen
+seen_at list a = get_or list.seen a unseen
+
+-- who is asked for
+abbrev pub from_in : SeenList → Option (List Sender)
+from_in list = option_map (λ senders. senders.now) list.from
+
+-- the frames F were seen, to be written of these senders in this form
+pub record HasSeenAll (form : Format) (from : Option (List Sender)) (list : SeenList) (F : List FrameRecord) (output : Output)
+    : Type 0 where
+  pub knows : Knows list.claims F
+  pub sees : (a : ℕ) → a < 254 → HasSeen F a (seen_at list a)
+  pub last_is : option_map stamp_micros list.last ≡ last_stamp (λ f. true) F
+  pub form_is : list.form ≡ form
+  pub from_is : from_in list ≡ from
+  pub nothing : output ≡ nothing
+
+-- who is at an address, as it was seen by now
+abbrev pub presence : Option ℕ → ℕ → Seen → Option ℕ → List Presence
+presence now a seen (Some name) = record {
+  address = a;
+  name = Some name;
+  claimed = option_map stamp_micros seen.claimed;
+  heard = option_map stamp_micros seen.heard;
+  silent = silent_for now (option_map stamp_micros seen.heard);
+} ∷ []
+presence now a seen None =
+    if seen.talks
+    then record {
+      address = a;
+      name = None;
+      claimed = None;
+      heard = option_map stamp_micros seen.heard;
+      silent = silent_for now (option_map stamp_micros seen.heard);
+    } ∷ []
+    else []
+
+abbrev pub presence_in : SeenList → ℕ → List Presence
+presence_in list a = presence (option_map stamp_micros list.last) a (seen_at list a) (holder_in list.claims a)
+
+-- the line of an address, if who is there is asked for
+abbrev pub seen_lines : SeenList → ℕ → List (List ℕ)
+seen_lines list a = map (seen_in list.form) (shown_from is_seen_node (from_in list) (presence_in list a))
+
+-- what a node of the code shows
+abbrev pub presence_of : Node → Presence
+presence_of node = record {
+  address = node.address;
+  name = option_map name_raw node.name;
+  claimed = option_map stamp_micros node.claimed;
+  heard = option_map stamp_micros node.heard;
+  silent = node.silent;
+}
+
+abbrev pub nodes_shown : Option Node → List Presence
+nodes_shown None = []
+nodes_shown (Some node) = presence_of node ∷ []

@@ -1,0 +1,39 @@
+//! The frames with which a group came.
+ghost use Rattle.std.specs.Prelude.{◌≡◌, ◌++◌, ◌∷◌, [], List};
+ghost use Rattle.j39_frame.specs.Frame.{FrameRecord};
+
+use crate::surveys::distances::Distances;
+use crate::surveys::senders::Senders;
+use j39_frame::Frame;
+
+/// How many there are so far, from how many addresses, and how far apart.
+#[derive(Clone, Copy)]
+pub(crate) struct Arrivals {
+    pub count: u64,
+    pub senders: Senders,
+    pub distances: Distances,
+}
+
+impl Arrivals {
+    ghost use Rattle.j39_survey.specs.SurveyModels.{HaveArrived};
+
+    /// Of no frames.
+    pub fn new() -> Arrivals
+        ensures { HaveArrived result [] }
+    {
+        Arrivals {
+            count: 0,
+            senders: Senders::new(),
+            distances: Distances::new(),
+        }
+    }
+
+    /// One frame more.
+    pub fn add(&mut self, frame: &Frame)
+        ensures { (frames : List FrameRecord) → HaveArrived self.old frames → HaveArrived self.new (frames ++ frame.now ∷ []) }
+    {
+        self.count = self.count.saturating_add(1);
+        self.senders.add(frame.id.source());
+        self.distances.add(frame.stamp);
+    }
+}

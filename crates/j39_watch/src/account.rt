@@ -1,0 +1,163 @@
+//! What a log is at each half second, as an account of the frames of a bus: the run that writes it, and its screens.
+ghost use Rattle.std.specs.Prelude.{◌≡◌, [], Err, IfOk, OnErr, if◌then◌else◌, length, option_map, take, unwrap_or};
+ghost use Rattle.j39_frame.specs.Stamp.{stamp_micros};
+ghost use Rattle.j39_io.specs.Puts.{Puts};
+ghost use Rattle.j39_io.specs.Turn.{turn};
+ghost use Rattle.j39_listen.specs.Output.{nothing};
+ghost use Rattle.j39_listen.specs.Ran.{PassesOn, Ran};
+ghost use Rattle.j39_listen.specs.declared.account.LineFault.TheVariants.{Write};
+ghost use Rattle.j39_watch.specs.NotesSoFar.{HasWatched, lines_of_watch, screen_of_watch, size_of};
+ghost use Rattle.j39_watch.specs.Watch.{AsksForWatch, MakesWatch};
+
+use j39_fault_reports::Places;
+use crate::moment::Moment;
+use crate::note::note;
+use crate::screen::put_screen;
+use crate::size::ScreenSize;
+use crate::values::Values;
+use crate::view::View;
+use j39_frame::{Frame, Stamp};
+use j39_groups::Groups;
+use j39_io::{DeviceFault, Sink, Source};
+use j39_listen::{Account, Counts, LineFault, Listener, Made, RunFault, run_over};
+use j39_log::Bus;
+use std::alloc::{AllocError, Global};
+
+/// Writes, for a log of at most `limit` bytes, a screen at the first frame of each half second of its stamps, and one at the
+/// end: the stamp of the last frame, the faults of the controllers that are on the bus, and by a table of parameters their
+/// last values, in the order in which their first came. A screen begins with the cursor's way home (ECMA-48), so that it
+/// stands over the one before. Without a bus it is that of the first frame in the log.
+pub fn watch<R: Source, W: Sink>(
+    alloc: Global,
+    groups: &Groups<'_>,
+    size: ScreenSize,
+    source: &mut R,
+    sink: &mut W,
+    bus: Option<Bus>,
+    limit: u64,
+) -> Result<Counts, RunFault>
+    // What the run promises is `Ran`: what is written is these screens, and nothing else. Memory is wanted only at a frame
+    // that announces a message, at the first value of a parameter, at a text, and at the first DM1 of an address.
+    ensures ran { Ran (MakesWatch groups.now (size_of size)) (AsksForWatch groups.now) bus limit result
+        (turn R.remaining R.has_failed source.old source.new) (turn W.written W.has_failed sink.old sink.new) }
+
+    // What was written is passed on at the end, and before each read.
+    ensures flushed { PassesOn result (W.is_flushed sink.old) (W.is_flushed sink.new) }
+{
+    run_over(Screens::new(alloc, groups, size), source, sink, bus, limit)
+}
+
+/// What was heard so far, and what its screens show.
+#[derive(Drop)]
+pub(crate) struct Screens<'g, 't> {
+    alloc: Global,
+    groups: &'g Groups<'t>,
+    size: ScreenSize,
+    listener: Listener,
+    places: Places,
+    values: Values<'t>,
+    messages: u64,
+    moment: Moment,
+}
+
+impl<'g, 't> Screens<'g, 't> {
+    /// That of no frames.
+    fn new(alloc: Global, groups: &'g Groups<'t>, size: ScreenSize) -> Screens<'g, 't>
+        ensures { HasWatched groups.entry.now (size_of size) result [] nothing }
+    {
+        Screens {
+            alloc,
+            groups,
+            size,
+            listener: Listener::new(alloc),
+            places: Places::new(),
+            values: Values::new(alloc),
+            messages: 0,
+            moment: Moment::new(),
+        }
+    }
+
+    /// Writes its screen, and answers how many lines that has.
+    #[inline(never)]
+    fn draw<W: Sink>(&self, sink: &mut W) -> Result<u16, DeviceFault>
+        ensures lines { IfOk result (λ n. n ≡ length (take self.now.size.rows (lines_of_watch self.now))) }
+        ensures puts { Puts (screen_of_watch self.now) result (turn W.written W.has_failed sink.old sink.new) }
+    {
+        let view = View {
+            groups: self.groups,
+            listener: &self.listener,
+            now: moment_of(self.moment.last),
+            width: self.size.width(),
+        };
+        put_screen(view, self.size.rows(), &self.places, &self.values, sink)
+    }
+}
+
+/// The moment of the last frame; 0 if there is none.
+fn moment_of(last: Option<Stamp>) -> Stamp
+    ensures { stamp_micros result ≡ unwrap_or (option_map stamp_micros last) 0 }
+{
+    match last {
+        Some(last) => last,
+        None => Stamp::new(0).unwrap(),
+    }
+}
+
+impl<'g, 't> Account for Screens<'g, 't> {
+    ghost use Rattle.std.specs.Prelude.{List};
+    ghost use Rattle.j39_groups.specs.Row.{RowRecord};
+    ghost use Rattle.j39_watch.specs.NotesSoFar.{HasWatched};
+    ghost use Rattle.j39_watch.specs.Watch.{AsksForWatch, MakesWatch, Size};
+
+    ghost Subject = { Size × List RowRecord };
+
+    ghost has_met = { λ subject bus. HasWatched subject.1 subject.0 };
+
+    ghost makes = { λ subject. MakesWatch subject.1 subject.0 };
+
+    ghost asks = { λ subject. AsksForWatch subject.1 };
+
+    #[inline(always)]
+    fn feed<W: Sink>(&mut self, _: &Bus, frame: &Frame, sink: &mut W) -> Result<(), LineFault> {
+        match note(
+            self.alloc,
+            &mut self.listener,
+            &mut self.places,
+            &mut self.values,
+            self.groups,
+            frame,
+        ) {
+            Ok(messages) => {
+                let draws = self.moment.go_on(frame.stamp);
+                self.messages = self.messages.saturating_add(messages);
+                draw_if(self, draws, sink)
+            }
+            Err(AllocError) => Err(LineFault::Memory),
+        }
+    }
+
+    fn close<W: Sink>(&self, sink: &mut W) -> Result<Made, DeviceFault> {
+        let lines = self.draw(sink)?;
+        Ok(Made {
+            messages: self.messages,
+            lines: u64::from(lines),
+        })
+    }
+
+    fn laws() {}
+}
+
+/// Writes a screen if it is due.
+#[inline(always)]
+fn draw_if<W: Sink>(watch: &Screens<'_, '_>, draws: bool, sink: &mut W) -> Result<(), LineFault>
+    ensures puts { Puts (if draws then screen_of_watch watch.now else []) result (turn W.written W.has_failed sink.old sink.new) }
+    ensures write { OnErr result (result ≡ Err Write) }
+{
+    if !draws {
+        return Ok(());
+    }
+    match watch.draw(sink) {
+        Ok(_) => Ok(()),
+        Err(_) => Err(LineFault::Write),
+    }
+}

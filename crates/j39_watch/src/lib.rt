@@ -1,0 +1,16 @@
+//! What a log is at each half second, as a screen: the faults that are there, and the last values.
+#![tactic(auto)]
+
+mod account;
+mod cut_line;
+mod latest;
+mod lines;
+mod moment;
+mod note;
+mod screen;
+mod size;
+mod values;
+mod view;
+
+pub use account::watch;
+pub use size::ScreenSize;

@@ -1,0 +1,306 @@
+//! The lines of a screen.
+ghost use Rattle.std.specs.Prelude.{◌≡◌, ◌+◌, ◌≤◌, ◌++◌, ◌∷◌, [], IfSome, None, Some, codes, decimal, option_map, take, unwrap_or};
+ghost use Rattle.hex.specs.Hex.{encode_upper};
+ghost use Rattle.j39_address.specs.Name.{name_raw};
+ghost use Rattle.j39_frame.specs.Stamp.{stamp_micros};
+ghost use Rattle.j39_groups.specs.Models.{scale_record};
+ghost use Rattle.j39_groups.specs.ValueText.{number_text, value_text};
+ghost use Rattle.j39_io.specs.Backwards.{WritesBefore};
+ghost use Rattle.j39_io.specs.Puts.{Puts};
+ghost use Rattle.j39_io.specs.Turn.{turn};
+ghost use Rattle.j39_listen.specs.Report.{name_text};
+ghost use Rattle.j39_log.specs.StampText.{stamp_text};
+ghost use Rattle.j39_watch.specs.LatestSoFar.{latest_at, latest_row};
+ghost use Rattle.j39_reports.specs.RowModels.{kept_value};
+ghost use Rattle.j39_watch.specs.Watch.{age_text, column, controller_columns, destination_text, line_end, said_text, state_behind, tenths, value_line};
+
+use j39_fault_reports::name_in;
+use j39_reports::scaled_before;
+use j39_reports::StoredValue;
+use crate::cut_line::{BLANK, Block, CutLine, END};
+use crate::latest::Latest;
+use arrayvec::ArrayVec;
+use j39_address::Name;
+use j39_faults::{Code, Kind, Lamps, State, put_code};
+use j39_frame::{Origin, Stamp};
+use j39_groups::{Groups, Slot, put_value};
+use j39_io::backwards::{byte_before, bytes_before, hex_before, number_before, slice_before};
+use j39_io::{DeviceFault, Sink, put_all};
+use j39_log::push_stamp;
+
+/// Writes a line, and erases what stands behind it.
+#[inline(always)]
+pub(crate) fn put_line<W: Sink>(line: &CutLine, sink: &mut W) -> Result<(), DeviceFault>
+    ensures { Puts (line.now.bytes.items ++ line_end) result (turn W.written W.has_failed sink.old sink.new) }
+{
+    put_all(sink, line.as_slice())?;
+    put_all(sink, b"\x1B[K\n")
+}
+
+/// The line of a moment.
+pub(crate) fn moment_line(width: usize, now: Stamp) -> CutLine
+    requires { width ≤ 512 }
+    ensures { result.bytes.items ≡ take width (stamp_text (stamp_micros now)) }
+{
+    let mut text: ArrayVec<u8, 19> = ArrayVec::new();
+    push_stamp(&mut text, now);
+    let mut line = CutLine::new(width);
+    line.push(text.as_slice());
+    line
+}
+
+/// The line of a fault.
+pub(crate) fn fault_line(
+    width: usize,
+    groups: &Groups<'_>,
+    address: u8,
+    name: Option<Name>,
+    lamps: Lamps,
+    code: Code,
+) -> CutLine
+    requires { width ≤ 512 }
+    ensures { result.bytes.items ≡ take width (controller_columns address None (option_map name_raw name)
+        ++ said_text groups.now lamps (Some code)) }
+{
+    let mut line = CutLine::new(width);
+    push_controller(&mut line, address, None, name.map(Name::raw));
+    push_said(&mut line, groups, lamps, code);
+    line
+}
+
+/// Makes a line that of a value.
+pub(crate) fn make_value_line(
+    line: &mut CutLine,
+    groups: &Groups<'_>,
+    now: Stamp,
+    origin: Origin,
+    latest: &Latest<'_>,
+)
+    ensures cut { line.new.bytes.items ≡ take line.old.width (value_line groups.now (stamp_micros now)
+        (latest_at (stamp_micros now) (latest_row (origin, latest.now)))) }
+    ensures width { line.new.width ≡ line.old.width }
+{
+    line.clear();
+    push_controller(line, origin.address, origin.destination, origin.name);
+    push_number_column(line, 6, u64::from(origin.pgn));
+    push_number_column(line, 6, u64::from(origin.spn));
+    push_value_column(line, &latest.seen.value);
+    push_age(line, now, latest.seen.stamp);
+    push_came(line, latest.came_before(now));
+    let value = latest.seen.value.value();
+    let (name, state) = groups.called_in(origin.pgn, origin.spn, value);
+    line.push(name_or_dash(name));
+    push_state(line, state);
+}
+
+/// What a parameter is called, or a dash.
+fn name_or_dash(name: Option<&[u8]>) -> &[u8]
+    ensures { result.now ≡ unwrap_or (option_map (λ name. name.now) name.entry) (codes "-") }
+{
+    match name {
+        Some(name) => name,
+        None => b"-",
+    }
+}
+
+/// Appends the address, with the destination, if there is one, and the NAME.
+#[inline(always)]
+fn push_controller(line: &mut CutLine, address: u8, destination: Option<u8>, name: Option<u64>)
+    ensures cut { line.new.bytes.items ≡ take line.old.width (line.old.bytes.items ++ controller_columns address destination name) }
+    ensures width { line.new.width ≡ line.old.width }
+{
+    if destination.is_none() {
+        push_sender(line, address, name);
+    } else {
+        push_addresses(line, address, destination);
+        push_name_column(line, name);
+    }
+}
+
+/// Appends both columns at once, where there is no destination: how many spaces stand between them is known.
+#[inline(always)]
+fn push_sender(line: &mut CutLine, address: u8, name: Option<u64>)
+    ensures cut { line.new.bytes.items ≡ take line.old.width (line.old.bytes.items ++ controller_columns address None name) }
+    ensures width { line.new.width ≡ line.old.width }
+{
+    let mut block = BLANK;
+    let end = name_before(&mut block, name);
+    let gap = bytes_before(&mut block, end, *b"    ");
+    let start = hex_before(&mut block, gap, &[address]);
+    line.push_column(0, &block, start);
+}
+
+/// Appends the address, with the destination, if there is one, in their column.
+fn push_addresses(line: &mut CutLine, address: u8, destination: Option<u8>)
+    ensures cut { line.new.bytes.items ≡ take line.old.width (line.old.bytes.items
+        ++ column 5 (encode_upper (address ∷ []) ++ destination_text destination)) }
+    ensures width { line.new.width ≡ line.old.width }
+{
+    let mut block = BLANK;
+    let end = destination_before(&mut block, destination);
+    let start = hex_before(&mut block, end, &[address]);
+    line.push_column(5, &block, start);
+}
+
+/// Writes a destination, if there is one, at the end of a block.
+fn destination_before(block: &mut Block, destination: Option<u8>) -> usize
+    ensures written { WritesBefore block.old block.new 63 result (destination_text destination) }
+    ensures room { 60 ≤ result }
+{
+    match destination {
+        Some(address) => {
+            let digits = hex_before(block, END, &[address]);
+            byte_before(block, digits, b'>')
+        }
+        None => END,
+    }
+}
+
+/// Appends a NAME, or dashes, in its column.
+fn push_name_column(line: &mut CutLine, name: Option<u64>)
+    ensures cut { line.new.bytes.items ≡ take line.old.width (line.old.bytes.items ++ column 16 (name_text name)) }
+    ensures width { line.new.width ≡ line.old.width }
+{
+    let mut block = BLANK;
+    let start = name_before(&mut block, name);
+    line.push_column(16, &block, start);
+}
+
+/// Writes a NAME, or dashes, at the end of a block.
+fn name_before(block: &mut Block, name: Option<u64>) -> usize
+    ensures written { WritesBefore block.old block.new 63 result (name_text name) }
+    ensures sixteen { result + 16 ≡ 63 }
+{
+    match name {
+        Some(name) => hex_before(block, END, &name.to_be_bytes()),
+        None => bytes_before(block, END, *b"----------------"),
+    }
+}
+
+/// Appends a number in a column.
+#[tactic(auto, using(j39_rows::proofs::NumberLemmas::short_decimal))]
+fn push_number_column(line: &mut CutLine, width: usize, number: u64)
+    requires { width ≤ 16 }
+    ensures cut { line.new.bytes.items ≡ take line.old.width (line.old.bytes.items ++ column width (decimal number)) }
+    ensures width { line.new.width ≡ line.old.width }
+{
+    let mut block = BLANK;
+    let start = number_before(&mut block, END, number);
+    line.push_column(width, &block, start);
+}
+
+/// Appends a value in its column.
+fn push_value_column(line: &mut CutLine, value: &StoredValue<'_>)
+    ensures cut { line.new.bytes.items ≡ take line.old.width (line.old.bytes.items ++ column 14 (value_text (kept_value value.now))) }
+    ensures width { line.new.width ≡ line.old.width }
+{
+    let mut block = BLANK;
+    match value_before(&mut block, value) {
+        Some(start) => line.push_column(14, &block, start),
+        None => push_long_value(line, value),
+    }
+}
+
+/// Appends a value in its column, however long it is.
+#[inline(never)]
+#[tactic(auto, using(crate::proofs::CutLemmas::column_cut))]
+fn push_long_value(line: &mut CutLine, value: &StoredValue<'_>)
+    ensures cut { line.new.bytes.items ≡ take line.old.width (line.old.bytes.items ++ column 14 (value_text (kept_value value.now))) }
+    ensures width { line.new.width ≡ line.old.width }
+{
+    let start = line.len();
+    push_kept(line, value);
+    line.end_column(start, 14);
+}
+
+/// Writes a value at the end of a block. `None`, and nothing of use is written, for a text, a number with more than fifteen
+/// places, and a unit of more than sixteen bytes.
+#[tactic(auto, unfolding(j39_groups::specs::ValueText::value_text))]
+fn value_before(block: &mut Block, value: &StoredValue<'_>) -> Option<usize>
+    ensures { IfSome result (λ start. WritesBefore block.old block.new 63 start (value_text (kept_value value.now))) }
+{
+    match value {
+        StoredValue::Number(number, scale) => measure_before(block, *number, *scale),
+        StoredValue::On => Some(bytes_before(block, END, *b"on")),
+        StoredValue::Off => Some(bytes_before(block, END, *b"off")),
+        StoredValue::Error => Some(bytes_before(block, END, *b"error")),
+        StoredValue::Reserved => Some(bytes_before(block, END, *b"reserved")),
+        StoredValue::Indicator => Some(bytes_before(block, END, *b"indicator")),
+        StoredValue::Text(_) => None,
+    }
+}
+
+/// Writes a number with its unit.
+fn measure_before(block: &mut Block, number: i64, scale: Slot<'_>) -> Option<usize>
+    ensures { IfSome result (λ start. WritesBefore block.old block.new 63 start (number_text number (scale_record scale.entry))) }
+{
+    if scale.unit().len() > 16 {
+        return None;
+    }
+    let unit = slice_before(block, END, scale.unit());
+    let space = byte_before(block, unit, b' ');
+    scaled_before(block, space, number, scale.places())
+}
+
+/// Appends how old a value is, in its column.
+#[tactic(auto, using(j39_rows::proofs::NumberLemmas::short_decimal))]
+fn push_age(line: &mut CutLine, now: Stamp, then: Stamp)
+    ensures cut { line.new.bytes.items ≡ take line.old.width (line.old.bytes.items
+        ++ column 6 (age_text (tenths (stamp_micros now) (stamp_micros then)))) }
+    ensures width { line.new.width ≡ line.old.width }
+{
+    let tenths = now.micros().saturating_sub(then.micros()) / 100_000;
+    let mut block = BLANK;
+    let second = byte_before(&mut block, END, b's');
+    let tenth = number_before(&mut block, second, tenths % 10);
+    let point = byte_before(&mut block, tenth, b'.');
+    let start = number_before(&mut block, point, tenths / 10);
+    line.push_column(6, &block, start);
+}
+
+/// Appends how many came in a second, in its column.
+#[tactic(auto, using(j39_rows::proofs::NumberLemmas::short_decimal))]
+fn push_came(line: &mut CutLine, came: u64)
+    ensures cut { line.new.bytes.items ≡ take line.old.width (line.old.bytes.items ++ column 5 (decimal came ++ codes "/s")) }
+    ensures width { line.new.width ≡ line.old.width }
+{
+    let mut block = BLANK;
+    let each = bytes_before(&mut block, END, *b"/s");
+    let start = number_before(&mut block, each, came);
+    line.push_column(5, &block, start);
+}
+
+/// Appends a state, if there is one.
+fn push_state(line: &mut CutLine, state: Option<&[u8]>)
+    ensures cut { line.new.bytes.items ≡ take line.old.width (line.old.bytes.items
+        ++ state_behind (option_map (λ words. words.now) state.entry)) }
+    ensures width { line.new.width ≡ line.old.width }
+{
+    if let Some(words) = state {
+        line.push(b" = ");
+        line.push(words);
+    }
+}
+
+/// Appends a value; a line that is full keeps a front of it.
+fn push_kept(line: &mut CutLine, value: &StoredValue<'_>)
+    ensures cut { line.new.bytes.items ≡ take line.old.width (line.old.bytes.items ++ value_text (kept_value value.now)) }
+    ensures width { line.new.width ≡ line.old.width }
+{
+    let _ = put_value(&value.value(), line);
+}
+
+/// Appends what is said of a code; a line that is full keeps a front of it.
+fn push_said(line: &mut CutLine, groups: &Groups<'_>, lamps: Lamps, code: Code)
+    ensures cut { line.new.bytes.items ≡ take line.old.width (line.old.bytes.items
+        ++ said_text groups.now lamps (Some code)) }
+    ensures width { line.new.width ≡ line.old.width }
+{
+    let _ = put_code(
+        State::Is(Kind::Active),
+        lamps,
+        name_in(groups, code),
+        code,
+        line,
+    );
+}

@@ -1,0 +1,156 @@
+//! The last values of all origins.
+ghost use Rattle.std.specs.Prelude.{◌≡◌, ◌++◌, ◌∷◌, [], None, OnErr, OnOk, List};
+ghost use Rattle.j39_frame.specs.Origin.{place_in};
+ghost use Rattle.j39_frame.specs.Stamp.{stamp_micros};
+ghost use Rattle.j39_groups.specs.Models.{value_of};
+ghost use Rattle.j39_listen.specs.HeardModel.{hearing_of};
+ghost use Rattle.j39_listen.specs.Report.{Entry};
+ghost use Rattle.j39_memory.specs.ByOrigin.{pairs_of};
+ghost use Rattle.j39_watch.specs.LatestSoFar.{AreLatest, HasFollowedMessage};
+ghost use Rattle.j39_reports.specs.RowModels.{entry_at};
+ghost use Rattle.j39_reports.specs.SummaryRun.{WantsRow};
+
+use j39_reports::{Guesses, again};
+use crate::latest::{Latest, NextValue};
+use j39_address::Name;
+use j39_frame::{Origin, Stamp};
+use j39_groups::{ReadingVisitor, Value};
+use j39_listen::Heard;
+use j39_memory::ByOrigin;
+use std::alloc::{AllocError, Global};
+
+/// The last values by their origins, in the order of their first values; where the last ones stand; and what the readings of
+/// a message have in common.
+#[derive(Drop)]
+pub(crate) struct Values<'t> {
+    pub rows: ByOrigin<Latest<'t>>,
+    guesses: Guesses,
+    alloc: Global,
+    stamp: Stamp,
+    address: u8,
+    destination: Option<u8>,
+    name: Option<u64>,
+    pgn: u32,
+}
+
+impl<'t> Values<'t> {
+    /// No values.
+    pub fn new(alloc: Global) -> Values<'t>
+        ensures { AreLatest (pairs_of result.rows) [] }
+    {
+        Values {
+            rows: ByOrigin::new(alloc),
+            guesses: Guesses::new(),
+            alloc,
+            stamp: Stamp::new(0).unwrap(),
+            address: 0,
+            destination: None,
+            name: None,
+            pgn: 0,
+        }
+    }
+
+    /// Takes what the readings of a message have in common.
+    #[inline(always)]
+    pub fn begin(&mut self, heard: &Heard<'_>)
+        ensures { (before : List Entry) → AreLatest (pairs_of self.old.rows) before
+            → HasFollowedMessage (record { before = before; hearing = hearing_of heard.now }) self.new [] }
+    {
+        self.stamp = heard.message.stamp;
+        self.address = heard.message.source;
+        self.destination = heard.destination;
+        self.name = heard.name.map(Name::raw);
+        self.pgn = heard.message.pgn.raw();
+    }
+
+    /// The origin of a parameter of the message.
+    #[inline(always)]
+    fn origin_of(&self, spn: u32) -> Origin
+        ensures { result ≡ record {
+          address = self.now.address;
+          destination = self.now.destination;
+          name = self.now.name;
+          pgn = self.now.pgn;
+          spn = spn;
+        } }
+    {
+        Origin {
+            address: self.address,
+            destination: self.destination,
+            name: self.name,
+            pgn: self.pgn,
+            spn,
+        }
+    }
+}
+
+/// Takes a value to its row, which stands at this place if there is one.
+#[inline(always)]
+fn take<'t>(
+    rows: &mut ByOrigin<Latest<'t>>,
+    alloc: Global,
+    place: Option<usize>,
+    origin: Origin,
+    stamp: Stamp,
+    value: Value<'t, '_>,
+) -> Result<(), AllocError>
+    requires { place ≡ place_in (pairs_of rows.old) origin }
+    ensures taken { OnOk result ((before : List Entry) → AreLatest (pairs_of rows.old) before
+        → AreLatest (pairs_of rows.new) (before ++ entry_at origin (stamp_micros stamp) (value_of value.entry) ∷ [])) }
+    ensures wanted { OnErr result ((before : List Entry) → AreLatest (pairs_of rows.old) before
+        → WantsRow before (entry_at origin (stamp_micros stamp) (value_of value.entry))) }
+{
+    match place {
+        Some(at) => rows.change(
+            at,
+            NextValue {
+                alloc,
+                stamp,
+                value,
+            },
+        ),
+        None => add(rows, alloc, again(origin), stamp, value),
+    }
+}
+
+/// Begins a row.
+#[inline(never)]
+fn add<'t>(
+    rows: &mut ByOrigin<Latest<'t>>,
+    alloc: Global,
+    origin: Origin,
+    stamp: Stamp,
+    value: Value<'t, '_>,
+) -> Result<(), AllocError>
+    requires { place_in (pairs_of rows.old) origin ≡ None }
+    ensures { OnOk result ((before : List Entry) → AreLatest (pairs_of rows.old) before
+        → AreLatest (pairs_of rows.new) (before ++ entry_at origin (stamp_micros stamp) (value_of value.entry) ∷ [])) }
+{
+    let latest = Latest::begin(alloc, stamp, value)?;
+    rows.add(origin, latest)
+}
+
+impl<'t> ReadingVisitor<'t, ()> for Values<'t> {
+    ghost use Rattle.j39_watch.specs.LatestSoFar.{Behind, HasFollowedMessage, WantsRoomAt};
+
+    type Fault = AllocError;
+
+    ghost Subject = { Behind };
+
+    ghost has_taken = { λ message values medium. HasFollowedMessage message values };
+
+    ghost has_stopped = { λ message before at values medium. WantsRoomAt message before at };
+
+    #[inline(always)]
+    fn visit(&mut self, spn: u32, value: Value<'t, '_>, _: &mut ()) -> Result<(), AllocError> {
+        let origin = self.origin_of(spn);
+        let place = self.guesses.place_of(&self.rows, origin);
+        take(&mut self.rows, self.alloc, place, origin, self.stamp, value)
+    }
+
+    /// Nothing is shown of what is not available.
+    #[inline(always)]
+    fn visit_absent(&mut self, _: u32, _: &mut ()) -> Result<(), AllocError> {
+        Ok(())
+    }
+}
