@@ -15,6 +15,7 @@ mod arbitration;
 pub(crate) mod book;
 pub(crate) mod diagnostics;
 pub(crate) mod gauges;
+pub(crate) mod losses;
 pub(crate) mod player;
 mod publisher;
 pub(crate) mod role;

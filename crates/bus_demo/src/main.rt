@@ -3,15 +3,12 @@
 
 mod book_lines;
 mod bus;
-#[cfg(test)]
-mod bus_losses;
 mod words;
 
 use book_lines::tell_book;
 use bus::book::Book;
 use bus::player::Player;
-use bus::scenario::controllers;
-use bus::{Bus, BusFault};
+use bus::{Bus, BusFault, losses, scenario};
 use j39_io::{Sink, Told};
 use j39_log::{Line, read_line};
 use std::io::BufWriter;
@@ -38,7 +35,10 @@ fn main(rt: HostRuntime) -> io::Result<ExitCode> {
 /// exit status.
 fn play(rt: &HostRuntime, words: &Words) -> io::Result<u8> {
     let mut out = Told::new(BufWriter::with_capacity(rt.alloc(), OUT_BUFFER, rt.stdout())?);
-    let controllers = controllers(rt.alloc(), words.seed, words.outside)?;
+    let controllers = match words.loss {
+        Some(loss) => losses::controllers(rt.alloc(), words.seed, loss)?,
+        None => scenario::controllers(rt.alloc(), words.seed, words.outside)?,
+    };
     let mut bus = Bus::new(rt.alloc(), controllers, words.lose.as_slice());
     if words.outside {
         let status = hear_outside(rt, &mut bus, &mut out)?;

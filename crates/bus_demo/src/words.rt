@@ -3,6 +3,7 @@ ghost use Rattle.std.specs.Option.{SomeIff};
 ghost use Rattle.std.specs.Str.Parse.{digits_value};
 ghost use Rattle.bus_demo.specs.Numerals.{IsNumberWithin};
 
+use crate::bus::losses::{LOSSES, Loss};
 use clap::error::ErrorKind;
 use clap::{Arg, ArgAction, ArgMatches, Command, Error};
 use j39_io::number;
@@ -26,6 +27,10 @@ as lines of a log. The bus goes on to the moment of each, all hear it, and it is
 line of the log as well. One of the four then asks address 00 for its vehicle's
 identification.
 
+With --loss little is sent but what a loss is for: the engine's rival takes its
+address a second after the start, while the engine broadcasts, sends to the tool or
+receives from it; or the tool sends two messages to the gearbox, or commands it.
+
 Exit status:
   0  done, or help was asked for
   1  out of memory, a read or a write failed, or a line is no frame
@@ -47,6 +52,8 @@ pub(crate) struct Words {
     pub book: bool,
     /// Whether frames of a controller outside come on standard input.
     pub outside: bool,
+    /// What is lost, where that is played in the place of the four.
+    pub loss: Option<Loss>,
 }
 
 /// Why there is nothing to play.
@@ -85,6 +92,7 @@ fn words_of(alloc: Global, matches: &ArgMatches<'_>) -> Result<Words, Refusal> {
         lose: numbers(alloc, matches.get_str("lose"))?,
         book: matches.get_flag("book"),
         outside: matches.get_flag("outside"),
+        loss: loss_of(matches.get_str("loss"))?,
     })
 }
 
@@ -95,12 +103,14 @@ fn command<'a>(alloc: Global) -> Result<Command<'a>, AllocError> {
     let lose = "The frames that are lost, counted from 1";
     let book = "Tell what was handed in, and what became of it, in the place of the counts";
     let outside = "Take the frames of one more controller from standard input";
+    let loss = "Play a loss: broadcast, transfer, session, request or command";
     let args = [
         option(alloc, "seed", "N", seed),
         option(alloc, "seconds", "N", seconds),
         option(alloc, "lose", "N,N..", lose),
         flag(alloc, "book", book),
         flag(alloc, "outside", outside),
+        option(alloc, "loss", "WHAT", loss),
     ];
     let args = Vec::from_array(alloc, args)?;
     Command::new(alloc, "bus_demo")
@@ -133,6 +143,19 @@ fn refusal_of(alloc: Global, error: &Error) -> Refusal {
         Ok(text) if kind == ErrorKind::DisplayHelp => Refusal::Help(text),
         Ok(text) => Refusal::Usage(text),
     }
+}
+
+/// What is lost, by its word.
+fn loss_of(word: Option<&str>) -> Result<Option<Loss>, Refusal> {
+    let Some(word) = word else {
+        return Ok(None);
+    };
+    for (name, loss) in LOSSES {
+        if name == word {
+            return Ok(Some(loss));
+        }
+    }
+    Err(Refusal::BadValue("--loss"))
 }
 
 /// The number that a word has, within bounds, or the one that stands for none; `None` for a wrong one.

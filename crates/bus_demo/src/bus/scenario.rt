@@ -27,14 +27,14 @@ pub const COMPONENT: &[u8] = b"ACME*X1 RETARDER*77-1203*UNIT 9*";
 pub const COMMAND: &[u8] = &[0x03, 0x10, 0x40, 0x02, 0, 0, 0, 0x80, 0x05];
 
 /// The address of the tool.
-const TOOL: u8 = 0xF9;
+pub const TOOL: u8 = 0xF9;
 
 /// The groups of planned messages: VI, CI and the commanded address.
 const VEHICLE_IDENTIFICATION: u32 = 65_260;
 
 const COMPONENT_IDENTIFICATION: u32 = 65_259;
 
-const COMMANDED_ADDRESS: u32 = 65_240;
+pub const COMMANDED_ADDRESS: u32 = 65_240;
 
 /// A request (J1939-21, 5.4.2).
 const REQUEST: u32 = 59_904;

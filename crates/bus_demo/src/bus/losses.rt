@@ -1,0 +1,138 @@
+//! What is played with `--loss`: a bus on which a controller loses its address, or a transfer fails, and little else happens.
+//!
+//! The engine takes address 00, and loses it to its rival a second after the start. The gearbox is at 03, the tool at F9.
+use crate::bus::gauges::{Gauges, Group};
+use crate::bus::player::Player;
+use crate::bus::role::{Plan, Rate, Role};
+use crate::bus::scenario::{COMMAND, COMMANDED_ADDRESS, TOOL};
+use std::alloc::{AllocError, Global};
+
+/// What is lost, or what is sent for a loss.
+#[derive(Clone, Copy)]
+pub enum Loss {
+    /// The sender's address in a broadcast.
+    InBroadcast,
+    /// The sender's address in a transfer.
+    InTransfer,
+    /// The receiver's address while it has a session open.
+    WithSession,
+    /// Nothing, unless a frame is named: the tool has two messages for the gearbox.
+    OfRequest,
+    /// Nothing: the tool sends the gearbox a commanded address in a transfer.
+    OfCommand,
+}
+
+/// The words of `--loss`.
+pub const LOSSES: [(&str, Loss); 5] = [
+    ("broadcast", Loss::InBroadcast),
+    ("transfer", Loss::InTransfer),
+    ("session", Loss::WithSession),
+    ("request", Loss::OfRequest),
+    ("command", Loss::OfCommand),
+];
+
+/// The group of software identification (SOFT).
+const SOFTWARE: u32 = 65_242;
+
+/// 12 packets: a broadcast of it takes 600 ms.
+const LONG: &[u8] =
+    b"BUILD 2026.11.23*REVISION 4 OF THE ENGINE'S SOFTWARE*CHECKED*SIGNED*RELEASED*END*";
+
+/// 255 packets: a transfer of it takes some 140 ms.
+const LONGEST: &[u8] = &[0x2A; 1_785];
+
+const SHORT: &[u8] = b"REVISION 5*END*";
+
+const ENGINE: u8 = 0x00;
+
+const GEARBOX: u8 = 0x03;
+
+const NONE: &[Plan] = &[];
+
+const LONG_TO_ALL: &[Plan] = &[Plan {
+    at: 700_000,
+    to: None,
+    pgn: SOFTWARE,
+    payload: LONG,
+}];
+
+const LONG_TO_TOOL: &[Plan] = &[Plan {
+    at: 950_000,
+    to: Some(TOOL),
+    pgn: SOFTWARE,
+    payload: LONGEST,
+}];
+
+const LONG_TO_ENGINE: &[Plan] = &[Plan {
+    at: 950_000,
+    to: Some(ENGINE),
+    pgn: SOFTWARE,
+    payload: LONGEST,
+}];
+
+const TWO_TO_GEARBOX: &[Plan] = &[
+    Plan {
+        at: 500_000,
+        to: Some(GEARBOX),
+        pgn: SOFTWARE,
+        payload: LONG,
+    },
+    Plan {
+        at: 500_000,
+        to: Some(GEARBOX),
+        pgn: SOFTWARE,
+        payload: SHORT,
+    },
+];
+
+const COMMAND_TO_GEARBOX: &[Plan] = &[Plan {
+    at: 500_000,
+    to: Some(GEARBOX),
+    pgn: COMMANDED_ADDRESS,
+    payload: COMMAND,
+}];
+
+fn role(name: u64, preferred: u8, starts: u64, plans: &'static [Plan]) -> Role {
+    let rate = |group: Group| Rate {
+        group,
+        period: 1_000_000,
+        due: 0,
+    };
+    Role {
+        name,
+        preferred,
+        starts,
+        rates: [
+            rate(Group::Engine),
+            rate(Group::Temperatures),
+            rate(Group::Distance),
+        ],
+        plans,
+        faults: &[],
+    }
+}
+
+/// The engine, its rival, the gearbox and the tool, with what engine and tool are to send.
+pub fn controllers(alloc: Global, seed: u64, loss: Loss) -> Result<Vec<Player>, AllocError> {
+    let (engine, tool) = match loss {
+        Loss::InBroadcast => (LONG_TO_ALL, NONE),
+        Loss::InTransfer => (LONG_TO_TOOL, NONE),
+        Loss::WithSession => (NONE, LONG_TO_ENGINE),
+        Loss::OfRequest => (NONE, TWO_TO_GEARBOX),
+        Loss::OfCommand => (NONE, COMMAND_TO_GEARBOX),
+    };
+    let roles = [
+        role(0x8000_0000_0340_1001, ENGINE, 0, engine),
+        role(0x8000_0000_0140_1002, ENGINE, 1_000_000, NONE),
+        role(0x8000_0000_0240_1003, GEARBOX, 0, NONE),
+        role(0x8000_0000_0440_1004, TOOL, 0, tool),
+    ];
+    let mut controllers = Vec::new(alloc);
+    for (place, role) in roles.iter().enumerate() {
+        let gauges = Gauges::new(seed, place as u64);
+        if let Some(controller) = Player::new(alloc, role, gauges)? {
+            controllers.push(controller)?;
+        }
+    }
+    Ok(controllers)
+}
