@@ -1,6 +1,6 @@
 -- The faults that are there now as an account: what is heard at one frame more, and its end.
 use Rattle.j39_fault_reports.proofs.Common.{◌≡◌, ◌∙◌, ◌+◌, ◌++◌, ◌∷◌, [], ℕ, List, Option, None, ap, append-nil, arith, length, length-append, refl, subst, sym, Appends, Appends-nil, filter-append, AppendsFront, Conversion, FrameRecord, Begins, Closes, MakesOne, Meets, StopsAtEnd, Chooses, capped, FilterRecord, first_stamp, in_time, AreHeardWith, Chooser, HeardAtWith, Hearing, or_none, Hears, Output, Format, Listener, heard_more, heard_below_unique}
-use Rattle.j39_fault_reports.specs.CurrentPlaces.{Places}
+use Rattle.j39_fault_reports.specs.CurrentPlaces.{LastActives}
 use Rattle.j39_fault_reports.specs.CurrentSoFar.{AreKept, HasKept, NowSubject, TakesFrame, taken_below}
 use Rattle.j39_fault_reports.specs.FaultsNow.{active_among, faults_now, is_active_message, now_taken}
 use Rattle.j39_fault_reports.specs.FaultsNowRun.{AsksForFaultsNow, MakesFaultsNowIn, faults_now_of, now_lines, now_text}
@@ -29,7 +29,7 @@ now_one form s = λ bus F x y (hs, are_x, is_x) (ks, are_y, is_y).
 among_more : (heard more : List Hearing) → active_among (heard ++ more) ≡ active_among heard ++ active_among more
 among_more heard more = filter-append is_active_message heard more
 
-pub takes_silent : (which : FilterRecord) (cs : List Conversion) (F : List FrameRecord) (f : FrameRecord) (l' : Listener) (places : Places) (a a' : Announced) (ms : List Hearing)
+pub takes_silent : (which : FilterRecord) (cs : List Conversion) (F : List FrameRecord) (f : FrameRecord) (l' : Listener) (places : LastActives) (a a' : Announced) (ms : List Hearing)
     → a' ≡ with_frame a f → HeardAtWith is_fault_group (F ++ f ∷ []) (length F) None → Hears l' (F ++ f ∷ []) → AreKept cs places ms → TakesFrame which cs F f l' places a a' ms 0
 takes_silent which cs F f l' places a a' ms announced at hears kept = record {
   heard = None;

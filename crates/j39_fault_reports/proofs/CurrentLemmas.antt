@@ -1,7 +1,7 @@
 -- What is kept of each address, with one message of active codes more, and what is written of it.
 use Rattle.j39_fault_reports.proofs.Common.{◌≡◌, ◌∙◌, ◌+◌, ◌<◌, ◌≤◌, ◌&&◌, ◌||◌, ◌++◌, ◌∷◌, [], ℕ, zero, suc, Bool, true, false, not, List, Option, Some, None, refl, sym, ap, append-nil, append_assoc, arith, filter, inl, inr, length, length-append, map, replicate, subst, or-true, flat_map, list_all, list_any, and_parts, cases_Bool, cases_eq, cond-false, cond-true, eq-eqb, eqb-true, ne_eqb, get_or-replicate, length-replicate, filter-append, list_any-append, map-map, is_same_or_none, lamps_of, Code, Conversion, Lamps, capped, Hearing}
 use Rattle.j39_faults.proofs.NamedLemmas.{same_self}
-use Rattle.j39_fault_reports.specs.CurrentPlaces.{HaveTaken, LastRecord, Places, StandingRecord, at, continued, found_in, going_on, is_same_code, last_by, left_by, standings_under}
+use Rattle.j39_fault_reports.specs.CurrentPlaces.{HaveTaken, LastRecord, LastActives, StandingRecord, at, continued, found_in, going_on, is_same_code, last_by, left_by, standings_under}
 use Rattle.j39_fault_reports.specs.CurrentSoFar.{AreKept, IsEmptyAt, IsKeptAt, IsLastAt, now_shown, nows_shown, shown_below, standing_of}
 use Rattle.j39_fault_reports.specs.Faults.{codes_or_none}
 use Rattle.j39_fault_reports.specs.FaultsNow.{codes_in, first_stamp, is_about, is_at, is_same_name, lasts, names, now_at, now_below, now_by, now_in, telling, tells}
@@ -256,7 +256,7 @@ kept_there cs ms m a other (Some last) kept = by (is_same_name last.name m.name)
 
 -- ---- all addresses
 
-pub kept_more : (cs : List Conversion) (ms : List Hearing) (m : Hearing) (lamps : Lamps) (old new : Places) → lamps_of m.message.bytes ≡ Some lamps
+pub kept_more : (cs : List Conversion) (ms : List Hearing) (m : Hearing) (lamps : Lamps) (old new : LastActives) → lamps_of m.message.bytes ≡ Some lamps
     → m.message.source < 256 → AreKept cs old ms → HaveTaken cs old m lamps new → AreKept cs new (ms ++ m ∷ [])
 kept_more cs ms m lamps old new is short kept taken = record {
   places_are = taken.places kept.places_are;
@@ -269,10 +269,10 @@ kept_more cs ms m lamps old new is short kept taken = record {
   ];
 }
 
-pub kept_none : (cs : List Conversion) (places : Places) → places ≡ replicate 256 None → AreKept cs places []
+pub kept_none : (cs : List Conversion) (places : LastActives) → places ≡ replicate 256 None → AreKept cs places []
 kept_none cs places is = record {
   places_are = ap length is ∙ length-replicate 256 nothing;
-  each = λ a l. subst (IsKeptAt cs [] a) (sym (ap (λ (p : Places). at p a) is ∙ get_or-replicate 256 a None None l))
+  each = λ a l. subst (IsKeptAt cs [] a) (sym (ap (λ (p : LastActives). at p a) is ∙ get_or-replicate 256 a None None l))
       (record { none = ap (filter (is_at a)) lasts_none; untold = none_telling cs a });
 }
   where
@@ -280,7 +280,7 @@ kept_none cs places is = record {
     nothing = None
 
 -- where nothing is kept, no last message of a controller comes from
-pub first_here : (cs : List Conversion) (places : Places) (ms : List Hearing) (a : ℕ) → AreKept cs places ms → a < 256 → at places a ≡ None
+pub first_here : (cs : List Conversion) (places : LastActives) (ms : List Hearing) (a : ℕ) → AreKept cs places ms → a < 256 → at places a ≡ None
     → filter (is_at a) (lasts ms) ≡ []
 first_here cs places ms a kept l none = (subst (IsKeptAt cs ms a) none (kept.each a l)).none
 
@@ -305,7 +305,7 @@ shown_at cs ms a (Some last) kept =
     }) os)
     ∙ sym (ap (now_by cs ms x) kept.lamps_are) ∙ sym (ap (flat_map (now_in cs ms)) kept.alone ∙ append-nil (now_in cs ms x))
 
-pub shown_all : (cs : List Conversion) (ms : List Hearing) (places : Places) → AreKept cs places ms → (n : ℕ) → n ≤ 256 → shown_below places n ≡ now_below cs ms n
+pub shown_all : (cs : List Conversion) (ms : List Hearing) (places : LastActives) → AreKept cs places ms → (n : ℕ) → n ≤ 256 → shown_below places n ≡ now_below cs ms n
 unfolding shown_below now_below
 shown_all cs ms places kept zero l = refl
 shown_all cs ms places kept (suc n) l =

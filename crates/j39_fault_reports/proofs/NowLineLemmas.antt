@@ -1,6 +1,6 @@
 -- The lines of the faults that are there now, one behind the other.
 use Rattle.j39_fault_reports.proofs.Common.{◌≡◌, ◌∙◌, ◌+◌, ◌-◌, ◌<◌, ◌++◌, ◌∷◌, [], ℕ, zero, suc, Bool, true, false, List, Result, Ok, Err, Some, append-nil, append_assoc, ap, arith, length, map, refl, sym, take, IsErr, slice_index_or, flat_map, cond-true, cond-false, flat_map-append, filter-append, Puts, Device, puts_as, puts_done, puts_first, puts_then, puts_until, flat_map-next, capped, FilterRecord, asks_for, no_filter, Format, Active, Is, take-suc, map-append}
-use Rattle.j39_fault_reports.specs.CurrentPlaces.{LastRecord, Places, StandingRecord, at, standing_record}
+use Rattle.j39_fault_reports.specs.CurrentPlaces.{LastRecord, LastActives, StandingRecord, at, standing_record}
 use Rattle.j39_fault_reports.specs.CurrentSoFar.{now_shown, nows_shown, shown_below, taken_below}
 use Rattle.j39_fault_reports.specs.FaultsNow.{Now, asks_now, now_taken}
 use Rattle.j39_fault_reports.specs.FaultsNowRun.{now_head, now_lines, now_text}
@@ -78,7 +78,7 @@ module _ (form : Format) (rows : Manner) (a : ℕ) (last : LastRecord) where
 
 -- ---- what stands at the places
 
-module _ (places : Places) where
+module _ (places : LastActives) where
   pub shown_next : (n : ℕ) → shown_below places (n + 1) ≡ shown_below places n ++ nows_shown n (at places n)
   unfolding shown_below
   shown_next n = (let next : n + 1 ≡ suc n = omega arith in ap (shown_below places) next)
@@ -93,7 +93,7 @@ module _ (places : Places) where
 
 -- ---- of what stands there, what is asked for
 
-module _ (form : Format) (rows : Manner) (which : FilterRecord) (first : ℕ) (places : Places) where
+module _ (form : Format) (rows : Manner) (which : FilterRecord) (first : ℕ) (places : LastActives) where
   abbrev pub text : ℕ → List ℕ
   text n = now_text form rows (taken_below which first places n)
 

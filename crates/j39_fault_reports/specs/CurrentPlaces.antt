@@ -33,16 +33,16 @@ pub record LastRecord : Type 0 where
   pub standings : List StandingRecord
 
 -- at each address
-abbrev pub Places : Type 0
-Places = List (Option LastRecord)
+abbrev pub LastActives : Type 0
+LastActives = List (Option LastRecord)
 
-abbrev pub at : Places → ℕ → Option LastRecord
+abbrev pub at : LastActives → ℕ → Option LastRecord
 at places a = slice_index_or places a None
 
 abbrev pub stored_in : Option (Stored LastRecord) → Option LastRecord
 stored_in = option_map value_of
 
-abbrev pub shown : List (Option (Stored LastRecord)) → Places
+abbrev pub shown : List (Option (Stored LastRecord)) → LastActives
 shown = map stored_in
 
 -- ---- one message more
@@ -89,13 +89,13 @@ left_by name None = None
 left_by name (Some last) = if is_same_name last.name name then None else Some last
 
 -- the places below n are left, and the rest are as they were
-pub record AreLeft (name : Option ℕ) (old : Places) (n : ℕ) (new : Places) : Type 0 where
+pub record AreLeft (name : Option ℕ) (old : LastActives) (n : ℕ) (new : LastActives) : Type 0 where
   pub long : length new ≡ length old
   pub left : (a : ℕ) → a < n → at new a ≡ left_by name (at old a)
   pub rest : (a : ℕ) → n ≤ a → at new a ≡ at old a
 
 -- at each address behind the message
-pub record HaveTaken (conversions : List Conversion) (old : Places) (m : Hearing) (lamps : Lamps) (new : Places) : Type 0 where
+pub record HaveTaken (conversions : List Conversion) (old : LastActives) (m : Hearing) (lamps : Lamps) (new : LastActives) : Type 0 where
   pub places : length old ≡ 256 → length new ≡ 256
   pub here : length old ≡ 256
       → at new m.message.source ≡ Some (last_by conversions (at old m.message.source) m lamps)

@@ -13,7 +13,7 @@ use Rattle.j39_listen.specs.Output.{Output, nothing}
 use Rattle.j39_listen.specs.declared.format.Format.{Format}
 use Rattle.j39_listen.specs.declared.listener.Listener.{Listener}
 use Rattle.j39_fault_reports.specs.Faults.{Manner, codes_or_none}
-use Rattle.j39_fault_reports.specs.CurrentPlaces.{LastRecord, Places, StandingRecord, at}
+use Rattle.j39_fault_reports.specs.CurrentPlaces.{LastRecord, LastActives, StandingRecord, at}
 use Rattle.j39_fault_reports.specs.FaultsNow.{Now, active_among, codes_in, first_stamp, is_at, lasts, now_taken, telling, tells}
 use Rattle.j39_fault_reports.specs.FaultsSoFar.{IsBroken, announced_in, manner_of, with_either, with_frame}
 use Rattle.j39_fault_reports.specs.News.{is_fault_group}
@@ -55,7 +55,7 @@ IsKeptAt conversions ms a None = IsEmptyAt conversions ms a
 IsKeptAt conversions ms a (Some last) = IsLastAt conversions ms a last
 
 -- of these messages
-pub record AreKept (conversions : List Conversion) (places : Places) (ms : List Hearing) : Type 0 where
+pub record AreKept (conversions : List Conversion) (places : LastActives) (ms : List Hearing) : Type 0 where
   pub places_are : length places ≡ 256
   pub each : (a : ℕ) → a < 256 → IsKeptAt conversions ms a (at places a)
 
@@ -79,19 +79,19 @@ nows_shown a None = []
 nows_shown a (Some last) = map (now_shown a last) last.standings
 
 -- at the places below n
-unfoldable pub shown_below : Places → ℕ → List Now
+unfoldable pub shown_below : LastActives → ℕ → List Now
 shown_below places zero = []
 shown_below places (suc n) = shown_below places n ++ nows_shown n (at places n)
 
 -- those that are asked for
-abbrev pub taken_below : FilterRecord → ℕ → Places → ℕ → List Now
+abbrev pub taken_below : FilterRecord → ℕ → LastActives → ℕ → List Now
 taken_below which first places n = now_taken which first (shown_below places n)
 
 -- ---- one frame more
 
 -- behind the frames F this is heard at the frame f, and between the moments taken to the messages before
 pub record TakesFrame (which : FilterRecord) (conversions : List Conversion) (F : List FrameRecord) (f : FrameRecord) (l' : Listener)
-    (places : Places) (a a' : Announced) (ms : List Hearing) (messages : ℕ) : Type 0 where
+    (places : LastActives) (a a' : Announced) (ms : List Hearing) (messages : ℕ) : Type 0 where
   pub heard : Option Hearing
   pub heard_at : HeardAtWith is_fault_group (F ++ f ∷ []) (length F) heard
   pub hears : Hears l' (F ++ f ∷ [])

@@ -4,12 +4,12 @@ pub(crate) mod account;
 pub(crate) mod last_active;
 pub mod laws;
 mod lines;
-pub(crate) mod places;
+pub(crate) mod last_actives;
 mod run;
 pub(crate) mod standing;
 
 pub use account::take_heard;
 pub use last_active::LastActive;
-pub use places::{Places, SOURCES};
+pub use last_actives::{LastActives, SOURCES};
 pub use run::faults_now;
 pub use standing::Standing;

@@ -8,11 +8,11 @@ use Rattle.j39_groups.specs.Value.{ReadingRecord}
 use Rattle.j39_listen.specs.Heard.{Hearing}
 use Rattle.j39_reports.specs.EntryObject.{entry_object, group_member, opening_text}
 use Rattle.j39_reports.specs.MessageEntries.{Begun, HaveWritten}
-use Rattle.j39_reports.specs.declared.report_objects.opening.Opening.{Opening}
+use Rattle.j39_reports.specs.declared.report_objects.object_head.ObjectHead.{ObjectHead}
 use Rattle.j39_reports.specs.declared.report_objects.objects.Objects.{Objects}
 
 -- what stands before the parameter: the bytes of the block, and the group where they have it not
-abbrev pub opened : Opening → Option (List ℕ) → List ℕ
+abbrev pub opened : ObjectHead → Option (List ℕ) → List ℕ
 opened o group = if o.has_group then drop o.from o.head else drop o.from o.head ++ group_member group
 
 -- the objects are those of this message by this table

@@ -7,11 +7,11 @@ use Rattle.j39_groups.specs.Value.{ReadingRecord}
 use Rattle.j39_listen.specs.Heard.{Hearing}
 use Rattle.j39_reports.specs.EntryText.{begin_text, entry_record, group_called}
 use Rattle.j39_reports.specs.MessageEntries.{Begun, HaveWritten}
-use Rattle.j39_reports.specs.declared.report_records.begin.Begin.{Begin}
+use Rattle.j39_reports.specs.declared.report_records.record_head.RecordHead.{RecordHead}
 use Rattle.j39_reports.specs.declared.report_records.records.Records.{Records}
 
 -- what stands before the parameter: the bytes of the block, and the group's name where they have it not
-abbrev pub begun_fields : Begin → List ℕ → List ℕ
+abbrev pub begun_fields : RecordHead → List ℕ → List ℕ
 begun_fields begin group =
     if begin.has_group then drop begin.from begin.head else drop begin.from begin.head ++ later_text group
 

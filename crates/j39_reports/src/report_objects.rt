@@ -2,7 +2,7 @@
 
 mod object_sides;
 mod objects;
-mod opening;
+mod object_head;
 mod prepared_object;
 mod quick_object;
 mod run;

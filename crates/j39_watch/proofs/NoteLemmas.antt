@@ -2,7 +2,7 @@
 use Rattle.j39_watch.proofs.Common.{◌≡◌, ◌||◌, ◌∙◌, ◌++◌, ◌∷◌, [], ℕ, Bool, true, false, not, List, Option, None, Some, Result, Ok, Err, ap, append-nil, length, map, refl, subst, sym, IfOk, OnErr, OnOk, if◌then◌else◌, flat_map, or_comm, both_ways, or_parts, map-append, filter_map-append, FrameRecord, pgn_of, is_network_group, is_reported_in, RowRecord, SightingRecord, absent, sightings_in, told, told_by, told_in, Takes, told_are, HeardAt, HeardAtWith, Hearing, LeavesNetwork, or_none, Hears, Entry, entries_of, entry_of, Listener, hears_single, outside_claims, silent_outside, reported_leaves, pairs_of}
 use Rattle.j39_groups.specs.Visits.{Stops}
 use Rattle.j39_fault_reports.proofs.FaultAccountLemmas.{faults_leave}
-use Rattle.j39_fault_reports.specs.CurrentPlaces.{Places}
+use Rattle.j39_fault_reports.specs.CurrentPlaces.{LastActives}
 use Rattle.j39_fault_reports.specs.CurrentSoFar.{AreKept}
 use Rattle.j39_fault_reports.specs.FaultsNow.{active_among}
 use Rattle.j39_watch.specs.LatestSoFar.{AreLatest, Behind, HasFollowedMessage, WantsRoomAt}
@@ -100,7 +100,7 @@ counted_list false h = refl
 -- ---- what was noted
 
 -- nothing was heard
-pub notes_silent : (groups : List RowRecord) (F : List FrameRecord) (f : FrameRecord) (l' : Listener) (values : Values) (places : Places) (before : List Entry) (ms : List Hearing)
+pub notes_silent : (groups : List RowRecord) (F : List FrameRecord) (f : FrameRecord) (l' : Listener) (values : Values) (places : LastActives) (before : List Entry) (ms : List Hearing)
     → HeardAt groups (F ++ f ∷ []) (length F) None → HeardAtWith is_fault_group (F ++ f ∷ []) (length F) None → Hears l' (F ++ f ∷ [])
     → AreLatest (pairs_of values.rows) before → AreKept [] places ms → Notes groups F f l' values places before ms 0
 notes_silent groups F f l' values places before ms at fault_at hears are kept = record {
@@ -115,7 +115,7 @@ notes_silent groups F f l' values places before ms at fault_at hears are kept = 
 }
 
 -- nor can it be at a frame of a group that is neither the network's nor heard in one frame
-pub notes_other : (groups : List RowRecord) (F : List FrameRecord) (f : FrameRecord) (l : Listener) (values : Values) (places : Places) (before : List Entry) (ms : List Hearing)
+pub notes_other : (groups : List RowRecord) (F : List FrameRecord) (f : FrameRecord) (l : Listener) (values : Values) (places : LastActives) (before : List Entry) (ms : List Hearing)
     → (is_reported_in groups (pgn_of f.id) || is_fault_group (pgn_of f.id)) ≡ false → is_network_group (pgn_of f.id) ≡ false → Hears l F
     → AreLatest (pairs_of values.rows) before → AreKept [] places ms → Notes groups F f l values places before ms 0
 notes_other groups F f l values places before ms other free h are kept =
@@ -124,7 +124,7 @@ notes_other groups F f l values places before ms other free h are kept =
     (silent_outside is_fault_group faults_leave l F f free neither.1 h) (hears_single l F f free (outside_claims f free) h) are kept
 
 -- a message was, and counts as one of values, or of faults
-pub notes_heard : (groups : List RowRecord) (F : List FrameRecord) (f : FrameRecord) (l' : Listener) (values : Values) (places : Places) (before : List Entry) (ms : List Hearing)
+pub notes_heard : (groups : List RowRecord) (F : List FrameRecord) (f : FrameRecord) (l' : Listener) (values : Values) (places : LastActives) (before : List Entry) (ms : List Hearing)
     (messages : ℕ) (h : Hearing) (has_values has_faults : Bool)
     → HeardAt groups (F ++ f ∷ []) (length F) (counted has_values (Some h)) → HeardAtWith is_fault_group (F ++ f ∷ []) (length F) (counted has_faults (Some h))
     → Hears l' (F ++ f ∷ []) → AreLatest (pairs_of values.rows) (before ++ flat_map (entries_of groups) (if_counts has_values h))

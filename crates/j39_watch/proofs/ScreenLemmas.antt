@@ -1,7 +1,7 @@
 -- Lines of which there is room for so many.
 use Rattle.j39_watch.proofs.Common.{◌≡◌, ◌<◌, ◌+◌, ◌-◌, ◌++◌, ◌∷◌, ◌∙◌, [], ℕ, zero, suc, List, Option, Result, Ok, Err, append-nil, ap, arith, drop, get_or, length, length-append, refl, sym, take, take-append-drop, IfOk, IsErr, flat_map, flat_map-append, flat_map-next, Puts, Device, puts_as, puts_done, puts_first, puts_then, RowRecord}
 use Rattle.j39_fault_reports.proofs.NowLineLemmas.{shown_next, shown_rest}
-use Rattle.j39_fault_reports.specs.CurrentPlaces.{Places, at}
+use Rattle.j39_fault_reports.specs.CurrentPlaces.{LastActives, at}
 use Rattle.j39_fault_reports.specs.CurrentSoFar.{nows_shown, shown_below}
 use Rattle.j39_watch.specs.Watch.{line_end, row_shown}
 use Rattle.j39_watch.specs.WatchSoFar.{fault_lines, faults_of_places, limited}
@@ -90,7 +90,7 @@ limited_one width (suc n) bytes line some is = ap (λ t. t ++ line_end) is ∙ s
 
 -- ---- the places of faults
 
-module _ (width room : ℕ) (groups : List RowRecord) (holder : ℕ → Option ℕ) (places : Places) where
+module _ (width room : ℕ) (groups : List RowRecord) (holder : ℕ → Option ℕ) (places : LastActives) where
   abbrev pub at_place : ℕ → List (List ℕ)
   at_place n = flat_map (fault_lines groups holder) (nows_shown n (at places n))
 

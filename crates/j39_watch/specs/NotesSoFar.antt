@@ -11,7 +11,7 @@ use Rattle.j39_listen.specs.Output.{Output}
 use Rattle.j39_listen.specs.Report.{Entry, entries_of}
 use Rattle.j39_listen.specs.declared.listener.Listener.{Listener}
 use Rattle.j39_memory.specs.ByOrigin.{pairs_of}
-use Rattle.j39_fault_reports.specs.CurrentPlaces.{Places}
+use Rattle.j39_fault_reports.specs.CurrentPlaces.{LastActives}
 use Rattle.j39_fault_reports.specs.CurrentSoFar.{AreKept}
 use Rattle.j39_fault_reports.specs.FaultsNow.{active_among}
 use Rattle.j39_watch.specs.LatestSoFar.{AreLatest}
@@ -37,7 +37,7 @@ pub record WantsOne (groups : List RowRecord) (before : List Entry) (h : Hearing
   pub wanted : WantsRow (before ++ taken) entry
 
 -- behind the frames F this is heard at the frame f of values and of faults, and was noted behind those before
-pub record Notes (groups : List RowRecord) (F : List FrameRecord) (f : FrameRecord) (l' : Listener) (values : Values) (places : Places)
+pub record Notes (groups : List RowRecord) (F : List FrameRecord) (f : FrameRecord) (l' : Listener) (values : Values) (places : LastActives)
     (before : List Entry) (ms : List Hearing) (messages : ℕ) : Type 0 where
   pub heard : Option Hearing
   pub heard_at : HeardAt groups (F ++ f ∷ []) (length F) heard

@@ -3,7 +3,7 @@ use Rattle.std.specs.Prelude.{◌∷◌, [], ℕ, List, Option, if◌then◌else
 use Rattle.std.specs.List.{flat_map}
 use Rattle.j39_frame.specs.declared.origin.Origin.{Origin}
 use Rattle.j39_groups.specs.Row.{RowRecord}
-use Rattle.j39_fault_reports.specs.CurrentPlaces.{Places}
+use Rattle.j39_fault_reports.specs.CurrentPlaces.{LastActives}
 use Rattle.j39_fault_reports.specs.CurrentSoFar.{shown_below}
 use Rattle.j39_fault_reports.specs.FaultsNow.{Now}
 use Rattle.j39_watch.specs.LatestSoFar.{latest_at, latest_row}
@@ -26,5 +26,5 @@ abbrev pub limited : ℕ → ℕ → List (List ℕ) → List ℕ
 limited width left lines = flat_map (row_shown width) (take left lines)
 
 -- of all places
-abbrev pub faults_of_places : List RowRecord → (ℕ → Option ℕ) → Places → ℕ → List (List ℕ)
+abbrev pub faults_of_places : List RowRecord → (ℕ → Option ℕ) → LastActives → ℕ → List (List ℕ)
 faults_of_places groups holder places n = flat_map (fault_lines groups holder) (shown_below places n)

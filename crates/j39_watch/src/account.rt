@@ -9,7 +9,7 @@ ghost use Rattle.j39_listen.specs.declared.account.LineFault.TheVariants.{Write}
 ghost use Rattle.j39_watch.specs.NotesSoFar.{HasWatched, lines_of_watch, screen_of_watch, size_of};
 ghost use Rattle.j39_watch.specs.Watch.{AsksForWatch, MakesWatch};
 
-use j39_fault_reports::Places;
+use j39_fault_reports::LastActives;
 use crate::moment::Moment;
 use crate::note::note;
 use crate::screen::put_screen;
@@ -54,7 +54,7 @@ pub(crate) struct Screens<'g, 't> {
     groups: &'g Groups<'t>,
     size: ScreenSize,
     listener: Listener,
-    places: Places,
+    places: LastActives,
     values: Values<'t>,
     messages: u64,
     moment: Moment,
@@ -70,7 +70,7 @@ impl<'g, 't> Screens<'g, 't> {
             groups,
             size,
             listener: Listener::new(alloc),
-            places: Places::new(),
+            places: LastActives::new(),
             values: Values::new(alloc),
             messages: 0,
             moment: Moment::new(),

@@ -18,7 +18,7 @@ ghost use Rattle.j39_watch.specs.NotesSoFar.{Notes, WantsOne, if_counts};
 ghost use Rattle.j39_watch.specs.Watch.{AsksForWatch};
 
 use j39_fault_reports::take_heard;
-use j39_fault_reports::Places;
+use j39_fault_reports::LastActives;
 use j39_fault_reports::is_of_fault_group;
 use crate::values::Values;
 use j39_frame::Frame;
@@ -33,7 +33,7 @@ use std::alloc::{AllocError, Global};
 pub(crate) fn note<'t>(
     alloc: Global,
     listener: &mut Listener,
-    places: &mut Places,
+    places: &mut LastActives,
     values: &mut Values<'t>,
     groups: &Groups<'t>,
     frame: &Frame,
@@ -68,7 +68,7 @@ pub(crate) fn note<'t>(
 fn note_heard<'t>(
     alloc: Global,
     listener: &mut Listener,
-    places: &mut Places,
+    places: &mut LastActives,
     values: &mut Values<'t>,
     groups: &Groups<'t>,
     is_reported: bool,
@@ -111,7 +111,7 @@ fn note_fault(
     alloc: Global,
     counts: bool,
     heard: &Heard<'_>,
-    places: &mut Places,
+    places: &mut LastActives,
 ) -> Result<(), AllocError>
     requires { length heard.now.message.payload.now ≤ 1785 }
     ensures kept { OnOk result ((ms : List Hearing) → AreKept [] places.old ms

@@ -15,7 +15,7 @@ ghost use Rattle.j39_watch.specs.WatchSoFar.{fault_lines, faults_of_places, limi
 ghost use Rattle.j39_watch.specs.ScreenSoFar.{lines_of_code};
 
 use j39_fault_reports::LastActive;
-use j39_fault_reports::{Places, SOURCES};
+use j39_fault_reports::{LastActives, SOURCES};
 use j39_fault_reports::Standing;
 use crate::cut_line::CutLine;
 use crate::latest::Latest;
@@ -30,7 +30,7 @@ use j39_io::{DeviceFault, Sink, put_all};
 pub(crate) fn put_screen<W: Sink>(
     view: View<'_, '_>,
     rows: u16,
-    places: &Places,
+    places: &LastActives,
     values: &Values<'_>,
     sink: &mut W,
 ) -> Result<u16, DeviceFault>
@@ -48,7 +48,7 @@ pub(crate) fn put_screen<W: Sink>(
 fn put_lines<W: Sink>(
     view: View<'_, '_>,
     rows: u16,
-    places: &Places,
+    places: &LastActives,
     values: &Values<'_>,
     sink: &mut W,
 ) -> Result<u16, DeviceFault>
@@ -79,7 +79,7 @@ fn put_moment<W: Sink>(view: View<'_, '_>, left: u16, sink: &mut W) -> Result<u1
 fn put_faults<W: Sink>(
     view: View<'_, '_>,
     room: u16,
-    places: &Places,
+    places: &LastActives,
     sink: &mut W,
 ) -> Result<u16, DeviceFault>
     ensures left { IfOk result (λ n. n ≡ room - length (faults_of_places view.entry.groups.now (holder_of view.entry.listener.now) places.now 256)) }

@@ -16,7 +16,7 @@ ghost use Rattle.j39_fault_reports.specs.FaultsSoFar.{manner_of};
 ghost use Rattle.j39_fault_reports.specs.News.{is_fault_group};
 
 use crate::current_faults::lines::put_places;
-use crate::current_faults::places::Places;
+use crate::current_faults::last_actives::LastActives;
 use crate::fault_news::account::{is_byte, is_of_fault_group};
 use crate::fault_news::announced::Announced;
 use crate::fault_news::form::Writing;
@@ -35,7 +35,7 @@ pub(crate) struct FaultsNow<'g, 't, 'c> {
     conversions: &'c [Conversion],
     chooser: Chooser<'c>,
     listener: Listener,
-    places: Places,
+    places: LastActives,
     messages: u64,
     announced: Announced,
 }
@@ -57,7 +57,7 @@ impl<'g, 't, 'c> FaultsNow<'g, 't, 'c> {
             conversions,
             chooser: Chooser::new(filter),
             listener: Listener::new(alloc),
-            places: Places::new(),
+            places: LastActives::new(),
             messages: 0,
             announced: Announced::default(),
         }
@@ -128,7 +128,7 @@ fn take_frame(
     listener: &mut Listener,
     conversions: &[Conversion],
     chooser: &Chooser<'_>,
-    places: &mut Places,
+    places: &mut LastActives,
     announced: &mut Announced,
     frame: &Frame,
 ) -> Result<u64, AllocError>
@@ -159,7 +159,7 @@ pub fn take_heard(
     heard: &Heard<'_>,
     is_timely: bool,
     conversions: &[Conversion],
-    places: &mut Places,
+    places: &mut LastActives,
 ) -> Result<u64, AllocError>
     requires { length heard.now.message.payload.now ≤ 1785 }
     ensures counted { IfOk result (λ messages. messages ≡ length (active_among (hearing_of heard.now ∷ []))) }

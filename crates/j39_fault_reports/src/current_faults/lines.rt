@@ -19,9 +19,9 @@ ghost use Rattle.j39_fault_reports.specs.CurrentPlaces.{at, standing_record};
 ghost use Rattle.j39_fault_reports.specs.CurrentSoFar.{now_shown, nows_shown, taken_below};
 
 use crate::current_faults::last_active::LastActive;
-use crate::current_faults::places::{Places, SOURCES};
+use crate::current_faults::last_actives::{LastActives, SOURCES};
 use crate::current_faults::standing::Standing;
-use crate::fault_news::form::{Said, Writing};
+use crate::fault_news::form::{Saying, Writing};
 use crate::fault_news::lines::put_fault;
 use j39_address::Name;
 use j39_faults::{Kind, State};
@@ -31,7 +31,7 @@ use j39_rows::{Cell, Column, DASH, Head, Plain};
 
 /// Writes what stands at each address and is asked for, in their order, and answers how many lines that is.
 pub(crate) fn put_places<W: Sink>(
-    places: &Places,
+    places: &LastActives,
     writing: Writing<'_, '_>,
     chooser: &Chooser<'_>,
     sink: &mut W,
@@ -55,7 +55,7 @@ fn put_place<W: Sink>(
     writing: Writing<'_, '_>,
     chooser: &Chooser<'_>,
     address: usize,
-    places: &Places,
+    places: &LastActives,
     sink: &mut W,
 ) -> Result<u64, DeviceFault>
     requires { address < 256 }
@@ -130,7 +130,7 @@ fn put_standing<W: Sink>(
 {
     let columns = columns_of(address, last, standing);
     let head = now_head(standing, &columns);
-    let said = Said {
+    let said = Saying {
         state: State::Is(Kind::Active),
         lamps: last.lamps,
         code: standing.code,

@@ -13,7 +13,7 @@ ghost use Rattle.j39_fault_reports.specs.FaultsSoFar.{change_by, changed, manner
 ghost use Rattle.j39_fault_reports.specs.Faults.{lines_in};
 
 use crate::fault_news::columns::message_columns;
-use crate::fault_news::form::{Said, Writing};
+use crate::fault_news::form::{Saying, Writing};
 use crate::fault_news::lines::{message_head, put_fault};
 use j39_faults::{
     Change, Code, Lamps, State, Version, change_since, clearing_by, code_by, codes_of,
@@ -129,7 +129,7 @@ fn put_change<W: Sink>(
     let Some(change) = change else {
         return Ok(0);
     };
-    let said = Said {
+    let said = Saying {
         state: State::Became(change),
         lamps,
         code: Some(code),

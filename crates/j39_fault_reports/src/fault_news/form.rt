@@ -50,7 +50,7 @@ fn is_number_of(spns: &[u32], spn: u32) -> bool
 
 /// What is said of a code, or that a message has none.
 #[derive(Clone, Copy)]
-pub(crate) struct Said {
+pub(crate) struct Saying {
     pub state: State,
     pub lamps: Lamps,
     pub code: Option<Code>,

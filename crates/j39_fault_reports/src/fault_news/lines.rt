@@ -16,7 +16,7 @@ ghost use Rattle.j39_rows.specs.Models.{column_of, head_of};
 ghost use Rattle.j39_rows.specs.Row.{row_text};
 
 use crate::fault_news::columns::{coded, message_columns, state_name, uncoded};
-use crate::fault_news::form::{Said, Writing, names_asked};
+use crate::fault_news::form::{Saying, Writing, names_asked};
 use crate::fault_news::names::name_in;
 use j39_faults::{
     Code, Kind, Lamps, State, Version, clear_word, code_by, codes_of, lamps_told, parameter_words,
@@ -59,7 +59,7 @@ pub(crate) fn put_message<W: Sink>(
     }
     let state = State::Is(kind);
     let code = None;
-    put_fault(head, writing, Said { state, lamps, code }, sink)
+    put_fault(head, writing, Saying { state, lamps, code }, sink)
 }
 
 /// Writes a line for each code that is asked for, and answers how many.
@@ -80,7 +80,7 @@ fn put_codes<W: Sink>(
     for code in codes_of(payload) {
         let state = State::Is(kind);
         let code = Some(code_by(version, code));
-        lines += put_fault(head, writing, Said { state, lamps, code }, sink)?;
+        lines += put_fault(head, writing, Saying { state, lamps, code }, sink)?;
     }
     Ok(lines)
 }
@@ -89,7 +89,7 @@ fn put_codes<W: Sink>(
 pub(crate) fn put_fault<W: Sink>(
     head: Head<'_>,
     writing: Writing<'_, '_>,
-    said: Said,
+    said: Saying,
     sink: &mut W,
 ) -> Result<u64, DeviceFault>
     ensures lines { IfOk result (λ n. n ≡ one_if (names_asked (spns_now writing.entry.spns) said.code)) }
@@ -109,7 +109,7 @@ pub(crate) fn put_fault<W: Sink>(
 fn put_shown<W: Sink>(
     head: Head<'_>,
     writing: Writing<'_, '_>,
-    said: Said,
+    said: Saying,
     sink: &mut W,
 ) -> Result<(), DeviceFault>
     ensures { Puts (row_text writing.entry.form (head_of head.entry) (said_columns writing.entry.groups.now said.state said.lamps said.code))

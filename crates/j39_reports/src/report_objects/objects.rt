@@ -16,7 +16,7 @@ ghost use Rattle.j39_rows.specs.Json.{string_text};
 
 use crate::json::put_string_or_null;
 use crate::report_objects::object_sides::ObjectSides;
-use crate::report_objects::opening::{HEAD, Opening, group_before, moment_before, sender_before};
+use crate::report_objects::object_head::{HEAD, ObjectHead, group_before, moment_before, sender_before};
 use crate::report_objects::prepared_object::prepared_before;
 use crate::report_objects::quick_object::{OBJECT, object_before, unit_in};
 use crate::report_records::{digits_before, is_whole};
@@ -34,7 +34,7 @@ use j39_rows::{put_bytes_under, put_string};
 #[derive(Drop)]
 pub(crate) struct Objects<'k, 'g, 't, 'b> {
     known: &'k KnownSides<'g, 't, ObjectSides>,
-    opening: &'b mut Opening,
+    opening: &'b mut ObjectHead,
     group: Option<&'g [u8]>,
     pgn: u32,
     lines: u64,
@@ -51,7 +51,7 @@ impl<'k, 'g, 't, 'b> Objects<'k, 'g, 't, 'b> {
         known: &'k KnownSides<'g, 't, ObjectSides>,
         heard: &Heard<'_>,
         second: &mut Second,
-        opening: &'b mut Opening,
+        opening: &'b mut ObjectHead,
         block: &'b mut [u8; OBJECT],
     ) -> Objects<'k, 'g, 't, 'b>
         ensures opened { IsOpened known.entry.now.groups.now (hearing_of heard.now) result }
@@ -77,7 +77,7 @@ impl<'k, 'g, 't, 'b> Objects<'k, 'g, 't, 'b> {
 pub(crate) struct ObjectForm<'g, 't> {
     second: Second,
     known: KnownSides<'g, 't, ObjectSides>,
-    opening: Opening,
+    opening: ObjectHead,
     block: [u8; OBJECT],
 }
 
@@ -90,7 +90,7 @@ impl<'g, 't> ObjectForm<'g, 't> {
         ObjectForm {
             second: Second::new(0),
             known: KnownSides::new(groups),
-            opening: Opening::new(),
+            opening: ObjectHead::new(),
             block: [0; OBJECT],
         }
     }
@@ -167,7 +167,7 @@ impl<'k, 'g, 't, 'b, W: Sink> ReadingVisitor<'t, W> for Objects<'k, 'g, 't, 'b> 
 
 /// What the objects of a message begin with, of a group that is called so.
 #[inline(always)]
-fn open_with(opening: &mut Opening, heard: &Heard<'_>, group: Option<&[u8]>, second: &mut Second)
+fn open_with(opening: &mut ObjectHead, heard: &Heard<'_>, group: Option<&[u8]>, second: &mut Second)
     ensures { opened opening.new (option_map (λ name. name.now) group.entry) ≡ opening_text (stamp_micros heard.now.message.stamp)
         heard.now.message.source heard.now.destination (option_map name_raw heard.now.name)
         (pgn_raw heard.now.message.pgn) ++ group_member (option_map (λ name. name.now) group.entry) }
@@ -190,7 +190,7 @@ fn open_with(opening: &mut Opening, heard: &Heard<'_>, group: Option<&[u8]>, sec
 #[inline(always)]
 fn put_entry<'t, W: Sink>(
     block: &mut [u8; OBJECT],
-    opening: &Opening,
+    opening: &ObjectHead,
     group: Option<&[u8]>,
     known: &KnownSides<'_, 't, ObjectSides>,
     pgn: u32,
@@ -220,7 +220,7 @@ fn put_entry<'t, W: Sink>(
 #[inline(never)]
 fn put_unknown<W: Sink>(
     block: &mut [u8; OBJECT],
-    opening: &Opening,
+    opening: &ObjectHead,
     group: Option<&[u8]>,
     groups: &Groups<'_>,
     pgn: u32,
@@ -241,7 +241,7 @@ fn put_unknown<W: Sink>(
 #[inline(always)]
 fn put_object<W: Sink>(
     block: &mut [u8; OBJECT],
-    opening: &Opening,
+    opening: &ObjectHead,
     group: Option<&[u8]>,
     spn: u32,
     parameter: Option<&[u8]>,
@@ -263,7 +263,7 @@ fn put_object<W: Sink>(
 /// Writes the object of a reading, part by part.
 #[inline(never)]
 fn put_parts<W: Sink>(
-    opening: &Opening,
+    opening: &ObjectHead,
     group: Option<&[u8]>,
     spn: u32,
     parameter: Option<&[u8]>,
@@ -283,7 +283,7 @@ fn put_parts<W: Sink>(
 
 /// Writes what the objects of a message begin with, and the group.
 fn put_opened<W: Sink>(
-    opening: &Opening,
+    opening: &ObjectHead,
     group: Option<&[u8]>,
     sink: &mut W,
 ) -> Result<(), DeviceFault>

@@ -8,7 +8,7 @@ ghost use Rattle.j39_reports.specs.EntryObject.{behind_members, parameter_member
 ghost use Rattle.j39_reports.specs.MessageObjects.{opened};
 
 use crate::report_objects::object_sides::ObjectSides;
-use crate::report_objects::opening::Opening;
+use crate::report_objects::object_head::ObjectHead;
 use crate::report_objects::quick_object::{OBJECT, json_before, unit_in};
 use crate::sides::{KnownSides, Sides};
 use j39_groups::Value;
@@ -19,7 +19,7 @@ use j39_io::backwards::{bytes_before, tail_before};
 #[inline(always)]
 pub(crate) fn prepared_before(
     out: &mut [u8; OBJECT],
-    opening: &Opening,
+    opening: &ObjectHead,
     known: &KnownSides<'_, '_, ObjectSides>,
     pgn: u32,
     spn: u32,

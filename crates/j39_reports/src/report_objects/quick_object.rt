@@ -7,7 +7,7 @@ ghost use Rattle.j39_reports.specs.EntryObject.{parameter_members, unit_in, valu
 ghost use Rattle.j39_reports.specs.MessageObjects.{opened};
 
 use crate::json::string_or_null_before;
-use crate::report_objects::opening::Opening;
+use crate::report_objects::object_head::ObjectHead;
 use crate::report_records::{digits_before, scaled_before};
 use j39_groups::Value;
 use j39_io::backwards::{bytes_before, tail_before};
@@ -21,7 +21,7 @@ pub(crate) const OBJECT: usize = 496;
 #[inline(always)]
 pub(crate) fn object_before(
     out: &mut [u8; OBJECT],
-    opening: &Opening,
+    opening: &ObjectHead,
     spn: u32,
     parameter: Option<&[u8]>,
     value: Value<'_, '_>,

@@ -7,7 +7,7 @@ ghost use Rattle.j39_reports.specs.Columns.{last_field};
 ghost use Rattle.j39_reports.specs.EntryText.{named_fields, parameter_called, state_called, value_fields};
 ghost use Rattle.j39_reports.specs.MessageRecords.{begun_fields};
 
-use crate::report_records::begin::Begin;
+use crate::report_records::record_head::RecordHead;
 use crate::report_records::quick_record::{RECORD, bare_before};
 use crate::report_records::record_sides::RecordSides;
 use crate::sides::{KnownSides, Sides};
@@ -19,7 +19,7 @@ use j39_io::backwards::{bytes_before, tail_before};
 #[inline(always)]
 pub(crate) fn prepared_before(
     out: &mut [u8; RECORD],
-    begin: &Begin,
+    begin: &RecordHead,
     known: &KnownSides<'_, '_, RecordSides>,
     pgn: u32,
     spn: u32,

@@ -9,7 +9,7 @@ ghost use Rattle.j39_groups.specs.ValueText.{scaled_text, value_field};
 ghost use Rattle.j39_reports.specs.EntryText.{named_fields, value_fields};
 ghost use Rattle.j39_reports.specs.MessageRecords.{begun_fields};
 
-use crate::report_records::begin::{Begin, digits_before};
+use crate::report_records::record_head::{RecordHead, digits_before};
 use j39_groups::{Value, magnitude_before};
 use j39_io::backwards::{byte_before, bytes_before, slice_before, tail_before};
 use j39_io::{has_special, is_formula};
@@ -25,7 +25,7 @@ pub(crate) const RECORD: usize = 352;
 #[inline(always)]
 pub(crate) fn record_before(
     out: &mut [u8; RECORD],
-    begin: &Begin,
+    begin: &RecordHead,
     spn: u32,
     parameter: &[u8],
     value: Value<'_, '_>,

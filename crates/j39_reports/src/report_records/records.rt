@@ -14,7 +14,7 @@ ghost use Rattle.j39_reports.specs.Columns.{last_field};
 ghost use Rattle.j39_reports.specs.EntryText.{begin_text, group_called, named_fields, parameter_called, state_called, value_fields};
 ghost use Rattle.j39_reports.specs.MessageRecords.{begun_fields};
 
-use crate::report_records::begin::{Begin, HEAD, begin_before, group_before, is_whole};
+use crate::report_records::record_head::{RecordHead, HEAD, begin_before, group_before, is_whole};
 use crate::report_records::prepared_record::prepared_before;
 use crate::report_records::quick_record::{RECORD, record_before};
 use crate::report_records::record_sides::RecordSides;
@@ -30,7 +30,7 @@ use j39_listen::{EntryForm, Heard};
 #[derive(Drop)]
 pub(crate) struct Records<'k, 'g, 't, 'b> {
     known: &'k KnownSides<'g, 't, RecordSides>,
-    begin: &'b mut Begin,
+    begin: &'b mut RecordHead,
     group: &'g [u8],
     pgn: u32,
     lines: u64,
@@ -47,7 +47,7 @@ impl<'k, 'g, 't, 'b> Records<'k, 'g, 't, 'b> {
         known: &'k KnownSides<'g, 't, RecordSides>,
         heard: &Heard<'_>,
         second: &mut Second,
-        begin: &'b mut Begin,
+        begin: &'b mut RecordHead,
         block: &'b mut [u8; RECORD],
     ) -> Records<'k, 'g, 't, 'b>
         ensures begun { IsBegun known.entry.now.groups.now (hearing_of heard.now) result }
@@ -73,7 +73,7 @@ impl<'k, 'g, 't, 'b> Records<'k, 'g, 't, 'b> {
 pub(crate) struct RecordForm<'g, 't> {
     second: Second,
     known: KnownSides<'g, 't, RecordSides>,
-    begin: Begin,
+    begin: RecordHead,
     block: [u8; RECORD],
 }
 
@@ -86,7 +86,7 @@ impl<'g, 't> RecordForm<'g, 't> {
         RecordForm {
             second: Second::new(0),
             known: KnownSides::new(groups),
-            begin: Begin::new(),
+            begin: RecordHead::new(),
             block: [0; RECORD],
         }
     }
@@ -157,7 +157,7 @@ impl<'k, 'g, 't, 'b, W: Sink> ReadingVisitor<'t, W> for Records<'k, 'g, 't, 'b> 
 /// Writes what the records of a message begin with: the moment, the address, the NAME and the PGN, and what the group is called,
 /// where that is short and stands as it is.
 #[inline(always)]
-fn begin_with(begin: &mut Begin, heard: &Heard<'_>, group: &[u8], second: &mut Second)
+fn begin_with(begin: &mut RecordHead, heard: &Heard<'_>, group: &[u8], second: &mut Second)
     ensures { begun_fields begin.new group.now ≡ begin_text (stamp_micros heard.now.message.stamp) heard.now.message.source
         heard.now.destination (option_map name_raw heard.now.name) (pgn_raw heard.now.message.pgn) ++ later_text group.now }
 {
@@ -172,7 +172,7 @@ fn begin_with(begin: &mut Begin, heard: &Heard<'_>, group: &[u8], second: &mut S
 #[inline(always)]
 fn put_entry<'t, W: Sink>(
     block: &mut [u8; RECORD],
-    begin: &Begin,
+    begin: &RecordHead,
     group: &[u8],
     known: &KnownSides<'_, 't, RecordSides>,
     pgn: u32,
@@ -201,7 +201,7 @@ fn put_entry<'t, W: Sink>(
 #[inline(never)]
 fn put_unknown<W: Sink>(
     block: &mut [u8; RECORD],
-    begin: &Begin,
+    begin: &RecordHead,
     group: &[u8],
     groups: &Groups<'_>,
     pgn: u32,
@@ -221,7 +221,7 @@ fn put_unknown<W: Sink>(
 #[inline(always)]
 fn put_record<W: Sink>(
     block: &mut [u8; RECORD],
-    begin: &Begin,
+    begin: &RecordHead,
     group: &[u8],
     spn: u32,
     parameter: &[u8],
@@ -241,7 +241,7 @@ fn put_record<W: Sink>(
 /// Writes the record of a reading, part by part.
 #[inline(never)]
 fn put_parts<W: Sink>(
-    begin: &Begin,
+    begin: &RecordHead,
     group: &[u8],
     spn: u32,
     parameter: &[u8],
@@ -258,7 +258,7 @@ fn put_parts<W: Sink>(
 
 /// Writes the record of a reading, up to its value.
 fn put_named<W: Sink>(
-    begin: &Begin,
+    begin: &RecordHead,
     group: &[u8],
     spn: u32,
     parameter: &[u8],
@@ -274,7 +274,7 @@ fn put_named<W: Sink>(
 }
 
 /// Writes what the records of a message begin with, and what the group is called.
-fn put_begun<W: Sink>(begin: &Begin, group: &[u8], sink: &mut W) -> Result<(), DeviceFault>
+fn put_begun<W: Sink>(begin: &RecordHead, group: &[u8], sink: &mut W) -> Result<(), DeviceFault>
     ensures { Puts (begun_fields begin.now group.now) result (turn W.written W.has_failed sink.old sink.new) }
 {
     let begun = &begin.head[begin.from..];

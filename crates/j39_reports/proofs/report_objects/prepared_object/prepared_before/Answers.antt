@@ -2,13 +2,13 @@
 use Rattle.j39_reports.proofs.Common.{◌≡◌, ◌∙◌, ◌++◌, ℕ, List, None, Option, ap, ap₂, append_assoc, codes, drop, name_in, refl, state_in, subst, sym, true, WritesBefore, before_then, value_of, ValueRecord}
 use Rattle.j39_reports.specs.EntryObject.{behind_members, parameter_members, unit_in, value_json, value_members}
 use Rattle.j39_reports.specs.MessageObjects.{opened}
-use Rattle.j39_reports.specs.declared.report_objects.opening.Opening.{Opening}
+use Rattle.j39_reports.specs.declared.report_objects.object_head.ObjectHead.{ObjectHead}
 use Rattle.j39_reports.proofs.report_objects.prepared_object.prepared_before.Goals as goal
 
 regroup : (head parameter key json behind : List ℕ) → head ++ ((parameter ++ key) ++ (json ++ behind)) ≡ head ++ (parameter ++ (key ++ json ++ behind))
 regroup head parameter key json behind = simp append_assoc refl
 
-members : (o : Opening) (group parameter state : Option (List ℕ)) (before behind : List ℕ) (spn : ℕ) (value : ValueRecord) → o.has_group ≡ true
+members : (o : ObjectHead) (group parameter state : Option (List ℕ)) (before behind : List ℕ) (spn : ℕ) (value : ValueRecord) → o.has_group ≡ true
     → before ≡ parameter_members spn parameter ++ codes ",\"value\":" → behind ≡ behind_members (unit_in value) None → state ≡ None
     → drop o.from o.head ++ (before ++ (value_json value ++ behind))
     ≡ opened o group ++ (parameter_members spn parameter ++ value_members value state)

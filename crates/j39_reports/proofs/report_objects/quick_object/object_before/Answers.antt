@@ -2,10 +2,10 @@
 use Rattle.j39_reports.proofs.Common.{List, ℕ, Option, Bool, true, ◌≡◌, ◌++◌, ap, drop, if◌then◌else◌, subst, sym, before_then, WritesBefore}
 use Rattle.j39_reports.specs.EntryObject.{group_member}
 use Rattle.j39_reports.specs.MessageObjects.{opened}
-use Rattle.j39_reports.specs.declared.report_objects.opening.Opening.{Opening}
+use Rattle.j39_reports.specs.declared.report_objects.object_head.ObjectHead.{ObjectHead}
 use Rattle.j39_reports.proofs.report_objects.quick_object.object_before.Goals as goal
 
-all : (o : Opening) (group : Option (List ℕ)) (later : List ℕ) → o.has_group ≡ true → drop o.from o.head ++ later ≡ opened o group ++ later
+all : (o : ObjectHead) (group : Option (List ℕ)) (later : List ℕ) → o.has_group ≡ true → drop o.from o.head ++ later ≡ opened o group ++ later
 all o group later has = sym (ap (λ (b : Bool). (if b then drop o.from o.head else drop o.from o.head ++ group_member group) ++ later) has)
 
 pub returns-clause-written : goal.returns-clause-written

@@ -3,14 +3,14 @@ use Rattle.j39_reports.proofs.Common.{◌≡◌, ◌∙◌, ◌++◌, ◌∷◌,
 use Rattle.j39_reports.specs.Columns.{last_field}
 use Rattle.j39_reports.specs.EntryText.{named_fields, parameter_called, state_called, value_fields}
 use Rattle.j39_reports.specs.MessageRecords.{begun_fields}
-use Rattle.j39_reports.specs.declared.report_records.begin.Begin.{Begin}
+use Rattle.j39_reports.specs.declared.report_records.record_head.RecordHead.{RecordHead}
 use Rattle.j39_reports.proofs.report_records.prepared_record.prepared_before.Goals as goal
 
 regroup : (begun number name bare behind : List ℕ)
     → begun ++ (((44 ∷ number) ++ name ++ (44 ∷ [])) ++ (bare ++ behind)) ≡ (begun ++ (44 ∷ number) ++ name) ++ ((44 ∷ bare) ++ behind)
 regroup begun number name bare behind = simp append_assoc refl
 
-fields : (begin : Begin) (group parameter before behind state : List ℕ) (spn : ℕ) (value : ValueRecord) → begin.has_group ≡ true
+fields : (begin : RecordHead) (group parameter before behind state : List ℕ) (spn : ℕ) (value : ValueRecord) → begin.has_group ≡ true
     → before ≡ (44 ∷ decimal spn) ++ later_text parameter ++ (44 ∷ []) → behind ≡ later_text (unit_of value) ++ last_field [] → state ≡ []
     → drop begin.from begin.head ++ (before ++ (value_field value ++ behind))
     ≡ named_fields (begun_fields begin group) spn parameter ++ value_fields value state

@@ -2,7 +2,7 @@
 use Rattle.j39_reports.proofs.Common.{◌≡◌, ◌∙◌, ◌++◌, ◌∷◌, [], ℕ, List, ap, append_assoc, decimal, drop, refl, subst, true, WritesBefore, later_text, line_end, before_then, value_of, ValueRecord, unit_of, value_field}
 use Rattle.j39_reports.specs.EntryText.{named_fields, value_fields}
 use Rattle.j39_reports.specs.MessageRecords.{begun_fields}
-use Rattle.j39_reports.specs.declared.report_records.begin.Begin.{Begin}
+use Rattle.j39_reports.specs.declared.report_records.record_head.RecordHead.{RecordHead}
 use Rattle.j39_reports.proofs.report_records.quick_record.record_before.Goals as goal
 
 regroup : (begun number name bare unit state end : List ℕ)
@@ -10,7 +10,7 @@ regroup : (begun number name bare unit state end : List ℕ)
     ≡ (begun ++ (44 ∷ number) ++ name) ++ ((44 ∷ bare) ++ (unit ++ (state ++ end)))
 regroup begun number name bare unit state end = simp append_assoc refl
 
-fields : (begin : Begin) (group parameter : List ℕ) (spn : ℕ) (value : ValueRecord) (unit state : List ℕ) → begin.has_group ≡ true → unit ≡ unit_of value
+fields : (begin : RecordHead) (group parameter : List ℕ) (spn : ℕ) (value : ValueRecord) (unit state : List ℕ) → begin.has_group ≡ true → unit ≡ unit_of value
     → drop begin.from begin.head ++ ((44 ∷ []) ++ (decimal spn ++ (later_text parameter ++ ((44 ∷ []) ++ (value_field value ++ (later_text unit ++ (later_text state ++ line_end)))))))
     ≡ named_fields (begun_fields begin group) spn parameter ++ value_fields value state
 unfolding named_fields value_fields

@@ -1,7 +1,7 @@
 -- The parts, one before the other.
 use Rattle.j39_reports.proofs.Common.{address_string, name_string, or_null, List, ℕ, ◌≡◌, ◌++◌, append_assoc, codes, refl, subst, option_map, name_raw, before_then, WritesBefore}
 use Rattle.j39_reports.specs.EntryObject.{sender_members}
-use Rattle.j39_reports.proofs.report_objects.opening.sender_before.Goals as goal
+use Rattle.j39_reports.proofs.report_objects.object_head.sender_before.Goals as goal
 
 regroup : (a b c address destination name : List ℕ) → a ++ (address ++ (b ++ (destination ++ (c ++ name)))) ≡ a ++ address ++ b ++ destination ++ c ++ name
 regroup a b c address destination name = simp append_assoc refl

@@ -2,7 +2,7 @@
 use Rattle.std.proofs.Common.{◌≤◌, arith, length}
 use Rattle.std.specs.Fmt.{decimal}
 use Rattle.j39_groups.proofs.TextLemmas.{decimal_ten}
-use Rattle.j39_reports.proofs.report_records.begin.digits_before.Goals as goal
+use Rattle.j39_reports.proofs.report_records.record_head.digits_before.Goals as goal
 
 pub number_before-requires-clause-room : goal.number_before-requires-clause-room
 number_before-requires-clause-room c =

@@ -1,7 +1,7 @@
 -- The parts, one before the other.
 use Rattle.j39_reports.proofs.Common.{List, ℕ, ◌≡◌, ◌++◌, append_assoc, codes, refl, subst, stamp_micros, magnitude_text, before_then, WritesBefore, utc_text}
 use Rattle.j39_reports.specs.EntryObject.{moment_members}
-use Rattle.j39_reports.proofs.report_objects.opening.moment_before.Goals as goal
+use Rattle.j39_reports.proofs.report_objects.object_head.moment_before.Goals as goal
 
 regroup : (a b mark seconds utc : List ℕ) → a ++ (seconds ++ ((b ++ mark) ++ (utc ++ mark))) ≡ a ++ seconds ++ b ++ (mark ++ utc ++ mark)
 regroup a b mark seconds utc = simp append_assoc refl

@@ -2,7 +2,7 @@
 use Rattle.j39_reports.proofs.Common.{ℕ, List, ◌≡◌, ◌++◌, ◌∷◌, [], refl, append_assoc, subst, option_map, name_raw, WritesBefore, before_then, pgn_raw, stamp_micros}
 use Rattle.std.specs.Fmt.{decimal}
 use Rattle.j39_reports.specs.Columns.{heard_fields, moment_fields, sender_fields}
-use Rattle.j39_reports.proofs.report_records.begin.begin_before.Goals as goal
+use Rattle.j39_reports.proofs.report_records.record_head.begin_before.Goals as goal
 
 joined : (moment sender heard : List ℕ) (told pgn : ℕ) → told ≡ pgn → heard ≡ moment ++ (44 ∷ []) ++ sender
     → moment ++ ((44 ∷ []) ++ (sender ++ ((44 ∷ []) ++ decimal told))) ≡ heard ++ (44 ∷ []) ++ decimal pgn

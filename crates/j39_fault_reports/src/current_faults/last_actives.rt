@@ -23,15 +23,15 @@ pub const SOURCES: usize = 256;
 
 /// What the last message of each address says.
 #[derive(Drop)]
-pub struct Places {
+pub struct LastActives {
     places: [ActiveBox; SOURCES],
 }
 
-impl Model for Places {
+impl Model for LastActives {
     ghost use Rattle.std.specs.Prelude.{◌≡◌, length};
-    ghost use Rattle.j39_fault_reports.specs.CurrentPlaces.{Places, shown};
+    ghost use Rattle.j39_fault_reports.specs.CurrentPlaces.{LastActives, shown};
 
-    ghost Value = { Places };
+    ghost Value = { LastActives };
 
     ghost view = { λ t. shown t.places };
 
@@ -48,14 +48,14 @@ fn empty() -> [ActiveBox; SOURCES]
     )
 }
 
-impl Places {
+impl LastActives {
     /// Nobody spoke.
     #[tactic(auto, using(crate::proofs::NowPlaceLemmas::shown_new))]
-    pub fn new() -> Places
+    pub fn new() -> LastActives
         ensures { result ≡ replicate 256 None }
     {
         let places = empty();
-        Places { places }
+        LastActives { places }
     }
 
     /// What the last message of an address says.

@@ -21,7 +21,7 @@ pub(crate) const HEAD: usize = 192;
 
 /// What the objects of a message begin with: the bytes of a block from a place on.
 #[derive(Debug, Drop)]
-pub(crate) struct Opening {
+pub(crate) struct ObjectHead {
     pub head: [u8; HEAD],
     pub from: usize,
     /// Whether the group stands there too.
@@ -30,10 +30,10 @@ pub(crate) struct Opening {
     pub ghost inside: { from ≤ 192 },
 }
 
-impl Opening {
+impl ObjectHead {
     /// With nothing.
-    pub fn new() -> Opening {
-        Opening {
+    pub fn new() -> ObjectHead {
+        ObjectHead {
             head: [0; HEAD],
             from: HEAD,
             has_group: false,

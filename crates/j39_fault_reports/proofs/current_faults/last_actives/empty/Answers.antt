@@ -1,5 +1,5 @@
 use Rattle.j39_fault_reports.proofs.Common.{None, all_alike}
-use Rattle.j39_fault_reports.proofs.current_faults.places.empty.Goals as goal
+use Rattle.j39_fault_reports.proofs.current_faults.last_actives.empty.Goals as goal
 
 -- each place is what the closure gives
 pub returns : goal.returns

@@ -1,6 +1,6 @@
 -- The parts, one before the other.
 use Rattle.j39_reports.proofs.Common.{List, ℕ, ◌≡◌, ◌++◌, ◌∷◌, [], refl, subst, append_assoc, before_then, WritesBefore}
-use Rattle.j39_reports.proofs.report_records.begin.sender_before.Goals as goal
+use Rattle.j39_reports.proofs.report_records.record_head.sender_before.Goals as goal
 
 regroup : (old new : List ℕ) (end start : ℕ) (address destination name : List ℕ)
     → WritesBefore old new end start (address ++ ((44 ∷ []) ++ (destination ++ ((44 ∷ []) ++ name))))

@@ -22,7 +22,7 @@ pub(crate) const HEAD: usize = 96;
 
 /// What the records of a message begin with: the bytes of a block from a place on.
 #[derive(Debug, Drop)]
-pub(crate) struct Begin {
+pub(crate) struct RecordHead {
     pub head: [u8; HEAD],
     pub from: usize,
     /// Whether what the group is called stands there too.
@@ -31,10 +31,10 @@ pub(crate) struct Begin {
     pub ghost inside: { from ≤ 96 },
 }
 
-impl Begin {
+impl RecordHead {
     /// With nothing.
-    pub fn new() -> Begin {
-        Begin {
+    pub fn new() -> RecordHead {
+        RecordHead {
             head: [0; HEAD],
             from: HEAD,
             has_group: false,
