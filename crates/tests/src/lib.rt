@@ -40,8 +40,6 @@ mod node_transfers;
 mod quick_lines;
 #[cfg(test)]
 mod raw_values;
-#[cfg(test)]
-mod run_faults;
 pub mod setup;
 #[cfg(test)]
 mod sizes;

@@ -1,5 +1,5 @@
 //! Devices that fail, and logs that are too long.
-use crate::trial::{Full, Trial};
+use tests::trial::{Full, Trial};
 use j39_address::Name;
 use j39_cli::{parse, perform};
 use j39_io::Told;
