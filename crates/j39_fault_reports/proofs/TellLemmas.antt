@@ -9,6 +9,7 @@ use Rattle.j39_fault_reports.specs.Remembered.{Remembers, kept, noted, said_at, 
 use Rattle.j39_fault_reports.specs.FaultChanges.{bytes_before}
 use Rattle.j39_fault_reports.specs.LastMessages.{LastMessages, LastRecord, at, differs, said_before}
 use Rattle.j39_fault_reports.specs.declared.fault_news.last_faults.LastFaults.{LastFaults}
+use Rattle.std.proofs.lemmas.Option.{none-some, same_Some}
 
 -- ---- the last message of a group from an address
 
@@ -50,20 +51,13 @@ none_at places pgn a is l = ap (λ (t : LastMessages). at t a) is ∙ get_or-rep
 abbrev none_said : Option LastRecord
 none_said = None
 
-none_some : (m : Hearing) → None ≡ Some m → ⊥
-none_some m e = subst is_none_type e tt
-  where
-    is_none_type : Option Hearing → Type 0
-    is_none_type None = ⊤
-    is_none_type (Some x) = ⊥
-
 pub remembers_none : (l : LastFaults) → l.active ≡ replicate 256 None → l.previous ≡ replicate 256 None → l.emission_pending ≡ replicate 256 None
     → l.emission_active ≡ replicate 256 None → l.emission_previous ≡ replicate 256 None → l.pending ≡ replicate 256 None
     → l.permanent ≡ replicate 256 None → Remembers l []
 remembers_none l active previous emission_pending emission_active emission_previous pending permanent = record {
   places = λ kind. ap length (none_kept kind) ∙ length-replicate 256 none_said;
   said = λ pgn a kind is k. none_at (kept l kind) pgn a (none_kept kind) k;
-  whole = λ m pgn a e. absurd (none_some m (sym (last_from_none pgn a) ∙ e));
+  whole = λ m pgn a e. absurd (none-some m (sym (last_from_none pgn a) ∙ e));
 }
   where
     none_kept : (kind : Kind) → kept l kind ≡ replicate 256 None
@@ -86,23 +80,17 @@ group_of EmissionPrevious = 64949
 group_of Pending = 64898
 group_of Permanent = 64896
 
-some_kind : {x y : Kind} → Some x ≡ Some y → x ≡ y
-some_kind e = cc
-
-no_kind : {y : Kind} → None ≡ Some y → ⊥
-no_kind e = cc
-
 -- it is that of the first, or of one behind
 or_behind : (pgn : ℕ) (first kind : Kind) (behind : Option Kind) → (behind ≡ Some kind → pgn ≡ group_of kind)
     → (if pgn == group_of first then Some first else behind) ≡ Some kind → pgn ≡ group_of kind
 or_behind pgn first kind behind then_is is = elim (cases_eq pgn (group_of first)) [
-  | inl e ↦ e ∙ ap group_of (some_kind (sym (cond-true _ _ _ (eq-eqb pgn (group_of first) e)) ∙ is))
+  | inl e ↦ e ∙ ap group_of (same_Some _ _ (sym (cond-true _ _ _ (eq-eqb pgn (group_of first) e)) ∙ is))
   | inr n ↦ then_is (sym (cond-false _ _ _ (ne_eqb pgn (group_of first) n)) ∙ is)
 ]
 
 group_is : (pgn : ℕ) (kind : Kind) → kind_of pgn ≡ Some kind → pgn ≡ group_of kind
 group_is pgn kind is =
-    or_behind pgn Active kind _ (λ b0. or_behind pgn Previous kind _ (λ b1. or_behind pgn EmissionPending kind _ (λ b2. or_behind pgn EmissionActive kind _ (λ b3. or_behind pgn EmissionPrevious kind _ (λ b4. or_behind pgn Pending kind _ (λ b5. or_behind pgn Permanent kind _ (λ b6. absurd (no_kind b6)) b5) b4) b3) b2) b1) b0) is
+    or_behind pgn Active kind _ (λ b0. or_behind pgn Previous kind _ (λ b1. or_behind pgn EmissionPending kind _ (λ b2. or_behind pgn EmissionActive kind _ (λ b3. or_behind pgn EmissionPrevious kind _ (λ b4. or_behind pgn Pending kind _ (λ b5. or_behind pgn Permanent kind _ (λ b6. absurd (none-some _ b6)) b5) b4) b3) b2) b1) b0) is
 
 -- what is kept for an address is what it said last in these messages
 pub said_is : (l : LastFaults) (ms : List Hearing) (pgn a : ℕ) (kind : Kind) → Remembers l ms → kind_of pgn ≡ Some kind → a < 256
@@ -165,7 +153,7 @@ noted_length l Permanent Permanent a s = length-set l.permanent a (Some s)
 noted_length l kind other a s = refl
 
 same_kind : (pgn : ℕ) (kind other : Kind) → kind_of pgn ≡ Some kind → kind_of pgn ≡ Some other → kind ≡ other
-same_kind pgn kind other is also = some_kind (sym is ∙ also)
+same_kind pgn kind other is also = same_Some _ _ (sym is ∙ also)
 
 module _ (l l' : LastFaults) (ms : List Hearing) (m : Hearing) (kind : Kind) (is : kind_of m.message.pgn ≡ Some kind) (notes : l' ≡ noted l kind m.message.source (said_in m))
     (h : Remembers l ms) where
@@ -199,7 +187,7 @@ pub by_request : (pgn : ℕ) (bytes : List ℕ) (kind : Kind) → cleared_in pgn
 unfolding cleared_in
 by_request pgn bytes kind is = elim (cases_eq pgn 59904) [
   | inl e ↦ e
-  | inr n ↦ absurd (no_kind (sym (cond-false _ _ _ (ne_eqb pgn 59904 n)) ∙ is))
+  | inr n ↦ absurd (none-some _ (sym (cond-false _ _ _ (ne_eqb pgn 59904 n)) ∙ is))
 ]
 
 pub remembers_asked : (l : LastFaults) (ms : List Hearing) (m : Hearing) (kind : Kind) → cleared_in m.message.pgn m.message.bytes ≡ Some kind → Remembers l ms
@@ -212,7 +200,7 @@ remembers_asked l ms m kind asks h short = record {
   where
     apart : (pgn : ℕ) (other : Kind) → kind_of pgn ≡ Some other → m.message.pgn ≢ pgn
     apart pgn other of = λ e.
-        no_kind (sym (ap kind_of (sym e ∙ by_request m.message.pgn m.message.bytes kind asks)) ∙ of)
+        none-some _ (sym (ap kind_of (sym e ∙ by_request m.message.pgn m.message.bytes kind asks)) ∙ of)
 
 -- ---- news
 

@@ -1,5 +1,5 @@
 -- Counts that stay at 2^64 - 1, one more.
-use Rattle.std.proofs.Common.{◌≡◌, ◌+◌, ◌++◌, ℕ, List, [], ◌∷◌, Bool, true, false, length, refl, ap, arith, length-append, count_by}
+use Rattle.std.proofs.Common.{◌≡◌, ◌+◌, ◌++◌, ℕ, List, [], ◌∷◌, Bool, true, false, refl, arith, count_by}
 use Rattle.std.proofs.lemmas.Grind.{common_steps}
 use Rattle.j39_listen.specs.Counting.{capped, one_if}
 
@@ -8,9 +8,6 @@ capped_more a n e = omega arith
 
 pub capped_sum : (a n k : ℕ) → a ≡ capped n → capped (a + k) ≡ capped (n + k)
 capped_sum a n k e = omega arith
-
-pub length_more : {X : Type 0} (xs : List X) (x : X) → length (xs ++ x ∷ []) ≡ length xs + 1
-length_more xs x = length-append xs (x ∷ [])
 
 pub count_by-append : {X : Type 0} (p : X → Bool) (xs ys : List X) → count_by p (xs ++ ys) ≡ count_by p xs + count_by p ys
 count_by-append p xs ys = grind (arith, common_steps)

@@ -8,7 +8,8 @@ use Rattle.j39_survey.specs.Interfaces.{last_behind}
 use Rattle.j39_survey.specs.SurveyModels.{HasCounted, HaveCounted, last_in}
 use Rattle.j39_survey.specs.declared.surveys.group_table.GroupCount.{GroupCount}
 use Rattle.j39_survey.specs.declared.surveys.group_table.GroupTable.{GroupTable}
-use Rattle.j39_listen.proofs.CountLemmas.{capped_more, capped_sum, count_by-append, length_more}
+use Rattle.std.proofs.lemmas.List.{length_push}
+use Rattle.j39_listen.proofs.CountLemmas.{capped_more, capped_sum, count_by-append}
 use Rattle.j39_survey.proofs.FirstsLemmas.{firsts-new, firsts-old}
 
 -- ---- addresses
@@ -25,7 +26,7 @@ pub senders-new : (sources : List ℕ) (x n m : ℕ) → n ≡ senders_in source
 senders-new sources x n m is can new more =
     let known = controllers_in sources in
     more ∙ capped_more n (length (firsts nat_eq known)) is
-    ∙ ap capped (sym (ap (λ xs. length (firsts nat_eq xs)) (controllers-more sources x can) ∙ ap length (firsts-new nat_eq known x new) ∙ length_more (firsts nat_eq known) x))
+    ∙ ap capped (sym (ap (λ xs. length (firsts nat_eq xs)) (controllers-more sources x can) ∙ ap length (firsts-new nat_eq known x new) ∙ length_push (firsts nat_eq known) x))
 
 pub senders-old : (sources : List ℕ) (x n : ℕ) → n ≡ senders_in sources → nat_lt x 254 ≡ true
     → list_any (λ y. x == y) (controllers_in sources) ≡ true → n ≡ senders_in (sources ++ x ∷ [])
@@ -86,7 +87,7 @@ spread-more [] s x count sum least longest is c t l m = cc
 spread-more (y ∷ ys) s x count sum least longest is c t l m =
     let same : s ≡ record { count = capped (length (y ∷ ys)); sum = capped (sum_by (λ n. n.length) (y ∷ ys)); least = fold (λ n z. min n z.length) y.length ys; longest = fold longer y ys } = cc in
     let c' : count ≡ capped (length (y ∷ ys ++ x ∷ [])) =
-    c ∙ capped_more s.count (length (y ∷ ys)) (ap (λ (r : Spread). r.count) same) ∙ ap capped (sym (length_more (y ∷ ys) x)) in
+    c ∙ capped_more s.count (length (y ∷ ys)) (ap (λ (r : Spread). r.count) same) ∙ ap capped (sym (length_push (y ∷ ys) x)) in
     let both : sum_by (λ (n : Silence). n.length) ((y ∷ ys) ++ x ∷ []) ≡ sum_by (λ (n : Silence). n.length) (y ∷ ys) + x.length =
     sum_by-append (λ (n : Silence). n.length) (y ∷ ys) (x ∷ []) ∙ omega arith in
     let t' : sum ≡ capped (sum_by (λ (n : Silence). n.length) (y ∷ ys ++ x ∷ [])) =

@@ -8,7 +8,8 @@ use Rattle.j39_survey.specs.SurveySoFar.{met_on, no_frames, with_stamp}
 use Rattle.j39_survey.specs.SurveyModels.{HaveMet, interface_record}
 use Rattle.j39_survey.specs.declared.surveys.interfaces.InterfaceCounts.{InterfaceCounts}
 use Rattle.j39_survey.specs.declared.surveys.interfaces.Interfaces.{Interfaces}
-use Rattle.j39_listen.proofs.CountLemmas.{capped_more, capped_sum, count_by-append, length_more}
+use Rattle.std.proofs.lemmas.List.{length_push}
+use Rattle.j39_listen.proofs.CountLemmas.{capped_more, capped_sum, count_by-append}
 use Rattle.j39_survey.proofs.FirstsLemmas.{any_firsts, bytes_refl, bytes_same, firsts-new, firsts-old, firsts_any}
 
 -- ---- one stamp more
@@ -33,7 +34,7 @@ first_of-more (x ∷ xs) y = rw (ne_eqb (capped (length (x ∷ xs))) 0 (omega ar
 
 of_stamps-more : (name xs : List ℕ) (y : ℕ) → of_stamps name (xs ++ y ∷ []) ≡ with_stamp y (of_stamps name xs)
 of_stamps-more name xs y =
-    let frames = ap capped (length_more xs y) ∙ sym (capped_more (capped (length xs)) (length xs) refl) in
+    let frames = ap capped (length_push xs y) ∙ sym (capped_more (capped (length xs)) (length xs) refl) in
     let back = ap capped (falls_in-more xs y) ∙ sym (capped_sum (capped (falls_in xs)) (falls_in xs) (one_if (nat_lt y (last_of xs))) refl) in
     let first = first_of-more xs y in
     let last = last_behind-more 0 xs y in
@@ -151,7 +152,7 @@ met_new seen s none room =
       | false ↦ λ e. refl
     ] refl in
     let names : names_in (seen ++ s ∷ []) ≡ names_in seen ++ s.bus ∷ [] = ap (firsts bytes_eq) (buses-more seen s) ∙ firsts-new bytes_eq (buses seen) s.bus new in
-    let fits : length (names_in (seen ++ s ∷ [])) ≤ 16 = rw (names, length_more) (omega arith) in
+    let fits : length (names_in (seen ++ s ∷ [])) ≤ 16 = rw (names, length_push) (omega arith) in
     let all' : take 16 (names_in (seen ++ s ∷ [])) ≡ names_in (seen ++ s ∷ []) = take_all 16 (names_in (seen ++ s ∷ [])) fits in
     let before : untold_in seen ≡ 0 = none_elsewhere (told_in seen) seen (λ n k. ap (list_any (bytes_eq n)) all ∙ firsts_any n (buses seen) k) in
     let after : untold_in (seen ++ s ∷ []) ≡ 0 = none_elsewhere (told_in (seen ++ s ∷ [])) (seen ++ s ∷ []) (λ n k. ap (list_any (bytes_eq n)) all' ∙ firsts_any n (buses (seen ++ s ∷ [])) k) in (

@@ -10,17 +10,10 @@ use Rattle.j39_survey.specs.SurveyModels.{HasMet, HasSurveyed, HaveMet, HaveNote
 use Rattle.j39_survey.specs.SurveySoFar.{MeetsOnBus}
 use Rattle.j39_survey.specs.declared.surveys.log_survey.Survey.{Survey}
 use Rattle.j39_survey.specs.declared.surveys.traffic.Traffic.{Traffic}
-use Rattle.j39_listen.proofs.CountLemmas.{capped_more, length_more}
+use Rattle.std.proofs.lemmas.List.{length_push}
+use Rattle.j39_listen.proofs.CountLemmas.{capped_more}
+use Rattle.j39_survey.proofs.FirstsLemmas.{bytes_refl}
 use Rattle.j39_survey.proofs.UnreadLemmas.{unread_in-more}
-
--- what holds of every answer that is well, and of every one that isn't
-pub on_ok_all : {X E : Type 0} (r : Result X E) (P Q : Type 0) → (P → Q) → OnOk r P → OnOk r Q
-on_ok_all (Ok x) P Q then p = then p
-on_ok_all (Err e) P Q then p = tt
-
-pub on_err_all : {X E : Type 0} (r : Result X E) (P Q : Type 0) → (P → Q) → OnErr r P → OnErr r Q
-on_err_all (Ok x) P Q then p = tt
-on_err_all (Err e) P Q then p = then p
 
 -- before the first line the bus is the given one, if there is one, and there are no frames
 pub no_lines : (given : Option (List ℕ)) → given ≡ bus_of given []
@@ -40,15 +33,12 @@ is_on_bus bus name f on = ap (λ (b : Option (List ℕ)). filter_map (frame_on b
 pub is_elsewhere : (bus : Option (List ℕ)) (name : List ℕ) (f : FrameRecord) → bytes_eq name (unwrap_or bus name) ≡ false → frames_of bus (frame name f ∷ []) ≡ []
 is_elsewhere bus name f off = ap (λ (b : Option (List ℕ)). filter_map (frame_on b) (frame name f ∷ [])) (bus_of-frame bus name f) ∙ rw off refl
 
-pub itself : (name : List ℕ) → bytes_eq name name ≡ true
-itself name = (bytes_eq-Decides name name).1 refl
-
 -- a frame of the bus that is known
 pub on_bus_known : (bus : Option (List ℕ)) (name : List ℕ) (f : FrameRecord) → bus ≡ Some name → (bus ≡ bus_of bus (frame name f ∷ [])) × (frames_of bus (frame name f ∷ []) ≡ f ∷ [])
 on_bus_known None name f named = cc
 on_bus_known (Some bus) name f named =
     let same : name ≡ bus = cc in
-    (refl, is_on_bus (Some bus) name f (rw same (itself bus)))
+    (refl, is_on_bus (Some bus) name f (rw same (bytes_refl bus)))
 
 module _ (lines : List LogLine) (line : LogLine) where
   seen_more : (bus : List ℕ) (f : FrameRecord) → line.spelled ≡ frame bus f → seen_in (lines ++ line ∷ []) ≡ seen_in lines ++ record { bus = bus; content = f } ∷ []
@@ -108,7 +98,7 @@ module _ (lines : List LogLine) (line : LogLine) where
 
   module _ (a b : Survey) (given : Option (List ℕ)) (h : HasSurveyed a given lines) where
     lines_more : b.lines ≡ capped (a.lines + 1) → b.lines ≡ capped (length (lines ++ line ∷ []))
-    lines_more more = more ∙ capped_more a.lines (length lines) h.lines_are ∙ ap capped (sym (length_more lines line))
+    lines_more more = more ∙ capped_more a.lines (length lines) h.lines_are ∙ ap capped (sym (length_push lines line))
 
     same_interfaces : seen_of line.spelled ≡ None → b.interfaces ≡ a.interfaces → HaveMet b.interfaces (seen_in (lines ++ line ∷ []))
     same_interfaces none met = rw (seen_kept none, met) h.interfaces_are

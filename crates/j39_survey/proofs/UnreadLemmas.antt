@@ -6,7 +6,8 @@ use Rattle.j39_survey.specs.SurveyModels.{HaveNoted, shown_record}
 use Rattle.j39_survey.specs.UnreadLines.{ShownRecord, are_printed, shown_in, shown_of}
 use Rattle.j39_survey.specs.declared.surveys.unread.UnreadLine.{UnreadLine}
 use Rattle.j39_survey.specs.declared.surveys.unread.UnreadLines.{UnreadLines}
-use Rattle.j39_listen.proofs.CountLemmas.{capped_more, length_more}
+use Rattle.std.proofs.lemmas.List.{length_push, take-take}
+use Rattle.j39_listen.proofs.CountLemmas.{capped_more}
 
 -- the lines from n on, and one more
 unread_from-more : (n : ℕ) (lines : List LogLine) (line : LogLine) → unread_from n (lines ++ line ∷ []) ≡ unread_from n lines ++ unread_at (n + length lines) line.text line.spelled
@@ -37,7 +38,7 @@ noted_full a b unread line h count printed same full =
     let len : length (take 5 unread) ≡ 5 = sym (length_shown unread) ∙ ap length (sym h.first_are) ∙ length-map a.first.items shown_record ∙ full in
     let long : 5 ≤ length unread = omega (arith, length-take 5 unread) in
     record {
-      count_is = count ∙ capped_more a.count (length unread) h.count_is ∙ ap capped (sym (length_more unread line));
+      count_is = count ∙ capped_more a.count (length unread) h.count_is ∙ ap capped (sym (length_push unread line));
       first_are = ap (map shown_record) same ∙ h.first_are ∙ ap (map shown_of) (sym (take-append-le 5 unread (line ∷ []) long));
       printed_is = printed ∙ ap (λ b. b && is_printed line.text) h.printed_is ∙ sym (printed_more unread line);
     }
@@ -49,9 +50,9 @@ noted_more a b x unread line h count printed pushed shown room =
     let len : length (take 5 unread) ≡ length a.first.items = sym (length_shown unread) ∙ ap length (sym h.first_are) ∙ length-map a.first.items shown_record in
     let short : length unread < 5 = omega (arith, length-take 5 unread) in
     let whole : take 5 unread ≡ unread = take_all 5 unread (omega arith) in
-    let more : take 5 (unread ++ line ∷ []) ≡ unread ++ line ∷ [] = take_all 5 (unread ++ line ∷ []) (omega (arith, length_more unread line)) in
+    let more : take 5 (unread ++ line ∷ []) ≡ unread ++ line ∷ [] = take_all 5 (unread ++ line ∷ []) (omega (arith, length_push unread line)) in
     record {
-      count_is = count ∙ capped_more a.count (length unread) h.count_is ∙ ap capped (sym (length_more unread line));
+      count_is = count ∙ capped_more a.count (length unread) h.count_is ∙ ap capped (sym (length_push unread line));
       first_are = ap (map shown_record) pushed ∙ map-append shown_record a.first.items (x ∷ [])
           ∙ ap₂ (λ (xs : List ShownRecord) (y : ShownRecord). xs ++ y ∷ []) (h.first_are ∙ ap (map shown_of) whole) shown
           ∙ sym (ap (map shown_of) more ∙ map-append shown_of unread (line ∷ []));
@@ -60,26 +61,11 @@ noted_more a b x unread line h count printed pushed shown room =
 
 -- ---- what is told of a line
 
-pub take_short : (n : ℕ) (xs : List ℕ) → take (min (length xs) n) xs ≡ take n xs
-take_short n xs =
-    elim (cases_lt n (length xs)) [
-      | inl below ↦ let m : min (length xs) n ≡ n = omega arith in ap (λ k. take k xs) m
-      | inr past ↦
-          let m : min (length xs) n ≡ length xs = omega arith in
-          ap (λ k. take k xs) m ∙ take_all (length xs) xs (omega arith) ∙ sym (take_all n xs past)
-    ]
-
-pub take_twice : (m n : ℕ) (xs : List ℕ) → m ≤ n → take m (take n xs) ≡ take m xs
-take_twice zero n xs le = refl
-take_twice (suc m) zero xs le = absurd (omega arith)
-take_twice (suc m) (suc n) [] le = refl
-take_twice (suc m) (suc n) (x ∷ xs) le = ap (λ ys. x ∷ ys) (take_twice m n xs (omega arith))
-
 -- of one that was kept, of which 256 bytes are there
 pub shown_long : (x : UnreadLine) (line : UnreadRecord) (front : List ℕ) → 256 < length line.text → front ≡ take 256 line.text → x.number ≡ capped line.number
     → x.front.items ≡ take 60 front → x.is_cut ≡ true → shown_record x ≡ shown_of line
 shown_long x line front long is number shown cut =
-    let f = shown ∙ ap (take 60) is ∙ take_twice 60 256 line.text (omega arith) in
+    let f = shown ∙ ap (take 60) is ∙ take-take 60 256 line.text (omega arith) in
     let e = cut ∙ sym (lt-ltb 60 (length line.text) (omega arith)) in
     λ i. record { number = number i; front = f i; is_cut = e i }
 

@@ -35,11 +35,6 @@ module _ (width : ℕ) where
 pub left_then : {X : Type 0} (n m k : ℕ) (xs ys : List X) → m ≡ n - length xs → k ≡ m - length ys → k ≡ n - length (xs ++ ys)
 left_then n m k xs ys is next = let len = length-append xs ys in omega (arith, len, is, next)
 
--- what is so of an answer
-pub ok_from : {T E : Type 0} {P Q : T → Type 0} (r : Result T E) → ((x : T) → P x → Q x) → IfOk r P → IfOk r Q
-ok_from (Ok x) f h = f x h
-ok_from (Err e) f h = tt
-
 -- ---- the lines of a list, one after the other
 
 module _ {X : Type 0} (width n : ℕ) (f : X → List (List ℕ)) (xs : List X) where

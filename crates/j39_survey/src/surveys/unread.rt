@@ -91,7 +91,7 @@ fn told_of(number: u64, raw: RawLine<'_>) -> UnreadLine
 fn front_of(line: &[u8]) -> ArrayVec<u8, FRONT>
     ensures { result.items ≡ take 60 line.now }
 {
-    let (front, _) = line.split_at(line.len().min(FRONT));
+    let (front, _) = line.split_at(FRONT.min(line.len()));
     let mut kept = ArrayVec::new();
     push_bytes(&mut kept, front);
     kept

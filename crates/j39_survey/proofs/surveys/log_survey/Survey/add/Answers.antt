@@ -3,7 +3,8 @@ use Rattle.j39_survey.proofs.Common.{◌≡◌, ◌+◌, ◌∙◌, ap, refl, su
 use Rattle.j39_log.specs.LineRead.{spelled_of}
 use Rattle.j39_log.specs.Log as log
 use Rattle.j39_survey.specs.LogLines.{others_in, seen_in, spelled_in, unread_in}
-use Rattle.j39_survey.proofs.SurveyLemmas.{bus_known, is_on_bus, meets_on_bus, on_err_all, on_ok_all, surveys_blank, surveys_frame, surveys_other, surveys_unread}
+use Rattle.std.proofs.lemmas.Result.{on_err_weaker, on_ok_weaker}
+use Rattle.j39_survey.proofs.SurveyLemmas.{bus_known, is_on_bus, meets_on_bus, surveys_blank, surveys_frame, surveys_other, surveys_unread}
 use Rattle.j39_survey.proofs.surveys.log_survey.Survey.add.Goals as goal
 
 pub returns-in-Frame-clause-spelled : goal.returns-in-Frame-clause-spelled
@@ -19,7 +20,7 @@ pub returns-in-Blank-clause-spelled : goal.returns-in-Blank-clause-spelled
 returns-in-Blank-clause-spelled c = λ text raw. (spelled_of c.read.result, c.read.ensures.spelled text raw)
 
 pub returns-in-Frame-clause-surveyed : goal.returns-in-Frame-clause-surveyed
-returns-in-Frame-clause-surveyed c = on_ok_all c.meet.result _ _ (λ meets given lines line raw spelled h.
+returns-in-Frame-clause-surveyed c = on_ok_weaker c.meet.result (λ meets given lines line raw spelled h.
     let reads = c.in-Frame.ensures.spelled line.text raw in
     let is = one_spelled line.text line.spelled _ spelled reads in
     let more : c.saturating_add-self.result ≡ capped (c.args.self.now.lines + 1) = omega arith in
@@ -31,7 +32,7 @@ returns-in-Frame-clause-surveyed c = on_ok_all c.meet.result _ _ (λ meets given
     refl refl refl) c.meet.ensures.met
 
 pub returns-in-Frame-clause-asked : goal.returns-in-Frame-clause-asked
-returns-in-Frame-clause-asked c = on_err_all c.meet.result _ _ (λ asks given lines line raw spelled h.
+returns-in-Frame-clause-asked c = on_err_weaker c.meet.result (λ asks given lines line raw spelled h.
     let reads = c.in-Frame.ensures.spelled line.text raw in
     let is = one_spelled line.text line.spelled (frame c.in-Frame.bus.now c.in-Frame.frame) spelled reads in
     let asked = asks reads.parts.bus_is in

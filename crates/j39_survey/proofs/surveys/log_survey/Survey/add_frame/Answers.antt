@@ -3,11 +3,12 @@ use Rattle.j39_survey.proofs.Common.{◌≡◌, ◌+◌, ◌∙◌, ap, subst, s
 use Rattle.j39_log.specs.Bus.{IsBusName}
 use Rattle.j39_log.specs.Log as log
 use Rattle.j39_survey.specs.LogLines.{seen_in, spelled_in}
-use Rattle.j39_survey.proofs.SurveyLemmas.{meets_one, on_bus_known, on_err_all, on_ok_all, surveys_frame}
+use Rattle.std.proofs.lemmas.Result.{on_err_weaker, on_ok_weaker}
+use Rattle.j39_survey.proofs.SurveyLemmas.{meets_one, on_bus_known, surveys_frame}
 use Rattle.j39_survey.proofs.surveys.log_survey.Survey.add_frame.Goals as goal
 
 pub returns-clause-surveyed : goal.returns-clause-surveyed
-returns-clause-surveyed c = on_ok_all c.add-2.result _ _ (λ meets given lines line name named reads spelled h.
+returns-clause-surveyed c = on_ok_weaker c.add-2.result (λ meets given lines line name named reads spelled h.
     let seen = c.args.frame.now in
     let is = one_spelled line.text line.spelled (frame name seen) spelled reads in
     let more : c.saturating_add-self.result ≡ capped (c.args.self.now.lines + 1) = omega arith in
@@ -22,7 +23,7 @@ returns-clause-surveyed c = on_ok_all c.add-2.result _ _ (λ meets given lines l
     refl refl refl) c.add-2.ensures.met
 
 pub returns-clause-asked : goal.returns-clause-asked
-returns-clause-asked c = on_err_all c.add-2.result _ _ (λ asks given lines line name named reads spelled h.
+returns-clause-asked c = on_err_weaker c.add-2.result (λ asks given lines line name named reads spelled h.
     let seen = c.args.frame.now in
     let is = one_spelled line.text line.spelled (frame name seen) spelled reads in
     record {
