@@ -39,7 +39,7 @@ At the end the counts go to standard error, as those of `j1939 report`; lines ar
 those of the last screen.
 
 Example:
-  candump -L can0 | j1939 watch
+  candump -L can0 | j1939 watch --rows $(tput lines) --width $(tput cols)
 draws lines such as
   00    8000000001401234 61444  190    1500.125 rpm   0.0s   50/s  engine speed";
 
