@@ -1,15 +1,21 @@
 // What each control does, and the begin of it all.
+function readDropped({ items, files: dropped }) {
+  const folder = [...items].map(item => item.webkitGetAsEntry?.()).find(entry => entry?.isDirectory);
+  if (folder) say(`${folder.name} is a folder: drop the logs that are in it.`, true);
+  else read(dropped);
+}
+
 function wireLog() {
   $('file').onchange = event => {
-    read(event.target.files[0]);
+    read([...event.target.files]);
     event.target.value = '';
   };
   $('sample').onclick = readSample;
-  $('bus').onchange = event => read(file, event.target.value.trim());
+  $('bus').onchange = event => read(files, event.target.value.trim());
   const readBy = chosenTable => {
     table = chosenTable;
     $('no-table').hidden = !table;
-    read(file, bus);
+    read(files, bus);
   };
   $('table').onchange = () => readBy($('table').files[0]);
   for (const [id, chosenTable] of [['no-table', undefined], ['trucks-table', new File([$('trucks').textContent], 'trucks')]]) $(id).onclick = () => {
@@ -21,7 +27,7 @@ function wireLog() {
   for (const kind of ['dragover', 'dragleave', 'drop']) document.addEventListener(kind, event => {
     event.preventDefault();
     $('drop').classList.toggle('over', kind === 'dragover');
-    if (kind === 'drop') read(event.dataTransfer.files[0]);
+    if (kind === 'drop') readDropped(event.dataTransfer);
   });
 }
 

@@ -4,7 +4,7 @@ const BROWSERS = 'Chrome, Edge and Chromium have it from version 133 on, and Fir
 // The smallest module that has a memory with addresses of 64 bits.
 const MEMORY64 = new Uint8Array([0, 97, 115, 109, 1, 0, 0, 0, 5, 3, 1, 4, 1]);
 
-let workerPlace = '', worker = null, isFresh = false, file = null, bus = '', table, log = null;
+let workerPlace = '', worker = null, isFresh = false, files = [], bus = '', table, log = null;
 
 const bytesOf = id => Uint8Array.from(atob($(id).textContent), letter => letter.charCodeAt(0));
 const megabytes = size => `${(size / 1e6).toFixed(1)} MB`;
@@ -33,31 +33,35 @@ function startWorker() {
   isFresh = true;
 }
 
-// Reads a log, on the interface of its first frame or on one that was chosen.
-function read(chosenFile, chosenBus = '') {
-  if (!chosenFile || $('file').disabled) return;
-  [file, bus, log] = [chosenFile, chosenBus, null];
+// What a log is called: as its file, and how many more there are.
+const logName = () => files.length > 1 ? `${files[0].name} and ${files.length - 1} more` : files[0].name;
+
+// Reads a log of some files, on the interface of its first frame or on one that was chosen.
+function read(chosenFiles, chosenBus = '') {
+  if (!chosenFiles.length || $('file').disabled) return;
+  [files, bus, log] = [[...chosenFiles], chosenBus, null];
   $('result').hidden = $('welcome').hidden = true;
   document.body.classList.add('read');
   $('progress').hidden = true;
   delete document.body.dataset.done;
   forgetPlots();
   if (!isFresh) startWorker();
-  if (file.size === 0) return say(`${file.name} is empty.`, true);
-  say(`Reading ${file.name} (${megabytes(file.size)})`);
+  const size = files.reduce((sum, file) => sum + file.size, 0);
+  if (size === 0) return say(`${logName()} is empty.`, true);
+  say(`Reading ${logName()} (${megabytes(size)})`);
   isFresh = false;
-  worker.postMessage({ file, bus, table });
+  worker.postMessage({ files, bus, table });
 }
 
 async function readSample() {
   const stream = new Blob([bytesOf('sample-log')]).stream().pipeThrough(new DecompressionStream('gzip'));
-  read(new File([await new Response(stream).blob()], 'sample.log'));
+  read([new File([await new Response(stream).blob()], 'sample.log')]);
 }
 
 function fail(words) {
   $('progress').hidden = true;
   [isAsked, isStale] = [false, false];
-  say(`${file ? file.name : 'The page'}: it failed: ${words}.`, true);
+  say(`${files.length ? logName() : 'The page'}: it failed: ${words}.`, true);
 }
 
 function hear(data) {
@@ -81,7 +85,7 @@ function showProgress({ done, all }) {
     bar.value = done;
   } else {
     bar.removeAttribute('value');
-    say(`${log ? 'Making the report of' : 'Reading the values of'} ${file.name}`);
+    say(`${log ? 'Making the report of' : 'Reading the values of'} ${logName()}`);
   }
 }
 
@@ -92,7 +96,7 @@ function sayRead() {
 }
 
 function showLog(it, rows) {
-  log = it;
+  log = { ...it, name: logName() };
   $('survey').textContent = '';
   for (const part of ['faults-section', 'nodes-box', 'nobody', 'buses']) $(part).hidden = true;
   showParameters(rows);
@@ -139,7 +143,7 @@ function showBuses(buses, isMore) {
   $('bus-label').hidden = !isMore;
   $('bus').value = bus;
   $('buses-list').replaceChildren(...buses.map(({ name, frames }) => {
-    const it = button(`${name}, ${count(frames, 'frame')}`, () => read(file, name));
+    const it = button(`${name}, ${count(frames, 'frame')}`, () => read(files, name));
     it.setAttribute('aria-pressed', String(name === shown));
     return it;
   }));

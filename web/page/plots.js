@@ -5,6 +5,7 @@ const STEPS = ['', '-', 'count', 'counts', 'steps', 'fields', 'r', 'state', 'gea
 // They differ too for those who don't tell red from green; in one panel all but the first are dashed besides.
 const LIGHT = ['#0060a8', '#b84300', '#00735a', '#9a3a78', '#333333', '#8a6100', '#5b52c0', '#a01830'];
 const DARK = ['#62b6f0', '#f0a030', '#35cda3', '#e691c4', '#e8e8e8', '#f0e060', '#b0a8ff', '#ff8f80'];
+const LONG_STATE = 24; // letters of a state's name at an axis
 const DASHES = [null, [8, 3], [2, 3], [10, 3, 2, 3], [5, 5], [14, 4], [2, 6], [8, 3, 2, 3, 2, 3]];
 
 let panels = [];
@@ -107,9 +108,16 @@ function drawPanel(panel, from, to) {
   panel.graphAt.dataset.extremes = JSON.stringify([least, most]);
 }
 
+// The states that are seen, at the axis of a series that has some.
+function stateTicks({ row, statistics: { least, most } }) {
+  const seen = row.states.filter(({ value }) => least <= value && value <= most);
+  return seen.map(({ value, name }) => ({ v: value, label: name.length > LONG_STATE ? `${name.slice(0, LONG_STATE)}\u2026` : name }));
+}
+
 function optionsOf(panel) {
   const { series } = panel, isSwitch = series[0].row.isSwitch, isOwn = isScaled(series);
-  const ends = isOwn ? ['least', 'most'] : isSwitch ? ['off', 'on'] : null;
+  const ends = isOwn ? ['least', 'most'] : isSwitch ? ['off', 'on'] : null, hasStates = series.length === 1 && !isSwitch && series[0].row.states.length > 0;
+  const ticksOf = (...words) => ends ? ends.map((label, v) => ({ v, label })) : hasStates ? stateTicks(series[0]) : valueTicks(...words);
   const names = series.map((_, place) => `series ${place}`);
   const keep = (axis, ticks) => {
     panel.ticks[axis] = ticks;
@@ -122,7 +130,7 @@ function optionsOf(panel) {
     series: Object.fromEntries(names.map((name, place) => [name, { stepPlot: isStep(series[place].row), strokePattern: series[place].dash }])),
     axes: {
       x: { ticker: (...words) => keep('x', timeTicks(...words)), axisLabelFormatter: timeLabel, axisLabelWidth: 96 },
-      y: { ticker: (...words) => keep('y', ends ? ends.map((label, v) => ({ v, label })) : valueTicks(...words)), pixelsPerLabel: 18, axisLabelWidth: labelWidth || 50 },
+      y: { ticker: (...words) => keep('y', ticksOf(...words)), pixelsPerLabel: 18, axisLabelWidth: labelWidth || 50 },
     },
     underlayCallback: (context, area, graph) => drawUnder(panel, context, area, graph),
     drawCallback: graph => isOurs || followHand(graph),
@@ -177,7 +185,8 @@ function digitsOf(row, value) {
   return (isWhole ? '' : '\u2248 ') + value.toFixed(row.places);
 }
 
-const textOf = (row, value) => `${digitsOf(row, value)} ${row.unit}`.trim();
+const stateOf = (row, value) => row.states.find(state => state.value === value)?.name || '';
+const textOf = (row, value) => `${digitsOf(row, value)} ${row.unit} ${stateOf(row, value)}`.trim();
 
 function wordsOfBacks(backs) {
   const [from, to] = backs.first[0];

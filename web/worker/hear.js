@@ -1,10 +1,10 @@
-// A worker reads one log, so that the page doesn't freeze. It is told {module}, {file, bus, table} and {rest} once, and besides
+// A worker reads one log, so that the page doesn't freeze. It is told {module}, {files, bus, table} and {rest} once, and besides
 // what the page asks for: {look: {chosen, view}, ticket}, {values: {chosen, from, to}} or {report}.
 let turn = Promise.resolve(); // what is asked is done one after another
 
 async function begin(bytes) {
   compiled = await WebAssembly.compile(await inflated(bytes).arrayBuffer());
-  postMessage({ ready: groupNames(tableOf(null)).size });
+  postMessage({ ready: tableRows(tableOf(null)).size });
 }
 
 let spoke = 0;
@@ -17,7 +17,7 @@ function tellProgress(done, all) {
 
 async function hear(data) {
   if (data.module) return begin(data.module);
-  if (data.file) return readLog(data, tellProgress, postMessage);
+  if (data.files) return readLog(data, tellProgress, postMessage);
   await layLog(tellProgress);
   if (data.rest) readRest(postMessage);
   else if (data.look) postMessage({ view: viewOf(data.look), ticket: data.ticket });

@@ -3,7 +3,7 @@ const MOST_TABLE = 1 << 20; // bytes of a table; the module refuses more
 const NAME_FIELDS = ['arbitrary', 'industry', 'systemInstance', 'system', 'reserved', 'function',
   'functionInstance', 'ecuInstance', 'manufacturer', 'identity'];
 
-let asked = null; // {file, bus, table, names, rows}
+let asked = null; // {file, bus, table, named, rows}
 let place = null; // the instance in whose memory it lies, as `given`; another one once its report was made
 
 // Lays the log into an instance's memory, with its interface's name and its table; once more where need be.
@@ -17,20 +17,30 @@ async function layLog(tell) {
   it.given = [log, put(it, asked.bus), put(it, asked.table)];
 }
 
-// The groups' names by the table, 'PGN SPN' -> name; and the words for a table that is none.
-function groupNames(given) {
+// The states that a line of the table names behind its last ` = `, by their values.
+function statesOf(line) {
+  const [, , , , step, offset] = line.split(' ');
+  const [, states] = / = (\d+ [^=]*)$/.exec(line) || [, ''];
+  return states.split(/, (?=\d+ )/).filter(Boolean).map(state => {
+    const [raw] = state.split(' ', 1);
+    return { value: Number(raw) * Number(step) + Number(offset), name: state.slice(raw.length + 1) };
+  });
+}
+
+// What the table says of each parameter, 'PGN SPN' -> its group's name and its states; or the words for a table that is none.
+function tableRows(given) {
   const it = place = place || instance(), { free } = it;
   const table = put(it, given.bytes);
   const { answer, bytes } = textOf(it, 'j39_groups', [table], ROOM, WRONG_TABLE);
   it.free = free;
   const text = textIn(bytes);
   if (answer === WRONG_TABLE) throw new Error(given.name + text);
-  const names = new Map();
+  const rows = new Map();
   for (const line of text.split('\n')) {
     const [pgn, group, spn] = line.split(' ');
-    if (line) names.set(pgn + ' ' + spn, group);
+    if (line) rows.set(pgn + ' ' + spn, { group, states: statesOf(line) });
   }
-  return names;
+  return rows;
 }
 
 // The bytes of the user's table; none without one.
@@ -48,17 +58,18 @@ function fieldsOf({ it, told }, name) {
 }
 
 // Posts the parameters of a log.
-async function readLog({ file, bus, table }, tell, post) {
+async function readLog({ files, bus, table }, tell, post) {
   const given = tableOf(table);
-  const turned = await asCandump(file);
-  asked = { file: turned.file, bus: new TextEncoder().encode(bus), table: given.bytes, names: groupNames(given), rows: [] };
+  const turned = await asOneLog(files);
+  asked = { file: turned.file, bus: new TextEncoder().encode(bus), table: given.bytes, named: tableRows(given), rows: [] };
   await layLog(tell);
   tell(0, 0);
   const summary = textOf(place, 'j39_summary', place.given, 4 * ROOM);
-  asked.rows = rowsOf(textIn(summary.bytes), asked.names);
+  asked.rows = rowsOf(textIn(summary.bytes), asked.named);
   const { frames, other, unread, messages } = summary.counts;
   const values = asked.rows.reduce((sum, row) => sum + row.count, 0);
-  const told = { name: file.name, size: file.size, kind: turned.kind, table: given.name, counts: { frames, other, unread, messages, values } };
+  const size = files.reduce((sum, file) => sum + file.size, 0);
+  const told = { size, kind: turned.kind, table: given.name, counts: { frames, other, unread, messages, values } };
   post({ log: told, rows: asked.rows });
 }
 

@@ -23,6 +23,7 @@ function instance() {
 }
 
 const textIn = bytes => new TextDecoder().decode(bytes);
+const NEWLINE = 10;
 const letters = bytes => new TextDecoder('latin1').decode(bytes); // one for each byte
 
 function counts(it, told) {

@@ -28,13 +28,13 @@ const bare = field => isQuoted(field) ? field.slice(1, -1) : field;
 
 // What the page shows of each parameter of a controller, in the module's words. A text is in quotes; it isn't plotted, nor is
 // what has words alone, as `error`. A switch has no least and no most.
-function rowsOf(text, names) {
+function rowsOf(text, named) {
   const [columns, ...records] = recordsOf(text);
   const rows = records.map(fields => {
     const record = Object.fromEntries(columns.map((column, k) => [column, fields[k]]));
     const { address, destination, name, pgn, spn, values, words, absent, least, most, first, last, state } = record;
     return {
-      address, destination, name: name || '-'.repeat(16), pgn, group: names.get(pgn + ' ' + spn) || '', spn, title: bare(record.parameter), unit: bare(record.unit), count: Number(values), errors: Number(words), absent: Number(absent),
+      address, destination, name: name || '-'.repeat(16), pgn, spn, ...named.get(pgn + ' ' + spn) || { group: '', states: [] }, title: bare(record.parameter), unit: bare(record.unit), count: Number(values), errors: Number(words), absent: Number(absent),
       first, last, state: bare(state), least, most, isPlotted: values !== words && !isQuoted(first) && !isQuoted(last), isSwitch: least === '',
       places: least.includes('.') ? least.length - least.indexOf('.') - 1 : 0,
     };

@@ -1,6 +1,5 @@
 // The readings of some rows in a stretch of time, as the module's records (those of `j1939 report --csv`).
 const PIECE = 1 << 20; // bytes of records that are looked through at once
-const NEWLINE = 10;
 const OWN_FIELDS = ['address', 'destination', 'name', 'pgn']; // which say whose a record is; they stand before all that may be in quotes
 
 // Whether a record is of a row, in this stretch of time.
