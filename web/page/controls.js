@@ -68,7 +68,7 @@ function wireNotices() {
 function start() {
   functionNames = namesOf('function-names');
   addressNames = namesOf('address-names');
-  parameters = new Table('parameters', PARAMETER_COLUMNS, { before: { name: 'plot', make: tickOf }, mark: markLine });
+  parameters = new Table('parameters', PARAMETER_COLUMNS, { before: { name: 'plot', make: plotToolsOf }, mark: markLine });
   faults = new Table('faults', FAULT_COLUMNS);
   wireLog();
   wirePlot();

@@ -73,6 +73,7 @@ function hear(data) {
   else if (data.nodes) showNodes(data.nodes);
   else if (data.survey !== undefined) finish(data.survey);
   else if (data.view) showView(data.view, data.ticket);
+  else if (data.columns) showCurve(data.curve, data.columns);
   else if (data.values) saveValues(data.values);
   else if (data.report) saveReport(data.report);
 }

@@ -16,9 +16,16 @@ const senderOf = ({ address, destination }) => destination ? `${address}>${desti
 const titleOf = row => `${nameOf(row)} of ${senderOf(row)}${row.unit ? ', ' + row.unit : ''}`;
 
 function showParameters(rows) {
+  forgetCurves();
   chosen = [];
   parameters.show(rows);
   choose(rows.find(row => row.spn === '190' && isDrawn(row)) || rows.find(isDrawn));
+}
+
+function plotToolsOf(row) {
+  const tools = document.createDocumentFragment();
+  tools.append(tickOf(row), curveOf(row));
+  return tools;
 }
 
 function tickOf(row) {

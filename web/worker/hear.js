@@ -1,5 +1,5 @@
 // A worker reads one log, so that the page doesn't freeze. It is told {module}, {files, bus, table} and {rest} once, and besides
-// what the page asks for: {look: {chosen, view}, ticket}, {values: {chosen, from, to}} or {report}.
+// what the page asks for: {look: {chosen, view}, ticket}, {values: {chosen, from, to}}, {curve, columns} or {report}.
 let turn = Promise.resolve(); // what is asked is done one after another
 
 async function begin(bytes) {
@@ -21,6 +21,7 @@ async function hear(data) {
   await layLog(tellProgress);
   if (data.rest) readRest(postMessage);
   else if (data.look) postMessage({ view: viewOf(data.look), ticket: data.ticket });
+  else if (data.columns) postMessage({ curve: data.curve, columns: columnsOf(data.curve, data.columns) });
   else if (data.values) postMessage({ values: values(data.values) });
   else if (data.report) postMessage({ report: report(tellProgress) });
 }

@@ -79,12 +79,15 @@ function seriesIn(bytes) {
   return { ...series, longest: longestStep(series, new Float64Array(bytes.buffer, bytes.byteOffset, series.n)) };
 }
 
-// The readings of a row.
+function readSeries(row) {
+  return withText('j39_series', originOf(row), undefined, row.count * POINT + MEMORY_PAGE, seriesIn);
+}
+
+// The readings of a row, which are kept.
 function seriesOf(i) {
   if (!kept.has(i)) {
-    const row = asked.rows[i];
     if (kept.size >= MOST_KEPT) kept.delete(kept.keys().next().value);
-    kept.set(i, withText('j39_series', originOf(row), undefined, row.count * POINT + MEMORY_PAGE, seriesIn));
+    kept.set(i, readSeries(asked.rows[i]));
   }
   return kept.get(i);
 }

@@ -97,3 +97,15 @@ function viewOf({ chosen, view }) {
   const [from, to] = view || whole;
   return { whole, from, to, shown: chosen.map(i => shownOf(i, from, to)) };
 }
+
+// The least and the most number in each of so many stretches of a row's time, and null where there is none. Its readings aren't kept.
+function columnsOf(i, size) {
+  const { at, value, kind, n } = kept.get(i) || readSeries(asked.rows[i]);
+  const scale = (size - 1) / (at[n - 1] - at[0] || 1), columns = new Array(size).fill(null);
+  for (let k = 0; k < n; k++) {
+    if (kind[k]) continue;
+    const place = Math.floor((at[k] - at[0]) * scale), [least, most] = columns[place] || [Infinity, -Infinity];
+    columns[place] = [Math.min(least, value[k]), Math.max(most, value[k])];
+  }
+  return columns;
+}
