@@ -118,4 +118,5 @@ function drawGlance(news = {}) {
   Object.assign(glance, news);
   const codes = standingOf(glance.codes || []);
   $('glance').replaceChildren(factsCard(), ...glance.codes ? [nowCard(codes), beforeCard(codes)] : [], ...glance.nodes.length ? [silentCard()] : [], errorsCard());
+  drawBands();
 }

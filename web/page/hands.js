@@ -10,6 +10,7 @@ function followView() {
   isOurs = true;
   for (const { graph } of panels) if (graph) graph.updateOptions({ dateWindow: [from, to] });
   isOurs = false;
+  drawBands();
   setCursor(cursor);
 }
 

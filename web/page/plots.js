@@ -17,6 +17,7 @@ function forgetPlots() {
   panels = [];
   chosen = [];
   $('plots').replaceChildren();
+  $('bands').hidden = true;
   forgetViews();
 }
 
@@ -75,6 +76,7 @@ function drawPanels({ shown, from, to }) {
     drawPanel(panel, from, to);
   }
   alignPanels();
+  drawBands();
   $('plot-status').textContent = `${clock(from)} to ${clock(to)}`;
   document.body.dataset.plotted = ticket;
 }
