@@ -30,9 +30,9 @@ controller whose claim was lost to a smaller NAME, or that gave its address up, 
 none. `j1939 name` explains a NAME.
 
 With --seen, and in each of the other forms, it also has the time of that NAME's last
-claim of it and of the last frame from there, and for how many seconds it was silent
-at the end of the log, if five or more. Then an address that nobody holds has a line
-too (dashes for the NAME, - for the claim), if other frames than claims came from there
+claim of it and of the last frame from there; for how many seconds it was silent at the
+end of the log, and at most between two frames, since when, each if five or more. Then
+an address that nobody holds has a line too (dashes for the NAME, - for the claim), if other frames than claims came from there
 since its holder last changed.";
 
 const HELP: &str = "\
@@ -48,7 +48,7 @@ Example:
 writes lines such as
   00 8000000001401234
 and with --seen
-  00 8000000001401234 (1700000000.000000) (1700000060.250000)
+  00 8000000001401234 (1700000000.000000) (1700000060.250000) longest 12.300000 since (1700000004.100000)
   0B ---------------- - (1700000012.400000) silent 47.850000";
 
 /// What clap is told of it.

@@ -1,11 +1,11 @@
 -- What was seen of an address, one frame more.
-use Rattle.std.proofs.Common.{◌≡◌, ◌≢◌, ◌⊎◌, ◌==◌, ◌&&◌, ◌<◌, ◌≤◌, not, ℕ, suc, arith, Bool, true, false, List, [], ◌∷◌, ◌++◌, Option, Some, None, length, filter, replicate, refl, sym, ap, ◌∙◌, subst, inl, inr, append-nil, eqb-true, eq-eqb}
+use Rattle.std.proofs.Common.{◌≡◌, ◌≢◌, ◌⊎◌, ◌==◌, ◌&&◌, ◌<◌, ◌≤◌, not, ℕ, suc, arith, Bool, true, false, List, [], ◌∷◌, ◌++◌, Option, Some, None, length, filter, map, replicate, refl, sym, ap, ◌∙◌, subst, inl, inr, append-nil, eqb-true, eq-eqb}
 use Rattle.std.specs.Prelude.{get_or, is_some, nat_lt, slice_set, unwrap_or}
 use Rattle.std.specs.List.{last_or}
 use Rattle.std.specs.Option.{option_map}
 use Rattle.std.proofs.lemmas.Bool.{cases_Bool, cases_eq, cases_lt, cond-false, cond-true, ne_eqb}
 use Rattle.std.proofs.lemmas.Grind.{get_or-set_at}
-use Rattle.std.proofs.lemmas.List.{get_or_append_left, get_or_push, get_or-replicate, get_or-set_other, length-map, length_push}
+use Rattle.std.proofs.lemmas.List.{get_or_append_left, get_or_push, get_or-replicate, get_or-set_other, length-map, length_push, map-append}
 use Rattle.std.proofs.lemmas.List.Elements.{filter-append}
 use Rattle.j39_address.proofs.NotingLemmas.{claims_of-push}
 use Rattle.j39_address.proofs.HolderLemmas.{held_after, holder_agree, holder_is, holder_push, same_holder}
@@ -16,7 +16,9 @@ use Rattle.j39_frame.specs.Address.{global_address}
 use Rattle.j39_frame.specs.Identifier.{pgn_of, source_of}
 use Rattle.j39_frame.specs.Network.{address_claimed_group}
 use Rattle.j39_frame.specs.Stamp.{stamp_micros}
-use Rattle.j39_survey.specs.SeenNodes.{Talks, is_claim, is_from, last_stamp}
+use Rattle.j39_survey.specs.SeenNodes.{Talks, is_claim, is_from, last_stamp, stamps_from}
+use Rattle.j39_survey.specs.SurveyModels.{HaveMeasured, last_behind, last_in}
+use Rattle.j39_survey.specs.declared.surveys.distances.Distances.{Distances}
 use Rattle.j39_survey.specs.SeenSoFar.{HasSeen, unseen}
 use Rattle.j39_survey.specs.declared.node_lists.seen.Seen.{Seen}
 
@@ -45,6 +47,30 @@ unfolding last_stamp
 last_stamp-other is F f not_so =
     ap (λ xs. option_map (λ (g : FrameRecord). g.stamp) (last_or None xs))
     (filter-append is F (f ∷ []) ∙ ap (λ xs. filter is F ++ xs) (cond-false _ _ _ not_so) ∙ append-nil (filter is F))
+
+-- ---- the stamps
+
+pub stamps-this : (F : List FrameRecord) (f : FrameRecord) (a : ℕ) → is_from a f ≡ true → stamps_from (F ++ f ∷ []) a ≡ stamps_from F a ++ f.stamp ∷ []
+stamps-this F f a so =
+    ap (map (λ (g : FrameRecord). g.stamp)) (filter-append (is_from a) F (f ∷ []) ∙ ap (λ xs. filter (is_from a) F ++ xs) (cond-true _ _ _ so))
+    ∙ map-append (λ (g : FrameRecord). g.stamp) (filter (is_from a) F) (f ∷ [])
+
+stamps-other : (F : List FrameRecord) (f : FrameRecord) (a : ℕ) → is_from a f ≡ false → stamps_from (F ++ f ∷ []) a ≡ stamps_from F a
+stamps-other F f a not_so =
+    ap (map (λ (g : FrameRecord). g.stamp)) (filter-append (is_from a) F (f ∷ []) ∙ ap (λ xs. filter (is_from a) F ++ xs) (cond-false _ _ _ not_so) ∙ append-nil (filter (is_from a) F))
+
+last_of_stamps : (x : FrameRecord) (xs : List FrameRecord) → Some (last_behind x.stamp (map (λ f. f.stamp) xs)) ≡ option_map (λ f. f.stamp) (last_or (Some x) xs)
+last_of_stamps x [] = refl
+last_of_stamps x (y ∷ ys) = last_of_stamps y ys
+
+last_of_all : (xs : List FrameRecord) → last_in (map (λ f. f.stamp) xs) ≡ option_map (λ f. f.stamp) (last_or None xs)
+last_of_all [] = refl
+last_of_all (x ∷ xs) = last_of_stamps x xs
+
+-- the last moment is that of the last frame
+pub heard_last : (d : Distances) (F : List FrameRecord) (a : ℕ) → HaveMeasured d (stamps_from F a) → option_map stamp_micros d.last ≡ last_stamp (is_from a) F
+unfolding last_stamp
+heard_last d F a measured = measured.last_is ∙ last_of_all (filter (is_from a) F)
 
 -- ---- the holder
 
@@ -193,7 +219,7 @@ seen_elsewhere F f a seen below else has =
     record {
       talks = λ so. talks_on F f a below else (has.talks so);
       silent = λ not_so t. has.silent not_so (talked F f a else t);
-      heard = has.heard ∙ sym (last_stamp-other (is_from a) F f away);
+      measured = subst (HaveMeasured seen.distances) (sym (stamps-other F f a away)) has.measured;
       claimed = λ n held. elim (held_before F f a n below held) [
         | inl own ↦ absurd (else (claim_from f (record { name = n; address = a }) own))
         | inr was ↦ has.claimed n was ∙ sym (last_stamp-other (λ g. is_claim n a (claim_of g)) F f (is_claim-elsewhere f n a else))
@@ -212,11 +238,11 @@ module _ (F : List FrameRecord) (f : FrameRecord) (a : ℕ) (here : source_of f.
 
 -- a frame that is no claim
 pub seen_talk : (F : List FrameRecord) (f : FrameRecord) (a : ℕ) (old new : Seen) (holder : Option ℕ) → a < 254 → source_of f.id ≡ a → claim_of f ≡ None → HasSeen F a old
-    → IsHolderAfter (claims_of (F ++ f ∷ [])) a holder → is_some holder ≡ not new.talks → option_map stamp_micros new.heard ≡ Some f.stamp → new.claimed ≡ old.claimed → HasSeen (F ++ f ∷ []) a new
-seen_talk F f a old new holder below here none has holds talks heard claimed = record {
+    → IsHolderAfter (claims_of (F ++ f ∷ [])) a holder → is_some holder ≡ not new.talks → HaveMeasured new.distances (stamps_from F a ++ f.stamp ∷ []) → new.claimed ≡ old.claimed → HasSeen (F ++ f ∷ []) a new
+seen_talk F f a old new holder below here none has holds talks measured claimed = record {
   talks = now_talks F f a here holder new.talks talks holds;
   silent = now_silent F f a here holder new.talks talks holds;
-  heard = heard ∙ sym (last_stamp-this (is_from a) F f (eq-eqb (source_of f.id) a here));
+  measured = subst (HaveMeasured new.distances) (sym (stamps-this F f a (eq-eqb (source_of f.id) a here))) measured;
   claimed = λ n held. elim (held_before F f a n below held) [
     | inl own ↦ absurd (let no : None ≡ Some (record { name = n; address = a }) = sym none ∙ own in cc)
     | inr was ↦ ap (option_map stamp_micros) claimed ∙ has.claimed n was ∙ sym (last_stamp-other (λ g. is_claim n a (claim_of g)) F f (ap (is_claim n a) none))
@@ -225,14 +251,14 @@ seen_talk F f a old new holder below here none has holds talks heard claimed = r
 
 -- a claim, behind which this NAME holds the address
 pub seen_claim : (F : List FrameRecord) (f : FrameRecord) (c : Claim) (a : ℕ) (old new : Seen) (holder : Option ℕ) → a < 254 → source_of f.id ≡ a → claim_of f ≡ Some c → HasSeen F a old
-    → IsHolderAfter (claims_of (F ++ f ∷ [])) a holder → is_some holder ≡ not new.talks → option_map stamp_micros new.heard ≡ Some f.stamp
+    → IsHolderAfter (claims_of (F ++ f ∷ [])) a holder → is_some holder ≡ not new.talks → HaveMeasured new.distances (stamps_from F a ++ f.stamp ∷ [])
     → (holder ≡ Some c.name → option_map stamp_micros new.claimed ≡ Some f.stamp) → (holder ≢ Some c.name → new.claimed ≡ old.claimed) → HasSeen (F ++ f ∷ []) a new
-seen_claim F f c a old new holder below here is has holds talks heard own other =
+seen_claim F f c a old new holder below here is has holds talks measured own other =
     let address : c.address ≡ a = sym (claim_from f c is) ∙ here in
     record {
       talks = now_talks F f a here holder new.talks talks holds;
       silent = now_silent F f a here holder new.talks talks holds;
-      heard = heard ∙ sym (last_stamp-this (is_from a) F f (eq-eqb (source_of f.id) a here));
+      measured = subst (HaveMeasured new.distances) (sym (stamps-this F f a (eq-eqb (source_of f.id) a here))) measured;
       claimed = λ n held.
           let same : holder ≡ Some n = same_holder (claims_of (F ++ f ∷ [])) (length (claims_of (F ++ f ∷ []))) a holder (Some n) holds held in
           elim (cases_eq c.name n) [
@@ -252,7 +278,7 @@ unfolding last_stamp
 seen_none a = record {
   talks = λ so. absurd (cc);
   silent = λ not_so t. let inside : t.at < 0 = t.inside in absurd (omega arith);
-  heard = refl;
+  measured = record { last_is = refl; spread_is = refl };
   claimed = λ n held. refl;
 }
 

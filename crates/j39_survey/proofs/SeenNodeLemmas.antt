@@ -13,12 +13,14 @@ use Rattle.j39_listen.specs.AccountCalls.{Begins, Closes, MakesOne, StopsAtEnd}
 use Rattle.j39_survey.specs.ByAddress.{lines_of, shown_from}
 use Rattle.j39_survey.specs.NodesSoFar.{all_below}
 use Rattle.j39_listen.specs.Output.{Output}
-use Rattle.j39_survey.specs.SeenNodes.{MakesSeenNodesIn, Presence, ShowsPresence, is_seen_node, last_stamp, seen_in, silent_for}
-use Rattle.j39_survey.specs.SeenSoFar.{HasSeen, HasSeenAll, from_in, presence, presence_in, seen_at, seen_lines}
+use Rattle.j39_survey.specs.SeenNodes.{MakesSeenNodesIn, Presence, ShowsPresence, if_long, is_from, is_seen_node, last_stamp, longest_at, seen_in, silent_for}
+use Rattle.j39_survey.specs.GroupCounts.{Silence, Spread}
+use Rattle.j39_survey.specs.SeenSoFar.{HasSeen, HasSeenAll, from_in, longest_of, presence, presence_in, seen_at, seen_lines}
 use Rattle.j39_listen.specs.declared.filter.Sender.{Sender}
 use Rattle.j39_listen.specs.declared.format.Format.{Format}
 use Rattle.j39_survey.specs.declared.node_lists.seen.Seen.{Seen}
 use Rattle.j39_survey.specs.declared.node_lists.seen.SeenList.{SeenList}
+use Rattle.j39_survey.proofs.SeenLemmas.{heard_last}
 use Rattle.j39_survey.proofs.ByAddressLemmas.{Makes, begins_empty, closes_lines, lines_are, one_text, shown_is, stops_lines}
 
 shows_one : (F : List FrameRecord) (a : ℕ) (o : Option ℕ) (x y : List Presence) → ShowsPresence F a o x → ShowsPresence F a o y → x ≡ y
@@ -32,18 +34,32 @@ shows_one F a None x y (inr (silent, is_x)) (inr (_, is_y)) = is_x ∙ sym is_y
 pub seen_nodes_one : (form : Format) (from : Option (List Sender)) → MakesOne (MakesSeenNodesIn form from)
 seen_nodes_one form from = one_text ShowsPresence (seen_in form) (shown_from is_seen_node from) shows_one
 
+longest_is : (F : List FrameRecord) (a : ℕ) (seen : Seen) → HasSeen F a seen → longest_of seen ≡ longest_at F a
+longest_is F a seen has = ap (λ (o : Option Spread). if_long (option_map (λ s. s.longest) o)) has.measured.spread_is
+
 -- what was seen is who is there
 shows : (F : List FrameRecord) (now : Option ℕ) (a : ℕ) (seen : Seen) (o : Option ℕ) → now ≡ last_stamp (λ f. true) F → HasSeen F a seen
     → IsHolderAfter (claims_of F) a o → ShowsPresence F a o (presence now a seen o)
 shows F now a seen (Some name) last has holds =
-    λ i. record { address = a; name = Some name; claimed = has.claimed name holds i; heard = has.heard i; silent = silent_for (last i) (has.heard i) } ∷ []
+    let heard = heard_last seen.distances F a has.measured in
+    λ i. record {
+      address = a;
+      name = Some name;
+      claimed = has.claimed name holds i;
+      heard = heard i;
+      silent = silent_for (last i) (heard i);
+      longest = longest_is F a seen has i;
+    } ∷ []
 shows F now a seen None last has holds = by seen.talks refl
   where
-    here : Option ℕ → Option ℕ → Presence
-    here by_now heard = record { address = a; name = None; claimed = None; heard = heard; silent = silent_for by_now heard }
+    here : Option ℕ → Option ℕ → Option Silence → Presence
+    here by_now heard longest = record { address = a; name = None; claimed = None; heard = heard; silent = silent_for by_now heard; longest = longest }
 
-    by : (b : Bool) → seen.talks ≡ b → ShowsPresence F a None (if b then here now (option_map stamp_micros seen.heard) ∷ [] else [])
-    by true so = inl (has.talks so, λ i. here (last i) (has.heard i) ∷ [])
+    heard : option_map stamp_micros seen.distances.last ≡ last_stamp (is_from a) F
+    heard = heard_last seen.distances F a has.measured
+
+    by : (b : Bool) → seen.talks ≡ b → ShowsPresence F a None (if b then here now (option_map stamp_micros seen.distances.last) (longest_of seen) ∷ [] else [])
+    by true so = inl (has.talks so, λ i. here (last i) (heard i) (longest_is F a seen has i) ∷ [])
     by false not_so = inr (has.silent not_so, refl)
 
 asked : SeenList → List Presence

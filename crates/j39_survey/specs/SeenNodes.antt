@@ -1,5 +1,5 @@
 -- Who is at which address after the frames of a bus (J1939-81, 4.2), as it was seen, and its row.
-use Rattle.std.specs.Prelude.{◌≡◌, ◌==◌, ◌&&◌, ◌⊎◌, ◌<◌, ◌≤◌, ◌-◌, ℕ, Bool, true, false, List, [], ◌∷◌, Option, Some, None, codes, filter, if◌then◌else◌, length, nat_lt, option_and_then}
+use Rattle.std.specs.Prelude.{◌≡◌, ◌==◌, ◌&&◌, ◌⊎◌, ◌<◌, ◌≤◌, ◌-◌, ℕ, Bool, true, false, List, [], ◌∷◌, Option, Some, None, codes, filter, if◌then◌else◌, length, map, nat_lt, option_and_then}
 use Rattle.std.specs.List.{last_or}
 use Rattle.std.specs.Option.{option_map}
 use Rattle.j39_frame.specs.Identifier.{source_of}
@@ -16,17 +16,19 @@ use Rattle.j39_listen.specs.Output.{Making}
 use Rattle.j39_listen.specs.declared.filter.Sender.{Sender}
 use Rattle.j39_listen.specs.declared.format.Format.{Format}
 use Rattle.j39_rows.specs.Row.{dash, name_column}
+use Rattle.j39_survey.specs.GroupCounts.{Silence, silences_in, spread_of}
 use Rattle.j39_survey.specs.Nodes.{node_head}
 use Rattle.j39_rows.specs.Row.{ColumnRecord, beside_lines, if_any, in_all, micros_cell, or_nothing, row_text, seconds_cell, text, utc_cell}
 
 -- who is at an address: the NAME that holds it and the stamp of its last claim of it, or neither; the stamp of the last frame
--- from there; and how long ago that is, where it is long
+-- from there; how long ago that is, where it is long; and the longest silence before it, where that is long
 pub record Presence : Type 0 where
   pub address : ℕ
   pub name : Option ℕ
   pub claimed : Option ℕ
   pub heard : Option ℕ
   pub silent : Option ℕ
+  pub longest : Option Silence
 
 abbrev pub is_from : ℕ → FrameRecord → Bool
 is_from a f = source_of f.id == a
@@ -54,6 +56,18 @@ silent_for (Some now) (Some heard) = if nat_lt (now - heard) long_silence then N
 abbrev pub silent_at : List FrameRecord → ℕ → Option ℕ
 silent_at F a = silent_for (last_stamp (λ f. true) F) (last_stamp (is_from a) F)
 
+abbrev pub if_long : Option Silence → Option Silence
+if_long None = None
+if_long (Some s) = if nat_lt s.length long_silence then None else Some s
+
+-- the stamps of the frames from an address
+abbrev pub stamps_from : List FrameRecord → ℕ → List ℕ
+stamps_from F a = map (λ f. f.stamp) (filter (is_from a) F)
+
+-- the first of the longest silences between two frames from there, one behind the other, where it is told
+abbrev pub longest_at : List FrameRecord → ℕ → Option Silence
+longest_at F a = if_long (option_map (λ s. s.longest) (spread_of (silences_in (stamps_from F a))))
+
 -- somebody talks at a without holding it: a frame came from there, and from then on nobody held a (so that it was no claim)
 pub record Talks (F : List FrameRecord) (a : ℕ) : Type 0 where
   pub at : ℕ
@@ -69,9 +83,10 @@ ShowsPresence F a (Some name) here = here ≡ record {
   claimed = last_stamp (λ f. is_claim name a (claim_of f)) F;
   heard = last_stamp (is_from a) F;
   silent = silent_at F a;
+  longest = longest_at F a;
 } ∷ []
 ShowsPresence F a None here =
-    (Talks F a × (here ≡ record { address = a; name = None; claimed = None; heard = last_stamp (is_from a) F; silent = silent_at F a } ∷ []))
+    (Talks F a × (here ≡ record { address = a; name = None; claimed = None; heard = last_stamp (is_from a) F; silent = silent_at F a; longest = longest_at F a } ∷ []))
     ⊎ ((Talks F a → ⊥) × (here ≡ []))
 
 -- who is at all addresses after F
@@ -96,13 +111,16 @@ function_of name = option_and_then (λ n. function_called (fields_of n).function
 abbrev pub maker_of : Option ℕ → Option (List ℕ)
 maker_of name = option_and_then (λ n. maker_called (fields_of n).manufacturer) name
 
--- behind the address: the NAME, when it was claimed last, when heard last, and for how long it was silent at the end; beside
--- lines also what the NAME says
+-- behind the address: the NAME, when it was claimed last, when heard last, for how long it was silent at the end, and for how long
+-- at most before that, since when; beside lines also what the NAME says
 abbrev pub seen_columns : Presence → List ColumnRecord
 seen_columns node =
     name_column node.name ∷ moment_column (codes "claimed") node.claimed ∷ utc_column (codes "claimed_utc") node.claimed
     ∷ moment_column (codes "heard") node.heard ∷ utc_column (codes "heard_utc") node.heard
     ∷ in_all (codes "silent") (if_any (codes " silent ")) (or_nothing micros_cell node.silent)
+    ∷ in_all (codes "longest") (if_any (codes " longest ")) (or_nothing micros_cell (option_map (λ s. s.length) node.longest))
+    ∷ in_all (codes "since_stamp") (if_any (codes " since ")) (or_nothing seconds_cell (option_map (λ s. s.since) node.longest))
+    ∷ utc_column (codes "since_utc") (option_map (λ s. s.since) node.longest)
     ∷ called_column (codes "function") (function_of node.name) ∷ called_column (codes "manufacturer") (maker_of node.name) ∷ []
 
 -- its row in each form
@@ -111,7 +129,7 @@ seen_in form node = row_text form (node_head node.address) (seen_columns node)
 
 -- the names of the columns
 abbrev pub seen_names : List ℕ
-seen_names = codes "address,name,claimed,claimed_utc,heard,heard_utc,silent,function,manufacturer\r\n"
+seen_names = codes "address,name,claimed,claimed_utc,heard,heard_utc,silent,longest,since_stamp,since_utc,function,manufacturer\r\n"
 
 -- it is meant by its address, or by the NAME that holds that
 abbrev pub is_seen_node : Presence → Sender → Bool

@@ -8,10 +8,12 @@ use Rattle.j39_address.specs.Holder.{IsHolderAfter}
 use Rattle.j39_frame.specs.Frame.{FrameRecord}
 use Rattle.j39_frame.specs.Stamp.{stamp_micros}
 use Rattle.j39_survey.specs.ByAddress.{shown_from}
-use Rattle.j39_survey.specs.SeenNodes.{Presence, Talks, is_claim, is_from, is_seen_node, last_stamp, seen_in, silent_for}
+use Rattle.j39_survey.specs.SeenNodes.{Presence, Talks, if_long, is_claim, is_seen_node, last_stamp, seen_in, silent_for, stamps_from}
 use Rattle.j39_listen.specs.Output.{Output, nothing}
 use Rattle.j39_listen.specs.declared.filter.Sender.{Sender}
 use Rattle.j39_listen.specs.declared.format.Format.{Format}
+use Rattle.j39_survey.specs.GroupCounts.{Silence}
+use Rattle.j39_survey.specs.SurveyModels.{HaveMeasured, silence_record, spread_record}
 use Rattle.j39_survey.specs.declared.node_lists.seen.SeenList.{SeenList}
 use Rattle.j39_survey.specs.declared.node_lists.seen.Node.{Node}
 use Rattle.j39_survey.specs.declared.node_lists.seen.Seen.{Seen}
@@ -20,12 +22,12 @@ use Rattle.j39_survey.specs.declared.node_lists.seen.Seen.{Seen}
 pub record HasSeen (F : List FrameRecord) (a : ℕ) (seen : Seen) : Type 0 where
   pub talks : seen.talks ≡ true → Talks F a
   pub silent : seen.talks ≡ false → Talks F a → ⊥
-  pub heard : option_map stamp_micros seen.heard ≡ last_stamp (is_from a) F
+  pub measured : HaveMeasured seen.distances (stamps_from F a)
   pub claimed : (name : ℕ) → IsHolderAfter (claims_of F) a (Some name)
       → option_map stamp_micros seen.claimed ≡ last_stamp (λ f. is_claim name a (claim_of f)) F
 
 abbrev pub unseen : Seen
-unseen = record { talks = false; heard = None; claimed = None }
+unseen = record { talks = false; distances = record { last = None; spread = None }; claimed = None }
 
 abbrev pub seen_at : SeenList → ℕ → Seen
 seen_at list a = get_or list.seen a unseen
@@ -44,14 +46,19 @@ pub record HasSeenAll (form : Format) (from : Option (List Sender)) (list : Seen
   pub from_is : from_in list ≡ from
   pub nothing : output ≡ nothing
 
+-- its longest silence, where it is long
+abbrev pub longest_of : Seen → Option Silence
+longest_of seen = if_long (option_map (λ s. s.longest) (option_map spread_record seen.distances.spread))
+
 -- who is at an address, as it was seen by now
 abbrev pub presence : Option ℕ → ℕ → Seen → Option ℕ → List Presence
 presence now a seen (Some name) = record {
   address = a;
   name = Some name;
   claimed = option_map stamp_micros seen.claimed;
-  heard = option_map stamp_micros seen.heard;
-  silent = silent_for now (option_map stamp_micros seen.heard);
+  heard = option_map stamp_micros seen.distances.last;
+  silent = silent_for now (option_map stamp_micros seen.distances.last);
+  longest = longest_of seen;
 } ∷ []
 presence now a seen None =
     if seen.talks
@@ -59,8 +66,9 @@ presence now a seen None =
       address = a;
       name = None;
       claimed = None;
-      heard = option_map stamp_micros seen.heard;
-      silent = silent_for now (option_map stamp_micros seen.heard);
+      heard = option_map stamp_micros seen.distances.last;
+      silent = silent_for now (option_map stamp_micros seen.distances.last);
+      longest = longest_of seen;
     } ∷ []
     else []
 
@@ -79,6 +87,7 @@ presence_of node = record {
   claimed = option_map stamp_micros node.claimed;
   heard = option_map stamp_micros node.heard;
   silent = node.silent;
+  longest = option_map silence_record node.longest;
 }
 
 abbrev pub nodes_shown : Option Node → List Presence

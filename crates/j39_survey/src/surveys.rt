@@ -2,7 +2,7 @@
 
 mod addresses;
 mod arrivals;
-mod distances;
+pub(crate) mod distances;
 mod group_table;
 mod interfaces;
 pub mod laws;

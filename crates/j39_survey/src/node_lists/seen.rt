@@ -14,7 +14,8 @@ ghost use Rattle.j39_rows.specs.Row.{micros_cell, or_nothing};
 ghost use Rattle.j39_listen.specs.Headed.{begins_flushed};
 ghost use Rattle.j39_listen.specs.Output.{nothing};
 ghost use Rattle.j39_survey.specs.SeenNodes.{MakesSeenNodes, function_of, maker_of, seen_columns, seen_in, silent_for};
-ghost use Rattle.j39_survey.specs.SeenSoFar.{HasSeen, HasSeenAll, nodes_shown, presence, presence_in, presence_of, seen_at};
+ghost use Rattle.j39_survey.specs.SeenSoFar.{HasSeen, HasSeenAll, longest_of, nodes_shown, presence, presence_in, presence_of, seen_at};
+ghost use Rattle.j39_survey.specs.SurveyModels.{silence_record};
 ghost use Rattle.std.specs.Option.{option_map};
 ghost use Rattle.j39_listen.specs.Asking.{AsksNowhere};
 ghost use Rattle.j39_listen.specs.Ran.{PassesOn, Ran};
@@ -22,6 +23,7 @@ ghost use Rattle.j39_listen.specs.declared.running.RunFault.TheVariants.{Memory}
 
 use crate::node_lists::by_address::{ByAddress, put_by_address};
 use crate::node_lists::held::node_head;
+use crate::surveys::distances::{Distances, Silence};
 use j39_address::{Claims, Name, claim_of};
 use j39_frame::{Frame, NULL_ADDRESS, Stamp, is_address};
 use j39_io::{DeviceFault, Sink, Source};
@@ -34,7 +36,7 @@ use j39_rows::{Cell, Column, DASH, Place, Plain, put_row};
 
 /// Writes, after the whole log, a line for each address that is held, or from which a frame came since it was held last,
 /// rising: the address, the NAME that holds it, when it claimed it last, when a frame last came from there, and how long before the
-/// last frame of all, if that is five seconds or more (own); or a record of comma-separated values (RFC 4180), or an object of JSON
+/// last frame of all, and the longest silence between two frames from there, each if it is five seconds or more (own); or a record of comma-separated values (RFC 4180), or an object of JSON
 /// (RFC 8259), which have the moments in UTC too, and what the function and the maker that the NAME names are called, where that is
 /// known. With senders, of these alone: an address, or the one
 /// that a NAME holds. The names of the columns of records are written before the log is read. The log has at most `limit`
@@ -68,7 +70,7 @@ pub fn nodes_seen<R: Source, W: Sink>(
 
 /// The names of the columns of such records.
 const COLUMNS: &[u8] =
-    b"address,name,claimed,claimed_utc,heard,heard_utc,silent,function,manufacturer\r\n";
+    b"address,name,claimed,claimed_utc,heard,heard_utc,silent,longest,since_stamp,since_utc,function,manufacturer\r\n";
 
 /// The least silence that is told, in microseconds (own).
 const LONG_SILENCE: u64 = 5_000_000;
@@ -90,8 +92,8 @@ fn silent_for(now: Option<Stamp>, heard: Option<Stamp>) -> Option<u64>
 struct Seen {
     /// Whether nobody held it behind the last frame from there.
     talks: bool,
-    /// The stamp of the last frame from there.
-    heard: Option<Stamp>,
+    /// The stamp of the last frame from there, and how far apart they came.
+    distances: Distances,
     /// The stamp of the last claim of it by who holds it.
     claimed: Option<Stamp>,
 }
@@ -105,21 +107,34 @@ impl Seen {
             → HasSeen (F ++ frame.now ∷ []) (source_of frame.now.id) result }
     {
         let talks = holder.is_none();
-        let heard = Some(frame.stamp);
+        let mut distances = self.distances;
+        distances.add(frame.stamp);
         match claim_of(frame) {
             None => Seen {
                 talks,
-                heard,
+                distances,
                 claimed: self.claimed,
             },
             Some((name, _)) => {
-                let claimed = last_claim(name, holder, heard, self.claimed);
+                let claimed = last_claim(name, holder, Some(frame.stamp), self.claimed);
                 Seen {
                     talks,
-                    heard,
+                    distances,
                     claimed,
                 }
             }
+        }
+    }
+
+    /// The longest silence so far, where that is told.
+    fn longest(self) -> Option<Silence>
+        ensures { option_map silence_record result ≡ longest_of self }
+    {
+        let longest = self.distances.spread?.longest;
+        if longest.length < LONG_SILENCE {
+            None
+        } else {
+            Some(longest)
         }
     }
 
@@ -134,8 +149,9 @@ impl Seen {
             address,
             name,
             claimed: if name.is_some() { self.claimed } else { None },
-            heard: self.heard,
-            silent: silent_for(now, self.heard),
+            heard: self.distances.last,
+            silent: silent_for(now, self.distances.last),
+            longest: self.longest(),
         })
     }
 }
@@ -148,6 +164,7 @@ struct Node {
     claimed: Option<Stamp>,
     heard: Option<Stamp>,
     silent: Option<u64>,
+    longest: Option<Silence>,
 }
 
 /// The stamp of the last claim by the holder, where this NAME claims now, and the last one before came then.
@@ -183,7 +200,7 @@ impl<'f> SeenList<'f> {
     {
         let unseen = Seen {
             talks: false,
-            heard: None,
+            distances: Distances::new(),
             claimed: None,
         };
         SeenList {
@@ -299,10 +316,25 @@ fn time_cell(micros: Option<u64>) -> Cell<'static>
     }
 }
 
+/// How long a silence is, if there is one.
+fn length_of(silence: Option<Silence>) -> Option<u64>
+    ensures { result ≡ option_map (λ s. s.length) (option_map silence_record silence) }
+{
+    Some(silence?.length)
+}
+
+/// When a silence began, if there is one.
+fn since_of(silence: Option<Silence>) -> Option<Stamp>
+    ensures { option_map stamp_micros result ≡ option_map (λ s. s.since) (option_map silence_record silence) }
+{
+    Some(silence?.since)
+}
+
 /// What the row of a node has behind its address.
-fn seen_columns(node: Node) -> [Column<'static>; 8]
+fn seen_columns(node: Node) -> [Column<'static>; 11]
     ensures { map column_of result ≡ seen_columns (presence_of node) }
 {
+    let since = since_of(node.longest);
     [
         Column::name(node.name.map(Name::raw)),
         Column::All(b"claimed", DASH, Cell::seconds(node.claimed)),
@@ -310,6 +342,9 @@ fn seen_columns(node: Node) -> [Column<'static>; 8]
         Column::All(b"heard", DASH, Cell::seconds(node.heard)),
         Column::BesideLines(b"heard_utc", Cell::utc(node.heard)),
         Column::All(b"silent", Place::IfAny(b" silent "), time_cell(node.silent)),
+        Column::All(b"longest", Place::IfAny(b" longest "), time_cell(length_of(node.longest))),
+        Column::All(b"since_stamp", Place::IfAny(b" since "), Cell::seconds(since)),
+        Column::BesideLines(b"since_utc", Cell::utc(since)),
         Column::BesideLines(b"function", Cell::optional(function_of(node.name))),
         Column::BesideLines(b"manufacturer", Cell::optional(maker_of(node.name))),
     ]
