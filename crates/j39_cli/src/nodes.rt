@@ -32,8 +32,8 @@ none. `j1939 name` explains a NAME.
 With --seen, and in each of the other forms, it also has the time of that NAME's last
 claim of it and of the last frame from there; for how many seconds it was silent at the
 end of the log, and at most between two frames, since when, each if five or more. Then
-an address that nobody holds has a line too (dashes for the NAME, - for the claim), if other frames than claims came from there
-since its holder last changed.";
+an address that nobody holds has a line too (dashes for the NAME, - for the claim), if
+other frames than claims came from there since its holder last changed.";
 
 const HELP: &str = "\
 At the end the counts go to standard error:
