@@ -17,7 +17,8 @@ use Rattle.j39_frame.specs.Identifier.{pgn_of, source_of}
 use Rattle.j39_frame.specs.Network.{address_claimed_group}
 use Rattle.j39_frame.specs.Stamp.{stamp_micros}
 use Rattle.j39_survey.specs.SeenNodes.{Talks, is_claim, is_from, last_stamp, stamps_from}
-use Rattle.j39_survey.specs.SurveyModels.{HaveMeasured, last_behind, last_in}
+use Rattle.j39_survey.specs.Interfaces.{last_behind}
+use Rattle.j39_survey.specs.SurveyModels.{HaveMeasured, last_in}
 use Rattle.j39_survey.specs.declared.surveys.distances.Distances.{Distances}
 use Rattle.j39_survey.specs.SeenSoFar.{HasSeen, unseen}
 use Rattle.j39_survey.specs.declared.node_lists.seen.Seen.{Seen}

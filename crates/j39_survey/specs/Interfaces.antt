@@ -2,7 +2,7 @@
 use Rattle.std.specs.Prelude.{ℕ, ◌+◌, List, [], ◌∷◌, Bool, not, Option, Some, None, length, map, take, count_by, nat_lt, if◌then◌else◌}
 use Rattle.std.specs.List.{filter_map, list_any}
 use Rattle.std.specs.Str.{bytes_eq}
-use Rattle.j39_listen.specs.Counting.{capped}
+use Rattle.j39_listen.specs.Counting.{capped, one_if}
 use Rattle.j39_survey.specs.Firsts.{firsts}
 use Rattle.j39_survey.specs.LogLines.{Seen}
 

@@ -200,7 +200,10 @@ impl<'f> SeenList<'f> {
     {
         let unseen = Seen {
             talks: false,
-            distances: Distances::new(),
+            distances: Distances {
+                last: None,
+                spread: None,
+            },
             claimed: None,
         };
         SeenList {
