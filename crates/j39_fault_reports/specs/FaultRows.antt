@@ -15,7 +15,7 @@ use Rattle.j39_listen.specs.declared.format.Format.{Format}
 use Rattle.j39_fault_reports.specs.Faults.{Fault, Manner, Saying, clears, name_in, says, says_asked}
 use Rattle.j39_fault_reports.specs.declared.fault_news.telling.Telling.{Telling}
 use Rattle.j39_fault_reports.specs.declared.fault_news.telling.Telling.TheVariants.{Changes}
-use Rattle.j39_rows.specs.Row.{CellRecord, ColumnRecord, HeadRecord, PlaceRecord, address_cell, always, aside, beside_lines, if_any, in_all, name_cell, nothing, number_cell, or_nothing, plain, row_text, seconds, text, text_or_nothing, utc_cell, word}
+use Rattle.j39_rows.specs.Row.{CellRecord, ColumnRecord, HeadRecord, address_cell, aside, beside_lines, dash, if_any, in_all, name_column, nothing, number_cell, or_nothing, plain, row_text, seconds, text, text_or_nothing, utc_cell, word}
 
 -- the names of the columns of records, with this one for the state
 abbrev pub columns_with : List ℕ → List ℕ
