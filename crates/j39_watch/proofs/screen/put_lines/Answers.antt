@@ -1,6 +1,7 @@
 -- The moment, the faults, the values.
 use Rattle.j39_watch.proofs.Common.{◌∷◌, ◌++◌, [], flat_map, stamp_micros, holder_of, stamp_text, pairs_of}
-use Rattle.j39_watch.proofs.ScreenLemmas.{left_then, limited_first, limited_then, ok_from}
+use Rattle.j39_watch.proofs.ScreenLemmas.{left_then, limited_first, limited_then}
+use Rattle.std.proofs.lemmas.Result.{IfOk-weaker}
 use Rattle.j39_watch.specs.WatchSoFar.{faults_of_places, value_lines}
 use Rattle.j39_watch.proofs.screen.put_lines.Goals as goal
 
@@ -28,7 +29,7 @@ returns-clause-left g c =
     let faults = faults_of_places view.groups.now (holder_of view.listener.now) c.args.places.now 256 in
     let values = flat_map (value_lines view.groups.now (holder_of view.listener.now) (stamp_micros view.now)) (pairs_of c.args.values.now.rows) in
     let left = left_then c.args.rows _ _ moment faults c.in_ok-left.ensures.left c.in_ok-left-2.ensures.left in
-    ok_from c.put_values.result (λ n is. left_then c.args.rows _ n (moment ++ faults) values left is) c.put_values.ensures.left
+    IfOk-weaker c.put_values.result _ _ (λ n is. left_then c.args.rows _ n (moment ++ faults) values left is) c.put_values.ensures.left
 
 pub returns-clause-puts : goal.returns-clause-puts
 returns-clause-puts g c =
