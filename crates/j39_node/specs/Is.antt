@@ -1,13 +1,16 @@
 -- The histories that a controller can have had.
 use Rattle.std.specs.Prelude.{if◌then◌else◌, ◌&&◌, ◌++◌, ◌+◌, ◌-◌, ◌||◌, ◌∷◌, ◌≡◌, ◌≤◌}
-use Rattle.j39_node.specs.Common.{[], Bool, BoxedReceiver, called_time, Cannot, claim_of, claim_time, Claiming, drop, Err, false, FrameRecord, global_address, Heard, Holding, id_raw, Idle, Knows, last_count, length, List, map, max, MessageRecord, min, name_raw, nat_eq, nat_le, nat_lt, None, not, null_address, Ok, Option, option_map, packets_of, pgn_raw, places, recv_step, request_group, Result, slack, slice_get, slice_set, Some, stamp_micros, Status, ToSend, true, ℕ}
+use Rattle.j39_node.specs.Common.{[], Bool, BoxedReceiver, called_time, Cannot, Claim, claim_of, claim_time, Claiming, drop, Err, false, FrameRecord, global_address, Heard, Holding, id_raw, Idle, Knows, last_count, length, List, map, max, MessageRecord, min, name_raw, nat_eq, nat_le, nat_lt, None, not, null_address, Ok, Option, option_map, packets_of, pgn_raw, places, recv_step, request_group, Result, slack, slice_get, slice_set, Some, stamp_micros, Status, ToSend, true, ℕ}
 use Rattle.j39_node.specs.declared.controller.Controller.{Controller}
+use Rattle.j39_node.specs.declared.heard.Heard.{Heard as Read}
+use Rattle.j39_node.specs.declared.heard.Heard.TheVariants as read
 use Rattle.j39_node.specs.declared.hold.Hold.{Hold}
 use Rattle.j39_node.specs.declared.lane.Lane.{Lane}
 use Rattle.j39_node.specs.declared.lane.Open.{Open}
 use Rattle.j39_node.specs.declared.turn.Ready.{Ready}
 use Rattle.j39_node.specs.declared.turn.Turn.{Turn}
 use Rattle.j39_node.specs.declared.turn.Turn.TheVariants.{Reply, Single, Packet, Move}
+use Rattle.j39_address.specs.Claim.{claim_by}
 use Rattle.j39_frame.specs.Address.{IsAddress}
 use Rattle.j39_node.specs.declared.own.Own.{Own}
 use Rattle.j39_node.specs.declared.setup.Setup.{Setup}
@@ -27,7 +30,7 @@ use Rattle.j39_node.specs.declared.kinds.News.TheVariants.{AddressLost, AnotherA
 use Rattle.j39_node.specs.declared.kinds.Refused.{Refused}
 use Rattle.j39_node.specs.declared.kinds.Refused.TheVariants.{NoAddress, BadValue, Full}
 use Rattle.j39_node.specs.Hold.{standing_of}
-use Rattle.j39_node.specs.History.{older, reached, Brought, Who, Message, Draft, Call, Address, carried, message_of, AreFew, moment, address_after, holds, is_lost, claim_address, claim_from, owes_claim, patience, turns, can_send, accepted, told, is_full, got, kept, missed, Asked, requests, handed, due, acknowledged, acknowledgment, told_claims, lost_news, another_news, missed_news, broadcast_from, broadcasts, can_broadcast, frame_of, is_busy, open_broadcast, packets, pause, step, nothing, content, is_blank, has_packets, is_left, delayed, doubled_news, may_claim, latest, message_from}
+use Rattle.j39_node.specs.History.{older, reached, Brought, Who, Message, Draft, Call, Address, carried, message_of, AreFew, moment, address_after, holds, is_lost, claim_address, claim_from, owes_claim, patience, turns, can_send, accepted, told, is_full, got, kept, missed, Asked, asked_group, requests, handed, due, acknowledged, acknowledgment, told_claims, lost_news, another_news, missed_news, broadcast_from, broadcasts, can_broadcast, frame_of, is_busy, open_broadcast, packets, pause, step, nothing, content, is_blank, has_packets, is_left, delayed, doubled_news, may_claim, latest, message_from}
 use Rattle.j39_node.specs.History.Call.{At, Withdraw, TakeAskEnded, TakeEnded, TakeReceived, TakeRequest, TakeNews, TakeBroadcastEnded, ReleaseTransfer, TakeTransferEnded, ReleaseBroadcast, Renew}
 use Rattle.j39_node.specs.History.Act.{Ask, TakeFrame, Send, Acknowledge, Broadcast, Transfer}
 use Rattle.j39_node.specs.History.Address.{NotClaimed, Claimed, Lost}
@@ -258,6 +261,22 @@ IsAnswered w H call = Unit {0}
 abbrev pub AreAnswered : Who → List Call → Type 0
 AreAnswered w [] = Unit {0}
 AreAnswered w (call ∷ H) = AreAnswered w H × IsAnswered w H call
+
+-- the claim and the request for a group that a frame makes, by what was read of it
+abbrev pub claim_in : Read → Option Claim
+claim_in (read.Claim name address) = Some (claim_by (name, address))
+claim_in (read.Request group) = None
+claim_in read.Other = None
+
+abbrev pub request_in : Read → Option ℕ
+request_in (read.Claim name address) = None
+request_in (read.Request group) = Some group
+request_in read.Other = None
+
+-- f was read so
+pub record IsRead (x : Read) (f : FrameRecord) : Type 0 where
+  pub claim : claim_in x ≡ claim_of f
+  pub request : request_in x ≡ asked_group f
 
 -- how far the address is, as `status` answers it
 abbrev pub status_of : Who → Address → Status

@@ -19,13 +19,14 @@ ghost use Rattle.j39_address.specs.Claim.{claim_of};
 ghost use Rattle.j39_node.specs.History.{is_some as is_some_of};
 ghost use Rattle.j39_node.specs.Reception.{calls_claims, claimed_again, group_of, strays, tick_at, still, has_place, IsApart, heard_by, is_over, is_same, later, leaves, left, longest, no_reception, number_in, packet_in, replied, reply_from, since_by, without};
 ghost use Rattle.j39_node.specs.Asking.{in_session};
-ghost use Rattle.j39_node.specs.Is.{made_by, Receives, hears, incoming_of, kept_by, passed_to, said_by, stamped, ticks, with_called, with_reception, with_replies};
+ghost use Rattle.j39_node.specs.Is.{IsRead, claim_in, made_by, Receives, hears, incoming_of, kept_by, passed_to, said_by, stamped, ticks, with_called, with_reception, with_replies};
 ghost use Rattle.j39_node.specs.Times.{called_time};
 
-use crate::own::{ADDRESS_CLAIMED, TRANSPORT_CONTROL, is_request_for};
+use crate::heard::Heard;
+use crate::own::{ADDRESS_CLAIMED, TRANSPORT_CONTROL};
 use arrayvec::ArrayVec;
 use byteorder::{ByteOrder, LittleEndian};
-use j39_address::{Claims, Name, claim_of};
+use j39_address::{Claims, Name};
 use j39_frame::{Frame, Id, NULL_ADDRESS, Pgn, Stamp};
 use j39_transport::{LONGEST, Message, Receiver, Reply};
 
@@ -90,9 +91,10 @@ impl Said {
     }
 }
 
-/// What a frame that is heard means to the own address.
+/// What a frame that is heard says, and means to the own address.
 #[derive(Clone, Copy)]
 pub(crate) struct Bearing {
+    pub(crate) heard: Heard,
     /// It is a smaller NAME's claim of the address, which is lost by it.
     pub(crate) drives_away: bool,
     /// It is a claim by another of the own NAME, which tells nothing of who holds an address.
@@ -147,6 +149,7 @@ impl Incoming {
         frame: &Frame,
         now: Stamp,
     ) -> Option<u8>
+        requires { IsRead bearing.heard frame.now }
         ensures restarted { result ≡ claimed_again (holder_in holders.old) ((incoming_of self.old).called - (stamp_micros now - (incoming_of self.old).moment))
             (claim_of frame.now) }
         ensures knows { (F : List FrameRecord) → Knows holders.old F
@@ -155,8 +158,8 @@ impl Incoming {
             ≡ hears bearing.drives_away bearing.is_held (stamp_micros now) frame.now (holder_in holders.old) (holder_in holders.new) (incoming_of self.old) }
     {
         self.pass(now);
-        let gone = self.claimed_again(holders, frame);
-        let calls = calls_claims(holders, frame);
+        let gone = self.claimed_again(holders, bearing.heard);
+        let calls = calls_claims(holders, bearing.heard);
         self.note(holders, frame, gone, bearing.is_double);
         if bearing.drives_away {
             self.lose();
@@ -168,10 +171,10 @@ impl Incoming {
     }
 
     /// The address that its holder claims again, where nothing called for that.
-    fn claimed_again(&self, holders: &Claims, frame: &Frame) -> Option<u8>
-        ensures { result ≡ claimed_again (holder_in holders.now) (incoming_of self.now).called (claim_of frame.now) }
+    fn claimed_again(&self, holders: &Claims, heard: Heard) -> Option<u8>
+        ensures { result ≡ claimed_again (holder_in holders.now) (incoming_of self.now).called (claim_in heard) }
     {
-        let (name, address) = claim_of(frame)?;
+        let (name, address) = heard.claim()?;
         if holds(holders, address, name) && self.called == 0 {
             Some(address)
         } else {
@@ -583,12 +586,12 @@ pub(crate) fn still(gone: Option<u8>, holders: &Claims, address: u8) -> Option<N
 }
 
 /// Whether a frame calls for claims.
-fn calls_claims(holders: &Claims, frame: &Frame) -> bool
-    ensures { result ≡ calls_claims (holder_in holders.now) frame.now (claim_of frame.now) }
+fn calls_claims(holders: &Claims, heard: Heard) -> bool
+    ensures { (f : FrameRecord) → IsRead heard f → result ≡ calls_claims (holder_in holders.now) f (claim_of f) }
 {
-    match claim_of(frame) {
+    match heard.claim() {
         Some((name, address)) => !holds(holders, address, name),
-        None => is_request_for(frame, ADDRESS_CLAIMED),
+        None => heard.asks_for(ADDRESS_CLAIMED),
     }
 }
 

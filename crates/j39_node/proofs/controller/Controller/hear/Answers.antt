@@ -17,6 +17,7 @@ pub returns : goal.returns
 returns c = λ w H h.
     let f = c.args.frame.now in
     let t = stamp_micros c.args.now in
+    let claim_is = c.of-heard.ensures.claim in
     let p = passed_is w H t c.args.self.now.hold c.passed-self.result (ap (λ (v : View). v.hold) h.shown) c.passed-self.ensures in
     let e8 = (c.heard-self-2.ensures ∙ ap (λ (n : ℕ). heard c.is_driven_away.result c.calls_for_claim-calls.result c.is_another-another.result n c.passed-self.result) c.delay.ensures) in
     let s = sound w H h.answered in
@@ -25,22 +26,22 @@ returns c = λ w H h.
     let lost_before : c.is_lost-is_lost.result ≡ is_lost (address_after w H) =
     c.is_lost-is_lost.ensures ∙ (ap lost (ap (λ (k : Hold). k.standing) p) ∙ (lost_is (older (step H t) (address_after w H)) ∙ lost_older (step H t) (address_after w H))) in
     let asks_for : (option_map request_by c.fresh-request.result) ≡ fresh w (drop (length (handed H)) (requests w H)) (asked w (holds w H t) f) =
-    (c.fresh-request.ensures ∙ ap (fresh (who_of w.brought c.args.self.now.own) (map request_by c.args.self.now.desk.waiting.items)) c.asked-request.ensures)
+    (c.fresh-request.ensures ∙ ap (fresh (who_of w.brought c.args.self.now.own) (map request_by c.args.self.now.desk.waiting.items)) (c.asked-request.ensures c.of-heard.ensures))
     ∙ (ap (λ (u : View). fresh u.who (map request_by c.args.self.now.desk.waiting.items) (asked u.who c.is_held-is_held.result f)) h.shown
     ∙ λ i. fresh w ((h.shown i).requests) (asked w (holds_is w H t c.passed-self.result c.is_held-is_held.result p c.is_held-is_held.ensures i) f)) in
     let room : nat_lt (length c.args.self.now.desk.waiting.items) 16 ≡ nat_lt (length (requests w H) - length (handed H)) 16 =
     ap (λ (n : ℕ). nat_lt n 16) (length_rest request_by c.args.self.now.desk.waiting.items (length (handed H)) (requests w H) (ap (λ (v : View). v.requests) h.shown)) in
     let place : nat_lt (length c.args.self.now.desk.due.items) 16 ≡ nat_lt (length (due w H) - length (acknowledged H)) 16 =
     ap (λ (n : ℕ). nat_lt n 16) (length_rest (refusal_by w) c.args.self.now.desk.due.items (length (acknowledged H)) (due w H) (ap (λ (v : View). v.acknowledgments) h.shown)) in
-    let goes : c.is_driven_away.result ≡ is_smaller w (claim_of f) = c.is_driven_away.ensures ∙ ap (λ (u : View). is_smaller u.who (claim_of f)) h.shown in
+    let goes : c.is_driven_away.result ≡ is_smaller w (claim_of f) = c.is_driven_away.ensures ∙ (λ i. is_smaller (h.shown i).who (claim_is i)) in
     let asks : c.calls_for_claim-calls.result ≡ calls_for_claim w (is_lost (address_after w H)) f =
-    c.calls_for_claim-calls.ensures ∙ (ap (λ (u : View). calls_for_claim u.who c.is_lost-is_lost.result f) h.shown ∙ ap (λ (b : Bool). calls_for_claim w b f) lost_before) in
+    c.calls_for_claim-calls.ensures c.of-heard.ensures ∙ (ap (λ (u : View). calls_for_claim u.who c.is_lost-is_lost.result f) h.shown ∙ ap (λ (b : Bool). calls_for_claim w b f) lost_before) in
     let others : c.is_another-another.result ≡ is_another w (holds w H t) f =
     c.is_another-another.ensures ∙ (ap (λ (u : View). is_another u.who c.is_held-is_held.result f) h.shown ∙ ap (λ (b : Bool). is_another w b f) (holds_is w H t c.passed-self.result c.is_held-is_held.result p c.is_held-is_held.ensures)) in
     let knows : Knows c.hear-gone.new.holders (told_claims w (At t (Hear f) ∷ H)) =
     subst (λ (u : View). Knows c.hear-gone.new.holders (if is_double u.who (claim_of f) then told_claims w H else told_claims w H ++ f ∷ [])) h.shown
     (subst (λ (b : Bool). Knows c.hear-gone.new.holders (if b then told_claims w H else told_claims w H ++ f ∷ []))
-    (c.is_some.ensures ∙ ap is_some c.double-doubled.ensures) (c.hear-gone.ensures.knows (told_claims w H) h.holders)) in
+    (c.is_some.ensures ∙ ap is_some (c.double-doubled.ensures ∙ ap (double (who_of w.brought c.args.self.now.own)) claim_is)) (c.hear-gone.ensures.knows (told_claims w H) h.holders)) in
     let r : ℕ → Bool = λ a. is_replaced (holder w H a) (holder w (At t (Hear f) ∷ H) a) in
     let current : (port_of c.args.self.now.transfers).current ≡ open_transfer w H = ap (λ (v : View). v.port.current) h.shown in
     let hold_now : c.heard-self-2.result ≡ hold_after w (At t (Hear f) ∷ H) =
@@ -118,7 +119,7 @@ returns c = λ w H h.
             ∙ λ i. let u = news_heard c.args.self.now.news _ _ _ _ _ _ _ c.heard-self.ensures c.is_another-another.ensures c.misses-misses.ensures in record {
               lost = (u i).lost;
               another = (u i).another;
-              doubled = option_or (c.double-doubled.ensures i) (u i).doubled;
+              doubled = option_or ((c.double-doubled.ensures ∙ ap (double (who_of w.brought c.args.self.now.own)) claim_is) i) (u i).doubled;
               missed = (u i).missed;
             })) ∙ ((λ i. record {
               lost = (h.shown i).news.lost || (goes i && not (lost_before i));
