@@ -34,7 +34,7 @@ use Rattle.j39_node.specs.History.{older, reached, Brought, Who, Message, Draft,
 use Rattle.j39_node.specs.History.Call.{At, Withdraw, TakeAskEnded, TakeEnded, TakeReceived, TakeRequest, TakeNews, TakeBroadcastEnded, ReleaseTransfer, TakeTransferEnded, ReleaseBroadcast, Renew}
 use Rattle.j39_node.specs.History.Act.{Ask, TakeFrame, Send, Acknowledge, Broadcast, Transfer}
 use Rattle.j39_node.specs.History.Address.{NotClaimed, Claimed, Lost}
-use Rattle.j39_node.specs.Reception.{yields, Reception, senders, transfer_sender, called, calls_claims, claimed_again, still, time_heard, has_place, heard_at, heard_by, keeps, later, leaves, left, reception, reply_from, ticked, is_that}
+use Rattle.j39_node.specs.Reception.{yields, Reception, senders, transfer_sender, called, called_for, Calling, calls_whom, claimed_again, waned, still, time_heard, has_place, heard_at, heard_by, keeps, later, leaves, left, reception, reply_from, ticked, is_that}
 use Rattle.j39_node.specs.Asking.{Question, answer_to_ask, ended, first, lacks_answer, next_ask_ended, open_ask, question, says_to, silent_end, wait}
 use Rattle.j39_node.specs.declared.kinds.AskEnding.{AskEnding}
 use Rattle.j39_node.specs.declared.asking.Asking.{Asking}
@@ -378,7 +378,7 @@ pub record IncomingRecord : Type 0 where
   pub clock : ℕ
   pub own : ℕ
   pub has_box : Bool
-  pub called : ℕ
+  pub called : Calling
   pub reception : Reception
 
 abbrev pub incoming_of : Incoming → IncomingRecord
@@ -387,7 +387,7 @@ incoming_of x = record {
   clock = stamp_micros x.clock;
   own = x.receiver.state.own;
   has_box = x.receiver.has_box;
-  called = x.called;
+  called = record { left = x.called; whose = x.whom };
   reception = record {
     session = x.receiver.state.session;
     since = stamp_micros x.since;
@@ -403,18 +403,18 @@ abbrev pub with_replies : List Message → IncomingRecord → IncomingRecord
 with_replies replies x = record x { reception = record x.reception { replies = replies } }
 
 abbrev pub passed_to : ℕ → IncomingRecord → IncomingRecord
-passed_to now x = record x { moment = now; clock = later x.clock (now - x.moment); called = x.called - (now - x.moment) }
+passed_to now x = record x { moment = now; clock = later x.clock (now - x.moment); called = waned (now - x.moment) x.called }
 
-abbrev pub with_called : ℕ → IncomingRecord → IncomingRecord
-with_called n x = record x { called = n }
+abbrev pub with_called : Calling → IncomingRecord → IncomingRecord
+with_called k x = record x { called = k }
 
 -- who holds an address since before, by who did
 abbrev pub still_by : (ℕ → Option ℕ) → ℕ → FrameRecord → IncomingRecord → ℕ → Option ℕ
-still_by before now f x = still (claimed_again before (x.called - (now - x.moment)) (claim_of f)) before
+still_by before now f x = still (claimed_again before (waned (now - x.moment) x.called) (claim_of f)) before
 
 abbrev pub hears : Bool → Bool → ℕ → FrameRecord → (ℕ → Option ℕ) → (ℕ → Option ℕ) → IncomingRecord → IncomingRecord
 hears lost held now f before after x =
-    with_called (if calls_claims before f (claim_of f) then called_time else x.called - (now - x.moment))
+    with_called (called_for called_time (calls_whom before f (claim_of f)) (waned (now - x.moment) x.called))
     (with_reception (heard_by x.own lost held f (later x.clock (now - x.moment))
     (left (leaves (still_by before now f x) after x.reception.session) x.reception)) (passed_to now x))
 

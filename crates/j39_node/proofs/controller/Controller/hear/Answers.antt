@@ -6,7 +6,7 @@ use Rattle.j39_node.specs.Boxes.{in_box}
 use Rattle.j39_node.specs.Hearing.{broadcast_senders, found, made_whole, of, sender_in, with_sender}
 use Rattle.j39_node.proofs.AskLemmas.{ask_heard}
 use Rattle.j39_node.proofs.ReceptionLemmas.{again_is, table_is}
-use Rattle.j39_node.proofs.Common.{[], if◌then◌else◌, ◌&&◌, ◌++◌, ◌||◌, ◌∙◌, ◌∷◌, ap, asking_of, AskRecord, Bool, claim_of, fresh, heard, hearing_of, hears_if, hears_with, incoming_of, is_coming, is_lost, Knows, length, lost, made_by, map, name_raw, nat_lt, not, Option, option_map, option_or, port_of, refusal_by, request_by, in_session, stamp_micros, subst, Untold, View, who_of, with_refusal, ℕ, At, Hear, Hold, IfSome, IncomingRecord, MessageRecord, Running, Who, acknowledged, address_after, age, asked, called, calls_for_claim, claimed_again, clock_at, comes, counted, delayed, double, drop, due, ended, is_any, over_by, got, handed, has_place, heard_at, hold_after, holder, holder_in, holds, incoming_after, is_another, is_double, is_for_program, is_refusal_due, is_replaced, is_smaller, is_unheard_in, made_in, source_of, kept, later, made, made_of, min, missed, missed_news, nat_eq, news_after, offered, older, open_ask, open_transfer, owes_claim, patience, port_after, reached, received_by, reception, requests, restarts, resting_by, silence, stamped, standing_of, step, sym, time_heard, told_claims, unheard_by, unheard_news, wait, whole, with_request, ◌*◌, ◌+◌, ◌-◌, ◌≡◌, sender_by, sender_by_made, transfer_sender, FrameRecord}
+use Rattle.j39_node.proofs.Common.{[], if◌then◌else◌, ◌&&◌, ◌++◌, ◌||◌, ◌∙◌, ◌∷◌, ap, asking_of, AskRecord, Bool, claim_of, fresh, heard, hearing_of, hears_if, hears_with, incoming_of, is_coming, is_lost, Knows, length, lost, made_by, map, name_raw, nat_lt, not, Option, option_map, option_or, port_of, refusal_by, request_by, in_session, stamp_micros, subst, Untold, View, who_of, with_refusal, ℕ, At, Hear, Hold, IfSome, IncomingRecord, MessageRecord, Running, Who, acknowledged, address_after, age, asked, called, calls_for_claim, claimed_again, clock_at, comes, counted, delayed, double, drop, due, ended, is_any, over_by, got, handed, has_place, heard_at, hold_after, holder, holder_in, holds, incoming_after, is_another, is_double, is_for_program, is_refusal_due, is_replaced, is_smaller, is_unheard_in, made_in, source_of, kept, later, made, made_of, min, missed, missed_news, nat_eq, news_after, offered, older, open_ask, open_transfer, owes_claim, patience, port_after, reached, received_by, reception, requests, restarts, resting_by, silence, stamped, standing_of, step, sym, time_heard, told_claims, unheard_by, unheard_news, wait, whole, with_request, ◌*◌, ◌+◌, ◌-◌, ◌≡◌, sender_by, sender_by_made, transfer_sender, FrameRecord, waned}
 use Rattle.j39_node.specs.Is.{hearing_it}
 use Rattle.std.specs.Option.{is_some}
 use Rattle.j39_node.proofs.PortLemmas.{peers_are, clock_is, is_port, ported, replaced_is}
@@ -57,8 +57,8 @@ returns c = λ w H h.
     let hears_in : incoming_of c.hear-gone.new.self ≡ incoming_after w (At t (Hear f) ∷ H) =
     incoming_heard w H c.args.self.now t f c.hear-gone.new.holders c.hear-gone.new.self c.is_driven_away.result c.is_held-is_held.result h knows goes (holds_is w H t c.passed-self.result c.is_held-is_held.result p c.is_held-is_held.ensures) c.hear-gone.ensures.heard in
     let gone_is : c.hear-gone.result ≡ restarts w H t f =
-    c.hear-gone.ensures.restarted ∙ (ap (λ (v : View). claimed_again (holder_in c.args.self.now.holders) (v.incoming.called - (t - v.incoming.moment)) (claim_of f)) h.shown
-    ∙ again_is w c.args.self.now.holders H (called w H - (t - heard_at H)) (claim_of f) h.holders) in
+    c.hear-gone.ensures.restarted ∙ (ap (λ (v : View). claimed_again (holder_in c.args.self.now.holders) (waned (t - v.incoming.moment) v.incoming.called) (claim_of f)) h.shown
+    ∙ again_is w c.args.self.now.holders H (waned (t - heard_at H) (called w H)) (claim_of f) h.holders) in
     let on = heard_on w H t f c.hear-gone.new.holders c.hear-gone.result (stamp_micros c.hear-gone.new.self.clock) c.leave-breaks.result c.hear-broadcast.result.is_missed c.hear-broadcast.result.made
     (hearing_of c.args.self.now.hearing) (hearing_of c.leave-breaks.new.self) (hearing_of c.hear-broadcast.new.self) (ap (λ (v : View). v.hearing) h.shown) knows (ap (λ (x : IncomingRecord). x.clock) hears_in) gone_is
     c.leave-breaks.ensures.broken c.leave-breaks.ensures.left
