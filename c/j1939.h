@@ -658,8 +658,8 @@ enum j1939_received_kind {
  * @return 0 to 3, J1939_NO_PART */
 int32_t j1939_controller_take_received(j1939_controller *controller, j1939_message *message, uint8_t *priority);
 
-/** How many messages were missed, since 16 lay unread, or another broadcast in packets lay there or was heard, or it broke
- * off: *count.
+/** How many messages were missed, since 16 lay unread, or no box was free for a broadcast in packets, or it broke off:
+ * *count.
  * @return 0, J1939_NO_PART */
 int32_t j1939_controller_missed(const j1939_controller *controller, uint64_t *count);
 
@@ -671,8 +671,8 @@ typedef struct {
 } j1939_request;
 
 /** Takes a request for a group that the program serves, each once: 1 where there is one, else 0. One that is repeated
- * while it waits is no other. Answer it by the
- * group, to all where all were asked, else to who asked; or by j1939_controller_acknowledge.
+ * while it waits is no other. Answer it by the group, to all where all were asked, else to who asked; or by
+ * j1939_controller_acknowledge.
  * @return 0, 1, J1939_NO_PART */
 int32_t j1939_controller_take_request(j1939_controller *controller, j1939_request *request);
 

@@ -1,5 +1,5 @@
 -- What is heard of a source is the same with and without another source's frames.
-use Rattle.j39_node.proofs.Common.{[], if◌then◌else◌, ◌&&◌, ◌++◌, ◌+◌, ◌-◌, ◌||◌, ◌∙◌, ◌∷◌, ◌≡◌, ◌≢◌, inl, inr, announces, ap, append-nil, arith, At, Bool, Call, called, calls_claims, claim_of, claimed_again, false, found, found_in, FrameRecord, has_room, Hear, heard_at, hearing, hears_it, holder, is_claim, is_message, later, List, listed, listening, made_whole, MessageRecord, nat_eq, None, not, of, OpenBroadcast, opens, Option, packed, packs, refl, ReleaseBroadcast, restarts, Some, source_of, staying, subst, sym, TakeFrame, Tick, time_heard, true, Who, whole_broadcasts, whole_of, ℕ}
+use Rattle.j39_node.proofs.Common.{[], if◌then◌else◌, ◌++◌, ◌+◌, ◌-◌, ◌||◌, ◌∙◌, ◌∷◌, ◌≡◌, ◌≢◌, inl, inr, announces, ap, append-nil, arith, At, Bool, Call, called, claim_of, claimed_again, false, found, found_in, FrameRecord, has_room, Hear, heard_at, hearing, hears_it, holder, is_claim, is_message, later, List, listed, listening, made_whole, MessageRecord, nat_eq, None, not, of, OpenBroadcast, opens, Option, packed, packs, refl, ReleaseBroadcast, restarts, Some, source_of, staying, subst, sym, TakeFrame, Tick, time_heard, true, Who, whole_broadcasts, whole_of, ℕ, called_for, calls_whom, waned, taken_whom, whom, destination_of}
 use Rattle.j39_node.specs.Reception.{asks_claims, held_then}
 use Rattle.j39_node.specs.History.{of_other}
 use Rattle.j39_node.specs.Apart.{AreApartBy, FindsBox, both, first, is_quiet, none, second, sent_by, stranger}
@@ -42,7 +42,7 @@ module _ (w : Who) (a : ℕ) (H G : List Call) (s : Same w a H G) where
   same_found : (when : ℕ) (f : FrameRecord) → found w H when f a ≡ found w G when f a
   same_found when f =
       of_filter (λ y. not (is_over (restarts w H when f) (holder w (At when (Hear f) ∷ H)) (time_heard (At when (Hear f) ∷ H)) y)) a (listening w H).current (stands w H).apart
-      ∙ ((λ i. kept_by (λ y. not (is_over (claimed_again (s.holds i) (s.calls i - (when - s.at i)) (claim_of f)) (holds_now f when i) (later (s.time i) (when - s.at i)) y)) (s.hears i))
+      ∙ ((λ i. kept_by (λ y. not (is_over (claimed_again (s.holds i) (waned (when - s.at i) (s.calls i)) (claim_of f)) (holds_now f when i) (later (s.time i) (when - s.at i)) y)) (s.hears i))
       ∙ sym (of_filter (λ y. not (is_over (restarts w G when f) (holder w (At when (Hear f) ∷ G)) (time_heard (At when (Hear f) ∷ G)) y)) a (listening w G).current (stands w G).apart))
 
   ticked : (now : ℕ) → hearing w (At now Tick ∷ H) a ≡ hearing w (At now Tick ∷ G) a
@@ -106,7 +106,7 @@ same_heard w a H G when f s b d = elim (cases_eq (source_of f.id) a) [
     with c s h k = record {
       at = refl;
       time = λ i. later (s.time i) (when - s.at i);
-      calls = λ i. if calls_claims (s.holds i) f (claim_of f) then 1250000 else s.calls i - (when - s.at i);
+      calls = λ i. called_for 1250000 (calls_whom (s.holds i) f (claim_of f)) (waned (when - s.at i) (s.calls i));
       holds = holds_now w c H G s f when;
       hears = h;
       wholes = k;
@@ -118,8 +118,8 @@ same_ticked : (w : Who) (a : ℕ) (H G : List Call) (when : ℕ) (f : FrameRecor
 same_ticked w a H G when f s n e q = record {
   at = refl;
   time = λ i. later (s.time i) (when - s.at i);
-  calls = (λ i. if calls_claims (holder w H) f (e i) then 1250000 else called w H - (when - heard_at H))
-      ∙ ((λ i. if q i then 1250000 else called w H - (when - heard_at H)) ∙ λ i. s.calls i - (when - s.at i));
+  calls = (λ i. called_for 1250000 (calls_whom (holder w H) f (e i)) (waned (when - heard_at H) (called w H)))
+      ∙ ((λ i. called_for 1250000 (if q i then Some (whom (destination_of f.id)) else None) (waned (when - heard_at H) (called w H))) ∙ λ i. waned (when - s.at i) (s.calls i));
   holds = (λ i b. held_then b (of_other w (e i)) (holder w H b)) ∙ s.holds;
   hears = as_ticked w H when a f e n ∙ ticked w a H G s when;
   wholes = sent_more w a H when f n ∙ s.wholes;
@@ -131,10 +131,10 @@ quiet_same w a (At now (Hear f)) H e = absurd (cc)
 quiet_same w a (At now Tick) H e = absurd (cc)
 quiet_same w a (At now (TakeFrame (Some f))) H e =
     let c : is_claim f ≡ false = grind (arith, e) in
-    let q : (is_claim f || (is_message f && asks_claims f)) ≡ false = grind (arith, e) in record {
+    let q : taken_whom (is_claim f) (is_message f) f ≡ None = grind (arith, e) in record {
       at = refl;
       time = refl;
-      calls = ap (λ (b : Bool). if b then 1250000 + (now - heard_at H) else called w H) q;
+      calls = ap (λ (o : Option ℕ). called_for (1250000 + (now - heard_at H)) o (called w H)) q;
       holds = λ i b. if c i then held_then b (claim_of f) (holder w H b) else holder w H b;
       hears = λ i. of a (if c i then staying None (holder w (At now (TakeFrame (Some f)) ∷ H)) (time_heard H) (listening w H) else listening w H).current;
       wholes = refl;
@@ -153,7 +153,7 @@ same_both w a (At now (Hear f)) H G b d s = same_heard w a H G now f s b d
 same_both w a (At now Tick) H G b d s = record {
   at = refl;
   time = λ i. later (s.time i) (now - s.at i);
-  calls = λ i. s.calls i - (now - s.at i);
+  calls = λ i. waned (now - s.at i) (s.calls i);
   holds = s.holds;
   hears = ticked w a H G s now;
   wholes = s.wholes;
@@ -161,7 +161,7 @@ same_both w a (At now Tick) H G b d s = record {
 same_both w a (At now (TakeFrame (Some f))) H G b d s = record {
   at = s.at;
   time = s.time;
-  calls = λ i. if is_claim f || (is_message f && asks_claims f) then 1250000 + (now - s.at i) else s.calls i;
+  calls = λ i. called_for (1250000 + (now - s.at i)) (taken_whom (is_claim f) (is_message f) f) (s.calls i);
   holds = λ i c. if is_claim f then held_then c (claim_of f) (s.holds i c) else s.holds i c;
   hears = claims_same w a H G s now f;
   wholes = s.wholes;

@@ -1,5 +1,5 @@
 -- Which frame others exchange makes no difference to any answer, whatever comes later.
-use Rattle.j39_node.proofs.Common.{[], if◌then◌else◌, ◌&&◌, ◌*◌, ◌++◌, ◌+◌, ◌-◌, ◌||◌, ◌↔◌, ◌∙◌, ◌∷◌, ◌≡◌, ◌≢◌, accepted, Acknowledge, acknowledged, acknowledgment, Address, address_after, AddressLost, Again, age, announces, another_news, AnotherAtAddress, ap, AreAnswered, arith, Ask, ask_end, Asked, asked, AskEnding, asks_claims, At, begun, blank, Bool, Broadcast, broadcast_end, broadcast_from, broadcasts, by, Call, called, calls_claims, calls_for_claim, can_ask, can_broadcast, can_send, can_transfer, claim_address, claim_from, claim_of, claimed, claimed_again, clock, comes, control_of, delayed, destination_of, double, doubled_news, drop, due, end_at, end_of, ended, Ending, false, first, FrameRecord, fresh, got, handed, has_place, has_token, Hear, heard_at, heard_by, hears_if, held_then, holder, holds, holds_back, in_session, is_acknowledgment, is_another, is_apart, is_asking, is_claim, is_coming, is_engaged, is_for_program, is_held, is_left, is_lost, is_message, is_open, is_packet, is_refusal_due, is_replaced, is_reply, is_session, is_smaller, is_that, is_there, is_transfer, IsAnswered, IsAside, joined, kept, later, latest, leaves, left, length, List, Lost, lost_news, made, made_of, marks, max, may_go, Message, message_from, message_of, MessageRecord, MessagesMissed, missed_news, moment, NameDoubled, nat_eq, nat_le, nat_lt, news_of, None, not, of_other, Ok, older, open_ask, open_broadcast, open_transfer, OpenBroadcast, Option, option_map, option_or, owes_claim, packet_by, packets, packs, past, patience, pause, pgn_of, ps_of, Question, question, reached, Ready, Reception, reception, refl, ReleaseBroadcast, released_by, ReleaseTransfer, Renew, request_for, requests, rest, Resting, resting, rests_after, Running, Send, sends_if, silent_end, slice_get, slice_set, Some, source_of, stamped, step, still, subst, suc, sym, TakeAskEnded, TakeBroadcastEnded, TakeEnded, TakeFrame, taken_by, TakeNews, TakeReceived, TakeRequest, TakeTransferEnded, Tick, ticked, time_heard, told, Transfer, transfer_by, transfer_end, transfers, transport_control_group, true, turn_frame, turn_of, turns, unheard_news, wait, Who, whole_by, with_refusal, with_request, Withdraw, yields, ℕ, and-false, or-false, false_from_ne_true, found_in, hears_in, is_any, is_unheard_in, Listening, listening, made_in, over_by, staying, those_over}
+use Rattle.j39_node.proofs.Common.{[], if◌then◌else◌, ◌&&◌, ◌*◌, ◌++◌, ◌+◌, ◌-◌, ◌||◌, ◌↔◌, ◌∙◌, ◌∷◌, ◌≡◌, ◌≢◌, accepted, Acknowledge, acknowledged, acknowledgment, Address, address_after, AddressLost, Again, age, announces, another_news, AnotherAtAddress, ap, AreAnswered, arith, Ask, ask_end, Asked, asked, AskEnding, At, begun, blank, Bool, Broadcast, broadcast_end, broadcast_from, broadcasts, by, Call, called, calls_for_claim, can_ask, can_broadcast, can_send, can_transfer, claim_address, claim_from, claim_of, claimed, claimed_again, clock, comes, control_of, delayed, destination_of, double, doubled_news, drop, due, end_at, end_of, ended, Ending, false, first, FrameRecord, fresh, got, handed, has_place, has_token, Hear, heard_at, heard_by, hears_if, held_then, holder, holds, holds_back, in_session, is_acknowledgment, is_another, is_apart, is_asking, is_claim, is_coming, is_engaged, is_for_program, is_held, is_left, is_lost, is_message, is_open, is_packet, is_refusal_due, is_replaced, is_reply, is_session, is_smaller, is_that, is_there, is_transfer, IsAnswered, IsAside, joined, kept, later, latest, leaves, left, length, List, Lost, lost_news, made, made_of, marks, max, may_go, Message, message_from, message_of, MessageRecord, MessagesMissed, missed_news, moment, NameDoubled, nat_eq, nat_le, nat_lt, news_of, None, not, of_other, Ok, older, open_ask, open_broadcast, open_transfer, OpenBroadcast, Option, option_map, option_or, owes_claim, packet_by, packets, packs, past, patience, pause, pgn_of, ps_of, Question, question, reached, Ready, Reception, reception, refl, ReleaseBroadcast, released_by, ReleaseTransfer, Renew, request_for, requests, rest, Resting, resting, rests_after, Running, Send, sends_if, silent_end, slice_get, slice_set, Some, source_of, stamped, step, still, subst, suc, sym, TakeAskEnded, TakeBroadcastEnded, TakeEnded, TakeFrame, taken_by, TakeNews, TakeReceived, TakeRequest, TakeTransferEnded, Tick, ticked, time_heard, told, Transfer, transfer_by, transfer_end, transfers, transport_control_group, true, turn_frame, turn_of, turns, unheard_news, wait, Who, whole_by, with_refusal, with_request, Withdraw, yields, ℕ, and-false, or-false, false_from_ne_true, found_in, hears_in, is_any, is_unheard_in, Listening, listening, made_in, over_by, staying, those_over, Calling, called_for, calls_whom, waned, taken_whom}
 use Rattle.j39_transport.specs.Frames as frames
 use Rattle.j39_transport.proofs.FrameFacts.{announcement_facts}
 use Rattle.j39_node.proofs.AnswerCases.{answer_by}
@@ -44,7 +44,7 @@ record State : Type 0 where
   pub heard_at : ℕ
   pub time : ℕ
   pub holder : ℕ → Option ℕ
-  pub called : ℕ
+  pub called : Calling
   pub reception : Reception
   pub hearing : Listening
   pub ask : Option Question
@@ -139,7 +139,7 @@ hears_with w when f a held time holds ends found r s = record (passes when s) {
   unheard = (is_any ends || is_unheard_in w.boxes w f found) || s.unheard;
   heard_at = when;
   time = time;
-  called = if calls_claims s.holder f (claim_of f) then 1250000 else s.called - (when - s.heard_at);
+  called = called_for 1250000 (calls_whom s.holder f (claim_of f)) (waned (when - s.heard_at) s.called);
   holder = holds;
   reception = heard_by w.address (is_smaller w (claim_of f)) held f time r;
   hearing = hears_in w.boxes w (holds (source_of f.id)) time f found;
@@ -154,7 +154,7 @@ hears_with w when f a held time holds ends found r s = record (passes when s) {
 abbrev heard : Who → ℕ → FrameRecord → State → State
 heard w when f s =
     let holds : ℕ → Option ℕ = λ b. held_then b (of_other w (claim_of f)) (s.holder b) in
-    let gone : Option ℕ = claimed_again s.holder (s.called - (when - s.heard_at)) (claim_of f) in
+    let gone : Option ℕ = claimed_again s.holder (waned (when - s.heard_at) s.called) (claim_of f) in
     hears_with w when f (if is_smaller w (claim_of f) then Lost else older (when - s.moment) s.address) (is_held (older (when - s.moment) s.address))
     (later s.time (when - s.heard_at)) holds (those_over gone holds (later s.time (when - s.heard_at)) s.hearing.current)
     (staying gone holds (later s.time (when - s.heard_at)) s.hearing) (left (leaves (still gone s.holder) holds s.reception.session) s.reception) s
@@ -170,7 +170,7 @@ takes_with now f holds s = record (passes now s) {
   pause = if is_packet f then 150000 else s.pause - (now - s.moment);
   acknowledged = if is_claim f || not (is_acknowledgment f) then s.acknowledged else s.acknowledged ++ message_of f ∷ [];
   wait = if is_message f && has_token s.ask (s.reached) then 1250000 else s.wait - (now - s.moment);
-  called = if is_claim f || (is_message f && asks_claims f) then 1250000 + (now - s.heard_at) else s.called;
+  called = called_for (1250000 + (now - s.heard_at)) (taken_whom (is_claim f) (is_message f) f) s.called;
   holder = holds;
   reception = taken_by (is_claim f) (is_reply s.reception.replies f) (leaves s.holder holds s.reception.session) s.reception;
   unheard = (is_any (if is_claim f then those_over None holds s.time s.hearing.current else []) || false) || s.unheard;
@@ -183,7 +183,7 @@ next w (At when (Hear f)) s = heard w when f s
 next w (At now Again) s = record (passes now s) { address = Rattle.j39_node.specs.History.unclaimed (older (now - s.moment) s.address); owes = true; delay = w.delay * 600 }
 next w (At now Tick) s = record (passes now s) {
   heard_at = now;
-  called = s.called - (now - s.heard_at);
+  called = waned (now - s.heard_at) s.called;
   time = later s.time (now - s.heard_at);
   reception = ticked w.address now (later s.time (now - s.heard_at)) s.reception;
   unheard = (is_any (those_over None s.holder (later s.time (now - s.heard_at)) s.hearing.current) || false) || s.unheard;
@@ -339,7 +339,7 @@ silence_of (Some q) n left coming lost = silent_end (nat_lt q.token n) left comi
 abbrev aside : Who → ℕ → State → State
 aside w now s = record (passes now s) {
   heard_at = now;
-  called = s.called - (now - s.heard_at);
+  called = waned (now - s.heard_at) s.called;
   time = later s.time (now - s.heard_at);
   unheard = (is_any (those_over None s.holder (later s.time (now - s.heard_at)) s.hearing.current) || false) || s.unheard;
   hearing = staying None s.holder (later s.time (now - s.heard_at)) s.hearing;
@@ -419,14 +419,14 @@ module _ (w : Who) (f : FrameRecord) (a : IsAside w f) where
       owes : owes_claim w (At when (Hear f) ∷ H) ≡ owes_claim w H
       owes = grind arith
 
-      quiets : called w (At when (Hear f) ∷ H) ≡ called w H - (when - heard_at H)
+      quiets : called w (At when (Hear f) ∷ H) ≡ waned (when - heard_at H) (called w H)
       quiets = grind arith
 
       lives : address_after w (At when (Hear f) ∷ H) ≡ older (step H when) (address_after w H)
       lives = ap (λ (b : Bool). if b then Lost else older (step H when) (address_after w H)) mine
 
       unheard : unheard_news w (At when (Hear f) ∷ H) ≡ (is_any (over_by w H (At when Tick)) || false) || unheard_news w H
-      unheard = λ i. (is_any (those_over (claimed_again (holder w H) (called w H - (when - heard_at H)) (a.claims i)) (λ b. held_then b (of_other w (a.claims i)) (holder w H b)) (time_heard (At when Tick ∷ H)) (listening w H).current)
+      unheard = λ i. (is_any (those_over (claimed_again (holder w H) (waned (when - heard_at H) (called w H)) (a.claims i)) (λ b. held_then b (of_other w (a.claims i)) (holder w H b)) (time_heard (At when Tick ∷ H)) (listening w H).current)
           || unheard_by_kind w f w.boxes (found_in w H when f) false unannounced unpacked i) || unheard_news w H
 
       silent : (o : Option Question) (n left : ℕ) (coming lost : Bool) → end_at w o n left coming lost f (made w H when f) ≡ silence_of o n left coming lost

@@ -2,7 +2,7 @@
 use Rattle.std.proofs.lemmas.Grind.{common_steps}
 use Rattle.j39_node.proofs.KindLemmas.{Kind, kind, kind_by, kind_is, single}
 use Rattle.j39_node.proofs.SoundLemmas.FrameCase.{claims as claims_first, acknowledges, replies, sends, packs, transfers}
-use Rattle.j39_node.proofs.Common.{Address, AreAnswered, AskRecord, Asked, At, Bool, Call, Claims, Controller, Done, Draft, Due, Ending, FrameRecord, Hear, Hold, IfSome, Incoming, IncomingRecord, Is, IsAnswered, IsApart, IsOthers, Knows, List, Lost, Message, Move, None, Option, Outgoing, Ready, Renew, Renews, Reply, Said, Single, Some, TakeEnded, TakeFrame, Untold, View, Who, Withdraw, Withdrawn, [], accepted, acknowledged, address_after, after, age, all_transfers, ap, arith, asked_by, asking_of, asks_claims, asks_with, at_in, blank, called, calls, can_claim, can_send, claim_address, claim_due, claim_from, claim_goes, claim_of, claimed, claims, clock, clock_at, comes, counted, delayed, drop, drop-map, due, end_of, ended, ending_of, false, first, gives_way, got, has_packets, has_token, heard_at, heard_by, hearing_after, hearing_of, held_at, hold_acknowledged, hold_after, hold_asked, hold_claimed, hold_spoken, hold_went, holder, holder_in, holds, holds_back, if◌then◌else◌, in_session, incoming_after, incoming_of, inl, inr, is_apart, is_asking, is_blank, is_busy, is_claim, is_coming, is_engaged, is_for_program, is_full, is_held, is_left, is_lost, is_open, is_resting, is_served, is_smaller, is_there, is_turn, kept, known, lane_after, lane_of, latest, le-ltb, leaves, leb-true, led, left, left_at, length, length-drop, length-set, less, lost, lt-ltb, ltb-false, ltb-true, map, marks, max, may_claim, may_go, message_from, message_of, min, missed_news, moment, more, nat_eq, nat_le, nat_lt, news_after, next_acknowledgment, next_due, next_frame, next_packet, next_renewed, next_transfer, next_transfer_ended, next_turn, next_withdrawn, not, nothing, offered, older, open_ask, open_transfer, option_map, other, owes_claim, packet_by, packets, packets_in, passed, past, pause, paused, place_of, port_after, port_of, posted, reached, ready_in, reception, refl, refusal_by, resting_by, said_by, senders, sends_if, slice_get, slice_get_past, slice_get_within, slice_set, sooner, source_of, stamp_at, stamped, standing_of, stands, step, subst, suc, sym, taken_by, those_over, time_heard, told, told_claims, transfer_by, transfer_end, transfer_in, true, turn_frame, turn_of, turns, unclaimed, unclaims, unheard_news, view, wait, who_of, with_called, with_reception, with_refusal, with_replies, with_request, yields, ℕ, ◌&&◌, ◌++◌, ◌+◌, ◌-◌, ◌<◌, ◌||◌, ◌∙◌, ◌∷◌, ◌≡◌, ◌≤◌, map-append, length-map, drop-append-le, cond_some}
+use Rattle.j39_node.proofs.Common.{Address, AreAnswered, AskRecord, Asked, At, Bool, Call, Claims, Controller, Done, Draft, Due, Ending, FrameRecord, Hear, Hold, IfSome, Incoming, IncomingRecord, Is, IsAnswered, IsApart, IsOthers, Knows, List, Lost, Message, Move, None, Option, Outgoing, Ready, Renew, Renews, Reply, Said, Single, Some, TakeEnded, TakeFrame, Untold, View, Who, Withdraw, Withdrawn, [], accepted, acknowledged, address_after, after, age, all_transfers, ap, arith, asked_by, asking_of, at_in, blank, called, calls, can_claim, can_send, claim_address, claim_due, claim_from, claim_goes, claim_of, claimed, claims, clock, clock_at, comes, counted, delayed, drop, drop-map, due, end_of, ended, ending_of, false, first, gives_way, got, has_packets, has_token, heard_at, heard_by, hearing_after, hearing_of, held_at, hold_acknowledged, hold_after, hold_asked, hold_claimed, hold_spoken, hold_went, holder, holder_in, holds, holds_back, if◌then◌else◌, in_session, incoming_after, incoming_of, inl, inr, is_apart, is_asking, is_blank, is_busy, is_claim, is_coming, is_engaged, is_for_program, is_full, is_held, is_left, is_lost, is_open, is_resting, is_served, is_smaller, is_there, is_turn, kept, known, lane_after, lane_of, latest, le-ltb, leaves, leb-true, led, left, left_at, length, length-drop, length-set, less, lost, lt-ltb, ltb-false, ltb-true, map, marks, max, may_claim, may_go, message_from, message_of, min, missed_news, moment, more, nat_eq, nat_le, nat_lt, news_after, next_acknowledgment, next_due, next_frame, next_packet, next_renewed, next_transfer, next_transfer_ended, next_turn, next_withdrawn, not, nothing, offered, older, open_ask, open_transfer, option_map, other, owes_claim, packet_by, packets, packets_in, passed, past, pause, paused, place_of, port_after, port_of, posted, reached, ready_in, reception, refl, refusal_by, resting_by, said_by, senders, sends_if, slice_get, slice_get_past, slice_get_within, slice_set, sooner, source_of, stamp_at, stamped, standing_of, stands, step, subst, suc, sym, taken_by, those_over, time_heard, told, told_claims, transfer_by, transfer_end, transfer_in, true, turn_frame, turn_of, turns, unclaimed, unclaims, unheard_news, view, wait, who_of, with_called, with_reception, with_refusal, with_replies, with_request, yields, ℕ, ◌&&◌, ◌++◌, ◌+◌, ◌-◌, ◌<◌, ◌||◌, ◌∙◌, ◌∷◌, ◌≡◌, ◌≤◌, map-append, length-map, drop-append-le, cond_some, called_for, taken_whom, waned, asked_whom}
 use Rattle.j39_node.specs.Boxes.{in_box}
 use Rattle.j39_node.specs.Is.{leaving}
 use Rattle.j39_node.specs.Reception.{is_waiting}
@@ -85,7 +85,7 @@ framed w H now f k =
       incoming =
           let r = taken_by k.claim k.reply (leaves (holder w H) (holder w G) (reception w H).session) (reception w H) in
           record (incoming_after w H) {
-            called = if k.claim || (not (k.claim || (k.acknowledgment || k.session)) && asks_claims f) then 1250000 + (now - heard_at H) else called w H;
+            called = called_for (1250000 + (now - heard_at H)) (taken_whom k.claim (not (k.claim || (k.acknowledgment || k.session))) f) (called w H);
             reception = r;
           };
       port = record (port_after w H) { current = sends_if k.move (clock_at H now) (open_transfer w H) };
@@ -114,14 +114,14 @@ told_is : (w : Who) (H : List Call) (now : ℕ) (f : FrameRecord) → is_claim f
 told_is w H now f e = ap (λ (b : Bool). if b then told_claims w H ++ f ∷ [] else told_claims w H) e
 
 -- its own claim is taken
-incoming_claimed : (w : Who) (H : List Call) (old : Controller) (now : ℕ) (f : FrameRecord) (table : Claims) → Is w H old → kind w H f ≡ single true false
+incoming_claimed : (w : Who) (H : List Call) (old : Controller) (now : ℕ) (f : FrameRecord) (a : ℕ) (table : Claims) → Is w H old → a ≡ source_of f.id → kind w H f ≡ single true false
     → Knows table (told_claims w (At now (TakeFrame (Some f)) ∷ H))
-    → with_called (1250000 + (now - (incoming_of old.incoming).moment))
+    → with_called (called_for (1250000 + (now - (incoming_of old.incoming).moment)) (Some a) (incoming_of old.incoming).called)
     (with_reception (left (leaves (holder_in old.holders) (holder_in table) (incoming_of old.incoming).reception.session) (incoming_of old.incoming).reception) (incoming_of old.incoming))
     ≡ incoming_after w (At now (TakeFrame (Some f)) ∷ H)
-incoming_claimed w H old now f table h is knows =
-    (λ i. let x = (h.shown i).incoming in with_called (1250000 + (now - x.moment)) (with_reception (left (leaves (holder_in old.holders) (holder_in table) x.reception.session) x.reception) x))
-    ∙ (ap (λ (b : Bool). with_called (1250000 + (now - heard_at H)) (with_reception (left b (reception w H)) (incoming_after w H)))
+incoming_claimed w H old now f a table h at is knows =
+    (λ i. let x = (h.shown i).incoming in with_called (called_for (1250000 + (now - x.moment)) (Some (at i)) x.called) (with_reception (left (leaves (holder_in old.holders) (holder_in table) x.reception.session) x.reception) x))
+    ∙ (ap (λ (b : Bool). with_called (called_for (1250000 + (now - heard_at H)) (Some (source_of f.id)) (called w H)) (with_reception (left b (reception w H)) (incoming_after w H)))
     (leaves_is w old.holders table H (At now (TakeFrame (Some f)) ∷ H) (reception w H).session h.holders knows)
     ∙ sym (ap (λ (k : Kind). (framed w H now f k).incoming) is))
 
@@ -134,13 +134,13 @@ pub incoming_heard : (w : Who) (H : List Call) (old : Controller) (when : ℕ) (
 incoming_heard w H old when f table new gone held h knows away stays does =
     does (ap (λ (v : View). v.incoming.has_box) h.shown) (subst (λ (x : IncomingRecord). IsApart x.reception) (sym (ap (λ (v : View). v.incoming) h.shown)) (tidy w H).apart)
     ∙ (ap (hears gone held when f (holder_in old.holders) (holder_in table)) (ap (λ (v : View). v.incoming) h.shown)
-    ∙ ((λ i. with_called (if calls_is w old.holders H f (claim_of f) h.holders i then 1250000 else called w H - (when - heard_at H))
+    ∙ ((λ i. with_called (called_for 1250000 (calls_is w old.holders H f (claim_of f) h.holders i) (waned (when - heard_at H) (called w H)))
     (with_reception (heard_by w.address gone held f (time_heard (At when (Hear f) ∷ H)) (left (leaves_still w old.holders table H when f (reception w H).session h.holders knows i) (reception w H))) (incoming_now w H when f)))
     ∙ λ i. with_called (called w (At when (Hear f) ∷ H)) (with_reception (heard_by w.address (away i) (stays i) f (time_heard (At when (Hear f) ∷ H))
     (left (leaves (known w H when f) (holder w (At when (Hear f) ∷ H)) (reception w H).session) (reception w H))) (incoming_now w H when f))))
   where
     incoming_now : Who → List Call → ℕ → FrameRecord → IncomingRecord
-    incoming_now w H when f = record { moment = when; clock = time_heard (At when (Hear f) ∷ H); own = w.address; has_box = true; called = called w H - (when - heard_at H); reception = reception w H }
+    incoming_now w H when f = record { moment = when; clock = time_heard (At when (Hear f) ∷ H); own = w.address; has_box = true; called = waned (when - heard_at H) (called w H); reception = reception w H }
 
 pub transfer_next : (w : Who) (H : List Call) (c : Controller) (now time : ℕ) → Is w H c → time ≡ min (age H + step H now) 18446744073709551615
     → transfer_by (port_of c.transfers).current (clock time) ≡ next_transfer w H now
@@ -235,9 +235,9 @@ past_queued w G items t n s e =
 pub taken : (w : Who) (H : List Call) (old new : Controller) (now : ℕ) (r : Option FrameRecord) (x : Outgoing) (mid : Hold) → Is w H old
     → IsOthers w H now mid
     → turn_of mid.yields (ready_in old mid) ≡ Some Single → slice_get old.outgoing.items old.taken ≡ Some x → option_map stamped r ≡ Some (now, (posted x).1)
-    → new ≡ record old { hold = new.hold; taken = new.taken; asking = new.asking; incoming = new.incoming } → new.taken ≡ past (map is_blank (map posted old.outgoing.items)) (suc old.taken) → (request calls : Bool)
-    → incoming_of new.incoming ≡ with_called (if calls then 1250000 + (now - (incoming_of old.incoming).moment) else (incoming_of old.incoming).called) (incoming_of old.incoming)
-    → calls ≡ asks_with (posted x).1 60928
+    → new ≡ record old { hold = new.hold; taken = new.taken; asking = new.asking; incoming = new.incoming } → new.taken ≡ past (map is_blank (map posted old.outgoing.items)) (suc old.taken) → (request : Bool) (calls : Option ℕ)
+    → incoming_of new.incoming ≡ with_called (called_for (1250000 + (now - (incoming_of old.incoming).moment)) calls (incoming_of old.incoming).called) (incoming_of old.incoming)
+    → calls ≡ asked_whom (posted x).1
     → asking_of new.asking ≡ option_map (takes x.token) (asking_of old.asking)
     → request ≡ has_token (option_map (λ (y : AskRecord). y.question) (asking_of old.asking)) x.token → new.hold ≡ hold_asked request mid
     → Is w (At now (TakeFrame r) ∷ H) new
@@ -248,7 +248,7 @@ taken w H old new now (Some f) x mid h o turn g m e d request calls c1 c2 a1 a2 
     let i = sym (message_next w H old h (holding_not_lost w H now o.held)) ∙ ap (option_map posted) g in
     let k : stamped f ≡ (now, (posted x).1) = cc in
     let number = s.numbered (reached H) (posted x) i in
-    let asks : calls ≡ asks_claims f = c2 ∙ ap (λ (y : ℕ × Message). asks_with y.1 60928) (sym k) in
+    let asks : calls ≡ asked_whom (message_of f) = c2 ∙ ap (λ (y : ℕ × Message). asked_whom y.1) (sym k) in
     let is : request ≡ has_token (open_ask H) (reached H) =
     a2 ∙ ((λ i. has_token (option_map (λ (y : AskRecord). y.question) (h.shown i).asking) (number i)) ∙ ap (λ o. has_token o (reached H)) (token_of (open_ask H) (reached H) (ended w H))) in
     frames (sends (posted x) o.owes o.held (o.none, sym (turn_next w H old now mid h o.passed o.held) ∙ turn) i k) h (ap (λ c. c.holders) e) refl
@@ -258,7 +258,7 @@ taken w H old new now (Some f) x mid h o turn g m e d request calls c1 c2 a1 a2 
           let c = ap (past (marks H)) (let z : suc old.taken + length (told H) ≡ suc (reached H) = omega (arith, a, t) in z) in
           (let z : new.taken ≡ past (marks H) (suc (reached H)) - length (told H) = omega (arith, b, c, d) in z)) i;
       asking = (a1 ∙ (ap (λ (v : View). option_map (takes x.token) v.asking) h.shown ∙ ask_more w H x.token h.answered number)) i;
-      incoming = (c1 ∙ λ i. let y = (h.shown i).incoming in with_called (if asks i then 1250000 + (now - y.moment) else y.called) y) i;
+      incoming = (c1 ∙ λ i. let y = (h.shown i).incoming in with_called (called_for (1250000 + (now - y.moment)) (asks i) y.called) y) i;
     })
 
 pub taken_none : (w : Who) (H : List Call) (old new : Controller) (now : ℕ) → Is w H old
@@ -686,7 +686,7 @@ pub claims_more : (w : Who) (H : List Call) (old new : Controller) (now : ℕ) (
     → claim_goes w H now ≡ true → new.hold ≡ hold_claimed mid
     → Some (stamped f) ≡ Some (now, claim_from (who_of w.brought old.own) a) → a ≡ (if lost old.hold.standing then 254 else old.own.address)
     → ((F : List FrameRecord) → Knows old.holders F → Knows new.holders (F ++ f ∷ []))
-    → incoming_of new.incoming ≡ with_called (1250000 + (now - (incoming_of old.incoming).moment))
+    → incoming_of new.incoming ≡ with_called (called_for (1250000 + (now - (incoming_of old.incoming).moment)) (Some a) (incoming_of old.incoming).called)
     (with_reception (left (leaves (holder_in old.holders) (holder_in new.holders) (incoming_of old.incoming).reception.session)
     (incoming_of old.incoming).reception) (incoming_of old.incoming))
     → (broken : Bool) (t : ℕ) → t ≡ time_heard H → broken ≡ nat_lt 0 (length (those_over None (holder_in new.holders) t (hearing_of old.hearing).listening.current))
@@ -707,7 +707,7 @@ claims_more w H old new now f mid a h p owes e0 m at knows drops broken t t1 t2 
         news = (u ∙ is_broken w H broken _ old.news (ap (λ (v : View). v.news) h.shown) (claimed_says w H now f new.holders t (hearing_of old.hearing) broken n was knows_now t1 t2)) i;
         hearing = claimed_on w H now f new.holders t (hearing_of old.hearing) (hearing_of new.hearing) n was knows_now t1 t3 i;
         broadcast_senders = (ap (λ v. map (λ b. (in_box b).name) v.items) t4 ∙ ap (λ (v : View). v.broadcast_senders) h.shown) i;
-        incoming = (drops ∙ incoming_claimed w H old now f new.holders h kind_now knows_now) i;
+        incoming = (drops ∙ incoming_claimed w H old now f a new.holders h (sym (ap (λ (x : ℕ × Message). x.1.source) k)) kind_now knows_now) i;
       }) ∙ ap (λ (k : Kind). record (framed w H now f k) { incoming = incoming_after w (At now (TakeFrame (Some f)) ∷ H) }) (sym kind_now));
       answered = (h.answered, case_goes {w = w} {H = H} {now = now} {f = f} (claims_first owes j));
       holders = knows_now;

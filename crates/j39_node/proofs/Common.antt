@@ -67,7 +67,7 @@ pub use Rattle.j39_node.specs.Packets.{Bring, is_of_sender, IsPacket, Spares}
 pub use Rattle.j39_node.specs.Packets.Bring.{begins, brings, spares}
 pub use Rattle.j39_node.specs.Prompt.{claims_anew, counts_for, IsPaced, IsPrompt, IsSteady, NoneTold, packets_taken, since_take, StaysFirst, taken_for, takes_other, takes_reply, tells_broadcast, tells_transfer, waited_in}
 pub use Rattle.j39_node.specs.PromptExample.{idle}
-pub use Rattle.j39_node.specs.Reception.{senders, sender_of, transfer_sender, asks_claims, called, calls_claims, CameFromOne, claimed_again, delivered, frames_heard, goes_to, got_transfers, group_of, has_place, heard_at, heard_by, held_then, held_through, holder, is_message, is_move, is_over, is_reply, is_same, is_that, IsApart, keeps, KeepsHolder, known, known_by, later, leaves, left, limit_in, listed, longest, no_reception, number_in, packet_in, receiver_at, Reception, reception, released_by, replied, reply_from, restarts, says_by, session_tick, shown, since_by, step_at, still, strays, taken_by, takes, tick_at, ticked, ticked_at, time_heard, whole, whole_by, without, yields}
+pub use Rattle.j39_node.specs.Reception.{Calling, CameFromOne, IsApart, KeepsHolder, Reception, asked_whom, asks_claims, called, called_for, calls_whom, claimed_again, delivered, frames_heard, goes_to, got_transfers, group_of, has_place, heard_at, heard_by, held_then, held_through, holder, is_called, is_message, is_move, is_over, is_reply, is_same, is_that, keeps, known, known_by, later, leaves, left, limit_in, listed, longest, no_reception, number_in, packet_in, receiver_at, reception, released_by, replied, reply_from, restarts, says_by, sender_of, senders, session_tick, shown, since_by, step_at, still, strays, taken_by, taken_whom, takes, tick_at, ticked, ticked_at, time_heard, transfer_sender, waned, whole, whole_by, whom, without, yields}
 pub use Rattle.j39_node.specs.Since.{ClaimedSince, HasDouble, NeverBack, NoneUnclaims, PacketSince, passed_in, ToldSince}
 pub use Rattle.j39_node.specs.SteadyExample.{brought_start, busy, message_start, transfer_accepted}
 pub use Rattle.j39_node.specs.Ticks.{IsHeardOf, IsOpenOf, next_tick, StaysHeard, StaysOpen, TicksWithin, unticked_in}

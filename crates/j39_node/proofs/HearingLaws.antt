@@ -1,5 +1,5 @@
 -- The laws of broadcasts in packets that are heard.
-use Rattle.j39_node.proofs.Common.{[], if◌then◌else◌, ◌*◌, ◌++◌, ◌+◌, ◌-◌, ◌<◌, ◌||◌, ◌↔◌, ◌∙◌, ◌∷◌, ◌≡◌, ◌≢◌, ◌≤◌, ◌⊎◌, account, announced, announces, ap, append_assoc, AreApart, arith, At, Bool, broadcast_limit, by, Call, called, claim_of, claimed_again, Controller, drop, earliest, expires, false, found, found_in, FrameRecord, got_broadcasts, grown, has_room, has_some, Hear, heard_at, hearing, hearing_tick, hears_it, held_then, holder, IfSome, inl, inr, Is, is_ignored, is_late, is_own_group, is_same, is_subscribed, is_wanted, is_whole, IsHeardOf, IsTrue, known, late_at, leb-true, length, length-append, length-drop, length-take-le, List, listed, listening, ltb-false, made_whole, message_by, MessageRecord, min, more, NeverBack, None, not, not_both, of, of_other, OpenBroadcast, opens, Option, or_parts, over_by, packed, packets_for, packs, passed_in, pgn_named, refl, ReleaseBroadcast, restarts, since_in, slice_index, Some, sooner, source_of, stay, StaysHeard, still, subst, suc, sym, take, take-append-drop, TakeFrame, those_over, Tick, TicksWithin, time_heard, true, unheard, unheard_by, unheard_news, waiting, WasBroadcast, Who, whole_broadcasts, whole_of, with_all, ℕ}
+use Rattle.j39_node.proofs.Common.{[], if◌then◌else◌, ◌*◌, ◌++◌, ◌+◌, ◌-◌, ◌<◌, ◌||◌, ◌↔◌, ◌∙◌, ◌∷◌, ◌≡◌, ◌≢◌, ◌≤◌, ◌⊎◌, account, announced, announces, ap, append_assoc, AreApart, arith, At, Bool, broadcast_limit, by, Call, called, claim_of, claimed_again, Controller, drop, earliest, expires, false, found, found_in, FrameRecord, got_broadcasts, grown, has_room, has_some, Hear, heard_at, hearing, hearing_tick, hears_it, held_then, holder, IfSome, inl, inr, Is, is_ignored, is_late, is_own_group, is_same, is_subscribed, is_wanted, is_whole, IsHeardOf, IsTrue, known, late_at, leb-true, length, length-append, length-drop, length-take-le, List, listed, listening, ltb-false, made_whole, message_by, MessageRecord, min, more, NeverBack, None, not, not_both, of, of_other, OpenBroadcast, opens, Option, or_parts, over_by, packed, packets_for, packs, passed_in, pgn_named, refl, ReleaseBroadcast, restarts, since_in, slice_index, Some, sooner, source_of, stay, StaysHeard, still, subst, suc, sym, take, take-append-drop, TakeFrame, those_over, Tick, TicksWithin, time_heard, true, unheard, unheard_by, unheard_news, waiting, WasBroadcast, Who, whole_broadcasts, whole_of, with_all, ℕ, waned}
 use Rattle.std.specs.List.{All, filter}
 use Rattle.std.proofs.lemmas.Bool.{cases_Bool}
 use Rattle.std.proofs.lemmas.List.Elements.{All-head, All-tail}
@@ -189,7 +189,7 @@ pub as_ticked : (who : Who) (H : List Call) (when a : ℕ) (f : FrameRecord) →
     → hearing who (At when (Hear f) ∷ H) a ≡ hearing who (At when Tick ∷ H) a
 as_ticked who H when a f e n =
     others_leave who H when a f n
-    ∙ λ i. of a (stay (claimed_again (holder who H) (called who H - (when - heard_at H)) (e i))
+    ∙ λ i. of a (stay (claimed_again (holder who H) (waned (when - heard_at H) (called who H)) (e i))
     (λ b. held_then b (of_other who (e i)) (holder who H b)) (time_heard (At when Tick ∷ H)) (listening who H).current)
 
 pub begins_there : (who : Who) (H : List Call) (when : ℕ) (f : FrameRecord) → announces f ≡ true → is_own_group (pgn_named f) ≡ false → IsTrue (is_subscribed who (pgn_named f))

@@ -99,7 +99,7 @@ pub begins_anew : (w : Who) (H : List Call) (old new : Controller) (a : ℕ) →
     → new.outgoing ≡ old.outgoing → new.taken ≡ 0 → new.next_token ≡ 0 → new.asking ≡ old.asking → new.inbox.unread ≡ old.inbox.unread → new.inbox.missed ≡ 0
     → new.desk.waiting ≡ old.desk.waiting → new.desk.due.items ≡ [] → new.news ≡ old.news → new.holders ≡ old.holders
     → new.lane ≡ record { current = None; count = 0; next_token = 0 }
-    → incoming_of new.incoming ≡ record { moment = old.hold.moment; clock = later 0 old.hold.moment; own = a; has_box = true; called = 0; reception = no_reception }
+    → incoming_of new.incoming ≡ record { moment = old.hold.moment; clock = later 0 old.hold.moment; own = a; has_box = true; called = record { left = 0; whose = 0 }; reception = no_reception }
     → port_of new.transfers ≡ record { current = None; next_token = 0; resting = (port_of old.transfers).resting } → ((hearing_of old.hearing).listening.waits ≡ [] → hearing_of new.hearing ≡ record { listening = record { current = []; waits = [] }; boxes = (hearing_of old.hearing).boxes; missed = 0 }) → new.hearing.whole ≡ old.hearing.whole → new.transfer_sender ≡ None
     → HasMoved w H a new
 begins_anew w H old new a h e o1 o2 o5 o3 o4 o6 q1 q2 q3 q4 q5 q6 q7 q8 q9 q10 q11 q12 q15 q16 q18 q20 q19 =
@@ -126,8 +126,8 @@ begins_anew w H old new a h e o1 o2 o5 o3 o4 o6 q1 q2 q3 q4 q5 q6 q7 q8 q9 q10 q
         missed = q7 i;
         lane = lane_of (moved w H a) (q12 i);
         incoming = (q15
-            ∙ ((λ i. (let m = (h.shown i).hold.moment in let x : IncomingRecord = record { moment = m; clock = later 0 m; own = a; has_box = true; called = 0; reception = no_reception } in x))
-            ∙ (λ i. (let x : IncomingRecord = record { moment = moment H; clock = later 0 (none_less (moment H) i); own = a; has_box = true; called = zero_less (moment H - 0) i; reception = none_ticked a (moment H) (time_heard (begun H)) i } in x)))) i;
+            ∙ ((λ i. (let m = (h.shown i).hold.moment in let x : IncomingRecord = record { moment = m; clock = later 0 m; own = a; has_box = true; called = record { left = 0; whose = 0 }; reception = no_reception } in x))
+            ∙ (λ i. (let x : IncomingRecord = record { moment = moment H; clock = later 0 (none_less (moment H) i); own = a; has_box = true; called = record { left = zero_less (moment H - 0) i; whose = 0 }; reception = none_ticked a (moment H) (time_heard (begun H)) i } in x)))) i;
         port = (q16 ∙ ap (λ (v : View). (let q : PortRecord = record { current = None; next_token = 0; resting = v.port.resting } in q)) h.shown) i;
         hearing = (q18 (nothing (λ b. message_by (in_box b)) old.hearing.whole.items g4.0) ∙ ap (λ (v : View). (let x : HearingRecord = record { listening = record { current = []; waits = [] }; boxes = v.hearing.boxes; missed = 0 } in x)) h.shown) i;
         transfer_sender = ap (option_map name_raw) q19 i;

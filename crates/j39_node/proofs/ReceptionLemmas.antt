@@ -1,5 +1,5 @@
 -- What every history says of what is received in packets.
-use Rattle.j39_node.proofs.Common.{KeepsHolder, known_by, [], if◌then◌else◌, ◌&&◌, ◌++◌, ◌-◌, ◌<◌, ◌∙◌, ◌∷◌, ◌≡◌, ◌≤◌, ◌⊎◌, Abort, Acknowledgment, ap, append-nil, append_assoc, arith, asks_again, At, Bool, BroadcastAnnounce, Call, called, calls_claims, Claim, claim_of, claimed_again, Claims, claims_of, ClearToSend, cond_both, delivers_message, Directed, drop, false, FrameRecord, goes_on, goes_to, granted_at, grants, has_place, Hear, Heard, heard_at, heard_by, held_then, held_through, holder, holder_in, holds, inl, inr, is_claim, is_double, is_reply, is_smaller, is_taken, is_that, is_transfer, IsApart, IsHolderAfter, keeps, known, Knows, leaves, left, length, List, ltb-false, ltb-true, Message, message_of, MessageRecord, min, nat_eq, nat_lt, None, of_other, Option, Packet, partner_of, Reaction, receiver_at, ReceiverRecord, Reception, reception, ReceptionRecord, recv_step, RecvResult, refl, released_by, ReleaseTransfer, replied, RequestToSend, said_to, shown, Signal, since_by, slice_get, Some, source_of, step_at, still, subst, suc, sym, TakeFrame, taken_by, takes, takes_abort, takes_data, takes_packet, takes_request, takes_signal, takes_tick, Tick, ticked, ticked_at, time_heard, told_claims, ToSend, transport_control_group, true, Who, without, zero, ℕ}
+use Rattle.j39_node.proofs.Common.{KeepsHolder, known_by, [], if◌then◌else◌, ◌&&◌, ◌++◌, ◌-◌, ◌<◌, ◌∙◌, ◌∷◌, ◌≡◌, ◌≤◌, ◌⊎◌, Abort, Acknowledgment, ap, append-nil, append_assoc, arith, asks_again, At, Bool, BroadcastAnnounce, Call, called, Claim, claim_of, claimed_again, Claims, claims_of, ClearToSend, cond_both, delivers_message, Directed, drop, false, FrameRecord, goes_on, goes_to, granted_at, grants, has_place, Hear, Heard, heard_at, heard_by, held_then, held_through, holder, holder_in, holds, inl, inr, is_claim, is_double, is_reply, is_smaller, is_taken, is_that, is_transfer, IsApart, IsHolderAfter, keeps, known, Knows, leaves, left, length, List, ltb-false, ltb-true, Message, message_of, MessageRecord, min, nat_eq, nat_lt, None, of_other, Option, Packet, partner_of, Reaction, receiver_at, ReceiverRecord, Reception, reception, ReceptionRecord, recv_step, RecvResult, refl, released_by, ReleaseTransfer, replied, RequestToSend, said_to, shown, Signal, since_by, slice_get, Some, source_of, step_at, still, subst, suc, sym, TakeFrame, taken_by, takes, takes_abort, takes_data, takes_packet, takes_request, takes_signal, takes_tick, Tick, ticked, ticked_at, time_heard, told_claims, ToSend, transport_control_group, true, Who, without, zero, ℕ, Calling, waned, calls_whom}
 use Rattle.j39_transport.specs.Reception.{begun}
 use Rattle.j39_address.proofs.HolderLemmas.{held_after, holder_push, none_above, same_holder}
 use Rattle.j39_address.proofs.NotingLemmas.{claims_of-push}
@@ -289,16 +289,16 @@ pub unclaimed_known : (w : Who) (H : List Call) (when : ℕ) (f : FrameRecord) (
 unclaimed_known w H when f a e = grind (arith, e)
 
 -- by what the table has
-pub again_is : (w : Who) (table : Claims) (H : List Call) (left : ℕ) (c : Option Claim) → Knows table (told_claims w H) → claimed_again (holder_in table) left c ≡ claimed_again (holder w H) left c
+pub again_is : (w : Who) (table : Claims) (H : List Call) (left : Calling) (c : Option Claim) → Knows table (told_claims w H) → claimed_again (holder_in table) left c ≡ claimed_again (holder w H) left c
 again_is w table H left c knows = ap (λ (holds : ℕ → Option ℕ). claimed_again holds left c) (holders_are w H table knows)
 
-pub calls_is : (w : Who) (table : Claims) (H : List Call) (f : FrameRecord) (c : Option Claim) → Knows table (told_claims w H) → calls_claims (holder_in table) f c ≡ calls_claims (holder w H) f c
-calls_is w table H f c knows = ap (λ (holds : ℕ → Option ℕ). calls_claims holds f c) (holders_are w H table knows)
+pub calls_is : (w : Who) (table : Claims) (H : List Call) (f : FrameRecord) (c : Option Claim) → Knows table (told_claims w H) → calls_whom (holder_in table) f c ≡ calls_whom (holder w H) f c
+calls_is w table H f c knows = ap (λ (holds : ℕ → Option ℕ). calls_whom holds f c) (holders_are w H table knows)
 
 pub leaves_still : (w : Who) (old new : Claims) (H : List Call) (when : ℕ) (f : FrameRecord) (o : Option ReceptionRecord) → Knows old (told_claims w H) → Knows new (told_claims w (At when (Hear f) ∷ H))
-    → leaves (still (claimed_again (holder_in old) (called w H - (when - heard_at H)) (claim_of f)) (holder_in old)) (holder_in new) o ≡ leaves (known w H when f) (holder w (At when (Hear f) ∷ H)) o
+    → leaves (still (claimed_again (holder_in old) (waned (when - heard_at H) (called w H)) (claim_of f)) (holder_in old)) (holder_in new) o ≡ leaves (known w H when f) (holder w (At when (Hear f) ∷ H)) o
 leaves_still w old new H when f o k l =
-    λ i. leaves (still (claimed_again (holders_are w H old k i) (called w H - (when - heard_at H)) (claim_of f)) (holders_are w H old k i)) (holders_are w (At when (Hear f) ∷ H) new l i) o
+    λ i. leaves (still (claimed_again (holders_are w H old k i) (waned (when - heard_at H) (called w H)) (claim_of f)) (holders_are w H old k i)) (holders_are w (At when (Hear f) ∷ H) new l i) o
 
 pub leaves_is : (w : Who) (old new : Claims) (H G : List Call) (o : Option ReceptionRecord) → Knows old (told_claims w H) → Knows new (told_claims w G)
     → leaves (holder_in old) (holder_in new) o ≡ leaves (holder w H) (holder w G) o

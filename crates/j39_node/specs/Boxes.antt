@@ -3,7 +3,7 @@ use Rattle.std.specs.declared.boxed.Box.{Box}
 use Rattle.std.specs.Global.{Global}
 use Rattle.j39_node.specs.Common.{name_raw, option_map, pgn_raw, stamp_micros}
 use Rattle.j39_node.specs.Hearing.{OpenBroadcast}
-use Rattle.j39_node.specs.declared.hearing.Heard.{Heard as Bytes}
+use Rattle.j39_node.specs.declared.hearing.Assembly.{Assembly as Bytes}
 
 abbrev pub broadcast_by : Bytes → OpenBroadcast
 broadcast_by x = record {

@@ -1,13 +1,16 @@
 -- The histories that a controller can have had.
 use Rattle.std.specs.Prelude.{if◌then◌else◌, ◌&&◌, ◌++◌, ◌+◌, ◌-◌, ◌||◌, ◌∷◌, ◌≡◌, ◌≤◌}
-use Rattle.j39_node.specs.Common.{[], Bool, BoxedReceiver, called_time, Cannot, claim_of, claim_time, Claiming, drop, Err, false, FrameRecord, global_address, Heard, Holding, id_raw, Idle, Knows, last_count, length, List, map, max, MessageRecord, min, name_raw, nat_eq, nat_le, nat_lt, None, not, null_address, Ok, Option, option_map, packets_of, pgn_raw, places, recv_step, request_group, Result, slack, slice_get, slice_set, Some, stamp_micros, Status, ToSend, true, ℕ}
+use Rattle.j39_node.specs.Common.{[], Bool, BoxedReceiver, called_time, Cannot, Claim, claim_of, claim_time, Claiming, drop, Err, false, FrameRecord, global_address, Heard, Holding, id_raw, Idle, Knows, last_count, length, List, map, max, MessageRecord, min, name_raw, nat_eq, nat_le, nat_lt, None, not, null_address, Ok, Option, option_map, packets_of, pgn_raw, places, recv_step, request_group, Result, slack, slice_get, slice_set, Some, stamp_micros, Status, ToSend, true, ℕ}
 use Rattle.j39_node.specs.declared.controller.Controller.{Controller}
+use Rattle.j39_node.specs.declared.heard.Heard.{Heard as Read}
+use Rattle.j39_node.specs.declared.heard.Heard.TheVariants as read
 use Rattle.j39_node.specs.declared.hold.Hold.{Hold}
 use Rattle.j39_node.specs.declared.lane.Lane.{Lane}
 use Rattle.j39_node.specs.declared.lane.Open.{Open}
 use Rattle.j39_node.specs.declared.turn.Ready.{Ready}
 use Rattle.j39_node.specs.declared.turn.Turn.{Turn}
 use Rattle.j39_node.specs.declared.turn.Turn.TheVariants.{Reply, Single, Packet, Move}
+use Rattle.j39_address.specs.Claim.{claim_by}
 use Rattle.j39_frame.specs.Address.{IsAddress}
 use Rattle.j39_node.specs.declared.own.Own.{Own}
 use Rattle.j39_node.specs.declared.setup.Setup.{Setup}
@@ -27,11 +30,11 @@ use Rattle.j39_node.specs.declared.kinds.News.TheVariants.{AddressLost, AnotherA
 use Rattle.j39_node.specs.declared.kinds.Refused.{Refused}
 use Rattle.j39_node.specs.declared.kinds.Refused.TheVariants.{NoAddress, BadValue, Full}
 use Rattle.j39_node.specs.Hold.{standing_of}
-use Rattle.j39_node.specs.History.{older, reached, Brought, Who, Message, Draft, Call, Address, carried, message_of, AreFew, moment, address_after, holds, is_lost, claim_address, claim_from, owes_claim, patience, turns, can_send, accepted, told, is_full, got, kept, missed, Asked, requests, handed, due, acknowledged, acknowledgment, told_claims, lost_news, another_news, missed_news, broadcast_from, broadcasts, can_broadcast, frame_of, is_busy, open_broadcast, packets, pause, step, nothing, content, is_blank, has_packets, is_left, delayed, doubled_news, may_claim, latest, message_from}
+use Rattle.j39_node.specs.History.{older, reached, Brought, Who, Message, Draft, Call, Address, carried, message_of, AreFew, moment, address_after, holds, is_lost, claim_address, claim_from, owes_claim, patience, turns, can_send, accepted, told, is_full, got, kept, missed, Asked, asked_group, requests, handed, due, acknowledged, acknowledgment, told_claims, lost_news, another_news, missed_news, broadcast_from, broadcasts, can_broadcast, frame_of, is_busy, open_broadcast, packets, pause, step, nothing, content, is_blank, has_packets, is_left, delayed, doubled_news, may_claim, latest, message_from}
 use Rattle.j39_node.specs.History.Call.{At, Withdraw, TakeAskEnded, TakeEnded, TakeReceived, TakeRequest, TakeNews, TakeBroadcastEnded, ReleaseTransfer, TakeTransferEnded, ReleaseBroadcast, Renew}
 use Rattle.j39_node.specs.History.Act.{Ask, TakeFrame, Send, Acknowledge, Broadcast, Transfer}
 use Rattle.j39_node.specs.History.Address.{NotClaimed, Claimed, Lost}
-use Rattle.j39_node.specs.Reception.{yields, Reception, senders, transfer_sender, called, calls_claims, claimed_again, still, time_heard, has_place, heard_at, heard_by, keeps, later, leaves, left, reception, reply_from, ticked, is_that}
+use Rattle.j39_node.specs.Reception.{yields, Reception, senders, transfer_sender, called, called_for, Calling, calls_whom, claimed_again, waned, still, time_heard, has_place, heard_at, heard_by, keeps, later, leaves, left, reception, reply_from, ticked, is_that}
 use Rattle.j39_node.specs.Asking.{Question, answer_to_ask, ended, first, lacks_answer, next_ask_ended, open_ask, question, says_to, silent_end, wait}
 use Rattle.j39_node.specs.declared.kinds.AskEnding.{AskEnding}
 use Rattle.j39_node.specs.declared.asking.Asking.{Asking}
@@ -259,6 +262,22 @@ abbrev pub AreAnswered : Who → List Call → Type 0
 AreAnswered w [] = Unit {0}
 AreAnswered w (call ∷ H) = AreAnswered w H × IsAnswered w H call
 
+-- the claim and the request for a group that a frame makes, by what was read of it
+abbrev pub claim_in : Read → Option Claim
+claim_in (read.Claim name address) = Some (claim_by (name, address))
+claim_in (read.Request group) = None
+claim_in read.Other = None
+
+abbrev pub request_in : Read → Option ℕ
+request_in (read.Claim name address) = None
+request_in (read.Request group) = Some group
+request_in read.Other = None
+
+-- f was read so
+pub record IsRead (x : Read) (f : FrameRecord) : Type 0 where
+  pub claim : claim_in x ≡ claim_of f
+  pub request : request_in x ≡ asked_group f
+
 -- how far the address is, as `status` answers it
 abbrev pub status_of : Who → Address → Status
 status_of w NotClaimed = Idle
@@ -359,7 +378,7 @@ pub record IncomingRecord : Type 0 where
   pub clock : ℕ
   pub own : ℕ
   pub has_box : Bool
-  pub called : ℕ
+  pub called : Calling
   pub reception : Reception
 
 abbrev pub incoming_of : Incoming → IncomingRecord
@@ -368,7 +387,7 @@ incoming_of x = record {
   clock = stamp_micros x.clock;
   own = x.receiver.state.own;
   has_box = x.receiver.has_box;
-  called = x.called;
+  called = record { left = x.called; whose = x.whom };
   reception = record {
     session = x.receiver.state.session;
     since = stamp_micros x.since;
@@ -384,18 +403,18 @@ abbrev pub with_replies : List Message → IncomingRecord → IncomingRecord
 with_replies replies x = record x { reception = record x.reception { replies = replies } }
 
 abbrev pub passed_to : ℕ → IncomingRecord → IncomingRecord
-passed_to now x = record x { moment = now; clock = later x.clock (now - x.moment); called = x.called - (now - x.moment) }
+passed_to now x = record x { moment = now; clock = later x.clock (now - x.moment); called = waned (now - x.moment) x.called }
 
-abbrev pub with_called : ℕ → IncomingRecord → IncomingRecord
-with_called n x = record x { called = n }
+abbrev pub with_called : Calling → IncomingRecord → IncomingRecord
+with_called k x = record x { called = k }
 
 -- who holds an address since before, by who did
 abbrev pub still_by : (ℕ → Option ℕ) → ℕ → FrameRecord → IncomingRecord → ℕ → Option ℕ
-still_by before now f x = still (claimed_again before (x.called - (now - x.moment)) (claim_of f)) before
+still_by before now f x = still (claimed_again before (waned (now - x.moment) x.called) (claim_of f)) before
 
 abbrev pub hears : Bool → Bool → ℕ → FrameRecord → (ℕ → Option ℕ) → (ℕ → Option ℕ) → IncomingRecord → IncomingRecord
 hears lost held now f before after x =
-    with_called (if calls_claims before f (claim_of f) then called_time else x.called - (now - x.moment))
+    with_called (called_for called_time (calls_whom before f (claim_of f)) (waned (now - x.moment) x.called))
     (with_reception (heard_by x.own lost held f (later x.clock (now - x.moment))
     (left (leaves (still_by before now f x) after x.reception.session) x.reception)) (passed_to now x))
 

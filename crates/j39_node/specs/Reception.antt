@@ -1,6 +1,6 @@
 -- Messages that come in packets to the address that is held (J1939-21, 5.10.3): what a history says of them.
 use Rattle.std.specs.Prelude.{if◌then◌else◌, ◌&&◌, ◌*◌, ◌++◌, ◌+◌, ◌-◌, ◌==◌, ◌||◌, ◌∷◌, ◌≡◌, ◌⊎◌}
-use Rattle.j39_node.specs.Common.{[], Abort, address_claimed_group, answers, Bool, bytes_eq, called_time, Claim, claim_of, drop, false, FrameRecord, Heard, last_stamp, length, limit_of, List, MessageRecord, min, nat_eq, nat_lt, None, not, null_address, Option, option_map, Packet, partner_of, places, ReceiverRecord, ReceptionRecord, recv_step, RecvResult, result_of, said_to, Signal, slice_get, Some, source_of, suc, Ticks, timeout, timer_t2, ToSend, transport_control_group, true, WasHanded, ℕ}
+use Rattle.j39_node.specs.Common.{[], Abort, address_claimed_group, answers, Bool, bytes_eq, called_time, Claim, claim_of, drop, false, FrameRecord, global_address, Heard, last_stamp, length, limit_of, List, MessageRecord, min, nat_eq, nat_lt, None, not, null_address, Option, option_map, Packet, partner_of, places, ReceiverRecord, ReceptionRecord, recv_step, RecvResult, result_of, said_to, Signal, slice_get, Some, source_of, suc, Ticks, timeout, timer_t2, ToSend, transport_control_group, true, WasHanded, ℕ}
 use Rattle.j39_node.specs.History.{reached, Who, Message, Call, accepted, acknowledged, due, got, kept, is_for_program, holds, asks_with, is_claim, is_session, is_smaller, is_some, is_transfer, message_of, stamp_at, of_other, is_acknowledgment}
 use Rattle.j39_node.specs.History.Call.{At, ReleaseTransfer}
 use Rattle.j39_node.specs.History.Act.{Hear, Tick, TakeFrame}
@@ -68,28 +68,58 @@ is_message f = not (is_claim f || (is_acknowledgment f || is_session f))
 abbrev pub asks_claims : FrameRecord → Bool
 asks_claims f = asks_with (message_of f) address_claimed_group
 
--- it calls for claims, or is the claim of an address by who doesn't hold it, which calls for its holder's
-abbrev pub calls_claims : (ℕ → Option ℕ) → FrameRecord → Option Claim → Bool
-calls_claims holder f None = asks_claims f
-calls_claims holder f (Some c) = not (is_some (holder c.address) c.name)
+-- whose claim a message asks for: that of an address, or all (255)
+abbrev pub whom : Option ℕ → ℕ
+whom None = global_address
+whom (Some a) = a
 
--- what is left, from the last frame heard or tick on, of the 1,250 ms in which a claim was called for: by what was heard, or by its own
--- claim or request that was taken
-abbrev pub called : Who → List Call → ℕ
-called w [] = 0
-called w (At now (Hear f) ∷ H) = if calls_claims (holder w H) f (claim_of f) then called_time else called w H - (now - heard_at H)
-called w (At now Tick ∷ H) = called w H - (now - heard_at H)
+abbrev pub asked_whom : Message → Option ℕ
+asked_whom m = if asks_with m address_claimed_group then Some (whom m.destination) else None
+
+-- whose claim is called for by it: a claim of an address by who doesn't hold it calls for its holder's
+abbrev pub calls_whom : (ℕ → Option ℕ) → FrameRecord → Option Claim → Option ℕ
+calls_whom holder f None = asked_whom (message_of f)
+calls_whom holder f (Some c) = if is_some (holder c.address) c.name then None else Some c.address
+
+-- by a frame of its own that is taken
+abbrev pub taken_whom : Bool → Bool → FrameRecord → Option ℕ
+taken_whom true message f = Some (source_of f.id)
+taken_whom false true f = asked_whom (message_of f)
+taken_whom false false f = None
+
+-- what is left, from the last frame heard or tick on, of the 1,250 ms in which a claim was called for, and whose: of an address, or all
+pub record Calling : Type 0 where
+  pub left : ℕ
+  pub whose : ℕ
+
+abbrev pub waned : ℕ → Calling → Calling
+waned s k = record { left = k.left - s; whose = k.whose }
+
+-- where another's was called for in that time, all are (own)
+abbrev pub called_for : ℕ → Option ℕ → Calling → Calling
+called_for time None k = k
+called_for time (Some a) k = record { left = time; whose = if nat_eq k.left 0 || nat_eq k.whose a then a else global_address }
+
+-- by what was heard, or by its own claim or request that was taken
+abbrev pub called : Who → List Call → Calling
+called w [] = record { left = 0; whose = 0 }
+called w (At now (Hear f) ∷ H) =
+    called_for called_time (calls_whom (holder w H) f (claim_of f)) (waned (now - heard_at H) (called w H))
+called w (At now Tick ∷ H) = waned (now - heard_at H) (called w H)
 called w (At now (TakeFrame (Some f)) ∷ H) =
-    if is_claim f || (is_message f && asks_claims f) then called_time + (now - heard_at H) else called w H
+    called_for (called_time + (now - heard_at H)) (taken_whom (is_claim f) (is_message f) f) (called w H)
 called w (call ∷ H) = called w H
 
+abbrev pub is_called : ℕ → Calling → Bool
+is_called a k = not (nat_eq k.left 0) && (nat_eq k.whose a || nat_eq k.whose global_address)
+
 -- the address that its holder claims again, where nothing called for that
-abbrev pub claimed_again : (ℕ → Option ℕ) → ℕ → Option Claim → Option ℕ
-claimed_again holder left None = None
-claimed_again holder left (Some c) = if is_some (holder c.address) c.name && nat_eq left 0 then Some c.address else None
+abbrev pub claimed_again : (ℕ → Option ℕ) → Calling → Option Claim → Option ℕ
+claimed_again holder k None = None
+claimed_again holder k (Some c) = if is_some (holder c.address) c.name && not (is_called c.address k) then Some c.address else None
 
 abbrev pub restarts : Who → List Call → ℕ → FrameRecord → Option ℕ
-restarts w H now f = claimed_again (holder w H) (called w H - (now - heard_at H)) (claim_of f)
+restarts w H now f = claimed_again (holder w H) (waned (now - heard_at H) (called w H)) (claim_of f)
 
 -- who holds an address since before: nobody, if its holder restarted
 abbrev pub still : Option ℕ → (ℕ → Option ℕ) → ℕ → Option ℕ

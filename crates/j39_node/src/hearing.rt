@@ -56,7 +56,7 @@ impl Announcement {
 
 /// A broadcast of which packets came, or all.
 #[derive(Drop)]
-pub(crate) struct Heard {
+pub(crate) struct Assembly {
     /// First: so an empty one is written where it stays.
     pub(crate) bytes: ArrayVec<u8, LONGEST>,
     pub(crate) source: u8,
@@ -82,11 +82,11 @@ struct Opening {
     name: Option<Name>,
 }
 
-impl Heard {
+impl Assembly {
     /// A box in which nothing was begun yet.
     #[inline(always)]
-    fn unused() -> Heard {
-        Heard {
+    fn unused() -> Assembly {
+        Assembly {
             bytes: ArrayVec::new(),
             source: NULL_ADDRESS,
             group: Pgn::new(0).unwrap(),
@@ -194,10 +194,10 @@ pub(crate) struct Outcome {
 /// The broadcasts that are heard, or wait for the program, each in its box.
 #[derive(Drop)]
 pub(crate) struct Hearing {
-    pub(crate) current: Vec<Box<Heard>>,
+    pub(crate) current: Vec<Box<Assembly>>,
     /// Those that wait, the oldest first.
-    pub(crate) whole: Vec<Box<Heard>>,
-    pub(crate) free: Vec<Box<Heard>>,
+    pub(crate) whole: Vec<Box<Assembly>>,
+    pub(crate) free: Vec<Box<Assembly>>,
     /// How many that were announced weren't received.
     pub(crate) missed: u64,
     pub ghost wholes: { All (λ b. is_whole (in_box b) ≡ true) whole.items },
@@ -217,7 +217,7 @@ impl Hearing {
         let most = usize::from(boxes);
         let mut free = Vec::with_capacity(alloc, most)?;
         for _ in 0..most {
-            put(&mut free, Box::new(alloc, Heard::unused())?);
+            put(&mut free, Box::new(alloc, Assembly::unused())?);
         }
         Ok(Hearing {
             current: Vec::with_capacity(alloc, most)?,
@@ -377,7 +377,7 @@ impl Hearing {
     }
 
     /// Takes out the open one of a source.
-    fn take_out(&mut self, source: u8) -> Option<Box<Heard>>
+    fn take_out(&mut self, source: u8) -> Option<Box<Assembly>>
         ensures value { option_map in_box result ≡ of source (hearing_of self.old).listening.current }
         ensures rest { AreApart (hearing_of self.old).listening.current → map in_box self.new.current.items ≡ others source (hearing_of self.old).listening.current }
         ensures none { result ≡ None → self.new ≡ self.old }
@@ -492,7 +492,7 @@ impl Hearing {
     }
 
     /// Puts a box behind the whole ones that wait, or those that are open. Answers the source and the group of a whole one.
-    fn settle(&mut self, heard: Box<Heard>) -> Option<(u8, u32)>
+    fn settle(&mut self, heard: Box<Assembly>) -> Option<(u8, u32)>
         requires current { length self.old.current.items + length self.old.whole.items + length self.old.free.items < vec_capacity self.old.current }
         requires whole { length self.old.current.items + length self.old.whole.items + length self.old.free.items < vec_capacity self.old.whole }
         requires free { length self.old.current.items + length self.old.whole.items + length self.old.free.items < vec_capacity self.old.free }
@@ -528,7 +528,7 @@ fn source_in(frame: &Frame) -> u8
 }
 
 /// Puts a box behind the others; room was made for it.
-fn put(boxes: &mut Vec<Box<Heard>>, heard: Box<Heard>)
+fn put(boxes: &mut Vec<Box<Assembly>>, heard: Box<Assembly>)
     requires { length boxes.old.items < vec_capacity boxes.old }
     ensures items { boxes.new.items ≡ boxes.old.items ++ heard ∷ [] }
     ensures room { vec_capacity boxes.old ≤ vec_capacity boxes.new }

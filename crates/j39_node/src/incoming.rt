@@ -7,7 +7,7 @@ ghost use Rattle.j39_transport.specs.Receiving.{new_receiver, said_to};
 ghost use Rattle.j39_transport.specs.Signals.{Abort, written};
 ghost use Rattle.j39_frame.specs.Address.{IsAddress};
 ghost use Rattle.j39_frame.specs.Frame.{FrameRecord};
-ghost use Rattle.j39_frame.specs.Identifier.{id_raw};
+ghost use Rattle.j39_frame.specs.Identifier.{destination_of, id_raw};
 ghost use Rattle.j39_frame.specs.Pgn.{pgn_raw};
 ghost use Rattle.j39_frame.specs.Stamp.{stamp_micros};
 ghost use Rattle.j39_address.specs.Name.{name_raw};
@@ -17,16 +17,17 @@ ghost use Rattle.j39_transport.specs.ReceiverModel.{message_shown};
 ghost use Rattle.j39_node.specs.History.{carried};
 ghost use Rattle.j39_address.specs.Claim.{claim_of};
 ghost use Rattle.j39_node.specs.History.{is_some as is_some_of};
-ghost use Rattle.j39_node.specs.Reception.{calls_claims, claimed_again, group_of, strays, tick_at, still, has_place, IsApart, heard_by, is_over, is_same, later, leaves, left, longest, no_reception, number_in, packet_in, replied, reply_from, since_by, without};
+ghost use Rattle.j39_node.specs.Reception.{called_for, calls_whom, claimed_again, is_called, waned, whom, group_of, strays, tick_at, still, has_place, IsApart, heard_by, is_over, is_same, later, leaves, left, longest, no_reception, number_in, packet_in, replied, reply_from, since_by, without};
 ghost use Rattle.j39_node.specs.Asking.{in_session};
-ghost use Rattle.j39_node.specs.Is.{made_by, Receives, hears, incoming_of, kept_by, passed_to, said_by, stamped, ticks, with_called, with_reception, with_replies};
+ghost use Rattle.j39_node.specs.Is.{IsRead, claim_in, made_by, Receives, hears, incoming_of, kept_by, passed_to, said_by, stamped, ticks, with_called, with_reception, with_replies};
 ghost use Rattle.j39_node.specs.Times.{called_time};
 
-use crate::own::{ADDRESS_CLAIMED, TRANSPORT_CONTROL, is_request_for};
+use crate::heard::Heard;
+use crate::own::{ADDRESS_CLAIMED, TRANSPORT_CONTROL};
 use arrayvec::ArrayVec;
 use byteorder::{ByteOrder, LittleEndian};
-use j39_address::{Claims, Name, claim_of};
-use j39_frame::{Frame, Id, NULL_ADDRESS, Pgn, Stamp};
+use j39_address::{Claims, Name};
+use j39_frame::{Frame, GLOBAL_ADDRESS, Id, NULL_ADDRESS, Pgn, Stamp};
 use j39_transport::{LONGEST, Message, Receiver, Reply};
 
 /// The longest wait of the two ends, in microseconds (T2 of J1939-21, 5.10.2.4).
@@ -90,9 +91,10 @@ impl Said {
     }
 }
 
-/// What a frame that is heard means to the own address.
+/// What a frame that is heard says, and means to the own address.
 #[derive(Clone, Copy)]
 pub(crate) struct Bearing {
+    pub(crate) heard: Heard,
     /// It is a smaller NAME's claim of the address, which is lost by it.
     pub(crate) drives_away: bool,
     /// It is a claim by another of the own NAME, which tells nothing of who holds an address.
@@ -117,6 +119,8 @@ pub(crate) struct Incoming {
     pub(crate) place: Option<Kept>,
     /// What is to be said, one frame to an address.
     pub(crate) replies: ArrayVec<Said, 16>,
+    /// Whose claim was called for: that of an address, or all (255).
+    pub(crate) whom: u8,
 }
 
 impl Incoming {
@@ -124,7 +128,7 @@ impl Incoming {
     #[inline(always)]
     pub(crate) fn new(receiver: Receiver) -> Incoming
         ensures { (own : ℕ) → receiver ≡ record { state = new_receiver own; has_box = true } → incoming_of result ≡ record
-            { moment = 0; clock = 0; own = own; has_box = true; called = 0; reception = no_reception } }
+            { moment = 0; clock = 0; own = own; has_box = true; called = record { left = 0; whose = 0 }; reception = no_reception } }
     {
         let start = Stamp::new(0).unwrap();
         Incoming {
@@ -135,6 +139,7 @@ impl Incoming {
             clock: start,
             place: None,
             replies: ArrayVec::new(),
+            whom: 0,
         }
     }
 
@@ -147,7 +152,8 @@ impl Incoming {
         frame: &Frame,
         now: Stamp,
     ) -> Option<u8>
-        ensures restarted { result ≡ claimed_again (holder_in holders.old) ((incoming_of self.old).called - (stamp_micros now - (incoming_of self.old).moment))
+        requires { IsRead bearing.heard frame.now }
+        ensures restarted { result ≡ claimed_again (holder_in holders.old) (waned (stamp_micros now - (incoming_of self.old).moment) (incoming_of self.old).called)
             (claim_of frame.now) }
         ensures knows { (F : List FrameRecord) → Knows holders.old F
             → Knows holders.new (if bearing.is_double then F else F ++ frame.now ∷ []) }
@@ -155,8 +161,8 @@ impl Incoming {
             ≡ hears bearing.drives_away bearing.is_held (stamp_micros now) frame.now (holder_in holders.old) (holder_in holders.new) (incoming_of self.old) }
     {
         self.pass(now);
-        let gone = self.claimed_again(holders, frame);
-        let calls = calls_claims(holders, frame);
+        let gone = self.claimed_again(holders, bearing.heard);
+        let calls = calls_whom(holders, bearing.heard, frame);
         self.note(holders, frame, gone, bearing.is_double);
         if bearing.drives_away {
             self.lose();
@@ -168,23 +174,35 @@ impl Incoming {
     }
 
     /// The address that its holder claims again, where nothing called for that.
-    fn claimed_again(&self, holders: &Claims, frame: &Frame) -> Option<u8>
-        ensures { result ≡ claimed_again (holder_in holders.now) (incoming_of self.now).called (claim_of frame.now) }
+    fn claimed_again(&self, holders: &Claims, heard: Heard) -> Option<u8>
+        ensures { result ≡ claimed_again (holder_in holders.now) (incoming_of self.now).called (claim_in heard) }
     {
-        let (name, address) = claim_of(frame)?;
-        if holds(holders, address, name) && self.called == 0 {
+        let (name, address) = heard.claim()?;
+        if holds(holders, address, name) && !self.is_called(address) {
             Some(address)
         } else {
             None
         }
     }
 
-    /// Claims are called for at this moment, or not.
-    pub(crate) fn call(&mut self, calls: bool, now: Stamp)
-        ensures { incoming_of self.new ≡ with_called (if calls then called_time + (stamp_micros now - (incoming_of self.old).moment)
-            else (incoming_of self.old).called) (incoming_of self.old) }
+    /// Whether the claim of this address was called for.
+    fn is_called(&self, address: u8) -> bool
+        ensures { result ≡ is_called address (incoming_of self.now).called }
     {
-        if calls {
+        self.called != 0 && (self.whom == address || self.whom == GLOBAL_ADDRESS)
+    }
+
+    /// The claim of an address is called for at this moment, or that of all (255), or none.
+    pub(crate) fn call(&mut self, whom: Option<u8>, now: Stamp)
+        ensures { incoming_of self.new ≡ with_called (called_for (called_time + (stamp_micros now - (incoming_of self.old).moment))
+            whom (incoming_of self.old).called) (incoming_of self.old) }
+    {
+        if let Some(address) = whom {
+            self.whom = if self.called == 0 || self.whom == address {
+                address
+            } else {
+                GLOBAL_ADDRESS
+            };
             self.called = T2 + now.micros().saturating_sub(self.moment);
         }
     }
@@ -194,7 +212,7 @@ impl Incoming {
     pub(crate) fn move_to(&mut self, own: u8, moment: u64) -> bool
         ensures known { IsTrue result ↔ IsAddress own }
         ensures moved { result ≡ true → self.old.receiver.has_box ≡ true → incoming_of self.new ≡ record
-            { moment = moment; clock = later 0 moment; own = own; has_box = true; called = 0; reception = no_reception } }
+            { moment = moment; clock = later 0 moment; own = own; has_box = true; called = record { left = 0; whose = 0 }; reception = no_reception } }
         ensures stays { result ≡ false → self.new ≡ self.old }
     {
         if !self.receiver.move_to(own) {
@@ -204,6 +222,7 @@ impl Incoming {
         self.clock = later(Stamp::new(0).unwrap(), moment);
         self.since = Stamp::new(0).unwrap();
         self.called = 0;
+        self.whom = 0;
         self.place = None;
         self.replies.clear();
         true
@@ -582,13 +601,35 @@ pub(crate) fn still(gone: Option<u8>, holders: &Claims, address: u8) -> Option<N
     }
 }
 
-/// Whether a frame calls for claims.
-fn calls_claims(holders: &Claims, frame: &Frame) -> bool
-    ensures { result ≡ calls_claims (holder_in holders.now) frame.now (claim_of frame.now) }
+/// Whose claim a frame calls for.
+fn calls_whom(holders: &Claims, heard: Heard, frame: &Frame) -> Option<u8>
+    ensures { IsRead heard frame.now → result ≡ calls_whom (holder_in holders.now) frame.now (claim_of frame.now) }
 {
-    match claim_of(frame) {
-        Some((name, address)) => !holds(holders, address, name),
-        None => is_request_for(frame, ADDRESS_CLAIMED),
+    match heard.claim() {
+        Some((name, address)) => {
+            if holds(holders, address, name) {
+                None
+            } else {
+                Some(address)
+            }
+        }
+        None => {
+            if heard.asks_for(ADDRESS_CLAIMED) {
+                Some(whom(frame.id))
+            } else {
+                None
+            }
+        }
+    }
+}
+
+/// To whom a message of this identifier goes: an address, or all (255).
+pub(crate) fn whom(id: Id) -> u8
+    ensures { result ≡ whom (destination_of (id_raw id)) }
+{
+    match id.destination() {
+        Some(address) => address,
+        None => GLOBAL_ADDRESS,
     }
 }
 

@@ -5,6 +5,7 @@ pub mod ask_laws;
 mod asking;
 mod controller;
 pub mod ending_laws;
+mod heard;
 mod hearing;
 pub mod hearing_laws;
 mod hold;

@@ -5,10 +5,12 @@ ghost use Rattle.std.specs.Option.{option_map};
 ghost use Rattle.j39_frame.specs.Pgn.{pgn_raw};
 ghost use Rattle.j39_frame.specs.Stamp.{stamp_micros};
 ghost use Rattle.j39_node.specs.declared.kinds.Ending.TheVariants.{Done, Withdrawn};
-ghost use Rattle.j39_node.specs.History.{blank, is_blank, past, asks_with, can_send, is_sendable, message_from, is_directed, nothing, is_alike, is_one, latest};
+ghost use Rattle.j39_node.specs.Reception.{asked_whom};
+ghost use Rattle.j39_node.specs.History.{blank, is_blank, past, can_send, is_sendable, message_from, is_directed, nothing, is_alike, is_one, latest};
 ghost use Rattle.j39_node.specs.Is.{who_of, may_go, place_of, posted, stamped, Renews};
 
 use crate::Ending;
+use crate::incoming::whom;
 use crate::own::{ACKNOWLEDGMENT, ADDRESS_CLAIMED, Own, asks_for, claim_id, is_own_group};
 use arrayvec::ArrayVec;
 use j39_frame::{Frame, GLOBAL_ADDRESS, Id, NULL_ADDRESS, Pgn, Stamp};
@@ -114,11 +116,15 @@ impl Outgoing {
         Frame::new(now, self.id, self.bytes.as_slice())
     }
 
-    /// Whether it asks for claims.
-    pub(crate) fn asks_claims(&self) -> bool
-        ensures { result ≡ asks_with (posted self.now).1 60928 }
+    /// Whose claim it asks for.
+    pub(crate) fn asks_whom(&self) -> Option<u8>
+        ensures { result ≡ asked_whom (posted self.now).1 }
     {
-        asks_for(self.id, self.bytes.as_slice(), ADDRESS_CLAIMED)
+        if asks_for(self.id, self.bytes.as_slice(), ADDRESS_CLAIMED) {
+            Some(whom(self.id))
+        } else {
+            None
+        }
     }
 }
 

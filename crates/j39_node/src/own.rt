@@ -5,16 +5,16 @@ ghost use Rattle.std.specs.Option.{option_map};
 ghost use Rattle.j39_frame.specs.Identifier.{pgn_of, id_raw, destination_of};
 ghost use Rattle.j39_frame.specs.Pgn.{pgn_raw};
 ghost use Rattle.j39_frame.specs.Stamp.{stamp_micros};
-ghost use Rattle.j39_address.specs.Claim.{claim_of};
 ghost use Rattle.j39_address.specs.Name.{name_raw};
-ghost use Rattle.j39_node.specs.History.{is_smaller, is_larger, asked_group, is_some, is_none, is_asked, calls_for_claim, is_for_program, is_own_group, is_subscribed, has_group, AreFew, asks_with, claim_from, claim_with, carried, is_another, is_served, nothing, double};
+ghost use Rattle.j39_node.specs.History.{is_smaller, is_larger, is_some, is_none, is_asked, calls_for_claim, is_for_program, is_own_group, is_subscribed, has_group, AreFew, asks_with, claim_from, claim_with, carried, is_another, is_served, nothing, double};
 ghost use Rattle.j39_frame.specs.Address.{IsAddress};
 
 use crate::Setup;
+use crate::heard::Heard;
 use crate::requests::Due;
 use arrayvec::ArrayVec;
 use byteorder::{ByteOrder, LittleEndian};
-use j39_address::{Name, claim_of};
+use j39_address::Name;
 use j39_frame::{Frame, GLOBAL_ADDRESS, Id, NULL_ADDRESS, Pgn, Stamp, is_address};
 
 /// The group of claims.
@@ -51,7 +51,7 @@ pub(crate) struct Own {
 
 impl Own {
     ghost use Rattle.j39_node.specs.Hearing.{is_ignored};
-    ghost use Rattle.j39_node.specs.Is.{IsRight, refusal_by, stamped, who_for, who_of};
+    ghost use Rattle.j39_node.specs.Is.{IsRead, IsRight, claim_in, refusal_by, stamped, who_for, who_of};
 
     /// `None` for an address above 253, more than 16 groups served, or more than 64 subscribed.
     #[inline(always)]
@@ -73,30 +73,30 @@ impl Own {
     }
 
     /// Whether a smaller NAME claims the address.
-    pub(crate) fn is_driven_away(&self, frame: &Frame) -> bool
-        ensures { result ≡ is_smaller (who_of nothing self.now) (claim_of frame.now) }
+    pub(crate) fn is_driven_away(&self, heard: Heard) -> bool
+        ensures { result ≡ is_smaller (who_of nothing self.now) (claim_in heard) }
     {
-        match claim_of(frame) {
+        match heard.claim() {
             Some((name, address)) => address == self.address && name.raw() < self.name.raw(),
             None => false,
         }
     }
 
     /// Whether a larger NAME claims the address.
-    pub(crate) fn is_challenged(&self, frame: &Frame) -> bool
-        ensures { result ≡ is_larger (who_of nothing self.now) (claim_of frame.now) }
+    pub(crate) fn is_challenged(&self, heard: Heard) -> bool
+        ensures { result ≡ is_larger (who_of nothing self.now) (claim_in heard) }
     {
-        match claim_of(frame) {
+        match heard.claim() {
             Some((name, address)) => address == self.address && self.name.raw() < name.raw(),
             None => false,
         }
     }
 
     /// The address that another of its NAME claims.
-    pub(crate) fn double(&self, frame: &Frame) -> Option<u8>
-        ensures { result ≡ double (who_of nothing self.now) (claim_of frame.now) }
+    pub(crate) fn double(&self, heard: Heard) -> Option<u8>
+        ensures { result ≡ double (who_of nothing self.now) (claim_in heard) }
     {
-        match claim_of(frame) {
+        match heard.claim() {
             Some((name, address)) => {
                 if name.raw() == self.name.raw() {
                     Some(address)
@@ -116,19 +116,19 @@ impl Own {
     }
 
     /// Whether the frame is a request for claims, to all or, unless the address is lost, to it.
-    pub(crate) fn is_asked(&self, is_lost: bool, frame: &Frame) -> bool
-        ensures { result ≡ is_asked (who_of nothing self.now) is_lost frame.now }
+    pub(crate) fn is_asked(&self, is_lost: bool, heard: Heard, frame: &Frame) -> bool
+        ensures { IsRead heard frame.now → result ≡ is_asked (who_of nothing self.now) is_lost frame.now }
     {
-        is_request_for(frame, ADDRESS_CLAIMED)
+        heard.asks_for(ADDRESS_CLAIMED)
             && (is_to(frame, GLOBAL_ADDRESS) || (is_to(frame, self.address) && !is_lost))
     }
 
     /// Whether a claim answers the frame.
-    pub(crate) fn calls_for_claim(&self, is_lost: bool, frame: &Frame) -> bool
-        ensures { result ≡ calls_for_claim (who_of nothing self.now) is_lost frame.now }
+    pub(crate) fn calls_for_claim(&self, is_lost: bool, heard: Heard, frame: &Frame) -> bool
+        ensures { IsRead heard frame.now → result ≡ calls_for_claim (who_of nothing self.now) is_lost frame.now }
     {
-        let contested = self.is_driven_away(frame) || self.is_challenged(frame);
-        (contested && !is_lost) || self.is_asked(is_lost, frame)
+        let contested = self.is_driven_away(heard) || self.is_challenged(heard);
+        (contested && !is_lost) || self.is_asked(is_lost, heard, frame)
     }
 
     /// Whether the frame is one for the program.
@@ -248,12 +248,6 @@ pub(crate) fn claim_id(address: u8) -> Option<Id>
 {
     let group = Pgn::new(ADDRESS_CLAIMED)?;
     Id::compose(6, group, GLOBAL_ADDRESS, address)
-}
-
-pub(crate) fn is_request_for(frame: &Frame, group: u32) -> bool
-    ensures { result ≡ is_some (asked_group frame.now) group }
-{
-    asks_for(frame.id, frame.bytes.as_slice(), group)
 }
 
 /// Whether a message asks for the group.

@@ -5,14 +5,14 @@ ghost use Rattle.std.specs.Option.{option_map};
 ghost use Rattle.std.specs.Str.{bytes_eq};
 ghost use Rattle.j39_frame.specs.Identifier.{destination_of};
 ghost use Rattle.j39_frame.specs.Pgn.{pgn_raw};
-ghost use Rattle.j39_node.specs.History.{Who, asked, acknowledgment, fresh, is_refusal_due, is_served, repeats, with_refusal, with_request, asked_group, is_request, nothing};
+ghost use Rattle.j39_node.specs.History.{Who, asked, acknowledgment, fresh, is_refusal_due, is_served, repeats, with_refusal, with_request, is_request, nothing};
 ghost use Rattle.j39_node.specs.declared.kinds.Answer.TheVariants as busy;
-ghost use Rattle.j39_node.specs.Is.{refusal_by, request_by, who_of};
+ghost use Rattle.j39_node.specs.Is.{IsRead, refusal_by, request_by, who_of};
 
 use crate::Answer;
+use crate::heard::Heard;
 use crate::own::{ADDRESS_CLAIMED, Own};
 use arrayvec::ArrayVec;
-use byteorder::{ByteOrder, LittleEndian};
 use j39_frame::{Frame, GLOBAL_ADDRESS, NULL_ADDRESS, Pgn};
 
 /// A request for a group, to this controller or to all.
@@ -225,11 +225,11 @@ fn refusal(own: &Own, request: &Request) -> Answer
 }
 
 /// What a frame asks of the controller.
-pub(crate) fn asked(own: &Own, is_held: bool, frame: &Frame) -> Option<Request>
-    ensures { option_map request_by result ≡ asked (who_of nothing own.now) is_held frame.now }
+pub(crate) fn asked(own: &Own, is_held: bool, heard: Heard, frame: &Frame) -> Option<Request>
+    ensures { IsRead heard frame.now → option_map request_by result ≡ asked (who_of nothing own.now) is_held frame.now }
 {
     let destination = frame.id.destination()?;
-    let number = asked_group(frame)?;
+    let number = heard.request()?;
     if is_request(own, is_held, frame, destination, number) {
         let group = Pgn::new(number)?;
         Some(Request {
@@ -237,17 +237,6 @@ pub(crate) fn asked(own: &Own, is_held: bool, frame: &Frame) -> Option<Request>
             destination,
             group,
         })
-    } else {
-        None
-    }
-}
-
-fn asked_group(frame: &Frame) -> Option<u32>
-    ensures { result ≡ asked_group frame.now }
-{
-    let bytes = frame.bytes.as_slice();
-    if frame.id.is_request() && bytes.len() >= 3 {
-        Some(LittleEndian::read_u24(bytes))
     } else {
         None
     }

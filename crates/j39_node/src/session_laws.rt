@@ -1,5 +1,6 @@
 //! The laws of sessions in which messages come in packets to its address (J1939-21, 5.10.3).
-ghost use Rattle.std.specs.Prelude.{◌≡◌, ◌≢◌, ◌↔◌, ◌||◌, ◌&&◌, ◌+◌, ◌-◌, ◌*◌, ◌<◌, ◌≤◌, ◌++◌, ℕ, suc, List, ◌∷◌, length, take, Some, None, IsTrue, false, []};
+ghost use Rattle.std.specs.Prelude.{◌≡◌, ◌≢◌, ◌↔◌, ◌||◌, ◌&&◌, ◌+◌, ◌-◌, ◌*◌, ◌<◌, ◌≤◌, ◌++◌, ℕ, suc, List, ◌∷◌, length, take, Some, None, IsTrue, false, nat_eq, []};
+ghost use Rattle.j39_frame.specs.Address.{global_address};
 ghost use Rattle.j39_frame.specs.Frame.{FrameRecord};
 ghost use Rattle.j39_frame.specs.Identifier.{source_of};
 ghost use Rattle.j39_transport.specs.Message.{MessageRecord};
@@ -17,7 +18,7 @@ ghost use Rattle.j39_node.specs.History.Act.{Hear, TakeFrame, Tick};
 ghost use Rattle.j39_node.specs.Packets.{Bring, IsPacket};
 ghost use Rattle.j39_address.specs.Claim.{Claim, claim_of};
 ghost use Rattle.j39_node.specs.Hearing.{found};
-ghost use Rattle.j39_node.specs.Reception.{KeepsHolder, asks_claims, called, calls_claims, heard_at, holder, is_message, restarts, longest, reception, replied, time_heard, whole};
+ghost use Rattle.j39_node.specs.Reception.{KeepsHolder, called, calls_whom, heard_at, holder, is_called, is_message, restarts, taken_whom, waned, longest, reception, replied, time_heard, whole};
 ghost use Rattle.j39_node.specs.Since.{NeverBack, passed_in};
 ghost use Rattle.j39_node.specs.Ticks.{StaysOpen, TicksWithin};
 ghost use Rattle.j39_node.specs.Times.{called_time};
@@ -92,23 +93,30 @@ pub fn an_example_of_packets()
 
 /// A restart is met: where the holder of an address claims it again and nothing called for that in the 1,250 ms before (own), the
 /// open session of that address ends by it, and the broadcast that is heard. For called for it is by a request for claims that
-/// was heard, a claim of an address by who doesn't hold it, or the controller's own claim or request for claims that was taken;
-/// not by a frame of `claims_request`, which is in no history. So since the RTS or the announcement of what is received in
-/// packets no such claim of its source came (`between`, and `of_one` of both laws). Behind a request for claims, whoever sends
-/// it, a restart isn't seen.
+/// was heard, to the address or to all, a claim of the address by who doesn't hold it, or the controller's own claim of it or
+/// request for claims that was taken; not by a frame of `claims_request`, which is in no history. What calls for one address's
+/// claim calls for no other's, unless one was called for in that time. So since the RTS or the announcement of what is received
+/// in packets no such claim of its source came (`between`, and `of_one` of both laws). Behind a request for claims to it or to
+/// all, whoever sends it, a restart isn't seen.
 pub fn restarts_are_met()
     ensures means { (w : Who) (H : List Call) (now a : ℕ) (f : FrameRecord) → (restarts w H now f ≡ Some a
-        ↔ ((c : Claim) × (claim_of f ≡ Some c) × (c.address ≡ a) × (holder w H a ≡ Some c.name) × (called w H ≤ now - heard_at H))) }
+        ↔ ((c : Claim) × (claim_of f ≡ Some c) × (c.address ≡ a) × (holder w H a ≡ Some c.name)
+        × (is_called a (waned (now - heard_at H) (called w H)) ≡ false))) }
     ensures session { (w : Who) (H : List Call) (now : ℕ) (f : FrameRecord) (r : ReceptionRecord) → (reception w H).session ≡ Some r
         → restarts w H now f ≡ Some r.message.source → (reception w (At now (Hear f) ∷ H)).session ≡ None }
     ensures broadcast { (w : Who) (H : List Call) (now : ℕ) (f : FrameRecord) (a : ℕ) → restarts w H now f ≡ Some a
         → found w H now f a ≡ None }
-    ensures heard { (w : Who) (later H : List Call) (when now : ℕ) (f g : FrameRecord) → IsTrue (calls_claims (holder w H) f (claim_of f))
+    ensures heard { (w : Who) (later H : List Call) (when now a b : ℕ) (f g : FrameRecord) → calls_whom (holder w H) f (claim_of f) ≡ Some b
+        → IsTrue (nat_eq b a || nat_eq b global_address)
         → passed_in later (At when (Hear f) ∷ H) + step (later ++ At when (Hear f) ∷ H) now < called_time
-        → restarts w (later ++ At when (Hear f) ∷ H) now g ≡ None }
-    ensures taken { (w : Who) (later H : List Call) (when now : ℕ) (f g : FrameRecord) → IsTrue (is_claim f || (is_message f && asks_claims f))
+        → restarts w (later ++ At when (Hear f) ∷ H) now g ≢ Some a }
+    ensures taken { (w : Who) (later H : List Call) (when now a b : ℕ) (f g : FrameRecord) → taken_whom (is_claim f) (is_message f) f ≡ Some b
+        → IsTrue (nat_eq b a || nat_eq b global_address)
         → passed_in later (At when (TakeFrame (Some f)) ∷ H) + step (later ++ At when (TakeFrame (Some f)) ∷ H) now < called_time
-        → restarts w (later ++ At when (TakeFrame (Some f)) ∷ H) now g ≡ None }
+        → restarts w (later ++ At when (TakeFrame (Some f)) ∷ H) now g ≢ Some a }
+    ensures alone { (w : Who) (H : List Call) (when a b : ℕ) (f : FrameRecord) → calls_whom (holder w H) f (claim_of f) ≡ Some b
+        → (called w H).left ≤ when - heard_at H → b ≢ a → b ≢ global_address
+        → is_called a (called w (At when (Hear f) ∷ H)) ≡ false }
     ensures between { (w : Who) (a : ℕ) (after before earlier : List Call) (now : ℕ) (f : FrameRecord)
         → KeepsHolder w a (after ++ At now (Hear f) ∷ before) earlier → restarts w (before ++ earlier) now f ≢ Some a }
 {}

@@ -122,6 +122,13 @@ const REQUEST: &str = "(2.055000) can0 18EAFFFE#00EE00";
 
 const RIVAL: &str = "(2.055000) can0 18EEFF0B#0600000000000000";
 
+/// The same to it alone; and what calls for nothing of it: the same to address 12 alone, and a claim of that address.
+const TO_IT: &str = "(2.055000) can0 18EA0BFE#00EE00";
+
+const ASIDE: &str = "(2.055000) can0 18EA0CFE#00EE00";
+
+const OTHERS: &str = "(2.055000) can0 18EEFF0C#0600000000000000";
+
 /// The packets that are left.
 const ENDS: &[&str] = &[
     "(2.100000) can0 1CEB800B#025631324C4B3132",
@@ -160,9 +167,17 @@ fn node_meets_a_restart(rt: HostRuntime) -> Result<(), Fail> {
     let with_a_claim = received(rt.alloc(), &[CLAIM])?;
     let when_asked = received(rt.alloc(), &[REQUEST, CLAIM])?;
     let beside_a_rival = received(rt.alloc(), &[RIVAL, CLAIM])?;
+    let when_it_is_asked = received(rt.alloc(), &[TO_IT, CLAIM])?;
+    let when_another_is = received(rt.alloc(), &[ASIDE, CLAIM])?;
+    let beside_another = received(rt.alloc(), &[OTHERS, CLAIM])?;
+    let when_both_are = received(rt.alloc(), &[ASIDE, TO_IT, CLAIM])?;
     assert_eq!(rt; with_nothing, Some((true, true)));
     assert_eq!(rt; with_a_claim, Some((false, false)));
     assert_eq!(rt; when_asked, Some((true, true)));
     assert_eq!(rt; beside_a_rival, Some((true, true)));
+    assert_eq!(rt; when_it_is_asked, Some((true, true)));
+    assert_eq!(rt; when_another_is, Some((false, false)));
+    assert_eq!(rt; beside_another, Some((false, false)));
+    assert_eq!(rt; when_both_are, Some((true, true)));
     Ok(())
 }

@@ -51,7 +51,7 @@ impl Controller {
             self.hold = hold.claimed();
             let claim = self.own.claim(address, now)?;
             self.incoming.note(&mut self.holders, &claim, None, false);
-            self.incoming.call(true, now);
+            self.incoming.call(Some(address), now);
             let breaks = self.hearing.leave(None, &self.holders, self.incoming.clock);
             self.news = self.news.with_missed(breaks);
             return Some(claim);
@@ -82,7 +82,7 @@ impl Controller {
                 let next = self.outgoing.as_slice().get(self.taken)?;
                 let frame = next.frame(now);
                 let is_request = self.asking.take(next.token);
-                self.incoming.call(next.asks_claims(), now);
+                self.incoming.call(next.asks_whom(), now);
                 self.hold = hold.asked(is_request);
                 self.taken = past(self.outgoing.as_slice(), self.taken + 1);
                 frame

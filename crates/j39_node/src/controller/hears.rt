@@ -15,6 +15,7 @@ ghost use Rattle.j39_node.specs.Is.{asking_of, Is, sender_by_made, silence, port
 
 use crate::AskEnding;
 use crate::controller::Controller;
+use crate::heard::Heard;
 use crate::incoming::Bearing;
 use crate::requests::asked;
 use j39_address::Name;
@@ -29,18 +30,20 @@ impl Controller {
         self.hold = self.hold.passed(now);
         let is_coming = self.is_coming(self.incoming.clock_at(now));
         let is_held = self.hold.is_held();
+        let heard = Heard::of(frame);
         let wanted = self.own.is_for_program(is_held, frame);
         let misses = self.inbox.misses(wanted);
         let sender = self.holders.holder(frame.id.source());
         self.inbox.offer(wanted, frame, sender);
-        let request = asked(&self.own, is_held, frame);
+        let request = asked(&self.own, is_held, heard, frame);
         let request = self.desk.fresh(&self.own, request);
         self.desk.hear(&self.own, request);
         let before = self.peer();
         let has_place = self.incoming.has_place();
-        let doubled = self.own.double(frame);
+        let doubled = self.own.double(heard);
         let bearing = Bearing {
-            drives_away: self.own.is_driven_away(frame),
+            heard,
+            drives_away: self.own.is_driven_away(heard),
             is_double: doubled.is_some(),
             is_held,
         };
@@ -53,7 +56,7 @@ impl Controller {
         let broadcast = self.hearing.hear(&self.own, &self.holders, frame, time);
         let made = transferred.or(broadcast.made);
         let is_lost = self.hold.is_lost();
-        let calls = self.own.calls_for_claim(is_lost, frame);
+        let calls = self.own.calls_for_claim(is_lost, heard, frame);
         let another = self.own.is_another(is_held, frame);
         self.news = self.news.heard(
             bearing.drives_away,

@@ -1,5 +1,5 @@
 use Rattle.j39_node.proofs.RestartLaws.{ends_by, left_by, means, none_restarts, unsaid}
-use Rattle.j39_node.proofs.Common.{At, Bool, Hear, Some, TakeFrame, ap, arith, called, claim_of, heard_at, holder, holds, if◌then◌else◌, is_smaller, known, leaves, not, reception, subst, sym, time_heard, ◌+◌, ◌-◌, ◌∙◌, ◌∷◌, ◌≤◌}
+use Rattle.j39_node.proofs.Common.{At, Hear, Some, TakeFrame, ap, arith, called, claim_of, heard_at, holder, holds, is_smaller, known, leaves, not, reception, time_heard, ◌+◌, ◌-◌, ◌∙◌, ◌∷◌, waned, calls_whom, taken_whom, is_claim, is_message}
 use Rattle.j39_node.proofs.HearingLaws.{none_known}
 use Rattle.j39_node.proofs.RestartLaws as law
 use Rattle.j39_node.proofs.session_laws.restarts_are_met.Goals as goal
@@ -12,11 +12,13 @@ returns c = record {
       ends_by w.address (is_smaller w (claim_of f)) (holds w H when) _ f (time_heard (At when (Hear f) ∷ H)) (reception w H)
       (ap (leaves (known w H when f) (holder w (At when (Hear f) ∷ H))) e ∙ ap not (left_by w H when r.message.source f g)) (unsaid w.address f m.0 m.1);
   broadcast = λ w H now f a g. none_known w H now a f (law.differs w H now a f g);
-  heard = λ w later H when now f g t q.
-      none_restarts w later (At when (Hear f) ∷ H) now g
-      (subst (λ (b : Bool). 1250000 ≤ (if b then 1250000 else called w H - (when - heard_at H)) - (when - when)) (sym t) (omega arith)) q;
-  taken = λ w later H when now f g t q.
-      none_restarts w later (At when (TakeFrame (Some f)) ∷ H) now g
-      (subst (λ (b : Bool). 1250000 ≤ (if b then 1250000 + (when - heard_at H) else called w H) - (when - heard_at H)) (sym t) (omega arith)) q;
+  heard = λ w later H when now a b f g t n q.
+      let k = waned (when - heard_at H) (called w H) in
+      let o = law.named a b 1250000 k (calls_whom (holder w H) f (claim_of f)) t n in
+      none_restarts w a later (At when (Hear f) ∷ H) now g (let e = o.1 in omega (arith, e)) o.0 q;
+  taken = λ w later H when now a b f g t n q.
+      let o = law.named a b (1250000 + (when - heard_at H)) (called w H) (taken_whom (is_claim f) (is_message f) f) t n in
+      none_restarts w a later (At when (TakeFrame (Some f)) ∷ H) now g (let e = o.1 in omega (arith, e)) o.0 q;
+  alone = λ w H when a b f t l n m. law.alone a b (when - heard_at H) (called w H) (calls_whom (holder w H) f (claim_of f)) t l n m;
   between = law.between;
 }

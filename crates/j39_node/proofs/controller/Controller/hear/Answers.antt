@@ -6,7 +6,7 @@ use Rattle.j39_node.specs.Boxes.{in_box}
 use Rattle.j39_node.specs.Hearing.{broadcast_senders, found, made_whole, of, sender_in, with_sender}
 use Rattle.j39_node.proofs.AskLemmas.{ask_heard}
 use Rattle.j39_node.proofs.ReceptionLemmas.{again_is, table_is}
-use Rattle.j39_node.proofs.Common.{[], if◌then◌else◌, ◌&&◌, ◌++◌, ◌||◌, ◌∙◌, ◌∷◌, ap, asking_of, AskRecord, Bool, claim_of, fresh, heard, hearing_of, hears_if, hears_with, incoming_of, is_coming, is_lost, Knows, length, lost, made_by, map, name_raw, nat_lt, not, Option, option_map, option_or, port_of, refusal_by, request_by, in_session, stamp_micros, subst, Untold, View, who_of, with_refusal, ℕ, At, Hear, Hold, IfSome, IncomingRecord, MessageRecord, Running, Who, acknowledged, address_after, age, asked, called, calls_for_claim, claimed_again, clock_at, comes, counted, delayed, double, drop, due, ended, is_any, over_by, got, handed, has_place, heard_at, hold_after, holder, holder_in, holds, incoming_after, is_another, is_double, is_for_program, is_refusal_due, is_replaced, is_smaller, is_unheard_in, made_in, source_of, kept, later, made, made_of, min, missed, missed_news, nat_eq, news_after, offered, older, open_ask, open_transfer, owes_claim, patience, port_after, reached, received_by, reception, requests, restarts, resting_by, silence, stamped, standing_of, step, sym, time_heard, told_claims, unheard_by, unheard_news, wait, whole, with_request, ◌*◌, ◌+◌, ◌-◌, ◌≡◌, sender_by, sender_by_made, transfer_sender, FrameRecord}
+use Rattle.j39_node.proofs.Common.{[], if◌then◌else◌, ◌&&◌, ◌++◌, ◌||◌, ◌∙◌, ◌∷◌, ap, asking_of, AskRecord, Bool, claim_of, fresh, heard, hearing_of, hears_if, hears_with, incoming_of, is_coming, is_lost, Knows, length, lost, made_by, map, name_raw, nat_lt, not, Option, option_map, option_or, port_of, refusal_by, request_by, in_session, stamp_micros, subst, Untold, View, who_of, with_refusal, ℕ, At, Hear, Hold, IfSome, IncomingRecord, MessageRecord, Running, Who, acknowledged, address_after, age, asked, called, calls_for_claim, claimed_again, clock_at, comes, counted, delayed, double, drop, due, ended, is_any, over_by, got, handed, has_place, heard_at, hold_after, holder, holder_in, holds, incoming_after, is_another, is_double, is_for_program, is_refusal_due, is_replaced, is_smaller, is_unheard_in, made_in, source_of, kept, later, made, made_of, min, missed, missed_news, nat_eq, news_after, offered, older, open_ask, open_transfer, owes_claim, patience, port_after, reached, received_by, reception, requests, restarts, resting_by, silence, stamped, standing_of, step, sym, time_heard, told_claims, unheard_by, unheard_news, wait, whole, with_request, ◌*◌, ◌+◌, ◌-◌, ◌≡◌, sender_by, sender_by_made, transfer_sender, FrameRecord, waned}
 use Rattle.j39_node.specs.Is.{hearing_it}
 use Rattle.std.specs.Option.{is_some}
 use Rattle.j39_node.proofs.PortLemmas.{peers_are, clock_is, is_port, ported, replaced_is}
@@ -17,6 +17,7 @@ pub returns : goal.returns
 returns c = λ w H h.
     let f = c.args.frame.now in
     let t = stamp_micros c.args.now in
+    let claim_is = c.of-heard.ensures.claim in
     let p = passed_is w H t c.args.self.now.hold c.passed-self.result (ap (λ (v : View). v.hold) h.shown) c.passed-self.ensures in
     let e8 = (c.heard-self-2.ensures ∙ ap (λ (n : ℕ). heard c.is_driven_away.result c.calls_for_claim-calls.result c.is_another-another.result n c.passed-self.result) c.delay.ensures) in
     let s = sound w H h.answered in
@@ -25,22 +26,22 @@ returns c = λ w H h.
     let lost_before : c.is_lost-is_lost.result ≡ is_lost (address_after w H) =
     c.is_lost-is_lost.ensures ∙ (ap lost (ap (λ (k : Hold). k.standing) p) ∙ (lost_is (older (step H t) (address_after w H)) ∙ lost_older (step H t) (address_after w H))) in
     let asks_for : (option_map request_by c.fresh-request.result) ≡ fresh w (drop (length (handed H)) (requests w H)) (asked w (holds w H t) f) =
-    (c.fresh-request.ensures ∙ ap (fresh (who_of w.brought c.args.self.now.own) (map request_by c.args.self.now.desk.waiting.items)) c.asked-request.ensures)
+    (c.fresh-request.ensures ∙ ap (fresh (who_of w.brought c.args.self.now.own) (map request_by c.args.self.now.desk.waiting.items)) (c.asked-request.ensures c.of-heard.ensures))
     ∙ (ap (λ (u : View). fresh u.who (map request_by c.args.self.now.desk.waiting.items) (asked u.who c.is_held-is_held.result f)) h.shown
     ∙ λ i. fresh w ((h.shown i).requests) (asked w (holds_is w H t c.passed-self.result c.is_held-is_held.result p c.is_held-is_held.ensures i) f)) in
     let room : nat_lt (length c.args.self.now.desk.waiting.items) 16 ≡ nat_lt (length (requests w H) - length (handed H)) 16 =
     ap (λ (n : ℕ). nat_lt n 16) (length_rest request_by c.args.self.now.desk.waiting.items (length (handed H)) (requests w H) (ap (λ (v : View). v.requests) h.shown)) in
     let place : nat_lt (length c.args.self.now.desk.due.items) 16 ≡ nat_lt (length (due w H) - length (acknowledged H)) 16 =
     ap (λ (n : ℕ). nat_lt n 16) (length_rest (refusal_by w) c.args.self.now.desk.due.items (length (acknowledged H)) (due w H) (ap (λ (v : View). v.acknowledgments) h.shown)) in
-    let goes : c.is_driven_away.result ≡ is_smaller w (claim_of f) = c.is_driven_away.ensures ∙ ap (λ (u : View). is_smaller u.who (claim_of f)) h.shown in
+    let goes : c.is_driven_away.result ≡ is_smaller w (claim_of f) = c.is_driven_away.ensures ∙ (λ i. is_smaller (h.shown i).who (claim_is i)) in
     let asks : c.calls_for_claim-calls.result ≡ calls_for_claim w (is_lost (address_after w H)) f =
-    c.calls_for_claim-calls.ensures ∙ (ap (λ (u : View). calls_for_claim u.who c.is_lost-is_lost.result f) h.shown ∙ ap (λ (b : Bool). calls_for_claim w b f) lost_before) in
+    c.calls_for_claim-calls.ensures c.of-heard.ensures ∙ (ap (λ (u : View). calls_for_claim u.who c.is_lost-is_lost.result f) h.shown ∙ ap (λ (b : Bool). calls_for_claim w b f) lost_before) in
     let others : c.is_another-another.result ≡ is_another w (holds w H t) f =
     c.is_another-another.ensures ∙ (ap (λ (u : View). is_another u.who c.is_held-is_held.result f) h.shown ∙ ap (λ (b : Bool). is_another w b f) (holds_is w H t c.passed-self.result c.is_held-is_held.result p c.is_held-is_held.ensures)) in
     let knows : Knows c.hear-gone.new.holders (told_claims w (At t (Hear f) ∷ H)) =
     subst (λ (u : View). Knows c.hear-gone.new.holders (if is_double u.who (claim_of f) then told_claims w H else told_claims w H ++ f ∷ [])) h.shown
     (subst (λ (b : Bool). Knows c.hear-gone.new.holders (if b then told_claims w H else told_claims w H ++ f ∷ []))
-    (c.is_some.ensures ∙ ap is_some c.double-doubled.ensures) (c.hear-gone.ensures.knows (told_claims w H) h.holders)) in
+    (c.is_some.ensures ∙ ap is_some (c.double-doubled.ensures ∙ ap (double (who_of w.brought c.args.self.now.own)) claim_is)) (c.hear-gone.ensures.knows (told_claims w H) h.holders)) in
     let r : ℕ → Bool = λ a. is_replaced (holder w H a) (holder w (At t (Hear f) ∷ H) a) in
     let current : (port_of c.args.self.now.transfers).current ≡ open_transfer w H = ap (λ (v : View). v.port.current) h.shown in
     let hold_now : c.heard-self-2.result ≡ hold_after w (At t (Hear f) ∷ H) =
@@ -56,8 +57,8 @@ returns c = λ w H h.
     let hears_in : incoming_of c.hear-gone.new.self ≡ incoming_after w (At t (Hear f) ∷ H) =
     incoming_heard w H c.args.self.now t f c.hear-gone.new.holders c.hear-gone.new.self c.is_driven_away.result c.is_held-is_held.result h knows goes (holds_is w H t c.passed-self.result c.is_held-is_held.result p c.is_held-is_held.ensures) c.hear-gone.ensures.heard in
     let gone_is : c.hear-gone.result ≡ restarts w H t f =
-    c.hear-gone.ensures.restarted ∙ (ap (λ (v : View). claimed_again (holder_in c.args.self.now.holders) (v.incoming.called - (t - v.incoming.moment)) (claim_of f)) h.shown
-    ∙ again_is w c.args.self.now.holders H (called w H - (t - heard_at H)) (claim_of f) h.holders) in
+    c.hear-gone.ensures.restarted ∙ (ap (λ (v : View). claimed_again (holder_in c.args.self.now.holders) (waned (t - v.incoming.moment) v.incoming.called) (claim_of f)) h.shown
+    ∙ again_is w c.args.self.now.holders H (waned (t - heard_at H) (called w H)) (claim_of f) h.holders) in
     let on = heard_on w H t f c.hear-gone.new.holders c.hear-gone.result (stamp_micros c.hear-gone.new.self.clock) c.leave-breaks.result c.hear-broadcast.result.is_missed c.hear-broadcast.result.made
     (hearing_of c.args.self.now.hearing) (hearing_of c.leave-breaks.new.self) (hearing_of c.hear-broadcast.new.self) (ap (λ (v : View). v.hearing) h.shown) knows (ap (λ (x : IncomingRecord). x.clock) hears_in) gone_is
     c.leave-breaks.ensures.broken c.leave-breaks.ensures.left
@@ -118,7 +119,7 @@ returns c = λ w H h.
             ∙ λ i. let u = news_heard c.args.self.now.news _ _ _ _ _ _ _ c.heard-self.ensures c.is_another-another.ensures c.misses-misses.ensures in record {
               lost = (u i).lost;
               another = (u i).another;
-              doubled = option_or (c.double-doubled.ensures i) (u i).doubled;
+              doubled = option_or ((c.double-doubled.ensures ∙ ap (double (who_of w.brought c.args.self.now.own)) claim_is) i) (u i).doubled;
               missed = (u i).missed;
             })) ∙ ((λ i. record {
               lost = (h.shown i).news.lost || (goes i && not (lost_before i));

@@ -24,7 +24,7 @@ returns-in_ok-next-in-Single c = λ w H h o.
     taken w H c.args.self.now _ (stamp_micros c.args.now) _ c.in_ok-next-in-Single.next.now c.args.hold h o t
     (read c.as_slice.result.now _ _ _ c.as_slice.ensures.value c.in_ok-next-in-Single.ensures.lookup.3.0 c.in_ok-next-in-Single.ensures.lookup.1) c.frame-frame.ensures refl
     (c.past-self.ensures ∙ λ i. past (map is_blank (map posted (c.as_slice-in-Single.ensures.value i))) ((let z : c.args.self.now.taken + 1 ≡ suc c.args.self.now.taken = omega Rattle.std.proofs.Common.arith in z) i))
-    c.take-is_request.result c.asks_claims.result c.call.ensures c.asks_claims.ensures c.take-is_request.ensures.current c.take-is_request.ensures.value c.asked-self.ensures
+    c.take-is_request.result c.asks_whom.result c.call.ensures c.asks_whom.ensures c.take-is_request.ensures.current c.take-is_request.ensures.value c.asked-self.ensures
 
 pub returns-in_err-next-in-Single : goal.returns-in_err-next-in-Single
 returns-in_err-next-in-Single c = λ w H h o.

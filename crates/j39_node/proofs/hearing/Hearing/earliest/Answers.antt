@@ -1,7 +1,7 @@
 use Rattle.j39_node.proofs.Common.{◌+◌, ◌<◌, ◌∙◌, ◌≡◌, ◌≤◌, ap, arith, drop, earliest, expires, get_or, IfSome, length, length-map, map, Option, Some, sooner, subst, suc, sym, ℕ}
 use Rattle.std.specs.Prelude.{◌^◌}
 use Rattle.j39_node.specs.Boxes.{broadcast_by, in_box}
-use Rattle.j39_node.specs.declared.hearing.Heard.{Heard}
+use Rattle.j39_node.specs.declared.hearing.Assembly.{Assembly}
 use Rattle.j39_node.proofs.ListenLemmas.{at_place, drop_all, earliest_next, sooner_below, sooner_none, sooner_of}
 use Rattle.j39_node.proofs.hearing.Hearing.earliest.Goals as goal
 
@@ -11,7 +11,7 @@ loop-heard-preserved c =
     let k = c.loop-heard.heard-index in
     let l = subst (λ ys. k < length ys) c.deref-heard-items.ensures.value c.loop-heard-test.true in
     let x = at_place in_box items c.heard-item.result k l (c.heard-item.is ∙ ap (λ ys. get_or ys k c.heard-item.result) c.deref-heard-items.ensures.value) in
-    let e : c.expires.result ≡ expires (in_box c.heard-item.result) = c.expires.ensures.value ∙ ap (λ (h : Heard). expires (broadcast_by h)) c.deref.ensures in
+    let e : c.expires.result ≡ expires (in_box c.heard-item.result) = c.expires.ensures.value ∙ ap (λ (h : Assembly). expires (broadcast_by h)) c.deref.ensures in
     let rest : Option ℕ = earliest (drop (suc k) (map in_box items)) in (
       ap (λ (j : ℕ). sooner c.sooner-found.result (earliest (drop j (map in_box items)))) (let z : k + 1 ≡ suc k = omega arith in z)
           ∙ (ap (λ (o : Option ℕ). sooner o rest) (c.sooner-found.ensures ∙ ap (λ (n : ℕ). sooner c.loop-heard.found (Some n)) e)
