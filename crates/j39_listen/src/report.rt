@@ -77,13 +77,13 @@ impl<'g, 't, E: EntryForm> Account for Report<'g, 't, E> {
     /// Most frames are of groups that nobody hears.
     #[inline(always)]
     fn passes_over(&self, id: Id) -> bool {
-        self.chooser.is_begun() && self.roles.passes_over(id)
+        self.roles.passes_over(id) && self.chooser.is_begun()
     }
 
     #[inline(always)]
     fn feed<W: Sink>(&mut self, _: &Bus, frame: &Frame, sink: &mut W) -> Result<(), LineFault> {
-        self.chooser.note(frame);
         let role = self.roles.of(frame.id);
+        self.chooser.note(frame);
         if !role.is_heard {
             self.made = self.made.and(NOTHING);
             return Ok(());

@@ -1,22 +1,15 @@
 -- How far bytes lie outside of a form, lane by lane.
-use Rattle.std.proofs.Common.{◌≡◌, ◌<◌, ◌≤◌, ◌+◌, ◌-◌, ◌*◌, ◌%◌, ◌^◌, ℕ, zero, suc, Bool, true, false, not, cond, eqb, ltb, leb, List, [], ◌∷◌, ◌++◌, length, map, take, drop, replicate, get_or, bit_or, lit<, refl, sym, ap, ap₂, ◌∙◌, arith, w8, ltb-true, ltb-false}
+use Rattle.std.proofs.Common.{◌≡◌, ◌<◌, ◌≤◌, ◌+◌, ◌-◌, ◌%◌, ◌^◌, ℕ, zero, suc, Bool, true, false, cond, ltb, List, [], ◌∷◌, ◌++◌, length, map, take, drop, replicate, get_or, bit_or, lit<, refl, sym, ap, ap₂, ◌∙◌, arith, w8, ltb-true, ltb-false}
 use Rattle.std.specs.List.{AllByRecursion}
-use Rattle.std.specs.Simd.Lanes.{zip2, sel_l, mask_l, top, Each1}
+use Rattle.std.specs.Simd.Lanes.{zip2, sel_l, Each1}
 use Rattle.std.specs.Str.Parse.{AllDigits}
-use Rattle.std.proofs.lemmas.Simd.{length-zip2, mask_l-mod, tops_compared}
-use Rattle.std.proofs.lemmas.Bool.{eqb-true}
+use Rattle.std.proofs.lemmas.Simd.{length-zip2}
 use Rattle.std.proofs.lemmas.Nat.{le_or_l, le_or_r}
 use Rattle.j39_log.specs.Form.{over, rests}
+use Rattle.j39_log.proofs.LaneLemmas.{below, same_test}
 use Rattle.j39_log.proofs.StampLaneLemmas.{digits_of_lanes}
 
 -- ---- a difference that stays at 0
-
-abbrev below : List ℕ → List ℕ → List Bool
-below xs ys = map (top 7) (zip2 (λ a b. cond (ltb a b) 255 0) xs ys)
-
-same_test : (b : Bool) → leb 128 (cond b 255 0) ≡ b
-same_test true = refl
-same_test false = refl
 
 stays : (b : Bool) (x m : ℕ) → ltb x m ≡ b → x < 256 → m < 256 → over (cond b m x) m ≡ x - m
 stays true x m e fx fm = let l = ltb-true x m e in omega arith
@@ -40,54 +33,27 @@ hex_within (suc n) (x ∷ xs) e h = (omega (arith, h.0), hex_within n xs (omega 
 
 -- ---- no lane is set
 
--- whether two bytes are others
-abbrev are_others : ℕ → ℕ → Bool
-are_others a b = not (eqb a b)
+each_zero : (v : List ℕ) → AllByRecursion (λ x. x < 1) v → AllByRecursion (λ x. x ≡ 0) v
+each_zero [] h = tt
+each_zero (x ∷ xs) h = (omega (arith, h.0), each_zero xs h.1)
 
-no_bit : (b : Bool) (m : ℕ) → cond b 1 0 + 2 * m ≡ 0 → (b ≡ false) × (m ≡ 0)
-no_bit true m h = absurd (omega arith)
-no_bit false m h = (refl, omega arith)
-
-no_other : (x : ℕ) → (b : Bool) → eqb x 0 ≡ b → not b ≡ false → x ≡ 0
-no_other x true e h = eqb-true x 0 e
-no_other x false e h = absurd (grind arith)
-
-none_set : (n : ℕ) (v : List ℕ) → mask_l (zip2 are_others v (replicate n 0)) ≡ 0 → length v ≡ n → AllByRecursion (λ x. x ≡ 0) v
-none_set n [] h long = tt
-none_set zero (x ∷ xs) h long = absurd (omega arith)
-none_set (suc n) (x ∷ xs) h long =
-    let both = no_bit (are_others x 0) (mask_l (zip2 are_others xs (replicate n 0))) h in
-    (no_other x (eqb x 0) refl both.0, none_set n xs both.1 (omega arith))
-
-zeros : (v : List ℕ) → length v ≡ 16 → mask_l (map (top 7) (zip2 (λ a b. cond (are_others a b) 255 0) v (replicate 16 0))) % 2 ^ 64 ≡ 0 → AllByRecursion (λ x. x ≡ 0) v
-zeros v long h =
-    let others = zip2 are_others v (replicate 16 0) in
-    let same : mask_l (map (top 7) (zip2 (λ a b. cond (are_others a b) 255 0) v (replicate 16 0))) % 2 ^ 64 ≡ mask_l others =
-    ap (λ ms. mask_l ms % 2 ^ 64) (tops_compared w8 are_others v (replicate 16 0)) ∙ mask_l-mod others 64 (omega (arith, length-zip2 are_others v (replicate 16 0) long, long)) in
-    none_set 16 v (sym same ∙ h) long
-
-twice_not : (b : Bool) → not (not b) ≡ true → b ≡ true
-twice_not true h = refl
-twice_not false h = h
-
-pub zeros_left : (xs ys : List ℕ) → length ys ≡ length xs → AllByRecursion (λ x. x ≡ 0) (zip2 bit_or xs ys) → AllByRecursion (λ x. x ≡ 0) xs
+zeros_left : (xs ys : List ℕ) → length ys ≡ length xs → AllByRecursion (λ x. x ≡ 0) (zip2 bit_or xs ys) → AllByRecursion (λ x. x ≡ 0) xs
 zeros_left [] ys e h = tt
 zeros_left (x ∷ xs) [] e h = absurd (omega arith)
 zeros_left (x ∷ xs) (y ∷ ys) e h = (omega (arith, le_or_l x y, h.0), zeros_left xs ys (omega arith) h.1)
 
-pub zeros_right : (xs ys : List ℕ) → length ys ≡ length xs → AllByRecursion (λ x. x ≡ 0) (zip2 bit_or xs ys) → AllByRecursion (λ x. x ≡ 0) ys
+zeros_right : (xs ys : List ℕ) → length ys ≡ length xs → AllByRecursion (λ x. x ≡ 0) (zip2 bit_or xs ys) → AllByRecursion (λ x. x ≡ 0) ys
 zeros_right [] [] e h = tt
 zeros_right [] (y ∷ ys) e h = absurd (omega arith)
 zeros_right (x ∷ xs) [] e h = tt
 zeros_right (x ∷ xs) (y ∷ ys) e h = (omega (arith, le_or_r x y, h.0), zeros_right xs ys (omega arith) h.1)
 
-pub zeros_of_three : (a b c : List ℕ) → length a ≡ 16 → length b ≡ 16 → length c ≡ 16
-    → not (not (eqb (mask_l (map (top 7) (zip2 (λ a b. cond (are_others a b) 255 0) (zip2 bit_or (zip2 bit_or a b) c) (replicate 16 0))) % 2 ^ 64) 0)) ≡ true
+pub zeros_of_three : (a b c : List ℕ) → length a ≡ 16 → length b ≡ 16 → length c ≡ 16 → AllByRecursion (λ x. x < 1) (zip2 bit_or (zip2 bit_or a b) c)
     → AllByRecursion (λ x. x ≡ 0) a × (AllByRecursion (λ x. x ≡ 0) b × AllByRecursion (λ x. x ≡ 0) c)
-zeros_of_three a b c la lb lc e =
+zeros_of_three a b c la lb lc small =
     let both = zip2 bit_or a b in
     let lboth : length both ≡ 16 = length-zip2 bit_or a b (la ∙ sym lb) ∙ la in
-    let all = zeros (zip2 bit_or both c) (length-zip2 bit_or both c (lboth ∙ sym lc) ∙ lboth) (eqb-true _ 0 (twice_not _ e)) in
+    let all = each_zero (zip2 bit_or both c) small in
     let front = zeros_left both c (lc ∙ sym lboth) all in
     (zeros_left a b (lb ∙ sym la) front, (zeros_right a b (lb ∙ sym la) front, zeros_right both c (lc ∙ sym lboth) all))
 

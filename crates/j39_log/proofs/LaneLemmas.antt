@@ -38,12 +38,12 @@ all_below y (x ∷ xs) h = no_bits (leb y x) x y (mask_l (map (leb y) xs)) refl 
 
 -- ---- hex digits
 
-same_test : (b : Bool) → leb 128 (cond b 255 0) ≡ b
+pub same_test : (b : Bool) → leb 128 (cond b 255 0) ≡ b
 same_test true = refl
 same_test false = refl
 
 -- whether each lane is below the one beside it
-abbrev below : List ℕ → List ℕ → List Bool
+abbrev pub below : List ℕ → List ℕ → List Bool
 below xs ys = map (top 7) (zip2 (λ a b. cond (ltb a b) 255 0) xs ys)
 
 abbrev more : List ℕ → ℕ → ℕ → List ℕ

@@ -3,7 +3,7 @@ use Rattle.std.proofs.Common.{◌≡◌, ◌<◌, ◌≤◌, ◌+◌, ◌-◌, �
 use Rattle.std.specs.Prelude.{if◌then◌else◌, min, nat_le}
 use Rattle.std.specs.List.{AllByRecursion}
 use Rattle.std.specs.Str.Parse.{AllDigits, digits_value}
-use Rattle.std.proofs.Math.Seq.{take-append-add}
+use Rattle.std.proofs.Math.Seq.{drop-append_seam, take-append-add, take-append_seam}
 use Rattle.std.proofs.lemmas.Bool.{leb-true}
 use Rattle.std.proofs.lemmas.List.{drop-drop, drop_more, get_or-replicate, take_all}
 use Rattle.j39_frame.specs.Identifier.{id_raw}
@@ -34,25 +34,14 @@ take_dropped (suc k) (suc n) zero xs h = absurd (omega arith)
 take_dropped (suc k) (suc n) (suc m) [] h = refl
 take_dropped (suc k) (suc n) (suc m) (x ∷ xs) h = take_dropped k (suc n) m xs (omega arith)
 
-pub take_replicate : (n m x : ℕ) → n ≤ m → take n (replicate m x) ≡ replicate n x
-take_replicate zero m x h = refl
-take_replicate (suc n) zero x h = absurd (omega arith)
-take_replicate (suc n) (suc m) x h = ap (λ ys. x ∷ ys) (take_replicate n m x (omega arith))
-
 pub take_min : (xs : List ℕ) (n : ℕ) → take (min (length xs) n) xs ≡ take n xs
 take_min xs n = grind (arith, take_all (min (length xs) n) xs, take_all n xs)
 
 take_whole : (xs ys : List ℕ) (n : ℕ) → length xs ≡ n → take n (xs ++ ys) ≡ xs
-take_whole [] ys zero e = refl
-take_whole [] ys (suc n) e = absurd (omega arith)
-take_whole (x ∷ xs) ys zero e = absurd (omega arith)
-take_whole (x ∷ xs) ys (suc n) e = ap (λ zs. x ∷ zs) (take_whole xs ys n (omega arith))
+take_whole xs ys n e = ap (λ k. take k (xs ++ ys)) (sym e) ∙ take-append_seam xs ys
 
 drop_whole : (xs ys : List ℕ) (n : ℕ) → length xs ≡ n → drop n (xs ++ ys) ≡ ys
-drop_whole [] ys zero e = refl
-drop_whole [] ys (suc n) e = absurd (omega arith)
-drop_whole (x ∷ xs) ys zero e = absurd (omega arith)
-drop_whole (x ∷ xs) ys (suc n) e = drop_whole xs ys n (omega arith)
+drop_whole xs ys n e = ap (λ k. drop k (xs ++ ys)) (sym e) ∙ drop-append_seam xs ys
 
 -- ---- the first two blocks
 
@@ -118,10 +107,10 @@ front_found bytes between bus found second form long few front fits_first has fi
 
 -- ---- the last field and its end
 
-pub third_parts : (text block digits rest1 rest2 «data» rest3 rest4 rest later cr : List ℕ) (mark end : ℕ) → block ≡ take 26 text → rest ≡ drop 26 text → 26 ≤ length text
-    → digits ≡ take 8 block → rest1 ≡ drop 8 block → rest1 ≡ mark ∷ rest2 → «data» ≡ take 16 rest2 → rest3 ≡ drop 16 rest2 → rest3 ≡ end ∷ rest4 → end ∷ rest ≡ cr ++ (10 ∷ later)
-    → (text ≡ digits ++ (mark ∷ («data» ++ (cr ++ (10 ∷ later))))) × (length digits ≡ 8) × (length «data» ≡ 16)
-third_parts text block digits rest1 rest2 d rest3 rest4 rest later cr mark end b r long di r1 m da r3 e is =
+pub third_parts : (text block digits rest1 rest2 «data» rest3 rest4 rest : List ℕ) (mark end : ℕ) → block ≡ take 26 text → rest ≡ drop 26 text → 26 ≤ length text
+    → digits ≡ take 8 block → rest1 ≡ drop 8 block → rest1 ≡ mark ∷ rest2 → «data» ≡ take 16 rest2 → rest3 ≡ drop 16 rest2 → rest3 ≡ end ∷ rest4
+    → (text ≡ digits ++ (mark ∷ («data» ++ (end ∷ rest)))) × (length digits ≡ 8) × (length «data» ≡ 16)
+third_parts text block digits rest1 rest2 d rest3 rest4 rest mark end b r long di r1 m da r3 e =
     let len : length block ≡ 26 = ap length b ∙ simp length-take (omega (arith, long)) in
     let eight : length digits ≡ 8 = ap length di ∙ simp length-take (omega (arith, len)) in
     let left1 : length rest1 ≡ 18 = ap length r1 ∙ simp length-drop (omega (arith, len)) in
@@ -133,7 +122,7 @@ third_parts text block digits rest1 rest2 d rest3 rest4 rest later cr mark end b
     sym (take-append-drop 8 block) ∙ ap₂ (λ xs ys. xs ++ ys) (sym di) (sym r1 ∙ m ∙ ap (λ xs. mark ∷ xs)
     (sym (take-append-drop 16 rest2) ∙ ap₂ (λ xs ys. xs ++ ys) (sym da) (sym r3 ∙ e ∙ ap (λ xs. end ∷ xs) none))) in (
       sym (take-append-drop 26 text) ∙ ap₂ (λ xs ys. xs ++ ys) (sym b ∙ block_is) (sym r) ∙ append_assoc digits (mark ∷ (d ++ (end ∷ []))) rest
-          ∙ ap (λ xs. digits ++ (mark ∷ xs)) (append_assoc d (end ∷ []) rest ∙ ap (λ xs. d ++ xs) is),
+          ∙ ap (λ xs. digits ++ (mark ∷ xs)) (append_assoc d (end ∷ []) rest),
       eight,
       sixteen,
     )
@@ -169,10 +158,10 @@ line_found bytes cut third bus rest found long front_is behind second decimals d
       bytes_are = t.bytes_are;
       bytes_fit = omega arith;
     } in
-    let whole : bytes ≡ front ++ (cut ++ (41 ∷ (32 ∷ (bus ++ (32 ∷ (last ++ (t.cr ++ (10 ∷ rest)))))))) =
+    let whole : bytes ≡ front ++ (cut ++ (41 ∷ (32 ∷ (bus ++ (32 ∷ (last ++ t.end)))))) =
     sym (take-append-drop 18 bytes) ∙ ap (λ xs. front ++ xs) (behind ∙ ap (λ xs. cut ++ (41 ∷ (32 ∷ (bus ++ (32 ∷ xs)))))
-    (t.text_is ∙ sym (append_assoc t.digits (35 ∷ found.data.now) (t.cr ++ (10 ∷ rest))))) in
-    let l = first_line bytes front cut bus last t.cr rest (bytes_of found.data.now) (found.second + more) (id_raw found.id) len last_len whole few t.cr_is stamp named spelled in
+    (t.text_is ∙ sym (append_assoc t.digits (35 ∷ found.data.now) t.end))) in
+    let l = first_line bytes front cut bus last t.end rest (bytes_of found.data.now) (found.second + more) (id_raw found.id) len last_len whole few t.ends stamp named spelled in
     let at_front : (P : List ℕ → Type 0) → P front → P found.front.now = λ P. subst P (sym front_is) in
     record {
       line = l.0;

@@ -12,7 +12,8 @@ use Rattle.j39_log.specs.Bus.{IsBusName}
 use Rattle.j39_log.specs.Fields.{IsField, IsAfterField, TakesField, IsSpaced}
 use Rattle.j39_log.specs.Text.{IsStampText, IsFrameText}
 use Rattle.j39_frame.specs.Frame.{FrameRecord}
-use Rattle.j39_log.specs.Line.{IsBody, IsFrameLine, HasParts}
+use Rattle.j39_log.specs.FrameLine.{EndsAt, IsFlag}
+use Rattle.j39_log.specs.Line.{IsBody, IsFlags, IsFrameLine, HasParts}
 use Rattle.j39_log.specs.Log.{HasNoNewline}
 use Rattle.j39_log.specs.Newline.{TakesLine}
 
@@ -73,31 +74,65 @@ takes_first field rest h after = record { spaces = []; text_is = refl; spaces_ar
 takes_next : (field rest : List ℕ) → IsField field → IsAfterField rest → TakesField (32 ∷ (field ++ rest)) field rest
 takes_next field rest h after = record { spaces = 32 ∷ []; text_is = refl; spaces_are = (refl, tt); field_is = h; rest_is = after }
 
--- such a stamp, bus and field are a line's parts
-pub spaced_parts : (line body first bus third : List ℕ) (stamp : ℕ) → length line ≤ 256 → IsBody line body → body ≡ first ++ (32 ∷ (bus ++ (32 ∷ third)))
-    → IsStampText first stamp → IsBusName bus → IsField third → HasParts line bus third stamp
-spaced_parts line body first bus third stamp short body_is is s b f =
+-- no byte is a control character
+abbrev AreFromSpace : List ℕ → Type 0
+AreFromSpace bytes = AllByRecursion (λ b. 32 ≤ b) bytes
+
+-- one field behind a space, or none
+record Flagged (flag : List ℕ) : Type 0 where
+  flags : List (List ℕ)
+  are : IsFlags flags
+  spaced : IsSpaced flags flag
+  after : IsAfterField flag
+  from : AreFromSpace flag
+  short : length flag ≤ 2
+
+with_flag : (c : ℕ) → IsFlags ((c ∷ []) ∷ []) → 32 < c → Flagged (32 ∷ c ∷ [])
+with_flag c are above = record {
+  flags = (c ∷ []) ∷ [];
+  are = are;
+  spaced = ([], takes_next (c ∷ []) [] (IsField-above (c ∷ []) (omega arith) (above, tt)) tt, tt);
+  after = refl;
+  from = (omega arith, (omega (arith, above), tt));
+  short = omega arith;
+}
+
+flags_of : (flag : List ℕ) → IsFlag flag → Flagged flag
+flags_of flag (inl none) = subst Flagged (sym none) (record { flags = []; are = inl refl; spaced = tt; after = tt; from = tt; short = omega arith })
+flags_of flag (inr (inl r)) = subst Flagged (sym r) (with_flag 82 (inr (inl refl)) (lit< tt))
+flags_of flag (inr (inr t)) = subst Flagged (sym t) (with_flag 84 (inr (inr refl)) (lit< tt))
+
+-- such a stamp, bus and field, and a flag, are a line's parts
+flagged_parts : (line body first bus third flag : List ℕ) (stamp : ℕ) → length line ≤ 256 → IsBody line body → body ≡ first ++ (32 ∷ (bus ++ (32 ∷ (third ++ flag))))
+    → IsStampText first stamp → IsBusName bus → IsField third → IsFlag flag → HasParts line bus third stamp
+flagged_parts line body first bus third flag stamp short body_is is s b f flagged =
     let first_some : 0 < length first = omega (arith, ap length s.parts.text_is) in
-    let closed : body ≡ first ++ (32 ∷ (bus ++ (32 ∷ (third ++ [])))) = is ∙ ap (λ t. first ++ (32 ∷ (bus ++ (32 ∷ t)))) (sym (append-nil third)) in
+    let more = flags_of flag flagged in
     record {
       short = short;
       body = body;
       body_is = body_is;
       first = first;
-      flags = [];
-      fields_are = subst (IsSpaced (first ∷ bus ∷ third ∷ [])) (sym closed) (
-        32 ∷ (bus ++ (32 ∷ (third ++ []))),
-        takes_first first (32 ∷ (bus ++ (32 ∷ (third ++ [])))) (IsField-above first first_some (AreAbove-stamp first stamp s)) refl,
+      flags = more.flags;
+      fields_are = subst (IsSpaced (first ∷ bus ∷ third ∷ more.flags)) (sym is) (
+        32 ∷ (bus ++ (32 ∷ (third ++ flag))),
+        takes_first first (32 ∷ (bus ++ (32 ∷ (third ++ flag)))) (IsField-above first first_some (AreAbove-stamp first stamp s)) refl,
         (
-          32 ∷ (third ++ []),
-          takes_next bus (32 ∷ (third ++ [])) (IsField-above bus b.0 (AreAbove-bus bus b)) refl,
-          ([], takes_next third [] f tt, tt),
+          32 ∷ (third ++ flag),
+          takes_next bus (32 ∷ (third ++ flag)) (IsField-above bus b.0 (AreAbove-bus bus b)) refl,
+          (flag, takes_next third flag f more.after, more.spaced),
         ),
       );
       stamp_is = s;
       bus_is = b;
-      flags_are = inl refl;
+      flags_are = more.are;
     }
+
+-- the same without a flag
+pub spaced_parts : (line body first bus third : List ℕ) (stamp : ℕ) → length line ≤ 256 → IsBody line body → body ≡ first ++ (32 ∷ (bus ++ (32 ∷ third)))
+    → IsStampText first stamp → IsBusName bus → IsField third → HasParts line bus third stamp
+spaced_parts line body first bus third stamp short body_is is s b f =
+    flagged_parts line body first bus third [] stamp short body_is (is ∙ ap (λ t. first ++ (32 ∷ (bus ++ (32 ∷ t)))) (sym (append-nil third))) s b f (inl refl)
 
 pub IsField-frame : (text : List ℕ) (id : ℕ) (bytes : List ℕ) → IsFrameText text id bytes → IsField text
 IsField-frame text id bytes f =
@@ -105,10 +140,6 @@ IsField-frame text id bytes f =
     IsField-above text some (AreAbove-frame text id bytes f)
 
 -- ---- the end of such a line
-
--- no byte is a control character
-abbrev AreFromSpace : List ℕ → Type 0
-AreFromSpace bytes = AllByRecursion (λ b. 32 ≤ b) bytes
 
 from_append : (xs ys : List ℕ) → AreFromSpace xs → AreFromSpace ys → AreFromSpace (xs ++ ys)
 from_append [] ys p q = q
@@ -118,12 +149,12 @@ from_above : (xs : List ℕ) → AreAbove xs → AreFromSpace xs
 from_above [] h = tt
 from_above (x ∷ xs) h = (omega (arith, h.0), from_above xs h.1)
 
-spaced_from : (first bus third : List ℕ) (stamp id : ℕ) (bytes : List ℕ) → IsStampText first stamp → IsBusName bus → IsFrameText third id bytes
-    → AreFromSpace (first ++ (32 ∷ (bus ++ (32 ∷ third))))
-spaced_from first bus third stamp id bytes s b f =
-    from_append first (32 ∷ (bus ++ (32 ∷ third))) (from_above first (AreAbove-stamp first stamp s)) (
+spaced_from : (first bus third flag : List ℕ) (stamp id : ℕ) (bytes : List ℕ) → IsStampText first stamp → IsBusName bus → IsFrameText third id bytes → AreFromSpace flag
+    → AreFromSpace (first ++ (32 ∷ (bus ++ (32 ∷ (third ++ flag)))))
+spaced_from first bus third flag stamp id bytes s b f more =
+    from_append first (32 ∷ (bus ++ (32 ∷ (third ++ flag)))) (from_above first (AreAbove-stamp first stamp s)) (
       omega arith,
-      from_append bus (32 ∷ third) (from_above bus (AreAbove-bus bus b)) (omega arith, from_above third (AreAbove-frame third id bytes f)),
+      from_append bus (32 ∷ (third ++ flag)) (from_above bus (AreAbove-bus bus b)) (omega arith, from_append third flag (from_above third (AreAbove-frame third id bytes f)) more),
     )
 
 no_newline_in : (xs ys : List ℕ) → AreFromSpace xs → HasNoNewline ys → HasNoNewline (xs ++ ys)
@@ -150,26 +181,29 @@ end_is body cr from (inr one) =
     )
 
 -- the line that bytes begin with, part by part, and the frames that it spells
-pub first_line : (bytes front cut bus third cr later payload : List ℕ) (stamp id : ℕ) → length front ≡ 18 → length third ≡ 25
-    → bytes ≡ front ++ (cut ++ (41 ∷ (32 ∷ (bus ++ (32 ∷ (third ++ (cr ++ (10 ∷ later)))))))) → length cut ≤ 3 → (cr ≡ []) ⊎ (cr ≡ 13 ∷ [])
+pub first_line : (bytes front cut bus third end later payload : List ℕ) (stamp id : ℕ) → length front ≡ 18 → length third ≡ 25
+    → bytes ≡ front ++ (cut ++ (41 ∷ (32 ∷ (bus ++ (32 ∷ (third ++ end)))))) → length cut ≤ 3 → EndsAt end later
     → IsStampText (front ++ (cut ++ (41 ∷ []))) stamp → IsBusName bus → IsFrameText third id payload
     → (line : List ℕ) × TakesLine bytes line later
     × ((frame : FrameRecord) → IsStampText (front ++ (cut ++ (41 ∷ []))) frame.stamp → IsFrameText third frame.id frame.bytes → IsFrameLine line bus frame)
-first_line bytes front cut bus third cr later payload stamp id long whole is short ends s named t =
+first_line bytes front cut bus third end later payload stamp id long whole is short ends s named t =
+    let cr = ends.cr in
+    let flag = ends.flag in
+    let flagged = flags_of flag ends.flag_is in
     let first = front ++ (cut ++ (41 ∷ [])) in
-    let body = first ++ (32 ∷ (bus ++ (32 ∷ third))) in
-    let end = end_is body cr (spaced_from first bus third stamp id payload s named t) ends in
+    let body = first ++ (32 ∷ (bus ++ (32 ∷ (third ++ flag)))) in
+    let end = end_is body cr (spaced_from first bus third flag stamp id payload s named t flagged.from) ends.cr_is in
     let cut_first : length first ≡ 18 + (length cut + 1) = length-append front (cut ++ (41 ∷ [])) ∙ (let n = length-append cut (41 ∷ []) in omega (arith, long, n)) in
-    let cut_body : length body ≡ length first + suc (length bus + suc (length third)) =
-    length-append first (32 ∷ (bus ++ (32 ∷ third))) ∙ ap (λ n. length first + suc n) (length-append bus (32 ∷ third)) in
+    let cut_body : length body ≡ length first + suc (length bus + suc (length third + length flag)) =
+    length-append first (32 ∷ (bus ++ (32 ∷ (third ++ flag)))) ∙ ap (λ n. length first + suc n) (length-append bus (32 ∷ (third ++ flag)) ∙ ap (λ n. length bus + suc n) (length-append third flag)) in
     let few : length (body ++ cr) ≤ 256 =
-    (let n = length-append body cr in let m = named.1 in let k = end.2 in omega (arith, n, m, k, cut_first, cut_body, short, whole)) in
-    let joined : front ++ (cut ++ (41 ∷ (32 ∷ (bus ++ (32 ∷ (third ++ (cr ++ (10 ∷ later)))))))) ≡ (body ++ cr) ++ (10 ∷ later) = simp append_assoc refl in (
+    (let n = length-append body cr in let m = named.1 in let k = end.2 in let f = flagged.short in omega (arith, n, m, k, f, cut_first, cut_body, short, whole)) in
+    let joined : front ++ (cut ++ (41 ∷ (32 ∷ (bus ++ (32 ∷ (third ++ (flag ++ (cr ++ (10 ∷ later))))))))) ≡ (body ++ cr) ++ (10 ∷ later) = simp append_assoc refl in (
       body ++ cr,
-      record { whole = end.1; bytes_are = is ∙ joined },
+      record { whole = end.1; bytes_are = is ∙ ap (λ xs. front ++ (cut ++ (41 ∷ (32 ∷ (bus ++ (32 ∷ (third ++ xs))))))) ends.text_is ∙ joined },
       λ frame spelled text. record {
         third = third;
-        parts = spaced_parts (body ++ cr) body first bus third frame.stamp few end.0 refl spelled named (IsField-frame third frame.id frame.bytes text);
+        parts = flagged_parts (body ++ cr) body first bus third flag frame.stamp few end.0 refl spelled named (IsField-frame third frame.id frame.bytes text) ends.flag_is;
         third_is = text;
       },
     )

@@ -54,16 +54,28 @@ pub record HasFront (bytes between bus : List ℕ) (found : FrameLine) : Type 0 
   pub bus_is : IsBusName bus
   pub named : length bus ≤ 11 → take (3 + length bus) (drop 2 between) ≡ codes ") " ++ (bus ++ (space ∷ []))
 
--- the text is the digits of the identifier, `#`, the digits of the data, a CR or none, a newline, and the rest
+-- nothing, or a space and `R` or `T`
+abbrev pub IsFlag : List ℕ → Type 0
+IsFlag flag = (flag ≡ []) ⊎ ((flag ≡ codes " R") ⊎ (flag ≡ codes " T"))
+
+-- the text ends the line of a frame: such a flag, a CR or none, and a newline; and then the rest
+pub record EndsAt (text rest : List ℕ) : Type 0 where
+  pub flag : List ℕ
+  pub cr : List ℕ
+  pub text_is : text ≡ flag ++ (cr ++ (newline ∷ rest))
+  pub flag_is : IsFlag flag
+  pub cr_is : (cr ≡ []) ⊎ (cr ≡ carriage_return ∷ [])
+
+-- the text is the digits of the identifier, `#`, the digits of the data, and the line's end with the rest
 pub record HasThird (text : List ℕ) (found : FrameLine) (rest : List ℕ) : Type 0 where
   pub digits : List ℕ
-  pub cr : List ℕ
-  pub text_is : text ≡ digits ++ (hash ∷ (found.data.now ++ (cr ++ (newline ∷ rest))))
+  pub end : List ℕ
+  pub text_is : text ≡ digits ++ (hash ∷ (found.data.now ++ end))
   pub digits_fit : length digits ≡ 8
   pub data_fit : length found.data.now ≡ 16
   pub written : IsWritten digits found.id
   pub bytes_are : decode_of found.data.now ≡ Ok (bytes_of found.data.now)
-  pub cr_is : (cr ≡ []) ⊎ (cr ≡ carriage_return ∷ [])
+  pub ends : EndsAt end rest
 
 pub record HasForm (bytes between : List ℕ) (third_at : ℕ) (bus : List ℕ) (found : FrameLine) (rest : List ℕ) : Type 0 where
   pub front : HasFront bytes between bus found

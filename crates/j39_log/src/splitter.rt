@@ -48,8 +48,8 @@ impl Splitter {
 
     /// The line of a frame of this bus that the piece begins with, and how many bytes it has with its newline, where nothing was
     /// begun before and the line has the form of most: ten digits of seconds, six decimals or nine, one space between the fields,
-    /// a name of at most 11 bytes, eight bytes of data, and one CR at its end or none. `None` says nothing of the piece, which
-    /// `feed` takes whatever it is. The second of the line and its identifier are kept for the next ones.
+    /// a name of at most 11 bytes, eight bytes of data, `R` or `T` behind them or none, and one CR at its end or none. `None` says
+    /// nothing of the piece, which `feed` takes whatever it is. The second of the line and its identifier are kept for the next ones.
     #[inline(always)]
     pub fn line_on<'a>(
         &self,

@@ -47,6 +47,20 @@ static ROWS: &[Row] = &[
         id: 0x1CEC_FF00,
         bytes: [0x20, 0x14, 0x00, 0x03, 0xFF, 0xE3, 0xFE, 0x00],
     },
+    Row {
+        line: b"(1700000000.250000) can0 0CF00400#F87DA000000000FF R\n",
+        bus: b"can0",
+        micros: 1_700_000_000_250_000,
+        id: 0x0CF0_0400,
+        bytes: [0xF8, 0x7D, 0xA0, 0, 0, 0, 0, 0xFF],
+    },
+    Row {
+        line: b"(1700000001.999999999) vcan12 18febf0b#0123456789abcdef T\r\n",
+        bus: b"vcan12",
+        micros: 1_700_000_001_999_999,
+        id: 0x18FE_BF0B,
+        bytes: [0x01, 0x23, 0x45, 0x67, 0x89, 0xAB, 0xCD, 0xEF],
+    },
 ];
 
 #[test]

@@ -7,7 +7,7 @@ ghost use Rattle.j39_log.specs.Form.{Fits, rests};
 ghost use Rattle.std.specs.Simd.Lanes.{zip2};
 ghost use Rattle.j39_log.specs.Lanes.{bytes_of, hex_lane};
 
-use crate::fast::lanes::hex_values;
+use crate::fast::lanes::{are_below, hex_values};
 use std::simd::prelude::*;
 
 /// What may stand in a block: in each place a byte, or one that lies at most so far above it.
@@ -50,7 +50,7 @@ fn are_zero(a: u8x16, b: u8x16, c: u8x16) -> bool
     ensures b { OnTrue result (AllByRecursion (λ x. x ≡ 0) b) }
     ensures c { OnTrue result (AllByRecursion (λ x. x ≡ 0) c) }
 {
-    !(a | b | c).simd_ne(u8x16::splat(0)).any()
+    are_below(a | b | c, 1)
 }
 
 /// Whether two blocks fit their forms, and values are those of hex digits.

@@ -3,7 +3,7 @@
 ghost use Rattle.std.specs.Prelude.{◌≡◌, ◌++◌, ◌∷◌, ◌⊎◌, [], ℕ, List, length, IfSome};
 ghost use Rattle.std.specs.Str.Parse.{AllDigits};
 ghost use Rattle.j39_io.specs.Chars.{carriage_return, newline};
-ghost use Rattle.j39_log.specs.FrameLine.{BeginsLine, HasForm};
+ghost use Rattle.j39_log.specs.FrameLine.{BeginsLine, EndsAt, HasForm};
 
 use crate::fast::form::{have_form, values_of};
 use crate::fast::frame_line::FrameLine;
@@ -135,9 +135,37 @@ fn formed<'a>(
     Some((line, rest))
 }
 
-/// What follows a newline, whose first byte was taken off, or the CR before it.
+/// What follows the end of a line, which begins behind the data: nothing, or a space and `R` or `T`, as `candump -x` writes them;
+/// then a CR or none, and a newline.
 #[inline(always)]
 fn after_end(end: u8, rest: &[u8]) -> Option<&[u8]>
+    ensures { IfSome result (λ later. EndsAt (end ∷ rest.now) later.now) }
+{
+    match end {
+        b'\n' => Some(rest),
+        b'\r' => after_newline(rest),
+        _ => after_flag(end, rest),
+    }
+}
+
+/// The same, where a space comes first. It is no part of its caller, whose way for most lines so stays short.
+#[inline(never)]
+fn after_flag(end: u8, rest: &[u8]) -> Option<&[u8]>
+    ensures { IfSome result (λ later. EndsAt (end ∷ rest.now) later.now) }
+{
+    if end != b' ' {
+        return None;
+    }
+    let (flag, rest) = rest.split_first()?;
+    let (end, rest) = rest.split_first()?;
+    if *flag != b'R' && *flag != b'T' {
+        return None;
+    }
+    after_cr(*end, rest)
+}
+
+/// What follows a newline, whose first byte was taken off, or the CR before it.
+fn after_cr(end: u8, rest: &[u8]) -> Option<&[u8]>
     ensures { IfSome result (λ later. (cr : List ℕ) × ((cr ≡ []) ⊎ (cr ≡ carriage_return ∷ []))
         × (end ∷ rest.now ≡ cr ++ (newline ∷ later.now))) }
 {

@@ -1,6 +1,7 @@
 -- What was written last stands first.
 use Rattle.std.proofs.Common.{◌≡◌, ◌≤◌, ◌∙◌, ◌+◌, ◌++◌, ◌∷◌, ap, arith, drop, length, replicate, take, List, ℕ}
-use Rattle.j39_log.proofs.ReaderLemmas.{take_min, take_replicate}
+use Rattle.std.proofs.lemmas.List.{take-replicate}
+use Rattle.j39_log.proofs.ReaderLemmas.{take_min}
 use Rattle.j39_log.proofs.bus.between_of.Goals as goal
 
 pub returns : goal.returns
@@ -10,7 +11,7 @@ returns c =
     let fixed = c.split_at-2.result.0.now in
     let is : front ≡ take 11 name = c.split_at.ensures.front ∙ ap (λ n. take n name) c.min.ensures ∙ take_min name 11 in
     let few : length front ≤ 11 = omega (arith, c.split_at.ensures.front_len, c.min.ensures) in
-    let zeros : fixed ≡ replicate (3 + length front) 0 = c.split_at-2.ensures.front ∙ take_replicate (3 + length front) 14 0 (omega (arith, few)) in
+    let zeros : fixed ≡ replicate (3 + length front) 0 = c.split_at-2.ensures.front ∙ take-replicate (3 + length front) 14 0 (omega (arith, few)) in
     let text : c.slice_before-text.result ≡ 4 = omega (arith, c.slice_before-text.ensures.starts) in
     let whole : c.bytes_before.result ≡ 0 = omega (arith, text, c.bytes_before.ensures.starts) in
     let text2 : c.slice_before-text-2.result ≡ 2 = omega (arith, c.slice_before-text-2.ensures.starts, c.split_at-2.ensures.front_len) in

@@ -18,10 +18,9 @@ returns c =
     let third = c.in_ok-third.ensures.cases in
     let digits = c.in_ok-digits.ensures.cases in
     let d = c.in_ok-data.ensures.cases in
-    let rest = c.in_ok-rest.ensures in
     let p = third_parts text c.in_ok-third.third.now c.in_ok-digits.digits.now c.in_ok-digits.third.now c.in_ok-hash.third.now c.in_ok-data.data.now c.in_ok-data.third.now c.in_ok-end.field-0-1.now
-    c.in_ok-third.rest.now c.in_ok-rest.rest.now rest.0 c.in_ok-hash.hash.now c.in_ok-end.end.now third.0 third.1 (omega (arith, third.2)) (digits.0 ∙ ap (take 8) c.as_slice.ensures) (digits.1 ∙ ap (drop 8) c.as_slice.ensures) c.in_ok-hash.ensures.cases.0
-    d.0 d.1 c.in_ok-end.ensures.cases.0 rest.2 in
+    c.in_ok-third.rest.now c.in_ok-hash.hash.now c.in_ok-end.end.now third.0 third.1 (omega (arith, third.2)) (digits.0 ∙ ap (take 8) c.as_slice.ensures) (digits.1 ∙ ap (drop 8) c.as_slice.ensures) c.in_ok-hash.ensures.cases.0
+    d.0 d.1 c.in_ok-end.ensures.cases.0 in
     record {
       front = front_found bytes c.args.between.now bus _ c.last.inside.0.0.form c.bus.inside.between (omega (arith, first.2)) c.told-between front.0
           (subst (λ block. Fits block c.last.inside.0.0.form) first.0 (OnTrue_at c.if-not-have_form.false c.have_form.ensures.first)) has
@@ -29,12 +28,12 @@ returns c =
       within = omega arith;
       third = record {
         digits = c.in_ok-digits.digits.now;
-        cr = rest.0;
-        text_is = sym c.split_at.ensures.back ∙ p.0 ∙ ap (λ m. c.in_ok-digits.digits.now ++ (m ∷ (c.in_ok-data.data.now ++ (rest.0 ++ (10 ∷ c.in_ok-rest.rest.now))))) c.if-hash-ne35.false;
+        end = c.in_ok-end.end.now ∷ c.in_ok-third.rest.now;
+        text_is = sym c.split_at.ensures.back ∙ p.0 ∙ ap (λ m. c.in_ok-digits.digits.now ++ (m ∷ (c.in_ok-data.data.now ++ (c.in_ok-end.end.now ∷ c.in_ok-third.rest.now)))) c.if-hash-ne35.false;
         digits_fit = p.1;
         data_fit = p.2;
         written = c.in_ok-id.ensures.some;
         bytes_are = c.values_of-values.ensures.digits (OnTrue_at c.if-not-have_form.false c.have_form.ensures.values);
-        cr_is = rest.1;
+        ends = c.in_ok-rest.ensures;
       };
     }
