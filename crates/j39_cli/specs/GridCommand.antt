@@ -1,12 +1,13 @@
 -- The command `grid [--every S] [--bus B] [--table T] --spn SPN,.. [--from A,..] [--to A,..] [--pgn PGN,..] [--since S] [--until S]
 -- [--csv | --json] [FILE]..`.
-use Rattle.std.specs.Prelude.{◌≡◌, ◌≢◌, ◌≤◌, ◌∷◌, [], ℕ, false, List, None, Option, codes, option_map, unwrap_or}
+use Rattle.std.specs.Prelude.{◌≡◌, ◌≢◌, ◌∷◌, [], ℕ, false, List, None, Option, codes, option_map, unwrap_or}
 use Rattle.clap.specs.Words.{App, Text, new_app, with_rule}
 use Rattle.j39_groups.specs.Row.{RowRecord}
 use Rattle.j39_listen.specs.Asking.{AsksForBoxes}
 use Rattle.j39_grid.specs.GridRun.{MakesGrid, Subject}
 use Rattle.j39_cli.specs.Answer.{Check, check, value_check}
 use Rattle.j39_cli.specs.Asked.{filter_in, with_asked}
+use Rattle.j39_cli.specs.Every.{IsSpan}
 use Rattle.j39_cli.specs.Form.{Form, Meaning, option}
 use Rattle.j39_cli.specs.LogCommand.{IsRun, with_forms, with_log}
 use Rattle.j39_cli.specs.RowOptions.{AreOptions, RowTexts, row_arguments, row_checks, row_meaning}
@@ -22,10 +23,6 @@ abbrev pub grid_app : App
 grid_app = with_log (with_forms (with_asked (with_table (with_rule (new_app (codes "grid")) (option_rule (codes "every") false)))))
 
 -- ---- its values
-
--- a microsecond to a day
-abbrev pub IsSpan : ℕ → Type 0
-IsSpan micros = (1 ≤ micros) × (micros ≤ 86400000000)
 
 -- so many seconds
 abbrev pub IsEvery : List ℕ → Type 0

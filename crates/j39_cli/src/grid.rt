@@ -8,13 +8,13 @@ ghost use Rattle.j39_listen.specs.Ran.{Ran};
 ghost use Rattle.j39_grid.specs.GridRun.{MakesGrid};
 ghost use Rattle.j39_cli.specs.Answer.{IsReadAs};
 ghost use Rattle.j39_cli.specs.CommandWords.{IsAnswered, command_found};
-ghost use Rattle.j39_cli.specs.GridCommand.{IsEvery, IsGridRun, IsSpan, columns_check, every_check, every_in, grid_app, subject_in};
+ghost use Rattle.j39_cli.specs.Every.{IsSpan};
+ghost use Rattle.j39_cli.specs.GridCommand.{IsEvery, IsGridRun, columns_check, every_check, every_in, grid_app, subject_in};
 ghost use Rattle.j39_cli.specs.LogCommand.{log_limit};
 ghost use Rattle.j39_cli.specs.Rules.{IsMade};
 ghost use Rattle.j39_cli.specs.Seconds.{seconds_value};
 
 use crate::command::{new_command, with_option};
-use crate::lists::slice_of;
 use crate::log::{LOG_LIMIT, copy_of, tell_end, tell_fault};
 use crate::options::{RowOptions, rows_given, with_rows};
 use crate::seconds::micros_of;
@@ -35,7 +35,7 @@ pub struct Every {
 
 impl Model for Every {
     ghost use Rattle.std.specs.Prelude.{ℕ};
-    ghost use Rattle.j39_cli.specs.GridCommand.{IsSpan};
+    ghost use Rattle.j39_cli.specs.Every.{IsSpan};
 
     ghost Value = { ℕ };
 
