@@ -64,4 +64,4 @@ class Filter:
 def filter_of(chance, names, groups, lines):
     """A filter for a log of these lines, or one that takes all."""
     stamps = [int(line[1:line.index(".")]) * 1_000_000 + int(line[line.index(".") + 1:line.index(")")]) for line in lines] or [0]
-    return Filter(chance, names, groups, stamps[0], stamps[-1])
+    return Filter(chance, names, groups, stamps[0], max(stamps))

@@ -12,6 +12,7 @@ _j1939_options() {
     '') echo --help -h --version -V ;;
     report) echo --bus --table --spn --from --to --pgn --since --until --csv --json --help -h ;;
     summary) echo --bus --table --spn --from --to --pgn --since --until --csv --json --help -h ;;
+    grid) echo --every --bus --table --spn --from --to --pgn --since --until --csv --json --help -h ;;
     faults) echo --bus --table --conversion --spn --from --to --pgn --since --until --all --changes --now --csv --json --help -h ;;
     nodes) echo --bus --from --seen --csv --json --help -h ;;
     answer) echo --name --address --bus --help -h ;;
@@ -24,7 +25,7 @@ _j1939_options() {
 }
 
 _j1939() {
-  local commands='report faults summary nodes answer groups survey watch id name cut help'
+  local commands='report faults summary grid nodes answer groups survey watch id name cut help'
   local word=${COMP_WORDS[COMP_CWORD]} before=${COMP_WORDS[COMP_CWORD - 1]} command='' offered=''
   if [ "$COMP_CWORD" -gt 1 ]; then
     command=${COMP_WORDS[1]}
@@ -39,10 +40,10 @@ _j1939() {
     *:--bus:*) offered=$(_j1939_buses) ;;
     *:--table:*) compopt -o default 2>/dev/null ;;
     *:--name:* | *:--address:* | *:--source:* | *:--pgn:* | *:--at:* | *:--spn:* | *:--conversion:* | \
-      *:--from:* | *:--to:* | *:--since:* | *:--until:* | *:--rows:* | *:--width:*) ;;
+      *:--from:* | *:--to:* | *:--since:* | *:--until:* | *:--rows:* | *:--width:* | *:--every:*) ;;
     *:-*) offered=$(_j1939_options "$command") ;;
     :* | help:*) offered=$commands ;;
-    report:* | faults:* | summary:* | nodes:* | answer:* | survey:* | watch:*) compopt -o default 2>/dev/null ;;
+    report:* | faults:* | summary:* | grid:* | nodes:* | answer:* | survey:* | watch:*) compopt -o default 2>/dev/null ;;
   esac
   mapfile -t COMPREPLY < <(compgen -W "$offered" -- "$word")
 }

@@ -2,10 +2,11 @@
 use Rattle.j39_cli.proofs.Common.{◌≡◌, ◌∷◌, [], Some, codes, refl, Rule, Shape, Text, filled, with_index, arg_by_id}
 use Rattle.clap.proofs.OnLiterals.{clap_on_literals}
 use Rattle.j39_cli.specs.Command.{line_app}
-use Rattle.j39_cli.specs.CommandWords.{CommandWords, HasValues, answer, cut, faults, form_of, groups, id, name, nodes, report, summary, survey, watch}
+use Rattle.j39_cli.specs.CommandWords.{CommandWords, HasValues, answer, cut, faults, form_of, grid, groups, id, name, nodes, report, summary, survey, watch}
 use Rattle.j39_cli.specs.AnswerCommand.{answer_app}
 use Rattle.j39_cli.specs.CutCommand.{cut_app}
 use Rattle.j39_cli.specs.FaultsCommand.{faults_app}
+use Rattle.j39_cli.specs.GridCommand.{grid_app}
 use Rattle.j39_cli.specs.GroupsCommand.{groups_app}
 use Rattle.j39_cli.specs.IdCommand.{id_app}
 use Rattle.j39_cli.specs.NameCommand.{name_app}
@@ -45,6 +46,10 @@ is_read program (report texts) =
     (record { step = refl; passes = refl; found = refl; checks = refl }) refl refl
 is_read program (summary texts) =
     parsed_choices program summary_app (summary texts) (before_each (form_of (summary texts)).arguments) file_rule texts.file (takes_file refl)
+    (record { choices = tt; known = refl; apart = refl; defaults = refl; none_by_default = refl; first = refl; valid = λ rows. refl })
+    (record { step = refl; passes = refl; found = refl; checks = refl }) refl refl
+is_read program (grid every texts) =
+    parsed_choices program grid_app (grid every texts) (before_each (form_of (grid every texts)).arguments) file_rule texts.file (takes_file refl)
     (record { choices = tt; known = refl; apart = refl; defaults = refl; none_by_default = refl; first = refl; valid = λ rows. refl })
     (record { step = refl; passes = refl; found = refl; checks = refl }) refl refl
 is_read program (faults conversion all changes now texts) =

@@ -118,6 +118,10 @@ is_command_found (command.report texts) found are =
 is_command_found (command.summary texts) found are =
     let asked = asked_are_found texts.asked (log_arguments texts.csv texts.json texts.file) found are.1.1 in
     ap command.summary (rows_are_found texts found are.0 are.1.0 asked.0 asked.1)
+is_command_found (command.grid every texts) found are =
+    let asked = asked_are_found texts.asked (log_arguments texts.csv texts.json texts.file) found are.1.1.1 in
+    let rows = rows_are_found texts found are.1.0 are.1.1.0 asked.0 asked.1 in
+    λ i. command.grid (sym are.0 i) (rows i)
 is_command_found (command.faults conversion all changes now texts) found are =
     let flags = flag (codes "all") all ∷ flag (codes "changes") changes ∷ flag (codes "now") now ∷ log_arguments texts.csv texts.json texts.file in
     let asked = asked_are_found texts.asked flags found are.1.1.1 in

@@ -5,6 +5,7 @@ use Rattle.clap.specs.Words.{App, new_app, with_subcommand}
 use Rattle.j39_cli.specs.AnswerCommand.{answer_app}
 use Rattle.j39_cli.specs.CutCommand.{cut_app}
 use Rattle.j39_cli.specs.FaultsCommand.{faults_app}
+use Rattle.j39_cli.specs.GridCommand.{grid_app}
 use Rattle.j39_cli.specs.GroupsCommand.{groups_app}
 use Rattle.j39_cli.specs.IdCommand.{id_app}
 use Rattle.j39_cli.specs.NameCommand.{name_app}
@@ -23,6 +24,7 @@ abbrev pub command_apps : List App
 command_apps =
     report_app
     ∷ summary_app
+    ∷ grid_app
     ∷ id_app
     ∷ name_app
     ∷ cut_app

@@ -8,6 +8,7 @@ use Rattle.j39_cli.specs.Form.{Form, HaveTexts, HaveValues, WantsMemory, text_fo
 use Rattle.j39_cli.specs.AnswerCommand.{answer_form}
 use Rattle.j39_cli.specs.CutCommand.{cut_form}
 use Rattle.j39_cli.specs.FaultsCommand.{faults_form}
+use Rattle.j39_cli.specs.GridCommand.{grid_form}
 use Rattle.j39_cli.specs.GroupsCommand.{groups_form}
 use Rattle.j39_cli.specs.IdCommand.{id_form}
 use Rattle.j39_cli.specs.NameCommand.{name_form}
@@ -25,6 +26,7 @@ use Rattle.j39_cli.specs.declared.task.ParseFault.TheVariants.{Memory}
 pub data CommandWords : Type 0 where
   report : RowTexts → CommandWords
   summary : RowTexts → CommandWords
+  grid : Option Text → RowTexts → CommandWords
   faults : Option Text → Bool → Bool → Bool → RowTexts → CommandWords
   nodes : Option Text → Option Text → Bool → Bool → Bool → List Text → CommandWords
   answer : Text → Text → Option Text → List Text → CommandWords
@@ -38,6 +40,7 @@ pub data CommandWords : Type 0 where
 abbrev pub form_of : CommandWords → Form
 form_of (report texts) = report_form texts
 form_of (summary texts) = summary_form texts
+form_of (grid every texts) = grid_form every texts
 form_of (faults conversion all changes now texts) = faults_form conversion all changes now texts
 form_of (nodes bus from seen csv json file) = nodes_form bus from seen csv json file
 form_of (answer node address bus file) = answer_form node address bus file
@@ -67,6 +70,7 @@ command_found called found =
     let file = texts_found found (codes "file") in
     if bytes_eq called (codes "report") then report (rows_found found)
     else if bytes_eq called (codes "summary") then summary (rows_found found)
+    else if bytes_eq called (codes "grid") then grid (first_value found (codes "every")) (rows_found found)
     else if bytes_eq called (codes "faults") then
     faults (first_value found (codes "conversion")) (is_given (first_value found (codes "all")))
     (is_given (first_value found (codes "changes"))) (is_given (first_value found (codes "now"))) (rows_found found)

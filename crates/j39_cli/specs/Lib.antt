@@ -34,6 +34,8 @@ pub mod NameCommand
 pub mod Conversions
 pub mod Outgoing
 pub mod CutCommand
+pub mod Every
+pub mod GridCommand
 pub mod GroupsCommand
 -- what is written on a device
 pub mod Tells

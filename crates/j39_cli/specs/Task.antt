@@ -9,6 +9,7 @@ use Rattle.j39_cli.specs.LogCommand.{is_input}
 use Rattle.j39_cli.specs.AnswerCommand.{answer_meaning}
 use Rattle.j39_cli.specs.CutCommand.{cut_meaning}
 use Rattle.j39_cli.specs.FaultsCommand.{faults_meaning}
+use Rattle.j39_cli.specs.GridCommand.{grid_meaning}
 use Rattle.j39_cli.specs.GroupsCommand.{groups_meaning}
 use Rattle.j39_cli.specs.IdCommand.{id_meaning}
 use Rattle.j39_cli.specs.NameCommand.{name_meaning}
@@ -18,11 +19,12 @@ use Rattle.j39_cli.specs.SummaryCommand.{summary_meaning}
 use Rattle.j39_cli.specs.SurveyCommand.{survey_meaning}
 use Rattle.j39_cli.specs.WatchCommand.{watch_meaning}
 use Rattle.j39_cli.specs.declared.task.Task.{Task}
-use Rattle.j39_cli.specs.declared.task.Task.TheVariants.{Report, Summary, Faults, Nodes, Answer, Id, Name, Cut, Groups, Survey, Watch}
+use Rattle.j39_cli.specs.declared.task.Task.TheVariants.{Report, Summary, Grid, Faults, Nodes, Answer, Id, Name, Cut, Groups, Survey, Watch}
 
 abbrev pub meaning_of : Task → Meaning
 meaning_of (Report options) = report_meaning options
 meaning_of (Summary options) = summary_meaning options
+meaning_of (Grid options) = grid_meaning options
 meaning_of (Faults options) = faults_meaning options
 meaning_of (Nodes input from told) = nodes_meaning input from told
 meaning_of (Answer name address input) = answer_meaning (name_raw name) address input

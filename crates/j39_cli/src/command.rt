@@ -5,7 +5,7 @@ ghost use Rattle.j39_cli.specs.Command.{bare_app, line_app};
 ghost use Rattle.j39_cli.specs.HexCommand.{hex_app};
 ghost use Rattle.j39_cli.specs.Rules.{IsMade, flag_rule, option_rule, value_rule, values_rule, with_table};
 
-use crate::{answer, cut, faults, groups, id, name, nodes, report, summary, survey, watch};
+use crate::{answer, cut, faults, grid, groups, id, name, nodes, report, summary, survey, watch};
 use clap::{Arg, ArgAction, Command};
 use std::alloc::{AllocError, Global};
 
@@ -19,6 +19,7 @@ Examples:
   j1939 report --spn 190,110 --csv trip.log
   candump -L can0 | j1939 report
   j1939 summary trip.log
+  j1939 grid --every 0.5 --spn 190,110 --csv trip.log
   j1939 faults trip.log
   j1939 nodes trip.log
   j1939 answer --name 8000000001401234 --address 0 trip.log
@@ -45,6 +46,7 @@ pub(crate) fn line<'a>(alloc: Global) -> Result<Command<'a>, AllocError>
     let line = bare(alloc);
     let line = with_command(line, report::command(alloc));
     let line = with_command(line, summary::command(alloc));
+    let line = with_command(line, grid::command(alloc));
     let line = with_command(line, id::command(alloc));
     let line = with_command(line, name::command(alloc));
     let line = with_command(line, cut::command(alloc));

@@ -41,7 +41,8 @@ impl<T: Copy + Default> Model for Listed<T> {
 impl<T: Copy + Default> Listed<T> {
     /// The values themselves.
     pub fn as_slice(&self) -> &[T]
-        ensures { result.now ≡ self.now }
+        ensures value { result.now ≡ self.now }
+        ensures few { length result.now ≤ 32 }
     {
         self.values.as_slice()
     }

@@ -8,7 +8,7 @@ use crate::id::id_line;
 use crate::log::tell_end;
 use crate::name::name_lines;
 use crate::shown::show_text;
-use crate::{Task, answer, faults, groups, nodes, report, summary, survey, watch};
+use crate::{Task, answer, faults, grid, groups, nodes, report, summary, survey, watch};
 use j39_groups::Groups;
 use j39_io::{Sink, Source};
 use std::alloc::Global;
@@ -76,6 +76,7 @@ pub fn perform_with<R: Source, W: Sink, E: Sink>(
     match task {
         Task::Report(options) => report::perform(alloc, groups, options, source, sink, err),
         Task::Summary(options) => summary::perform(alloc, groups, options, source, sink, err),
+        Task::Grid(options) => grid::perform(alloc, groups, options, source, sink, err),
         Task::Faults(options) => faults::perform(alloc, groups, options, source, sink, err),
         Task::Nodes { input, from, told } => tell_end(
             nodes::run(*told, from, &input.bus, source, sink),

@@ -4,7 +4,7 @@ ghost use Rattle.j39_frame.specs.Address.{IsAddress};
 ghost use Rattle.j39_cli.specs.Answer.{argument_form, argument_text};
 ghost use Rattle.j39_cli.specs.Task.{file_of, files_of, table_of};
 
-use crate::{FaultOptions, Outgoing, RowOptions, Senders};
+use crate::{FaultOptions, GridOptions, Outgoing, RowOptions, Senders};
 use j39_address::Name;
 use j39_frame::{Id, is_address};
 use j39_listen::Format;
@@ -156,6 +156,8 @@ pub enum Task<'a> {
     Report(RowOptions<'a>),
     /// The summary of a log.
     Summary(RowOptions<'a>),
+    /// The grid of a log's report.
+    Grid(GridOptions<'a>),
     /// The fault codes in a log.
     Faults(FaultOptions<'a>),
     /// Who holds which address after a log.
@@ -212,6 +214,7 @@ impl<'a> Task<'a> {
         match self {
             Task::Report(options) => options.input.file.as_slice(),
             Task::Summary(options) => options.input.file.as_slice(),
+            Task::Grid(options) => options.rows.input.file.as_slice(),
             Task::Faults(options) => options.rows.input.file.as_slice(),
             Task::Nodes { input, .. } => input.file.as_slice(),
             Task::Answer { input, .. } => input.file.as_slice(),
@@ -238,6 +241,7 @@ impl<'a> Task<'a> {
         match self {
             Task::Report(options) => text_of(&options.table),
             Task::Summary(options) => text_of(&options.table),
+            Task::Grid(options) => text_of(&options.rows.table),
             Task::Faults(options) => text_of(&options.rows.table),
             Task::Survey { table, .. } => text_of(table),
             Task::Watch { table, .. } => text_of(table),
@@ -283,6 +287,8 @@ pub enum Argument {
     Since,
     /// `--until`, the last one.
     Until,
+    /// `--every`, how long the spans of a grid are.
+    Every,
     /// `--conversion`, the versions by which SPNs are read.
     Conversion,
     /// `--rows`, how many rows the terminal has.
@@ -313,6 +319,7 @@ impl Argument {
             Argument::To => "--to",
             Argument::Since => "--since",
             Argument::Until => "--until",
+            Argument::Every => "--every",
             Argument::Conversion => "--conversion",
             Argument::Rows => "--rows",
             Argument::Width => "--width",
@@ -342,6 +349,7 @@ impl Argument {
                 "--since takes 1700000000.5, 2023-11-14T22:13:20Z, or +90 behind the first frame",
             Argument::Until =>
                 "--until takes 1700000000.5, 2023-11-14T22:13:20Z, or +90 behind the first frame",
+            Argument::Every => "--every takes seconds from 0.000001 to 86400, as 0.5",
             Argument::Conversion =>
                 "--conversion takes versions from 1 to 3, as 2, or of NAMEs, as 8000000001401234=1,2",
             Argument::Rows => "--rows takes 2 to 1000",

@@ -18,8 +18,8 @@ use crate::asked::moment_of;
 use crate::command::line;
 use crate::lists::{Listed, Word, list_of};
 use crate::{
-    Argument, Files, LogInput, ParseFault, Task, answer, cut, faults, groups, id, name, nodes,
-    report, summary, survey, watch,
+    Argument, Files, LogInput, ParseFault, Task, answer, cut, faults, grid, groups, id, name,
+    nodes, report, summary, survey, watch,
 };
 use clap::error::ErrorKind;
 use clap::{ArgMatches, Error};
@@ -113,6 +113,7 @@ fn task_named<'a>(alloc: Global, name: &str, given: &ArgMatches<'a>) -> Result<T
     match name {
         "report" => report::task(alloc, given),
         "summary" => summary::task(alloc, given),
+        "grid" => grid::task(alloc, given),
         "id" => id::task(required(alloc, given, "hex")?),
         "name" => name::task(required(alloc, given, "hex")?),
         "cut" => cut::task(alloc, given),

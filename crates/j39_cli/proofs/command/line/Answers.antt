@@ -21,4 +21,5 @@ returns c =
     let line8 = c.with_command-line-8.ensures _ _ line7 c.command-8.ensures in
     let line9 = c.with_command-line-9.ensures _ _ line8 c.command-9.ensures in
     let line10 = c.with_command-line-10.ensures _ _ line9 c.command-10.ensures in
-    told _ line_app (c.with_command.ensures _ _ line10 c.command-11.ensures)
+    let line11 = c.with_command-line-11.ensures _ _ line10 c.command-11.ensures in
+    told _ line_app (c.with_command.ensures _ _ line11 c.command-12.ensures)

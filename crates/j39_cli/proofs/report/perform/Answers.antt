@@ -11,7 +11,7 @@ returns-in_default-clause-run g c = rw c.in_default.is (is_reported (filter_in c
 pub returns-in-Ok-clause-run : goal.returns-in-Ok-clause-run
 returns-in-Ok-clause-run g c = rw c.in-Some.is (inl (
   c.in-Ok.kept,
-  rw c.as_slice.ensures at c.in-Ok.ensures.kept,
+  rw c.as_slice.ensures.value at c.in-Ok.ensures.kept,
   is_reported (filter_in c.args.options.now.asked) c.args.options.now.format c.args.options.now.input.bus c.in-Ok.kept c.run-in-Ok.result _ _ _ _
       c.run-in-Ok.ensures.ran c.tell_end-in-Ok.ensures.told c.run-in-Ok.ensures.published c.run-in-Ok.ensures.asked c.run-in-Ok.ensures.kept_up,
 ))

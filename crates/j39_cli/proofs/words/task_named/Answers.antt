@@ -1,6 +1,6 @@
 -- Each command answers what clap met under its name.
 use Rattle.j39_cli.proofs.Common.{codes, refl, found_of}
-use Rattle.j39_cli.specs.CommandWords.{faults, groups, id, name, nodes, report, summary, survey, watch}
+use Rattle.j39_cli.specs.CommandWords.{faults, grid, groups, id, name, nodes, report, summary, survey, watch}
 use Rattle.j39_cli.specs.RowOptions.{rows_found}
 use Rattle.j39_cli.proofs.MetLemmas.{tells, tells_none}
 use Rattle.j39_cli.proofs.words.task_named.Goals as goal
@@ -10,6 +10,9 @@ returns-in-report-clause-tells c = tells _ (found_of c.args.given.now) c.task.re
 
 pub returns-in-summary-clause-tells : goal.returns-in-summary-clause-tells
 returns-in-summary-clause-tells c = tells _ (found_of c.args.given.now) c.task-in-summary.result (summary (rows_found (found_of c.args.given.now))) c.in-summary.is (refl, (refl, (refl, (refl, (refl, (refl, (refl, (refl, (refl, (refl, (refl, tt))))))))))) c.task-in-summary.ensures.answer
+
+pub returns-in-grid-clause-tells : goal.returns-in-grid-clause-tells
+returns-in-grid-clause-tells c = tells _ (found_of c.args.given.now) c.task-in-grid.result (grid _ (rows_found (found_of c.args.given.now))) c.in-grid.is (refl, (refl, (refl, (refl, (refl, (refl, (refl, (refl, (refl, (refl, (refl, (refl, tt)))))))))))) c.task-in-grid.ensures.answer
 
 pub returns-in-faults-clause-tells : goal.returns-in-faults-clause-tells
 returns-in-faults-clause-tells c = tells _ (found_of c.args.given.now) c.task-in-faults.result (faults _ _ _ _ (rows_found (found_of c.args.given.now))) c.in-faults.is (refl, (refl, (refl, (refl, (refl, (refl, (refl, (refl, (refl, (refl, (refl, (refl, (refl, (refl, (refl, tt))))))))))))))) c.task-in-faults.ensures.answer
