@@ -13,10 +13,10 @@ returns-clause-ran g c =
     let rows = c.args.groups.now in
     let wanted = subject_in c.args.options.now rows in
     let asked_is : asked_of c.unwrap-asked.result ≡ wanted.asked =
-        (rw c.unwrap-asked.ensures at c.new.ensures.value)
-        ∙ (λ i. record { form = c.args.options.now.rows.format; every = c.micros.ensures.value i; spns = c.columns_of-spns.ensures.value i }) in
+    (rw c.unwrap-asked.ensures at c.new.ensures.value)
+    ∙ (λ i. record { form = c.args.options.now.rows.format; every = c.micros.ensures.value i; spns = c.columns_of-spns.ensures.value i }) in
     let is : record { asked = asked_of c.unwrap-asked.result; which = which_of c.filter_given-filter.result; rows = rows } ≡ wanted =
-        λ i. record { asked = asked_is i; which = c.filter_given-filter.ensures i; rows = rows } in
+    λ i. record { asked = asked_is i; which = c.filter_given-filter.ensures i; rows = rows } in
     let log = turn g.R.Source.remaining g.R.Source.has_failed c.args.source.now c.grid.new.source in
     let out = turn g.W.Sink.written g.W.Sink.has_failed c.args.sink.now c.grid.new.sink in
     rw (sym c.copy_of-bus.ensures)
