@@ -22,11 +22,11 @@ use crate::refusal::show;
 use crate::words::{bus_value, format_value, is_set, list_value, log_input};
 use crate::{Argument, FaultsTold, ParseFault, Task, WordText};
 use clap::{ArgMatches, Command};
+use j39_fault_reports::{Choice, FaultCounts, Telling, faults, faults_now};
 use j39_faults::Conversion;
 use j39_groups::Groups;
 use j39_io::{Sink, Source};
 use j39_listen::RunFault;
-use j39_fault_reports::{Choice, FaultCounts, Telling, faults, faults_now};
 use std::alloc::{AllocError, Global};
 
 const ABOUT: &str = "\

@@ -4,9 +4,9 @@ ghost use Rattle.arrayvec.specs.ArrayVec.{array_vec_len};
 ghost use Rattle.j39_cli.specs.Counted.{counts_text, counts_words, fault_counts_text};
 
 use arrayvec::ArrayVec;
+use j39_fault_reports::FaultCounts;
 use j39_io::printing::{push_bytes, push_number};
 use j39_listen::Counts;
-use j39_fault_reports::FaultCounts;
 
 /// The line of a run's counts, with its newline.
 pub(crate) fn counts_line(counts: Counts) -> ArrayVec<u8, 168>

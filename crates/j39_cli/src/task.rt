@@ -6,10 +6,10 @@ ghost use Rattle.j39_cli.specs.Task.{file_of, files_of, table_of};
 
 use crate::{FaultOptions, GridOptions, Outgoing, RowOptions, Senders};
 use j39_address::Name;
+use j39_fault_reports::Telling;
 use j39_frame::{Id, is_address};
 use j39_listen::Format;
 use j39_log::Bus;
-use j39_fault_reports::Telling;
 use j39_watch::ScreenSize;
 use std::alloc::{AllocError, Global};
 use std::fmt;

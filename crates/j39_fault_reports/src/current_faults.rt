@@ -2,9 +2,9 @@
 
 pub(crate) mod account;
 pub(crate) mod last_active;
+pub(crate) mod last_actives;
 pub mod laws;
 mod lines;
-pub(crate) mod last_actives;
 mod run;
 pub(crate) mod standing;
 

@@ -1,8 +1,8 @@
 //! The report of a log as objects of JSON, one a line (RFC 8259).
 
+mod object_head;
 mod object_sides;
 mod objects;
-mod object_head;
 mod prepared_object;
 mod quick_object;
 mod run;

@@ -9,13 +9,13 @@ ghost use Rattle.j39_listen.specs.declared.account.LineFault.TheVariants.{Write}
 ghost use Rattle.j39_watch.specs.NotesSoFar.{HasWatched, lines_of_watch, screen_of_watch, size_of};
 ghost use Rattle.j39_watch.specs.Watch.{AsksForWatch, MakesWatch};
 
-use j39_fault_reports::LastActives;
 use crate::moment::Moment;
 use crate::note::note;
 use crate::screen::put_screen;
 use crate::size::ScreenSize;
 use crate::values::Values;
 use crate::view::View;
+use j39_fault_reports::LastActives;
 use j39_frame::{Frame, Stamp};
 use j39_groups::Groups;
 use j39_io::{DeviceFault, Sink, Source};

@@ -8,11 +8,10 @@ ghost use Rattle.j39_reports.specs.RowModels.{entry_at};
 ghost use Rattle.j39_reports.specs.SummaryRun.{IsText};
 ghost use Rattle.j39_watch.specs.Watch.{second};
 
-use j39_reports::Sample;
-use j39_reports::StoredValue;
 use j39_frame::Stamp;
 use j39_groups::Value;
 use j39_memory::OriginChange;
+use j39_reports::{Sample, StoredValue};
 use std::alloc::{AllocError, Global};
 
 /// A second, in microseconds.

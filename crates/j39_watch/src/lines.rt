@@ -14,19 +14,18 @@ ghost use Rattle.j39_watch.specs.LatestSoFar.{latest_at, latest_row};
 ghost use Rattle.j39_reports.specs.RowModels.{kept_value};
 ghost use Rattle.j39_watch.specs.Watch.{age_text, column, controller_columns, destination_text, line_end, said_text, state_behind, tenths, value_line};
 
-use j39_fault_reports::name_in;
-use j39_reports::scaled_before;
-use j39_reports::StoredValue;
 use crate::cut_line::{BLANK, Block, CutLine, END};
 use crate::latest::Latest;
 use arrayvec::ArrayVec;
 use j39_address::Name;
+use j39_fault_reports::name_in;
 use j39_faults::{Code, Kind, Lamps, State, put_code};
 use j39_frame::{Origin, Stamp};
 use j39_groups::{Groups, Slot, put_value};
 use j39_io::backwards::{byte_before, bytes_before, hex_before, number_before, slice_before};
 use j39_io::{DeviceFault, Sink, put_all};
 use j39_log::push_stamp;
+use j39_reports::{StoredValue, scaled_before};
 
 /// Writes a line, and erases what stands behind it.
 #[inline(always)]

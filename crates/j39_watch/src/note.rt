@@ -17,10 +17,8 @@ ghost use Rattle.j39_fault_reports.specs.News.{is_fault_group};
 ghost use Rattle.j39_watch.specs.NotesSoFar.{Notes, WantsOne, if_counts};
 ghost use Rattle.j39_watch.specs.Watch.{AsksForWatch};
 
-use j39_fault_reports::take_heard;
-use j39_fault_reports::LastActives;
-use j39_fault_reports::is_of_fault_group;
 use crate::values::Values;
+use j39_fault_reports::{LastActives, is_of_fault_group, take_heard};
 use j39_frame::Frame;
 use j39_groups::{Groups, is_network_group};
 use j39_listen::{Heard, Listener};

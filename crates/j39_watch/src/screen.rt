@@ -14,15 +14,13 @@ ghost use Rattle.j39_watch.specs.Watch.{below_end, home};
 ghost use Rattle.j39_watch.specs.WatchSoFar.{fault_lines, faults_of_places, limited, value_lines};
 ghost use Rattle.j39_watch.specs.ScreenSoFar.{lines_of_code};
 
-use j39_fault_reports::LastActive;
-use j39_fault_reports::{LastActives, SOURCES};
-use j39_fault_reports::Standing;
 use crate::cut_line::CutLine;
 use crate::latest::Latest;
 use crate::lines::{fault_line, make_value_line, moment_line, put_line};
 use crate::values::Values;
 use crate::view::View;
 use j39_address::Name;
+use j39_fault_reports::{LastActive, LastActives, SOURCES, Standing};
 use j39_frame::Origin;
 use j39_io::{DeviceFault, Sink, put_all};
 

@@ -10,13 +10,13 @@ ghost use Rattle.j39_watch.specs.LatestSoFar.{AreLatest, HasFollowedMessage};
 ghost use Rattle.j39_reports.specs.RowModels.{entry_at};
 ghost use Rattle.j39_reports.specs.SummaryRun.{WantsRow};
 
-use j39_reports::{Guesses, again};
 use crate::latest::{Latest, NextValue};
 use j39_address::Name;
 use j39_frame::{Origin, Stamp};
 use j39_groups::{ReadingVisitor, Value};
 use j39_listen::Heard;
 use j39_memory::ByOrigin;
+use j39_reports::{Guesses, again};
 use std::alloc::{AllocError, Global};
 
 /// The last values by their origins, in the order of their first values; where the last ones stand; and what the readings of

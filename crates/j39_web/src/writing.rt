@@ -7,11 +7,11 @@ ghost use Rattle.j39_web.specs.Writings.{asks, makes};
 
 use crate::points::SeriesOrigin;
 use crate::series::series;
+use j39_fault_reports::{Choice, FaultCounts, Telling, faults};
 use j39_groups::Groups;
 use j39_io::{Sink, Source};
 use j39_listen::{Counts, Format, RunFault, run_with};
 use j39_log::Bus;
-use j39_fault_reports::{Choice, FaultCounts, Telling, faults};
 use j39_reports::{report_csv, summary};
 use std::alloc::Global;
 

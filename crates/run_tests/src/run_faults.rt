@@ -1,11 +1,11 @@
 //! Devices that fail, and logs that are too long.
-use tests::trial::{Full, Trial};
 use j39_address::Name;
 use j39_cli::{parse, perform};
 use j39_io::Told;
 use j39_listen::{RunFault, answer, run};
 use std::alloc::Global;
 use std::test::Fail;
+use tests::trial::{Full, Trial};
 
 const LOG: &[u8] = b"(0000000001.000000) can0 18EEFF00#3412400100000080\n\
     (0000000001.010000) can0 0CF00400#F0A096E02EFFFFFF\n\

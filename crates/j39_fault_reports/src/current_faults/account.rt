@@ -15,8 +15,8 @@ ghost use Rattle.j39_fault_reports.specs.CurrentPlaces.{at};
 ghost use Rattle.j39_fault_reports.specs.FaultsSoFar.{manner_of};
 ghost use Rattle.j39_fault_reports.specs.News.{is_fault_group};
 
-use crate::current_faults::lines::put_places;
 use crate::current_faults::last_actives::LastActives;
+use crate::current_faults::lines::put_places;
 use crate::fault_news::account::{is_byte, is_of_fault_group};
 use crate::fault_news::announced::Announced;
 use crate::fault_news::form::Writing;

@@ -15,8 +15,10 @@ ghost use Rattle.j39_reports.specs.Json.{bytes_member, string_or_null};
 ghost use Rattle.j39_rows.specs.Json.{string_text};
 
 use crate::json::put_string_or_null;
+use crate::report_objects::object_head::{
+    HEAD, ObjectHead, group_before, moment_before, sender_before,
+};
 use crate::report_objects::object_sides::ObjectSides;
-use crate::report_objects::object_head::{HEAD, ObjectHead, group_before, moment_before, sender_before};
 use crate::report_objects::prepared_object::prepared_before;
 use crate::report_objects::quick_object::{OBJECT, object_before, unit_in};
 use crate::report_records::{digits_before, is_whole};

@@ -7,8 +7,8 @@ ghost use Rattle.j39_groups.specs.Names.{name_in, state_in};
 ghost use Rattle.j39_reports.specs.EntryObject.{behind_members, parameter_members, value_members};
 ghost use Rattle.j39_reports.specs.MessageObjects.{opened};
 
-use crate::report_objects::object_sides::ObjectSides;
 use crate::report_objects::object_head::ObjectHead;
+use crate::report_objects::object_sides::ObjectSides;
 use crate::report_objects::quick_object::{OBJECT, json_before, unit_in};
 use crate::sides::{KnownSides, Sides};
 use j39_groups::Value;

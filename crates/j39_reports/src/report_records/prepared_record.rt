@@ -7,8 +7,8 @@ ghost use Rattle.j39_reports.specs.Columns.{last_field};
 ghost use Rattle.j39_reports.specs.EntryText.{named_fields, parameter_called, state_called, value_fields};
 ghost use Rattle.j39_reports.specs.MessageRecords.{begun_fields};
 
-use crate::report_records::record_head::RecordHead;
 use crate::report_records::quick_record::{RECORD, bare_before};
+use crate::report_records::record_head::RecordHead;
 use crate::report_records::record_sides::RecordSides;
 use crate::sides::{KnownSides, Sides};
 use j39_groups::Value;

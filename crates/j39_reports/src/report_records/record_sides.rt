@@ -1,6 +1,6 @@
 //! What a record has on both sides of a value.
-use crate::report_records::record_head::digits_before;
 use crate::report_records::quick_record::field_before;
+use crate::report_records::record_head::digits_before;
 use crate::sides::{SIDE, SideForm};
 use j39_io::backwards::{byte_before, bytes_before};
 

@@ -14,9 +14,9 @@ ghost use Rattle.j39_reports.specs.Columns.{last_field};
 ghost use Rattle.j39_reports.specs.EntryText.{begin_text, group_called, named_fields, parameter_called, state_called, value_fields};
 ghost use Rattle.j39_reports.specs.MessageRecords.{begun_fields};
 
-use crate::report_records::record_head::{RecordHead, HEAD, begin_before, group_before, is_whole};
 use crate::report_records::prepared_record::prepared_before;
 use crate::report_records::quick_record::{RECORD, record_before};
+use crate::report_records::record_head::{HEAD, RecordHead, begin_before, group_before, is_whole};
 use crate::report_records::record_sides::RecordSides;
 use crate::second::Second;
 use crate::sides::{KnownSides, Missed, note};

@@ -345,8 +345,16 @@ fn seen_columns(node: Node) -> [Column<'static>; 11]
         Column::All(b"heard", DASH, Cell::seconds(node.heard)),
         Column::BesideLines(b"heard_utc", Cell::utc(node.heard)),
         Column::All(b"silent", Place::IfAny(b" silent "), time_cell(node.silent)),
-        Column::All(b"longest", Place::IfAny(b" longest "), time_cell(length_of(node.longest))),
-        Column::All(b"since_stamp", Place::IfAny(b" since "), Cell::seconds(since)),
+        Column::All(
+            b"longest",
+            Place::IfAny(b" longest "),
+            time_cell(length_of(node.longest)),
+        ),
+        Column::All(
+            b"since_stamp",
+            Place::IfAny(b" since "),
+            Cell::seconds(since),
+        ),
         Column::BesideLines(b"since_utc", Cell::utc(since)),
         Column::BesideLines(b"function", Cell::optional(function_of(node.name))),
         Column::BesideLines(b"manufacturer", Cell::optional(maker_of(node.name))),
