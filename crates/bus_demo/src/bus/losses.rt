@@ -1,10 +1,13 @@
 //! What is played with `--loss`: a bus on which a controller loses its address, or a transfer fails, and little else happens.
 //!
 //! The engine takes address 00, and loses it to its rival a second after the start. The gearbox is at 03, the tool at F9.
+ghost use Rattle.std.specs.Prelude.{◌≡◌, IfOk};
+ghost use Rattle.bus_demo.specs.Scenario.{PlaysAll};
+
 use crate::bus::gauges::{Gauges, Group};
 use crate::bus::player::Player;
 use crate::bus::role::{Plan, Rate, Role};
-use crate::bus::scenario::{COMMAND, COMMANDED_ADDRESS, TOOL};
+use crate::bus::scenario::{COMMAND, COMMANDED_ADDRESS, TOOL, join};
 use std::alloc::{AllocError, Global};
 
 /// What is lost, or what is sent for a loss.
@@ -92,7 +95,9 @@ const COMMAND_TO_GEARBOX: &[Plan] = &[Plan {
     payload: COMMAND,
 }];
 
-fn role(name: u64, preferred: u8, starts: u64, plans: &'static [Plan]) -> Role {
+fn role(name: u64, preferred: u8, starts: u64, plans: &'static [Plan]) -> Role
+    ensures { (result.name ≡ name) × (result.preferred ≡ preferred) × (result.starts ≡ starts) }
+{
     let rate = |group: Group| Rate {
         group,
         period: 1_000_000,
@@ -113,7 +118,9 @@ fn role(name: u64, preferred: u8, starts: u64, plans: &'static [Plan]) -> Role {
 }
 
 /// The engine, its rival, the gearbox and the tool, with what engine and tool are to send.
-pub fn controllers(alloc: Global, seed: u64, loss: Loss) -> Result<Vec<Player>, AllocError> {
+pub fn controllers(alloc: Global, seed: u64, loss: Loss) -> Result<Vec<Player>, AllocError>
+    ensures { IfOk result (λ players. PlaysAll players.items) }
+{
     let (engine, tool) = match loss {
         Loss::InBroadcast => (LONG_TO_ALL, NONE),
         Loss::InTransfer => (LONG_TO_TOOL, NONE),
@@ -121,18 +128,26 @@ pub fn controllers(alloc: Global, seed: u64, loss: Loss) -> Result<Vec<Player>, 
         Loss::OfRequest => (NONE, TWO_TO_GEARBOX),
         Loss::OfCommand => (NONE, COMMAND_TO_GEARBOX),
     };
-    let roles = [
-        role(0x8000_0000_0340_1001, ENGINE, 0, engine),
-        role(0x8000_0000_0140_1002, ENGINE, 1_000_000, NONE),
-        role(0x8000_0000_0240_1003, GEARBOX, 0, NONE),
-        role(0x8000_0000_0440_1004, TOOL, 0, tool),
-    ];
-    let mut controllers = Vec::new(alloc);
-    for (place, role) in roles.iter().enumerate() {
-        let gauges = Gauges::new(seed, place as u64);
-        if let Some(controller) = Player::new(alloc, role, gauges)? {
-            controllers.push(controller)?;
-        }
-    }
-    Ok(controllers)
+    four(alloc, seed, engine, tool)
+}
+
+/// The four, with what engine and tool are to send.
+fn four(
+    alloc: Global,
+    seed: u64,
+    engine: &'static [Plan],
+    tool: &'static [Plan],
+) -> Result<Vec<Player>, AllocError>
+    ensures { IfOk result (λ players. PlaysAll players.items) }
+{
+    let engine = role(0x8000_0000_0340_1001, ENGINE, 0, engine);
+    let rival = role(0x8000_0000_0140_1002, ENGINE, 1_000_000, NONE);
+    let gearbox = role(0x8000_0000_0240_1003, GEARBOX, 0, NONE);
+    let tool = role(0x8000_0000_0440_1004, TOOL, 0, tool);
+    let mut players = Vec::new(alloc);
+    join(&mut players, alloc, &engine, Gauges::new(seed, 0))?;
+    join(&mut players, alloc, &rival, Gauges::new(seed, 1))?;
+    join(&mut players, alloc, &gearbox, Gauges::new(seed, 2))?;
+    join(&mut players, alloc, &tool, Gauges::new(seed, 3))?;
+    Ok(players)
 }

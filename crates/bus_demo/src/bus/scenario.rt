@@ -193,7 +193,7 @@ pub fn controllers(alloc: Global, seed: u64, outside: bool) -> Result<Vec<Player
 }
 
 /// Puts the controller of a role behind the others.
-fn join(
+pub(super) fn join(
     players: &mut Vec<Player>,
     alloc: Global,
     role: &Role,
