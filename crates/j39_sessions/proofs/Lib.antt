@@ -1,0 +1,8 @@
+-- the names that proofs here cite
+pub mod Common
+-- packets, as their frames say them
+pub mod PacketLemmas
+-- boxes in their lists
+pub mod BoxLemmas
+-- what a step leaves
+pub mod StepLemmas

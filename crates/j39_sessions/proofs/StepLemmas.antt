@@ -1,0 +1,130 @@
+-- What a step of one box leaves.
+use Rattle.j39_sessions.proofs.Common.{[], if◌then◌else◌, ◌&&◌, ◌+◌, ◌++◌, ◌<◌, ◌∙◌, ◌∷◌, ◌≡◌, answers, ap, append-nil, arith, asks_again, begun, Bool, BoxedReceiver, bytes_of, cond_both, delivers_message, Directed, false, filter, FrameRecord, from, goes_on, granted_at, grants, has_some, Heard, hears, IfSome, is_of_session, is_over, IsOpenAt, IsSome, kept_by, length, List, listed, longest, made, map, MessageRecord, nat_eq, nat_lt, new_receiver, None, not, number_in, of, option_map, or_blank, Option, others, put_in, Receives, receiving, ReceptionRecord, ReceiverRecord, recv_step, RecvResult, refl, replied, Reply, result_of, said_between, said_by, said_to, Session, session_in, session_with, SessionsRecord, shown, Some, source_of, step_at, strays, subst, sym, takes_abort, takes_data, takes_packet, takes_request, takes_signal, takes_tick, Tick, tick_of, ToSend, true, without, ℕ}
+use Rattle.j39_transport.specs.Frames as frames
+use Rattle.j39_transport.specs.Signals.{said_by as says_by}
+use Rattle.j39_sessions.proofs.BoxLemmas.{none_other}
+use Rattle.j39_sessions.specs.declared.seat.Kept.{Kept}
+use Rattle.j39_sessions.specs.declared.seat.Seat.{Seat}
+use Rattle.j39_sessions.specs.declared.sessions.Said.{Said}
+
+-- ---- what is to be said
+
+-- what is filtered out of the code's list isn't in what it says
+pub without_is : (a : ℕ) (xs : List Said) → map said_by (filter (λ x. not (nat_eq a x.to)) xs) ≡ without a (map said_by xs)
+without_is a [] = refl
+without_is a (x ∷ xs) = let h = without_is a xs in grind (arith, h)
+
+-- of what is said the bytes alone count
+pub same_replied : (a : ℕ) (x y : Option ToSend) (replies : List Reply) → bytes_of x ≡ bytes_of y → replied a x replies ≡ replied a y replies
+same_replied a x y replies e = grind (arith, e)
+
+-- ---- a frame that says nothing
+
+-- a frame with no bytes
+hushed : (own stamp id : ℕ) → said_to own (record { stamp = stamp; id = id; bytes = [] }) ≡ None
+unfolding said_to said_between says_by
+hushed own stamp id = grind arith
+
+quiet_step : (r : ReceiverRecord) (f : FrameRecord) (now : ℕ) (found : Bool) → said_to r.own f ≡ None → recv_step r (Heard f) now found ≡ record { after = r; sends = None; delivers = None }
+unfolding recv_step takes_signal
+quiet_step r f now found e = ap (λ s. result_of r.own (frames.source_of f.id) (takes_signal (Directed (frames.source_of f.id) r.own) s now found r.session)) e
+
+-- a packet that strays isn't shown to the receiver
+pub stray_heard : (r : BoxedReceiver) (f : FrameRecord) (now : ℕ) (kept : Kept) → r.has_box ≡ true → strays (number_in (said_to r.state.own f)) r.state.session ≡ true
+    → Receives r (shown r.state.own r.state.session f) now (record { says = None; is_whole = false }) kept r
+stray_heard r f now kept box e =
+    let q = quiet_step r.state (shown r.state.own r.state.session f) now true
+    (ap (λ (b : Bool). said_to r.state.own (record { stamp = f.stamp; id = f.id; bytes = if b then [] else f.bytes })) e ∙ hushed r.state.own f.stamp f.id) in
+    record {
+      state = sym (ap (λ (x : RecvResult). x.after) q);
+      box = box;
+      says = sym (ap (λ (x : RecvResult). bytes_of x.sends) q);
+      whole = sym (ap (λ (x : RecvResult). has_some x.delivers) q);
+      keeps = subst (λ (x : RecvResult). IfSome x.delivers (λ m. kept_by kept ≡ (f.stamp, m))) (sym q) tt;
+    }
+
+-- ---- a step at a frame
+
+-- with no session no packet strays
+shown_whole : (own : ℕ) (f : FrameRecord) → shown own None f ≡ f
+shown_whole own f = grind arith
+
+-- a refusal, by who has no session
+pub refused : (own : ℕ) (r : ReceiverRecord) (f : FrameRecord) (now : ℕ) (x : RecvResult) → r ≡ new_receiver own → recv_step r (Heard f) now false ≡ x
+    → step_at own false f now None ≡ x
+refused own r f now x e g =
+    ap (λ (h : FrameRecord). recv_step (new_receiver own) (Heard h) now false) (shown_whole own f) ∙ (ap (λ (s : ReceiverRecord). recv_step s (Heard f) now false) (sym e) ∙ g)
+
+receiving_is : (x : Seat) (s : Option ReceptionRecord) → receiving (option_map (session_with x) s) ≡ s
+receiving_is x s = grind arith
+
+-- the step of a box is that of its session
+pub step_is : (own : ℕ) (f : FrameRecord) (now : ℕ) (x : Seat) (o : Option Session) → x.receiver.state.own ≡ own → o ≡ option_map (session_with x) x.receiver.state.session
+    → step_at own true f now o ≡ recv_step x.receiver.state (Heard (shown x.receiver.state.own x.receiver.state.session f)) now true
+step_is own f now x o at e =
+    let r = ap receiving e ∙ receiving_is x x.receiver.state.session in
+    λ i. recv_step (record { own = sym at i; session = r i }) (Heard (shown (sym at i) (r i) f)) now true
+
+pub own_after : (r : ReceiverRecord) (f : FrameRecord) (now : ℕ) (found : Bool) → (recv_step r (Heard f) now found).after.own ≡ r.own
+unfolding recv_step
+own_after r f now found = refl
+
+-- what is whole leaves no session
+pub whole_closes : (r : ReceiverRecord) (f : FrameRecord) (now : ℕ) (found : Bool) → has_some (recv_step r (Heard f) now found).delivers ≡ true
+    → (recv_step r (Heard f) now found).after.session ≡ None
+unfolding recv_step takes_signal takes_data takes_abort takes_request takes_packet begun goes_on delivers_message asks_again grants granted_at
+whole_closes r f now found e = grind (arith, e)
+
+pub none_there : {T : Type 0} (o : Option T) (b : Bool) → b ≡ has_some o → b ≡ false → o ≡ None
+none_there o b e f = grind (arith, e, f)
+
+-- where its message is whole
+pub put_whole : (s : SessionsRecord) (a since : ℕ) (name : Option ℕ) (f : FrameRecord) (x : RecvResult) (kept : ℕ × MessageRecord) → has_some x.delivers ≡ true → x.after.session ≡ None
+    → IfSome x.delivers (λ m. kept ≡ (f.stamp, m))
+    → (let z : SessionsRecord = record { own = s.own; boxes = s.boxes + 1; sessions = s.sessions; waits = s.waits ++ kept ∷ []; senders = s.senders ++ name ∷ []; replies = replied a x.sends s.replies } in z)
+    ≡ record (put_in a since name f x s) { boxes = s.boxes + 1 }
+put_whole s a since name f x kept e n k = grind (arith, e, n, k, append-nil)
+
+-- where it isn't
+pub put_open : (s : SessionsRecord) (a since : ℕ) (name : Option ℕ) (f : FrameRecord) (x : RecvResult) → x.delivers ≡ None
+    → (let z : SessionsRecord = record { own = s.own; boxes = s.boxes + 1; sessions = s.sessions ++ listed (option_map (λ r. record { reception = r; since = since; name = name }) x.after.session); waits = s.waits; senders = s.senders; replies = replied a x.sends s.replies } in z)
+    ≡ record (put_in a since name f x s) { boxes = s.boxes + 1 }
+put_open s a since name f x e = grind (arith, e, append-nil)
+
+-- ---- where there is no room
+
+refuses_step : (r : ReceiverRecord) (f : FrameRecord) (now : ℕ) → r.session ≡ None
+    → ((recv_step r (Heard f) now false).after.session ≡ None) × ((recv_step r (Heard f) now false).delivers ≡ None)
+unfolding recv_step takes_signal takes_data takes_abort takes_request
+refuses_step r f now e = (grind (arith, e), grind (arith, e))
+
+pub refusing : (s : SessionsRecord) (now : ℕ) (name : Option ℕ) (f : FrameRecord) → is_of_session s.own f ≡ true → of (source_of f.id) s.sessions ≡ None
+    → nat_lt (length s.sessions + length s.waits) s.boxes ≡ false
+    → (made now f s ≡ None) × (hears now name f s ≡ record s { replies = replied (source_of f.id) (step_at s.own false f now None).sends s.replies })
+refusing s now name f e g l =
+    let q = refuses_step (record { own = s.own; session = None }) (shown s.own None f) now refl in
+    let o = none_other (source_of f.id) s.sessions g in
+    (grind (arith, e, g, l, q), grind (arith, e, g, l, q, o, append-nil))
+
+-- ---- a tick
+
+pub own_ticked : (own now : ℕ) (x : Session) → (tick_of own now x).after.own ≡ own
+unfolding recv_step
+own_ticked own now x = grind arith
+
+-- of an open session whose time isn't over it is the receiver's
+pub tick_is : (s : ReceiverRecord) (x : Session) (now : ℕ) (found : Bool) → IsSome s.session → x.reception ≡ or_blank s.session → is_over now x ≡ false
+    → tick_of s.own now x ≡ recv_step s Tick now found
+unfolding recv_step
+tick_is s x now found some is over = go s.session some is
+  where
+    go : (o : Option ReceptionRecord) → IsSome o → x.reception ≡ or_blank o → tick_of s.own now x ≡ recv_step (record { own = s.own; session = o }) Tick now found
+    go None h e = absurd (cc)
+    go (Some r) h e =
+        ap (λ (b : Bool). if b then result_of s.own (from x) (answers None (Rattle.j39_sessions.proofs.Common.Abort 3 x.reception.message.group)) else recv_step (record { own = s.own; session = Some x.reception }) Tick now true) over
+        ∙ ap (λ (q : ReceptionRecord). recv_step (record { own = s.own; session = Some q }) Tick now true) e
+
+-- ---- where nothing was taken out
+
+pub none_left : {T : Type 0} (o : Option T) (n : ℕ) → (0 < n → IsSome o) → o ≡ None → n ≡ 0
+none_left o n f e = grind (arith, f, e)

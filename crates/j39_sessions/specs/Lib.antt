@@ -1,0 +1,7 @@
+-- the names from elsewhere
+pub mod Common
+-- what frames, ticks and claims make of the sessions of an address
+pub mod Sessions
+-- what the code has
+pub mod Seats
+pub mod Shown

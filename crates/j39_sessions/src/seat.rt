@@ -1,0 +1,271 @@
+//! A box with one source's session, or its message.
+ghost use Rattle.std.specs.Prelude.{◌≡◌, ◌↔◌, ◌≤◌, ◌+◌, ◌^◌, ◌<◌, ℕ, Option, Some, None, IsTrue, IsSome, IfSome, IfOk, OnErr, true, false, length};
+ghost use Rattle.std.specs.Option.{is_some, option_map};
+ghost use Rattle.j39_address.specs.Claims.{holder_in};
+ghost use Rattle.j39_address.specs.Name.{name_raw};
+ghost use Rattle.j39_frame.specs.Address.{IsAddress};
+ghost use Rattle.j39_frame.specs.Stamp.{stamp_micros};
+ghost use Rattle.j39_transport.specs.Cutting.{to_send};
+ghost use Rattle.j39_transport.specs.ReceiverModel.{message_shown};
+ghost use Rattle.j39_transport.specs.Receiving.{new_receiver, said_to};
+ghost use Rattle.j39_transport.specs.Signals.{Abort, written};
+ghost use Rattle.j39_frame.specs.Pgn.{pgn_raw};
+ghost use Rattle.j39_sessions.specs.Sessions.{from, is_left, is_of, limit_in, longest, number_in, shown, strays, tick_of};
+
+use crate::sessions::is_same;
+use arrayvec::ArrayVec;
+use byteorder::{ByteOrder, LittleEndian};
+use j39_address::{Claims, Name};
+use j39_frame::{Frame, NULL_ADDRESS, Pgn, Stamp};
+use j39_transport::{LONGEST, Message, Receiver, Reply};
+use std::alloc::{AllocError, Global};
+
+/// The longest wait of the two ends, in microseconds (T2 of J1939-21, 5.10.2.4).
+const T2: u64 = 1_250_000;
+
+/// A message that was whole.
+#[derive(Drop)]
+pub(crate) struct Kept {
+    /// First: so an empty one is written where it stays.
+    pub(crate) bytes: ArrayVec<u8, LONGEST>,
+    /// The moment of its last packet.
+    pub(crate) stamp: Stamp,
+    pub(crate) source: u8,
+    pub(crate) group: Pgn,
+}
+
+impl Kept {
+    ghost use Rattle.j39_sessions.specs.Seats.{Receives, kept_by};
+
+    #[inline(always)]
+    fn empty() -> Kept {
+        Kept {
+            bytes: ArrayVec::new(),
+            stamp: Stamp::new(0).unwrap(),
+            source: 0,
+            group: Pgn::new(0).unwrap(),
+        }
+    }
+
+    /// Keeps a message, whose bytes are copied to where they stay.
+    fn keep(&mut self, message: &Message<'_>, stamp: Stamp)
+        requires { length message.now.payload.now ≤ 1785 }
+        ensures { kept_by self.new ≡ (stamp_micros stamp, message_shown message.now) }
+    {
+        self.bytes.clear();
+        self.bytes.try_extend_from_slice(message.payload).unwrap();
+        self.stamp = stamp;
+        self.source = message.source;
+        self.group = message.pgn;
+    }
+
+    /// What a receiver says to a frame; its message is kept where it is whole.
+    fn receive(&mut self, receiver: &mut Receiver, frame: &Frame, now: Stamp) -> Outcome
+        ensures { receiver.old.has_box ≡ true → Receives receiver.old frame.now (stamp_micros now) result self.new receiver.new }
+    {
+        match receiver.on(frame, now) {
+            Reply::Nothing => Outcome {
+                says: None,
+                is_whole: false,
+            },
+            Reply::Send(_id, bytes) => Outcome {
+                says: Some(bytes),
+                is_whole: false,
+            },
+            Reply::Delivered(message, _id, bytes) => {
+                self.keep(&message, frame.stamp);
+                Outcome {
+                    says: Some(bytes),
+                    is_whole: true,
+                }
+            }
+        }
+    }
+}
+
+/// What a box says to a frame, and whether its message is whole.
+#[derive(Clone, Copy)]
+pub(crate) struct Outcome {
+    pub(crate) says: Option<[u8; 8]>,
+    pub(crate) is_whole: bool,
+}
+
+/// A receiver with its buffer, and the message that it received.
+#[derive(Drop)]
+pub(crate) struct Seat {
+    pub(crate) kept: Kept,
+    pub(crate) receiver: Receiver,
+    /// The time since which the source of its session has one open.
+    pub(crate) since: Stamp,
+    /// The NAME that held its source then.
+    pub(crate) name: Option<Name>,
+    pub ghost boxed: { receiver.has_box ≡ true },
+}
+
+impl Seat {
+    ghost use Rattle.j39_sessions.specs.Seats.{Receives, bytes_of, session_in};
+
+    /// A box at an address, in which nothing was begun; `None` above 253.
+    #[inline(always)]
+    pub(crate) fn new(alloc: Global, own: u8) -> Result<Option<Seat>, AllocError>
+        ensures known { IfOk result (λ found. IsSome found ↔ IsAddress own) }
+        ensures refused { OnErr result (IsAddress own) }
+    {
+        let Some(receiver) = Receiver::with_buffer(alloc, own)? else {
+            return Ok(None);
+        };
+        Ok(Some(Seat {
+            kept: Kept::empty(),
+            receiver,
+            since: Stamp::new(0).unwrap(),
+            name: None,
+        }))
+    }
+
+    /// Its next session is at this address, of a source that this NAME holds at this time.
+    pub(crate) fn begin(&mut self, own: u8, now: Stamp, name: Option<Name>)
+        requires { IsAddress own }
+        ensures state { self.new.receiver.state ≡ new_receiver own }
+        ensures since { self.new.since ≡ now }
+        ensures name { self.new.name ≡ name }
+    {
+        let _is_address = self.receiver.move_to(own);
+        self.since = now;
+        self.name = name;
+    }
+
+    /// A frame from the source of its session, or by which one may be opened. A packet that strays isn't shown to the receiver (own).
+    pub(crate) fn hear(&mut self, frame: &Frame, now: Stamp) -> Outcome
+        ensures heard { Receives self.old.receiver (shown self.old.receiver.state.own self.old.receiver.state.session frame.now) (stamp_micros now)
+            result self.new.kept self.new.receiver }
+        ensures stays { (self.new.since ≡ self.old.since) × (self.new.name ≡ self.old.name) }
+    {
+        if self.strays(frame) {
+            return Outcome {
+                says: None,
+                is_whole: false,
+            };
+        }
+        self.kept.receive(&mut self.receiver, frame, now)
+    }
+
+    /// Time passes: an open session whose time is over is ended (abort 3).
+    pub(crate) fn tick(&mut self, now: Stamp) -> Option<[u8; 8]>
+        requires { IsSome self.old.receiver.state.session }
+        ensures says { result ≡ bytes_of (tick_of self.old.receiver.state.own (stamp_micros now) (session_in self.old)).sends }
+        ensures state { self.new.receiver.state ≡ (tick_of self.old.receiver.state.own (stamp_micros now) (session_in self.old)).after }
+        ensures stays { (self.new.since ≡ self.old.since) × (self.new.name ≡ self.old.name) }
+    {
+        if self.latest() < now.micros() {
+            let abort = abort_bytes(self.group());
+            self.receiver.end();
+            return Some(abort);
+        }
+        match self.receiver.tick(now) {
+            Some(reply) => {
+                let bytes = reply.1;
+                Some(bytes)
+            }
+            None => None,
+        }
+    }
+
+    /// The last moment at which a tick says nothing.
+    pub(crate) fn limit(&self) -> u64
+        requires { IsSome self.now.receiver.state.session }
+        ensures value { result ≡ limit_in (session_in self.now) }
+        ensures fits { result < 2 ^ 54 }
+    {
+        match self.receiver.limit() {
+            Some(limit) => limit.min(self.latest()),
+            None => 0,
+        }
+    }
+
+    /// The time after which a tick aborts its session: (n + 3) * 1,250 ms, of n packets, after it was opened (own).
+    fn latest(&self) -> u64
+        requires { IsSome self.now.receiver.state.session }
+        ensures value { result ≡ (session_in self.now).since + longest (session_in self.now).reception.message.packets }
+        ensures fits { result < 2 ^ 54 }
+    {
+        let packets = self.receiver.packets().unwrap_or(0);
+        self.since.micros() + (u64::from(packets) + 3) * T2
+    }
+
+    /// Whether a frame is a packet that its session expects not.
+    fn strays(&self, frame: &Frame) -> bool
+        ensures { result ≡ strays (number_in (said_to self.now.receiver.state.own frame.now)) self.now.receiver.state.session }
+    {
+        match number_in(self.receiver.address(), frame) {
+            Some(number) => self.receiver.busy() && !self.receiver.expects(number),
+            None => false,
+        }
+    }
+
+    /// Whether one is open.
+    pub(crate) fn is_open(&self) -> bool
+        ensures { result ≡ is_some self.now.receiver.state.session }
+    {
+        self.receiver.busy()
+    }
+
+    /// Whether the source of its session has another holder than when it was opened, or none, or its holder restarted.
+    pub(crate) fn is_left(&self, gone: Option<u8>, holders: &Claims) -> bool
+        ensures { result ≡ is_left gone (holder_in holders.now) (session_in self.now) }
+    {
+        let source = self.source();
+        gone == Some(source) || !is_same(self.name, holders.holder(source))
+    }
+
+    /// Whose session it is.
+    pub(crate) fn source(&self) -> u8
+        ensures { result ≡ from (session_in self.now) }
+    {
+        match self.receiver.source() {
+            Some(source) => source,
+            None => 0,
+        }
+    }
+
+    /// Whether its session is of this source, and its message of this group.
+    pub(crate) fn is_of(&self, source: u8, group: Pgn) -> bool
+        ensures { result ≡ is_of source (pgn_raw group) (session_in self.now) }
+    {
+        self.source() == source && self.group().raw() == group.raw()
+    }
+
+    /// The group of its session's message.
+    pub(crate) fn group(&self) -> Pgn
+        ensures { pgn_raw result ≡ (session_in self.now).reception.message.group }
+    {
+        match self.receiver.group() {
+            Some(group) => group,
+            None => Pgn::new(0).unwrap(),
+        }
+    }
+}
+
+/// The abort of a session of this group whose time is over (J1939-21, 5.10.3.4).
+#[tactic(auto, unfolding(j39_transport::specs::Signals::written))]
+fn abort_bytes(group: Pgn) -> [u8; 8]
+    ensures { (source to : ℕ) → result ≡ (written source to (Abort 3 (pgn_raw group))).bytes }
+{
+    let mut bytes = [255, 3, 255, 255, 255, 0, 0, 0];
+    LittleEndian::write_u24(&mut bytes[5..], group.raw());
+    bytes
+}
+
+/// The number of a packet that goes from an address to this one; none goes to the null address.
+#[tactic(auto, using(crate::proofs::PacketLemmas::number_is))]
+fn number_in(own: u8, frame: &Frame) -> Option<u8>
+    ensures { result ≡ number_in (said_to own frame.now) }
+{
+    if frame.id.source() < NULL_ADDRESS
+        && (frame.id.ps() == own && own != NULL_ADDRESS)
+        && (frame.id.is_transport_data() && frame.bytes.len() == 8)
+    {
+        frame.bytes.as_slice().get(0).copied()
+    } else {
+        None
+    }
+}
