@@ -6,3 +6,7 @@ pub mod PacketLemmas
 pub mod BoxLemmas
 -- what a step leaves
 pub mod StepLemmas
+-- what all that they went through leaves
+pub mod LawLemmas
+-- and which messages are put together
+pub mod HandedLemmas

@@ -21,11 +21,11 @@ same_replied a x y replies e = grind (arith, e)
 -- ---- a frame that says nothing
 
 -- a frame with no bytes
-hushed : (own stamp id : ℕ) → said_to own (record { stamp = stamp; id = id; bytes = [] }) ≡ None
+pub hushed : (own stamp id : ℕ) → said_to own (record { stamp = stamp; id = id; bytes = [] }) ≡ None
 unfolding said_to said_between says_by
 hushed own stamp id = grind arith
 
-quiet_step : (r : ReceiverRecord) (f : FrameRecord) (now : ℕ) (found : Bool) → said_to r.own f ≡ None → recv_step r (Heard f) now found ≡ record { after = r; sends = None; delivers = None }
+pub quiet_step : (r : ReceiverRecord) (f : FrameRecord) (now : ℕ) (found : Bool) → said_to r.own f ≡ None → recv_step r (Heard f) now found ≡ record { after = r; sends = None; delivers = None }
 unfolding recv_step takes_signal
 quiet_step r f now found e = ap (λ s. result_of r.own (frames.source_of f.id) (takes_signal (Directed (frames.source_of f.id) r.own) s now found r.session)) e
 
@@ -46,7 +46,7 @@ stray_heard r f now kept box e =
 -- ---- a step at a frame
 
 -- with no session no packet strays
-shown_whole : (own : ℕ) (f : FrameRecord) → shown own None f ≡ f
+pub shown_whole : (own : ℕ) (f : FrameRecord) → shown own None f ≡ f
 shown_whole own f = grind arith
 
 -- a refusal, by who has no session
@@ -93,7 +93,7 @@ put_open s a since name f x e = grind (arith, e, append-nil)
 
 -- ---- where there is no room
 
-refuses_step : (r : ReceiverRecord) (f : FrameRecord) (now : ℕ) → r.session ≡ None
+pub refuses_step : (r : ReceiverRecord) (f : FrameRecord) (now : ℕ) → r.session ≡ None
     → ((recv_step r (Heard f) now false).after.session ≡ None) × ((recv_step r (Heard f) now false).delivers ≡ None)
 unfolding recv_step takes_signal takes_data takes_abort takes_request
 refuses_step r f now e = (grind (arith, e), grind (arith, e))

@@ -1,5 +1,5 @@
 -- Messages that come in packets to one address (J1939-21, 5.10.3), one from each source at a time.
-use Rattle.std.specs.Prelude.{if◌then◌else◌, ◌&&◌, ◌*◌, ◌++◌, ◌+◌, ◌==◌, ◌||◌, ◌∷◌}
+use Rattle.std.specs.Prelude.{if◌then◌else◌, ◌&&◌, ◌*◌, ◌++◌, ◌+◌, ◌==◌, ◌||◌, ◌∷◌, ◌≡◌}
 use Rattle.j39_sessions.specs.Common.{[], Abort, answers, Bool, drop, false, filter, find, FrameRecord, Heard, is_there, length, limit_of, List, list_any, MessageRecord, min, nat_eq, nat_lt, None, not, null_address, Option, option_map, Packet, pgn_of, ps_of, ReceptionRecord, recv_step, RecvResult, result_of, said_to, Signal, Some, source_of, Tick, timeout, timer_t2, ToSend, transport_control_group, transport_data_group, true, ℕ}
 
 -- what its receiver knows of it (J1939-21, 5.10.3), the time since which its source has one open, and the NAME that held its source then
@@ -37,6 +37,11 @@ abbrev pub others : ℕ → List Session → List Session
 others a [] = []
 others a (x ∷ xs) = if nat_eq a (from x) then xs else x ∷ others a xs
 
+-- no two are of one source
+abbrev pub AreApart : List Session → Type 0
+AreApart [] = Unit {0}
+AreApart (x ∷ xs) = (of (from x) xs ≡ None) × AreApart xs
+
 abbrev pub listed : {T : Type 0} → Option T → List T
 listed None = []
 listed (Some x) = x ∷ []
@@ -54,6 +59,9 @@ places = 16
 -- the replies to others
 abbrev pub without : ℕ → List Reply → List Reply
 without a = filter (λ m. not (nat_eq a m.to))
+
+abbrev pub reply_to : ℕ → List Reply → Option Reply
+reply_to a = find (λ m. nat_eq a m.to)
 
 -- one to this address takes the place of an older one; where sixteen to others wait, it isn't said
 abbrev pub replied : ℕ → Option ToSend → List Reply → List Reply

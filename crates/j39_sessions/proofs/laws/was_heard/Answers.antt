@@ -1,0 +1,5 @@
+use Rattle.j39_sessions.proofs.HandedLemmas.{was_handed}
+use Rattle.j39_sessions.proofs.laws.was_heard.Goals as goal
+
+pub returns : goal.returns
+returns c = λ own boxes now name f E m. was_handed own boxes now name f E m

@@ -1,0 +1,78 @@
+//! What sessions promise over all that they went through.
+ghost use Rattle.std.specs.Prelude.{◌≡◌, ◌≢◌, ◌⊎◌, ◌+◌, ◌++◌, ◌<◌, ◌≤◌, ◌∷◌, [], ℕ, List, Option, Some, None, IsTrue, length, false, true, nat_lt};
+ghost use Rattle.std.specs.Option.{option_map};
+ghost use Rattle.j39_frame.specs.Frame.{FrameRecord};
+ghost use Rattle.j39_frame.specs.Identifier.{source_of};
+ghost use Rattle.j39_transport.specs.Message.{MessageRecord};
+ghost use Rattle.j39_transport.specs.ReceiverStands.{WasHanded};
+ghost use Rattle.j39_transport.specs.Receiving.{said_to};
+ghost use Rattle.j39_transport.specs.Signals.{Abort, RequestToSend, written};
+ghost use Rattle.j39_sessions.specs.Events.{Event, Hears, Ticks, after, delivered, heard, released, ticked_of};
+ghost use Rattle.j39_sessions.specs.Sessions.{AreApart, Session, SessionsRecord, from, has_room, hears, is_of_session, longest, made, name_by, of, receiving, replied, reply_to, session_by, session_ticked, since_by, step_at, ticks};
+
+/// Of each source at most one is open, and of the boxes no more are in use than there are.
+#[tactic(auto, using(crate::proofs::LawLemmas::each_apart, crate::proofs::LawLemmas::all_fit))]
+pub fn one_of_each_source()
+    ensures one { (own boxes : ℕ) (E : List Event) → AreApart (after own boxes E).sessions }
+    ensures fit { (own boxes : ℕ) (E : List Event) → length (after own boxes E).sessions + length (after own boxes E).waits ≤ boxes }
+{}
+
+/// A frame of one source leaves the session of each other as it is, and what is to be said to it.
+#[tactic(auto, using(crate::proofs::LawLemmas::of_another, crate::proofs::LawLemmas::to_another))]
+pub fn strangers()
+    ensures session { (s : SessionsRecord) (now a : ℕ) (name : Option ℕ) (f : FrameRecord) → source_of f.id ≢ a
+        → of a (hears now name f s).sessions ≡ of a s.sessions }
+    ensures reply { (s : SessionsRecord) (now a : ℕ) (name : Option ℕ) (f : FrameRecord) → source_of f.id ≢ a
+        → reply_to a (hears now name f s).replies ≡ reply_to a s.replies }
+{}
+
+/// To its own session a frame does what it does to a receiver that has no other (J1939-21, 5.10.3), where its message has room.
+#[tactic(auto, using(crate::proofs::LawLemmas::of_its))]
+pub fn as_if_alone()
+    ensures { (own boxes now : ℕ) (name : Option ℕ) (f : FrameRecord) (E : List Event) (o : Option Session) → IsTrue (is_of_session own f)
+        → o ≡ of (source_of f.id) (after own boxes E).sessions
+        → of (source_of f.id) (hears now name f (after own boxes E)).sessions
+        ≡ option_map (session_by (since_by now o) (name_by name o)) (step_at own (has_room (source_of f.id) (after own boxes E)) f now o).after.session }
+{}
+
+/// So does a tick to each of them; and behind it each is at most (n + 3) * 1,250 ms old, of a message of n packets (own).
+#[tactic(auto, using(crate::proofs::LawLemmas::ticked_alone, crate::proofs::LawLemmas::not_over))]
+pub fn ticks_alone()
+    ensures each { (own boxes now a : ℕ) (E : List Event)
+        → of a (after own boxes (Ticks now ∷ E)).sessions ≡ ticked_of own now (of a (after own boxes E).sessions) }
+    ensures over { (own boxes now a : ℕ) (E : List Event) (x : Session) → of a (after own boxes (Ticks now ∷ E)).sessions ≡ Some x
+        → now ≤ x.since + longest x.reception.message.packets }
+{}
+
+/// The messages that were whole are released in their order, each once, or wait.
+#[tactic(auto, using(crate::proofs::LawLemmas::in_order))]
+pub fn in_order()
+    ensures { (own boxes : ℕ) (E : List Event) → delivered own boxes E ≡ released own boxes E ++ (after own boxes E).waits }
+{}
+
+/// A session has its account, and its NAME, from the frame by which its source has one open on: no other in its place has another.
+#[tactic(auto, using(crate::proofs::LawLemmas::kept_heard, crate::proofs::LawLemmas::kept_ticked))]
+pub fn accounts_run()
+    ensures heard { (own boxes now : ℕ) (name : Option ℕ) (f : FrameRecord) (E : List Event) (x : Session) → IsTrue (is_of_session own f)
+        → of (source_of f.id) (hears now name f (after own boxes E)).sessions ≡ Some x
+        → (x.since ≡ since_by now (of (source_of f.id) (after own boxes E).sessions))
+        × (x.name ≡ name_by name (of (source_of f.id) (after own boxes E).sessions)) }
+    ensures ticked { (own now : ℕ) (x y : Session) → session_ticked own now x ≡ Some y → (y.since ≡ x.since) × (y.name ≡ x.name) }
+{}
+
+/// What is whole was heard: an RTS of it, from its source to the address, and behind it its packets, in order.
+#[tactic(auto, using(crate::proofs::HandedLemmas::was_handed))]
+pub fn was_heard()
+    ensures { (own boxes now : ℕ) (name : Option ℕ) (f : FrameRecord) (E : List Event) (m : MessageRecord) → made now f (after own boxes E) ≡ Some m
+        → WasHanded own (heard (Hears now name f ∷ E)) m }
+{}
+
+/// Where as many boxes as there are hold sessions of others, or messages that wait, an RTS is refused (abort 2), and nothing else is.
+#[tactic(auto, using(crate::proofs::HandedLemmas::refuses))]
+pub fn refused_where_full()
+    ensures { (own boxes now size packets most pgn : ℕ) (name : Option ℕ) (f : FrameRecord) (E : List Event) → is_of_session own f ≡ true
+        → said_to own f ≡ Some (RequestToSend size packets most pgn) → of (source_of f.id) (after own boxes E).sessions ≡ None
+        → nat_lt (length (after own boxes E).sessions + length (after own boxes E).waits) boxes ≡ false
+        → hears now name f (after own boxes E)
+        ≡ record (after own boxes E) { replies = replied (source_of f.id) (Some (written own (source_of f.id) (Abort 2 pgn))) (after own boxes E).replies } }
+{}
