@@ -65,28 +65,28 @@ module _ (subject : Subject) where
   -- ---- one frame
 
   -- nothing that counts is heard
-  nothing_new : (l' : Listener) (F : List FrameRecord) (f : FrameRecord) (heard : Option Hearing) (rows : RowsRecord) (messages : ℕ) (held : Option (List ℕ))
+  nothing_new : (l' : Listener) (F : List FrameRecord) (f : FrameRecord) (heard : Option Hearing) (kept : RowsRecord) (messages : ℕ) (held : Option (List ℕ))
       → HeardAt subject.rows (F ++ f ∷ []) (length F) heard → Hears l' (F ++ f ∷ []) → messages ≡ length (or_none heard)
-      → entries_heard subject (F ++ f ∷ []) (or_none heard) ≡ [] → NotesFrame subject F f l' rows rows messages held held
+      → entries_heard subject (F ++ f ∷ []) (or_none heard) ≡ [] → NotesFrame subject F f l' kept kept messages held held
   unfolding rows_behind text_behind
-  nothing_new l' F f heard rows messages held at hears count none = record {
+  nothing_new l' F f heard kept messages held at hears count none = record {
     heard = heard;
     heard_at = at;
     hears = hears;
     messages_are = count;
-    rows_are = ap (rows_behind asked rows) (sym none);
-    written = subst (λ es. Appends held held (text_behind asked rows es)) (sym none) (Appends-nil held);
+    rows_are = ap (rows_behind asked kept) (sym none);
+    written = subst (λ es. Appends held held (text_behind asked kept es)) (sym none) (Appends-nil held);
   }
 
-  pub notes_silent : (l' : Listener) (F : List FrameRecord) (f : FrameRecord) (rows : RowsRecord) (held : Option (List ℕ))
-      → HeardAt subject.rows (F ++ f ∷ []) (length F) None → Hears l' (F ++ f ∷ []) → NotesFrame subject F f l' rows rows 0 held held
-  notes_silent l' F f rows held at hears = nothing_new l' F f None rows 0 held at hears refl refl
+  pub notes_silent : (l' : Listener) (F : List FrameRecord) (f : FrameRecord) (kept : RowsRecord) (held : Option (List ℕ))
+      → HeardAt subject.rows (F ++ f ∷ []) (length F) None → Hears l' (F ++ f ∷ []) → NotesFrame subject F f l' kept kept 0 held held
+  notes_silent l' F f kept held at hears = nothing_new l' F f None kept 0 held at hears refl refl
 
   -- a message that the filter leaves
-  pub notes_left : (l' : Listener) (F : List FrameRecord) (f : FrameRecord) (h : Hearing) (rows : RowsRecord) (held : Option (List ℕ))
+  pub notes_left : (l' : Listener) (F : List FrameRecord) (f : FrameRecord) (h : Hearing) (kept : RowsRecord) (held : Option (List ℕ))
       → HeardAt subject.rows (F ++ f ∷ []) (length F) (Some h) → Hears l' (F ++ f ∷ []) → takes_message subject.which (first_stamp (F ++ f ∷ [])) h ≡ false
-      → NotesFrame subject F f l' rows rows 1 held held
-  notes_left l' F f h rows held at hears is = nothing_new l' F f (Some h) rows 1 held at hears refl (rw is refl)
+      → NotesFrame subject F f l' kept kept 1 held held
+  notes_left l' F f h kept held at hears is = nothing_new l' F f (Some h) kept 1 held at hears refl (rw is refl)
 
   -- and one that it takes
   pub one_heard : (F : List FrameRecord) (h : Hearing) → takes_message subject.which (first_stamp F) h ≡ true

@@ -47,3 +47,4 @@ pub mod Checked
 pub mod TransferExample
 pub mod NoTransferExamples
 pub mod LossExample
+pub mod BrokenExample

@@ -14,7 +14,7 @@ use Rattle.j39_transport.specs.Key.Key.{Broadcast}
 
 -- ---- what carries the messages
 
-eec1_carried : (stamp : ℕ) (bytes : List ℕ) → length bytes ≡ 8
+pub eec1_carried : (stamp : ℕ) (bytes : List ℕ) → length bytes ≡ 8
     → Carries (Broadcast 0) (record { source = 0; pgn = 61444; bytes = bytes }) (eec1_frame stamp bytes ∷ [])
 eec1_carried stamp bytes e = (
   record { source = omega arith; pgn = omega arith; most = omega arith },

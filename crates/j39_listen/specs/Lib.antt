@@ -14,6 +14,7 @@ pub mod Values
 pub mod TransferExample
 pub mod NoTransferExamples
 pub mod LossExample
+pub mod BrokenExample
 -- what a run promises
 pub mod Counting
 pub mod Run

@@ -48,12 +48,22 @@ eec1_bytes = 0xF0 ∷ 0xA0 ∷ 0x96 ∷ 0xE0 ∷ 0x2E ∷ 0xFF ∷ 0xFF ∷ 0xFF
 abbrev pub eec1_frames : List FrameRecord
 eec1_frames = eec1_frame 1010000 eec1_bytes ∷ []
 
+abbrev pub eec1_item : Publisher → List ℕ → Item
+eec1_item publisher places = item publisher 61444 eec1_bytes places
+
 abbrev pub eec1 : Publishing
-eec1 = record { publishers = nobody ∷ []; items = item nobody 61444 eec1_bytes (0 ∷ []) ∷ [] }
+eec1 = record { publishers = nobody ∷ []; items = eec1_item nobody (0 ∷ []) ∷ [] }
+
+-- of this publisher, at this moment
+abbrev pub eec1_told : ℕ → Publisher → List Entry
+eec1_told stamp publisher =
+    entry stamp publisher 61444 512 (torque 35)
+    ∷ entry stamp publisher 61444 513 (torque 25)
+    ∷ entry stamp publisher 61444 190 (speed 1500000)
+    ∷ []
 
 abbrev pub eec1_values : List Entry
-eec1_values = entry 1010000 nobody 61444 512 (torque 35) ∷ entry 1010000 nobody 61444 513
-    (torque 25) ∷ entry 1010000 nobody 61444 190 (speed 1500000) ∷ []
+eec1_values = eec1_told 1010000 nobody
 
 -- ---- a broadcast of eighteen bytes, and two frames of EEC1 meanwhile
 

@@ -16,6 +16,7 @@ ghost use Rattle.j39_listen.specs.Heard.{AreHeard, HeardAt, Hearing};
 ghost use Rattle.j39_listen.specs.Output.{report_of};
 ghost use Rattle.j39_listen.specs.Report.{Entry, Form, IsReport, entries_among, entries_of};
 ghost use Rattle.j39_listen.specs.Loss.{LostTogether, Repeated, Thinned};
+ghost use Rattle.j39_listen.specs.BrokenExample.{broken_frames, came_values, never_came, thought, thought_frames};
 ghost use Rattle.j39_listen.specs.LossExample.{heard_frames, left_frames, left_values, lost, sent, sent_frames, sent_values};
 ghost use Rattle.j39_listen.specs.Published.{Published};
 ghost use Rattle.j39_listen.specs.declared.filter.Sender.TheVariants.{Named};
@@ -125,4 +126,13 @@ pub fn losses_and_copies()
     ensures repeated { Repeated left_frames heard_frames }
     ensures values_sent { values the_table sent_frames sent no_place ≡ sent_values }
     ensures values_left { values the_table sent_frames sent lost ≡ left_values }
+{}
+
+/// And with messages that broke off: a transfer that is refused, and a broadcast without its last packet, right behind which the packets
+/// that never came are thought, as lost. What is left are the values of a frame that the transfer's sender sends after it.
+pub fn broken_off()
+    ensures published { Published the_table thought_frames thought }
+    ensures thinned { Thinned thought_frames broken_frames never_came }
+    ensures lost_together { LostTogether thought_frames thought never_came }
+    ensures values_left { values the_table thought_frames thought never_came ≡ came_values }
 {}

@@ -42,6 +42,8 @@ mod quick_lines;
 mod raw_values;
 pub mod setup;
 #[cfg(test)]
+mod several_sessions;
+#[cfg(test)]
 mod sizes;
 #[cfg(test)]
 mod told;
