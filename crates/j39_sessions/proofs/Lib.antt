@@ -10,3 +10,5 @@ pub mod StepLemmas
 pub mod LawLemmas
 -- and which messages are put together
 pub mod HandedLemmas
+-- and what is sent whole is received
+pub mod BringLemmas

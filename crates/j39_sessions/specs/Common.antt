@@ -1,7 +1,7 @@
 -- The names from elsewhere that definitions here cite, passed on from one place. Declares nothing.
 pub use Rattle.std.specs.List.{All, filter, find, list_any, slice_get}
 pub use Rattle.std.specs.Option.{is_some as is_there, option_map}
-pub use Rattle.std.specs.Prelude.{[], Bool, drop, false, IfSome, IsSome, length, List, map, min, nat_eq, nat_lt, None, not, Option, Some, take, true, ℕ}
+pub use Rattle.std.specs.Prelude.{[], Bool, drop, false, IfSome, IsSome, length, List, map, min, nat_eq, nat_lt, None, not, Option, Some, suc, take, true, ℕ}
 pub use Rattle.j39_address.specs.Claims.{holder_in}
 pub use Rattle.j39_address.specs.Name.{name_raw}
 pub use Rattle.j39_frame.specs.Address.{null_address}

@@ -4,6 +4,8 @@ pub mod Common
 pub mod Sessions
 -- and over what they went through
 pub mod Events
+pub mod Packets
+pub mod Example
 -- what the code has
 pub mod Seats
 pub mod Shown

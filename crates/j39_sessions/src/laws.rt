@@ -1,5 +1,5 @@
 //! What sessions promise over all that they went through.
-ghost use Rattle.std.specs.Prelude.{◌≡◌, ◌≢◌, ◌⊎◌, ◌+◌, ◌++◌, ◌<◌, ◌≤◌, ◌∷◌, [], ℕ, List, Option, Some, None, IsTrue, length, false, true, nat_lt};
+ghost use Rattle.std.specs.Prelude.{◌≡◌, ◌≢◌, ◌⊎◌, ◌+◌, ◌++◌, ◌<◌, ◌≤◌, ◌∷◌, [], ℕ, List, Option, Some, None, IsTrue, length, suc, take, false, true, nat_lt};
 ghost use Rattle.std.specs.Option.{option_map};
 ghost use Rattle.j39_frame.specs.Frame.{FrameRecord};
 ghost use Rattle.j39_frame.specs.Identifier.{source_of};
@@ -7,6 +7,8 @@ ghost use Rattle.j39_transport.specs.Message.{MessageRecord};
 ghost use Rattle.j39_transport.specs.ReceiverStands.{WasHanded};
 ghost use Rattle.j39_transport.specs.Receiving.{said_to};
 ghost use Rattle.j39_transport.specs.Signals.{Abort, RequestToSend, written};
+ghost use Rattle.j39_sessions.specs.Example.{between, last_packet, requested};
+ghost use Rattle.j39_sessions.specs.Packets.{Bring, IsPacket};
 ghost use Rattle.j39_sessions.specs.Events.{Event, Hears, Ticks, after, delivered, heard, released, ticked_of};
 ghost use Rattle.j39_sessions.specs.Sessions.{AreApart, Session, SessionsRecord, from, has_room, hears, is_of_session, longest, made, name_by, of, receiving, replied, reply_to, session_by, session_ticked, since_by, step_at, ticks};
 
@@ -75,4 +77,24 @@ pub fn refused_where_full()
         → nat_lt (length (after own boxes E).sessions + length (after own boxes E).waits) boxes ≡ false
         → hears now name f (after own boxes E)
         ≡ record (after own boxes E) { replies = replied (source_of f.id) (Some (written own (source_of f.id) (Abort 2 pgn))) (after own boxes E).replies } }
+{}
+
+/// What is sent to it whole is received: where an RTS of s is heard, with none of s open and a box free, and behind it packets 1 to n
+/// of s in order, each at most 750 ms (T1) behind the one before, the message is whole at the last. Between them may come any frames of
+/// others, those of s that are no sender's, ticks in time, claims by which s has the holder that it had, and all that the program does.
+pub fn received()
+    ensures { (own boxes : ℕ) (E later : List Event) (start size n most pgn last now : ℕ) (name : Option ℕ) (rts f : FrameRecord)
+        (joined part : List ℕ) (m : MessageRecord) → of (source_of rts.id) (after own boxes E).sessions ≡ None
+        → has_room (source_of rts.id) (after own boxes E) ≡ true → said_to own rts ≡ Some (RequestToSend size (suc n) most pgn)
+        → Bring own (source_of rts.id) name start later n joined last → IsPacket own (source_of rts.id) (suc n) last part now f
+        → m ≡ record { source = source_of rts.id; pgn = pgn; bytes = take size (joined ++ part) }
+        → made now f (after own boxes (later ++ Hears start name rts ∷ E)) ≡ Some m }
+{}
+
+/// Address 11 sends two packets whole, beside an RTS of address 12 that finds no box: so `received` speaks of something.
+pub fn an_example()
+    ensures opens { (of 11 (after 128 1 []).sessions ≡ None) × (has_room 11 (after 128 1 []) ≡ true)
+        × (said_to 128 requested ≡ Some (RequestToSend 9 2 255 65226)) }
+    ensures bring { Bring 128 11 None 1000 between 1 (1 ∷ 2 ∷ 3 ∷ 4 ∷ 5 ∷ 6 ∷ 7 ∷ []) 3000 }
+    ensures last { IsPacket 128 11 2 3000 (8 ∷ 9 ∷ 255 ∷ 255 ∷ 255 ∷ 255 ∷ 255 ∷ []) 4000 last_packet }
 {}

@@ -24,8 +24,11 @@ use Step::{Has, HasNothing, Hears, Releases, Says, SaysNothing, Ticks};
 
 /// To an RTS of three packets of group 65260, to one for which no box is free, and to the last packet.
 const CLEAR: [u8; 8] = [17, 3, 1, 255, 255, 0xEC, 0xFE, 0];
+
 const NO_ROOM: [u8; 8] = [255, 2, 255, 255, 255, 0xEC, 0xFE, 0];
+
 const DONE: [u8; 8] = [19, 17, 0, 3, 255, 0xEC, 0xFE, 0];
+
 const TIMED_OUT: [u8; 8] = [255, 3, 255, 255, 255, 0xEC, 0xFE, 0];
 
 /// Addresses 11, 12 and 13 send 17 bytes to address 128 at once.

@@ -1,0 +1,6 @@
+use Rattle.j39_sessions.proofs.BringLemmas.{received}
+use Rattle.j39_sessions.proofs.laws.received.Goals as goal
+
+pub returns : goal.returns
+returns c = λ own boxes E later start size n most pgn last now name rts f joined part m.
+    received own boxes E later start size n most pgn last now name rts f joined part m
