@@ -78,7 +78,7 @@ class _Name(ctypes.Structure):
 
 
 class _Handle(ctypes.Structure):
-    _fields_ = [("part", _U64)]
+    _fields_ = [("part", _U64), ("memory", _U64)]
 
 
 def _load() -> ctypes.CDLL:
