@@ -30,13 +30,16 @@ void j39_name_split(uint64_t name, j1939_name_fields *fields);
 int32_t j39_name_compose(const j1939_name_fields *fields, uint64_t *name);
 int32_t j39_reading(const j1939_message *message, j1939_reading *reading, uint64_t index);
 int32_t j39_reading_text(const j1939_message *message, uint64_t index, char *text, uint64_t room);
+int32_t j39_report_line(const j1939_message *message, uint64_t index, char *text, uint64_t room);
 int32_t j39_raw_of(uint32_t spn, int64_t value, uint32_t *raw);
 int32_t j39_fault(const j1939_message *message, j1939_fault *fault, uint64_t index);
 int32_t j39_lamps(const j1939_message *message, j1939_lamps *lamps);
+int32_t j39_faults_message(const j1939_lamps *lamps, const j1939_fault *faults, uint64_t count, uint8_t *payload, uint64_t room);
 int32_t j39_parameter_name(uint32_t spn, char *text, uint64_t room);
 int32_t j39_group_name(uint32_t pgn, char *text, uint64_t room);
 int32_t j39_function_name(uint8_t function, char *text, uint64_t room);
 int32_t j39_maker_name(uint16_t manufacturer, char *text, uint64_t room);
+int32_t j39_failure_name(uint8_t fmi, char *text, uint64_t room);
 int32_t j39_cut_frame(uint8_t source, uint32_t pgn, const uint8_t *payload, uint64_t size, uint16_t k, uint64_t micros,
                       j1939_frame *out);
 void j39_broadcast_init(j1939_broadcast *broadcast);
@@ -54,6 +57,7 @@ int32_t j39_node_status(const j1939_node *node, uint8_t *address);
 void j39_close(j1939_handle *handle);
 int32_t j39_listener_new(j1939_handle *listener);
 int32_t j39_listener_feed(j1939_handle *listener, const j1939_frame *frame, j1939_message *out);
+int32_t j39_listener_feed_as(j1939_handle *listener, uint8_t is_single, const j1939_frame *frame, j1939_message *out);
 int32_t j39_listener_holder(j1939_handle *listener, uint8_t address, uint64_t *name);
 int32_t j39_assembler_new(j1939_handle *assembler);
 int32_t j39_assembler_feed(j1939_handle *assembler, const j1939_frame *frame, j1939_message *out);
@@ -126,6 +130,10 @@ int32_t j1939_read_text(const j1939_message *message, size_t index, char *text, 
     return message && text ? j39_reading_text(message, index, text, room) : J1939_NULL;
 }
 
+int32_t j1939_report_line(const j1939_message *message, size_t index, char *text, size_t room) {
+    return message && text ? j39_report_line(message, index, text, room) : J1939_NULL;
+}
+
 int32_t j1939_raw_of(uint32_t spn, int64_t value, uint32_t *raw) {
     return raw ? j39_raw_of(spn, value, raw) : J1939_NULL;
 }
@@ -136,6 +144,10 @@ int32_t j1939_fault_at(const j1939_message *message, size_t index, j1939_fault *
 
 int32_t j1939_lamps_of(const j1939_message *message, j1939_lamps *lamps) {
     return message && lamps ? j39_lamps(message, lamps) : J1939_NULL;
+}
+
+int32_t j1939_faults_message(const j1939_lamps *lamps, const j1939_fault *faults, size_t count, uint8_t *payload, size_t room) {
+    return lamps && faults && payload ? j39_faults_message(lamps, faults, count, payload, room) : J1939_NULL;
 }
 
 int32_t j1939_parameter_name(uint32_t spn, char *text, size_t room) {
@@ -152,6 +164,10 @@ int32_t j1939_function_name(uint8_t function, char *text, size_t room) {
 
 int32_t j1939_maker_name(uint16_t manufacturer, char *text, size_t room) {
     return text ? j39_maker_name(manufacturer, text, room) : J1939_NULL;
+}
+
+int32_t j1939_failure_name(uint8_t fmi, char *text, size_t room) {
+    return text ? j39_failure_name(fmi, text, room) : J1939_NULL;
 }
 
 int32_t j1939_cut_frame(uint8_t source, uint32_t pgn, const uint8_t *payload, size_t size, uint16_t k, uint64_t micros,
@@ -265,6 +281,12 @@ int32_t j1939_listener_feed(j1939_listener *listener, const j1939_frame *frame, 
     if (!listener || !frame || !out) return J1939_NULL;
     enter(&listener->handle);
     return leave(&listener->handle, j39_listener_feed(&listener->handle, frame, out));
+}
+
+int32_t j1939_listener_feed_as(j1939_listener *listener, uint8_t is_single, const j1939_frame *frame, j1939_message *out) {
+    if (!listener || !frame || !out) return J1939_NULL;
+    enter(&listener->handle);
+    return leave(&listener->handle, j39_listener_feed_as(&listener->handle, is_single, frame, out));
 }
 
 /* Each call with a const handle hands on a copy of it, since the proved one takes the part out, and puts it back. */

@@ -173,6 +173,11 @@ int32_t j1939_read(const j1939_message *message, size_t index, j1939_reading *re
  * @return 0 to room, J1939_BAD_VALUE, J1939_NO_MEMORY, J1939_NO_ROOM, J1939_END */
 int32_t j1939_read_text(const j1939_message *message, size_t index, char *text, size_t room);
 
+/** Writes out the line of reading number index, as the command report prints it, with its newline: its length. J1939_BAD_VALUE also for
+ * a moment of 10^16 and above. The lines of a message are those of 0, 1 and so on until J1939_END.
+ * @return 0 to room, J1939_BAD_VALUE, J1939_NO_MEMORY, J1939_NO_ROOM, J1939_END */
+int32_t j1939_report_line(const j1939_message *message, size_t index, char *text, size_t room);
+
 /** The raw number of a value of a parameter, in units of its last decimal place: 1 and the number, or 0 where there is
  * none: the parameter is no number, or the value is off its steps or its valid range. A reading of the parameter tells
  * its places: an engine speed (190) has three, so 1,500 rpm are 1500000.
@@ -225,6 +230,17 @@ typedef struct {
  * @return 0, J1939_BAD_VALUE, J1939_END */
 int32_t j1939_lamps_of(const j1939_message *message, j1939_lamps *lamps);
 
+/** The most codes of j1939_faults_message. */
+#define J1939_MOST_FAULTS 64
+
+/** Writes out what a message of DM1, DM2 or their kin has for these lamps and codes, in their order, by conversion method 0: its
+ * length, 8 to 258 bytes. Up to 8 go by j1939_controller_send, more by .._broadcast or .._transfer. J1939_BAD_VALUE for
+ * more than J1939_MOST_FAULTS codes, a lamp's state or flash above 3, and a code that can't be told: by another conversion method, of
+ * an SPN of 2^19 and above, an FMI above 31, a count above 127, or with SPN and FMI 0, which says that there is none. Only spn,
+ * fmi, count and conversion of a code are read. Where count is 0, faults must not be NULL.
+ * @return 0 to room, J1939_BAD_VALUE, J1939_NO_ROOM */
+int32_t j1939_faults_message(const j1939_lamps *lamps, const j1939_fault *faults, size_t count, uint8_t *payload, size_t room);
+
 /* ---- names, built in: of 1 to 80 bytes of ASCII, with no zero at the end */
 
 /** Writes out what a parameter is called: the name's length. J1939_NO_ROOM where it is longer than room; J1939_END where no
@@ -243,6 +259,10 @@ int32_t j1939_function_name(uint8_t function, char *text, size_t room);
 /** The same of who makes a controller, by the manufacturer code of its NAME.
  * @return 0 to room, J1939_NO_ROOM, J1939_END */
 int32_t j1939_maker_name(uint16_t manufacturer, char *text, size_t room);
+
+/** Writes out what is wrong by a failure mode identifier (FMI), as the command faults prints it: the text's length.
+ * @return 0 to room, J1939_NO_ROOM */
+int32_t j1939_failure_name(uint8_t fmi, char *text, size_t room);
 
 /* ---- broadcasts (J1939-21, 5.10.1 to 5.10.2) */
 
@@ -392,6 +412,11 @@ int32_t j1939_listener_at(j1939_listener *listener, void *memory, size_t size);
  * J1939_NO_MEMORY at an announcement alone: feed the frame again, or drop it.
  * @return 0, 1, J1939_BAD_VALUE, J1939_NO_PART, J1939_NO_MEMORY */
 int32_t j1939_listener_feed(j1939_listener *listener, const j1939_frame *frame, j1939_message *out);
+
+/** The same, where you say whether messages of the frame's group are heard in one frame, as for groups of your own: they are
+ * where is_single is not 0, but for claims (60928) and packets (60160, 60416). Those in packets are heard of all groups.
+ * @return 0, 1, J1939_BAD_VALUE, J1939_NO_PART, J1939_NO_MEMORY */
+int32_t j1939_listener_feed_as(j1939_listener *listener, uint8_t is_single, const j1939_frame *frame, j1939_message *out);
 
 /** Who holds an address, by the claims that it heard: 1 and the NAME, or 0.
  * @return 0, 1, J1939_NO_PART */
