@@ -34,7 +34,8 @@ int32_t j39_report_line(const j1939_message *message, uint64_t index, char *text
 int32_t j39_raw_of(uint32_t spn, int64_t value, uint32_t *raw);
 int32_t j39_fault(const j1939_message *message, j1939_fault *fault, uint64_t index);
 int32_t j39_lamps(const j1939_message *message, j1939_lamps *lamps);
-int32_t j39_faults_message(const j1939_lamps *lamps, const j1939_fault *faults, uint64_t count, uint8_t *payload, uint64_t room);
+int32_t j39_faults_message(const j1939_lamps *lamps, const j1939_fault *faults, uint64_t count, uint8_t *payload,
+                           uint64_t room);
 int32_t j39_parameter_name(uint32_t spn, char *text, uint64_t room);
 int32_t j39_group_name(uint32_t pgn, char *text, uint64_t room);
 int32_t j39_function_name(uint8_t function, char *text, uint64_t room);
@@ -146,7 +147,8 @@ int32_t j1939_lamps_of(const j1939_message *message, j1939_lamps *lamps) {
     return message && lamps ? j39_lamps(message, lamps) : J1939_NULL;
 }
 
-int32_t j1939_faults_message(const j1939_lamps *lamps, const j1939_fault *faults, size_t count, uint8_t *payload, size_t room) {
+int32_t j1939_faults_message(const j1939_lamps *lamps, const j1939_fault *faults, size_t count, uint8_t *payload,
+                             size_t room) {
     return lamps && faults && payload ? j39_faults_message(lamps, faults, count, payload, room) : J1939_NULL;
 }
 
@@ -228,13 +230,15 @@ int32_t j1939_node_status(const j1939_node *node, uint8_t *address) {
     return node && address ? j39_node_status(node, address) : J1939_NULL;
 }
 
-/* Of a handle in memory of the program's, what a call takes and gives back is there: the calls that may stand between the two. */
+/* A call with a handle. Where that lies in memory of the program's, what it takes and gives back is there. */
+#define WITH(handle, call) ((handle)->memory ? (enter(handle), leave(call)) : (call))
+
 static void enter(const j1939_handle *handle) {
-    if (handle->memory) j39_pool_enter((struct pool *)(uintptr_t)handle->memory);
+    j39_pool_enter((struct pool *)(uintptr_t)handle->memory);
 }
 
-static int32_t leave(const j1939_handle *handle, int32_t answer) {
-    if (handle->memory) j39_pool_enter(NULL);
+static int32_t leave(int32_t answer) {
+    j39_pool_enter(NULL);
     return answer;
 }
 
@@ -247,20 +251,17 @@ static int begin_at(j1939_handle *handle, void *memory, size_t size) {
 }
 
 static int32_t end_at(j1939_handle *handle, int32_t answer) {
-    leave(handle, answer);
     if (answer) handle->memory = 0;
-    return answer;
+    return leave(answer);
 }
 
 /* At most so many messages are open at once. */
 enum { MANY = 271 };
 
 static int32_t close_handle(j1939_handle *handle) {
-    enter(handle);
-    j39_close(handle);
-    leave(handle, 0);
+    int32_t answer = WITH(handle, (j39_close(handle), 0));
     handle->memory = 0;
-    return 0;
+    return answer;
 }
 
 int32_t j1939_listener_new(j1939_listener *listener) {
@@ -278,15 +279,16 @@ int32_t j1939_listener_at(j1939_listener *listener, void *memory, size_t size) {
 }
 
 int32_t j1939_listener_feed(j1939_listener *listener, const j1939_frame *frame, j1939_message *out) {
-    if (!listener || !frame || !out) return J1939_NULL;
-    enter(&listener->handle);
-    return leave(&listener->handle, j39_listener_feed(&listener->handle, frame, out));
+    return listener && frame && out
+               ? WITH(&listener->handle, j39_listener_feed(&listener->handle, frame, out))
+               : J1939_NULL;
 }
 
-int32_t j1939_listener_feed_as(j1939_listener *listener, uint8_t is_single, const j1939_frame *frame, j1939_message *out) {
-    if (!listener || !frame || !out) return J1939_NULL;
-    enter(&listener->handle);
-    return leave(&listener->handle, j39_listener_feed_as(&listener->handle, is_single, frame, out));
+int32_t j1939_listener_feed_as(j1939_listener *listener, uint8_t is_single, const j1939_frame *frame,
+                               j1939_message *out) {
+    return listener && frame && out
+               ? WITH(&listener->handle, j39_listener_feed_as(&listener->handle, is_single, frame, out))
+               : J1939_NULL;
 }
 
 /* Each call with a const handle hands on a copy of it, since the proved one takes the part out, and puts it back. */
@@ -315,15 +317,13 @@ int32_t j1939_assembler_at(j1939_assembler *assembler, void *memory, size_t size
 }
 
 int32_t j1939_assembler_feed(j1939_assembler *assembler, const j1939_frame *frame, j1939_message *out) {
-    if (!assembler || !frame || !out) return J1939_NULL;
-    enter(&assembler->handle);
-    return leave(&assembler->handle, j39_assembler_feed(&assembler->handle, frame, out));
+    return assembler && frame && out
+               ? WITH(&assembler->handle, j39_assembler_feed(&assembler->handle, frame, out))
+               : J1939_NULL;
 }
 
 int32_t j1939_assembler_forget(j1939_assembler *assembler, uint8_t source) {
-    if (!assembler) return J1939_NULL;
-    enter(&assembler->handle);
-    return leave(&assembler->handle, j39_assembler_forget(&assembler->handle, source));
+    return assembler ? WITH(&assembler->handle, j39_assembler_forget(&assembler->handle, source)) : J1939_NULL;
 }
 
 int32_t j1939_assembler_close(j1939_assembler *assembler) {

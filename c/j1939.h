@@ -23,7 +23,8 @@
  * They take no memory besides, need no close, and may be copied. A j1939_controller, a j1939_listener, a
  * j1939_assembler, a j1939_receiver and a j1939_sender are handles: set one to J1939_EMPTY, open it by its .._new,
  * close it by its .._close. What it holds lies on the heap, or, where it is opened by its .._at in place of .._new, in memory
- * of yours; it is the library's, and a call that takes a const handle changes nothing of it. Frames, messages, readings and texts are your own, and are copied.
+ * of yours; it is the library's, and a call that takes a const handle changes nothing of it. Frames, messages, readings
+ * and texts are your own, and are copied.
  *
  * A j1939_controller is a node, a receiver, a sender and its broadcasts in one. Take the others where you write a loop
  * of your own, or listen only.
@@ -35,8 +36,8 @@
  *    you, but moved: copied once, and the old one set to J1939_EMPTY, with no call between;
  *  - one call at a time on the same handle, node or claims; none from a signal handler, while one may be running;
  *  - memory that you hand to .._at isn't read, written or moved till the handle is closed;
- *  - malloc, realloc and free may be called by several threads at once, where you call from several. Where none of them is the
- *    system's, as on a board, and a handle is opened by .._at, one call at a time on all handles.
+ *  - malloc, realloc and free may be called by several threads at once, where you call from several; on a board where
+ *    a handle is opened by .._at, one call at a time on all handles.
  *
  * Times are microseconds from any moment on, below 10^16; a time that goes back counts as no time passed. Addresses
  * are 0 to 253; 254 is the null address, 255 all. Sections are those of SAE J1939-21 (data link), -71 (application),
@@ -239,7 +240,8 @@ int32_t j1939_lamps_of(const j1939_message *message, j1939_lamps *lamps);
  * an SPN of 2^19 and above, an FMI above 31, a count above 127, or with SPN and FMI 0, which says that there is none. Only spn,
  * fmi, count and conversion of a code are read. Where count is 0, faults must not be NULL.
  * @return 0 to room, J1939_BAD_VALUE, J1939_NO_ROOM */
-int32_t j1939_faults_message(const j1939_lamps *lamps, const j1939_fault *faults, size_t count, uint8_t *payload, size_t room);
+int32_t j1939_faults_message(const j1939_lamps *lamps, const j1939_fault *faults, size_t count, uint8_t *payload,
+                             size_t room);
 
 /* ---- names, built in: of 1 to 80 bytes of ASCII, with no zero at the end */
 
@@ -416,7 +418,8 @@ int32_t j1939_listener_feed(j1939_listener *listener, const j1939_frame *frame, 
 /** The same, where you say whether messages of the frame's group are heard in one frame, as for groups of your own: they are
  * where is_single is not 0, but for claims (60928) and packets (60160, 60416). Those in packets are heard of all groups.
  * @return 0, 1, J1939_BAD_VALUE, J1939_NO_PART, J1939_NO_MEMORY */
-int32_t j1939_listener_feed_as(j1939_listener *listener, uint8_t is_single, const j1939_frame *frame, j1939_message *out);
+int32_t j1939_listener_feed_as(j1939_listener *listener, uint8_t is_single, const j1939_frame *frame,
+                               j1939_message *out);
 
 /** Who holds an address, by the claims that it heard: 1 and the NAME, or 0.
  * @return 0, 1, J1939_NO_PART */
