@@ -26,6 +26,7 @@ static const j1939_setup setup = {.name = NAME,
                                   .subscribed = subscribed,
                                   .subscribed_count = sizeof subscribed / sizeof subscribed[0]};
 static j1939_controller engine = J1939_EMPTY;
+static uint8_t memory[J1939_CONTROLLER_SIZE(0)];
 static int64_t speed;
 static uint32_t partners_rpm;
 static uint64_t speed_due, second_due;
@@ -130,7 +131,7 @@ static void send_due(uint64_t now) {
 
 int ecu_run(void) {
     speed = IDLE_SPEED;
-    if (j1939_controller_new(&engine, &setup) != 0) return 1;
+    if (j1939_controller_at(&engine, memory, sizeof memory, &setup) != 0) return 1;
     for (;;) {
         uint64_t now = clock_micros();
         if (can_is_back()) (void)j1939_controller_again(&engine, now);

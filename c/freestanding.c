@@ -1,5 +1,5 @@
-/* A node and a listener with no C library: memory comes from a pool of 16 kB, and memcpy and its like are written out.
- * It runs on x86-64 Linux; all that is the system's stands at the end. Build:
+/* A node and a listener with no C library and no heap: the listener lies in memory of the program's, and memcpy and its like are
+ * written out. It runs on x86-64 Linux; all that is the system's stands at the end. Build:
  *   cc -std=c11 -O2 -ffreestanding -fno-builtin -fno-stack-protector -nostdlib -static freestanding.c libj1939.a */
 #include "j1939.h"
 #include "memory.h"
@@ -9,37 +9,19 @@ void *memmove(void *to, const void *from, size_t n);
 void *memset(void *to, int c, size_t n);
 int run(void);
 
-/* Blocks one behind the other, each behind 16 bytes that keep its size; the last one can be given back. */
-enum { HEAD = 16, POOL = 16384 };
-static _Alignas(16) uint8_t pool[POOL];
-static size_t used;
-
+/* There is no other memory. */
 struct granted rattle_alloc(size_t size, size_t align) {
-    (void)align;
-    struct granted none = {0, NULL};
-    if (size > POOL) return none;
-    size_t whole = (size + 15) / 16 * 16 + HEAD;
-    if (whole > POOL - used) return none;
-    uint8_t *block = pool + used;
-    memcpy(block, &whole, sizeof whole);
-    used += whole;
-    return (struct granted){1, block + HEAD};
-}
-
-void rattle_dealloc(void *at) {
-    uint8_t *block = (uint8_t *)at - HEAD;
-    size_t whole;
-    memcpy(&whole, block, sizeof whole);
-    if (block + whole == pool + used) used -= whole;
+    (void)size, (void)align;
+    return (struct granted){0, NULL};
 }
 
 struct granted rattle_realloc(void *at, size_t kept, size_t size, size_t align) {
-    struct granted moved = rattle_alloc(size, align);
-    if (moved.is_granted) {
-        memcpy(moved.at, at, kept);
-        rattle_dealloc(at);
-    }
-    return moved;
+    (void)at, (void)kept;
+    return rattle_alloc(size, align);
+}
+
+void rattle_dealloc(void *at) {
+    (void)at;
 }
 
 void *memcpy(void *to, const void *from, size_t n) {
@@ -71,14 +53,15 @@ static int contest(void) {
     return 0;
 }
 
-/* A listener hears a broadcast out of the pool, and gives the pool back. */
+/* A listener hears a broadcast, with room for one at once. */
 static int hear(void) {
+    static uint8_t memory[J1939_LISTENER_SIZE(1)];
     static j1939_message message;
     static const uint8_t vin[17] = "1FUJA6CV12LK12345";
     j1939_listener listener = J1939_EMPTY;
     j1939_frame frame;
     int32_t heard = 0;
-    if (j1939_listener_new(&listener) != 0) return 6;
+    if (j1939_listener_at(&listener, memory, sizeof memory) != 0) return 6;
     for (uint16_t k = 0; j1939_cut_frame(0, 65260, vin, sizeof vin, k, 50000u * k, &frame) == 1; k++)
         heard += j1939_listener_feed(&listener, &frame, &message);
     if (heard != 1 || message.len != sizeof vin || message.data[16] != '5') return 7;
@@ -90,6 +73,8 @@ int run(void) {
     return failed ? failed : hear();
 }
 
-/* ---- the system's: where a program begins, and how it ends */
+/* ---- the system's: where a program begins, with a word of the thread's own below fs, and how it ends */
 
-__asm__(".globl _start\n_start: and $-16, %rsp\n call run\n mov %eax, %edi\n mov $60, %eax\n syscall\n");
+__asm__(".local own\n.comm own, 24, 16\n.globl _start\n_start: and $-16, %rsp\n"
+        " mov $158, %eax\n mov $0x1002, %edi\n lea own+16(%rip), %rsi\n mov %rsi, (%rsi)\n syscall\n"
+        " call run\n mov %eax, %edi\n mov $60, %eax\n syscall\n");

@@ -1,6 +1,7 @@
 /* The calls of j1939.h: each tests its pointers for NULL, and calls the proved one. A frame that is read is copied
  * first, so that it may be the one that is written. */
 #include "j1939.h"
+#include "pool.h"
 
 /* A compiler that knows this has the usual way without a jump. */
 #ifdef __GNUC__
@@ -17,7 +18,7 @@ LIES(j1939_reading, 24);
 LIES(j1939_broadcast, 16);
 LIES(j1939_claims, 2288);
 LIES(j1939_node, 2312);
-LIES(j1939_handle, 8);
+LIES(j1939_handle, 16);
 LIES(j1939_ended, 16);
 _Static_assert(offsetof(j1939_node, moment) == 16 && offsetof(j1939_node, claims) == 24, "j1939_node");
 
@@ -29,13 +30,17 @@ void j39_name_split(uint64_t name, j1939_name_fields *fields);
 int32_t j39_name_compose(const j1939_name_fields *fields, uint64_t *name);
 int32_t j39_reading(const j1939_message *message, j1939_reading *reading, uint64_t index);
 int32_t j39_reading_text(const j1939_message *message, uint64_t index, char *text, uint64_t room);
+int32_t j39_report_line(const j1939_message *message, uint64_t index, char *text, uint64_t room);
 int32_t j39_raw_of(uint32_t spn, int64_t value, uint32_t *raw);
 int32_t j39_fault(const j1939_message *message, j1939_fault *fault, uint64_t index);
 int32_t j39_lamps(const j1939_message *message, j1939_lamps *lamps);
+int32_t j39_faults_message(const j1939_lamps *lamps, const j1939_fault *faults, uint64_t count, uint8_t *payload,
+                           uint64_t room);
 int32_t j39_parameter_name(uint32_t spn, char *text, uint64_t room);
 int32_t j39_group_name(uint32_t pgn, char *text, uint64_t room);
 int32_t j39_function_name(uint8_t function, char *text, uint64_t room);
 int32_t j39_maker_name(uint16_t manufacturer, char *text, uint64_t room);
+int32_t j39_failure_name(uint8_t fmi, char *text, uint64_t room);
 int32_t j39_cut_frame(uint8_t source, uint32_t pgn, const uint8_t *payload, uint64_t size, uint16_t k, uint64_t micros,
                       j1939_frame *out);
 void j39_broadcast_init(j1939_broadcast *broadcast);
@@ -53,6 +58,7 @@ int32_t j39_node_status(const j1939_node *node, uint8_t *address);
 void j39_close(j1939_handle *handle);
 int32_t j39_listener_new(j1939_handle *listener);
 int32_t j39_listener_feed(j1939_handle *listener, const j1939_frame *frame, j1939_message *out);
+int32_t j39_listener_feed_as(j1939_handle *listener, uint8_t is_single, const j1939_frame *frame, j1939_message *out);
 int32_t j39_listener_holder(j1939_handle *listener, uint8_t address, uint64_t *name);
 int32_t j39_assembler_new(j1939_handle *assembler);
 int32_t j39_assembler_feed(j1939_handle *assembler, const j1939_frame *frame, j1939_message *out);
@@ -125,6 +131,10 @@ int32_t j1939_read_text(const j1939_message *message, size_t index, char *text, 
     return message && text ? j39_reading_text(message, index, text, room) : J1939_NULL;
 }
 
+int32_t j1939_report_line(const j1939_message *message, size_t index, char *text, size_t room) {
+    return message && text ? j39_report_line(message, index, text, room) : J1939_NULL;
+}
+
 int32_t j1939_raw_of(uint32_t spn, int64_t value, uint32_t *raw) {
     return raw ? j39_raw_of(spn, value, raw) : J1939_NULL;
 }
@@ -135,6 +145,11 @@ int32_t j1939_fault_at(const j1939_message *message, size_t index, j1939_fault *
 
 int32_t j1939_lamps_of(const j1939_message *message, j1939_lamps *lamps) {
     return message && lamps ? j39_lamps(message, lamps) : J1939_NULL;
+}
+
+int32_t j1939_faults_message(const j1939_lamps *lamps, const j1939_fault *faults, size_t count, uint8_t *payload,
+                             size_t room) {
+    return lamps && faults && payload ? j39_faults_message(lamps, faults, count, payload, room) : J1939_NULL;
 }
 
 int32_t j1939_parameter_name(uint32_t spn, char *text, size_t room) {
@@ -151,6 +166,10 @@ int32_t j1939_function_name(uint8_t function, char *text, size_t room) {
 
 int32_t j1939_maker_name(uint16_t manufacturer, char *text, size_t room) {
     return text ? j39_maker_name(manufacturer, text, room) : J1939_NULL;
+}
+
+int32_t j1939_failure_name(uint8_t fmi, char *text, size_t room) {
+    return text ? j39_failure_name(fmi, text, room) : J1939_NULL;
 }
 
 int32_t j1939_cut_frame(uint8_t source, uint32_t pgn, const uint8_t *payload, size_t size, uint16_t k, uint64_t micros,
@@ -211,17 +230,65 @@ int32_t j1939_node_status(const j1939_node *node, uint8_t *address) {
     return node && address ? j39_node_status(node, address) : J1939_NULL;
 }
 
+/* A call with a handle. Where that lies in memory of the program's, what it takes and gives back is there. */
+#define WITH(handle, call) ((handle)->memory ? (enter(handle), leave(call)) : (call))
+
+static void enter(const j1939_handle *handle) {
+    j39_pool_enter((struct pool *)(uintptr_t)handle->memory);
+}
+
+static int32_t leave(int32_t answer) {
+    j39_pool_enter(NULL);
+    return answer;
+}
+
+/* An empty handle is opened in this memory: by the call that may stand between the two, and not where it refuses. */
+static int begin_at(j1939_handle *handle, void *memory, size_t size) {
+    if (handle->part) return 0;
+    handle->memory = (uintptr_t)j39_pool_in(memory, size);
+    enter(handle);
+    return 1;
+}
+
+static int32_t end_at(j1939_handle *handle, int32_t answer) {
+    if (answer) handle->memory = 0;
+    return leave(answer);
+}
+
+/* At most so many messages are open at once. */
+enum { MANY = 271 };
+
 static int32_t close_handle(j1939_handle *handle) {
-    j39_close(handle);
-    return 0;
+    int32_t answer = WITH(handle, (j39_close(handle), 0));
+    handle->memory = 0;
+    return answer;
 }
 
 int32_t j1939_listener_new(j1939_listener *listener) {
     return listener ? j39_listener_new(&listener->handle) : J1939_NULL;
 }
 
+size_t j1939_listener_size(size_t messages) {
+    return J1939_LISTENER_SIZE(messages < MANY ? messages : MANY);
+}
+
+int32_t j1939_listener_at(j1939_listener *listener, void *memory, size_t size) {
+    if (!listener || !memory) return J1939_NULL;
+    if (!begin_at(&listener->handle, memory, size)) return J1939_IN_USE;
+    return end_at(&listener->handle, j1939_listener_new(listener));
+}
+
 int32_t j1939_listener_feed(j1939_listener *listener, const j1939_frame *frame, j1939_message *out) {
-    return listener && frame && out ? j39_listener_feed(&listener->handle, frame, out) : J1939_NULL;
+    return listener && frame && out
+               ? WITH(&listener->handle, j39_listener_feed(&listener->handle, frame, out))
+               : J1939_NULL;
+}
+
+int32_t j1939_listener_feed_as(j1939_listener *listener, uint8_t is_single, const j1939_frame *frame,
+                               j1939_message *out) {
+    return listener && frame && out
+               ? WITH(&listener->handle, j39_listener_feed_as(&listener->handle, is_single, frame, out))
+               : J1939_NULL;
 }
 
 /* Each call with a const handle hands on a copy of it, since the proved one takes the part out, and puts it back. */
@@ -239,12 +306,24 @@ int32_t j1939_assembler_new(j1939_assembler *assembler) {
     return assembler ? j39_assembler_new(&assembler->handle) : J1939_NULL;
 }
 
+size_t j1939_assembler_size(size_t messages) {
+    return J1939_ASSEMBLER_SIZE(messages < MANY ? messages : MANY);
+}
+
+int32_t j1939_assembler_at(j1939_assembler *assembler, void *memory, size_t size) {
+    if (!assembler || !memory) return J1939_NULL;
+    if (!begin_at(&assembler->handle, memory, size)) return J1939_IN_USE;
+    return end_at(&assembler->handle, j1939_assembler_new(assembler));
+}
+
 int32_t j1939_assembler_feed(j1939_assembler *assembler, const j1939_frame *frame, j1939_message *out) {
-    return assembler && frame && out ? j39_assembler_feed(&assembler->handle, frame, out) : J1939_NULL;
+    return assembler && frame && out
+               ? WITH(&assembler->handle, j39_assembler_feed(&assembler->handle, frame, out))
+               : J1939_NULL;
 }
 
 int32_t j1939_assembler_forget(j1939_assembler *assembler, uint8_t source) {
-    return assembler ? j39_assembler_forget(&assembler->handle, source) : J1939_NULL;
+    return assembler ? WITH(&assembler->handle, j39_assembler_forget(&assembler->handle, source)) : J1939_NULL;
 }
 
 int32_t j1939_assembler_close(j1939_assembler *assembler) {
@@ -253,6 +332,16 @@ int32_t j1939_assembler_close(j1939_assembler *assembler) {
 
 int32_t j1939_receiver_new(j1939_receiver *receiver, uint8_t own) {
     return receiver ? j39_receiver_new(&receiver->handle, own) : J1939_NULL;
+}
+
+size_t j1939_receiver_size(void) {
+    return J1939_RECEIVER_SIZE;
+}
+
+int32_t j1939_receiver_at(j1939_receiver *receiver, void *memory, size_t size, uint8_t own) {
+    if (!receiver || !memory) return J1939_NULL;
+    if (!begin_at(&receiver->handle, memory, size)) return J1939_IN_USE;
+    return end_at(&receiver->handle, j1939_receiver_new(receiver, own));
 }
 
 int32_t j1939_receiver_on(j1939_receiver *receiver, const j1939_frame *frame, j1939_frame *out,
@@ -281,6 +370,17 @@ int32_t j1939_sender_new(j1939_sender *sender, uint8_t source, uint8_t destinati
     return sender && payload ? j39_sender_new(&sender->handle, source, destination, pgn, payload, size) : J1939_NULL;
 }
 
+size_t j1939_sender_size(size_t bytes) {
+    return J1939_SENDER_SIZE(bytes < J1939_LONGEST ? bytes : J1939_LONGEST);
+}
+
+int32_t j1939_sender_at(j1939_sender *sender, void *memory, size_t size, uint8_t source, uint8_t destination,
+                        uint32_t pgn, const uint8_t *payload, size_t bytes) {
+    if (!sender || !memory) return J1939_NULL;
+    if (!begin_at(&sender->handle, memory, size)) return J1939_IN_USE;
+    return end_at(&sender->handle, j1939_sender_new(sender, source, destination, pgn, payload, bytes));
+}
+
 int32_t j1939_sender_tick(j1939_sender *sender, uint64_t micros, j1939_frame *out) {
     return sender && out ? j39_sender_tick(&sender->handle, micros, out) : J1939_NULL;
 }
@@ -305,6 +405,16 @@ int32_t j1939_controller_new(j1939_controller *controller, const j1939_setup *se
     if ((!setup->served && setup->served_count) || (!setup->subscribed && setup->subscribed_count)) return J1939_NULL;
     return j39_controller_new(&controller->handle, setup, setup->served ? setup->served : none, setup->served_count,
                               setup->subscribed ? setup->subscribed : none, setup->subscribed_count);
+}
+
+size_t j1939_controller_size(const j1939_setup *setup) {
+    return setup ? J1939_CONTROLLER_SIZE(setup->broadcasts) : 0;
+}
+
+int32_t j1939_controller_at(j1939_controller *controller, void *memory, size_t size, const j1939_setup *setup) {
+    if (!controller || !memory) return J1939_NULL;
+    if (!begin_at(&controller->handle, memory, size)) return J1939_IN_USE;
+    return end_at(&controller->handle, j1939_controller_new(controller, setup));
 }
 
 int32_t j1939_controller_hear(j1939_controller *controller, const j1939_frame *frame, uint64_t micros) {

@@ -22,8 +22,9 @@
  * Storage. j1939_node, j1939_claims and j1939_broadcast are plain data in your own memory: make them by their .._init.
  * They take no memory besides, need no close, and may be copied. A j1939_controller, a j1939_listener, a
  * j1939_assembler, a j1939_receiver and a j1939_sender are handles: set one to J1939_EMPTY, open it by its .._new,
- * close it by its .._close. What it holds lies on the heap and is the library's; a call that takes a const handle
- * changes nothing of it. Frames, messages, readings and texts are your own, and are copied.
+ * close it by its .._close. What it holds lies on the heap, or, where it is opened by its .._at in place of .._new, in memory
+ * of yours; it is the library's, and a call that takes a const handle changes nothing of it. Frames, messages, readings
+ * and texts are your own, and are copied.
  *
  * A j1939_controller is a node, a receiver, a sender and its broadcasts in one. Take the others where you write a loop
  * of your own, or listen only.
@@ -34,7 +35,9 @@
  *  - a handle was set to J1939_EMPTY, or written by the library last; an open one is neither copied nor written by
  *    you, but moved: copied once, and the old one set to J1939_EMPTY, with no call between;
  *  - one call at a time on the same handle, node or claims; none from a signal handler, while one may be running;
- *  - malloc, realloc and free may be called by several threads at once, where you call from several.
+ *  - memory that you hand to .._at isn't read, written or moved till the handle is closed;
+ *  - malloc, realloc and free may be called by several threads at once, where you call from several; on a board where
+ *    a handle is opened by .._at, one call at a time on all handles.
  *
  * Times are microseconds from any moment on, below 10^16; a time that goes back counts as no time passed. Addresses
  * are 0 to 253; 254 is the null address, 255 all. Sections are those of SAE J1939-21 (data link), -71 (application),
@@ -171,6 +174,11 @@ int32_t j1939_read(const j1939_message *message, size_t index, j1939_reading *re
  * @return 0 to room, J1939_BAD_VALUE, J1939_NO_MEMORY, J1939_NO_ROOM, J1939_END */
 int32_t j1939_read_text(const j1939_message *message, size_t index, char *text, size_t room);
 
+/** Writes out the line of reading number index, as the command report prints it, with its newline: its length. J1939_BAD_VALUE also for
+ * a moment of 10^16 and above. The lines of a message are those of 0, 1 and so on until J1939_END.
+ * @return 0 to room, J1939_BAD_VALUE, J1939_NO_MEMORY, J1939_NO_ROOM, J1939_END */
+int32_t j1939_report_line(const j1939_message *message, size_t index, char *text, size_t room);
+
 /** The raw number of a value of a parameter, in units of its last decimal place: 1 and the number, or 0 where there is
  * none: the parameter is no number, or the value is off its steps or its valid range. A reading of the parameter tells
  * its places: an engine speed (190) has three, so 1,500 rpm are 1500000.
@@ -223,6 +231,18 @@ typedef struct {
  * @return 0, J1939_BAD_VALUE, J1939_END */
 int32_t j1939_lamps_of(const j1939_message *message, j1939_lamps *lamps);
 
+/** The most codes of j1939_faults_message. */
+#define J1939_MOST_FAULTS 64
+
+/** Writes out what a message of DM1, DM2 or their kin has for these lamps and codes, in their order, by conversion method 0: its
+ * length, 8 to 258 bytes. Up to 8 go by j1939_controller_send, more by .._broadcast or .._transfer. J1939_BAD_VALUE for
+ * more than J1939_MOST_FAULTS codes, a lamp's state or flash above 3, and a code that can't be told: by another conversion method, of
+ * an SPN of 2^19 and above, an FMI above 31, a count above 127, or with SPN and FMI 0, which says that there is none. Only spn,
+ * fmi, count and conversion of a code are read. Where count is 0, faults must not be NULL.
+ * @return 0 to room, J1939_BAD_VALUE, J1939_NO_ROOM */
+int32_t j1939_faults_message(const j1939_lamps *lamps, const j1939_fault *faults, size_t count, uint8_t *payload,
+                             size_t room);
+
 /* ---- names, built in: of 1 to 80 bytes of ASCII, with no zero at the end */
 
 /** Writes out what a parameter is called: the name's length. J1939_NO_ROOM where it is longer than room; J1939_END where no
@@ -241,6 +261,10 @@ int32_t j1939_function_name(uint8_t function, char *text, size_t room);
 /** The same of who makes a controller, by the manufacturer code of its NAME.
  * @return 0 to room, J1939_NO_ROOM, J1939_END */
 int32_t j1939_maker_name(uint16_t manufacturer, char *text, size_t room);
+
+/** Writes out what is wrong by a failure mode identifier (FMI), as the command faults prints it: the text's length.
+ * @return 0 to room, J1939_NO_ROOM */
+int32_t j1939_failure_name(uint8_t fmi, char *text, size_t room);
 
 /* ---- broadcasts (J1939-21, 5.10.1 to 5.10.2) */
 
@@ -332,7 +356,8 @@ int32_t j1939_node_status(const j1939_node *node, uint8_t *address);
 
 /** What a handle points to is the library's: 0, or an address in 64 bits. */
 typedef struct {
-    J1939_ALIGNED uint64_t part;
+    J1939_ALIGNED uint64_t part; /**< what it holds */
+    uint64_t memory;             /**< where that lies, if it was opened by its .._at */
 } j1939_handle;
 
 typedef struct {
@@ -357,7 +382,18 @@ typedef struct {
 
 /** A handle that holds nothing. */
 /* clang-format off */
-#define J1939_EMPTY {{0}}
+#define J1939_EMPTY {{0, 0}}
+/* clang-format on */
+
+/* How many bytes .._at wants for each kind of handle, wherever they begin; .._size answers the same of the library that a program is
+ * linked with. A listener's and an assembler's have room for so many messages in packets that are open at once, at most 271; a
+ * sender's for so many bytes of a message, a controller's for so many broadcasts. No call with such a handle takes other memory. */
+/* clang-format off */
+#define J1939_LISTENER_SIZE(messages) (6720 + 1824 * (size_t)(messages))
+#define J1939_ASSEMBLER_SIZE(messages) (4416 + 1824 * (size_t)(messages))
+#define J1939_RECEIVER_SIZE ((size_t)1984)
+#define J1939_SENDER_SIZE(bytes) (192 + (size_t)(bytes))
+#define J1939_CONTROLLER_SIZE(broadcasts) (12288 + 1888 * (size_t)(broadcasts))
 /* clang-format on */
 
 /* ---- a listener (J1939-21, 5.10; J1939-81, 4.2) */
@@ -366,10 +402,24 @@ typedef struct {
  * @return 0, J1939_NO_MEMORY, J1939_IN_USE */
 int32_t j1939_listener_new(j1939_listener *listener);
 
+/** How many bytes .._at wants for so many messages that are open at once. */
+size_t j1939_listener_size(size_t messages);
+
+/** Opens such a listener in memory of yours: of less than .._size of 0 messages J1939_NO_MEMORY may come. Where more messages
+ * are open than there is room for, .._feed answers it.
+ * @return 0, J1939_NO_MEMORY, J1939_IN_USE */
+int32_t j1939_listener_at(j1939_listener *listener, void *memory, size_t size);
+
 /** Feeds it the next frame of the bus: 1 where a message is heard at it, which stands in *out then, else 0;
  * J1939_NO_MEMORY at an announcement alone: feed the frame again, or drop it.
  * @return 0, 1, J1939_BAD_VALUE, J1939_NO_PART, J1939_NO_MEMORY */
 int32_t j1939_listener_feed(j1939_listener *listener, const j1939_frame *frame, j1939_message *out);
+
+/** The same, where you say whether messages of the frame's group are heard in one frame, as for groups of your own: they are
+ * where is_single is not 0, but for claims (60928) and packets (60160, 60416). Those in packets are heard of all groups.
+ * @return 0, 1, J1939_BAD_VALUE, J1939_NO_PART, J1939_NO_MEMORY */
+int32_t j1939_listener_feed_as(j1939_listener *listener, uint8_t is_single, const j1939_frame *frame,
+                               j1939_message *out);
 
 /** Who holds an address, by the claims that it heard: 1 and the NAME, or 0.
  * @return 0, 1, J1939_NO_PART */
@@ -384,6 +434,13 @@ int32_t j1939_listener_close(j1939_listener *listener);
 /** Opens an assembler with no message open.
  * @return 0, J1939_NO_MEMORY, J1939_IN_USE */
 int32_t j1939_assembler_new(j1939_assembler *assembler);
+
+/** How many bytes .._at wants for so many messages that are open at once. */
+size_t j1939_assembler_size(size_t messages);
+
+/** Opens such an assembler in memory of yours, as j1939_listener_at.
+ * @return 0, J1939_NO_MEMORY, J1939_IN_USE */
+int32_t j1939_assembler_at(j1939_assembler *assembler, void *memory, size_t size);
 
 /** Feeds it the next frame of the bus: 1 where a message is whole with it, which stands in *out then, of no NAME, else
  * 0; J1939_NO_MEMORY at an announcement alone: feed the frame again, or drop it.
@@ -403,6 +460,13 @@ int32_t j1939_assembler_close(j1939_assembler *assembler);
 /** Opens a receiver at an address, with its buffer of 1.8 kB; J1939_BAD_VALUE for an address above 253.
  * @return 0, J1939_BAD_VALUE, J1939_NO_MEMORY, J1939_IN_USE */
 int32_t j1939_receiver_new(j1939_receiver *receiver, uint8_t own);
+
+/** How many bytes .._at wants. */
+size_t j1939_receiver_size(void);
+
+/** Opens such a receiver in memory of yours; J1939_NO_MEMORY where it is too small.
+ * @return 0, J1939_BAD_VALUE, J1939_NO_MEMORY, J1939_IN_USE */
+int32_t j1939_receiver_at(j1939_receiver *receiver, void *memory, size_t size, uint8_t own);
 
 /** Hands it a frame of the bus, of any group, at the frame's own moment: 0; 1 where *out is to be sent; 2 where *out
  * is to be sent and *message is delivered.
@@ -438,6 +502,14 @@ enum j1939_send_state {
  * @return 0, J1939_BAD_VALUE, J1939_NO_MEMORY, J1939_IN_USE */
 int32_t j1939_sender_new(j1939_sender *sender, uint8_t source, uint8_t destination, uint32_t pgn,
                          const uint8_t *payload, size_t size);
+
+/** How many bytes .._at wants for a message of so many bytes. */
+size_t j1939_sender_size(size_t bytes);
+
+/** Opens such a sender in memory of yours; J1939_NO_MEMORY where it is too small.
+ * @return 0, J1939_BAD_VALUE, J1939_NO_MEMORY, J1939_IN_USE */
+int32_t j1939_sender_at(j1939_sender *sender, void *memory, size_t size, uint8_t source, uint8_t destination,
+                        uint32_t pgn, const uint8_t *payload, size_t bytes);
 
 /** Lets time pass: 1 where *out is to be sent, else 0. It sends at ticks alone.
  * @return 0, 1, J1939_BAD_VALUE, J1939_NO_PART */
@@ -496,6 +568,13 @@ typedef struct {
  * It takes all its memory here: some 12 kB, and 1.9 kB for each broadcast.
  * @return 0, J1939_BAD_VALUE, J1939_NO_MEMORY, J1939_IN_USE */
 int32_t j1939_controller_new(j1939_controller *controller, const j1939_setup *setup);
+
+/** How many bytes .._at wants for a controller that is made for this; 0 for NULL. */
+size_t j1939_controller_size(const j1939_setup *setup);
+
+/** Opens such a controller in memory of yours; J1939_NO_MEMORY where it is too small.
+ * @return 0, J1939_BAD_VALUE, J1939_NO_MEMORY, J1939_IN_USE */
+int32_t j1939_controller_at(j1939_controller *controller, void *memory, size_t size, const j1939_setup *setup);
 
 /** Shows it a frame that another controller sent, of any group, at the moment of this call. The frame's own stamp may be
  * of another clock: it is handed on with what is received, and is no moment.

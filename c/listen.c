@@ -48,18 +48,10 @@ static int read_line(const char *line, char bus[BUS], j1939_frame *frame) {
     return read_frame(text, frame);
 }
 
-static void print_readings(const j1939_message *message) {
-    static char text[7200];
-    j1939_reading reading;
-    for (size_t i = 0; j1939_read(message, i, &reading) == 0; i++) {
-        int32_t size = j1939_read_text(message, i, text, sizeof text);
-        if (size < 0) return;
-        printf("(%010" PRIu64 ".%06" PRIu64 ") %02X ", message->micros / 1000000, message->micros % 1000000,
-               (unsigned)message->source);
-        if (message->is_named) printf("%016" PRIX64, message->name);
-        else printf("----------------");
-        printf(" %" PRIu32 " %" PRIu32 " %.*s\n", message->pgn, reading.spn, (int)size, text);
-    }
+static void print_lines(const j1939_message *message) {
+    static char text[7264];
+    int32_t size;
+    for (size_t i = 0; (size = j1939_report_line(message, i, text, sizeof text)) > 0; i++) fwrite(text, 1, (size_t)size, stdout);
 }
 
 int main(void) {
@@ -74,7 +66,7 @@ int main(void) {
         if (strcmp(bus, first) != 0) continue;
         int32_t heard = j1939_listener_feed(&listener, &frame, &message);
         if (heard < 0) return 1;
-        if (heard == 1) print_readings(&message);
+        if (heard == 1) print_lines(&message);
     }
     j1939_listener_close(&listener);
     return 0;

@@ -92,22 +92,16 @@ int can_take(j1939_frame *frame) {
     return 0;
 }
 
-/* ---- memory from a pool, of which nothing is given back: the controller takes all its memory as it is opened */
-
-static _Alignas(16) uint8_t pool[20480];
-static size_t used;
+/* ---- no memory but that of the controller's own */
 
 struct granted rattle_alloc(size_t size, size_t align) {
-    size_t at = (used + align - 1) / align * align;
-    if (size > sizeof pool || at > sizeof pool - size) return (struct granted){0, NULL};
-    used = at + size;
-    return (struct granted){1, pool + at};
+    (void)size, (void)align;
+    return (struct granted){0, NULL};
 }
 
 struct granted rattle_realloc(void *at, size_t kept, size_t size, size_t align) {
-    struct granted moved = rattle_alloc(size, align);
-    if (moved.is_granted) memcpy(moved.at, at, kept < size ? kept : size);
-    return moved;
+    (void)at, (void)kept;
+    return rattle_alloc(size, align);
 }
 
 void rattle_dealloc(void *at) {

@@ -48,6 +48,10 @@ static void null_pointers(void) {
     EXPECT(j1939_group_name(61444, NULL, 0) == J1939_NULL);
     EXPECT(j1939_function_name(0, NULL, 0) == J1939_NULL);
     EXPECT(j1939_maker_name(10, NULL, 0) == J1939_NULL);
+    EXPECT(j1939_failure_name(10, NULL, 0) == J1939_NULL);
+    EXPECT(j1939_report_line(NULL, 0, text, 8) == J1939_NULL && j1939_report_line(&message, 0, NULL, 8) == J1939_NULL);
+    EXPECT(j1939_faults_message(NULL, NULL, 0, &byte, 1) == J1939_NULL);
+    EXPECT(j1939_listener_feed_as(&listener, 1, NULL, &message) == J1939_NULL);
     EXPECT(j1939_cut_frame(0, 0, NULL, 9, 0, 0, &out) == J1939_NULL);
     EXPECT(j1939_broadcast_init(NULL) == J1939_NULL);
     EXPECT(j1939_broadcast_poll(&broadcast, 0, 0, payload, 9, 0, &out, NULL) == J1939_NULL);
@@ -195,6 +199,31 @@ static j1939_frame packet(uint8_t k) {
     return frame;
 }
 
+/* Groups of one's own, heard in one frame where the caller says so. */
+static void own_groups(void) {
+    j1939_listener listener = J1939_EMPTY;
+    const j1939_frame claim = {.micros = 1, .id = 0x18EEFF80, .len = 8, .data = {1}};
+    EXPECT(j1939_listener_feed_as(&listener, 1, &claim, &message) == J1939_NO_PART);
+    EXPECT(j1939_listener_new(&listener) == 0);
+    j1939_frame own = {.micros = 6, .id = 0x18FF1203, .len = 2, .data = {7, 8}}; /* proprietary B, which no table has */
+    EXPECT(j1939_listener_feed(&listener, &own, &message) == 0 && j1939_listener_feed_as(&listener, 0, &own, &message) == 0);
+    EXPECT(j1939_listener_feed_as(&listener, 1, &own, &message) == 1 && message.pgn == 0xFF12 && message.len == 2);
+    EXPECT(j1939_listener_feed_as(&listener, 255, &own, &message) == 1 && message.data[1] == 8 && !message.is_named);
+    own.id = 0x0CF00403, own.len = 8; /* a group of the built-in table, though it says that it isn't heard */
+    EXPECT(j1939_listener_feed_as(&listener, 0, &own, &message) == 0 && j1939_listener_feed(&listener, &own, &message) == 1);
+    EXPECT(j1939_listener_feed_as(&listener, 1, &claim, &message) == 0); /* a claim */
+    own.id = 0x18EAFF03, own.len = 3; /* a request */
+    EXPECT(j1939_listener_feed_as(&listener, 1, &own, &message) == 1 && message.is_addressed && message.destination == 255);
+    own.len = 9;
+    EXPECT(j1939_listener_feed_as(&listener, 1, &own, &message) == J1939_BAD_VALUE);
+    own.len = 8, own.id = bam.id | 1; /* another source's */
+    memcpy(own.data, bam.data, 8);
+    allowed = 0;
+    EXPECT(j1939_listener_feed_as(&listener, 1, &own, &message) == J1939_NO_MEMORY);
+    allowed = -1;
+    EXPECT(j1939_listener_close(&listener) == 0);
+}
+
 static void listeners(void) {
     j1939_listener listener = J1939_EMPTY;
     j1939_receiver foreign = J1939_EMPTY;
@@ -274,6 +303,29 @@ static void assemblers(void) {
     EXPECT(j1939_assembler_close(&assembler) == 0);
 }
 
+/* The lines of EEC1 as j1939 report prints them. */
+static void report_lines(void) {
+    static const char of_name[] = "(0000000012.000034) 0B 8000000001400001 61444 190 1500.000 rpm\n";
+    static const char of_none[] = "(0000000012.000034) 0B ---------------- 61444 190 1500.000 rpm\n";
+    char text[80];
+    message.micros = 12000034, message.source = 0x0B, message.is_named = 1, message.name = 0x8000000001400001;
+    EXPECT(j1939_report_line(&message, 0, text, sizeof text) == sizeof of_name - 1);
+    EXPECT(memcmp(text, of_name, sizeof of_name - 1) == 0);
+    message.is_named = 0;
+    EXPECT(j1939_report_line(&message, 0, text, sizeof of_none - 1) == sizeof of_none - 1);
+    EXPECT(memcmp(text, of_none, sizeof of_none - 1) == 0);
+    EXPECT(j1939_report_line(&message, 0, text, sizeof of_none - 2) == J1939_NO_ROOM);
+    EXPECT(j1939_report_line(&message, 100, text, sizeof text) == J1939_END);
+    allowed = 0;
+    EXPECT(j1939_report_line(&message, 0, text, sizeof text) == J1939_NO_MEMORY);
+    allowed = -1;
+    message.micros = LATE;
+    EXPECT(j1939_report_line(&message, 0, text, sizeof text) == J1939_BAD_VALUE);
+    message.micros = 0, message.pgn = 1u << 18;
+    EXPECT(j1939_report_line(&message, 0, text, sizeof text) == J1939_BAD_VALUE);
+    message.pgn = 61444;
+}
+
 static void readings(void) {
     j1939_reading reading;
     char text[64];
@@ -298,6 +350,7 @@ static void readings(void) {
     memcpy(message.data, engine, 8);
     EXPECT(j1939_read(&message, 0, &reading) == 0 && reading.spn == 190 && reading.kind == J1939_NUMBER);
     EXPECT(reading.number == 1500000 && reading.places == 3 && strcmp(reading.unit, "rpm") == 0);
+    report_lines();
     EXPECT(j1939_raw_of(190, 1500000, &raw) == 1 && raw == 12000);
     EXPECT(j1939_raw_of(190, 1, &raw) == 0 && raw == 12000);
 }
@@ -327,8 +380,42 @@ static void faults(void) {
     EXPECT(j1939_lamps_of(&message, &lamps) == J1939_BAD_VALUE);
 }
 
+/* What is written out is read back; a message that can't be told is refused. */
+static void faults_told(void) {
+    static j1939_fault many[65], back;
+    static uint8_t bytes[300];
+    const uint8_t one[8] = {0x04, 0xF7, 110, 0, 0xE0 | 3, 5, 0xFF, 0xFF}, none[8] = {0x04, 0xF7, 0, 0, 0, 0, 0xFF, 0xFF};
+    j1939_fault fault = {.spn = 7 * 65536 + 110, .fmi = 3, .count = 5};
+    j1939_lamps lamps = {{0, 3}, {0, 3}, {1, 1}, {0, 3}}, told;
+    EXPECT(j1939_faults_message(&lamps, &fault, 1, bytes, sizeof bytes) == 8 && memcmp(bytes, one, 8) == 0);
+    EXPECT(j1939_faults_message(&lamps, &fault, 0, bytes, 8) == 8 && memcmp(bytes, none, 8) == 0);
+    EXPECT(j1939_faults_message(&lamps, &fault, 1, bytes, 7) == J1939_NO_ROOM);
+    for (uint8_t i = 0; i < 65; i++) many[i] = (j1939_fault){.spn = 8192u * i + i, .fmi = i % 32, .count = (uint8_t)(127 - i)};
+    many[0].spn = 0, many[0].fmi = 31;
+    EXPECT(j1939_faults_message(&lamps, many, J1939_MOST_FAULTS, bytes, sizeof bytes) == 2 + 4 * J1939_MOST_FAULTS);
+    message.pgn = 65227, message.len = 2 + 4 * J1939_MOST_FAULTS;
+    memcpy(message.data, bytes, message.len);
+    for (uint8_t i = 0; i < J1939_MOST_FAULTS; i++) {
+        EXPECT(j1939_fault_at(&message, i, &back) == 0 && back.spn == many[i].spn && back.fmi == many[i].fmi);
+        EXPECT(back.count == many[i].count && back.conversion == 0);
+    }
+    EXPECT(j1939_fault_at(&message, J1939_MOST_FAULTS, &back) == J1939_END);
+    EXPECT(j1939_lamps_of(&message, &told) == 0 && memcmp(&told, &lamps, sizeof told) == 0);
+    EXPECT(j1939_faults_message(&lamps, many, 65, bytes, sizeof bytes) == J1939_BAD_VALUE);
+    const j1939_fault bad[] = {{.spn = 1u << 19}, {.spn = 1, .fmi = 32}, {.spn = 1, .count = 128}, {0}, {.spn = 1, .conversion = 1}};
+    for (size_t i = 0; i < sizeof bad / sizeof *bad; i++)
+        EXPECT(j1939_faults_message(&lamps, &bad[i], 1, bytes, sizeof bytes) == J1939_BAD_VALUE);
+    lamps.protect.state = 4;
+    EXPECT(j1939_faults_message(&lamps, &fault, 1, bytes, sizeof bytes) == J1939_BAD_VALUE);
+    lamps.protect.state = 0, lamps.malfunction.flash = 4;
+    EXPECT(j1939_faults_message(&lamps, &fault, 1, bytes, sizeof bytes) == J1939_BAD_VALUE);
+}
+
 static void names(void) {
     char text[80];
+    EXPECT(j1939_failure_name(31, text, 16) == 16 && memcmp(text, "condition exists", 16) == 0);
+    EXPECT(j1939_failure_name(31, text, 15) == J1939_NO_ROOM);
+    EXPECT(j1939_failure_name(30, text, sizeof text) == 8 && memcmp(text, "reserved", 8) == 0);
     EXPECT(j1939_parameter_name(190, text, sizeof text) == 12 && memcmp(text, "engine speed", 12) == 0);
     EXPECT(j1939_parameter_name(190, text, 11) == J1939_NO_ROOM);
     EXPECT(j1939_parameter_name(0xFFFFFFFF, text, sizeof text) == J1939_END);
@@ -831,9 +918,11 @@ int main(void) {
     fields();
     nodes();
     claims();
+    own_groups();
     listeners();
     readings();
     faults();
+    faults_told();
     names();
     assemblers();
     transfers();

@@ -45,6 +45,11 @@ static void hear_other(void) { EXPECT(j1939_listener_feed(&listener, &other, &me
 static void read_number(void) { EXPECT(j1939_read(&message, 0, &reading) == 0); }
 static char text[64];
 static void read_text(void) { EXPECT(j1939_read_text(&message, 0, text, sizeof text) > 0); }
+static void write_line(void) { EXPECT(j1939_report_line(&message, 0, text, sizeof text) > 0); }
+static const j1939_fault fault = {.spn = 110, .fmi = 3};
+static const j1939_lamps lamps;
+static uint8_t faults[8];
+static void write_faults(void) { EXPECT(j1939_faults_message(&lamps, &fault, 1, faults, sizeof faults) == 8); }
 static void announce(void) { EXPECT(j1939_listener_feed(&listener, &bam, &message) == 0); }
 static void node_tick(void) { EXPECT(j1939_node_tick(&node, 5) == 0); }
 static void node_on(void) { EXPECT(j1939_node_on(&node, &claim, &out) == 0); }
@@ -152,6 +157,8 @@ int main(void) {
     measure("  announced", announce, MANY);
     measure("read", read_number, MANY);
     measure("read_text", read_text, MANY);
+    measure("report_line", write_line, MANY);
+    measure("faults_message", write_faults, MANY);
     measure("node_tick", node_tick, MANY);
     measure("node_on", node_on, MANY);
     measure("receiver_tick", receiver_tick, MANY);

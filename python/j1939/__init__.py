@@ -29,6 +29,7 @@ __all__ = [
     "Name",
     "Reading",
     "Refused",
+    "failure_name",
     "frames",
     "function_name",
     "group_name",
@@ -78,7 +79,7 @@ class _Name(ctypes.Structure):
 
 
 class _Handle(ctypes.Structure):
-    _fields_ = [("part", _U64)]
+    _fields_ = [("part", _U64), ("memory", _U64)]
 
 
 def _load() -> ctypes.CDLL:
@@ -90,8 +91,8 @@ def _load() -> ctypes.CDLL:
     library.j1939_read.argtypes = [pointer, size, pointer]
     library.j1939_read_text.argtypes = [pointer, size, ctypes.c_char_p, size]
     library.j1939_fault_at.argtypes = [pointer, size, pointer]
-    for call in (library.j1939_parameter_name, library.j1939_group_name, library.j1939_function_name, library.j1939_maker_name):
-        call.argtypes = [word, ctypes.c_char_p, size]
+    for number in ("parameter", "group", "function", "maker", "failure"):
+        getattr(library, f"j1939_{number}_name").argtypes = [word, ctypes.c_char_p, size]
     library.j1939_id_split.argtypes = [word, pointer]
     library.j1939_name_split.argtypes = [ctypes.c_uint64, pointer]
     library.j1939_listener_holder.argtypes = [pointer, ctypes.c_uint8, pointer]
@@ -379,6 +380,11 @@ def function_name(function: int) -> Optional[str]:
 def maker_name(manufacturer: int) -> Optional[str]:
     """Who makes a controller, by the manufacturer code of its NAME."""
     return _name(_library.j1939_maker_name, _fits(manufacturer, 16))
+
+
+def failure_name(fmi: int) -> Optional[str]:
+    """What is wrong by a failure mode identifier (FMI): `reserved` where it says nothing."""
+    return _name(_library.j1939_failure_name, _fits(fmi, 8))
 
 
 def _name(call: Callable[..., int], number: int) -> Optional[str]:

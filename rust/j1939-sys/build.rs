@@ -32,8 +32,8 @@ fn item(block: &str) -> String {
         structure(body).map(|made| comment + &made)
     } else if item.starts_with("enum ") {
         constants(item)
-    } else if let Some(call) = item.strip_prefix("int32_t ") {
-        declaration(call).map(|made| format!("extern \"C\" {{\n{comment}{made}}}\n"))
+    } else if let Some((result @ ("int32_t" | "size_t"), call)) = item.split_once(' ') {
+        declaration(call, rust(result)).map(|made| format!("extern \"C\" {{\n{comment}{made}}}\n"))
     } else if let Some(number) = item.strip_prefix("#define J1939_LONGEST ") {
         Some(format!(
             "{comment}pub const J1939_LONGEST: usize = {number};\n"
@@ -98,13 +98,20 @@ fn constants(item: &str) -> Option<String> {
 }
 
 /// A call.
-fn declaration(call: &str) -> Option<String> {
+fn declaration(call: &str, result: &str) -> Option<String> {
     let (name, words) = call
         .strip_suffix(");")
         .or(call.strip_suffix(");\n"))?
         .split_once('(')?;
-    let words: Option<Vec<String>> = words.split(',').map(word).collect();
-    Some(format!("pub fn {name}({}) -> i32;\n", words?.join(", ")))
+    let words: Option<Vec<String>> = words
+        .split(',')
+        .filter(|words| *words != "void")
+        .map(word)
+        .collect();
+    Some(format!(
+        "pub fn {name}({}) -> {result};\n",
+        words?.join(", ")
+    ))
 }
 
 /// A word that a call takes, or a pointer in a struct: `const uint8_t *payload`, or `uint8_t changed[2]`.
@@ -162,6 +169,8 @@ fn rust(kind: &str) -> &str {
         "uint16_t" => "u16",
         "uint8_t" => "u8",
         "size_t" => "usize",
+        "int32_t" => "i32",
+        "void" => "c_void",
         "char" => "c_char",
         other => other,
     }

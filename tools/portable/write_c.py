@@ -585,13 +585,14 @@ def around(folder):
     text += " *\n * SPDX-License-Identifier: MIT OR Apache-2.0\n *\n"
     text += " * Memory comes from malloc, realloc and free; with -DJ1939_OWN_MEMORY from three calls of your own (memory.h). */\n"
     files = {}
-    for name in ("memory.h", "j1939.c", "narrow.c", "heap.c"):
+    for name in ("memory.h", "pool.h", "pool.c", "j1939.c", "narrow.c", "heap.c"):
         with open(f"{folder}/{name}", encoding="utf-8") as file:
             files[name] = file.read()
         body = re.sub(r'#include "(?!j1939\.h").*\n', "", files[name])
         if name == "heap.c":
             body = f"#ifndef J1939_OWN_MEMORY\n{body}#endif\n"
         text += f"\n/* ---- {name} */\n\n{body}"
+    text += "\n/* The proved calls give memory back through pool.c. */\n#define rattle_dealloc j39_dealloc\n"
     return text, declarations(files["j1939.c"])
 
 

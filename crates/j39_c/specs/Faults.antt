@@ -1,9 +1,9 @@
 -- Trouble codes and lamps as C has them (J1939-73, 5.7.1).
-use Rattle.std.specs.Prelude.{ℕ, List, Option, option_and_then, slice_get, take}
+use Rattle.std.specs.Prelude.{◌==◌, ◌≤◌, ◌&&◌, ℕ, Bool, IsTrue, List, Option, Some, None, if◌then◌else◌, length, map, nat_lt, option_and_then, slice_get, take}
 use Rattle.j39_faults.specs.Codes.{codes_of}
 use Rattle.j39_faults.specs.FaultGroups.{kind_of}
-use Rattle.j39_faults.specs.FaultsMessage.{count_bits, flash_bits, state_bits}
-use Rattle.j39_faults.specs.LampBits.{lamps_of}
+use Rattle.j39_faults.specs.FaultsMessage.{can_be_message, count_bits, flash_bits, state_bits}
+use Rattle.j39_faults.specs.LampBits.{lamp_of, lamps_of}
 use Rattle.j39_faults.specs.declared.code.Candidates.{Candidates}
 use Rattle.j39_faults.specs.declared.code.Code.{Code}
 use Rattle.j39_faults.specs.declared.code.Parameter.{Parameter}
@@ -58,3 +58,35 @@ plain_lamps lamps = record {
   amber = plain_lamp lamps.amber;
   protect = plain_lamp lamps.protect;
 }
+
+-- ---- what C tells
+
+-- the code that a plain one says
+abbrev pub code_from : PlainFault → Code
+code_from f = record {
+  parameter = if f.conversion == 0 then Known f.spn else
+      (OneOf (record { version_1 = f.version_1; version_2 = f.version_2; version_3 = f.spn }));
+  fmi = f.fmi;
+  count = if f.count == 127 then None else (Some f.count);
+}
+
+abbrev pub lamps_from : PlainLamps → Lamps
+lamps_from p = record {
+  malfunction = lamp_of p.malfunction.state p.malfunction.flash;
+  red = lamp_of p.red.state p.red.flash;
+  amber = lamp_of p.amber.state p.amber.flash;
+  protect = lamp_of p.protect.state p.protect.flash;
+}
+
+-- two bits each
+abbrev pub is_lamp : PlainLamp → Bool
+is_lamp p = nat_lt p.state 4 && nat_lt p.flash 4
+
+abbrev pub are_lamps : PlainLamps → Bool
+are_lamps p = is_lamp p.malfunction && is_lamp p.red && is_lamp p.amber && is_lamp p.protect
+
+-- a message that is written out tells these: 64 codes at most (own)
+pub record CanTell (lamps : PlainLamps) (faults : List PlainFault) : Type 0 where
+  pub few : length faults ≤ 64
+  pub in_range : IsTrue (are_lamps lamps)
+  pub tellable : IsTrue (can_be_message (map code_from faults))

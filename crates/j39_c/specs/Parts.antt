@@ -1,8 +1,10 @@
 -- What a handle holds, and what its parts do.
-use Rattle.std.specs.Prelude.{◌≡◌, ◌++◌, ◌∷◌, [], ℕ, zero, suc, ℤ, pos, negsuc, Option, Some, None, List, length}
+use Rattle.std.specs.Prelude.{◌≡◌, ◌&&◌, ◌++◌, ◌∷◌, [], Bool, not, ℕ, zero, suc, ℤ, pos, negsuc, Option, Some, None, List, length}
 use Rattle.j39_address.specs.Claim.{claims_of}
 use Rattle.j39_address.specs.Holder.{IsHolderAfter}
 use Rattle.j39_frame.specs.Frame.{FrameRecord}
+use Rattle.j39_frame.specs.Identifier.{pgn_of}
+use Rattle.j39_groups.specs.Readings.{is_network_group}
 use Rattle.j39_groups.specs.Table.{the_table}
 use Rattle.j39_transport.specs.Answers.{IsAnnouncement}
 use Rattle.j39_transport.specs.Cutting.{ToSend, without_stamp}
@@ -11,7 +13,7 @@ use Rattle.j39_transport.specs.Receiving.{BoxedReceiver, ReceiverAnswer, RecvSte
 use Rattle.j39_transport.specs.Sending as sending
 use Rattle.j39_transport.specs.AssemblerStep.{AssemblerRecord}
 use Rattle.j39_transport.specs.Sending.{SenderRecord}
-use Rattle.j39_listen.specs.Heard.{Hearing, HeardAt}
+use Rattle.j39_listen.specs.Heard.{Hearing, HeardAt, HeardAtWith, LeavesNetwork}
 use Rattle.j39_listen.specs.Listening.{Hears, WantsMemoryBehind}
 use Rattle.j39_frame.specs.Address.{IsAddress}
 use Rattle.j39_transport.specs.Message.{MessageRecord, IsLong}
@@ -65,6 +67,14 @@ pub record HearsMore (old : heard.Listener) (frame : FrameRecord) (message : Opt
     (new : heard.Listener) : Type 0 where
   pub hears : (F : List FrameRecord) → Hears old F → Hears new (F ++ frame ∷ [])
   pub heard : (F : List FrameRecord) → Hears old F → HeardAt the_table (F ++ frame ∷ []) (length F) message
+
+-- the same, where the caller says whether the frame's group is heard in one frame: one of the network's own never is
+pub record HearsMoreAs (is_single : Bool) (old : heard.Listener) (frame : FrameRecord) (message : Option Hearing)
+    (new : heard.Listener) : Type 0 where
+  pub hears : (F : List FrameRecord) → Hears old F → Hears new (F ++ frame ∷ [])
+  pub heard : (singles : ℕ → Bool) → LeavesNetwork singles
+      → singles (pgn_of frame.id) ≡ (is_single && not (is_network_group (pgn_of frame.id)))
+      → (F : List FrameRecord) → Hears old F → HeardAtWith singles (F ++ frame ∷ []) (length F) message
 
 -- a frame that wants memory: it announces a message of which none is open yet, and no box lies unused
 pub record LacksMemory (listener : heard.Listener) (frame : FrameRecord) : Type 0 where

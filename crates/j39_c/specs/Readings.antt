@@ -11,6 +11,11 @@ pub record IsReadable (m : WholeMessage) : Type 0 where
   pub pgn : m.pgn < 2 ^ 18
   pub len : m.len ≤ 1785
 
+-- and its moment is
+pub record IsReportable (m : WholeMessage) : Type 0 where
+  pub readable : IsReadable m
+  pub micros : m.micros < 10 ^ 16
+
 -- its reading of this number, from 0 on, by the built-in table
 abbrev pub reading_in : WholeMessage → ℕ → Option ReadingRecord
 reading_in m index = slice_get (readings_of m.pgn (take m.len m.data)) index

@@ -1,19 +1,32 @@
 //! The trouble codes of a message, and its lamps (J1939-73, 5.7.1).
-ghost use Rattle.std.specs.Prelude.{◌≡◌, ◌∷◌, [], None, IfSome, pos, slice_get};
+ghost use Rattle.std.specs.Prelude.{◌≡◌, ◌≤◌, ◌∷◌, [], None, IfSome, length, map, pos, slice_get, take};
 ghost use Rattle.j39_frame.specs.Pgn.{pgn_raw};
 ghost use Rattle.j39_faults.specs.Codes.{codes_of};
-ghost use Rattle.j39_c.specs.Calls.{Answers, Fills};
-ghost use Rattle.j39_c.specs.Codes.{bad_value, end};
-ghost use Rattle.j39_c.specs.Faults.{code_by, code_in, lamps_by, lamps_in, plain_fault, plain_lamp, plain_lamps};
-ghost use Rattle.j39_c.specs.Readings.{IsReadable};
+ghost use Rattle.j39_faults.specs.FaultsMessage.{faults_message};
+ghost use Rattle.j39_faults.specs.LampBits.{lamp_of};
+ghost use Rattle.j39_c.specs.Calls.{Answers, Fills, FillsFront};
+ghost use Rattle.j39_c.specs.Codes.{bad_value, end, no_room};
+ghost use Rattle.j39_c.specs.Faults.{CanTell, are_lamps, code_by, code_from, code_in, is_lamp, lamps_by, lamps_from, lamps_in, plain_fault, plain_lamp, plain_lamps};
+ghost use Rattle.j39_c.specs.Readings.{IsReadable, IsTextAnswer};
 
 use crate::message::WholeMessage;
-use crate::reading::payload_of;
+use crate::reading::{copy, payload_of};
 use crate::refusal::Refusal;
 use j39_faults::{
-    Candidates, Code, Flash, Lamp, LampState, Lamps, Parameter, codes_of, fault_group, lamps_of,
+    Candidates, Code, Flash, Lamp, LampState, Lamps, Parameter, codes_of, fault_group,
+    faults_message, lamps_of,
 };
 use j39_frame::Pgn;
+
+/// The most codes of a message that is written out (own), so that it takes little stack.
+const MOST_TOLD: usize = 64;
+
+/// What stands where no code does.
+const NO_CODE: Code = Code {
+    parameter: Parameter::Known(0),
+    fmi: 0,
+    count: None,
+};
 
 /// A trouble code, `j1939_fault` of the header.
 #[repr(C)]
@@ -97,6 +110,31 @@ pub extern "C" fn j39_lamps(message: &WholeMessage, out: &mut PlainLamps) -> i32
     0
 }
 
+/// Writes out the payload of a message of trouble codes, as DM1 and DM2, by conversion method 0: its length, 8 to 258; -1 for more
+/// than 64 codes, and where a message can't tell one of these; -5 where it doesn't fit.
+#[unsafe(no_mangle)]
+pub extern "C" fn j39_faults_message(
+    lamps: &PlainLamps,
+    faults: &[PlainFault],
+    payload: &mut [u8],
+) -> i32
+    ensures told { CanTell lamps.now faults.now → IsTextAnswer (length payload.old)
+        (faults_message (lamps_from lamps.now) (map code_from faults.now)) result payload.new }
+    ensures bad { (CanTell lamps.now faults.now → ⊥) → result ≡ bad_value }
+    ensures answers { Answers (length payload.old) (bad_value ∷ no_room ∷ []) result }
+    ensures fills { FillsFront result payload.old payload.new }
+{
+    if faults.len() > MOST_TOLD || !are_lamps(*lamps) {
+        return Refusal::BadValue.code();
+    }
+    let mut codes = [NO_CODE; MOST_TOLD];
+    fill_codes(faults, &mut codes);
+    match faults_message(lamps_from(*lamps), &codes[..faults.len()]) {
+        Some(message) => copy(message.as_slice(), payload),
+        None => Refusal::BadValue.code(),
+    }
+}
+
 /// Code number `index` of a group that tells codes.
 fn code_of(pgn: Pgn, payload: &[u8], index: usize) -> Option<Code>
     ensures { result ≡ code_by (pgn_raw pgn) payload.now index }
@@ -171,4 +209,84 @@ fn plain_lamp(lamp: Lamp) -> PlainLamp
         Flash::Steady => 3,
     };
     PlainLamp { state, flash }
+}
+
+/// Writes the codes that plain ones say to the front of a slice.
+fn fill_codes(faults: &[PlainFault], codes: &mut [Code])
+    requires { length faults.now ≤ length codes.old }
+    ensures codes { take (length faults.now) codes.new ≡ map code_from faults.now }
+    ensures len { length codes.new ≡ length codes.old }
+{
+    for place in 0..faults.len() {
+        codes[place] = code_from(faults[place]);
+    }
+}
+
+fn code_from(fault: PlainFault) -> Code
+    ensures { result ≡ code_from fault }
+{
+    let parameter = if fault.conversion == 0 {
+        Parameter::Known(fault.spn)
+    } else {
+        Parameter::OneOf(Candidates {
+            version_1: fault.version_1,
+            version_2: fault.version_2,
+            version_3: fault.spn,
+        })
+    };
+    let count = if fault.count == 127 {
+        None
+    } else {
+        Some(fault.count)
+    };
+    Code {
+        parameter,
+        fmi: fault.fmi,
+        count,
+    }
+}
+
+/// Whether each has two bits.
+fn are_lamps(lamps: PlainLamps) -> bool
+    ensures { result ≡ are_lamps lamps }
+{
+    is_lamp(lamps.malfunction)
+        && is_lamp(lamps.red)
+        && is_lamp(lamps.amber)
+        && is_lamp(lamps.protect)
+}
+
+fn is_lamp(lamp: PlainLamp) -> bool
+    ensures { result ≡ is_lamp lamp }
+{
+    lamp.state < 4 && lamp.flash < 4
+}
+
+fn lamps_from(lamps: PlainLamps) -> Lamps
+    ensures { result ≡ lamps_from lamps }
+{
+    Lamps {
+        malfunction: lamp_from(lamps.malfunction),
+        red: lamp_from(lamps.red),
+        amber: lamp_from(lamps.amber),
+        protect: lamp_from(lamps.protect),
+    }
+}
+
+fn lamp_from(lamp: PlainLamp) -> Lamp
+    ensures { result ≡ lamp_of lamp.state lamp.flash }
+{
+    let state = match lamp.state {
+        0 => LampState::Off,
+        1 => LampState::On,
+        2 => LampState::Reserved,
+        _ => LampState::NotAvailable,
+    };
+    let flash = match lamp.flash {
+        0 => Flash::Slow,
+        1 => Flash::Fast,
+        2 => Flash::Reserved,
+        _ => Flash::Steady,
+    };
+    Lamp { state, flash }
 }

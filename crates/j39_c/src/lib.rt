@@ -22,6 +22,7 @@ mod part;
 mod reading;
 mod receiver;
 mod refusal;
+mod report_line;
 mod sender;
 mod taking;
 
@@ -37,15 +38,19 @@ pub use controller::{
     j39_controller_take_news, j39_controller_tick,
 };
 pub use cut::j39_cut_frame;
-pub use faults::{PlainFault, PlainLamp, PlainLamps, j39_fault, j39_lamps};
+pub use faults::{PlainFault, PlainLamp, PlainLamps, j39_fault, j39_faults_message, j39_lamps};
 pub use fields::{
     IdFields, NameParts, j39_id_compose, j39_id_split, j39_name_compose, j39_name_split,
 };
 pub use handed_out::{PlainEnded, PlainRequest};
 pub use handle::{Handle, j39_close};
-pub use listener::{j39_listener_feed, j39_listener_holder, j39_listener_new};
+pub use listener::{
+    j39_listener_feed, j39_listener_feed_as, j39_listener_holder, j39_listener_new,
+};
 pub use message::WholeMessage;
-pub use names::{j39_function_name, j39_group_name, j39_maker_name, j39_parameter_name};
+pub use names::{
+    j39_failure_name, j39_function_name, j39_group_name, j39_maker_name, j39_parameter_name,
+};
 pub use node::{
     j39_node_commanded, j39_node_init, j39_node_on, j39_node_start, j39_node_status, j39_node_tick,
 };
@@ -55,6 +60,7 @@ pub use offering::{
 };
 pub use reading::{PlainReading, j39_raw_of, j39_reading, j39_reading_text};
 pub use receiver::{j39_receiver_busy, j39_receiver_new, j39_receiver_on, j39_receiver_tick};
+pub use report_line::j39_report_line;
 pub use sender::{j39_sender_new, j39_sender_on, j39_sender_state, j39_sender_tick};
 pub use taking::{
     j39_controller_take_ended, j39_controller_take_received, j39_controller_take_request,

@@ -1,12 +1,14 @@
 //! What the numbers of SAE J1939 are called, built in.
 ghost use Rattle.std.specs.Prelude.{◌≡◌, ◌∷◌, [], ℕ, List, None, Option, IfSome, length, option_map};
+ghost use Rattle.j39_faults.specs.Words.{fmi_words};
 ghost use Rattle.j39_names.specs.Called.{function_called, group_called, maker_called, parameter_called};
 ghost use Rattle.j39_c.specs.Calls.{Answers, FillsFront};
 ghost use Rattle.j39_c.specs.Codes.{end, no_room};
-ghost use Rattle.j39_c.specs.Readings.{IsNameAnswer};
+ghost use Rattle.j39_c.specs.Readings.{IsNameAnswer, IsTextAnswer};
 
 use crate::reading::copy;
 use crate::refusal::Refusal;
+use j39_faults::fmi_words;
 use j39_names::{function_name, group_name, maker_name, parameter_name};
 
 /// Writes out what a parameter is called, with no zero at its end: its length; -5 where it doesn't fit, -6 where its name isn't
@@ -48,6 +50,16 @@ pub extern "C" fn j39_maker_name(manufacturer: u16, text: &mut [u8]) -> i32
     ensures fills { FillsFront result text.old text.new }
 {
     put_called(maker_name(manufacturer), text)
+}
+
+/// The same of what is wrong by a failure mode identifier (FMI): `reserved` where it says nothing.
+#[unsafe(no_mangle)]
+pub extern "C" fn j39_failure_name(fmi: u8, text: &mut [u8]) -> i32
+    ensures named { IsTextAnswer (length text.old) (fmi_words fmi) result text.new }
+    ensures answers { Answers (length text.old) (no_room ∷ []) result }
+    ensures fills { FillsFront result text.old text.new }
+{
+    copy(fmi_words(fmi).as_bytes(), text)
 }
 
 /// Writes out a name, and answers its length.

@@ -155,11 +155,7 @@ fn text_of(alloc: Global, value: &Value<'_, '_>) -> Result<Vec<u8>, Refusal>
     ensures text { IfOk result (λ text. text.items ≡ value_text (value_of value.now)) }
     ensures refused { IfErr result (λ refusal. refusal ≡ NoMemory) }
 {
-    let mut text = Text {
-        bytes: Vec::new(alloc),
-        has_failed: false,
-        is_flushed: false,
-    };
+    let mut text = Text::new(alloc);
     match put_value(value, &mut text) {
         Ok(()) => Ok(text.bytes),
         Err(_) => Err(Refusal::NoMemory),
@@ -182,10 +178,23 @@ pub(crate) fn copy(from: &[u8], to: &mut [u8]) -> i32
 
 /// A text in memory, as a sink.
 #[derive(Drop)]
-struct Text {
-    bytes: Vec<u8>,
+pub(crate) struct Text {
+    pub bytes: Vec<u8>,
     has_failed: bool,
     is_flushed: bool,
+}
+
+impl Text {
+    /// The empty text.
+    pub fn new(alloc: Global) -> Text
+        ensures { result.bytes.items ≡ [] }
+    {
+        Text {
+            bytes: Vec::new(alloc),
+            has_failed: false,
+            is_flushed: false,
+        }
+    }
 }
 
 impl Sink for Text {

@@ -26,32 +26,16 @@ impl Drop for Listener {
     }
 }
 
-/// The text of reading number `index`.
-fn text_of(message: &j1939_message, index: usize) -> Option<String> {
-    let mut text = [0u8; 7200];
-    let size = unsafe { j1939_read_text(message, index, text.as_mut_ptr().cast(), text.len()) };
-    let text = text.get(..usize::try_from(size).ok()?)?;
-    Some(String::from_utf8_lossy(text).into_owned())
-}
-
+/// Prints the lines of a message.
 fn show(message: &j1939_message) {
-    let mut reading: j1939_reading = unsafe { std::mem::zeroed() };
-    let name = match message.is_named {
-        0 => "-".repeat(16),
-        _ => format!("{:016X}", message.name),
-    };
+    let mut text = [0u8; 7264];
     for index in 0.. {
-        if unsafe { j1939_read(message, index, &mut reading) } != 0 {
-            return;
-        }
-        let Some(text) = text_of(message, index) else {
+        let size =
+            unsafe { j1939_report_line(message, index, text.as_mut_ptr().cast(), text.len()) };
+        let Some(line) = usize::try_from(size).ok().and_then(|size| text.get(..size)) else {
             return;
         };
-        let (seconds, micros) = (message.micros / 1_000_000, message.micros % 1_000_000);
-        println!(
-            "({seconds:010}.{micros:06}) {:02X} {name} {} {} {text}",
-            message.source, message.pgn, reading.spn
-        );
+        print!("{}", String::from_utf8_lossy(line));
     }
 }
 

@@ -3,7 +3,7 @@
 #![no_std]
 #![allow(non_camel_case_types)]
 
-use core::ffi::c_char;
+use core::ffi::{c_char, c_void};
 
 // The structs are those of C where 64 bits stand at a multiple of 8 bytes, which is everywhere but on 32 bits of x86.
 const _: () = assert!(core::mem::align_of::<u64>() == 8);
@@ -11,4 +11,4 @@ const _: () = assert!(core::mem::align_of::<u64>() == 8);
 include!(concat!(env!("OUT_DIR"), "/j1939.rs"));
 
 /// What a handle holds that holds nothing.
-pub const J1939_EMPTY: j1939_handle = j1939_handle { part: 0 };
+pub const J1939_EMPTY: j1939_handle = j1939_handle { part: 0, memory: 0 };

@@ -1,0 +1,143 @@
+/* Handles in memory of the program's own: how much each setup wants, and what is refused. No heap is there. */
+#include "at.h"
+#undef j1939_listener_new
+
+#include <string.h>
+
+/* The byte before and behind what is handed over stays. */
+enum { LARGEST = 600000, MARK = 0xA5 };
+static uint8_t around[LARGEST];
+
+static j1939_setup setup = {.name = 1, .address = 3};
+static size_t bytes;
+static j1939_listener listener = J1939_EMPTY;
+static j1939_assembler assembler = J1939_EMPTY;
+static j1939_message message;
+static const uint8_t payload[J1939_LONGEST];
+
+static int32_t open_listener(void *memory, size_t size) {
+    return j1939_listener_at(&listener, memory, size);
+}
+
+static int32_t open_assembler(void *memory, size_t size) {
+    return j1939_assembler_at(&assembler, memory, size);
+}
+
+static int32_t open_receiver(void *memory, size_t size) {
+    j1939_receiver receiver = J1939_EMPTY;
+    int32_t answer = j1939_receiver_at(&receiver, memory, size, 3);
+    EXPECT(answer ? !receiver.handle.part && !receiver.handle.memory : j1939_receiver_busy(&receiver) == 0);
+    EXPECT(j1939_receiver_close(&receiver) == 0 && !receiver.handle.memory);
+    return answer;
+}
+
+static int32_t open_sender(void *memory, size_t size) {
+    j1939_sender sender = J1939_EMPTY;
+    j1939_frame frame;
+    int32_t answer = j1939_sender_at(&sender, memory, size, 1, 3, 65260, payload, bytes);
+    EXPECT(answer ? !sender.handle.part && !sender.handle.memory : j1939_sender_tick(&sender, 1, &frame) == 1);
+    EXPECT(j1939_sender_close(&sender) == 0 && !sender.handle.memory);
+    return answer;
+}
+
+static int32_t open_controller(void *memory, size_t size) {
+    j1939_controller controller = J1939_EMPTY;
+    j1939_frame frame;
+    int32_t answer = j1939_controller_at(&controller, memory, size, &setup);
+    EXPECT(answer ? !controller.handle.part && !controller.handle.memory : j1939_controller_take_frame(&controller, 1, &frame) == 1);
+    EXPECT(j1939_controller_close(&controller) == 0 && !controller.handle.memory);
+    return answer;
+}
+
+/* It is opened in so many bytes, behind so many of a word. */
+static int is_enough(int32_t (*open)(void *, size_t), size_t skipped, size_t size) {
+    uint8_t *memory = around + 8 + skipped;
+    memory[-1] = memory[size] = MARK;
+    int32_t answer = open(memory, size);
+    EXPECT(answer == 0 || answer == J1939_NO_MEMORY);
+    EXPECT(memory[-1] == MARK && memory[size] == MARK);
+    return answer == 0;
+}
+
+/* What .._size says is enough, wherever it begins; at most a hundredth and 64 bytes of it are not wanted. */
+static void wants(int32_t (*open)(void *, size_t), size_t told) {
+    EXPECT(told + 16 < LARGEST);
+    for (size_t skipped = 0; skipped < 8; skipped++) {
+        EXPECT(is_enough(open, skipped, told));
+        EXPECT(!is_enough(open, skipped, told - told / 100 - 64));
+    }
+}
+
+/* Of each size below the least that is enough it is refused. */
+static void refuses(int32_t (*open)(void *, size_t), size_t told) {
+    size_t size = 0;
+    while (!is_enough(open, 3, size)) size++;
+    EXPECT(size <= told);
+}
+
+static int32_t open_and_close(void *memory, size_t size) {
+    int32_t answer = open_listener(memory, size);
+    EXPECT(answer ? !listener.handle.memory : listener.handle.memory != 0);
+    EXPECT(j1939_listener_close(&listener) == 0 && !listener.handle.memory);
+    return answer;
+}
+
+static int32_t assemble_and_close(void *memory, size_t size) {
+    int32_t answer = open_assembler(memory, size);
+    EXPECT(j1939_assembler_close(&assembler) == 0 && !assembler.handle.memory);
+    return answer;
+}
+
+static void sizes(void) {
+    wants(open_and_close, j1939_listener_size(0)), refuses(open_and_close, j1939_listener_size(0));
+    wants(assemble_and_close, j1939_assembler_size(0)), refuses(assemble_and_close, j1939_assembler_size(0));
+    wants(open_receiver, j1939_receiver_size()), refuses(open_receiver, j1939_receiver_size());
+    for (bytes = 9; bytes <= J1939_LONGEST; bytes++) wants(open_sender, j1939_sender_size(bytes));
+    bytes = 20, refuses(open_sender, j1939_sender_size(20));
+    for (int broadcasts = 0; broadcasts < 256; broadcasts++) {
+        setup.broadcasts = (uint8_t)broadcasts;
+        wants(open_controller, j1939_controller_size(&setup));
+    }
+    setup.broadcasts = 2, refuses(open_controller, j1939_controller_size(&setup));
+    EXPECT(j1939_listener_size(2) == J1939_LISTENER_SIZE(2) && j1939_listener_size(1000) == J1939_LISTENER_SIZE(271));
+    EXPECT(j1939_controller_size(NULL) == 0);
+}
+
+/* Announces a message of a source to all, or a packet of it; whether it is put together by an assembler too. */
+static int32_t feed(uint8_t source, uint16_t k) {
+    j1939_frame frame;
+    EXPECT(j1939_cut_frame(source, 65260, payload, 20, k, 1, &frame) == 1);
+    int32_t heard = j1939_listener_feed(&listener, &frame, &message);
+    EXPECT(j1939_assembler_feed(&assembler, &frame, &message) == heard);
+    return heard;
+}
+
+/* As many messages are open at once as there is room for; what ends makes room, by its last packet or by a claim. */
+static void messages_of(uint8_t room) {
+    EXPECT(open_listener(around + 1, j1939_listener_size(room)) == 0);
+    size_t size = j1939_assembler_size(room);
+    EXPECT(open_assembler(around + LARGEST - size, size) == 0);
+    EXPECT(open_listener(around, LARGEST) == J1939_IN_USE);
+    for (int round = 0; round < 100; round++) {
+        uint8_t first = (uint8_t)(round % 7), claimed = (uint8_t)(first + (round + 1) % (room ? room : 1));
+        for (uint8_t i = 0; i < room; i++) EXPECT(feed((uint8_t)(first + i), 0) == 0);
+        EXPECT(feed((uint8_t)(first + room), 0) == J1939_NO_MEMORY);
+        if (!room) continue;
+        j1939_frame claim = {.micros = 1, .id = 0x18EEFF00u + claimed, .len = 8, .data = {(uint8_t)(100 - round)}};
+        EXPECT(j1939_listener_feed(&listener, &claim, &message) == 0 && j1939_assembler_forget(&assembler, claimed) == 0);
+        EXPECT(feed((uint8_t)(first + room), 0) == 0);
+        for (uint8_t k = 1; k <= 3; k++)
+            for (uint8_t i = 0; i <= room; i++) EXPECT(feed((uint8_t)(first + i), k) == (k == 3 && first + i != claimed));
+    }
+    EXPECT(j1939_listener_close(&listener) == 0 && j1939_assembler_close(&assembler) == 0);
+}
+
+int main(void) {
+    j1939_listener none = J1939_EMPTY;
+    EXPECT(j1939_listener_at(NULL, around, LARGEST) == J1939_NULL && j1939_listener_at(&none, NULL, LARGEST) == J1939_NULL);
+    EXPECT(j1939_assembler_at(&assembler, NULL, 0) == J1939_NULL && !assembler.handle.memory);
+    sizes();
+    for (uint8_t room = 0; room < 6; room++) messages_of(room);
+    messages_of(64);
+    return 0;
+}
