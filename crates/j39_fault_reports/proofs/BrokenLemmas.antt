@@ -1,7 +1,6 @@
 -- What a run that tells faults counts, by the account that it leaves.
-use Rattle.j39_fault_reports.proofs.Common.{◌≡◌, ◌==◌, ◌&&◌, ℕ, Bool, true, false, List, Option, Some, None, drop, if◌then◌else◌, length, refl, subst, sym, slice_index, pgn_of, transport_control_group, transport_data_group, announced_in, destination_of, source_of, is_key, key_between, Packet, IfSome_then, Err, IfOk, IfSome, Ok, OnOk, Result, Turn, FrameRecord, Wanting, Making, Meeting, Output}
-use Rattle.j39_transport.specs.Frames.{group_of}
-use Rattle.j39_transport.specs.Signals.{packet_in, said_by}
+use Rattle.j39_fault_reports.proofs.Common.{◌≡◌, ◌==◌, ◌&&◌, ℕ, Bool, true, false, List, Option, Some, None, ap, drop, if◌then◌else◌, length, refl, subst, sym, slice_index, pgn_of, transport_control_group, transport_data_group, announced_in, destination_of, source_of, is_key, key_between, Packet, IfSome_then, Err, IfOk, IfSome, Ok, OnOk, Result, Turn, FrameRecord, Wanting, Making, Meeting, Output}
+use Rattle.j39_listen.proofs.Reported.{announced_none}
 use Rattle.j39_listen.specs.Ran.{Ran}
 use Rattle.j39_listen.specs.Run.{HasMetLog}
 use Rattle.j39_listen.specs.declared.counts.Counts.{Counts}
@@ -12,13 +11,7 @@ use Rattle.j39_fault_reports.specs.declared.fault_news.run.FaultCounts.{FaultCou
 
 -- a frame of another group than that of announcements announces nothing
 pub announces_none : (f : FrameRecord) → (pgn_of f.id == transport_control_group) ≡ false → announces_codes f ≡ false
-unfolding said_by packet_in group_of
-announces_none f other = rw other (by (group_of f.id == transport_data_group && length f.bytes == 8) (is_key (key_between (source_of f.id) (destination_of f.id))))
-  where
-    by : (d p : Bool) → is_code_group (announced_in (if d then (if p then Some (Packet (slice_index f.bytes 0) (drop 1 f.bytes)) else None) else None)) ≡ false
-    by true true = refl
-    by true false = refl
-    by false p = refl
+announces_none f other = ap is_code_group (announced_none f other)
 
 -- the account, and how many it knows to be broken
 module _ {A : Type 0} (has_met : Meeting A) (given : Option (List ℕ)) (account : A) (n : ℕ)

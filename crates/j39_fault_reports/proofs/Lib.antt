@@ -20,3 +20,4 @@ pub mod CurrentLemmas
 pub mod NowPlaceLemmas
 pub mod NowLineLemmas
 pub mod CurrentAccountLemmas
+pub mod PassLemmas

@@ -60,7 +60,7 @@ changed_next F f xs h =
 
 -- ---- a frame that claims nothing
 
-quiet_next : (F : List FrameRecord) (f : FrameRecord) (table : Claims) → claim_of f ≡ None → Knows table F
+pub quiet_next : (F : List FrameRecord) (f : FrameRecord) (table : Claims) → claim_of f ≡ None → Knows table F
     → AreChanged (claims_of F) (claims_of (F ++ f ∷ [])) [] × Knows table (F ++ f ∷ [])
 quiet_next F f table none knows =
     let push : claims_of F ++ None ∷ [] ≡ claims_of (F ++ f ∷ []) = sym (claims_of-push F f ∙ ap (λ (c : Option Claim). claims_of F ++ c ∷ []) none) in (

@@ -1,7 +1,7 @@
 -- Frames of groups that are heard in one frame, and frames of the transport protocol.
-use Rattle.std.specs.Prelude.{List, not, ◌&&◌}
+use Rattle.std.specs.Prelude.{List, Option, None, Some, drop, if◌then◌else◌, length, not, slice_index, ◌&&◌}
 use Rattle.std.specs.List.{list_any}
-use Rattle.std.proofs.Common.{◌≡◌, ◌==◌, ℕ, Bool, true, false, None, refl, sym, ap, ◌∙◌, subst, eqb-true}
+use Rattle.std.proofs.Common.{◌≡◌, ◌==◌, ℕ, Bool, true, false, refl, sym, ap, ◌∙◌, subst, eqb-true}
 use Rattle.std.proofs.lemmas.Bool.{both_ways, false_from_ne_true}
 use Rattle.j39_frame.specs.Frame.{FrameRecord}
 use Rattle.j39_frame.specs.Identifier.{pgn_of, source_of}
@@ -10,9 +10,10 @@ use Rattle.j39_groups.specs.Readings.{is_network_group, is_reported_in}
 use Rattle.j39_groups.specs.Row.{RowRecord}
 use Rattle.j39_listen.specs.Heard.{LeavesNetwork}
 use Rattle.j39_transport.specs.Frames as transport
+use Rattle.j39_transport.specs.Announced.{announced_by, announced_in}
 use Rattle.j39_transport.specs.Frames.{group_of, is_announcement, is_packet}
-use Rattle.j39_transport.specs.Signals.{said_by}
-use Rattle.j39_transport.specs.Key.{Key, sender}
+use Rattle.j39_transport.specs.Signals.{Packet, packet_in, said_by}
+use Rattle.j39_transport.specs.Key.{Key, is_key, key_between, sender}
 use Rattle.j39_transport.proofs.FrameFacts.{announcement_facts, packet_facts}
 
 group_is : (id : ℕ) → group_of id ≡ pgn_of id
@@ -36,6 +37,16 @@ reported_leaves groups pgn network = ap (λ (b : Bool). not b && list_any (λ ro
 
 pub not_single : (singles : ℕ → Bool) → LeavesNetwork singles → (g : ℕ) → singles g ≡ true → g ≡ 60160 → ⊥
 not_single singles leaves g r e = both_ways _ (leaves 60160 refl) (subst (λ (x : ℕ). singles x ≡ true) e r)
+
+-- a frame of another group than that of announcements announces nothing
+pub announced_none : (f : FrameRecord) → (pgn_of f.id == transport_control_group) ≡ false → announced_by f ≡ None
+unfolding said_by packet_in group_of
+announced_none f other = rw other (by (group_of f.id == transport_data_group && length f.bytes == 8) (is_key (key_between (transport.source_of f.id) (transport.destination_of f.id))))
+  where
+    by : (d p : Bool) → announced_in (if d then (if p then Some (Packet (slice_index f.bytes 0) (drop 1 f.bytes)) else None) else None) ≡ None
+    by true true = refl
+    by true false = refl
+    by false p = refl
 
 -- no frame of the transport protocol is of a reported group
 pub unreported_announcement : (groups : List RowRecord) (k : Key) (f : FrameRecord) → is_announcement k f ≡ true → is_reported_in groups (pgn_of f.id) ≡ false

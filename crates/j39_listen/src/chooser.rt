@@ -41,7 +41,7 @@ impl<'f> Chooser<'f> {
 
     /// Whether it was told of the first frame: from there on no frame changes it.
     #[inline(always)]
-    pub(crate) fn is_begun(&self) -> bool
+    pub fn is_begun(&self) -> bool
         ensures { result ≡ true → (which : FilterRecord) (F : List FrameRecord) (frame : FrameRecord) → Chooses which self.now F
             → Chooses which self.now (F ++ frame ∷ []) }
     {

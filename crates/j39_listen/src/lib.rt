@@ -33,4 +33,5 @@ pub use heard::Heard;
 pub use listener::Listener;
 pub use report::Report;
 pub use report_runs::{run, run_filtered, run_with};
+pub use roles::{Role, Roles};
 pub use running::{RunFault, run_keeping, run_over};

@@ -12,7 +12,7 @@ const PLACES: usize = 2048;
 
 /// What the frames of an identifier are.
 #[derive(Clone, Copy)]
-pub(crate) struct Role {
+pub struct Role {
     /// A message each, of a group that the table reports.
     pub is_single: bool,
     /// That, or claims, or parts of messages.
@@ -28,7 +28,7 @@ struct Known {
 
 /// A table, and what the frames of the identifiers are that were asked for last.
 #[derive(Drop)]
-pub(crate) struct Roles<'g, 't> {
+pub struct Roles<'g, 't> {
     pub groups: &'g Groups<'t>,
     known: [Known; PLACES],
     ghost sound: { AreKnown groups.now known } by { Prim.hlevel props },

@@ -135,10 +135,10 @@ asks_heard which groups F f h heard begun rows at are_heard is begins stops =
       wanted = wanted;
     })
 
-pub summary_meets : (form : Format) (which : FilterRecord) (groups : List RowRecord) (a a' : SummaryAccount) → a'.groups ≡ a.groups → a'.form ≡ a.form → (f : FrameRecord) (messages : ℕ) (old : Option (List ℕ))
+pub summary_meets : (form : Format) (which : FilterRecord) (groups : List RowRecord) (a a' : SummaryAccount) → a'.roles.groups ≡ a.roles.groups → a'.form ≡ a.form → (f : FrameRecord) (messages : ℕ) (old : Option (List ℕ))
     → ((asked : FilterRecord) (F : List FrameRecord) → Chooses asked a.chooser F → Chooses asked a'.chooser (F ++ f ∷ []))
     → ((asked : FilterRecord) (F : List FrameRecord) (before : List Entry) → Hears a.listener F → Chooses asked a'.chooser (F ++ f ∷ []) → AreRowsOf (pairs_of a.rows.rows) before → (gone : List Origin)
-    → AreCounted (pairs_of a.rows.absences.counts) gone → NotesFrame asked a.groups.now F f a'.listener a'.rows before gone messages)
+    → AreCounted (pairs_of a.rows.absences.counts) gone → NotesFrame asked a.roles.groups.now F f a'.listener a'.rows before gone messages)
     → a'.messages ≡ capped (a.messages + messages) → Meets (HasSummed form which groups) a a' (f ∷ []) old old
 summary_meets form which groups a a' kept same f messages old chooses notes sum = λ F before has.
     let first = first_stamp (F ++ f ∷ []) in
@@ -176,9 +176,9 @@ summary_meets form which groups a a' kept same f messages old chooses notes sum 
 
 -- a frame asks for memory
 pub summary_asks : (form : Format) (which : FilterRecord) (groups : List RowRecord) (a : SummaryAccount) (chooser : Chooser) (f : FrameRecord)
-    → ((asked : FilterRecord) (F : List FrameRecord) (heard : List Hearing) → Hears a.listener F → Chooses asked chooser (F ++ f ∷ []) → AreHeard a.groups.now F heard
-    → AreRowsOf (pairs_of a.rows.rows) (flat_map (entries_of a.groups.now) (messages_taken asked (first_stamp F) heard))
-    → AreCounted (pairs_of a.rows.absences.counts) (flat_map (absences_of a.groups.now) (messages_taken asked (first_stamp F) heard)) → AsksForRows asked a.groups.now F f)
+    → ((asked : FilterRecord) (F : List FrameRecord) (heard : List Hearing) → Hears a.listener F → Chooses asked chooser (F ++ f ∷ []) → AreHeard a.roles.groups.now F heard
+    → AreRowsOf (pairs_of a.rows.rows) (flat_map (entries_of a.roles.groups.now) (messages_taken asked (first_stamp F) heard))
+    → AreCounted (pairs_of a.rows.absences.counts) (flat_map (absences_of a.roles.groups.now) (messages_taken asked (first_stamp F) heard)) → AsksForRows asked a.roles.groups.now F f)
     → ((asked : FilterRecord) (F : List FrameRecord) → Chooses asked a.chooser F → Chooses asked chooser (F ++ f ∷ []))
     → (F : List FrameRecord) (output : Output) → HasSummed form which groups a F output → AsksForRows which groups F f
 summary_asks form which groups a chooser f asks chooses F output has =
@@ -196,15 +196,15 @@ abbrev summed : Format → FilterRecord → List RowRecord → List FrameRecord 
 summed form which groups F heard = output_of form groups heard (messages_taken which (first_stamp F) heard)
 
 all_text : (form : Format) (which : FilterRecord) (groups : List RowRecord) (a : SummaryAccount) (F : List FrameRecord) (before : Output) (has : HasSummed form which groups a F before)
-    → written_by a.form a.groups.now a ≡ (summed form which groups F has.heard).text
+    → written_by a.form a.roles.groups.now a ≡ (summed form which groups F has.heard).text
 all_text form which groups a F before has =
-    ap (λ (f : Format). written_by f a.groups.now a) has.form_is
+    ap (λ (f : Format). written_by f a.roles.groups.now a) has.form_is
     ∙ ap (λ (table : List RowRecord). written_by form table a) has.by
     ∙ ap (λ (often : Origin → ℕ). summary_text form groups often (map row_shown (pairs_of a.rows.rows))) (λ i o. has.are_counted o i)
     ∙ ap (summary_text form groups (how_often (flat_map (absences_of groups) (messages_taken which (first_stamp F) has.heard)))) has.are_rows
 
 pub summary_closes : (form : Format) (which : FilterRecord) (groups : List RowRecord) (a : SummaryAccount) (lines : ℕ) (old new : Option (List ℕ)) → lines ≡ length (pairs_of a.rows.rows) → lines < 2 ^ 64
-    → Appends old new (written_by a.form a.groups.now a)
+    → Appends old new (written_by a.form a.roles.groups.now a)
     → Closes (λ bus. HasSummed form which groups) (MakesSummaryIn form which groups) a (record { messages = a.messages; lines = lines }) old new
 summary_closes form which groups a lines old new count fits written = λ bus F before has.
     let out = summed form which groups F has.heard in
@@ -220,7 +220,7 @@ summary_closes form which groups a lines old new count fits written = λ bus F b
     }
 
 pub summary_stops : (form : Format) (which : FilterRecord) (groups : List RowRecord) (a : SummaryAccount) (old new : Option (List ℕ))
-    → AppendsFront old new (written_by a.form a.groups.now a) → StopsAtEnd (λ bus. HasSummed form which groups) (MakesSummaryIn form which groups) a old new
+    → AppendsFront old new (written_by a.form a.roles.groups.now a) → StopsAtEnd (λ bus. HasSummed form which groups) (MakesSummaryIn form which groups) a old new
 summary_stops form which groups a old new front = λ bus F before all has made.
     let is : all.text ≡ (summed form which groups F has.heard).text =
     summary_one form which groups bus F all (summed form which groups F has.heard) made (has.heard, has.are_heard, refl) in

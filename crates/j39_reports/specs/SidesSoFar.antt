@@ -1,8 +1,9 @@
 -- What is remembered of the sides of values.
 use Rattle.std.specs.Prelude.{◌≡◌, ◌<◌, ◌≤◌, ℕ, List, Option, None, drop, slice_index_or, true}
-use Rattle.j39_groups.specs.Names.{name_in, state_in}
+use Rattle.j39_groups.specs.Names.{group_name_in, name_in, state_in}
 use Rattle.j39_groups.specs.Row.{RowRecord}
 use Rattle.j39_groups.specs.Value.{ValueRecord}
+use Rattle.j39_reports.specs.declared.sides.GroupSide.{GroupSide}
 use Rattle.j39_reports.specs.declared.sides.Sides.{Sides}
 
 -- these are the sides of the values of their parameter by this table, none of whose states has a name
@@ -18,3 +19,13 @@ pub record Suits (before : ℕ → Option (List ℕ) → List ℕ) (behind : Lis
 abbrev pub AreKnown : (ℕ → Option (List ℕ) → List ℕ) → (List ℕ → List ℕ) → List RowRecord → List Sides → Type 0
 AreKnown before behind groups all = (place : ℕ) (d : Sides) → place < 256 → (slice_index_or all place d).is_ready ≡ true
     → Suits before behind groups (slice_index_or all place d)
+
+-- this is said of its group by this table
+pub record SuitsGroup (of_group : ℕ → Option (List ℕ) → List ℕ) (groups : List RowRecord) (side : GroupSide) : Type 0 where
+  pub room : 48 ≤ side.from
+  pub inside : side.from ≤ 96
+  pub text_is : drop side.from side.text ≡ of_group side.pgn (group_name_in groups side.pgn)
+
+abbrev pub AreKnownGroups : (ℕ → Option (List ℕ) → List ℕ) → List RowRecord → List GroupSide → Type 0
+AreKnownGroups of_group groups all = (place : ℕ) (d : GroupSide) → place < 64 → (slice_index_or all place d).is_ready ≡ true
+    → SuitsGroup of_group groups (slice_index_or all place d)

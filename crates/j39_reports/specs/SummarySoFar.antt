@@ -28,7 +28,7 @@ pub record SummaryAsked : Type 0 where
 -- the rows are those of what the filter takes of what is heard in F by this table, and the listener was fed F
 pub record HasSummed (form : Format) (which : FilterRecord) (groups : List RowRecord) (summary : SummaryAccount)
     (F : List FrameRecord) (output : Output) : Type 0 where
-  pub by : summary.groups.now ≡ groups
+  pub by : summary.roles.groups.now ≡ groups
   pub form_is : summary.form ≡ form
   pub chooses : Chooses which summary.chooser F
   pub heard : List Hearing

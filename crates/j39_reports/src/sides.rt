@@ -1,8 +1,9 @@
-//! What stands on both sides of the values of a parameter, remembered: most values are of a few parameters.
-ghost use Rattle.std.specs.Prelude.{◌≡◌, ◌<◌, ◌≤◌, ℕ, List, Option, IfSome, Some, false, slice_index_or, true};
+//! What stands on both sides of the values of a parameter, and what is said of a group, remembered: most values are of a few
+//! parameters.
+ghost use Rattle.std.specs.Prelude.{◌≡◌, ◌<◌, ◌≤◌, ℕ, List, Option, IfSome, Some, false, option_map, slice_index_or, true};
 ghost use Rattle.std.proofs.Props.{props};
 ghost use Rattle.j39_io.specs.Backwards.{WritesBefore};
-ghost use Rattle.j39_reports.specs.SidesSoFar.{AreKnown, Suits};
+ghost use Rattle.j39_reports.specs.SidesSoFar.{AreKnown, AreKnownGroups, Suits, SuitsGroup};
 
 use j39_frame::Pgn;
 use j39_groups::Groups;
@@ -18,6 +19,9 @@ const UNIT: usize = 16;
 /// How many parameters are remembered.
 const PLACES: usize = 256;
 
+/// How many groups.
+const GROUPS: usize = 64;
+
 /// What a form has on both sides of a value.
 pub(crate) trait SideForm {
     // Before it, behind what each entry of a message begins with: of a parameter (SPN) and what it is called.
@@ -25,6 +29,9 @@ pub(crate) trait SideForm {
 
     // Behind it, of a unit, where its state has no name.
     ghost behind: { List ℕ → List ℕ };
+
+    // Of a group (PGN) and what it is called.
+    ghost of_group: { ℕ → Option (List ℕ) → List ℕ };
 
     /// Writes what stands before a value at the end of a block. `None`, and nothing of use is written, where that is long, or
     /// the name doesn't stand as it is.
@@ -36,6 +43,67 @@ pub(crate) trait SideForm {
     fn write_behind(out: &mut [u8; SIDE], unit: &[u8]) -> Option<usize>
         ensures written { IfSome result (λ start. WritesBefore out.old out.new 96 start (behind unit.now)) }
         ensures within { IfSome result (λ start. start ≤ 96) };
+
+    /// Writes what is said of a group at the end of a block, and answers as `write_before`.
+    fn write_group(out: &mut [u8; SIDE], pgn: u32, name: Option<&[u8]>) -> Option<usize>
+        ensures written { IfSome result (λ start. WritesBefore out.old out.new 96 start
+            (of_group pgn (option_map (λ text. text.now) name.entry))) }
+        ensures within { IfSome result (λ start. start ≤ 96) };
+}
+
+/// What is said of a group: the bytes of a block from a place on.
+#[derive(Clone, Copy)]
+pub(crate) struct GroupSide {
+    pgn: u32,
+    /// Whether it is here, and leaves room for what stands before it.
+    is_ready: bool,
+    pub text: [u8; SIDE],
+    pub from: usize,
+}
+
+/// The least place that leaves such room.
+const GROUP_FROM: usize = 48;
+
+impl GroupSide {
+    /// That of a group that has it not.
+    fn none(pgn: u32) -> GroupSide
+        ensures { result.is_ready ≡ false }
+    {
+        GroupSide {
+            pgn,
+            is_ready: false,
+            text: [0; SIDE],
+            from: SIDE,
+        }
+    }
+
+    /// That of a group; `None` where it is long, or the name doesn't stand as it is.
+    fn of<F: SideForm>(groups: &Groups<'_>, pgn: Pgn) -> Option<GroupSide>
+        ensures { IfSome result (λ side. SuitsGroup F.of_group groups.now side) }
+    {
+        let name = groups.group_name(pgn);
+        let mut text = [0; SIDE];
+        let from = F::write_group(&mut text, pgn.raw(), name)?;
+        if from < GROUP_FROM {
+            return None;
+        }
+        Some(GroupSide {
+            pgn: pgn.raw(),
+            is_ready: true,
+            text,
+            from,
+        })
+    }
+
+    /// The same, or none.
+    fn of_or_none<F: SideForm>(groups: &Groups<'_>, pgn: Pgn) -> GroupSide
+        ensures { result.is_ready ≡ true → SuitsGroup F.of_group groups.now result }
+    {
+        match GroupSide::of::<F>(groups, pgn) {
+            Some(side) => side,
+            None => GroupSide::none(pgn.raw()),
+        }
+    }
 }
 
 /// What stands on both sides of the values of a parameter of a group: the bytes of blocks from a place on.
@@ -126,13 +194,15 @@ pub(crate) fn note<'t>(last: &mut Option<Missed<'t>>, missed: Option<Missed<'t>>
     }
 }
 
-/// A table, and the sides of the parameters that came first.
+/// A table, the sides of the parameters that came first, and what is said of the groups that came last.
 #[derive(Drop)]
 pub(crate) struct KnownSides<'g, 't, F: SideForm> {
     pub groups: &'g Groups<'t>,
     known: [Sides; PLACES],
+    called: [GroupSide; GROUPS],
     form: PhantomData<F>,
     ghost sound: { AreKnown F.before F.behind groups.now known } by { Prim.hlevel props },
+    ghost groups_sound: { AreKnownGroups F.of_group groups.now called } by { Prim.hlevel props },
 }
 
 impl<'g, 't, F: SideForm> KnownSides<'g, 't, F> {
@@ -143,8 +213,37 @@ impl<'g, 't, F: SideForm> KnownSides<'g, 't, F> {
         KnownSides {
             groups,
             known: [Sides::none(u32::MAX, 0); PLACES],
+            called: [GroupSide::none(u32::MAX); GROUPS],
             form: PhantomData,
         }
+    }
+
+    /// What is said of a group, where it is remembered.
+    #[inline(always)]
+    pub fn of_group(&self, pgn: u32) -> Option<&GroupSide>
+        ensures suits { IfSome result (λ side. SuitsGroup F.of_group self.now.groups.now side.now) }
+        ensures pgn { IfSome result (λ side. side.now.pgn ≡ pgn) }
+    {
+        group_at(&self.called, pgn)
+    }
+
+    /// Remembers what is said of a group.
+    #[inline(always)]
+    pub fn meet_group(&mut self, pgn: Pgn)
+        ensures { self.new.groups ≡ self.old.groups }
+    {
+        let place = group_place(pgn.raw());
+        if self.called[place].pgn != pgn.raw() {
+            self.remember_group(place, pgn);
+        }
+    }
+
+    #[inline(never)]
+    fn remember_group(&mut self, place: usize, pgn: Pgn)
+        requires { place < 64 }
+        ensures { self.new.groups ≡ self.old.groups }
+    {
+        self.called[place] = GroupSide::of_or_none::<F>(self.groups, pgn);
     }
 
     /// The sides of a parameter of a group, where they are remembered.
@@ -189,6 +288,29 @@ impl<'g, 't, F: SideForm> KnownSides<'g, 't, F> {
     {
         self.known[place_of(pgn, spn)] = Sides::of_or_none::<F>(self.groups, pgn, spn, unit);
     }
+}
+
+/// What is said of a group, of those that are here.
+#[inline(always)]
+fn group_at(called: &[GroupSide; GROUPS], pgn: u32) -> Option<&GroupSide>
+    ensures among { IfSome result (λ side. (place : ℕ) × (place < 64) × (slice_index_or called.now place side.now ≡ side.now)) }
+    ensures ready { IfSome result (λ side. side.now.is_ready ≡ true) }
+    ensures pgn { IfSome result (λ side. side.now.pgn ≡ pgn) }
+{
+    let side = &called[group_place(pgn)];
+    if side.is_ready && side.pgn == pgn {
+        Some(side)
+    } else {
+        None
+    }
+}
+
+/// Where a group is remembered.
+#[inline(always)]
+fn group_place(pgn: u32) -> usize
+    ensures { result < 64 }
+{
+    (pgn.wrapping_mul(0x9E37_79B1) >> 26) as usize
 }
 
 /// The sides of a parameter of a group, of those that are here.

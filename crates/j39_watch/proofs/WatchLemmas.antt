@@ -152,7 +152,7 @@ module _ (groups : List RowRecord) (size : Size) where
 
   -- ---- one frame
 
-  keeps_more : (a a' : Screens) (f : FrameRecord) (messages : ℕ) (F : List FrameRecord) → a'.groups ≡ a.groups → a'.size ≡ a.size
+  keeps_more : (a a' : Screens) (f : FrameRecord) (messages : ℕ) (F : List FrameRecord) → a'.roles.groups ≡ a.roles.groups → a'.size ≡ a.size
       → option_map stamp_micros a'.moment.last ≡ Some f.stamp → a'.messages ≡ capped (a.messages + messages)
       → (has : Keeps groups size a F) → Notes groups F f a'.listener a'.values a'.places (flat_map (entries_of groups) has.heard) (active_among has.faults) messages
       → Keeps groups size a' (F ++ f ∷ [])
@@ -181,7 +181,7 @@ module _ (groups : List RowRecord) (size : Size) where
   due : (F : List FrameRecord) (f : FrameRecord) (last : Option ℕ) → last ≡ newest (reverse F) → begins_half (F ++ f ∷ []) ≡ is_due last f.stamp
   due F f last is = ap is_due_at (reverse-append F (f ∷ [])) ∙ ap (λ o. is_due o f.stamp) (sym is)
 
-  met_more : (a a' : Screens) (f : FrameRecord) (messages : ℕ) (draws : Bool) (F : List FrameRecord) (before : Output) → a'.groups ≡ a.groups → a'.size ≡ a.size
+  met_more : (a a' : Screens) (f : FrameRecord) (messages : ℕ) (draws : Bool) (F : List FrameRecord) (before : Output) → a'.roles.groups ≡ a.roles.groups → a'.size ≡ a.size
       → option_map stamp_micros a'.moment.last ≡ Some f.stamp → a'.messages ≡ capped (a.messages + messages) → draws ≡ is_due (option_map stamp_micros a.moment.last) f.stamp
       → (has : HasWatched groups size a F before)
       → Notes groups F f a'.listener a'.values a'.places (flat_map (entries_of groups) has.keeps.heard) (active_among has.keeps.faults) messages
@@ -194,7 +194,7 @@ module _ (groups : List RowRecord) (size : Size) where
   -- by this table, whatever it was
   abbrev NotesAll : Screens → Screens → FrameRecord → ℕ → Type 0
   NotesAll a a' f messages = (F : List FrameRecord) (before : List Entry) (ms : List Hearing) → Hears a.listener F → AreLatest (pairs_of a.values.rows) before → AreKept [] a.places ms
-      → Notes a.groups.now F f a'.listener a'.values a'.places before ms messages
+      → Notes a.roles.groups.now F f a'.listener a'.values a'.places before ms messages
 
   notes_by : (a a' : Screens) (f : FrameRecord) (messages : ℕ) (F : List FrameRecord) → NotesAll a a' f messages → (has : Keeps groups size a F)
       → Notes groups F f a'.listener a'.values a'.places (flat_map (entries_of groups) has.heard) (active_among has.faults) messages
@@ -202,7 +202,7 @@ module _ (groups : List RowRecord) (size : Size) where
       subst (λ (table : List RowRecord). Notes table F f a'.listener a'.values a'.places (flat_map (entries_of groups) has.heard) (active_among has.faults) messages) has.by
       (notes F (flat_map (entries_of groups) has.heard) (active_among has.faults) has.hears has.are_latest has.are_kept)
 
-  pub watch_meets : (a a' : Screens) (f : FrameRecord) (messages : ℕ) (draws : Bool) (old new : Option (List ℕ)) → a'.groups ≡ a.groups → a'.size ≡ a.size
+  pub watch_meets : (a a' : Screens) (f : FrameRecord) (messages : ℕ) (draws : Bool) (old new : Option (List ℕ)) → a'.roles.groups ≡ a.roles.groups → a'.size ≡ a.size
       → option_map stamp_micros a'.moment.last ≡ Some f.stamp → a'.messages ≡ capped (a.messages + messages) → draws ≡ is_due (option_map stamp_micros a.moment.last) f.stamp
       → NotesAll a a' f messages → Appends old new (text_if draws a') → Meets (HasWatched groups size) a a' (f ∷ []) old new
   watch_meets a a' f messages draws old new table same last sum is notes written = λ F before has. record {
@@ -213,7 +213,7 @@ module _ (groups : List RowRecord) (size : Size) where
     written = written;
   }
 
-  pub watch_stops : (a a' : Screens) (f : FrameRecord) (messages : ℕ) (draws : Bool) (bus : List ℕ) (old new : Option (List ℕ)) → a'.groups ≡ a.groups → a'.size ≡ a.size
+  pub watch_stops : (a a' : Screens) (f : FrameRecord) (messages : ℕ) (draws : Bool) (bus : List ℕ) (old new : Option (List ℕ)) → a'.roles.groups ≡ a.roles.groups → a'.size ≡ a.size
       → option_map stamp_micros a'.moment.last ≡ Some f.stamp → a'.messages ≡ capped (a.messages + messages) → draws ≡ is_due (option_map stamp_micros a.moment.last) f.stamp
       → NotesAll a a' f messages → AppendsFront old new (text_if draws a') → Stops (HasWatched groups size) (MakesWatch groups size bus) a (f ∷ []) old new
   watch_stops a a' f messages draws bus old new table same last sum is notes (front, back, cut, appended) = λ F G before all has made.

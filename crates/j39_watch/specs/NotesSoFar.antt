@@ -57,14 +57,14 @@ moment_of watch = unwrap_or (option_map stamp_micros watch.moment.last) 0
 
 -- the lines of its screen, and the screen
 abbrev pub lines_of_watch : Screens → List (List ℕ)
-lines_of_watch watch = lines_of_code watch.groups.now watch.listener (moment_of watch) watch.places watch.values
+lines_of_watch watch = lines_of_code watch.roles.groups.now watch.listener (moment_of watch) watch.places watch.values
 
 abbrev pub screen_of_watch : Screens → List ℕ
 screen_of_watch watch = home ++ (limited watch.size.width watch.size.rows (lines_of_watch watch) ++ below_end)
 
 -- what it keeps is of F, by this table, for screens of this size
 pub record Keeps (groups : List RowRecord) (size : Size) (watch : Screens) (F : List FrameRecord) : Type 0 where
-  pub by : watch.groups.now ≡ groups
+  pub by : watch.roles.groups.now ≡ groups
   pub size_is : size_of watch.size ≡ size
   pub last_is : option_map stamp_micros watch.moment.last ≡ newest (reverse F)
   pub hears : Hears watch.listener F

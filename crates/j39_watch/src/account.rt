@@ -19,7 +19,7 @@ use j39_fault_reports::LastActives;
 use j39_frame::{Frame, Stamp};
 use j39_groups::Groups;
 use j39_io::{DeviceFault, Sink, Source};
-use j39_listen::{Account, Counts, LineFault, Listener, Made, RunFault, run_over};
+use j39_listen::{Account, Counts, LineFault, Listener, Made, Roles, RunFault, run_over};
 use j39_log::Bus;
 use std::alloc::{AllocError, Global};
 
@@ -51,7 +51,7 @@ pub fn watch<R: Source, W: Sink>(
 #[derive(Drop)]
 pub(crate) struct Screens<'g, 't> {
     alloc: Global,
-    groups: &'g Groups<'t>,
+    roles: Roles<'g, 't>,
     size: ScreenSize,
     listener: Listener,
     places: LastActives,
@@ -67,7 +67,7 @@ impl<'g, 't> Screens<'g, 't> {
     {
         Screens {
             alloc,
-            groups,
+            roles: Roles::new(groups),
             size,
             listener: Listener::new(alloc),
             places: LastActives::new(),
@@ -84,7 +84,7 @@ impl<'g, 't> Screens<'g, 't> {
         ensures puts { Puts (screen_of_watch self.now) result (turn W.written W.has_failed sink.old sink.new) }
     {
         let view = View {
-            groups: self.groups,
+            groups: self.roles.groups,
             listener: &self.listener,
             now: moment_of(self.moment.last),
             width: self.size.width(),
@@ -124,7 +124,7 @@ impl<'g, 't> Account for Screens<'g, 't> {
             &mut self.listener,
             &mut self.places,
             &mut self.values,
-            self.groups,
+            &mut self.roles,
             frame,
         ) {
             Ok(messages) => {

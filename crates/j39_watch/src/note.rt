@@ -20,8 +20,8 @@ ghost use Rattle.j39_watch.specs.Watch.{AsksForWatch};
 use crate::values::Values;
 use j39_fault_reports::{LastActives, is_of_fault_group, take_heard};
 use j39_frame::Frame;
-use j39_groups::{Groups, is_network_group};
-use j39_listen::{Heard, Listener};
+use j39_groups::Groups;
+use j39_listen::{Heard, Listener, Roles};
 use j39_transport::Message;
 use std::alloc::{AllocError, Global};
 
@@ -33,20 +33,22 @@ pub(crate) fn note<'t>(
     listener: &mut Listener,
     places: &mut LastActives,
     values: &mut Values<'t>,
-    groups: &Groups<'t>,
+    roles: &mut Roles<'_, 't>,
     frame: &Frame,
 ) -> Result<u64, AllocError>
     ensures noted { IfOk result (λ messages. (F : List FrameRecord) (before : List Entry) (ms : List Hearing) → Hears listener.old F
         → AreLatest (pairs_of values.old.rows) before → AreKept [] places.old ms
-        → Notes groups.now F frame.now listener.new values.new places.new before ms messages) }
+        → Notes roles.old.groups.now F frame.now listener.new values.new places.new before ms messages) }
     ensures asked { OnErr result ((F : List FrameRecord) (heard faults : List Hearing) → Hears listener.old F
-        → AreHeard groups.now F heard → AreLatest (pairs_of values.old.rows) (flat_map (entries_of groups.now) heard)
+        → AreHeard roles.old.groups.now F heard → AreLatest (pairs_of values.old.rows) (flat_map (entries_of roles.old.groups.now) heard)
         → AreHeardWith is_fault_group F faults → AreKept [] places.old (active_among faults)
-        → AsksForWatch groups.now F frame.now) }
+        → AsksForWatch roles.old.groups.now F frame.now) }
+    ensures table { roles.new.groups ≡ roles.old.groups }
 {
-    let is_reported = groups.is_reported(frame.id.pgn());
+    let groups = roles.groups;
+    let role = roles.of(frame.id);
     let is_fault = is_of_fault_group(frame.id);
-    if !is_either(is_reported, is_fault) && !is_network_group(frame.id.pgn()) {
+    if !is_either(role.is_heard, is_fault) {
         return Ok(0);
     }
     note_heard(
@@ -55,7 +57,7 @@ pub(crate) fn note<'t>(
         places,
         values,
         groups,
-        is_reported,
+        role.is_single,
         is_fault,
         frame,
     )

@@ -17,11 +17,11 @@ ghost use Rattle.j39_fault_reports.specs.News.{is_fault_group};
 
 use crate::current_faults::last_actives::LastActives;
 use crate::current_faults::lines::put_places;
-use crate::fault_news::account::{is_byte, is_of_fault_group};
+use crate::fault_news::account::{is_byte, is_of_fault_group, is_passed_over};
 use crate::fault_news::announced::Announced;
 use crate::fault_news::form::Writing;
 use j39_faults::{Conversion, Kind, fault_group, lamps_of};
-use j39_frame::Frame;
+use j39_frame::{Frame, Id};
 use j39_io::{DeviceFault, Sink};
 use j39_listen::{Account, Chooser, Filter, Heard, LineFault, Listener, Made};
 use j39_log::Bus;
@@ -84,6 +84,12 @@ impl<'g, 't, 'c> Account for FaultsNow<'g, 't, 'c> {
     ghost makes = { λ subject. MakesFaultsNowIn subject.0 subject.1.manner subject.1.conversions subject.1.which };
 
     ghost asks = { λ subject. AsksForFaultsNow subject.1.which };
+
+    /// Most frames are of groups that nobody hears.
+    #[inline(always)]
+    fn passes_over(&self, id: Id) -> bool {
+        is_passed_over(id) && self.chooser.is_begun()
+    }
 
     fn feed<W: Sink>(&mut self, _: &Bus, frame: &Frame, _: &mut W) -> Result<(), LineFault> {
         self.chooser.note(frame);

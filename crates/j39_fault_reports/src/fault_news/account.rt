@@ -1,10 +1,11 @@
 //! The faults of a bus, as an account of its frames (J1939-73, 5.7).
-ghost use Rattle.std.specs.Prelude.{◌≡◌, ◌≢◌, ◌<◌, ◌≤◌, ◌&&◌, ◌++◌, ◌∷◌, [], ℕ, List, None, length, option_map, true, Err, IfOk, Some};
+ghost use Rattle.std.specs.Prelude.{◌≡◌, ◌≢◌, ◌<◌, ◌≤◌, ◌&&◌, ◌++◌, ◌∷◌, [], ℕ, List, None, false, length, option_map, true, Err, IfOk, Some};
 ghost use Rattle.j39_io.specs.Turn.{turn};
 ghost use Rattle.j39_frame.specs.Frame.{FrameRecord};
 ghost use Rattle.j39_frame.specs.Identifier.{id_raw, pgn_of};
 ghost use Rattle.j39_frame.specs.Pgn.{pgn_raw};
 ghost use Rattle.j39_address.specs.Name.{name_raw};
+ghost use Rattle.j39_groups.specs.Readings.{is_network_group};
 ghost use Rattle.j39_faults.specs.Conversions.{version_for};
 ghost use Rattle.j39_listen.specs.AccountCalls.{LeavesWriter};
 ghost use Rattle.j39_listen.specs.Chooses.{Chooses};
@@ -29,6 +30,7 @@ use crate::fault_news::telling::{Choice, Telling};
 use j39_address::Name;
 use j39_faults::{Conversion, Kind, Version, cleared_in, fault_group, lamps_of, version_for};
 use j39_frame::{Frame, Id};
+use j39_groups::is_network_group;
 use j39_io::{DeviceFault, Sink};
 use j39_listen::{Account, Chooser, Heard, LineFault, Listener, Made};
 use j39_log::Bus;
@@ -91,6 +93,12 @@ impl<'g, 't, 'c> Account for FaultNews<'g, 't, 'c> {
     ghost makes = { λ subject. MakesFaultsIn subject.0 subject.1.manner subject.1.which };
 
     ghost asks = { λ subject. AsksForFaults subject.1.which.asked };
+
+    /// Most frames are of groups that nobody hears.
+    #[inline(always)]
+    fn passes_over(&self, id: Id) -> bool {
+        is_passed_over(id) && self.chooser.is_begun()
+    }
 
     fn feed<W: Sink>(&mut self, _: &Bus, frame: &Frame, sink: &mut W) -> Result<(), LineFault> {
         self.chooser.note(frame);
@@ -268,10 +276,20 @@ fn put_asked<W: Sink>(
 }
 
 /// Whether messages of an identifier's group are heard in one frame.
+#[inline(always)]
 pub fn is_of_fault_group(id: Id) -> bool
     ensures { result ≡ is_fault_group (pgn_of (id_raw id)) }
 {
     fault_group(id.pgn()).is_some() || id.is_request()
+}
+
+/// Whether frames of an identifier are neither messages of faults nor claims or parts of messages.
+#[inline(always)]
+pub(crate) fn is_passed_over(id: Id) -> bool
+    ensures faults { result ≡ true → is_fault_group (pgn_of (id_raw id)) ≡ false }
+    ensures network { result ≡ true → is_network_group (pgn_of (id_raw id)) ≡ false }
+{
+    !is_of_fault_group(id) && !is_network_group(id.pgn())
 }
 
 /// A byte is below 256.

@@ -1,13 +1,12 @@
 //! What the objects of a message begin with, written backwards.
 ghost use Rattle.j39_rows.specs.Members.{address_string, name_string, or_null};
-ghost use Rattle.std.specs.Prelude.{◌≡◌, ◌+◌, ◌≤◌, IfSome, drop, length};
+ghost use Rattle.std.specs.Prelude.{◌≡◌, ◌+◌, ◌≤◌, ◌++◌, drop, length};
 ghost use Rattle.std.specs.Option.{option_map};
 ghost use Rattle.j39_address.specs.Name.{name_raw};
 ghost use Rattle.j39_io.specs.Backwards.{WritesBefore};
 ghost use Rattle.j39_frame.specs.Stamp.{stamp_micros};
-ghost use Rattle.j39_reports.specs.EntryObject.{group_member, moment_members, sender_members};
+ghost use Rattle.j39_reports.specs.EntryObject.{moment_members, sender_members};
 
-use crate::json::string_or_null_before;
 use crate::second::Second;
 use j39_address::Name;
 use j39_frame::Stamp;
@@ -48,24 +47,26 @@ impl ObjectHead {
     }
 }
 
-/// Writes what a group is called at the end of a block, where that is short and stands as it is.
+/// Writes the moment, the address, the destination and the NAME.
 #[inline(always)]
-pub(crate) fn group_before(out: &mut [u8; HEAD], group: Option<&[u8]>) -> Option<usize>
-    ensures written { IfSome result (λ start. WritesBefore out.old out.new 192 start
-        (group_member (option_map (λ name. name.now) group.entry))) }
-    ensures room { IfSome result (λ start. 160 ≤ start) }
-    ensures within { IfSome result (λ start. start ≤ 192) }
+pub(crate) fn heard_before(
+    out: &mut [u8],
+    end: usize,
+    heard: &Heard<'_>,
+    second: &mut Second,
+) -> usize
+    requires room { 142 ≤ end }
+    requires within { end ≤ length out.old }
+    ensures { WritesBefore out.old out.new end result (moment_members (stamp_micros heard.now.message.stamp)
+        ++ sender_members heard.now.message.source heard.now.destination (option_map name_raw heard.now.name)) }
 {
-    let name = string_or_null_before(out, HEAD, group)?;
-    if name < 169 {
-        return None;
-    }
-    Some(bytes_before(out, name, *b",\"group\":"))
+    let sender = sender_before(out, end, heard);
+    moment_before(out, sender, second, heard.message.stamp)
 }
 
 /// Writes the stamp, and the same moment in UTC.
 #[inline(always)]
-pub(crate) fn moment_before(out: &mut [u8], end: usize, second: &mut Second, stamp: Stamp) -> usize
+fn moment_before(out: &mut [u8], end: usize, second: &mut Second, stamp: Stamp) -> usize
     requires room { 82 ≤ end }
     requires within { end ≤ length out.old }
     ensures { WritesBefore out.old out.new end result (moment_members (stamp_micros stamp)) }
@@ -79,7 +80,7 @@ pub(crate) fn moment_before(out: &mut [u8], end: usize, second: &mut Second, sta
 
 /// Writes the address, the destination and the NAME.
 #[inline(always)]
-pub(crate) fn sender_before(out: &mut [u8], end: usize, heard: &Heard<'_>) -> usize
+fn sender_before(out: &mut [u8], end: usize, heard: &Heard<'_>) -> usize
     requires room { 60 ≤ end }
     requires within { end ≤ length out.old }
     ensures written { WritesBefore out.old out.new end result (sender_members heard.now.message.source

@@ -7,7 +7,7 @@ ghost use Rattle.j39_address.specs.Name.{name_raw};
 ghost use Rattle.j39_frame.specs.Pgn.{pgn_raw};
 ghost use Rattle.j39_frame.specs.Stamp.{stamp_micros};
 ghost use Rattle.j39_groups.specs.Models.{value_of};
-ghost use Rattle.j39_groups.specs.Names.{name_in, state_in};
+ghost use Rattle.j39_groups.specs.Names.{group_name_in, name_in, state_in};
 ghost use Rattle.j39_listen.specs.HeardModel.{hearing_of};
 ghost use Rattle.j39_reports.specs.EntryObject.{group_member, opening_text, parameter_members, value_json, value_members};
 ghost use Rattle.j39_reports.specs.MessageObjects.{opened};
@@ -15,9 +15,7 @@ ghost use Rattle.j39_reports.specs.Json.{bytes_member, string_or_null};
 ghost use Rattle.j39_rows.specs.Json.{string_text};
 
 use crate::json::put_string_or_null;
-use crate::report_objects::object_head::{
-    HEAD, ObjectHead, group_before, moment_before, sender_before,
-};
+use crate::report_objects::object_head::{HEAD, ObjectHead, heard_before};
 use crate::report_objects::object_sides::ObjectSides;
 use crate::report_objects::prepared_object::prepared_before;
 use crate::report_objects::quick_object::{OBJECT, object_before, unit_in};
@@ -26,7 +24,7 @@ use crate::second::Second;
 use crate::sides::{KnownSides, Missed, note};
 use arrayvec::ArrayVec;
 use j39_groups::{Groups, ReadingVisitor, Value, push_decimal};
-use j39_io::backwards::bytes_before;
+use j39_io::backwards::{bytes_before, tail_before};
 use j39_io::printing::push_bytes;
 use j39_io::{DeviceFault, Sink, put_all};
 use j39_listen::{EntryForm, Heard};
@@ -60,8 +58,7 @@ impl<'k, 'g, 't, 'b> Objects<'k, 'g, 't, 'b> {
         ensures none { result.lines ≡ 0 }
     {
         let pgn = heard.message.pgn;
-        let group = known.groups.group_name(pgn);
-        open_with(opening, heard, group, second);
+        let group = open_with(opening, known, heard, second);
         Objects {
             known,
             opening,
@@ -108,6 +105,7 @@ impl<'g, 't> EntryForm for ObjectForm<'g, 't> {
     #[inline(always)]
     fn put_heard<W: Sink>(&mut self, heard: &Heard<'_>, sink: &mut W) -> Result<u64, DeviceFault> {
         let groups = self.known.groups;
+        self.known.meet_group(heard.message.pgn);
         let mut objects = Objects::new(
             &self.known,
             heard,
@@ -167,25 +165,46 @@ impl<'k, 'g, 't, 'b, W: Sink> ReadingVisitor<'t, W> for Objects<'k, 'g, 't, 'b> 
     }
 }
 
-/// What the objects of a message begin with, of a group that is called so.
+/// What the objects of a message begin with, and what the group is called, where that is remembered; else it answers that.
 #[inline(always)]
-fn open_with(opening: &mut ObjectHead, heard: &Heard<'_>, group: Option<&[u8]>, second: &mut Second)
-    ensures { opened opening.new (option_map (λ name. name.now) group.entry) ≡ opening_text (stamp_micros heard.now.message.stamp)
-        heard.now.message.source heard.now.destination (option_map name_raw heard.now.name)
-        (pgn_raw heard.now.message.pgn) ++ group_member (option_map (λ name. name.now) group.entry) }
+fn open_with<'g>(
+    opening: &mut ObjectHead,
+    known: &KnownSides<'g, '_, ObjectSides>,
+    heard: &Heard<'_>,
+    second: &mut Second,
+) -> Option<&'g [u8]>
+    ensures { opened opening.new (option_map (λ name. name.now) result) ≡ opening_text (stamp_micros heard.now.message.stamp)
+        heard.now.message.source heard.now.destination (option_map name_raw heard.now.name) (pgn_raw heard.now.message.pgn)
+        ++ group_member (group_name_in known.now.groups.now (pgn_raw heard.now.message.pgn)) }
 {
-    let quick = group_before(&mut opening.head, group);
+    let Some(side) = known.of_group(heard.message.pgn.raw()) else {
+        return open_unknown(opening, known.groups, heard, second);
+    };
+    let group = tail_before(&mut opening.head, HEAD, &side.text, side.from);
+    opening.from = heard_before(&mut opening.head, group, heard, second);
     is_whole(&opening.head);
-    let number = digits_before(
-        &mut opening.head,
-        quick.unwrap_or(HEAD),
-        heard.message.pgn.raw(),
-    );
+    opening.has_group = true;
+    None
+}
+
+/// The same of a group that isn't remembered, and answers what it is called.
+#[inline(never)]
+fn open_unknown<'r>(
+    opening: &mut ObjectHead,
+    groups: &'r Groups<'_>,
+    heard: &Heard<'_>,
+    second: &mut Second,
+) -> Option<&'r [u8]>
+    ensures { opened opening.new (option_map (λ name. name.now) result) ≡ opening_text (stamp_micros heard.now.message.stamp)
+        heard.now.message.source heard.now.destination (option_map name_raw heard.now.name) (pgn_raw heard.now.message.pgn)
+        ++ group_member (group_name_in groups.now (pgn_raw heard.now.message.pgn)) }
+{
+    let number = digits_before(&mut opening.head, HEAD, heard.message.pgn.raw());
     let key = bytes_before(&mut opening.head, number, *b",\"pgn\":");
-    let sender = sender_before(&mut opening.head, key, heard);
-    opening.from = moment_before(&mut opening.head, sender, second, heard.message.stamp);
+    opening.from = heard_before(&mut opening.head, key, heard, second);
     is_whole(&opening.head);
-    opening.has_group = quick.is_some();
+    opening.has_group = false;
+    groups.group_name(heard.message.pgn)
 }
 
 /// Writes the object of a reading, and answers what can be learned of its parameter. What stands in `block` afterwards is not known.

@@ -1,16 +1,14 @@
 //! What the records of a message begin with, written backwards.
-ghost use Rattle.std.specs.Prelude.{◌≡◌, ◌+◌, ◌≤◌, IfSome, decimal, length};
+ghost use Rattle.std.specs.Prelude.{◌≡◌, ◌+◌, ◌≤◌, decimal, length};
 ghost use Rattle.std.specs.Option.{option_map};
 ghost use Rattle.j39_address.specs.Name.{name_raw};
 ghost use Rattle.j39_io.specs.Backwards.{WritesBefore};
-ghost use Rattle.j39_io.specs.Records.{later_text};
 ghost use Rattle.j39_frame.specs.Pgn.{pgn_raw};
 ghost use Rattle.j39_frame.specs.Stamp.{stamp_micros};
 ghost use Rattle.j39_listen.specs.Report.{name_field};
-ghost use Rattle.j39_reports.specs.Columns.{destination_field, sender_fields};
+ghost use Rattle.j39_reports.specs.Columns.{destination_field, heard_fields, sender_fields};
 ghost use Rattle.j39_reports.specs.EntryText.{begin_text};
 
-use crate::report_records::quick_record::field_before;
 use crate::second::Second;
 use j39_address::Name;
 use j39_io::backwards::{byte_before, bytes_before, hex_before, number_before};
@@ -48,36 +46,31 @@ pub(crate) fn is_whole<const N: usize>(block: &[u8; N])
     ensures { length block.now ≡ N }
 {}
 
-/// Writes a comma and what a group is called at the end of a block, where that is short and stands as it is.
-#[inline(always)]
-pub(crate) fn group_before(out: &mut [u8; HEAD], group: &[u8]) -> Option<usize>
-    ensures written { IfSome result (λ start. WritesBefore out.old out.new 96 start (later_text group.now)) }
-    ensures room { IfSome result (λ start. 79 ≤ start) }
-    ensures within { IfSome result (λ start. start ≤ 96) }
+/// Writes the moment, the address, the destination, the NAME and the PGN at the end of a block.
+pub(crate) fn begin_before(out: &mut [u8; HEAD], heard: &Heard<'_>, second: &mut Second) -> usize
+    ensures { WritesBefore out.old out.new 96 result (begin_text (stamp_micros heard.now.message.stamp)
+        heard.now.message.source heard.now.destination (option_map name_raw heard.now.name)
+        (pgn_raw heard.now.message.pgn)) }
 {
-    if group.len() > 16 {
-        return None;
-    }
-    field_before(out, HEAD, group)
+    let group = digits_before(out, HEAD, heard.message.pgn.raw());
+    let comma = byte_before(out, group, b',');
+    heard_before(out, comma, heard, second)
 }
 
-/// Writes the moment, the address, the destination, the NAME and the PGN.
+/// Writes the moment, the address, the destination and the NAME.
 #[inline(always)]
-pub(crate) fn begin_before(
+pub(crate) fn heard_before(
     out: &mut [u8; HEAD],
     end: usize,
     heard: &Heard<'_>,
     second: &mut Second,
 ) -> usize
-    requires room { 79 ≤ end }
+    requires room { 68 ≤ end }
     requires within { end ≤ 96 }
-    ensures { WritesBefore out.old out.new end result (begin_text (stamp_micros heard.now.message.stamp)
-        heard.now.message.source heard.now.destination (option_map name_raw heard.now.name)
-        (pgn_raw heard.now.message.pgn)) }
+    ensures { WritesBefore out.old out.new end result (heard_fields (stamp_micros heard.now.message.stamp)
+        heard.now.message.source heard.now.destination (option_map name_raw heard.now.name)) }
 {
-    let group = digits_before(out, end, heard.message.pgn.raw());
-    let comma = byte_before(out, group, b',');
-    let sender = sender_before(out, comma, heard);
+    let sender = sender_before(out, end, heard);
     let first = byte_before(out, sender, b',');
     second.moment_before(out, first, heard.message.stamp)
 }

@@ -1,11 +1,13 @@
-//! What a record has on both sides of a value.
+//! What a record has on both sides of a value, and of a group.
+ghost use Rattle.std.specs.Prelude.{◌≡◌, [], option_map, unwrap_or};
+
 use crate::report_records::quick_record::field_before;
 use crate::report_records::record_head::digits_before;
 use crate::sides::{SIDE, SideForm};
 use j39_io::backwards::{byte_before, bytes_before};
 
 /// What a record has on both sides of a value: before it the number of the parameter and what it is called, behind it the unit,
-/// and the end of the line.
+/// and the end of the line. Of a group it has the number, and what it is called.
 #[derive(Drop)]
 pub(crate) struct RecordSides;
 
@@ -18,6 +20,8 @@ impl SideForm for RecordSides {
 
     ghost behind = { λ unit. later_text unit ++ last_field [] };
 
+    ghost of_group = { λ pgn name. (comma ∷ decimal pgn) ++ later_text (unwrap_or name []) };
+
     fn write_before(out: &mut [u8; SIDE], spn: u32, name: &[u8]) -> Option<usize> {
         let gap = byte_before(out, SIDE, b',');
         let called = field_before(out, gap, name)?;
@@ -29,5 +33,21 @@ impl SideForm for RecordSides {
         let end = bytes_before(out, SIDE, *b",\r\n");
         let start = field_before(out, end, unit)?;
         Some(start)
+    }
+
+    fn write_group(out: &mut [u8; SIDE], pgn: u32, name: Option<&[u8]>) -> Option<usize> {
+        let called = field_before(out, SIDE, or_nothing(name))?;
+        let number = digits_before(out, called, pgn);
+        Some(byte_before(out, number, b','))
+    }
+}
+
+/// What something is called; nothing where it has no name.
+pub(crate) fn or_nothing(text: Option<&[u8]>) -> &[u8]
+    ensures { result.now ≡ unwrap_or (option_map (λ bytes. bytes.now) text.entry) [] }
+{
+    match text {
+        Some(text) => text,
+        None => b"",
     }
 }

@@ -16,13 +16,14 @@ ghost use Rattle.j39_reports.specs.MessageRecords.{begun_fields};
 
 use crate::report_records::prepared_record::prepared_before;
 use crate::report_records::quick_record::{RECORD, record_before};
-use crate::report_records::record_head::{HEAD, RecordHead, begin_before, group_before, is_whole};
-use crate::report_records::record_sides::RecordSides;
+use crate::report_records::record_head::{HEAD, RecordHead, begin_before, heard_before, is_whole};
+use crate::report_records::record_sides::{RecordSides, or_nothing};
 use crate::second::Second;
 use crate::sides::{KnownSides, Missed, note};
 use arrayvec::ArrayVec;
 use j39_frame::Pgn;
 use j39_groups::{Groups, ReadingVisitor, Value, push_decimal};
+use j39_io::backwards::tail_before;
 use j39_io::{DeviceFault, Sink, put_all, put_behind_comma};
 use j39_listen::{EntryForm, Heard};
 
@@ -54,8 +55,7 @@ impl<'k, 'g, 't, 'b> Records<'k, 'g, 't, 'b> {
         ensures none { result.lines ≡ 0 }
     {
         let pgn = heard.message.pgn;
-        let group = group_of(known.groups, pgn);
-        begin_with(begin, heard, group, second);
+        let group = begin_with(begin, known, heard, second);
         Records {
             known,
             begin,
@@ -102,6 +102,7 @@ impl<'g, 't> EntryForm for RecordForm<'g, 't> {
     #[inline(always)]
     fn put_heard<W: Sink>(&mut self, heard: &Heard<'_>, sink: &mut W) -> Result<u64, DeviceFault> {
         let groups = self.known.groups;
+        self.known.meet_group(heard.message.pgn);
         let mut records = Records::new(
             &self.known,
             heard,
@@ -154,18 +155,52 @@ impl<'k, 'g, 't, 'b, W: Sink> ReadingVisitor<'t, W> for Records<'k, 'g, 't, 'b> 
     }
 }
 
+/// The least place that leaves room for what stands before the group.
+const ROOM: usize = 68;
+
 /// Writes what the records of a message begin with: the moment, the address, the NAME and the PGN, and what the group is called,
-/// where that is short and stands as it is.
+/// where that is remembered; else it answers that.
 #[inline(always)]
-fn begin_with(begin: &mut RecordHead, heard: &Heard<'_>, group: &[u8], second: &mut Second)
-    ensures { begun_fields begin.new group.now ≡ begin_text (stamp_micros heard.now.message.stamp) heard.now.message.source
-        heard.now.destination (option_map name_raw heard.now.name) (pgn_raw heard.now.message.pgn) ++ later_text group.now }
+fn begin_with<'g>(
+    begin: &mut RecordHead,
+    known: &KnownSides<'g, '_, RecordSides>,
+    heard: &Heard<'_>,
+    second: &mut Second,
+) -> &'g [u8]
+    ensures { begun_fields begin.new result.now ≡ begin_text (stamp_micros heard.now.message.stamp) heard.now.message.source
+        heard.now.destination (option_map name_raw heard.now.name) (pgn_raw heard.now.message.pgn)
+        ++ later_text (group_called known.now.groups.now (pgn_raw heard.now.message.pgn)) }
 {
-    let quick = group_before(&mut begin.head, group);
+    let Some(side) = known.of_group(heard.message.pgn.raw()) else {
+        return begin_unknown(begin, known.groups, heard, second);
+    };
+    if side.from < ROOM {
+        return begin_unknown(begin, known.groups, heard, second);
+    }
+    let group = tail_before(&mut begin.head, HEAD, &side.text, side.from);
     is_whole(&begin.head);
-    begin.from = begin_before(&mut begin.head, quick.unwrap_or(HEAD), heard, second);
+    begin.from = heard_before(&mut begin.head, group, heard, second);
     is_whole(&begin.head);
-    begin.has_group = quick.is_some();
+    begin.has_group = true;
+    b""
+}
+
+/// The same of a group that isn't remembered, and answers what it is called.
+#[inline(never)]
+fn begin_unknown<'r>(
+    begin: &mut RecordHead,
+    groups: &'r Groups<'_>,
+    heard: &Heard<'_>,
+    second: &mut Second,
+) -> &'r [u8]
+    ensures { begun_fields begin.new result.now ≡ begin_text (stamp_micros heard.now.message.stamp) heard.now.message.source
+        heard.now.destination (option_map name_raw heard.now.name) (pgn_raw heard.now.message.pgn)
+        ++ later_text (group_called groups.now (pgn_raw heard.now.message.pgn)) }
+{
+    begin.from = begin_before(&mut begin.head, heard, second);
+    is_whole(&begin.head);
+    begin.has_group = false;
+    group_of(groups, heard.message.pgn)
 }
 
 /// Writes the record of a reading, and answers what can be learned of its parameter. What stands in `block` afterwards is not known.
@@ -327,23 +362,11 @@ fn called_in<'r>(groups: &'r Groups<'_>, pgn: u32, spn: u32, value: Value<'_, '_
     }
 }
 
-fn or_nothing(text: Option<&[u8]>) -> &[u8]
-    ensures { result.now ≡ unwrap_or (option_map (λ bytes. bytes.now) text.entry) [] }
-{
-    match text {
-        Some(text) => text,
-        None => b"",
-    }
-}
-
 /// What the table calls a group; nothing where it lists none.
 fn group_of<'r>(groups: &'r Groups<'_>, pgn: Pgn) -> &'r [u8]
     ensures { result.now ≡ group_called groups.now (pgn_raw pgn) }
 {
-    match groups.group_name(pgn) {
-        Some(name) => name,
-        None => b"",
-    }
+    or_nothing(groups.group_name(pgn))
 }
 
 /// Writes a comma, the last field of a record, and the end of its line.

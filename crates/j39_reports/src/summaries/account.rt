@@ -23,12 +23,12 @@ ghost use Rattle.j39_reports.specs.SummaryRun.{AsksForRows, MakesSummary};
 
 use crate::summaries::lines::put_rows;
 use crate::summaries::rows::Rows;
-use j39_frame::Frame;
-use j39_groups::{Groups, is_network_group};
+use j39_frame::{Frame, Id};
+use j39_groups::Groups;
 use j39_io::{DeviceFault, Sink, Source};
 use j39_listen::{
-    Account, Chooser, Counts, Filter, Format, LineFault, Listener, Made, RunFault, run_headed,
-    run_over,
+    Account, Chooser, Counts, Filter, Format, LineFault, Listener, Made, Roles, RunFault,
+    run_headed, run_over,
 };
 use j39_log::Bus;
 use std::alloc::{AllocError, Global};
@@ -72,7 +72,7 @@ const COLUMNS: &[u8] =
 /// What is heard so far, and the rows of its summary.
 #[derive(Drop)]
 pub(crate) struct SummaryAccount<'g, 't> {
-    groups: &'g Groups<'t>,
+    roles: Roles<'g, 't>,
     form: Format,
     chooser: Chooser<'g>,
     listener: Listener,
@@ -91,7 +91,7 @@ impl<'g, 't> SummaryAccount<'g, 't> {
         ensures { HasSummed form (which_of filter.entry) groups.entry.now result [] nothing }
     {
         SummaryAccount {
-            groups,
+            roles: Roles::new(groups),
             form,
             chooser: Chooser::new(filter),
             listener: Listener::new(alloc),
@@ -113,21 +113,23 @@ impl<'g, 't> Account for SummaryAccount<'g, 't> {
 
     ghost asks = { λ subject. AsksForRows subject.which subject.rows };
 
-    /// Most frames are of groups that nobody hears: those are done with here, and leave all as it was.
+    /// Most frames are of groups that nobody hears.
+    #[inline(always)]
+    fn passes_over(&self, id: Id) -> bool {
+        self.roles.passes_over(id) && self.chooser.is_begun()
+    }
+
     #[inline(always)]
     fn feed<W: Sink>(&mut self, _: &Bus, frame: &Frame, _: &mut W) -> Result<(), LineFault> {
         self.chooser.note(frame);
-        let is_single = self.groups.is_reported(frame.id.pgn());
-        if !is_single && !is_network_group(frame.id.pgn()) {
-            self.messages = self.messages.saturating_add(0);
-            return Ok(());
-        }
+        let groups = self.roles.groups;
+        let role = self.roles.of(frame.id);
         match note(
             &mut self.listener,
-            self.groups,
+            groups,
             &self.chooser,
             &mut self.rows,
-            is_single,
+            role.is_single,
             frame,
         ) {
             Ok(messages) => {
@@ -139,7 +141,7 @@ impl<'g, 't> Account for SummaryAccount<'g, 't> {
     }
 
     fn close<W: Sink>(&self, sink: &mut W) -> Result<Made, DeviceFault> {
-        put_rows(&self.rows, self.form, self.groups, sink)?;
+        put_rows(&self.rows, self.form, self.roles.groups, sink)?;
         Ok(Made {
             messages: self.messages,
             lines: self.rows.rows.len() as u64,

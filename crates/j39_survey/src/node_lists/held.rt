@@ -14,7 +14,7 @@ ghost use Rattle.j39_listen.specs.declared.running.RunFault.TheVariants.{Memory}
 
 use crate::node_lists::by_address::{ByAddress, put_by_address};
 use j39_address::{Claims, Name};
-use j39_frame::Frame;
+use j39_frame::{Frame, Id};
 use j39_io::{DeviceFault, Sink, Source};
 use j39_listen::{Account, Counts, Format, LineFault, Made, RunFault, Sender, is_from, run_over};
 use j39_log::Bus;
@@ -115,6 +115,12 @@ impl<'f> Account for HeldList<'f> {
     ghost makes = { MakesNodesOf };
 
     ghost asks = { λ from. AsksNowhere };
+
+    /// Most frames claim nothing.
+    #[inline(always)]
+    fn passes_over(&self, id: Id) -> bool {
+        !id.is_address_claimed()
+    }
 
     fn feed<W: Sink>(&mut self, _: &Bus, frame: &Frame, _: &mut W) -> Result<(), LineFault> {
         self.claims.note(frame);

@@ -119,10 +119,15 @@ impl GroupTable {
     }
 
     /// The message that a frame announces, where it announces one.
+    #[inline(always)]
     pub fn add_announced(&mut self, frame: &Frame)
         ensures { (came : ℕ → Came) → HaveCounted self.old came
             → HaveCounted self.new (at_named (announced_by frame.now) (with_announced frame.now) came) }
     {
+        // A frame of another group costs its identifier alone.
+        if !frame.id.is_transport_control() {
+            return;
+        }
         match announced_group(frame) {
             Some(pgn) => self.change(pgn, Announcement { frame }),
             None => {}

@@ -94,6 +94,7 @@ impl Interfaces {
     }
 
     /// One frame more, seen on the interface of this name.
+    #[inline(always)]
     pub fn add(&mut self, name: &[u8], stamp: Stamp)
         ensures { (seen : List Seen) (s : Seen) → IsBusName name.now → s.bus ≡ name.now
             → s.content.stamp ≡ stamp_micros stamp → HaveMet self.old seen → HaveMet self.new (seen ++ s ∷ []) }

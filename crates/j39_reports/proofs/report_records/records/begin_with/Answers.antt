@@ -1,21 +1,22 @@
 -- The group's name stands in the block, or not.
-use Rattle.j39_reports.proofs.Common.{◌≡◌, ◌≤◌, ◌++◌, ℕ, List, Option, Some, None, ap, arith, drop, length, subst, IfSome, is_some, unwrap_or, if◌then◌else◌, option_map, name_raw, pgn_raw, stamp_micros, WritesBefore, later_text, before_end, before_then}
-use Rattle.j39_reports.specs.EntryText.{begin_text}
+use Rattle.j39_reports.proofs.Common.{◌≡◌, ◌∙◌, ◌++◌, ◌∷◌, [], List, ℕ, ap, append_assoc, arith, decimal, drop, refl, subst, option_map, name_raw, pgn_raw, stamp_micros, WritesBefore, later_text, before_end, before_then}
+use Rattle.j39_reports.specs.Columns.{heard_fields}
+use Rattle.j39_reports.specs.EntryText.{group_called}
 use Rattle.j39_reports.proofs.report_records.records.begin_with.Goals as goal
 
-begun : (quick : Option ℕ) (old mid new : List ℕ) (from : ℕ) (begin group : List ℕ) → length old ≤ 96 → length mid ≤ 96
-    → IfSome quick (λ start. WritesBefore old mid 96 start group) → WritesBefore mid new (unwrap_or quick 96) from begin
-    → (if is_some quick then drop from new else drop from new ++ group) ≡ begin ++ group
-begun None old mid new from begin group fits fits_too first second = ap (λ t. t ++ group) (before_end mid new 96 from begin fits_too second)
-begun (Some at) old mid new from begin group fits fits_too first second =
-    before_end old new 96 from (begin ++ group) fits (before_then old mid new 96 at from group begin first second)
+joined : (fields number later : List ℕ) → fields ++ ((44 ∷ number) ++ later) ≡ (fields ++ (44 ∷ []) ++ number) ++ later
+joined fields number later = simp append_assoc refl
 
 pub returns : goal.returns
 returns c =
     let heard = c.args.heard.now in
-    let text = begin_text (stamp_micros heard.message.stamp) heard.message.source heard.destination (option_map name_raw heard.name) (pgn_raw heard.message.pgn) in
-    let quick = c.group_before-quick in
-    let from = c.begin_before-begin in
-    rw c.is_some-begin.ensures (begun quick.result _ quick.new.out from.new.out from.result text (later_text c.args.group.now)
-    (let whole = c.args.begin.now.whole in omega (arith, whole)) (let whole = c.is_whole.ensures in omega (arith, whole)) quick.ensures.written
-    (subst (λ end. WritesBefore quick.new.out from.new.out end from.result text) c.unwrap_or.ensures from.ensures))
+    let groups = c.args.known.now.groups.now in
+    let pgn = pgn_raw heard.message.pgn in
+    let side = c.in-Some.side.now in
+    let later = later_text (group_called groups pgn) in
+    let fields = heard_fields (stamp_micros heard.message.stamp) heard.message.source heard.destination (option_map name_raw heard.name) in
+    let said : drop side.from side.text ≡ (44 ∷ decimal pgn) ++ later =
+    c.in-Some.ensures.suits.text_is ∙ ap (λ n. (44 ∷ decimal n) ++ later_text (group_called groups n)) (c.in-Some.ensures.pgn ∙ c.raw.ensures.value) in
+    before_end _ _ 96 _ _ (let whole = c.args.begin.now.whole in omega (arith, whole)) (before_then _ _ _ _ _ _ _ _
+    (subst (WritesBefore c.args.begin.now.head c.tail_before-group.new.out 96 c.tail_before-group.result) said c.tail_before-group.ensures.written) c.heard_before-begin.ensures)
+    ∙ joined fields (decimal pgn) later

@@ -12,7 +12,7 @@ returns-in-Ok-clause-met g c = on_ok_from c.draw_if.result _ _ (λ written subje
     let self = c.args.self.now in
     let after : Screens = record {
       alloc = self.alloc;
-      groups = self.groups;
+      roles = c.note.new.roles;
       size = self.size;
       listener = c.note.new.listener;
       places = c.note.new.places;
@@ -21,7 +21,7 @@ returns-in-Ok-clause-met g c = on_ok_from c.draw_if.result _ _ (λ written subje
       moment = c.go_on-draws.new.self;
     } in
     let stamp = ap (λ (f : FrameRecord). f.stamp) c.frame.view_is in
-    watch_meets subject.1 subject.0 self after c.args.frame.now c.in-Ok.messages c.go_on-draws.result _ _ refl refl (ap (option_map stamp_micros) c.go_on-draws.ensures.last ∙ ap Some stamp)
+    watch_meets subject.1 subject.0 self after c.args.frame.now c.in-Ok.messages c.go_on-draws.result _ _ c.note.ensures.table refl (ap (option_map stamp_micros) c.go_on-draws.ensures.last ∙ ap Some stamp)
     c.saturating_add-self.ensures (c.go_on-draws.ensures.due ∙ ap (is_due _) stamp) c.in-Ok.ensures.noted written) c.draw_if.ensures.puts.written
 
 pub returns-in-Ok-clause-stops : goal.returns-in-Ok-clause-stops
@@ -29,7 +29,7 @@ returns-in-Ok-clause-stops g c = λ failed subject.
     let self = c.args.self.now in
     let after : Screens = record {
       alloc = self.alloc;
-      groups = self.groups;
+      roles = c.note.new.roles;
       size = self.size;
       listener = c.note.new.listener;
       places = c.note.new.places;
@@ -38,5 +38,5 @@ returns-in-Ok-clause-stops g c = λ failed subject.
       moment = c.go_on-draws.new.self;
     } in
     let stamp = ap (λ (f : FrameRecord). f.stamp) c.frame.view_is in
-    watch_stops subject.1 subject.0 self after c.args.frame.now c.in-Ok.messages c.go_on-draws.result c.args.arg2.now _ _ refl refl (ap (option_map stamp_micros) c.go_on-draws.ensures.last ∙ ap Some stamp)
+    watch_stops subject.1 subject.0 self after c.args.frame.now c.in-Ok.messages c.go_on-draws.result c.args.arg2.now _ _ c.note.ensures.table refl (ap (option_map stamp_micros) c.go_on-draws.ensures.last ∙ ap Some stamp)
     c.saturating_add-self.ensures (c.go_on-draws.ensures.due ∙ ap (is_due _) stamp) c.in-Ok.ensures.noted (written_front c.draw_if.result _ _ failed c.draw_if.ensures.puts.front)

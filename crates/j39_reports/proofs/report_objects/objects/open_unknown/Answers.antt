@@ -1,0 +1,20 @@
+-- The group doesn't stand in the block.
+use Rattle.j39_reports.proofs.Common.{◌≡◌, ◌∙◌, ◌++◌, List, ℕ, ap, append_assoc, arith, codes, decimal, option_map, name_raw, pgn_raw, refl, stamp_micros, before_end, before_then}
+use Rattle.j39_reports.specs.EntryObject.{group_member, moment_members, opening_text, sender_members}
+use Rattle.j39_reports.proofs.report_objects.objects.open_unknown.Goals as goal
+
+parts : (moment sender number : List ℕ) → (moment ++ sender) ++ (codes ",\"pgn\":" ++ number) ≡ moment ++ sender ++ codes ",\"pgn\":" ++ number
+parts moment sender number = simp append_assoc refl
+
+pub returns : goal.returns
+unfolding opening_text
+returns c =
+    let heard = c.args.heard.now in
+    let name = option_map name_raw heard.name in
+    let moment = moment_members (stamp_micros heard.message.stamp) in
+    let sender = sender_members heard.message.source heard.destination name in
+    let called = option_map (λ text. text.now) c.group_name.result in
+    ap (λ t. t ++ group_member called) (before_end _ _ 192 _ _ (let whole = c.args.opening.now.whole in omega (arith, whole)) (before_then _ _ _ _ _ _ _ _ (before_then _ _ _ _ _ _ _ _
+    c.digits_before-number.ensures.written c.bytes_before-key.ensures.written) c.heard_before-opening.ensures)
+    ∙ parts moment sender (decimal c.raw.result))
+    ∙ (λ i. (moment ++ sender ++ codes ",\"pgn\":" ++ decimal (c.raw.ensures.value i)) ++ group_member (c.group_name.ensures i))
