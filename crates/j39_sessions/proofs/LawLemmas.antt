@@ -86,12 +86,12 @@ own_fits : (a : ℕ) (o : Option Session) → IsFrom a o → Fits (λ b. b ≡ a
 own_fits a o h = grind (arith, h)
 
 -- a session behind a frame of a source is of that source
-step_from : (own : ℕ) (room : Bool) (f : FrameRecord) (now : ℕ) (o : Option Session) (since : ℕ) (name : Option ℕ) → IsFrom (source_of f.id) o
-    → IsFrom (source_of f.id) (option_map (session_by since name) (step_at own room f now o).after.session)
+step_from : (own most : ℕ) (room : Bool) (f : FrameRecord) (now : ℕ) (o : Option Session) (since : ℕ) (name : Option ℕ) → IsFrom (source_of f.id) o
+    → IsFrom (source_of f.id) (option_map (session_by since name) (step_at own most room f now o).after.session)
 unfolding recv_step frames.source_of
-step_from own room f now o since name h =
-    made_from (step_at own room f now o).after.session
-    (fits_signal (λ b. b ≡ source_of f.id) (source_of f.id) own (said_to own (shown own (receiving o) f)) now room (receiving o) (λ e. refl) (own_fits (source_of f.id) o h))
+step_from own most room f now o since name h =
+    made_from (step_at own most room f now o).after.session
+    (fits_signal (λ b. b ≡ source_of f.id) (source_of f.id) own (said_to own (shown own most (receiving o) f)) now room (receiving o) (λ e. refl) (own_fits (source_of f.id) o h))
   where
     made_from : (r : Option ReceptionRecord) → Fits (λ b. b ≡ source_of f.id) r → IsFrom (source_of f.id) (option_map (session_by since name) r)
     made_from None k = tt
@@ -112,7 +112,7 @@ module _ (s : SessionsRecord) (now : ℕ) (name : Option ℕ) (f : FrameRecord) 
   new = option_map (session_by (since_by now (of a s.sessions)) (name_by name (of a s.sessions))) (step_in now f s).after.session
 
   new_from : IsFrom a new
-  new_from = step_from s.own (has_room a s) f now (of a s.sessions) (since_by now (of a s.sessions)) (name_by name (of a s.sessions)) (of_from a s.sessions)
+  new_from = step_from s.own s.most (has_room a s) f now (of a s.sessions) (since_by now (of a s.sessions)) (name_by name (of a s.sessions)) (of_from a s.sessions)
 
   pub apart_heard : AreApart s.sessions → AreApart (hears now name f s).sessions
   apart_heard h = cond_both (is_of_session s.own f) (stepped a now name f (of a s.sessions) (step_in now f s) s) s (λ (x : SessionsRecord). AreApart x.sessions)
@@ -183,29 +183,30 @@ apart_ticked own now (x ∷ xs) h = apart_front (from x) (session_ticked own now
 
 -- ---- over all
 
-pub own_is : (own boxes : ℕ) (E : List Event) → ((after own boxes E).own ≡ own) × ((after own boxes E).boxes ≡ boxes)
-own_is own boxes [] = (refl, refl)
-own_is own boxes (Hears now name f ∷ E) =
-    let h = own_is own boxes E in
-    let s = after own boxes E in
-    cond_both (is_of_session s.own f) (stepped (source_of f.id) now name f (of (source_of f.id) s.sessions) (step_in now f s) s) s (λ (x : SessionsRecord). (x.own ≡ own) × (x.boxes ≡ boxes)) (λ e. h) (λ e. h)
-own_is own boxes (event ∷ E) = own_is own boxes E
+pub own_is : (own most boxes : ℕ) (E : List Event) → ((after own most boxes E).own ≡ own) × ((after own most boxes E).boxes ≡ boxes) × ((after own most boxes E).most ≡ most)
+own_is own most boxes [] = (refl, refl, refl)
+own_is own most boxes (Hears now name f ∷ E) =
+    let h = own_is own most boxes E in
+    let s = after own most boxes E in
+    cond_both (is_of_session s.own f) (stepped (source_of f.id) now name f (of (source_of f.id) s.sessions) (step_in now f s) s) s (λ (x : SessionsRecord). (x.own ≡ own) × (x.boxes ≡ boxes) × (x.most ≡ most)) (λ e. h) (λ e. h)
+own_is own most boxes (event ∷ E) = own_is own most boxes E
 
-pub each_apart : (own boxes : ℕ) (E : List Event) → AreApart (after own boxes E).sessions
-each_apart own boxes [] = tt
-each_apart own boxes (Hears now name f ∷ E) = apart_heard (after own boxes E) now name f (each_apart own boxes E)
-each_apart own boxes (Ticks now ∷ E) = apart_ticked (after own boxes E).own now (after own boxes E).sessions (each_apart own boxes E)
-each_apart own boxes (Leaves gone holder ∷ E) = apart_filter (λ x. not (is_left gone holder x)) (after own boxes E).sessions (each_apart own boxes E)
-each_apart own boxes (Loses ∷ E) = tt
-each_apart own boxes (event ∷ E) = each_apart own boxes E
+pub each_apart : (own most boxes : ℕ) (E : List Event) → AreApart (after own most boxes E).sessions
+each_apart own most boxes [] = tt
+each_apart own most boxes (Hears now name f ∷ E) = apart_heard (after own most boxes E) now name f (each_apart own most boxes E)
+each_apart own most boxes (Ticks now ∷ E) = apart_ticked (after own most boxes E).own now (after own most boxes E).sessions (each_apart own most boxes E)
+each_apart own most boxes (Leaves gone holder ∷ E) = apart_filter (λ x. not (is_left gone holder x)) (after own most boxes E).sessions (each_apart own most boxes E)
+each_apart own most boxes (Loses ∷ E) = tt
+each_apart own most boxes (event ∷ E) = each_apart own most boxes E
 
-pub of_its : (own boxes now : ℕ) (name : Option ℕ) (f : FrameRecord) (E : List Event) (o : Option Session) → is_of_session own f ≡ true → o ≡ of (source_of f.id) (after own boxes E).sessions
-    → of (source_of f.id) (hears now name f (after own boxes E)).sessions
-    ≡ option_map (session_by (since_by now o) (name_by name o)) (step_at own (has_room (source_of f.id) (after own boxes E)) f now o).after.session
-of_its own boxes now name f E o e i =
-    let h = (own_is own boxes E).0 in
-    its_heard (after own boxes E) now name f (ap (λ (n : ℕ). is_of_session n f) h ∙ e) (each_apart own boxes E)
-    ∙ λ j. option_map (session_by (since_by now (sym i j)) (name_by name (sym i j))) (step_at (h j) (has_room (source_of f.id) (after own boxes E)) f now (sym i j)).after.session
+pub of_its : (own most boxes now : ℕ) (name : Option ℕ) (f : FrameRecord) (E : List Event) (o : Option Session) → is_of_session own f ≡ true → o ≡ of (source_of f.id) (after own most boxes E).sessions
+    → of (source_of f.id) (hears now name f (after own most boxes E)).sessions
+    ≡ option_map (session_by (since_by now o) (name_by name o)) (step_at own most (has_room (source_of f.id) (after own most boxes E)) f now o).after.session
+of_its own most boxes now name f E o e i =
+    let h = (own_is own most boxes E).0 in
+    let k = (own_is own most boxes E).2 in
+    its_heard (after own most boxes E) now name f (ap (λ (n : ℕ). is_of_session n f) h ∙ e) (each_apart own most boxes E)
+    ∙ λ j. option_map (session_by (since_by now (sym i j)) (name_by name (sym i j))) (step_at (h j) (k j) (has_room (source_of f.id) (after own most boxes E)) f now (sym i j)).after.session
 
 -- ---- the boxes
 
@@ -284,22 +285,22 @@ fit_heard s now name f h =
         omega (arith, sums, r, c, l)
     counted false e false g =
         let r = rest_count a s.sessions ∙ ap (λ (t : Bool). length (others a s.sessions) + (if t then 1 else 0)) e in
-        let q = refuses_step (record { own = s.own; session = receiving o }) (shown s.own (receiving o) f) now (none_open o e) in
+        let q = refuses_step (record { own = s.own; session = receiving o }) (shown s.own s.most (receiving o) f) now (none_open o e) in
         let room : has_room a s ≡ false = (λ i. e i || g i) in
-        let c = count_none P Q x.after.session x.delivers (ap (λ (b : Bool). (step_at s.own b f now o).after.session) room ∙ q.0) (ap (λ (b : Bool). (step_at s.own b f now o).delivers) room ∙ q.1) in
+        let c = count_none P Q x.after.session x.delivers (ap (λ (b : Bool). (step_at s.own s.most b f now o).after.session) room ∙ q.0) (ap (λ (b : Bool). (step_at s.own s.most b f now o).delivers) room ∙ q.1) in
         omega (arith, sums, r, c, h)
 
-pub all_fit : (own boxes : ℕ) (E : List Event) → length (after own boxes E).sessions + length (after own boxes E).waits ≤ boxes
-all_fit own boxes [] = omega arith
-all_fit own boxes (Hears now name f ∷ E) =
-    let b = (own_is own boxes E).1 in
-    subst (λ (n : ℕ). length (hears now name f (after own boxes E)).sessions + length (hears now name f (after own boxes E)).waits ≤ n) b
-    (fit_heard (after own boxes E) now name f (subst (λ (n : ℕ). length (after own boxes E).sessions + length (after own boxes E).waits ≤ n) (sym b) (all_fit own boxes E)))
-all_fit own boxes (Ticks now ∷ E) = let h = all_fit own boxes E in let k = fit_ticked (after own boxes E).own now (after own boxes E).sessions in omega (arith, h, k)
-all_fit own boxes (Leaves gone holder ∷ E) = let h = all_fit own boxes E in let k = fit_filter (λ x. not (is_left gone holder x)) (after own boxes E).sessions in omega (arith, h, k)
-all_fit own boxes (Loses ∷ E) = let h = all_fit own boxes E in omega (arith, h)
-all_fit own boxes (Releases ∷ E) = let h = all_fit own boxes E in let k = length-drop 1 (after own boxes E).waits in omega (arith, h, k)
-all_fit own boxes (Says ∷ E) = all_fit own boxes E
+pub all_fit : (own most boxes : ℕ) (E : List Event) → length (after own most boxes E).sessions + length (after own most boxes E).waits ≤ boxes
+all_fit own most boxes [] = omega arith
+all_fit own most boxes (Hears now name f ∷ E) =
+    let b = (own_is own most boxes E).1 in
+    subst (λ (n : ℕ). length (hears now name f (after own most boxes E)).sessions + length (hears now name f (after own most boxes E)).waits ≤ n) b
+    (fit_heard (after own most boxes E) now name f (subst (λ (n : ℕ). length (after own most boxes E).sessions + length (after own most boxes E).waits ≤ n) (sym b) (all_fit own most boxes E)))
+all_fit own most boxes (Ticks now ∷ E) = let h = all_fit own most boxes E in let k = fit_ticked (after own most boxes E).own now (after own most boxes E).sessions in omega (arith, h, k)
+all_fit own most boxes (Leaves gone holder ∷ E) = let h = all_fit own most boxes E in let k = fit_filter (λ x. not (is_left gone holder x)) (after own most boxes E).sessions in omega (arith, h, k)
+all_fit own most boxes (Loses ∷ E) = let h = all_fit own most boxes E in omega (arith, h)
+all_fit own most boxes (Releases ∷ E) = let h = all_fit own most boxes E in let k = length-drop 1 (after own most boxes E).waits in omega (arith, h, k)
+all_fit own most boxes (Says ∷ E) = all_fit own most boxes E
 
 -- ---- time
 
@@ -322,12 +323,12 @@ its_ticked own now b (x ∷ xs) h = go (nat_eq b (from x)) refl (its_ticked own 
         of_append b (listed (session_ticked own now x)) (sessions_ticked own now xs)
         (listed_from (from x) b (session_ticked own now x) (ticked_from own now x) (λ z. (let y = sym e ∙ eq-eqb b (from x) (sym z) in absurd (cc)))) ∙ k
 
-pub ticked_alone : (own boxes now b : ℕ) (E : List Event) → of b (after own boxes (Ticks now ∷ E)).sessions ≡ ticked_of own now (of b (after own boxes E).sessions)
-ticked_alone own boxes now b E =
-    its_ticked (after own boxes E).own now b (after own boxes E).sessions (each_apart own boxes E) ∙ ap (λ (n : ℕ). ticked_of n now (of b (after own boxes E).sessions)) (own_is own boxes E).0
+pub ticked_alone : (own most boxes now b : ℕ) (E : List Event) → of b (after own most boxes (Ticks now ∷ E)).sessions ≡ ticked_of own now (of b (after own most boxes E).sessions)
+ticked_alone own most boxes now b E =
+    its_ticked (after own most boxes E).own now b (after own most boxes E).sessions (each_apart own most boxes E) ∙ ap (λ (n : ℕ). ticked_of n now (of b (after own most boxes E).sessions)) (own_is own most boxes E).0
 
-pub not_over : (own boxes now b : ℕ) (E : List Event) (y : Session) → of b (after own boxes (Ticks now ∷ E)).sessions ≡ Some y → now ≤ y.since + longest y.reception.message.packets
-not_over own boxes now b E y e = go (of b (after own boxes E).sessions) (sym (ticked_alone own boxes now b E) ∙ e)
+pub not_over : (own most boxes now b : ℕ) (E : List Event) (y : Session) → of b (after own most boxes (Ticks now ∷ E)).sessions ≡ Some y → now ≤ y.since + longest y.reception.message.packets
+not_over own most boxes now b E y e = go (of b (after own most boxes E).sessions) (sym (ticked_alone own most boxes now b E) ∙ e)
   where
     go : (o : Option Session) → ticked_of own now o ≡ Some y → now ≤ y.since + longest y.reception.message.packets
     go None i = absurd (cc)
@@ -341,12 +342,12 @@ kept_ticked own now x y e = go (tick_of own now x).after.session e
     go None i = absurd (cc)
     go (Some r) i = let z : session_by x.since x.name r ≡ y = cc in (sym (ap (λ (u : Session). u.since) z), sym (ap (λ (u : Session). u.name) z))
 
-pub kept_heard : (own boxes now : ℕ) (name : Option ℕ) (f : FrameRecord) (E : List Event) (y : Session) → is_of_session own f ≡ true
-    → of (source_of f.id) (hears now name f (after own boxes E)).sessions ≡ Some y
-    → (y.since ≡ since_by now (of (source_of f.id) (after own boxes E).sessions)) × (y.name ≡ name_by name (of (source_of f.id) (after own boxes E).sessions))
-kept_heard own boxes now name f E y e g =
-    let o = of (source_of f.id) (after own boxes E).sessions in
-    go o (step_at own (has_room (source_of f.id) (after own boxes E)) f now o).after.session (sym (of_its own boxes now name f E o e refl) ∙ g)
+pub kept_heard : (own most boxes now : ℕ) (name : Option ℕ) (f : FrameRecord) (E : List Event) (y : Session) → is_of_session own f ≡ true
+    → of (source_of f.id) (hears now name f (after own most boxes E)).sessions ≡ Some y
+    → (y.since ≡ since_by now (of (source_of f.id) (after own most boxes E).sessions)) × (y.name ≡ name_by name (of (source_of f.id) (after own most boxes E).sessions))
+kept_heard own most boxes now name f E y e g =
+    let o = of (source_of f.id) (after own most boxes E).sessions in
+    go o (step_at own most (has_room (source_of f.id) (after own most boxes E)) f now o).after.session (sym (of_its own most boxes now name f E o e refl) ∙ g)
   where
     go : (o : Option Session) (r : Option ReceptionRecord) → option_map (session_by (since_by now o) (name_by name o)) r ≡ Some y → (y.since ≡ since_by now o) × (y.name ≡ name_by name o)
     go o None i = absurd (cc)
@@ -354,11 +355,11 @@ kept_heard own boxes now name f E y e g =
 
 -- ---- which messages
 
-pub in_order : (own boxes : ℕ) (E : List Event) → delivered own boxes E ≡ released own boxes E ++ (after own boxes E).waits
-in_order own boxes [] = refl
-in_order own boxes (Hears now name f ∷ E) =
-    ap (λ xs. xs ++ listed (option_map (λ m. (f.stamp, m)) (made now f (after own boxes E)))) (in_order own boxes E)
-    ∙ (append_assoc (released own boxes E) (after own boxes E).waits _ ∙ ap (λ xs. released own boxes E ++ xs) (sym (waits_made (after own boxes E) now name f)))
+pub in_order : (own most boxes : ℕ) (E : List Event) → delivered own most boxes E ≡ released own most boxes E ++ (after own most boxes E).waits
+in_order own most boxes [] = refl
+in_order own most boxes (Hears now name f ∷ E) =
+    ap (λ xs. xs ++ listed (option_map (λ m. (f.stamp, m)) (made now f (after own most boxes E)))) (in_order own most boxes E)
+    ∙ (append_assoc (released own most boxes E) (after own most boxes E).waits _ ∙ ap (λ xs. released own most boxes E ++ xs) (sym (waits_made (after own most boxes E) now name f)))
   where
     waits_made : (s : SessionsRecord) (now : ℕ) (name : Option ℕ) (f : FrameRecord) → (hears now name f s).waits ≡ s.waits ++ listed (option_map (λ m. (f.stamp, m)) (made now f s))
     waits_made s now name f = go (is_of_session s.own f)
@@ -367,10 +368,10 @@ in_order own boxes (Hears now name f ∷ E) =
             ≡ s.waits ++ listed (option_map (λ m. (f.stamp, m)) (if b then (step_in now f s).delivers else None))
         go true = refl
         go false = sym (append-nil s.waits)
-in_order own boxes (Releases ∷ E) =
-    in_order own boxes E ∙ (ap (λ xs. released own boxes E ++ xs) (sym (first_rest (after own boxes E).waits)) ∙ sym (append_assoc (released own boxes E) (take 1 (after own boxes E).waits) (drop 1 (after own boxes E).waits)))
+in_order own most boxes (Releases ∷ E) =
+    in_order own most boxes E ∙ (ap (λ xs. released own most boxes E ++ xs) (sym (first_rest (after own most boxes E).waits)) ∙ sym (append_assoc (released own most boxes E) (take 1 (after own most boxes E).waits) (drop 1 (after own most boxes E).waits)))
   where
     first_rest : (xs : List (ℕ × MessageRecord)) → take 1 xs ++ drop 1 xs ≡ xs
     first_rest [] = refl
     first_rest (x ∷ xs) = refl
-in_order own boxes (event ∷ E) = in_order own boxes E
+in_order own most boxes (event ∷ E) = in_order own most boxes E

@@ -21,9 +21,9 @@ step Loses s = loses s
 step Releases s = releases s
 step Says s = says s
 
-abbrev pub after : ℕ → ℕ → List Event → SessionsRecord
-after own boxes [] = none_of own boxes
-after own boxes (event ∷ E) = step event (after own boxes E)
+abbrev pub after : ℕ → ℕ → ℕ → List Event → SessionsRecord
+after own most boxes [] = none_of own most boxes
+after own most boxes (event ∷ E) = step event (after own most boxes E)
 
 abbrev pub heard : List Event → List FrameRecord
 heard [] = []
@@ -31,15 +31,15 @@ heard (Hears now name f ∷ E) = heard E ++ f ∷ []
 heard (event ∷ E) = heard E
 
 -- the messages that were whole, each with the moment of its last packet, and those that were released
-abbrev pub delivered : ℕ → ℕ → List Event → List (ℕ × MessageRecord)
-delivered own boxes [] = []
-delivered own boxes (Hears now name f ∷ E) = delivered own boxes E ++ listed (option_map (λ m. (f.stamp, m)) (made now f (after own boxes E)))
-delivered own boxes (event ∷ E) = delivered own boxes E
+abbrev pub delivered : ℕ → ℕ → ℕ → List Event → List (ℕ × MessageRecord)
+delivered own most boxes [] = []
+delivered own most boxes (Hears now name f ∷ E) = delivered own most boxes E ++ listed (option_map (λ m. (f.stamp, m)) (made now f (after own most boxes E)))
+delivered own most boxes (event ∷ E) = delivered own most boxes E
 
-abbrev pub released : ℕ → ℕ → List Event → List (ℕ × MessageRecord)
-released own boxes [] = []
-released own boxes (Releases ∷ E) = released own boxes E ++ take 1 (after own boxes E).waits
-released own boxes (event ∷ E) = released own boxes E
+abbrev pub released : ℕ → ℕ → ℕ → List Event → List (ℕ × MessageRecord)
+released own most boxes [] = []
+released own most boxes (Releases ∷ E) = released own most boxes E ++ take 1 (after own most boxes E).waits
+released own most boxes (event ∷ E) = released own most boxes E
 
 -- what a tick leaves of the session of a source
 abbrev pub ticked_of : ℕ → ℕ → Option Session → Option Session

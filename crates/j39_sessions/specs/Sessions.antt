@@ -1,6 +1,6 @@
 -- Messages that come in packets to one address (J1939-21, 5.10.3), one from each source at a time.
 use Rattle.std.specs.Prelude.{if◌then◌else◌, ◌&&◌, ◌*◌, ◌++◌, ◌+◌, ◌==◌, ◌||◌, ◌∷◌, ◌≡◌}
-use Rattle.j39_sessions.specs.Common.{[], Abort, answers, Bool, drop, false, filter, find, FrameRecord, Heard, is_there, length, limit_of, List, list_any, MessageRecord, min, nat_eq, nat_lt, None, not, null_address, Option, option_map, Packet, pgn_of, ps_of, ReceptionRecord, recv_step, RecvResult, result_of, said_to, Signal, Some, source_of, Tick, timeout, timer_t2, ToSend, transport_control_group, transport_data_group, true, ℕ}
+use Rattle.j39_sessions.specs.Common.{[], Abort, answers, Bool, drop, false, filter, find, FrameRecord, Heard, is_there, length, limit_of, List, list_any, MessageRecord, min, nat_eq, nat_lt, None, not, null_address, Option, option_map, Packet, pgn_of, ps_of, ReceptionRecord, recv_step, RecvResult, request_to_send, result_of, said_to, Signal, slice_index, slice_set, Some, source_of, Tick, timeout, timer_t2, ToSend, transport_control_group, transport_data_group, true, ℕ}
 
 -- what its receiver knows of it (J1939-21, 5.10.3), the time since which its source has one open, and the NAME that held its source then
 pub record Session : Type 0 where
@@ -16,18 +16,19 @@ pub record Reply : Type 0 where
   pub to : ℕ
   pub bytes : List ℕ
 
--- those of an address: the open sessions, of each source one; the whole messages that wait for the program, the oldest first, each with
+-- those of an address, which grants so many packets at once at most: the open sessions, of each source one; the whole messages that wait for the program, the oldest first, each with
 -- the moment of its last packet, and the NAMEs that held their sources; and what waits to be said
 pub record SessionsRecord : Type 0 where
   pub own : ℕ
+  pub most : ℕ
   pub boxes : ℕ
   pub sessions : List Session
   pub waits : List (ℕ × MessageRecord)
   pub senders : List (Option ℕ)
   pub replies : List Reply
 
-abbrev pub none_of : ℕ → ℕ → SessionsRecord
-none_of own boxes = record { own = own; boxes = boxes; sessions = []; waits = []; senders = []; replies = [] }
+abbrev pub none_of : ℕ → ℕ → ℕ → SessionsRecord
+none_of own most boxes = record { own = own; most = most; boxes = boxes; sessions = []; waits = []; senders = []; replies = [] }
 
 -- the session of a source, and those of others
 abbrev pub of : ℕ → List Session → Option Session
@@ -87,16 +88,28 @@ strays None o = false
 strays (Some k) None = false
 strays (Some k) (Some r) = not (k == r.message.count + 1 || k == r.granted)
 
--- what the receiver is shown: of such a packet nothing that it says (own)
-abbrev pub shown : ℕ → Option ReceptionRecord → FrameRecord → FrameRecord
-shown own o f = record { stamp = f.stamp; id = f.id; bytes = if strays (number_in (said_to own f)) o then [] else f.bytes }
+-- an RTS (J1939-21, 5.10.3.1), by its first byte
+abbrev pub is_request : FrameRecord → Bool
+is_request f = nat_eq (pgn_of f.id) transport_control_group && nat_eq (slice_index f.bytes 0) request_to_send
+
+-- how many packets it takes at once, of those that may be granted; 0 sets no limit
+abbrev pub fewest : ℕ → ℕ → ℕ
+fewest most asked = if nat_eq asked 0 then most else min asked most
+
+-- the bytes of a frame: an RTS as one whose sender takes no more at once
+abbrev pub narrowed : ℕ → FrameRecord → List ℕ
+narrowed most f = if is_request f then slice_set f.bytes 4 (fewest most (slice_index f.bytes 4)) else f.bytes
+
+-- what the receiver is shown: of a packet that strays nothing that it says (own), and of an RTS that no more may be granted
+abbrev pub shown : ℕ → ℕ → Option ReceptionRecord → FrameRecord → FrameRecord
+shown own most o f = record { stamp = f.stamp; id = f.id; bytes = if strays (number_in (said_to own f)) o then [] else narrowed most f }
 
 abbrev pub receiving : Option Session → Option ReceptionRecord
 receiving o = option_map (λ x. x.reception) o
 
 -- the step of the receiver of its source's session, or of one with no session (J1939-21, 5.10.3), where its message has room or not
-abbrev pub step_at : ℕ → Bool → FrameRecord → ℕ → Option Session → RecvResult
-step_at own room f now o = recv_step (record { own = own; session = receiving o }) (Heard (shown own (receiving o) f)) now room
+abbrev pub step_at : ℕ → ℕ → Bool → FrameRecord → ℕ → Option Session → RecvResult
+step_at own most room f now o = recv_step (record { own = own; session = receiving o }) (Heard (shown own most (receiving o) f)) now room
 
 -- one in place of an open one keeps its account and its NAME
 abbrev pub since_by : ℕ → Option Session → ℕ
@@ -114,6 +127,7 @@ session_by since name r = record { reception = r; since = since; name = name }
 abbrev pub put_in : ℕ → ℕ → Option ℕ → FrameRecord → RecvResult → SessionsRecord → SessionsRecord
 put_in a since name f x s = record {
   own = s.own;
+  most = s.most;
   boxes = s.boxes;
   sessions = s.sessions ++ listed (option_map (session_by since name) x.after.session);
   waits = s.waits ++ listed (option_map (λ m. (f.stamp, m)) x.delivers);
@@ -126,7 +140,7 @@ abbrev pub stepped : ℕ → ℕ → Option ℕ → FrameRecord → Option Sessi
 stepped a now name f o x s = put_in a (since_by now o) (name_by name o) f x (record s { sessions = others a s.sessions })
 
 abbrev pub step_in : ℕ → FrameRecord → SessionsRecord → RecvResult
-step_in now f s = step_at s.own (has_room (source_of f.id) s) f now (of (source_of f.id) s.sessions)
+step_in now f s = step_at s.own s.most (has_room (source_of f.id) s) f now (of (source_of f.id) s.sessions)
 
 -- a frame is heard whose source this NAME holds: what is of no session to the address changes nothing
 abbrev pub hears : ℕ → Option ℕ → FrameRecord → SessionsRecord → SessionsRecord
@@ -169,6 +183,7 @@ replies_ticked own now (x ∷ xs) replies = replies_ticked own now xs (replied (
 abbrev pub ticks : ℕ → SessionsRecord → SessionsRecord
 ticks now s = record {
   own = s.own;
+  most = s.most;
   boxes = s.boxes;
   sessions = sessions_ticked s.own now s.sessions;
   waits = s.waits;
@@ -213,6 +228,7 @@ unsaid (x ∷ xs) replies = unsaid xs (without (from x) replies)
 abbrev pub leaves : Option ℕ → (ℕ → Option ℕ) → SessionsRecord → SessionsRecord
 leaves gone holder s = record {
   own = s.own;
+  most = s.most;
   boxes = s.boxes;
   sessions = filter (λ x. not (is_left gone holder x)) s.sessions;
   waits = s.waits;
@@ -222,17 +238,17 @@ leaves gone holder s = record {
 
 -- the address is lost: nothing is said from it
 abbrev pub loses : SessionsRecord → SessionsRecord
-loses s = record { own = s.own; boxes = s.boxes; sessions = []; waits = s.waits; senders = s.senders; replies = [] }
+loses s = record { own = s.own; most = s.most; boxes = s.boxes; sessions = []; waits = s.waits; senders = s.senders; replies = [] }
 
 -- ---- the program, and the bus
 
 -- the oldest message that waits is released
 abbrev pub releases : SessionsRecord → SessionsRecord
-releases s = record { own = s.own; boxes = s.boxes; sessions = s.sessions; waits = drop 1 s.waits; senders = drop 1 s.senders; replies = s.replies }
+releases s = record { own = s.own; most = s.most; boxes = s.boxes; sessions = s.sessions; waits = drop 1 s.waits; senders = drop 1 s.senders; replies = s.replies }
 
 -- the first reply is taken
 abbrev pub says : SessionsRecord → SessionsRecord
-says s = record { own = s.own; boxes = s.boxes; sessions = s.sessions; waits = s.waits; senders = s.senders; replies = drop 1 s.replies }
+says s = record { own = s.own; most = s.most; boxes = s.boxes; sessions = s.sessions; waits = s.waits; senders = s.senders; replies = drop 1 s.replies }
 
 -- a session of this source, and of this group, is open
 abbrev pub is_of : ℕ → ℕ → Session → Bool

@@ -12,6 +12,7 @@ said_by x = record { to = x.to; bytes = x.bytes }
 abbrev pub sessions_of : Sessions → SessionsRecord
 sessions_of x = record {
   own = x.own;
+  most = x.most;
   boxes = length x.current.items + length x.whole.items + length x.free.items;
   sessions = map in_box x.current.items;
   waits = map kept_in x.whole.items;

@@ -1,5 +1,6 @@
 //! What sessions promise over all that they went through.
 ghost use Rattle.std.specs.Prelude.{◌≡◌, ◌≢◌, ◌⊎◌, ◌+◌, ◌++◌, ◌<◌, ◌≤◌, ◌∷◌, [], ℕ, List, Option, Some, None, IsTrue, length, suc, take, false, true, nat_lt};
+ghost use Rattle.std.specs.List.{All};
 ghost use Rattle.std.specs.Option.{option_map};
 ghost use Rattle.j39_frame.specs.Frame.{FrameRecord};
 ghost use Rattle.j39_frame.specs.Identifier.{source_of};
@@ -15,8 +16,8 @@ ghost use Rattle.j39_sessions.specs.Sessions.{AreApart, Session, SessionsRecord,
 /// Of each source at most one is open, and of the boxes no more are in use than there are.
 #[tactic(auto, using(crate::proofs::LawLemmas::each_apart, crate::proofs::LawLemmas::all_fit))]
 pub fn one_of_each_source()
-    ensures one { (own boxes : ℕ) (E : List Event) → AreApart (after own boxes E).sessions }
-    ensures fit { (own boxes : ℕ) (E : List Event) → length (after own boxes E).sessions + length (after own boxes E).waits ≤ boxes }
+    ensures one { (own most boxes : ℕ) (E : List Event) → AreApart (after own most boxes E).sessions }
+    ensures fit { (own most boxes : ℕ) (E : List Event) → length (after own most boxes E).sessions + length (after own most boxes E).waits ≤ boxes }
 {}
 
 /// A frame of one source leaves the session of each other as it is, and what is to be said to it.
@@ -31,70 +32,76 @@ pub fn strangers()
 /// To its own session a frame does what it does to a receiver that has no other (J1939-21, 5.10.3), where its message has room.
 #[tactic(auto, using(crate::proofs::LawLemmas::of_its))]
 pub fn as_if_alone()
-    ensures { (own boxes now : ℕ) (name : Option ℕ) (f : FrameRecord) (E : List Event) (o : Option Session) → IsTrue (is_of_session own f)
-        → o ≡ of (source_of f.id) (after own boxes E).sessions
-        → of (source_of f.id) (hears now name f (after own boxes E)).sessions
-        ≡ option_map (session_by (since_by now o) (name_by name o)) (step_at own (has_room (source_of f.id) (after own boxes E)) f now o).after.session }
+    ensures { (own most boxes now : ℕ) (name : Option ℕ) (f : FrameRecord) (E : List Event) (o : Option Session) → IsTrue (is_of_session own f)
+        → o ≡ of (source_of f.id) (after own most boxes E).sessions
+        → of (source_of f.id) (hears now name f (after own most boxes E)).sessions
+        ≡ option_map (session_by (since_by now o) (name_by name o)) (step_at own most (has_room (source_of f.id) (after own most boxes E)) f now o).after.session }
 {}
 
 /// So does a tick to each of them; and behind it each is at most (n + 3) * 1,250 ms old, of a message of n packets (own).
 #[tactic(auto, using(crate::proofs::LawLemmas::ticked_alone, crate::proofs::LawLemmas::not_over))]
 pub fn ticks_alone()
-    ensures each { (own boxes now a : ℕ) (E : List Event)
-        → of a (after own boxes (Ticks now ∷ E)).sessions ≡ ticked_of own now (of a (after own boxes E).sessions) }
-    ensures over { (own boxes now a : ℕ) (E : List Event) (x : Session) → of a (after own boxes (Ticks now ∷ E)).sessions ≡ Some x
+    ensures each { (own most boxes now a : ℕ) (E : List Event)
+        → of a (after own most boxes (Ticks now ∷ E)).sessions ≡ ticked_of own now (of a (after own most boxes E).sessions) }
+    ensures over { (own most boxes now a : ℕ) (E : List Event) (x : Session) → of a (after own most boxes (Ticks now ∷ E)).sessions ≡ Some x
         → now ≤ x.since + longest x.reception.message.packets }
 {}
 
 /// The messages that were whole are released in their order, each once, or wait.
 #[tactic(auto, using(crate::proofs::LawLemmas::in_order))]
 pub fn in_order()
-    ensures { (own boxes : ℕ) (E : List Event) → delivered own boxes E ≡ released own boxes E ++ (after own boxes E).waits }
+    ensures { (own most boxes : ℕ) (E : List Event) → delivered own most boxes E ≡ released own most boxes E ++ (after own most boxes E).waits }
 {}
 
 /// A session has its account, and its NAME, from the frame by which its source has one open on: no other in its place has another.
 #[tactic(auto, using(crate::proofs::LawLemmas::kept_heard, crate::proofs::LawLemmas::kept_ticked))]
 pub fn accounts_run()
-    ensures heard { (own boxes now : ℕ) (name : Option ℕ) (f : FrameRecord) (E : List Event) (x : Session) → IsTrue (is_of_session own f)
-        → of (source_of f.id) (hears now name f (after own boxes E)).sessions ≡ Some x
-        → (x.since ≡ since_by now (of (source_of f.id) (after own boxes E).sessions))
-        × (x.name ≡ name_by name (of (source_of f.id) (after own boxes E).sessions)) }
+    ensures heard { (own most boxes now : ℕ) (name : Option ℕ) (f : FrameRecord) (E : List Event) (x : Session) → IsTrue (is_of_session own f)
+        → of (source_of f.id) (hears now name f (after own most boxes E)).sessions ≡ Some x
+        → (x.since ≡ since_by now (of (source_of f.id) (after own most boxes E).sessions))
+        × (x.name ≡ name_by name (of (source_of f.id) (after own most boxes E).sessions)) }
     ensures ticked { (own now : ℕ) (x y : Session) → session_ticked own now x ≡ Some y → (y.since ≡ x.since) × (y.name ≡ x.name) }
 {}
 
 /// What is whole was heard: an RTS of it, from its source to the address, and behind it its packets, in order.
 #[tactic(auto, using(crate::proofs::HandedLemmas::was_handed))]
 pub fn was_heard()
-    ensures { (own boxes now : ℕ) (name : Option ℕ) (f : FrameRecord) (E : List Event) (m : MessageRecord) → made now f (after own boxes E) ≡ Some m
+    ensures { (own most boxes now : ℕ) (name : Option ℕ) (f : FrameRecord) (E : List Event) (m : MessageRecord) → made now f (after own most boxes E) ≡ Some m
         → WasHanded own (heard (Hears now name f ∷ E)) m }
 {}
 
 /// Where as many boxes as there are hold sessions of others, or messages that wait, an RTS is refused (abort 2), and nothing else is.
 #[tactic(auto, using(crate::proofs::HandedLemmas::refuses))]
 pub fn refused_where_full()
-    ensures { (own boxes now size packets most pgn : ℕ) (name : Option ℕ) (f : FrameRecord) (E : List Event) → is_of_session own f ≡ true
-        → said_to own f ≡ Some (RequestToSend size packets most pgn) → of (source_of f.id) (after own boxes E).sessions ≡ None
-        → nat_lt (length (after own boxes E).sessions + length (after own boxes E).waits) boxes ≡ false
-        → hears now name f (after own boxes E)
-        ≡ record (after own boxes E) { replies = replied (source_of f.id) (Some (written own (source_of f.id) (Abort 2 pgn))) (after own boxes E).replies } }
+    ensures { (own most boxes now size packets asked pgn : ℕ) (name : Option ℕ) (f : FrameRecord) (E : List Event) → is_of_session own f ≡ true
+        → said_to own f ≡ Some (RequestToSend size packets asked pgn) → of (source_of f.id) (after own most boxes E).sessions ≡ None
+        → nat_lt (length (after own most boxes E).sessions + length (after own most boxes E).waits) boxes ≡ false
+        → hears now name f (after own most boxes E)
+        ≡ record (after own most boxes E) { replies = replied (source_of f.id) (Some (written own (source_of f.id) (Abort 2 pgn))) (after own most boxes E).replies } }
 {}
 
 /// What is sent to it whole is received: where an RTS of s is heard, with none of s open and a box free, and behind it packets 1 to n
 /// of s in order, each at most 750 ms (T1) behind the one before, the message is whole at the last. Between them may come any frames of
 /// others, those of s that are no sender's, ticks in time, claims by which s has the holder that it had, and all that the program does.
 pub fn received()
-    ensures { (own boxes : ℕ) (E later : List Event) (start size n most pgn last now : ℕ) (name : Option ℕ) (rts f : FrameRecord)
-        (joined part : List ℕ) (m : MessageRecord) → of (source_of rts.id) (after own boxes E).sessions ≡ None
-        → has_room (source_of rts.id) (after own boxes E) ≡ true → said_to own rts ≡ Some (RequestToSend size (suc n) most pgn)
+    ensures { (own most boxes : ℕ) (E later : List Event) (start size n asked pgn last now : ℕ) (name : Option ℕ) (rts f : FrameRecord)
+        (joined part : List ℕ) (m : MessageRecord) → of (source_of rts.id) (after own most boxes E).sessions ≡ None
+        → has_room (source_of rts.id) (after own most boxes E) ≡ true → said_to own rts ≡ Some (RequestToSend size (suc n) asked pgn)
         → Bring own (source_of rts.id) name start later n joined last → IsPacket own (source_of rts.id) (suc n) last part now f
         → m ≡ record { source = source_of rts.id; pgn = pgn; bytes = take size (joined ++ part) }
-        → made now f (after own boxes (later ++ Hears start name rts ∷ E)) ≡ Some m }
+        → made now f (after own most boxes (later ++ Hears start name rts ∷ E)) ≡ Some m }
 {}
 
 /// Address 11 sends two packets whole, beside an RTS of address 12 that finds no box: so `received` speaks of something.
 pub fn an_example()
-    ensures opens { (of 11 (after 128 1 []).sessions ≡ None) × (has_room 11 (after 128 1 []) ≡ true)
+    ensures opens { (of 11 (after 128 16 1 []).sessions ≡ None) × (has_room 11 (after 128 16 1 []) ≡ true)
         × (said_to 128 requested ≡ Some (RequestToSend 9 2 255 65226)) }
     ensures bring { Bring 128 11 None 1000 between 1 (1 ∷ 2 ∷ 3 ∷ 4 ∷ 5 ∷ 6 ∷ 7 ∷ []) 3000 }
     ensures last { IsPacket 128 11 2 3000 (8 ∷ 9 ∷ 255 ∷ 255 ∷ 255 ∷ 255 ∷ 255 ∷ []) 4000 last_packet }
+{}
+
+/// No session has more packets granted at once than may be: a CTS grants at most as many (`window`).
+#[tactic(auto, using(crate::proofs::HandedLemmas::all_few))]
+pub fn few_at_once()
+    ensures { (own most boxes : ℕ) (E : List Event) → 1 ≤ most → All (λ x. x.reception.most ≤ most) (after own most boxes E).sessions }
 {}

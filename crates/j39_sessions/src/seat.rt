@@ -10,7 +10,7 @@ ghost use Rattle.j39_transport.specs.ReceiverModel.{message_shown};
 ghost use Rattle.j39_transport.specs.Receiving.{new_receiver, said_to};
 ghost use Rattle.j39_transport.specs.Signals.{Abort, written};
 ghost use Rattle.j39_frame.specs.Pgn.{pgn_raw};
-ghost use Rattle.j39_sessions.specs.Sessions.{from, is_left, is_of, limit_in, longest, number_in, shown, strays, tick_of};
+ghost use Rattle.j39_sessions.specs.Sessions.{from, is_left, is_of, limit_in, longest, narrowed, number_in, shown, strays, tick_of};
 
 use crate::sessions::is_same;
 use arrayvec::ArrayVec;
@@ -22,6 +22,9 @@ use std::alloc::{AllocError, Global};
 
 /// The longest wait of the two ends, in microseconds (T2 of J1939-21, 5.10.2.4).
 const T2: u64 = 1_250_000;
+
+/// The first byte of an RTS.
+const REQUEST_TO_SEND: u8 = 16;
 
 /// A message that was whole.
 #[derive(Drop)]
@@ -134,9 +137,11 @@ impl Seat {
         self.name = name;
     }
 
-    /// A frame from the source of its session, or by which one may be opened. A packet that strays isn't shown to the receiver (own).
-    pub(crate) fn hear(&mut self, frame: &Frame, now: Stamp) -> Outcome
-        ensures heard { Receives self.old.receiver (shown self.old.receiver.state.own self.old.receiver.state.session frame.now) (stamp_micros now)
+    /// A frame from the source of its session, or by which one may be opened. A packet that strays isn't shown to the receiver (own), nor
+    /// of an RTS that more may be granted at once.
+    pub(crate) fn hear(&mut self, most: u8, frame: &Frame, now: Stamp) -> Outcome
+        requires { length frame.now.bytes ≡ 8 }
+        ensures heard { Receives self.old.receiver (shown self.old.receiver.state.own most self.old.receiver.state.session frame.now) (stamp_micros now)
             result self.new.kept self.new.receiver }
         ensures stays { (self.new.since ≡ self.old.since) × (self.new.name ≡ self.old.name) }
     {
@@ -146,7 +151,10 @@ impl Seat {
                 is_whole: false,
             };
         }
-        self.kept.receive(&mut self.receiver, frame, now)
+        match narrowed(most, frame) {
+            Some(shown) => self.kept.receive(&mut self.receiver, &shown, now),
+            None => self.kept.receive(&mut self.receiver, frame, now),
+        }
     }
 
     /// Time passes: an open session whose time is over is ended (abort 3).
@@ -268,4 +276,21 @@ fn number_in(own: u8, frame: &Frame) -> Option<u8>
     } else {
         None
     }
+}
+
+/// An RTS as one whose sender takes at most so many packets at once (0 sets no limit); `None` for other frames.
+fn narrowed(most: u8, frame: &Frame) -> Option<Frame>
+    requires { length frame.now.bytes ≡ 8 }
+    ensures some { IfSome result (λ g. g ≡ record { stamp = frame.now.stamp; id = frame.now.id; bytes = narrowed most frame.now }) }
+    ensures none { result ≡ None → narrowed most frame.now ≡ frame.now.bytes }
+{
+    let bytes = frame.bytes.as_slice();
+    if !(frame.id.is_transport_control() && bytes[0] == REQUEST_TO_SEND) {
+        return None;
+    }
+    let asked = bytes[4];
+    let mut shown = [0; 8];
+    shown.copy_from_slice(bytes);
+    shown[4] = if asked == 0 { most } else { asked.min(most) };
+    Frame::new(frame.stamp, frame.id, &shown)
 }

@@ -48,6 +48,8 @@ impl Default for Said {
 #[derive(Drop)]
 pub struct Sessions {
     pub(crate) own: u8,
+    /// How many packets it grants at once at most; 0 sets no limit.
+    pub(crate) most: u8,
     /// For whom there is no box.
     refuser: Receiver,
     /// Those that are open: which heard a frame last, last.
@@ -67,28 +69,29 @@ pub struct Sessions {
 impl Sessions {
     ghost use Rattle.j39_sessions.specs.Shown.{sessions_of};
 
-    /// No session at an address, with memory for so many, 3.7 kB each: no other call takes memory. `None` above 253, where nothing
-    /// is taken; an error where memory is refused.
-    pub fn new(alloc: Global, own: u8, boxes: u8) -> Result<Option<Sessions>, AllocError>
+    /// No session at an address, which grants at most so many packets at once (0 sets no limit), with memory for so many boxes, 3.7 kB
+    /// each: no other call takes memory. `None` above 253, where nothing is taken; an error where memory is refused.
+    pub fn new(alloc: Global, own: u8, most: u8, boxes: u8) -> Result<Option<Sessions>, AllocError>
         ensures known { IfOk result (λ found. IsSome found ↔ IsAddress own) }
-        ensures none { IfOk result (λ found. IfSome found (λ s. sessions_of s ≡ none_of own boxes)) }
+        ensures none { IfOk result (λ found. IfSome found (λ s. sessions_of s ≡ none_of own most boxes)) }
         ensures refused { OnErr result (IsAddress own) }
     {
         let Some(refuser) = Receiver::new(alloc, own) else {
             return Ok(None);
         };
-        let most = usize::from(boxes);
-        let mut free = Vec::with_capacity(alloc, most)?;
-        for _ in 0..most {
+        let count = usize::from(boxes);
+        let mut free = Vec::with_capacity(alloc, count)?;
+        for _ in 0..count {
             if let Some(seat) = Seat::new(alloc, own)? {
                 put(&mut free, Box::new(alloc, seat)?);
             }
         }
         Ok(Some(Sessions {
             own,
+            most,
             refuser,
-            current: Vec::with_capacity(alloc, most)?,
-            whole: Vec::with_capacity(alloc, most)?,
+            current: Vec::with_capacity(alloc, count)?,
+            whole: Vec::with_capacity(alloc, count)?,
             free,
             replies: ArrayVec::new(),
         }))
@@ -124,8 +127,8 @@ impl Sessions {
     pub fn tick(&mut self, now: Stamp)
         ensures { sessions_of self.new ≡ ticks (stamp_micros now) (sessions_of self.old) }
     {
-        let most = self.current.len();
-        for _ in 0..most {
+        let count = self.current.len();
+        for _ in 0..count {
             let mut seat = self.current.remove(0);
             let source = seat.source();
             let said = seat.tick(now);
@@ -286,7 +289,8 @@ impl Sessions {
         ensures opened { IfSome result (IsOpenAt self.old.own) }
         ensures rest { map in_box self.new.current.items ≡ others source (sessions_of self.old).sessions }
         ensures none { result ≡ None → self.new ≡ self.old }
-        ensures stays { (self.new.whole ≡ self.old.whole) × (self.new.free ≡ self.old.free) × (self.new.replies ≡ self.old.replies) × (self.new.own ≡ self.old.own) }
+        ensures stays { (self.new.whole ≡ self.old.whole) × (self.new.free ≡ self.old.free) × (self.new.replies ≡ self.old.replies) × (self.new.own ≡ self.old.own)
+            × (self.new.most ≡ self.old.most) }
         ensures counts { IsSome result → length self.new.current.items + 1 ≡ length self.old.current.items }
         ensures room { IsSome result → vec_capacity self.new.current ≡ vec_capacity self.old.current }
     {
@@ -304,16 +308,17 @@ impl Sessions {
     /// A frame is heard in a box.
     fn take(&mut self, mut seat: Box<Seat>, frame: &Frame, now: Stamp) -> Option<(u8, u32)>
         requires at { seat.value.receiver.state.own ≡ self.old.own }
+        requires eight { length frame.now.bytes ≡ 8 }
         requires current { length self.old.current.items + length self.old.whole.items + length self.old.free.items < vec_capacity self.old.current }
         requires whole { length self.old.current.items + length self.old.whole.items + length self.old.free.items < vec_capacity self.old.whole }
         requires free { length self.old.current.items + length self.old.whole.items + length self.old.free.items < vec_capacity self.old.free }
         ensures made { (o : Option Session) → o ≡ option_map (session_with seat.value) seat.value.receiver.state.session
-            → result ≡ option_map (λ m. (m.source, m.pgn)) (step_at self.old.own true frame.now (stamp_micros now) o).delivers }
+            → result ≡ option_map (λ m. (m.source, m.pgn)) (step_at self.old.own self.old.most true frame.now (stamp_micros now) o).delivers }
         ensures taken { (o : Option Session) → o ≡ option_map (session_with seat.value) seat.value.receiver.state.session
             → sessions_of self.new ≡ record (put_in (source_of frame.now.id) (stamp_micros seat.value.since) (option_map name_raw seat.value.name) frame.now
-            (step_at self.old.own true frame.now (stamp_micros now) o) (sessions_of self.old)) { boxes = (sessions_of self.old).boxes + 1 } }
+            (step_at self.old.own self.old.most true frame.now (stamp_micros now) o) (sessions_of self.old)) { boxes = (sessions_of self.old).boxes + 1 } }
     {
-        let outcome = seat.hear(frame, now);
+        let outcome = seat.hear(self.most, frame, now);
         self.reply(frame.id.source(), outcome.says);
         if outcome.is_whole {
             let made = Some((seat.kept.source, seat.kept.group.raw()));
@@ -346,7 +351,7 @@ impl Sessions {
     /// An RTS for whose message no box is free is refused (abort 2).
     fn refuse(&mut self, frame: &Frame)
         ensures { (now : ℕ) → sessions_of self.new ≡ record (sessions_of self.old) {
-          replies = replied (source_of frame.now.id) (step_at self.old.own false frame.now now None).sends (sessions_of self.old).replies;
+          replies = replied (source_of frame.now.id) (step_at self.old.own self.old.most false frame.now now None).sends (sessions_of self.old).replies;
         } }
     {
         if let Some(reply) = self.refuser.refuse(frame) {

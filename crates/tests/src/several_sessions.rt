@@ -77,6 +77,21 @@ static STEPS: &[Step] = &[
     Releases(false),
 ];
 
+/// Of three packets two are granted at once, and then the third, whatever the RTS takes at once.
+static TWO_AT_ONCE: &[Step] = &[
+    Hears("(0.000000) can0 1CEC800B#10110003FFECFE00", None),
+    Says(11, [17, 2, 1, 255, 255, 0xEC, 0xFE, 0]),
+    Hears("(0.010000) can0 1CEB800B#0141424344454647", None),
+    SaysNothing,
+    Hears("(0.020000) can0 1CEB800B#0248494A4B4C4D4E", None),
+    Says(11, [17, 1, 3, 255, 255, 0xEC, 0xFE, 0]),
+    Hears("(0.030000) can0 1CEB800B#034F5051FFFFFFFF", Some(11)),
+    Says(11, DONE),
+    // Who takes one at once is granted one.
+    Hears("(0.100000) can0 1CEC800C#1011000301ECFE00", None),
+    Says(12, [17, 1, 1, 255, 255, 0xEC, 0xFE, 0]),
+];
+
 /// Whether they answer so.
 fn is_step(sessions: &mut Sessions, step: &Step) -> Option<bool> {
     match step {
@@ -109,8 +124,8 @@ fn is_step(sessions: &mut Sessions, step: &Step) -> Option<bool> {
 }
 
 /// The place of the first step that isn't so.
-fn wrong(sessions: &mut Sessions) -> Option<usize> {
-    for (place, step) in STEPS.iter().enumerate() {
+fn wrong(sessions: &mut Sessions, steps: &[Step]) -> Option<usize> {
+    for (place, step) in steps.iter().enumerate() {
         if is_step(sessions, step) != Some(true) {
             return Some(place);
         }
@@ -120,14 +135,21 @@ fn wrong(sessions: &mut Sessions) -> Option<usize> {
 
 #[test]
 fn several_are_received_at_once(rt: HostRuntime) -> Result<(), Fail> {
-    let mut sessions = Sessions::new(rt.alloc(), 128, 2)?.ok_or("sessions")?;
-    assert_eq!(rt; wrong(&mut sessions), None);
+    let mut sessions = Sessions::new(rt.alloc(), 128, 16, 2)?.ok_or("sessions")?;
+    assert_eq!(rt; wrong(&mut sessions, STEPS), None);
+    Ok(())
+}
+
+#[test]
+fn no_more_are_granted_at_once(rt: HostRuntime) -> Result<(), Fail> {
+    let mut sessions = Sessions::new(rt.alloc(), 128, 2, 2)?.ok_or("sessions")?;
+    assert_eq!(rt; wrong(&mut sessions, TWO_AT_ONCE), None);
     Ok(())
 }
 
 #[test]
 fn with_no_box_each_is_refused(rt: HostRuntime) -> Result<(), Fail> {
-    let mut sessions = Sessions::new(rt.alloc(), 128, 0)?.ok_or("sessions")?;
+    let mut sessions = Sessions::new(rt.alloc(), 128, 16, 0)?.ok_or("sessions")?;
     let asks = frame("(0.000000) can0 1CEC800B#10110003FFECFE00").ok_or("frame")?;
     let made = sessions.hear(&asks, asks.stamp, None);
     assert!(rt; made.is_none());

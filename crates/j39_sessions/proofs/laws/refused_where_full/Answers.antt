@@ -2,4 +2,4 @@ use Rattle.j39_sessions.proofs.HandedLemmas.{refuses}
 use Rattle.j39_sessions.proofs.laws.refused_where_full.Goals as goal
 
 pub returns : goal.returns
-returns c = λ own boxes now size packets most pgn name f E. refuses own boxes now size packets most pgn name f E
+returns c = λ own most boxes now size packets asked pgn name f E. refuses own most boxes now size packets asked pgn name f E

@@ -36,11 +36,12 @@ returns-in-None-pop-clause-heard c =
     c.refuse.ensures now
     ∙ ((λ i. (let x : SessionsRecord = record {
       own = (same i).own;
+      most = (same i).most;
       boxes = (let q : length c.take_out.new.self.current.items + length c.take_out.new.self.whole.items + length c.pop.new.self.items
           ≡ length s.current.items + length s.whole.items + length s.free.items = omega (arith, boxes, p, g, z) in q) i;
       sessions = map in_box (same i).current.items;
       waits = map kept_in (same i).whole.items;
       senders = map sender_in (same i).whole.items;
-      replies = replied (source_of f.id) (step_at (same i).own false f now None).sends (map said_by (same i).replies.items);
+      replies = replied (source_of f.id) (step_at (same i).own (same i).most false f now None).sends (map said_by (same i).replies.items);
     } in x))
     ∙ sym (refusing (sessions_of s) now (option_map name_raw c.args.name) f (sym c.is_of_session.ensures ∙ c.if-not-is_of_session.false) none full).1)

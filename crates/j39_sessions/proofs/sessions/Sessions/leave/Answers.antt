@@ -28,6 +28,7 @@ loop-place-preserved c =
       omega (arith, current, less, free, all),
       ap (λ (s : Sessions). s.whole) stays ∙ c.loop-place.invariant.3,
       ap (λ (s : Sessions). s.own) stays ∙ c.loop-place.invariant.4,
+      ap (λ (s : Sessions). s.most) stays ∙ c.loop-place.invariant.5,
     )
 
 pub returns : goal.returns
@@ -42,6 +43,7 @@ returns c =
     ≡ length c.args.self.now.current.items + length c.args.self.now.whole.items + length c.args.self.now.free.items = omega (arith, n, all) in
     λ i. (let x : SessionsRecord = record {
       own = c.loop-place.invariant.4 i;
+      most = c.loop-place.invariant.5 i;
       boxes = boxes i;
       sessions = (sym none.0 ∙ c.loop-place.invariant.0) i;
       waits = map kept_in (whole i).items;

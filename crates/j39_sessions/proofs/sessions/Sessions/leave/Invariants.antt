@@ -9,7 +9,7 @@ invariant-loop-place l =
     × (unsaid (filter (is_left l.fn.gone (holder_in l.fn.holders)) (map in_box l.self.current.items)) (map said_by l.self.replies.items)
     ≡ unsaid (filter (is_left l.fn.gone (holder_in l.fn.holders)) (map in_box l.fn.self.current.items)) (map said_by l.fn.self.replies.items))
     × (length l.self.current.items + length l.self.free.items ≡ length l.fn.self.current.items + length l.fn.self.free.items)
-    × (l.self.whole ≡ l.fn.self.whole) × (l.self.own ≡ l.fn.self.own)
+    × (l.self.whole ≡ l.fn.self.whole) × (l.self.own ≡ l.fn.self.own) × (l.self.most ≡ l.fn.self.most)
 
 abbrev pub decreases-loop-place : goal.decreases-loop-place
 decreases-loop-place l = length l.self.current.items

@@ -3,4 +3,4 @@ use Rattle.std.specs.Vec.{vec_capacity}
 use Rattle.j39_sessions.proofs.sessions.Sessions.new.Given as goal
 
 abbrev pub invariant-loop : goal.invariant-loop
-invariant-loop l = (l.most ≡ l.boxes) × (length l.free.items ≡ l.counter) × (l.most ≤ vec_capacity l.free)
+invariant-loop l = (l.count ≡ l.boxes) × (length l.free.items ≡ l.counter) × (l.count ≤ vec_capacity l.free)

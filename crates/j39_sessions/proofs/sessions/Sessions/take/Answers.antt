@@ -15,10 +15,10 @@ returns-then-outcome-clause-taken c = λ o e.
     let y = c.deref_mut.result.now in
     let v = c.deref_mut.ensures.value in
     let heard = c.hear-outcome.ensures.heard in
-    let is = step_is old.own f now y o (ap (λ (s : Seat). s.receiver.state.own) v ∙ c.requires.at) (e ∙ ap (λ (s : Seat). option_map (session_with s) s.receiver.state.session) (sym v)) in
+    let is = step_is old.own old.most f now y o (ap (λ (s : Seat). s.receiver.state.own) v ∙ c.requires.at) (e ∙ ap (λ (s : Seat). option_map (session_with s) s.receiver.state.session) (sym v)) in
     let there = sym heard.whole ∙ c.if-outcome.true in
     let stays = c.reply.ensures.stays in
-    let said = c.reply.ensures.replied (recv_step y.receiver.state (Heard (shown y.receiver.state.own y.receiver.state.session f)) now true).sends heard.says in
+    let said = c.reply.ensures.replied (recv_step y.receiver.state (Heard (shown y.receiver.state.own old.most y.receiver.state.session f)) now true).sends heard.says in
     let a = c.source.ensures ∙ ap (λ (g : FrameRecord). source_of g.id) c.frame.view_is in
     let b : Box Seat Global = record { ptr = c.args.seat.ptr; alloc = c.args.seat.alloc; value = c.hear-outcome.new.self } in
     let name = ap (option_map name_raw) (c.hear-outcome.ensures.stays.1 ∙ ap (λ (s : Seat). s.name) v) in
@@ -28,6 +28,7 @@ returns-then-outcome-clause-taken c = λ o e.
     let m = ap (λ (s : Sessions). length s.free.items) stays in
     (λ i. (let z : SessionsRecord = record {
       own = (ap (λ (s : Sessions). s.own) stays) i;
+      most = (ap (λ (s : Sessions). s.most) stays) i;
       boxes = (let q : length c.reply.new.self.current.items + length c.put.new.boxes.items + length c.reply.new.self.free.items
           ≡ length old.current.items + length old.whole.items + length old.free.items + 1 = omega (arith, n, k, m) in q) i;
       sessions = map in_box (ap (λ (s : Sessions). s.current.items) stays i);
@@ -35,7 +36,7 @@ returns-then-outcome-clause-taken c = λ o e.
       senders = (ap (map sender_in) whole ∙ (map-append sender_in old.whole.items (b ∷ []) ∙ ap (λ (x : Option ℕ). map sender_in old.whole.items ++ x ∷ []) name)) i;
       replies = (ap (λ (s : SessionsRecord). s.replies) said ∙ (λ j. replied (a j) (sym is j).sends (map said_by old.replies.items))) i;
     } in z))
-    ∙ put_whole (sessions_of old) (source_of f.id) (stamp_micros seat.since) (option_map name_raw seat.name) f (step_at old.own true f now o) (kept_in b)
+    ∙ put_whole (sessions_of old) (source_of f.id) (stamp_micros seat.since) (option_map name_raw seat.name) f (step_at old.own old.most true f now o) (kept_in b)
     (ap (λ (x : RecvResult). has_some x.delivers) is ∙ there)
     (ap (λ (x : RecvResult). x.after.session) is ∙ whole_closes y.receiver.state _ now true there)
     (subst (λ (x : RecvResult). IfSome x.delivers (λ m. kept_in b ≡ (f.stamp, m))) (sym is) heard.keeps)
@@ -44,7 +45,7 @@ pub settle-requires-clause-at : goal.settle-requires-clause-at
 settle-requires-clause-at c =
     let y = c.deref_mut.result.now in
     ap (λ (s : ReceiverRecord). s.own) c.hear-outcome.ensures.heard.state
-    ∙ (own_after y.receiver.state (shown y.receiver.state.own y.receiver.state.session c.args.frame.now) (stamp_micros c.args.now) true
+    ∙ (own_after y.receiver.state (shown y.receiver.state.own c.args.self.now.most y.receiver.state.session c.args.frame.now) (stamp_micros c.args.now) true
     ∙ (ap (λ (s : Seat). s.receiver.state.own) c.deref_mut.ensures.value ∙ (c.requires.at ∙ sym (ap (λ (s : Sessions). s.own) c.reply.ensures.stays))))
 
 pub returns-clause-taken : goal.returns-clause-taken
@@ -56,8 +57,8 @@ returns-clause-taken c = λ o e.
     let y = c.deref_mut.result.now in
     let v = c.deref_mut.ensures.value in
     let heard = c.hear-outcome.ensures.heard in
-    let is = step_is old.own f now y o (ap (λ (s : Seat). s.receiver.state.own) v ∙ c.requires.at) (e ∙ ap (λ (s : Seat). option_map (session_with s) s.receiver.state.session) (sym v)) in
-    let x = recv_step y.receiver.state (Heard (shown y.receiver.state.own y.receiver.state.session f)) now true in
+    let is = step_is old.own old.most f now y o (ap (λ (s : Seat). s.receiver.state.own) v ∙ c.requires.at) (e ∙ ap (λ (s : Seat). option_map (session_with s) s.receiver.state.session) (sym v)) in
+    let x = recv_step y.receiver.state (Heard (shown y.receiver.state.own old.most y.receiver.state.session f)) now true in
     let said = c.reply.ensures.replied x.sends heard.says in
     let a = c.source.ensures ∙ ap (λ (g : FrameRecord). source_of g.id) c.frame.view_is in
     let since = ap stamp_micros (c.hear-outcome.ensures.stays.0 ∙ ap (λ (s : Seat). s.since) v) in
@@ -68,5 +69,5 @@ returns-clause-taken c = λ o e.
       sessions = (said i).sessions ++ listed (option_map (session_by (since i) (name i)) ((heard.state ∙ ap (λ (w : RecvResult). w.after) (sym is)) i).session);
       replies = (ap (λ (s : SessionsRecord). s.replies) said ∙ (λ j. replied (a j) (sym is j).sends (map said_by old.replies.items))) i;
     } in z))
-    ∙ put_open (sessions_of old) (source_of f.id) (stamp_micros seat.since) (option_map name_raw seat.name) f (step_at old.own true f now o)
+    ∙ put_open (sessions_of old) (source_of f.id) (stamp_micros seat.since) (option_map name_raw seat.name) f (step_at old.own old.most true f now o)
     (ap (λ (w : RecvResult). w.delivers) is ∙ none_there x.delivers c.hear-outcome.result.is_whole heard.whole c.if-outcome.false))

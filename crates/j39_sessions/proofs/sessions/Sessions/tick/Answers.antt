@@ -32,8 +32,8 @@ loop-preserved c =
     let n = c.loop.invariant.1 in
     let l : 0 < length xs = omega (arith, t, n) in
     let first = front xs b l c.remove-seat.ensures.value in
-    let r = c.len-most.result - (c.loop.counter + 1) in
-    let more : suc r ≡ c.len-most.result - c.loop.counter = omega (arith, t) in
+    let r = c.len-count.result - (c.loop.counter + 1) in
+    let more : suc r ≡ c.len-count.result - c.loop.counter = omega (arith, t) in
     let at : y.receiver.state.own ≡ own =
     ap (λ (s : Seat). s.receiver.state.own) v ∙ (ap (λ b. b.value.receiver.state.own) c.remove-seat.ensures.value ∙ ((c.loop.self.opened 0 b l).0 ∙ c.loop.invariant.6)) in
     let step : tick_of y.receiver.state.own now (session_in y) ≡ tick_of own now x = λ i. tick_of (at i) now (session_in (v i)) in
@@ -71,4 +71,5 @@ loop-preserved c =
       omega (arith, boxes, w, cur, free, less, sum),
       whole ∙ c.loop.invariant.5,
       c.settle.ensures.stays.1 ∙ (ap (λ (s : Sessions). s.own) stays ∙ c.loop.invariant.6),
+      ap (λ (s : SessionsRecord). s.most) c.settle.ensures.settled ∙ (ap (λ (s : Sessions). s.most) stays ∙ c.loop.invariant.7),
     )
