@@ -1,12 +1,11 @@
 //! The line of a frame.
-ghost use Rattle.std.specs.Prelude.{◌≡◌, ◌<◌, ◌^◌, map};
-ghost use Rattle.j39_log.specs.Lanes.{hex_lane};
+ghost use Rattle.std.specs.Prelude.{◌<◌, ◌^◌};
 
+use crate::fast::form::values_of;
 use crate::fast::lanes::pairs;
 use crate::fast::plain::decimals;
 use arrayvec::ArrayVec;
 use j39_frame::{Frame, Id, Stamp};
-use std::simd::prelude::*;
 
 /// The line of a frame of a bus, whose form is right. Its stamp and its data are made of it where they are asked for.
 #[derive(Clone, Copy)]
@@ -18,10 +17,7 @@ pub struct FrameLine<'a> {
     pub id: Id,
     /// The digits of its data.
     pub(crate) data: &'a [u8; 16],
-    /// The values of these: the line's form was asked by them.
-    pub(crate) values: [u8; 16],
     ghost fits: { second < 2 ^ 60 },
-    ghost values_are: { values ≡ map hex_lane data.now },
 }
 
 impl<'a> FrameLine<'a> {
@@ -34,7 +30,7 @@ impl<'a> FrameLine<'a> {
         ensures { IfSome result (λ frame. IsFrameOf self.now frame) }
     {
         let stamp = Stamp::new(self.second + decimals(self.front))?;
-        let bytes = ArrayVec::from_array_in((), pairs(u8x16::from_array(self.values), 16));
+        let bytes = ArrayVec::from_array_in((), pairs(values_of(self.data), 16));
         Some(Frame::from_parts(stamp, self.id, bytes))
     }
 }

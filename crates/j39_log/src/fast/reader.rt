@@ -123,7 +123,6 @@ fn formed<'a>(
         second,
         id,
         data,
-        values: values.to_array(),
     };
     Some((line, rest))
 }
