@@ -1,4 +1,4 @@
-/* A pool has its blocks one behind the other, each of whole words behind one that keeps its size. A block that was given back is
+/* A pool has its blocks one behind the other, each of whole words behind one that keeps its size. The block that was given back last is
  * granted again where it is large enough: a listener's and an assembler's, which come and go, are of one size. */
 #include "pool.h"
 
@@ -41,22 +41,11 @@ static uint64_t size_of(const uint8_t *block) {
     return size;
 }
 
-static uint8_t *before(const uint8_t *block) {
-    uint8_t *given;
-    memcpy(&given, block, sizeof given);
-    return given;
-}
-
-/* A block that was given back, and has so many bytes. */
+/* The block that was given back last, where it has so many bytes. */
 static uint8_t *again(struct pool *pool, uint64_t size) {
-    uint8_t *behind = NULL, *block = pool->unused;
-    while (block && size_of(block) < size) behind = block, block = before(block);
-    if (!block) return NULL;
-    uint8_t *rest = before(block);
-    if (behind)
-        memcpy(behind, &rest, sizeof rest);
-    else
-        pool->unused = rest;
+    uint8_t *block = pool->unused;
+    if (!block || size_of(block) < size) return NULL;
+    memcpy(&pool->unused, block, sizeof pool->unused);
     return block;
 }
 

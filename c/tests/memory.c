@@ -1,5 +1,6 @@
 /* Handles in memory of the program's own: how much each setup wants, and what is refused. No heap is there. */
 #include "at.h"
+#include "../pool.h"
 #undef j1939_listener_new
 
 #include <string.h>
@@ -132,10 +133,25 @@ static void messages_of(uint8_t room) {
     EXPECT(j1939_listener_close(&listener) == 0 && j1939_assembler_close(&assembler) == 0);
 }
 
+/* A block is granted again where it is large enough; what isn't there is refused. */
+static void blocks(void) {
+    j39_pool_enter(j39_pool_in(around + 1, 200));
+    uint8_t *small = j39_alloc(8, 8).at;
+    j39_dealloc(small);
+    uint8_t *large = j39_alloc(33, 8).at;
+    EXPECT(large && large != small && j39_alloc(0, 1).at == small);
+    memset(large, MARK, 33);
+    uint8_t *larger = j39_realloc(large, 33, 64, 8).at;
+    EXPECT(larger && larger != large && larger[32] == MARK && j39_alloc(40, 8).at == large);
+    EXPECT(!j39_alloc(64, 8).is_granted && !j39_alloc(8, 16).is_granted && !j39_alloc(SIZE_MAX, 1).is_granted);
+    j39_pool_enter(NULL);
+}
+
 int main(void) {
     j1939_listener none = J1939_EMPTY;
     EXPECT(j1939_listener_at(NULL, around, LARGEST) == J1939_NULL && j1939_listener_at(&none, NULL, LARGEST) == J1939_NULL);
     EXPECT(j1939_assembler_at(&assembler, NULL, 0) == J1939_NULL && !assembler.handle.memory);
+    blocks();
     sizes();
     for (uint8_t room = 0; room < 6; room++) messages_of(room);
     messages_of(64);
