@@ -1,5 +1,5 @@
 -- Lines of which there is room for so many.
-use Rattle.j39_watch.proofs.Common.{◌≡◌, ◌<◌, ◌≤◌, ◌+◌, ◌-◌, ◌++◌, ◌∷◌, ◌∙◌, [], ℕ, zero, suc, Bool, true, false, List, Option, Result, Ok, Err, append-nil, ap, arith, drop, get_or, if◌then◌else◌, length, length-append, nat_le, refl, sym, take, take-append-drop, IfOk, IsErr, capped, flat_map, flat_map-append, flat_map-next, Puts, Device, puts_as, puts_done, puts_first, puts_then, RowRecord}
+use Rattle.j39_watch.proofs.Common.{◌≡◌, ◌<◌, ◌≤◌, ◌+◌, ◌-◌, ◌++◌, ◌∷◌, ◌∙◌, [], ℕ, zero, suc, Bool, true, false, List, Option, Result, Ok, Err, append-nil, ap, arith, drop, get_or, if◌then◌else◌, length, length-append, nat_le, refl, sym, take, take-append-drop, IsErr, capped, flat_map, flat_map-append, flat_map-next, Puts, Device, puts_as, puts_done, puts_first, puts_then, RowRecord}
 use Rattle.std.proofs.lemmas.List.{get_or-take, get_or_default, get_or_past, length-take-le, take_all}
 use Rattle.j39_fault_reports.proofs.NowLineLemmas.{shown_next, shown_rest}
 use Rattle.j39_fault_reports.specs.CurrentPlaces.{LastActives, at}

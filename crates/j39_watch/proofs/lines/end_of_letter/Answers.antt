@@ -1,5 +1,5 @@
 -- A byte before, while it is inside a letter.
-use Rattle.j39_watch.proofs.Common.{◌≡◌, ◌<◌, ◌≤◌, ◌-◌, ◌∙◌, arith, length, refl, sym}
+use Rattle.j39_watch.proofs.Common.{◌<◌, ◌≤◌, ◌∙◌, arith, length, refl, sym}
 use Rattle.j39_watch.proofs.ScreenLemmas.{step_back, step_ends, step_none}
 use Rattle.j39_watch.proofs.lines.end_of_letter.Goals as goal
 

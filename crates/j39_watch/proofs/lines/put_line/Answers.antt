@@ -1,5 +1,5 @@
 -- As much of the line as is shown, and its end.
-use Rattle.j39_watch.proofs.Common.{◌≡◌, ◌++◌, ◌∙◌, List, ℕ, ap, take, puts_as, puts_first, puts_then}
+use Rattle.j39_watch.proofs.Common.{◌≡◌, ◌++◌, ◌∙◌, ap, take, puts_as, puts_first, puts_then}
 use Rattle.j39_watch.specs.Watch.{letter_end, line_end}
 use Rattle.j39_watch.proofs.lines.put_line.Goals as goal
 

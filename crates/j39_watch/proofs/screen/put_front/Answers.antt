@@ -1,5 +1,5 @@
 -- The first, and how many more there are.
-use Rattle.j39_watch.proofs.Common.{◌≡◌, ◌<◌, ◌+◌, ◌-◌, ◌++◌, ◌∙◌, List, ℕ, ap, arith, length, refl, stamp_micros, sym, take, capped, flat_map, puts_as, puts_done, puts_failed, puts_first, puts_nothing, puts_then}
+use Rattle.j39_watch.proofs.Common.{◌<◌, ◌+◌, ◌-◌, ◌∙◌, ap, arith, length, refl, stamp_micros, sym, take, capped, flat_map, puts_as, puts_done, puts_failed, puts_first, puts_nothing, puts_then}
 use Rattle.j39_watch.specs.ScreenSoFar.{lines_of_code}
 use Rattle.j39_watch.specs.Watch.{fitted, more_text, row_shown}
 use Rattle.j39_watch.specs.WatchSoFar.{limited}

@@ -1,5 +1,5 @@
 -- All lines fit.
-use Rattle.j39_watch.proofs.Common.{◌≡◌, ◌<◌, ◌≤◌, ◌+◌, ◌-◌, ◌++◌, ◌∙◌, List, ℕ, ap, arith, length, stamp_micros, capped, puts_as, puts_done, puts_failed, puts_first, puts_then}
+use Rattle.j39_watch.proofs.Common.{stamp_micros, puts_as, puts_done, puts_failed}
 use Rattle.j39_watch.specs.ScreenSoFar.{lines_of_code}
 use Rattle.j39_watch.proofs.ScreenLemmas.{length_all, text_all}
 use Rattle.j39_watch.proofs.screen.put_whole.Goals as goal
