@@ -1,9 +1,10 @@
 -- Lines of which there is room for so many.
-use Rattle.j39_watch.proofs.Common.{◌≡◌, ◌<◌, ◌+◌, ◌-◌, ◌++◌, ◌∷◌, ◌∙◌, [], ℕ, zero, suc, List, Option, Result, Ok, Err, append-nil, ap, arith, drop, get_or, length, length-append, refl, sym, take, take-append-drop, IfOk, IsErr, flat_map, flat_map-append, flat_map-next, Puts, Device, puts_as, puts_done, puts_first, puts_then, RowRecord}
+use Rattle.j39_watch.proofs.Common.{◌≡◌, ◌<◌, ◌≤◌, ◌+◌, ◌-◌, ◌++◌, ◌∷◌, ◌∙◌, [], ℕ, zero, suc, Bool, true, false, List, Option, Result, Ok, Err, append-nil, ap, arith, drop, get_or, if◌then◌else◌, length, length-append, nat_le, refl, sym, take, take-append-drop, IsErr, capped, flat_map, flat_map-append, flat_map-next, Puts, Device, puts_as, puts_done, puts_first, puts_then, RowRecord}
+use Rattle.std.proofs.lemmas.List.{get_or-take, get_or_default, get_or_past, length-take-le, take_all}
 use Rattle.j39_fault_reports.proofs.NowLineLemmas.{shown_next, shown_rest}
 use Rattle.j39_fault_reports.specs.CurrentPlaces.{LastActives, at}
 use Rattle.j39_fault_reports.specs.CurrentSoFar.{nows_shown, shown_below}
-use Rattle.j39_watch.specs.Watch.{line_end, row_shown}
+use Rattle.j39_watch.specs.Watch.{fitted, is_inside, letter_end, line_end, more_text, row_shown}
 use Rattle.j39_watch.specs.WatchSoFar.{fault_lines, faults_of_places, limited}
 
 take_behind : {X : Type 0} (n : ℕ) (xs ys : List X) → take n (xs ++ ys) ≡ take n xs ++ take (n - length xs) ys
@@ -41,7 +42,7 @@ module _ {X : Type 0} (width n : ℕ) (f : X → List (List ℕ)) (xs : List X) 
   abbrev pub lines_below : ℕ → List (List ℕ)
   lines_below i = flat_map f (take i xs)
 
-  next : (i : ℕ) (x : X) → i < length xs → x ≡ get_or xs i x → lines_below (i + 1) ≡ lines_below i ++ f x
+  pub next : (i : ℕ) (x : X) → i < length xs → x ≡ get_or xs i x → lines_below (i + 1) ≡ lines_below i ++ f x
   next i x below is = flat_map-next f xs i x below ∙ ap (λ y. lines_below i ++ f y) (sym is)
 
   rest : (i : ℕ) → flat_map f xs ≡ lines_below i ++ flat_map f (drop i xs)
@@ -78,22 +79,138 @@ limited_none width (suc n) = refl
 pub no_room : (width : ℕ) (lines : List (List ℕ)) → limited width 0 lines ≡ []
 no_room width lines = refl
 
--- a line that is cut, where there is room for it
-pub limited_one : (width n : ℕ) (bytes line : List ℕ) → 0 < n → bytes ≡ take width line → bytes ++ line_end ≡ limited width n (line ∷ [])
+-- ---- where a line is cut
+
+-- a byte more than its width tells it
+end_of_front : (n m : ℕ) (line : List ℕ) → n < m → letter_end n (take m line) ≡ letter_end n line
+unfolding letter_end
+end_of_front zero m line below = refl
+end_of_front (suc n) m line below =
+    ap (λ e. if is_inside (get_or (take m line) (suc n) 0) then e else suc n) (end_of_front n m line (omega (arith, below)))
+    ∙ ap (λ b. if is_inside b then letter_end n line else suc n) (get_or-take m line (suc n) 0 below)
+
+end_within : (n : ℕ) (line : List ℕ) → letter_end n line ≤ n
+unfolding letter_end
+end_within zero line = omega arith
+end_within (suc n) line = by (is_inside (get_or line (suc n) 0)) (end_within n line)
+  where
+    by : (b : Bool) → letter_end n line ≤ n → (if b then letter_end n line else suc n) ≤ suc n
+    by true less = omega (arith, less)
+    by false less = omega arith
+
+take_front : (k m : ℕ) (line : List ℕ) → k ≤ m → take k (take m line) ≡ take k line
+take_front zero m line within = refl
+take_front (suc k) zero line within = absurd (omega (arith, within))
+take_front (suc k) (suc m) [] within = refl
+take_front (suc k) (suc m) (x ∷ line) within = ap (λ t. x ∷ t) (take_front k m line (omega (arith, within)))
+
+row_of_front : (width : ℕ) (line : List ℕ) → row_shown width (take (width + 1) line) ≡ row_shown width line
+row_of_front width line =
+    let within = end_within width line in
+    ap (λ e. take e (take (width + 1) line) ++ line_end) (end_of_front width (width + 1) line (omega arith))
+    ∙ ap (λ t. t ++ line_end) (take_front (letter_end width line) (width + 1) line (omega (arith, within)))
+
+-- a line of no more than its width isn't
+pub short_whole : (width : ℕ) (line : List ℕ) → length line ≤ width → line ≡ take (letter_end width line) line
+unfolding letter_end
+short_whole zero [] short = refl
+short_whole zero (x ∷ line) short = absurd (omega (arith, short))
+short_whole (suc n) line short =
+    sym (ap (λ b. take (if is_inside b then letter_end n line else suc n) line) (get_or_past line (suc n) 0 short) ∙ take_all (suc n) line short)
+
+-- a byte that is inside a letter, and one that isn't
+pub step_back : (n d : ℕ) (line : List ℕ) → 0 < n → n < length line → is_inside (get_or line n d) ≡ true → letter_end n line ≡ letter_end (n - 1) line
+unfolding letter_end
+step_back zero d line some below so = absurd (omega (arith, some))
+step_back (suc n) d line some below so =
+    let inside : is_inside (get_or line (suc n) 0) ≡ true = ap is_inside (get_or_default line (suc n) 0 d below) ∙ so in
+    let less : n ≡ suc n - 1 = omega arith in
+    ap (λ b. if b then letter_end n line else suc n) inside ∙ ap (λ m. letter_end m line) less
+
+pub step_ends : (n d : ℕ) (line : List ℕ) → n < length line → is_inside (get_or line n d) ≡ false → letter_end n line ≡ n
+unfolding letter_end
+step_ends zero d line below not_so = refl
+step_ends (suc n) d line below not_so =
+    ap (λ b. if b then letter_end n line else suc n) (ap is_inside (get_or_default line (suc n) 0 d below) ∙ not_so)
+
+pub step_none : (n : ℕ) (line : List ℕ) → n ≡ 0 → letter_end n line ≡ n
+unfolding letter_end
+step_none zero line is = refl
+step_none (suc n) line is = absurd (omega (arith, is))
+
+-- the line, where there is room for it
+pub limited_one : (width n : ℕ) (bytes line : List ℕ) → 0 < n → bytes ≡ take (width + 1) line → row_shown width bytes ≡ limited width n (line ∷ [])
 limited_one width zero bytes line some is = absurd (omega (arith, some))
-limited_one width (suc n) bytes line some is = ap (λ t. t ++ line_end) is ∙ sym (ap (λ t. row_shown width line ++ t) (limited_none width n) ∙ append-nil (row_shown width line))
+limited_one width (suc n) bytes line some is =
+    ap (row_shown width) is ∙ row_of_front width line ∙ sym (ap (λ t. row_shown width line ++ t) (limited_none width n) ∙ append-nil (row_shown width line))
+
+-- ---- what fits
+
+is_within : (m n : ℕ) → m ≤ n → nat_le m n ≡ true
+is_within m n h = grind arith
+
+is_beyond : (m n : ℕ) → n < m → nat_le m n ≡ false
+is_beyond m n h = grind arith
+
+all_fit : (rows : ℕ) (lines : List (List ℕ)) → length lines ≤ rows → fitted rows lines ≡ lines
+all_fit rows lines within = rw (is_within (length lines) rows within) refl
+
+-- on no rows nothing stands
+none_fit : (lines : List (List ℕ)) → 0 < length lines → fitted 0 lines ≡ []
+none_fit lines some = rw (is_beyond (length lines) 0 some) refl
+
+-- the first and how many more, where there is a row for that
+some_fit : (rows : ℕ) (lines : List (List ℕ)) → 0 < rows → rows < length lines
+    → fitted rows lines ≡ take (rows - 1) lines ++ more_text (capped (length lines) - (rows - 1)) ∷ []
+some_fit rows lines some beyond =
+    let more = more_text (capped (length lines) - (rows - 1)) ∷ [] in
+    let front : length (take (rows - 1) lines) ≡ rows - 1 = length-take-le (rows - 1) lines (omega (arith, beyond)) in
+    let len = length-append (take (rows - 1) lines) more in
+    rw (is_beyond (length lines) rows beyond) (take_all rows (take (rows - 1) lines ++ more) (omega (arith, front, len, some)))
+
+module _ (width rows : ℕ) (lines : List (List ℕ)) where
+  pub text_all : length lines ≤ rows → limited width rows lines ≡ flat_map (row_shown width) (fitted rows lines)
+  text_all within = ap (flat_map (row_shown width)) (take_all rows lines within ∙ sym (all_fit rows lines within))
+
+  pub text_some : (more : ℕ) (bytes : List ℕ) → 0 < rows → rows < length lines → more ≡ capped (length lines) - (rows - 1)
+      → bytes ≡ take (width + 1) (more_text more) → limited width (rows - 1) lines ++ row_shown width bytes ≡ flat_map (row_shown width) (fitted rows lines)
+  text_some more bytes some beyond is cut =
+      ap (λ t. limited width (rows - 1) lines ++ t)
+      (ap (row_shown width) cut ∙ row_of_front width (more_text more) ∙ ap (λ n. row_shown width (more_text n)) is ∙ sym (append-nil (row_shown width (more_text (capped (length lines) - (rows - 1))))))
+      ∙ sym (flat_map-append (row_shown width) (take (rows - 1) lines) (more_text (capped (length lines) - (rows - 1)) ∷ []))
+      ∙ ap (flat_map (row_shown width)) (sym (some_fit rows lines some beyond))
+
+  pub length_all : (left : ℕ) → length lines ≤ rows → left ≡ rows - length lines → rows - left ≡ length (fitted rows lines)
+  length_all left within is = let all = ap length (all_fit rows lines within) in omega (arith, all, within, is)
+
+  pub length_some : 0 < rows → rows < length lines → rows ≡ length (fitted rows lines)
+  length_some some beyond =
+      let front : length (take (rows - 1) lines) ≡ rows - 1 = length-take-le (rows - 1) lines (omega (arith, beyond)) in
+      let len = length-append (take (rows - 1) lines) (more_text (capped (length lines) - (rows - 1)) ∷ []) in
+      let all = ap length (some_fit rows lines some beyond) in
+      omega (arith, front, len, all, some)
+
+pub text_none : (width : ℕ) (lines : List (List ℕ)) → 0 < length lines → [] ≡ flat_map (row_shown width) (fitted 0 lines)
+text_none width lines some = ap (flat_map (row_shown width)) (sym (none_fit lines some))
+
+pub length_none : (lines : List (List ℕ)) → 0 < length lines → 0 ≡ length (fitted 0 lines)
+length_none lines some = ap length (sym (none_fit lines some))
+
+-- how many there are in both
+pub counted_then : {X : Type 0} (c d e : ℕ) (xs ys : List X) → c ≡ capped (length xs) → d ≡ capped (length ys) → e ≡ capped (c + d) → e ≡ capped (length (xs ++ ys))
+counted_then c d e xs ys first second is = let len = length-append xs ys in omega (arith, len, first, second, is)
 
 -- ---- the places of faults
 
-module _ (width room : ℕ) (groups : List RowRecord) (holder : ℕ → Option ℕ) (places : LastActives) where
+module _ (width room : ℕ) (groups : List RowRecord) (holder : ℕ → Option ℕ) (now : ℕ) (places : LastActives) where
   abbrev pub at_place : ℕ → List (List ℕ)
-  at_place n = flat_map (fault_lines groups holder) (nows_shown n (at places n))
+  at_place n = flat_map (fault_lines groups holder now) (nows_shown n (at places n))
 
   abbrev pub below_place : ℕ → List (List ℕ)
-  below_place n = faults_of_places groups holder places n
+  below_place n = faults_of_places groups holder now places n
 
-  next_place : (n : ℕ) → below_place (n + 1) ≡ below_place n ++ at_place n
-  next_place n = ap (flat_map (fault_lines groups holder)) (shown_next places n) ∙ flat_map-append (fault_lines groups holder) (shown_below places n) (nows_shown n (at places n))
+  pub next_place : (n : ℕ) → below_place (n + 1) ≡ below_place n ++ at_place n
+  next_place n = ap (flat_map (fault_lines groups holder now)) (shown_next places n) ∙ flat_map-append (fault_lines groups holder now) (shown_below places n) (nows_shown n (at places n))
 
   pub none_below : [] ≡ below_place 0
   unfolding shown_below
@@ -117,9 +234,23 @@ module _ (width room : ℕ) (groups : List RowRecord) (holder : ℕ → Option �
   stops_at_place {T = T} n m e last old mid new below is failed before here =
       let r = shown_rest places (n + 1) (255 - n) in
       let all : 256 ≡ 255 - n + (n + 1) = omega (arith, below) in
-      let split : below_place 256 ≡ (below_place n ++ at_place n) ++ flat_map (fault_lines groups holder) r.0 =
-      ap below_place all ∙ ap (flat_map (fault_lines groups holder)) r.1 ∙ flat_map-append (fault_lines groups holder) (shown_below places (n + 1)) r.0
-      ∙ ap (λ ls. ls ++ flat_map (fault_lines groups holder) r.0) (next_place n) in
+      let split : below_place 256 ≡ (below_place n ++ at_place n) ++ flat_map (fault_lines groups holder now) r.0 =
+      ap below_place all ∙ ap (flat_map (fault_lines groups holder now)) r.1 ∙ flat_map-append (fault_lines groups holder now) (shown_below places (n + 1)) r.0
+      ∙ ap (λ ls. ls ++ flat_map (fault_lines groups holder now) r.0) (next_place n) in
       puts_as _ _ _ _ (ap (limited width room) (sym split))
-      (limited_first width {T = T} room (below_place n ++ at_place n) (flat_map (fault_lines groups holder) r.0) e last old new failed
+      (limited_first width {T = T} room (below_place n ++ at_place n) (flat_map (fault_lines groups holder now) r.0) e last old new failed
       (limited_then width room m (below_place n) (at_place n) tt (Err e) old mid new is before here))
+
+-- ---- how many lines there are
+
+-- a line, if it is shown
+pub one_if_shown : (b : Bool) (line : List ℕ) → (if b then 1 else 0) ≡ capped (length (if b then line ∷ [] else []))
+one_if_shown true line = refl
+one_if_shown false line = refl
+
+-- the moment, and those in both
+pub counted_all : (c d e n : ℕ) (line : List ℕ) (xs ys : List (List ℕ)) → c ≡ capped (length xs) → d ≡ capped (length ys) → e ≡ capped (c + d)
+    → n ≡ capped (e + 1) → n ≡ capped (length (line ∷ (xs ++ ys)))
+counted_all c d e n line xs ys first second both all =
+    let is = counted_then c d e xs ys first second both in
+    omega (arith, is, all)

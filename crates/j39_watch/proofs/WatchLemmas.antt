@@ -1,5 +1,5 @@
 -- A watch as an account: its screen, one frame more, and its end.
-use Rattle.j39_watch.proofs.Common.{Bor, ◌≡◌, ◌≤◌, ◌<◌, ◌+◌, ◌/◌, ◌^◌, ◌∙◌, ◌++◌, ◌∷◌, [], ℕ, zero, suc, Bool, true, false, List, Option, Some, ap, ap₂, append-nil, append_assoc, arith, length, length-append, map, refl, reverse, subst, sym, take, filter, if◌then◌else◌, unwrap_or, flat_map, Appends, flat_map-append, reverse-append, take-append-le, filter-append, flat_map-map, FrameRecord, stamp_micros, Origin, is_reported_in, RowRecord, AppendsFront, Begins, Closes, MakesOne, Meets, Stops, StopsAtEnd, capped, Hearing, or_none, Hears, holder_of, Output, Entry, entries_of, heard_more, capped-fits, reported_leaves, heard_below_unique, stamp_text, pairs_of}
+use Rattle.j39_watch.proofs.Common.{Bor, ◌≡◌, ◌≤◌, ◌<◌, ◌+◌, ◌/◌, ◌^◌, ◌∙◌, ◌++◌, ◌∷◌, [], ℕ, zero, suc, Bool, true, false, List, Option, Some, ap, ap₂, append-nil, append_assoc, arith, length, length-append, map, refl, reverse, subst, sym, take, filter, if◌then◌else◌, unwrap_or, flat_map, Appends, flat_map-append, reverse-append, take-append-le, filter-append, flat_map-map, FrameRecord, stamp_micros, Origin, is_reported_in, RowRecord, AppendsFront, Begins, Closes, MakesOne, Meets, Stops, StopsAtEnd, capped, Hearing, or_none, Hears, holder_of, Output, Entry, entries_of, heard_more, capped-fits, reported_leaves, heard_below_unique, pairs_of}
 use Rattle.std.specs.Prelude.{option_map}
 use Rattle.std.proofs.lemmas.List.{take_all}
 use Rattle.j39_address.proofs.HolderLemmas.{same_holder}
@@ -13,7 +13,7 @@ use Rattle.j39_watch.specs.LatestSoFar.{AreLatest, LatestRow, latest_at, latest_
 use Rattle.j39_fault_reports.specs.News.{is_fault_group}
 use Rattle.j39_watch.specs.NotesSoFar.{HasWatched, Keeps, Notes, lines_of_watch, moment_of, screen_of_watch, size_of}
 use Rattle.j39_reports.specs.Summary.{firsts, values_like}
-use Rattle.j39_watch.specs.Watch.{AreDrawn, IsDrawn, IsScreen, Latest, MakesWatch, Size, begins_half, fault_shown_line, faults_shown, is_due, is_due_at, is_shown, is_there, last_stamp, latest_in, latest_of, newest, screen_lines, screen_text, value_line}
+use Rattle.j39_watch.specs.Watch.{AreDrawn, IsDrawn, IsScreen, Latest, MakesWatch, Size, begins_half, fault_shown_line, faults_shown, fitted, is_due, is_due_at, is_shown, is_there, last_stamp, latest_in, latest_of, moment_text, newest, screen_lines, screen_text, value_line}
 use Rattle.j39_watch.specs.WatchSoFar.{fault_lines, faults_of_places, value_lines}
 use Rattle.j39_watch.specs.declared.account.Screens.{Screens}
 use Rattle.j39_watch.specs.declared.latest.Latest as code
@@ -48,8 +48,8 @@ module _ (groups : List RowRecord) (holder : ℕ → Option ℕ) (now : ℕ) whe
       ∙ chosen_lines (λ e. is_there holder e.address e.name) (λ first. value_line groups now (latest_of now es first)) (firsts es)
       ∙ map_twice (value_line groups now) (latest_of now es) (filter (λ e. is_there holder e.address e.name) (firsts es))
 
-faults_are : (groups : List RowRecord) (holder : ℕ → Option ℕ) (ns : List Now) → flat_map (fault_lines groups holder) ns ≡ map (fault_shown_line groups) (filter (is_shown holder) ns)
-faults_are groups holder ns = chosen_lines (is_shown holder) (fault_shown_line groups) ns
+faults_are : (groups : List RowRecord) (holder : ℕ → Option ℕ) (now : ℕ) (ns : List Now) → flat_map (fault_lines groups holder now) ns ≡ map (fault_shown_line groups now) (filter (is_shown holder) ns)
+faults_are groups holder now ns = chosen_lines (is_shown holder) (fault_shown_line groups now) ns
 
 -- ---- its screen
 
@@ -60,15 +60,15 @@ lines_are groups size w F has =
     let holder = holder_of w.listener in
     let es = flat_map (entries_of groups) has.heard in
     let moment : moment_of w ≡ last_stamp F = ap (λ o. unwrap_or o 0) has.last_is in
-    let faults : faults_of_places groups holder w.places 256 ≡ map (fault_shown_line groups) (faults_shown holder has.faults) =
-    ap (flat_map (fault_lines groups holder)) (shown_all [] (active_among has.faults) w.places has.are_kept 256 (omega arith)) ∙ faults_are groups holder (faults_now [] (active_among has.faults)) in
-    let by_table = λ (table : List RowRecord). stamp_text (moment_of w) ∷ (faults_of_places table holder w.places 256 ++ flat_map (value_lines table holder (moment_of w)) (pairs_of w.values.rows)) in
+    let faults : faults_of_places groups holder (last_stamp F) w.places 256 ≡ map (fault_shown_line groups (last_stamp F)) (faults_shown holder has.faults) =
+    ap (flat_map (fault_lines groups holder (last_stamp F))) (shown_all [] (active_among has.faults) w.places has.are_kept 256 (omega arith)) ∙ faults_are groups holder (last_stamp F) (faults_now [] (active_among has.faults)) in
+    let by_table = λ (table : List RowRecord). moment_text (moment_of w) ∷ (faults_of_places table holder (moment_of w) w.places 256 ++ flat_map (value_lines table holder (moment_of w)) (pairs_of w.values.rows)) in
     ap by_table has.by
-    ∙ ap (λ m. stamp_text m ∷ (faults_of_places groups holder w.places 256 ++ flat_map (value_lines groups holder m) (pairs_of w.values.rows))) moment
-    ∙ ap₂ (λ fs vs. stamp_text (last_stamp F) ∷ (fs ++ vs)) faults (values_shown groups holder (last_stamp F) (pairs_of w.values.rows) es has.are_latest)
+    ∙ ap (λ m. moment_text m ∷ (faults_of_places groups holder m w.places 256 ++ flat_map (value_lines groups holder m) (pairs_of w.values.rows))) moment
+    ∙ ap₂ (λ fs vs. moment_text (last_stamp F) ∷ (fs ++ vs)) faults (values_shown groups holder (last_stamp F) (pairs_of w.values.rows) es has.are_latest)
 
 pub screen_is : (groups : List RowRecord) (size : Size) (w : Screens) (F : List FrameRecord) → (has : Keeps groups size w F)
-    → IsScreen groups size F (screen_of_watch w) (length has.heard) (length (take w.size.rows (lines_of_watch w)))
+    → IsScreen groups size F (screen_of_watch w) (length has.heard) (length (fitted w.size.rows (lines_of_watch w)))
 screen_is groups size w F has = record {
   heard = has.heard;
   are_heard = has.are_heard;
@@ -80,7 +80,7 @@ screen_is groups size w F has = record {
   shown = lines_of_watch w;
   shown_are = lines_are groups size w F has;
   text_is = ap (λ (s : Size). screen_text s (lines_of_watch w)) has.size_is;
-  lines_are = ap (λ (s : Size). length (take s.rows (lines_of_watch w))) has.size_is;
+  lines_are = ap (λ (s : Size). length (fitted s.rows (lines_of_watch w))) has.size_is;
 }
 
 pub screens_one : (groups : List RowRecord) (size : Size) (F : List FrameRecord) (x y : List ℕ) (m m' l l' : ℕ) → IsScreen groups size F x m l → IsScreen groups size F y m' l' → x ≡ y
@@ -175,7 +175,7 @@ module _ (groups : List RowRecord) (size : Size) where
   text_if draws a = if draws then screen_of_watch a else []
 
   drawn_if : (draws : Bool) (a' : Screens) (H : List FrameRecord) → Keeps groups size a' H → IsDrawn groups size draws H (text_if draws a')
-  drawn_if true a' H has = (length has.heard, length (take a'.size.rows (lines_of_watch a')), screen_is groups size a' H has)
+  drawn_if true a' H has = (length has.heard, length (fitted a'.size.rows (lines_of_watch a')), screen_is groups size a' H has)
   drawn_if false a' H has = refl
 
   due : (F : List FrameRecord) (f : FrameRecord) (last : Option ℕ) → last ≡ newest (reverse F) → begins_half (F ++ f ∷ []) ≡ is_due last f.stamp
@@ -227,10 +227,10 @@ module _ (groups : List RowRecord) (size : Size) where
 
   -- ---- the end
 
-  pub watch_closes : (a : Screens) (lines : ℕ) (old new : Option (List ℕ)) → lines ≡ length (take a.size.rows (lines_of_watch a)) → lines < 2 ^ 64
+  pub watch_closes : (a : Screens) (lines : ℕ) (old new : Option (List ℕ)) → lines ≡ length (fitted a.size.rows (lines_of_watch a)) → lines < 2 ^ 64
       → Appends old new (screen_of_watch a) → Closes (λ bus. HasWatched groups size) (MakesWatch groups size) a (record { messages = a.messages; lines = lines }) old new
   watch_closes a lines old new count fits written = λ bus F before has. record {
-    after = record { text = before.text ++ screen_of_watch a; messages = length has.keeps.heard; lines = length (take a.size.rows (lines_of_watch a)) };
+    after = record { text = before.text ++ screen_of_watch a; messages = length has.keeps.heard; lines = length (fitted a.size.rows (lines_of_watch a)) };
     is_made = (before.text, screen_of_watch a, has.drawn, screen_is groups size a F has.keeps, refl);
     messages_are = has.keeps.messages_are;
     lines_are = sym (ap capped (sym count) ∙ capped-fits lines fits);
@@ -242,7 +242,7 @@ module _ (groups : List RowRecord) (size : Size) where
   pub watch_stops_at_end : (a : Screens) (old new : Option (List ℕ)) → AppendsFront old new (screen_of_watch a) → StopsAtEnd (λ bus. HasWatched groups size) (MakesWatch groups size) a old new
   watch_stops_at_end a old new front = λ bus F before all has made. record {
     rest = screen_of_watch a;
-    all_is = watch_one bus F all (record { text = before.text ++ screen_of_watch a; messages = length has.keeps.heard; lines = length (take a.size.rows (lines_of_watch a)) })
+    all_is = watch_one bus F all (record { text = before.text ++ screen_of_watch a; messages = length has.keeps.heard; lines = length (fitted a.size.rows (lines_of_watch a)) })
         made (before.text, screen_of_watch a, has.drawn, screen_is groups size a F has.keeps, refl);
     front = front;
   }

@@ -18,8 +18,7 @@ use Rattle.j39_watch.specs.LatestSoFar.{AreLatest}
 use Rattle.j39_fault_reports.specs.News.{is_fault_group}
 use Rattle.j39_watch.specs.ScreenSoFar.{lines_of_code}
 use Rattle.j39_reports.specs.SummaryRun.{WantsRow}
-use Rattle.j39_watch.specs.Watch.{AreDrawn, Size, below_end, home, newest}
-use Rattle.j39_watch.specs.WatchSoFar.{limited}
+use Rattle.j39_watch.specs.Watch.{AreDrawn, Size, newest, screen_text}
 use Rattle.j39_watch.specs.declared.account.Screens.{Screens}
 use Rattle.j39_watch.specs.declared.size.ScreenSize.{ScreenSize}
 use Rattle.j39_watch.specs.declared.values.Values.{Values}
@@ -60,7 +59,7 @@ abbrev pub lines_of_watch : Screens → List (List ℕ)
 lines_of_watch watch = lines_of_code watch.roles.groups.now watch.listener (moment_of watch) watch.places watch.values
 
 abbrev pub screen_of_watch : Screens → List ℕ
-screen_of_watch watch = home ++ (limited watch.size.width watch.size.rows (lines_of_watch watch) ++ below_end)
+screen_of_watch watch = screen_text (size_of watch.size) (lines_of_watch watch)
 
 -- what it keeps is of F, by this table, for screens of this size
 pub record Keeps (groups : List RowRecord) (size : Size) (watch : Screens) (F : List FrameRecord) : Type 0 where

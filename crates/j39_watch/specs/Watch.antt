@@ -1,6 +1,6 @@
 -- What a watch shows (own): on each screen the faults that are there, and the last value of each parameter of each controller
 -- that is on the bus.
-use Rattle.std.specs.Prelude.{◌≡◌, ◌==◌, ◌&&◌, ◌⊎◌, ◌++◌, ◌∷◌, ◌-◌, ◌/◌, ◌%◌, [], not, ℕ, zero, suc, Bool, true, false, List, Option, Some, None, codes, decimal, drop, filter, is_some, length, map, replicate, reverse, take, unwrap_or}
+use Rattle.std.specs.Prelude.{◌≡◌, ◌==◌, ◌&&◌, ◌⊎◌, ◌++◌, ◌∷◌, ◌-◌, ◌/◌, ◌%◌, [], not, ℕ, zero, suc, Bool, true, false, List, Option, Some, None, if◌then◌else◌, codes, decimal, drop, filter, get_or, is_some, length, map, nat_le, replicate, reverse, take, unwrap_or}
 use Rattle.std.specs.List.{flat_map, prefix_len}
 use Rattle.hex.specs.Hex.{encode_upper}
 use Rattle.j39_address.specs.Claim.{claims_of}
@@ -131,18 +131,24 @@ abbrev pub said_text : List RowRecord → Lamps → Option Code → List ℕ
 said_text groups lamps None = []
 said_text groups lamps (Some code) = code_text (Is Active) lamps (name_in groups code) code
 
-unfoldable pub fault_shown_line : List RowRecord → Now → List ℕ
-fault_shown_line groups n = controller_columns n.address None n.name ++ said_text groups n.lamps n.code
+-- how long ago its last message came stands between them
+unfoldable pub fault_shown_line : List RowRecord → ℕ → Now → List ℕ
+fault_shown_line groups now n =
+    controller_columns n.address None n.name ++ column 6 (age_text (tenths now n.last)) ++ said_text groups n.lamps n.code
 
--- the stamp of the last frame, the faults, and the values
+-- when the last frame came
+abbrev pub moment_text : ℕ → List ℕ
+moment_text now = codes "last frame at " ++ stamp_text now
+
+-- the moment, the faults, and the values
 abbrev pub screen_lines : List RowRecord → (ℕ → Option ℕ) → ℕ → List Entry → List Hearing → List (List ℕ)
 screen_lines groups holder now entries faults =
-    stamp_text now ∷ (map (fault_shown_line groups) (faults_shown holder faults)
+    moment_text now ∷ (map (fault_shown_line groups now) (faults_shown holder faults)
     ++ map (value_line groups now) (latest_in holder now entries))
 
 -- ---- a screen
 
--- how many lines it has, and how many bytes a line
+-- how many lines it has, and how many bytes a line at most
 pub record Size : Type 0 where
   pub rows : ℕ
   pub width : ℕ
@@ -161,12 +167,30 @@ line_end = escape ∷ codes "[K\n"
 abbrev pub below_end : List ℕ
 below_end = escape ∷ codes "[J"
 
+-- a byte of a letter that isn't its first (UTF-8: 80 to BF)
+abbrev pub is_inside : ℕ → Bool
+is_inside byte = byte / 64 == 2
+
+-- where a line of at most so many bytes is cut: before a letter that doesn't fit whole
+unfoldable pub letter_end : ℕ → List ℕ → ℕ
+letter_end zero line = 0
+letter_end (suc n) line = if is_inside (get_or line (suc n) 0) then letter_end n line else suc n
+
 -- a line, cut
 abbrev pub row_shown : ℕ → List ℕ → List ℕ
-row_shown width line = take width line ++ line_end
+row_shown width line = take (letter_end width line) line ++ line_end
+
+abbrev pub more_text : ℕ → List ℕ
+more_text n = decimal n ++ codes " more"
+
+-- what stands on so many rows: all lines, or the first and how many more there are
+abbrev pub fitted : ℕ → List (List ℕ) → List (List ℕ)
+fitted rows lines =
+    if nat_le (length lines) rows then lines
+    else take rows (take (rows - 1) lines ++ more_text (capped (length lines) - (rows - 1)) ∷ [])
 
 abbrev pub rows_text : Size → List (List ℕ) → List ℕ
-rows_text size lines = flat_map (row_shown size.width) (take size.rows lines)
+rows_text size lines = flat_map (row_shown size.width) (fitted size.rows lines)
 
 abbrev pub screen_text : Size → List (List ℕ) → List ℕ
 screen_text size lines = home ++ (rows_text size lines ++ below_end)
@@ -192,7 +216,7 @@ pub record IsScreen (groups : List RowRecord) (size : Size) (F : List FrameRecor
   pub shown : List (List ℕ)
   pub shown_are : shown ≡ screen_lines groups holder (last_stamp F) (flat_map (entries_of groups) heard) faults
   pub text_is : text ≡ screen_text size shown
-  pub lines_are : lines ≡ length (take size.rows shown)
+  pub lines_are : lines ≡ length (fitted size.rows shown)
 
 -- ---- when
 

@@ -11,8 +11,8 @@ use Rattle.j39_watch.specs.Watch.{fault_shown_line, is_shown, is_there, row_show
 use Rattle.j39_watch.specs.declared.latest.Latest as code
 
 -- the line of a fault, if it is shown
-abbrev pub fault_lines : List RowRecord → (ℕ → Option ℕ) → Now → List (List ℕ)
-fault_lines groups holder n = if is_shown holder n then fault_shown_line groups n ∷ [] else []
+abbrev pub fault_lines : List RowRecord → (ℕ → Option ℕ) → ℕ → Now → List (List ℕ)
+fault_lines groups holder now n = if is_shown holder n then fault_shown_line groups now n ∷ [] else []
 
 -- the line of a value, if its controller is there
 abbrev pub value_lines : List RowRecord → (ℕ → Option ℕ) → ℕ → Origin × code.Latest → List (List ℕ)
@@ -26,5 +26,5 @@ abbrev pub limited : ℕ → ℕ → List (List ℕ) → List ℕ
 limited width left lines = flat_map (row_shown width) (take left lines)
 
 -- of all places
-abbrev pub faults_of_places : List RowRecord → (ℕ → Option ℕ) → LastActives → ℕ → List (List ℕ)
-faults_of_places groups holder places n = flat_map (fault_lines groups holder) (shown_below places n)
+abbrev pub faults_of_places : List RowRecord → (ℕ → Option ℕ) → ℕ → LastActives → ℕ → List (List ℕ)
+faults_of_places groups holder now places n = flat_map (fault_lines groups holder now) (shown_below places n)

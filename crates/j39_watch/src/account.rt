@@ -1,5 +1,5 @@
 //! What a log is at each half second, as an account of the frames of a bus: the run that writes it, and its screens.
-ghost use Rattle.std.specs.Prelude.{◌≡◌, [], Err, IfOk, OnErr, if◌then◌else◌, length, option_map, take, unwrap_or};
+ghost use Rattle.std.specs.Prelude.{◌≡◌, [], Err, IfOk, OnErr, if◌then◌else◌, length, option_map, unwrap_or};
 ghost use Rattle.j39_frame.specs.Stamp.{stamp_micros};
 ghost use Rattle.j39_io.specs.Puts.{Puts};
 ghost use Rattle.j39_io.specs.Turn.{turn};
@@ -7,7 +7,7 @@ ghost use Rattle.j39_listen.specs.Output.{nothing};
 ghost use Rattle.j39_listen.specs.Ran.{PassesOn, Ran};
 ghost use Rattle.j39_listen.specs.declared.account.LineFault.TheVariants.{Write};
 ghost use Rattle.j39_watch.specs.NotesSoFar.{HasWatched, lines_of_watch, screen_of_watch, size_of};
-ghost use Rattle.j39_watch.specs.Watch.{AsksForWatch, MakesWatch};
+ghost use Rattle.j39_watch.specs.Watch.{AsksForWatch, MakesWatch, fitted};
 
 use crate::moment::Moment;
 use crate::note::note;
@@ -80,7 +80,7 @@ impl<'g, 't> Screens<'g, 't> {
     /// Writes its screen, and answers how many lines that has.
     #[inline(never)]
     fn draw<W: Sink>(&self, sink: &mut W) -> Result<u16, DeviceFault>
-        ensures lines { IfOk result (λ n. n ≡ length (take self.now.size.rows (lines_of_watch self.now))) }
+        ensures lines { IfOk result (λ n. n ≡ length (fitted self.now.size.rows (lines_of_watch self.now))) }
         ensures puts { Puts (screen_of_watch self.now) result (turn W.written W.has_failed sink.old sink.new) }
     {
         let view = View {

@@ -10,6 +10,9 @@ use j39_io::{DeviceFault, Sink};
 /// The widest line.
 pub(crate) const WIDEST: usize = 512;
 
+/// How many bytes are kept of one: with the byte behind its width, which tells whether a letter ends before.
+const KEPT: usize = WIDEST + 1;
+
 /// As many spaces as the widest column has.
 const SPACES: &[u8] = b"                ";
 
@@ -26,18 +29,18 @@ pub(crate) const END: usize = 63;
 #[derive(Drop)]
 pub(crate) struct CutLine {
     pub width: usize,
-    pub bytes: ArrayVec<u8, WIDEST>,
+    pub bytes: ArrayVec<u8, KEPT>,
     pub is_full: bool,
     is_flushed: bool,
     pub ghost fits: { length bytes.items ≤ width },
-    pub ghost narrow: { width ≤ 512 },
+    pub ghost narrow: { width ≤ 513 },
     pub ghost full: { is_full ≡ true → length bytes.items ≡ width },
 }
 
 impl CutLine {
-    /// An empty line of this width, at most 512.
+    /// An empty line of this width, at most 513.
     pub fn new(width: usize) -> CutLine
-        requires { width ≤ 512 }
+        requires { width ≤ 513 }
         ensures empty { result.bytes.items ≡ [] }
         ensures width { result.width ≡ width }
     {

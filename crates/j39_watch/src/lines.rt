@@ -1,5 +1,5 @@
 //! The lines of a screen.
-ghost use Rattle.std.specs.Prelude.{◌≡◌, ◌+◌, ◌≤◌, ◌++◌, ◌∷◌, [], IfSome, None, Some, codes, decimal, option_map, take, unwrap_or};
+ghost use Rattle.std.specs.Prelude.{◌≡◌, ◌+◌, ◌<◌, ◌≤◌, ◌++◌, ◌∷◌, [], IfSome, None, Some, codes, decimal, length, option_map, take, unwrap_or};
 ghost use Rattle.hex.specs.Hex.{encode_upper};
 ghost use Rattle.j39_address.specs.Name.{name_raw};
 ghost use Rattle.j39_frame.specs.Stamp.{stamp_micros};
@@ -9,13 +9,13 @@ ghost use Rattle.j39_io.specs.Backwards.{WritesBefore};
 ghost use Rattle.j39_io.specs.Puts.{Puts};
 ghost use Rattle.j39_io.specs.Turn.{turn};
 ghost use Rattle.j39_listen.specs.Report.{name_text};
-ghost use Rattle.j39_log.specs.StampText.{stamp_text};
 ghost use Rattle.j39_watch.specs.LatestSoFar.{latest_at, latest_row};
 ghost use Rattle.j39_reports.specs.RowModels.{kept_value};
-ghost use Rattle.j39_watch.specs.Watch.{age_text, column, controller_columns, destination_text, line_end, said_text, state_behind, tenths, value_line};
+ghost use Rattle.j39_watch.specs.Watch.{age_text, column, controller_columns, destination_text, is_inside, letter_end, moment_text, more_text, row_shown, said_text, state_behind, tenths, value_line};
 
 use crate::cut_line::{BLANK, Block, CutLine, END};
 use crate::latest::Latest;
+use crate::view::View;
 use arrayvec::ArrayVec;
 use j39_address::Name;
 use j39_fault_reports::name_in;
@@ -27,43 +27,87 @@ use j39_io::{DeviceFault, Sink, put_all};
 use j39_log::push_stamp;
 use j39_reports::{StoredValue, scaled_before};
 
-/// Writes a line, and erases what stands behind it.
+/// Writes a line of at most so many bytes, of which the byte behind them may be kept too, and erases what stands behind it.
 #[inline(always)]
-pub(crate) fn put_line<W: Sink>(line: &CutLine, sink: &mut W) -> Result<(), DeviceFault>
-    ensures { Puts (line.now.bytes.items ++ line_end) result (turn W.written W.has_failed sink.old sink.new) }
+pub(crate) fn put_line<W: Sink>(line: &CutLine, width: u16, sink: &mut W) -> Result<(), DeviceFault>
+    ensures { Puts (row_shown width line.now.bytes.items) result (turn W.written W.has_failed sink.old sink.new) }
 {
-    put_all(sink, line.as_slice())?;
+    put_all(sink, whole_letters(line.as_slice(), usize::from(width)))?;
     put_all(sink, b"\x1B[K\n")
 }
 
-/// The line of a moment.
-pub(crate) fn moment_line(width: usize, now: Stamp) -> CutLine
-    requires { width ≤ 512 }
-    ensures { result.bytes.items ≡ take width (stamp_text (stamp_micros now)) }
+/// As many bytes as fit and end with a letter.
+#[inline(always)]
+#[tactic(auto, using(crate::proofs::ScreenLemmas::short_whole))]
+fn whole_letters(bytes: &[u8], width: usize) -> &[u8]
+    ensures { result.now ≡ take (letter_end width bytes.now) bytes.now }
+{
+    if bytes.len() <= width {
+        return bytes;
+    }
+    &bytes[..end_of_letter(bytes, width)]
+}
+
+/// Where a line that is too long is cut.
+fn end_of_letter(bytes: &[u8], width: usize) -> usize
+    requires { width < length bytes.now }
+    ensures value { result ≡ letter_end width bytes.now }
+    ensures within { result ≤ width }
+{
+    let mut end = width;
+    'bytes: while end > 0 && is_inside(bytes[end]) {
+        end -= 1;
+    }
+    end
+}
+
+/// Whether a byte is of a letter that begins before it.
+fn is_inside(byte: u8) -> bool
+    ensures { result ≡ is_inside byte }
+{
+    byte / 64 == 2
+}
+
+/// The line of the moment of a view.
+pub(crate) fn moment_line(view: View<'_, '_>) -> CutLine
+    ensures { result.bytes.items ≡ take (view.entry.width + 1) (moment_text (stamp_micros view.entry.now)) }
 {
     let mut text: ArrayVec<u8, 19> = ArrayVec::new();
-    push_stamp(&mut text, now);
-    let mut line = CutLine::new(width);
+    push_stamp(&mut text, view.now);
+    let mut line = CutLine::new(usize::from(view.width) + 1);
+    line.push(b"last frame at ");
     line.push(text.as_slice());
     line
 }
 
-/// The line of a fault.
+/// The line that says how many more there are.
+pub(crate) fn more_line(width: u16, more: u64) -> CutLine
+    requires { width ≤ 512 }
+    ensures { result.bytes.items ≡ take (width + 1) (more_text more) }
+{
+    let mut line = CutLine::new(usize::from(width) + 1);
+    push_number_column(&mut line, 0, more);
+    line.push(b"more");
+    line
+}
+
+/// The line of a code of the last message of a controller, which came then.
 pub(crate) fn fault_line(
-    width: usize,
-    groups: &Groups<'_>,
+    view: View<'_, '_>,
     address: u8,
     name: Option<Name>,
+    then: Stamp,
     lamps: Lamps,
     code: Code,
 ) -> CutLine
-    requires { width ≤ 512 }
-    ensures { result.bytes.items ≡ take width (controller_columns address None (option_map name_raw name)
-        ++ said_text groups.now lamps (Some code)) }
+    ensures { result.bytes.items ≡ take (view.entry.width + 1) (controller_columns address None (option_map name_raw name)
+        ++ column 6 (age_text (tenths (stamp_micros view.entry.now) (stamp_micros then)))
+        ++ said_text view.entry.groups.now lamps (Some code)) }
 {
-    let mut line = CutLine::new(width);
+    let mut line = CutLine::new(usize::from(view.width) + 1);
     push_controller(&mut line, address, None, name.map(Name::raw));
-    push_said(&mut line, groups, lamps, code);
+    push_age(&mut line, view.now, then);
+    push_said(&mut line, view.groups, lamps, code);
     line
 }
 
@@ -176,7 +220,7 @@ fn name_before(block: &mut Block, name: Option<u64>) -> usize
     }
 }
 
-/// Appends a number in a column.
+/// Appends a number in a column, with a space behind it.
 #[tactic(auto, using(j39_rows::proofs::NumberLemmas::short_decimal))]
 fn push_number_column(line: &mut CutLine, width: usize, number: u64)
     requires { width ≤ 16 }

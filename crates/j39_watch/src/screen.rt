@@ -1,22 +1,22 @@
 //! A screen, line by line.
-ghost use Rattle.std.specs.Prelude.{◌≡◌, ◌≤◌, ◌<◌, ◌-◌, ◌++◌, ◌∷◌, [], IfOk, Some, length, option_map, take};
+ghost use Rattle.std.specs.Prelude.{◌≡◌, ◌≤◌, ◌<◌, ◌+◌, ◌-◌, ◌∷◌, [], IfOk, Some, length, option_map};
 ghost use Rattle.std.specs.List.{flat_map};
 ghost use Rattle.j39_address.specs.Name.{name_raw};
 ghost use Rattle.j39_frame.specs.Stamp.{stamp_micros};
 ghost use Rattle.j39_io.specs.Puts.{Puts};
 ghost use Rattle.j39_io.specs.Turn.{turn};
+ghost use Rattle.j39_listen.specs.Counting.{capped};
 ghost use Rattle.j39_listen.specs.Listening.{holder_of};
-ghost use Rattle.j39_log.specs.StampText.{stamp_text};
 ghost use Rattle.j39_memory.specs.ByOrigin.{pairs_of};
 ghost use Rattle.j39_fault_reports.specs.CurrentPlaces.{at, standing_record};
 ghost use Rattle.j39_fault_reports.specs.CurrentSoFar.{now_shown, nows_shown};
-ghost use Rattle.j39_watch.specs.Watch.{below_end, home};
+ghost use Rattle.j39_watch.specs.Watch.{fitted, moment_text, rows_text, screen_text};
 ghost use Rattle.j39_watch.specs.WatchSoFar.{fault_lines, faults_of_places, limited, value_lines};
 ghost use Rattle.j39_watch.specs.ScreenSoFar.{lines_of_code};
 
 use crate::cut_line::CutLine;
 use crate::latest::Latest;
-use crate::lines::{fault_line, make_value_line, moment_line, put_line};
+use crate::lines::{fault_line, make_value_line, moment_line, more_line, put_line};
 use crate::values::Values;
 use crate::view::View;
 use j39_address::Name;
@@ -32,14 +32,156 @@ pub(crate) fn put_screen<W: Sink>(
     values: &Values<'_>,
     sink: &mut W,
 ) -> Result<u16, DeviceFault>
-    ensures lines { IfOk result (λ n. n ≡ length (take rows (lines_of_code view.entry.groups.now view.entry.listener.now (stamp_micros view.entry.now) places.now values.now))) }
-    ensures puts { Puts (home ++ (limited view.entry.width rows (lines_of_code view.entry.groups.now view.entry.listener.now (stamp_micros view.entry.now) places.now values.now) ++ below_end))
+    ensures lines { IfOk result (λ n. n ≡ length (fitted rows (lines_of_code view.entry.groups.now view.entry.listener.now (stamp_micros view.entry.now) places.now values.now))) }
+    ensures puts { Puts (screen_text (record { rows = rows; width = view.entry.width }) (lines_of_code view.entry.groups.now view.entry.listener.now (stamp_micros view.entry.now) places.now values.now))
         result (turn W.written W.has_failed sink.old sink.new) }
 {
     put_all(sink, b"\x1B[H")?;
-    let left = put_lines(view, rows, places, values, sink)?;
+    let shown = put_fitted(view, rows, places, values, sink)?;
     put_all(sink, b"\x1B[J")?;
+    Ok(shown)
+}
+
+/// Writes the lines of a screen, or as many as leave a row to the number of the others; answers how many it wrote.
+fn put_fitted<W: Sink>(
+    view: View<'_, '_>,
+    rows: u16,
+    places: &LastActives,
+    values: &Values<'_>,
+    sink: &mut W,
+) -> Result<u16, DeviceFault>
+    ensures lines { IfOk result (λ n. n ≡ length (fitted rows (lines_of_code view.entry.groups.now view.entry.listener.now (stamp_micros view.entry.now) places.now values.now))) }
+    ensures puts { Puts (rows_text (record { rows = rows; width = view.entry.width }) (lines_of_code view.entry.groups.now view.entry.listener.now (stamp_micros view.entry.now) places.now values.now))
+        result (turn W.written W.has_failed sink.old sink.new) }
+{
+    let lines = count_lines(view, places, values);
+    if lines <= u64::from(rows) {
+        put_whole(view, rows, places, values, sink)
+    } else {
+        put_front(view, rows, lines, places, values, sink)
+    }
+}
+
+/// Writes all lines of a screen, for which there is room, and answers how many that is.
+fn put_whole<W: Sink>(
+    view: View<'_, '_>,
+    rows: u16,
+    places: &LastActives,
+    values: &Values<'_>,
+    sink: &mut W,
+) -> Result<u16, DeviceFault>
+    requires { length (lines_of_code view.groups.now view.listener.now (stamp_micros view.now) places.now values.now) ≤ rows }
+    ensures lines { IfOk result (λ n. n ≡ length (fitted rows (lines_of_code view.entry.groups.now view.entry.listener.now (stamp_micros view.entry.now) places.now values.now))) }
+    ensures puts { Puts (rows_text (record { rows = rows; width = view.entry.width }) (lines_of_code view.entry.groups.now view.entry.listener.now (stamp_micros view.entry.now) places.now values.now))
+        result (turn W.written W.has_failed sink.old sink.new) }
+{
+    let left = put_lines(view, rows, places, values, sink)?;
     Ok(rows - left)
+}
+
+/// Writes the first of so many lines, which are too many, and how many more there are; answers how many it wrote.
+fn put_front<W: Sink>(
+    view: View<'_, '_>,
+    rows: u16,
+    lines: u64,
+    places: &LastActives,
+    values: &Values<'_>,
+    sink: &mut W,
+) -> Result<u16, DeviceFault>
+    requires counted { lines ≡ capped (length (lines_of_code view.groups.now view.listener.now (stamp_micros view.now) places.now values.now)) }
+    requires many { rows < lines }
+    ensures lines { IfOk result (λ n. n ≡ length (fitted rows (lines_of_code view.entry.groups.now view.entry.listener.now (stamp_micros view.entry.now) places.now values.now))) }
+    ensures puts { Puts (rows_text (record { rows = rows; width = view.entry.width }) (lines_of_code view.entry.groups.now view.entry.listener.now (stamp_micros view.entry.now) places.now values.now))
+        result (turn W.written W.has_failed sink.old sink.new) }
+{
+    if rows == 0 {
+        return Ok(0);
+    }
+    put_lines(view, rows - 1, places, values, sink)?;
+    let more = more_line(view.width, lines - u64::from(rows - 1));
+    put_line(&more, view.width, sink)?;
+    Ok(rows)
+}
+
+/// How many lines there are; a count that would pass 2^64 - 1 stays there.
+fn count_lines(view: View<'_, '_>, places: &LastActives, values: &Values<'_>) -> u64
+    ensures { result ≡ capped (length (lines_of_code view.entry.groups.now view.entry.listener.now (stamp_micros view.entry.now) places.now values.now)) }
+{
+    let faults = count_faults(view, places);
+    let values = count_values(view, values);
+    faults.saturating_add(values).saturating_add(1)
+}
+
+/// How many lines of faults there are.
+fn count_faults(view: View<'_, '_>, places: &LastActives) -> u64
+    ensures { result ≡ capped (length (faults_of_places view.entry.groups.now (holder_of view.entry.listener.now) (stamp_micros view.entry.now) places.now 256)) }
+{
+    let mut count: u64 = 0;
+    for address in 0..SOURCES {
+        count = count.saturating_add(count_at(view, places, address));
+    }
+    count
+}
+
+/// How many of them are of this address.
+fn count_at(view: View<'_, '_>, places: &LastActives, address: usize) -> u64
+    requires { address < 256 }
+    ensures { result ≡ capped (length (flat_map (fault_lines view.entry.groups.now (holder_of view.entry.listener.now) (stamp_micros view.entry.now)) (nows_shown address (at places.now address)))) }
+{
+    match places.get(address) {
+        Some(last) => count_standings(view, address as u8, last),
+        None => 0,
+    }
+}
+
+/// How many of them are of its last message.
+fn count_standings(view: View<'_, '_>, address: u8, last: &LastActive) -> u64
+    ensures { result ≡ capped (length (flat_map (fault_lines view.entry.groups.now (holder_of view.entry.listener.now) (stamp_micros view.entry.now)) (nows_shown address (Some last.now)))) }
+{
+    let standings = last.standings.as_slice();
+    let mut count: u64 = 0;
+    for standing in standings {
+        count = count.saturating_add(count_standing(view, address, last, *standing));
+    }
+    count
+}
+
+/// Whether a code has a line, as a number.
+fn count_standing(view: View<'_, '_>, address: u8, last: &LastActive, standing: Standing) -> u64
+    ensures { result ≡ capped (length (fault_lines view.entry.groups.now (holder_of view.entry.listener.now) (stamp_micros view.entry.now) (now_shown address last.now (standing_record standing)))) }
+{
+    let Some(_) = standing.code else {
+        return 0;
+    };
+    if view.has(address, last.name.map(Name::raw)) {
+        1
+    } else {
+        0
+    }
+}
+
+/// How many lines of values there are.
+fn count_values(view: View<'_, '_>, values: &Values<'_>) -> u64
+    ensures { result ≡ capped (length (flat_map (value_lines view.entry.groups.now (holder_of view.entry.listener.now) (stamp_micros view.entry.now)) (pairs_of values.now.rows))) }
+{
+    let mut count: u64 = 0;
+    for at in 0..values.rows.len() {
+        let (origin, latest) = values.rows.pair_at(at);
+        count = count.saturating_add(count_value(view, origin, latest));
+    }
+    count
+}
+
+/// Whether a value has a line, as a number.
+fn count_value(view: View<'_, '_>, origin: Origin, latest: &Latest<'_>) -> u64
+    ensures { result ≡ capped (length (value_lines view.entry.groups.now (holder_of view.entry.listener.now) (stamp_micros view.entry.now) (origin, latest.now))) }
+{
+    let _ = latest;
+    if view.has(origin.address, origin.name) {
+        1
+    } else {
+        0
+    }
 }
 
 /// Writes the lines of a screen, and answers for how many more there is room.
@@ -62,13 +204,13 @@ fn put_lines<W: Sink>(
 /// Writes the line of the moment, if there is room for it.
 fn put_moment<W: Sink>(view: View<'_, '_>, left: u16, sink: &mut W) -> Result<u16, DeviceFault>
     ensures left { IfOk result (λ n. n ≡ left - 1) }
-    ensures puts { Puts (limited view.entry.width left (stamp_text (stamp_micros view.entry.now) ∷ []))
+    ensures puts { Puts (limited view.entry.width left (moment_text (stamp_micros view.entry.now) ∷ []))
         result (turn W.written W.has_failed sink.old sink.new) }
 {
     if left == 0 {
         return Ok(0);
     }
-    put_line(&moment_line(usize::from(view.width), view.now), sink)?;
+    put_line(&moment_line(view), view.width, sink)?;
     Ok(left - 1)
 }
 
@@ -80,8 +222,8 @@ fn put_faults<W: Sink>(
     places: &LastActives,
     sink: &mut W,
 ) -> Result<u16, DeviceFault>
-    ensures left { IfOk result (λ n. n ≡ room - length (faults_of_places view.entry.groups.now (holder_of view.entry.listener.now) places.now 256)) }
-    ensures puts { Puts (limited view.entry.width room (faults_of_places view.entry.groups.now (holder_of view.entry.listener.now) places.now 256))
+    ensures left { IfOk result (λ n. n ≡ room - length (faults_of_places view.entry.groups.now (holder_of view.entry.listener.now) (stamp_micros view.entry.now) places.now 256)) }
+    ensures puts { Puts (limited view.entry.width room (faults_of_places view.entry.groups.now (holder_of view.entry.listener.now) (stamp_micros view.entry.now) places.now 256))
         result (turn W.written W.has_failed sink.old sink.new) }
 {
     let mut left = room;
@@ -103,9 +245,9 @@ fn put_standings<W: Sink>(
     sink: &mut W,
 ) -> Result<u16, DeviceFault>
     ensures left { IfOk result (λ n. n ≡ room
-        - length (flat_map (fault_lines view.entry.groups.now (holder_of view.entry.listener.now)) (nows_shown address (Some last.now)))) }
+        - length (flat_map (fault_lines view.entry.groups.now (holder_of view.entry.listener.now) (stamp_micros view.entry.now)) (nows_shown address (Some last.now)))) }
     ensures puts { Puts (limited view.entry.width room
-        (flat_map (fault_lines view.entry.groups.now (holder_of view.entry.listener.now)) (nows_shown address (Some last.now))))
+        (flat_map (fault_lines view.entry.groups.now (holder_of view.entry.listener.now) (stamp_micros view.entry.now)) (nows_shown address (Some last.now))))
         result (turn W.written W.has_failed sink.old sink.new) }
 {
     let standings = last.standings.as_slice();
@@ -126,9 +268,9 @@ fn put_standing<W: Sink>(
     sink: &mut W,
 ) -> Result<u16, DeviceFault>
     ensures left { IfOk result (λ n. n ≡ left
-        - length (fault_lines view.entry.groups.now (holder_of view.entry.listener.now) (now_shown address last.now (standing_record standing)))) }
+        - length (fault_lines view.entry.groups.now (holder_of view.entry.listener.now) (stamp_micros view.entry.now) (now_shown address last.now (standing_record standing)))) }
     ensures puts { Puts (limited view.entry.width left
-        (fault_lines view.entry.groups.now (holder_of view.entry.listener.now) (now_shown address last.now (standing_record standing))))
+        (fault_lines view.entry.groups.now (holder_of view.entry.listener.now) (stamp_micros view.entry.now) (now_shown address last.now (standing_record standing))))
         result (turn W.written W.has_failed sink.old sink.new) }
 {
     let Some(code) = standing.code else {
@@ -137,11 +279,8 @@ fn put_standing<W: Sink>(
     if left == 0 || !view.has(address, last.name.map(Name::raw)) {
         return Ok(left);
     }
-    let width = usize::from(view.width);
-    put_line(
-        &fault_line(width, view.groups, address, last.name, last.lamps, code),
-        sink,
-    )?;
+    let line = fault_line(view, address, last.name, last.stamp, last.lamps, code);
+    put_line(&line, view.width, sink)?;
     Ok(left - 1)
 }
 
@@ -158,7 +297,7 @@ fn put_values<W: Sink>(
         (flat_map (value_lines view.entry.groups.now (holder_of view.entry.listener.now) (stamp_micros view.entry.now)) (pairs_of values.now.rows)))
         result (turn W.written W.has_failed sink.old sink.new) }
 {
-    let mut line = CutLine::new(usize::from(view.width));
+    let mut line = CutLine::new(usize::from(view.width) + 1);
     let mut left = room;
     for at in 0..values.rows.len() {
         let (origin, latest) = values.rows.pair_at(at);
@@ -176,7 +315,7 @@ fn put_value<W: Sink>(
     line: &mut CutLine,
     sink: &mut W,
 ) -> Result<u16, DeviceFault>
-    requires { line.old.width ≡ view.width }
+    requires { line.old.width ≡ view.width + 1 }
     ensures width { line.new.width ≡ line.old.width }
     ensures left { IfOk result (λ n. n ≡ left
         - length (value_lines view.entry.groups.now (holder_of view.entry.listener.now) (stamp_micros view.entry.now) (origin, latest.now))) }
@@ -188,6 +327,6 @@ fn put_value<W: Sink>(
         return Ok(left);
     }
     make_value_line(line, view.groups, view.now, origin, latest);
-    put_line(line, sink)?;
+    put_line(line, view.width, sink)?;
     Ok(left - 1)
 }

@@ -1,5 +1,5 @@
 -- An address more; after a fault a front of what is left was written.
-use Rattle.j39_watch.proofs.Common.{◌≡◌, ◌-◌, ◌∙◌, ℕ, List, Option, None, ap, arith, length, sym, flat_map, puts_as, puts_nothing, holder_of}
+use Rattle.j39_watch.proofs.Common.{◌≡◌, ◌-◌, ◌∙◌, ℕ, List, Option, None, ap, arith, length, sym, flat_map, puts_as, puts_nothing, stamp_micros, holder_of}
 use Rattle.j39_watch.proofs.ScreenLemmas.{limited_none, lines_of_place, none_below, place_left, stops_at_place}
 use Rattle.j39_fault_reports.specs.CurrentPlaces.{LastRecord, at}
 use Rattle.j39_fault_reports.specs.CurrentSoFar.{nows_shown}
@@ -13,7 +13,7 @@ all_left n = omega arith
 pub loop-address-init : goal.loop-address-init
 loop-address-init g c =
     let view = c.args.view in
-    let none = none_below view.width c.args.room view.groups.now (holder_of view.listener.now) c.args.places.now in (
+    let none = none_below view.width c.args.room view.groups.now (holder_of view.listener.now) (stamp_micros view.now) c.args.places.now in (
       all_left c.args.room ∙ ap (λ ls. c.args.room - length ls) none,
       puts_as _ _ _ _ (sym (limited_none view.width c.args.room) ∙ ap (limited view.width c.args.room) none) (puts_nothing _ _),
     )
@@ -22,19 +22,19 @@ pub loop-address-preserved : goal.loop-address-preserved
 loop-address-preserved g c =
     let view = c.args.view in
     let holder = holder_of view.listener.now in
-    let lines : Option LastRecord → List (List ℕ) = λ o. flat_map (fault_lines view.groups.now holder) (nows_shown c.loop-address.address o) in
+    let lines : Option LastRecord → List (List ℕ) = λ o. flat_map (fault_lines view.groups.now holder (stamp_micros view.now)) (nows_shown c.loop-address.address o) in
     elim c.match-get.branch [
       | in-Some+in_ok-left w ↦ (
-        w.left-is ∙ place_left view.width c.args.room view.groups.now holder c.args.places.now c.loop-address.address _ _ c.loop-address.invariant.0
+        w.left-is ∙ place_left view.width c.args.room view.groups.now holder (stamp_micros view.now) c.args.places.now c.loop-address.address _ _ c.loop-address.invariant.0
             (w.in_ok-left.ensures.left ∙ ap (λ o. c.loop-address.left - length (lines o)) w.in-Some.ensures),
-        rw w.sink-is (lines_of_place view.width c.args.room view.groups.now holder c.args.places.now c.loop-address.address _ _ _ _ _ c.loop-address.invariant.0 c.loop-address.invariant.1
+        rw w.sink-is (lines_of_place view.width c.args.room view.groups.now holder (stamp_micros view.now) c.args.places.now c.loop-address.address _ _ _ _ _ c.loop-address.invariant.0 c.loop-address.invariant.1
             (puts_as _ _ _ _ (ap (λ o. limited view.width c.loop-address.left (lines o)) w.in-Some.ensures) w.in_ok-left.ensures.puts)),
       )
       | in_default w ↦
           let none : None ≡ at c.args.places.now c.loop-address.address = rw w.in_default.is at c.get.ensures in (
-            w.left-is ∙ place_left view.width c.args.room view.groups.now holder c.args.places.now c.loop-address.address _ _ c.loop-address.invariant.0
+            w.left-is ∙ place_left view.width c.args.room view.groups.now holder (stamp_micros view.now) c.args.places.now c.loop-address.address _ _ c.loop-address.invariant.0
                 (all_left c.loop-address.left ∙ ap (λ o. c.loop-address.left - length (lines o)) none),
-            rw w.sink-is (lines_of_place view.width c.args.room view.groups.now holder c.args.places.now {T = Unit {0}} {F = Unit {0}} c.loop-address.address _ tt _ _ _ c.loop-address.invariant.0 c.loop-address.invariant.1
+            rw w.sink-is (lines_of_place view.width c.args.room view.groups.now holder (stamp_micros view.now) c.args.places.now {T = Unit {0}} {F = Unit {0}} c.loop-address.address _ tt _ _ _ c.loop-address.invariant.0 c.loop-address.invariant.1
                 (puts_as _ _ _ _ (sym (limited_none view.width c.loop-address.left) ∙ ap (λ o. limited view.width c.loop-address.left (lines o)) none) (puts_nothing _ _))),
           )
     ]
@@ -42,6 +42,6 @@ loop-address-preserved g c =
 pub returns-in_err-left-clause-puts : goal.returns-in_err-left-clause-puts
 returns-in_err-left-clause-puts g c =
     let view = c.args.view in
-    let lines : Option LastRecord → List (List ℕ) = λ o. flat_map (fault_lines view.groups.now (holder_of view.listener.now)) (nows_shown c.loop-address.address o) in
-    stops_at_place view.width c.args.room view.groups.now (holder_of view.listener.now) c.args.places.now c.loop-address.address _ _ _ _ _ _ c.loop-address-test.true c.loop-address.invariant.0
+    let lines : Option LastRecord → List (List ℕ) = λ o. flat_map (fault_lines view.groups.now (holder_of view.listener.now) (stamp_micros view.now)) (nows_shown c.loop-address.address o) in
+    stops_at_place view.width c.args.room view.groups.now (holder_of view.listener.now) (stamp_micros view.now) c.args.places.now c.loop-address.address _ _ _ _ _ _ c.loop-address-test.true c.loop-address.invariant.0
     c.from_residual.ensures.0 c.loop-address.invariant.1 (puts_as _ _ _ _ (ap (λ o. limited view.width c.loop-address.left (lines o)) c.in-Some.ensures) c.in_err-left.ensures.puts)

@@ -1,5 +1,5 @@
 -- A code more; after a fault a front of the lines that are left was written.
-use Rattle.j39_watch.proofs.Common.{◌≡◌, ◌-◌, ◌∙◌, List, ℕ, ap, arith, length, map, sym, take, flat_map, flat_map-map, puts_as, puts_done, puts_nothing, holder_of}
+use Rattle.j39_watch.proofs.Common.{◌≡◌, ◌-◌, ◌∙◌, List, ℕ, ap, arith, length, map, sym, take, flat_map, flat_map-map, puts_as, puts_done, puts_nothing, stamp_micros, holder_of}
 use Rattle.std.proofs.lemmas.List.{take_all}
 use Rattle.j39_watch.proofs.ScreenLemmas.{each_left, each_more, each_stops, limited_none}
 use Rattle.j39_fault_reports.specs.CurrentPlaces.{LastRecord, StandingRecord, standing_record}
@@ -15,7 +15,7 @@ pub loop-standing-preserved : goal.loop-standing-preserved
 loop-standing-preserved g c =
     let view = c.args.view in
     let xs = c.as_slice-standings.result.now in
-    let f : Standing → List (List ℕ) = λ s. fault_lines view.groups.now (holder_of view.listener.now) (now_shown c.args.address c.args.last.now (standing_record s)) in (
+    let f : Standing → List (List ℕ) = λ s. fault_lines view.groups.now (holder_of view.listener.now) (stamp_micros view.now) (now_shown c.args.address c.args.last.now (standing_record s)) in (
       each_left view.width c.args.room f xs c.loop-standing.standing-index _ _ c.standing-item.result c.loop-standing-test.true c.standing-item.is c.loop-standing.invariant.0 c.in_ok-left.ensures.left,
       each_more view.width c.args.room f xs c.loop-standing.standing-index _ c.standing-item.result _ _ _ _ c.loop-standing-test.true c.standing-item.is c.loop-standing.invariant.0 c.loop-standing.invariant.1 c.in_ok-left.ensures.puts,
     )
@@ -24,7 +24,7 @@ pub returns-in_err-left-clause-puts : goal.returns-in_err-left-clause-puts
 returns-in_err-left-clause-puts g c =
     let view = c.args.view in
     let xs = c.as_slice-standings.result.now in
-    let line = fault_lines view.groups.now (holder_of view.listener.now) in
+    let line = fault_lines view.groups.now (holder_of view.listener.now) (stamp_micros view.now) in
     let f : Standing → List (List ℕ) = λ s. line (now_shown c.args.address c.args.last.now (standing_record s)) in
     let same : map standing_record xs ≡ c.args.last.now.standings = ap (map standing_record) c.as_slice-standings.ensures.value ∙ ap (λ (l : LastRecord). l.standings) c.last.view_is in
     let all : flat_map f xs ≡ flat_map line (map (now_shown c.args.address c.args.last.now) c.args.last.now.standings) =
@@ -39,7 +39,7 @@ pub returns-clause-left : goal.returns-clause-left
 returns-clause-left g c =
     let view = c.args.view in
     let xs = c.as_slice-standings.result.now in
-    let line = fault_lines view.groups.now (holder_of view.listener.now) in
+    let line = fault_lines view.groups.now (holder_of view.listener.now) (stamp_micros view.now) in
     let f : Standing → List (List ℕ) = λ s. line (now_shown c.args.address c.args.last.now (standing_record s)) in
     let same : map standing_record xs ≡ c.args.last.now.standings = ap (map standing_record) c.as_slice-standings.ensures.value ∙ ap (λ (l : LastRecord). l.standings) c.last.view_is in
     let all : flat_map f xs ≡ flat_map line (map (now_shown c.args.address c.args.last.now) c.args.last.now.standings) =
@@ -53,7 +53,7 @@ pub returns-clause-puts : goal.returns-clause-puts
 returns-clause-puts g c =
     let view = c.args.view in
     let xs = c.as_slice-standings.result.now in
-    let line = fault_lines view.groups.now (holder_of view.listener.now) in
+    let line = fault_lines view.groups.now (holder_of view.listener.now) (stamp_micros view.now) in
     let f : Standing → List (List ℕ) = λ s. line (now_shown c.args.address c.args.last.now (standing_record s)) in
     let same : map standing_record xs ≡ c.args.last.now.standings = ap (map standing_record) c.as_slice-standings.ensures.value ∙ ap (λ (l : LastRecord). l.standings) c.last.view_is in
     let all : flat_map f xs ≡ flat_map line (map (now_shown c.args.address c.args.last.now) c.args.last.now.standings) =

@@ -1,4 +1,4 @@
-use Rattle.j39_watch.proofs.Common.{◌≡◌, ◌-◌, Ok, length, Puts, turn, holder_of}
+use Rattle.j39_watch.proofs.Common.{◌≡◌, ◌-◌, Ok, length, stamp_micros, Puts, turn, holder_of}
 use Rattle.j39_watch.proofs.ScreenLemmas.{lines_below}
 use Rattle.j39_fault_reports.specs.CurrentPlaces.{standing_record}
 use Rattle.j39_fault_reports.specs.CurrentSoFar.{now_shown}
@@ -8,6 +8,6 @@ use Rattle.j39_watch.proofs.screen.put_standings.Given as goal
 -- the lines so far are written, and no fault came
 abbrev pub invariant-loop-standing : goal.invariant-loop-standing
 invariant-loop-standing g l =
-    (l.left ≡ l.room - length (lines_below l.view.width l.room (λ s. fault_lines l.view.groups.now (holder_of l.view.listener.now) (now_shown l.address l.last (standing_record s))) l.standings l.standing-index))
-    × Puts {T = Unit} {E = Unit} (limited l.view.width l.room (lines_below l.view.width l.room (λ s. fault_lines l.view.groups.now (holder_of l.view.listener.now) (now_shown l.address l.last (standing_record s))) l.standings l.standing-index)) (Ok tt)
+    (l.left ≡ l.room - length (lines_below l.view.width l.room (λ s. fault_lines l.view.groups.now (holder_of l.view.listener.now) (stamp_micros l.view.now) (now_shown l.address l.last (standing_record s))) l.standings l.standing-index))
+    × Puts {T = Unit} {E = Unit} (limited l.view.width l.room (lines_below l.view.width l.room (λ s. fault_lines l.view.groups.now (holder_of l.view.listener.now) (stamp_micros l.view.now) (now_shown l.address l.last (standing_record s))) l.standings l.standing-index)) (Ok tt)
     (turn g.W.Sink.written g.W.Sink.has_failed l.initial.sink l.sink)

@@ -1,5 +1,5 @@
 -- A row more; after a fault a front of the rows that are left was written.
-use Rattle.j39_watch.proofs.Common.{◌≡◌, ◌<◌, ◌∙◌, arith, get_or, length, sym, get_or_from_slice_get, stamp_micros, Origin, puts_as, puts_nothing, holder_of, pairs_of}
+use Rattle.j39_watch.proofs.Common.{◌≡◌, ◌<◌, ◌+◌, ◌∙◌, ap, arith, get_or, length, sym, get_or_from_slice_get, stamp_micros, Origin, puts_as, puts_nothing, holder_of, pairs_of}
 use Rattle.j39_watch.proofs.ScreenLemmas.{each_left, each_more, each_stops, limited_none}
 use Rattle.j39_watch.specs.WatchSoFar.{value_lines}
 use Rattle.j39_watch.specs.declared.latest.Latest.{Latest}
@@ -7,7 +7,7 @@ use Rattle.j39_watch.proofs.screen.put_values.Goals as goal
 
 pub loop-at-init : goal.loop-at-init
 loop-at-init g c =
-    (omega arith, puts_as _ _ _ _ (sym (limited_none c.args.view.width c.args.room)) (puts_nothing _ _), c.new-line.ensures.width ∙ c.from.ensures)
+    (omega arith, puts_as _ _ _ _ (sym (limited_none c.args.view.width c.args.room)) (puts_nothing _ _), c.new-line.ensures.width ∙ ap (λ w. w + 1) c.from.ensures)
 
 pub loop-at-preserved : goal.loop-at-preserved
 loop-at-preserved g c =
