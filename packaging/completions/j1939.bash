@@ -14,12 +14,12 @@ _j1939_options() {
     summary) echo --bus --table --spn --from --to --pgn --since --until --csv --json --help -h ;;
     grid) echo --every --bus --table --spn --from --to --pgn --since --until --csv --json --help -h ;;
     faults) echo --bus --table --conversion --spn --from --to --pgn --since --until --all --changes --now --csv --json --help -h ;;
-    nodes) echo --bus --from --seen --csv --json --help -h ;;
+    nodes) echo --bus --from --seen --silent --csv --json --help -h ;;
     answer) echo --name --address --bus --help -h ;;
     cut) echo --source --pgn --at --bus --help -h ;;
     groups) echo --table --help -h ;;
     survey) echo --bus --table --csv --json --help -h ;;
-    watch) echo --bus --table --rows --width --help -h ;;
+    watch) echo --bus --table --spn --rows --width --help -h ;;
     id | name) echo --help -h ;;
   esac
 }

@@ -56,8 +56,8 @@ is_read program (faults conversion all changes now texts) =
     parsed_choices program faults_app (faults conversion all changes now texts) (before_each (form_of (faults conversion all changes now texts)).arguments) file_rule texts.file (takes_file refl)
     (record { choices = tt; known = refl; apart = refl; defaults = refl; none_by_default = refl; first = refl; valid = λ rows. refl })
     (record { step = refl; passes = refl; found = refl; checks = refl }) refl refl
-is_read program (nodes bus from seen csv json file) =
-    parsed_choices program nodes_app (nodes bus from seen csv json file) (before_each (form_of (nodes bus from seen csv json file)).arguments) file_rule file (takes_file refl)
+is_read program (nodes bus from seen silent csv json file) =
+    parsed_choices program nodes_app (nodes bus from seen silent csv json file) (before_each (form_of (nodes bus from seen silent csv json file)).arguments) file_rule file (takes_file refl)
     (record { choices = tt; known = refl; apart = refl; defaults = refl; none_by_default = refl; first = refl; valid = λ rows. refl })
     (record { step = refl; passes = refl; found = refl; checks = refl }) refl refl
 is_read program (answer node address bus file) = parsed_each program answer_app (answer node address bus file)
@@ -77,7 +77,7 @@ is_read program (survey bus table csv json file) =
     parsed_choices program survey_app (survey bus table csv json file) (before_each (form_of (survey bus table csv json file)).arguments) file_rule file (takes_file refl)
     (record { choices = tt; known = refl; apart = refl; defaults = refl; none_by_default = refl; first = refl; valid = λ rows. refl })
     (record { step = refl; passes = refl; found = refl; checks = refl }) refl refl
-is_read program (watch bus table rows width file) =
-    parsed_choices program watch_app (watch bus table rows width file) (before_each (form_of (watch bus table rows width file)).arguments) file_rule file (takes_file refl)
+is_read program (watch bus table spn rows width file) =
+    parsed_choices program watch_app (watch bus table spn rows width file) (before_each (form_of (watch bus table spn rows width file)).arguments) file_rule file (takes_file refl)
     (record { choices = tt; known = refl; apart = refl; defaults = refl; none_by_default = refl; first = refl; valid = λ rows. refl })
     (record { step = refl; passes = refl; found = refl; checks = refl }) refl refl

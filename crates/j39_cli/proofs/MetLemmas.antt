@@ -128,14 +128,14 @@ is_command_found (command.faults conversion all changes now texts) found are =
     let told = asked.1 in
     let rows = rows_are_found texts found are.0 are.1.0 asked.0 told.1.1.1 in
     λ i. command.faults (sym are.1.1.0 i) (sym told.0 i) (sym told.1.0 i) (sym told.1.1.0 i) (rows i)
-is_command_found (command.nodes bus from seen csv json file) found are = cc
+is_command_found (command.nodes bus from seen silent csv json file) found are = cc
 is_command_found (command.answer node address bus file) found are =
     cc (is_text_found found (codes "name") node are.0, is_text_found found (codes "address") address are.1.0)
 is_command_found (command.id hex) found are = cc (is_text_found found (codes "hex") hex are.0)
 is_command_found (command.name hex) found are = cc (is_text_found found (codes "hex") hex are.0)
 is_command_found (command.groups table) found are = cc
 is_command_found (command.survey bus table csv json file) found are = cc
-is_command_found (command.watch bus table rows width file) found are = cc
+is_command_found (command.watch bus table spn rows width file) found are = cc
 is_command_found (command.cut source pgn moment bus hex) found are =
     cc (
       is_text_found found (codes "source") source are.0,

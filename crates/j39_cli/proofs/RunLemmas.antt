@@ -12,16 +12,16 @@ use Rattle.j39_listen.specs.declared.running.RunFault.TheVariants.{Read}
 use Rattle.j39_cli.specs.LogCommand.{IsRun, IsTold, log_limit}
 use Rattle.j39_cli.specs.ReportCommand.{IsReported, form_in, head_in, makes_in}
 
-known : (r : Result Counts RunFault) (status : ℕ) (err : Turn) → IsTold r status err → (status ≡ 0) ⊎ (status ≡ 1)
-known (Ok counts) status err told = inl told.0
-known (Err fault) status err told = inr told.0
+known : (bus : Option (List ℕ)) (r : Result Counts RunFault) (status : ℕ) (err : Turn) → IsTold bus r status err → (status ≡ 0) ⊎ (status ≡ 1)
+known bus (Ok counts) status err told = inl told.0
+known bus (Err fault) status err told = inr told.0
 
 -- a run on the task's own bus that ended, and whose end was told, is one
 pub is_run : (asks : Wanting) (makes : Making) (bus bus' : Option (List ℕ)) (r : Result Counts RunFault) (status : ℕ)
-    → (log out err : Turn) → bus ≡ bus' → Ran makes asks bus log_limit r log out → IsTold r status err
+    → (log out err : Turn) → bus ≡ bus' → Ran makes asks bus log_limit r log out → IsTold bus' r status err
     → IsRun asks makes bus' status log out err
 is_run asks makes bus bus' r status log out err is ran told = record {
-  known = known r status err told;
+  known = known bus' r status err told;
   result = r;
   ran = subst (λ (b : Option (List ℕ)). Ran makes asks b log_limit r log out) is ran;
   told = told;
@@ -29,7 +29,7 @@ is_run asks makes bus bus' r status log out err is ran told = record {
 
 -- a run of the report that ended, and whose end was told, is one
 pub is_reported : (which : FilterRecord) (format : Format) (bus : Option (List ℕ)) (rows : List RowRecord) (r : Result Counts RunFault) (status : ℕ) (log out err : Turn)
-    → Ran (makes_in format which rows) AsksForBoxes bus log_limit r log out → IsTold r status err
+    → Ran (makes_in format which rows) AsksForBoxes bus log_limit r log out → IsTold bus r status err
     → (format ≡ Line → which ≡ no_filter → OnOk r (IfSome log.old.bytes (λ bytes. WritesPublished rows bus bytes out.old.bytes out.new.bytes)))
     → OnOk r (IfSome log.old.bytes (λ bytes. WritesAsked (head_in format) (form_in format) which rows bus bytes out.old.bytes out.new.bytes))
     → (r ≡ Err Read → WritesWholeLines (makes_in format which rows) bus log.old.bytes log.new.bytes out.old.bytes out.new.bytes)
@@ -58,5 +58,5 @@ pub ended_err : (r : Result Counts RunFault) (fault : RunFault)
 ended_err (Ok x) fault e = absurd (cc)
 ended_err (Err x) fault e = cc
 
-pub told_as : (r end : Result Counts RunFault) (status : ℕ) (err : Turn) → r ≡ end → IsTold end status err → IsTold r status err
-told_as r end status err is told = subst (λ (x : Result Counts RunFault). IsTold x status err) (sym is) told
+pub told_as : (bus : Option (List ℕ)) (r end : Result Counts RunFault) (status : ℕ) (err : Turn) → r ≡ end → IsTold bus end status err → IsTold bus r status err
+told_as bus r end status err is told = subst (λ (x : Result Counts RunFault). IsTold bus x status err) (sym is) told

@@ -25,6 +25,7 @@ argument_text argument.To = codes "--to"
 argument_text argument.Since = codes "--since"
 argument_text argument.Until = codes "--until"
 argument_text argument.Every = codes "--every"
+argument_text argument.Silent = codes "--silent"
 argument_text argument.Conversion = codes "--conversion"
 argument_text argument.Rows = codes "--rows"
 argument_text argument.Width = codes "--width"
@@ -46,6 +47,7 @@ argument_form argument.To = Some (codes "--to takes up to 32 addresses (hex) wit
 argument_form argument.Since = Some (codes "--since takes 1700000000.5, 2023-11-14T22:13:20Z, or +90 behind the first frame")
 argument_form argument.Until = Some (codes "--until takes 1700000000.5, 2023-11-14T22:13:20Z, or +90 behind the first frame")
 argument_form argument.Every = Some (codes "--every takes seconds from 0.000001 to 86400, as 0.5")
+argument_form argument.Silent = Some (codes "--silent takes seconds, as 0.5")
 argument_form argument.Conversion = Some (codes "--conversion takes versions from 1 to 3, as 2, or of NAMEs, as 8000000001401234=1,2")
 argument_form argument.Rows = Some (codes "--rows takes 2 to 1000")
 argument_form argument.Width = Some (codes "--width takes 20 to 512")

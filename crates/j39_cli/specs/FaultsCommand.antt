@@ -24,7 +24,7 @@ use Rattle.j39_cli.specs.RowsRun.{Running}
 use Rattle.j39_cli.specs.declared.options.FaultOptions.{FaultOptions}
 use Rattle.j39_cli.specs.declared.task.Argument.TheVariants as argument
 use Rattle.j39_cli.specs.Form.{Form, Meaning, flag, option}
-use Rattle.j39_cli.specs.LogCommand.{fault_text, forms_check, log_arguments, log_limit, with_forms, with_log}
+use Rattle.j39_cli.specs.LogCommand.{absent_text, fault_text, forms_check, log_arguments, log_limit, with_forms, with_log}
 use Rattle.j39_cli.specs.Counted.{fault_counts_text}
 use Rattle.j39_cli.specs.Refusal.{error_line}
 use Rattle.j39_cli.specs.Rules.{flag_rule, option_rule, with_table}
@@ -91,16 +91,16 @@ abbrev pub asks_by : FaultOptions → Wanting
 asks_by o = asks_told o.told (filter_in o.rows.asked)
 
 -- the end of a run is told: its counts, with the messages that were broken, with status 0, or its fault, with status 1
-abbrev pub IsFaultsTold : Result FaultCounts RunFault → ℕ → Turn → Type 0
-IsFaultsTold (Ok told) status err = (status ≡ 0) × Tells err (fault_counts_text told)
-IsFaultsTold (Err fault) status err = (status ≡ 1) × Tells err (error_line (fault_text fault) [])
+abbrev pub IsFaultsTold : Option (List ℕ) → Result FaultCounts RunFault → ℕ → Turn → Type 0
+IsFaultsTold bus (Ok told) status err = (status ≡ 0) × Tells err (absent_text bus told.counts.frames ++ fault_counts_text told)
+IsFaultsTold bus (Err fault) status err = (status ≡ 1) × Tells err (error_line (fault_text fault) [])
 
 -- a run over the log ended so, as a run that makes this of faults may, and its end is told
 pub record IsFaultsRun (makes : Making) (asks : Wanting) (bus : Option (List ℕ)) (status : ℕ) (log out err : Turn) : Type 0 where
   pub known : (status ≡ 0) ⊎ (status ≡ 1)
   pub result : Result FaultCounts RunFault
   pub ran : ToldFaults makes asks bus log_limit result log out
-  pub told : IsFaultsTold result status err
+  pub told : IsFaultsTold bus result status err
 
 abbrev pub IsFaultsBy : FaultOptions → Running
 IsFaultsBy o rows = IsFaultsRun (makes_by o rows) (asks_by o) o.rows.input.bus

@@ -1,5 +1,5 @@
 -- What the commands that read a log have in common.
-use Rattle.std.specs.Prelude.{◌≡◌, ◌≢◌, ◌⊎◌, ℕ, Bool, true, false, ◌++◌, ◌∷◌, List, [], Option, None, Some, Result, Ok, Err, codes, decimal}
+use Rattle.std.specs.Prelude.{◌≡◌, ◌≢◌, ◌⊎◌, ℕ, zero, suc, Bool, true, false, ◌++◌, ◌∷◌, List, [], Option, None, Some, Result, Ok, Err, codes, decimal}
 use Rattle.std.specs.Str.{bytes_eq}
 use Rattle.std.specs.Option.{ForSome}
 use Rattle.j39_io.specs.Turn.{Turn}
@@ -66,17 +66,23 @@ fault_text Read = fault_words Read
 fault_text Write = fault_words Write
 fault_text TooLong = codes "input longer than " ++ decimal log_limit ++ codes " bytes"
 
--- the end of a run is told: its counts, with status 0, or its fault, with status 1
-abbrev pub IsTold : Result Counts RunFault → ℕ → Turn → Type 0
-IsTold (Ok counts) status err = (status ≡ 0) × Tells err (counts_text counts)
-IsTold (Err fault) status err = (status ≡ 1) × Tells err (error_line (fault_text fault) [])
+-- a bus that is asked for, and of which no frame is
+abbrev pub absent_text : Option (List ℕ) → ℕ → List ℕ
+absent_text None frames = []
+absent_text (Some bus) zero = error_line (codes "no frame is of ") bus
+absent_text (Some bus) (suc n) = []
+
+-- the end of a run is told: its counts, behind such a bus, with status 0, or its fault, with status 1
+abbrev pub IsTold : Option (List ℕ) → Result Counts RunFault → ℕ → Turn → Type 0
+IsTold bus (Ok counts) status err = (status ≡ 0) × Tells err (absent_text bus counts.frames ++ counts_text counts)
+IsTold bus (Err fault) status err = (status ≡ 1) × Tells err (error_line (fault_text fault) [])
 
 -- a run over the log ended so, as a run that makes and asks this may, and its end is told
 pub record IsRun (asks : Wanting) (makes : Making) (bus : Option (List ℕ)) (status : ℕ) (log out err : Turn) : Type 0 where
   pub known : (status ≡ 0) ⊎ (status ≡ 1)
   pub result : Result Counts RunFault
   pub ran : Ran makes asks bus log_limit result log out
-  pub told : IsTold result status err
+  pub told : IsTold bus result status err
 
 -- the task of a run: what it asks and makes may go by a table of parameters
 abbrev pub runs : (List RowRecord → Wanting) → (List RowRecord → Making) → LogInput → Meaning

@@ -1,16 +1,17 @@
--- The command `nodes [--bus B] [--from A,..] [--seen] [--csv | --json] [FILE]..`.
-use Rattle.std.specs.Prelude.{◌≡◌, ◌∷◌, [], ℕ, Bool, false, true, List, Option, Some, codes, option_map}
+-- The command `nodes [--bus B] [--from A,..] [--seen] [--silent S] [--csv | --json] [FILE]..`.
+use Rattle.std.specs.Prelude.{◌≡◌, ◌∷◌, [], ℕ, Bool, false, true, List, None, Option, Some, codes, option_map}
 use Rattle.clap.specs.Words.{App, Text, new_app, with_rule}
 use Rattle.j39_listen.specs.Asking.{AsksNowhere}
 use Rattle.j39_listen.specs.Headed.{begins_flushed}
 use Rattle.j39_survey.specs.Nodes.{MakesNodesOf}
 use Rattle.j39_listen.specs.Output.{Making}
-use Rattle.j39_survey.specs.SeenNodes.{MakesSeenNodes}
+use Rattle.j39_survey.specs.SeenNodes.{MakesSeenNodes, long_silence}
 use Rattle.j39_cli.specs.Answer.{bus_check, value_check}
 use Rattle.j39_cli.specs.Asked.{IsSenderList, senders_in}
 use Rattle.j39_cli.specs.Form.{Form, Meaning, flag, option}
 use Rattle.j39_cli.specs.LogCommand.{forms_check, log_arguments, runs, with_forms, with_log, written_by}
 use Rattle.j39_cli.specs.Rules.{flag_rule, option_rule}
+use Rattle.j39_cli.specs.Seconds.{AreSeconds, seconds_value}
 use Rattle.j39_listen.specs.declared.format.Format.{Format}
 use Rattle.j39_listen.specs.declared.filter.Sender.{Sender}
 use Rattle.j39_cli.specs.declared.task.Argument.TheVariants as argument
@@ -22,39 +23,43 @@ use Rattle.j39_cli.specs.declared.task.Task.{Task}
 use Rattle.j39_cli.specs.declared.task.Task.TheVariants.{Nodes}
 
 abbrev pub nodes_app : App
-nodes_app = with_log (with_forms (with_rule (with_rule (new_app (codes "nodes")) (option_rule (codes "from") false)) (flag_rule (codes "seen"))))
+nodes_app = with_log (with_forms (with_rule (with_rule (with_rule (new_app (codes "nodes")) (option_rule (codes "from") false))
+    (flag_rule (codes "seen"))) (option_rule (codes "silent") false)))
 
--- who holds which address alone; who was seen there too where `--seen` asks for it, and in records and objects
-abbrev pub told_by : Bool → Format → NodesTold
-told_by false Line = Held
-told_by true Line = Seen Line
-told_by seen Record = Seen Record
-told_by seen Object = Seen Object
+-- who holds which address alone; who was seen there too where `--seen` or `--silent` asks for it, and in records and objects
+abbrev pub told_by : Option ℕ → Bool → Format → NodesTold
+told_by (Some silence) seen format = Seen format silence
+told_by None true format = Seen format long_silence
+told_by None false Line = Held
+told_by None false Record = Seen Record long_silence
+told_by None false Object = Seen Object long_silence
 
-abbrev pub IsNodesTask : Option (List ℕ) → Option (List ℕ) → Bool → Bool → Bool → List (List ℕ) → Task → Type 0
-IsNodesTask bus from seen csv json file (Nodes input senders told) =
-    (input.bus ≡ bus) × (senders ≡ option_map senders_in from) × (option_map (told_by seen) (written_by csv json) ≡ Some told)
+abbrev pub IsNodesTask : Option (List ℕ) → Option (List ℕ) → Bool → Option (List ℕ) → Bool → Bool → List (List ℕ) → Task → Type 0
+IsNodesTask bus from seen silent csv json file (Nodes input senders told) =
+    (input.bus ≡ bus) × (senders ≡ option_map senders_in from)
+    × (option_map (told_by (option_map seconds_value silent) seen) (written_by csv json) ≡ Some told)
     × (input.file ≡ file)
-IsNodesTask bus from seen csv json file t = ⊥
+IsNodesTask bus from seen silent csv json file t = ⊥
 
-abbrev pub nodes_form : Option Text → Option Text → Bool → Bool → Bool → List Text → Form
-nodes_form bus from seen csv json file = record {
+abbrev pub nodes_form : Option Text → Option Text → Bool → Option Text → Bool → Bool → List Text → Form
+nodes_form bus from seen silent csv json file = record {
   called = codes "nodes";
-  arguments = option (codes "bus") bus ∷ option (codes "from") from ∷ flag (codes "seen") seen
+  arguments = option (codes "bus") bus ∷ option (codes "from") from ∷ flag (codes "seen") seen ∷ option (codes "silent") silent
       ∷ log_arguments csv json file;
-  checks = bus_check bus ∷ value_check IsSenderList argument.From from ∷ forms_check csv json ∷ [];
-  Is = IsNodesTask bus from seen csv json file;
+  checks = bus_check bus ∷ value_check IsSenderList argument.From from ∷ value_check AreSeconds argument.Silent silent
+      ∷ forms_check csv json ∷ [];
+  Is = IsNodesTask bus from seen silent csv json file;
 }
 
 -- of who is asked for, with a NAME or at an address
 abbrev pub makes_told : NodesTold → Option (List Sender) → Making
 makes_told Held from = MakesNodesOf from
-makes_told (Seen format) from = MakesSeenNodes format from
+makes_told (Seen format silence) from = MakesSeenNodes (record { form = format; silence = silence; from = from })
 
 -- whether all is passed on before the first read
 abbrev pub told_flushed : NodesTold → Bool → Bool
 told_flushed Held before = before
-told_flushed (Seen format) before = begins_flushed format before
+told_flushed (Seen format silence) before = begins_flushed format before
 
 abbrev pub nodes_meaning : LogInput → Option (List Sender) → NodesTold → Meaning
 nodes_meaning input from told = runs (λ _. AsksNowhere) (λ _. makes_told told from) input

@@ -33,7 +33,7 @@ meaning_of (Name name) = name_meaning (name_raw name)
 meaning_of (Cut outgoing) = cut_meaning outgoing
 meaning_of (Groups table) = groups_meaning table
 meaning_of (Survey input table format) = survey_meaning input table format
-meaning_of (Watch input table size) = watch_meaning input table size
+meaning_of (Watch options) = watch_meaning options
 
 abbrev pub first_in : List (List ℕ) → Option (List ℕ)
 first_in [] = None

@@ -8,7 +8,7 @@ use Rattle.j39_listen.specs.declared.filter.Moment.TheVariants.{At, Behind}
 use Rattle.j39_cli.specs.Refusal.{error_line}
 use Rattle.j39_cli.specs.declared.asked.Asked.{Asked}
 use Rattle.j39_cli.specs.declared.task.Task.{Task}
-use Rattle.j39_cli.specs.declared.task.Task.TheVariants.{Faults, Grid, Report, Summary}
+use Rattle.j39_cli.specs.declared.task.Task.TheVariants.{Faults, Grid, Report, Summary, Watch}
 
 -- a row that has the parameter gives it a name
 abbrev pub has_row : List RowRecord → ℕ → Bool
@@ -21,11 +21,12 @@ unknown_line rows spn = if has_row rows spn then [] else error_line (codes "no r
 abbrev pub unknown_words : List RowRecord → List ℕ → List ℕ
 unknown_words rows spns = flat_map (unknown_line rows) spns
 
--- the parameters that a report, a summary or a grid is asked for
+-- the parameters that a report, a summary, a grid or a watch is asked for
 abbrev pub spns_of : Task → Option (List ℕ)
 spns_of (Report options) = options.asked.spns
 spns_of (Summary options) = options.asked.spns
 spns_of (Grid options) = options.rows.asked.spns
+spns_of (Watch options) = options.asked.spns
 spns_of task = None
 
 -- what is said of them
@@ -50,6 +51,7 @@ abbrev pub unknown_text : List RowRecord → Task → List ℕ
 unknown_text rows (Report options) = asked_text rows options.asked
 unknown_text rows (Summary options) = asked_text rows options.asked
 unknown_text rows (Grid options) = asked_text rows options.rows.asked
+unknown_text rows (Watch options) = asked_text rows options.asked
 unknown_text rows (Faults options) = turned_text options.rows.asked
 unknown_text rows task = []
 

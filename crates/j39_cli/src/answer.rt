@@ -131,9 +131,9 @@ pub(crate) fn perform<R: Source, W: Sink, E: Sink>(
 {
     let address = address.number();
     match j39_listen::answer(alloc, source, sink, copy_of(bus), name, address, LOG_LIMIT) {
-        Ok(Some(counts)) => tell_end(Ok(counts), err),
+        Ok(Some(counts)) => tell_end(bus, Ok(counts), err),
         // An address is 253 at most, so that nothing comes here.
         Ok(None) => 1,
-        Err(fault) => tell_end(Err(fault), err),
+        Err(fault) => tell_end(bus, Err(fault), err),
     }
 }

@@ -16,7 +16,7 @@ use crate::command::{new_command, with_flag, with_option, with_table};
 use crate::conversions::{ConversionWord, Conversions};
 use crate::fields::fault_counts_line;
 use crate::lists::slice_of;
-use crate::log::{LOG_LIMIT, copy_of, tell_fault, with_forms, with_log};
+use crate::log::{LOG_LIMIT, copy_of, end_text, tell_fault, with_forms, with_log};
 use crate::options::{FaultOptions, RowOptions};
 use crate::refusal::show;
 use crate::words::{bus_value, format_value, is_set, list_value, log_input};
@@ -175,7 +175,13 @@ pub(crate) fn perform<R: Source, W: Sink, E: Sink>(
 {
     match run(alloc, groups, options, source, sink) {
         Ok(told) => {
-            show(err, fault_counts_line(told).as_slice());
+            let counts = fault_counts_line(told);
+            let text = end_text(
+                &options.rows.input.bus,
+                told.counts.frames,
+                counts.as_slice(),
+            );
+            show(err, text.as_slice());
             0
         }
         Err(fault) => tell_fault(fault, err),

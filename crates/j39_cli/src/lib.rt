@@ -54,4 +54,5 @@ pub use task::{
     Address, Argument, FaultsTold, Files, LogInput, NodesTold, ParseFault, Task, WordText,
 };
 pub use unknown::{asks_for_unknown, asks_input_twice};
+pub use watch::WatchOptions;
 pub use words::parse;

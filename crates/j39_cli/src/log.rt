@@ -1,8 +1,8 @@
 //! What the commands that read a log have in common.
-ghost use Rattle.std.specs.Prelude.{◌≡◌, [], false, true};
+ghost use Rattle.std.specs.Prelude.{◌≡◌, ◌≤◌, ◌++◌, [], false, length, true};
 ghost use Rattle.j39_io.specs.Turn.{turn};
 ghost use Rattle.clap.specs.Words.{App};
-ghost use Rattle.j39_cli.specs.LogCommand.{IsTold, fault_text, with_forms, with_log};
+ghost use Rattle.j39_cli.specs.LogCommand.{IsTold, absent_text, fault_text, with_forms, with_log};
 ghost use Rattle.j39_cli.specs.Refusal.{error_line};
 ghost use Rattle.j39_cli.specs.Rules.{IsMade};
 ghost use Rattle.j39_cli.specs.Tells.{Tells};
@@ -56,18 +56,39 @@ pub(crate) fn copy_of(bus: &Option<Bus>) -> Option<Bus>
     }
 }
 
-/// Says how a run ended, by its counts or its fault, and answers the exit status.
-pub(crate) fn tell_end<E: Sink>(end: Result<Counts, RunFault>, err: &mut E) -> u8
-    ensures told { IsTold end result (turn E.written E.has_failed err.old err.new) }
+/// Says how a run over this bus ended, by its counts or its fault, and answers the exit status.
+pub(crate) fn tell_end<E: Sink>(bus: &Option<Bus>, end: Result<Counts, RunFault>, err: &mut E) -> u8
+    ensures told { IsTold bus.now end result (turn E.written E.has_failed err.old err.new) }
     ensures passed_on { E.has_failed err.new ≡ false → E.is_flushed err.new ≡ true }
 {
     match end {
         Ok(counts) => {
-            show(err, counts_line(counts).as_slice());
+            let text = end_text(bus, counts.frames, counts_line(counts).as_slice());
+            show(err, text.as_slice());
             0
         }
         Err(fault) => tell_fault(fault, err),
     }
+}
+
+/// What is said of a run that ended well: its line of counts, behind one of a bus that is asked for and of which no frame is.
+pub(crate) fn end_text(bus: &Option<Bus>, frames: u64, counts: &[u8]) -> ArrayVec<u8, 256>
+    requires { length counts.now ≤ 168 }
+    ensures { result.items ≡ absent_text bus.now frames ++ counts.now }
+{
+    let mut text = ArrayVec::new();
+    match bus {
+        Some(bus) => {
+            if frames == 0 {
+                push_bytes(&mut text, b"j1939: no frame is of ");
+                push_bytes(&mut text, bus.bytes());
+                push_bytes(&mut text, b"\n");
+            }
+        }
+        None => {}
+    }
+    push_bytes(&mut text, counts);
+    text
 }
 
 /// Says which fault came, and answers the exit status.

@@ -1,26 +1,31 @@
 //! The command `nodes`: its words, and how it is performed.
-ghost use Rattle.std.specs.Prelude.{◌≡◌, codes};
+ghost use Rattle.std.specs.Prelude.{◌≡◌, ◌∷◌, [], codes, option_map};
 ghost use Rattle.j39_io.specs.Turn.{turn};
 ghost use Rattle.clap.specs.Words.{first_value, found_of};
 ghost use Rattle.j39_listen.specs.Asking.{AsksNowhere};
 ghost use Rattle.j39_survey.specs.Nodes.{MakesNodesOf};
+ghost use Rattle.j39_survey.specs.SeenNodes.{long_silence};
 ghost use Rattle.j39_listen.specs.Ran.{PassesOn, Ran};
+ghost use Rattle.j39_cli.specs.Answer.{IsReadAs, value_check};
 ghost use Rattle.j39_cli.specs.CommandWords.{IsAnswered, command_found};
 ghost use Rattle.j39_cli.specs.LogCommand.{log_limit};
 ghost use Rattle.j39_cli.specs.NodesCommand.{makes_told, nodes_app, told_by, told_flushed};
-ghost use Rattle.j39_cli.specs.Rules.{IsMade, is_given};
+ghost use Rattle.j39_cli.specs.Rules.{IsMade};
+ghost use Rattle.j39_cli.specs.Seconds.{AreSeconds, seconds_value};
+ghost use Rattle.j39_cli.specs.declared.task.Argument.TheVariants as argument;
 
 use crate::asked::SenderWord;
 use crate::command::{new_command, with_flag, with_option};
 use crate::lists::slice_of;
 use crate::log::{LOG_LIMIT, copy_of, with_forms, with_log};
+use crate::seconds::micros_of;
 use crate::words::{bus_value, format_value, is_set, list_value, log_input};
 use crate::{Argument, NodesTold, ParseFault, Senders, Task};
 use clap::{ArgMatches, Command};
 use j39_io::{Sink, Source};
 use j39_listen::{Counts, Format, RunFault};
 use j39_log::Bus;
-use j39_survey::{nodes_of, nodes_seen};
+use j39_survey::{LONG_SILENCE, SeenAsked, nodes_of, nodes_seen};
 use std::alloc::{AllocError, Global};
 
 const ABOUT: &str = "\
@@ -29,11 +34,12 @@ held, rising, with the source address and the NAME that holds it, both in hex. A
 controller whose claim was lost to a smaller NAME, or that gave its address up, holds
 none. `j1939 name` explains a NAME.
 
-With --seen, and in each of the other forms, it also has the time of that NAME's last
-claim of it and of the last frame from there; for how many seconds it was silent at the
-end of the log, and at most between two frames, since when, each if five or more. Then
-an address that nobody holds has a line too (dashes for the NAME, - for the claim), if
-other frames than claims came from there since its holder last changed.";
+With --seen or --silent, and in each of the other forms, it also has the time of that
+NAME's last claim of it and of the last frame from there; for how many seconds it was
+silent at the end of the log, and at most between two frames, since when, each if as
+many as --silent says or more. Then an address that nobody holds has a line too (dashes
+for the NAME, - for the claim), if other frames than claims came from there since its
+holder last changed.";
 
 const HELP: &str = "\
 At the end the counts go to standard error:
@@ -61,6 +67,8 @@ pub(crate) fn command<'a>(alloc: Global) -> Result<Command<'a>, AllocError>
     let command = with_option(alloc, command, "from", "A,..", false, help);
     let help = "Also when each was claimed and heard last, and who talks without a claim";
     let command = with_flag(alloc, command, "seen", help);
+    let help = "The same, with silences of so many seconds or more; without it, 5";
+    let command = with_option(alloc, command, "silent", "S", false, help);
     with_log(alloc, with_forms(alloc, command))
 }
 
@@ -70,37 +78,59 @@ pub(crate) fn task<'a>(alloc: Global, given: &ArgMatches<'a>) -> Result<Task<'a>
 {
     let bus = bus_value(given)?;
     let from = list_value::<SenderWord>(given, "from", Argument::From)?;
+    let silence = silence_value(given)?;
     let format = format_value(given)?;
     match log_input(alloc, bus, given) {
         Ok(input) => Ok(Task::Nodes {
             input,
             from,
-            told: told_given(given, format),
+            told: told_by(silence, is_set(given, "seen"), format),
         }),
         Err(fault) => Err(fault),
     }
 }
 
-/// What is told by `--seen` and in this format.
-fn told_given(given: &ArgMatches<'_>, format: Format) -> NodesTold
-    ensures { result ≡ told_by (is_given (first_value (found_of given.now) (codes "seen"))) format }
+/// The least silence that is told, where it is given.
+fn silence_value(given: &ArgMatches<'_>) -> Result<Option<u64>, ParseFault>
+    ensures { IsReadAs (value_check AreSeconds argument.Silent (first_value (found_of given.now) (codes "silent")) ∷ [])
+        (λ silence. silence ≡ option_map seconds_value (first_value (found_of given.now) (codes "silent"))) result }
 {
-    told_by(is_set(given, "seen"), format)
+    match given.get_str("silent") {
+        None => Ok(None),
+        Some(text) => match micros_of(text.as_bytes()) {
+            Some(silence) => Ok(Some(silence)),
+            None => Err(ParseFault::BadValue(Argument::Silent)),
+        },
+    }
 }
 
-fn told_by(is_seen: bool, format: Format) -> NodesTold
-    ensures { result ≡ told_by is_seen format }
+/// What is told by `--seen`, by `--silent` and in this format.
+fn told_by(silence: Option<u64>, is_seen: bool, format: Format) -> NodesTold
+    ensures { result ≡ told_by silence is_seen format }
 {
-    match format {
-        Format::Line => {
+    match silence {
+        Some(silence) => NodesTold::Seen { format, silence },
+        None => {
             if is_seen {
-                NodesTold::Seen(Format::Line)
+                seen(format)
             } else {
-                NodesTold::Held
+                match format {
+                    Format::Line => NodesTold::Held,
+                    Format::Record => seen(Format::Record),
+                    Format::Object => seen(Format::Object),
+                }
             }
         }
-        Format::Record => NodesTold::Seen(Format::Record),
-        Format::Object => NodesTold::Seen(Format::Object),
+    }
+}
+
+/// Who was seen, and each silence that is told where nothing else is said.
+fn seen(format: Format) -> NodesTold
+    ensures { result ≡ NodesTold.Seen format long_silence }
+{
+    NodesTold::Seen {
+        format,
+        silence: LONG_SILENCE,
     }
 }
 
@@ -119,8 +149,13 @@ pub(crate) fn run<R: Source, W: Sink>(
     let bus = copy_of(bus);
     match told {
         NodesTold::Held => held(from, source, sink, bus),
-        NodesTold::Seen(format) => {
-            nodes_seen(format, slice_of(from), source, sink, bus, LOG_LIMIT)
+        NodesTold::Seen { format, silence } => {
+            let asked = SeenAsked {
+                format,
+                silence,
+                from: slice_of(from),
+            };
+            nodes_seen(asked, source, sink, bus, LOG_LIMIT)
         }
     }
 }

@@ -79,6 +79,7 @@ pub fn perform_with<R: Source, W: Sink, E: Sink>(
         Task::Grid(options) => grid::perform(alloc, groups, options, source, sink, err),
         Task::Faults(options) => faults::perform(alloc, groups, options, source, sink, err),
         Task::Nodes { input, from, told } => tell_end(
+            &input.bus,
             nodes::run(*told, from, &input.bus, source, sink),
             err,
         ),
@@ -94,9 +95,6 @@ pub fn perform_with<R: Source, W: Sink, E: Sink>(
         Task::Survey { input, format, .. } => {
             survey::perform(alloc, *format, groups, &input.bus, source, sink, err)
         }
-        Task::Watch { input, size, .. } => {
-            let end = watch::run(alloc, groups, *size, &input.bus, source, sink);
-            tell_end(end, err)
-        }
+        Task::Watch(options) => watch::perform(alloc, groups, options, source, sink, err),
     }
 }

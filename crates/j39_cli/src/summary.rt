@@ -79,10 +79,18 @@ pub(crate) fn perform<R: Source, W: Sink, E: Sink>(
     ensures passed_on { E.has_failed err.new ≡ false → E.is_flushed err.new ≡ true }
 {
     let Some(spns) = &options.asked.spns else {
-        return tell_end(run(alloc, groups, options, source, sink), err);
+        return tell_end(
+            &options.input.bus,
+            run(alloc, groups, options, source, sink),
+            err,
+        );
     };
     match groups.restricted_to(alloc, spns.as_slice()) {
-        Ok(kept) => tell_end(run(alloc, &kept, options, source, sink), err),
+        Ok(kept) => tell_end(
+            &options.input.bus,
+            run(alloc, &kept, options, source, sink),
+            err,
+        ),
         Err(AllocError) => tell_fault(RunFault::Memory, err),
     }
 }

@@ -4,13 +4,12 @@ ghost use Rattle.j39_frame.specs.Address.{IsAddress};
 ghost use Rattle.j39_cli.specs.Answer.{argument_form, argument_text};
 ghost use Rattle.j39_cli.specs.Task.{file_of, files_of, table_of};
 
-use crate::{FaultOptions, GridOptions, Outgoing, RowOptions, Senders};
+use crate::{FaultOptions, GridOptions, Outgoing, RowOptions, Senders, WatchOptions};
 use j39_address::Name;
 use j39_fault_reports::Telling;
 use j39_frame::{Id, is_address};
 use j39_listen::Format;
 use j39_log::Bus;
-use j39_watch::ScreenSize;
 use std::alloc::{AllocError, Global};
 use std::fmt;
 use std::marker::Model;
@@ -146,7 +145,12 @@ pub enum NodesTold {
     /// Who holds which, a line each.
     Held,
     /// Also when its holder claimed it last, when a frame came last from there, and who talks at one that nobody holds.
-    Seen(Format),
+    Seen {
+        /// How they are written.
+        format: Format,
+        /// The least silence that is told, in microseconds.
+        silence: u64,
+    },
 }
 
 /// A command with its values.
@@ -188,14 +192,7 @@ pub enum Task<'a> {
         format: Format,
     },
     /// What a log is, at each half second.
-    Watch {
-        /// The log to read.
-        input: LogInput<'a>,
-        /// The file of the table, as of a report.
-        table: Option<WordText<'a>>,
-        /// How many lines a screen has, and how long they are.
-        size: ScreenSize,
-    },
+    Watch(WatchOptions<'a>),
     /// The fields of an identifier.
     Id(Id),
     /// The fields of a NAME.
@@ -219,7 +216,7 @@ impl<'a> Task<'a> {
             Task::Nodes { input, .. } => input.file.as_slice(),
             Task::Answer { input, .. } => input.file.as_slice(),
             Task::Survey { input, .. } => input.file.as_slice(),
-            Task::Watch { input, .. } => input.file.as_slice(),
+            Task::Watch(options) => options.input.file.as_slice(),
             _ => &[],
         }
     }
@@ -244,7 +241,7 @@ impl<'a> Task<'a> {
             Task::Grid(options) => text_of(&options.rows.table),
             Task::Faults(options) => text_of(&options.rows.table),
             Task::Survey { table, .. } => text_of(table),
-            Task::Watch { table, .. } => text_of(table),
+            Task::Watch(options) => text_of(&options.table),
             Task::Groups(table) => text_of(table),
             _ => None,
         }
@@ -289,6 +286,8 @@ pub enum Argument {
     Until,
     /// `--every`, how long the spans of a grid are.
     Every,
+    /// `--silent`, the least silence that is told.
+    Silent,
     /// `--conversion`, the versions by which SPNs are read.
     Conversion,
     /// `--rows`, how many rows the terminal has.
@@ -320,6 +319,7 @@ impl Argument {
             Argument::Since => "--since",
             Argument::Until => "--until",
             Argument::Every => "--every",
+            Argument::Silent => "--silent",
             Argument::Conversion => "--conversion",
             Argument::Rows => "--rows",
             Argument::Width => "--width",
@@ -350,6 +350,7 @@ impl Argument {
             Argument::Until =>
                 "--until takes 1700000000.5, 2023-11-14T22:13:20Z, or +90 behind the first frame",
             Argument::Every => "--every takes seconds from 0.000001 to 86400, as 0.5",
+            Argument::Silent => "--silent takes seconds, as 0.5",
             Argument::Conversion =>
                 "--conversion takes versions from 1 to 3, as 2, or of NAMEs, as 8000000001401234=1,2",
             Argument::Rows => "--rows takes 2 to 1000",

@@ -29,6 +29,7 @@ pub fn asks_for_unknown<E: Sink>(groups: &Groups<'_>, task: &Task<'_>, err: &mut
         Task::Report(options) => tell_asked(groups, &options.asked, err),
         Task::Summary(options) => tell_asked(groups, &options.asked, err),
         Task::Grid(options) => tell_asked(groups, &options.rows.asked, err),
+        Task::Watch(options) => tell_asked(groups, &options.asked, err),
         Task::Faults(options) => {
             tell_turned(&options.rows.asked, err);
             false

@@ -1,5 +1,5 @@
 //! The command `watch`: its words.
-ghost use Rattle.std.specs.Prelude.{◌≡◌, ◌≤◌, ◌-◌, ◌↔◌, ◌∷◌, [], IfOk, IfSome, IsSome, codes, option_map, unwrap_or};
+ghost use Rattle.std.specs.Prelude.{◌≡◌, ◌≤◌, ◌-◌, ◌↔◌, ◌⊎◌, ◌∷◌, [], IfOk, IfSome, IsSome, codes, false, option_map, true, unwrap_or};
 ghost use Rattle.std.specs.Str.Parse.{digits_value};
 ghost use Rattle.clap.specs.Words.{first_value, found_of};
 ghost use Rattle.j39_io.specs.Turn.{turn};
@@ -11,28 +11,31 @@ ghost use Rattle.j39_cli.specs.CommandWords.{IsAnswered, command_found};
 ghost use Rattle.j39_cli.specs.LogCommand.{log_limit};
 ghost use Rattle.j39_cli.specs.Numbers.{IsNumberIn};
 ghost use Rattle.j39_cli.specs.Rules.{IsMade};
-ghost use Rattle.j39_cli.specs.WatchCommand.{IsRows, IsScreenSize, IsWidth, watch_app};
+ghost use Rattle.j39_cli.specs.WatchCommand.{IsRows, IsScreenSize, IsWatchRun, IsWidth, watch_app};
 
 use crate::command::{new_command, with_option, with_table};
 use crate::cut_values::number_below;
-use crate::log::{LOG_LIMIT, copy_of, with_log};
-use crate::words::{bus_value, log_input};
-use crate::{Argument, ParseFault, Task, WordText};
+use crate::log::{LOG_LIMIT, copy_of, tell_end, tell_fault, with_log};
+use crate::spns::SpnWord;
+use crate::words::{bus_value, list_value, log_input};
+use crate::{Argument, Asked, LogInput, ParseFault, Task, WordText};
 use clap::{ArgMatches, Command};
 use j39_groups::Groups;
 use j39_io::{Sink, Source};
 use j39_listen::{Counts, RunFault};
-use j39_log::Bus;
 use j39_watch::ScreenSize;
 use std::alloc::{AllocError, Global};
 
 const ABOUT: &str = "\
 Draws a screen at the first frame of each half second of the log's stamps, and one
 at the end, each over the one before: the stamp of the last frame, the active faults
-and the last value of each parameter of the controllers that are on the bus. The
-line of a value has the source address (hex, with >destination), the NAME, the PGN,
-the SPN, the value, its age by the stamps, how many came in the second before, and
-what the parameter is called. Lines are cut at --width.";
+and the last value of each parameter of the controllers that are on the bus. While
+no frame comes, it stays as it is. The line of a fault has the source address (hex),
+the NAME, how long ago its last message came, and what `j1939 faults` says of it;
+that of a value the address (with >destination), the NAME, the PGN, the SPN, the
+value, its age by the stamps, how many came in the second before, and what the
+parameter is called. Lines are cut at --width; where not all fit, the last says how
+many more there are.";
 
 const HELP: &str = "\
 At the end the counts go to standard error, as those of `j1939 report`; lines are
@@ -43,12 +46,28 @@ Example:
 draws lines such as
   00    8000000001401234 61444  190    1500.125 rpm   0.0s   50/s  engine speed";
 
+/// What `watch` is told.
+#[derive(Drop)]
+pub struct WatchOptions<'a> {
+    /// The log to read.
+    pub input: LogInput<'a>,
+    /// The file of the table, as of a report.
+    pub table: Option<WordText<'a>>,
+    /// The parameters whose values are asked for.
+    pub asked: Asked,
+    /// How many lines a screen has, and how long they are.
+    pub size: ScreenSize,
+}
+
 /// What clap is told of it.
 pub(crate) fn command<'a>(alloc: Global) -> Result<Command<'a>, AllocError>
     ensures { IsMade result watch_app }
 {
     let about = "Shows what a bus says now: faults and last values, in place";
     let command = with_table(alloc, new_command(alloc, "watch", about, ABOUT, HELP));
+    let help =
+        "The parameters to show alone, beside faults: 1 to 32 SPNs, with commas between them";
+    let command = with_option(alloc, command, "spn", "SPN,..", false, help);
     let help = "How many rows the terminal has, 2 to 1000; without it, 24";
     let command = with_option(alloc, command, "rows", "N", false, help);
     let help = "How many columns it has, 20 to 512; without it, 80";
@@ -64,11 +83,17 @@ pub(crate) fn task<'a>(alloc: Global, given: &ArgMatches<'a>) -> Result<Task<'a>
 {
     let table = given.get_str("table").map(WordText::new);
     let bus = bus_value(given)?;
+    let spns = list_value::<SpnWord>(given, "spn", Argument::Spn)?;
     let rows = number_value(given, "rows", Argument::Rows, 2, 1000)?;
     let width = number_value(given, "width", Argument::Width, 20, 512)?;
     let size = size_for(rows, width);
     match log_input(alloc, bus, given) {
-        Ok(input) => Ok(Task::Watch { input, table, size }),
+        Ok(input) => Ok(Task::Watch(WatchOptions {
+            input,
+            table,
+            asked: Asked::of_spns(spns),
+            size,
+        })),
         Err(fault) => Err(fault),
     }
 }
@@ -117,18 +142,54 @@ fn size_for(rows: Option<u16>, width: Option<u16>) -> ScreenSize
     ScreenSize::new(rows - 1, width).unwrap()
 }
 
-/// Reads a log, and draws what it is at each half second, by a table of parameters.
-pub(crate) fn run<R: Source, W: Sink>(
+/// Performs it by a table of parameters, or by its rows of those that are asked for: the screens go to `sink`, the counts or
+/// what failed to `err`.
+pub(crate) fn perform<R: Source, W: Sink, E: Sink>(
     alloc: Global,
     groups: &Groups<'_>,
-    size: ScreenSize,
-    bus: &Option<Bus>,
+    options: &WatchOptions<'_>,
+    source: &mut R,
+    sink: &mut W,
+    err: &mut E,
+) -> u8
+    ensures run { IsWatchRun options.now groups.now result
+        (turn R.remaining R.has_failed source.old source.new)
+        (turn W.written W.has_failed sink.old sink.new)
+        (turn E.written E.has_failed err.old err.new) }
+    ensures status { (result ≡ 0) ⊎ (result ≡ 1) }
+    ensures flushed { result ≡ 0 → W.is_flushed sink.new ≡ true }
+    ensures passed_out { W.is_flushed sink.old ≡ true → W.has_failed sink.new ≡ false → W.is_flushed sink.new ≡ true }
+    ensures passed_on { E.has_failed err.new ≡ false → E.is_flushed err.new ≡ true }
+{
+    let Some(spns) = &options.asked.spns else {
+        return tell_end(
+            &options.input.bus,
+            run(alloc, groups, options, source, sink),
+            err,
+        );
+    };
+    match groups.restricted_to(alloc, spns.as_slice()) {
+        Ok(kept) => tell_end(
+            &options.input.bus,
+            run(alloc, &kept, options, source, sink),
+            err,
+        ),
+        Err(AllocError) => tell_fault(RunFault::Memory, err),
+    }
+}
+
+/// Reads a log, and draws what it is at each half second, by a table of parameters.
+fn run<R: Source, W: Sink>(
+    alloc: Global,
+    groups: &Groups<'_>,
+    options: &WatchOptions<'_>,
     source: &mut R,
     sink: &mut W,
 ) -> Result<Counts, RunFault>
-    ensures ran { Ran (MakesWatch groups.now (size_of size)) (AsksForWatch groups.now) bus.now log_limit result
+    ensures ran { Ran (MakesWatch groups.now (size_of options.now.size)) (AsksForWatch groups.now) options.now.input.bus log_limit result
         (turn R.remaining R.has_failed source.old source.new) (turn W.written W.has_failed sink.old sink.new) }
     ensures flushed { PassesOn result (W.is_flushed sink.old) (W.is_flushed sink.new) }
 {
-    j39_watch::watch(alloc, groups, size, source, sink, copy_of(bus), LOG_LIMIT)
+    let bus = copy_of(&options.input.bus);
+    j39_watch::watch(alloc, groups, options.size, source, sink, bus, LOG_LIMIT)
 }

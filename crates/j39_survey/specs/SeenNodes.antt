@@ -42,31 +42,31 @@ is_claim name a (Some c) = c.name == name && c.address == a
 unfoldable pub last_stamp : (FrameRecord → Bool) → List FrameRecord → Option ℕ
 last_stamp is F = option_map (λ f. f.stamp) (last_or None (filter is F))
 
--- the least silence that is told: five seconds (own)
+-- the least silence that is told where nothing else is said: five seconds (own)
 abbrev pub long_silence : ℕ
 long_silence = 5000000
 
--- how long nothing was heard by now, where that is told
-abbrev pub silent_for : Option ℕ → Option ℕ → Option ℕ
-silent_for None heard = None
-silent_for (Some now) None = None
-silent_for (Some now) (Some heard) = if nat_lt (now - heard) long_silence then None else Some (now - heard)
+-- how long nothing was heard by now, where that is as long as this
+abbrev pub silent_for : ℕ → Option ℕ → Option ℕ → Option ℕ
+silent_for long None heard = None
+silent_for long (Some now) None = None
+silent_for long (Some now) (Some heard) = if nat_lt (now - heard) long then None else Some (now - heard)
 
 -- the same of an address, by the last frame of all
-abbrev pub silent_at : List FrameRecord → ℕ → Option ℕ
-silent_at F a = silent_for (last_stamp (λ f. true) F) (last_stamp (is_from a) F)
+abbrev pub silent_at : ℕ → List FrameRecord → ℕ → Option ℕ
+silent_at long F a = silent_for long (last_stamp (λ f. true) F) (last_stamp (is_from a) F)
 
-abbrev pub if_long : Option Silence → Option Silence
-if_long None = None
-if_long (Some s) = if nat_lt s.length long_silence then None else Some s
+abbrev pub if_long : ℕ → Option Silence → Option Silence
+if_long long None = None
+if_long long (Some s) = if nat_lt s.length long then None else Some s
 
 -- the stamps of the frames from an address
 abbrev pub stamps_from : List FrameRecord → ℕ → List ℕ
 stamps_from F a = map (λ f. f.stamp) (filter (is_from a) F)
 
 -- the first of the longest silences between two frames from there, one behind the other, where it is told
-abbrev pub longest_at : List FrameRecord → ℕ → Option Silence
-longest_at F a = if_long (option_map (λ s. s.longest) (spread_of (silences_in (stamps_from F a))))
+abbrev pub longest_at : ℕ → List FrameRecord → ℕ → Option Silence
+longest_at long F a = if_long long (option_map (λ s. s.longest) (spread_of (silences_in (stamps_from F a))))
 
 -- somebody talks at a without holding it: a frame came from there, and from then on nobody held a (so that it was no claim)
 pub record Talks (F : List FrameRecord) (a : ℕ) : Type 0 where
@@ -76,22 +76,22 @@ pub record Talks (F : List FrameRecord) (a : ℕ) : Type 0 where
   pub unheld : (i name : ℕ) → at < i → i ≤ length F → Holds (claims_of F) i name a → ⊥
 
 -- who is at the address after F: the NAME that holds it; where nobody does, who talks there all the same, or nobody
-abbrev pub ShowsPresence : List FrameRecord → ℕ → Option ℕ → List Presence → Type 0
-ShowsPresence F a (Some name) here = here ≡ record {
+abbrev pub ShowsPresence : ℕ → List FrameRecord → ℕ → Option ℕ → List Presence → Type 0
+ShowsPresence long F a (Some name) here = here ≡ record {
   address = a;
   name = Some name;
   claimed = last_stamp (λ f. is_claim name a (claim_of f)) F;
   heard = last_stamp (is_from a) F;
-  silent = silent_at F a;
-  longest = longest_at F a;
+  silent = silent_at long F a;
+  longest = longest_at long F a;
 } ∷ []
-ShowsPresence F a None here =
-    (Talks F a × (here ≡ record { address = a; name = None; claimed = None; heard = last_stamp (is_from a) F; silent = silent_at F a; longest = longest_at F a } ∷ []))
+ShowsPresence long F a None here =
+    (Talks F a × (here ≡ record { address = a; name = None; claimed = None; heard = last_stamp (is_from a) F; silent = silent_at long F a; longest = longest_at long F a } ∷ []))
     ⊎ ((Talks F a → ⊥) × (here ≡ []))
 
 -- who is at all addresses after F
-abbrev pub AreSeenNodes : List FrameRecord → List Presence → Type 0
-AreSeenNodes F nodes = AreShown (ShowsPresence F) F nodes
+abbrev pub AreSeenNodes : ℕ → List FrameRecord → List Presence → Type 0
+AreSeenNodes long F nodes = AreShown (ShowsPresence long F) F nodes
 
 -- a moment, or a dash in lines
 abbrev pub moment_column : List ℕ → Option ℕ → ColumnRecord
@@ -135,12 +135,18 @@ seen_names = codes "address,name,claimed,claimed_utc,heard,heard_utc,silent,long
 abbrev pub is_seen_node : Presence → Sender → Bool
 is_seen_node node asked = is_sender node.address node.name asked
 
+-- how they are written, the least silence that is told, and the senders that are asked for
+pub record SeenAskedRecord : Type 0 where
+  pub form : Format
+  pub silence : ℕ
+  pub from : Option (List Sender)
+
 -- who is at an address after the frames, whatever their bus is called, and is asked for
-abbrev pub MakesSeenNodesIn : Format → Option (List Sender) → Making
-MakesSeenNodesIn form from bus F output =
-    (nodes : List Presence) × AreSeenNodes F nodes
-    × (output ≡ lines_of (seen_in form) (shown_from is_seen_node from nodes))
+abbrev pub MakesSeenNodesIn : SeenAskedRecord → Making
+MakesSeenNodesIn asked bus F output =
+    (nodes : List Presence) × AreSeenNodes asked.silence F nodes
+    × (output ≡ lines_of (seen_in asked.form) (shown_from is_seen_node asked.from nodes))
 
 -- a line, a record or an object for each
-abbrev pub MakesSeenNodes : Format → Option (List Sender) → Making
-MakesSeenNodes form from = Columned seen_names form (MakesSeenNodesIn form from)
+abbrev pub MakesSeenNodes : SeenAskedRecord → Making
+MakesSeenNodes asked = Columned seen_names asked.form (MakesSeenNodesIn asked)

@@ -6,4 +6,4 @@ pub mod laws;
 mod seen;
 
 pub use held::{nodes, nodes_of};
-pub use seen::nodes_seen;
+pub use seen::{LONG_SILENCE, SeenAsked, nodes_seen};

@@ -9,7 +9,7 @@ ghost use Rattle.j39_fault_reports.specs.News.{news};
 ghost use Rattle.j39_groups.specs.Printed.{rows_text};
 ghost use Rattle.j39_listen.specs.Asking.{AsksForBoxes};
 ghost use Rattle.j39_listen.specs.Filter.{no_filter};
-ghost use Rattle.j39_survey.specs.SeenNodes.{MakesSeenNodes};
+ghost use Rattle.j39_survey.specs.SeenNodes.{MakesSeenNodes, long_silence};
 ghost use Rattle.j39_listen.specs.Output.{MakesReport};
 ghost use Rattle.j39_listen.specs.declared.format.Format.TheVariants.{Line, Record};
 ghost use Rattle.j39_reports.specs.SummaryRun.{AsksForRows, MakesSummary};
@@ -162,11 +162,11 @@ pub extern "C" fn j39_faults(
 #[unsafe(no_mangle)]
 pub extern "C" fn j39_nodes(log: &[u8], bus: &[u8], room: &mut [u8], text: &mut LogText) -> u32
     // What stands at the front of the room is who holds an address after the log's frames, and nothing else.
-    ensures nodes { result ≡ done → IsMade (MakesSeenNodes Line None) (given_bus bus.now) log.now text.new room.new }
+    ensures nodes { result ≡ done → IsMade (MakesSeenNodes (record { form = Line; silence = long_silence; from = None })) (given_bus bus.now) log.now text.new room.new }
 
     // The room is too small exactly where that text has as many bytes, or more.
     ensures fits { result ≡ done → text.new.bytes < length room.new }
-    ensures too_small { result ≡ too_small → Overflows (MakesSeenNodes Line None) (given_bus bus.now) log.now room.new }
+    ensures too_small { result ≡ too_small → Overflows (MakesSeenNodes (record { form = Line; silence = long_silence; from = None })) (given_bus bus.now) log.now room.new }
 
     ensures bus { (result ≡ wrong_bus) ↔ IsWrongBus bus.now }
     ensures answers { result ≤ wrong_bus }

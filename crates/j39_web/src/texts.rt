@@ -97,15 +97,20 @@ pub fn values(
 
 /// Writes who holds which address at the end of a log.
 pub fn nodes(log: &[u8], bus: Option<Bus>, room: &mut [u8]) -> Result<LogText, Refusal>
-    ensures nodes { IfOk result (λ text. IsMade (MakesSeenNodes Line None) bus log.now text room.new) }
+    ensures nodes { IfOk result (λ text. IsMade (MakesSeenNodes (record { form = Line; silence = long_silence; from = None })) bus log.now text room.new) }
     ensures fits { IfOk result (λ text. text.bytes < length room.new) }
-    ensures too_small { result ≡ Err TooSmall → Overflows (MakesSeenNodes Line None) bus log.now room.new }
+    ensures too_small { result ≡ Err TooSmall → Overflows (MakesSeenNodes (record { form = Line; silence = long_silence; from = None })) bus log.now room.new }
     ensures memory { result ≢ Err Memory }
 {
     let mut source = LogBytes::new(log);
     let mut sink = Room::new(room);
     let limit = log.len() as u64;
-    let ran = j39_survey::nodes_seen(Format::Line, None, &mut source, &mut sink, bus, limit);
+    let asked = SeenAsked {
+        format: Format::Line,
+        silence: LONG_SILENCE,
+        from: None,
+    };
+    let ran = j39_survey::nodes_seen(asked, &mut source, &mut sink, bus, limit);
     told(ran, &sink)
 }
 

@@ -14,7 +14,7 @@ ghost use Rattle.j39_rows.specs.Row.{micros_cell, or_nothing};
 ghost use Rattle.j39_listen.specs.Headed.{begins_flushed};
 ghost use Rattle.j39_listen.specs.Output.{nothing};
 ghost use Rattle.j39_survey.specs.SeenNodes.{MakesSeenNodes, function_of, maker_of, seen_columns, seen_in, silent_for};
-ghost use Rattle.j39_survey.specs.SeenSoFar.{HasSeen, HasSeenAll, longest_of, nodes_shown, presence, presence_in, presence_of, seen_at};
+ghost use Rattle.j39_survey.specs.SeenSoFar.{HasSeen, HasSeenAll, asked_of, longest_of, nodes_shown, presence, presence_in, presence_of, seen_at};
 ghost use Rattle.j39_survey.specs.SurveyModels.{silence_record};
 ghost use Rattle.std.specs.Option.{option_map};
 ghost use Rattle.j39_listen.specs.Asking.{AsksNowhere};
@@ -34,16 +34,29 @@ use j39_log::Bus;
 use j39_names::{function_name, maker_name};
 use j39_rows::{Cell, Column, DASH, Place, Plain, put_row};
 
+/// The least silence that is told where nothing else is said, in microseconds: five seconds (own).
+pub const LONG_SILENCE: u64 = 5_000_000;
+
+/// How nodes that are seen are written, and what is told of them.
+#[derive(Clone, Copy, Debug)]
+pub struct SeenAsked<'f> {
+    /// How they are written.
+    pub format: Format,
+    /// The least silence that is told, in microseconds.
+    pub silence: u64,
+    /// The senders that are asked for: an address, or the one that a NAME holds; `None` for all.
+    pub from: Option<&'f [Sender]>,
+}
+
 /// Writes, after the whole log, a line for each address that is held, or from which a frame came since it was held last,
 /// rising: the address, the NAME that holds it, when it claimed it last, when a frame last came from there, and how long before the
-/// last frame of all, and the longest silence between two frames from there, each if it is five seconds or more (own); or a record of comma-separated values (RFC 4180), or an object of JSON
-/// (RFC 8259), which have the moments in UTC too, and what the function and the maker that the NAME names are called, where that is
-/// known. With senders, of these alone: an address, or the one
-/// that a NAME holds. The names of the columns of records are written before the log is read. The log has at most `limit`
-/// bytes; without a bus it is that of the first frame in it. It takes no memory; no message counts.
+/// last frame of all, and the longest silence between two frames from there, each if it is long enough; or a record of
+/// comma-separated values (RFC 4180), or an object of JSON (RFC 8259), which have the moments in UTC too, and what the function
+/// and the maker that the NAME names are called, where that is known. The names of the columns of records are written before the
+/// log is read. The log has at most `limit` bytes; without a bus it is that of the first frame in it. It takes no memory; no
+/// message counts.
 pub fn nodes_seen<R: Source, W: Sink>(
-    format: Format,
-    from: Option<&[Sender]>,
+    asked: SeenAsked<'_>,
     source: &mut R,
     sink: &mut W,
     bus: Option<Bus>,
@@ -54,14 +67,14 @@ pub fn nodes_seen<R: Source, W: Sink>(
 
     // What the run promises is `Ran`: what is written is who is at an address after the frames of the log, and is asked for,
     // and nothing else.
-    ensures ran { Ran (MakesSeenNodes format (option_map (λ senders. senders.now) from.entry)) AsksNowhere bus limit result
+    ensures ran { Ran (MakesSeenNodes (asked_of asked.entry)) AsksNowhere bus limit result
         (turn R.remaining R.has_failed source.old source.new) (turn W.written W.has_failed sink.old sink.new) }
 
     // What was written is passed on at the end, and before each read, the names of the columns before the first.
-    ensures flushed { PassesOn result (begins_flushed format (W.is_flushed sink.old)) (W.is_flushed sink.new) }
+    ensures flushed { PassesOn result (begins_flushed asked.entry.format (W.is_flushed sink.old)) (W.is_flushed sink.new) }
 {
-    let list = SeenList::new(format, from);
-    match format {
+    let list = SeenList::new(asked);
+    match asked.format {
         Format::Line => run_over(list, source, sink, bus, limit),
         Format::Record => run_headed(COLUMNS, list, source, sink, bus, limit),
         Format::Object => run_over(list, source, sink, bus, limit),
@@ -72,19 +85,12 @@ pub fn nodes_seen<R: Source, W: Sink>(
 const COLUMNS: &[u8] =
     b"address,name,claimed,claimed_utc,heard,heard_utc,silent,longest,since_stamp,since_utc,function,manufacturer\r\n";
 
-/// The least silence that is told, in microseconds (own).
-const LONG_SILENCE: u64 = 5_000_000;
-
-/// How long nothing was heard by now, where that is told.
-fn silent_for(now: Option<Stamp>, heard: Option<Stamp>) -> Option<u64>
-    ensures { result ≡ silent_for (option_map stamp_micros now) (option_map stamp_micros heard) }
+/// How long nothing was heard by now, where that is as long as this.
+fn silent_for(long: u64, now: Option<Stamp>, heard: Option<Stamp>) -> Option<u64>
+    ensures { result ≡ silent_for long (option_map stamp_micros now) (option_map stamp_micros heard) }
 {
     let silent = now?.micros().saturating_sub(heard?.micros());
-    if silent < LONG_SILENCE {
-        None
-    } else {
-        Some(silent)
-    }
+    if silent < long { None } else { Some(silent) }
 }
 
 /// What was seen of an address so far.
@@ -126,12 +132,12 @@ impl Seen {
         }
     }
 
-    /// The longest silence so far, where that is told.
-    fn longest(self) -> Option<Silence>
-        ensures { option_map silence_record result ≡ longest_of self }
+    /// The longest silence so far, where that is as long as this.
+    fn longest(self, long: u64) -> Option<Silence>
+        ensures { option_map silence_record result ≡ longest_of long self }
     {
         let longest = self.distances.spread?.longest;
-        if longest.length < LONG_SILENCE {
+        if longest.length < long {
             None
         } else {
             Some(longest)
@@ -139,8 +145,8 @@ impl Seen {
     }
 
     /// Who is at the address by now, which this NAME holds, or nobody.
-    fn shown(self, now: Option<Stamp>, address: u8, name: Option<Name>) -> Option<Node>
-        ensures { presence (option_map stamp_micros now) address self (option_map name_raw name) ≡ nodes_shown result }
+    fn shown(self, long: u64, now: Option<Stamp>, address: u8, name: Option<Name>) -> Option<Node>
+        ensures { presence long (option_map stamp_micros now) address self (option_map name_raw name) ≡ nodes_shown result }
     {
         if name.is_none() && !self.talks {
             return None;
@@ -150,8 +156,8 @@ impl Seen {
             name,
             claimed: if name.is_some() { self.claimed } else { None },
             heard: self.distances.last,
-            silent: silent_for(now, self.distances.last),
-            longest: self.longest(),
+            silent: silent_for(long, now, self.distances.last),
+            longest: self.longest(long),
         })
     }
 }
@@ -183,20 +189,19 @@ fn last_claim(
     }
 }
 
-/// The claims of the frames so far, what was seen of each address, the last stamp, and how they are to be written.
+/// The claims of the frames so far, what was seen of each address, the last stamp, and what is asked for.
 #[derive(Drop)]
 pub(crate) struct SeenList<'f> {
     claims: Claims,
     seen: [Seen; NULL_ADDRESS as usize],
     last: Option<Stamp>,
-    form: Format,
-    from: Option<&'f [Sender]>,
+    asked: SeenAsked<'f>,
 }
 
 impl<'f> SeenList<'f> {
     /// The nodes of no frames.
-    fn new(form: Format, from: Option<&'f [Sender]>) -> SeenList<'f>
-        ensures { HasSeenAll form (option_map (λ senders. senders.now) from.entry) result [] nothing }
+    fn new(asked: SeenAsked<'f>) -> SeenList<'f>
+        ensures { HasSeenAll (asked_of asked.entry) result [] nothing }
     {
         let unseen = Seen {
             talks: false,
@@ -210,8 +215,7 @@ impl<'f> SeenList<'f> {
             claims: Claims::new(),
             seen: [unseen; NULL_ADDRESS as usize],
             last: None,
-            form,
-            from,
+            asked,
         }
     }
 
@@ -220,14 +224,14 @@ impl<'f> SeenList<'f> {
         requires { address < 254 }
         ensures { presence_in self.now address ≡ nodes_shown result }
     {
-        self.seen[usize::from(address)].shown(self.last, address, self.claims.holder(address))
+        let holder = self.claims.holder(address);
+        self.seen[usize::from(address)].shown(self.asked.silence, self.last, address, holder)
     }
 
     /// Sees a frame, behind the claims up to it.
     fn see(&mut self, frame: &Frame)
         ensures claims { self.new.claims ≡ self.old.claims }
-        ensures form { self.new.form ≡ self.old.form }
-        ensures from { self.new.from ≡ self.old.from }
+        ensures asked { self.new.asked ≡ self.old.asked }
         ensures sees { (F : List FrameRecord) → Knows self.old.claims (F ++ frame.now ∷ [])
             → ((a : ℕ) → a < 254 → HasSeen F a (seen_at self.old a))
             → (a : ℕ) → a < 254 → HasSeen (F ++ frame.now ∷ []) a (seen_at self.new a) }
@@ -250,8 +254,8 @@ impl<'f> ByAddress for SeenList<'f> {
         let Some(node) = self.node_at(address) else {
             return Ok(0);
         };
-        if is_from(self.from, node.address, node.name) {
-            put_seen(self.form, node, sink)?;
+        if is_from(self.asked.from, node.address, node.name) {
+            put_seen(self.asked.format, node, sink)?;
             Ok(1)
         } else {
             Ok(0)
@@ -260,19 +264,16 @@ impl<'f> ByAddress for SeenList<'f> {
 }
 
 impl<'f> Account for SeenList<'f> {
-    ghost use Rattle.std.specs.Prelude.{List, Option};
     ghost use Rattle.j39_listen.specs.AccountCalls.{Begins, MakesOne};
     ghost use Rattle.j39_listen.specs.Asking.{AsksNowhere};
-    ghost use Rattle.j39_survey.specs.SeenNodes.{MakesSeenNodesIn};
+    ghost use Rattle.j39_survey.specs.SeenNodes.{MakesSeenNodesIn, SeenAskedRecord};
     ghost use Rattle.j39_survey.specs.SeenSoFar.{HasSeenAll};
-    ghost use Rattle.j39_listen.specs.declared.filter.Sender.{Sender};
-    ghost use Rattle.j39_listen.specs.declared.format.Format.{Format};
 
-    ghost Subject = { Format × Option (List Sender) };
+    ghost Subject = { SeenAskedRecord };
 
-    ghost has_met = { λ subject bus. HasSeenAll subject.0 subject.1 };
+    ghost has_met = { λ subject bus. HasSeenAll subject };
 
-    ghost makes = { λ subject. MakesSeenNodesIn subject.0 subject.1 };
+    ghost makes = { MakesSeenNodesIn };
 
     ghost asks = { λ subject. AsksNowhere };
 
@@ -289,9 +290,8 @@ impl<'f> Account for SeenList<'f> {
     }
 
     fn laws()
-        ensures begins { (subject : Format × Option (List Sender))
-            → Begins (λ bus. HasSeenAll subject.0 subject.1) (MakesSeenNodesIn subject.0 subject.1) }
-        ensures one { (subject : Format × Option (List Sender)) → MakesOne (MakesSeenNodesIn subject.0 subject.1) }
+        ensures begins { (subject : SeenAskedRecord) → Begins (λ bus. HasSeenAll subject) (MakesSeenNodesIn subject) }
+        ensures one { (subject : SeenAskedRecord) → MakesOne (MakesSeenNodesIn subject) }
     {}
 }
 

@@ -20,7 +20,7 @@ returns-in-Ok-Some-clause-run g c =
     let h = rw c.in-Ok-Some.field-0-is at (c.in-Ok-Some.ensures.ran below) in
     of_address name number c.args.address.now c.args.bus.now c.tell_end.result _ _ _ c.number-address.ensures.value
     (is_run AsksForBoxes (MakesAnswers (idle_node name number)) _ c.args.bus.now h.0 c.tell_end.result _ _ _ c.copy_of.ensures h.2
-    (told_as h.0 _ _ _ (ended_some h.0 c.in-Ok-Some.counts h.1) c.tell_end.ensures.told))
+    (told_as _ h.0 _ _ _ (ended_some h.0 c.in-Ok-Some.counts h.1) c.tell_end.ensures.told))
 
 pub returns-in-Err-clause-run : goal.returns-in-Err-clause-run
 returns-in-Err-clause-run g c =
@@ -30,4 +30,4 @@ returns-in-Err-clause-run g c =
     let h = c.in-Err.ensures.ran below in
     of_address name number c.args.address.now c.args.bus.now c.tell_end-in-Err.result _ _ _ c.number-address.ensures.value
     (is_run AsksForBoxes (MakesAnswers (idle_node name number)) _ c.args.bus.now h.0 c.tell_end-in-Err.result _ _ _ c.copy_of.ensures h.2
-    (told_as h.0 _ _ _ (ended_err h.0 c.in-Err.fault h.1) c.tell_end-in-Err.ensures.told))
+    (told_as _ h.0 _ _ _ (ended_err h.0 c.in-Err.fault h.1) c.tell_end-in-Err.ensures.told))

@@ -1,4 +1,4 @@
--- The bus is checked, then the senders, then how it is written; FILE is kept last.
+-- The bus is checked, then the senders, the silence, and how it is written; FILE is kept last.
 use Rattle.j39_cli.proofs.Common.{◌∙◌, ap, codes, drop, rules, sym, take, Some, option_map, first_value, found_of}
 use Rattle.j39_cli.specs.Answer.{OrMemory}
 use Rattle.j39_cli.specs.CommandWords.{command_found, form_of}
@@ -6,6 +6,19 @@ use Rattle.j39_cli.specs.NodesCommand.{told_by}
 use Rattle.j39_cli.specs.Rules.{is_given}
 use Rattle.j39_cli.proofs.CheckLemmas.{passed, stopped}
 use Rattle.j39_cli.proofs.nodes.task.Goals as goal
+
+pub returns-in_err-silence : goal.returns-in_err-silence
+returns-in_err-silence c =
+    let form = form_of (command_found (codes "nodes") (found_of c.args.given.now)) in
+    let all = form.checks in
+    let next = OrMemory form.Is in
+    record {
+      answer = passed next (take 1 all) (drop 1 all) _ _ _ c.in_ok-bus.ensures.read (λ _.
+          passed next (take 1 (drop 1 all)) (drop 2 all) _ _ _ c.in_ok-from.ensures.read (λ _.
+          stopped next (take 1 (drop 2 all)) (drop 3 all) _ _ _ c.in_err-silence.ensures.read c.from_residual-in_err-silence.ensures));
+      memory = search rules;
+      in_range = search rules;
+    }
 
 pub returns-in_err-format : goal.returns-in_err-format
 returns-in_err-format c =
@@ -15,7 +28,8 @@ returns-in_err-format c =
     record {
       answer = passed next (take 1 all) (drop 1 all) _ _ _ c.in_ok-bus.ensures.read (λ _.
           passed next (take 1 (drop 1 all)) (drop 2 all) _ _ _ c.in_ok-from.ensures.read (λ _.
-          stopped next (take 1 (drop 2 all)) (drop 3 all) _ _ _ c.in_err-format.ensures.read c.from_residual-in_err-format.ensures));
+          passed next (take 1 (drop 2 all)) (drop 3 all) _ _ _ c.in_ok-silence.ensures.read (λ _.
+          stopped next (take 1 (drop 3 all)) (drop 4 all) _ _ _ c.in_err-format.ensures.read c.from_residual-in_err-format.ensures)));
       memory = search rules;
       in_range = search rules;
     }
@@ -25,10 +39,17 @@ returns-in-Ok c =
     let form = form_of (command_found (codes "nodes") (found_of c.args.given.now)) in
     let all = form.checks in
     let next = OrMemory form.Is in
+    let seen = is_given (first_value (found_of c.args.given.now) (codes "seen")) in
     record {
       answer = passed next (take 1 all) (drop 1 all) _ _ _ c.in_ok-bus.ensures.read (λ bus_is.
           passed next (take 1 (drop 1 all)) (drop 2 all) _ _ _ c.in_ok-from.ensures.read (λ from_is.
-          passed next (take 1 (drop 2 all)) (drop 3 all) _ _ _ c.in_ok-format.ensures.read (λ format_is. (c.in-Ok.ensures.0 ∙ bus_is, from_is, ap (option_map (told_by (is_given (first_value (found_of c.args.given.now) (codes "seen"))))) format_is ∙ ap Some (sym c.told_given.ensures), c.in-Ok.ensures.1))));
+          passed next (take 1 (drop 2 all)) (drop 3 all) _ _ _ c.in_ok-silence.ensures.read (λ silence_is.
+          passed next (take 1 (drop 3 all)) (drop 4 all) _ _ _ c.in_ok-format.ensures.read (λ format_is. (
+            c.in-Ok.ensures.0 ∙ bus_is,
+            from_is,
+            (λ i. option_map (told_by (sym silence_is i) seen) (format_is i)) ∙ ap (λ b. Some (told_by c.in_ok-silence.silence b c.in_ok-format.format)) (sym c.is_set.ensures) ∙ ap Some (sym c.told_by.ensures),
+            c.in-Ok.ensures.1,
+          )))));
       memory = search rules;
       in_range = search rules;
     }

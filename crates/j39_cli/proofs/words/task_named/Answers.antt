@@ -18,7 +18,7 @@ pub returns-in-faults-clause-tells : goal.returns-in-faults-clause-tells
 returns-in-faults-clause-tells c = tells _ (found_of c.args.given.now) c.task-in-faults.result (faults _ _ _ _ (rows_found (found_of c.args.given.now))) c.in-faults.is (refl, (refl, (refl, (refl, (refl, (refl, (refl, (refl, (refl, (refl, (refl, (refl, (refl, (refl, (refl, tt))))))))))))))) c.task-in-faults.ensures.answer
 
 pub returns-in-nodes-clause-tells : goal.returns-in-nodes-clause-tells
-returns-in-nodes-clause-tells c = tells _ (found_of c.args.given.now) c.task-in-nodes.result (nodes _ _ _ _ _ _) c.in-nodes.is (refl, (refl, (refl, (refl, (refl, (refl, tt)))))) c.task-in-nodes.ensures.answer
+returns-in-nodes-clause-tells c = tells _ (found_of c.args.given.now) c.task-in-nodes.result (nodes _ _ _ _ _ _ _) c.in-nodes.is (refl, (refl, (refl, (refl, (refl, (refl, (refl, tt))))))) c.task-in-nodes.ensures.answer
 
 pub returns-in-groups-clause-tells : goal.returns-in-groups-clause-tells
 returns-in-groups-clause-tells c = tells _ (found_of c.args.given.now) c.task-in-groups.result (groups _) c.in-groups.is (refl, tt) c.task-in-groups.ensures.answer
@@ -27,7 +27,7 @@ pub returns-in-survey-clause-tells : goal.returns-in-survey-clause-tells
 returns-in-survey-clause-tells c = tells _ (found_of c.args.given.now) c.task-in-survey.result (survey _ _ _ _ _) c.in-survey.is (refl, (refl, (refl, (refl, (refl, tt))))) c.task-in-survey.ensures.answer
 
 pub returns-in-watch-clause-tells : goal.returns-in-watch-clause-tells
-returns-in-watch-clause-tells c = tells _ (found_of c.args.given.now) c.task-in-watch.result (watch _ _ _ _ _) c.in-watch.is (refl, (refl, (refl, (refl, (refl, tt))))) c.task-in-watch.ensures.answer
+returns-in-watch-clause-tells c = tells _ (found_of c.args.given.now) c.task-in-watch.result (watch _ _ _ _ _ _) c.in-watch.is (refl, (refl, (refl, (refl, (refl, (refl, tt)))))) c.task-in-watch.ensures.answer
 
 pub returns-in_ok-required-in-id-clause-tells : goal.returns-in_ok-required-in-id-clause-tells
 returns-in_ok-required-in-id-clause-tells c = tells _ (found_of c.args.given.now) c.task-in-id.result (id _) c.in-id.is

@@ -5,4 +5,4 @@ use Rattle.j39_survey.proofs.node_lists.seen.SeenList.new.Goals as goal
 
 pub returns : goal.returns
 unfolding last_stamp
-returns c = record { knows = c.new.ensures; sees = seen_none_at; last_is = refl; form_is = refl; from_is = refl; nothing = refl }
+returns c = record { knows = c.new.ensures; sees = seen_none_at; last_is = refl; asked_is = refl; nothing = refl }
