@@ -24,33 +24,6 @@ impl LastSecond {
             identifiers: Identifiers::new(),
         }
     }
-
-    /// Learns the second of a line, or its identifier, which stands at this place or behind three decimals more; whether there was
-    /// one to learn.
-    #[inline(never)]
-    pub(crate) fn learn(&mut self, line: &[u8], third_at: usize) -> bool {
-        if !self.second.begins(line) {
-            return self.second.turn_to(line);
-        }
-        self.learn_at(line, third_at) || self.learn_at(line, third_at.saturating_add(3))
-    }
-
-    fn learn_at(&mut self, line: &[u8], place: usize) -> bool {
-        match digits_at(line, place) {
-            Some(digits) => self.identifiers.learn(digits),
-            None => false,
-        }
-    }
-}
-
-/// Eight bytes of a line.
-fn digits_at(line: &[u8], place: usize) -> Option<&[u8; 8]> {
-    if place > line.len() {
-        return None;
-    }
-    let (_, third) = line.split_at(place);
-    let (digits, _) = third.split_first_chunk::<8>()?;
-    Some(digits)
 }
 
 /// A second, by the form of the first sixteen bytes of each stamp within it: most lines come within the second of the line
@@ -83,15 +56,18 @@ impl Second {
     }
 
     /// Whether a text begins with this second.
-    fn begins(&self, text: &[u8]) -> bool {
+    #[inline(always)]
+    pub(crate) fn begins(&self, text: &[u8]) -> bool {
         match (words_of(text), words_of(&self.form.least)) {
             (Some(words), Some(own)) => words.0 == own.0 && words.1 == own.1,
             _ => false,
         }
     }
 
-    /// Turns to the second of a stamp, where a text begins with one; whether it turned.
-    fn turn_to(&mut self, text: &[u8]) -> bool {
+    /// Turns to the second of a stamp, where a text begins with one; whether it turned. It hands no second out, so its caller
+    /// needs no room for one.
+    #[inline(never)]
+    pub(crate) fn turn_to(&mut self, text: &[u8]) -> bool {
         match Second::of(text) {
             Some(second) => {
                 *self = second;

@@ -26,7 +26,7 @@ pub(crate) fn first_line<'a>(
     match of_last_second(bytes, last, bus) {
         Some(found) => Some(found),
         None => {
-            if !last.learn(bytes, bus.third_at) {
+            if last.second.begins(bytes) || !last.second.turn_to(bytes) {
                 return None;
             }
             of_last_second(bytes, last, bus)
@@ -38,7 +38,7 @@ pub(crate) fn first_line<'a>(
 #[inline(always)]
 fn of_last_second<'a>(
     bytes: &'a [u8],
-    last: &LastSecond,
+    last: &mut LastSecond,
     bus: &Bus,
 ) -> Option<(FrameLine<'a>, &'a [u8])>
     ensures { IfSome result (λ found. BeginsLine bytes.now bus.now found.0 found.1.now) }
@@ -51,7 +51,11 @@ fn of_last_second<'a>(
 
 /// The same, of a line of the last second with six decimals.
 #[inline(always)]
-fn with_six<'a>(bytes: &'a [u8], last: &LastSecond, bus: &Bus) -> Option<(FrameLine<'a>, &'a [u8])>
+fn with_six<'a>(
+    bytes: &'a [u8],
+    last: &mut LastSecond,
+    bus: &Bus,
+) -> Option<(FrameLine<'a>, &'a [u8])>
     ensures { IfSome result (λ found. BeginsLine bytes.now bus.now found.0 found.1.now) }
 {
     // Asked once, this needn't be asked of each part.
@@ -65,7 +69,11 @@ fn with_six<'a>(bytes: &'a [u8], last: &LastSecond, bus: &Bus) -> Option<(FrameL
 
 /// The same, of one with nine.
 #[inline(always)]
-fn with_nine<'a>(bytes: &'a [u8], last: &LastSecond, bus: &Bus) -> Option<(FrameLine<'a>, &'a [u8])>
+fn with_nine<'a>(
+    bytes: &'a [u8],
+    last: &mut LastSecond,
+    bus: &Bus,
+) -> Option<(FrameLine<'a>, &'a [u8])>
     ensures { IfSome result (λ found. BeginsLine bytes.now bus.now found.0 found.1.now) }
 {
     if bus.third_at > bytes.len() {
@@ -95,7 +103,7 @@ fn formed<'a>(
     bytes: &'a [u8],
     between: &[u8; 16],
     third_at: usize,
-    last: &LastSecond,
+    last: &mut LastSecond,
     bus: &Bus,
 ) -> Option<(FrameLine<'a>, &'a [u8])>
     ensures { IfSome result (λ found. HasForm bytes.now between.now third_at bus.now found.0 found.1.now) }
