@@ -105,9 +105,9 @@ pub fn nodes(log: &[u8], bus: Option<Bus>, room: &mut [u8]) -> Result<LogText, R
     let mut source = LogBytes::new(log);
     let mut sink = Room::new(room);
     let limit = log.len() as u64;
-    let asked = SeenAsked {
+    let asked = j39_survey::SeenAsked {
         format: Format::Line,
-        silence: LONG_SILENCE,
+        silence: j39_survey::LONG_SILENCE,
         from: None,
     };
     let ran = j39_survey::nodes_seen(asked, &mut source, &mut sink, bus, limit);
