@@ -92,6 +92,17 @@ static TWO_AT_ONCE: &[Step] = &[
     Says(12, [17, 1, 1, 255, 255, 0xEC, 0xFE, 0]),
 ];
 
+/// Whether the oldest message that waits is of this source, with these bytes.
+fn has(sessions: &Sessions, source: u8, bytes: &[u8]) -> bool {
+    match sessions.message() {
+        Some(message) => {
+            let is_payload = message.payload == bytes;
+            is_payload && message.source == source
+        }
+        None => false,
+    }
+}
+
 /// Whether they answer so.
 fn is_step(sessions: &mut Sessions, step: &Step) -> Option<bool> {
     match step {
@@ -114,10 +125,7 @@ fn is_step(sessions: &mut Sessions, step: &Step) -> Option<bool> {
             Some(address == *to && said == *bytes)
         }
         SaysNothing => Some(!sessions.has_reply()),
-        Has(source, bytes) => {
-            let message = sessions.message()?;
-            Some(message.source == *source && message.payload == *bytes)
-        }
+        Has(source, bytes) => Some(has(sessions, *source, bytes)),
         HasNothing => Some(sessions.message().is_none()),
         Releases(waited) => Some(sessions.release() == *waited),
     }
