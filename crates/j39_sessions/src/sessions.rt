@@ -1,5 +1,5 @@
 //! The sessions of an address, each of another source, and what they received.
-ghost use Rattle.std.specs.Prelude.{◌≡◌, ◌↔◌, ◌≤◌, ◌<◌, ◌+◌, ◌++◌, ◌^◌, ℕ, Option, Some, None, IsTrue, IsSome, IfSome, IfOk, OnErr, true, false, length, map, [], ◌∷◌, nat_eq, nat_lt, List};
+ghost use Rattle.std.specs.Prelude.{◌≡◌, ◌↔◌, ◌≤◌, ◌<◌, ◌+◌, ◌++◌, ◌^◌, ℕ, Option, Some, None, IsTrue, IsSome, IfSome, IfOk, OnErr, true, false, length, map, [], ◌∷◌, nat_eq, nat_lt, List, unwrap_or};
 ghost use Rattle.std.specs.List.{All, position, slice_get};
 ghost use Rattle.std.specs.Option.{is_some, option_map};
 ghost use Rattle.std.specs.Vec.{vec_capacity};
@@ -195,9 +195,9 @@ impl Sessions {
         })
     }
 
-    /// The NAME that held the source of the oldest message that waits.
+    /// The NAME that held the source of the oldest message that waits; `None` if nobody did, or none waits.
     pub fn sender(&self) -> Option<Name>
-        ensures { IfSome (slice_get (sessions_of self.now).senders 0) (λ name. option_map name_raw result ≡ name) }
+        ensures { option_map name_raw result ≡ unwrap_or (slice_get (sessions_of self.now).senders 0) None }
     {
         self.whole.first()?.name
     }
